@@ -1,0 +1,4 @@
+pub mod FaultLemmas
+pub mod SpellsLemmas
+pub mod TableLemmas
+pub mod TextLemmas

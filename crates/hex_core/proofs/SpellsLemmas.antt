@@ -1,0 +1,39 @@
+-- Steps of a list that a text spells.
+use Rattle.std.proofs.Common.{◌≡◌, ◌≢◌, ℕ, List, None, ◌+◌, ◌*◌, ◌/◌, ◌%◌, ◌<◌, ◌≤◌, length, get_or, Some, refl, sym, ◌∙◌, ap, arith}
+use Rattle.std.proofs.Math.ListN.{set}
+use Rattle.std.proofs.lemmas.List.{get_or-set_same, get_or-set_other}
+use borrow.Author.Count.{below_more}
+use Rattle.hex_core.proofs.FaultLemmas.{admitted}
+use Rattle.hex_core.proofs.TableLemmas.{value-entry}
+use Rattle.hex_core.specs.Fault.{fault}
+use Rattle.hex_core.specs.declared.digit.CheckCase.{CheckCase}
+use Rattle.hex_core.specs.Digit.{value}
+use Rattle.hex_core.specs.Text.{Spells, value_table}
+
+-- the byte at a place is what its pair of digits spells
+pub record SpellsAt (c : CheckCase) (s bytes : List ℕ) (i : ℕ) : Type 0 where
+  pub high : value c (get_or s (2 * i) 0) ≡ Some (get_or bytes i 0 / 16)
+  pub low : value c (get_or s (2 * i + 1) 0) ≡ Some (get_or bytes i 0 % 16)
+
+-- the bytes below a place are those that their pairs of digits spell
+abbrev pub SpellsBelow : CheckCase → List ℕ → List ℕ → ℕ → Type 0
+SpellsBelow c s bytes n = (k : ℕ) → k < n → SpellsAt c s bytes k
+
+-- where every place is spelled, the list is
+pub Spells-all : (c : CheckCase) (s bytes : List ℕ) (n : ℕ) → n ≡ length bytes → length s ≡ 2 * length bytes → SpellsBelow c s bytes n → Spells c s bytes
+Spells-all c s bytes n is twice all = record { twice = twice; high = λ i h. (all i (omega arith)).high; low = λ i h. (all i (omega arith)).low }
+
+-- the next byte is packed from the entries of its pair
+pub Spells-more : (c : CheckCase) (table s bytes : List ℕ) (i v : ℕ) → table ≡ value_table c → ((k : ℕ) → get_or s k 0 < 256) → fault c s ≡ None → length s ≡ 2 * length bytes → i < length bytes
+    → v ≡ 16 * get_or table (get_or s (2 * i) 0) 0 + get_or table (get_or s (2 * i + 1) 0) 0
+    → SpellsBelow c s bytes i → SpellsBelow c s (set bytes i v) (i + 1)
+Spells-more c table s bytes i v is byte none twice h packed below =
+    let high = value-entry c table (get_or s (2 * i) 0) is (byte (2 * i)) (admitted c s (2 * i) none (omega arith)) in
+    let low = value-entry c table (get_or s (2 * i + 1) 0) is (byte (2 * i + 1)) (admitted c s (2 * i + 1) none (omega arith)) in
+    let quotient : v / 16 ≡ get_or table (get_or s (2 * i) 0) 0 = omega (arith, high.1, low.1) in
+    let remainder : v % 16 ≡ get_or table (get_or s (2 * i + 1) 0) 0 = omega (arith, high.1, low.1) in
+    below_more (λ (k : ℕ). SpellsAt c s (set bytes i v) k) i
+      (λ k lt. let e : get_or (set bytes i v) k 0 ≡ get_or bytes k 0 = get_or-set_other bytes i k v 0 (λ x. absurd (omega arith)) in
+        record { high = rw e (below k lt).high; low = rw e (below k lt).low })
+      (let e : get_or (set bytes i v) i 0 ≡ v = get_or-set_same bytes i v 0 h in
+        record { high = rw (e, quotient) high.0; low = rw (e, remainder) low.0 })

@@ -1,0 +1,42 @@
+-- What the entries of the value tables say of a byte.
+use Rattle.std.proofs.Common.{◌≡◌, ◌≢◌, ℕ, List, ◌+◌, ◌*◌, ◌/◌, ◌%◌, ◌<◌, get_or, Bool, true, false, Option, None, Some, is_none, unwrap_or, refl, sym, ◌∙◌, arith}
+use Rattle.std.proofs.lemmas.Bool.Decides.{nat_tests}
+use Rattle.std.proofs.lemmas.List.FromFn.{get_or-map-range_with_len}
+use Rattle.hex_core.specs.declared.digit.CheckCase.{CheckCase}
+use Rattle.hex_core.specs.declared.digit.CheckCase.TheVariants as policy
+use Rattle.hex_core.specs.Digit.{value}
+use Rattle.hex_core.specs.Text.{value_table}
+
+-- the entry of a byte is its value, or 255
+pub get_or-value_table : (c : CheckCase) (b d : ℕ) → b < 256 → get_or (value_table c) b d ≡ unwrap_or (value c b) 255
+unfolding value_table
+get_or-value_table c b d h = get_or-map-range_with_len (λ (k : ℕ). unwrap_or (value c k) 255) 0 256 b b d h (omega arith)
+
+-- an entry of 255 says that the byte has no value
+pub none_at : (c : CheckCase) (b : ℕ) → unwrap_or (value c b) 255 ≡ 255 → is_none (value c b) ≡ true
+none_at policy.None b h = grind (arith, nat_tests)
+none_at policy.Lower b h = grind (arith, nat_tests)
+none_at policy.Upper b h = grind (arith, nat_tests)
+
+-- any other entry says that it has one
+pub some_at : (c : CheckCase) (b : ℕ) → unwrap_or (value c b) 255 ≢ 255 → is_none (value c b) ≡ false
+some_at policy.None b h = grind (arith, nat_tests)
+some_at policy.Lower b h = grind (arith, nat_tests)
+some_at policy.Upper b h = grind (arith, nat_tests)
+
+-- the value of a byte that has one is its entry, and is below 16
+pub value_at : (c : CheckCase) (b : ℕ) → is_none (value c b) ≡ false → (value c b ≡ Some (unwrap_or (value c b) 255)) × (unwrap_or (value c b) 255 < 16)
+value_at policy.None b h = grind (arith, nat_tests)
+value_at policy.Lower b h = grind (arith, nat_tests)
+value_at policy.Upper b h = grind (arith, nat_tests)
+
+-- the same of an entry that a table holds
+pub faulty-entry : (c : CheckCase) (table : List ℕ) (b : ℕ) → table ≡ value_table c → b < 256 → get_or table b 0 ≡ 255 → is_none (value c b) ≡ true
+faulty-entry c table b is h e = none_at c b (sym (get_or-value_table c b 0 h) ∙ rw is at e)
+
+pub admitted-entry : (c : CheckCase) (table : List ℕ) (b : ℕ) → table ≡ value_table c → b < 256 → get_or table b 0 ≢ 255 → is_none (value c b) ≡ false
+admitted-entry c table b is h e = some_at c b (λ x. e (rw is (get_or-value_table c b 0 h ∙ x)))
+
+-- the entry of a byte that has a value is that value, and is below 16
+pub value-entry : (c : CheckCase) (table : List ℕ) (b : ℕ) → table ≡ value_table c → b < 256 → is_none (value c b) ≡ false → (value c b ≡ Some (get_or table b 0)) × (get_or table b 0 < 16)
+value-entry c table b is h e = rw is (rw (get_or-value_table c b 0 h) (value_at c b e))

@@ -1,0 +1,8 @@
+use Rattle.std.proofs.Common.{◌≡◌, ℕ, ◌+◌, ◌*◌, ◌/◌, ◌%◌, ◌<◌, get_or, Some}
+use Rattle.hex_core.specs.Digit.{value}
+use Rattle.hex_core.proofs.SpellsLemmas.{SpellsBelow}
+use Rattle.hex_core.proofs.scalar.write_bytes.Given as goal
+
+-- the bytes so far are those that their pairs of digits spell
+abbrev pub invariant-bytes : goal.invariant-bytes
+invariant-bytes l = SpellsBelow l.fn.case l.src l.dst l.i

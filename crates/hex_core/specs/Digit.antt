@@ -1,0 +1,37 @@
+-- One hex digit: its value under a policy, and the digit of a number.
+use Rattle.std.specs.Prelude.{ℕ, ◌+◌, ◌-◌, nat_le, nat_lt, Bool, true, false, ◌&&◌, if◌then◌else◌, Option, Some, None}
+use Rattle.hex_core.specs.declared.digit.CheckCase.{CheckCase}
+use Rattle.hex_core.specs.declared.digit.CheckCase.TheVariants as policy
+
+-- whether b lies in an interval, both ends included
+abbrev pub within : ℕ → ℕ → ℕ → Bool
+within low high b = nat_le low b && nat_le b high
+
+-- whether the policy reads `a` to `f`
+abbrev pub reads_lower : CheckCase → Bool
+reads_lower policy.None = true
+reads_lower policy.Lower = true
+reads_lower policy.Upper = false
+
+-- whether the policy reads `A` to `F`
+abbrev pub reads_upper : CheckCase → Bool
+reads_upper policy.None = true
+reads_upper policy.Lower = false
+reads_upper policy.Upper = true
+
+-- the value of a byte: three intervals, `0` to `9`, `a` to `f` and `A` to `F`, and no other byte
+abbrev pub value : CheckCase → ℕ → Option ℕ
+value c b =
+    if within 48 57 b then Some (b - 48)
+    else if reads_lower c && within 97 102 b then Some (b - 87)
+    else if reads_upper c && within 65 70 b then Some (b - 55)
+    else None
+
+-- the digit of a number below 16: `0` to `9`, then `a` to `f`, or `A` to `F` in uppercase
+abbrev pub digit : Bool → ℕ → ℕ
+digit upper n = if nat_lt n 10 then 48 + n else if upper then 55 + n else 87 + n
+
+-- the policy that reads exactly the digits that are written in this case
+abbrev pub strict : Bool → CheckCase
+strict true = policy.Upper
+strict false = policy.Lower

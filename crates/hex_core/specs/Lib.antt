@@ -1,0 +1,6 @@
+pub mod Digit
+pub mod Text
+pub mod Fault
+pub mod Refusal
+pub mod Message
+pub mod Loan

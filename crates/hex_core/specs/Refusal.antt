@@ -1,0 +1,24 @@
+-- What a slice call refuses, in its order.
+use Rattle.std.specs.Prelude.{ℕ, ◌*◌, ◌/◌, ◌%◌, ◌^◌, ◌==◌, nat_lt, nat_le, Bool, ◌&&◌, if◌then◌else◌, List, length, slice_index, Option, Some, None, option_map}
+use Rattle.hex_core.specs.declared.digit.CheckCase.{CheckCase}
+use Rattle.hex_core.specs.declared.error.Error.{Error}
+use Rattle.hex_core.specs.declared.error.Error.TheVariants.{InvalidChar, OutputTooSmall, OddLength, Overflow}
+use Rattle.hex_core.specs.Fault.{fault}
+
+-- what decoding into this room refuses: an odd length, then too little room, then the first fault
+abbrev pub decode_refusal : CheckCase → List ℕ → ℕ → Option Error
+decode_refusal c s room =
+    if length s % 2 == 1 then Some OddLength
+    else if nat_lt room (length s / 2) then Some (OutputTooSmall (length s / 2))
+    else option_map (λ f. InvalidChar f (slice_index s f)) (fault c s)
+
+-- whether a list's text has a length, as a `usize`, that fits the room
+abbrev pub encodable : List ℕ → ℕ → Bool
+encodable bytes room = nat_lt (2 * length bytes) (2 ^ 64) && nat_le (2 * length bytes) room
+
+-- what encoding into this room refuses: a text whose length is no `usize`, then too little room
+abbrev pub encode_refusal : List ℕ → ℕ → Option Error
+encode_refusal bytes room =
+    if encodable bytes room then None
+    else if nat_lt (2 * length bytes) (2 ^ 64) then Some (OutputTooSmall (2 * length bytes))
+    else Some Overflow

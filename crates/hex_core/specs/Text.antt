@@ -1,0 +1,32 @@
+-- The text of a list of bytes, and what a text spells.
+use Rattle.std.specs.Prelude.{◌≡◌, ℕ, ◌+◌, ◌*◌, ◌/◌, ◌%◌, Bool, List, [], ◌∷◌, ◌++◌, length, drop, map, slice_index, EachIndex, Some, unwrap_or}
+use Rattle.std.specs.List.{flat_map, range_with_len}
+use Rattle.hex_core.specs.declared.digit.CheckCase.{CheckCase}
+use Rattle.hex_core.specs.Digit.{value, digit}
+
+-- the two digits of a byte, the high one first
+abbrev pub digits : Bool → ℕ → List ℕ
+digits upper byte = digit upper (byte / 16) ∷ digit upper (byte % 16) ∷ []
+
+-- the text of a list: the digits of each byte, in order
+abbrev pub text : Bool → List ℕ → List ℕ
+text upper bytes = flat_map (digits upper) bytes
+
+-- a text spells a list: it has two digits for each byte, and they are the byte's quotient and
+-- remainder by 16
+pub record Spells (c : CheckCase) (s bytes : List ℕ) : Type 0 where
+  pub twice : length s ≡ 2 * length bytes
+  pub high : EachIndex bytes (λ i. value c (slice_index s (2 * i)) ≡ Some (slice_index bytes i / 16))
+  pub low : EachIndex bytes (λ i. value c (slice_index s (2 * i + 1)) ≡ Some (slice_index bytes i % 16))
+
+-- a list laid over the old bytes: the list, and what was behind its length
+abbrev pub laid : List ℕ → List ℕ → List ℕ
+laid old bytes = bytes ++ drop (length bytes) old
+
+-- each byte's value under a policy, in the order of the bytes, and 255 where there is none
+unfoldable pub value_table : CheckCase → List ℕ
+value_table c = map (λ b. unwrap_or (value c b) 255) (range_with_len 0 256)
+
+-- the digits of each byte, in the order of the bytes
+unfoldable pub digits_table : Bool → List ℕ
+digits_table upper = text upper (range_with_len 0 256)

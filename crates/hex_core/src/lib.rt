@@ -1,0 +1,12 @@
+//! Hex digits, errors and the plans that encode and decode: the base of `faster_hex`.
+#![tactic(auto)]
+
+pub mod digit;
+pub mod error;
+pub mod plan;
+mod lend;
+mod scalar;
+
+pub use crate::digit::{CheckCase, digit_value};
+pub use crate::error::Error;
+pub use crate::plan::Backend;

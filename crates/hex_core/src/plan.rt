@@ -1,0 +1,220 @@
+//! Plans by name, and the slice calls under each.
+
+ghost use Rattle.std.specs.Prelude.{◌≡◌, ◌/◌, ◌*◌, ◌↔◌, ℕ, List, IsTrue, None, Some, Ok, Err, length, map, MatchResult, OnOk, OnErr, IfOk, IfErr, IsOkAnd};
+ghost use Rattle.std.specs.Bool.{OnTrue, OnFalse};
+ghost use Rattle.std.specs.Borrow.{sem};
+ghost use Rattle.hex_core.specs.Fault.{fault};
+ghost use Rattle.hex_core.specs.Loan.{LendsAnswer};
+ghost use Rattle.hex_core.specs.Refusal.{decode_refusal, encode_refusal};
+ghost use Rattle.hex_core.specs.Text.{Spells, laid, text};
+
+use crate::digit::CheckCase;
+use crate::error::Error;
+use crate::lend::lend_accepted;
+use crate::scalar;
+
+#[derive(Clone, Copy)]
+enum Kind {
+    Scalar,
+    Sse41,
+    Avx2,
+    Avx512,
+    Neon,
+}
+
+/// A plan: one way to check, encode and decode.
+///
+/// All plans give the same answers and leave the same bytes.
+#[derive(Clone, Copy)]
+pub struct Backend(Kind);
+
+impl Backend {
+    /// Answers whether every byte of `src` has a value under `case`, whatever its length.
+    pub fn check(self, src: &[u8], case: CheckCase) -> bool
+        ensures { IsTrue result ↔ (fault case src.now ≡ None) }
+    {
+        match self.0 {
+            Kind::Scalar | Kind::Sse41 | Kind::Avx2 | Kind::Avx512 | Kind::Neon => {
+                scalar::check(src, case)
+            }
+        }
+    }
+
+    /// Writes the text of `src` over the whole of `dst`, which is twice as long.
+    pub fn encode(self, src: &[u8], dst: &mut [u8], upper: bool)
+        requires { length dst.old ≡ 2 * length src.now }
+        ensures { dst.new ≡ text upper src.now }
+    {
+        match self.0 {
+            Kind::Scalar | Kind::Sse41 | Kind::Avx2 | Kind::Avx512 | Kind::Neon => {
+                scalar::write_text(src, dst, upper)
+            }
+        }
+    }
+
+    // Writes the bytes that a valid source spells.
+    fn write_bytes(self, src: &[u8], dst: &mut [u8], case: CheckCase)
+        requires twice { length src.now ≡ 2 * length dst.old }
+        requires valid { fault case src.now ≡ None }
+        ensures { Spells case src.now dst.new }
+    {
+        match self.0 {
+            Kind::Scalar | Kind::Sse41 | Kind::Avx2 | Kind::Avx512 | Kind::Neon => {
+                scalar::write_bytes(src, dst, case)
+            }
+        }
+    }
+
+    /// Writes the bytes that `src` spells over the whole of `dst`, which is half as long, and
+    /// answers whether every byte of `src` has a value under `case`. Where it answers false, `dst`
+    /// is as it was.
+    pub fn decode(self, src: &[u8], dst: &mut [u8], case: CheckCase) -> bool
+        requires { length src.now ≡ 2 * length dst.old }
+        ensures valid { IsTrue result ↔ (fault case src.now ≡ None) }
+        ensures decoded { OnTrue result (Spells case src.now dst.new) }
+        ensures unchanged { OnFalse result (dst.new ≡ dst.old) }
+    {
+        if !self.check(src, case) {
+            return false;
+        }
+        self.write_bytes(src, dst, case);
+        true
+    }
+
+    // How many bytes `src` decodes to, or what decoding it into this room refuses.
+    fn accepted(self, src: &[u8], room: usize, case: CheckCase) -> Result<usize, Error>
+        ensures { MatchResult result
+            (λ n. (decode_refusal case src.now room ≡ None) × (n ≡ length src.now / 2))
+            (λ e. decode_refusal case src.now room ≡ Some e) }
+    {
+        if src.len() % 2 == 1 {
+            return Err(Error::OddLength);
+        }
+        let required = src.len() / 2;
+        if room < required {
+            return Err(Error::OutputTooSmall { required });
+        }
+        if self.check(src, case) {
+            return Ok(required);
+        }
+        match scalar::first_fault(src, case) {
+            Some(index) => Err(Error::InvalidChar { index, byte: src[index] }),
+            None => Ok(required),
+        }
+    }
+
+    // How many bytes the text of `len` bytes takes, or what encoding them into this room refuses.
+    fn encodable(src: &[u8], room: usize) -> Result<usize, Error>
+        ensures { MatchResult result
+            (λ n. (encode_refusal src.now room ≡ None) × (n ≡ 2 * length src.now))
+            (λ e. encode_refusal src.now room ≡ Some e) }
+    {
+        let Some(required) = src.len().checked_mul(2) else {
+            return Err(Error::Overflow);
+        };
+        if room < required {
+            return Err(Error::OutputTooSmall { required });
+        }
+        Ok(required)
+    }
+
+    // Writes the bytes behind a reference that was lent for them, or hands on the refusal.
+    fn decoded<'a>(
+        self,
+        src: &[u8],
+        lent: Result<&'a mut [u8], Error>,
+        case: CheckCase,
+    ) -> Result<&'a mut [u8], Error>
+        requires { IfOk lent (λ r. (length src.now ≡ 2 * length r.now) × (fault case src.now ≡ None)) }
+        ensures ok { IfOk lent.entry (λ r. IsOkAnd result (λ s. (s.ghost_name ≡ r.ghost_name) × Spells case src.now s.now)) }
+        ensures err { IfErr lent.entry (λ e. result ≡ Err e) }
+    {
+        match lent {
+            Ok(front) => {
+                self.write_bytes(src, front, case);
+                Ok(front)
+            }
+            Err(e) => Err(e),
+        }
+    }
+
+    // Writes the text behind a reference that was lent for it, or hands on the refusal.
+    fn encoded<'a>(
+        self,
+        src: &[u8],
+        lent: Result<&'a mut [u8], Error>,
+        upper: bool,
+    ) -> Result<&'a mut [u8], Error>
+        requires { IfOk lent (λ r. length r.now ≡ 2 * length src.now) }
+        ensures ok { IfOk lent.entry (λ r. IsOkAnd result (λ s. (s.ghost_name ≡ r.ghost_name) × (s.now ≡ text upper src.now))) }
+        ensures err { IfErr lent.entry (λ e. result ≡ Err e) }
+    {
+        match lent {
+            Ok(front) => {
+                self.encode(src, front, upper);
+                Ok(front)
+            }
+            Err(e) => Err(e),
+        }
+    }
+
+    /// Decodes `src` into the front of `dst` and answers how many bytes it wrote.
+    pub fn decode_into(self, src: &[u8], dst: &mut [u8], case: CheckCase) -> Result<usize, Error>
+        ensures answer { MatchResult result
+            (λ n. (decode_refusal case src.now (length dst.old) ≡ None) × (n ≡ length src.now / 2))
+            (λ e. decode_refusal case src.now (length dst.old) ≡ Some e) }
+        ensures ok { OnOk result ((bytes : List ℕ) × Spells case src.now bytes × (dst.new ≡ laid dst.old bytes)) }
+        ensures err { OnErr result (dst.new ≡ dst.old) }
+    {
+        let written = self.accepted(src, dst.len(), case)?;
+        self.write_bytes(src, &mut dst[..written], case);
+        Ok(written)
+    }
+
+    /// Encodes `src` into the front of `dst` and answers how many bytes it wrote.
+    pub fn encode_into(self, src: &[u8], dst: &mut [u8], upper: bool) -> Result<usize, Error>
+        ensures answer { MatchResult result
+            (λ n. (encode_refusal src.now (length dst.old) ≡ None) × (n ≡ 2 * length src.now))
+            (λ e. encode_refusal src.now (length dst.old) ≡ Some e) }
+        ensures ok { OnOk result (dst.new ≡ laid dst.old (text upper src.now)) }
+        ensures err { OnErr result (dst.new ≡ dst.old) }
+    {
+        let written = Backend::encodable(src, dst.len())?;
+        self.encode(src, &mut dst[..written], upper);
+        Ok(written)
+    }
+
+    /// Decodes `src` into the front of `dst` and answers that front, which borrows `dst` alone.
+    pub fn decode_slice<'a>(
+        self,
+        src: &[u8],
+        dst: &'a mut [u8],
+        case: CheckCase,
+    ) -> Result<&'a mut [u8], Error>
+        ensures* lends { sem 𝓛 (LendsAnswer dst.entry result) }
+        ensures answer { MatchResult result
+            (λ r. (decode_refusal case src.now (length dst.old) ≡ None) × Spells case src.now r.now)
+            (λ e. decode_refusal case src.now (length dst.old) ≡ Some e) }
+    {
+        let answer = self.accepted(src, dst.len(), case);
+        let lent = lend_accepted(dst, answer);
+        self.decoded(src, lent, case)
+    }
+
+    /// Encodes `src` into the front of `dst` and answers that front, which borrows `dst` alone.
+    pub fn encode_slice<'a>(
+        self,
+        src: &[u8],
+        dst: &'a mut [u8],
+        upper: bool,
+    ) -> Result<&'a mut [u8], Error>
+        ensures* lends { sem 𝓛 (LendsAnswer dst.entry result) }
+        ensures answer { MatchResult result
+            (λ r. (encode_refusal src.now (length dst.old) ≡ None) × (r.now ≡ text upper src.now))
+            (λ e. encode_refusal src.now (length dst.old) ≡ Some e) }
+    {
+        let answer = Backend::encodable(src, dst.len());
+        let lent = lend_accepted(dst, answer);
+        self.encoded(src, lent, upper)
+    }
+}

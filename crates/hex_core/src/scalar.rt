@@ -1,0 +1,67 @@
+//! The plain bodies: a table look-up a digit.
+
+ghost use Rattle.std.specs.Prelude.{◌≡◌, ◌+◌, ◌*◌, ◌<◌, ◌↔◌, IsTrue, None, length};
+ghost use Rattle.hex_core.specs.Fault.{fault};
+ghost use Rattle.hex_core.specs.Text.{Spells, text};
+
+use crate::digit::{CheckCase, NIL, digits_of, values_of};
+
+/// Answers whether every byte of `src` has a value under `case`.
+pub fn check(src: &[u8], case: CheckCase) -> bool
+    ensures { IsTrue result ↔ (fault case src.now ≡ None) }
+{
+    let values = values_of(case);
+    for byte in src {
+        if values[*byte as usize] == NIL {
+            return false;
+        }
+    }
+    true
+}
+
+// The byte of two values.
+fn packed(high: u8, low: u8) -> u8
+    requires high { high < 16 }
+    requires low { low < 16 }
+    ensures { result ≡ 16 * high + low }
+{
+    16 * high + low
+}
+
+/// Writes the bytes that `src` spells into the whole of `dst`.
+pub fn write_bytes(src: &[u8], dst: &mut [u8], case: CheckCase)
+    requires twice { length src.now ≡ 2 * length dst.old }
+    requires valid { fault case src.now ≡ None }
+    ensures { Spells case src.now dst.new }
+{
+    let values = values_of(case);
+    'bytes: for i in 0..dst.len() {
+        dst[i] = packed(values[src[2 * i] as usize], values[src[2 * i + 1] as usize]);
+    }
+}
+
+/// Writes the text of `src` into the whole of `dst`.
+pub fn write_text(src: &[u8], dst: &mut [u8], upper: bool)
+    requires { length dst.old ≡ 2 * length src.now }
+    ensures { dst.new ≡ text upper src.now }
+{
+    let digits = digits_of(upper);
+    'digits: for i in 0..src.len() {
+        let at = 2 * (src[i] as usize);
+        dst[2 * i] = digits[at];
+        dst[2 * i + 1] = digits[at + 1];
+    }
+}
+
+/// Answers the first place of `src` whose byte has no value under `case`, if there is one.
+pub fn first_fault(src: &[u8], case: CheckCase) -> Option<usize>
+    ensures { result ≡ fault case src.now }
+{
+    let values = values_of(case);
+    for (i, byte) in src.iter().enumerate() {
+        if values[*byte as usize] == NIL {
+            return Some(i);
+        }
+    }
+    None
+}
