@@ -12,6 +12,12 @@ decode_refusal c s room =
     else if nat_lt room (length s / 2) then Some (OutputTooSmall (length s / 2))
     else option_map (λ f. InvalidChar f (slice_index s f)) (fault c s)
 
+-- what decoding refuses where there is room: an odd length, then the first fault
+abbrev pub source_refusal : CheckCase → List ℕ → Option Error
+source_refusal c s =
+    if length s % 2 == 1 then Some OddLength
+    else option_map (λ f. InvalidChar f (slice_index s f)) (fault c s)
+
 -- whether a list's text has a length, as a `usize`, that fits the room
 abbrev pub encodable : List ℕ → ℕ → Bool
 encodable bytes room = nat_lt (2 * length bytes) (2 ^ 64) && nat_le (2 * length bytes) room

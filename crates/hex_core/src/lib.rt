@@ -4,7 +4,6 @@
 pub mod digit;
 pub mod error;
 pub mod plan;
-mod lend;
 mod scalar;
 
 pub use crate::digit::{CheckCase, digit_value};

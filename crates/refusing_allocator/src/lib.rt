@@ -1,0 +1,95 @@
+//! An allocator for tests: it grants as many allocations as a test allows, and refuses each later one.
+//!
+//! A test lends it to what is tested, as `&alloc`. One handle then serves each collection of the test, and can be asked
+//! afterwards how many allocations were made.
+#![tactic(auto)]
+
+use std::alloc::{AllocError, Allocator};
+use std::cell::Cell;
+
+#[cfg(test)]
+mod tests;
+
+/// Passes the first `left` allocations on to `inner` and refuses each later one.
+///
+/// Each block that a collection takes counts as one allocation: its first one, each larger one that it grows into, and each
+/// smaller one that it shrinks into. To give a block back counts as none, and is never refused.
+///
+/// ```
+/// let alloc = Refusing::new(rt.alloc(), 0);
+/// let mut bytes = Vec::new(&alloc);
+/// assert_eq!(rt; bytes.push(7u8).is_ok(), false);
+/// alloc.set_left(1);
+/// assert_eq!(rt; bytes.push(7u8).is_ok(), true);
+/// assert_eq!(rt; (alloc.left(), alloc.asked()), (0, 2));
+/// ```
+#[derive(Drop)]
+pub struct Refusing<B: Allocator> {
+    inner: B,
+    counts: Counts,
+}
+
+// One struct and not two fields of `Refusing`, so that one borrow reaches both counts.
+#[derive(Drop)]
+struct Counts {
+    left: Cell<u64>,
+    asked: Cell<u64>,
+}
+
+impl<B: Allocator> Refusing<B> {
+    /// An allocator that grants `left` allocations, whose memory `inner` gives.
+    pub fn new(inner: B, left: u64) -> Refusing<B> {
+        Refusing {
+            inner,
+            counts: Counts {
+                left: Cell::new(left),
+                asked: Cell::new(0),
+            },
+        }
+    }
+
+    /// How many allocations it still grants.
+    ///
+    /// It falls by one with each that is granted, also where `inner` then has no memory. So the difference of two answers is
+    /// the number granted between them.
+    pub fn left(&self) -> u64 {
+        self.counts.left.get()
+    }
+
+    /// From now on grants `left` allocations and refuses the rest.
+    pub fn set_left(&self, left: u64) {
+        self.counts.left.set(left);
+    }
+
+    /// How many allocations it was asked for since it was made, those that it refused among them.
+    pub fn asked(&self) -> u64 {
+        self.counts.asked.get()
+    }
+}
+
+// Counts one allocation that is asked for, and answers whether it is granted.
+fn grants(counts: &Counts) -> bool {
+    // No clause knows what a cell holds, so a plain `+` could not be shown to fit.
+    counts.asked.set(counts.asked.get().saturating_add(1));
+    let left = counts.left.get();
+    if left > 0 {
+        counts.left.set(left - 1);
+    }
+    left > 0
+}
+
+// `grow` and `shrink` are the trait's own, which call `allocate`: those of `inner` would grow a block with no count.
+unsafe impl<B: Allocator> Allocator for Refusing<B> {
+    ghost dealloc_token = { λ heap ty ptr. B.dealloc_token heap.inner ty ptr };
+
+    fn allocate(&self, size: usize, align: usize) -> Result<*mut u8, AllocError> {
+        if !grants(&self.counts) {
+            return Err(AllocError);
+        }
+        self.inner.allocate(size, align)
+    }
+
+    unsafe fn deallocate(&self, ptr: *mut u8, size: usize, align: usize) {
+        self.inner.deallocate(ptr, size, align);
+    }
+}
