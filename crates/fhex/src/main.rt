@@ -2,6 +2,8 @@
 #![tactic(auto)]
 
 mod program;
+#[cfg(test)]
+mod tests;
 
 use program::{Failure, refuse, serve};
 use std::env;

@@ -233,7 +233,8 @@ pub fn refuse<E: Write>(err: &mut E, failure: Failure) -> u8
     failure.status()
 }
 
-fn serve_in<A: Allocator, R: Read, W: Write, E: Write>(
+// The same over any allocator, so that a test can refuse its growths.
+pub fn serve_in<A: Allocator, R: Read, W: Write, E: Write>(
     alloc: &A,
     words: &[&str],
     input: &mut R,

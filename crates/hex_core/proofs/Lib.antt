@@ -1,4 +1,10 @@
+pub mod Facts
 pub mod FaultLemmas
+pub mod Fronts
+pub mod Lent
+pub mod Refused
+pub mod Results
 pub mod SpellsLemmas
 pub mod TableLemmas
 pub mod TextLemmas
+pub mod WalkKit

@@ -3,6 +3,7 @@
 
 pub mod digit;
 pub mod error;
+mod lend;
 pub mod plan;
 mod scalar;
 

@@ -2,12 +2,15 @@
 
 ghost use Rattle.std.specs.Prelude.{◌≡◌, ◌/◌, ◌*◌, ◌↔◌, ℕ, List, IsTrue, None, Some, Ok, Err, length, map, MatchResult, OnOk, OnErr, IfOk, IfErr, IsOkAnd};
 ghost use Rattle.std.specs.Bool.{OnTrue, OnFalse};
+ghost use Rattle.std.specs.Borrow.{sem};
 ghost use Rattle.hex_core.specs.Fault.{fault};
+ghost use Rattle.hex_core.specs.Loan.{LendsAnswer};
 ghost use Rattle.hex_core.specs.Refusal.{decode_refusal, encode_refusal};
 ghost use Rattle.hex_core.specs.Text.{Spells, laid, text};
 
 use crate::digit::CheckCase;
 use crate::error::Error;
+use crate::lend::lend_accepted;
 use crate::scalar;
 
 #[derive(Clone, Copy)]
@@ -98,7 +101,10 @@ impl Backend {
             return Ok(required);
         }
         match scalar::first_fault(src, case) {
-            Some(index) => Err(Error::InvalidChar { index, byte: src[index] }),
+            Some(index) => Err(Error::InvalidChar {
+                index,
+                byte: src[index],
+            }),
             None => Ok(required),
         }
     }
@@ -182,5 +188,39 @@ impl Backend {
         let written = Backend::encodable(src, dst.len())?;
         self.encode(src, &mut dst[..written], upper);
         Ok(written)
+    }
+
+    /// Decodes `src` into the front of `dst` and answers that front, which borrows `dst` alone.
+    pub fn decode_slice<'a>(
+        self,
+        src: &[u8],
+        dst: &'a mut [u8],
+        case: CheckCase,
+    ) -> Result<&'a mut [u8], Error>
+        ensures* lends { sem 𝓛 (LendsAnswer dst.entry result) }
+        ensures answer { MatchResult result
+            (λ r. (decode_refusal case src.now (length dst.old) ≡ None) × Spells case src.now r.now)
+            (λ e. decode_refusal case src.now (length dst.old) ≡ Some e) }
+    {
+        let answer = self.accepted(src, dst.len(), case);
+        let lent = lend_accepted(dst, answer);
+        self.decoded(src, lent, case)
+    }
+
+    /// Encodes `src` into the front of `dst` and answers that front, which borrows `dst` alone.
+    pub fn encode_slice<'a>(
+        self,
+        src: &[u8],
+        dst: &'a mut [u8],
+        upper: bool,
+    ) -> Result<&'a mut [u8], Error>
+        ensures* lends { sem 𝓛 (LendsAnswer dst.entry result) }
+        ensures answer { MatchResult result
+            (λ r. (encode_refusal src.now (length dst.old) ≡ None) × (r.now ≡ text upper src.now))
+            (λ e. encode_refusal src.now (length dst.old) ≡ Some e) }
+    {
+        let answer = Backend::encodable(src, dst.len());
+        let lent = lend_accepted(dst, answer);
+        self.encoded(src, lent, upper)
     }
 }
