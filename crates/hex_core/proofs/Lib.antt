@@ -1,6 +1,7 @@
 pub mod Facts
 pub mod FaultLemmas
 pub mod Fronts
+pub mod LawProofs
 pub mod Lent
 pub mod Refused
 pub mod Results

@@ -4,3 +4,4 @@ pub mod Fault
 pub mod Refusal
 pub mod Message
 pub mod Loan
+pub mod Laws

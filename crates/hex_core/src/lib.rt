@@ -3,6 +3,7 @@
 
 pub mod digit;
 pub mod error;
+pub mod laws;
 mod lend;
 pub mod plan;
 mod scalar;

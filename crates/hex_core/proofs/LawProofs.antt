@@ -1,0 +1,157 @@
+-- The laws of digits, texts and what they spell.
+use Rattle.std.proofs.Common.{◌≡◌, ℕ, List, [], ◌∷◌, ◌++◌, ◌+◌, ◌-◌, ◌*◌, ◌/◌, ◌%◌, ◌^◌, ◌<◌, ◌≤◌, ◌↔◌, ◌==◌, if◌then◌else◌, nat_lt, length, map, get_or, Bool, true, false, not, Option, None, Some, is_none, unwrap_or, refl, sym, ◌∙◌, ap, arith, zero-add, inl, inr}
+use Rattle.std.proofs.lemmas.Bool.{cases_lt}
+use Rattle.std.proofs.lemmas.Bool.Decides.{nat_tests}
+use Rattle.std.proofs.lemmas.Grind.{same_number_lists}
+use Rattle.std.proofs.lemmas.List.{get_or-map, length-map}
+use Rattle.std.proofs.lemmas.List.Elements.{All-get_or, All-from_get_or}
+use Rattle.std.proofs.lemmas.List.FromFn.{get_or-map-range_with_len, length-map-range_with_len}
+use Rattle.std.specs.Prelude.{All, option_map}
+use Rattle.std.specs.List.{range_with_len}
+use Rattle.std.specs.Char.{to_ascii_lowercase}
+use Rattle.std.specs.Str.{str_to_ascii_lowercase}
+use Rattle.hex_core.specs.declared.digit.CheckCase.{CheckCase}
+use Rattle.hex_core.specs.declared.digit.CheckCase.TheVariants as policy
+use Rattle.hex_core.specs.declared.error.Error.{Error}
+use Rattle.hex_core.specs.declared.error.Error.TheVariants.{InvalidChar, OddLength}
+use Rattle.hex_core.specs.Digit.{value, digit, strict}
+use Rattle.hex_core.specs.Text.{Spells, text}
+use Rattle.hex_core.specs.Fault.{fault}
+use Rattle.hex_core.specs.Refusal.{source_refusal}
+use Rattle.hex_core.specs.Laws.{AreBytes}
+use Rattle.hex_core.proofs.FaultLemmas.{admitted, fault-none, faulty}
+use Rattle.hex_core.proofs.TableLemmas.{value_at}
+use Rattle.hex_core.proofs.TextLemmas.{length-text, high-text, low-text, text-append}
+
+-- a value is below 16
+value-below : (c : CheckCase) (b n : ℕ) → value c b ≡ Some n → n < 16
+value-below policy.None b n h = grind (arith, nat_tests)
+value-below policy.Lower b n h = grind (arith, nat_tests)
+value-below policy.Upper b n h = grind (arith, nat_tests)
+
+-- a digit is read as its number, under the policy of its case and under either
+value-digit : (upper : Bool) (n : ℕ) → n < 16 → value (strict upper) (digit upper n) ≡ Some n
+value-digit true n h = grind (arith, nat_tests)
+value-digit false n h = grind (arith, nat_tests)
+
+value-digit_either : (upper : Bool) (n : ℕ) → n < 16 → value policy.None (digit upper n) ≡ Some n
+value-digit_either true n h = grind (arith, nat_tests)
+value-digit_either false n h = grind (arith, nat_tests)
+
+-- a byte that a strict policy reads is the digit of its value
+digit-value : (upper : Bool) (b n : ℕ) → value (strict upper) b ≡ Some n → digit upper n ≡ b
+digit-value true b n h = grind (arith, nat_tests)
+digit-value false b n h = grind (arith, nat_tests)
+
+-- a byte is read under either case as its lowercase form is under lowercase
+value-lowercased : (b : ℕ) → value policy.Lower (to_ascii_lowercase b) ≡ value policy.None b
+value-lowercased b = grind (arith, nat_tests)
+
+-- a byte is what its quotient and remainder make
+pub spells-bytes : (c : CheckCase) (s bytes : List ℕ) → Spells c s bytes → AreBytes bytes
+spells-bytes c s bytes h = All-from_get_or (λ b. b < 256) bytes 0 (λ i lt.
+    let small : get_or bytes i 0 / 16 < 16 = value-below c (get_or s (2 * i) 0) (get_or bytes i 0 / 16) (h.high i lt) in omega arith)
+
+-- the list that the pairs of digits of a source make
+pairs : CheckCase → List ℕ → ℕ → ℕ
+pairs c s i = 16 * unwrap_or (value c (get_or s (2 * i) 0)) 255 + unwrap_or (value c (get_or s (2 * i + 1) 0)) 255
+
+pub spelled : (c : CheckCase) (s : List ℕ) → length s % 2 ≡ 0 → fault c s ≡ None → (bytes : List ℕ) × Spells c s bytes
+unfolding pairs
+spelled c s even none =
+    let n = length s / 2 in
+    let bytes : List ℕ = map (pairs c s) (range_with_len 0 n) in
+    let size : length bytes ≡ n = length-map-range_with_len (pairs c s) 0 n in
+    let at : (i : ℕ) → i < length bytes → get_or bytes i 0 ≡ pairs c s i = λ i lt. get_or-map-range_with_len (pairs c s) 0 n i i 0 (rw size at lt) (zero-add i) in
+    let high : (i : ℕ) → i < length bytes → (value c (get_or s (2 * i) 0) ≡ Some (unwrap_or (value c (get_or s (2 * i) 0)) 255)) × (unwrap_or (value c (get_or s (2 * i) 0)) 255 < 16) =
+        λ i lt. value_at c (get_or s (2 * i) 0) (admitted c s (2 * i) none (omega (arith, size))) in
+    let low : (i : ℕ) → i < length bytes → (value c (get_or s (2 * i + 1) 0) ≡ Some (unwrap_or (value c (get_or s (2 * i + 1) 0)) 255)) × (unwrap_or (value c (get_or s (2 * i + 1) 0)) 255 < 16) =
+        λ i lt. value_at c (get_or s (2 * i + 1) 0) (admitted c s (2 * i + 1) none (omega (arith, size))) in
+    (bytes, record {
+      twice = omega (arith, size);
+      high = λ i lt. (high i lt).0 ∙ ap (λ (k : ℕ). Some k) (let e : unwrap_or (value c (get_or s (2 * i) 0)) 255 ≡ get_or bytes i 0 / 16 = omega (arith, at i lt, (high i lt).1, (low i lt).1) in e);
+      low = λ i lt. (low i lt).0 ∙ ap (λ (k : ℕ). Some k) (let e : unwrap_or (value c (get_or s (2 * i + 1) 0)) 255 ≡ get_or bytes i 0 % 16 = omega (arith, at i lt, (high i lt).1, (low i lt).1) in e);
+    })
+
+-- a byte with a value has no fault
+not-faulty : (c : CheckCase) (b n : ℕ) → value c b ≡ Some n → faulty c b ≡ false
+not-faulty c b n e = rw e refl
+
+pub fault-spelled : (c : CheckCase) (s bytes : List ℕ) → Spells c s bytes → fault c s ≡ None
+fault-spelled c s bytes h = fault-none c s (λ k lt.
+    let twice = h.twice in
+    let i = k / 2 in
+    let small : i < length bytes = omega arith in
+    elim (cases_lt (k % 2) 1) [
+      inl even ↦ (let e : 2 * i ≡ k = omega arith in let f : faulty c (get_or s (2 * i) 0) ≡ false = not-faulty c (get_or s (2 * i) 0) (get_or bytes i 0 / 16) (h.high i small) in rw e at f)
+    | inr odd ↦ (let e : 2 * i + 1 ≡ k = omega arith in let f : faulty c (get_or s (2 * i + 1) 0) ≡ false = not-faulty c (get_or s (2 * i + 1) 0) (get_or bytes i 0 % 16) (h.low i small) in rw e at f)
+    ])
+
+nothing-refused : (odd : Bool) (f : Option ℕ) (name : ℕ → Error) → (if odd then Some OddLength else option_map name f) ≡ None → (odd ≡ false) × (f ≡ None)
+nothing-refused true f name h = cc
+nothing-refused false (Some x) name h = cc
+nothing-refused false None name h = (refl, refl)
+
+-- where nothing is refused the length is even and there is no fault, and the other way round
+accepted-parts : (c : CheckCase) (s : List ℕ) → source_refusal c s ≡ None → (length s % 2 ≡ 0) × (fault c s ≡ None)
+accepted-parts c s h =
+    let parts = nothing-refused (length s % 2 == 1) (fault c s) (λ f. InvalidChar f (get_or s f 0)) h in
+    let odd = parts.0 in (grind (arith, nat_tests, odd), parts.1)
+
+accepted-whole : (c : CheckCase) (s : List ℕ) → length s % 2 ≡ 0 → fault c s ≡ None → source_refusal c s ≡ None
+accepted-whole c s even none = let test : (length s % 2 == 1) ≡ false = grind (arith, nat_tests) in rw (test, none) refl
+
+pub accepts_what_spells : (c : CheckCase) (s : List ℕ) → (source_refusal c s ≡ None) ↔ ((bytes : List ℕ) × Spells c s bytes)
+accepts_what_spells c s = (
+    λ h. let parts = accepted-parts c s h in spelled c s parts.0 parts.1,
+    λ (bytes, h). let twice = h.twice in accepted-whole c s (omega arith) (fault-spelled c s bytes h),
+  )
+
+-- the text of bytes is read as those bytes, where each digit is read as its number
+text-spells : (c : CheckCase) (upper : Bool) (bytes : List ℕ) → ((n : ℕ) → n < 16 → value c (digit upper n) ≡ Some n) → AreBytes bytes → Spells c (text upper bytes) bytes
+text-spells c upper bytes reads all = record {
+    twice = length-text upper bytes;
+    high = λ i lt. let small : get_or bytes i 0 < 256 = All-get_or (λ b. b < 256) bytes i 0 lt all in rw (high-text upper bytes i lt) (reads _ (omega arith));
+    low = λ i lt. rw (low-text upper bytes i lt) (reads _ (omega arith));
+  }
+
+pub decoding-inverts : (upper : Bool) (bytes : List ℕ) → AreBytes bytes → Spells (strict upper) (text upper bytes) bytes × Spells policy.None (text upper bytes) bytes
+decoding-inverts upper bytes all = (text-spells (strict upper) upper bytes (value-digit upper) all, text-spells policy.None upper bytes (value-digit_either upper) all)
+
+pub encoding-inverts : (upper : Bool) (s bytes : List ℕ) → Spells (strict upper) s bytes → text upper bytes ≡ s
+encoding-inverts upper s bytes h =
+    let twice = h.twice in let size = length-text upper bytes in
+    same_number_lists (text upper bytes) s (omega arith) (λ k lt.
+    let i = k / 2 in
+    let small : i < length bytes = omega arith in
+    elim (cases_lt (k % 2) 1) [
+      inl even ↦ (let e : 2 * i ≡ k = omega arith in let f : get_or (text upper bytes) (2 * i) 0 ≡ get_or s (2 * i) 0 = high-text upper bytes i small ∙ digit-value upper (get_or s (2 * i) 0) (get_or bytes i 0 / 16) (h.high i small) in rw e at f)
+    | inr odd ↦ (let e : 2 * i + 1 ≡ k = omega arith in let f : get_or (text upper bytes) (2 * i + 1) 0 ≡ get_or s (2 * i + 1) 0 = low-text upper bytes i small ∙ digit-value upper (get_or s (2 * i + 1) 0) (get_or bytes i 0 % 16) (h.low i small) in rw e at f)
+    ])
+
+pub strict-accepts : (upper : Bool) (s : List ℕ) → (source_refusal (strict upper) s ≡ None) ↔ ((bytes : List ℕ) × AreBytes bytes × (text upper bytes ≡ s))
+strict-accepts upper s = (
+    λ h. let found = (accepts_what_spells (strict upper) s).0 h in (found.0, spells-bytes (strict upper) s found.0 found.1, encoding-inverts upper s found.0 found.1),
+    λ (bytes, all, is). (accepts_what_spells (strict upper) s).1 (bytes, rw is at (decoding-inverts upper bytes all).0),
+  )
+
+-- the lowercased source's bytes
+lowercased-at : (s : List ℕ) (k : ℕ) → k < length s → value policy.Lower (get_or (str_to_ascii_lowercase s) k 0) ≡ value policy.None (get_or s k 0)
+lowercased-at s k lt = rw (get_or-map to_ascii_lowercase s k 0 0 lt) (value-lowercased (get_or s k 0))
+
+pub either-lowercased : (s bytes : List ℕ) → Spells policy.None s bytes ↔ Spells policy.Lower (str_to_ascii_lowercase s) bytes
+either-lowercased s bytes =
+    let size : length (str_to_ascii_lowercase s) ≡ length s = length-map s to_ascii_lowercase in (
+    λ h. let twice = h.twice in record {
+      twice = omega (arith, size);
+      high = λ i lt. lowercased-at s (2 * i) (omega arith) ∙ h.high i lt;
+      low = λ i lt. lowercased-at s (2 * i + 1) (omega arith) ∙ h.low i lt;
+    },
+    λ h. let twice = h.twice in let same : length s ≡ 2 * length bytes = omega (arith, size) in record {
+      twice = same;
+      high = λ i lt. sym (lowercased-at s (2 * i) (omega arith)) ∙ h.high i lt;
+      low = λ i lt. sym (lowercased-at s (2 * i + 1) (omega arith)) ∙ h.low i lt;
+    })
+
+pub encoding-lowercases : (s bytes : List ℕ) → Spells policy.None s bytes → text false bytes ≡ str_to_ascii_lowercase s
+encoding-lowercases s bytes h = encoding-inverts false (str_to_ascii_lowercase s) bytes ((either-lowercased s bytes).0 h)

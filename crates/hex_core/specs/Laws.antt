@@ -1,0 +1,49 @@
+-- Facts that the definitions alone imply.
+use Rattle.std.specs.Prelude.{◌≡◌, ◌<◌, ◌↔◌, ℕ, Bool, false, List, ◌++◌, All, None}
+use Rattle.std.specs.Str.{str_to_ascii_lowercase}
+use Rattle.hex_core.specs.declared.digit.CheckCase.{CheckCase}
+use Rattle.hex_core.specs.declared.digit.CheckCase.TheVariants as policy
+use Rattle.hex_core.specs.Digit.{strict}
+use Rattle.hex_core.specs.Text.{Spells, text}
+use Rattle.hex_core.specs.Refusal.{source_refusal}
+
+-- every number of the list is a byte
+abbrev pub AreBytes : List ℕ → Type 0
+AreBytes bytes = All (λ b. b < 256) bytes
+
+-- a text spells at most one list
+abbrev pub SpellsOneList : Type 0
+SpellsOneList = (c : CheckCase) (s bytes others : List ℕ) → Spells c s bytes → Spells c s others → bytes ≡ others
+
+-- what a text spells is a list of bytes
+abbrev pub SpellsBytes : Type 0
+SpellsBytes = (c : CheckCase) (s bytes : List ℕ) → Spells c s bytes → AreBytes bytes
+
+-- a source is accepted exactly where it spells some list
+abbrev pub AcceptsWhatSpells : Type 0
+AcceptsWhatSpells = (c : CheckCase) (s : List ℕ) → (source_refusal c s ≡ None) ↔ ((bytes : List ℕ) × Spells c s bytes)
+
+-- decoding inverts encoding, under the strict policy of the text's own case and under either case
+abbrev pub DecodingInvertsEncoding : Type 0
+DecodingInvertsEncoding = (upper : Bool) (bytes : List ℕ) → AreBytes bytes
+    → Spells (strict upper) (text upper bytes) bytes × Spells policy.None (text upper bytes) bytes
+
+-- encoding inverts strict decoding
+abbrev pub EncodingInvertsStrictDecoding : Type 0
+EncodingInvertsStrictDecoding = (upper : Bool) (s bytes : List ℕ) → Spells (strict upper) s bytes → text upper bytes ≡ s
+
+-- strict decoding accepts exactly the texts of encoding in that case
+abbrev pub StrictAcceptsTexts : Type 0
+StrictAcceptsTexts = (upper : Bool) (s : List ℕ) → (source_refusal (strict upper) s ≡ None) ↔ ((bytes : List ℕ) × AreBytes bytes × (text upper bytes ≡ s))
+
+-- a source is read under either case exactly as its lowercased form is under lowercase
+abbrev pub EitherCaseIsLowercased : Type 0
+EitherCaseIsLowercased = (s bytes : List ℕ) → Spells policy.None s bytes ↔ Spells policy.Lower (str_to_ascii_lowercase s) bytes
+
+-- encoding what was read under either case gives the source's lowercased form
+abbrev pub EncodingLowercases : Type 0
+EncodingLowercases = (s bytes : List ℕ) → Spells policy.None s bytes → text false bytes ≡ str_to_ascii_lowercase s
+
+-- the text of a joined list is the two texts joined
+abbrev pub JoinedTexts : Type 0
+JoinedTexts = (upper : Bool) (front back : List ℕ) → text upper (front ++ back) ≡ text upper front ++ text upper back
