@@ -1,13 +1,45 @@
 //! Decoding hex digits.
 
-ghost use Rattle.std.specs.Prelude.{◌≡◌, ◌/◌, ℕ, List, None, Some, Ok, Err, length, MatchResult, OnOk, OnErr};
+ghost use Rattle.std.specs.Prelude.{◌≡◌, ◌/◌, ℕ, List, None, Some, Ok, Err, length, MatchResult, IfOk, IfErr, OnOk, OnErr, IsTrue, ◌↔◌};
 ghost use Rattle.std.specs.Borrow.{sem};
 ghost use Rattle.hex_core.specs.declared.digit.CheckCase.TheVariants as policy;
+ghost use Rattle.hex_core.specs.Fault.{fault};
 ghost use Rattle.hex_core.specs.Loan.{LendsAnswer};
-ghost use Rattle.hex_core.specs.Refusal.{decode_refusal};
+ghost use Rattle.hex_core.specs.Refusal.{OwnedRefusal, array_refusal, decode_refusal};
 ghost use Rattle.hex_core.specs.Text.{Spells, laid};
 
 use hex_core::{Backend, CheckCase, Error};
+use std::alloc::Allocator;
+
+/// Answers whether every byte of `src` is a hex digit, of either letter case.
+///
+/// It looks at bytes alone: an odd number of them passes, and so does the empty source. A call that
+/// decodes makes this test itself.
+///
+/// ```rust
+/// assert!(rt; hex_check(b"00aBcD"));
+/// assert!(rt; hex_check(b"a"));
+/// assert!(rt; !hex_check(b"0x01"));
+/// ```
+pub fn hex_check(src: &[u8]) -> bool
+    ensures { IsTrue result ↔ (fault policy.None src.now ≡ None) }
+{
+    hex_check_with_case(src, CheckCase::None)
+}
+
+/// Answers whether every byte of `src` is a hex digit that `case` reads.
+///
+/// Lengths are as at [`hex_check`].
+///
+/// ```rust
+/// assert!(rt; hex_check_with_case(b"ab01", CheckCase::Lower));
+/// assert!(rt; !hex_check_with_case(b"AB01", CheckCase::Lower));
+/// ```
+pub fn hex_check_with_case(src: &[u8], case: CheckCase) -> bool
+    ensures { IsTrue result ↔ (fault case src.now ≡ None) }
+{
+    Backend::PLAIN.check(src, case)
+}
 
 /// Decodes all of `src` into the front of `dst`, reading letters of either case, and answers that
 /// front.
@@ -96,4 +128,121 @@ pub fn hex_decode_into(src: &[u8], dst: &mut [u8], case: CheckCase) -> Result<us
     ensures err { OnErr result (dst.new ≡ dst.old) }
 {
     Backend::PLAIN.decode_into(src, dst, case)
+}
+
+/// Decodes exactly `N` bytes into an array, reading letters of either case. No memory is taken.
+///
+/// `src` has to hold `2 * N` digits: a shorter source and a longer one are refused alike. Only
+/// `N == 0` takes the empty source.
+///
+/// # Errors
+///
+/// In this order:
+///
+/// 1. [`Error::OddLength`] where `src` has an odd number of bytes;
+/// 2. [`Error::LengthMismatch`] where `src.len() / 2` is not `N`, with both numbers;
+/// 3. [`Error::InvalidChar`] with the first byte of `src` that is no digit, and its place in bytes.
+///
+/// ```rust
+/// assert_eq!(rt; hex_decode_array::<4>(b"0001aBff")?, [0, 1, 0xab, 0xff]);
+/// assert!(rt; hex_decode_array::<4>(b"0001").is_err());
+/// ```
+pub fn hex_decode_array<const N: usize>(src: &[u8]) -> Result<[u8; N], Error>
+    ensures { MatchResult result
+        (λ bytes. (array_refusal policy.None src.now N ≡ None) × Spells policy.None src.now bytes)
+        (λ e. array_refusal policy.None src.now N ≡ Some e) }
+{
+    hex_decode_array_with_case(src, CheckCase::None)
+}
+
+/// Decodes exactly `N` bytes into an array, reading the letters that `case` admits. No memory is
+/// taken.
+///
+/// # Errors
+///
+/// Those of [`hex_decode_array`], in its order. A letter that `case` does not read is an
+/// [`Error::InvalidChar`].
+///
+/// ```rust
+/// assert_eq!(rt; hex_decode_array_with_case::<2>(b"AB01", CheckCase::Upper)?, [0xab, 1]);
+/// assert!(rt; hex_decode_array_with_case::<2>(b"ab01", CheckCase::Upper).is_err());
+/// ```
+pub fn hex_decode_array_with_case<const N: usize>(
+    src: &[u8],
+    case: CheckCase,
+) -> Result<[u8; N], Error>
+    ensures { MatchResult result
+        (λ bytes. (array_refusal case src.now N ≡ None) × Spells case src.now bytes)
+        (λ e. array_refusal case src.now N ≡ Some e) }
+{
+    if src.len() % 2 == 1 {
+        return Err(Error::OddLength);
+    }
+    let actual = src.len() / 2;
+    if actual != N {
+        return Err(Error::LengthMismatch { expected: N, actual });
+    }
+    let mut bytes = [0u8; N];
+    match hex_decode_into(src, &mut bytes, case) {
+        Ok(_) => Ok(bytes),
+        Err(e) => Err(e),
+    }
+}
+
+/// Decodes all of `src` into a new vector, reading letters of either case.
+///
+/// Memory is asked for once, `src.len() / 2` bytes, after an odd length is excluded and before any
+/// byte is tested; none is asked for where `src` is empty.
+///
+/// # Errors
+///
+/// In this order:
+///
+/// 1. [`Error::OddLength`] where `src` has an odd number of bytes, whatever memory does;
+/// 2. [`Error::OutOfMemory`] where the memory is refused;
+/// 3. [`Error::InvalidChar`] with the first byte of `src` that is no digit, and its place in bytes.
+///
+/// ```rust
+/// assert_eq!(rt; hex_decode_vec(rt.alloc(), b"00aBff")?.as_slice(), [0, 0xab, 0xff]);
+/// ```
+pub fn hex_decode_vec<A: Allocator + Drop>(alloc: A, src: &[u8]) -> Result<Vec<u8, A>, Error>
+    ensures ok { IfOk result (λ bytes. Spells policy.None src.now bytes.items) }
+    ensures err { IfErr result (λ e. OwnedRefusal policy.None src.now e) }
+{
+    hex_decode_vec_with_case(alloc, src, CheckCase::None)
+}
+
+/// Decodes all of `src` into a new vector, reading the letters that `case` admits.
+///
+/// Memory and the order of the errors are as at [`hex_decode_vec`].
+///
+/// # Errors
+///
+/// Those of [`hex_decode_vec`], in its order. A letter that `case` does not read is an
+/// [`Error::InvalidChar`].
+///
+/// ```rust
+/// assert!(rt; hex_decode_vec_with_case(rt.alloc(), b"AB", CheckCase::Lower).is_err());
+/// ```
+pub fn hex_decode_vec_with_case<A: Allocator + Drop>(
+    alloc: A,
+    src: &[u8],
+    case: CheckCase,
+) -> Result<Vec<u8, A>, Error>
+    ensures ok { IfOk result (λ bytes. Spells case src.now bytes.items) }
+    ensures err { IfErr result (λ e. OwnedRefusal case src.now e) }
+{
+    if src.len() % 2 == 1 {
+        return Err(Error::OddLength);
+    }
+    if src.is_empty() {
+        return Ok(Vec::new(alloc));
+    }
+    let Ok(mut bytes) = Vec::from_elem(alloc, 0u8, src.len() / 2) else {
+        return Err(Error::OutOfMemory);
+    };
+    match hex_decode_into(src, bytes.as_mut_slice(), case) {
+        Ok(_) => Ok(bytes),
+        Err(e) => Err(e),
+    }
 }

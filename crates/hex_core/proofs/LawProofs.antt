@@ -64,14 +64,16 @@ spelled c s even none =
     let size : length bytes ≡ n = length-map-range_with_len (pairs c s) 0 n in
     let at : (i : ℕ) → i < length bytes → get_or bytes i 0 ≡ pairs c s i = λ i lt. get_or-map-range_with_len (pairs c s) 0 n i i 0 (rw size at lt) (zero-add i) in
     let high : (i : ℕ) → i < length bytes → (value c (get_or s (2 * i) 0) ≡ Some (unwrap_or (value c (get_or s (2 * i) 0)) 255)) × (unwrap_or (value c (get_or s (2 * i) 0)) 255 < 16) =
-        λ i lt. value_at c (get_or s (2 * i) 0) (admitted c s (2 * i) none (omega (arith, size))) in
+    λ i lt. value_at c (get_or s (2 * i) 0) (admitted c s (2 * i) none (omega (arith, size))) in
     let low : (i : ℕ) → i < length bytes → (value c (get_or s (2 * i + 1) 0) ≡ Some (unwrap_or (value c (get_or s (2 * i + 1) 0)) 255)) × (unwrap_or (value c (get_or s (2 * i + 1) 0)) 255 < 16) =
-        λ i lt. value_at c (get_or s (2 * i + 1) 0) (admitted c s (2 * i + 1) none (omega (arith, size))) in
-    (bytes, record {
-      twice = omega (arith, size);
-      high = λ i lt. (high i lt).0 ∙ ap (λ (k : ℕ). Some k) (let e : unwrap_or (value c (get_or s (2 * i) 0)) 255 ≡ get_or bytes i 0 / 16 = omega (arith, at i lt, (high i lt).1, (low i lt).1) in e);
-      low = λ i lt. (low i lt).0 ∙ ap (λ (k : ℕ). Some k) (let e : unwrap_or (value c (get_or s (2 * i + 1) 0)) 255 ≡ get_or bytes i 0 % 16 = omega (arith, at i lt, (high i lt).1, (low i lt).1) in e);
-    })
+    λ i lt. value_at c (get_or s (2 * i + 1) 0) (admitted c s (2 * i + 1) none (omega (arith, size))) in (
+      bytes,
+      record {
+        twice = omega (arith, size);
+        high = λ i lt. (high i lt).0 ∙ ap (λ (k : ℕ). Some k) (let e : unwrap_or (value c (get_or s (2 * i) 0)) 255 ≡ get_or bytes i 0 / 16 = omega (arith, at i lt, (high i lt).1, (low i lt).1) in e);
+        low = λ i lt. (low i lt).0 ∙ ap (λ (k : ℕ). Some k) (let e : unwrap_or (value c (get_or s (2 * i + 1) 0)) 255 ≡ get_or bytes i 0 % 16 = omega (arith, at i lt, (high i lt).1, (low i lt).1) in e);
+      },
+    )
 
 -- a byte with a value has no fault
 not-faulty : (c : CheckCase) (b n : ℕ) → value c b ≡ Some n → faulty c b ≡ false
@@ -83,8 +85,8 @@ fault-spelled c s bytes h = fault-none c s (λ k lt.
     let i = k / 2 in
     let small : i < length bytes = omega arith in
     elim (cases_lt (k % 2) 1) [
-      inl even ↦ (let e : 2 * i ≡ k = omega arith in let f : faulty c (get_or s (2 * i) 0) ≡ false = not-faulty c (get_or s (2 * i) 0) (get_or bytes i 0 / 16) (h.high i small) in rw e at f)
-    | inr odd ↦ (let e : 2 * i + 1 ≡ k = omega arith in let f : faulty c (get_or s (2 * i + 1) 0) ≡ false = not-faulty c (get_or s (2 * i + 1) 0) (get_or bytes i 0 % 16) (h.low i small) in rw e at f)
+      | inl even ↦ (let e : 2 * i ≡ k = omega arith in let f : faulty c (get_or s (2 * i) 0) ≡ false = not-faulty c (get_or s (2 * i) 0) (get_or bytes i 0 / 16) (h.high i small) in rw e at f)
+      | inr odd ↦ (let e : 2 * i + 1 ≡ k = omega arith in let f : faulty c (get_or s (2 * i + 1) 0) ≡ false = not-faulty c (get_or s (2 * i + 1) 0) (get_or bytes i 0 % 16) (h.low i small) in rw e at f)
     ])
 
 nothing-refused : (odd : Bool) (f : Option ℕ) (name : ℕ → Error) → (if odd then Some OddLength else option_map name f) ≡ None → (odd ≡ false) × (f ≡ None)
@@ -103,17 +105,17 @@ accepted-whole c s even none = let test : (length s % 2 == 1) ≡ false = grind 
 
 pub accepts_what_spells : (c : CheckCase) (s : List ℕ) → (source_refusal c s ≡ None) ↔ ((bytes : List ℕ) × Spells c s bytes)
 accepts_what_spells c s = (
-    λ h. let parts = accepted-parts c s h in spelled c s parts.0 parts.1,
-    λ (bytes, h). let twice = h.twice in accepted-whole c s (omega arith) (fault-spelled c s bytes h),
-  )
+  λ h. let parts = accepted-parts c s h in spelled c s parts.0 parts.1,
+  λ (bytes, h). let twice = h.twice in accepted-whole c s (omega arith) (fault-spelled c s bytes h),
+)
 
 -- the text of bytes is read as those bytes, where each digit is read as its number
 text-spells : (c : CheckCase) (upper : Bool) (bytes : List ℕ) → ((n : ℕ) → n < 16 → value c (digit upper n) ≡ Some n) → AreBytes bytes → Spells c (text upper bytes) bytes
 text-spells c upper bytes reads all = record {
-    twice = length-text upper bytes;
-    high = λ i lt. let small : get_or bytes i 0 < 256 = All-get_or (λ b. b < 256) bytes i 0 lt all in rw (high-text upper bytes i lt) (reads _ (omega arith));
-    low = λ i lt. rw (low-text upper bytes i lt) (reads _ (omega arith));
-  }
+  twice = length-text upper bytes;
+  high = λ i lt. let small : get_or bytes i 0 < 256 = All-get_or (λ b. b < 256) bytes i 0 lt all in rw (high-text upper bytes i lt) (reads _ (omega arith));
+  low = λ i lt. rw (low-text upper bytes i lt) (reads _ (omega arith));
+}
 
 pub decoding-inverts : (upper : Bool) (bytes : List ℕ) → AreBytes bytes → Spells (strict upper) (text upper bytes) bytes × Spells policy.None (text upper bytes) bytes
 decoding-inverts upper bytes all = (text-spells (strict upper) upper bytes (value-digit upper) all, text-spells policy.None upper bytes (value-digit_either upper) all)
@@ -125,15 +127,15 @@ encoding-inverts upper s bytes h =
     let i = k / 2 in
     let small : i < length bytes = omega arith in
     elim (cases_lt (k % 2) 1) [
-      inl even ↦ (let e : 2 * i ≡ k = omega arith in let f : get_or (text upper bytes) (2 * i) 0 ≡ get_or s (2 * i) 0 = high-text upper bytes i small ∙ digit-value upper (get_or s (2 * i) 0) (get_or bytes i 0 / 16) (h.high i small) in rw e at f)
-    | inr odd ↦ (let e : 2 * i + 1 ≡ k = omega arith in let f : get_or (text upper bytes) (2 * i + 1) 0 ≡ get_or s (2 * i + 1) 0 = low-text upper bytes i small ∙ digit-value upper (get_or s (2 * i + 1) 0) (get_or bytes i 0 % 16) (h.low i small) in rw e at f)
+      | inl even ↦ (let e : 2 * i ≡ k = omega arith in let f : get_or (text upper bytes) (2 * i) 0 ≡ get_or s (2 * i) 0 = high-text upper bytes i small ∙ digit-value upper (get_or s (2 * i) 0) (get_or bytes i 0 / 16) (h.high i small) in rw e at f)
+      | inr odd ↦ (let e : 2 * i + 1 ≡ k = omega arith in let f : get_or (text upper bytes) (2 * i + 1) 0 ≡ get_or s (2 * i + 1) 0 = low-text upper bytes i small ∙ digit-value upper (get_or s (2 * i + 1) 0) (get_or bytes i 0 % 16) (h.low i small) in rw e at f)
     ])
 
 pub strict-accepts : (upper : Bool) (s : List ℕ) → (source_refusal (strict upper) s ≡ None) ↔ ((bytes : List ℕ) × AreBytes bytes × (text upper bytes ≡ s))
 strict-accepts upper s = (
-    λ h. let found = (accepts_what_spells (strict upper) s).0 h in (found.0, spells-bytes (strict upper) s found.0 found.1, encoding-inverts upper s found.0 found.1),
-    λ (bytes, all, is). (accepts_what_spells (strict upper) s).1 (bytes, rw is at (decoding-inverts upper bytes all).0),
-  )
+  λ h. let found = (accepts_what_spells (strict upper) s).0 h in (found.0, spells-bytes (strict upper) s found.0 found.1, encoding-inverts upper s found.0 found.1),
+  λ (bytes, all, is). (accepts_what_spells (strict upper) s).1 (bytes, rw is at (decoding-inverts upper bytes all).0),
+)
 
 -- the lowercased source's bytes
 lowercased-at : (s : List ℕ) (k : ℕ) → k < length s → value policy.Lower (get_or (str_to_ascii_lowercase s) k 0) ≡ value policy.None (get_or s k 0)
@@ -142,16 +144,17 @@ lowercased-at s k lt = rw (get_or-map to_ascii_lowercase s k 0 0 lt) (value-lowe
 pub either-lowercased : (s bytes : List ℕ) → Spells policy.None s bytes ↔ Spells policy.Lower (str_to_ascii_lowercase s) bytes
 either-lowercased s bytes =
     let size : length (str_to_ascii_lowercase s) ≡ length s = length-map s to_ascii_lowercase in (
-    λ h. let twice = h.twice in record {
-      twice = omega (arith, size);
-      high = λ i lt. lowercased-at s (2 * i) (omega arith) ∙ h.high i lt;
-      low = λ i lt. lowercased-at s (2 * i + 1) (omega arith) ∙ h.low i lt;
-    },
-    λ h. let twice = h.twice in let same : length s ≡ 2 * length bytes = omega (arith, size) in record {
-      twice = same;
-      high = λ i lt. sym (lowercased-at s (2 * i) (omega arith)) ∙ h.high i lt;
-      low = λ i lt. sym (lowercased-at s (2 * i + 1) (omega arith)) ∙ h.low i lt;
-    })
+      λ h. let twice = h.twice in record {
+        twice = omega (arith, size);
+        high = λ i lt. lowercased-at s (2 * i) (omega arith) ∙ h.high i lt;
+        low = λ i lt. lowercased-at s (2 * i + 1) (omega arith) ∙ h.low i lt;
+      },
+      λ h. let twice = h.twice in let same : length s ≡ 2 * length bytes = omega (arith, size) in record {
+        twice = same;
+        high = λ i lt. sym (lowercased-at s (2 * i) (omega arith)) ∙ h.high i lt;
+        low = λ i lt. sym (lowercased-at s (2 * i + 1) (omega arith)) ∙ h.low i lt;
+      },
+    )
 
 pub encoding-lowercases : (s bytes : List ℕ) → Spells policy.None s bytes → text false bytes ≡ str_to_ascii_lowercase s
 encoding-lowercases s bytes h = encoding-inverts false (str_to_ascii_lowercase s) bytes ((either-lowercased s bytes).0 h)

@@ -33,7 +33,7 @@ Spells-more c table s bytes i v is byte none twice h packed below =
     let quotient : v / 16 ≡ get_or table (get_or s (2 * i) 0) 0 = omega (arith, high.1, low.1) in
     let remainder : v % 16 ≡ get_or table (get_or s (2 * i + 1) 0) 0 = omega (arith, high.1, low.1) in
     below_more (λ (k : ℕ). SpellsAt c s (set bytes i v) k) i
-      (λ k lt. let e : get_or (set bytes i v) k 0 ≡ get_or bytes k 0 = get_or-set_other bytes i k v 0 (λ x. absurd (omega arith)) in
-        record { high = rw e (below k lt).high; low = rw e (below k lt).low })
-      (let e : get_or (set bytes i v) i 0 ≡ v = get_or-set_same bytes i v 0 h in
-        record { high = rw (e, quotient) high.0; low = rw (e, remainder) low.0 })
+    (λ k lt. let e : get_or (set bytes i v) k 0 ≡ get_or bytes k 0 = get_or-set_other bytes i k v 0 (λ x. absurd (omega arith)) in
+    record { high = rw e (below k lt).high; low = rw e (below k lt).low })
+    (let e : get_or (set bytes i v) i 0 ≡ v = get_or-set_same bytes i v 0 h in
+    record { high = rw (e, quotient) high.0; low = rw (e, remainder) low.0 })

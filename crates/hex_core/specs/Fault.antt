@@ -1,8 +1,30 @@
--- The first byte of a source that has no value.
-use Rattle.std.specs.Prelude.{ℕ, Option, List, position, is_none}
+-- The first byte of a source that has no value, and what it takes to find it.
+use Rattle.std.specs.Prelude.{ℕ, ◌+◌, ◌-◌, ◌*◌, ◌/◌, ◌%◌, ◌<◌, ◌≤◌, nat_lt, if◌then◌else◌, Option, Some, None, List, length, min, position, is_none, slice_index, IsSome}
 use Rattle.hex_core.specs.declared.digit.CheckCase.{CheckCase}
 use Rattle.hex_core.specs.Digit.{value}
 
 -- the first fault: the least index whose byte has no value under the policy
 abbrev pub fault : CheckCase → List ℕ → Option ℕ
 fault c s = position (λ b. is_none (value c b)) s
+
+-- no fault in a range: each byte from start up to end has a value
+abbrev pub IsClear : CheckCase → List ℕ → ℕ → ℕ → Type 0
+IsClear c s start end = (k : ℕ) → start ≤ k → k < end → IsSome (value c (slice_index s k))
+
+-- how many whole blocks of 64 bytes can be tested: none where the source is at most one block
+abbrev pub whole_blocks : ℕ → ℕ
+whole_blocks len = if nat_lt 64 len then len / 64 else 0
+
+-- what finding the first fault takes: tests of whole blocks, and looks at single bytes
+pub record Steps : Type 0 where
+  pub tests : ℕ
+  pub looks : ℕ
+
+-- the steps in a source of this length: up to this first fault, or to the end where there is none
+abbrev pub steps_to : ℕ → Option ℕ → Steps
+steps_to len (Some f) = record { tests = min (whole_blocks len) (f / 64 + 1); looks = f % 64 + 1 }
+steps_to len None = record { tests = whole_blocks len; looks = len - 64 * whole_blocks len }
+
+-- the steps in a source: those up to its own first fault
+abbrev pub steps : CheckCase → List ℕ → Steps
+steps c s = steps_to (length s) (fault c s)

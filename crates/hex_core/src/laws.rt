@@ -7,42 +7,35 @@ ghost use Rattle.hex_core.specs.Laws.{AcceptsWhatSpells, DecodingInvertsEncoding
 pub fn a_text_spells_one_list()
     ensures one { SpellsOneList }
     ensures bytes { SpellsBytes }
-{
-}
+{}
 
 /// A source of even length without a fault is exactly one that spells some list.
 pub fn a_source_is_accepted_where_it_spells_a_list()
     ensures { AcceptsWhatSpells }
-{
-}
+{}
 
 /// What encoding writes, decoding reads as the same bytes, under the text's own case or either.
 pub fn decoding_inverts_encoding()
     ensures { DecodingInvertsEncoding }
-{
-}
+{}
 
 /// What decoding reads under a strict policy is what encoding writes in that case.
 pub fn encoding_inverts_strict_decoding()
     ensures { EncodingInvertsStrictDecoding }
-{
-}
+{}
 
 /// A strict policy accepts exactly the texts of encoding in its case.
 pub fn a_strict_policy_accepts_the_texts_of_its_case()
     ensures { StrictAcceptsTexts }
-{
-}
+{}
 
 /// Reading either case is reading the lowercased source as lowercase, with the same bytes.
 pub fn either_case_is_the_lowercased_source()
     ensures same { EitherCaseIsLowercased }
     ensures text { EncodingLowercases }
-{
-}
+{}
 
 /// The text of a joined list is the two texts joined.
 pub fn the_text_of_a_joined_list_is_the_texts_joined()
     ensures { JoinedTexts }
-{
-}
+{}

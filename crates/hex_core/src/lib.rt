@@ -6,8 +6,10 @@ pub mod error;
 pub mod laws;
 mod lend;
 pub mod plan;
+pub mod probe;
 mod scalar;
 
 pub use crate::digit::{CheckCase, digit_value};
 pub use crate::error::Error;
-pub use crate::plan::Backend;
+pub use crate::plan::{Backend, backends};
+pub use crate::probe::{Probe, SliceProbe, locate};

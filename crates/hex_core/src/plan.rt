@@ -5,12 +5,14 @@ ghost use Rattle.std.specs.Bool.{OnTrue, OnFalse};
 ghost use Rattle.std.specs.Borrow.{sem};
 ghost use Rattle.hex_core.specs.Fault.{fault};
 ghost use Rattle.hex_core.specs.Loan.{LendsAnswer};
+ghost use Rattle.hex_core.specs.Plans.{name_of, plan_names};
 ghost use Rattle.hex_core.specs.Refusal.{decode_refusal, encode_refusal};
 ghost use Rattle.hex_core.specs.Text.{Spells, laid, text};
 
 use crate::digit::CheckCase;
 use crate::error::Error;
 use crate::lend::lend_accepted;
+use crate::probe::{SliceProbe, locate};
 use crate::scalar;
 
 #[derive(Clone, Copy)]
@@ -28,9 +30,45 @@ enum Kind {
 #[derive(Clone, Copy)]
 pub struct Backend(Kind);
 
+/// Answers all five plans, whatever the machine: scalar, sse41, avx2, avx512, neon, in this order.
+///
+/// ```rust
+/// let [scalar, ..] = backends();
+/// assert_eq!(rt; scalar.name(), "scalar");
+/// ```
+pub fn backends() -> [Backend; 5]
+    ensures { map name_of result ≡ plan_names }
+{
+    [
+        Backend(Kind::Scalar),
+        Backend(Kind::Sse41),
+        Backend(Kind::Avx2),
+        Backend(Kind::Avx512),
+        Backend(Kind::Neon),
+    ]
+}
+
 impl Backend {
     /// The plan of the calls that name none.
     pub const PLAIN: Backend = Backend(Kind::Scalar);
+
+    /// Answers the plan's name: `scalar`, `sse41`, `avx2`, `avx512` or `neon`.
+    ///
+    /// ```rust
+    /// let [_, _, avx2, ..] = backends();
+    /// assert_eq!(rt; avx2.name(), "avx2");
+    /// ```
+    pub fn name(self) -> &'static str
+        ensures { result.now ≡ name_of self }
+    {
+        match self.0 {
+            Kind::Scalar => "scalar",
+            Kind::Sse41 => "sse41",
+            Kind::Avx2 => "avx2",
+            Kind::Avx512 => "avx512",
+            Kind::Neon => "neon",
+        }
+    }
 
     /// Answers whether every byte of `src` has a value under `case`, whatever its length.
     pub fn check(self, src: &[u8], case: CheckCase) -> bool
@@ -84,6 +122,23 @@ impl Backend {
         true
     }
 
+    /// Answers the first place of `src` whose byte has no value under `case`, from 0 and in bytes,
+    /// or `None` where each byte has one, whatever its length.
+    ///
+    /// A source of more than 64 bytes is tested block by block before single bytes are looked at,
+    /// as [`locate`] says.
+    ///
+    /// ```rust
+    /// let [scalar, ..] = backends();
+    /// assert_eq!(rt; scalar.first_invalid(b"00ff0g", CheckCase::None), Some(5));
+    /// assert_eq!(rt; scalar.first_invalid(b"00FF", CheckCase::Upper), None);
+    /// ```
+    pub fn first_invalid(self, src: &[u8], case: CheckCase) -> Option<usize>
+        ensures { result ≡ fault case src.now }
+    {
+        locate(&mut SliceProbe::new(self, src, case))
+    }
+
     // How many bytes `src` decodes to, or what decoding it into this room refuses.
     fn accepted(self, src: &[u8], room: usize, case: CheckCase) -> Result<usize, Error>
         ensures { MatchResult result
@@ -100,7 +155,7 @@ impl Backend {
         if self.check(src, case) {
             return Ok(required);
         }
-        match scalar::first_fault(src, case) {
+        match self.first_invalid(src, case) {
             Some(index) => Err(Error::InvalidChar {
                 index,
                 byte: src[index],

@@ -52,16 +52,3 @@ pub fn write_text(src: &[u8], dst: &mut [u8], upper: bool)
         dst[2 * i + 1] = digits[at + 1];
     }
 }
-
-/// Answers the first place of `src` whose byte has no value under `case`, if there is one.
-pub fn first_fault(src: &[u8], case: CheckCase) -> Option<usize>
-    ensures { result ≡ fault case src.now }
-{
-    let values = values_of(case);
-    for (i, byte) in src.iter().enumerate() {
-        if values[*byte as usize] == NIL {
-            return Some(i);
-        }
-    }
-    None
-}

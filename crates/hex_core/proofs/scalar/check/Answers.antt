@@ -15,5 +15,5 @@ returns c = (λ _. fault-none c.args.case c.args.src.now (λ k h. c.loop-byte.in
 pub returns-then-values-byte : goal.returns-then-values-byte
 returns-then-values-byte c =
     let found = fault-some c.args.case c.args.src.now c.loop-byte.byte-index c.loop-byte-test.true c.loop-byte.invariant
-        (faulty-entry c.args.case _ _ c.values_of-values.ensures (c.type_inv.src c.loop-byte.byte-index).fits c.if-values-byte.true) in
+    (faulty-entry c.args.case _ _ c.values_of-values.ensures (c.type_inv.src c.loop-byte.byte-index).fits c.if-values-byte.true) in
     (λ h. cc, λ h. cc)

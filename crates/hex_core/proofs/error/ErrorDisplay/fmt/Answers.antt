@@ -10,7 +10,7 @@ pub returns-in-InvalidChar-clause-writes : goal.returns-in-InvalidChar-clause-wr
 returns-in-InvalidChar-clause-writes g c =
     let byte : c.in-InvalidChar.byte < 256 = omega arith in
     let shown : styled_digits_output c.in_radix.result c.laid_out.result ≡ Some (digits false c.in-InvalidChar.byte) =
-        rw c.laid_out.ensures (ap (option_map (padded_integral (format_spec 32 0 4 2 (2 ^ 64 - 1)) false [])) c.in_radix.ensures ∙ ap (λ t. Some t) (hex_byte false c.in-InvalidChar.byte byte)) in
+    rw c.laid_out.ensures (ap (option_map (padded_integral (format_spec 32 0 4 2 (2 ^ 64 - 1)) false [])) c.in_radix.ensures ∙ ap (λ t. Some t) (hex_byte false c.in-InvalidChar.byte byte)) in
     rw c.in-InvalidChar.is (rw shown at c.write.ensures.writes)
 
 pub returns-in-LengthMismatch-clause-writes : goal.returns-in-LengthMismatch-clause-writes

@@ -1,0 +1,268 @@
+//! Counted sources, and the search for the first fault through their counted calls.
+
+ghost use Rattle.std.specs.Prelude.{◌≡◌, ℕ, ◌+◌, ◌*◌, ◌/◌, ◌^◌, ◌<◌, ◌≤◌, ◌↔◌, IsTrue, List, MatchOption, length, min, slice_index};
+ghost use Rattle.hex_core.specs.Fault.{IsClear, fault, steps, whole_blocks};
+ghost use Rattle.hex_core.specs.declared.digit.CheckCase.{CheckCase};
+
+use crate::digit::{CheckCase, digit_value};
+use crate::plan::Backend;
+
+// How many bytes the widest test of a `SliceProbe` takes, and each test that `locate` makes.
+const BLOCK: usize = 64;
+
+/// A counted source: bytes that are seen through `look` and `test` alone, and a policy.
+///
+/// Source, policy and block never change, and each of the two calls adds only to its own count.
+///
+/// ```rust
+/// let [scalar, ..] = backends();
+/// let mut probe = SliceProbe::new(scalar, b"00ff0g", CheckCase::None);
+/// assert_eq!(rt; probe.look(5), b'g');
+/// assert_eq!(rt; probe.test(0, 5), true);
+/// assert_eq!(rt; (probe.looks(), probe.tests()), (1, 1));
+/// ```
+pub trait Probe {
+    ghost source: { Self → List ℕ };
+
+    ghost policy: { Self → CheckCase };
+
+    ghost widest: { Self → ℕ };
+
+    ghost look_count: { Self → ℕ };
+
+    ghost test_count: { Self → ℕ };
+
+    /// Answers how many bytes the source has.
+    fn len(&self) -> usize
+        ensures { result ≡ length (source self.now) };
+
+    /// Answers the policy under which a byte has a value.
+    fn case(&self) -> CheckCase
+        ensures { result ≡ policy self.now };
+
+    /// Answers the block: how many bytes the widest test takes.
+    fn block(&self) -> usize
+        ensures { result ≡ widest self.now };
+
+    /// Answers how many looks were made.
+    fn looks(&self) -> usize
+        ensures { result ≡ look_count self.now };
+
+    /// Answers how many tests were made.
+    fn tests(&self) -> usize
+        ensures { result ≡ test_count self.now };
+
+    /// Answers byte `i` of the source and adds one look.
+    ///
+    /// The place `i`, from 0 and in bytes, is inside the source, and the count of looks is below
+    /// `usize::MAX`.
+    fn look(&mut self, i: usize) -> u8
+        requires inside { i < length (source self.old) }
+        requires countable { look_count self.old < usize.MAX }
+        ensures byte { result ≡ slice_index (source self.old) i }
+        ensures counted { look_count self.new ≡ look_count self.old + 1 }
+        ensures same_tests { test_count self.new ≡ test_count self.old }
+        ensures same_source { source self.new ≡ source self.old }
+        ensures same_policy { policy self.new ≡ policy self.old }
+        ensures same_block { widest self.new ≡ widest self.old };
+
+    /// Answers whether each byte of `start..start + width` has a value under the policy, and adds
+    /// one test.
+    ///
+    /// The range, in bytes, is inside the source, `width` is at most the block, and the count of
+    /// tests is below `usize::MAX`.
+    fn test(&mut self, start: usize, width: usize) -> bool
+        requires inside { start + width ≤ length (source self.old) }
+        requires narrow { width ≤ widest self.old }
+        requires countable { test_count self.old < usize.MAX }
+        ensures clear { IsTrue result
+            ↔ IsClear (policy self.old) (source self.old) start (start + width) }
+        ensures counted { test_count self.new ≡ test_count self.old + 1 }
+        ensures same_looks { look_count self.new ≡ look_count self.old }
+        ensures same_source { source self.new ≡ source self.old }
+        ensures same_policy { policy self.new ≡ policy self.old }
+        ensures same_block { widest self.new ≡ widest self.old };
+}
+
+/// A slice as a counted source, whose tests are checks under a plan.
+///
+/// Its block is 64 bytes.
+///
+/// ```rust
+/// let [scalar, ..] = backends();
+/// let probe = SliceProbe::new(scalar, b"00ff0g", CheckCase::None);
+/// assert_eq!(rt; (probe.len(), probe.block()), (6, 64));
+/// ```
+#[derive(Drop)]
+pub struct SliceProbe<'a> {
+    backend: Backend,
+    src: &'a [u8],
+    case: CheckCase,
+    looks: usize,
+    tests: usize,
+}
+
+impl<'a> SliceProbe<'a> {
+    /// Answers a probe over `src` under `case`, with both counts 0.
+    ///
+    /// ```rust
+    /// let [scalar, ..] = backends();
+    /// let mut probe = SliceProbe::new(scalar, b"00ff0g", CheckCase::None);
+    /// assert_eq!(rt; locate(&mut probe), Some(5));
+    /// ```
+    pub fn new(backend: Backend, src: &'a [u8], case: CheckCase) -> Self
+        ensures source { ⟦<SliceProbe<'a> as Probe>⟧.source result ≡ src.now }
+        ensures policy { ⟦<SliceProbe<'a> as Probe>⟧.policy result ≡ case }
+        ensures block { ⟦<SliceProbe<'a> as Probe>⟧.widest result ≡ 64 }
+        ensures looks { ⟦<SliceProbe<'a> as Probe>⟧.look_count result ≡ 0 }
+        ensures tests { ⟦<SliceProbe<'a> as Probe>⟧.test_count result ≡ 0 }
+    {
+        SliceProbe {
+            backend,
+            src,
+            case,
+            looks: 0,
+            tests: 0,
+        }
+    }
+}
+
+impl<'a> Probe for SliceProbe<'a> {
+    ghost source = { λ p. p.src.now };
+
+    ghost policy = { λ p. p.case };
+
+    ghost widest = { λ p. 64 };
+
+    ghost look_count = { λ p. p.looks };
+
+    ghost test_count = { λ p. p.tests };
+
+    fn len(&self) -> usize {
+        self.src.len()
+    }
+
+    fn case(&self) -> CheckCase {
+        self.case
+    }
+
+    fn block(&self) -> usize {
+        BLOCK
+    }
+
+    fn looks(&self) -> usize {
+        self.looks
+    }
+
+    fn tests(&self) -> usize {
+        self.tests
+    }
+
+    fn look(&mut self, i: usize) -> u8 {
+        self.looks += 1;
+        self.src[i]
+    }
+
+    fn test(&mut self, start: usize, width: usize) -> bool {
+        self.tests += 1;
+        self.backend
+            .check(&self.src[start..start + width], self.case)
+    }
+}
+
+// How many whole blocks of a source of `len` bytes are tested. A source of one block is not tested:
+// its bytes are few enough to look at.
+fn block_count(len: usize) -> usize
+    ensures { result ≡ whole_blocks len }
+{
+    if len > BLOCK { len / BLOCK } else { 0 }
+}
+
+// Tests the whole blocks in order, and answers where the looks begin: at the first block that does
+// not pass, or behind the last one.
+fn test_blocks<P: Probe>(p: &mut P) -> usize
+    requires block { P.widest p.old ≡ 64 }
+    requires countable { P.test_count p.old + length (P.source p.old) < 2 ^ 64 }
+    ensures clear { IsClear (P.policy p.old) (P.source p.old) 0 result }
+    ensures start { MatchOption (fault (P.policy p.old) (P.source p.old))
+        (result ≡ 64 * whole_blocks (length (P.source p.old)))
+        (λ f. result ≡ 64 * min (whole_blocks (length (P.source p.old))) (f / 64)) }
+    ensures tests { P.test_count p.new
+        ≡ P.test_count p.old + (steps (P.policy p.old) (P.source p.old)).tests }
+    ensures same_looks { P.look_count p.new ≡ P.look_count p.old }
+    ensures same_source { P.source p.new ≡ P.source p.old }
+    ensures same_policy { P.policy p.new ≡ P.policy p.old }
+    ensures same_block { P.widest p.new ≡ P.widest p.old }
+{
+    let whole = block_count(p.len());
+    for i in 0..whole {
+        if !p.test(BLOCK * i, BLOCK) {
+            return BLOCK * i;
+        }
+    }
+    BLOCK * whole
+}
+
+// Looks at byte after byte from `start` on, up to the first one without a value. It makes at most
+// 64 looks, since the first fault is within a block of `start`, or the end is.
+fn look_from<P: Probe>(p: &mut P, start: usize) -> Option<usize>
+    requires clear { IsClear (P.policy p.old) (P.source p.old) 0 start }
+    requires near { MatchOption (fault (P.policy p.old) (P.source p.old))
+        (length (P.source p.old) ≤ start + 64)
+        (λ f. f < start + 64) }
+    requires inside { start ≤ length (P.source p.old) }
+    requires countable { P.look_count p.old + 64 < 2 ^ 64 }
+    ensures place { result ≡ fault (P.policy p.old) (P.source p.old) }
+    ensures looks { MatchOption result
+        (P.look_count p.new + start ≡ P.look_count p.old + length (P.source p.old))
+        (λ f. P.look_count p.new + start ≡ P.look_count p.old + (f + 1)) }
+    ensures same_tests { P.test_count p.new ≡ P.test_count p.old }
+    ensures same_source { P.source p.new ≡ P.source p.old }
+    ensures same_policy { P.policy p.new ≡ P.policy p.old }
+    ensures same_block { P.widest p.new ≡ P.widest p.old }
+{
+    let len = p.len();
+    let case = p.case();
+    for i in start..len {
+        if digit_value(p.look(i), case).is_none() {
+            return Some(i);
+        }
+    }
+    None
+}
+
+/// Answers the first place of the source whose byte has no value under the policy, from 0 and in
+/// bytes, or `None` where each byte has one.
+///
+/// A source of at most 64 bytes is looked at byte by byte from place 0. Of a longer one the whole
+/// blocks of 64 bytes are tested in order, until one does not pass; then it is looked at byte by
+/// byte, from that block on, or from the end of the whole blocks where each passed. So there are at
+/// most `len / 64` tests and at most 64 looks.
+///
+/// The block is 64, and the count of tests plus the source's length, and the count of looks plus
+/// 64, are each a `usize`.
+///
+/// ```rust
+/// let [scalar, ..] = backends();
+/// let mut probe = SliceProbe::new(scalar, b"00ff0g", CheckCase::None);
+/// assert_eq!(rt; locate(&mut probe), Some(5));
+/// assert_eq!(rt; (probe.tests(), probe.looks()), (0, 6));
+/// ```
+pub fn locate<P: Probe>(p: &mut P) -> Option<usize>
+    requires block { P.widest p.old ≡ 64 }
+    requires tests { P.test_count p.old + length (P.source p.old) < 2 ^ 64 }
+    requires looks { P.look_count p.old + 64 < 2 ^ 64 }
+    ensures place { result ≡ fault (P.policy p.old) (P.source p.old) }
+    ensures tests { P.test_count p.new
+        ≡ P.test_count p.old + (steps (P.policy p.old) (P.source p.old)).tests }
+    ensures looks { P.look_count p.new
+        ≡ P.look_count p.old + (steps (P.policy p.old) (P.source p.old)).looks }
+    ensures few_tests { P.test_count p.new ≤ P.test_count p.old + length (P.source p.old) / 64 }
+    ensures few_looks { P.look_count p.new ≤ P.look_count p.old + 64 }
+    ensures same_source { P.source p.new ≡ P.source p.old }
+    ensures same_policy { P.policy p.new ≡ P.policy p.old }
+    ensures same_block { P.widest p.new ≡ P.widest p.old }
+{
+    let start = test_blocks(p);
+    look_from(p, start)
+}
