@@ -180,7 +180,10 @@ pub fn hex_decode_array_with_case<const N: usize>(
     }
     let actual = src.len() / 2;
     if actual != N {
-        return Err(Error::LengthMismatch { expected: N, actual });
+        return Err(Error::LengthMismatch {
+            expected: N,
+            actual,
+        });
     }
     let mut bytes = [0u8; N];
     match hex_decode_into(src, &mut bytes, case) {

@@ -19,11 +19,41 @@ fn rows(rt: HostRuntime) -> Result<(), Fail> {
         (&["decode"], b"00aBcD", b"\x00\xab\xcd", "", 0),
         (&["decode"], b"", b"", "", 0),
         (&["decode"], b"\n", b"", "", 0),
-        (&["decode"], b"0g", b"", "invalid hex byte 0x67 at index 1\n", 1),
-        (&["decode"], b"a\n\n", b"", "invalid hex byte 0x0a at index 1\n", 1),
-        (&["decode"], b"abc\n", b"", "hex input length must be even\n", 1),
-        (&["decode"], b"zzz", b"", "hex input length must be even\n", 1),
-        (&["decode"], b"\xc3\xa9", b"", "invalid hex byte 0xc3 at index 0\n", 1),
+        (
+            &["decode"],
+            b"0g",
+            b"",
+            "invalid hex byte 0x67 at index 1\n",
+            1,
+        ),
+        (
+            &["decode"],
+            b"a\n\n",
+            b"",
+            "invalid hex byte 0x0a at index 1\n",
+            1,
+        ),
+        (
+            &["decode"],
+            b"abc\n",
+            b"",
+            "hex input length must be even\n",
+            1,
+        ),
+        (
+            &["decode"],
+            b"zzz",
+            b"",
+            "hex input length must be even\n",
+            1,
+        ),
+        (
+            &["decode"],
+            b"\xc3\xa9",
+            b"",
+            "invalid hex byte 0xc3 at index 0\n",
+            1,
+        ),
         (&[], b"hello", b"", USAGE, 2),
         (&["encode", "decode"], b"hello", b"", USAGE, 2),
         (&["Encode"], b"hello", b"", USAGE, 2),
@@ -97,29 +127,67 @@ impl Write for Narrow {
 fn tells_a_fault_of_the_surroundings(rt: HostRuntime) -> Result<(), Fail> {
     let limit = INPUT_LIMIT;
     let rows = [
-        ("decode", limit + 1, false, usize::MAX, false, "input too long\n", 0, 3),
-        ("encode", limit + 1, false, usize::MAX, false, "input too long\n", 0, 3),
+        (
+            "decode",
+            limit + 1,
+            false,
+            usize::MAX,
+            false,
+            "input too long\n",
+            0,
+            3,
+        ),
+        (
+            "encode",
+            limit + 1,
+            false,
+            usize::MAX,
+            false,
+            "input too long\n",
+            0,
+            3,
+        ),
         ("decode", 4, true, usize::MAX, false, "read failed\n", 0, 3),
-        ("encode", 70_000, true, usize::MAX, false, "read failed\n", 0, 3),
+        (
+            "encode",
+            70_000,
+            true,
+            usize::MAX,
+            false,
+            "read failed\n",
+            0,
+            3,
+        ),
         ("decode", 8, false, 3, false, "write failed\n", 3, 3),
         ("encode", 2, false, 4, false, "write failed\n", 4, 3),
         ("encode", 2, false, usize::MAX, true, "write failed\n", 5, 3),
         ("decode", 140_000, false, usize::MAX, false, "", 70_000, 0),
-        ("decode", 139_999, false, usize::MAX, false, "hex input length must be even\n", 0, 1),
+        (
+            "decode",
+            139_999,
+            false,
+            usize::MAX,
+            false,
+            "hex input length must be even\n",
+            0,
+            1,
+        ),
     ];
     for (word, left, fails, room, flush_fails, message, taken, status) in rows {
         let mut input = Zeros { left, fails };
-        let out = Narrow { taken: 0, room, flush_fails };
-        let (answer, out, err) = serve(
-            rt.alloc(),
-            &[word],
-            &mut input,
-            out,
-            Vec::new(rt.alloc()),
-        );
+        let out = Narrow {
+            taken: 0,
+            room,
+            flush_fails,
+        };
+        let (answer, out, err) = serve(rt.alloc(), &[word], &mut input, out, Vec::new(rt.alloc()));
         assert_eq!(rt; answer, status, "status of {word} on {left} bytes");
         assert_eq!(rt; out.taken, taken, "output of {word} on {left} bytes");
-        assert_eq!(rt; err.as_slice(), message.as_bytes(), "message of {word} on {left} bytes");
+        assert_eq!(rt;
+            err.as_slice(),
+            message.as_bytes(),
+            "message of {word} on {left} bytes"
+        );
     }
     Ok(())
 }
@@ -127,8 +195,18 @@ fn tells_a_fault_of_the_surroundings(rt: HostRuntime) -> Result<(), Fail> {
 #[test]
 fn a_fault_of_the_message_keeps_the_status(rt: HostRuntime) {
     let mut input: &[u8] = b"0g";
-    let err = Narrow { taken: 0, room: 7, flush_fails: true };
-    let (answer, _, err) = serve(rt.alloc(), &["decode"], &mut input, Vec::new(rt.alloc()), err);
+    let err = Narrow {
+        taken: 0,
+        room: 7,
+        flush_fails: true,
+    };
+    let (answer, _, err) = serve(
+        rt.alloc(),
+        &["decode"],
+        &mut input,
+        Vec::new(rt.alloc()),
+        err,
+    );
     assert_eq!(rt; answer, 1);
     assert_eq!(rt; err.taken, 7);
 }
@@ -145,18 +223,33 @@ fn tells_a_refused_growth(rt: HostRuntime) -> Result<(), Fail> {
     for (word, input, output, message) in rows {
         let alloc = Refusing::new(rt.alloc(), u64::MAX);
         let mut source = input;
-        let ample = serve_in(&alloc, &[word], &mut source, Vec::new(rt.alloc()), Vec::new(rt.alloc()));
+        let ample = serve_in(
+            &alloc,
+            &[word],
+            &mut source,
+            Vec::new(rt.alloc()),
+            Vec::new(rt.alloc()),
+        );
         assert_eq!(rt; ample.1.as_slice(), output, "output of {word}");
         assert_eq!(rt; ample.2.as_slice(), message, "message of {word}");
         let growths = alloc.asked();
         for left in 0..growths {
             alloc.set_left(left);
             let mut source = input;
-            let (status, out, err) =
-                serve_in(&alloc, &[word], &mut source, Vec::new(rt.alloc()), Vec::new(rt.alloc()));
+            let (status, out, err) = serve_in(
+                &alloc,
+                &[word],
+                &mut source,
+                Vec::new(rt.alloc()),
+                Vec::new(rt.alloc()),
+            );
             assert_eq!(rt; status, 3, "status of {word}, {left} growths granted");
             assert_eq!(rt; out.len(), 0, "output of {word}, {left} growths granted");
-            assert_eq!(rt; err.as_slice(), b"out of memory\n".as_slice(), "message of {word}");
+            assert_eq!(rt;
+                err.as_slice(),
+                b"out of memory\n".as_slice(),
+                "message of {word}"
+            );
         }
     }
     Ok(())
@@ -167,9 +260,17 @@ fn tells_a_refused_growth(rt: HostRuntime) -> Result<(), Fail> {
 fn tells_an_odd_length_before_it_asks_for_memory(rt: HostRuntime) {
     let alloc = Refusing::new(rt.alloc(), 1);
     let mut source: &[u8] = b"abc";
-    let (status, _, err) =
-        serve_in(&alloc, &["decode"], &mut source, Vec::new(rt.alloc()), Vec::new(rt.alloc()));
+    let (status, _, err) = serve_in(
+        &alloc,
+        &["decode"],
+        &mut source,
+        Vec::new(rt.alloc()),
+        Vec::new(rt.alloc()),
+    );
     assert_eq!(rt; status, 1);
-    assert_eq!(rt; err.as_slice(), b"hex input length must be even\n".as_slice());
+    assert_eq!(rt;
+        err.as_slice(),
+        b"hex input length must be even\n".as_slice()
+    );
     assert_eq!(rt; alloc.asked(), 1);
 }

@@ -1,12 +1,12 @@
 -- The laws of digits, texts and what they spell.
-use Rattle.std.proofs.Common.{◌≡◌, ℕ, List, [], ◌∷◌, ◌++◌, ◌+◌, ◌-◌, ◌*◌, ◌/◌, ◌%◌, ◌^◌, ◌<◌, ◌≤◌, ◌↔◌, ◌==◌, if◌then◌else◌, nat_lt, length, map, get_or, Bool, true, false, not, Option, None, Some, is_none, unwrap_or, refl, sym, ◌∙◌, ap, arith, zero-add, inl, inr}
+use Rattle.std.proofs.Common.{◌≡◌, ℕ, List, ◌+◌, ◌*◌, ◌/◌, ◌%◌, ◌<◌, ◌↔◌, ◌==◌, if◌then◌else◌, length, map, get_or, Bool, true, false, Option, None, Some, unwrap_or, refl, sym, ◌∙◌, ap, arith, zero-add, inl, inr}
 use Rattle.std.proofs.lemmas.Bool.{cases_lt}
 use Rattle.std.proofs.lemmas.Bool.Decides.{nat_tests}
 use Rattle.std.proofs.lemmas.Grind.{same_number_lists}
 use Rattle.std.proofs.lemmas.List.{get_or-map, length-map}
 use Rattle.std.proofs.lemmas.List.Elements.{All-get_or, All-from_get_or}
 use Rattle.std.proofs.lemmas.List.FromFn.{get_or-map-range_with_len, length-map-range_with_len}
-use Rattle.std.specs.Prelude.{All, option_map}
+use Rattle.std.specs.Prelude.{option_map}
 use Rattle.std.specs.List.{range_with_len}
 use Rattle.std.specs.Char.{to_ascii_lowercase}
 use Rattle.std.specs.Str.{str_to_ascii_lowercase}
@@ -21,7 +21,7 @@ use Rattle.hex_core.specs.Refusal.{source_refusal}
 use Rattle.hex_core.specs.Laws.{AreBytes}
 use Rattle.hex_core.proofs.FaultLemmas.{admitted, fault-none, faulty}
 use Rattle.hex_core.proofs.TableLemmas.{value_at}
-use Rattle.hex_core.proofs.TextLemmas.{length-text, high-text, low-text, text-append}
+use Rattle.hex_core.proofs.TextLemmas.{length-text, high-text, low-text}
 
 -- a value is below 16
 value-below : (c : CheckCase) (b n : ℕ) → value c b ≡ Some n → n < 16

@@ -2,6 +2,7 @@ pub mod Facts
 pub mod FaultLemmas
 pub mod Fronts
 pub mod LawProofs
+pub mod PositionLemmas
 pub mod ProbeLemmas
 pub mod Lent
 pub mod Refused

@@ -1,14 +1,13 @@
 -- The first fault by ranges that are clear.
-use Rattle.std.proofs.Common.{◌≡◌, ℕ, ◌+◌, ◌-◌, ◌*◌, ◌/◌, ◌<◌, ◌≤◌, Bool, true, false, inl, inr, List, length, slice_index, Option, Some, None, is_none, is_some, refl, sym, ◌∙◌, ap, subst, arith}
-use Rattle.std.specs.Prelude.{IsSome, MatchOption, min, position, slice_range}
-use Rattle.std.specs.List.{position_or_len}
+use Rattle.std.proofs.Common.{◌≡◌, ℕ, ◌+◌, ◌-◌, ◌*◌, ◌/◌, ◌<◌, ◌≤◌, true, false, inl, inr, List, length, slice_index, Option, Some, None, is_none, is_some, refl, sym, ◌∙◌, ap, subst, arith}
+use Rattle.std.specs.Prelude.{IsSome, MatchOption, min, slice_range}
 use Rattle.std.proofs.lemmas.Bool.{cases_lt}
 use Rattle.std.proofs.lemmas.Bool.Decides.{nat_tests}
 use Rattle.std.proofs.lemmas.Grind.{common_steps}
 use Rattle.std.proofs.lemmas.List.Quantifiers.{position-Some}
-use Rattle.std.proofs.lemmas.List.Sums.{fails_before_first, position_or_len_is}
 use Rattle.hex_core.specs.declared.digit.CheckCase.{CheckCase}
 use Rattle.hex_core.specs.Digit.{value}
+use Rattle.hex_core.proofs.PositionLemmas.{before_none, position_is, position_none}
 use Rattle.hex_core.specs.Fault.{IsClear, fault, steps_to, whole_blocks}
 
 -- a value is there where the test for none fails
@@ -25,24 +24,6 @@ test_from_some None h = cc
 test_from_none : (o : Option ℕ) → is_some o ≡ false → is_none o ≡ true
 test_from_none (Some x) e = cc
 test_from_none None e = refl
-
--- the first place that passes
-position_is : (p : ℕ → Bool) (s : List ℕ) (i : ℕ) → i < length s → ((k : ℕ) → k < i → p (slice_index s k) ≡ false) → p (slice_index s i) ≡ true → position p s ≡ Some i
-position_is p s i inside before here =
-    let at : position_or_len p s ≡ i = position_or_len_is p s i 0 (omega arith) before (λ _. here) in
-    grind (arith, common_steps)
-
--- no place passes
-position_none : (p : ℕ → Bool) (s : List ℕ) → ((k : ℕ) → k < length s → p (slice_index s k) ≡ false) → position p s ≡ None
-position_none p s before =
-    let at : position_or_len p s ≡ length s = position_or_len_is p s (length s) 0 (omega arith) before (λ h. absurd (omega arith)) in
-    grind (arith, common_steps)
-
--- where no place is the first, none passes
-before_none : (p : ℕ → Bool) (s : List ℕ) → position p s ≡ None → (k : ℕ) → k < length s → p (slice_index s k) ≡ false
-before_none p s e k inside =
-    let past : length s ≤ position_or_len p s = grind (arith, common_steps) in
-    fails_before_first p s k 0 (omega arith)
 
 -- a range stays clear along equal policies and sources
 pub clear_along : {c d : CheckCase} {s t : List ℕ} (start end : ℕ) → c ≡ d → s ≡ t → IsClear c s start end → IsClear d t start end

@@ -1,5 +1,5 @@
 -- Steps of a list that a text spells.
-use Rattle.std.proofs.Common.{◌≡◌, ◌≢◌, ℕ, List, None, ◌+◌, ◌*◌, ◌/◌, ◌%◌, ◌<◌, ◌≤◌, length, get_or, Some, refl, sym, ◌∙◌, ap, arith}
+use Rattle.std.proofs.Common.{◌≡◌, ℕ, List, None, ◌+◌, ◌*◌, ◌/◌, ◌%◌, ◌<◌, length, get_or, Some, arith}
 use Rattle.std.proofs.Math.ListN.{set}
 use Rattle.std.proofs.lemmas.List.{get_or-set_same, get_or-set_other}
 use borrow.Author.Count.{below_more}

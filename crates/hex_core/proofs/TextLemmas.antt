@@ -1,9 +1,9 @@
 -- Steps of the text of a list.
-use Rattle.std.proofs.Common.{◌≡◌, ℕ, List, [], ◌∷◌, ◌++◌, ◌+◌, ◌*◌, ◌/◌, ◌%◌, ◌<◌, ◌≤◌, length, get_or, take, refl, sym, ◌∙◌, ap, arith, Bool, append_assoc, zero-add}
+use Rattle.std.proofs.Common.{◌≡◌, ℕ, List, [], ◌∷◌, ◌++◌, ◌+◌, ◌*◌, ◌/◌, ◌%◌, ◌<◌, length, get_or, take, refl, arith, Bool, zero-add}
 use Rattle.std.proofs.Math.ListN.{set, length-take}
-use Rattle.std.proofs.lemmas.List.{take_more_set, take_more}
+use Rattle.std.proofs.lemmas.List.{take_more}
 use Rattle.std.proofs.lemmas.List.Concat.{get_or-flat_map}
-use Rattle.std.proofs.lemmas.List.FromFn.{get_or-range_with_len, length-range_with_len}
+use Rattle.std.proofs.lemmas.List.FromFn.{get_or-range_with_len}
 use Rattle.std.proofs.lemmas.Grind.{flat_map-append, common_steps}
 use Rattle.std.specs.List.{range_with_len}
 use Rattle.hex_core.specs.Digit.{digit}

@@ -1,5 +1,3 @@
-use Rattle.std.proofs.Common.{◌≡◌, ℕ, ◌+◌, ◌*◌, ◌/◌, ◌%◌, ◌<◌, get_or, Some}
-use Rattle.hex_core.specs.Digit.{value}
 use Rattle.hex_core.proofs.SpellsLemmas.{SpellsBelow}
 use Rattle.hex_core.proofs.scalar.write_bytes.Given as goal
 

@@ -1,0 +1,66 @@
+//! Callers of `faster_hex` as a user writes them, each proved.
+#![tactic(auto)]
+
+ghost use Rattle.std.specs.Prelude.{◌≡◌, ◌<◌, ◌↔◌, ℕ, List, None, Some, IsTrue, true, false, IsSome, IfSome, IfOk, IfErr, OnOk, OnErr, length, slice_set, vec_len};
+ghost use Rattle.std.specs.Bool.{OnFalse, OnTrue};
+ghost use Rattle.hex_core.specs.declared.digit.CheckCase.TheVariants as policy;
+ghost use Rattle.hex_core.specs.Fault.{fault};
+ghost use Rattle.hex_core.specs.Refusal.{array_refusal, decode_refusal, encodable};
+ghost use Rattle.hex_core.specs.Text.{Spells, laid, text};
+
+use faster_hex::{
+    Backend, CheckCase, Error, hex_check, hex_decode_array_with_case, hex_decode_into,
+    hex_encode_into,
+};
+
+/// Decodes into a buffer and marks it as read by setting its first byte to 0xff.
+///
+/// The caller's proof knows the whole buffer: what the digits spell but for the first byte, and
+/// behind it the old bytes.
+pub fn decode_and_mark(src: &[u8], buffer: &mut [u8]) -> Result<(), Error>
+    ensures ok { OnOk result ((bytes : List ℕ) × Spells policy.None src.now bytes × (buffer.new ≡ laid buffer.old (slice_set bytes 0 255))) }
+    ensures err { IfErr result (λ e. decode_refusal policy.None src.now (length buffer.old) ≡ Some e) }
+    ensures unchanged { OnErr result (buffer.new ≡ buffer.old) }
+{
+    let written = hex_decode_into(src, buffer, CheckCase::None)?;
+    if written > 0 {
+        buffer[0] = 0xff;
+    }
+    Ok(())
+}
+
+/// A digest of 32 bytes, written as 64 lowercase digits and in no other way.
+pub fn parse_digest(text: &[u8]) -> Option<[u8; 32]>
+    ensures found { IsSome result ↔ (array_refusal policy.Lower text.now 32 ≡ None) }
+    ensures value { IfSome result (λ digest. Spells policy.Lower text.now digest) }
+{
+    match hex_decode_array_with_case::<32>(text, CheckCase::Lower) {
+        Ok(digest) => Some(digest),
+        Err(_) => None,
+    }
+}
+
+/// The 64 lowercase digits of a digest.
+pub fn digest_text(digest: &[u8; 32]) -> [u8; 64]
+    ensures { result ≡ text false digest.now }
+{
+    let mut digits = [0; 64];
+    Backend::PLAIN.encode(digest, &mut digits, false);
+    digits
+}
+
+/// Writes an identifier's digits into the front of a record, where they fit.
+pub fn write_identifier(id: &[u8], record: &mut [u8]) -> bool
+    ensures fits { IsTrue result ↔ IsTrue (encodable id.now (length record.old)) }
+    ensures written { OnTrue result (record.new ≡ laid record.old (text true id.now)) }
+    ensures unchanged { OnFalse result (record.new ≡ record.old) }
+{
+    hex_encode_into(id, record, true).is_ok()
+}
+
+/// Whether a key is one that this store hands out: 16 digits of either case.
+pub fn is_key(text: &[u8]) -> bool
+    ensures { IsTrue result ↔ ((length text.now ≡ 16) × (fault policy.None text.now ≡ None)) }
+{
+    text.len() == 16 && hex_check(text)
+}
