@@ -1,0 +1,2 @@
+pub mod Append
+pub mod Failure

@@ -1,0 +1,2 @@
+pub mod AppendWalk
+pub mod TextFacts

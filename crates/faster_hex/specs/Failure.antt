@@ -1,0 +1,11 @@
+-- Why a text was not appended.
+use Rattle.std.specs.Prelude.{ℕ, ◌+◌, ◌*◌, ◌^◌, ◌<◌, ◌≤◌, List, length}
+use Rattle.hex_core.specs.declared.error.Error.{Error}
+use Rattle.hex_core.specs.declared.error.Error.TheVariants.{Overflow, OutOfMemory}
+
+-- an error of appending a list's text behind `had` bytes: `Overflow` where the whole length is no
+-- `usize`, want of memory only where it is one and there is a text to append, and no other error
+abbrev pub AppendFailure : ℕ → List ℕ → Error → Type 0
+AppendFailure had bytes Overflow = 2 ^ 64 ≤ had + 2 * length bytes
+AppendFailure had bytes OutOfMemory = (0 < length bytes) × (had + 2 * length bytes < 2 ^ 64)
+AppendFailure had bytes _ = ⊥
