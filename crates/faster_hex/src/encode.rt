@@ -228,9 +228,17 @@ fn string_of<A: Allocator + Drop>(alloc: A, src: &[u8], upper: bool) -> Result<S
         (λ string. (2 * length src.now < 2 ^ 64) × (string_bytes string ≡ text upper src.now))
         (λ e. AppendFailure 0 src.now e) }
 {
-    let mut string = String::new(alloc);
-    hex_append_into(src, &mut string, upper)?;
-    Ok(string)
+    let Some(len) = src.len().checked_mul(2) else {
+        return Err(Error::Overflow);
+    };
+    if src.is_empty() {
+        return Ok(String::new(alloc));
+    }
+    let Ok(mut digits) = Vec::from_elem(alloc, 0u8, len) else {
+        return Err(Error::OutOfMemory);
+    };
+    Backend::PLAIN.encode(src, digits.as_mut_slice(), upper);
+    Ok(unsafe { String::from_utf8_unchecked(digits) })
 }
 
 // Appends the digits of `src` and answers them alone. `dst` stands first because a proof learns
@@ -271,8 +279,8 @@ fn append_reserved<A: Allocator>(dst: &mut String<A>, src: &[u8], upper: bool)
     }
 }
 
-// Texts grow by pieces, encoded into a buffer on the stack and copied once: a string hands out no
-// room to write into, and a buffer in it that is filled with zeros first is written twice.
+// A string that is lent hands out no room to write into, so its text grows by pieces, encoded into a
+// buffer on the stack and copied once.
 pub(crate) const PIECE: usize = 256;
 
 // How many digits a whole piece has.
