@@ -95,6 +95,14 @@ clear_part c s start end inside e k low lt =
     let read = clear_none c (slice_range s start end) e (k - start) (omega arith) long in
     subst P (part_at s start end (k - start) inside (omega arith) ∙ ap (slice_index s) place) read
 
+-- two ranges in a row are one
+pub clear_joined : (c : CheckCase) (s : List ℕ) (middle end : ℕ) → IsClear c s 0 middle → IsClear c s middle end → IsClear c s 0 end
+clear_joined c s middle end front back k low lt =
+    elim (cases_lt k middle) [
+      | inl before ↦ front k low before
+      | inr behind ↦ back k behind lt
+    ]
+
 -- the whole blocks are within the source
 blocks_within : (len : ℕ) → 64 * whole_blocks len ≤ len
 blocks_within len = grind (arith, nat_tests)

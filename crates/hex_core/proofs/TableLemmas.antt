@@ -1,5 +1,6 @@
 -- What the entries of the value tables say of a byte.
-use Rattle.std.proofs.Common.{◌≡◌, ◌≢◌, ℕ, List, ◌<◌, get_or, true, false, Some, is_none, unwrap_or, sym, ◌∙◌, arith}
+use Rattle.std.proofs.Common.{refl, Bool, ◌≡◌, ◌≢◌, ℕ, List, ◌<◌, get_or, true, false, Some, is_none, unwrap_or, sym, ◌∙◌, arith}
+use Rattle.std.specs.Prelude.{IsTrue, ◌&&◌, not, ◌==◌}
 use Rattle.std.proofs.lemmas.Bool.Decides.{nat_tests}
 use Rattle.std.proofs.lemmas.List.FromFn.{get_or-map-range_with_len}
 use Rattle.hex_core.specs.declared.digit.CheckCase.{CheckCase}
@@ -40,3 +41,12 @@ admitted-entry c table b is h e = some_at c b (λ x. e (rw is (get_or-value_tabl
 -- the entry of a byte that has a value is that value, and is below 16
 pub value-entry : (c : CheckCase) (table : List ℕ) (b : ℕ) → table ≡ value_table c → b < 256 → is_none (value c b) ≡ false → (value c b ≡ Some (get_or table b 0)) × (get_or table b 0 < 16)
 value-entry c table b is h e = rw is (rw (get_or-value_table c b 0 h) (value_at c b e))
+
+-- one more entry that is looked up
+pub clear-more : (clear : Bool) (entry : ℕ) → IsTrue (clear && not (entry == 255)) → IsTrue clear × (entry ≢ 255)
+clear-more true entry h = (refl, λ e. grind (arith, nat_tests))
+clear-more false entry h = cc
+
+pub clear-kept : (clear : Bool) (entry : ℕ) → IsTrue clear → entry < 16 → IsTrue (clear && not (entry == 255))
+clear-kept true entry h small = grind (arith, nat_tests)
+clear-kept false entry h small = cc

@@ -1,19 +1,26 @@
--- An entry of 255 is the first byte without a value.
-use Rattle.std.proofs.Common.{refl, arith}
-use borrow.Author.Count.{below_more}
-use Rattle.hex_core.proofs.FaultLemmas.{fault-none, fault-some}
-use Rattle.hex_core.proofs.TableLemmas.{faulty-entry, admitted-entry}
+-- The source is clear where its blocks and what is behind them are.
+use Rattle.std.proofs.Common.{◌≡◌, ◌+◌, ◌*◌, ◌/◌, arith, length, None}
+use Rattle.std.specs.Prelude.{IsTrue}
+use Rattle.hex_core.specs.Fault.{IsClear, fault}
+use Rattle.hex_core.proofs.ProbeLemmas.{clear_joined, clear_none, clear_part, fault_none, part_clear}
 use Rattle.hex_core.proofs.scalar.check.Goals as goal
 
-pub loop-byte-preserved : goal.loop-byte-preserved
-loop-byte-preserved c = below_more _ _ c.loop-byte.invariant
-    (admitted-entry c.args.case _ _ c.values_of-values.ensures (c.type_inv.src c.loop-byte.byte-index).fits c.if-values-byte.false)
+pub passes-preserved : goal.passes-preserved
+passes-preserved c =
+    let case = c.args.case in let s = c.args.src.now in let start = 64 * c.passes.i in
+    let block : IsClear case s start (start + 64) = clear_part case s start (start + 64) (omega arith) (c.block_is_clear.ensures.0 c.if-not-block_is_clear.false) in
+    λ k low lt. clear_joined case s start (start + 64) c.passes.invariant block k low (omega arith)
 
 pub returns : goal.returns
-returns c = (λ _. fault-none c.args.case c.args.src.now (λ k h. c.loop-byte.invariant k (omega arith)), λ _. refl)
+returns c =
+    let case = c.args.case in let s = c.args.src.now in let start = 64 * (length s / 64) in
+    let front : IsClear case s 0 start = λ k low lt. c.passes.invariant k low (omega arith) in (
+      λ passed. fault_none case s (clear_joined case s start (length s) front (clear_part case s start (length s) (omega arith) (c.block_is_clear-2.ensures.0 passed))),
+      λ none. c.block_is_clear-2.ensures.1 (part_clear case s start (length s) (omega arith) (λ k low lt. clear_none case s none k (omega arith) lt)),
+    )
 
-pub returns-then-values-byte : goal.returns-then-values-byte
-returns-then-values-byte c =
-    let found = fault-some c.args.case c.args.src.now c.loop-byte.byte-index c.loop-byte-test.true c.loop-byte.invariant
-    (faulty-entry c.args.case _ _ c.values_of-values.ensures (c.type_inv.src c.loop-byte.byte-index).fits c.if-values-byte.true) in
-    (λ h. cc, λ h. cc)
+pub returns-then-not-block_is_clear : goal.returns-then-not-block_is_clear
+returns-then-not-block_is_clear c =
+    let case = c.args.case in let s = c.args.src.now in let start = 64 * c.passes.i in
+    let passes : fault case s ≡ None → IsTrue c.block_is_clear.result = λ none. c.block_is_clear.ensures.1 (part_clear case s start (start + 64) (omega arith) (λ k low lt. clear_none case s none k (omega arith) (omega arith))) in
+    (λ h. cc, λ none. cc (passes none))

@@ -1,7 +1,7 @@
-use Rattle.std.proofs.Common.{◌≡◌, ℕ, ◌<◌, get_or, false}
-use Rattle.hex_core.proofs.FaultLemmas.{faulty}
+use Rattle.std.proofs.Common.{◌*◌}
+use Rattle.hex_core.specs.Fault.{IsClear}
 use Rattle.hex_core.proofs.scalar.check.Given as goal
 
--- each byte so far has a value
-abbrev pub invariant-loop-byte : goal.invariant-loop-byte
-invariant-loop-byte l = (k : ℕ) → k < l.byte-index → faulty l.fn.case (get_or l.src k 0) ≡ false
+-- the blocks so far are clear
+abbrev pub invariant-passes : goal.invariant-passes
+invariant-passes l = IsClear l.fn.case l.src 0 (64 * l.i)
