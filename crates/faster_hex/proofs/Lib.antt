@@ -1,2 +1,5 @@
-pub mod AppendWalk
-pub mod TextFacts
+mod AppendWalk
+mod FrameFacts
+mod PutsLemmas
+mod Repeats
+mod TextFacts

@@ -1,2 +1,5 @@
 pub mod Append
 pub mod Failure
+pub mod Frame
+pub mod Sink
+pub mod Sinks

@@ -3,7 +3,9 @@
 
 pub mod decode;
 pub mod encode;
+pub mod format;
 pub mod heapless_08;
+pub mod sink;
 
 pub use crate::decode::{
     hex_check, hex_check_with_case, hex_decode, hex_decode_array, hex_decode_array_with_case,
@@ -13,4 +15,6 @@ pub use crate::encode::{
     hex_append, hex_append_into, hex_append_upper, hex_encode, hex_encode_into, hex_encode_upper,
     hex_string, hex_string_upper,
 };
-pub use hex_core::{Backend, CheckCase, Error, digit_value};
+pub use crate::format::{Align, Hex, HexFlags, WriteFault};
+pub use crate::sink::{Sink, SinkFault, SliceSink, WriterSink};
+pub use hex_core::{Backend, CheckCase, Error, Probe, SliceProbe, backends, digit_value, locate};

@@ -1,7 +1,6 @@
 -- What stands behind the old text is UTF-8.
-use Rattle.std.proofs.Common.{◌<◌, string_bytes}
+use Rattle.std.proofs.Common.{string_bytes}
 use Rattle.std.proofs.Math.Seq.{drop-append_seam}
-use Rattle.std.proofs.lemmas.List.Elements.{All-from_get_or}
 use Rattle.hex_core.specs.Text.{text}
 use Rattle.faster_hex.proofs.TextFacts.{IsUtf8-text}
 use Rattle.faster_hex.proofs.encode.append_in.Goals as goal
@@ -10,4 +9,4 @@ pub text_from-requires-clause-text : goal.text_from-requires-clause-text
 text_from-requires-clause-text g c =
     let src = c.args.src.now in
     rw (c.as_bytes-start.ensures.value, c.in_ok-hex_append_into.ensures.appended, drop-append_seam (string_bytes c.args.dst.now) (text c.args.upper src))
-    (IsUtf8-text c.args.upper src (All-from_get_or (λ b. b < 256) src 0 (λ i h. (c.type_inv.src i).fits)))
+    (IsUtf8-text c.args.upper src (λ i. (c.type_inv.src i).fits))
