@@ -1,35 +1,22 @@
--- From what an operation did to what the program promises of it.
-use Rattle.std.specs.Prelude.{◌≡◌, ℕ, List, Option, Some, None, Result, Ok, Err, MatchResult, OnOk, IfErr, ⊤, refl}
-use Rattle.std.proofs.Common.{arith}
-use Rattle.std.specs.Io.KnownBytes.{Consumes, Appends, Keeps, IsAtEnd}
-use Rattle.hex_core.specs.declared.digit.CheckCase.TheVariants as policy
-use Rattle.hex_core.specs.Text.{Spells}
-use Rattle.hex_core.specs.Refusal.{source_refusal}
+-- From a run that ended with status 1 to what the program promises of it.
+use Rattle.std.specs.Prelude.{◌≡◌, ℕ, List, Option, Result, Err, IfErr, ◌⊎◌}
+use Rattle.std.proofs.Common.{arith, inl, inr}
+use Rattle.std.specs.Io.KnownBytes.{Consumes, Keeps, IsAtEnd}
+use Rattle.std.proofs.KnownBytes.{Keeps-trans}
 use Rattle.fhex.specs.declared.program.Op.{Op}
-use Rattle.fhex.specs.declared.program.Op.TheVariants.{Encode, Decode}
 use Rattle.fhex.specs.declared.program.Failure.{Failure}
 use Rattle.fhex.specs.declared.program.Failure.TheVariants.{Codec, Usage, ReadFailed, WriteFailed, OutOfMemory, InputTooLong}
-use Rattle.fhex.specs.Program.{IsRefusalOf, Refused, RefusedAs, Served, status_of, without_newline}
+use Rattle.fhex.specs.Program.{IsRefusalOf, Refused, op_refusal, status_of}
 
--- decoding wrote the bytes that the input spells, or refused it
-pub decoded : (op : Op) (r : Result (Unit {0}) Failure) (input : List ℕ) (left left' held held' : Option (List ℕ)) → op ≡ Decode → Consumes left left' input → IsAtEnd left'
-    → OnOk r ((bytes : List ℕ) × Spells policy.None (without_newline input) bytes × Appends held held' bytes)
-    → IfErr r (λ f. IsRefusalOf (source_refusal policy.None (without_newline input)) held held' f)
-    → MatchResult r (λ _. Served op left left' held held') (λ f. RefusedAs op f left left' held held')
-decoded Encode r input left left' held held' is all end ok err = cc
-decoded Decode (Ok u) input left left' held held' is all end ok err = record { input = input; output = ok.0; consumed = all; ended = end; is_output = ok.1; written = ok.2 }
-decoded Decode (Err (Codec e)) input left left' held held' is all end ok err = record { input = input; refusal = e; consumed = all; ended = end; is_refusal = err.0; kept = err.1 }
-decoded Decode (Err Usage) input left left' held held' is all end ok err = absurd err
-decoded Decode (Err ReadFailed) input left left' held held' is all end ok err = tt
-decoded Decode (Err WriteFailed) input left left' held held' is all end ok err = tt
-decoded Decode (Err OutOfMemory) input left left' held held' is all end ok err = tt
-decoded Decode (Err InputTooLong) input left left' held held' is all end ok err = tt
-
--- status 1 is that of a refusal
-pub refused_at_one : (op : Op) (f : Failure) (left left' held held' : Option (List ℕ)) → RefusedAs op f left left' held held' → status_of f ≡ 1 → Refused op left left' held held'
-refused_at_one op (Codec e) left left' held held' as_failure one = as_failure
-refused_at_one op Usage left left' held held' as_failure one = absurd as_failure
-refused_at_one op ReadFailed left left' held held' as_failure one = absurd (omega arith)
-refused_at_one op WriteFailed left left' held held' as_failure one = absurd (omega arith)
-refused_at_one op OutOfMemory left left' held held' as_failure one = absurd (omega arith)
-refused_at_one op InputTooLong left left' held held' as_failure one = absurd (omega arith)
+-- status 1 is that of a refusal, after which nothing was written
+pub refused_at_one : (op : Op) (ran : Result (Unit {0}) Failure) (f : Failure) (input : List ℕ) (left left' held middle held' : Option (List ℕ)) → Consumes left left' input → IsAtEnd left'
+    → IfErr ran (λ g. IsRefusalOf (op_refusal op input) held middle g) → Keeps middle held' → (ran ≡ Err f) ⊎ (f ≡ WriteFailed) → status_of f ≡ 1 → Refused op left left' held held'
+refused_at_one op ran (Codec e) input left left' held middle held' all end err kept (inl is) one =
+    let refusal = rw is at err in
+    record { input = input; refusal = e; consumed = all; ended = end; is_refusal = refusal.0; kept = Keeps-trans held middle held' refusal.1 kept }
+refused_at_one op ran (Codec e) input left left' held middle held' all end err kept (inr is) one = cc
+refused_at_one op ran Usage input left left' held middle held' all end err kept is one = absurd (omega arith)
+refused_at_one op ran ReadFailed input left left' held middle held' all end err kept is one = absurd (omega arith)
+refused_at_one op ran WriteFailed input left left' held middle held' all end err kept is one = absurd (omega arith)
+refused_at_one op ran OutOfMemory input left left' held middle held' all end err kept is one = absurd (omega arith)
+refused_at_one op ran InputTooLong input left left' held middle held' all end err kept is one = absurd (omega arith)

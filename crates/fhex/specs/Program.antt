@@ -1,5 +1,5 @@
 -- What `fhex` does with its words and with what it reads.
-use Rattle.std.specs.Prelude.{◌≡◌, ℕ, ◌-◌, ◌==◌, nat_lt, Bool, ◌&&◌, false, if◌then◌else◌, List, [], ◌∷◌, ◌++◌, length, take, slice_index, codes, Option, Some, None, ⊤}
+use Rattle.std.specs.Prelude.{◌≡◌, ℕ, ◌-◌, ◌==◌, nat_lt, ◌&&◌, false, if◌then◌else◌, List, [], ◌∷◌, ◌++◌, length, take, slice_index, codes, Option, Some, None, ⊤}
 use Rattle.std.specs.Str.{bytes_eq}
 use Rattle.std.specs.Io.KnownBytes.{Consumes, Appends, Keeps, IsAtEnd}
 use Rattle.hex_core.specs.declared.digit.CheckCase.TheVariants as policy
@@ -75,12 +75,3 @@ IsRefusalOf refusal held held' ReadFailed = ⊤
 IsRefusalOf refusal held held' WriteFailed = ⊤
 IsRefusalOf refusal held held' OutOfMemory = ⊤
 IsRefusalOf refusal held held' InputTooLong = ⊤
-
--- a failure of an operation is its refusal, or a fault of the surroundings
-abbrev pub RefusedAs : Op → Failure → Option (List ℕ) → Option (List ℕ) → Option (List ℕ) → Option (List ℕ) → Type 0
-RefusedAs op (Codec e) left left' held held' = Refused op left left' held held'
-RefusedAs op Usage left left' held held' = ⊥
-RefusedAs op ReadFailed left left' held held' = ⊤
-RefusedAs op WriteFailed left left' held held' = ⊤
-RefusedAs op OutOfMemory left left' held held' = ⊤
-RefusedAs op InputTooLong left left' held held' = ⊤

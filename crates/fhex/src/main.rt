@@ -7,8 +7,11 @@ mod tests;
 
 use program::{Failure, refuse, serve};
 use std::env;
-use std::io::ErrorKind;
+use std::io::{BufWriter, ErrorKind};
 use std::process::ExitCode;
+
+// How many bytes standard output takes at a time.
+const OUTPUT_BUFFER: usize = 65_536;
 
 // The program's words, without its name.
 fn words(rt: &HostRuntime) -> Result<Vec<String>, Failure> {
@@ -31,13 +34,18 @@ fn run(rt: &HostRuntime, words: &[String]) -> Result<u8, Failure> {
             return Err(Failure::OutOfMemory);
         }
     }
-    let (status, _, _) = serve(
+    let Ok(out) = BufWriter::with_capacity(rt.alloc(), OUTPUT_BUFFER, rt.stdout()) else {
+        return Err(Failure::OutOfMemory);
+    };
+    let (status, out, _) = serve(
         rt.alloc(),
         texts.as_slice(),
         &mut rt.stdin(),
-        rt.stdout(),
+        out,
         rt.stderr(),
     );
+    // A writer that is let go tries once more to write what a failed write left.
+    let _ = out.into_parts();
     Ok(status)
 }
 

@@ -1,15 +1,16 @@
 //! All of `fhex` over what is handed in: words, an input and two outputs.
 
-ghost use Rattle.std.specs.Prelude.{◌≡◌, ◌≤◌, ◌++◌, ◌∷◌, [], false, ℕ, List, Some, None, Ok, Err, ⊤, map, length, vec_len, IfOk, IfErr, OnOk, OnErr, MatchResult, IfSome};
+ghost use Rattle.std.specs.Prelude.{◌≡◌, ◌≤◌, ◌++◌, ◌∷◌, [], false, ℕ, List, Some, None, Ok, Err, ⊤, map, length, vec_len, IfOk, IfErr, OnOk, MatchOption, ◌<◌, ◌-◌, ◌^◌, ◌⊎◌};
 ghost use Rattle.std.specs.Io.KnownBytes.{Appends, Consumes, IsAtEnd, Keeps};
 ghost use Rattle.hex_core.specs.declared.digit.CheckCase.TheVariants as policy;
 ghost use Rattle.hex_core.specs.Text.{Spells, text};
 ghost use Rattle.hex_core.specs.Refusal.{source_refusal};
 ghost use Rattle.fhex.specs.declared.program.Op.{Op as OpValue};
-ghost use Rattle.fhex.specs.Program.{IsRefusalOf, Refused, RefusedAs, Served, op_of_word, op_of_words, status_of, without_newline};
+ghost use Rattle.fhex.specs.Program.{IsOutput, IsRefusalOf, Refused, Served, op_of_word, op_of_words, op_refusal, status_of, without_newline};
 
 use arrayvec::ArrayString;
-use faster_hex::{CheckCase, Error, hex_decode_into, hex_encode_into};
+use faster_hex::format::put_all;
+use faster_hex::{CheckCase, Error, Hex, HexFlags, Sink, WriterSink, hex_decode_vec_with_case};
 use std::alloc::{Allocator, Global};
 use std::fmt;
 use std::io::{Read, Write};
@@ -130,25 +131,6 @@ fn read_input<A: Allocator + Drop, R: Read>(alloc: A, input: &mut R) -> Result<V
     Err(Failure::InputTooLong)
 }
 
-// Writes all of the bytes. No error is retried.
-fn write_output<W: Write>(out: &mut W, bytes: &[u8]) -> Result<(), Failure>
-    ensures ok { OnOk result (Appends (W.contents out.old) (W.contents out.new) bytes.now) }
-    ensures err { IfErr result (λ f. status_of f ≡ 3) }
-{
-    let mut at = 0;
-    'writes: while at < bytes.len() {
-        match out.write(&bytes[at..]) {
-            Ok(0) => return Err(Failure::WriteFailed),
-            Ok(n) => at += n,
-            Err(_) => return Err(Failure::WriteFailed),
-        }
-    }
-    match out.flush() {
-        Ok(()) => Ok(()),
-        Err(_) => Err(Failure::WriteFailed),
-    }
-}
-
 // The input without one final newline, where it has one.
 fn digits_in(input: &[u8]) -> &[u8]
     ensures { result.now ≡ without_newline input.now }
@@ -159,65 +141,87 @@ fn digits_in(input: &[u8]) -> &[u8]
     }
 }
 
-// Writes the text of the input, and a newline.
-fn encode_to<A: Allocator + Drop, W: Write>(
-    alloc: A,
-    input: &[u8],
-    out: &mut W,
-) -> Result<(), Failure>
-    requires { length input.now ≤ INPUT_LIMIT }
-    ensures ok { OnOk result (Appends (W.contents out.old) (W.contents out.new) (text false input.now ++ 10 ∷ [])) }
+// Puts the text of the input, and a newline. No memory is taken.
+fn encode<S: Sink>(input: &[u8], sink: &mut S) -> Result<(), Failure>
+    requires { S.failure_count sink.old < 2 ^ 64 - 1 }
+    ensures ok { OnOk result (Appends (S.taken sink.old) (S.taken sink.new) (text false input.now ++ 10 ∷ [])) }
     ensures err { IfErr result (λ f. status_of f ≡ 3) }
 {
-    let Ok(mut output) = Vec::from_elem(alloc, b'\n', 2 * input.len() + 1) else {
-        return Err(Failure::OutOfMemory);
-    };
-    match hex_encode_into(input, output.as_mut_slice(), false) {
-        Ok(_) => write_output(out, output.as_slice()),
-        Err(_) => unreachable!(),
+    if Hex::new(input)
+        .write_to(sink, &HexFlags::default())
+        .is_err()
+    {
+        return Err(Failure::WriteFailed);
+    }
+    match put_all(sink, b"\n") {
+        Ok(()) => Ok(()),
+        Err(_) => Err(Failure::WriteFailed),
     }
 }
 
-// Writes the bytes that the input spells, or refuses it.
-fn decode_to<A: Allocator + Drop, W: Write>(
-    alloc: A,
-    input: &[u8],
-    out: &mut W,
-) -> Result<(), Failure>
-    ensures ok { OnOk result ((bytes : List ℕ) × Spells policy.None (without_newline input.now) bytes × Appends (W.contents out.old) (W.contents out.new) bytes) }
-    ensures err { IfErr result (λ f. IsRefusalOf (source_refusal policy.None (without_newline input.now)) (W.contents out.old) (W.contents out.new) f) }
+// Puts the bytes that the input spells, or refuses it. All are collected before the first put.
+fn decode<A: Allocator + Drop, S: Sink>(alloc: A, input: &[u8], sink: &mut S) -> Result<(), Failure>
+    requires { S.failure_count sink.old < 2 ^ 64 - 1 }
+    ensures ok { OnOk result ((bytes : List ℕ) × Spells policy.None (without_newline input.now) bytes × Appends (S.taken sink.old) (S.taken sink.new) bytes) }
+    ensures err { IfErr result (λ f. IsRefusalOf (source_refusal policy.None (without_newline input.now)) (S.taken sink.old) (S.taken sink.new) f) }
 {
-    let digits = digits_in(input);
-    if digits.len() % 2 == 1 {
-        return Err(Failure::Codec(Error::OddLength));
-    }
-    let Ok(mut output) = Vec::from_elem(alloc, 0u8, digits.len() / 2) else {
-        return Err(Failure::OutOfMemory);
-    };
-    match hex_decode_into(digits, output.as_mut_slice(), CheckCase::None) {
-        Ok(_) => write_output(out, output.as_slice()),
+    match hex_decode_vec_with_case(alloc, digits_in(input), CheckCase::None) {
+        Ok(bytes) => match put_all(sink, bytes.as_slice()) {
+            Ok(()) => Ok(()),
+            Err(_) => Err(Failure::WriteFailed),
+        },
+        Err(Error::OutOfMemory) => Err(Failure::OutOfMemory),
         Err(e) => Err(Failure::Codec(e)),
     }
 }
 
-// Judges the words, reads and runs.
-fn operate<A: Allocator, R: Read, W: Write>(
-    alloc: &A,
+// Runs an operation: puts its output, or refuses the input and puts nothing.
+fn run<A: Allocator + Drop, S: Sink>(
+    alloc: A,
+    op: Op,
+    input: &[u8],
+    sink: &mut S,
+) -> Result<(), Failure>
+    requires { S.failure_count sink.old < 2 ^ 64 - 1 }
+    ensures ok { OnOk result ((output : List ℕ) × IsOutput op input.now output × Appends (S.taken sink.old) (S.taken sink.new) output) }
+    ensures err { IfErr result (λ f. IsRefusalOf (op_refusal op input.now) (S.taken sink.old) (S.taken sink.new) f) }
+{
+    match op {
+        Op::Encode => encode(input, sink),
+        Op::Decode => decode(alloc, input, sink),
+    }
+}
+
+// Judges the words, and reads the input of the operation that they name.
+fn ask<'a, A: Allocator, R: Read>(
+    alloc: &'a A,
     words: &[&str],
     input: &mut R,
-    out: &mut W,
-) -> Result<(), Failure>
-    ensures { (op : OpValue) → op_of_words (map (λ w. w.now) words.now) ≡ Some op → MatchResult result
-        (λ _. Served op (R.remaining input.old) (R.remaining input.new) (W.contents out.old) (W.contents out.new))
-        (λ f. RefusedAs op f (R.remaining input.old) (R.remaining input.new) (W.contents out.old) (W.contents out.new)) }
+) -> Result<(Op, Vec<u8, &'a A>), Failure>
+    ensures named { IfOk result (λ asked. op_of_words (map (λ w. w.now) words.now) ≡ Some asked.0) }
+    ensures read { IfOk result (λ asked. Consumes (R.remaining input.old) (R.remaining input.new) asked.1.items) }
+    ensures ended { OnOk result (IsAtEnd (R.remaining input.new)) }
+    ensures err { IfErr result (λ f. MatchOption (op_of_words (map (λ w. w.now) words.now)) (f ≡ Failure.Usage) (λ _. status_of f ≡ 3)) }
 {
     let Some(op) = Op::from_words(words) else {
         return Err(Failure::Usage);
     };
-    let source = read_input(alloc, input)?;
-    match op {
-        Op::Encode => encode_to(alloc, source.as_slice(), out),
-        Op::Decode => decode_to(alloc, source.as_slice(), out),
+    match read_input(alloc, input) {
+        Ok(source) => Ok((op, source)),
+        Err(failure) => Err(failure),
+    }
+}
+
+// Flushes the output of a run that has put all of it.
+fn finish<W: Write>(out: &mut W, ran: Result<(), Failure>) -> Result<(), Failure>
+    ensures ok { OnOk result (ran ≡ Ok tt) }
+    ensures err { IfErr result (λ f. (ran ≡ Err f) ⊎ (f ≡ Failure.WriteFailed)) }
+    ensures kept { Keeps (W.contents out.old) (W.contents out.new) }
+{
+    ran?;
+    match out.flush() {
+        Ok(()) => Ok(()),
+        Err(_) => Err(Failure::WriteFailed),
     }
 }
 
@@ -228,9 +232,22 @@ pub fn refuse<E: Write>(err: &mut E, failure: Failure) -> u8
 {
     let mut line = ArrayString::<128>::new();
     if fmt::Write::write_fmt(&mut line, format_args!("{failure}\n")).is_ok() {
-        let _ = write_output(err, line.as_bytes());
+        write_line(err, line.as_bytes());
     }
     failure.status()
+}
+
+// Writes a line as far as the writer takes it. No error is retried.
+fn write_line<E: Write>(err: &mut E, line: &[u8]) {
+    let mut at = 0;
+    'writes: while at < line.len() {
+        match err.write(&line[at..]) {
+            Ok(0) => return,
+            Ok(n) => at += n,
+            Err(_) => return,
+        }
+    }
+    let _ = err.flush();
 }
 
 // The same over any allocator, so that a test can refuse its growths.
@@ -246,9 +263,15 @@ pub fn serve_in<A: Allocator, R: Read, W: Write, E: Write>(
     ensures refused { (op : OpValue) → op_of_words (map (λ w. w.now) words.now) ≡ Some op → result.0 ≡ 1
         → Refused op (R.remaining input.old) (R.remaining input.new) (W.contents out) (W.contents result.1) }
 {
-    let mut out = out;
     let mut err = err;
-    match operate(alloc, words, input, &mut out) {
+    let (op, source) = match ask(alloc, words, input) {
+        Ok(asked) => asked,
+        Err(failure) => return (refuse(&mut err, failure), out, err),
+    };
+    let mut sink = WriterSink::new(out);
+    let ran = run(alloc, op, source.as_slice(), &mut sink);
+    let mut out = sink.into_inner();
+    match finish(&mut out, ran) {
         Ok(()) => (0, out, err),
         Err(failure) => (refuse(&mut err, failure), out, err),
     }
