@@ -2,4 +2,8 @@
 #![tactic(auto)]
 
 #[cfg(test)]
+mod format_rows;
+#[cfg(test)]
+mod limited_sink;
+#[cfg(test)]
 mod string_rows;
