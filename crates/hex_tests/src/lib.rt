@@ -1,9 +1,23 @@
-//! Tests that cross the crates.
+//! Tests that cross the crates: worked rows as tables, and the tests carried from the Rust crate.
 #![tactic(auto)]
 
+#[cfg(test)]
+mod carried;
+#[cfg(test)]
+mod carried_lists;
+#[cfg(test)]
+mod carried_owned;
 #[cfg(test)]
 mod format_rows;
 #[cfg(test)]
 mod limited_sink;
+#[cfg(test)]
+mod owned_rows;
+#[cfg(test)]
+mod plan_rows;
+#[cfg(test)]
+mod rules;
+#[cfg(test)]
+mod slice_rows;
 #[cfg(test)]
 mod string_rows;

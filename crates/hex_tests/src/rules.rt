@@ -1,0 +1,131 @@
+//! What the tests expect, by the rules themselves and not by the calls that are tested.
+
+use hex_core::{CheckCase, Error};
+use std::alloc::{AllocError, Allocator, Global};
+
+/// What a test fills its destinations with.
+pub const FILL: u8 = 0xa5;
+
+/// Each policy.
+pub const CASES: [CheckCase; 3] = [CheckCase::None, CheckCase::Lower, CheckCase::Upper];
+
+/// The value of a byte as a digit: three intervals, each read under two or three policies.
+pub fn value(byte: u8, case: CheckCase) -> Option<u8> {
+    match (byte, case) {
+        (0x30..=0x39, _) => Some(byte - 48),
+        (0x61..=0x66, CheckCase::None | CheckCase::Lower) => Some(byte - 87),
+        (0x41..=0x46, CheckCase::None | CheckCase::Upper) => Some(byte - 55),
+        _ => None,
+    }
+}
+
+/// The text of `bytes`: of each the letter at its quotient and the one at its remainder by 16.
+pub fn text_of(alloc: Global, bytes: &[u8], upper: bool) -> Result<Vec<u8>, AllocError> {
+    let letters = if upper {
+        b"0123456789ABCDEF"
+    } else {
+        b"0123456789abcdef"
+    };
+    let mut text = Vec::new(alloc);
+    for byte in bytes {
+        text.push(letters[usize::from(*byte / 16)])?;
+        text.push(letters[usize::from(*byte % 16)])?;
+    }
+    Ok(text)
+}
+
+/// The refusal that names this place and byte.
+pub fn invalid<T>(index: usize, byte: u8) -> Result<T, Error> {
+    Err(Error::InvalidChar { index, byte })
+}
+
+/// The refusal that names this room.
+pub fn too_small<T>(required: usize) -> Result<T, Error> {
+    Err(Error::OutputTooSmall { required })
+}
+
+/// What a slice call answered, to be read alone.
+pub fn seen(got: Result<&mut [u8], Error>) -> Result<&[u8], Error> {
+    match got {
+        Ok(front) => Ok(front),
+        Err(e) => Err(e),
+    }
+}
+
+/// What a call that takes memory answered, to be read alone.
+pub fn held<A: Allocator>(got: &Result<Vec<u8, A>, Error>) -> Result<&[u8], Error> {
+    match got {
+        Ok(bytes) => Ok(bytes.as_slice()),
+        Err(e) => Err(*e),
+    }
+}
+
+/// Whether each byte is the one that a test fills its destinations with.
+pub fn is_filled(bytes: &[u8]) -> bool {
+    bytes.iter().all(|byte| *byte == FILL)
+}
+
+/// Byte `i` of the fixed list that stands for any bytes.
+pub fn pattern(i: usize) -> u8 {
+    (i.wrapping_mul(73).wrapping_add(i / 7) % 256) as u8
+}
+
+/// Byte `i` of the fixed list of digits of both cases that stands for any valid source.
+pub fn digit(i: usize) -> u8 {
+    b"0123456789abcdefABCDEF"[usize::from(pattern(i) % 22)]
+}
+
+/// The first bytes of the fixed list that stands for any bytes.
+pub fn patterns<const N: usize>() -> [u8; N] {
+    let mut list = [0; N];
+    for (i, byte) in list.iter_mut().enumerate() {
+        *byte = pattern(i);
+    }
+    list
+}
+
+/// The first bytes of the fixed list of digits.
+pub fn digits<const N: usize>() -> [u8; N] {
+    let mut list = [0; N];
+    for (i, byte) in list.iter_mut().enumerate() {
+        *byte = digit(i);
+    }
+    list
+}
+
+/// The first byte that a policy does not read, with its place.
+pub fn first_fault(src: &[u8], case: CheckCase) -> Option<(usize, u8)> {
+    for (i, byte) in src.iter().enumerate() {
+        if value(*byte, case).is_none() {
+            return Some((i, *byte));
+        }
+    }
+    None
+}
+
+/// The byte that a pair of digits spells.
+pub fn spelled(high: u8, low: u8, case: CheckCase) -> Option<u8> {
+    let high = value(high, case)?;
+    let low = value(low, case)?;
+    Some(high.wrapping_mul(16).wrapping_add(low))
+}
+
+/// What decoding answers, and what it leaves in its destination.
+pub fn decode_by_rule(src: &[u8], dst: &mut [u8], case: CheckCase) -> Result<usize, Error> {
+    let required = src.len() / 2;
+    if src.len() % 2 == 1 {
+        return Err(Error::OddLength);
+    }
+    if dst.len() < required {
+        return too_small(required);
+    }
+    if let Some((index, byte)) = first_fault(src, case) {
+        return invalid(index, byte);
+    }
+    for (pair, byte) in src.chunks_exact(2).zip(dst.iter_mut()) {
+        if let [high, low] = pair {
+            *byte = spelled(*high, *low, case).unwrap_or(0);
+        }
+    }
+    Ok(required)
+}
