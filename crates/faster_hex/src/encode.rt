@@ -42,7 +42,11 @@ pub fn hex_encode<'a>(src: &[u8], dst: &'a mut [u8]) -> Result<&'a mut [u8], Err
 
 /// Encodes all of `src` as uppercase digits into the front of `dst`, and answers that front.
 ///
-/// All but the letters is as at [`hex_encode`], the errors too.
+/// All but the letters are as at [`hex_encode`].
+///
+/// # Errors
+///
+/// Those of [`hex_encode`], in the same order.
 ///
 /// ```rust
 /// let mut buffer = [0; 6];

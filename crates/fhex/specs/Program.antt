@@ -1,6 +1,7 @@
 -- What `fhex` does with its words and with what it reads.
 use Rattle.std.specs.Prelude.{◌≡◌, ℕ, ◌-◌, ◌==◌, nat_lt, ◌&&◌, false, if◌then◌else◌, List, [], ◌∷◌, ◌++◌, length, take, slice_index, codes, Option, Some, None, ⊤}
 use Rattle.std.specs.Str.{bytes_eq}
+use Rattle.std.specs.Io.BufRead.{strip_last}
 use Rattle.std.specs.Io.KnownBytes.{Consumes, Appends, Keeps, IsAtEnd}
 use Rattle.hex_core.specs.declared.digit.CheckCase.TheVariants as policy
 use Rattle.hex_core.specs.declared.error.Error.{Error}
@@ -26,9 +27,7 @@ op_of_words (word ∷ another ∷ rest) = None
 
 -- the input without one final newline, where it has one
 abbrev pub without_newline : List ℕ → List ℕ
-without_newline input =
-    if nat_lt 0 (length input) && (slice_index input (length input - 1) == 10)
-    then take (length input - 1) input else input
+without_newline input = strip_last 10 input
 
 -- the output of an operation: a text and a newline, or the bytes that the input spells
 abbrev pub IsOutput : Op → List ℕ → List ℕ → Type 0

@@ -250,7 +250,7 @@ fn write_line<E: Write>(err: &mut E, line: &[u8]) {
     let _ = err.flush();
 }
 
-// The same over any allocator, so that a test can refuse its growths.
+/// [`serve`] over any allocator, so that a test can refuse its growths.
 pub fn serve_in<A: Allocator, R: Read, W: Write, E: Write>(
     alloc: &A,
     words: &[&str],

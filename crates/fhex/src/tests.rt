@@ -10,7 +10,7 @@ const USAGE: &str = "usage: fhex encode|encode-upper|decode|decode-lower|decode-
 
 #[test]
 fn rows(rt: HostRuntime) -> Result<(), Fail> {
-    let rows: [(&[&str], &[u8], &[u8], &str, u8); 17] = [
+    let rows: [(&[&str], &[u8], &[u8], &str, u8); 18] = [
         (&["encode"], b"hello", b"68656c6c6f\n", "", 0),
         (&["encode"], b"", b"\n", "", 0),
         (&["encode"], b"\x00\xab\xff\n", b"00abff0a\n", "", 0),
@@ -57,6 +57,7 @@ fn rows(rt: HostRuntime) -> Result<(), Fail> {
         (&[], b"hello", b"", USAGE, 2),
         (&["encode", "decode"], b"hello", b"", USAGE, 2),
         (&["Encode"], b"hello", b"", USAGE, 2),
+        (&["encode-upper"], b"hello", b"", USAGE, 2),
         (&["vectors"], b"hello", b"", USAGE, 2),
     ];
     for (words, input, output, message, status) in rows {
@@ -75,7 +76,7 @@ fn rows(rt: HostRuntime) -> Result<(), Fail> {
     Ok(())
 }
 
-// Gives this many zero bytes, then fails where it is told to, and else ends.
+// Gives this many digits `0`, then fails where it is told to, and else ends.
 #[derive(Drop)]
 struct Zeros {
     left: usize,
@@ -123,70 +124,140 @@ impl Write for Narrow {
     }
 }
 
+// A run over this many digits, with what is made to fail in it, and how it ends.
+#[derive(Clone, Copy)]
+struct Faulty {
+    word: &'static str,
+    digits: usize,
+    read_fails: bool,
+    room: usize,
+    flush_fails: bool,
+    message: &'static str,
+    written: usize,
+    status: u8,
+}
+
+// A run in which nothing fails.
+const SOUND: Faulty = Faulty {
+    word: "decode",
+    digits: 0,
+    read_fails: false,
+    room: usize::MAX,
+    flush_fails: false,
+    message: "",
+    written: 0,
+    status: 0,
+};
+
+const TOO_LONG: &str = "input too long\n";
+
+const READ_FAILED: &str = "read failed\n";
+
+const WRITE_FAILED: &str = "write failed\n";
+
 #[test]
 fn tells_a_fault_of_the_surroundings(rt: HostRuntime) -> Result<(), Fail> {
     let limit = INPUT_LIMIT;
     let rows = [
-        (
-            "decode",
-            limit + 1,
-            false,
-            usize::MAX,
-            false,
-            "input too long\n",
-            0,
-            3,
-        ),
-        (
-            "encode",
-            limit + 1,
-            false,
-            usize::MAX,
-            false,
-            "input too long\n",
-            0,
-            3,
-        ),
-        ("decode", 4, true, usize::MAX, false, "read failed\n", 0, 3),
-        (
-            "encode",
-            70_000,
-            true,
-            usize::MAX,
-            false,
-            "read failed\n",
-            0,
-            3,
-        ),
-        ("decode", 8, false, 3, false, "write failed\n", 3, 3),
-        ("encode", 2, false, 4, false, "write failed\n", 4, 3),
-        ("encode", 2, false, usize::MAX, true, "write failed\n", 5, 3),
-        ("decode", 140_000, false, usize::MAX, false, "", 70_000, 0),
-        (
-            "decode",
-            139_999,
-            false,
-            usize::MAX,
-            false,
-            "hex input length must be even\n",
-            0,
-            1,
-        ),
+        Faulty {
+            digits: limit + 1,
+            message: TOO_LONG,
+            status: 3,
+            ..SOUND
+        },
+        Faulty {
+            word: "encode",
+            digits: limit + 1,
+            message: TOO_LONG,
+            status: 3,
+            ..SOUND
+        },
+        Faulty {
+            digits: limit,
+            written: limit / 2,
+            ..SOUND
+        },
+        Faulty {
+            digits: 4,
+            read_fails: true,
+            message: READ_FAILED,
+            status: 3,
+            ..SOUND
+        },
+        Faulty {
+            word: "encode",
+            digits: 70_000,
+            read_fails: true,
+            message: READ_FAILED,
+            status: 3,
+            ..SOUND
+        },
+        Faulty {
+            digits: 8,
+            room: 3,
+            message: WRITE_FAILED,
+            written: 3,
+            status: 3,
+            ..SOUND
+        },
+        Faulty {
+            word: "encode",
+            digits: 2,
+            room: 4,
+            message: WRITE_FAILED,
+            written: 4,
+            status: 3,
+            ..SOUND
+        },
+        Faulty {
+            word: "encode",
+            digits: 2,
+            flush_fails: true,
+            message: WRITE_FAILED,
+            written: 5,
+            status: 3,
+            ..SOUND
+        },
+        Faulty {
+            digits: 140_000,
+            written: 70_000,
+            ..SOUND
+        },
+        Faulty {
+            digits: 139_999,
+            message: "hex input length must be even\n",
+            status: 1,
+            ..SOUND
+        },
     ];
-    for (word, left, fails, room, flush_fails, message, taken, status) in rows {
-        let mut input = Zeros { left, fails };
+    for row in &rows {
+        let mut input = Zeros {
+            left: row.digits,
+            fails: row.read_fails,
+        };
         let out = Narrow {
             taken: 0,
-            room,
-            flush_fails,
+            room: row.room,
+            flush_fails: row.flush_fails,
         };
-        let (answer, out, err) = serve(rt.alloc(), &[word], &mut input, out, Vec::new(rt.alloc()));
-        assert_eq!(rt; answer, status, "status of {word} on {left} bytes");
-        assert_eq!(rt; out.taken, taken, "output of {word} on {left} bytes");
+        let (answer, out, err) = serve(
+            rt.alloc(),
+            &[row.word],
+            &mut input,
+            out,
+            Vec::new(rt.alloc()),
+        );
+        let (word, digits) = (row.word, row.digits);
+        assert_eq!(rt; answer, row.status, "status of {word} on {digits} digits");
+        assert_eq!(rt;
+            out.taken,
+            row.written,
+            "output of {word} on {digits} digits"
+        );
         assert_eq!(rt;
             err.as_slice(),
-            message.as_bytes(),
-            "message of {word} on {left} bytes"
+            row.message.as_bytes(),
+            "message of {word} on {digits} digits"
         );
     }
     Ok(())

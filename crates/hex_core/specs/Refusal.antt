@@ -1,29 +1,33 @@
--- What a slice call refuses, in its order.
+-- What encoding and decoding refuse, each in its order.
 use Rattle.std.specs.Prelude.{◌≡◌, ◌<◌, ℕ, ◌*◌, ◌/◌, ◌%◌, ◌^◌, ◌==◌, nat_lt, nat_le, Bool, ◌&&◌, if◌then◌else◌, List, length, slice_index, Option, Some, None, option_map}
 use Rattle.hex_core.specs.declared.digit.CheckCase.{CheckCase}
 use Rattle.hex_core.specs.declared.error.Error.{Error}
 use Rattle.hex_core.specs.declared.error.Error.TheVariants.{InvalidChar, OutputTooSmall, LengthMismatch, OddLength, Overflow, OutOfMemory}
 use Rattle.hex_core.specs.Fault.{fault}
 
+-- the first fault as an error, with its index and its byte
+abbrev pub first_bad_char : CheckCase → List ℕ → Option Error
+first_bad_char c s = option_map (λ f. InvalidChar f (slice_index s f)) (fault c s)
+
 -- what decoding into this room refuses: an odd length, then too little room, then the first fault
 abbrev pub decode_refusal : CheckCase → List ℕ → ℕ → Option Error
 decode_refusal c s room =
     if length s % 2 == 1 then Some OddLength
     else if nat_lt room (length s / 2) then Some (OutputTooSmall (length s / 2))
-    else option_map (λ f. InvalidChar f (slice_index s f)) (fault c s)
+    else first_bad_char c s
 
 -- what decoding refuses where there is room: an odd length, then the first fault
 abbrev pub source_refusal : CheckCase → List ℕ → Option Error
 source_refusal c s =
     if length s % 2 == 1 then Some OddLength
-    else option_map (λ f. InvalidChar f (slice_index s f)) (fault c s)
+    else first_bad_char c s
 
 -- what decoding into an array of n bytes refuses: an odd length, then another length than the
 -- array's, then the first fault
 abbrev pub array_refusal : CheckCase → List ℕ → ℕ → Option Error
 array_refusal c s n =
     if length s % 2 == 1 then Some OddLength
-    else if length s / 2 == n then option_map (λ f. InvalidChar f (slice_index s f)) (fault c s)
+    else if length s / 2 == n then first_bad_char c s
     else Some (LengthMismatch n (length s / 2))
 
 -- an error of decoding into new memory: want of it, which only an even and nonempty source meets,

@@ -43,7 +43,7 @@ pub fn digit_value(byte: u8, case: CheckCase) -> Option<u8>
 }
 
 /// What a value table has for a byte with no value.
-pub const NIL: u8 = 255;
+pub(crate) const NIL: u8 = 255;
 
 static VALUES: [u8; 256] = [
     NIL, NIL, NIL, NIL, NIL, NIL, NIL, NIL, NIL, NIL, NIL, NIL, NIL, NIL, NIL, NIL, NIL, NIL, NIL,
@@ -119,7 +119,7 @@ static DIGITS_UPPER: [u8; 512] = *b"\
 ";
 
 /// Answers the table of every byte's value under `case`, with [`NIL`] where there is none.
-pub fn values_of(case: CheckCase) -> &'static [u8; 256]
+pub(crate) fn values_of(case: CheckCase) -> &'static [u8; 256]
     ensures { result.now ≡ value_table case }
 {
     match case {
@@ -130,7 +130,7 @@ pub fn values_of(case: CheckCase) -> &'static [u8; 256]
 }
 
 /// Answers the table of every byte's two digits, the high one first, byte after byte.
-pub fn digits_of(upper: bool) -> &'static [u8; 512]
+pub(crate) fn digit_pairs_of(upper: bool) -> &'static [u8; 512]
     ensures { result.now ≡ digits_table upper }
 {
     if upper { &DIGITS_UPPER } else { &DIGITS_LOWER }

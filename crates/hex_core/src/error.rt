@@ -22,8 +22,9 @@ use std::{error, fmt};
 /// | `OutOfMemory` | `out of memory` |
 ///
 /// ```rust
-/// let mut room = [0u8; 1];
-/// assert_eq!(rt; hex_decode(b"0011", &mut room), Err(Error::OutputTooSmall { required: 2 }));
+/// let [scalar, ..] = backends();
+/// let refused = scalar.decode_into(b"0011", &mut [0; 1], CheckCase::None);
+/// assert_eq!(rt; refused, Err(Error::OutputTooSmall { required: 2 }));
 /// ```
 #[derive(Clone, Copy, Debug, PartialEq, Eq, Hash)]
 pub enum Error {

@@ -49,7 +49,7 @@ pub fn backends() -> [Backend; 5]
 }
 
 impl Backend {
-    /// The plan of the calls that name none.
+    /// The plan of the calls that name none. Which plan that is, is no promise.
     pub const PLAIN: Backend = Backend(Kind::Scalar);
 
     /// Answers the plan's name: `scalar`, `sse41`, `avx2`, `avx512` or `neon`.
@@ -71,6 +71,11 @@ impl Backend {
     }
 
     /// Answers whether every byte of `src` has a value under `case`, whatever its length.
+    ///
+    /// ```rust
+    /// assert!(rt; Backend::PLAIN.check(b"00aBc", CheckCase::None));
+    /// assert!(rt; !Backend::PLAIN.check(b"00aBc", CheckCase::Lower));
+    /// ```
     pub fn check(self, src: &[u8], case: CheckCase) -> bool
         ensures { IsTrue result ↔ (fault case src.now ≡ None) }
     {
@@ -81,7 +86,15 @@ impl Backend {
         }
     }
 
-    /// Writes the text of `src` over the whole of `dst`, which is twice as long.
+    /// Writes the text of `src` over the whole of `dst`, in uppercase where `upper` is true.
+    ///
+    /// The caller shows that `dst` is exactly twice as long as `src`, in bytes.
+    ///
+    /// ```rust
+    /// let mut digits = [0; 4];
+    /// Backend::PLAIN.encode(&[0, 0xab], &mut digits, true);
+    /// assert_eq!(rt; &digits, b"00AB");
+    /// ```
     pub fn encode(self, src: &[u8], dst: &mut [u8], upper: bool)
         requires { length dst.old ≡ 2 * length src.now }
         ensures { dst.new ≡ text upper src.now }
@@ -106,9 +119,18 @@ impl Backend {
         }
     }
 
-    /// Writes the bytes that `src` spells over the whole of `dst`, which is half as long, and
-    /// answers whether every byte of `src` has a value under `case`. Where it answers false, `dst`
-    /// is as it was.
+    /// Writes the bytes that `src` spells over the whole of `dst`, and answers whether every byte of
+    /// `src` has a value under `case`. Where it answers false, `dst` is as it was.
+    ///
+    /// The caller shows that `src` is exactly twice as long as `dst`, in bytes.
+    ///
+    /// ```rust
+    /// let mut bytes = [0xa5; 2];
+    /// assert!(rt; !Backend::PLAIN.decode(b"00ag", &mut bytes, CheckCase::None));
+    /// assert_eq!(rt; bytes, [0xa5; 2]);
+    /// assert!(rt; Backend::PLAIN.decode(b"00ab", &mut bytes, CheckCase::None));
+    /// assert_eq!(rt; bytes, [0, 0xab]);
+    /// ```
     pub fn decode(self, src: &[u8], dst: &mut [u8], case: CheckCase) -> bool
         requires { length src.now ≡ 2 * length dst.old }
         ensures valid { IsTrue result ↔ (fault case src.now ≡ None) }
@@ -164,8 +186,8 @@ impl Backend {
         }
     }
 
-    // How many bytes the text of `len` bytes takes, or what encoding them into this room refuses.
-    fn encodable(src: &[u8], room: usize) -> Result<usize, Error>
+    // How many bytes the text of `src` takes, or what encoding it into this room refuses.
+    fn encoded_len(src: &[u8], room: usize) -> Result<usize, Error>
         ensures { MatchResult result
             (λ n. (encode_refusal src.now room ≡ None) × (n ≡ 2 * length src.now))
             (λ e. encode_refusal src.now room ≡ Some e) }
@@ -219,7 +241,23 @@ impl Backend {
         }
     }
 
-    /// Decodes `src` into the front of `dst` and answers how many bytes it wrote.
+    /// Decodes all of `src` into the front of `dst` and answers how many bytes it wrote,
+    /// `src.len() / 2`. The bytes behind them stay as they were.
+    ///
+    /// # Errors
+    ///
+    /// In this order, each of which leaves all of `dst` as it was:
+    ///
+    /// 1. [`Error::OddLength`] where `src` has an odd number of bytes;
+    /// 2. [`Error::OutputTooSmall`] where `dst` has fewer than `src.len() / 2` bytes;
+    /// 3. [`Error::InvalidChar`] with the first byte of `src` that `case` does not read, and its place
+    ///    in bytes.
+    ///
+    /// ```rust
+    /// let mut buffer = [0xa5; 3];
+    /// assert_eq!(rt; Backend::PLAIN.decode_into(b"00ab", &mut buffer, CheckCase::None), Ok(2));
+    /// assert_eq!(rt; buffer, [0, 0xab, 0xa5]);
+    /// ```
     pub fn decode_into(self, src: &[u8], dst: &mut [u8], case: CheckCase) -> Result<usize, Error>
         ensures answer { MatchResult result
             (λ n. (decode_refusal case src.now (length dst.old) ≡ None) × (n ≡ length src.now / 2))
@@ -232,7 +270,21 @@ impl Backend {
         Ok(written)
     }
 
-    /// Encodes `src` into the front of `dst` and answers how many bytes it wrote.
+    /// Encodes all of `src` into the front of `dst`, in uppercase where `upper` is true, and answers
+    /// how many bytes it wrote, `2 * src.len()`. The bytes behind them stay as they were.
+    ///
+    /// # Errors
+    ///
+    /// In this order, each of which leaves all of `dst` as it was:
+    ///
+    /// 1. [`Error::Overflow`] where `2 * src.len()` is no `usize`;
+    /// 2. [`Error::OutputTooSmall`] where `dst` has fewer than `2 * src.len()` bytes.
+    ///
+    /// ```rust
+    /// let mut buffer = [b'-'; 5];
+    /// assert_eq!(rt; Backend::PLAIN.encode_into(&[0, 0xab], &mut buffer, false), Ok(4));
+    /// assert_eq!(rt; &buffer, b"00ab-");
+    /// ```
     pub fn encode_into(self, src: &[u8], dst: &mut [u8], upper: bool) -> Result<usize, Error>
         ensures answer { MatchResult result
             (λ n. (encode_refusal src.now (length dst.old) ≡ None) × (n ≡ 2 * length src.now))
@@ -240,12 +292,30 @@ impl Backend {
         ensures ok { OnOk result (dst.new ≡ laid dst.old (text upper src.now)) }
         ensures err { OnErr result (dst.new ≡ dst.old) }
     {
-        let written = Backend::encodable(src, dst.len())?;
+        let written = Backend::encoded_len(src, dst.len())?;
         self.encode(src, &mut dst[..written], upper);
         Ok(written)
     }
 
-    /// Decodes `src` into the front of `dst` and answers that front, which borrows `dst` alone.
+    /// Decodes all of `src` into the front of `dst` and answers that front, `src.len() / 2` bytes,
+    /// which borrows `dst` alone. The bytes behind it stay as they were.
+    ///
+    /// # Errors
+    ///
+    /// In this order, each of which leaves all of `dst` as it was:
+    ///
+    /// 1. [`Error::OddLength`] where `src` has an odd number of bytes;
+    /// 2. [`Error::OutputTooSmall`] where `dst` has fewer than `src.len() / 2` bytes;
+    /// 3. [`Error::InvalidChar`] with the first byte of `src` that `case` does not read, and its place
+    ///    in bytes.
+    ///
+    /// ```rust
+    /// let [_, _, avx2, ..] = backends();
+    /// let mut buffer = [0xa5; 3];
+    /// let bytes = avx2.decode_slice(b"00ab", &mut buffer, CheckCase::None)?;
+    /// bytes[0] = 0xff;
+    /// assert_eq!(rt; buffer, [0xff, 0xab, 0xa5]);
+    /// ```
     pub fn decode_slice<'a>(
         self,
         src: &[u8],
@@ -262,7 +332,22 @@ impl Backend {
         self.decoded(src, lent, case)
     }
 
-    /// Encodes `src` into the front of `dst` and answers that front, which borrows `dst` alone.
+    /// Encodes all of `src` into the front of `dst`, in uppercase where `upper` is true, and answers
+    /// that front, `2 * src.len()` bytes, which borrows `dst` alone. The bytes behind it stay as they
+    /// were.
+    ///
+    /// # Errors
+    ///
+    /// In this order, each of which leaves all of `dst` as it was:
+    ///
+    /// 1. [`Error::Overflow`] where `2 * src.len()` is no `usize`;
+    /// 2. [`Error::OutputTooSmall`] where `dst` has fewer than `2 * src.len()` bytes.
+    ///
+    /// ```rust
+    /// let [_, _, avx2, ..] = backends();
+    /// let mut buffer = [0; 4];
+    /// assert_eq!(rt; avx2.encode_slice(&[0, 0xab], &mut buffer, true)?, b"00AB");
+    /// ```
     pub fn encode_slice<'a>(
         self,
         src: &[u8],
@@ -274,7 +359,7 @@ impl Backend {
             (λ r. (encode_refusal src.now (length dst.old) ≡ None) × (r.now ≡ text upper src.now))
             (λ e. encode_refusal src.now (length dst.old) ≡ Some e) }
     {
-        let answer = Backend::encodable(src, dst.len());
+        let answer = Backend::encoded_len(src, dst.len());
         let lent = lend_accepted(dst, answer);
         self.encoded(src, lent, upper)
     }

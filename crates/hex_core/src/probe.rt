@@ -22,12 +22,16 @@ const BLOCK: usize = 64;
 /// assert_eq!(rt; (probe.looks(), probe.tests()), (1, 1));
 /// ```
 pub trait Probe {
+    // The bytes of the source.
     ghost source: { Self → List ℕ };
 
+    // The policy under which a byte has a value.
     ghost policy: { Self → CheckCase };
 
+    // The block: how many bytes the widest test takes.
     ghost widest: { Self → ℕ };
 
+    // How many looks, and how many tests, were made.
     ghost look_count: { Self → ℕ };
 
     ghost test_count: { Self → ℕ };

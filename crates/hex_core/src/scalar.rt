@@ -4,7 +4,7 @@ ghost use Rattle.std.specs.Prelude.{◌≡◌, ◌+◌, ◌*◌, ◌<◌, ◌↔
 ghost use Rattle.hex_core.specs.Fault.{fault};
 ghost use Rattle.hex_core.specs.Text.{Spells, text};
 
-use crate::digit::{CheckCase, NIL, digits_of, values_of};
+use crate::digit::{CheckCase, NIL, digit_pairs_of, values_of};
 
 // How many bytes are looked up between two tests.
 const BLOCK: usize = 64;
@@ -60,7 +60,7 @@ pub fn write_text(src: &[u8], dst: &mut [u8], upper: bool)
     requires { length dst.old ≡ 2 * length src.now }
     ensures { dst.new ≡ text upper src.now }
 {
-    let digits = digits_of(upper);
+    let digits = digit_pairs_of(upper);
     'digits: for i in 0..src.len() {
         let at = 2 * (src[i] as usize);
         dst[2 * i] = digits[at];

@@ -38,9 +38,8 @@ fn arbitrary_bytes_and_independent_lengths(rt: HostRuntime) {
                             want,
                             "length {len} from {start}, room {room}, {case:?}"
                         );
-                        assert_eq!(rt;
-                            dst,
-                            after,
+                        assert!(rt;
+                            dst == after,
                             "length {len} from {start}, room {room}, {case:?}"
                         );
                     }
@@ -142,7 +141,7 @@ fn public_and_scalar_paths_agree(rt: HostRuntime) {
                 Ok(&by_plan[..2 * len]),
                 "length {len}, upper {upper}"
             );
-            assert_eq!(rt; plain, by_plan, "length {len}, upper {upper}");
+            assert!(rt; plain == by_plan, "length {len}, upper {upper}");
             let mut by_plan = [FILL; 4096];
             let mut decoded = [FILL; 4096];
             let source = &plain[..2 * len];
@@ -156,7 +155,7 @@ fn public_and_scalar_paths_agree(rt: HostRuntime) {
                 Ok(bytes),
                 "length {len}, upper {upper}"
             );
-            assert_eq!(rt; decoded, by_plan, "length {len}, upper {upper}");
+            assert!(rt; decoded == by_plan, "length {len}, upper {upper}");
         }
     }
 }

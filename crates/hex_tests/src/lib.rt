@@ -1,4 +1,4 @@
-//! Tests that cross the crates: worked rows as tables, and the tests carried from the Rust crate.
+//! Tests that cross the crates: rows of inputs and their answers, and the tests of the Rust crate, written anew.
 #![tactic(auto)]
 
 #[cfg(test)]

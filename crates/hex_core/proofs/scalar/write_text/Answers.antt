@@ -5,7 +5,7 @@ use Rattle.hex_core.proofs.TextLemmas.{text-more}
 use Rattle.hex_core.proofs.scalar.write_text.Goals as goal
 
 pub digits-preserved : goal.digits-preserved
-digits-preserved c = text-more c.args.upper _ c.args.src.now c.digits.dst c.digits.i c.digits_of-digits.ensures (c.type_inv.src c.digits.i).fits (omega arith) (c.digits.auto.dst ∙ c.requires) c.digits.invariant
+digits-preserved c = text-more c.args.upper _ c.args.src.now c.digits.dst c.digits.i c.digit_pairs_of-digits.ensures (c.type_inv.src c.digits.i).fits (omega arith) (c.digits.auto.dst ∙ c.requires) c.digits.invariant
 
 pub digits-init : goal.digits-init
 digits-init c = refl

@@ -6,8 +6,8 @@ use Rattle.hex_core.proofs.Refused.{encode_fits}
 use Rattle.hex_core.specs.Loan.{LendsAnswer}
 use Rattle.hex_core.specs.Refusal.{encode_refusal}
 use Rattle.hex_core.specs.Text.{text}
-use Rattle.hex_core.specs.contracts.plan.Backend.encodable as g
-use Rattle.hex_core.proofs.plan.Backend.encodable.Met as g_met
+use Rattle.hex_core.specs.contracts.plan.Backend.encoded_len as g
+use Rattle.hex_core.proofs.plan.Backend.encoded_len.Met as g_met
 use Rattle.hex_core.specs.contracts.lend.lend_accepted as h
 use Rattle.hex_core.proofs.lend.lend_accepted.Met as h_met
 use Rattle.hex_core.specs.contracts.plan.Backend.encoded as k
@@ -67,7 +67,7 @@ encode_slice_spec 𝓤 𝓛 𝓜 𝓡 wired =
     let G = triple_of 𝓛 g.signature (g.spec 𝓛 𝓜.mem 𝓡.returns) in
     let z : G.Ghost = (((κ₀, tt), (q₀, tt), tt, (src, (length xs, tt)), (shr_slice_vals src, (vint w64 (length xs) ∷ [], tt))), tt) in
     nothing ! $ owned ! usize _ (uint_Makes 𝓛 w64) (length xs) (vint w64 (length xs) ∷ []) (refl, rm.0) $ fjoin ! $ move ! (1 ∷ 0 ∷ []) $ fjoin ! $ nothing ! $ move ! (4 ∷ 0 ∷ []) $ join ! $ join ! $ nothing ! $ move ! (1 ∷ 0 ∷ []) $ use2 𝓛 (raw (G.pre z)) (id⊢ 𝓤 _) $
-    calls_at ! framed_calls G (g_met.met 𝓤 𝓛 𝓜 𝓡 (code.calls-hex_core::plan::Backend::encodable 𝓡.env wired)) z (and_then ! (get ! refl) (and_then ! (get ! refl) (no_more !))) (λ v.
+    calls_at ! framed_calls G (g_met.met 𝓤 𝓛 𝓜 𝓡 (code.calls-hex_core::plan::Backend::encoded_len 𝓡.env wired)) z (and_then ! (get ! refl) (and_then ! (get ! refl) (no_more !))) (λ v.
     use1 𝓛 (later (some (λ (u : Counted.Denot). ((‵ (flft κ₀ q₀) ⊛ ‵ ftrue) ⊛ ‵ (Counted.own_val u (v ∷ []))) ⊛ some (λ (ws : Lasts g.ended z.0.0 z.0.3). ‵ (lasts g.ended z.0.0 z.0.3 ws) ⊛ raw (fact 𝓤 (Accepts s (length xs) u)))))) (id⊢ 𝓤 _) $
     await ! tt $ pick ! (λ u. split ! $ split ! $ split ! $ move ! (2 ∷ []) $ peeks ! Counted (Is Counted) (shows 𝓛 Counted) u (v ∷ []) (λ is_u. lands_as ! refl refl ((counted_lawful 𝓛).typed u (v ∷ []) is_u).0 $
     move ! (3 ∷ []) $ pick ! (λ ws. split ! $ drop ! $ heard ! _ (λ accepts.
