@@ -18,8 +18,10 @@ use faster_hex::{
 /// The caller's proof knows the whole buffer: what the digits spell but for the first byte, and
 /// behind it the old bytes.
 pub fn decode_and_mark(src: &[u8], buffer: &mut [u8]) -> Result<(), Error>
-    ensures ok { OnOk result ((bytes : List ℕ) × Spells policy.None src.now bytes × (buffer.new ≡ laid buffer.old (slice_set bytes 0 255))) }
-    ensures err { IfErr result (λ e. decode_refusal policy.None src.now (length buffer.old) ≡ Some e) }
+    ensures ok { OnOk result ((bytes : List ℕ) × Spells policy.None src.now bytes
+        × (buffer.new ≡ laid buffer.old (slice_set bytes 0 255))) }
+    ensures err { IfErr result
+        (λ e. decode_refusal policy.None src.now (length buffer.old) ≡ Some e) }
     ensures unchanged { OnErr result (buffer.new ≡ buffer.old) }
 {
     let written = hex_decode_into(src, buffer, CheckCase::None)?;
@@ -49,13 +51,13 @@ pub fn digest_text(digest: &[u8; 32]) -> [u8; 64]
     digits
 }
 
-/// Writes an identifier's digits into the front of a record, where they fit.
-pub fn write_identifier(id: &[u8], record: &mut [u8]) -> bool
-    ensures fits { IsTrue result ↔ IsTrue (encodable id.now (length record.old)) }
-    ensures written { OnTrue result (record.new ≡ laid record.old (text true id.now)) }
-    ensures unchanged { OnFalse result (record.new ≡ record.old) }
+/// Writes an identifier's digits into the front of a line, where they fit.
+pub fn write_identifier(id: &[u8], line: &mut [u8]) -> bool
+    ensures fits { IsTrue result ↔ IsTrue (encodable id.now (length line.old)) }
+    ensures written { OnTrue result (line.new ≡ laid line.old (text true id.now)) }
+    ensures unchanged { OnFalse result (line.new ≡ line.old) }
 {
-    hex_encode_into(id, record, true).is_ok()
+    hex_encode_into(id, line, true).is_ok()
 }
 
 /// Whether a key is one that this store hands out: 16 digits of either case.

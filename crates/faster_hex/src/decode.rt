@@ -51,8 +51,8 @@ pub fn hex_check_with_case(src: &[u8], case: CheckCase) -> bool
 ///
 /// # Errors
 ///
-/// In this order, each of which leaves all of `dst` as it was, also where the bad byte stands behind
-/// a long good beginning:
+/// In this order, each of which leaves all of `dst` as it was, also where the bad byte stands
+/// behind a long good beginning:
 ///
 /// 1. [`Error::OddLength`] where `src` has an odd number of bytes;
 /// 2. [`Error::OutputTooSmall`] where `dst` has fewer than `src.len() / 2` bytes;
@@ -67,21 +67,22 @@ pub fn hex_check_with_case(src: &[u8], case: CheckCase) -> bool
 pub fn hex_decode<'a>(src: &[u8], dst: &'a mut [u8]) -> Result<&'a mut [u8], Error>
     ensures* lends { sem 𝓛 (LendsAnswer dst.entry result) }
     ensures answer { MatchResult result
-        (λ r. (decode_refusal policy.None src.now (length dst.old) ≡ None) × Spells policy.None src.now r.now)
+        (λ r. (decode_refusal policy.None src.now (length dst.old) ≡ None)
+        × Spells policy.None src.now r.now)
         (λ e. decode_refusal policy.None src.now (length dst.old) ≡ Some e) }
 {
     hex_decode_with_case(src, dst, CheckCase::None)
 }
 
-/// Decodes all of `src` into the front of `dst`, reading the letters that `case` admits, and answers
-/// that front.
+/// Decodes all of `src` into the front of `dst`, reading the letters that `case` admits, and
+/// answers that front.
 ///
 /// Lengths, the borrow and the order of the errors are those of [`hex_decode`].
 ///
 /// # Errors
 ///
-/// Those of [`hex_decode`]. A letter that `case` does not read is an [`Error::InvalidChar`], and the
-/// first such byte is named, whatever stands behind it.
+/// Those of [`hex_decode`]. A letter that `case` does not read is an [`Error::InvalidChar`], and
+/// the first such byte is named, whatever stands behind it.
 ///
 /// ```rust
 /// let mut buffer = [0; 2];
@@ -124,7 +125,8 @@ pub fn hex_decode_into(src: &[u8], dst: &mut [u8], case: CheckCase) -> Result<us
     ensures answer { MatchResult result
         (λ n. (decode_refusal case src.now (length dst.old) ≡ None) × (n ≡ length src.now / 2))
         (λ e. decode_refusal case src.now (length dst.old) ≡ Some e) }
-    ensures ok { OnOk result ((bytes : List ℕ) × Spells case src.now bytes × (dst.new ≡ laid dst.old bytes)) }
+    ensures ok { OnOk result ((bytes : List ℕ) × Spells case src.now bytes
+        × (dst.new ≡ laid dst.old bytes)) }
     ensures err { OnErr result (dst.new ≡ dst.old) }
 {
     Backend::PLAIN.decode_into(src, dst, case)

@@ -159,7 +159,8 @@ pub fn hex_append_into<A: Allocator>(
     ensures answer { MatchResult result
         (λ _. string_len dst.old + 2 * length src.now < 2 ^ 64)
         (λ e. AppendFailure (string_len dst.old) src.now e) }
-    ensures appended { AppendsText result (string_bytes dst.old) (text upper src.now) (string_bytes dst.new) }
+    ensures appended { AppendsText result (string_bytes dst.old) (text upper src.now)
+        (string_bytes dst.new) }
 {
     let Some(added) = src.len().checked_mul(2) else {
         return Err(Error::Overflow);
@@ -193,9 +194,12 @@ pub fn hex_append_into<A: Allocator>(
 /// assert_eq!(rt; text.as_str(), "hash: abcd");
 /// ```
 pub fn hex_append<'a, A: Allocator>(src: &[u8], dst: &'a mut String<A>) -> Result<&'a str, Error>
-    ensures* after_borrow { sem 𝓛 (Rests (the_row A.row A.Allocator) dst.entry (λ new. AppendsText result (string_bytes dst.old) (text false src.now) (string_bytes new))) }
+    ensures* after_borrow { sem 𝓛 (Rests (the_row A.row A.Allocator) dst.entry
+        (λ new. AppendsText result (string_bytes dst.old) (text false src.now)
+        (string_bytes new))) }
     ensures answer { MatchResult result
-        (λ suffix. (string_len dst.old + 2 * length src.now < 2 ^ 64) × (suffix.now ≡ text false src.now))
+        (λ suffix. (string_len dst.old + 2 * length src.now < 2 ^ 64)
+        × (suffix.now ≡ text false src.now))
         (λ e. AppendFailure (string_len dst.old) src.now e) }
 {
     append_in(dst, src, false)
@@ -218,9 +222,11 @@ pub fn hex_append_upper<'a, A: Allocator>(
     src: &[u8],
     dst: &'a mut String<A>,
 ) -> Result<&'a str, Error>
-    ensures* after_borrow { sem 𝓛 (Rests (the_row A.row A.Allocator) dst.entry (λ new. AppendsText result (string_bytes dst.old) (text true src.now) (string_bytes new))) }
+    ensures* after_borrow { sem 𝓛 (Rests (the_row A.row A.Allocator) dst.entry
+        (λ new. AppendsText result (string_bytes dst.old) (text true src.now) (string_bytes new))) }
     ensures answer { MatchResult result
-        (λ suffix. (string_len dst.old + 2 * length src.now < 2 ^ 64) × (suffix.now ≡ text true src.now))
+        (λ suffix. (string_len dst.old + 2 * length src.now < 2 ^ 64)
+        × (suffix.now ≡ text true src.now))
         (λ e. AppendFailure (string_len dst.old) src.now e) }
 {
     append_in(dst, src, true)
@@ -252,9 +258,12 @@ fn append_in<'a, A: Allocator>(
     src: &[u8],
     upper: bool,
 ) -> Result<&'a str, Error>
-    ensures* after_borrow { sem 𝓛 (Rests (the_row A.row A.Allocator) dst.entry (λ new. AppendsText result (string_bytes dst.old) (text upper src.now) (string_bytes new))) }
+    ensures* after_borrow { sem 𝓛 (Rests (the_row A.row A.Allocator) dst.entry
+        (λ new. AppendsText result (string_bytes dst.old) (text upper src.now)
+        (string_bytes new))) }
     ensures answer { MatchResult result
-        (λ suffix. (string_len dst.old + 2 * length src.now < 2 ^ 64) × (suffix.now ≡ text upper src.now))
+        (λ suffix. (string_len dst.old + 2 * length src.now < 2 ^ 64)
+        × (suffix.now ≡ text upper src.now))
         (λ e. AppendFailure (string_len dst.old) src.now e) }
 {
     // The clause of `as_bytes` ties this length to the bytes; that of the string's `len` does not.
@@ -283,8 +292,8 @@ fn append_reserved<A: Allocator>(dst: &mut String<A>, src: &[u8], upper: bool)
     }
 }
 
-// A string that is lent hands out no room to write into, so its text grows by pieces, encoded into a
-// buffer on the stack and copied once.
+// A string that is lent hands out no room to write into, so its text grows by pieces, encoded into
+// a buffer on the stack and copied once.
 pub(crate) const PIECE: usize = 256;
 
 // How many digits a whole piece has.

@@ -12,8 +12,8 @@ use crate::encode::hex_encode_into;
 use crate::sink::{Sink, SinkFault};
 use std::{fmt, str};
 
-// How many source bytes are encoded at a time, and up to how many a smaller buffer serves, so that a
-// digest does not pay for the large one.
+// How many source bytes are encoded at a time, and up to how many a smaller buffer serves, so that
+// a digest does not pay for the large one.
 const CHUNK: usize = 512;
 
 const SHORT: usize = 64;

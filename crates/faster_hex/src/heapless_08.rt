@@ -10,8 +10,8 @@ use crate::encode::{PIECE, PIECE_DIGITS, piece_text};
 use arrayvec::ArrayString;
 use hex_core::Error;
 
-/// Encodes all of `src` as a text of lowercase digits, `2 * src.len()` bytes long, with room for `N`
-/// bytes.
+/// Encodes all of `src` as a text of lowercase digits, `2 * src.len()` bytes long, with room for
+/// `N` bytes.
 ///
 /// The empty source gives the empty text, also where `N` is 0. Room that is left stays free in the
 /// answer.
@@ -35,8 +35,8 @@ pub fn hex_string<const N: usize>(src: &[u8]) -> Result<ArrayString<N>, Error>
     string_of(src, false)
 }
 
-/// Encodes all of `src` as a text of uppercase digits, `2 * src.len()` bytes long, with room for `N`
-/// bytes.
+/// Encodes all of `src` as a text of uppercase digits, `2 * src.len()` bytes long, with room for
+/// `N` bytes.
 ///
 /// # Errors
 ///

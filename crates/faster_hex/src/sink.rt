@@ -36,9 +36,11 @@ pub trait Sink {
     fn put(&mut self, piece: &[u8]) -> Result<usize, SinkFault>
         requires { failure_count self.old < 2 ^ 64 - 1 }
         ensures bound { IfOk result (λ n. n ≤ length piece.now) }
-        ensures ok { IfOk result (λ n. Appends (taken self.old) (taken self.new) (take n piece.now)) }
+        ensures ok { IfOk result
+            (λ n. Appends (taken self.old) (taken self.new) (take n piece.now)) }
         ensures err { OnErr result (AppendsBeginning (taken self.old) (taken self.new) piece.now) }
-        ensures counted { failure_count self.new ≡ failure_count self.old + faults_of result piece.now };
+        ensures counted { failure_count self.new
+            ≡ failure_count self.old + faults_of result piece.now };
 }
 
 /// A sink over a slice: it fills the slice from its front, and refuses once it is full.
@@ -103,15 +105,20 @@ impl Sink for SliceSink<'_> {
     fn put(&mut self, piece: &[u8]) -> Result<usize, SinkFault>
         requires { slice_failures self.old < 2 ^ 64 - 1 }
         ensures bound { IfOk result (λ n. n ≤ length piece.now) }
-        ensures ok { IfOk result (λ n. Appends (Some (written_bytes self.old)) (Some (written_bytes self.new)) (take n piece.now)) }
-        ensures err { OnErr result (AppendsBeginning (Some (written_bytes self.old)) (Some (written_bytes self.new)) piece.now) }
-        ensures counted { slice_failures self.new ≡ slice_failures self.old + faults_of result piece.now }
+        ensures ok { IfOk result
+            (λ n. Appends (Some (written_bytes self.old)) (Some (written_bytes self.new))
+            (take n piece.now)) }
+        ensures err { OnErr result (AppendsBeginning (Some (written_bytes self.old))
+            (Some (written_bytes self.new)) piece.now) }
+        ensures counted { slice_failures self.new
+            ≡ slice_failures self.old + faults_of result piece.now }
         // All that fits is taken, and the rest stays free.
         ensures fits { IfOk result (λ n. n ≡ min (length piece.now) (free_len self.old)) }
         ensures room { IfOk result (λ n. free_len self.new ≡ free_len self.old - n) }
         // A refusal takes nothing.
         ensures full { IsErr result ↔ ((0 < length piece.now) × (free_len self.old ≡ 0)) }
-        ensures unchanged { OnErr result ((written_bytes self.new ≡ written_bytes self.old) × (free_len self.new ≡ 0)) }
+        ensures unchanged { OnErr result ((written_bytes self.new ≡ written_bytes self.old)
+            × (free_len self.new ≡ 0)) }
     {
         let free = self.buf.len() - self.used;
         if free == 0 && !piece.is_empty() {
@@ -191,11 +198,16 @@ impl<W: Write> Sink for WriterSink<W> {
     fn put(&mut self, piece: &[u8]) -> Result<usize, SinkFault>
         requires { writer_failures self.old < 2 ^ 64 - 1 }
         ensures bound { IfOk result (λ n. n ≤ length piece.now) }
-        ensures ok { IfOk result (λ n. Appends (W.contents (writer_of self.old)) (W.contents (writer_of self.new)) (take n piece.now)) }
-        ensures err { OnErr result (AppendsBeginning (W.contents (writer_of self.old)) (W.contents (writer_of self.new)) piece.now) }
-        ensures counted { writer_failures self.new ≡ writer_failures self.old + faults_of result piece.now }
+        ensures ok { IfOk result
+            (λ n. Appends (W.contents (writer_of self.old)) (W.contents (writer_of self.new))
+            (take n piece.now)) }
+        ensures err { OnErr result (AppendsBeginning (W.contents (writer_of self.old))
+            (W.contents (writer_of self.new)) piece.now) }
+        ensures counted { writer_failures self.new
+            ≡ writer_failures self.old + faults_of result piece.now }
         // A refusal takes nothing and keeps the writer's error.
-        ensures unchanged { OnErr result (Keeps (W.contents (writer_of self.old)) (W.contents (writer_of self.new))) }
+        ensures unchanged { OnErr result (Keeps (W.contents (writer_of self.old))
+            (W.contents (writer_of self.new))) }
         ensures error { OnErr result (IsSome (kept_error self.new)) }
         ensures no_error { OnOk result (kept_error self.new ≡ kept_error self.old) }
     {

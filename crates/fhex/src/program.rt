@@ -110,7 +110,8 @@ impl fmt::Display for Failure {
 
 // Reads all of the input, of at most the limit. No error is retried.
 fn read_input<A: Allocator + Drop, R: Read>(alloc: A, input: &mut R) -> Result<Vec<u8, A>, Failure>
-    ensures read { IfOk result (λ v. Consumes (R.remaining input.old) (R.remaining input.new) v.items) }
+    ensures read { IfOk result
+        (λ v. Consumes (R.remaining input.old) (R.remaining input.new) v.items) }
     ensures ended { OnOk result (IsAtEnd (R.remaining input.new)) }
     ensures limit { IfOk result (λ v. vec_len v ≤ INPUT_LIMIT) }
     ensures err { IfErr result (λ f. status_of f ≡ 3) }
@@ -144,7 +145,8 @@ fn digits_in(input: &[u8]) -> &[u8]
 // Puts the text of the input, and a newline. No memory is taken.
 fn encode<S: Sink>(input: &[u8], sink: &mut S) -> Result<(), Failure>
     requires { S.failure_count sink.old < 2 ^ 64 - 1 }
-    ensures ok { OnOk result (Appends (S.taken sink.old) (S.taken sink.new) (text false input.now ++ 10 ∷ [])) }
+    ensures ok { OnOk result (Appends (S.taken sink.old) (S.taken sink.new)
+        (text false input.now ++ 10 ∷ [])) }
     ensures err { IfErr result (λ f. status_of f ≡ 3) }
 {
     if Hex::new(input)
@@ -162,8 +164,12 @@ fn encode<S: Sink>(input: &[u8], sink: &mut S) -> Result<(), Failure>
 // Puts the bytes that the input spells, or refuses it. All are collected before the first put.
 fn decode<A: Allocator + Drop, S: Sink>(alloc: A, input: &[u8], sink: &mut S) -> Result<(), Failure>
     requires { S.failure_count sink.old < 2 ^ 64 - 1 }
-    ensures ok { OnOk result ((bytes : List ℕ) × Spells policy.None (without_newline input.now) bytes × Appends (S.taken sink.old) (S.taken sink.new) bytes) }
-    ensures err { IfErr result (λ f. IsRefusalOf (source_refusal policy.None (without_newline input.now)) (S.taken sink.old) (S.taken sink.new) f) }
+    ensures ok { OnOk result ((bytes : List ℕ)
+        × Spells policy.None (without_newline input.now) bytes
+        × Appends (S.taken sink.old) (S.taken sink.new) bytes) }
+    ensures err { IfErr result
+        (λ f. IsRefusalOf (source_refusal policy.None (without_newline input.now))
+        (S.taken sink.old) (S.taken sink.new) f) }
 {
     match hex_decode_vec_with_case(alloc, digits_in(input), CheckCase::None) {
         Ok(bytes) => match put_all(sink, bytes.as_slice()) {
@@ -183,8 +189,10 @@ fn run<A: Allocator + Drop, S: Sink>(
     sink: &mut S,
 ) -> Result<(), Failure>
     requires { S.failure_count sink.old < 2 ^ 64 - 1 }
-    ensures ok { OnOk result ((output : List ℕ) × IsOutput op input.now output × Appends (S.taken sink.old) (S.taken sink.new) output) }
-    ensures err { IfErr result (λ f. IsRefusalOf (op_refusal op input.now) (S.taken sink.old) (S.taken sink.new) f) }
+    ensures ok { OnOk result ((output : List ℕ) × IsOutput op input.now output
+        × Appends (S.taken sink.old) (S.taken sink.new) output) }
+    ensures err { IfErr result
+        (λ f. IsRefusalOf (op_refusal op input.now) (S.taken sink.old) (S.taken sink.new) f) }
 {
     match op {
         Op::Encode => encode(input, sink),
@@ -199,9 +207,11 @@ fn ask<'a, A: Allocator, R: Read>(
     input: &mut R,
 ) -> Result<(Op, Vec<u8, &'a A>), Failure>
     ensures named { IfOk result (λ asked. op_of_words (map (λ w. w.now) words.now) ≡ Some asked.0) }
-    ensures read { IfOk result (λ asked. Consumes (R.remaining input.old) (R.remaining input.new) asked.1.items) }
+    ensures read { IfOk result
+        (λ asked. Consumes (R.remaining input.old) (R.remaining input.new) asked.1.items) }
     ensures ended { OnOk result (IsAtEnd (R.remaining input.new)) }
-    ensures err { IfErr result (λ f. MatchOption (op_of_words (map (λ w. w.now) words.now)) (f ≡ Failure.Usage) (λ _. status_of f ≡ 3)) }
+    ensures err { IfErr result (λ f. MatchOption (op_of_words (map (λ w. w.now) words.now))
+        (f ≡ Failure.Usage) (λ _. status_of f ≡ 3)) }
 {
     let Some(op) = Op::from_words(words) else {
         return Err(Failure::Usage);
@@ -225,8 +235,8 @@ fn finish<W: Write>(out: &mut W, ran: Result<(), Failure>) -> Result<(), Failure
     }
 }
 
-/// Writes the line of a failure to `err` and answers the failure's status. A fault of `err` does not
-/// change it.
+/// Writes the line of a failure to `err` and answers the failure's status. A fault of `err` does
+/// not change it.
 pub fn refuse<E: Write>(err: &mut E, failure: Failure) -> u8
     ensures { result ≡ status_of failure }
 {
@@ -258,10 +268,14 @@ pub fn serve_in<A: Allocator, R: Read, W: Write, E: Write>(
     out: W,
     err: E,
 ) -> (u8, W, E)
-    ensures done { (op : OpValue) → op_of_words (map (λ w. w.now) words.now) ≡ Some op → result.0 ≡ 0
-        → Served op (R.remaining input.old) (R.remaining input.new) (W.contents out) (W.contents result.1) }
-    ensures refused { (op : OpValue) → op_of_words (map (λ w. w.now) words.now) ≡ Some op → result.0 ≡ 1
-        → Refused op (R.remaining input.old) (R.remaining input.new) (W.contents out) (W.contents result.1) }
+    ensures done { (op : OpValue) → op_of_words (map (λ w. w.now) words.now) ≡ Some op
+        → result.0 ≡ 0
+        → Served op (R.remaining input.old) (R.remaining input.new) (W.contents out)
+        (W.contents result.1) }
+    ensures refused { (op : OpValue) → op_of_words (map (λ w. w.now) words.now) ≡ Some op
+        → result.0 ≡ 1
+        → Refused op (R.remaining input.old) (R.remaining input.new) (W.contents out)
+        (W.contents result.1) }
 {
     let mut err = err;
     let (op, source) = match ask(alloc, words, input) {
@@ -298,10 +312,14 @@ pub fn serve<R: Read, W: Write, E: Write>(
     out: W,
     err: E,
 ) -> (u8, W, E)
-    ensures done { (op : OpValue) → op_of_words (map (λ w. w.now) words.now) ≡ Some op → result.0 ≡ 0
-        → Served op (R.remaining input.old) (R.remaining input.new) (W.contents out) (W.contents result.1) }
-    ensures refused { (op : OpValue) → op_of_words (map (λ w. w.now) words.now) ≡ Some op → result.0 ≡ 1
-        → Refused op (R.remaining input.old) (R.remaining input.new) (W.contents out) (W.contents result.1) }
+    ensures done { (op : OpValue) → op_of_words (map (λ w. w.now) words.now) ≡ Some op
+        → result.0 ≡ 0
+        → Served op (R.remaining input.old) (R.remaining input.new) (W.contents out)
+        (W.contents result.1) }
+    ensures refused { (op : OpValue) → op_of_words (map (λ w. w.now) words.now) ≡ Some op
+        → result.0 ≡ 1
+        → Refused op (R.remaining input.old) (R.remaining input.new) (W.contents out)
+        (W.contents result.1) }
 {
     serve_in(&alloc, words, input, out, err)
 }

@@ -119,8 +119,8 @@ impl Backend {
         }
     }
 
-    /// Writes the bytes that `src` spells over the whole of `dst`, and answers whether every byte of
-    /// `src` has a value under `case`. Where it answers false, `dst` is as it was.
+    /// Writes the bytes that `src` spells over the whole of `dst`, and answers whether every byte
+    /// of `src` has a value under `case`. Where it answers false, `dst` is as it was.
     ///
     /// The caller shows that `src` is exactly twice as long as `dst`, in bytes.
     ///
@@ -208,8 +208,10 @@ impl Backend {
         lent: Result<&'a mut [u8], Error>,
         case: CheckCase,
     ) -> Result<&'a mut [u8], Error>
-        requires { IfOk lent (λ r. (length src.now ≡ 2 * length r.now) × (fault case src.now ≡ None)) }
-        ensures ok { IfOk lent.entry (λ r. IsOkAnd result (λ s. (s.ghost_name ≡ r.ghost_name) × Spells case src.now s.now)) }
+        requires { IfOk lent (λ r. (length src.now ≡ 2 * length r.now)
+            × (fault case src.now ≡ None)) }
+        ensures ok { IfOk lent.entry (λ r. IsOkAnd result (λ s. (s.ghost_name ≡ r.ghost_name)
+            × Spells case src.now s.now)) }
         ensures err { IfErr lent.entry (λ e. result ≡ Err e) }
     {
         match lent {
@@ -229,7 +231,8 @@ impl Backend {
         upper: bool,
     ) -> Result<&'a mut [u8], Error>
         requires { IfOk lent (λ r. length r.now ≡ 2 * length src.now) }
-        ensures ok { IfOk lent.entry (λ r. IsOkAnd result (λ s. (s.ghost_name ≡ r.ghost_name) × (s.now ≡ text upper src.now))) }
+        ensures ok { IfOk lent.entry (λ r. IsOkAnd result (λ s. (s.ghost_name ≡ r.ghost_name)
+            × (s.now ≡ text upper src.now))) }
         ensures err { IfErr lent.entry (λ e. result ≡ Err e) }
     {
         match lent {
@@ -250,8 +253,8 @@ impl Backend {
     ///
     /// 1. [`Error::OddLength`] where `src` has an odd number of bytes;
     /// 2. [`Error::OutputTooSmall`] where `dst` has fewer than `src.len() / 2` bytes;
-    /// 3. [`Error::InvalidChar`] with the first byte of `src` that `case` does not read, and its place
-    ///    in bytes.
+    /// 3. [`Error::InvalidChar`] with the first byte of `src` that `case` does not read, and its
+    ///    place in bytes.
     ///
     /// ```rust
     /// let mut buffer = [0xa5; 3];
@@ -262,7 +265,8 @@ impl Backend {
         ensures answer { MatchResult result
             (λ n. (decode_refusal case src.now (length dst.old) ≡ None) × (n ≡ length src.now / 2))
             (λ e. decode_refusal case src.now (length dst.old) ≡ Some e) }
-        ensures ok { OnOk result ((bytes : List ℕ) × Spells case src.now bytes × (dst.new ≡ laid dst.old bytes)) }
+        ensures ok { OnOk result ((bytes : List ℕ) × Spells case src.now bytes
+            × (dst.new ≡ laid dst.old bytes)) }
         ensures err { OnErr result (dst.new ≡ dst.old) }
     {
         let written = self.accepted(src, dst.len(), case)?;
@@ -270,8 +274,8 @@ impl Backend {
         Ok(written)
     }
 
-    /// Encodes all of `src` into the front of `dst`, in uppercase where `upper` is true, and answers
-    /// how many bytes it wrote, `2 * src.len()`. The bytes behind them stay as they were.
+    /// Encodes all of `src` into the front of `dst`, in uppercase where `upper` is true, and
+    /// answers how many bytes it wrote, `2 * src.len()`. The bytes behind them stay as they were.
     ///
     /// # Errors
     ///
@@ -306,8 +310,8 @@ impl Backend {
     ///
     /// 1. [`Error::OddLength`] where `src` has an odd number of bytes;
     /// 2. [`Error::OutputTooSmall`] where `dst` has fewer than `src.len() / 2` bytes;
-    /// 3. [`Error::InvalidChar`] with the first byte of `src` that `case` does not read, and its place
-    ///    in bytes.
+    /// 3. [`Error::InvalidChar`] with the first byte of `src` that `case` does not read, and its
+    ///    place in bytes.
     ///
     /// ```rust
     /// let [_, _, avx2, ..] = backends();
@@ -332,9 +336,9 @@ impl Backend {
         self.decoded(src, lent, case)
     }
 
-    /// Encodes all of `src` into the front of `dst`, in uppercase where `upper` is true, and answers
-    /// that front, `2 * src.len()` bytes, which borrows `dst` alone. The bytes behind it stay as they
-    /// were.
+    /// Encodes all of `src` into the front of `dst`, in uppercase where `upper` is true, and
+    /// answers that front, `2 * src.len()` bytes, which borrows `dst` alone. The bytes behind it
+    /// stay as they were.
     ///
     /// # Errors
     ///

@@ -1,4 +1,5 @@
-//! The Rust crate's tests over random inputs, under the names that they have there, over fixed lists.
+//! The Rust crate's tests over random inputs, under the names that they have there, over fixed
+//! lists.
 
 use crate::carried::encode;
 use crate::rules::{

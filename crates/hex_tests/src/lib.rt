@@ -1,4 +1,5 @@
-//! Tests that cross the crates: rows of inputs and their answers, and the tests of the Rust crate, written anew.
+//! Tests that cross the crates: rows of inputs and their answers, and the tests of the Rust crate,
+//! written anew.
 #![tactic(auto)]
 
 #[cfg(test)]

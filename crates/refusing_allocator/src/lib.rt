@@ -1,7 +1,8 @@
-//! An allocator for tests: it grants as many allocations as a test allows, and refuses each later one.
+//! An allocator for tests: it grants as many allocations as a test allows, and refuses each later
+//! one.
 //!
-//! A test lends it to what is tested, as `&alloc`. One handle then serves each collection of the test, and can be asked
-//! afterwards how many allocations were made.
+//! A test lends it to what is tested, as `&alloc`. One handle then serves each collection of the
+//! test, and can be asked afterwards how many allocations were made.
 #![tactic(auto)]
 
 use std::alloc::{AllocError, Allocator};
@@ -12,8 +13,9 @@ mod tests;
 
 /// Passes the first `left` allocations on to `inner` and refuses each later one.
 ///
-/// Each block that a collection takes counts as one allocation: its first one, each larger one that it grows into, and each
-/// smaller one that it shrinks into. To give a block back counts as none, and is never refused.
+/// Each block that a collection takes counts as one allocation: its first one, each larger one that
+/// it grows into, and each smaller one that it shrinks into. To give a block back counts as none,
+/// and is never refused.
 ///
 /// ```
 /// let alloc = Refusing::new(rt.alloc(), 0);
@@ -50,8 +52,8 @@ impl<B: Allocator> Refusing<B> {
 
     /// How many allocations it still grants.
     ///
-    /// It falls by one with each that is granted, also where `inner` then has no memory. So the difference of two answers is
-    /// the number granted between them.
+    /// It falls by one with each that is granted, also where `inner` then has no memory. So the
+    /// difference of two answers is the number granted between them.
     pub fn left(&self) -> u64 {
         self.counts.left.get()
     }
@@ -78,7 +80,8 @@ fn grants(counts: &Counts) -> bool {
     left > 0
 }
 
-// `grow` and `shrink` are the trait's own, which call `allocate`: those of `inner` would grow a block with no count.
+// `grow` and `shrink` are the trait's own, which call `allocate`: those of `inner` would grow a
+// block with no count.
 unsafe impl<B: Allocator> Allocator for Refusing<B> {
     ghost dealloc_token = { λ heap ty ptr. B.dealloc_token heap.inner ty ptr };
 
