@@ -1,5 +1,5 @@
 -- Puts in a row.
-use Rattle.std.proofs.Common.{◌≡◌, ℕ, zero, suc, ◌+◌, ◌-◌, ◌<◌, List, [], ◌∷◌, ◌++◌, length, take, drop, Option, Result, Ok, Err, IsErr, refl, sym, ap, subst, ◌∙◌, arith, append_assoc, take-append-drop}
+use Rattle.std.proofs.Common.{◌≡◌, ℕ, zero, suc, ◌+◌, ◌-◌, ◌<◌, List, [], ◌∷◌, ◌++◌, length, take, drop, Option, Result, Ok, Err, IsErr, refl, sym, ap, subst, ◌∙◌, arith, append_assoc, length-append, take-append-drop}
 use Rattle.std.proofs.Math.Seq.{take-add}
 use Rattle.std.proofs.lemmas.List.{take_rest}
 use Rattle.std.proofs.KnownBytes.{Appends-trans}
@@ -44,7 +44,7 @@ AppendsBeginning-take a b piece n h = record { front = take n piece; rest = drop
 -- ---- many puts
 
 -- xs was taken, and then a beginning of ys
-pub AppendsBeginning-then : (a b c : Option (List ℕ)) (xs ys : List ℕ) → Appends a b xs → AppendsBeginning b c ys → AppendsBeginning a c (xs ++ ys)
+AppendsBeginning-then : (a b c : Option (List ℕ)) (xs ys : List ℕ) → Appends a b xs → AppendsBeginning b c ys → AppendsBeginning a c (xs ++ ys)
 AppendsBeginning-then a b c xs ys p q = record {
   front = xs ++ q.front;
   rest = q.rest;
@@ -53,7 +53,7 @@ AppendsBeginning-then a b c xs ys p q = record {
 }
 
 -- a beginning of xs was taken, and nothing of ys was put
-pub AppendsBeginning-stop : (a b : Option (List ℕ)) (xs ys : List ℕ) → AppendsBeginning a b xs → AppendsBeginning a b (xs ++ ys)
+AppendsBeginning-stop : (a b : Option (List ℕ)) (xs ys : List ℕ) → AppendsBeginning a b xs → AppendsBeginning a b (xs ++ ys)
 AppendsBeginning-stop a b xs ys p = record {
   front = p.front;
   rest = p.rest ++ ys;
@@ -61,14 +61,28 @@ AppendsBeginning-stop a b xs ys p = record {
   appended = p.appended;
 }
 
+-- what `Puts` is at an error
+abbrev pub Failed : Option (List ℕ) → Option (List ℕ) → ℕ → ℕ → List ℕ → Type 0
+Failed old new before after bs = AppendsBeginning old new bs × (after ≡ before + 1) × (0 < length bs)
+
+-- xs was taken without a failure, and then a put of ys failed
+pub Failed-then : (a b c : Option (List ℕ)) (f g h : ℕ) (xs ys : List ℕ)
+    → Appends a b xs → g ≡ f → Failed b c g h ys → Failed a c f h (xs ++ ys)
+Failed-then a b c f g h xs ys p same q =
+    (AppendsBeginning-then a b c xs ys p q.0, q.1 ∙ ap (λ n. n + 1) same, simp length-append (omega (arith, q.2)))
+
+-- a put of xs failed, and nothing of ys was put
+pub Failed-stop : (a b : Option (List ℕ)) (f g : ℕ) (xs ys : List ℕ) → Failed a b f g xs → Failed a b f g (xs ++ ys)
+Failed-stop a b f g xs ys p = (AppendsBeginning-stop a b xs ys p.0, p.1, simp length-append (omega (arith, p.2)))
+
 -- xs was taken without a failure, and then ys was put
 pub Puts-then : {E : Type 0} (a b c : Option (List ℕ)) (f g h : ℕ) (r : Result (Unit {0}) E) (xs ys : List ℕ)
     → Appends a b xs → g ≡ f → Puts b c g h r ys → Puts a c f h r (xs ++ ys)
 Puts-then a b c f g h (Ok _) xs ys p same q = (Appends-trans a b c xs ys p q.0, q.1 ∙ same)
-Puts-then a b c f g h (Err _) xs ys p same q = (AppendsBeginning-then a b c xs ys p q.0, q.1 ∙ ap (λ n. n + 1) same)
+Puts-then a b c f g h (Err _) xs ys p same q = Failed-then a b c f g h xs ys p same q
 
 -- a put that failed, handed on as the error that it is
 pub Puts-err : {E : Type 0} (a b : Option (List ℕ)) (f g : ℕ) (r : Result (Unit {0}) E) (bs : List ℕ)
-    → IsErr r → AppendsBeginning a b bs → g ≡ f + 1 → Puts a b f g r bs
-Puts-err a b f g (Ok _) bs err taken counted = cc
-Puts-err a b f g (Err _) bs err taken counted = (taken, counted)
+    → IsErr r → Failed a b f g bs → Puts a b f g r bs
+Puts-err a b f g (Ok _) bs err failed = cc
+Puts-err a b f g (Err _) bs err failed = failed

@@ -103,9 +103,9 @@ impl<'a> Hex<'a> {
 
     /// Puts the view's text into `sink`: sign, prefix and digits, padded as `flags` say.
     ///
-    /// At `Ok` the sink has taken exactly this text more, and has counted no failure. Padding is
-    /// added up to `flags.width` characters, so a text that is as long has none. No memory is
-    /// taken, and number and size of the puts are open.
+    /// At `Ok` the sink has taken exactly this text more, and has counted no failure; an empty text
+    /// is always `Ok`. Padding is added up to `flags.width` characters, so a text that is as long
+    /// has none. No memory is taken, and number and size of the puts are open.
     ///
     /// # Errors
     ///
@@ -277,7 +277,7 @@ fn put_copies<S: Sink>(sink: &mut S, piece: &[u8], count: usize) -> Result<(), W
 /// Puts a piece into `sink`, and what a put leaves of it again, until all of it is taken.
 ///
 /// At `Ok` the sink has taken exactly the piece more, and has counted no failure. An empty piece
-/// is not put at all.
+/// is not put at all, and is always `Ok`.
 ///
 /// # Errors
 ///

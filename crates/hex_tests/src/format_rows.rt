@@ -256,12 +256,27 @@ const FAILING: [Mode; 3] = [Mode::WholePieces, Mode::PartAndRefusal, Mode::WhatF
 
 #[test]
 fn an_empty_text_meets_no_failure(rt: HostRuntime) {
-    for mode in FAILING {
+    // The last mode refuses a put of an empty piece too.
+    for mode in [
+        Mode::OneByte,
+        Mode::WholePieces,
+        Mode::PartAndRefusal,
+        Mode::WhatFits,
+        Mode::Nothing,
+    ] {
         let mut sink = LimitedSink::new(mode, 0);
         let answer = Hex::new(&[]).write_to(&mut sink, &HexFlags::default());
         assert_eq!(rt; answer, Ok(()), "{mode:?}");
         assert_eq!(rt; sink.failures(), 0, "{mode:?}");
     }
+    let mut sink = LimitedSink::new(Mode::Nothing, 0);
+    assert_eq!(rt; sink.put(b""), Err(SinkFault));
+    assert_eq!(rt; sink.failures(), 1);
+    assert_eq!(rt;
+        Hex::new(&[]).write_to(&mut sink, &HexFlags::default()),
+        Ok(())
+    );
+    assert_eq!(rt; sink.failures(), 1);
     let mut sink = LimitedSink::new(Mode::WhatFits, 0);
     let answer = Hex::new(&[0xab]).write_to(&mut sink, &HexFlags::default());
     assert_eq!(rt; answer, Err(WriteFault::TookNothing));

@@ -1,4 +1,4 @@
-//! A sink that takes a number of bytes and then fails, in one of four ways.
+//! A sink that takes a number of bytes and then fails, in one of five ways.
 
 ghost use Rattle.std.specs.Prelude.{◌≡◌, ◌+◌, ◌≤◌, None};
 
@@ -18,6 +18,8 @@ pub enum Mode {
     PartAndRefusal,
     /// What fits, and none where the limit is reached.
     WhatFits,
+    /// Nothing: each put is refused, also of an empty piece.
+    Nothing,
 }
 
 /// A sink that takes `limit` bytes, and remembers whether it was put to after a failure.
@@ -75,11 +77,12 @@ impl Sink for LimitedSink {
             Mode::OneByte => fits.min(1),
             Mode::WholePieces => { if fits < piece.len() { 0 } else { fits } }
             Mode::PartAndRefusal | Mode::WhatFits => fits,
+            Mode::Nothing => 0,
         };
         self.bytes[self.used..self.used + count].copy_from_slice(&piece[..count]);
         self.used += count;
         let refuses = matches!(self.mode, Mode::WholePieces | Mode::PartAndRefusal);
-        if refuses && count < piece.len() {
+        if self.mode == Mode::Nothing || (refuses && count < piece.len()) {
             self.failed += 1;
             return Err(SinkFault);
         }

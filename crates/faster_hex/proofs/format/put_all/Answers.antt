@@ -11,6 +11,7 @@ returns-in-Ok-eq0 g c =
     let left : 0 < length (take (length piece - at) (drop at piece)) = simp (length-take, length-drop) (omega arith) in (
       AppendsBeginning-take _ _ piece (at + c.in-Ok-eq0.field-0) (Appends-more _ _ _ piece at c.in-Ok-eq0.field-0 c.loop-at.invariant.taken c.in-Ok-eq0.ensures.ok),
       rw (none, faults_of-none _ left, c.loop-at.invariant.counted) at c.in-Ok-eq0.ensures.counted,
+      omega arith,
     )
 
 pub loop-at-preserved : goal.loop-at-preserved
@@ -28,4 +29,5 @@ pub returns-in-Err : goal.returns-in-Err
 returns-in-Err g c = (
   AppendsBeginning-more _ _ _ c.args.piece.now c.loop-at.at c.loop-at.invariant.taken c.in-Err.ensures.err,
   omega (arith, c.in-Err.ensures.counted),
+  omega arith,
 )
