@@ -2,6 +2,7 @@
 
 ghost use Rattle.std.specs.Prelude.{◌≡◌, ◌+◌, ◌*◌, ◌^◌, ◌<◌, ◌≤◌, ◌++◌, None, Some, Ok, Err, length, MatchResult, OnOk, OnErr, drop, IsUtf8, true, false, string_bytes, string_len, string_capacity};
 ghost use Rattle.std.specs.Borrow.{sem};
+ghost use Rattle.std.specs.Str.{IsAscii};
 ghost use Rattle.std.specs.Io.BufRead.{Rests};
 ghost use Rattle.std.specs.contracts.string.String.{the_row};
 ghost use Rattle.faster_hex.specs.Append.{AppendsText};
@@ -299,6 +300,18 @@ pub(crate) const PIECE: usize = 256;
 // How many digits a whole piece has.
 pub(crate) const PIECE_DIGITS: usize = 512;
 
+// The text of some bytes, written into the front of the buffer.
+pub(crate) fn encoded<'b>(bytes: &[u8], upper: bool, buffer: &'b mut [u8]) -> &'b [u8]
+    requires { 2 * length bytes.now ≤ length buffer.old }
+    ensures text { result.now ≡ text upper bytes.now }
+    ensures ascii { IsAscii result.now }
+{
+    let Ok(len) = hex_encode_into(bytes, buffer, upper) else {
+        unreachable!();
+    };
+    &buffer[..len]
+}
+
 // The digits of a piece, which are written into the front of `buffer`.
 pub(crate) fn piece_text<'a>(
     buffer: &'a mut [u8; PIECE_DIGITS],
@@ -309,7 +322,5 @@ pub(crate) fn piece_text<'a>(
     ensures text { result.now ≡ text upper piece.now }
     ensures len { length result.now ≡ 2 * length piece.now }
 {
-    let digits = &mut buffer[..2 * piece.len()];
-    Backend::PLAIN.encode(piece, digits, upper);
-    unsafe { str::from_utf8_unchecked(digits) }
+    unsafe { str::from_utf8_unchecked(encoded(piece, upper, buffer)) }
 }

@@ -8,7 +8,7 @@ ghost use Rattle.hex_core.specs.Text.{text};
 ghost use Rattle.faster_hex.specs.Frame.{before, digits_of, frame, head, hex_bytes, padding_of, plain_flags};
 ghost use Rattle.faster_hex.specs.Sink.{Puts};
 
-use crate::encode::hex_encode_into;
+use crate::encode::encoded;
 use crate::sink::{Sink, SinkFault};
 use std::{fmt, str};
 
@@ -166,10 +166,7 @@ fn write_ascii<W: fmt::Write>(f: &mut fmt::Formatter<W>, bytes: &[u8]) -> fmt::R
     requires { IsAscii bytes.now }
     ensures { WritesOnOk W.write_str_gives f.old result bytes.now f.new }
 {
-    let Ok(text) = str::from_utf8(bytes) else {
-        unreachable!();
-    };
-    f.write_str(text)
+    f.write_str(unsafe { str::from_utf8_unchecked(bytes) })
 }
 
 // The sign and the prefix that `flags` ask for.
@@ -208,18 +205,6 @@ fn before_text(align: Align, padding: usize) -> usize
         Align::Right => padding,
         Align::Center => padding / 2,
     }
-}
-
-// The text of some bytes, written into the front of the buffer.
-fn encoded<'b>(bytes: &[u8], upper: bool, buffer: &'b mut [u8]) -> &'b [u8]
-    requires { 2 * length bytes.now ≤ length buffer.old }
-    ensures text { result.now ≡ text upper bytes.now }
-    ensures ascii { IsAscii result.now }
-{
-    let Ok(len) = hex_encode_into(bytes, buffer, upper) else {
-        unreachable!();
-    };
-    &buffer[..len]
 }
 
 // Puts the digits of `bytes`, a chunk at a time.

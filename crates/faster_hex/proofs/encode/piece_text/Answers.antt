@@ -1,8 +1,11 @@
--- The digits that were written are UTF-8.
-
-use Rattle.faster_hex.proofs.TextFacts.{IsUtf8-text}
+-- The digits that were written are UTF-8, and as many as the text has.
+use Rattle.std.proofs.Common.{ap, ◌∙◌, length}
+use Rattle.std.proofs.lemmas.Str.{IsUtf8-from_ascii}
+use Rattle.faster_hex.proofs.TextFacts.{length-text}
 use Rattle.faster_hex.proofs.encode.piece_text.Goals as goal
 
 pub from_utf8_unchecked-requires : goal.from_utf8_unchecked-requires
-from_utf8_unchecked-requires c =
-    rw c.encode.ensures (IsUtf8-text c.args.upper c.args.piece.now (λ i. (c.type_inv.piece i).fits))
+from_utf8_unchecked-requires c = IsUtf8-from_ascii c.encoded.result.now c.encoded.ensures.ascii
+
+pub returns-clause-len : goal.returns-clause-len
+returns-clause-len c = ap length (c.from_utf8_unchecked.ensures ∙ c.encoded.ensures.text) ∙ length-text c.args.upper c.args.piece.now

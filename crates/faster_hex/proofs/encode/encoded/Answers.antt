@@ -3,7 +3,7 @@ use Rattle.std.proofs.Common.{◌≡◌, length, take, sym, ◌∙◌}
 use Rattle.std.proofs.Math.Seq.{take-append_seam}
 use Rattle.hex_core.specs.Text.{text}
 use Rattle.faster_hex.proofs.TextFacts.{IsAscii-text, length-text}
-use Rattle.faster_hex.proofs.format.encoded.Goals as goal
+use Rattle.faster_hex.proofs.encode.encoded.Goals as goal
 
 pub returns : goal.returns
 returns c =
