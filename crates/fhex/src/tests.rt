@@ -8,59 +8,69 @@ use std::test::Fail;
 
 const USAGE: &str = "usage: fhex encode|encode-upper|decode|decode-lower|decode-upper|vectors\n";
 
+// Words, input, output, message and status.
+type Row = (
+    &'static [&'static str],
+    &'static [u8],
+    &'static [u8],
+    &'static str,
+    u8,
+);
+
+static ROWS: [Row; 18] = [
+    (&["encode"], b"hello", b"68656c6c6f\n", "", 0),
+    (&["encode"], b"", b"\n", "", 0),
+    (&["encode"], b"\x00\xab\xff\n", b"00abff0a\n", "", 0),
+    (&["decode"], b"68656c6c6f\n", b"hello", "", 0),
+    (&["decode"], b"68656c6c6f", b"hello", "", 0),
+    (&["decode"], b"00aBcD", b"\x00\xab\xcd", "", 0),
+    (&["decode"], b"", b"", "", 0),
+    (&["decode"], b"\n", b"", "", 0),
+    (
+        &["decode"],
+        b"0g",
+        b"",
+        "invalid hex byte 0x67 at index 1\n",
+        1,
+    ),
+    (
+        &["decode"],
+        b"a\n\n",
+        b"",
+        "invalid hex byte 0x0a at index 1\n",
+        1,
+    ),
+    (
+        &["decode"],
+        b"abc\n",
+        b"",
+        "hex input length must be even\n",
+        1,
+    ),
+    (
+        &["decode"],
+        b"zzz",
+        b"",
+        "hex input length must be even\n",
+        1,
+    ),
+    (
+        &["decode"],
+        b"\xc3\xa9",
+        b"",
+        "invalid hex byte 0xc3 at index 0\n",
+        1,
+    ),
+    (&[], b"hello", b"", USAGE, 2),
+    (&["encode", "decode"], b"hello", b"", USAGE, 2),
+    (&["Encode"], b"hello", b"", USAGE, 2),
+    (&["encode-upper"], b"hello", b"", USAGE, 2),
+    (&["vectors"], b"hello", b"", USAGE, 2),
+];
+
 #[test]
 fn rows(rt: HostRuntime) -> Result<(), Fail> {
-    let rows: [(&[&str], &[u8], &[u8], &str, u8); 18] = [
-        (&["encode"], b"hello", b"68656c6c6f\n", "", 0),
-        (&["encode"], b"", b"\n", "", 0),
-        (&["encode"], b"\x00\xab\xff\n", b"00abff0a\n", "", 0),
-        (&["decode"], b"68656c6c6f\n", b"hello", "", 0),
-        (&["decode"], b"68656c6c6f", b"hello", "", 0),
-        (&["decode"], b"00aBcD", b"\x00\xab\xcd", "", 0),
-        (&["decode"], b"", b"", "", 0),
-        (&["decode"], b"\n", b"", "", 0),
-        (
-            &["decode"],
-            b"0g",
-            b"",
-            "invalid hex byte 0x67 at index 1\n",
-            1,
-        ),
-        (
-            &["decode"],
-            b"a\n\n",
-            b"",
-            "invalid hex byte 0x0a at index 1\n",
-            1,
-        ),
-        (
-            &["decode"],
-            b"abc\n",
-            b"",
-            "hex input length must be even\n",
-            1,
-        ),
-        (
-            &["decode"],
-            b"zzz",
-            b"",
-            "hex input length must be even\n",
-            1,
-        ),
-        (
-            &["decode"],
-            b"\xc3\xa9",
-            b"",
-            "invalid hex byte 0xc3 at index 0\n",
-            1,
-        ),
-        (&[], b"hello", b"", USAGE, 2),
-        (&["encode", "decode"], b"hello", b"", USAGE, 2),
-        (&["Encode"], b"hello", b"", USAGE, 2),
-        (&["encode-upper"], b"hello", b"", USAGE, 2),
-        (&["vectors"], b"hello", b"", USAGE, 2),
-    ];
-    for (words, input, output, message, status) in rows {
+    for &(words, input, output, message, status) in &ROWS {
         let mut input = input;
         let (answer, out, err) = serve(
             rt.alloc(),
@@ -155,82 +165,82 @@ const READ_FAILED: &str = "read failed\n";
 
 const WRITE_FAILED: &str = "write failed\n";
 
+static FAULTS: [Faulty; 10] = [
+    Faulty {
+        digits: INPUT_LIMIT + 1,
+        message: TOO_LONG,
+        status: 3,
+        ..SOUND
+    },
+    Faulty {
+        word: "encode",
+        digits: INPUT_LIMIT + 1,
+        message: TOO_LONG,
+        status: 3,
+        ..SOUND
+    },
+    Faulty {
+        digits: INPUT_LIMIT,
+        written: INPUT_LIMIT / 2,
+        ..SOUND
+    },
+    Faulty {
+        digits: 4,
+        read_fails: true,
+        message: READ_FAILED,
+        status: 3,
+        ..SOUND
+    },
+    Faulty {
+        word: "encode",
+        digits: 70_000,
+        read_fails: true,
+        message: READ_FAILED,
+        status: 3,
+        ..SOUND
+    },
+    Faulty {
+        digits: 8,
+        room: 3,
+        message: WRITE_FAILED,
+        written: 3,
+        status: 3,
+        ..SOUND
+    },
+    Faulty {
+        word: "encode",
+        digits: 2,
+        room: 4,
+        message: WRITE_FAILED,
+        written: 4,
+        status: 3,
+        ..SOUND
+    },
+    Faulty {
+        word: "encode",
+        digits: 2,
+        flush_fails: true,
+        message: WRITE_FAILED,
+        written: 5,
+        status: 3,
+        ..SOUND
+    },
+    Faulty {
+        digits: 140_000,
+        written: 70_000,
+        ..SOUND
+    },
+    Faulty {
+        digits: 139_999,
+        message: "hex input length must be even\n",
+        status: 1,
+        ..SOUND
+    },
+];
+
 #[test]
 fn tells_a_fault_of_the_surroundings(rt: HostRuntime) -> Result<(), Fail> {
-    let limit = INPUT_LIMIT;
-    let rows = [
-        Faulty {
-            digits: limit + 1,
-            message: TOO_LONG,
-            status: 3,
-            ..SOUND
-        },
-        Faulty {
-            word: "encode",
-            digits: limit + 1,
-            message: TOO_LONG,
-            status: 3,
-            ..SOUND
-        },
-        Faulty {
-            digits: limit,
-            written: limit / 2,
-            ..SOUND
-        },
-        Faulty {
-            digits: 4,
-            read_fails: true,
-            message: READ_FAILED,
-            status: 3,
-            ..SOUND
-        },
-        Faulty {
-            word: "encode",
-            digits: 70_000,
-            read_fails: true,
-            message: READ_FAILED,
-            status: 3,
-            ..SOUND
-        },
-        Faulty {
-            digits: 8,
-            room: 3,
-            message: WRITE_FAILED,
-            written: 3,
-            status: 3,
-            ..SOUND
-        },
-        Faulty {
-            word: "encode",
-            digits: 2,
-            room: 4,
-            message: WRITE_FAILED,
-            written: 4,
-            status: 3,
-            ..SOUND
-        },
-        Faulty {
-            word: "encode",
-            digits: 2,
-            flush_fails: true,
-            message: WRITE_FAILED,
-            written: 5,
-            status: 3,
-            ..SOUND
-        },
-        Faulty {
-            digits: 140_000,
-            written: 70_000,
-            ..SOUND
-        },
-        Faulty {
-            digits: 139_999,
-            message: "hex input length must be even\n",
-            status: 1,
-            ..SOUND
-        },
-    ];
-    for row in &rows {
+    for row in &FAULTS {
         let mut input = Zeros {
             left: row.digits,
             fails: row.read_fails,
