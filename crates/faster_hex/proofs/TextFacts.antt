@@ -1,5 +1,5 @@
 -- Facts on the text of a list of bytes.
-use Rattle.std.proofs.Common.{◌≡◌, ℕ, suc, ◌*◌, ◌/◌, ◌%◌, ◌<◌, Bool, true, false, List, [], ◌∷◌, ◌++◌, length, get_or, refl, arith, IsAscii}
+use Rattle.std.proofs.Common.{◌≡◌, ℕ, suc, ◌+◌, ◌*◌, ◌/◌, ◌%◌, ◌<◌, Bool, true, false, List, [], ◌∷◌, ◌++◌, length, get_or, refl, arith, IsAscii}
 use Rattle.std.proofs.lemmas.Bool.Decides.{nat_tests}
 use Rattle.std.proofs.lemmas.Grind.{flat_map-append}
 use Rattle.std.proofs.lemmas.Str.Ascii.{IsAscii-nil, IsAscii-cons}
@@ -35,3 +35,8 @@ IsAscii-text upper (b ∷ bytes) range =
 -- so it is UTF-8
 pub IsUtf8-text : (upper : Bool) (bytes : List ℕ) → ((i : ℕ) → get_or bytes i 0 < 256) → IsUtf8 (text upper bytes)
 IsUtf8-text upper bytes range = IsUtf8-from_ascii _ (IsAscii-text upper bytes range)
+
+-- the length of a text behind a prefix
+pub length-behind : (upper : Bool) (prefix bytes : List ℕ) → length (prefix ++ text upper bytes) ≡ length prefix + 2 * length bytes
+length-behind upper [] bytes = let rest = length-text upper bytes in omega arith
+length-behind upper (b ∷ prefix) bytes = let rest = length-behind upper prefix bytes in omega arith

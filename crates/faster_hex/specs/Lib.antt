@@ -3,3 +3,7 @@ pub mod Failure
 pub mod Frame
 pub mod Sink
 pub mod Sinks
+pub mod Adapters
+pub mod Policies
+pub mod AdapterMessage
+pub mod AdapterLaws

@@ -6,7 +6,7 @@ ghost use Rattle.std.specs.Str.{IsAscii};
 ghost use Rattle.std.specs.Io.BufRead.{Rests};
 ghost use Rattle.std.specs.contracts.string.String.{the_row};
 ghost use Rattle.faster_hex.specs.Append.{AppendsText};
-ghost use Rattle.faster_hex.specs.Failure.{AppendFailure};
+ghost use Rattle.faster_hex.specs.Failure.{AppendFailure, TextFailure};
 ghost use Rattle.hex_core.specs.Loan.{LendsAnswer};
 ghost use Rattle.hex_core.specs.Refusal.{encode_refusal};
 ghost use Rattle.hex_core.specs.Text.{laid, text};
@@ -239,17 +239,38 @@ fn string_of<A: Allocator + Drop>(alloc: A, src: &[u8], upper: bool) -> Result<S
         (λ string. (2 * length src.now < 2 ^ 64) × (string_bytes string ≡ text upper src.now))
         (λ e. AppendFailure 0 src.now e) }
 {
-    let Some(len) = src.len().checked_mul(2) else {
+    string_behind(alloc, b"", src, upper)
+}
+
+// A new string of the digits of `src` behind a prefix, grown once to its exact length.
+pub(crate) fn string_behind<A: Allocator + Drop>(
+    alloc: A,
+    prefix: &[u8],
+    src: &[u8],
+    upper: bool,
+) -> Result<String<A>, Error>
+    requires { IsAscii prefix.now }
+    ensures { MatchResult result
+        (λ string. (length prefix.now + 2 * length src.now < 2 ^ 64)
+        × (string_bytes string ≡ prefix.now ++ text upper src.now))
+        (λ e. TextFailure (length prefix.now + 2 * length src.now) e) }
+{
+    let Some(digits_len) = src.len().checked_mul(2) else {
         return Err(Error::Overflow);
     };
-    if src.is_empty() {
+    let Some(len) = digits_len.checked_add(prefix.len()) else {
+        return Err(Error::Overflow);
+    };
+    if len == 0 {
         return Ok(String::new(alloc));
     }
-    let Ok(mut digits) = Vec::from_elem(alloc, 0u8, len) else {
+    let Ok(mut string) = Vec::from_elem(alloc, 0u8, len) else {
         return Err(Error::OutOfMemory);
     };
-    Backend::PLAIN.encode(src, digits.as_mut_slice(), upper);
-    Ok(unsafe { String::from_utf8_unchecked(digits) })
+    let (front, digits) = string.as_mut_slice().split_at_mut(prefix.len());
+    front.copy_from_slice(prefix);
+    Backend::PLAIN.encode(src, digits, upper);
+    Ok(unsafe { String::from_utf8_unchecked(string) })
 }
 
 // Appends the digits of `src` and answers them alone. `dst` stands first because a proof learns

@@ -1,12 +1,17 @@
 //! Hexadecimal encoding and decoding of byte sequences, after the Rust crate `faster-hex` 1.0.0.
 #![tactic(auto)]
 
+pub mod adapters;
 pub mod decode;
 pub mod encode;
 pub mod format;
 pub mod heapless_08;
+pub mod laws;
+pub mod optional;
+pub mod required;
 pub mod sink;
 
+pub use crate::adapters::AdapterError;
 pub use crate::decode::{
     hex_check, hex_check_with_case, hex_decode, hex_decode_array, hex_decode_array_with_case,
     hex_decode_into, hex_decode_vec, hex_decode_vec_with_case, hex_decode_with_case,
@@ -16,5 +21,14 @@ pub use crate::encode::{
     hex_string, hex_string_upper,
 };
 pub use crate::format::{Align, Hex, HexFlags, WriteFault};
+pub use crate::optional::{
+    option_nopfx_ignorecase, option_nopfx_lowercase, option_nopfx_uppercase,
+    option_withpfx_ignorecase, option_withpfx_lowercase, option_withpfx_uppercase,
+};
+pub use crate::required::withpfx_ignorecase::{array, deserialize, deserialize_bounded, serialize};
+pub use crate::required::{
+    nopfx_ignorecase, nopfx_lowercase, nopfx_uppercase, withpfx_ignorecase, withpfx_lowercase,
+    withpfx_uppercase,
+};
 pub use crate::sink::{Sink, SinkFault, SliceSink, WriterSink};
 pub use hex_core::{Backend, CheckCase, Error, Probe, SliceProbe, backends, digit_value, locate};

@@ -1,0 +1,48 @@
+-- Facts on the adapters that the definitions imply.
+use Rattle.std.specs.Prelude.{◌≡◌, ◌≢◌, ◌≤◌, ◌↔◌, ℕ, List, [], ◌∷◌, length, All, Option, Some, None, MatchOption, ⊤}
+use Rattle.serde_json.specs.Data.{Data}
+use Rattle.hex_core.specs.Laws.{AreBytes}
+use Rattle.faster_hex.specs.declared.adapters.Policy.{Policy}
+use Rattle.faster_hex.specs.declared.adapters.AdapterError.TheVariants.{OverBound}
+use Rattle.faster_hex.specs.Adapters.{ReadFailure, Reads, ReadsOption, array_read_refusal, read_refusal, written, written_option}
+use Rattle.faster_hex.specs.Policies.{nopfx_ignorecase, nopfx_lowercase, nopfx_uppercase, withpfx_ignorecase, withpfx_lowercase, withpfx_uppercase}
+
+-- the six policies
+abbrev pub policies : List Policy
+policies = withpfx_ignorecase ∷ nopfx_ignorecase ∷ withpfx_lowercase ∷ nopfx_lowercase ∷ withpfx_uppercase ∷ nopfx_uppercase ∷ []
+
+-- a value is read as at most one list, whatever the bound
+abbrev pub ReadsOneList : Type 0
+ReadsOneList = (p : Policy) (max other : Option ℕ) (d : Data) (bytes others : List ℕ) → Reads p max d bytes → Reads p other d others → bytes ≡ others
+
+-- nothing is refused exactly where a list is read
+abbrev pub ReadsWhatIsNotRefused : Type 0
+ReadsWhatIsNotRefused = (p : Policy) (max : Option ℕ) (d : Data) → (read_refusal p max d ≡ None) ↔ ((bytes : List ℕ) × Reads p max d bytes)
+
+-- into an array, exactly where a list of its length is read
+abbrev pub ReadsArrayOfItsLength : Type 0
+ReadsArrayOfItsLength = (p : Policy) (n : ℕ) (d : Data) → (array_read_refusal p n d ≡ None) ↔ ((bytes : List ℕ) × Reads p None d bytes × (length bytes ≡ n))
+
+-- a bounded read takes exactly what the unbounded one takes with at most so many bytes
+abbrev pub BoundedReadsWhatFits : Type 0
+BoundedReadsWhatFits = (p : Policy) (max : ℕ) (d : Data) (bytes : List ℕ) → Reads p (Some max) d bytes ↔ (Reads p None d bytes × (length bytes ≤ max))
+
+-- a read without a bound does not fail for one
+abbrev pub UnboundedHasNoBound : Type 0
+UnboundedHasNoBound = (p : Policy) (d : Data) (max actual : ℕ) → ReadFailure p None d (OverBound max actual) → ⊥
+
+-- what a policy writes, the same policy reads as the same bytes
+abbrev pub ReadingInvertsWriting : Type 0
+ReadingInvertsWriting = (bytes : List ℕ) → AreBytes bytes → All (λ p. Reads p None (written p bytes) bytes) policies
+
+-- and none as none
+abbrev pub OptionReadingInvertsWriting : Type 0
+OptionReadingInvertsWriting = (bytes : Option (List ℕ)) → MatchOption bytes ⊤ AreBytes → All (λ p. ReadsOption p None (written_option p bytes) bytes) policies
+
+-- none and a list, the empty one too, are written as two values
+abbrev pub WritesNoneApart : Type 0
+WritesNoneApart = (p : Policy) (bytes : List ℕ) → written_option p None ≢ written_option p (Some bytes)
+
+-- no value is read as none and as a list
+abbrev pub ReadsNoneApart : Type 0
+ReadsNoneApart = (p : Policy) (max : Option ℕ) (d : Data) (bytes : List ℕ) → ReadsOption p max d None → ReadsOption p max d (Some bytes) → ⊥

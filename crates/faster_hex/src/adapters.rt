@@ -1,0 +1,218 @@
+//! What the JSON adapters share: their error, their policies, and the one way of reading and
+//! writing that all twelve modules take.
+
+ghost use Rattle.std.specs.Prelude.{◌≡◌, ◌≢◌, ◌<◌, ◌^◌, None, Some, Ok, Err, length, option_map, string_bytes, MatchResult, IfOk, IfErr};
+ghost use Rattle.hex_core.specs.Text.{text};
+ghost use Rattle.serde_json.specs.Data.{null};
+ghost use Rattle.serde_json.specs.View.{view};
+ghost use Rattle.faster_hex.specs.AdapterMessage.{adapter_error_text};
+ghost use Rattle.faster_hex.specs.Adapters.{OptionWriteFailure, ReadFailure, Reads, ReadsOption, WriteFailure, array_read_refusal, digits_in, option_text, prefix, wire_text, written, written_option};
+
+use crate::decode::{hex_decode_array_with_case, hex_decode_vec_with_case};
+use crate::encode::string_behind;
+use hex_core::{CheckCase, Error};
+use serde_json::Value;
+use std::alloc::{Allocator, Global};
+use std::{error, fmt};
+
+/// An error of reading or writing bytes as a JSON text.
+///
+/// [`Display`](fmt::Display) prints exactly these texts:
+///
+/// | Case | Text |
+/// |---|---|
+/// | `NotText` | `expected a string` |
+/// | `InvalidPrefix` | `invalid prefix` |
+/// | `InvalidLength` | `invalid length` |
+/// | `OverBound` | `expected at most 2 decoded bytes, got 3` |
+/// | `Codec` | that of the [`Error`] |
+#[derive(Clone, Copy, Debug, PartialEq, Eq)]
+pub enum AdapterError {
+    /// The value is no text.
+    NotText,
+    /// The text does not begin with `0x`, where the policy asks for it.
+    InvalidPrefix,
+    /// The text has an odd number of bytes behind the prefix.
+    InvalidLength,
+    /// The digits spell more bytes than a bounded read takes.
+    OverBound {
+        /// How many bytes the read takes at most.
+        max: usize,
+        /// How many bytes the digits would decode to.
+        actual: usize,
+    },
+    /// The digits are refused, or memory, or a text's length. A place in it counts from the first
+    /// digit, without the prefix.
+    Codec(Error),
+}
+
+impl fmt::Display for AdapterError {
+    ghost output = { λ e. Some (adapter_error_text e) };
+
+    fn fmt<W: fmt::Write>(&self, f: &mut fmt::Formatter<W>) -> fmt::Result {
+        match self {
+            AdapterError::NotText => write!(f, "expected a string"),
+            AdapterError::InvalidPrefix => write!(f, "invalid prefix"),
+            AdapterError::InvalidLength => write!(f, "invalid length"),
+            AdapterError::OverBound { max, actual } => {
+                write!(f, "expected at most {max} decoded bytes, got {actual}")
+            }
+            AdapterError::Codec(e) => write!(f, "{e}"),
+        }
+    }
+}
+
+impl error::Error for AdapterError {}
+
+// How a module's bytes stand in a JSON text.
+#[derive(Clone, Copy)]
+pub(crate) struct Policy {
+    // Whether `0x` stands before the digits.
+    pub(crate) prefixed: bool,
+    // Whether digits are written in uppercase.
+    pub(crate) upper: bool,
+    // Which letters are read.
+    pub(crate) case: CheckCase,
+}
+
+impl Policy {
+    // What stands before the digits.
+    fn prefix(self) -> &'static [u8]
+        ensures { result.now ≡ prefix self }
+    {
+        if self.prefixed { b"0x" } else { b"" }
+    }
+}
+
+// The digits of a value, of which there is an even number.
+fn digits_of(policy: Policy, value: &Value) -> Result<&[u8], AdapterError>
+    ensures { MatchResult result
+        (λ digits. digits_in policy (view value.now) ≡ Ok digits.now)
+        (λ e. digits_in policy (view value.now) ≡ Err e) }
+{
+    let Some(text) = value.as_str() else {
+        return Err(AdapterError::NotText);
+    };
+    let Some(digits) = text.as_bytes().strip_prefix(policy.prefix()) else {
+        return Err(AdapterError::InvalidPrefix);
+    };
+    if digits.len() % 2 == 1 {
+        return Err(AdapterError::InvalidLength);
+    }
+    Ok(digits)
+}
+
+// Reads a text's bytes, of which there are at most `max` where that is given.
+pub(crate) fn read<A: Allocator + Drop>(
+    alloc: A,
+    policy: Policy,
+    max: Option<usize>,
+    value: &Value,
+) -> Result<Vec<u8, A>, AdapterError>
+    ensures ok { IfOk result (λ bytes. Reads policy max (view value.now) bytes.items) }
+    ensures err { IfErr result (λ e. ReadFailure policy max (view value.now) e) }
+{
+    let digits = digits_of(policy, value)?;
+    let actual = digits.len() / 2;
+    if let Some(max) = max {
+        if actual > max {
+            return Err(AdapterError::OverBound { max, actual });
+        }
+    }
+    match hex_decode_vec_with_case(alloc, digits, policy.case) {
+        Ok(bytes) => Ok(bytes),
+        Err(e) => Err(AdapterError::Codec(e)),
+    }
+}
+
+// Reads exactly `N` bytes of a text.
+pub(crate) fn read_array<const N: usize>(
+    policy: Policy,
+    value: &Value,
+) -> Result<[u8; N], AdapterError>
+    ensures { MatchResult result
+        (λ bytes. Reads policy None (view value.now) bytes)
+        (λ e. array_read_refusal policy N (view value.now) ≡ Some e) }
+{
+    match hex_decode_array_with_case(digits_of(policy, value)?, policy.case) {
+        Ok(bytes) => Ok(bytes),
+        Err(e) => Err(AdapterError::Codec(e)),
+    }
+}
+
+// Reads `null` as none, and anything else as `read` does.
+pub(crate) fn read_option<A: Allocator + Drop>(
+    alloc: A,
+    policy: Policy,
+    max: Option<usize>,
+    value: &Value,
+) -> Result<Option<Vec<u8, A>>, AdapterError>
+    ensures ok { IfOk result
+        (λ bytes. ReadsOption policy max (view value.now) (option_map (λ v. v.items) bytes)) }
+    ensures some { IfErr result (λ _. view value.now ≢ null) }
+    ensures err { IfErr result (λ e. ReadFailure policy max (view value.now) e) }
+{
+    if value.is_null() {
+        return Ok(None);
+    }
+    Ok(Some(read(alloc, policy, max, value)?))
+}
+
+// Reads `null` as none, and anything else as `read_array` does.
+pub(crate) fn read_option_array<const N: usize>(
+    policy: Policy,
+    value: &Value,
+) -> Result<Option<[u8; N]>, AdapterError>
+    ensures ok { IfOk result (λ bytes. ReadsOption policy None (view value.now) bytes) }
+    ensures some { IfErr result (λ _. view value.now ≢ null) }
+    ensures err { IfErr result (λ e. array_read_refusal policy N (view value.now) ≡ Some e) }
+{
+    if value.is_null() {
+        return Ok(None);
+    }
+    Ok(Some(read_array(policy, value)?))
+}
+
+// The text of some bytes, grown once to its exact length.
+fn text_of<A: Allocator + Drop>(
+    alloc: A,
+    policy: Policy,
+    src: &[u8],
+) -> Result<String<A>, AdapterError>
+    ensures { MatchResult result
+        (λ string. (length (wire_text policy src.now) < 2 ^ 64)
+        × (string_bytes string ≡ wire_text policy src.now))
+        (λ e. WriteFailure policy src.now e) }
+{
+    match string_behind(alloc, policy.prefix(), src, policy.upper) {
+        Ok(string) => Ok(string),
+        Err(e) => Err(AdapterError::Codec(e)),
+    }
+}
+
+// Writes bytes as a JSON text.
+pub(crate) fn write(alloc: Global, policy: Policy, src: &[u8]) -> Result<Value, AdapterError>
+    ensures { MatchResult result
+        (λ value. (length (wire_text policy src.now) < 2 ^ 64)
+        × (view value ≡ written policy src.now))
+        (λ e. WriteFailure policy src.now e) }
+{
+    Ok(Value::String(text_of(alloc, policy, src)?))
+}
+
+// Writes none as `null`, and bytes as `write` does.
+pub(crate) fn write_option(
+    alloc: Global,
+    policy: Policy,
+    src: Option<&[u8]>,
+) -> Result<Value, AdapterError>
+    ensures { MatchResult result
+        (λ value. (length (option_text policy (option_map (λ s. s.now) src.entry)) < 2 ^ 64)
+        × (view value ≡ written_option policy (option_map (λ s. s.now) src.entry)))
+        (λ e. OptionWriteFailure policy (option_map (λ s. s.now) src.entry) e) }
+{
+    match src {
+        Some(bytes) => write(alloc, policy, bytes),
+        None => Ok(Value::Null),
+    }
+}
