@@ -1,8 +1,10 @@
-//! What the JSON adapters share: their error, their policies, and the one way of reading and
-//! writing that all twelve modules take.
+//! What the JSON adapters share: their error, a policy, and the one way of reading and writing that
+//! all twelve modules take.
+//!
+//! A caller with an allocator of its own reads and makes texts by these functions; any other takes
+//! the modules.
 
 ghost use Rattle.std.specs.Prelude.{◌≡◌, ◌≢◌, ◌<◌, ◌^◌, None, Some, Ok, Err, length, option_map, string_bytes, MatchResult, IfOk, IfErr};
-ghost use Rattle.hex_core.specs.Text.{text};
 ghost use Rattle.serde_json.specs.Data.{null};
 ghost use Rattle.serde_json.specs.View.{view};
 ghost use Rattle.faster_hex.specs.AdapterMessage.{adapter_error_text};
@@ -26,6 +28,11 @@ use std::{error, fmt};
 /// | `InvalidLength` | `invalid length` |
 /// | `OverBound` | `expected at most 2 decoded bytes, got 3` |
 /// | `Codec` | that of the [`Error`] |
+///
+/// ```rust
+/// let refused = faster_hex::deserialize(rt.alloc(), &Value::Null).err();
+/// assert_eq!(rt; refused, Some(AdapterError::NotText));
+/// ```
 #[derive(Clone, Copy, Debug, PartialEq, Eq)]
 pub enum AdapterError {
     /// The value is no text.
@@ -64,20 +71,28 @@ impl fmt::Display for AdapterError {
 
 impl error::Error for AdapterError {}
 
-// How a module's bytes stand in a JSON text.
-#[derive(Clone, Copy)]
-pub(crate) struct Policy {
-    // Whether `0x` stands before the digits.
-    pub(crate) prefixed: bool,
-    // Whether digits are written in uppercase.
-    pub(crate) upper: bool,
-    // Which letters are read.
-    pub(crate) case: CheckCase,
+/// How bytes stand in a JSON text.
+///
+/// Each of the six modules has one. What a policy writes it also reads where `case` reads the
+/// letters that `upper` writes, as with those six.
+#[derive(Clone, Copy, Debug, PartialEq, Eq)]
+pub struct Policy {
+    /// Whether `0x` stands before the digits.
+    pub prefixed: bool,
+    /// Whether digits are written in uppercase.
+    pub upper: bool,
+    /// Which letters are read.
+    pub case: CheckCase,
 }
 
 impl Policy {
-    // What stands before the digits.
-    fn prefix(self) -> &'static [u8]
+    /// Answers what stands before the digits: `0x`, or nothing.
+    ///
+    /// ```rust
+    /// let policy = Policy { prefixed: true, upper: false, case: CheckCase::None };
+    /// assert_eq!(rt; policy.prefix(), b"0x");
+    /// ```
+    pub fn prefix(self) -> &'static [u8]
         ensures { result.now ≡ prefix self }
     {
         if self.prefixed { b"0x" } else { b"" }
@@ -102,8 +117,29 @@ fn digits_of(policy: Policy, value: &Value) -> Result<&[u8], AdapterError>
     Ok(digits)
 }
 
-// Reads a text's bytes, of which there are at most `max` where that is given.
-pub(crate) fn read<A: Allocator + Drop>(
+/// Answers the bytes that the digits of a JSON text spell, of which there are at most `max` where
+/// that is given. The text itself is not copied.
+///
+/// Memory is taken at most once, for exactly the bytes; none is taken where there are no digits.
+///
+/// # Errors
+///
+/// In this order:
+///
+/// 1. `NotText` where the value is no text;
+/// 2. `InvalidPrefix` where the text does not begin with the policy's prefix;
+/// 3. `InvalidLength` where an odd number of bytes stands behind the prefix;
+/// 4. `OverBound` where the digits spell more than `max` bytes, with both numbers;
+/// 5. `Codec(OutOfMemory)` where the memory was refused;
+/// 6. `Codec(InvalidChar)` with the first byte that the policy does not read, and its place,
+///    counted in bytes from the first digit.
+///
+/// ```rust
+/// let policy = Policy { prefixed: false, upper: false, case: CheckCase::None };
+/// let value = Value::from_str(rt.alloc(), "\"Ab01\"")?;
+/// assert_eq!(rt; read(rt.alloc(), policy, None, &value)?.as_slice(), [0xab, 1]);
+/// ```
+pub fn read<A: Allocator + Drop>(
     alloc: A,
     policy: Policy,
     max: Option<usize>,
@@ -125,11 +161,22 @@ pub(crate) fn read<A: Allocator + Drop>(
     }
 }
 
-// Reads exactly `N` bytes of a text.
-pub(crate) fn read_array<const N: usize>(
-    policy: Policy,
-    value: &Value,
-) -> Result<[u8; N], AdapterError>
+/// Answers the `N` bytes that the digits of a JSON text spell. No memory is taken.
+///
+/// # Errors
+///
+/// In this order:
+///
+/// 1. `NotText`, `InvalidPrefix` and `InvalidLength` as at [`read`];
+/// 2. `Codec(LengthMismatch)` where the digits spell another number of bytes than `N`;
+/// 3. `Codec(InvalidChar)` as at [`read`].
+///
+/// ```rust
+/// let policy = Policy { prefixed: false, upper: false, case: CheckCase::None };
+/// let value = Value::from_str(rt.alloc(), "\"Ab01\"")?;
+/// assert_eq!(rt; read_array(policy, &value), Ok([0xab, 1]));
+/// ```
+pub fn read_array<const N: usize>(policy: Policy, value: &Value) -> Result<[u8; N], AdapterError>
     ensures { MatchResult result
         (λ bytes. Reads policy None (view value.now) bytes)
         (λ e. array_read_refusal policy N (view value.now) ≡ Some e) }
@@ -140,15 +187,24 @@ pub(crate) fn read_array<const N: usize>(
     }
 }
 
-// Reads `null` as none, and anything else as `read` does.
-pub(crate) fn read_option<A: Allocator + Drop>(
+/// Reads `null` as none, and any other value as [`read`] does.
+///
+/// # Errors
+///
+/// Those of [`read`], in its order, and none for `null`.
+///
+/// ```rust
+/// let policy = Policy { prefixed: true, upper: false, case: CheckCase::None };
+/// assert!(rt; read_option(rt.alloc(), policy, None, &Value::Null)?.is_none());
+/// ```
+pub fn read_option<A: Allocator + Drop>(
     alloc: A,
     policy: Policy,
     max: Option<usize>,
     value: &Value,
 ) -> Result<Option<Vec<u8, A>>, AdapterError>
     ensures ok { IfOk result
-        (λ bytes. ReadsOption policy max (view value.now) (option_map (λ v. v.items) bytes)) }
+        (λ read. ReadsOption policy max (view value.now) (option_map (λ v. v.items) read)) }
     ensures some { IfErr result (λ _. view value.now ≢ null) }
     ensures err { IfErr result (λ e. ReadFailure policy max (view value.now) e) }
 {
@@ -158,12 +214,21 @@ pub(crate) fn read_option<A: Allocator + Drop>(
     Ok(Some(read(alloc, policy, max, value)?))
 }
 
-// Reads `null` as none, and anything else as `read_array` does.
-pub(crate) fn read_option_array<const N: usize>(
+/// Reads `null` as none, and any other value as [`read_array`] does.
+///
+/// # Errors
+///
+/// Those of [`read_array`], in its order, and none for `null`.
+///
+/// ```rust
+/// let policy = Policy { prefixed: true, upper: false, case: CheckCase::None };
+/// assert_eq!(rt; read_option_array::<2>(policy, &Value::Null), Ok(None));
+/// ```
+pub fn read_option_array<const N: usize>(
     policy: Policy,
     value: &Value,
 ) -> Result<Option<[u8; N]>, AdapterError>
-    ensures ok { IfOk result (λ bytes. ReadsOption policy None (view value.now) bytes) }
+    ensures ok { IfOk result (λ read. ReadsOption policy None (view value.now) read) }
     ensures some { IfErr result (λ _. view value.now ≢ null) }
     ensures err { IfErr result (λ e. array_read_refusal policy N (view value.now) ≡ Some e) }
 {
@@ -173,8 +238,22 @@ pub(crate) fn read_option_array<const N: usize>(
     Ok(Some(read_array(policy, value)?))
 }
 
-// The text of some bytes, grown once to its exact length.
-fn text_of<A: Allocator + Drop>(
+/// Answers the text that a policy writes for some bytes: its prefix, and two digits a byte.
+///
+/// Memory is taken at most once, for the text's exact length, and not at all where that is 0.
+///
+/// # Errors
+///
+/// In this order:
+///
+/// 1. `Codec(Overflow)` where the text's length is no `usize`;
+/// 2. `Codec(OutOfMemory)` where the memory was refused.
+///
+/// ```rust
+/// let policy = Policy { prefixed: true, upper: true, case: CheckCase::Upper };
+/// assert_eq!(rt; text_of(rt.alloc(), policy, &[0xab, 1])?.as_str(), "0xAB01");
+/// ```
+pub fn text_of<A: Allocator + Drop>(
     alloc: A,
     policy: Policy,
     src: &[u8],
@@ -190,8 +269,17 @@ fn text_of<A: Allocator + Drop>(
     }
 }
 
-// Writes bytes as a JSON text.
-pub(crate) fn write(alloc: Global, policy: Policy, src: &[u8]) -> Result<Value, AdapterError>
+/// Answers bytes as the JSON text that a policy writes.
+///
+/// # Errors
+///
+/// Those of [`text_of`], which makes the text.
+///
+/// ```rust
+/// let policy = Policy { prefixed: true, upper: true, case: CheckCase::Upper };
+/// assert_eq!(rt; write(rt.alloc(), policy, &[0xab, 1])?.as_str(), Some("0xAB01"));
+/// ```
+pub fn write(alloc: Global, policy: Policy, src: &[u8]) -> Result<Value, AdapterError>
     ensures { MatchResult result
         (λ value. (length (wire_text policy src.now) < 2 ^ 64)
         × (view value ≡ written policy src.now))
@@ -200,8 +288,17 @@ pub(crate) fn write(alloc: Global, policy: Policy, src: &[u8]) -> Result<Value, 
     Ok(Value::String(text_of(alloc, policy, src)?))
 }
 
-// Writes none as `null`, and bytes as `write` does.
-pub(crate) fn write_option(
+/// Answers none as `null`, for which no memory is taken, and bytes as [`write`] does.
+///
+/// # Errors
+///
+/// Those of [`write`], and none for none.
+///
+/// ```rust
+/// let policy = Policy { prefixed: true, upper: true, case: CheckCase::Upper };
+/// assert!(rt; write_option(rt.alloc(), policy, None)?.is_null());
+/// ```
+pub fn write_option(
     alloc: Global,
     policy: Policy,
     src: Option<&[u8]>,
