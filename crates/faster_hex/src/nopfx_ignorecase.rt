@@ -1,0 +1,76 @@
+//! Digits with nothing before them: lowercase is written, either letter case is read.
+//!
+//! ```rust
+//! let value = nopfx_ignorecase::serialize(rt.alloc(), &[0xab, 1])?;
+//! assert_eq!(rt; value.as_str(), Some("ab01"));
+//! assert_eq!(rt; nopfx_ignorecase::deserialize(rt.alloc(), &value)?.as_slice(), [0xab, 1]);
+//! assert_eq!(rt; nopfx_ignorecase::array::deserialize(&value), Ok([0xab, 1]));
+//! ```
+
+ghost use Rattle.std.specs.Prelude.{◌≡◌, ◌<◌, ◌^◌, None, Some, length, MatchResult, IfOk, IfErr};
+ghost use Rattle.serde_json.specs.View.{view};
+ghost use Rattle.faster_hex.specs.Adapters.{ReadFailure, Reads, WriteFailure, array_read_refusal, wire_text, written};
+ghost use Rattle.faster_hex.specs.Policies as wire;
+
+use crate::adapters::{AdapterError, Policy, read, write};
+use hex_core::CheckCase;
+use serde_json::Value;
+use std::alloc::Global;
+
+pub(crate) const POLICY: Policy = Policy {
+    prefixed: false,
+    upper: false,
+    case: CheckCase::None,
+};
+
+/// Writes two lowercase digits a byte. Memory and errors are as at [`crate::serialize`].
+pub fn serialize(alloc: Global, src: &[u8]) -> Result<Value, AdapterError>
+    ensures { MatchResult result
+        (λ value. (length (wire_text wire.nopfx_ignorecase src.now) < 2 ^ 64)
+        × (view value ≡ written wire.nopfx_ignorecase src.now))
+        (λ e. WriteFailure wire.nopfx_ignorecase src.now e) }
+{
+    write(alloc, POLICY, src)
+}
+
+/// Reads digits, either letter case. Memory and errors are as at [`crate::deserialize`],
+/// but that no prefix is asked for.
+pub fn deserialize(alloc: Global, value: &Value) -> Result<Vec<u8>, AdapterError>
+    ensures ok { IfOk result
+        (λ bytes. Reads wire.nopfx_ignorecase None (view value.now) bytes.items) }
+    ensures err { IfErr result (λ e. ReadFailure wire.nopfx_ignorecase None (view value.now) e) }
+{
+    read(alloc, POLICY, None, value)
+}
+
+/// Reads at most `MAX` bytes. Errors are as at [`crate::deserialize_bounded`],
+/// but that no prefix is asked for.
+pub fn deserialize_bounded<const MAX: usize>(
+    alloc: Global,
+    value: &Value,
+) -> Result<Vec<u8>, AdapterError>
+    ensures ok { IfOk result
+        (λ bytes. Reads wire.nopfx_ignorecase (Some MAX) (view value.now) bytes.items) }
+    ensures err { IfErr result
+        (λ e. ReadFailure wire.nopfx_ignorecase (Some MAX) (view value.now) e) }
+{
+    read(alloc, POLICY, Some(MAX), value)
+}
+
+/// The same text, read as an array.
+pub mod array {
+    use super::POLICY;
+    pub use super::serialize;
+    use crate::adapters::{AdapterError, read_array};
+    use serde_json::Value;
+
+    /// Reads exactly `N` bytes. Errors are as at [`crate::array::deserialize`],
+    /// but that no prefix is asked for.
+    pub fn deserialize<const N: usize>(value: &Value) -> Result<[u8; N], AdapterError>
+        ensures { MatchResult result
+            (λ bytes. Reads wire.nopfx_ignorecase None (view value.now) bytes)
+            (λ e. array_read_refusal wire.nopfx_ignorecase N (view value.now) ≡ Some e) }
+    {
+        read_array(POLICY, value)
+    }
+}

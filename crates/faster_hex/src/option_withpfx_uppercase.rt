@@ -1,0 +1,79 @@
+//! None as `null`, and bytes as [`withpfx_uppercase`](crate::withpfx_uppercase) has them.
+//!
+//! ```rust
+//! let value = option_withpfx_uppercase::serialize(rt.alloc(), Some(&[0xab, 1]))?;
+//! assert_eq!(rt; value.as_str(), Some("0xAB01"));
+//! assert_eq!(rt; option_withpfx_uppercase::array::deserialize(&value), Ok(Some([0xab, 1])));
+//! assert!(rt; option_withpfx_uppercase::deserialize(rt.alloc(), &Value::Null)?.is_none());
+//! ```
+
+ghost use Rattle.std.specs.Prelude.{◌≡◌, ◌≢◌, ◌<◌, ◌^◌, None, Some, length, option_map, MatchResult, IfOk, IfErr};
+ghost use Rattle.serde_json.specs.Data.{null};
+ghost use Rattle.serde_json.specs.View.{view};
+ghost use Rattle.faster_hex.specs.Adapters.{OptionWriteFailure, ReadFailure, ReadsOption, array_read_refusal, option_text, written_option};
+ghost use Rattle.faster_hex.specs.Policies as wire;
+
+use crate::adapters::{AdapterError, read_option, write_option};
+use crate::withpfx_uppercase::POLICY;
+use serde_json::Value;
+use std::alloc::Global;
+
+/// Writes none as `null`, for which no memory is taken, and bytes as
+/// [`withpfx_uppercase::serialize`](crate::withpfx_uppercase::serialize).
+pub fn serialize(alloc: Global, src: Option<&[u8]>) -> Result<Value, AdapterError>
+    ensures { MatchResult result
+        (λ value.
+        (length (option_text wire.withpfx_uppercase (option_map (λ s. s.now) src.entry)) < 2 ^ 64)
+        × (view value ≡ written_option wire.withpfx_uppercase (option_map (λ s. s.now) src.entry)))
+        (λ e. OptionWriteFailure wire.withpfx_uppercase (option_map (λ s. s.now) src.entry) e) }
+{
+    write_option(alloc, POLICY, src)
+}
+
+/// Reads `null` as none, and any other value as
+/// [`withpfx_uppercase::deserialize`](crate::withpfx_uppercase::deserialize).
+pub fn deserialize(alloc: Global, value: &Value) -> Result<Option<Vec<u8>>, AdapterError>
+    ensures ok { IfOk result
+        (λ read. ReadsOption wire.withpfx_uppercase None (view value.now)
+        (option_map (λ v. v.items) read)) }
+    ensures some { IfErr result (λ _. view value.now ≢ null) }
+    ensures err { IfErr result (λ e. ReadFailure wire.withpfx_uppercase None (view value.now) e) }
+{
+    read_option(alloc, POLICY, None, value)
+}
+
+/// Reads `null` as none, and any other value as
+/// [`withpfx_uppercase::deserialize_bounded`](crate::withpfx_uppercase::deserialize_bounded).
+pub fn deserialize_bounded<const MAX: usize>(
+    alloc: Global,
+    value: &Value,
+) -> Result<Option<Vec<u8>>, AdapterError>
+    ensures ok { IfOk result
+        (λ read. ReadsOption wire.withpfx_uppercase (Some MAX) (view value.now)
+        (option_map (λ v. v.items) read)) }
+    ensures some { IfErr result (λ _. view value.now ≢ null) }
+    ensures err { IfErr result
+        (λ e. ReadFailure wire.withpfx_uppercase (Some MAX) (view value.now) e) }
+{
+    read_option(alloc, POLICY, Some(MAX), value)
+}
+
+/// The same text or `null`, read as an array or none.
+pub mod array {
+    use super::POLICY;
+    pub use super::serialize;
+    use crate::adapters::{AdapterError, read_option_array};
+    use serde_json::Value;
+
+    /// Reads `null` as none, and any other value as
+    /// [`withpfx_uppercase::array::deserialize`](crate::withpfx_uppercase::array::deserialize).
+    pub fn deserialize<const N: usize>(value: &Value) -> Result<Option<[u8; N]>, AdapterError>
+        ensures ok { IfOk result
+            (λ read. ReadsOption wire.withpfx_uppercase None (view value.now) read) }
+        ensures some { IfErr result (λ _. view value.now ≢ null) }
+        ensures err { IfErr result
+            (λ e. array_read_refusal wire.withpfx_uppercase N (view value.now) ≡ Some e) }
+    {
+        read_option_array(POLICY, value)
+    }
+}

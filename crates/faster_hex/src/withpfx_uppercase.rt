@@ -1,0 +1,73 @@
+//! `0x` and then digits: uppercase is written, uppercase alone is read.
+//!
+//! ```rust
+//! let value = withpfx_uppercase::serialize(rt.alloc(), &[0xab, 1])?;
+//! assert_eq!(rt; value.as_str(), Some("0xAB01"));
+//! assert_eq!(rt; withpfx_uppercase::deserialize(rt.alloc(), &value)?.as_slice(), [0xab, 1]);
+//! assert_eq!(rt; withpfx_uppercase::array::deserialize(&value), Ok([0xab, 1]));
+//! ```
+
+ghost use Rattle.std.specs.Prelude.{◌≡◌, ◌<◌, ◌^◌, None, Some, length, MatchResult, IfOk, IfErr};
+ghost use Rattle.serde_json.specs.View.{view};
+ghost use Rattle.faster_hex.specs.Adapters.{ReadFailure, Reads, WriteFailure, array_read_refusal, wire_text, written};
+ghost use Rattle.faster_hex.specs.Policies as wire;
+
+use crate::adapters::{AdapterError, Policy, read, write};
+use hex_core::CheckCase;
+use serde_json::Value;
+use std::alloc::Global;
+
+pub(crate) const POLICY: Policy = Policy {
+    prefixed: true,
+    upper: true,
+    case: CheckCase::Upper,
+};
+
+/// Writes `0x` and two uppercase digits a byte. Memory and errors are as at [`crate::serialize`].
+pub fn serialize(alloc: Global, src: &[u8]) -> Result<Value, AdapterError>
+    ensures { MatchResult result
+        (λ value. (length (wire_text wire.withpfx_uppercase src.now) < 2 ^ 64)
+        × (view value ≡ written wire.withpfx_uppercase src.now))
+        (λ e. WriteFailure wire.withpfx_uppercase src.now e) }
+{
+    write(alloc, POLICY, src)
+}
+
+/// Reads digits behind `0x`, uppercase alone. Memory and errors are as at [`crate::deserialize`].
+pub fn deserialize(alloc: Global, value: &Value) -> Result<Vec<u8>, AdapterError>
+    ensures ok { IfOk result
+        (λ bytes. Reads wire.withpfx_uppercase None (view value.now) bytes.items) }
+    ensures err { IfErr result (λ e. ReadFailure wire.withpfx_uppercase None (view value.now) e) }
+{
+    read(alloc, POLICY, None, value)
+}
+
+/// Reads at most `MAX` bytes. Errors are as at [`crate::deserialize_bounded`].
+pub fn deserialize_bounded<const MAX: usize>(
+    alloc: Global,
+    value: &Value,
+) -> Result<Vec<u8>, AdapterError>
+    ensures ok { IfOk result
+        (λ bytes. Reads wire.withpfx_uppercase (Some MAX) (view value.now) bytes.items) }
+    ensures err { IfErr result
+        (λ e. ReadFailure wire.withpfx_uppercase (Some MAX) (view value.now) e) }
+{
+    read(alloc, POLICY, Some(MAX), value)
+}
+
+/// The same text, read as an array.
+pub mod array {
+    use super::POLICY;
+    pub use super::serialize;
+    use crate::adapters::{AdapterError, read_array};
+    use serde_json::Value;
+
+    /// Reads exactly `N` bytes. Errors are as at [`crate::array::deserialize`].
+    pub fn deserialize<const N: usize>(value: &Value) -> Result<[u8; N], AdapterError>
+        ensures { MatchResult result
+            (λ bytes. Reads wire.withpfx_uppercase None (view value.now) bytes)
+            (λ e. array_read_refusal wire.withpfx_uppercase N (view value.now) ≡ Some e) }
+    {
+        read_array(POLICY, value)
+    }
+}
