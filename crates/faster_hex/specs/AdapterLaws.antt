@@ -4,7 +4,7 @@ use Rattle.serde_json.specs.Data.{Data}
 use Rattle.hex_core.specs.Laws.{AreBytes}
 use Rattle.faster_hex.specs.declared.adapters.Policy.{Policy}
 use Rattle.faster_hex.specs.declared.adapters.AdapterError.TheVariants.{OverBound}
-use Rattle.faster_hex.specs.Adapters.{ReadFailure, Reads, ReadsOption, array_read_refusal, read_refusal, written, written_option}
+use Rattle.faster_hex.specs.Adapters.{ReadFailure, Reads, ReadsOption, Writes, WritesOption, array_read_refusal, read_refusal}
 use Rattle.faster_hex.specs.Policies.{nopfx_ignorecase, nopfx_lowercase, nopfx_uppercase, withpfx_ignorecase, withpfx_lowercase, withpfx_uppercase}
 
 -- the six policies
@@ -27,21 +27,24 @@ ReadsArrayOfItsLength = (p : Policy) (n : ℕ) (d : Data) → (array_read_refusa
 abbrev pub BoundedReadsWhatFits : Type 0
 BoundedReadsWhatFits = (p : Policy) (max : ℕ) (d : Data) (bytes : List ℕ) → Reads p (Some max) d bytes ↔ (Reads p None d bytes × (length bytes ≤ max))
 
--- a read without a bound does not fail for one
+-- a read without a bound does not fail for one, and no more does one into an array
 abbrev pub UnboundedHasNoBound : Type 0
 UnboundedHasNoBound = (p : Policy) (d : Data) (max actual : ℕ) → ReadFailure p None d (OverBound max actual) → ⊥
 
--- what a policy writes, the same policy reads as the same bytes
+abbrev pub ArrayHasNoBound : Type 0
+ArrayHasNoBound = (p : Policy) (n : ℕ) (d : Data) (max actual : ℕ) → array_read_refusal p n d ≢ Some (OverBound max actual)
+
+-- what one of the six policies writes, it reads as the same bytes
 abbrev pub ReadingInvertsWriting : Type 0
-ReadingInvertsWriting = (bytes : List ℕ) → AreBytes bytes → All (λ p. Reads p None (written p bytes) bytes) policies
+ReadingInvertsWriting = (bytes : List ℕ) (d : Data) → AreBytes bytes → All (λ p. Writes p bytes d → Reads p None d bytes) policies
 
 -- and none as none
 abbrev pub OptionReadingInvertsWriting : Type 0
-OptionReadingInvertsWriting = (bytes : Option (List ℕ)) → MatchOption bytes ⊤ AreBytes → All (λ p. ReadsOption p None (written_option p bytes) bytes) policies
+OptionReadingInvertsWriting = (bytes : Option (List ℕ)) (d : Data) → MatchOption bytes ⊤ AreBytes → All (λ p. WritesOption p bytes d → ReadsOption p None d bytes) policies
 
--- none and a list, the empty one too, are written as two values
+-- no value is written for none and for a list, the empty one too
 abbrev pub WritesNoneApart : Type 0
-WritesNoneApart = (p : Policy) (bytes : List ℕ) → written_option p None ≢ written_option p (Some bytes)
+WritesNoneApart = (p : Policy) (d : Data) (bytes : List ℕ) → WritesOption p None d → WritesOption p (Some bytes) d → ⊥
 
 -- no value is read as none and as a list
 abbrev pub ReadsNoneApart : Type 0

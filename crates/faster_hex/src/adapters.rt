@@ -8,10 +8,10 @@ ghost use Rattle.std.specs.Prelude.{◌≡◌, ◌≢◌, ◌<◌, ◌^◌, None
 ghost use Rattle.serde_json.specs.Data.{null};
 ghost use Rattle.serde_json.specs.View.{view};
 ghost use Rattle.faster_hex.specs.AdapterMessage.{adapter_error_text};
-ghost use Rattle.faster_hex.specs.Adapters.{OptionWriteFailure, ReadFailure, Reads, ReadsOption, WriteFailure, array_read_refusal, digits_in, option_text, prefix, wire_text, written, written_option};
+ghost use Rattle.faster_hex.specs.Adapters.{OptionWriteFailure, ReadFailure, Reads, ReadsOption, WriteFailure, Writes, WritesOption, array_read_refusal, payload_in, prefix, wire_text};
 
 use crate::decode::{hex_decode_array_with_case, hex_decode_vec_with_case};
-use crate::encode::string_behind;
+use crate::encode::prefixed_string;
 use hex_core::{CheckCase, Error};
 use serde_json::Value;
 use std::alloc::{Allocator, Global};
@@ -41,14 +41,14 @@ pub enum AdapterError {
     InvalidPrefix,
     /// The text has an odd number of bytes behind the prefix.
     InvalidLength,
-    /// The digits spell more bytes than a bounded read takes.
+    /// There are more digits than a bounded read takes.
     OverBound {
         /// How many bytes the read takes at most.
         max: usize,
         /// How many bytes the digits would decode to.
         actual: usize,
     },
-    /// The digits are refused, or memory, or a text's length. A place in it counts from the first
+    /// A digit is refused, or memory, or a text's length. A place in it counts from the first
     /// digit, without the prefix.
     Codec(Error),
 }
@@ -71,10 +71,12 @@ impl fmt::Display for AdapterError {
 
 impl error::Error for AdapterError {}
 
-/// How bytes stand in a JSON text.
+/// How bytes stand in a JSON text. Each of the six modules has one, which reads what it writes.
 ///
-/// Each of the six modules has one. What a policy writes it also reads where `case` reads the
-/// letters that `upper` writes, as with those six.
+/// ```rust
+/// let policy = Policy { prefixed: true, upper: true, case: CheckCase::Upper };
+/// assert_eq!(rt; policy, withpfx_uppercase::POLICY);
+/// ```
 #[derive(Clone, Copy, Debug, PartialEq, Eq)]
 pub struct Policy {
     /// Whether `0x` stands before the digits.
@@ -99,28 +101,29 @@ impl Policy {
     }
 }
 
-// The digits of a value, of which there is an even number.
-fn digits_of(policy: Policy, value: &Value) -> Result<&[u8], AdapterError>
+// The payload of a value, an even number of bytes.
+fn payload_of(policy: Policy, value: &Value) -> Result<&[u8], AdapterError>
     ensures { MatchResult result
-        (λ digits. digits_in policy (view value.now) ≡ Ok digits.now)
-        (λ e. digits_in policy (view value.now) ≡ Err e) }
+        (λ payload. payload_in policy (view value.now) ≡ Ok payload.now)
+        (λ e. payload_in policy (view value.now) ≡ Err e) }
 {
     let Some(text) = value.as_str() else {
         return Err(AdapterError::NotText);
     };
-    let Some(digits) = text.as_bytes().strip_prefix(policy.prefix()) else {
+    let Some(payload) = text.as_bytes().strip_prefix(policy.prefix()) else {
         return Err(AdapterError::InvalidPrefix);
     };
-    if digits.len() % 2 == 1 {
+    if payload.len() % 2 == 1 {
         return Err(AdapterError::InvalidLength);
     }
-    Ok(digits)
+    Ok(payload)
 }
 
-/// Answers the bytes that the digits of a JSON text spell, of which there are at most `max` where
-/// that is given. The text itself is not copied.
+/// Answers the bytes that the payload of a JSON text spells: the digits behind the policy's prefix,
+/// two a byte. They are at most `max`, where that is given. The text itself is not copied.
 ///
-/// Memory is taken at most once, for exactly the bytes; none is taken where there are no digits.
+/// An empty payload is read as no bytes, whatever the bound, and takes no memory. Any other takes
+/// memory once, for exactly the bytes.
 ///
 /// # Errors
 ///
@@ -129,7 +132,7 @@ fn digits_of(policy: Policy, value: &Value) -> Result<&[u8], AdapterError>
 /// 1. `NotText` where the value is no text;
 /// 2. `InvalidPrefix` where the text does not begin with the policy's prefix;
 /// 3. `InvalidLength` where an odd number of bytes stands behind the prefix;
-/// 4. `OverBound` where the digits spell more than `max` bytes, with both numbers;
+/// 4. `OverBound` where more than `2 * max` bytes stand there, with `max` and half their number;
 /// 5. `Codec(OutOfMemory)` where the memory was refused;
 /// 6. `Codec(InvalidChar)` with the first byte that the policy does not read, and its place,
 ///    counted in bytes from the first digit.
@@ -148,27 +151,25 @@ pub fn read<A: Allocator + Drop>(
     ensures ok { IfOk result (λ bytes. Reads policy max (view value.now) bytes.items) }
     ensures err { IfErr result (λ e. ReadFailure policy max (view value.now) e) }
 {
-    let digits = digits_of(policy, value)?;
-    let actual = digits.len() / 2;
+    let payload = payload_of(policy, value)?;
+    let actual = payload.len() / 2;
     if let Some(max) = max {
         if actual > max {
             return Err(AdapterError::OverBound { max, actual });
         }
     }
-    match hex_decode_vec_with_case(alloc, digits, policy.case) {
-        Ok(bytes) => Ok(bytes),
-        Err(e) => Err(AdapterError::Codec(e)),
-    }
+    hex_decode_vec_with_case(alloc, payload, policy.case).map_err(AdapterError::Codec)
 }
 
-/// Answers the `N` bytes that the digits of a JSON text spell. No memory is taken.
+/// Answers the `N` bytes that the payload of a JSON text spells. No memory is taken.
 ///
 /// # Errors
 ///
 /// In this order:
 ///
 /// 1. `NotText`, `InvalidPrefix` and `InvalidLength` as at [`read`];
-/// 2. `Codec(LengthMismatch)` where the digits spell another number of bytes than `N`;
+/// 2. `Codec(LengthMismatch)` where other than `2 * N` bytes stand behind the prefix, with `N` and
+///    half their number;
 /// 3. `Codec(InvalidChar)` as at [`read`].
 ///
 /// ```rust
@@ -181,10 +182,7 @@ pub fn read_array<const N: usize>(policy: Policy, value: &Value) -> Result<[u8; 
         (λ bytes. Reads policy None (view value.now) bytes)
         (λ e. array_read_refusal policy N (view value.now) ≡ Some e) }
 {
-    match hex_decode_array_with_case(digits_of(policy, value)?, policy.case) {
-        Ok(bytes) => Ok(bytes),
-        Err(e) => Err(AdapterError::Codec(e)),
-    }
+    hex_decode_array_with_case(payload_of(policy, value)?, policy.case).map_err(AdapterError::Codec)
 }
 
 /// Reads `null` as none, and any other value as [`read`] does.
@@ -205,7 +203,7 @@ pub fn read_option<A: Allocator + Drop>(
 ) -> Result<Option<Vec<u8, A>>, AdapterError>
     ensures ok { IfOk result
         (λ read. ReadsOption policy max (view value.now) (option_map (λ v. v.items) read)) }
-    ensures some { IfErr result (λ _. view value.now ≢ null) }
+    ensures not_null { IfErr result (λ _. view value.now ≢ null) }
     ensures err { IfErr result (λ e. ReadFailure policy max (view value.now) e) }
 {
     if value.is_null() {
@@ -229,7 +227,7 @@ pub fn read_option_array<const N: usize>(
     value: &Value,
 ) -> Result<Option<[u8; N]>, AdapterError>
     ensures ok { IfOk result (λ read. ReadsOption policy None (view value.now) read) }
-    ensures some { IfErr result (λ _. view value.now ≢ null) }
+    ensures not_null { IfErr result (λ _. view value.now ≢ null) }
     ensures err { IfErr result (λ e. array_read_refusal policy N (view value.now) ≡ Some e) }
 {
     if value.is_null() {
@@ -263,7 +261,7 @@ pub fn text_of<A: Allocator + Drop>(
         × (string_bytes string ≡ wire_text policy src.now))
         (λ e. WriteFailure policy src.now e) }
 {
-    match string_behind(alloc, policy.prefix(), src, policy.upper) {
+    match prefixed_string(alloc, policy.prefix(), src, policy.upper) {
         Ok(string) => Ok(string),
         Err(e) => Err(AdapterError::Codec(e)),
     }
@@ -281,8 +279,7 @@ pub fn text_of<A: Allocator + Drop>(
 /// ```
 pub fn write(alloc: Global, policy: Policy, src: &[u8]) -> Result<Value, AdapterError>
     ensures { MatchResult result
-        (λ value. (length (wire_text policy src.now) < 2 ^ 64)
-        × (view value ≡ written policy src.now))
+        (λ value. Writes policy src.now (view value))
         (λ e. WriteFailure policy src.now e) }
 {
     Ok(Value::String(text_of(alloc, policy, src)?))
@@ -304,8 +301,7 @@ pub fn write_option(
     src: Option<&[u8]>,
 ) -> Result<Value, AdapterError>
     ensures { MatchResult result
-        (λ value. (length (option_text policy (option_map (λ s. s.now) src.entry)) < 2 ^ 64)
-        × (view value ≡ written_option policy (option_map (λ s. s.now) src.entry)))
+        (λ value. WritesOption policy (option_map (λ s. s.now) src.entry) (view value))
         (λ e. OptionWriteFailure policy (option_map (λ s. s.now) src.entry) e) }
 {
     match src {

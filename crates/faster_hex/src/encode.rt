@@ -6,7 +6,7 @@ ghost use Rattle.std.specs.Str.{IsAscii};
 ghost use Rattle.std.specs.Io.BufRead.{Rests};
 ghost use Rattle.std.specs.contracts.string.String.{the_row};
 ghost use Rattle.faster_hex.specs.Append.{AppendsText};
-ghost use Rattle.faster_hex.specs.Failure.{AppendFailure, TextFailure};
+ghost use Rattle.faster_hex.specs.Failure.{AppendFailure, GrowthFailure};
 ghost use Rattle.hex_core.specs.Loan.{LendsAnswer};
 ghost use Rattle.hex_core.specs.Refusal.{encode_refusal};
 ghost use Rattle.hex_core.specs.Text.{laid, text};
@@ -239,11 +239,11 @@ fn string_of<A: Allocator + Drop>(alloc: A, src: &[u8], upper: bool) -> Result<S
         (λ string. (2 * length src.now < 2 ^ 64) × (string_bytes string ≡ text upper src.now))
         (λ e. AppendFailure 0 src.now e) }
 {
-    string_behind(alloc, b"", src, upper)
+    prefixed_string(alloc, b"", src, upper)
 }
 
 // A new string of the digits of `src` behind a prefix, grown once to its exact length.
-pub(crate) fn string_behind<A: Allocator + Drop>(
+pub(crate) fn prefixed_string<A: Allocator + Drop>(
     alloc: A,
     prefix: &[u8],
     src: &[u8],
@@ -253,7 +253,7 @@ pub(crate) fn string_behind<A: Allocator + Drop>(
     ensures { MatchResult result
         (λ string. (length prefix.now + 2 * length src.now < 2 ^ 64)
         × (string_bytes string ≡ prefix.now ++ text upper src.now))
-        (λ e. TextFailure (length prefix.now + 2 * length src.now) e) }
+        (λ e. GrowthFailure 0 (length prefix.now + 2 * length src.now) e) }
 {
     let Some(digits_len) = src.len().checked_mul(2) else {
         return Err(Error::Overflow);

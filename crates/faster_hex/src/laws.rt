@@ -1,7 +1,7 @@
 //! Laws of the adapters, each as the contract of a function that does nothing: a caller that needs
 //! one in a proof calls it.
 
-ghost use Rattle.faster_hex.specs.AdapterLaws.{BoundedReadsWhatFits, OptionReadingInvertsWriting, ReadingInvertsWriting, ReadsArrayOfItsLength, ReadsNoneApart, ReadsOneList, ReadsWhatIsNotRefused, UnboundedHasNoBound, WritesNoneApart};
+ghost use Rattle.faster_hex.specs.AdapterLaws.{ArrayHasNoBound, BoundedReadsWhatFits, OptionReadingInvertsWriting, ReadingInvertsWriting, ReadsArrayOfItsLength, ReadsNoneApart, ReadsOneList, ReadsWhatIsNotRefused, UnboundedHasNoBound, WritesNoneApart};
 
 use hex_core::laws::{
     a_source_is_accepted_where_it_spells_a_list, a_text_spells_one_list, decoding_inverts_encoding,
@@ -24,13 +24,14 @@ pub fn a_value_is_read_where_nothing_is_refused()
 }
 
 /// A bounded read takes exactly what the unbounded one takes with at most so many bytes, as the
-/// same bytes, and an unbounded read does not fail for a bound.
+/// same bytes; an unbounded read and one into an array do not fail for a bound.
 pub fn a_bound_refuses_what_is_longer_alone()
     ensures bounded { BoundedReadsWhatFits }
     ensures unbounded { UnboundedHasNoBound }
+    ensures array { ArrayHasNoBound }
 {}
 
-/// What a policy writes, the same policy reads as the same bytes, or as none.
+/// What one of the six policies writes, it reads as the same bytes, or as none.
 pub fn reading_inverts_writing()
     ensures bytes { ReadingInvertsWriting }
     ensures option { OptionReadingInvertsWriting }

@@ -7,9 +7,9 @@
 //! assert_eq!(rt; nopfx_ignorecase::array::deserialize(&value), Ok([0xab, 1]));
 //! ```
 
-ghost use Rattle.std.specs.Prelude.{◌≡◌, ◌<◌, ◌^◌, None, Some, length, MatchResult, IfOk, IfErr};
+ghost use Rattle.std.specs.Prelude.{◌≡◌, None, Some, MatchResult, IfOk, IfErr};
 ghost use Rattle.serde_json.specs.View.{view};
-ghost use Rattle.faster_hex.specs.Adapters.{ReadFailure, Reads, WriteFailure, array_read_refusal, wire_text, written};
+ghost use Rattle.faster_hex.specs.Adapters.{ReadFailure, Reads, WriteFailure, Writes, array_read_refusal};
 ghost use Rattle.faster_hex.specs.Policies as wire;
 
 use crate::adapters::{AdapterError, Policy, read, write};
@@ -17,24 +17,25 @@ use hex_core::CheckCase;
 use serde_json::Value;
 use std::alloc::Global;
 
-pub(crate) const POLICY: Policy = Policy {
+/// What [`serialize`] writes and [`deserialize`] reads.
+pub const POLICY: Policy = Policy {
     prefixed: false,
     upper: false,
     case: CheckCase::None,
 };
 
-/// Writes two lowercase digits a byte. Memory and errors are as at [`crate::serialize`].
+/// Writes two lowercase digits a byte. Memory and errors are as at [`crate::serialize`], but that
+/// the text is `2 * src.len()` bytes long, and the empty one takes no memory.
 pub fn serialize(alloc: Global, src: &[u8]) -> Result<Value, AdapterError>
     ensures { MatchResult result
-        (λ value. (length (wire_text wire.nopfx_ignorecase src.now) < 2 ^ 64)
-        × (view value ≡ written wire.nopfx_ignorecase src.now))
+        (λ value. Writes wire.nopfx_ignorecase src.now (view value))
         (λ e. WriteFailure wire.nopfx_ignorecase src.now e) }
 {
     write(alloc, POLICY, src)
 }
 
-/// Reads digits, either letter case. Memory and errors are as at [`crate::deserialize`],
-/// but that no prefix is asked for.
+/// Reads digits with nothing before them, in either letter case. Memory and errors are as at
+/// [`crate::deserialize`], but that no prefix is asked for.
 pub fn deserialize(alloc: Global, value: &Value) -> Result<Vec<u8>, AdapterError>
     ensures ok { IfOk result
         (λ bytes. Reads wire.nopfx_ignorecase None (view value.now) bytes.items) }
@@ -43,8 +44,8 @@ pub fn deserialize(alloc: Global, value: &Value) -> Result<Vec<u8>, AdapterError
     read(alloc, POLICY, None, value)
 }
 
-/// Reads at most `MAX` bytes. Errors are as at [`crate::deserialize_bounded`],
-/// but that no prefix is asked for.
+/// Reads at most `MAX` bytes. Memory and errors are as at [`crate::deserialize_bounded`], but that
+/// no prefix is asked for.
 pub fn deserialize_bounded<const MAX: usize>(
     alloc: Global,
     value: &Value,
@@ -64,8 +65,8 @@ pub mod array {
     use crate::adapters::{AdapterError, read_array};
     use serde_json::Value;
 
-    /// Reads exactly `N` bytes. Errors are as at [`crate::array::deserialize`],
-    /// but that no prefix is asked for.
+    /// Reads exactly `N` bytes. Errors are as at [`crate::array::deserialize`], but that no prefix
+    /// is asked for.
     pub fn deserialize<const N: usize>(value: &Value) -> Result<[u8; N], AdapterError>
         ensures { MatchResult result
             (λ bytes. Reads wire.nopfx_ignorecase None (view value.now) bytes)

@@ -7,9 +7,9 @@
 //! assert_eq!(rt; nopfx_uppercase::array::deserialize(&value), Ok([0xab, 1]));
 //! ```
 
-ghost use Rattle.std.specs.Prelude.{◌≡◌, ◌<◌, ◌^◌, None, Some, length, MatchResult, IfOk, IfErr};
+ghost use Rattle.std.specs.Prelude.{◌≡◌, None, Some, MatchResult, IfOk, IfErr};
 ghost use Rattle.serde_json.specs.View.{view};
-ghost use Rattle.faster_hex.specs.Adapters.{ReadFailure, Reads, WriteFailure, array_read_refusal, wire_text, written};
+ghost use Rattle.faster_hex.specs.Adapters.{ReadFailure, Reads, WriteFailure, Writes, array_read_refusal};
 ghost use Rattle.faster_hex.specs.Policies as wire;
 
 use crate::adapters::{AdapterError, Policy, read, write};
@@ -17,24 +17,26 @@ use hex_core::CheckCase;
 use serde_json::Value;
 use std::alloc::Global;
 
-pub(crate) const POLICY: Policy = Policy {
+/// What [`serialize`] writes and [`deserialize`] reads.
+pub const POLICY: Policy = Policy {
     prefixed: false,
     upper: true,
     case: CheckCase::Upper,
 };
 
-/// Writes two uppercase digits a byte. Memory and errors are as at [`crate::serialize`].
+/// Writes two uppercase digits a byte. Memory and errors are as at [`crate::serialize`], but that
+/// the text is `2 * src.len()` bytes long, and the empty one takes no memory.
 pub fn serialize(alloc: Global, src: &[u8]) -> Result<Value, AdapterError>
     ensures { MatchResult result
-        (λ value. (length (wire_text wire.nopfx_uppercase src.now) < 2 ^ 64)
-        × (view value ≡ written wire.nopfx_uppercase src.now))
+        (λ value. Writes wire.nopfx_uppercase src.now (view value))
         (λ e. WriteFailure wire.nopfx_uppercase src.now e) }
 {
     write(alloc, POLICY, src)
 }
 
-/// Reads digits, uppercase alone. Memory and errors are as at [`crate::deserialize`],
-/// but that no prefix is asked for.
+/// Reads digits with nothing before them, in uppercase alone. Memory and errors are as at
+/// [`crate::deserialize`], but that no prefix is asked for. A letter in lowercase is an
+/// `InvalidChar`.
 pub fn deserialize(alloc: Global, value: &Value) -> Result<Vec<u8>, AdapterError>
     ensures ok { IfOk result
         (λ bytes. Reads wire.nopfx_uppercase None (view value.now) bytes.items) }
@@ -43,8 +45,8 @@ pub fn deserialize(alloc: Global, value: &Value) -> Result<Vec<u8>, AdapterError
     read(alloc, POLICY, None, value)
 }
 
-/// Reads at most `MAX` bytes. Errors are as at [`crate::deserialize_bounded`],
-/// but that no prefix is asked for.
+/// Reads at most `MAX` bytes. Memory and errors are as at [`crate::deserialize_bounded`], but that
+/// no prefix is asked for. A letter in lowercase is an `InvalidChar`.
 pub fn deserialize_bounded<const MAX: usize>(
     alloc: Global,
     value: &Value,
@@ -64,8 +66,8 @@ pub mod array {
     use crate::adapters::{AdapterError, read_array};
     use serde_json::Value;
 
-    /// Reads exactly `N` bytes. Errors are as at [`crate::array::deserialize`],
-    /// but that no prefix is asked for.
+    /// Reads exactly `N` bytes. Errors are as at [`crate::array::deserialize`], but that no prefix
+    /// is asked for. A letter in lowercase is an `InvalidChar`.
     pub fn deserialize<const N: usize>(value: &Value) -> Result<[u8; N], AdapterError>
         ensures { MatchResult result
             (λ bytes. Reads wire.nopfx_uppercase None (view value.now) bytes)

@@ -1,4 +1,5 @@
-//! None as `null`, and bytes as [`withpfx_uppercase`](crate::withpfx_uppercase) has them.
+//! Bytes as [`withpfx_uppercase`](crate::withpfx_uppercase) reads and writes
+//! them, and none as `null`.
 //!
 //! ```rust
 //! let value = option_withpfx_uppercase::serialize(rt.alloc(), Some(&[0xab, 1]))?;
@@ -7,10 +8,10 @@
 //! assert!(rt; option_withpfx_uppercase::deserialize(rt.alloc(), &Value::Null)?.is_none());
 //! ```
 
-ghost use Rattle.std.specs.Prelude.{◌≡◌, ◌≢◌, ◌<◌, ◌^◌, None, Some, length, option_map, MatchResult, IfOk, IfErr};
+ghost use Rattle.std.specs.Prelude.{◌≡◌, ◌≢◌, None, Some, option_map, MatchResult, IfOk, IfErr};
 ghost use Rattle.serde_json.specs.Data.{null};
 ghost use Rattle.serde_json.specs.View.{view};
-ghost use Rattle.faster_hex.specs.Adapters.{OptionWriteFailure, ReadFailure, ReadsOption, array_read_refusal, option_text, written_option};
+ghost use Rattle.faster_hex.specs.Adapters.{OptionWriteFailure, ReadFailure, ReadsOption, WritesOption, array_read_refusal};
 ghost use Rattle.faster_hex.specs.Policies as wire;
 
 use crate::adapters::{AdapterError, read_option, write_option};
@@ -18,32 +19,32 @@ use crate::withpfx_uppercase::POLICY;
 use serde_json::Value;
 use std::alloc::Global;
 
-/// Writes none as `null`, for which no memory is taken, and bytes as
-/// [`withpfx_uppercase::serialize`](crate::withpfx_uppercase::serialize).
+/// Writes none as `null`, which takes no memory and has no error, and bytes as
+/// [`withpfx_uppercase::serialize`](crate::withpfx_uppercase::serialize) does, with its errors.
 pub fn serialize(alloc: Global, src: Option<&[u8]>) -> Result<Value, AdapterError>
     ensures { MatchResult result
-        (λ value.
-        (length (option_text wire.withpfx_uppercase (option_map (λ s. s.now) src.entry)) < 2 ^ 64)
-        × (view value ≡ written_option wire.withpfx_uppercase (option_map (λ s. s.now) src.entry)))
+        (λ value. WritesOption wire.withpfx_uppercase (option_map (λ s. s.now) src.entry)
+        (view value))
         (λ e. OptionWriteFailure wire.withpfx_uppercase (option_map (λ s. s.now) src.entry) e) }
 {
     write_option(alloc, POLICY, src)
 }
 
 /// Reads `null` as none, and any other value as
-/// [`withpfx_uppercase::deserialize`](crate::withpfx_uppercase::deserialize).
+/// [`withpfx_uppercase::deserialize`](crate::withpfx_uppercase::deserialize) does, with its errors.
 pub fn deserialize(alloc: Global, value: &Value) -> Result<Option<Vec<u8>>, AdapterError>
     ensures ok { IfOk result
         (λ read. ReadsOption wire.withpfx_uppercase None (view value.now)
         (option_map (λ v. v.items) read)) }
-    ensures some { IfErr result (λ _. view value.now ≢ null) }
+    ensures not_null { IfErr result (λ _. view value.now ≢ null) }
     ensures err { IfErr result (λ e. ReadFailure wire.withpfx_uppercase None (view value.now) e) }
 {
     read_option(alloc, POLICY, None, value)
 }
 
 /// Reads `null` as none, and any other value as
-/// [`withpfx_uppercase::deserialize_bounded`](crate::withpfx_uppercase::deserialize_bounded).
+/// [`withpfx_uppercase::deserialize_bounded`](crate::withpfx_uppercase::deserialize_bounded) does,
+/// with its errors.
 pub fn deserialize_bounded<const MAX: usize>(
     alloc: Global,
     value: &Value,
@@ -51,7 +52,7 @@ pub fn deserialize_bounded<const MAX: usize>(
     ensures ok { IfOk result
         (λ read. ReadsOption wire.withpfx_uppercase (Some MAX) (view value.now)
         (option_map (λ v. v.items) read)) }
-    ensures some { IfErr result (λ _. view value.now ≢ null) }
+    ensures not_null { IfErr result (λ _. view value.now ≢ null) }
     ensures err { IfErr result
         (λ e. ReadFailure wire.withpfx_uppercase (Some MAX) (view value.now) e) }
 {
@@ -66,11 +67,12 @@ pub mod array {
     use serde_json::Value;
 
     /// Reads `null` as none, and any other value as
-    /// [`withpfx_uppercase::array::deserialize`](crate::withpfx_uppercase::array::deserialize).
+    /// [`withpfx_uppercase::array::deserialize`](crate::withpfx_uppercase::array::deserialize)
+    /// does, with its errors.
     pub fn deserialize<const N: usize>(value: &Value) -> Result<Option<[u8; N]>, AdapterError>
         ensures ok { IfOk result
             (λ read. ReadsOption wire.withpfx_uppercase None (view value.now) read) }
-        ensures some { IfErr result (λ _. view value.now ≢ null) }
+        ensures not_null { IfErr result (λ _. view value.now ≢ null) }
         ensures err { IfErr result
             (λ e. array_read_refusal wire.withpfx_uppercase N (view value.now) ≡ Some e) }
     {

@@ -8,9 +8,9 @@
 //! assert_eq!(rt; withpfx_ignorecase::array::deserialize(&value), Ok([0xab, 1]));
 //! ```
 
-ghost use Rattle.std.specs.Prelude.{◌≡◌, ◌<◌, ◌^◌, None, Some, length, MatchResult, IfOk, IfErr};
+ghost use Rattle.std.specs.Prelude.{◌≡◌, None, Some, MatchResult, IfOk, IfErr};
 ghost use Rattle.serde_json.specs.View.{view};
-ghost use Rattle.faster_hex.specs.Adapters.{ReadFailure, Reads, WriteFailure, array_read_refusal, wire_text, written};
+ghost use Rattle.faster_hex.specs.Adapters.{ReadFailure, Reads, WriteFailure, Writes, array_read_refusal};
 ghost use Rattle.faster_hex.specs.Policies as wire;
 
 use crate::adapters::{AdapterError, Policy, read, write};
@@ -18,15 +18,16 @@ use hex_core::CheckCase;
 use serde_json::Value;
 use std::alloc::Global;
 
-pub(crate) const POLICY: Policy = Policy {
+/// What [`serialize`] writes and [`deserialize`] reads.
+pub const POLICY: Policy = Policy {
     prefixed: true,
     upper: false,
     case: CheckCase::None,
 };
 
-/// Answers the bytes as a JSON text: `0x` and two lowercase digits a byte.
+/// Answers the bytes as a JSON text: `0x` and two lowercase digits a byte, so `"0x"` for none.
 ///
-/// Memory is taken at most once, for the text's exact length.
+/// Memory is taken once, for the text's exact length.
 ///
 /// # Errors
 ///
@@ -41,17 +42,17 @@ pub(crate) const POLICY: Policy = Policy {
 /// ```
 pub fn serialize(alloc: Global, src: &[u8]) -> Result<Value, AdapterError>
     ensures { MatchResult result
-        (λ value. (length (wire_text wire.withpfx_ignorecase src.now) < 2 ^ 64)
-        × (view value ≡ written wire.withpfx_ignorecase src.now))
+        (λ value. Writes wire.withpfx_ignorecase src.now (view value))
         (λ e. WriteFailure wire.withpfx_ignorecase src.now e) }
 {
     write(alloc, POLICY, src)
 }
 
-/// Answers the bytes that a JSON text of `0x` and digits spells. The text itself is not copied.
+/// Answers the bytes that a JSON text of `0x` and digits spells: two digits a byte, letters of
+/// either case. The text itself is not copied.
 ///
-/// Memory is taken at most once, for exactly the bytes, after the length is judged and before any
-/// digit is; none is taken where there are no digits.
+/// `"0x"` is read as no bytes and takes no memory. Any other text takes memory once, for exactly
+/// the bytes, after its length is judged and before any digit is.
 ///
 /// # Errors
 ///
@@ -65,7 +66,7 @@ pub fn serialize(alloc: Global, src: &[u8]) -> Result<Value, AdapterError>
 ///    from the first digit.
 ///
 /// ```rust
-/// let value = Value::from_str(rt.alloc(), "\"0x00aB\"")?;
+/// let value = Value::from_str(rt.alloc(), r#""0x00aB""#)?;
 /// assert_eq!(rt; faster_hex::deserialize(rt.alloc(), &value)?.as_slice(), [0, 0xab]);
 /// ```
 pub fn deserialize(alloc: Global, value: &Value) -> Result<Vec<u8>, AdapterError>
@@ -76,15 +77,17 @@ pub fn deserialize(alloc: Global, value: &Value) -> Result<Vec<u8>, AdapterError
     read(alloc, POLICY, None, value)
 }
 
-/// Reads as [`deserialize`] does, but at most `MAX` bytes.
+/// Reads as [`deserialize`] does, but at most `MAX` bytes. It bounds the bytes that are answered,
+/// not the JSON text that they are read from. A bound of 0 takes `"0x"`.
 ///
 /// # Errors
 ///
 /// Those of [`deserialize`], in its order; and behind `InvalidLength`, before memory is taken and
-/// any digit judged, `OverBound` where the digits spell more than `MAX` bytes, with both numbers.
+/// any digit judged, `OverBound` where more than `2 * MAX` bytes stand behind the prefix, with
+/// `MAX` and half their number.
 ///
 /// ```rust
-/// let value = Value::from_str(rt.alloc(), "\"0xgggggg\"")?;
+/// let value = Value::from_str(rt.alloc(), r#""0xgggggg""#)?;
 /// let refused = faster_hex::deserialize_bounded::<2>(rt.alloc(), &value).err();
 /// assert_eq!(rt; refused, Some(AdapterError::OverBound { max: 2, actual: 3 }));
 /// ```
@@ -107,20 +110,21 @@ pub mod array {
     use crate::adapters::{AdapterError, read_array};
     use serde_json::Value;
 
-    /// Reads exactly `N` bytes of a JSON text of `0x` and digits. No memory is taken.
+    /// Reads exactly `N` bytes of a JSON text of `0x` and digits. No memory is taken. `"0x"` is
+    /// read where `N` is 0 alone.
     ///
     /// # Errors
     ///
     /// In this order:
     ///
-    /// 1. `NotText`, `InvalidPrefix` and `InvalidLength` as at
-    ///    [`deserialize`](super::deserialize);
-    /// 2. `Codec(LengthMismatch)` where the digits spell another number of bytes than `N`;
+    /// 1. `NotText`, `InvalidPrefix` and `InvalidLength` as at [`deserialize`](super::deserialize);
+    /// 2. `Codec(LengthMismatch)` where other than `2 * N` bytes stand behind the prefix, with `N`
+    ///    and half their number;
     /// 3. `Codec(InvalidChar)` with the first byte that is no digit, and its place, counted in
     ///    bytes from the first digit.
     ///
     /// ```rust
-    /// let value = Value::from_str(rt.alloc(), "\"0xab01\"")?;
+    /// let value = Value::from_str(rt.alloc(), r#""0xab01""#)?;
     /// assert_eq!(rt; faster_hex::array::deserialize(&value), Ok([0xab, 1]));
     /// ```
     pub fn deserialize<const N: usize>(value: &Value) -> Result<[u8; N], AdapterError>

@@ -7,9 +7,9 @@
 //! assert_eq!(rt; withpfx_lowercase::array::deserialize(&value), Ok([0xab, 1]));
 //! ```
 
-ghost use Rattle.std.specs.Prelude.{◌≡◌, ◌<◌, ◌^◌, None, Some, length, MatchResult, IfOk, IfErr};
+ghost use Rattle.std.specs.Prelude.{◌≡◌, None, Some, MatchResult, IfOk, IfErr};
 ghost use Rattle.serde_json.specs.View.{view};
-ghost use Rattle.faster_hex.specs.Adapters.{ReadFailure, Reads, WriteFailure, array_read_refusal, wire_text, written};
+ghost use Rattle.faster_hex.specs.Adapters.{ReadFailure, Reads, WriteFailure, Writes, array_read_refusal};
 ghost use Rattle.faster_hex.specs.Policies as wire;
 
 use crate::adapters::{AdapterError, Policy, read, write};
@@ -17,7 +17,8 @@ use hex_core::CheckCase;
 use serde_json::Value;
 use std::alloc::Global;
 
-pub(crate) const POLICY: Policy = Policy {
+/// What [`serialize`] writes and [`deserialize`] reads.
+pub const POLICY: Policy = Policy {
     prefixed: true,
     upper: false,
     case: CheckCase::Lower,
@@ -26,14 +27,14 @@ pub(crate) const POLICY: Policy = Policy {
 /// Writes `0x` and two lowercase digits a byte. Memory and errors are as at [`crate::serialize`].
 pub fn serialize(alloc: Global, src: &[u8]) -> Result<Value, AdapterError>
     ensures { MatchResult result
-        (λ value. (length (wire_text wire.withpfx_lowercase src.now) < 2 ^ 64)
-        × (view value ≡ written wire.withpfx_lowercase src.now))
+        (λ value. Writes wire.withpfx_lowercase src.now (view value))
         (λ e. WriteFailure wire.withpfx_lowercase src.now e) }
 {
     write(alloc, POLICY, src)
 }
 
-/// Reads digits behind `0x`, lowercase alone. Memory and errors are as at [`crate::deserialize`].
+/// Reads digits behind `0x`, in lowercase alone. Memory and errors are as at
+/// [`crate::deserialize`]. A letter in uppercase is an `InvalidChar`.
 pub fn deserialize(alloc: Global, value: &Value) -> Result<Vec<u8>, AdapterError>
     ensures ok { IfOk result
         (λ bytes. Reads wire.withpfx_lowercase None (view value.now) bytes.items) }
@@ -42,7 +43,8 @@ pub fn deserialize(alloc: Global, value: &Value) -> Result<Vec<u8>, AdapterError
     read(alloc, POLICY, None, value)
 }
 
-/// Reads at most `MAX` bytes. Errors are as at [`crate::deserialize_bounded`].
+/// Reads at most `MAX` bytes. Memory and errors are as at [`crate::deserialize_bounded`]. A letter
+/// in uppercase is an `InvalidChar`.
 pub fn deserialize_bounded<const MAX: usize>(
     alloc: Global,
     value: &Value,
@@ -62,7 +64,8 @@ pub mod array {
     use crate::adapters::{AdapterError, read_array};
     use serde_json::Value;
 
-    /// Reads exactly `N` bytes. Errors are as at [`crate::array::deserialize`].
+    /// Reads exactly `N` bytes. Errors are as at [`crate::array::deserialize`]. A letter in
+    /// uppercase is an `InvalidChar`.
     pub fn deserialize<const N: usize>(value: &Value) -> Result<[u8; N], AdapterError>
         ensures { MatchResult result
             (λ bytes. Reads wire.withpfx_lowercase None (view value.now) bytes)

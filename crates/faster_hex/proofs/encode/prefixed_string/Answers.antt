@@ -4,7 +4,7 @@ use Rattle.std.proofs.lemmas.List.{take_at}
 use Rattle.std.proofs.lemmas.Str.{IsAscii-append, IsUtf8-from_ascii}
 use Rattle.hex_core.specs.Text.{text}
 use Rattle.faster_hex.proofs.TextFacts.{IsAscii-text, length-behind}
-use Rattle.faster_hex.proofs.encode.string_behind.Goals as goal
+use Rattle.faster_hex.proofs.encode.prefixed_string.Goals as goal
 
 pub from_utf8_unchecked-requires : goal.from_utf8_unchecked-requires
 from_utf8_unchecked-requires g c =
