@@ -1,8 +1,7 @@
 //! What the JSON adapters share: their error, a policy, and the one way of reading and writing that
 //! all twelve modules take.
 //!
-//! A caller with an allocator of its own reads and makes texts by these functions; any other takes
-//! the modules.
+//! A caller with a policy or an allocator of its own takes these functions; any other the modules.
 
 ghost use Rattle.std.specs.Prelude.{◌≡◌, ◌≢◌, ◌<◌, ◌^◌, None, Some, Ok, Err, length, option_map, string_bytes, MatchResult, IfOk, IfErr};
 ghost use Rattle.serde_json.specs.Data.{null};

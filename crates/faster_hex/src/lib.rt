@@ -1,4 +1,16 @@
 //! Hexadecimal encoding and decoding of byte sequences, after the Rust crate `faster-hex` 1.0.0.
+//!
+//! Bytes in a JSON value are read and written by the modules of this table, whose calls over
+//! `Option` stand in the modules of the same names behind `option_`:
+//!
+//! | Module | Prefix | Writes | Reads |
+//! |---|---|---|---|
+//! | [`withpfx_ignorecase`], and the root | `0x` | lowercase | either case |
+//! | [`nopfx_ignorecase`] | none | lowercase | either case |
+//! | [`withpfx_lowercase`] | `0x` | lowercase | lowercase |
+//! | [`nopfx_lowercase`] | none | lowercase | lowercase |
+//! | [`withpfx_uppercase`] | `0x` | uppercase | uppercase |
+//! | [`nopfx_uppercase`] | none | uppercase | uppercase |
 #![tactic(auto)]
 
 pub mod adapters;
