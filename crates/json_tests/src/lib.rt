@@ -1,0 +1,15 @@
+//! Tests of the JSON adapters: rows of values and their answers, records, and refused growths.
+#![tactic(auto)]
+
+#[cfg(test)]
+mod answers;
+#[cfg(test)]
+mod growths;
+#[cfg(test)]
+mod modules;
+#[cfg(test)]
+mod policies;
+#[cfg(test)]
+mod records;
+#[cfg(test)]
+mod rows;

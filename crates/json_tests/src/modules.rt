@@ -1,0 +1,279 @@
+//! The modules as data: a test names one, and calls its functions.
+
+ghost use Rattle.std.specs.Prelude.{◌<◌};
+
+use crate::answers::{Answer, array_held, held, option_held};
+use faster_hex::{
+    AdapterError, nopfx_ignorecase, nopfx_lowercase, nopfx_uppercase, option_nopfx_ignorecase,
+    option_nopfx_lowercase, option_nopfx_uppercase, option_withpfx_ignorecase,
+    option_withpfx_lowercase, option_withpfx_uppercase, withpfx_ignorecase, withpfx_lowercase,
+    withpfx_uppercase,
+};
+use serde_json::Value;
+use std::alloc::Global;
+use std::process::Abort;
+
+/// A module and its option module. Those of the root are its own calls and, as it has none for
+/// options, `option_withpfx_ignorecase`.
+#[derive(Clone, Copy, Debug, PartialEq, Eq)]
+pub enum Module {
+    Root,
+    WithpfxIgnorecase,
+    NopfxIgnorecase,
+    WithpfxLowercase,
+    NopfxLowercase,
+    WithpfxUppercase,
+    NopfxUppercase,
+}
+
+/// Each module, and the root.
+pub const MODULES: [Module; 7] = [
+    Module::Root,
+    Module::WithpfxIgnorecase,
+    Module::NopfxIgnorecase,
+    Module::WithpfxLowercase,
+    Module::NopfxLowercase,
+    Module::WithpfxUppercase,
+    Module::NopfxUppercase,
+];
+
+impl Module {
+    /// The module's `serialize`.
+    pub fn write(self, alloc: Global, src: &[u8]) -> Result<Value, AdapterError> {
+        match self {
+            Module::Root => faster_hex::serialize(alloc, src),
+            Module::WithpfxIgnorecase => withpfx_ignorecase::serialize(alloc, src),
+            Module::NopfxIgnorecase => nopfx_ignorecase::serialize(alloc, src),
+            Module::WithpfxLowercase => withpfx_lowercase::serialize(alloc, src),
+            Module::NopfxLowercase => nopfx_lowercase::serialize(alloc, src),
+            Module::WithpfxUppercase => withpfx_uppercase::serialize(alloc, src),
+            Module::NopfxUppercase => nopfx_uppercase::serialize(alloc, src),
+        }
+    }
+
+    /// The `serialize` beside the array reading.
+    pub fn write_array(self, alloc: Global, src: &[u8]) -> Result<Value, AdapterError> {
+        match self {
+            Module::Root => faster_hex::array::serialize(alloc, src),
+            Module::WithpfxIgnorecase => withpfx_ignorecase::array::serialize(alloc, src),
+            Module::NopfxIgnorecase => nopfx_ignorecase::array::serialize(alloc, src),
+            Module::WithpfxLowercase => withpfx_lowercase::array::serialize(alloc, src),
+            Module::NopfxLowercase => nopfx_lowercase::array::serialize(alloc, src),
+            Module::WithpfxUppercase => withpfx_uppercase::array::serialize(alloc, src),
+            Module::NopfxUppercase => nopfx_uppercase::array::serialize(alloc, src),
+        }
+    }
+
+    /// The module's `deserialize`.
+    pub fn read(self, alloc: Global, value: &Value) -> Result<Vec<u8>, AdapterError> {
+        match self {
+            Module::Root => faster_hex::deserialize(alloc, value),
+            Module::WithpfxIgnorecase => withpfx_ignorecase::deserialize(alloc, value),
+            Module::NopfxIgnorecase => nopfx_ignorecase::deserialize(alloc, value),
+            Module::WithpfxLowercase => withpfx_lowercase::deserialize(alloc, value),
+            Module::NopfxLowercase => nopfx_lowercase::deserialize(alloc, value),
+            Module::WithpfxUppercase => withpfx_uppercase::deserialize(alloc, value),
+            Module::NopfxUppercase => nopfx_uppercase::deserialize(alloc, value),
+        }
+    }
+
+    /// The module's `deserialize_bounded`.
+    pub fn read_bounded<const MAX: usize>(
+        self,
+        alloc: Global,
+        value: &Value,
+    ) -> Result<Vec<u8>, AdapterError> {
+        match self {
+            Module::Root => faster_hex::deserialize_bounded::<MAX>(alloc, value),
+            Module::WithpfxIgnorecase => withpfx_ignorecase::deserialize_bounded::<MAX>(
+                alloc, value,
+            ),
+            Module::NopfxIgnorecase => nopfx_ignorecase::deserialize_bounded::<MAX>(alloc, value),
+            Module::WithpfxLowercase => withpfx_lowercase::deserialize_bounded::<MAX>(alloc, value),
+            Module::NopfxLowercase => nopfx_lowercase::deserialize_bounded::<MAX>(alloc, value),
+            Module::WithpfxUppercase => withpfx_uppercase::deserialize_bounded::<MAX>(alloc, value),
+            Module::NopfxUppercase => nopfx_uppercase::deserialize_bounded::<MAX>(alloc, value),
+        }
+    }
+
+    /// The module's `array::deserialize`.
+    pub fn read_array<const N: usize>(self, value: &Value) -> Result<[u8; N], AdapterError> {
+        match self {
+            Module::Root => faster_hex::array::deserialize::<N>(value),
+            Module::WithpfxIgnorecase => withpfx_ignorecase::array::deserialize::<N>(value),
+            Module::NopfxIgnorecase => nopfx_ignorecase::array::deserialize::<N>(value),
+            Module::WithpfxLowercase => withpfx_lowercase::array::deserialize::<N>(value),
+            Module::NopfxLowercase => nopfx_lowercase::array::deserialize::<N>(value),
+            Module::WithpfxUppercase => withpfx_uppercase::array::deserialize::<N>(value),
+            Module::NopfxUppercase => nopfx_uppercase::array::deserialize::<N>(value),
+        }
+    }
+
+    /// The option module's `serialize`.
+    pub fn write_option(self, alloc: Global, src: Option<&[u8]>) -> Result<Value, AdapterError> {
+        match self {
+            Module::Root => option_withpfx_ignorecase::serialize(alloc, src),
+            Module::WithpfxIgnorecase => option_withpfx_ignorecase::serialize(alloc, src),
+            Module::NopfxIgnorecase => option_nopfx_ignorecase::serialize(alloc, src),
+            Module::WithpfxLowercase => option_withpfx_lowercase::serialize(alloc, src),
+            Module::NopfxLowercase => option_nopfx_lowercase::serialize(alloc, src),
+            Module::WithpfxUppercase => option_withpfx_uppercase::serialize(alloc, src),
+            Module::NopfxUppercase => option_nopfx_uppercase::serialize(alloc, src),
+        }
+    }
+
+    /// The `serialize` beside the reading of an array or none.
+    pub fn write_option_array(
+        self,
+        alloc: Global,
+        src: Option<&[u8]>,
+    ) -> Result<Value, AdapterError> {
+        match self {
+            Module::Root => option_withpfx_ignorecase::array::serialize(alloc, src),
+            Module::WithpfxIgnorecase => option_withpfx_ignorecase::array::serialize(alloc, src),
+            Module::NopfxIgnorecase => option_nopfx_ignorecase::array::serialize(alloc, src),
+            Module::WithpfxLowercase => option_withpfx_lowercase::array::serialize(alloc, src),
+            Module::NopfxLowercase => option_nopfx_lowercase::array::serialize(alloc, src),
+            Module::WithpfxUppercase => option_withpfx_uppercase::array::serialize(alloc, src),
+            Module::NopfxUppercase => option_nopfx_uppercase::array::serialize(alloc, src),
+        }
+    }
+
+    /// The option module's `deserialize`.
+    pub fn read_option(
+        self,
+        alloc: Global,
+        value: &Value,
+    ) -> Result<Option<Vec<u8>>, AdapterError> {
+        match self {
+            Module::Root => option_withpfx_ignorecase::deserialize(alloc, value),
+            Module::WithpfxIgnorecase => option_withpfx_ignorecase::deserialize(alloc, value),
+            Module::NopfxIgnorecase => option_nopfx_ignorecase::deserialize(alloc, value),
+            Module::WithpfxLowercase => option_withpfx_lowercase::deserialize(alloc, value),
+            Module::NopfxLowercase => option_nopfx_lowercase::deserialize(alloc, value),
+            Module::WithpfxUppercase => option_withpfx_uppercase::deserialize(alloc, value),
+            Module::NopfxUppercase => option_nopfx_uppercase::deserialize(alloc, value),
+        }
+    }
+
+    /// The option module's `deserialize_bounded`.
+    pub fn read_option_bounded<const MAX: usize>(
+        self,
+        alloc: Global,
+        value: &Value,
+    ) -> Result<Option<Vec<u8>>, AdapterError> {
+        match self {
+            Module::Root => option_withpfx_ignorecase::deserialize_bounded::<MAX>(alloc, value),
+            Module::WithpfxIgnorecase => option_withpfx_ignorecase::deserialize_bounded::<MAX>(
+                alloc, value,
+            ),
+            Module::NopfxIgnorecase => option_nopfx_ignorecase::deserialize_bounded::<MAX>(
+                alloc, value,
+            ),
+            Module::WithpfxLowercase => option_withpfx_lowercase::deserialize_bounded::<MAX>(
+                alloc, value,
+            ),
+            Module::NopfxLowercase => option_nopfx_lowercase::deserialize_bounded::<MAX>(
+                alloc, value,
+            ),
+            Module::WithpfxUppercase => option_withpfx_uppercase::deserialize_bounded::<MAX>(
+                alloc, value,
+            ),
+            Module::NopfxUppercase => option_nopfx_uppercase::deserialize_bounded::<MAX>(
+                alloc, value,
+            ),
+        }
+    }
+
+    /// The option module's `array::deserialize`.
+    pub fn read_option_array<const N: usize>(
+        self,
+        value: &Value,
+    ) -> Result<Option<[u8; N]>, AdapterError> {
+        match self {
+            Module::Root => option_withpfx_ignorecase::array::deserialize::<N>(value),
+            Module::WithpfxIgnorecase => option_withpfx_ignorecase::array::deserialize::<N>(value),
+            Module::NopfxIgnorecase => option_nopfx_ignorecase::array::deserialize::<N>(value),
+            Module::WithpfxLowercase => option_withpfx_lowercase::array::deserialize::<N>(value),
+            Module::NopfxLowercase => option_nopfx_lowercase::array::deserialize::<N>(value),
+            Module::WithpfxUppercase => option_withpfx_uppercase::array::deserialize::<N>(value),
+            Module::NopfxUppercase => option_nopfx_uppercase::array::deserialize::<N>(value),
+        }
+    }
+
+    /// Asserts what the two readings of a JSON value answer, and names the value by its text.
+    pub fn expect_read(
+        self,
+        rt: &impl Abort,
+        alloc: Global,
+        text: &str,
+        value: &Value,
+        answer: Answer,
+    ) {
+        let got = self.read(alloc, value);
+        assert_eq!(rt; held(&got), answer, "{text} by {self:?}");
+        let got = self.read_option(alloc, value);
+        assert_eq!(rt;
+            option_held(&got),
+            answer.map(Some),
+            "{text} or none by {self:?}"
+        );
+    }
+
+    /// The same of the two bounded readings.
+    pub fn expect_within<const MAX: usize>(
+        self,
+        rt: &impl Abort,
+        alloc: Global,
+        text: &str,
+        value: &Value,
+        answer: Answer,
+    ) {
+        let got = self.read_bounded::<MAX>(alloc, value);
+        assert_eq!(rt; held(&got), answer, "{text} within {MAX} by {self:?}");
+        let got = self.read_option_bounded::<MAX>(alloc, value);
+        assert_eq!(rt;
+            option_held(&got),
+            answer.map(Some),
+            "{text} or none within {MAX} by {self:?}"
+        );
+    }
+
+    /// The same of the two readings of arrays.
+    pub fn expect_array<const N: usize>(
+        self,
+        rt: &impl Abort,
+        text: &str,
+        value: &Value,
+        answer: Answer,
+    )
+        requires { N < 600 }
+    {
+        let got = self.read_array::<N>(value);
+        assert_eq!(rt; array_held(&got), answer, "{text} as {N} bytes by {self:?}");
+        let other = self.read_option_array::<N>(value);
+        assert!(rt;
+            other == got.map(Some),
+            "{text} as {N} bytes or none by {self:?}"
+        );
+    }
+
+    /// Asserts that each of the four writings gives this text.
+    pub fn expect_written(
+        self,
+        rt: &impl Abort,
+        alloc: Global,
+        bytes: &[u8],
+        text: &str,
+    ) -> Result<(), AdapterError> {
+        for value in [
+            self.write(alloc, bytes)?,
+            self.write_array(alloc, bytes)?,
+            self.write_option(alloc, Some(bytes))?,
+            self.write_option_array(alloc, Some(bytes))?,
+        ] {
+            assert_eq!(rt; value.as_str(), Some(text), "{bytes:?} by {self:?}");
+        }
+        Ok(())
+    }
+}
