@@ -13,6 +13,8 @@ use faster_hex::{
     hex_encode_into,
 };
 
+pub mod json;
+
 /// Decodes into a buffer and marks it as read by setting its first byte to 0xff.
 ///
 /// The caller's proof knows the whole buffer: what the digits spell but for the first byte, and
