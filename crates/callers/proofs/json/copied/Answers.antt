@@ -5,16 +5,17 @@ use Rattle.std.proofs.lemmas.Result.{IfOk-weaker}
 use Rattle.serde_json.specs.View.{view}
 use Rattle.hex_core.specs.Laws.{AreBytes}
 use Rattle.faster_hex.specs.AdapterLaws.{policies}
-use Rattle.faster_hex.specs.Adapters.{Reads, written}
+use Rattle.faster_hex.specs.Adapters.{Reads, Writes}
 use Rattle.faster_hex.specs.Policies as wire
 use Rattle.callers.proofs.json.copied.Goals as goal
 
 pub returns : goal.returns
 returns c =
     let are_bytes : AreBytes c.args.bytes.now = All-from_get_or (λ b. b < 256) c.args.bytes.now 0 (λ i _. (c.type_inv.bytes i).fits) in
-    let read : Reads wire.nopfx_lowercase None (written wire.nopfx_lowercase c.args.bytes.now) c.args.bytes.now =
-    All-get_or (λ p. Reads p None (written p c.args.bytes.now) c.args.bytes.now) policies 3 wire.nopfx_lowercase (omega arith)
-    (c.reading_inverts_writing.ensures.bytes c.args.bytes.now are_bytes) in
+    let value = view c.in_ok-value.value in
+    let read : Writes wire.nopfx_lowercase c.args.bytes.now value → Reads wire.nopfx_lowercase None value c.args.bytes.now =
+    All-get_or (λ p. Writes p c.args.bytes.now value → Reads p None value c.args.bytes.now) policies 3 wire.nopfx_lowercase (omega arith)
+    (c.reading_inverts_writing.ensures.bytes c.args.bytes.now value are_bytes) in
     IfOk-weaker c.deserialize.result _ _
-    (λ v reads. c.a_value_is_read_as_one_list.ensures wire.nopfx_lowercase None None (view c.in_ok-value.value) v.items c.args.bytes.now reads (rw c.in_ok-value.ensures.1 read))
+    (λ v reads. c.a_value_is_read_as_one_list.ensures wire.nopfx_lowercase None None value v.items c.args.bytes.now reads (read c.in_ok-value.ensures))
     c.deserialize.ensures.ok
