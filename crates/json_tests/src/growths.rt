@@ -3,23 +3,12 @@
 use crate::answers::{Answer, OptionAnswer, held, invalid, option_held, over};
 use faster_hex::AdapterError;
 use faster_hex::adapters::{Policy, read, read_option, text_of};
-use hex_core::{CheckCase, Error};
+use faster_hex::nopfx_uppercase::POLICY as PLAIN;
+use faster_hex::withpfx_ignorecase::POLICY as PREFIXED;
+use hex_core::Error;
 use refusing_allocator::Refusing;
 use serde_json::Value;
 use std::test::Fail;
-
-// The root's policy.
-const PREFIXED: Policy = Policy {
-    prefixed: true,
-    upper: false,
-    case: CheckCase::None,
-};
-
-const PLAIN: Policy = Policy {
-    prefixed: false,
-    upper: true,
-    case: CheckCase::Upper,
-};
 
 const REFUSED: AdapterError = AdapterError::Codec(Error::OutOfMemory);
 
