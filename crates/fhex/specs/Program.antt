@@ -1,5 +1,5 @@
 -- What `fhex` does with its words and with what it reads.
-use Rattle.std.specs.Prelude.{◌≡◌, ℕ, false, if◌then◌else◌, List, [], ◌∷◌, ◌++◌, codes, Option, Some, None, ⊤}
+use Rattle.std.specs.Prelude.{◌≡◌, ◌+◌, ◌<◌, ◌%◌, ℕ, false, true, if◌then◌else◌, List, [], ◌∷◌, ◌++◌, length, codes, Option, Some, None, Result, Ok, Err}
 use Rattle.std.specs.Str.{bytes_eq}
 use Rattle.std.specs.Io.BufRead.{strip_last}
 use Rattle.std.specs.Io.KnownBytes.{Consumes, Appends, Keeps, IsAtEnd}
@@ -7,8 +7,11 @@ use Rattle.hex_core.specs.declared.digit.CheckCase.TheVariants as policy
 use Rattle.hex_core.specs.declared.error.Error.{Error}
 use Rattle.hex_core.specs.Text.{Spells, text}
 use Rattle.hex_core.specs.Refusal.{source_refusal}
-use Rattle.fhex.specs.declared.program.Op.{Op}
-use Rattle.fhex.specs.declared.program.Op.TheVariants.{Encode, Decode}
+use Rattle.faster_hex.specs.Sink.{AppendsBeginning}
+use Rattle.fhex.specs.declared.operation.Op.{Op}
+use Rattle.fhex.specs.declared.operation.Op.TheVariants.{Encode, EncodeUpper, Decode, DecodeLower, DecodeUpper}
+use Rattle.fhex.specs.declared.operation.RunFault.{RunFault}
+use Rattle.fhex.specs.declared.operation.RunFault.TheVariants as fault
 use Rattle.fhex.specs.declared.program.Failure.{Failure}
 use Rattle.fhex.specs.declared.program.Failure.TheVariants.{Codec, Usage, ReadFailed, WriteFailed, OutOfMemory, InputTooLong}
 
@@ -16,7 +19,10 @@ use Rattle.fhex.specs.declared.program.Failure.TheVariants.{Codec, Usage, ReadFa
 abbrev pub op_of_word : List ℕ → Option Op
 op_of_word word =
     if bytes_eq word (codes "encode") then Some Encode
+    else if bytes_eq word (codes "encode-upper") then Some EncodeUpper
     else if bytes_eq word (codes "decode") then Some Decode
+    else if bytes_eq word (codes "decode-lower") then Some DecodeLower
+    else if bytes_eq word (codes "decode-upper") then Some DecodeUpper
     else None
 
 -- the operation that the program's words name: there has to be one word
@@ -32,12 +38,52 @@ without_newline input = strip_last 10 input
 -- the output of an operation: a text and a newline, or the bytes that the input spells
 abbrev pub IsOutput : Op → List ℕ → List ℕ → Type 0
 IsOutput Encode input output = output ≡ text false input ++ 10 ∷ []
+IsOutput EncodeUpper input output = output ≡ text true input ++ 10 ∷ []
 IsOutput Decode input output = Spells policy.None (without_newline input) output
+IsOutput DecodeLower input output = Spells policy.Lower (without_newline input) output
+IsOutput DecodeUpper input output = Spells policy.Upper (without_newline input) output
 
 -- what an operation refuses
 abbrev pub op_refusal : Op → List ℕ → Option Error
 op_refusal Encode input = None
+op_refusal EncodeUpper input = None
 op_refusal Decode input = source_refusal policy.None (without_newline input)
+op_refusal DecodeLower input = source_refusal policy.Lower (without_newline input)
+op_refusal DecodeUpper input = source_refusal policy.Upper (without_newline input)
+
+-- these digits take memory to decode: their length is even and above 0
+abbrev pub FillsMemory : List ℕ → Type 0
+FillsMemory digits = (length digits % 2 ≡ 0) × (0 < length digits)
+
+-- an operation takes memory: encoding never does
+abbrev pub TakesMemory : Op → List ℕ → Type 0
+TakesMemory Encode input = ⊥
+TakesMemory EncodeUpper input = ⊥
+TakesMemory Decode input = FillsMemory (without_newline input)
+TakesMemory DecodeLower input = FillsMemory (without_newline input)
+TakesMemory DecodeUpper input = FillsMemory (without_newline input)
+
+-- nothing was put: the bytes taken and the failure count are as before
+abbrev pub NothingPut : Option (List ℕ) → Option (List ℕ) → ℕ → ℕ → Type 0
+NothingPut taken taken' count count' = Keeps taken taken' × (count' ≡ count)
+
+-- the puts of an output ended early: a beginning was taken, and one put failed
+abbrev pub PutsStopped : Option (List ℕ) → Option (List ℕ) → ℕ → ℕ → List ℕ → Type 0
+PutsStopped taken taken' count count' output =
+    AppendsBeginning taken taken' output × (0 < length output) × (count' ≡ count + 1)
+
+-- what a fault of a run tells, by its outputs, its refusal and whether it takes memory
+abbrev pub FailureBy : (List ℕ → Type 0) → Option Error → Type 0 → Option (List ℕ) → Option (List ℕ) → ℕ → ℕ → RunFault → Type 0
+FailureBy is_output refusal takes taken taken' count count' (fault.Codec e) =
+    (refusal ≡ Some e) × NothingPut taken taken' count count'
+FailureBy is_output refusal takes taken taken' count count' (fault.Write why) =
+    (output : List ℕ) × is_output output × PutsStopped taken taken' count count' output
+FailureBy is_output refusal takes taken taken' count count' fault.OutOfMemory =
+    takes × NothingPut taken taken' count count'
+
+-- what a fault of an operation's run over this input tells
+abbrev pub RunFailure : Op → List ℕ → Option (List ℕ) → Option (List ℕ) → ℕ → ℕ → RunFault → Type 0
+RunFailure op input = FailureBy (IsOutput op input) (op_refusal op input) (TakesMemory op input)
 
 -- the operation took all of the input, and its output is what was written more
 pub record Served (op : Op) (left left' held held' : Option (List ℕ)) : Type 0 where
@@ -66,11 +112,13 @@ status_of WriteFailed = 3
 status_of OutOfMemory = 3
 status_of InputTooLong = 3
 
--- a failure is this refusal, and then nothing was written, or a fault of the surroundings
-abbrev pub IsRefusalOf : Option Error → Option (List ℕ) → Option (List ℕ) → Failure → Type 0
-IsRefusalOf refusal held held' (Codec e) = (refusal ≡ Some e) × Keeps held held'
-IsRefusalOf refusal held held' Usage = ⊥
-IsRefusalOf refusal held held' ReadFailed = ⊤
-IsRefusalOf refusal held held' WriteFailed = ⊤
-IsRefusalOf refusal held held' OutOfMemory = ⊤
-IsRefusalOf refusal held held' InputTooLong = ⊤
+-- the program's failure after a fault of its run
+abbrev pub failure_of : RunFault → Failure
+failure_of (fault.Codec e) = Codec e
+failure_of (fault.Write why) = WriteFailed
+failure_of fault.OutOfMemory = OutOfMemory
+
+-- the program's failure after a run and a flush: the run's own fault, or the flush's
+abbrev pub EndsIn : Result (Unit {0}) RunFault → Failure → Type 0
+EndsIn (Ok done) failure = failure ≡ WriteFailed
+EndsIn (Err why) failure = failure ≡ failure_of why

@@ -1,0 +1,67 @@
+//! Readers and writers that fail where a test wants it.
+
+use std::io;
+use std::io::{ErrorKind, Read, Write};
+
+/// Gives this many times one byte, then fails where it is told to, and else ends.
+#[derive(Drop)]
+pub struct Repeated {
+    pub byte: u8,
+    pub left: usize,
+    pub fails: bool,
+}
+
+impl Read for Repeated {
+    fn read(&mut self, buf: &mut [u8]) -> io::Result<usize> {
+        if self.left == 0 && self.fails {
+            self.fails = false;
+            return Err(io::Error::from(ErrorKind::Interrupted));
+        }
+        let n = self.left.min(buf.len());
+        buf[..n].fill(self.byte);
+        self.left -= n;
+        Ok(n)
+    }
+}
+
+/// Takes this many bytes, one a write, and then fails once.
+#[derive(Drop)]
+pub struct Narrow {
+    pub taken: usize,
+    pub room: usize,
+    pub flush_fails: bool,
+}
+
+impl Write for Narrow {
+    fn write(&mut self, buf: &[u8]) -> io::Result<usize> {
+        if self.room == 0 {
+            self.room = usize::MAX;
+            return Err(io::Error::from(ErrorKind::Interrupted));
+        }
+        let n = buf.len().min(1);
+        self.taken = self.taken.saturating_add(n);
+        self.room -= n;
+        Ok(n)
+    }
+
+    fn flush(&mut self) -> io::Result<()> {
+        if self.flush_fails {
+            return Err(io::Error::from(ErrorKind::Other));
+        }
+        Ok(())
+    }
+}
+
+/// Takes nothing of what it is given, and answers no error.
+#[derive(Drop)]
+pub struct Stuck;
+
+impl Write for Stuck {
+    fn write(&mut self, _buf: &[u8]) -> io::Result<usize> {
+        Ok(0)
+    }
+
+    fn flush(&mut self) -> io::Result<()> {
+        Ok(())
+    }
+}
