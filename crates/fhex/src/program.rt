@@ -1,6 +1,6 @@
 //! All of `fhex` over what is handed in: words, an input and two outputs.
 
-ghost use Rattle.std.specs.Prelude.{◌≡◌, ◌≤◌, Some, map, vec_len, IfOk, IfErr, OnOk, IsOk};
+ghost use Rattle.std.specs.Prelude.{◌≡◌, ◌≤◌, ◌⊎◌, Some, map, vec_len, IfOk, IfErr, OnOk, IsOk};
 ghost use Rattle.std.specs.Io.KnownBytes.{Consumes, IsAtEnd, Keeps};
 ghost use Rattle.fhex.specs.declared.operation.Op.{Op as OpValue};
 ghost use Rattle.fhex.specs.Program.{EndsIn, Refused, Served, failure_of, op_of_words, status_of};
@@ -174,7 +174,9 @@ fn serve_op<A: Allocator, R: Read, W: Write>(
 }
 
 // Runs stored vectors, which reads no input, and answers how many failed.
-fn check_vectors<W: Write>(table: &[Vector], out: W) -> (Result<usize, Failure>, W) {
+fn check_vectors<W: Write>(table: &[Vector], out: W) -> (Result<usize, Failure>, W)
+    ensures { IfErr result.0 (λ failure. failure ≡ Failure.WriteFailed) }
+{
     let mut sink = WriterSink::new(out);
     let ran = run_vectors(table, &mut sink);
     let mut out = sink.into_inner();
@@ -189,7 +191,9 @@ fn check_vectors<W: Write>(table: &[Vector], out: W) -> (Result<usize, Failure>,
 /// answers the exit status: 0 where none failed, else 1.
 ///
 /// A failed write or flush is status 3, and `write failed` goes to `err`.
-pub fn serve_vectors<W: Write, E: Write>(table: &[Vector], out: W, err: E) -> (u8, W, E) {
+pub fn serve_vectors<W: Write, E: Write>(table: &[Vector], out: W, err: E) -> (u8, W, E)
+    ensures { (result.0 ≡ 0) ⊎ (result.0 ≡ 1) ⊎ (result.0 ≡ 3) }
+{
     let mut err = err;
     match check_vectors(table, out) {
         (Ok(0), out) => (0, out, err),

@@ -1,6 +1,6 @@
 //! The stored vectors, which `fhex vectors` runs under each plan.
 
-ghost use Rattle.std.specs.Prelude.{◌≡◌, ◌<◌, ◌≤◌, ◌-◌, ◌^◌, length, IfOk, OnOk};
+ghost use Rattle.std.specs.Prelude.{◌≡◌, ◌<◌, ◌≤◌, ◌-◌, ◌*◌, ◌^◌, length, IfOk, OnOk};
 
 use arrayvec::ArrayString;
 use faster_hex::format::put_all;
@@ -272,14 +272,24 @@ fn run_under<S: Sink>(plan: Backend, table: &[Vector], sink: &mut S) -> Result<u
     Ok(failed)
 }
 
-/// Runs each vector under each plan, in the order of [`backends`], and puts a line each:
-/// `scalar v01 pass`, or `fail`. The last line has the totals. Answers how many failed.
+/// Runs each vector under each plan, in the order of [`backends`], and puts a line each, as
+/// `scalar v01 pass`, or `fail` in the place of `pass`. The last line has the totals. Answers how
+/// many failed, a vector counted once for each plan. No memory is taken.
 ///
 /// # Errors
 ///
 /// [`WriteFault`] where a put failed, which ends the run.
+///
+/// ```rust
+/// let mut buffer = [0; 2048];
+/// let mut sink = SliceSink::new(&mut buffer);
+/// assert_eq!(rt; run_vectors(&VECTORS, &mut sink), Ok(0));
+/// assert!(rt; sink.written().starts_with(b"scalar v01 pass\n"));
+/// ```
 pub fn run_vectors<S: Sink>(table: &[Vector], sink: &mut S) -> Result<usize, WriteFault>
     requires { S.failure_count sink.old < 2 ^ 64 - 1 }
+    ensures failed { IfOk result (λ failed. failed ≤ 5 * length table.now) }
+    ensures counted { OnOk result (S.failure_count sink.new ≡ S.failure_count sink.old) }
 {
     let plans = backends();
     let total = plans.len() * table.len();
