@@ -4,11 +4,13 @@ ghost use Rattle.std.specs.Prelude.{◌≡◌, None, Some, codes, MatchResult, I
 ghost use Rattle.serde_json.specs.Data.{Data};
 ghost use Rattle.serde_json.specs.Find.{get};
 ghost use Rattle.serde_json.specs.View.{view};
-ghost use Rattle.faster_hex.specs.Adapters.{Reads};
+ghost use Rattle.faster_hex.specs.Adapters.{Reads, WriteFailure};
 ghost use Rattle.faster_hex.specs.Policies as wire;
 ghost use Rattle.callers.specs.Records.{id_refusal};
 
-use faster_hex::laws::{a_value_is_read_as_one_list, reading_inverts_writing};
+use faster_hex::laws::{
+    a_value_is_read_as_one_list, a_value_is_read_where_nothing_is_refused, reading_inverts_writing,
+};
 use faster_hex::{AdapterError, array, nopfx_lowercase};
 use serde_json::Value;
 use std::alloc::Global;
@@ -38,12 +40,14 @@ pub fn record_id(fields: &Value) -> Result<[u8; 4], RecordError>
     }
 }
 
-/// The same bytes, by way of a JSON text.
+/// The same bytes, by way of a JSON text. It fails for want of memory or a text's length alone.
 pub fn copied(alloc: Global, bytes: &[u8]) -> Result<Vec<u8>, AdapterError>
-    ensures { IfOk result (λ v. v.items ≡ bytes.now) }
+    ensures ok { IfOk result (λ v. v.items ≡ bytes.now) }
+    ensures err { IfErr result (λ e. WriteFailure wire.nopfx_lowercase bytes.now e) }
 {
     reading_inverts_writing();
     a_value_is_read_as_one_list();
+    a_value_is_read_where_nothing_is_refused();
     let value = nopfx_lowercase::serialize(alloc, bytes)?;
     nopfx_lowercase::deserialize(alloc, &value)
 }

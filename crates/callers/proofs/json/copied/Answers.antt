@@ -1,21 +1,45 @@
--- The text that was written is read as the bytes, and as no other list.
-use Rattle.std.proofs.Common.{◌<◌, None, arith}
+-- The text that was written is read as the bytes, and as no other list; a read of it fails for want
+-- of memory alone.
+use Rattle.std.proofs.Common.{rules, ◌≡◌, ◌<◌, ℕ, List, None, get_or, arith}
 use Rattle.std.proofs.lemmas.List.Elements.{All-get_or, All-from_get_or}
-use Rattle.std.proofs.lemmas.Result.{IfOk-weaker}
+use Rattle.std.proofs.lemmas.Result.{IfOk-weaker, IfErr-weaker}
+use Rattle.serde_json.specs.Data.{Data}
 use Rattle.serde_json.specs.View.{view}
-use Rattle.hex_core.specs.Laws.{AreBytes}
-use Rattle.faster_hex.specs.AdapterLaws.{policies}
-use Rattle.faster_hex.specs.Adapters.{Reads, Writes}
+use Rattle.hex_core.specs.declared.error.Error.TheVariants as codec
+use Rattle.faster_hex.specs.declared.adapters.AdapterError.{AdapterError}
+use Rattle.faster_hex.specs.declared.adapters.AdapterError.TheVariants.{NotText, InvalidPrefix, InvalidLength, OverBound, Codec}
+use Rattle.faster_hex.specs.AdapterLaws.{ReadingInvertsWriting, policies}
+use Rattle.faster_hex.specs.Adapters.{ReadFailure, Reads, WriteFailure, Writes, read_refusal}
 use Rattle.faster_hex.specs.Policies as wire
 use Rattle.callers.proofs.json.copied.Goals as goal
 
-pub returns : goal.returns
-returns c =
-    let are_bytes : AreBytes c.args.bytes.now = All-from_get_or (λ b. b < 256) c.args.bytes.now 0 (λ i _. (c.type_inv.bytes i).fits) in
+-- what was written and is not refused is not read for want of memory alone
+fails-as-writing : (bytes : List ℕ) (d : Data) (e : AdapterError) → Writes wire.nopfx_lowercase bytes d → read_refusal wire.nopfx_lowercase None d ≡ None → ReadFailure wire.nopfx_lowercase None d e → WriteFailure wire.nopfx_lowercase bytes e
+fails-as-writing bytes d NotText writes none some = absurd (cc (none, some))
+fails-as-writing bytes d InvalidPrefix writes none some = absurd (cc (none, some))
+fails-as-writing bytes d InvalidLength writes none some = absurd (cc (none, some))
+fails-as-writing bytes d (OverBound max actual) writes none some = absurd (cc (none, some))
+fails-as-writing bytes d (Codec codec.OutOfMemory) writes none wants = search rules
+fails-as-writing bytes d (Codec codec.Overflow) writes none some = absurd (cc (none, some))
+fails-as-writing bytes d (Codec codec.OddLength) writes none some = absurd (cc (none, some))
+fails-as-writing bytes d (Codec (codec.InvalidChar index byte)) writes none some = absurd (cc (none, some))
+fails-as-writing bytes d (Codec (codec.OutputTooSmall required)) writes none some = absurd (cc (none, some))
+fails-as-writing bytes d (Codec (codec.LengthMismatch expected actual)) writes none some = absurd (cc (none, some))
+
+-- what was written is read as the bytes
+reads-back : ReadingInvertsWriting → (bytes : List ℕ) (d : Data) → ((i : ℕ) → get_or bytes i 0 < 256) → Writes wire.nopfx_lowercase bytes d → Reads wire.nopfx_lowercase None d bytes
+reads-back law bytes d range =
+    All-get_or (λ p. Writes p bytes d → Reads p None d bytes) policies 3 wire.nopfx_lowercase (omega arith) (law bytes d (All-from_get_or (λ b. b < 256) bytes 0 (λ i _. range i)))
+
+pub returns-clause-ok : goal.returns-clause-ok
+returns-clause-ok c =
     let value = view c.in_ok-value.value in
-    let read : Writes wire.nopfx_lowercase c.args.bytes.now value → Reads wire.nopfx_lowercase None value c.args.bytes.now =
-    All-get_or (λ p. Writes p c.args.bytes.now value → Reads p None value c.args.bytes.now) policies 3 wire.nopfx_lowercase (omega arith)
-    (c.reading_inverts_writing.ensures.bytes c.args.bytes.now value are_bytes) in
-    IfOk-weaker c.deserialize.result _ _
-    (λ v reads. c.a_value_is_read_as_one_list.ensures wire.nopfx_lowercase None None value v.items c.args.bytes.now reads (read c.in_ok-value.ensures))
-    c.deserialize.ensures.ok
+    let read = reads-back c.reading_inverts_writing.ensures.bytes c.args.bytes.now value (λ i. (c.type_inv.bytes i).fits) c.in_ok-value.ensures in
+    IfOk-weaker c.deserialize.result _ _ (λ v reads. c.a_value_is_read_as_one_list.ensures wire.nopfx_lowercase None None value v.items c.args.bytes.now reads read) c.deserialize.ensures.ok
+
+pub returns-clause-err : goal.returns-clause-err
+returns-clause-err c =
+    let value = view c.in_ok-value.value in
+    let read = reads-back c.reading_inverts_writing.ensures.bytes c.args.bytes.now value (λ i. (c.type_inv.bytes i).fits) c.in_ok-value.ensures in
+    let none : read_refusal wire.nopfx_lowercase None value ≡ None = (c.a_value_is_read_where_nothing_is_refused.ensures.list wire.nopfx_lowercase None value).1 (c.args.bytes.now, read) in
+    IfErr-weaker c.deserialize.result _ _ (λ e failure. fails-as-writing c.args.bytes.now value e c.in_ok-value.ensures none failure) c.deserialize.ensures.err
