@@ -1,4 +1,4 @@
-# `make` builds fhex, `make test` runs the gate, `make install PREFIX=..` puts fhex into PREFIX/bin.
+# `make` builds fhex, `make test` runs the gate, `make install PREFIX=DIR` puts fhex into PREFIX/bin.
 PREFIX ?= /usr/local
 PROGRAM = crates/fhex/out/fhex
 

@@ -1,7 +1,8 @@
 #!/bin/sh
 # Compares fhex with basenc and cat on 8 MiB, checks that outputs agree, and prints ratios of times.
 # The times are the best of some runs, which take turns, so that all meet the same machine.
-# Usage: scripts/compare.sh [runs], after `make`. FHEX names another program to compare.
+# Usage: scripts/compare.sh [runs], after `make`. FHEX names another program to compare. It wants the
+# basenc and the date of GNU's coreutils.
 set -eu
 
 here=$(cd "$(dirname "$0")/.." && pwd)
@@ -24,12 +25,14 @@ printf '\n' | cat "$digits" - | cmp - "$work/upper"
 "$fhex" decode-upper <"$digits" | cmp - "$bytes"
 basenc -d --base16 <"$digits" | cmp - "$bytes"
 
-# The nanoseconds of one run.
-once() {
+# The nanoseconds of some runs in a row, beside which starting the clock counts little.
+some() {
     source=$1
     shift
     start=$(date +%s%N)
-    "$@" <"$source" >/dev/null
+    for _ in 1 2 3 4 5; do
+        "$@" <"$source" >/dev/null
+    done
     stop=$(date +%s%N)
     echo $((stop - start))
 }
@@ -38,7 +41,7 @@ once() {
 best() {
     kept=$work/best.$1
     shift
-    spent=$(once "$@")
+    spent=$(some "$@")
     if [ ! -s "$kept" ] || [ "$spent" -lt "$(cat "$kept")" ]; then
         echo "$spent" >"$kept"
     fi

@@ -1,5 +1,5 @@
 -- What `fhex` does with its words and with what it reads.
-use Rattle.std.specs.Prelude.{◌≡◌, ◌+◌, ◌<◌, ◌%◌, ℕ, false, true, if◌then◌else◌, List, [], ◌∷◌, ◌++◌, length, codes, Option, Some, None, Result, Ok, Err}
+use Rattle.std.specs.Prelude.{◌≡◌, ◌≢◌, ◌+◌, ◌<◌, ◌%◌, ℕ, false, true, if◌then◌else◌, List, [], ◌∷◌, ◌++◌, length, codes, Option, Some, None, Result, Ok, Err}
 use Rattle.std.specs.Str.{bytes_eq}
 use Rattle.std.specs.Io.BufRead.{strip_last}
 use Rattle.std.specs.Io.KnownBytes.{Consumes, Appends, Keeps, IsAtEnd}
@@ -31,6 +31,10 @@ op_of_words [] = None
 op_of_words (word ∷ []) = op_of_word word
 op_of_words (word ∷ another ∷ rest) = None
 
+-- the program's words name neither an operation nor the stored vectors
+abbrev pub NamesNothing : List (List ℕ) → Type 0
+NamesNothing words = (op_of_words words ≡ None) × (words ≢ codes "vectors" ∷ [])
+
 -- the input without one final newline, where it has one
 abbrev pub without_newline : List ℕ → List ℕ
 without_newline input = strip_last 10 input
@@ -51,17 +55,17 @@ op_refusal Decode input = source_refusal policy.None (without_newline input)
 op_refusal DecodeLower input = source_refusal policy.Lower (without_newline input)
 op_refusal DecodeUpper input = source_refusal policy.Upper (without_newline input)
 
--- these digits take memory to decode: their length is even and above 0
-abbrev pub FillsMemory : List ℕ → Type 0
-FillsMemory digits = (length digits % 2 ≡ 0) × (0 < length digits)
+-- decoding these digits needs memory: their length is even and above 0
+abbrev pub NeedsMemory : List ℕ → Type 0
+NeedsMemory digits = (length digits % 2 ≡ 0) × (0 < length digits)
 
--- an operation takes memory: encoding never does
-abbrev pub TakesMemory : Op → List ℕ → Type 0
-TakesMemory Encode input = ⊥
-TakesMemory EncodeUpper input = ⊥
-TakesMemory Decode input = FillsMemory (without_newline input)
-TakesMemory DecodeLower input = FillsMemory (without_newline input)
-TakesMemory DecodeUpper input = FillsMemory (without_newline input)
+-- an operation needs memory: encoding never does
+abbrev pub OpNeedsMemory : Op → List ℕ → Type 0
+OpNeedsMemory Encode input = ⊥
+OpNeedsMemory EncodeUpper input = ⊥
+OpNeedsMemory Decode input = NeedsMemory (without_newline input)
+OpNeedsMemory DecodeLower input = NeedsMemory (without_newline input)
+OpNeedsMemory DecodeUpper input = NeedsMemory (without_newline input)
 
 -- nothing was put: the bytes taken and the failure count are as before
 abbrev pub NothingPut : Option (List ℕ) → Option (List ℕ) → ℕ → ℕ → Type 0
@@ -72,18 +76,18 @@ abbrev pub PutsStopped : Option (List ℕ) → Option (List ℕ) → ℕ → ℕ
 PutsStopped taken taken' count count' output =
     AppendsBeginning taken taken' output × (0 < length output) × (count' ≡ count + 1)
 
--- what a fault of a run tells, by its outputs, its refusal and whether it takes memory
+-- what a fault of a run tells, by its outputs, its refusal and whether it needs memory
 abbrev pub FailureBy : (List ℕ → Type 0) → Option Error → Type 0 → Option (List ℕ) → Option (List ℕ) → ℕ → ℕ → RunFault → Type 0
-FailureBy is_output refusal takes taken taken' count count' (fault.Codec e) =
+FailureBy is_output refusal needs taken taken' count count' (fault.Codec e) =
     (refusal ≡ Some e) × NothingPut taken taken' count count'
-FailureBy is_output refusal takes taken taken' count count' (fault.Write why) =
+FailureBy is_output refusal needs taken taken' count count' (fault.Write why) =
     (output : List ℕ) × is_output output × PutsStopped taken taken' count count' output
-FailureBy is_output refusal takes taken taken' count count' fault.OutOfMemory =
-    takes × NothingPut taken taken' count count'
+FailureBy is_output refusal needs taken taken' count count' fault.OutOfMemory =
+    needs × NothingPut taken taken' count count'
 
 -- what a fault of an operation's run over this input tells
 abbrev pub RunFailure : Op → List ℕ → Option (List ℕ) → Option (List ℕ) → ℕ → ℕ → RunFault → Type 0
-RunFailure op input = FailureBy (IsOutput op input) (op_refusal op input) (TakesMemory op input)
+RunFailure op input = FailureBy (IsOutput op input) (op_refusal op input) (OpNeedsMemory op input)
 
 -- the operation took all of the input, and its output is what was written more
 pub record Served (op : Op) (left left' held held' : Option (List ℕ)) : Type 0 where

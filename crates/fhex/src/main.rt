@@ -12,7 +12,7 @@ use std::env;
 use std::io::{BufWriter, ErrorKind};
 use std::process::ExitCode;
 
-// How many bytes standard output takes at a time.
+// How many bytes are kept back before standard output is written to.
 const OUTPUT_BUFFER: usize = 65_536;
 
 // The program's words, without its name.

@@ -4,7 +4,7 @@ ghost use Rattle.std.specs.Prelude.{◌≡◌, ◌++◌, ◌∷◌, [], ◌<◌,
 ghost use Rattle.std.specs.Io.KnownBytes.{Appends};
 ghost use Rattle.hex_core.specs.Text.{Spells, text};
 ghost use Rattle.hex_core.specs.Refusal.{source_refusal};
-ghost use Rattle.fhex.specs.Program.{FailureBy, FillsMemory, IsOutput, RunFailure, op_of_word, op_of_words, without_newline};
+ghost use Rattle.fhex.specs.Program.{FailureBy, NeedsMemory, IsOutput, RunFailure, op_of_word, op_of_words, without_newline};
 
 use faster_hex::format::put_all;
 use faster_hex::{CheckCase, Error, Hex, HexFlags, Sink, WriteFault, hex_decode_vec_with_case};
@@ -118,7 +118,7 @@ fn decode<A: Allocator + Drop, S: Sink>(
         × Appends (S.taken sink.old) (S.taken sink.new) bytes) }
     ensures ok_count { OnOk result (S.failure_count sink.new ≡ S.failure_count sink.old) }
     ensures err { IfErr result (λ why. FailureBy (Spells case (without_newline input.now))
-        (source_refusal case (without_newline input.now)) (FillsMemory (without_newline input.now))
+        (source_refusal case (without_newline input.now)) (NeedsMemory (without_newline input.now))
         (S.taken sink.old) (S.taken sink.new)
         (S.failure_count sink.old) (S.failure_count sink.new) why) }
 {

@@ -3,7 +3,7 @@
 ghost use Rattle.std.specs.Prelude.{◌≡◌, ◌≤◌, ◌⊎◌, Some, map, vec_len, IfOk, IfErr, OnOk, IsOk};
 ghost use Rattle.std.specs.Io.KnownBytes.{Consumes, IsAtEnd, Keeps};
 ghost use Rattle.fhex.specs.declared.operation.Op.{Op as OpValue};
-ghost use Rattle.fhex.specs.Program.{EndsIn, Refused, Served, failure_of, op_of_words, status_of};
+ghost use Rattle.fhex.specs.Program.{EndsIn, NamesNothing, Refused, Served, failure_of, op_of_words, status_of};
 
 use crate::operation::{Op, RunFault, run_in};
 use crate::vectors::{VECTORS, Vector, run_vectors};
@@ -18,6 +18,9 @@ pub const INPUT_LIMIT: usize = 16_777_216;
 
 // How many bytes one read asks for.
 const CHUNK: usize = 65_536;
+
+// The longest message, in bytes, with its newline.
+const MESSAGE: usize = 128;
 
 /// Why `fhex` does not end well. Displayed, it is the line that goes to standard error.
 #[derive(Clone, Copy, Debug, PartialEq, Eq)]
@@ -59,7 +62,8 @@ impl Failure {
 
     // The failure of a program whose run met this fault.
     fn of_run(fault: RunFault) -> Failure
-        ensures { result ≡ failure_of fault }
+        ensures fault { result ≡ failure_of fault }
+        ensures status { (status_of result ≡ 1) ⊎ (status_of result ≡ 3) }
     {
         match fault {
             RunFault::Codec(e) => Failure::Codec(e),
@@ -113,6 +117,7 @@ fn read_input<A: Allocator + Drop, R: Read>(alloc: A, input: &mut R) -> Result<V
 fn finish<W: Write>(out: &mut W, ran: Result<(), RunFault>) -> Result<(), Failure>
     ensures ok { OnOk result (IsOk ran) }
     ensures err { IfErr result (λ f. EndsIn ran f) }
+    ensures status { IfErr result (λ f. (status_of f ≡ 1) ⊎ (status_of f ≡ 3)) }
     ensures kept { Keeps (W.contents out.old) (W.contents out.new) }
 {
     if let Err(fault) = ran {
@@ -129,7 +134,7 @@ fn finish<W: Write>(out: &mut W, ran: Result<(), RunFault>) -> Result<(), Failur
 pub fn refuse<E: Write>(err: &mut E, failure: Failure) -> u8
     ensures { result ≡ status_of failure }
 {
-    let mut line = ArrayString::<128>::new();
+    let mut line = ArrayString::<MESSAGE>::new();
     if fmt::Write::write_fmt(&mut line, format_args!("{failure}\n")).is_ok() {
         write_line(err, line.as_bytes());
     }
@@ -161,6 +166,7 @@ fn serve_op<A: Allocator, R: Read, W: Write>(
     ensures refused { IfErr result.0 (λ f. status_of f ≡ 1
         → Refused op (R.remaining input.old) (R.remaining input.new)
         (W.contents out) (W.contents result.1)) }
+    ensures status { IfErr result.0 (λ f. (status_of f ≡ 1) ⊎ (status_of f ≡ 3)) }
 {
     let source = match read_input(alloc, input) {
         Ok(source) => source,
@@ -218,6 +224,12 @@ pub fn serve_in<A: Allocator, R: Read, W: Write, E: Write>(
         → result.0 ≡ 1
         → Refused op (R.remaining input.old) (R.remaining input.new) (W.contents out)
         (W.contents result.1) }
+    ensures status { (op : OpValue) → op_of_words (map (λ w. w.now) words.now) ≡ Some op
+        → (result.0 ≡ 0) ⊎ (result.0 ≡ 1) ⊎ (result.0 ≡ 3) }
+    ensures unread { NamesNothing (map (λ w. w.now) words.now)
+        → (R.remaining input.new ≡ R.remaining input.old)
+        × (W.contents result.1 ≡ W.contents out) }
+    ensures usage { NamesNothing (map (λ w. w.now) words.now) → result.0 ≡ 2 }
 {
     let mut err = err;
     let Some(op) = Op::from_words(words) else {
@@ -235,17 +247,18 @@ pub fn serve_in<A: Allocator, R: Read, W: Write, E: Write>(
 /// Runs `fhex` over what is handed in and answers the exit status with the two writers.
 ///
 /// `words` are the program's words without its name. They are judged first. One word that names an
-/// [`Op`]: all of `input` is read, at most [`INPUT_LIMIT`] bytes, and the operation's output goes to
-/// `out`, which is flushed. The word `vectors`: `input` is not read, and the stored vectors' lines
-/// go to `out`, which is flushed.
+/// [`Op`]: all of `input` is read, at most [`INPUT_LIMIT`] bytes, and the operation's output goes
+/// to `out`, which is flushed. The word `vectors`: `input` is not read, and the stored vectors'
+/// lines go to `out`, which is flushed.
 ///
 /// | Status | When | Written to `err`, as one line |
 /// |---|---|---|
 /// | 0 | done | nothing |
 /// | 1 | the input is refused, and then nothing went to `out` | the [`Error`]'s text |
 /// | 1 | a stored vector failed | nothing |
-/// | 2 | no word, several, or another one | the usage |
-/// | 3 | a fault of the surroundings | `read failed`, `write failed`, `out of memory` or `input too long` |
+/// | 2 | no word, several, or another one; nothing was read or written | the usage |
+/// | 3 | a fault of the surroundings | `read failed`, `write failed`, `out of memory` |
+/// | 3 | the input is longer than the limit | `input too long` |
 ///
 /// No error of a reader or a writer is retried. A fault of `err` does not change the status.
 ///
@@ -271,6 +284,12 @@ pub fn serve<R: Read, W: Write, E: Write>(
         → result.0 ≡ 1
         → Refused op (R.remaining input.old) (R.remaining input.new) (W.contents out)
         (W.contents result.1) }
+    ensures status { (op : OpValue) → op_of_words (map (λ w. w.now) words.now) ≡ Some op
+        → (result.0 ≡ 0) ⊎ (result.0 ≡ 1) ⊎ (result.0 ≡ 3) }
+    ensures unread { NamesNothing (map (λ w. w.now) words.now)
+        → (R.remaining input.new ≡ R.remaining input.old)
+        × (W.contents result.1 ≡ W.contents out) }
+    ensures usage { NamesNothing (map (λ w. w.now) words.now) → result.0 ≡ 2 }
 {
     serve_in(&alloc, words, input, out, err)
 }

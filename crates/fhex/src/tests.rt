@@ -113,6 +113,9 @@ fn rows(rt: HostRuntime) -> Result<(), Fail> {
             message.as_bytes(),
             "message of {words:?} on {input:?}"
         );
+        if status == 2 {
+            assert_eq!(rt; source, input, "what is left of the input of {words:?}");
+        }
     }
     Ok(())
 }
@@ -135,53 +138,71 @@ fn each_word_names_its_operation(rt: HostRuntime) {
     }
 }
 
-// Each growth in turn is refused: the run ends with `out of memory`, or as with ample memory.
+// A run with ample memory: its word, input, status, output and message, and how many growths it
+// asks for.
+type Growth = (
+    &'static str,
+    &'static [u8],
+    u8,
+    &'static [u8],
+    &'static str,
+    u64,
+);
+
+static GROWTHS: [Growth; 8] = [
+    ("encode", b"hello", 0, b"68656c6c6f\n", "", 1),
+    ("encode-upper", b"\xab", 0, b"AB\n", "", 1),
+    ("decode", b"68656c6c6f\n", 0, b"hello", "", 2),
+    (
+        "decode",
+        b"0g",
+        1,
+        b"",
+        "invalid hex byte 0x67 at index 1\n",
+        2,
+    ),
+    ("decode", b"abc", 1, b"", ODD, 1),
+    ("decode", b"", 0, b"", "", 0),
+    ("decode-lower", b"00ab", 0, b"\x00\xab", "", 2),
+    (
+        "decode-upper",
+        b"ab",
+        1,
+        b"",
+        "invalid hex byte 0x61 at index 0\n",
+        2,
+    ),
+];
+
+// Each growth in turn is refused, and the run ends with `out of memory`.
 #[test]
 fn tells_a_refused_growth(rt: HostRuntime) -> Result<(), Fail> {
-    let rows: [(&str, &[u8], &[u8], &[u8]); 8] = [
-        ("encode", b"hello", b"68656c6c6f\n", b""),
-        ("encode-upper", b"\xab", b"AB\n", b""),
-        ("decode", b"68656c6c6f\n", b"hello", b""),
-        ("decode", b"0g", b"", b"invalid hex byte 0x67 at index 1\n"),
-        ("decode", b"abc", b"", b"hex input length must be even\n"),
-        ("decode", b"", b"", b""),
-        ("decode-lower", b"00ab", b"\x00\xab", b""),
-        (
-            "decode-upper",
-            b"ab",
-            b"",
-            b"invalid hex byte 0x61 at index 0\n",
-        ),
-    ];
-    for (word, input, output, message) in rows {
-        let alloc = Refusing::new(rt.alloc(), u64::MAX);
-        let mut source = input;
-        let ample = serve_in(
-            &alloc,
-            &[word],
-            &mut source,
-            Vec::new(rt.alloc()),
-            Vec::new(rt.alloc()),
-        );
-        assert_eq!(rt; ample.1.as_slice(), output, "output of {word}");
-        assert_eq!(rt; ample.2.as_slice(), message, "message of {word}");
-        let growths = alloc.asked();
-        for left in 0..growths {
-            alloc.set_left(left);
+    for &(word, input, status, output, message, growths) in &GROWTHS {
+        for left in 0..=growths {
+            let (status, output, message): (u8, &[u8], &str) = if left < growths {
+                (3, b"", "out of memory\n")
+            } else {
+                (status, output, message)
+            };
+            let alloc = Refusing::new(rt.alloc(), left);
             let mut source = input;
-            let (status, out, err) = serve_in(
+            let (answer, out, err) = serve_in(
                 &alloc,
                 &[word],
                 &mut source,
                 Vec::new(rt.alloc()),
                 Vec::new(rt.alloc()),
             );
-            assert_eq!(rt; status, 3, "status of {word}, {left} growths granted");
-            assert_eq!(rt; out.len(), 0, "output of {word}, {left} growths granted");
+            assert_eq!(rt; answer, status, "status of {word}, {left} growths granted");
+            assert_eq!(rt;
+                out.as_slice(),
+                output,
+                "output of {word}, {left} growths granted"
+            );
             assert_eq!(rt;
                 err.as_slice(),
-                b"out of memory\n".as_slice(),
-                "message of {word}"
+                message.as_bytes(),
+                "message of {word}, {left} growths granted"
             );
         }
     }

@@ -42,7 +42,7 @@ pub struct Vector {
     pub call: Call,
     /// The source.
     pub source: &'static [u8],
-    /// How long the destination is, in bytes.
+    /// How long the destination is, in bytes; at most 128, and a vector with more fails.
     pub room: usize,
     /// The bytes that are written, or the refusal, after which none are.
     pub answer: Result<&'static [u8], Error>,
@@ -210,7 +210,7 @@ pub static VECTORS: [Vector; 16] = [
 ];
 
 // Whether a destination holds these bytes, and behind them what it was filled with.
-fn holds(destination: &[u8], bytes: &[u8]) -> bool {
+pub(crate) fn holds(destination: &[u8], bytes: &[u8]) -> bool {
     match destination.strip_prefix(bytes) {
         Some(rest) => rest.iter().all(|&byte| byte == FILL),
         None => false,
@@ -278,7 +278,8 @@ fn run_under<S: Sink>(plan: Backend, table: &[Vector], sink: &mut S) -> Result<u
 ///
 /// # Errors
 ///
-/// [`WriteFault`] where a put failed, which ends the run.
+/// [`WriteFault`] where a put failed, or where a name makes a line of more than 128 bytes, which is
+/// not put; either ends the run.
 ///
 /// ```rust
 /// let mut buffer = [0; 2048];

@@ -15,6 +15,7 @@ struct Faulty {
     flush_fails: bool,
     message: &'static str,
     written: usize,
+    flushes: usize,
     status: u8,
 }
 
@@ -28,6 +29,7 @@ const SOUND: Faulty = Faulty {
     flush_fails: false,
     message: "",
     written: 0,
+    flushes: 1,
     status: 0,
 };
 
@@ -35,6 +37,7 @@ const SOUND: Faulty = Faulty {
 const TOO_LONG: Faulty = Faulty {
     count: INPUT_LIMIT + 1,
     message: "input too long\n",
+    flushes: 0,
     status: 3,
     ..SOUND
 };
@@ -43,21 +46,30 @@ const TOO_LONG: Faulty = Faulty {
 const NOT_READ: Faulty = Faulty {
     read_fails: true,
     message: "read failed\n",
+    flushes: 0,
     status: 3,
     ..SOUND
 };
 
-// A write or a flush that fails.
+// A write that fails.
 const NOT_WRITTEN: Faulty = Faulty {
     message: "write failed\n",
+    flushes: 0,
     status: 3,
     ..SOUND
+};
+
+// A flush that fails.
+const NOT_FLUSHED: Faulty = Faulty {
+    flush_fails: true,
+    flushes: 1,
+    ..NOT_WRITTEN
 };
 
 // How many bytes the lines of the stored vectors are.
 const LINES: usize = 1228;
 
-static FAULTS: [Faulty; 25] = [
+static FAULTS: [Faulty; 26] = [
     TOO_LONG,
     Faulty {
         word: "encode",
@@ -142,14 +154,12 @@ static FAULTS: [Faulty; 25] = [
     Faulty {
         word: "encode",
         count: 2,
-        flush_fails: true,
         written: 5,
-        ..NOT_WRITTEN
+        ..NOT_FLUSHED
     },
     Faulty {
         word: "decode-upper",
-        flush_fails: true,
-        ..NOT_WRITTEN
+        ..NOT_FLUSHED
     },
     Faulty {
         count: 140_000,
@@ -159,6 +169,16 @@ static FAULTS: [Faulty; 25] = [
     Faulty {
         count: 139_999,
         message: "hex input length must be even\n",
+        flushes: 0,
+        status: 1,
+        ..SOUND
+    },
+    Faulty {
+        byte: b'g',
+        count: 2,
+        flush_fails: true,
+        message: "invalid hex byte 0x67 at index 0\n",
+        flushes: 0,
         status: 1,
         ..SOUND
     },
@@ -187,9 +207,8 @@ static FAULTS: [Faulty; 25] = [
     },
     Faulty {
         word: "vectors",
-        flush_fails: true,
         written: LINES,
-        ..NOT_WRITTEN
+        ..NOT_FLUSHED
     },
 ];
 
@@ -201,11 +220,7 @@ fn tells_a_fault_of_the_surroundings(rt: HostRuntime) -> Result<(), Fail> {
             left: row.count,
             fails: row.read_fails,
         };
-        let out = Narrow {
-            taken: 0,
-            room: row.room,
-            flush_fails: row.flush_fails,
-        };
+        let out = Narrow::new(row.room, row.flush_fails);
         let (status, out, err) = serve(
             rt.alloc(),
             &[row.word],
@@ -223,6 +238,11 @@ fn tells_a_fault_of_the_surroundings(rt: HostRuntime) -> Result<(), Fail> {
             out.taken,
             row.written,
             "output of {word} on {count} bytes, room {room}"
+        );
+        assert_eq!(rt;
+            out.flushes,
+            row.flushes,
+            "flushes of {word} on {count} bytes, room {room}"
         );
         assert_eq!(rt;
             err.as_slice(),
@@ -254,23 +274,20 @@ fn a_writer_that_takes_nothing_is_a_failed_write(rt: HostRuntime) {
     }
 }
 
-// A message that can't be written whole keeps its status.
+// A message that can't be written whole, or flushed, keeps its status.
 #[test]
 fn a_fault_of_the_message_keeps_the_status(rt: HostRuntime) {
-    let rows: [(&[&str], &[u8], u8); 3] = [
-        (&["decode"], b"0g", 1),
-        (&["decode", "encode"], b"", 2),
-        (&["decode-upper"], b"abc", 1),
+    let rows: [(&[&str], &[u8], usize, usize, u8); 4] = [
+        (&["decode"], b"0g", 7, 7, 1),
+        (&["decode", "encode"], b"", 7, 7, 2),
+        (&["decode-upper"], b"abc", 7, 7, 1),
+        (&["decode-upper"], b"abc", usize::MAX, 30, 1),
     ];
-    for (words, input, status) in rows {
+    for (words, input, room, taken, status) in rows {
         let mut source = input;
-        let err = Narrow {
-            taken: 0,
-            room: 7,
-            flush_fails: true,
-        };
+        let err = Narrow::new(room, true);
         let (answer, _, err) = serve(rt.alloc(), words, &mut source, Vec::new(rt.alloc()), err);
         assert_eq!(rt; answer, status, "status of {words:?}");
-        assert_eq!(rt; err.taken, 7, "message of {words:?}");
+        assert_eq!(rt; err.taken, taken, "message of {words:?}, room {room}");
     }
 }

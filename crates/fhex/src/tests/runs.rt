@@ -154,37 +154,3 @@ fn only_decoding_of_even_digits_wants_memory(rt: HostRuntime) {
         assert_eq!(rt; alloc.asked(), asked, "growths of {op:?} on {input:?}");
     }
 }
-
-// A run is refused its first growth, then its second, and so on, until none is refused.
-#[test]
-fn each_growth_of_a_run_is_refused_in_turn(rt: HostRuntime) {
-    let rows: [(Op, &[u8], &[u8]); 3] = [
-        (Op::Decode, b"00ff\n", b"\x00\xff"),
-        (Op::DecodeLower, b"00ff", b"\x00\xff"),
-        (Op::Encode, b"hello", b"68656c6c6f\n"),
-    ];
-    for (op, input, output) in rows {
-        for left in 0..4 {
-            let alloc = Refusing::new(rt.alloc(), left);
-            let mut buffer = [0xa5; 16];
-            let mut sink = SliceSink::new(&mut buffer);
-            let ran = run_in(&alloc, op, input, &mut sink);
-            let (answer, taken): (Result<(), RunFault>, &[u8]) = if alloc.asked() <= left {
-                (Ok(()), output)
-            } else {
-                (Err(RunFault::OutOfMemory), b"")
-            };
-            assert_eq!(rt; ran, answer, "answer of {op:?}, {left} growths granted");
-            assert_eq!(rt;
-                sink.written(),
-                taken,
-                "output of {op:?}, {left} growths granted"
-            );
-            assert_eq!(rt;
-                sink.failures(),
-                0,
-                "failures of {op:?}, {left} growths granted"
-            );
-        }
-    }
-}

@@ -24,12 +24,26 @@ impl Read for Repeated {
     }
 }
 
-/// Takes this many bytes, one a write, and then fails once.
+/// Takes this many bytes, one a write, and then fails once. It counts what it took and how often
+/// it was flushed.
 #[derive(Drop)]
 pub struct Narrow {
     pub taken: usize,
     pub room: usize,
+    pub flushes: usize,
     pub flush_fails: bool,
+}
+
+impl Narrow {
+    /// A writer that has taken nothing.
+    pub fn new(room: usize, flush_fails: bool) -> Narrow {
+        Narrow {
+            taken: 0,
+            room,
+            flushes: 0,
+            flush_fails,
+        }
+    }
 }
 
 impl Write for Narrow {
@@ -45,6 +59,7 @@ impl Write for Narrow {
     }
 
     fn flush(&mut self) -> io::Result<()> {
+        self.flushes = self.flushes.saturating_add(1);
         if self.flush_fails {
             return Err(io::Error::from(ErrorKind::Other));
         }

@@ -2,7 +2,7 @@
 
 use super::streams::Repeated;
 use crate::program::{serve, serve_vectors};
-use crate::vectors::{Call, VECTORS, Vector};
+use crate::vectors::{Call, VECTORS, Vector, holds};
 use faster_hex::{CheckCase, Error};
 
 #[test]
@@ -130,4 +130,38 @@ fn each_name_of_a_vector_stands_once(rt: HostRuntime) {
             .count();
         assert_eq!(rt; twins, 1, "vectors with the name of {place}");
     }
+}
+
+// The destination of a vector holds its bytes, and 0xa5 behind them.
+#[test]
+fn a_byte_behind_the_answer_is_seen(rt: HostRuntime) {
+    let rows: [(&[u8], &[u8], bool); 6] = [
+        (&[0, 0xab, 0xa5], &[0, 0xab], true),
+        (&[0, 0xab], &[0, 0xab], true),
+        (&[0xa5, 0xa5], &[], true),
+        (&[0, 0xab, 0], &[0, 0xab], false),
+        (&[0xa5, 0], &[], false),
+        (&[0], &[0, 0xab], false),
+    ];
+    for (destination, bytes, held) in rows {
+        assert_eq!(rt;
+            holds(destination, bytes),
+            held,
+            "{bytes:?} in {destination:?}"
+        );
+    }
+}
+
+// A line that its buffer can't hold is not put.
+#[test]
+fn a_line_that_is_too_long_is_a_failed_write(rt: HostRuntime) {
+    let table = [Vector {
+        name: "a name of a vector that has by itself more bytes than a line of the program may \
+               have, which are one hundred and twenty-eight with the newline",
+        ..SOUND
+    }];
+    let (status, out, err) = serve_vectors(&table, Vec::new(rt.alloc()), Vec::new(rt.alloc()));
+    assert_eq!(rt; status, 3);
+    assert_eq!(rt; out.len(), 0);
+    assert_eq!(rt; err.as_slice(), b"write failed\n".as_slice());
 }
