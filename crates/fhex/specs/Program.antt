@@ -5,6 +5,7 @@ use Rattle.std.specs.Io.BufRead.{strip_last}
 use Rattle.std.specs.Io.KnownBytes.{Consumes, Appends, Keeps, IsAtEnd}
 use Rattle.hex_core.specs.declared.digit.CheckCase.TheVariants as policy
 use Rattle.hex_core.specs.declared.error.Error.{Error}
+use Rattle.hex_core.specs.Message.{error_text}
 use Rattle.hex_core.specs.Text.{Spells, text}
 use Rattle.hex_core.specs.Refusal.{source_refusal}
 use Rattle.faster_hex.specs.Sink.{AppendsBeginning}
@@ -115,6 +116,15 @@ status_of ReadFailed = 3
 status_of WriteFailed = 3
 status_of OutOfMemory = 3
 status_of InputTooLong = 3
+
+-- what a failure prints, byte for byte
+abbrev pub failure_text : Failure → List ℕ
+failure_text (Codec e) = error_text e
+failure_text Usage = codes "usage: fhex encode|encode-upper|decode|decode-lower|decode-upper|vectors"
+failure_text ReadFailed = codes "read failed"
+failure_text WriteFailed = codes "write failed"
+failure_text OutOfMemory = codes "out of memory"
+failure_text InputTooLong = codes "input too long"
 
 -- the program's failure after a fault of its run
 abbrev pub failure_of : RunFault → Failure

@@ -3,7 +3,7 @@
 ghost use Rattle.std.specs.Prelude.{◌≡◌, ◌≤◌, ◌⊎◌, Some, map, vec_len, IfOk, IfErr, OnOk, IsOk};
 ghost use Rattle.std.specs.Io.KnownBytes.{Consumes, IsAtEnd, Keeps};
 ghost use Rattle.fhex.specs.declared.operation.Op.{Op as OpValue};
-ghost use Rattle.fhex.specs.Program.{EndsIn, NamesNothing, Refused, Served, failure_of, op_of_words, status_of};
+ghost use Rattle.fhex.specs.Program.{EndsIn, NamesNothing, Refused, Served, failure_of, failure_text, op_of_words, status_of};
 
 use crate::operation::{Op, RunFault, run_in};
 use crate::vectors::{VECTORS, Vector, run_vectors};
@@ -74,6 +74,8 @@ impl Failure {
 }
 
 impl fmt::Display for Failure {
+    ghost output = { λ f. Some (failure_text f) };
+
     fn fmt<W: fmt::Write>(&self, f: &mut fmt::Formatter<W>) -> fmt::Result {
         match self {
             Failure::Codec(e) => write!(f, "{e}"),
