@@ -1,7 +1,13 @@
+pub mod BlockLemmas
+pub mod ByteLemmas
 pub mod Facts
 pub mod FaultLemmas
 pub mod Fronts
+pub mod LaneLemmas
 pub mod LawProofs
+pub mod LookupLemmas
+pub mod NumberLemmas
+pub mod PairLemmas
 pub mod PositionLemmas
 pub mod ProbeLemmas
 pub mod Lent
@@ -9,5 +15,6 @@ pub mod Refused
 pub mod Results
 pub mod SpellsLemmas
 pub mod TableLemmas
+pub mod TextBlockLemmas
 pub mod TextLemmas
 pub mod WalkKit

@@ -6,14 +6,10 @@ use borrow.Author.Count.{below_more}
 use Rattle.hex_core.proofs.FaultLemmas.{admitted}
 use Rattle.hex_core.proofs.TableLemmas.{value-entry}
 use Rattle.hex_core.specs.Fault.{fault}
+use Rattle.hex_core.specs.Blocks.{SpellsAt}
 use Rattle.hex_core.specs.declared.digit.CheckCase.{CheckCase}
 use Rattle.hex_core.specs.Digit.{value}
 use Rattle.hex_core.specs.Text.{Spells, value_table}
-
--- the byte at a place is what its pair of digits spells
-pub record SpellsAt (c : CheckCase) (s bytes : List ℕ) (i : ℕ) : Type 0 where
-  pub high : value c (get_or s (2 * i) 0) ≡ Some (get_or bytes i 0 / 16)
-  pub low : value c (get_or s (2 * i + 1) 0) ≡ Some (get_or bytes i 0 % 16)
 
 -- the bytes below a place are those that their pairs of digits spell
 abbrev pub SpellsBelow : CheckCase → List ℕ → List ℕ → ℕ → Type 0

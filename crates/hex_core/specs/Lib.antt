@@ -6,3 +6,7 @@ pub mod Message
 pub mod Plans
 pub mod Loan
 pub mod Laws
+pub mod Lanes
+pub mod Blocks
+pub mod Arithmetic
+pub mod Lookup

@@ -13,7 +13,7 @@ use crate::digit::CheckCase;
 use crate::error::Error;
 use crate::lend::lend_accepted;
 use crate::probe::{SliceProbe, locate};
-use crate::scalar;
+use crate::{scalar, sixteen};
 
 #[derive(Clone, Copy)]
 enum Kind {
@@ -80,9 +80,8 @@ impl Backend {
         ensures { IsTrue result ↔ (fault case src.now ≡ None) }
     {
         match self.0 {
-            Kind::Scalar | Kind::Sse41 | Kind::Avx2 | Kind::Avx512 | Kind::Neon => {
-                scalar::check(src, case)
-            }
+            Kind::Scalar | Kind::Avx2 | Kind::Avx512 => scalar::check(src, case),
+            Kind::Sse41 | Kind::Neon => sixteen::check(src, case),
         }
     }
 
@@ -100,9 +99,8 @@ impl Backend {
         ensures { dst.new ≡ text upper src.now }
     {
         match self.0 {
-            Kind::Scalar | Kind::Sse41 | Kind::Avx2 | Kind::Avx512 | Kind::Neon => {
-                scalar::write_text(src, dst, upper)
-            }
+            Kind::Scalar | Kind::Avx2 | Kind::Avx512 => scalar::write_text(src, dst, upper),
+            Kind::Sse41 | Kind::Neon => sixteen::encode(src, dst, upper),
         }
     }
 
@@ -113,9 +111,8 @@ impl Backend {
         ensures { Spells case src.now dst.new }
     {
         match self.0 {
-            Kind::Scalar | Kind::Sse41 | Kind::Avx2 | Kind::Avx512 | Kind::Neon => {
-                scalar::write_bytes(src, dst, case)
-            }
+            Kind::Scalar | Kind::Avx2 | Kind::Avx512 => scalar::write_bytes(src, dst, case),
+            Kind::Sse41 | Kind::Neon => sixteen::write_bytes(src, dst, case),
         }
     }
 
@@ -137,11 +134,10 @@ impl Backend {
         ensures decoded { OnTrue result (Spells case src.now dst.new) }
         ensures unchanged { OnFalse result (dst.new ≡ dst.old) }
     {
-        if !self.check(src, case) {
-            return false;
+        match self.0 {
+            Kind::Scalar | Kind::Avx2 | Kind::Avx512 => scalar::decode(src, dst, case),
+            Kind::Sse41 | Kind::Neon => sixteen::decode(src, dst, case),
         }
-        self.write_bytes(src, dst, case);
-        true
     }
 
     /// Answers the first place of `src` whose byte has no value under `case`, from 0 and in bytes,

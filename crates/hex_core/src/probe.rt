@@ -1,6 +1,7 @@
 //! Counted sources, and the search for the first fault through their counted calls.
 
-ghost use Rattle.std.specs.Prelude.{◌≡◌, ℕ, ◌+◌, ◌*◌, ◌/◌, ◌^◌, ◌<◌, ◌≤◌, ◌↔◌, IsTrue, List, MatchOption, length, min, slice_index};
+ghost use Rattle.std.specs.Prelude.{◌≡◌, ℕ, None, ◌+◌, ◌*◌, ◌/◌, ◌^◌, ◌<◌, ◌≤◌, ◌↔◌, IsTrue, List, MatchOption, length, min, slice_index};
+ghost use Rattle.hex_core.specs.Blocks.{cover};
 ghost use Rattle.hex_core.specs.Fault.{IsClear, fault, steps, whole_blocks};
 ghost use Rattle.hex_core.specs.declared.digit.CheckCase.{CheckCase};
 
@@ -269,4 +270,42 @@ pub fn locate<P: Probe>(p: &mut P) -> Option<usize>
 {
     let start = test_blocks(p);
     look_from(p, start)
+}
+
+/// Answers whether each byte of the source has a value under the policy, by tests alone.
+///
+/// The whole blocks are tested in order, until one does not pass. Where the length is no multiple
+/// of the block, one more block is tested, which ends with the source and overlaps the one before.
+/// So there are at most as many tests as blocks that cover the source, and no look.
+///
+/// The block is at least 1 and at most as long as the source, and the count of tests plus that
+/// length is a `usize`.
+///
+/// ```rust
+/// let [scalar, ..] = backends();
+/// let mut probe = SliceProbe::new(scalar, &[b'0'; 130], CheckCase::None);
+/// assert_eq!(rt; covered(&mut probe), true);
+/// assert_eq!(rt; (probe.tests(), probe.looks()), (3, 0));
+/// ```
+#[inline(always)]
+pub fn covered<P: Probe>(p: &mut P) -> bool
+    requires some { 1 ≤ P.widest p.old }
+    requires most { P.widest p.old ≤ length (P.source p.old) }
+    requires tests { P.test_count p.old + length (P.source p.old) < 2 ^ 64 }
+    ensures clear { IsTrue result ↔ (fault (P.policy p.old) (P.source p.old) ≡ None) }
+    ensures few_tests { P.test_count p.new
+        ≤ P.test_count p.old + cover (length (P.source p.old)) (P.widest p.old) }
+    ensures no_looks { P.look_count p.new ≡ P.look_count p.old }
+    ensures same_source { P.source p.new ≡ P.source p.old }
+    ensures same_policy { P.policy p.new ≡ P.policy p.old }
+    ensures same_block { P.widest p.new ≡ P.widest p.old }
+{
+    let len = p.len();
+    let block = p.block();
+    'turns: for i in 0..len / block {
+        if !p.test(i * block, block) {
+            return false;
+        }
+    }
+    len % block == 0 || p.test(len - block, block)
 }

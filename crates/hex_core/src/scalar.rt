@@ -1,6 +1,7 @@
 //! The plain bodies: a table look-up a digit.
 
-ghost use Rattle.std.specs.Prelude.{◌≡◌, ◌+◌, ◌*◌, ◌<◌, ◌↔◌, IsTrue, None, length};
+ghost use Rattle.std.specs.Prelude.{◌≡◌, ◌+◌, ◌*◌, ◌<◌, ◌≤◌, ◌↔◌, IsTrue, None, length};
+ghost use Rattle.std.specs.Bool.{OnFalse, OnTrue};
 ghost use Rattle.hex_core.specs.Fault.{fault};
 ghost use Rattle.hex_core.specs.Text.{Spells, text};
 
@@ -10,6 +11,7 @@ use crate::digit::{CheckCase, NIL, digit_pairs_of, values_of};
 const BLOCK: usize = 64;
 
 /// Answers whether every byte of `src` has a value under `case`.
+#[inline(never)]
 pub fn check(src: &[u8], case: CheckCase) -> bool
     ensures { IsTrue result ↔ (fault case src.now ≡ None) }
 {
@@ -44,6 +46,7 @@ fn packed(high: u8, low: u8) -> u8
 }
 
 /// Writes the bytes that `src` spells into the whole of `dst`.
+#[inline(never)]
 pub fn write_bytes(src: &[u8], dst: &mut [u8], case: CheckCase)
     requires twice { length src.now ≡ 2 * length dst.old }
     requires valid { fault case src.now ≡ None }
@@ -55,7 +58,51 @@ pub fn write_bytes(src: &[u8], dst: &mut [u8], case: CheckCase)
     }
 }
 
+/// Writes the bytes that `src` spells into the whole of `dst`, or answers false and writes nothing.
+#[inline(never)]
+pub fn decode(src: &[u8], dst: &mut [u8], case: CheckCase) -> bool
+    requires { length src.now ≡ 2 * length dst.old }
+    ensures valid { IsTrue result ↔ (fault case src.now ≡ None) }
+    ensures decoded { OnTrue result (Spells case src.now dst.new) }
+    ensures unchanged { OnFalse result (dst.new ≡ dst.old) }
+{
+    if !check(src, case) {
+        return false;
+    }
+    write_bytes(src, dst, case);
+    true
+}
+
+/// The same of fewer than 16 digits, in one pass: the bytes are kept in one number until every
+/// pair was looked up.
+#[inline(never)]
+pub fn decode_short(src: &[u8], dst: &mut [u8], case: CheckCase) -> bool
+    requires twice { length src.now ≡ 2 * length dst.old }
+    requires few { length dst.old ≤ 7 }
+    ensures valid { IsTrue result ↔ (fault case src.now ≡ None) }
+    ensures decoded { OnTrue result (Spells case src.now dst.new) }
+    ensures unchanged { OnFalse result (dst.new ≡ dst.old) }
+{
+    let values = values_of(case);
+    let mut kept = 0u64;
+    'pairs: for i in 0..dst.len() {
+        let high = values[src[2 * i] as usize];
+        let low = values[src[2 * i + 1] as usize];
+        if high == NIL || low == NIL {
+            return false;
+        }
+        kept = 256 * kept + packed(high, low) as u64;
+    }
+    'bytes: for i in 0..dst.len() {
+        let at = dst.len() - 1 - i;
+        dst[at] = (kept % 256) as u8;
+        kept /= 256;
+    }
+    true
+}
+
 /// Writes the text of `src` into the whole of `dst`.
+#[inline(never)]
 pub fn write_text(src: &[u8], dst: &mut [u8], upper: bool)
     requires { length dst.old ≡ 2 * length src.now }
     ensures { dst.new ≡ text upper src.now }

@@ -1,0 +1,160 @@
+-- What the arithmetic of the lanes makes of a byte, computed at all of them.
+use Rattle.std.proofs.Common.{◌≡◌, ℕ, zero, suc, ◌+◌, ◌-◌, ◌/◌, ◌%◌, ◌^◌, ◌<◌, ◌↔◌, Bool, true, false, ◌&&◌, cond, List, [], ◌∷◌, map, length, get_or, Option, Some, None, is_some, bit_and, bit_or, refl, sym, ap, ap₂, subst, ◌∙◌, Fits, w8, eqb, leb, ltb, eqb-true, leb-true, ltb-true, arith}
+use Rattle.std.specs.Prelude.{EachIndex, IsSome, min}
+use Rattle.std.specs.Int.{bit_at}
+use Rattle.std.proofs.lemmas.Bool.{agree_below, agree_below_at, and_parts}
+use Rattle.std.proofs.lemmas.Bool.Decides.{nat_tests}
+use Rattle.std.proofs.lemmas.List.{get_or-map, length-map}
+use Rattle.std.proofs.lemmas.Nat.{and_le_r}
+use Rattle.std.proofs.lemmas.Nat.Bits.{bit_at-suc, bit_at_lowest, bit_at_ones}
+use Rattle.std.proofs.lemmas.Simd.{bit_mask_l, mask_l-lt}
+use lib.Lanes.{Each1, mask_l}
+use Rattle.hex_core.specs.declared.digit.CheckCase.{CheckCase}
+use Rattle.hex_core.specs.declared.digit.CheckCase.TheVariants as policy
+use Rattle.hex_core.specs.Arithmetic.{AreZero, excess, first_letter, fold_of, interleaved, saturated, saturating_add, valid_nibble, wrapping_sub}
+use Rattle.hex_core.specs.Digit.{digit, value}
+use Rattle.hex_core.specs.Fault.{IsClear}
+use Rattle.hex_core.specs.Lanes.{Admits, AreNibbles, IsNibble}
+use Rattle.hex_core.specs.Lookup.{entry}
+use Rattle.hex_core.specs.Text.{text}
+use Rattle.hex_core.proofs.LaneLemmas.{lane_below, mapped, mapped_at, maps_agree, zero_where}
+
+-- whether a byte has a value
+abbrev pub has : CheckCase → ℕ → Bool
+has c b = is_some (value c b)
+
+abbrev pub always : ℕ → Bool
+always _ = true
+
+-- ---- the range test
+
+excess_zeros : (c : CheckCase) → agree_below (λ b. eqb (excess c b) 0) (has c) 256 ≡ true
+excess_zeros policy.None = refl
+excess_zeros policy.Lower = refl
+excess_zeros policy.Upper = refl
+
+excess_zero : (c : CheckCase) (b : ℕ) → b < 256 → eqb (excess c b) 0 ≡ has c b
+excess_zero c b h = agree_below_at (λ x. eqb (excess c x) 0) (has c) 256 b (excess_zeros c) h
+
+excess_is_zero : (c : CheckCase) (b : ℕ) → b < 256 → (excess c b ≡ 0) ↔ IsSome (value c b)
+excess_is_zero c b h = (λ z. sym (excess_zero c b h) ∙ rw z refl, λ s. eqb-true _ _ (excess_zero c b h ∙ s))
+
+-- all lanes are 0 exactly where each byte has a value
+pub excess_clear : (c : CheckCase) (v r : List ℕ) (n : ℕ) → (length v ≡ n) × Each1 (Fits w8) v → r ≡ map (excess c) v → AreZero r ↔ IsClear c v 0 n
+excess_clear c v r n fits is =
+    let all = zero_where (excess c) (λ b. IsSome (value c b)) (excess_is_zero c) v fits.1 is in
+    (λ zero k low lt. all.0 zero k (omega (arith, fits.0)), λ clear. all.1 (λ k h. clear k (omega arith) (omega (arith, fits.0))))
+
+-- the test, with the policy's bit and letter at hand
+pub excess_with : (c : CheckCase) (v : List ℕ) {r : List ℕ} (fold first : ℕ) → fold ≡ fold_of c → first ≡ first_letter c
+    → r ≡ map (λ b. min (wrapping_sub b 48 - 9) (wrapping_sub (bit_or b fold) first - 5)) v → r ≡ map (excess c) v
+excess_with c v {r} fold first p q e =
+    subst (λ f. r ≡ map (λ b. min (wrapping_sub b 48 - 9) (wrapping_sub (bit_or b f) (first_letter c) - 5)) v) p
+    (subst (λ f. r ≡ map (λ b. min (wrapping_sub b 48 - 9) (wrapping_sub (bit_or b fold) f - 5)) v) q e)
+
+-- the mask of the bytes that have a value, and its bits
+pub admitted_mask : (c : CheckCase) (v e : List ℕ) (m : ℕ) → Each1 (Fits w8) v → e ≡ map (excess c) v → m ≡ mask_l (map (λ x. eqb x 0) e) → m ≡ mask_l (map (has c) v)
+admitted_mask c v e m fits lanes is =
+    is ∙ ap mask_l (mapped (λ x. eqb x 0) (excess c) v lanes ∙ maps_agree (λ b. eqb (excess c b) 0) (has c) (excess_zero c) v fits)
+
+bit_says : (b : Bool) (n : ℕ) → n ≡ cond b 1 0 → (n ≡ 1) ↔ (b ≡ true)
+bit_says true n e = (λ x. refl, λ x. e)
+bit_says false n e = (λ x. absurd (omega arith), λ x. cc)
+
+pub admits : (c : CheckCase) (v : List ℕ) (m : ℕ) → m ≡ mask_l (map (has c) v) → Admits c v m
+admits c v m is i h =
+    bit_says (has c (get_or v i 0)) (bit_at m i) (ap (λ x. bit_at x i) is ∙ bit_mask_l (map (has c) v) i ∙ ap (λ b. cond b 1 0) (get_or-map (has c) v i 0 false h))
+
+pub mask_below : (c : CheckCase) (v : List ℕ) (m n : ℕ) → m ≡ mask_l (map (has c) v) → length v ≡ n → m < 2 ^ n
+mask_below c v m n is long = rw (is, ← long, ← length-map v (has c)) (mask_l-lt (map (has c) v))
+
+-- a mask with every bit set
+full_mask : (n m : ℕ) → m < 2 ^ n → ((i : ℕ) → i < n → bit_at m i ≡ 1) → m + 1 ≡ 2 ^ n
+full_mask zero m h all = omega arith
+full_mask (suc n) m h all =
+    let low : m % 2 ≡ 1 = sym (bit_at_lowest m) ∙ all 0 (omega arith) in
+    let rest : m / 2 + 1 ≡ 2 ^ n = full_mask n (m / 2) (omega arith) (λ i lt. sym (bit_at-suc m i) ∙ all (suc i) (omega arith)) in
+    omega (arith, low, rest)
+
+-- the mask of sixteen bytes is full exactly where each has a value
+pub full_16 : (c : CheckCase) (v : List ℕ) (m : ℕ) → length v ≡ 16 → m < 65536 → Admits c v m → (m ≡ 65535) ↔ IsClear c v 0 16
+full_16 c v m long small admits = (
+  λ e k low lt. (admits k (omega arith)).0 (rw e (bit_at_ones 16 k lt)),
+  λ clear. omega (arith, full_mask 16 m small (λ i lt. (admits i (omega arith)).1 (clear i (omega arith) lt))),
+)
+
+-- ---- the saturating map
+
+abbrev nibble_test : Option ℕ → ℕ → Bool
+nibble_test (Some v) n = eqb n v
+nibble_test None n = leb 16 n
+
+nibble_by : (o : Option ℕ) (n : ℕ) → nibble_test o n ≡ true → IsNibble o n
+nibble_by (Some v) n e = eqb-true n v e
+nibble_by None n e = leb-true 16 n e
+
+saturates : (c : CheckCase) → agree_below (λ b. nibble_test (value c b) (saturated c b)) always 256 ≡ true
+saturates policy.None = refl
+saturates policy.Lower = refl
+saturates policy.Upper = refl
+
+pub saturated_nibbles : (c : CheckCase) (v r : List ℕ) → Each1 (Fits w8) v → r ≡ map (saturated c) v → AreNibbles c v r
+saturated_nibbles c v r fits is i h =
+    let b = get_or v i 0 in
+    let right = nibble_by (value c b) (saturated c b) (agree_below_at (λ x. nibble_test (value c x) (saturated c x)) always 256 b (saturates c) (lane_below v fits i)) in
+    rw (mapped_at (saturated c) v i is h) right
+
+pub saturated_with : (c : CheckCase) (v : List ℕ) {r : List ℕ} (fold first : ℕ) → fold ≡ fold_of c → first ≡ first_letter c
+    → r ≡ map (λ b. min (wrapping_sub (wrapping_sub b 58 - 6) 240) (saturating_add (wrapping_sub (bit_or b fold) first) 10)) v → r ≡ map (saturated c) v
+saturated_with c v {r} fold first p q e =
+    subst (λ f. r ≡ map (λ b. min (wrapping_sub (wrapping_sub b 58 - 6) 240) (saturating_add (wrapping_sub (bit_or b f) (first_letter c)) 10)) v) p
+    (subst (λ f. r ≡ map (λ b. min (wrapping_sub (wrapping_sub b 58 - 6) 240) (saturating_add (wrapping_sub (bit_or b fold) f) 10)) v) q e)
+
+-- ---- the value of a byte that has one
+
+abbrev valid_test : Option ℕ → ℕ → Bool
+valid_test (Some v) n = eqb n v && ltb n 16
+valid_test None n = true
+
+valid_by : (o : Option ℕ) (n : ℕ) → IsSome o → valid_test o n ≡ true → (o ≡ Some n) × (n < 16)
+valid_by (Some v) n s e = let p = and_parts (eqb n v) (ltb n 16) e in (ap Some (sym (eqb-true n v p.0)), ltb-true n 16 p.1)
+valid_by None n s e = cc
+
+valid_everywhere : (c : CheckCase) → agree_below (λ b. valid_test (value c b) (valid_nibble b)) always 256 ≡ true
+valid_everywhere policy.None = refl
+valid_everywhere policy.Lower = refl
+valid_everywhere policy.Upper = refl
+
+pub valid_value : (c : CheckCase) (b : ℕ) → b < 256 → IsSome (value c b) → (value c b ≡ Some (valid_nibble b)) × (valid_nibble b < 16)
+valid_value c b h s = valid_by (value c b) (valid_nibble b) s (agree_below_at (λ x. valid_test (value c x) (valid_nibble x)) always 256 b (valid_everywhere c) h)
+
+pub value_small : (c : CheckCase) (b v : ℕ) → value c b ≡ Some v → v < 16
+value_small policy.None b v h = grind (arith, nat_tests)
+value_small policy.Lower b v h = grind (arith, nat_tests)
+value_small policy.Upper b v h = grind (arith, nat_tests)
+
+-- ---- the digits of a byte
+
+low_halves : agree_below (λ b. eqb (bit_and b 15) (b % 16)) always 256 ≡ true
+low_halves = refl
+
+interleaved_maps : (f g h : ℕ → ℕ) (v : List ℕ) → map f (interleaved (map g v) (map h v)) ≡ interleaved (map (λ b. f (g b)) v) (map (λ b. f (h b)) v)
+interleaved_maps f g h [] = refl
+interleaved_maps f g h (b ∷ v) = ap (λ r. f (g b) ∷ f (h b) ∷ r) (interleaved_maps f g h v)
+
+rows_are_text : (f g : ℕ → ℕ) (upper : Bool) (v : List ℕ) → ((b : ℕ) → b < 256 → f b ≡ digit upper (b / 16)) → ((b : ℕ) → b < 256 → g b ≡ digit upper (b % 16)) → Each1 (Fits w8) v
+    → interleaved (map f v) (map g v) ≡ text upper v
+rows_are_text f g upper [] p q h = refl
+rows_are_text f g upper (b ∷ v) p q h = ap₂ (λ a r. a ∷ r) (p b h.0.fits) (ap₂ (λ a r. a ∷ r) (q b h.0.fits) (rows_are_text f g upper v p q h.1))
+
+small_entry : (row : List ℕ) (a : ℕ) → a < 16 → entry row a ≡ get_or row a 0
+small_entry row a h = grind (arith, nat_tests)
+
+-- halves in turn, each looked up, are the text
+pub looked_up_text : (upper : Bool) (row v : List ℕ) → ((n : ℕ) → n < 16 → get_or row n 0 ≡ digit upper n) → Each1 (Fits w8) v
+    → map (entry row) (interleaved (map (λ b. b / 16) v) (map (λ b. bit_and b 15) v)) ≡ text upper v
+looked_up_text upper row v digits fits =
+    let low : (b : ℕ) → b < 256 → bit_and b 15 ≡ b % 16 = λ b h. eqb-true _ _ (agree_below_at (λ b. eqb (bit_and b 15) (b % 16)) always 256 b low_halves h) in
+    interleaved_maps (entry row) (λ b. b / 16) (λ b. bit_and b 15) v
+    ∙ rows_are_text (λ b. entry row (b / 16)) (λ b. entry row (bit_and b 15)) upper v (λ b h. small_entry row (b / 16) (omega arith) ∙ digits (b / 16) (omega arith))
+    (λ b h. ap (entry row) (low b h) ∙ small_entry row (b % 16) (omega arith) ∙ digits (b % 16) (omega arith)) fits

@@ -1,0 +1,166 @@
+-- What an operation makes of the lanes of a vector.
+use Rattle.std.proofs.Common.{◌≡◌, ℕ, zero, suc, ◌+◌, ◌-◌, ◌*◌, ◌/◌, ◌^◌, ◌%◌, ◌<◌, ◌≤◌, ◌↔◌, Bool, true, false, not, ◌&&◌, cond, ltb, eqb, eqb-true, inl, inr, List, [], ◌∷◌, map, length, get_or, replicate, bit_and, bit_or, refl, ap, ap₂, sym, ◌∙◌, subst, Fits, w8, arith, ltb-true, ltb-false, lt-ltb}
+use Rattle.std.specs.Prelude.{EachIndex, IsTrue, min}
+use Rattle.std.specs.List.{list_all}
+use Rattle.std.proofs.lemmas.Bool.{cases_eq, ne_eqb, agree_below, agree_below_at}
+use Rattle.std.proofs.lemmas.List.{get_or-map, length-map}
+use Rattle.std.proofs.lemmas.List.Sums.{AllPass-from_list_all, list_all-from_AllPass}
+use Rattle.std.proofs.lemmas.Nat.{le_or_l, le_or_r}
+use Rattle.std.proofs.lemmas.Simd.{get_or-zip2, length-zip2, zip2_splat}
+use lib.Lanes.{zip2, sel_l, top, mask_l, Each1}
+use Rattle.hex_core.specs.Arithmetic.{AreZero, pair_byte, saturating_add, wrapping_sub}
+use Rattle.hex_core.specs.Lanes.{AreSmall}
+
+-- ---- lanes by place
+
+pub lane_below : (v : List ℕ) → Each1 (Fits w8) v → (i : ℕ) → get_or v i 0 < 256
+lane_below [] h i = omega arith
+lane_below (x ∷ xs) h zero = h.0.fits
+lane_below (x ∷ xs) h (suc i) = lane_below xs h.1 i
+
+pub mapped_at : (f : ℕ → ℕ) (v : List ℕ) {r : List ℕ} (i : ℕ) → r ≡ map f v → i < length v → get_or r i 0 ≡ f (get_or v i 0)
+mapped_at f v i is h = ap (λ l. get_or l i 0) is ∙ get_or-map f v i 0 0 h
+
+pub zipped_at : (f : ℕ → ℕ → ℕ) (v w : List ℕ) {r : List ℕ} (i : ℕ) → r ≡ zip2 f v w → i < length v → i < length w → get_or r i 0 ≡ f (get_or v i 0) (get_or w i 0)
+zipped_at f v w i is p q = ap (λ l. get_or l i 0) is ∙ get_or-zip2 f v w i 0 0 0 p q
+
+-- ---- operations in a row
+
+map_map : {X Y Z : Type 0} (f : Y → Z) (g : X → Y) (v : List X) → map f (map g v) ≡ map (λ x. f (g x)) v
+map_map f g [] = refl
+map_map f g (x ∷ xs) = ap (λ r. f (g x) ∷ r) (map_map f g xs)
+
+pub mapped : {X Y Z : Type 0} (f : Y → Z) (g : X → Y) (v : List X) {xs : List Y} → xs ≡ map g v → map f xs ≡ map (λ x. f (g x)) v
+mapped f g v e = ap (map f) e ∙ map_map f g v
+
+-- two functions that agree on bytes
+pub maps_agree : {Y : Type 0} (f g : ℕ → Y) → ((x : ℕ) → x < 256 → f x ≡ g x) → (v : List ℕ) → Each1 (Fits w8) v → map f v ≡ map g v
+maps_agree f g same [] e = refl
+maps_agree f g same (x ∷ xs) e = ap₂ (λ a r. a ∷ r) (same x e.0.fits) (maps_agree f g same xs e.1)
+
+pub map_id : (v : List ℕ) → map (λ x. x) v ≡ v
+map_id [] = refl
+map_id (x ∷ xs) = ap (λ r. x ∷ r) (map_id xs)
+
+-- two operations with a number each
+pub splat_twice : (f g : ℕ → ℕ → ℕ) (v : List ℕ) (n a b : ℕ) → length v ≡ n → zip2 g (zip2 f v (replicate n a)) (replicate n b) ≡ map (λ x. g (f x a) b) v
+splat_twice f g v n a b e =
+    ap (λ l. zip2 g l (replicate n b)) (zip2_splat f v n a e) ∙ zip2_splat g (map (λ x. f x a) v) n b (length-map v (λ x. f x a) ∙ e) ∙ map_map (λ x. g x b) (λ x. f x a) v
+
+-- ---- what std selects by a comparison
+
+-- the mask of a lane that is below another
+abbrev pub below : ℕ → ℕ → ℕ
+below a b = cond (ltb a b) 255 0
+
+pub minima : (xs ys : List ℕ) → sel_l (map (top 7) (zip2 below xs ys)) xs ys ≡ zip2 min xs ys
+minima [] ys = refl
+minima (x ∷ xs) [] = refl
+minima (x ∷ xs) (y ∷ ys) = ap₂ (λ a r. a ∷ r) (go (ltb x y) refl) (minima xs ys)
+  where
+    go : (t : Bool) → ltb x y ≡ t → cond (top 7 (cond t 255 0)) x y ≡ min x y
+    go true e = omega (arith, ltb-true _ _ e)
+    go false e = omega (arith, ltb-false _ _ e)
+
+one_difference : (x y : ℕ) → x < 256 → y < 256 → wrapping_sub (cond (top 7 (below x y)) y x) y ≡ x - y
+one_difference x y X Y = go (ltb x y) refl
+  where
+    go : (t : Bool) → ltb x y ≡ t → wrapping_sub (cond (top 7 (cond t 255 0)) y x) y ≡ x - y
+    go true e = omega (arith, ltb-true _ _ e)
+    go false e = omega (arith, ltb-false _ _ e)
+
+pub differences : (xs ys : List ℕ) → Each1 (Fits w8) xs → Each1 (Fits w8) ys → zip2 wrapping_sub (sel_l (map (top 7) (zip2 below xs ys)) ys xs) ys ≡ zip2 (λ x y. x - y) xs ys
+differences [] ys f g = refl
+differences (x ∷ xs) [] f g = refl
+differences (x ∷ xs) (y ∷ ys) f g = ap₂ (λ a r. a ∷ r) (one_difference x y f.0.fits g.0.fits) (differences xs ys f.1 g.1)
+
+-- the lanes of a number
+pub replicated : (n k : ℕ) → k < 256 → Each1 (Fits w8) (replicate n k)
+replicated zero k h = tt
+replicated (suc n) k h = (record { fits = h }, replicated n k h)
+
+abbrev pub wrapping_add : ℕ → ℕ → ℕ
+wrapping_add a b = (a + b) % 2 ^ 8
+
+pub sums : (v : List ℕ) (k n : ℕ) → (length v ≡ n) × Each1 (Fits w8) v → k < 256
+    → zip2 wrapping_add (sel_l (map (top 7) (zip2 below v (replicate n (255 - k)))) v (replicate n (255 - k))) (replicate n k) ≡ map (λ x. saturating_add x k) v
+sums v k n f h =
+    ap (λ l. zip2 wrapping_add l (replicate n k)) (minima v (replicate n (255 - k))) ∙ splat_twice min wrapping_add v n (255 - k) k f.0
+    ∙ maps_agree (λ x. wrapping_add (min x (255 - k)) k) (λ x. saturating_add x k) (λ x lt. omega arith) v f.1
+
+-- ---- words to bytes
+
+pub pair_bytes_fit : (v : List ℕ) → Each1 (Fits w8) (map pair_byte v)
+pair_bytes_fit [] = tt
+pair_bytes_fit (x ∷ xs) = (record { fits = omega arith }, pair_bytes_fit xs)
+
+-- ---- tests of all lanes
+
+-- a list passes at each place, or all of it does
+pass_places : (p : ℕ → Bool) (v : List ℕ) → (list_all p v ≡ true) ↔ EachIndex v (λ k. p (get_or v k 0) ≡ true)
+pass_places p v = (λ e k h. AllPass-from_list_all p v e k 0 h, λ all. list_all-from_AllPass p v (λ k d h. rw (get_or_same v k d h) (all k h)))
+  where
+    get_or_same : (v : List ℕ) (k d : ℕ) → k < length v → get_or v k d ≡ get_or v k 0
+    get_or_same [] k d h = absurd (omega arith)
+    get_or_same (x ∷ v) zero d h = refl
+    get_or_same (x ∷ v) (suc k) d h = get_or_same v k d (omega arith)
+
+-- a mask of the lanes that are not 0 is 0 where all are
+none_set : (v : List ℕ) → eqb (mask_l (map (λ x. not (eqb x 0)) v)) 0 ≡ list_all (λ x. eqb x 0) v
+none_set [] = refl
+none_set (x ∷ xs) = go (eqb x 0) (mask_l (map (λ x. not (eqb x 0)) xs)) _ (none_set xs)
+  where
+    twice : (m : ℕ) → eqb (2 * m) 0 ≡ eqb m 0
+    twice m = elim (cases_eq m 0) [ inl z ↦ rw z refl | inr p ↦ ne_eqb (2 * m) 0 (omega arith) ∙ sym (ne_eqb m 0 p) ]
+
+    go : (t : Bool) (m : ℕ) (b : Bool) → eqb m 0 ≡ b → eqb (cond (not t) 1 0 + 2 * m) 0 ≡ (t && b)
+    go true m b e = ap (λ k. eqb k 0) (omega arith) ∙ twice m ∙ e
+    go false m b e = ne_eqb (1 + 2 * m) 0 (omega arith)
+
+pub no_bit_set : (v : List ℕ) → IsTrue (eqb (mask_l (map (λ x. not (eqb x 0)) v)) 0) ↔ AreZero v
+no_bit_set v =
+    let places = pass_places (λ x. eqb x 0) v in (
+      λ t i h. eqb-true _ _ (places.0 (sym (none_set v) ∙ t) i h),
+      λ zero. none_set v ∙ places.1 (λ i h. rw (zero i h) refl),
+    )
+
+-- a computed vector is 0 where each byte has a property
+pub zero_where : (f : ℕ → ℕ) (P : ℕ → Type 0) → ((x : ℕ) → x < 256 → (f x ≡ 0) ↔ P x) → (v : List ℕ) {r : List ℕ} → Each1 (Fits w8) v → r ≡ map f v → AreZero r ↔ EachIndex v (λ i. P (get_or v i 0))
+zero_where f P test v {r} fits is =
+    let long : length r ≡ length v = ap length is ∙ length-map v f in (
+      λ zero i h. (test (get_or v i 0) (lane_below v fits i)).0 (sym (mapped_at f v i is h) ∙ zero i (omega arith)),
+      λ all i h. mapped_at f v i is (omega arith) ∙ (test (get_or v i 0) (lane_below v fits i)).1 (all i (omega arith)),
+    )
+
+-- one test does for two vectors, where it passes the bits of two lanes exactly with both of them
+pub each_either : (P : ℕ → Type 0) → ((x y : ℕ) → P (bit_or x y) ↔ (P x × P y)) → (v w : List ℕ) → length v ≡ length w
+    → EachIndex (zip2 bit_or v w) (λ i. P (get_or (zip2 bit_or v w) i 0)) ↔ (EachIndex v (λ i. P (get_or v i 0)) × EachIndex w (λ i. P (get_or w i 0)))
+each_either P both v w same =
+    let long : length (zip2 bit_or v w) ≡ length v = length-zip2 bit_or v w same in
+    let at : (i : ℕ) → i < length v → get_or (zip2 bit_or v w) i 0 ≡ bit_or (get_or v i 0) (get_or w i 0) = λ i h. zipped_at bit_or v w i refl h (omega arith) in (
+      λ all. (
+        λ i h. ((both (get_or v i 0) (get_or w i 0)).0 (subst P (at i h) (all i (omega arith)))).0,
+        λ i h. ((both (get_or v i 0) (get_or w i 0)).0 (subst P (at i (omega arith)) (all i (omega arith)))).1,
+      ),
+      λ all i h. subst P (sym (at i (omega arith))) ((both (get_or v i 0) (get_or w i 0)).1 (all.0 i (omega arith), all.1 i (omega arith))),
+    )
+
+pub or_zero : (x y : ℕ) → (bit_or x y ≡ 0) ↔ ((x ≡ 0) × (y ≡ 0))
+or_zero x y = (λ e. (omega (arith, e, le_or_l x y), omega (arith, e, le_or_r x y)), λ p. rw (p.0, p.1) refl)
+
+ors_small : agree_below (λ a. agree_below (λ b. ltb (bit_or a b) 16) (λ _. true) 16) (λ _. true) 16 ≡ true
+ors_small = refl
+
+pub or_small : (x y : ℕ) → (bit_or x y < 16) ↔ ((x < 16) × (y < 16))
+or_small x y = (
+  λ h. (omega (arith, h, le_or_l x y), omega (arith, h, le_or_r x y)),
+  λ p. ltb-true (bit_or x y) 16 (agree_below_at (λ b. ltb (bit_or x b) 16) (λ _. true) 16 y (agree_below_at (λ a. agree_below (λ b. ltb (bit_or a b) 16) (λ _. true) 16) (λ _. true) 16 x ors_small p.0) p.1),
+)
+
+high_bits_zero : agree_below (λ x. eqb (bit_and x 240) 0) (λ x. ltb x 16) 256 ≡ true
+high_bits_zero = refl
+
+pub high_bits_are_zero : (x : ℕ) → x < 256 → (bit_and x 240 ≡ 0) ↔ (x < 16)
+high_bits_are_zero x h =
+    let same = agree_below_at (λ x. eqb (bit_and x 240) 0) (λ x. ltb x 16) 256 x high_bits_zero h in
+    (λ z. ltb-true x 16 (sym same ∙ rw z refl), λ lt. eqb-true _ _ (same ∙ lt-ltb x 16 lt))

@@ -1,0 +1,77 @@
+-- Looking lanes up in a row of sixteen.
+use Rattle.std.proofs.Common.{◌≡◌, ℕ, zero, suc, ◌+◌, ◌*◌, ◌/◌, ◌%◌, ◌<◌, Bool, true, false, ◌||◌, cond, T, eqb, eqb-true, leb, ltb, List, [], ◌∷◌, ◌++◌, map, length, get_or, bit_and, refl, ap, sym, ◌∙◌, subst, Fits, w8, arith}
+use Rattle.std.proofs.lemmas.Bool.{agree_below, agree_below_at}
+use Rattle.std.proofs.lemmas.List.{ext_get_or, get_or-map, get_or_append_left, length-map}
+use Rattle.std.proofs.lemmas.Simd.{SwzOk, SwzOk-from_Each1, get_or-swz_l, length-swz_l, swz_l}
+use lib.Lanes.{Each1, pick_l}
+use mir.Val.{zeroes}
+use Rattle.hex_core.specs.Lookup.{entry}
+use Rattle.hex_core.proofs.LaneLemmas.{lane_below, mapped_at}
+
+-- the position that a look-up by the low four bits is given: 0x8f keeps the sign bit, at which it gives 0
+abbrev pub position : ℕ → ℕ
+position a = bit_and a 143
+
+abbrev always : ℕ → Bool
+always _ = true
+
+positions : agree_below (λ a. eqb (position a) (cond (leb 128 a) (128 + a % 16) (a % 16))) always 256 ≡ true
+positions = refl
+
+position_is : (a : ℕ) → a < 256 → position a ≡ cond (leb 128 a) (128 + a % 16) (a % 16)
+position_is a h = eqb-true _ _ (agree_below_at (λ x. eqb (position x) (cond (leb 128 x) (128 + x % 16) (x % 16))) always 256 a positions h)
+
+in_row : agree_below (λ a. zeroes 16 w8 (position a) || ltb (position a) 16) always 256 ≡ true
+in_row = refl
+
+gives_zero : agree_below (λ a. zeroes 16 w8 (position a)) (λ a. leb 128 a) 256 ≡ true
+gives_zero = refl
+
+all_in_row : (v : List ℕ) → Each1 (Fits w8) v → Each1 (λ j. T (zeroes 16 w8 j || ltb j 16)) (map position v)
+all_in_row [] f = tt
+all_in_row (x ∷ xs) f = (subst T (sym (agree_below_at (λ a. zeroes 16 w8 (position a) || ltb (position a) 16) always 256 x in_row f.0.fits)) tt, all_in_row xs f.1)
+
+-- the positions are those that std's look-up takes, in a vector of b times sixteen lanes
+pub look_up_ok : (b n : ℕ) (v js : List ℕ) → (length v ≡ n) × Each1 (Fits w8) v → js ≡ map position v → n ≡ b * 16 → SwzOk w8 16 n 0 js
+look_up_ok b n v js f is e =
+    subst (SwzOk w8 16 n 0) (sym is) (SwzOk-from_Each1 w8 16 b n 0 (map position v) e (omega (arith, length-map v position, f.0)) (all_in_row v f.1))
+
+-- the row stands in each sixteen lanes of t
+abbrev pub Repeats : List ℕ → List ℕ → ℕ → Type 0
+Repeats row t n = (i : ℕ) → i < n → get_or t i 0 ≡ get_or row (i % 16) 0
+
+entry_of : (row t : List ℕ) (n i a j b : ℕ) (z : Bool) → leb 128 a ≡ z → j ≡ cond z (128 + a % 16) (a % 16) → i < n → n ≡ b * 16 → Repeats row t n
+    → cond z 0 (get_or t (16 * ((0 + i) / 16) + j) 0) ≡ cond z 0 (get_or row (a % 16) 0)
+entry_of row t n i a j b true e is h whole rows = refl
+entry_of row t n i a j b false e is h whole rows =
+    let at : 16 * ((0 + i) / 16) + j < n = omega arith in
+    rows (16 * ((0 + i) / 16) + j) at ∙ ap (λ k. get_or row k 0) (omega arith)
+
+-- what the look-up finds
+pub look_up_is : (row t : List ℕ) (b n : ℕ) (v js : List ℕ) → (length v ≡ n) × Each1 (Fits w8) v → js ≡ map position v → n ≡ b * 16 → Repeats row t n → swz_l w8 16 t 0 js ≡ map (entry row) v
+look_up_is row t b n v js f is e rows =
+    let long : length js ≡ n = ap length is ∙ length-map v position ∙ f.0 in
+    ext_get_or 0 _ _ (length-swz_l w8 16 t 0 js ∙ long ∙ sym (length-map v (entry row) ∙ f.0)) (λ i h.
+    let lt : i < n = omega (arith, length-swz_l w8 16 t 0 js) in
+    let a = get_or v i 0 in
+    let A : a < 256 = lane_below v f.1 i in
+    let at : get_or js i 0 ≡ position a = mapped_at position v i is (omega (arith, f.0)) in
+    let none : zeroes 16 w8 (get_or js i 0) ≡ leb 128 a = ap (zeroes 16 w8) at ∙ agree_below_at (λ x. zeroes 16 w8 (position x)) (λ x. leb 128 x) 256 a gives_zero A in
+    get_or-swz_l w8 16 t 0 js i (omega arith) ∙ ap (λ z. cond z 0 (get_or t (16 * ((0 + i) / 16) + get_or js i 0) 0)) none
+    ∙ entry_of row t n i a (get_or js i 0) b (leb 128 a) refl (at ∙ position_is a A) lt e rows ∙ sym (get_or-map (entry row) v i 0 0 (omega (arith, f.0))))
+
+-- the places of a row, over and over
+abbrev pub over : ℕ → ℕ → List ℕ
+over i zero = []
+over i (suc m) = (i % 16) ∷ over (suc i) m
+
+-- a row that is picked over and over repeats itself
+repeats : (row ks : List ℕ) (n : ℕ) → length row ≡ 16 → length ks ≡ n → agree_below (λ i. eqb (get_or ks i 0) (i % 16)) always n ≡ true → Repeats row (pick_l 0 (row ++ row) ks) n
+repeats row ks n long many all i h =
+    let at : get_or ks i 0 ≡ i % 16 = eqb-true _ _ (agree_below_at (λ i. eqb (get_or ks i 0) (i % 16)) always n i all h) in
+    get_or-map (λ k. get_or (row ++ row) k 0) ks i 0 0 (omega arith) ∙ ap (λ k. get_or (row ++ row) k 0) at ∙ get_or_append_left row row 0 (i % 16) (omega arith)
+
+-- so it is looked up as the row itself
+pub look_up_repeated : (row ks : List ℕ) (b n : ℕ) (v js : List ℕ) → (length v ≡ n) × Each1 (Fits w8) v → js ≡ map position v → n ≡ b * 16 → length row ≡ 16 → length ks ≡ n
+    → agree_below (λ i. eqb (get_or ks i 0) (i % 16)) always n ≡ true → swz_l w8 16 (pick_l 0 (row ++ row) ks) 0 js ≡ map (entry row) v
+look_up_repeated row ks b n v js f is e long many all = look_up_is row (pick_l 0 (row ++ row) ks) b n v js f is e (repeats row ks n long many all)

@@ -1,0 +1,1 @@
+use Rattle.hex_core.proofs.blocks.write_blocks.Goals as goal

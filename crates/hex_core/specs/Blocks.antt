@@ -1,0 +1,29 @@
+-- What bodies that work block by block keep, place by place.
+use Rattle.std.specs.Prelude.{◌≡◌, ℕ, ◌+◌, ◌*◌, ◌/◌, ◌%◌, ◌<◌, ◌≤◌, ◌==◌, if◌then◌else◌, List, Some, length, slice_index}
+use Rattle.hex_core.specs.declared.digit.CheckCase.{CheckCase}
+use Rattle.hex_core.specs.Digit.{value}
+use Rattle.hex_core.specs.Lanes.{IsNibble}
+
+-- n lanes that stand for the values of the bytes from a place on
+pub record NibblesFrom (c : CheckCase) (s : List ℕ) (at n : ℕ) (lanes : List ℕ) : Type 0 where
+  pub long : length lanes ≡ n
+  pub each : (k : ℕ) → k < n → IsNibble (value c (slice_index s (at + k))) (slice_index lanes k)
+
+-- the byte at a place is what its pair of digits spells
+pub record SpellsAt (c : CheckCase) (s bytes : List ℕ) (i : ℕ) : Type 0 where
+  pub high : value c (slice_index s (2 * i)) ≡ Some (slice_index bytes i / 16)
+  pub low : value c (slice_index s (2 * i + 1)) ≡ Some (slice_index bytes i % 16)
+
+-- so are the bytes of a range
+abbrev pub SpellsRange : CheckCase → List ℕ → List ℕ → ℕ → ℕ → Type 0
+SpellsRange c s bytes start end = (k : ℕ) → start ≤ k → k < end → SpellsAt c s bytes k
+
+-- the bytes of a range were decoded, and the others are as they were
+pub record DecodesRange (c : CheckCase) (s old new : List ℕ) (start end : ℕ) : Type 0 where
+  pub decoded : SpellsRange c s new start end
+  pub before : (k : ℕ) → k < start → slice_index new k ≡ slice_index old k
+  pub behind : (k : ℕ) → end ≤ k → slice_index new k ≡ slice_index old k
+
+-- how many blocks cover a source: a last one that is not whole counts too
+abbrev pub cover : ℕ → ℕ → ℕ
+cover len block = if len % block == 0 then len / block else len / block + 1

@@ -1,0 +1,25 @@
+-- What the lane functions promise of a block, lane by lane.
+use Rattle.std.specs.Prelude.{◌≡◌, ◌↔◌, ℕ, ◌+◌, ◌*◌, ◌<◌, ◌≤◌, List, EachIndex, IsSome, MatchOption, Option, slice_index}
+use Rattle.std.specs.Int.{bit_at}
+use Rattle.hex_core.specs.declared.digit.CheckCase.{CheckCase}
+use Rattle.hex_core.specs.Digit.{value}
+
+-- bit i of a mask is set exactly where byte i has a value
+abbrev pub Admits : CheckCase → List ℕ → ℕ → Type 0
+Admits c bytes mask = EachIndex bytes (λ i. (bit_at mask i ≡ 1) ↔ IsSome (value c (slice_index bytes i)))
+
+-- a number that stands for a byte's value: the value itself, or at least 16 where there is none
+abbrev pub IsNibble : Option ℕ → ℕ → Type 0
+IsNibble o n = MatchOption o (16 ≤ n) (λ v. n ≡ v)
+
+-- each lane stands for its byte's value
+abbrev pub AreNibbles : CheckCase → List ℕ → List ℕ → Type 0
+AreNibbles c bytes nibbles = EachIndex bytes (λ i. IsNibble (value c (slice_index bytes i)) (slice_index nibbles i))
+
+-- each lane is below 16
+abbrev pub AreSmall : List ℕ → Type 0
+AreSmall nibbles = EachIndex nibbles (λ i. slice_index nibbles i < 16)
+
+-- each byte is packed from a pair of nibbles, the high one first
+abbrev pub ArePacked : List ℕ → List ℕ → Type 0
+ArePacked nibbles bytes = EachIndex bytes (λ i. slice_index bytes i ≡ 16 * slice_index nibbles (2 * i) + slice_index nibbles (2 * i + 1))

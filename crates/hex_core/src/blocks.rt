@@ -1,0 +1,248 @@
+//! Loops over blocks of a source, and forms that hold a whole short source in registers.
+//!
+//! `N` is the number of lanes of a vector, and `HALF` is half of it: as many digits spell as many
+//! bytes. Where a length is no multiple of a block, the last block ends with the source and
+//! overlaps the one before: what both cover is read twice, or written twice with equal bytes.
+
+ghost use Rattle.std.specs.Prelude.{◌≡◌, ◌↔◌, ◌+◌, ◌-◌, ◌*◌, ◌≤◌, IsTrue, None, length};
+ghost use Rattle.std.specs.Bool.{OnFalse, OnTrue};
+ghost use Rattle.std.specs.Simd.Lanes.{chunk, put_chunk};
+ghost use Rattle.hex_core.specs.Arithmetic.{packed};
+ghost use Rattle.hex_core.specs.Blocks.{DecodesRange, NibblesFrom};
+ghost use Rattle.hex_core.specs.Fault.{IsClear, fault};
+ghost use Rattle.hex_core.specs.Lanes.{AreSmall};
+ghost use Rattle.hex_core.specs.Text.{Spells, text};
+
+use crate::digit::CheckCase;
+use crate::lanes::{encoded, excess, nibbles, valid_nibbles};
+use crate::vector::{Interleave, Lanes, LookUp, Pack, either, is_small, is_zero};
+use std::simd::prelude::*;
+
+// Whether each of `N` bytes from `at` on has a value.
+#[inline(always)]
+fn is_clear_at<const N: usize>(src: &[u8], at: usize, case: CheckCase) -> bool
+    requires lanes { N ≤ 64 }
+    requires inside { at + N ≤ length src.now }
+    ensures { IsTrue result ↔ IsClear case src.now at (at + N) }
+{
+    is_zero(excess(Simd::<u8, N>::from_slice(&src[at..]), case))
+}
+
+/// Whether every byte of a source of `N` to `2 * N` bytes has a value.
+#[inline(always)]
+pub fn check_two<const N: usize>(src: &[u8], case: CheckCase) -> bool
+    requires lanes { N ≤ 64 }
+    requires least { N ≤ length src.now }
+    requires most { length src.now ≤ 2 * N }
+    ensures { IsTrue result ↔ (fault case src.now ≡ None) }
+{
+    let front = excess(Simd::<u8, N>::from_slice(src), case);
+    let back = excess(Simd::<u8, N>::from_slice(&src[src.len() - N..]), case);
+    is_zero(either(front, back))
+}
+
+/// Whether every byte of a source of `N` bytes or more has a value.
+#[inline(never)]
+pub fn check_blocks<const N: usize>(src: &[u8], case: CheckCase) -> bool
+    requires some { 1 ≤ N }
+    requires lanes { N ≤ 64 }
+    requires least { N ≤ length src.now }
+    ensures { IsTrue result ↔ (fault case src.now ≡ None) }
+{
+    'turns: for i in 0..src.len() / N {
+        if !is_clear_at::<N>(src, i * N, case) {
+            return false;
+        }
+    }
+    src.len() % N == 0 || is_clear_at::<N>(src, src.len() - N, case)
+}
+
+// The nibbles of `N` bytes from `at` on.
+#[inline(always)]
+fn nibbles_at<const N: usize>(src: &[u8], at: usize, case: CheckCase) -> Simd<u8, N>
+    requires { at + N ≤ length src.now }
+    ensures { NibblesFrom case src.now at N result }
+{
+    nibbles(Simd::<u8, N>::from_slice(&src[at..]), case)
+}
+
+// The same, where each of the bytes has a value.
+#[inline(always)]
+fn valid_nibbles_at<const N: usize>(src: &[u8], at: usize, case: CheckCase) -> Simd<u8, N>
+    requires inside { at + N ≤ length src.now }
+    requires clear { IsClear case src.now at (at + N) }
+    ensures nibbles { NibblesFrom case src.now at N result }
+    ensures small { AreSmall result }
+{
+    valid_nibbles(Simd::<u8, N>::from_slice(&src[at..]))
+}
+
+// Writes the bytes of nibbles from `at` on.
+#[inline(always)]
+fn put<const N: usize, const HALF: usize>(nibbles: Simd<u8, N>, dst: &mut [u8], at: usize)
+where
+    Lanes: Pack<N, HALF>,
+    requires small { AreSmall nibbles }
+    requires room { at + HALF ≤ length dst.old }
+    ensures { dst.new ≡ put_chunk at dst.old (packed nibbles.entry) }
+{
+    Lanes::pack(nibbles).copy_to_slice(&mut dst[at..]);
+}
+
+// Writes the bytes from `at` on that `N` valid digits spell.
+#[inline(always)]
+fn write_at<const N: usize, const HALF: usize>(
+    src: &[u8],
+    dst: &mut [u8],
+    at: usize,
+    case: CheckCase,
+)
+where
+    Lanes: Pack<N, HALF>,
+    requires lanes { N ≡ 2 * HALF }
+    requires twice { length src.now ≡ 2 * length dst.old }
+    requires room { at + HALF ≤ length dst.old }
+    requires valid { fault case src.now ≡ None }
+    ensures { DecodesRange case src.now dst.old dst.new at (at + HALF) }
+{
+    put(valid_nibbles_at::<N>(src, 2 * at, case), dst, at);
+}
+
+/// Writes the bytes that a valid source of `N` digits or more spells.
+#[inline(never)]
+pub fn write_blocks<const N: usize, const HALF: usize>(src: &[u8], dst: &mut [u8], case: CheckCase)
+where
+    Lanes: Pack<N, HALF>,
+    requires some { 1 ≤ HALF }
+    requires lanes { N ≡ 2 * HALF }
+    requires twice { length src.now ≡ 2 * length dst.old }
+    requires least { HALF ≤ length dst.old }
+    requires valid { fault case src.now ≡ None }
+    ensures { Spells case src.now dst.new }
+{
+    'turns: for i in 0..dst.len() / HALF {
+        write_at::<N, HALF>(src, dst, i * HALF, case);
+    }
+    if dst.len() % HALF != 0 {
+        let at = dst.len() - HALF;
+        write_at::<N, HALF>(src, dst, at, case);
+    }
+}
+
+// Writes the bytes of two blocks of nibbles, one at each end of a range.
+#[inline(always)]
+fn put_two<const N: usize, const HALF: usize>(
+    front: Simd<u8, N>,
+    back: Simd<u8, N>,
+    dst: &mut [u8],
+    start: usize,
+    end: usize,
+)
+where
+    Lanes: Pack<N, HALF>,
+    requires front { AreSmall front }
+    requires back { AreSmall back }
+    requires least { start + HALF ≤ end }
+    requires inside { end ≤ length dst.old }
+    ensures { dst.new ≡ put_chunk (end - HALF) (put_chunk start dst.old (packed front.entry))
+        (packed back.entry) }
+{
+    put(front, dst, start);
+    put(back, dst, end - HALF);
+}
+
+/// Writes the bytes that a valid source of `N` to `2 * N` digits spells.
+#[inline(always)]
+pub fn write_two<const N: usize, const HALF: usize>(src: &[u8], dst: &mut [u8], case: CheckCase)
+where
+    Lanes: Pack<N, HALF>,
+    requires lanes { N ≡ 2 * HALF }
+    requires twice { length src.now ≡ 2 * length dst.old }
+    requires least { N ≤ length src.now }
+    requires most { length src.now ≤ 2 * N }
+    requires valid { fault case src.now ≡ None }
+    ensures { Spells case src.now dst.new }
+{
+    // Both blocks are read before the first store, so that the compiler joins these reads with
+    // those of a check before.
+    let front = valid_nibbles_at::<N>(src, 0, case);
+    let back = valid_nibbles_at::<N>(src, src.len() - N, case);
+    let end = dst.len();
+    put_two(front, back, dst, 0, end);
+}
+
+/// Decodes a source of `N` to `2 * N` digits: all of it is tested before the first store.
+#[inline(always)]
+pub fn decode_two<const N: usize, const HALF: usize>(
+    src: &[u8],
+    dst: &mut [u8],
+    case: CheckCase,
+) -> bool
+where
+    Lanes: Pack<N, HALF>,
+    requires lanes { N ≤ 64 }
+    requires half { N ≡ 2 * HALF }
+    requires twice { length src.now ≡ 2 * length dst.old }
+    requires least { N ≤ length src.now }
+    requires most { length src.now ≤ 2 * N }
+    ensures valid { IsTrue result ↔ (fault case src.now ≡ None) }
+    ensures decoded { OnTrue result (Spells case src.now dst.new) }
+    ensures unchanged { OnFalse result (dst.new ≡ dst.old) }
+{
+    let front = nibbles_at::<N>(src, 0, case);
+    let back = nibbles_at::<N>(src, src.len() - N, case);
+    if !is_small(either(front, back)) {
+        return false;
+    }
+    let end = dst.len();
+    put_two(front, back, dst, 0, end);
+    true
+}
+
+// Writes the text of `N` bytes from `at` on.
+#[inline(always)]
+fn spell_at<const N: usize, const TWICE: usize>(src: &[u8], dst: &mut [u8], at: usize, upper: bool)
+where
+    Lanes: Interleave<N, TWICE> + LookUp<TWICE>,
+    requires lanes { TWICE ≡ 2 * N }
+    requires source { at + N ≤ length src.now }
+    requires room { 2 * at + TWICE ≤ length dst.old }
+    ensures { dst.new ≡ put_chunk (2 * at) dst.old (text upper (chunk at N src.now)) }
+{
+    let text = encoded::<N, TWICE>(Simd::<u8, N>::from_slice(&src[at..]), upper);
+    text.copy_to_slice(&mut dst[2 * at..]);
+}
+
+/// Writes the text of `N` to `2 * N` bytes.
+#[inline(always)]
+pub fn encode_two<const N: usize, const TWICE: usize>(src: &[u8], dst: &mut [u8], upper: bool)
+where
+    Lanes: Interleave<N, TWICE> + LookUp<TWICE>,
+    requires lanes { TWICE ≡ 2 * N }
+    requires twice { length dst.old ≡ 2 * length src.now }
+    requires least { N ≤ length src.now }
+    requires most { length src.now ≤ 2 * N }
+    ensures { dst.new ≡ text upper src.now }
+{
+    spell_at::<N, TWICE>(src, dst, 0, upper);
+    spell_at::<N, TWICE>(src, dst, src.len() - N, upper);
+}
+
+/// Writes the text of `N` bytes or more.
+#[inline(never)]
+pub fn encode_blocks<const N: usize, const TWICE: usize>(src: &[u8], dst: &mut [u8], upper: bool)
+where
+    Lanes: Interleave<N, TWICE> + LookUp<TWICE>,
+    requires some { 1 ≤ N }
+    requires lanes { TWICE ≡ 2 * N }
+    requires twice { length dst.old ≡ 2 * length src.now }
+    requires least { N ≤ length src.now }
+    ensures { dst.new ≡ text upper src.now }
+{
+    'turns: for i in 0..src.len() / N {
+        spell_at::<N, TWICE>(src, dst, i * N, upper);
+    }
+    if src.len() % N != 0 {
+        spell_at::<N, TWICE>(src, dst, src.len() - N, upper);
+    }
+}

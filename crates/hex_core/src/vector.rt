@@ -1,0 +1,243 @@
+//! Vectors: one operation a function, and what it makes of the lanes.
+
+ghost use Rattle.std.specs.Prelude.{◌≡◌, ◌↔◌, ℕ, ◌-◌, ◌/◌, ◌%◌, ◌≤◌, ◌<◌, ◌==◌, IsTrue, min, length, map, slice_index, bit_and, bit_or};
+ghost use Rattle.std.specs.Simd.Lanes.{mask_l, zip2};
+ghost use Rattle.hex_core.specs.Arithmetic.{AreZero, interleaved, packed, pair_byte, saturating_add, wrapping_sub};
+ghost use Rattle.hex_core.specs.Lanes.{AreSmall};
+ghost use Rattle.hex_core.specs.Lookup.{entry};
+
+use std::simd::prelude::*;
+
+/// The difference of each lane, modulo 256.
+#[inline(always)]
+pub fn wrapping_sub<const N: usize>(v: Simd<u8, N>, by: u8) -> Simd<u8, N>
+    ensures { result ≡ map (λ x. wrapping_sub x by) v.entry }
+{
+    v - Simd::splat(by)
+}
+
+/// The difference of each lane, or 0.
+#[inline(always)]
+pub fn saturating_sub<const N: usize>(v: Simd<u8, N>, by: u8) -> Simd<u8, N>
+    ensures { result ≡ map (λ x. x - by) v.entry }
+{
+    v.saturating_sub(Simd::splat(by))
+}
+
+/// The sum of each lane, or 255. The compiler makes one instruction of this form, and three of a
+/// vector's own saturating sum.
+#[inline(always)]
+pub fn saturating_add<const N: usize>(v: Simd<u8, N>, by: u8) -> Simd<u8, N>
+    ensures { result ≡ map (λ x. saturating_add x by) v.entry }
+{
+    v.simd_min(Simd::splat(255 - by)) + Simd::splat(by)
+}
+
+/// Each lane with these bits set.
+#[inline(always)]
+pub fn with_bits<const N: usize>(v: Simd<u8, N>, bits: u8) -> Simd<u8, N>
+    ensures { result ≡ map (λ x. bit_or x bits) v.entry }
+{
+    v | Simd::splat(bits)
+}
+
+/// Each lane with the other bits cleared.
+#[inline(always)]
+pub fn masked<const N: usize>(v: Simd<u8, N>, mask: u8) -> Simd<u8, N>
+    ensures { result ≡ map (λ x. bit_and x mask) v.entry }
+{
+    v & Simd::splat(mask)
+}
+
+/// The high four bits of each lane, as a number.
+#[inline(always)]
+pub fn high_bits<const N: usize>(v: Simd<u8, N>) -> Simd<u8, N>
+    ensures { result ≡ map (λ x. x / 16) v.entry }
+{
+    v >> Simd::splat(4)
+}
+
+/// The smaller lane of each two.
+#[inline(always)]
+pub fn smaller<const N: usize>(a: Simd<u8, N>, b: Simd<u8, N>) -> Simd<u8, N>
+    ensures { result ≡ zip2 min a.entry b.entry }
+{
+    a.simd_min(b)
+}
+
+/// The bits of both, so that one test does for two vectors.
+#[inline(always)]
+pub fn either<const N: usize>(a: Simd<u8, N>, b: Simd<u8, N>) -> Simd<u8, N>
+    ensures zero { AreZero result ↔ (AreZero a.entry × AreZero b.entry) }
+    ensures small { AreSmall result ↔ (AreSmall a.entry × AreSmall b.entry) }
+{
+    a | b
+}
+
+/// A mask whose bit i says whether lane i is 0.
+#[inline(always)]
+pub fn zero_bits<const N: usize>(v: Simd<u8, N>) -> u64
+    requires { N ≤ 64 }
+    ensures { result ≡ mask_l (map (λ x. x == 0) v.entry) }
+{
+    v.simd_eq(Simd::splat(0)).to_bitmask()
+}
+
+/// Whether each lane is 0. The compiler makes one test of this form, over as many registers as
+/// the vector has.
+#[inline(always)]
+pub fn is_zero<const N: usize>(v: Simd<u8, N>) -> bool
+    requires { N ≤ 64 }
+    ensures { IsTrue result ↔ AreZero v.entry }
+{
+    v.simd_ne(Simd::splat(0)).to_bitmask() == 0
+}
+
+/// Whether each lane is below 16.
+#[inline(always)]
+pub fn is_small<const N: usize>(v: Simd<u8, N>) -> bool
+    requires { N ≤ 64 }
+    ensures { IsTrue result ↔ AreSmall v.entry }
+{
+    is_zero(masked(v, 0xf0))
+}
+
+// The byte of each word of two nibbles, the high one in the word's low byte.
+#[inline(always)]
+fn pair_bytes<const N: usize>(v: Simd<u16, N>) -> Simd<u8, N>
+    ensures { result ≡ map pair_byte v.entry }
+{
+    ((v * Simd::splat(4097)) >> Simd::splat(8)).cast::<u8>()
+}
+
+/// The widths of a vector. What moves lanes to other places has no form that is generic in the
+/// width, so it is written once for each width, below.
+pub struct Lanes;
+
+/// The nibbles of each pair of lanes become one byte, the first of a pair its high half.
+pub trait Pack<const N: usize, const HALF: usize> {
+    fn pack(v: Simd<u8, N>) -> Simd<u8, HALF>
+        requires { AreSmall v }
+        ensures { result ≡ packed v.entry };
+}
+
+impl Pack<16, 8> for Lanes {
+    #[inline(always)]
+    fn pack(v: u8x16) -> u8x8
+        requires { AreSmall v }
+        ensures { result ≡ packed v }
+    {
+        pair_bytes(u16x8::from_le_bytes(v))
+    }
+}
+
+impl Pack<32, 16> for Lanes {
+    #[inline(always)]
+    fn pack(v: u8x32) -> u8x16
+        requires { AreSmall v }
+        ensures { result ≡ packed v }
+    {
+        pair_bytes(u16x16::from_le_bytes(v))
+    }
+}
+
+impl Pack<64, 32> for Lanes {
+    #[inline(always)]
+    fn pack(v: u8x64) -> u8x32
+        requires { AreSmall v }
+        ensures { result ≡ packed v }
+    {
+        pair_bytes(u16x32::from_le_bytes(v))
+    }
+}
+
+/// Two vectors are taken in turn, lane by lane.
+pub trait Interleave<const N: usize, const TWICE: usize> {
+    fn interleave(first: Simd<u8, N>, second: Simd<u8, N>) -> Simd<u8, TWICE>
+        ensures { result ≡ interleaved first.entry second.entry };
+}
+
+impl Interleave<8, 16> for Lanes {
+    #[inline(always)]
+    fn interleave(first: u8x8, second: u8x8) -> u8x16
+        ensures { result ≡ interleaved first second }
+    {
+        first.shuffle(
+            second,
+            [0, 8, 1, 9, 2, 10, 3, 11, 4, 12, 5, 13, 6, 14, 7, 15],
+        )
+    }
+}
+
+impl Interleave<16, 32> for Lanes {
+    #[inline(always)]
+    fn interleave(first: u8x16, second: u8x16) -> u8x32
+        ensures { result ≡ interleaved first second }
+    {
+        first.shuffle(
+            second,
+            [
+                0, 16, 1, 17, 2, 18, 3, 19, 4, 20, 5, 21, 6, 22, 7, 23, 8, 24, 9, 25, 10, 26, 11,
+                27, 12, 28, 13, 29, 14, 30, 15, 31,
+            ],
+        )
+    }
+}
+
+impl Interleave<32, 64> for Lanes {
+    #[inline(always)]
+    fn interleave(first: u8x32, second: u8x32) -> u8x64
+        ensures { result ≡ interleaved first second }
+    {
+        first.shuffle(
+            second,
+            [
+                0, 32, 1, 33, 2, 34, 3, 35, 4, 36, 5, 37, 6, 38, 7, 39, 8, 40, 9, 41, 10, 42, 11,
+                43, 12, 44, 13, 45, 14, 46, 15, 47, 16, 48, 17, 49, 18, 50, 19, 51, 20, 52, 21, 53,
+                22, 54, 23, 55, 24, 56, 25, 57, 26, 58, 27, 59, 28, 60, 29, 61, 30, 62, 31, 63,
+            ],
+        )
+    }
+}
+
+/// Each lane is looked up in a row of sixteen.
+pub trait LookUp<const N: usize> {
+    fn look_up(row: u8x16, at: Simd<u8, N>) -> Simd<u8, N>
+        ensures { result ≡ map (entry row) at.entry };
+}
+
+impl LookUp<16> for Lanes {
+    #[inline(always)]
+    fn look_up(row: u8x16, at: u8x16) -> u8x16
+        ensures { result ≡ map (entry row) at }
+    {
+        row.swizzle_dyn_within::<16>(masked(at, 0x8f))
+    }
+}
+
+impl LookUp<32> for Lanes {
+    #[inline(always)]
+    fn look_up(row: u8x16, at: u8x32) -> u8x32
+        ensures { result ≡ map (entry row) at }
+    {
+        let rows = row.swizzle([
+            0, 1, 2, 3, 4, 5, 6, 7, 8, 9, 10, 11, 12, 13, 14, 15, 0, 1, 2, 3, 4, 5, 6, 7, 8, 9, 10,
+            11, 12, 13, 14, 15,
+        ]);
+        rows.swizzle_dyn_within::<16>(masked(at, 0x8f))
+    }
+}
+
+impl LookUp<64> for Lanes {
+    #[inline(always)]
+    fn look_up(row: u8x16, at: u8x64) -> u8x64
+        ensures { result ≡ map (entry row) at }
+    {
+        let rows = row.swizzle([
+            0, 1, 2, 3, 4, 5, 6, 7, 8, 9, 10, 11, 12, 13, 14, 15, 0, 1, 2, 3, 4, 5, 6, 7, 8, 9, 10,
+            11, 12, 13, 14, 15, 0, 1, 2, 3, 4, 5, 6, 7, 8, 9, 10, 11, 12, 13, 14, 15, 0, 1, 2, 3,
+            4, 5, 6, 7, 8, 9, 10, 11, 12, 13, 14, 15,
+        ]);
+        rows.swizzle_dyn_within::<16>(masked(at, 0x8f))
+    }
+}
