@@ -7,7 +7,7 @@ use Rattle.std.proofs.lemmas.List.{length-map}
 use Rattle.std.proofs.lemmas.Simd.{get_or-chunk, get_or-put_chunk_above, get_or-put_chunk_at, get_or-put_chunk_below, length-chunk, length-put_chunk}
 use lib.Lanes.{chunk, put_chunk}
 use Rattle.hex_core.specs.declared.digit.CheckCase.{CheckCase}
-use Rattle.hex_core.specs.Arithmetic.{packed, saturated, valid_nibble}
+use Rattle.hex_core.specs.Arithmetic.{packed, valid_nibble}
 use Rattle.hex_core.specs.Blocks.{DecodesRange, NibblesFrom, SpellsAt, SpellsRange}
 use Rattle.hex_core.specs.Digit.{value}
 use Rattle.hex_core.specs.Fault.{IsClear, fault}
@@ -73,9 +73,9 @@ clear_chunk c s at n inside = (
   λ clear k low lt. subst (λ b. IsSome (value c b)) (sym (get_or-chunk at n s k 0 lt)) (clear (at + k) (omega arith) (omega arith)),
 )
 
-pub nibbles_chunk : (c : CheckCase) (s v : List ℕ) (at n : ℕ) → at + n ≤ length s → v ≡ map (saturated c) (chunk at n s) → AreNibbles c (chunk at n s) v → NibblesFrom c s at n v
-nibbles_chunk c s v at n inside is are = record {
-  long = ap length is ∙ length-map (chunk at n s) (saturated c) ∙ length-chunk at n s inside;
+pub nibbles_chunk : (c : CheckCase) (s v : List ℕ) (at n : ℕ) → at + n ≤ length s → length v ≡ n → AreNibbles c (chunk at n s) v → NibblesFrom c s at n v
+nibbles_chunk c s v at n inside long are = record {
+  long = long;
   each = λ k h. subst (λ b. IsNibble (value c b) (get_or v k 0)) (get_or-chunk at n s k 0 h) (are k (omega (arith, length-chunk at n s inside)));
 }
 
@@ -124,6 +124,19 @@ pub pair_tested : (c : CheckCase) (s f b r : List ℕ) (mid n : ℕ) (t : Bool) 
 pair_tested c s f b r mid n t front back whole le test either =
     let both = pair_clear c s f b 0 mid (length s) n front back whole (omega arith) (omega arith) in
     (λ x. fault_none c s (both.0 (either.0 (test.0 x))), λ none. test.1 (either.1 (both.1 (clear_range c s 0 (length s) (omega arith) none))))
+
+-- one test of two pairs, which are a source
+pub pairs_tested : (c : CheckCase) (s f b g d p q r : List ℕ) (from mid n : ℕ) (t : Bool) → NibblesFrom c s 0 n f → NibblesFrom c s n n b → NibblesFrom c s from n g → NibblesFrom c s mid n d
+    → mid ≡ from + n → length s ≡ mid + n → from ≤ n + n → IsTrue t ↔ AreSmall r → AreSmall r ↔ (AreSmall p × AreSmall q) → AreSmall p ↔ (AreSmall f × AreSmall b) → AreSmall q ↔ (AreSmall g × AreSmall d)
+    → IsTrue t ↔ (fault c s ≡ None)
+pairs_tested c s f b g d p q r from mid n t one two three four at whole le test both front back =
+    let first = pair_clear c s f b 0 n (n + n) n one two refl (omega arith) (omega arith) in
+    let last = pair_clear c s g d from mid (length s) n three four whole (omega arith) (omega arith) in (
+      λ x.
+          let small = both.0 (test.0 x) in
+          fault_none c s (clear_over c s 0 (n + n) from (length s) le (first.0 (front.0 small.0)) (last.0 (back.0 small.1))),
+      λ none. test.1 (both.1 (front.1 (first.1 (clear_range c s 0 (n + n) (omega arith) none)), back.1 (last.1 (clear_range c s from (length s) (omega arith) none)))),
+    )
 
 -- ---- a block that is decoded
 

@@ -85,11 +85,11 @@ full_16 c v m long small admits = (
 
 -- ---- the saturating map
 
-abbrev nibble_test : Option ℕ → ℕ → Bool
+abbrev pub nibble_test : Option ℕ → ℕ → Bool
 nibble_test (Some v) n = eqb n v
 nibble_test None n = leb 16 n
 
-nibble_by : (o : Option ℕ) (n : ℕ) → nibble_test o n ≡ true → IsNibble o n
+pub nibble_by : (o : Option ℕ) (n : ℕ) → nibble_test o n ≡ true → IsNibble o n
 nibble_by (Some v) n e = eqb-true n v e
 nibble_by None n e = leb-true 16 n e
 

@@ -9,6 +9,7 @@ use Rattle.std.proofs.lemmas.Nat.{le_or_l, le_or_r}
 use Rattle.std.proofs.lemmas.Simd.{get_or-zip2, length-zip2, zip2_splat}
 use lib.Lanes.{zip2, sel_l, top, mask_l, Each1}
 use Rattle.hex_core.specs.Arithmetic.{AreZero, pair_byte, saturating_add, wrapping_sub}
+use Rattle.hex_core.specs.Hash.{average}
 use Rattle.hex_core.specs.Lanes.{AreSmall}
 
 -- ---- lanes by place
@@ -87,6 +88,30 @@ pub sums : (v : List ℕ) (k n : ℕ) → (length v ≡ n) × Each1 (Fits w8) v 
 sums v k n f h =
     ap (λ l. zip2 wrapping_add l (replicate n k)) (minima v (replicate n (255 - k))) ∙ splat_twice min wrapping_add v n (255 - k) k f.0
     ∙ maps_agree (λ x. wrapping_add (min x (255 - k)) k) (λ x. saturating_add x k) (λ x lt. omega arith) v f.1
+
+-- ---- averages, computed in words
+
+abbrev word_add : ℕ → ℕ → ℕ
+word_add a b = (a + b) % 2 ^ 16
+
+one_average : (x y : ℕ) → x < 256 → y < 256 → word_add (word_add x y) 1 / 2 ^ 1 ≡ average x y
+one_average x y X Y = omega arith
+
+averaged : (xs ys : List ℕ) → Each1 (Fits w8) xs → Each1 (Fits w8) ys → map (λ s. word_add s 1 / 2 ^ 1) (zip2 word_add xs ys) ≡ zip2 average xs ys
+averaged [] ys f g = refl
+averaged (x ∷ xs) [] f g = refl
+averaged (x ∷ xs) (y ∷ ys) f g = ap₂ (λ a r. a ∷ r) (one_average x y f.0.fits g.0.fits) (averaged xs ys f.1 g.1)
+
+pub averages_of : (xs ys : List ℕ) (n : ℕ) → (length xs ≡ n) × Each1 (Fits w8) xs → (length ys ≡ n) × Each1 (Fits w8) ys
+    → zip2 (λ a b. a / 2 ^ b) (zip2 word_add (zip2 word_add (map (λ x. x) xs) (map (λ x. x) ys)) (replicate n 1)) (replicate n 1) ≡ zip2 average xs ys
+averages_of xs ys n f g =
+    ap₂ (λ a b. zip2 (λ x y. x / 2 ^ y) (zip2 word_add (zip2 word_add a b) (replicate n 1)) (replicate n 1)) (map_id xs) (map_id ys)
+    ∙ splat_twice word_add (λ a b. a / 2 ^ b) (zip2 word_add xs ys) n 1 1 (length-zip2 word_add xs ys (f.0 ∙ sym g.0) ∙ f.0) ∙ averaged xs ys f.1 g.1
+
+pub averages_fit : (xs ys : List ℕ) → Each1 (Fits w8) xs → Each1 (Fits w8) ys → Each1 (Fits w8) (zip2 average xs ys)
+averages_fit [] ys f g = tt
+averages_fit (x ∷ xs) [] f g = tt
+averages_fit (x ∷ xs) (y ∷ ys) f g = (record { fits = let p : x < 256 = f.0.fits in let q : y < 256 = g.0.fits in omega arith }, averages_fit xs ys f.1 g.1)
 
 -- ---- words to bytes
 

@@ -18,7 +18,7 @@ use Rattle.hex_core.proofs.plan.Backend.TheLaws as BL
 use Rattle.hex_core.specs.contracts.plan.Kind as KI
 use Rattle.hex_core.proofs.plan.Kind.TheLaws as KL
 use Rattle.hex_core.specs.declared.digit.CheckCase.TheVariants as policy
-use Rattle.hex_core.specs.declared.plan.Kind.TheVariants.{Scalar}
+use Rattle.hex_core.specs.declared.plan.Kind.TheVariants.{Avx2}
 use Rattle.hex_core.specs.declared.error.Error.{Error}
 use Rattle.hex_core.specs.Loan.{LendsAnswer}
 
@@ -40,10 +40,10 @@ plan_makes = struct_laws.makes BA.the_type BL.the_plain
 
 -- the plan of the calls that name none
 abbrev pub plain_plan : Plan.Denot
-plain_plan = record { 0 = Scalar }
+plain_plan = record { 0 = Avx2 }
 
 pub plain_plan_is : Is Plan plain_plan (plan_vals plain_plan)
-plain_plan_is = struct_laws.owes BA.the_type BL.the_laws plain_plan (enum_laws.owes KI.the_type KL.the_laws Scalar tt, tt)
+plain_plan_is = struct_laws.owes BA.the_type BL.the_laws plain_plan (enum_laws.owes KI.the_type KL.the_laws Avx2 tt, tt)
 
 -- a policy
 abbrev pub Policy : RattleType

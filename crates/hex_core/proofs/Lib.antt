@@ -3,6 +3,7 @@ pub mod ByteLemmas
 pub mod Facts
 pub mod FaultLemmas
 pub mod Fronts
+pub mod HashLemmas
 pub mod LaneLemmas
 pub mod LawProofs
 pub mod LookupLemmas
@@ -13,6 +14,7 @@ pub mod ProbeLemmas
 pub mod Lent
 pub mod Refused
 pub mod Results
+pub mod ShiftLemmas
 pub mod SpellsLemmas
 pub mod TableLemmas
 pub mod TextBlockLemmas

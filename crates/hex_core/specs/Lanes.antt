@@ -1,5 +1,5 @@
 -- What the lane functions promise of a block, lane by lane.
-use Rattle.std.specs.Prelude.{◌≡◌, ◌↔◌, ℕ, ◌+◌, ◌*◌, ◌<◌, ◌≤◌, List, EachIndex, IsSome, MatchOption, Option, slice_index}
+use Rattle.std.specs.Prelude.{◌≡◌, ◌↔◌, ℕ, ◌+◌, ◌*◌, ◌<◌, ◌≤◌, List, EachIndex, IfSome, IsSome, MatchOption, Option, slice_index}
 use Rattle.std.specs.Int.{bit_at}
 use Rattle.hex_core.specs.declared.digit.CheckCase.{CheckCase}
 use Rattle.hex_core.specs.Digit.{value}
@@ -23,3 +23,11 @@ AreSmall nibbles = EachIndex nibbles (λ i. slice_index nibbles i < 16)
 -- each byte is packed from a pair of nibbles, the high one first
 abbrev pub ArePacked : List ℕ → List ℕ → Type 0
 ArePacked nibbles bytes = EachIndex bytes (λ i. slice_index bytes i ≡ 16 * slice_index nibbles (2 * i) + slice_index nibbles (2 * i + 1))
+
+-- each lane is its byte's value, where there is one
+abbrev pub AreValues : CheckCase → List ℕ → List ℕ → Type 0
+AreValues c bytes nibbles = EachIndex bytes (λ i. IfSome (value c (slice_index bytes i)) (λ v. slice_index nibbles i ≡ v))
+
+-- each check is below 128 exactly where its byte has a value
+abbrev pub AreChecked : CheckCase → List ℕ → List ℕ → Type 0
+AreChecked c bytes checked = EachIndex bytes (λ i. (slice_index checked i < 128) ↔ IsSome (value c (slice_index bytes i)))

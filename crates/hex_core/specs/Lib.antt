@@ -10,3 +10,4 @@ pub mod Lanes
 pub mod Blocks
 pub mod Arithmetic
 pub mod Lookup
+pub mod Hash

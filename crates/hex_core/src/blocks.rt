@@ -14,7 +14,7 @@ ghost use Rattle.hex_core.specs.Lanes.{AreSmall};
 ghost use Rattle.hex_core.specs.Text.{Spells, text};
 
 use crate::digit::CheckCase;
-use crate::lanes::{encoded, excess, nibbles, valid_nibbles};
+use crate::lanes::{NibbleMap, encoded, excess, valid_nibbles};
 use crate::vector::{Interleave, Lanes, LookUp, Pack, either, is_small, is_zero};
 use std::simd::prelude::*;
 
@@ -59,11 +59,13 @@ pub fn check_blocks<const N: usize>(src: &[u8], case: CheckCase) -> bool
 
 // The nibbles of `N` bytes from `at` on.
 #[inline(always)]
-fn nibbles_at<const N: usize>(src: &[u8], at: usize, case: CheckCase) -> Simd<u8, N>
+fn nibbles_at<M, const N: usize>(src: &[u8], at: usize, case: CheckCase) -> Simd<u8, N>
+where
+    M: NibbleMap<N>,
     requires { at + N ≤ length src.now }
     ensures { NibblesFrom case src.now at N result }
 {
-    nibbles(Simd::<u8, N>::from_slice(&src[at..]), case)
+    M::nibbles(Simd::<u8, N>::from_slice(&src[at..]), case)
 }
 
 // The same, where each of the bytes has a value.
@@ -173,12 +175,13 @@ where
 
 /// Decodes a source of `N` to `2 * N` digits: all of it is tested before the first store.
 #[inline(always)]
-pub fn decode_two<const N: usize, const HALF: usize>(
+pub fn decode_two<M, const N: usize, const HALF: usize>(
     src: &[u8],
     dst: &mut [u8],
     case: CheckCase,
 ) -> bool
 where
+    M: NibbleMap<N>,
     Lanes: Pack<N, HALF>,
     requires lanes { N ≤ 64 }
     requires half { N ≡ 2 * HALF }
@@ -189,13 +192,46 @@ where
     ensures decoded { OnTrue result (Spells case src.now dst.new) }
     ensures unchanged { OnFalse result (dst.new ≡ dst.old) }
 {
-    let front = nibbles_at::<N>(src, 0, case);
-    let back = nibbles_at::<N>(src, src.len() - N, case);
+    let front = nibbles_at::<M, N>(src, 0, case);
+    let back = nibbles_at::<M, N>(src, src.len() - N, case);
     if !is_small(either(front, back)) {
         return false;
     }
     let end = dst.len();
     put_two(front, back, dst, 0, end);
+    true
+}
+
+/// Decodes a source of `2 * N` to `4 * N` digits: all of it is tested before the first store.
+#[inline(never)]
+pub fn decode_four<M, const N: usize, const HALF: usize>(
+    src: &[u8],
+    dst: &mut [u8],
+    case: CheckCase,
+) -> bool
+where
+    M: NibbleMap<N>,
+    Lanes: Pack<N, HALF>,
+    requires lanes { N ≤ 64 }
+    requires half { N ≡ 2 * HALF }
+    requires twice { length src.now ≡ 2 * length dst.old }
+    requires least { 2 * N ≤ length src.now }
+    requires most { length src.now ≤ 4 * N }
+    ensures valid { IsTrue result ↔ (fault case src.now ≡ None) }
+    ensures decoded { OnTrue result (Spells case src.now dst.new) }
+    ensures unchanged { OnFalse result (dst.new ≡ dst.old) }
+{
+    let len = src.len();
+    let first = nibbles_at::<M, N>(src, 0, case);
+    let second = nibbles_at::<M, N>(src, N, case);
+    let third = nibbles_at::<M, N>(src, len - 2 * N, case);
+    let last = nibbles_at::<M, N>(src, len - N, case);
+    if !is_small(either(either(first, second), either(third, last))) {
+        return false;
+    }
+    let end = dst.len();
+    put_two(first, second, dst, 0, N);
+    put_two(third, last, dst, end - N, end);
     true
 }
 

@@ -1,20 +1,21 @@
-//! Blocks of 16 bytes, one lane a byte, and of 8 where digits are written.
+//! Blocks of 16, 32 and 64 bytes, one lane a byte, and of 8 where digits are written.
 //!
-//! The functions over arrays are the public ones. The kernels below them are over vectors of any
-//! width.
+//! The functions over arrays are the public ones. Below them are the kernels, over vectors.
 
 ghost use Rattle.std.specs.Prelude.{◌≡◌, ◌↔◌, ℕ, ◌≤◌, ◌<◌, length, is_some, map, slice_index};
 ghost use Rattle.std.specs.Simd.Lanes.{mask_l};
-ghost use Rattle.hex_core.specs.Arithmetic.{AreZero, excess, first_letter, fold_of, saturated, valid_nibble};
+ghost use Rattle.hex_core.specs.Arithmetic.{AreZero, excess, first_letter, fold_of, valid_nibble};
 ghost use Rattle.hex_core.specs.Digit.{digit, value};
 ghost use Rattle.hex_core.specs.Fault.{IsClear};
-ghost use Rattle.hex_core.specs.Lanes.{Admits, AreNibbles, ArePacked, AreSmall};
+ghost use Rattle.hex_core.specs.Hash.{Hashed, check_row, hashed_check, hashed_value};
+ghost use Rattle.hex_core.specs.Lanes.{Admits, AreChecked, AreNibbles, ArePacked, AreSmall, AreValues};
 ghost use Rattle.hex_core.specs.Text.{text};
 
 use crate::digit::CheckCase;
 use crate::vector::{
-    Interleave, Lanes, LookUp, Pack, high_bits, masked, saturating_add, saturating_sub, smaller,
-    with_bits, wrapping_sub, zero_bits,
+    Interleave, Lanes, LookUp, Pack, Shift, averages, either, high_bits, masked, saturating_add,
+    saturating_differences, saturating_sub, sign_flipped, smaller, with_bits, wrapping_differences,
+    wrapping_sub, zero_bits,
 };
 use std::simd::prelude::*;
 
@@ -30,6 +31,22 @@ pub fn admitted_16(bytes: &[u8; 16], case: CheckCase) -> u16
     admitted(u8x16::from_array(*bytes), case) as u16
 }
 
+/// The same as [`admitted_16`], of 32 bytes.
+#[inline(always)]
+pub fn admitted_32(bytes: &[u8; 32], case: CheckCase) -> u32
+    ensures { Admits case bytes.now result }
+{
+    admitted(u8x32::from_array(*bytes), case) as u32
+}
+
+/// The same as [`admitted_16`], of 64 bytes.
+#[inline(always)]
+pub fn admitted_64(bytes: &[u8; 64], case: CheckCase) -> u64
+    ensures { Admits case bytes.now result }
+{
+    admitted(u8x64::from_array(*bytes), case)
+}
+
 /// Answers for each byte its value under `case`, or at least 16 where it has none.
 ///
 /// ```rust
@@ -40,7 +57,41 @@ pub fn admitted_16(bytes: &[u8; 16], case: CheckCase) -> u16
 pub fn nibbles_saturating_16(bytes: &[u8; 16], case: CheckCase) -> [u8; 16]
     ensures { AreNibbles case bytes.now result }
 {
-    nibbles(u8x16::from_array(*bytes), case).to_array()
+    saturated(u8x16::from_array(*bytes), case).to_array()
+}
+
+/// Answers a nibble and a check for each byte: a check is below 128 exactly where its byte has a
+/// value under `case`, and there the nibble is that value. Nothing is said of other nibbles.
+///
+/// ```rust
+/// let (nibbles, checked) = nibbles_hashed_32(b"7g777777777777777777777777777777", CheckCase::None);
+/// assert_eq!(rt; (nibbles[0], checked[0] < 128, checked[1] < 128), (7, true, false));
+/// ```
+#[inline(always)]
+pub fn nibbles_hashed_32(bytes: &[u8; 32], case: CheckCase) -> ([u8; 32], [u8; 32])
+    ensures nibbles { AreValues case bytes.now result.0 }
+    ensures checked { AreChecked case bytes.now result.1 }
+{
+    let v = u8x32::from_array(*bytes);
+    let slots = hashes(v);
+    (
+        hashed_values(v, slots).to_array(),
+        hashed_checks(v, slots, case).to_array(),
+    )
+}
+
+/// The same as [`nibbles_hashed_32`], of 64 bytes.
+#[inline(always)]
+pub fn nibbles_hashed_64(bytes: &[u8; 64], case: CheckCase) -> ([u8; 64], [u8; 64])
+    ensures nibbles { AreValues case bytes.now result.0 }
+    ensures checked { AreChecked case bytes.now result.1 }
+{
+    let v = u8x64::from_array(*bytes);
+    let slots = hashes(v);
+    (
+        hashed_values(v, slots).to_array(),
+        hashed_checks(v, slots, case).to_array(),
+    )
 }
 
 /// Answers the byte of each pair of nibbles: the first of a pair is its high half.
@@ -57,6 +108,24 @@ pub fn pack_16(nibbles: &[u8; 16]) -> [u8; 8]
     ensures { ArePacked nibbles.now result }
 {
     Lanes::pack(u8x16::from_array(*nibbles)).to_array()
+}
+
+/// The same as [`pack_16`], of 32 nibbles.
+#[inline(always)]
+pub fn pack_32(nibbles: &[u8; 32]) -> [u8; 16]
+    requires { AreSmall nibbles.now }
+    ensures { ArePacked nibbles.now result }
+{
+    Lanes::pack(u8x32::from_array(*nibbles)).to_array()
+}
+
+/// The same as [`pack_16`], of 64 nibbles.
+#[inline(always)]
+pub fn pack_64(nibbles: &[u8; 64]) -> [u8; 32]
+    requires { AreSmall nibbles.now }
+    ensures { ArePacked nibbles.now result }
+{
+    Lanes::pack(u8x64::from_array(*nibbles)).to_array()
 }
 
 /// Answers the text of 8 bytes, in uppercase where `upper` is true.
@@ -82,6 +151,14 @@ pub fn encode_16(bytes: &[u8; 16], upper: bool) -> [u8; 32]
     ensures { result ≡ text upper bytes.now }
 {
     encoded(u8x16::from_array(*bytes), upper).to_array()
+}
+
+/// The same as [`encode_16`], of 32 bytes.
+#[inline(always)]
+pub fn encode_32(bytes: &[u8; 32], upper: bool) -> [u8; 64]
+    ensures { result ≡ text upper bytes.now }
+{
+    encoded(u8x32::from_array(*bytes), upper).to_array()
 }
 
 // Both tables are in the order of the policies. A look-up leaves the kernels without a branch.
@@ -125,17 +202,138 @@ fn admitted<const N: usize>(v: Simd<u8, N>, case: CheckCase) -> u64
     zero_bits(excess(v, case))
 }
 
-/// The value of each lane, or at least 16.
+// The value of each lane, or at least 16.
 #[inline(always)]
-pub(crate) fn nibbles<const N: usize>(v: Simd<u8, N>, case: CheckCase) -> Simd<u8, N>
-    ensures lanes { result ≡ map (saturated case) v.entry }
+fn saturated<const N: usize>(v: Simd<u8, N>, case: CheckCase) -> Simd<u8, N>
+    ensures len { length result ≡ N }
     ensures nibbles { AreNibbles case v.entry result }
 {
-    // 58 is behind the last digit: from there on, wrapped around, the ten digits are the greatest
-    // ten numbers, and a saturating step of 6 sends all below them to 0.
-    let digits = wrapping_sub(saturating_sub(wrapping_sub(v, 58), 6), 240);
+    // Less 58, the byte behind `9`, the digits are the ten greatest bytes, 246 to 255. A step down
+    // by 6 that stays at 0 leaves of them 240 to 249, the ten that wrap to 0 to 9.
+    let digits = wrapping_sub(saturating_sub(wrapping_sub(v, b'9' + 1), 6), 240);
     let letters = wrapping_sub(with_bits(v, fold_of(case)), first_letter(case));
     smaller(digits, saturating_add(letters, 10))
+}
+
+// The row of each table is for slots 0 to 15. An offset is stored as what is taken away.
+const HASH_ROW: [u8; 16] = [1, 1, 1, 1, 1, 1, 1, 11, 11, 11, 15, 15, 15, 15, 15, 15];
+
+const VALUE_ROW: [u8; 16] = [
+    128, 128, 128, 128, 48, 55, 128, 87, 128, 48, 128, 128, 128, 128, 128, 128,
+];
+
+#[inline(always)]
+fn check_row(case: CheckCase) -> u8x16
+    ensures { result ≡ check_row case }
+{
+    u8x16::from_array(match case {
+        CheckCase::None => [
+            128, 128, 128, 128, 48, 65, 128, 97, 128, 55, 128, 128, 128, 128, 128, 128,
+        ],
+        CheckCase::Lower => [
+            128, 128, 128, 128, 48, 128, 128, 97, 128, 55, 128, 128, 128, 128, 128, 128,
+        ],
+        CheckCase::Upper => [
+            128, 128, 128, 128, 48, 65, 128, 128, 128, 55, 128, 128, 128, 128, 128, 128,
+        ],
+    })
+}
+
+// The slot of each lane in both rows. It depends on a lane's neighbour above its low four bits,
+// which a look-up leaves out.
+#[inline(always)]
+fn hashes<const N: usize>(v: Simd<u8, N>) -> Simd<u8, N>
+where
+    Lanes: LookUp<N> + Shift<N>,
+    ensures { (i : ℕ) → i < N → Hashed (slice_index v.entry i) (slice_index result i) }
+{
+    averages(
+        Lanes::shift(v),
+        Lanes::look_up(u8x16::from_array(HASH_ROW), v),
+    )
+}
+
+#[inline(always)]
+fn hashed_values<const N: usize>(v: Simd<u8, N>, slots: Simd<u8, N>) -> Simd<u8, N>
+where
+    Lanes: LookUp<N>,
+    ensures len { length result ≡ N }
+    ensures lanes { (i : ℕ) → i < N → slice_index result i
+        ≡ hashed_value (slice_index v.entry i) (slice_index slots.entry i) }
+{
+    wrapping_differences(v, Lanes::look_up(u8x16::from_array(VALUE_ROW), slots))
+}
+
+#[inline(always)]
+fn hashed_checks<const N: usize>(
+    v: Simd<u8, N>,
+    slots: Simd<u8, N>,
+    case: CheckCase,
+) -> Simd<u8, N>
+where
+    Lanes: LookUp<N>,
+    ensures len { length result ≡ N }
+    ensures lanes { (i : ℕ) → i < N → slice_index result i
+        ≡ hashed_check case (slice_index v.entry i) (slice_index slots.entry i) }
+{
+    let offsets = Lanes::look_up(check_row(case), slots);
+    sign_flipped(saturating_differences(sign_flipped(v), offsets))
+}
+
+/// How the nibbles of a vector are found: the value of each lane, or at least 16.
+pub(crate) trait NibbleMap<const N: usize> {
+    fn nibbles(v: Simd<u8, N>, case: CheckCase) -> Simd<u8, N>
+        ensures len { length result ≡ N }
+        ensures nibbles { AreNibbles case v.entry result };
+}
+
+/// Nibbles by saturating sums and differences.
+pub(crate) struct Saturating;
+
+impl NibbleMap<16> for Saturating {
+    #[inline(always)]
+    fn nibbles(v: u8x16, case: CheckCase) -> u8x16
+        ensures len { length result ≡ 16 }
+        ensures nibbles { AreNibbles case v result }
+    {
+        saturated(v, case)
+    }
+}
+
+impl NibbleMap<32> for Saturating {
+    #[inline(always)]
+    fn nibbles(v: u8x32, case: CheckCase) -> u8x32
+        ensures len { length result ≡ 32 }
+        ensures nibbles { AreNibbles case v result }
+    {
+        saturated(v, case)
+    }
+}
+
+impl NibbleMap<64> for Saturating {
+    #[inline(always)]
+    fn nibbles(v: u8x64, case: CheckCase) -> u8x64
+        ensures len { length result ≡ 64 }
+        ensures nibbles { AreNibbles case v result }
+    {
+        saturated(v, case)
+    }
+}
+
+/// Nibbles by a hash that looks up both offsets of a byte.
+pub(crate) struct Hashing;
+
+impl NibbleMap<64> for Hashing {
+    #[inline(always)]
+    fn nibbles(v: u8x64, case: CheckCase) -> u8x64
+        ensures len { length result ≡ 64 }
+        ensures nibbles { AreNibbles case v result }
+    {
+        let slots = hashes(v);
+        // The sign of a failed check makes its nibble large.
+        let signs = masked(hashed_checks(v, slots, case), 0x80);
+        either(hashed_values(v, slots), signs)
+    }
 }
 
 /// The value of each lane, where every lane has one.

@@ -12,6 +12,7 @@ pub mod probe;
 mod scalar;
 mod sixteen;
 mod vector;
+mod wide;
 
 pub use crate::digit::{CheckCase, digit_value};
 pub use crate::error::Error;

@@ -11,9 +11,10 @@ ghost use Rattle.hex_core.specs.Text.{Spells, laid, text};
 
 use crate::digit::CheckCase;
 use crate::error::Error;
+use crate::lanes::{Hashing, Saturating};
 use crate::lend::lend_accepted;
 use crate::probe::{SliceProbe, locate};
-use crate::{scalar, sixteen};
+use crate::{scalar, sixteen, wide};
 
 #[derive(Clone, Copy)]
 enum Kind {
@@ -50,7 +51,7 @@ pub fn backends() -> [Backend; 5]
 
 impl Backend {
     /// The plan of the calls that name none. Which plan that is, is no promise.
-    pub const PLAIN: Backend = Backend(Kind::Scalar);
+    pub const PLAIN: Backend = Backend(Kind::Avx2);
 
     /// Answers the plan's name: `scalar`, `sse41`, `avx2`, `avx512` or `neon`.
     ///
@@ -80,8 +81,9 @@ impl Backend {
         ensures { IsTrue result ↔ (fault case src.now ≡ None) }
     {
         match self.0 {
-            Kind::Scalar | Kind::Avx2 | Kind::Avx512 => scalar::check(src, case),
+            Kind::Scalar => scalar::check(src, case),
             Kind::Sse41 | Kind::Neon => sixteen::check(src, case),
+            Kind::Avx2 | Kind::Avx512 => wide::check(src, case),
         }
     }
 
@@ -99,8 +101,9 @@ impl Backend {
         ensures { dst.new ≡ text upper src.now }
     {
         match self.0 {
-            Kind::Scalar | Kind::Avx2 | Kind::Avx512 => scalar::write_text(src, dst, upper),
+            Kind::Scalar => scalar::write_text(src, dst, upper),
             Kind::Sse41 | Kind::Neon => sixteen::encode(src, dst, upper),
+            Kind::Avx2 | Kind::Avx512 => wide::encode(src, dst, upper),
         }
     }
 
@@ -111,8 +114,9 @@ impl Backend {
         ensures { Spells case src.now dst.new }
     {
         match self.0 {
-            Kind::Scalar | Kind::Avx2 | Kind::Avx512 => scalar::write_bytes(src, dst, case),
+            Kind::Scalar => scalar::write_bytes(src, dst, case),
             Kind::Sse41 | Kind::Neon => sixteen::write_bytes(src, dst, case),
+            Kind::Avx2 | Kind::Avx512 => wide::write_bytes(src, dst, case),
         }
     }
 
@@ -135,8 +139,10 @@ impl Backend {
         ensures unchanged { OnFalse result (dst.new ≡ dst.old) }
     {
         match self.0 {
-            Kind::Scalar | Kind::Avx2 | Kind::Avx512 => scalar::decode(src, dst, case),
+            Kind::Scalar => scalar::decode(src, dst, case),
             Kind::Sse41 | Kind::Neon => sixteen::decode(src, dst, case),
+            Kind::Avx2 => wide::decode::<Saturating>(src, dst, case),
+            Kind::Avx512 => wide::decode::<Hashing>(src, dst, case),
         }
     }
 

@@ -7,7 +7,7 @@ ghost use Rattle.hex_core.specs.Text.{Spells, text};
 
 use crate::blocks::{decode_two, encode_blocks, encode_two, write_blocks};
 use crate::digit::CheckCase;
-use crate::lanes::admitted_16;
+use crate::lanes::{Saturating, admitted_16};
 use crate::probe::{Probe, covered};
 use crate::scalar;
 
@@ -132,7 +132,7 @@ pub fn decode(src: &[u8], dst: &mut [u8], case: CheckCase) -> bool
         return scalar::decode_short(src, dst, case);
     }
     if src.len() <= 2 * BLOCK {
-        return decode_two::<16, 8>(src, dst, case);
+        return decode_two::<Saturating, 16, 8>(src, dst, case);
     }
     if !check(src, case) {
         return false;

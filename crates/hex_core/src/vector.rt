@@ -1,8 +1,9 @@
 //! Vectors: one operation a function, and what it makes of the lanes.
 
-ghost use Rattle.std.specs.Prelude.{◌≡◌, ◌↔◌, ℕ, ◌-◌, ◌/◌, ◌%◌, ◌≤◌, ◌<◌, ◌==◌, IsTrue, min, length, map, slice_index, bit_and, bit_or};
-ghost use Rattle.std.specs.Simd.Lanes.{mask_l, zip2};
+ghost use Rattle.std.specs.Prelude.{◌≡◌, ◌↔◌, ℕ, ◌-◌, ◌/◌, ◌^◌, ◌≤◌, ◌<◌, ◌==◌, IsTrue, length, min, map, slice_index, bit_and, bit_or, bit_xor};
+ghost use Rattle.std.specs.Simd.Lanes.{Each1, mask_l, zip2};
 ghost use Rattle.hex_core.specs.Arithmetic.{AreZero, interleaved, packed, pair_byte, saturating_add, wrapping_sub};
+ghost use Rattle.hex_core.specs.Hash.{Shifted, average};
 ghost use Rattle.hex_core.specs.Lanes.{AreSmall};
 ghost use Rattle.hex_core.specs.Lookup.{entry};
 
@@ -68,6 +69,7 @@ pub fn smaller<const N: usize>(a: Simd<u8, N>, b: Simd<u8, N>) -> Simd<u8, N>
 /// The bits of both, so that one test does for two vectors.
 #[inline(always)]
 pub fn either<const N: usize>(a: Simd<u8, N>, b: Simd<u8, N>) -> Simd<u8, N>
+    ensures lanes { result ≡ zip2 bit_or a.entry b.entry }
     ensures zero { AreZero result ↔ (AreZero a.entry × AreZero b.entry) }
     ensures small { AreSmall result ↔ (AreSmall a.entry × AreSmall b.entry) }
 {
@@ -108,6 +110,48 @@ fn pair_bytes<const N: usize>(v: Simd<u16, N>) -> Simd<u8, N>
     ensures { result ≡ map pair_byte v.entry }
 {
     ((v * Simd::splat(4097)) >> Simd::splat(8)).cast::<u8>()
+}
+
+/// Each lane with its sign bit turned, so that signed bytes are in the order of unsigned ones.
+#[inline(always)]
+pub fn sign_flipped<const N: usize>(v: Simd<u8, N>) -> Simd<u8, N>
+    ensures { result ≡ map (λ x. bit_xor x 128) v.entry }
+{
+    v ^ Simd::splat(0x80)
+}
+
+/// The difference of each two lanes, or 0.
+#[inline(always)]
+pub fn saturating_differences<const N: usize>(a: Simd<u8, N>, b: Simd<u8, N>) -> Simd<u8, N>
+    ensures { result ≡ zip2 (λ x y. x - y) a.entry b.entry }
+{
+    a.saturating_sub(b)
+}
+
+/// The difference of each two lanes, modulo 256.
+#[inline(always)]
+pub fn wrapping_differences<const N: usize>(a: Simd<u8, N>, b: Simd<u8, N>) -> Simd<u8, N>
+    ensures { result ≡ zip2 wrapping_sub a.entry b.entry }
+{
+    a - b
+}
+
+/// The average of each two lanes, rounded up.
+#[inline(always)]
+pub fn averages<const N: usize>(a: Simd<u8, N>, b: Simd<u8, N>) -> Simd<u8, N>
+    ensures { result ≡ zip2 average a.entry b.entry }
+{
+    let sums = a.cast::<u16>() + b.cast::<u16>() + Simd::splat(1);
+    (sums >> Simd::splat(1)).cast::<u8>()
+}
+
+// Each word shifted right by three bits.
+#[inline(always)]
+fn eighths<const N: usize>(v: Simd<u32, N>) -> Simd<u32, N>
+    ensures lanes { result ≡ map (λ x. x / 8) v.entry }
+    ensures words { Each1 (λ x. x < 2 ^ 32) result }
+{
+    v >> Simd::splat(3)
 }
 
 /// The widths of a vector. What moves lanes to other places has no form that is generic in the
@@ -239,5 +283,33 @@ impl LookUp<64> for Lanes {
             4, 5, 6, 7, 8, 9, 10, 11, 12, 13, 14, 15,
         ]);
         rows.swizzle_dyn_within::<16>(masked(at, 0x8f))
+    }
+}
+
+/// Each four lanes are shifted as one word, by three bits: the low bits of a lane's neighbour come
+/// in above its own.
+pub trait Shift<const N: usize> {
+    fn shift(v: Simd<u8, N>) -> Simd<u8, N>
+        ensures len { length result ≡ N }
+        ensures lanes { (i : ℕ) → i < N → Shifted (slice_index v.entry i) (slice_index result i) };
+}
+
+impl Shift<32> for Lanes {
+    #[inline(always)]
+    fn shift(v: u8x32) -> u8x32
+        ensures len { length result ≡ 32 }
+        ensures lanes { (i : ℕ) → i < 32 → Shifted (slice_index v i) (slice_index result i) }
+    {
+        eighths(u32x8::from_le_bytes(v)).to_le_bytes()
+    }
+}
+
+impl Shift<64> for Lanes {
+    #[inline(always)]
+    fn shift(v: u8x64) -> u8x64
+        ensures len { length result ≡ 64 }
+        ensures lanes { (i : ℕ) → i < 64 → Shifted (slice_index v i) (slice_index result i) }
+    {
+        eighths(u32x16::from_le_bytes(v)).to_le_bytes()
     }
 }

@@ -1,0 +1,84 @@
+//! The bodies of the plans of 32 and 64 lanes: two overlapping blocks in registers where a source
+//! is short, and blocks of 64 digits or 32 bytes above.
+
+ghost use Rattle.std.specs.Prelude.{◌≡◌, ◌↔◌, ◌*◌, IsTrue, None, length};
+ghost use Rattle.std.specs.Bool.{OnFalse, OnTrue};
+ghost use Rattle.hex_core.specs.Fault.{fault};
+ghost use Rattle.hex_core.specs.Text.{Spells, text};
+
+use crate::blocks::{
+    check_blocks, check_two, decode_four, decode_two, encode_blocks, encode_two, write_blocks,
+    write_two,
+};
+use crate::digit::CheckCase;
+use crate::lanes::{NibbleMap, Saturating};
+use crate::scalar;
+
+/// Answers whether every byte of `src` has a value under `case`.
+#[inline(always)]
+pub fn check(src: &[u8], case: CheckCase) -> bool
+    ensures { IsTrue result ↔ (fault case src.now ≡ None) }
+{
+    match src.len() {
+        0..16 => scalar::check(src, case),
+        16..=32 => check_two::<16>(src, case),
+        33..=64 => check_two::<32>(src, case),
+        _ => check_blocks::<64>(src, case),
+    }
+}
+
+/// Writes the text of `src` into the whole of `dst`.
+#[inline(always)]
+pub fn encode(src: &[u8], dst: &mut [u8], upper: bool)
+    requires { length dst.old ≡ 2 * length src.now }
+    ensures { dst.new ≡ text upper src.now }
+{
+    match src.len() {
+        0..8 => scalar::write_text(src, dst, upper),
+        8..=16 => encode_two::<8, 16>(src, dst, upper),
+        17..=32 => encode_two::<16, 32>(src, dst, upper),
+        _ => encode_blocks::<32, 64>(src, dst, upper),
+    }
+}
+
+/// Writes the bytes that a valid source spells into the whole of `dst`.
+#[inline(always)]
+pub fn write_bytes(src: &[u8], dst: &mut [u8], case: CheckCase)
+    requires twice { length src.now ≡ 2 * length dst.old }
+    requires valid { fault case src.now ≡ None }
+    ensures { Spells case src.now dst.new }
+{
+    match src.len() {
+        0..16 => scalar::write_bytes(src, dst, case),
+        16..=32 => write_two::<16, 8>(src, dst, case),
+        33..=64 => write_two::<32, 16>(src, dst, case),
+        _ => write_blocks::<64, 32>(src, dst, case),
+    }
+}
+
+/// Writes the bytes that `src` spells into the whole of `dst`, or answers false and writes nothing.
+/// Up to 256 digits are held in registers. `M` finds the nibbles of 64 digits.
+#[inline(always)]
+pub fn decode<M>(src: &[u8], dst: &mut [u8], case: CheckCase) -> bool
+where
+    M: NibbleMap<64>,
+    requires { length src.now ≡ 2 * length dst.old }
+    ensures valid { IsTrue result ↔ (fault case src.now ≡ None) }
+    ensures decoded { OnTrue result (Spells case src.now dst.new) }
+    ensures unchanged { OnFalse result (dst.new ≡ dst.old) }
+{
+    match src.len() {
+        0..16 => scalar::decode_short(src, dst, case),
+        16..=32 => decode_two::<Saturating, 16, 8>(src, dst, case),
+        33..=64 => decode_two::<Saturating, 32, 16>(src, dst, case),
+        65..=128 => decode_two::<M, 64, 32>(src, dst, case),
+        129..=256 => decode_four::<M, 64, 32>(src, dst, case),
+        _ => {
+            let valid = check_blocks::<64>(src, case);
+            if valid {
+                write_blocks::<64, 32>(src, dst, case);
+            }
+            valid
+        }
+    }
+}
