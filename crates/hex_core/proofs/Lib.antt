@@ -8,6 +8,7 @@ pub mod LaneLemmas
 pub mod LawProofs
 pub mod LookupLemmas
 pub mod NumberLemmas
+pub mod OwnedLemmas
 pub mod PairLemmas
 pub mod PositionLemmas
 pub mod ProbeLemmas

@@ -65,7 +65,7 @@ clear_before c s f e k low lt =
     some_from_test (value c (slice_index s k)) ((position-Some (λ b. is_none (value c b)) s f 0 e).2 k lt)
 
 -- a clear range that begins before the fault, or at it, ends no later than it
-clear_misses : (c : CheckCase) (s : List ℕ) (f start end : ℕ) → fault c s ≡ Some f → IsClear c s start end → start ≤ f → end ≤ f
+pub clear_misses : (c : CheckCase) (s : List ℕ) (f start end : ℕ) → fault c s ≡ Some f → IsClear c s start end → start ≤ f → end ≤ f
 clear_misses c s f start end e clear low =
     elim (cases_lt f end) [
       | inl lt ↦

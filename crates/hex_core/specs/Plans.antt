@@ -1,8 +1,11 @@
 -- The plans by name.
-use Rattle.std.specs.Prelude.{ℕ, List, [], ◌∷◌, codes}
+use Rattle.std.specs.Prelude.{◌≡◌, ℕ, ◌*◌, ◌/◌, List, [], ◌∷◌, ◌||◌, if◌then◌else◌, take, unwrap_or, option_map, bytes_eq, codes}
+use Rattle.hex_core.specs.declared.digit.CheckCase.{CheckCase}
 use Rattle.hex_core.specs.declared.plan.Backend.{Backend}
 use Rattle.hex_core.specs.declared.plan.Kind.{Kind}
 use Rattle.hex_core.specs.declared.plan.Kind.TheVariants.{Scalar, Sse41, Avx2, Avx512, Neon}
+use Rattle.hex_core.specs.Fault.{fault}
+use Rattle.hex_core.specs.Text.{Spells, laid}
 
 -- the bytes of a kind's name
 abbrev pub kind_name : Kind → List ℕ
@@ -20,3 +23,20 @@ name_of b = kind_name b.0
 abbrev pub plan_names : List (List ℕ)
 plan_names =
     codes "scalar" ∷ codes "sse41" ∷ codes "avx2" ∷ codes "avx512" ∷ codes "neon" ∷ []
+
+-- how many digits a plan decodes at a time into a buffer that is given up on a refusal, by the plan's name: 0 where it stores nothing before it has tested all
+abbrev pub owned_block : List ℕ → ℕ
+owned_block name =
+    if bytes_eq name (codes "avx512") then 128
+    else if bytes_eq name (codes "avx2") || bytes_eq name (codes "neon") then 64
+    else 0
+
+-- how many digits stand in whole blocks before the first fault; none where a block is 0 digits
+abbrev pub digits_before : ℕ → CheckCase → List ℕ → ℕ
+digits_before block c s = unwrap_or (option_map (λ f. block * (f / block)) (fault c s)) 0
+
+-- a refusal has stored the bytes that the whole blocks before the first fault spell, and nothing else
+pub record StoresBlocks (block : ℕ) (c : CheckCase) (s old new : List ℕ) : Type 0 where
+  pub bytes : List ℕ
+  pub spelled : Spells c (take (digits_before block c s) s) bytes
+  pub is_laid : new ≡ laid old bytes

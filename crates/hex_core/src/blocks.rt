@@ -4,7 +4,7 @@
 //! bytes. Where a length is no multiple of a block, the last block ends with the source and
 //! overlaps the one before: what both cover is read twice, or written twice with equal bytes.
 
-ghost use Rattle.std.specs.Prelude.{◌≡◌, ◌↔◌, ◌+◌, ◌-◌, ◌*◌, ◌≤◌, IsTrue, None, length};
+ghost use Rattle.std.specs.Prelude.{◌≡◌, ◌↔◌, ℕ, ◌+◌, ◌-◌, ◌*◌, ◌≤◌, IsTrue, None, length};
 ghost use Rattle.std.specs.Bool.{OnFalse, OnTrue};
 ghost use Rattle.std.specs.Simd.Lanes.{chunk, put_chunk};
 ghost use Rattle.hex_core.specs.Arithmetic.{packed};
@@ -233,6 +233,41 @@ where
     put_two(first, second, dst, 0, N);
     put_two(third, last, dst, end - N, end);
     true
+}
+
+/// Decodes whole blocks of `2 * N` digits in order, each tested before its bytes are stored, up to
+/// one that has a fault, and answers how many bytes it stored.
+#[inline(never)]
+pub fn decode_blocks<M, const N: usize, const HALF: usize>(
+    src: &[u8],
+    dst: &mut [u8],
+    case: CheckCase,
+) -> usize
+where
+    M: NibbleMap<N>,
+    Lanes: Pack<N, HALF>,
+    requires some { 1 ≤ HALF }
+    requires lanes { N ≤ 64 }
+    requires half { N ≡ 2 * HALF }
+    requires twice { length src.now ≡ 2 * length dst.old }
+    ensures inside { result ≤ length dst.old }
+    ensures whole { (i : ℕ) × (result ≡ i * N) }
+    ensures clear { IsClear case src.now 0 (2 * result) }
+    ensures stopped { 2 * result + 2 * N ≤ length src.now
+        → ¬ IsClear case src.now (2 * result) (2 * result + 2 * N) }
+    ensures decoded { DecodesRange case src.now dst.old dst.new 0 result }
+{
+    let blocks = dst.len() / N;
+    'turns: for i in 0..blocks {
+        let at = i * N;
+        let front = nibbles_at::<M, N>(src, 2 * at, case);
+        let back = nibbles_at::<M, N>(src, 2 * at + N, case);
+        if !is_small(either(front, back)) {
+            return at;
+        }
+        put_two(front, back, dst, at, at + N);
+    }
+    blocks * N
 }
 
 // Writes the text of `N` bytes from `at` on.

@@ -265,11 +265,7 @@ where
 }
 
 #[inline(always)]
-fn hashed_checks<const N: usize>(
-    v: Simd<u8, N>,
-    slots: Simd<u8, N>,
-    case: CheckCase,
-) -> Simd<u8, N>
+fn hashed_checks<const N: usize>(v: Simd<u8, N>, slots: Simd<u8, N>, case: CheckCase) -> Simd<u8, N>
 where
     Lanes: LookUp<N>,
     ensures len { length result ≡ N }

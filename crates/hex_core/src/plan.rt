@@ -1,19 +1,22 @@
 //! Plans by name, and the slice calls under each.
 
-ghost use Rattle.std.specs.Prelude.{◌≡◌, ◌/◌, ◌*◌, ◌↔◌, ℕ, List, IsTrue, None, Some, Ok, Err, length, map, MatchResult, OnOk, OnErr, IfOk, IfErr, IsOkAnd};
+ghost use Rattle.std.specs.Prelude.{◌≡◌, ◌≢◌, ◌/◌, ◌*◌, ◌≤◌, ◌↔◌, ℕ, List, IsTrue, None, Some, Ok, Err, length, map, MatchResult, OnOk, OnErr, IfOk, IfErr, IsOkAnd};
 ghost use Rattle.std.specs.Bool.{OnTrue, OnFalse};
 ghost use Rattle.std.specs.Borrow.{sem};
 ghost use Rattle.hex_core.specs.Fault.{fault};
 ghost use Rattle.hex_core.specs.Loan.{LendsAnswer};
-ghost use Rattle.hex_core.specs.Plans.{name_of, plan_names};
-ghost use Rattle.hex_core.specs.Refusal.{decode_refusal, encode_refusal};
+ghost use Rattle.hex_core.specs.Plans.{StoresBlocks, name_of, owned_block, plan_names};
+ghost use Rattle.hex_core.specs.Refusal.{decode_refusal, encode_refusal, first_bad_char};
+ghost use Rattle.hex_core.specs.declared.digit.CheckCase.{CheckCase};
 ghost use Rattle.hex_core.specs.Text.{Spells, laid, text};
 
+use crate::blocks::decode_blocks;
 use crate::digit::CheckCase;
 use crate::error::Error;
-use crate::lanes::{Hashing, Saturating};
+use crate::lanes::{Hashing, NibbleMap, Saturating};
 use crate::lend::lend_accepted;
 use crate::probe::{SliceProbe, locate};
+use crate::vector::{Lanes, Pack};
 use crate::{scalar, sixteen, wide};
 
 #[derive(Clone, Copy)]
@@ -146,6 +149,75 @@ impl Backend {
         }
     }
 
+    /// Decodes as [`Backend::decode`] does, into a buffer that is given up where it answers false.
+    ///
+    /// Then `avx2` and `neon` have stored exactly the bytes of the whole blocks of 64 digits before
+    /// the first one with a byte that has no value, or of all whole blocks where that byte stands
+    /// behind them; `avx512` those of its blocks of 128 digits; `scalar` and `sse41` nothing. The
+    /// bytes behind are as they were.
+    ///
+    /// The caller shows that `src` is exactly twice as long as `dst`, in bytes.
+    ///
+    /// ```rust
+    /// let [scalar, _, avx2, ..] = backends();
+    /// let mut source = [b'1'; 128];
+    /// source[64] = b'g';
+    /// let mut bytes = [0xa5; 64];
+    /// assert!(rt; !scalar.decode_owned(&source, &mut bytes, CheckCase::None));
+    /// assert_eq!(rt; bytes, [0xa5; 64]);
+    /// assert!(rt; !avx2.decode_owned(&source, &mut bytes, CheckCase::None));
+    /// assert_eq!(rt; (bytes[31], bytes[32]), (0x11, 0xa5));
+    /// ```
+    pub fn decode_owned(self, src: &[u8], dst: &mut [u8], case: CheckCase) -> bool
+        requires { length src.now ≡ 2 * length dst.old }
+        ensures valid { IsTrue result ↔ (fault case src.now ≡ None) }
+        ensures decoded { OnTrue result (Spells case src.now dst.new) }
+        ensures stored { OnFalse result
+            (StoresBlocks (owned_block (name_of self)) case src.now dst.old dst.new) }
+    {
+        match self.0 {
+            Kind::Scalar | Kind::Sse41 => self.decode_at_once(src, dst, case),
+            Kind::Avx2 | Kind::Neon => self.decode_by_blocks::<Saturating, 32, 16>(src, dst, case),
+            Kind::Avx512 => self.decode_by_blocks::<Hashing, 64, 32>(src, dst, case),
+        }
+    }
+
+    // [`Backend::decode`], which stores no block before a refusal.
+    fn decode_at_once(self, src: &[u8], dst: &mut [u8], case: CheckCase) -> bool
+        requires { length src.now ≡ 2 * length dst.old }
+        ensures valid { IsTrue result ↔ (fault case src.now ≡ None) }
+        ensures decoded { OnTrue result (Spells case src.now dst.new) }
+        ensures stored { OnFalse result (StoresBlocks 0 case src.now dst.old dst.new) }
+    {
+        self.decode(src, dst, case)
+    }
+
+    // Decodes block by block, and what is behind the whole blocks as [`Backend::decode`] does.
+    #[inline(always)]
+    fn decode_by_blocks<M, const N: usize, const HALF: usize>(
+        self,
+        src: &[u8],
+        dst: &mut [u8],
+        case: CheckCase,
+    ) -> bool
+    where
+        M: NibbleMap<N>,
+        Lanes: Pack<N, HALF>,
+        requires some { 1 ≤ HALF }
+        requires lanes { N ≤ 64 }
+        requires half { N ≡ 2 * HALF }
+        requires twice { length src.now ≡ 2 * length dst.old }
+        ensures valid { IsTrue result ↔ (fault case src.now ≡ None) }
+        ensures decoded { OnTrue result (Spells case src.now dst.new) }
+        ensures stored { OnFalse result (StoresBlocks (2 * N) case src.now dst.old dst.new) }
+    {
+        let done = decode_blocks::<M, N, HALF>(src, dst, case);
+        if dst.len() - done >= N {
+            return false;
+        }
+        self.decode(&src[2 * done..], &mut dst[done..], case)
+    }
+
     /// Answers the first place of `src` whose byte has no value under `case`, from 0 and in bytes,
     /// or `None` where each byte has one, whatever its length.
     ///
@@ -163,11 +235,12 @@ impl Backend {
         locate(&mut SliceProbe::new(self, src, case))
     }
 
-    // How many bytes `src` decodes to, or what decoding it into this room refuses.
-    fn accepted(self, src: &[u8], room: usize, case: CheckCase) -> Result<usize, Error>
+    // How many bytes so many digits spell, or what their number refuses in this room.
+    #[inline(always)]
+    fn decoded_len(src: &[u8], room: usize) -> Result<usize, Error>
         ensures { MatchResult result
-            (λ n. (decode_refusal case src.now room ≡ None) × (n ≡ length src.now / 2))
-            (λ e. decode_refusal case src.now room ≡ Some e) }
+            (λ n. (length src.now ≡ 2 * n) × (n ≤ room))
+            (λ e. (case : CheckCase) → decode_refusal case src.now room ≡ Some e) }
     {
         if src.len() % 2 == 1 {
             return Err(Error::OddLength);
@@ -176,16 +249,37 @@ impl Backend {
         if room < required {
             return Err(Error::OutputTooSmall { required });
         }
-        if self.check(src, case) {
-            return Ok(required);
+        Ok(required)
+    }
+
+    // The first fault of a source that has one.
+    #[cold]
+    #[inline(never)]
+    fn first_error(self, src: &[u8], case: CheckCase) -> Error
+        requires { fault case src.now ≢ None }
+        ensures { first_bad_char case src.now ≡ Some result }
+    {
+        let Some(index) = self.first_invalid(src, case) else {
+            unreachable!();
+        };
+        Error::InvalidChar {
+            index,
+            byte: src[index],
         }
-        match self.first_invalid(src, case) {
-            Some(index) => Err(Error::InvalidChar {
-                index,
-                byte: src[index],
-            }),
-            None => Ok(required),
+    }
+
+    // How many bytes `src` decodes to, or what decoding it into this room refuses.
+    #[inline(always)]
+    fn accepted(self, src: &[u8], room: usize, case: CheckCase) -> Result<usize, Error>
+        ensures { MatchResult result
+            (λ n. (decode_refusal case src.now room ≡ None) × (n ≡ length src.now / 2))
+            (λ e. decode_refusal case src.now room ≡ Some e) }
+    {
+        let required = Backend::decoded_len(src, room)?;
+        if !self.check(src, case) {
+            return Err(self.first_error(src, case));
         }
+        Ok(required)
     }
 
     // How many bytes the text of `src` takes, or what encoding it into this room refuses.
@@ -271,9 +365,11 @@ impl Backend {
             × (dst.new ≡ laid dst.old bytes)) }
         ensures err { OnErr result (dst.new ≡ dst.old) }
     {
-        let written = self.accepted(src, dst.len(), case)?;
-        self.write_bytes(src, &mut dst[..written], case);
-        Ok(written)
+        let required = Backend::decoded_len(src, dst.len())?;
+        if !self.decode(src, &mut dst[..required], case) {
+            return Err(self.first_error(src, case));
+        }
+        Ok(required)
     }
 
     /// Encodes all of `src` into the front of `dst`, in uppercase where `upper` is true, and

@@ -1,5 +1,5 @@
 use Rattle.std.proofs.Common.{◌*◌, ◌-◌, length, refl, subst, arith}
-use Rattle.hex_core.specs.Blocks.{NibblesFrom}
+use Rattle.hex_core.specs.Blocks.{DecodesRange, NibblesFrom}
 use Rattle.hex_core.proofs.BlockLemmas.{decodes_over, decodes_whole, pair_decodes, pairs_tested}
 use Rattle.hex_core.proofs.blocks.decode_four.Goals as goal
 
@@ -29,6 +29,7 @@ returns-clause-decoded g c =
     let first = c.either.ensures.small.0 small.0 in
     let last = c.either-2.ensures.small.0 small.1 in
     let third : NibblesFrom case s (2 * (end - n)) n c.nibbles_at-third.result = subst (λ at. NibblesFrom case s at n c.nibbles_at-third.result) (omega arith) c.nibbles_at-third.ensures in
-    let front = pair_decodes case s old _ c.nibbles_at-first.result c.nibbles_at-second.result 0 (n - w) n n n w (omega arith) (omega arith) (omega arith) (omega arith) (omega arith) (omega arith) c.nibbles_at-first.ensures c.nibbles_at-second.ensures first.0 first.1 c.put_two.ensures in
-    let back = pair_decodes case s _ _ c.nibbles_at-third.result c.nibbles_at-last.result (end - n) (end - w) end (length s - n) n w (omega arith) (omega arith) (omega arith) (omega arith) (omega arith) (omega arith) third c.nibbles_at-last.ensures last.0 last.1 c.put_two-2.ensures in
-    decodes_whole case s old _ end (omega arith) (omega arith) (decodes_over case s old _ _ 0 n (end - n) end (omega arith) (omega arith) (omega arith) front back)
+    let mid = c.put_two.new.dst in let new = c.put_two-2.new.dst in
+    let front : DecodesRange case s old mid 0 n = pair_decodes case s old mid c.nibbles_at-first.result c.nibbles_at-second.result 0 (n - w) n n n w (omega arith) (omega arith) (omega arith) (omega arith) (omega arith) (omega arith) c.nibbles_at-first.ensures c.nibbles_at-second.ensures first.0 first.1 c.put_two.ensures in
+    let back : DecodesRange case s mid new (end - n) end = pair_decodes case s mid new c.nibbles_at-third.result c.nibbles_at-last.result (end - n) (end - w) end (length s - n) n w (omega arith) (omega arith) (omega arith) (omega arith) (omega arith) (omega arith) third c.nibbles_at-last.ensures last.0 last.1 c.put_two-2.ensures in
+    decodes_whole case s old new end (omega arith) (omega arith) (decodes_over case s old mid new 0 n (end - n) end (omega arith) (omega arith) (omega arith) front back)

@@ -1,0 +1,122 @@
+-- What decoding block by block leaves: whole blocks in order, and then a rest.
+use Rattle.std.proofs.Common.{◌≡◌, ℕ, suc, ◌+◌, ◌-◌, ◌*◌, ◌/◌, ◌%◌, ◌<◌, ◌≤◌, ◌↔◌, Bool, List, ◌++◌, length, take, drop, get_or, inl, inr, refl, sym, ap, ◌∙◌, Option, Some, None, arith}
+use Rattle.std.specs.Prelude.{IsFalse, IsTrue, slice_range, unwrap_or, option_map}
+use Rattle.std.proofs.Math.Nat.{le-div_iff_mul-le}
+use Rattle.std.proofs.lemmas.Bool.{cases_lt}
+use Rattle.std.proofs.lemmas.Grind.{common_steps}
+use Rattle.std.proofs.lemmas.List.{ext_get_or, length-take, take-append-drop}
+use borrow.Rule.Slice.PartMut.{put_mid}
+use Rattle.hex_core.specs.declared.digit.CheckCase.{CheckCase}
+use Rattle.hex_core.specs.Blocks.{DecodesRange, SpellsRange}
+use Rattle.hex_core.specs.Digit.{value}
+use Rattle.hex_core.specs.Fault.{IsClear, fault}
+use Rattle.hex_core.specs.Plans.{StoresBlocks, digits_before}
+use Rattle.hex_core.specs.Text.{Spells, laid}
+use Rattle.hex_core.proofs.BlockLemmas.{clear_over, clear_range}
+use Rattle.hex_core.proofs.ProbeLemmas.{clear_before, clear_misses, clear_part, fault_none, part_clear}
+
+-- ---- a part that is decoded, seen in the whole
+
+part_byte : (s : List ℕ) (start end k : ℕ) → end ≤ length s → k < end - start → get_or (slice_range s start end) k 0 ≡ get_or s (start + k) 0
+part_byte s start end k inside lt = grind (arith, common_steps)
+
+put_before : (old part : List ℕ) (from n i : ℕ) → i < from → from ≤ length old → get_or (put_mid from n old part) i 0 ≡ get_or old i 0
+put_before old part from n i h inside = grind (arith, common_steps)
+
+put_part : (old part : List ℕ) (from n i : ℕ) → from ≤ i → i < from + length part → from ≤ length old → get_or (put_mid from n old part) i 0 ≡ get_or part (i - from) 0
+put_part old part from n i low lt inside = grind (arith, common_steps)
+
+-- a part that is put back as it was
+pub part_same : (old part : List ℕ) (from : ℕ) → from ≤ length old → part ≡ slice_range old from (length old) → put_mid from (length old - from) old part ≡ old
+part_same old part from inside is = grind (arith, common_steps)
+
+pub part_decoded : (c : CheckCase) (s old part : List ℕ) (from : ℕ) → length s ≡ 2 * length old → from ≤ length old → length part ≡ length old - from → Spells c (slice_range s (2 * from) (length s)) part
+    → DecodesRange c s old (put_mid from (length old - from) old part) from (length old)
+part_decoded c s old part from twice inside long spells =
+    let new = put_mid from (length old - from) old part in
+    let digit : (j k : ℕ) → 2 * from + j ≡ k → j < length s - 2 * from → get_or (slice_range s (2 * from) (length s)) j 0 ≡ get_or s k 0 =
+    λ j k e h. part_byte s (2 * from) (length s) j (omega arith) h ∙ ap (λ i. get_or s i 0) e in
+    record {
+      decoded = λ k low lt.
+          let j = k - from in
+          let byte : get_or new k 0 ≡ get_or part j 0 = put_part old part from (length old - from) k low (omega arith) inside in
+          record {
+            high = ap (value c) (sym (digit (2 * j) (2 * k) (omega arith) (omega arith))) ∙ spells.high j (omega arith) ∙ ap (λ b. Some (b / 16)) (sym byte);
+            low = ap (value c) (sym (digit (2 * j + 1) (2 * k + 1) (omega arith) (omega arith))) ∙ spells.low j (omega arith) ∙ ap (λ b. Some (b % 16)) (sym byte);
+          };
+      before = λ k lt. put_before old part from (length old - from) k lt inside;
+      behind = λ k h. grind (arith, common_steps);
+    }
+
+-- ---- the first fault behind whole blocks
+
+-- it is nowhere where the rest is clear as well
+pub rest_valid : (c : CheckCase) (s : List ℕ) (done : ℕ) (t : Bool) → done ≤ length s → IsClear c s 0 done → IsTrue t ↔ (fault c (slice_range s done (length s)) ≡ None) → IsTrue t ↔ (fault c s ≡ None)
+rest_valid c s done t inside front rest = (
+  λ x. fault_none c s (clear_over c s 0 done done (length s) (omega arith) front (clear_part c s done (length s) (omega arith) (rest.0 x))),
+  λ none. rest.1 (part_clear c s done (length s) (omega arith) (clear_range c s done (length s) (omega arith) none)),
+)
+
+-- else it is in the block that stopped
+fault_inside : (c : CheckCase) (s : List ℕ) (f : ℕ) → fault c s ≡ Some f → f < length s
+fault_inside c s f e = grind (arith, common_steps)
+
+fault_after : (c : CheckCase) (s : List ℕ) (done block f : ℕ) → fault c s ≡ Some f → IsClear c s 0 done → (done + block ≤ length s → ¬ IsClear c s done (done + block)) → (done ≤ f) × (f < done + block)
+fault_after c s done block f e front stopped =
+    let inside = fault_inside c s f e in (
+      clear_misses c s f 0 done e front (omega arith),
+      elim (cases_lt f (done + block)) [
+        | inl lt ↦ lt
+        | inr past ↦ absurd (stopped (omega arith) (λ k a b. clear_before c s f e k (omega arith) (omega arith)))
+      ],
+    )
+
+-- the block of a place in it
+block_of : (block i f : ℕ) → 0 < block → i * block ≤ f → f < i * block + block → f / block ≡ i
+block_of block i f some low high =
+    let least : i ≤ f / block = (le-div_iff_mul-le some).1 low in
+    elim (cases_lt i (f / block)) [
+      | inl more ↦ absurd (let product : suc i * block ≤ f = (le-div_iff_mul-le some).0 (omega arith) in omega arith)
+      | inr same ↦ omega arith
+    ]
+
+digits_are : (c : CheckCase) (s : List ℕ) (i block done : ℕ) (o : Option ℕ) → fault c s ≡ o → done ≡ i * block → (o ≡ None → ⊥) → 0 < block → IsClear c s 0 done → (done + block ≤ length s → ¬ IsClear c s done (done + block))
+    → unwrap_or (option_map (λ f. block * (f / block)) o) 0 ≡ done
+digits_are c s i block done (Some f) e is bad some front stopped =
+    let at = fault_after c s done block f e front stopped in
+    let same = block_of block i f some (omega (arith, at.0)) (omega (arith, at.1)) in
+    ap (λ n. block * n) same ∙ omega arith
+digits_are c s i block done None e is bad some front stopped = absurd (bad refl)
+
+-- ---- what a refusal leaves
+
+front_spelled : (c : CheckCase) (s mid : List ℕ) (from : ℕ) → length s ≡ 2 * length mid → from ≤ length mid → SpellsRange c s mid 0 from → Spells c (take (2 * from) s) (take from mid)
+front_spelled c s mid from twice inside range =
+    let long : length (take from mid) ≡ from = omega (arith, length-take from mid) in
+    let wide : length (take (2 * from) s) ≡ 2 * from = omega (arith, length-take (2 * from) s) in
+    let byte : (i : ℕ) → i < from → get_or (take from mid) i 0 ≡ get_or mid i 0 = λ i h. grind (arith, common_steps) in
+    let digit : (i : ℕ) → i < 2 * from → get_or (take (2 * from) s) i 0 ≡ get_or s i 0 = λ i h. grind (arith, common_steps) in
+    record {
+      twice = omega arith;
+      high = λ i h. ap (value c) (digit (2 * i) (omega arith)) ∙ (range i (omega arith) (omega arith)).high ∙ ap (λ b. Some (b / 16)) (sym (byte i (omega arith)));
+      low = λ i h. ap (value c) (digit (2 * i + 1) (omega arith)) ∙ (range i (omega arith) (omega arith)).low ∙ ap (λ b. Some (b % 16)) (sym (byte i (omega arith)));
+    }
+
+front_laid : (old mid : List ℕ) (from : ℕ) → length mid ≡ length old → from ≤ length mid → ((k : ℕ) → from ≤ k → get_or mid k 0 ≡ get_or old k 0) → mid ≡ laid old (take from mid)
+front_laid old mid from same inside behind =
+    let long : length (take from mid) ≡ from = omega (arith, length-take from mid) in
+    let back : drop from mid ≡ drop from old = ext_get_or 0 (drop from mid) (drop from old) (grind (arith, common_steps)) (λ i h.
+    let a : get_or (drop from mid) i 0 ≡ get_or mid (from + i) 0 = grind (arith, common_steps) in
+    let b : get_or (drop from old) i 0 ≡ get_or old (from + i) 0 = grind (arith, common_steps) in
+    a ∙ behind (from + i) (omega arith) ∙ sym b) in
+    sym (take-append-drop from mid) ∙ ap (λ l. take from mid ++ l) (back ∙ ap (λ n. drop n old) (sym long))
+
+pub blocks_stored : (c : CheckCase) (s old new : List ℕ) (i block from : ℕ) → length s ≡ 2 * length new → length new ≡ length old → 2 * from ≡ i * block → from ≤ length new → 0 < block → ¬ (fault c s ≡ None)
+    → IsClear c s 0 (2 * from) → (2 * from + block ≤ length s → ¬ IsClear c s (2 * from) (2 * from + block)) → DecodesRange c s old new 0 from → StoresBlocks block c s old new
+blocks_stored c s old new i block from twice same even inside some bad front stopped done =
+    let digits : digits_before block c s ≡ 2 * from = digits_are c s i block (2 * from) (fault c s) refl even bad some front stopped in
+    record {
+      bytes = take from new;
+      spelled = rw digits (front_spelled c s new from twice inside done.decoded);
+      is_laid = front_laid old new from same inside done.behind;
+    }
