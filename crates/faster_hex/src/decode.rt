@@ -1,11 +1,11 @@
 //! Decoding hex digits.
 
-ghost use Rattle.std.specs.Prelude.{◌≡◌, ◌/◌, ℕ, List, None, Some, Ok, Err, length, MatchResult, IfOk, IfErr, OnOk, OnErr, IsTrue, ◌↔◌};
+ghost use Rattle.std.specs.Prelude.{◌≡◌, ◌≢◌, ◌*◌, ◌/◌, ℕ, List, None, Some, Ok, Err, length, MatchResult, IfOk, IfErr, OnOk, OnErr, IsTrue, ◌↔◌};
 ghost use Rattle.std.specs.Borrow.{sem};
 ghost use Rattle.hex_core.specs.declared.digit.CheckCase.TheVariants as policy;
 ghost use Rattle.hex_core.specs.Fault.{fault};
 ghost use Rattle.hex_core.specs.Loan.{LendsAnswer};
-ghost use Rattle.hex_core.specs.Refusal.{OwnedRefusal, array_refusal, decode_refusal};
+ghost use Rattle.hex_core.specs.Refusal.{OwnedRefusal, array_refusal, decode_refusal, first_bad_char};
 ghost use Rattle.hex_core.specs.Text.{Spells, laid};
 
 use hex_core::{Backend, CheckCase, Error};
@@ -188,8 +188,8 @@ pub fn hex_decode_array_with_case<const N: usize>(
         });
     }
     let mut bytes = [0u8; N];
-    match hex_decode_into(src, &mut bytes, case) {
-        Ok(_) => Ok(bytes),
+    match decode_whole(src, &mut bytes, case) {
+        Ok(()) => Ok(bytes),
         Err(e) => Err(e),
     }
 }
@@ -246,8 +246,45 @@ pub fn hex_decode_vec_with_case<A: Allocator + Drop>(
     let Ok(mut bytes) = Vec::from_elem(alloc, 0u8, src.len() / 2) else {
         return Err(Error::OutOfMemory);
     };
-    match hex_decode_into(src, bytes.as_mut_slice(), case) {
-        Ok(_) => Ok(bytes),
+    match decode_whole(src, bytes.as_mut_slice(), case) {
+        Ok(()) => Ok(bytes),
         Err(e) => Err(e),
+    }
+}
+
+// Above so many bytes a buffer that is given up on a refusal is decoded block by block, in one pass
+// over the source. Below, a source is held in registers or in the nearest cache for its second pass.
+const OWNED: usize = 1024;
+
+// Decodes into the whole of a buffer that is given up on a refusal.
+fn decode_whole(src: &[u8], dst: &mut [u8], case: CheckCase) -> Result<(), Error>
+    requires { length src.now ≡ 2 * length dst.old }
+    ensures { MatchResult result
+        (λ _. (fault case src.now ≡ None) × Spells case src.now dst.new)
+        (λ e. first_bad_char case src.now ≡ Some e) }
+{
+    let decoded = if dst.len() > OWNED {
+        Backend::PLAIN.decode_owned(src, dst, case)
+    } else {
+        Backend::PLAIN.decode(src, dst, case)
+    };
+    if !decoded {
+        return Err(first_error(src, case));
+    }
+    Ok(())
+}
+
+// The first fault of a source that has one.
+#[cold]
+fn first_error(src: &[u8], case: CheckCase) -> Error
+    requires { fault case src.now ≢ None }
+    ensures { first_bad_char case src.now ≡ Some result }
+{
+    let Some(index) = Backend::PLAIN.first_invalid(src, case) else {
+        unreachable!();
+    };
+    Error::InvalidChar {
+        index,
+        byte: src[index],
     }
 }
