@@ -21,6 +21,7 @@ use std::alloc::Allocator;
 /// assert!(rt; hex_check(b"a"));
 /// assert!(rt; !hex_check(b"0x01"));
 /// ```
+#[inline(always)]
 pub fn hex_check(src: &[u8]) -> bool
     ensures { IsTrue result ↔ (fault policy.None src.now ≡ None) }
 {
@@ -35,6 +36,7 @@ pub fn hex_check(src: &[u8]) -> bool
 /// assert!(rt; hex_check_with_case(b"ab01", CheckCase::Lower));
 /// assert!(rt; !hex_check_with_case(b"AB01", CheckCase::Lower));
 /// ```
+#[inline(always)]
 pub fn hex_check_with_case(src: &[u8], case: CheckCase) -> bool
     ensures { IsTrue result ↔ (fault case src.now ≡ None) }
 {
@@ -64,6 +66,7 @@ pub fn hex_check_with_case(src: &[u8], case: CheckCase) -> bool
 /// bytes[0] = 0xff;
 /// assert_eq!(rt; buffer, [0xff, 0xab, 0xcd, 0xa5, 0xa5]);
 /// ```
+#[inline(always)]
 pub fn hex_decode<'a>(src: &[u8], dst: &'a mut [u8]) -> Result<&'a mut [u8], Error>
     ensures* lends { sem 𝓛 (LendsAnswer dst.entry result) }
     ensures answer { MatchResult result
@@ -89,6 +92,7 @@ pub fn hex_decode<'a>(src: &[u8], dst: &'a mut [u8]) -> Result<&'a mut [u8], Err
 /// assert_eq!(rt; hex_decode_with_case(b"AB01", &mut buffer, CheckCase::Upper)?, [0xab, 1]);
 /// assert!(rt; hex_decode_with_case(b"ab01", &mut buffer, CheckCase::Upper).is_err());
 /// ```
+#[inline(always)]
 pub fn hex_decode_with_case<'a>(
     src: &[u8],
     dst: &'a mut [u8],
@@ -121,6 +125,7 @@ pub fn hex_decode_with_case<'a>(
 /// assert_eq!(rt; hex_decode_into(b"00aBcD", &mut buffer, CheckCase::None), Ok(3));
 /// assert_eq!(rt; buffer, [0, 0xab, 0xcd, 0xa5]);
 /// ```
+#[inline(always)]
 pub fn hex_decode_into(src: &[u8], dst: &mut [u8], case: CheckCase) -> Result<usize, Error>
     ensures answer { MatchResult result
         (λ n. (decode_refusal case src.now (length dst.old) ≡ None) × (n ≡ length src.now / 2))
@@ -149,6 +154,7 @@ pub fn hex_decode_into(src: &[u8], dst: &mut [u8], case: CheckCase) -> Result<us
 /// assert_eq!(rt; hex_decode_array::<4>(b"0001aBff")?, [0, 1, 0xab, 0xff]);
 /// assert!(rt; hex_decode_array::<4>(b"0001").is_err());
 /// ```
+#[inline(always)]
 pub fn hex_decode_array<const N: usize>(src: &[u8]) -> Result<[u8; N], Error>
     ensures { MatchResult result
         (λ bytes. (array_refusal policy.None src.now N ≡ None) × Spells policy.None src.now bytes)
@@ -169,6 +175,7 @@ pub fn hex_decode_array<const N: usize>(src: &[u8]) -> Result<[u8; N], Error>
 /// assert_eq!(rt; hex_decode_array_with_case::<2>(b"AB01", CheckCase::Upper)?, [0xab, 1]);
 /// assert!(rt; hex_decode_array_with_case::<2>(b"ab01", CheckCase::Upper).is_err());
 /// ```
+#[inline(always)]
 pub fn hex_decode_array_with_case<const N: usize>(
     src: &[u8],
     case: CheckCase,
@@ -257,6 +264,7 @@ pub fn hex_decode_vec_with_case<A: Allocator + Drop>(
 const OWNED: usize = 1024;
 
 // Decodes into the whole of a buffer that is given up on a refusal.
+#[inline(always)]
 fn decode_whole(src: &[u8], dst: &mut [u8], case: CheckCase) -> Result<(), Error>
     requires { length src.now ≡ 2 * length dst.old }
     ensures { MatchResult result

@@ -32,6 +32,7 @@ use std::str;
 /// let mut buffer = [0; 10];
 /// assert_eq!(rt; hex_encode(b"hello", &mut buffer)?, b"68656c6c6f");
 /// ```
+#[inline(always)]
 pub fn hex_encode<'a>(src: &[u8], dst: &'a mut [u8]) -> Result<&'a mut [u8], Error>
     ensures* lends { sem 𝓛 (LendsAnswer dst.entry result) }
     ensures answer { MatchResult result
@@ -53,6 +54,7 @@ pub fn hex_encode<'a>(src: &[u8], dst: &'a mut [u8]) -> Result<&'a mut [u8], Err
 /// let mut buffer = [0; 6];
 /// assert_eq!(rt; hex_encode_upper(&[0, 0xab, 0xff], &mut buffer)?, b"00ABFF");
 /// ```
+#[inline(always)]
 pub fn hex_encode_upper<'a>(src: &[u8], dst: &'a mut [u8]) -> Result<&'a mut [u8], Error>
     ensures* lends { sem 𝓛 (LendsAnswer dst.entry result) }
     ensures answer { MatchResult result
@@ -80,6 +82,7 @@ pub fn hex_encode_upper<'a>(src: &[u8], dst: &'a mut [u8]) -> Result<&'a mut [u8
 /// assert_eq!(rt; hex_encode_into(&[0, 0xab], &mut buffer, false), Ok(4));
 /// assert_eq!(rt; &buffer, b"00ab-");
 /// ```
+#[inline(always)]
 pub fn hex_encode_into(src: &[u8], dst: &mut [u8], upper: bool) -> Result<usize, Error>
     ensures answer { MatchResult result
         (λ n. (encode_refusal src.now (length dst.old) ≡ None) × (n ≡ 2 * length src.now))

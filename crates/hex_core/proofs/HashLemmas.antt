@@ -2,6 +2,7 @@
 use Rattle.std.proofs.Common.{◌≡◌, ℕ, ◌-◌, ◌<◌, ◌↔◌, Bool, true, false, ◌&&◌, eqb, ltb, leb, List, map, length, get_or, bit_and, bit_or, bit_xor, Option, Some, None, refl, sym, ap, ap₂, ◌∙◌, eqb-true, leb-true, ltb-true, lt-ltb, arith}
 use Rattle.std.specs.Prelude.{IfSome, IsSome}
 use Rattle.std.proofs.lemmas.Bool.{agree_below, agree_below_at, and_parts}
+use Rattle.std.proofs.lemmas.Bool.Decides.{nat_tests}
 use Rattle.std.proofs.lemmas.List.{length-map}
 use Rattle.std.proofs.lemmas.Simd.{length-zip2}
 use lib.Lanes.{zip2}
@@ -9,7 +10,7 @@ use mathlib.Core.Bool.{beq}
 use Rattle.hex_core.specs.declared.digit.CheckCase.{CheckCase}
 use Rattle.hex_core.specs.declared.digit.CheckCase.TheVariants as policy
 use Rattle.hex_core.specs.Digit.{value}
-use Rattle.hex_core.specs.Hash.{Hashed, hash, hashed_check, hashed_value}
+use Rattle.hex_core.specs.Hash.{Hashed, hash, hashed_check, hashed_value, neighbour_bits}
 use Rattle.hex_core.specs.Lanes.{IsNibble}
 use Rattle.hex_core.specs.Lookup.{entry}
 use Rattle.hex_core.proofs.ByteLemmas.{always, has, nibble_by, nibble_test}
@@ -68,6 +69,9 @@ nibble_is_right c b slot r v check B s p q e =
     rw (e, p, q, s.2) (nibble_by (value c b) (marked (hashed_value b (hash b s.0)) (hashed_check c b (hash b s.0))) (others_right c b s.0 B s.1).1)
 
 -- ---- the lanes
+
+pub neighbour_small : (v : List ℕ) (i : ℕ) → neighbour_bits v i < 8
+neighbour_small v i = grind (arith, nat_tests)
 
 pub value_len : (v slots row t r : List ℕ) (f : ℕ → ℕ → ℕ) (n : ℕ) → length v ≡ n → length slots ≡ n → t ≡ map (entry row) slots → r ≡ zip2 f v t → length r ≡ n
 value_len v slots row t r f n long many is e = ap length e ∙ length-zip2 f v t (long ∙ sym (ap length is ∙ length-map slots (entry row) ∙ many)) ∙ long

@@ -1,5 +1,5 @@
--- The hash map of the lanes, on one byte. Of the next byte of its word a lane sees three bits alone, which stand here as k.
-use Rattle.std.specs.Prelude.{◌≡◌, ℕ, ◌+◌, ◌-◌, ◌*◌, ◌/◌, ◌<◌, bit_xor, List, [], ◌∷◌}
+-- The hash map of the lanes. Of the next byte of its word a lane sees three bits alone, which stand for themselves as k.
+use Rattle.std.specs.Prelude.{◌≡◌, ℕ, ◌+◌, ◌-◌, ◌*◌, ◌/◌, ◌%◌, ◌<◌, ◌==◌, if◌then◌else◌, bit_xor, List, [], ◌∷◌, slice_index}
 use Rattle.hex_core.specs.declared.digit.CheckCase.{CheckCase}
 use Rattle.hex_core.specs.declared.digit.CheckCase.TheVariants as policy
 use Rattle.hex_core.specs.Arithmetic.{wrapping_sub}
@@ -19,9 +19,13 @@ check_row policy.None = 128 ∷ 128 ∷ 128 ∷ 128 ∷ 48 ∷ 65 ∷ 128 ∷ 97
 check_row policy.Lower = 128 ∷ 128 ∷ 128 ∷ 128 ∷ 48 ∷ 128 ∷ 128 ∷ 97 ∷ 128 ∷ 55 ∷ 128 ∷ 128 ∷ 128 ∷ 128 ∷ 128 ∷ 128 ∷ []
 check_row policy.Upper = 128 ∷ 128 ∷ 128 ∷ 128 ∷ 48 ∷ 65 ∷ 128 ∷ 128 ∷ 128 ∷ 55 ∷ 128 ∷ 128 ∷ 128 ∷ 128 ∷ 128 ∷ 128 ∷ []
 
--- bits 3 to 7 of a byte, and above them three bits of its neighbour
-abbrev pub Shifted : ℕ → ℕ → Type 0
-Shifted b r = (k : ℕ) × (k < 8) × (r ≡ b / 8 + 32 * k)
+-- the low three bits of the next byte of a lane's word of four, or 0 where the lane is the word's last
+abbrev pub neighbour_bits : List ℕ → ℕ → ℕ
+neighbour_bits v i = if i % 4 == 3 then 0 else slice_index v (i + 1) % 8
+
+-- bits 3 to 7 of a lane, and above them those of its neighbour
+abbrev pub shifted : List ℕ → ℕ → ℕ
+shifted v i = slice_index v i / 8 + 32 * neighbour_bits v i
 
 -- the average of two bytes, rounded up
 abbrev pub average : ℕ → ℕ → ℕ

@@ -15,6 +15,7 @@ ghost use Rattle.hex_core.specs.Text.{Spells, text};
 
 use crate::digit::CheckCase;
 use crate::lanes::{NibbleMap, encoded, excess, valid_nibbles};
+use crate::scalar;
 use crate::vector::{Interleave, Lanes, LookUp, Pack, either, is_small, is_zero};
 use std::simd::prelude::*;
 
@@ -284,9 +285,9 @@ where
     text.copy_to_slice(&mut dst[2 * at..]);
 }
 
-/// Writes the text of `N` to `2 * N` bytes.
+// Writes the text of `N` to `2 * N` bytes.
 #[inline(always)]
-pub fn encode_two<const N: usize, const TWICE: usize>(src: &[u8], dst: &mut [u8], upper: bool)
+fn encode_two<const N: usize, const TWICE: usize>(src: &[u8], dst: &mut [u8], upper: bool)
 where
     Lanes: Interleave<N, TWICE> + LookUp<TWICE>,
     requires lanes { TWICE ≡ 2 * N }
@@ -299,9 +300,9 @@ where
     spell_at::<N, TWICE>(src, dst, src.len() - N, upper);
 }
 
-/// Writes the text of `N` bytes or more.
+// Writes the text of `N` bytes or more.
 #[inline(never)]
-pub fn encode_blocks<const N: usize, const TWICE: usize>(src: &[u8], dst: &mut [u8], upper: bool)
+fn encode_blocks<const N: usize, const TWICE: usize>(src: &[u8], dst: &mut [u8], upper: bool)
 where
     Lanes: Interleave<N, TWICE> + LookUp<TWICE>,
     requires some { 1 ≤ N }
@@ -315,5 +316,19 @@ where
     }
     if src.len() % N != 0 {
         spell_at::<N, TWICE>(src, dst, src.len() - N, upper);
+    }
+}
+
+/// Writes the text of `src` into the whole of `dst`, for every plan of lanes.
+#[inline(always)]
+pub fn encode(src: &[u8], dst: &mut [u8], upper: bool)
+    requires { length dst.old ≡ 2 * length src.now }
+    ensures { dst.new ≡ text upper src.now }
+{
+    match src.len() {
+        0..8 => scalar::write_text(src, dst, upper),
+        8..=16 => encode_two::<8, 16>(src, dst, upper),
+        17..=32 => encode_two::<16, 32>(src, dst, upper),
+        _ => encode_blocks::<32, 64>(src, dst, upper),
     }
 }

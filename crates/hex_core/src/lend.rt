@@ -7,6 +7,7 @@ ghost use Rattle.hex_core.specs.Loan.{LendsAnswer};
 use crate::error::Error;
 
 /// Lends the accepted front of `dst`, or hands on the refusal.
+#[inline(always)]
 pub fn lend_accepted(dst: &mut [u8], answer: Result<usize, Error>) -> Result<&mut [u8], Error>
     requires { IfOk answer (λ n. n ≤ length dst.old) }
     ensures* lends { sem 𝓛 (LendsAnswer dst.entry result) }

@@ -10,14 +10,13 @@ ghost use Rattle.hex_core.specs.Refusal.{decode_refusal, encode_refusal, first_b
 ghost use Rattle.hex_core.specs.declared.digit.CheckCase.{CheckCase};
 ghost use Rattle.hex_core.specs.Text.{Spells, laid, text};
 
-use crate::blocks::decode_blocks;
 use crate::digit::CheckCase;
 use crate::error::Error;
 use crate::lanes::{Hashing, NibbleMap, Saturating};
 use crate::lend::lend_accepted;
 use crate::probe::{SliceProbe, locate};
 use crate::vector::{Lanes, Pack};
-use crate::{scalar, sixteen, wide};
+use crate::{blocks, scalar, sixteen, wide};
 
 #[derive(Clone, Copy)]
 enum Kind {
@@ -80,6 +79,7 @@ impl Backend {
     /// assert!(rt; Backend::PLAIN.check(b"00aBc", CheckCase::None));
     /// assert!(rt; !Backend::PLAIN.check(b"00aBc", CheckCase::Lower));
     /// ```
+    #[inline(always)]
     pub fn check(self, src: &[u8], case: CheckCase) -> bool
         ensures { IsTrue result ↔ (fault case src.now ≡ None) }
     {
@@ -99,18 +99,21 @@ impl Backend {
     /// Backend::PLAIN.encode(&[0, 0xab], &mut digits, true);
     /// assert_eq!(rt; &digits, b"00AB");
     /// ```
+    #[inline(always)]
     pub fn encode(self, src: &[u8], dst: &mut [u8], upper: bool)
         requires { length dst.old ≡ 2 * length src.now }
         ensures { dst.new ≡ text upper src.now }
     {
         match self.0 {
             Kind::Scalar => scalar::write_text(src, dst, upper),
-            Kind::Sse41 | Kind::Neon => sixteen::encode(src, dst, upper),
-            Kind::Avx2 | Kind::Avx512 => wide::encode(src, dst, upper),
+            Kind::Sse41 | Kind::Avx2 | Kind::Avx512 | Kind::Neon => {
+                blocks::encode(src, dst, upper)
+            }
         }
     }
 
     // Writes the bytes that a valid source spells.
+    #[inline(always)]
     fn write_bytes(self, src: &[u8], dst: &mut [u8], case: CheckCase)
         requires twice { length src.now ≡ 2 * length dst.old }
         requires valid { fault case src.now ≡ None }
@@ -135,6 +138,7 @@ impl Backend {
     /// assert!(rt; Backend::PLAIN.decode(b"00ab", &mut bytes, CheckCase::None));
     /// assert_eq!(rt; bytes, [0, 0xab]);
     /// ```
+    #[inline(always)]
     pub fn decode(self, src: &[u8], dst: &mut [u8], case: CheckCase) -> bool
         requires { length src.now ≡ 2 * length dst.old }
         ensures valid { IsTrue result ↔ (fault case src.now ≡ None) }
@@ -168,6 +172,7 @@ impl Backend {
     /// assert!(rt; !avx2.decode_owned(&source, &mut bytes, CheckCase::None));
     /// assert_eq!(rt; (bytes[31], bytes[32]), (0x11, 0xa5));
     /// ```
+    #[inline(always)]
     pub fn decode_owned(self, src: &[u8], dst: &mut [u8], case: CheckCase) -> bool
         requires { length src.now ≡ 2 * length dst.old }
         ensures valid { IsTrue result ↔ (fault case src.now ≡ None) }
@@ -183,6 +188,7 @@ impl Backend {
     }
 
     // [`Backend::decode`], which stores no block before a refusal.
+    #[inline(always)]
     fn decode_at_once(self, src: &[u8], dst: &mut [u8], case: CheckCase) -> bool
         requires { length src.now ≡ 2 * length dst.old }
         ensures valid { IsTrue result ↔ (fault case src.now ≡ None) }
@@ -211,7 +217,7 @@ impl Backend {
         ensures decoded { OnTrue result (Spells case src.now dst.new) }
         ensures stored { OnFalse result (StoresBlocks (2 * N) case src.now dst.old dst.new) }
     {
-        let done = decode_blocks::<M, N, HALF>(src, dst, case);
+        let done = blocks::decode_blocks::<M, N, HALF>(src, dst, case);
         if dst.len() - done >= N {
             return false;
         }
@@ -283,6 +289,7 @@ impl Backend {
     }
 
     // How many bytes the text of `src` takes, or what encoding it into this room refuses.
+    #[inline(always)]
     fn encoded_len(src: &[u8], room: usize) -> Result<usize, Error>
         ensures { MatchResult result
             (λ n. (encode_refusal src.now room ≡ None) × (n ≡ 2 * length src.now))
@@ -298,6 +305,7 @@ impl Backend {
     }
 
     // Writes the bytes behind a reference that was lent for them, or hands on the refusal.
+    #[inline(always)]
     fn decoded<'a>(
         self,
         src: &[u8],
@@ -320,6 +328,7 @@ impl Backend {
     }
 
     // Writes the text behind a reference that was lent for it, or hands on the refusal.
+    #[inline(always)]
     fn encoded<'a>(
         self,
         src: &[u8],
@@ -357,6 +366,7 @@ impl Backend {
     /// assert_eq!(rt; Backend::PLAIN.decode_into(b"00ab", &mut buffer, CheckCase::None), Ok(2));
     /// assert_eq!(rt; buffer, [0, 0xab, 0xa5]);
     /// ```
+    #[inline(always)]
     pub fn decode_into(self, src: &[u8], dst: &mut [u8], case: CheckCase) -> Result<usize, Error>
         ensures answer { MatchResult result
             (λ n. (decode_refusal case src.now (length dst.old) ≡ None) × (n ≡ length src.now / 2))
@@ -387,6 +397,7 @@ impl Backend {
     /// assert_eq!(rt; Backend::PLAIN.encode_into(&[0, 0xab], &mut buffer, false), Ok(4));
     /// assert_eq!(rt; &buffer, b"00ab-");
     /// ```
+    #[inline(always)]
     pub fn encode_into(self, src: &[u8], dst: &mut [u8], upper: bool) -> Result<usize, Error>
         ensures answer { MatchResult result
             (λ n. (encode_refusal src.now (length dst.old) ≡ None) × (n ≡ 2 * length src.now))
@@ -418,6 +429,7 @@ impl Backend {
     /// bytes[0] = 0xff;
     /// assert_eq!(rt; buffer, [0xff, 0xab, 0xa5]);
     /// ```
+    #[inline(always)]
     pub fn decode_slice<'a>(
         self,
         src: &[u8],
@@ -450,6 +462,7 @@ impl Backend {
     /// let mut buffer = [0; 4];
     /// assert_eq!(rt; avx2.encode_slice(&[0, 0xab], &mut buffer, true)?, b"00AB");
     /// ```
+    #[inline(always)]
     pub fn encode_slice<'a>(
         self,
         src: &[u8],

@@ -1,11 +1,11 @@
-//! The bodies of the plans of 16 lanes.
+//! Checking and decoding under the plans of 16 lanes.
 
 ghost use Rattle.std.specs.Prelude.{◌≡◌, ◌↔◌, ◌+◌, ◌*◌, ◌≤◌, ◌<◌, IsTrue, None, length, slice_index};
 ghost use Rattle.std.specs.Bool.{OnFalse, OnTrue};
 ghost use Rattle.hex_core.specs.Fault.{IsClear, fault};
-ghost use Rattle.hex_core.specs.Text.{Spells, text};
+ghost use Rattle.hex_core.specs.Text.{Spells};
 
-use crate::blocks::{decode_two, encode_blocks, encode_two, write_blocks};
+use crate::blocks::{decode_four, decode_two, write_blocks};
 use crate::digit::CheckCase;
 use crate::lanes::{Saturating, admitted_16};
 use crate::probe::{Probe, covered};
@@ -93,19 +93,6 @@ pub fn check(src: &[u8], case: CheckCase) -> bool
     })
 }
 
-/// Writes the text of `src` into the whole of `dst`.
-#[inline(never)]
-pub fn encode(src: &[u8], dst: &mut [u8], upper: bool)
-    requires { length dst.old ≡ 2 * length src.now }
-    ensures { dst.new ≡ text upper src.now }
-{
-    match src.len() {
-        0..8 => scalar::write_text(src, dst, upper),
-        8..16 => encode_two::<8, 16>(src, dst, upper),
-        _ => encode_blocks::<16, 32>(src, dst, upper),
-    }
-}
-
 /// Writes the bytes that a valid source spells into the whole of `dst`.
 #[inline(never)]
 pub fn write_bytes(src: &[u8], dst: &mut [u8], case: CheckCase)
@@ -128,15 +115,17 @@ pub fn decode(src: &[u8], dst: &mut [u8], case: CheckCase) -> bool
     ensures decoded { OnTrue result (Spells case src.now dst.new) }
     ensures unchanged { OnFalse result (dst.new ≡ dst.old) }
 {
-    if src.len() < BLOCK {
-        return scalar::decode_short(src, dst, case);
+    match src.len() {
+        0..16 => scalar::decode_short(src, dst, case),
+        16..=32 => decode_two::<Saturating, 16, 8>(src, dst, case),
+        33..=64 => decode_four::<Saturating, 16, 8>(src, dst, case),
+        65..=128 => decode_four::<Saturating, 32, 16>(src, dst, case),
+        _ => {
+            let valid = check(src, case);
+            if valid {
+                write_bytes(src, dst, case);
+            }
+            valid
+        }
     }
-    if src.len() <= 2 * BLOCK {
-        return decode_two::<Saturating, 16, 8>(src, dst, case);
-    }
-    if !check(src, case) {
-        return false;
-    }
-    write_bytes(src, dst, case);
-    true
 }

@@ -3,7 +3,7 @@
 ghost use Rattle.std.specs.Prelude.{◌≡◌, ◌↔◌, ℕ, ◌-◌, ◌/◌, ◌^◌, ◌≤◌, ◌<◌, ◌==◌, IsTrue, length, min, map, slice_index, bit_and, bit_or, bit_xor};
 ghost use Rattle.std.specs.Simd.Lanes.{Each1, mask_l, zip2};
 ghost use Rattle.hex_core.specs.Arithmetic.{AreZero, interleaved, packed, pair_byte, saturating_add, wrapping_sub};
-ghost use Rattle.hex_core.specs.Hash.{Shifted, average};
+ghost use Rattle.hex_core.specs.Hash.{average, shifted};
 ghost use Rattle.hex_core.specs.Lanes.{AreSmall};
 ghost use Rattle.hex_core.specs.Lookup.{entry};
 
@@ -291,14 +291,14 @@ impl LookUp<64> for Lanes {
 pub trait Shift<const N: usize> {
     fn shift(v: Simd<u8, N>) -> Simd<u8, N>
         ensures len { length result ≡ N }
-        ensures lanes { (i : ℕ) → i < N → Shifted (slice_index v.entry i) (slice_index result i) };
+        ensures lanes { (i : ℕ) → i < N → slice_index result i ≡ shifted v.entry i };
 }
 
 impl Shift<32> for Lanes {
     #[inline(always)]
     fn shift(v: u8x32) -> u8x32
         ensures len { length result ≡ 32 }
-        ensures lanes { (i : ℕ) → i < 32 → Shifted (slice_index v i) (slice_index result i) }
+        ensures lanes { (i : ℕ) → i < 32 → slice_index result i ≡ shifted v i }
     {
         eighths(u32x8::from_le_bytes(v)).to_le_bytes()
     }
@@ -308,7 +308,7 @@ impl Shift<64> for Lanes {
     #[inline(always)]
     fn shift(v: u8x64) -> u8x64
         ensures len { length result ≡ 64 }
-        ensures lanes { (i : ℕ) → i < 64 → Shifted (slice_index v i) (slice_index result i) }
+        ensures lanes { (i : ℕ) → i < 64 → slice_index result i ≡ shifted v i }
     {
         eighths(u32x16::from_le_bytes(v)).to_le_bytes()
     }

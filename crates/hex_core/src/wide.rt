@@ -1,15 +1,12 @@
-//! The bodies of the plans of 32 and 64 lanes: two overlapping blocks in registers where a source
-//! is short, and blocks of 64 digits or 32 bytes above.
+//! Checking and decoding under the plans of 32 and 64 lanes: blocks in registers where a source is
+//! short, and blocks of 64 digits above.
 
 ghost use Rattle.std.specs.Prelude.{◌≡◌, ◌↔◌, ◌*◌, IsTrue, None, length};
 ghost use Rattle.std.specs.Bool.{OnFalse, OnTrue};
 ghost use Rattle.hex_core.specs.Fault.{fault};
-ghost use Rattle.hex_core.specs.Text.{Spells, text};
+ghost use Rattle.hex_core.specs.Text.{Spells};
 
-use crate::blocks::{
-    check_blocks, check_two, decode_four, decode_two, encode_blocks, encode_two, write_blocks,
-    write_two,
-};
+use crate::blocks::{check_blocks, check_two, decode_four, decode_two, write_blocks, write_two};
 use crate::digit::CheckCase;
 use crate::lanes::{NibbleMap, Saturating};
 use crate::scalar;
@@ -23,21 +20,8 @@ pub fn check(src: &[u8], case: CheckCase) -> bool
         0..16 => scalar::check(src, case),
         16..=32 => check_two::<16>(src, case),
         33..=64 => check_two::<32>(src, case),
+        65..=128 => check_two::<64>(src, case),
         _ => check_blocks::<64>(src, case),
-    }
-}
-
-/// Writes the text of `src` into the whole of `dst`.
-#[inline(always)]
-pub fn encode(src: &[u8], dst: &mut [u8], upper: bool)
-    requires { length dst.old ≡ 2 * length src.now }
-    ensures { dst.new ≡ text upper src.now }
-{
-    match src.len() {
-        0..8 => scalar::write_text(src, dst, upper),
-        8..=16 => encode_two::<8, 16>(src, dst, upper),
-        17..=32 => encode_two::<16, 32>(src, dst, upper),
-        _ => encode_blocks::<32, 64>(src, dst, upper),
     }
 }
 
@@ -52,6 +36,7 @@ pub fn write_bytes(src: &[u8], dst: &mut [u8], case: CheckCase)
         0..16 => scalar::write_bytes(src, dst, case),
         16..=32 => write_two::<16, 8>(src, dst, case),
         33..=64 => write_two::<32, 16>(src, dst, case),
+        65..=128 => write_two::<64, 32>(src, dst, case),
         _ => write_blocks::<64, 32>(src, dst, case),
     }
 }
