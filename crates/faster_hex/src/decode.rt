@@ -259,8 +259,8 @@ pub fn hex_decode_vec_with_case<A: Allocator + Drop>(
     }
 }
 
-// Above so many bytes a buffer that is given up on a refusal is decoded block by block, in one pass
-// over the source. Below, a source is held in registers or in the nearest cache for its second pass.
+// A buffer of more bytes that is given up on a refusal is decoded block by block, in one pass over
+// the source.
 const OWNED: usize = 1024;
 
 // Decodes into the whole of a buffer that is given up on a refusal.

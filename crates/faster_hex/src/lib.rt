@@ -45,4 +45,6 @@ pub use crate::encode::{
 pub use crate::format::{Align, Hex, HexFlags, WriteFault};
 pub use crate::sink::{Sink, SinkFault, SliceSink, WriterSink};
 pub use crate::withpfx_ignorecase::{array, deserialize, deserialize_bounded, serialize};
-pub use hex_core::{Backend, CheckCase, Error, Probe, SliceProbe, backends, digit_value, locate};
+pub use hex_core::{
+    Backend, CheckCase, Error, Probe, SliceProbe, backends, covered, digit_value, locate,
+};

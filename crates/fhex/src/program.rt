@@ -101,6 +101,8 @@ fn read_input<A: Allocator + Drop, R: Read>(alloc: A, input: &mut R) -> Result<V
 {
     let mut chunk = [0u8; CHUNK];
     let mut all = Vec::new(alloc);
+    // Room for any input, so that none of it is moved. Where it is not granted, the vector grows.
+    let _ = all.reserve_exact(INPUT_LIMIT + CHUNK);
     'reads: while all.len() <= INPUT_LIMIT {
         match input.read(&mut chunk) {
             Ok(0) => return Ok(all),

@@ -11,7 +11,11 @@ mod carried_owned;
 #[cfg(test)]
 mod format_rows;
 #[cfg(test)]
+mod lane_rows;
+#[cfg(test)]
 mod limited_sink;
+#[cfg(test)]
+mod owned_plan_rows;
 #[cfg(test)]
 mod owned_rows;
 #[cfg(test)]

@@ -1,0 +1,463 @@
+// Times this repository's calls beside the Rust crate's, all in turn in one run, and prints the
+// least time of each and the ratios. First it checks that each call answers what it should.
+// It is compiled with -DRUST where the Rust crate's library is linked, and then with SAME_WIDTH, the
+// kernel whose vectors are as wide as this build's; and with -DOWNED where hex_core has
+// `decode_owned`.
+#include <stdbool.h>
+#include <stdint.h>
+#include <stdio.h>
+#include <stdlib.h>
+#include <string.h>
+#include <time.h>
+
+// The rounds of a size are spread over the whole run, since a shared machine has slow seconds.
+#define PASSES 20
+#define ROUNDS 12
+#define TURNS_NS 30000
+#define LARGEST 65536
+
+static const size_t sizes[] = {8, 16, 32, 64, 100, 256, 1024, 4096, LARGEST};
+#define SIZES (sizeof sizes / sizeof *sizes)
+
+// What a call works on. One that checks, and one that decodes into memory of its own, is given no
+// room to write into.
+enum kind { CHECK, ENCODE, DECODE, DECODE_VEC, KINDS };
+
+struct task {
+    const uint8_t *src;
+    size_t len;
+    uint8_t *dst;
+    size_t room;
+};
+
+// The calls, each of one plan, of one kernel, or of neither: "plain" and "public".
+#define PLAIN(X) \
+    X(READS, own, plain, check, CHECK) \
+    X(WRITES, own, plain, encode_into, ENCODE) \
+    X(WRITES, own, plain, encode_slice, ENCODE) \
+    X(WRITES, own, plain, decode_into, DECODE) \
+    X(WRITES, own, plain, decode_slice, DECODE) \
+    X(READS, own, plain, decode_vec, DECODE_VEC)
+
+#ifdef OWNED
+#define OWNED_OF(X, plan) X(WRITES, own, plan, decode_owned, DECODE)
+#else
+#define OWNED_OF(X, plan)
+#endif
+
+#define PLAN(X, plan) \
+    X(READS, own, plan, check, CHECK) \
+    X(READS, own, plan, first_invalid, CHECK) \
+    X(WRITES, own, plan, encode, ENCODE) \
+    X(WRITES, own, plan, encode_into, ENCODE) \
+    X(WRITES, own, plan, encode_slice, ENCODE) \
+    X(WRITES, own, plan, decode, DECODE) \
+    X(WRITES, own, plan, decode_into, DECODE) \
+    X(WRITES, own, plan, decode_slice, DECODE) \
+    OWNED_OF(X, plan)
+
+#define PUBLIC(X) \
+    X(READS, rust, public, check, CHECK) \
+    X(WRITES, rust, public, encode, ENCODE) \
+    X(WRITES, rust, public, decode, DECODE) \
+    X(READS, rust, public, decode_vec, DECODE_VEC)
+
+#define KERNEL(X, plan) \
+    X(READS, rust, plan, check, CHECK) \
+    X(WRITES, rust, plan, encode, ENCODE) \
+    X(WRITES, rust, plan, decode, DECODE) \
+    X(WRITES, rust, plan, decode_owned, DECODE)
+
+#define OWN_CALLS(X) \
+    PLAIN(X) PLAN(X, scalar) PLAN(X, sse41) PLAN(X, avx2) PLAN(X, avx512) PLAN(X, neon)
+
+#ifdef RUST
+#define RUST_CALLS(X) PUBLIC(X) KERNEL(X, scalar) KERNEL(X, sse41) KERNEL(X, avx2) KERNEL(X, avx512)
+#else
+#define RUST_CALLS(X)
+#endif
+
+// A loop for each call, so that the call is a direct one: how well a processor foresees an indirect
+// one depends on what else the machine does.
+#define LOOP(name, call) \
+    static __attribute__((noinline)) size_t name(const struct task *task, long turns) { \
+        struct task its = *task; \
+        size_t sum = 0; \
+        for (long i = 0; i < turns; i++) { \
+            sum += call; \
+        } \
+        return sum; \
+    }
+#define LOOP_READS(name) \
+    size_t name(const uint8_t *src, size_t len); \
+    LOOP(name##_loop, name(its.src, its.len))
+#define LOOP_WRITES(name) \
+    size_t name(const uint8_t *src, size_t len, uint8_t *dst, size_t room); \
+    LOOP(name##_loop, name(its.src, its.len, its.dst, its.room))
+#define LOOP_OF(form, side, plan, name, kind) LOOP_##form(side##_##plan##_##name)
+OWN_CALLS(LOOP_OF)
+RUST_CALLS(LOOP_OF)
+
+static __attribute__((noinline)) size_t copies(const uint8_t *src, size_t len, uint8_t *dst,
+    size_t room) {
+    memcpy(dst, src, len < room ? len : room);
+    return room;
+}
+LOOP(copies_loop, copies(its.src, its.len, its.dst, its.room))
+
+struct call {
+    const char *name;
+    const char *plan;
+    enum kind kind;
+    bool is_rust;
+    size_t (*loop)(const struct task *task, long turns);
+};
+
+#define IS_own false
+#define IS_rust true
+#define ENTRY(form, side, plan, name, kind) \
+    {#name, #plan, kind, IS_##side, side##_##plan##_##name##_loop},
+static const struct call calls[] = {
+    {"memcpy", "", CHECK, false, copies_loop},
+    {"memcpy", "", ENCODE, false, copies_loop},
+    {"memcpy", "", DECODE, false, copies_loop},
+    {"memcpy", "", DECODE_VEC, false, copies_loop},
+    OWN_CALLS(ENTRY)
+    RUST_CALLS(ENTRY)
+};
+#define CALLS (sizeof calls / sizeof *calls)
+
+// A table for each call of ours: its name in the Rust crate, and what its plain form is called.
+struct table {
+    const char *name;
+    const char *rust;
+    const char *plain;
+    enum kind kind;
+};
+
+static const struct table tables[] = {
+    {"check", "check", "hex_check", CHECK},
+    {"first_invalid", "check", NULL, CHECK},
+    {"encode", "encode", NULL, ENCODE},
+    {"encode_into", "encode", "hex_encode_into", ENCODE},
+    {"encode_slice", "encode", "hex_encode", ENCODE},
+    {"decode", "decode", NULL, DECODE},
+    {"decode_into", "decode", "hex_decode_into", DECODE},
+    {"decode_slice", "decode", "hex_decode", DECODE},
+#ifdef OWNED
+    {"decode_owned", "decode_owned", NULL, DECODE},
+#endif
+    {"decode_vec", "decode_vec", "hex_decode_vec", DECODE_VEC},
+};
+#define TABLES (sizeof tables / sizeof *tables)
+
+// The first of the one stand beside the first of the other.
+static const char *const own_plans[] = {"plain", "scalar", "sse41", "avx2", "avx512", "neon"};
+static const char *const rust_plans[] = {"public", "scalar", "sse41", "avx2", "avx512"};
+#define OWN_PLANS (sizeof own_plans / sizeof *own_plans)
+#define RUST_PLANS (sizeof rust_plans / sizeof *rust_plans)
+
+static bool rust_has[RUST_PLANS];
+static double least[SIZES][CALLS];
+static volatile size_t sink;
+
+// The same bytes, and their text in lowercase, in uppercase and in both.
+static uint8_t bytes[LARGEST], lower[2 * LARGEST], upper[2 * LARGEST], mixed[2 * LARGEST];
+static uint8_t out[2 * LARGEST] __attribute__((aligned(64)));
+
+static struct task task_of(enum kind kind, size_t size) {
+    if (kind == ENCODE) {
+        return (struct task){bytes, size, out, 2 * size};
+    }
+    return (struct task){mixed, 2 * size, out, size};
+}
+
+// Whether the call can be made: the Rust crate is asked which of its kernels the processor can run.
+static bool is_there(const struct call *call) {
+    for (size_t at = 0; call->is_rust && at < RUST_PLANS; at++) {
+        if (strcmp(rust_plans[at], call->plan) == 0) {
+            return rust_has[at];
+        }
+    }
+    return true;
+}
+
+// A vector's memory is of interest where there is much of it.
+static bool is_measured(enum kind kind, size_t size) {
+    return kind != DECODE_VEC || size >= 4096;
+}
+
+static void stop_unless(bool holds, const char *side, const char *plan, const char *name,
+    size_t size) {
+    if (!holds) {
+        fprintf(stderr, "%s %s %s gives something else than it should on %zu bytes\n", side, plan,
+            name, size);
+        exit(1);
+    }
+}
+
+static void check(const struct call *call, size_t size) {
+    struct task task = task_of(call->kind, size);
+    memset(out, 0xa5, sizeof out);
+    bool holds = call->loop(&task, 1) == (call->kind == CHECK ? 1 : task.room);
+    if (call->kind == ENCODE || call->kind == DECODE) {
+        holds = holds && !memcmp(out, call->kind == ENCODE ? lower : bytes, task.room);
+    }
+    stop_unless(holds, call->is_rust ? "rust" : "own", call->plan, call->name, size);
+}
+
+typedef size_t by_case(const uint8_t *src, size_t len, uint8_t *dst, size_t room, uint8_t policy);
+typedef size_t to_upper(const uint8_t *src, size_t len, uint8_t *dst, size_t room);
+
+// Checks what is not measured: each policy, and uppercase.
+static void check_cases(const char *side, const char *plan, by_case *decode, to_upper *encode,
+    size_t size) {
+    const uint8_t *const texts[] = {mixed, lower, upper};
+    for (uint8_t policy = 0; policy < 3; policy++) {
+        memset(out, 0xa5, sizeof out);
+        bool is_read = !memcmp(mixed, texts[policy], 2 * size);
+        bool holds = decode(texts[policy], 2 * size, out, size, policy) == size
+            && !memcmp(out, bytes, size)
+            && decode(mixed, 2 * size, out, size, policy) == (is_read ? size : 0);
+        stop_unless(holds, side, plan, "decode by case", size);
+    }
+    encode(bytes, size, out, 2 * size);
+    stop_unless(!memcmp(out, upper, 2 * size), side, plan, "encode in uppercase", size);
+}
+
+#define CHECK_CASES(side, plan, decode) \
+    { \
+        by_case side##_##plan##_##decode; \
+        to_upper side##_##plan##_encode_upper; \
+        check_cases(#side, #plan, side##_##plan##_##decode, side##_##plan##_encode_upper, size); \
+    }
+
+static void check_all(size_t size) {
+    for (size_t at = 0; at < CALLS; at++) {
+        if (is_there(&calls[at]) && strcmp(calls[at].name, "memcpy") != 0) {
+            check(&calls[at], size);
+        }
+    }
+    CHECK_CASES(own, scalar, decode_by_case)
+    CHECK_CASES(own, sse41, decode_by_case)
+    CHECK_CASES(own, avx2, decode_by_case)
+    CHECK_CASES(own, avx512, decode_by_case)
+    CHECK_CASES(own, neon, decode_by_case)
+#ifdef OWNED
+    CHECK_CASES(own, scalar, owned_by_case)
+    CHECK_CASES(own, sse41, owned_by_case)
+    CHECK_CASES(own, avx2, owned_by_case)
+    CHECK_CASES(own, avx512, owned_by_case)
+    CHECK_CASES(own, neon, owned_by_case)
+#endif
+#ifdef RUST
+    if (rust_has[1]) CHECK_CASES(rust, scalar, decode_by_case)
+    if (rust_has[2]) CHECK_CASES(rust, sse41, decode_by_case)
+    if (rust_has[3]) CHECK_CASES(rust, avx2, decode_by_case)
+    if (rust_has[4]) CHECK_CASES(rust, avx512, decode_by_case)
+#endif
+}
+
+static double now(void) {
+    struct timespec at;
+    clock_gettime(CLOCK_MONOTONIC, &at);
+    return at.tv_sec * 1e9 + at.tv_nsec;
+}
+
+// The nanoseconds of some calls in a row.
+static double spent(const struct call *call, const struct task *task, long turns) {
+    double start = now();
+    sink = call->loop(task, turns);
+    return now() - start;
+}
+
+// The next of some numbers with no pattern.
+static uint32_t next(void) {
+    static uint64_t state = 1;
+    state = state * 6364136223846793005 + 1442695040888963407;
+    return state >> 32;
+}
+
+// Times the calls of one kind in turn, so that each meets the same machine. A call's turns are long
+// enough for the clock not to count, and run once before they are timed: a processor may first have
+// to wake its wide vectors. Behind these some are slower for a while, which else would always meet
+// the same calls, so each round has another order.
+static void measure(enum kind kind, size_t at_size) {
+    struct task task = task_of(kind, sizes[at_size]);
+    size_t order[CALLS], count = 0;
+    long turns[CALLS];
+    for (size_t at = 0; at < CALLS; at++) {
+        if (calls[at].kind == kind && is_there(&calls[at])) {
+            order[count++] = at;
+            turns[at] = 1;
+            while (spent(&calls[at], &task, turns[at]) < TURNS_NS) {
+                turns[at] *= 2;
+            }
+        }
+    }
+    for (int round = 0; round < ROUNDS; round++) {
+        for (size_t left = count; left > 0; left--) {
+            size_t pick = next() % left, at = order[pick];
+            order[pick] = order[left - 1];
+            order[left - 1] = at;
+            spent(&calls[at], &task, turns[at]);
+            double time = spent(&calls[at], &task, turns[at]) / turns[at];
+            if (least[at_size][at] == 0 || time < least[at_size][at]) {
+                least[at_size][at] = time;
+            }
+        }
+    }
+}
+
+// The least time of a call, or 0 where there is none.
+static double time_of(size_t at_size, bool is_rust, const char *plan, const char *name,
+    enum kind kind) {
+    for (size_t at = 0; at < CALLS; at++) {
+        if (calls[at].is_rust == is_rust && calls[at].kind == kind
+            && strcmp(calls[at].plan, plan) == 0 && strcmp(calls[at].name, name) == 0) {
+            return least[at_size][at];
+        }
+    }
+    return 0;
+}
+
+static void cell(const char *format, double value) {
+    if (value > 0) {
+        printf(format, value);
+    } else {
+        printf(" %8s", "-");
+    }
+}
+
+static void heads(const char *const *names, size_t count) {
+    for (size_t at = 0; at < count; at++) {
+        printf(" %8s", names[at]);
+    }
+}
+
+static void print_times(const struct table *table) {
+    printf("\n%s%s%s: ns\n   bytes", table->name, table->plain ? ", plain: " : "",
+        table->plain ? table->plain : "");
+    heads(own_plans, OWN_PLANS);
+    printf(" |   memcpy");
+#ifdef RUST
+    printf(" | Rust:");
+    heads(rust_plans, RUST_PLANS);
+#endif
+    printf("\n");
+    for (size_t at_size = 0; at_size < SIZES; at_size++) {
+        if (!is_measured(table->kind, sizes[at_size])) {
+            continue;
+        }
+        printf("%8zu", sizes[at_size]);
+        for (size_t at = 0; at < OWN_PLANS; at++) {
+            cell(" %8.1f", time_of(at_size, false, own_plans[at], table->name, table->kind));
+        }
+        printf(" |");
+        cell(" %8.1f", time_of(at_size, false, "", "memcpy", table->kind));
+#ifdef RUST
+        printf(" |      ");
+        for (size_t at = 0; at < RUST_PLANS; at++) {
+            cell(" %8.1f", time_of(at_size, true, rust_plans[at], table->rust, table->kind));
+        }
+#endif
+        printf("\n");
+    }
+}
+
+#ifdef RUST
+#define QUOTED(word) #word
+#define NAME_OF(word) QUOTED(word)
+
+static void ratio(const struct table *table, size_t at_size, const char *own, const char *rust) {
+    double ours = time_of(at_size, false, own, table->name, table->kind);
+    double theirs = time_of(at_size, true, rust, table->rust, table->kind);
+    cell(" %8.2f", theirs > 0 ? ours / theirs : 0);
+}
+
+// The plans over the kernel whose vectors are as wide as this build's, and over the kernels of the
+// same names, with the plain call over the public one. A vector is decoded by no plan.
+static void print_ratios(const struct table *table) {
+    bool has_plans = table->kind != DECODE_VEC;
+    printf("%s: time over the Rust crate's\n   bytes", table->name);
+    if (has_plans) {
+        printf(" | / %-6s", NAME_OF(SAME_WIDTH));
+        heads(own_plans, OWN_PLANS);
+    }
+    printf(" | / same");
+    heads(own_plans, has_plans ? RUST_PLANS : 1);
+    printf("\n");
+    for (size_t at_size = 0; at_size < SIZES; at_size++) {
+        if (!is_measured(table->kind, sizes[at_size])) {
+            continue;
+        }
+        printf("%8zu", sizes[at_size]);
+        if (has_plans) {
+            printf(" |         ");
+            for (size_t at = 0; at < OWN_PLANS; at++) {
+                ratio(table, at_size, own_plans[at], NAME_OF(SAME_WIDTH));
+            }
+        }
+        printf(" |       ");
+        for (size_t at = 0; at < (has_plans ? RUST_PLANS : 1); at++) {
+            ratio(table, at_size, own_plans[at], rust_plans[at]);
+        }
+        printf("\n");
+    }
+}
+
+static void ask_rust(void) {
+    bool rust_scalar_is_there(void), rust_sse41_is_there(void);
+    bool rust_avx2_is_there(void), rust_avx512_is_there(void);
+    const bool has[RUST_PLANS] = {true, rust_scalar_is_there(), rust_sse41_is_there(),
+        rust_avx2_is_there(), rust_avx512_is_there()};
+    memcpy(rust_has, has, sizeof has);
+    for (size_t at = 0; at < RUST_PLANS; at++) {
+        if (!has[at]) {
+            printf("Skipped, since this processor cannot run it: the Rust crate's %s.\n",
+                rust_plans[at]);
+        }
+    }
+}
+#endif
+
+// Bytes with no pattern, and their texts.
+static void fill(void) {
+    for (size_t i = 0; i < LARGEST; i++) {
+        bytes[i] = next() >> 24;
+        for (size_t half = 0; half < 2; half++) {
+            int value = half ? bytes[i] % 16 : bytes[i] / 16;
+            lower[2 * i + half] = "0123456789abcdef"[value];
+            upper[2 * i + half] = "0123456789ABCDEF"[value];
+        }
+        memcpy(mixed + 2 * i, (i % 2 ? upper : lower) + 2 * i, 2);
+    }
+}
+
+int main(void) {
+#ifdef RUST
+    ask_rust();
+#else
+    printf("No Rust crate was given, so there are no ratios: --rust PATH gives one.\n");
+#endif
+    fill();
+    for (size_t at_size = 0; at_size < SIZES; at_size++) {
+        check_all(sizes[at_size]);
+    }
+    for (int pass = 0; pass < PASSES; pass++) {
+        for (size_t at_size = 0; at_size < SIZES; at_size++) {
+            for (enum kind kind = 0; kind < KINDS; kind++) {
+                if (is_measured(kind, sizes[at_size])) {
+                    measure(kind, at_size);
+                }
+            }
+        }
+    }
+    for (size_t at = 0; at < TABLES; at++) {
+        print_times(&tables[at]);
+#ifdef RUST
+        print_ratios(&tables[at]);
+#endif
+    }
+    return 0;
+}

@@ -1,0 +1,110 @@
+#!/bin/sh
+# Builds the crates as a static library of thin exported functions, times its calls beside the Rust
+# crate's in one run, and prints nanoseconds and ratios; README.md says what the columns mean.
+# Usage: bench/run.sh [--cpu=x86-64-v3] [--rust PATH]
+# PATH is a checkout of the Rust crate faster-hex 1.0.0. RT, CC and RUSTC name other commands, and
+# BENCH_BUILD another folder than the user's cache to build in.
+set -eu
+
+here=$(cd "$(dirname "$0")" && pwd)
+top=$(dirname "$here")
+rt=${RT:-rt}
+cc=${CC:-cc}
+rustc=${RUSTC:-rustc}
+
+cpu=
+rust=
+while [ $# -gt 0 ]; do
+    case $1 in
+    --cpu=*) cpu=$1 ;;
+    --rust=*) rust=${1#--rust=} ;;
+    --rust)
+        rust=${2:?"--rust needs a path"}
+        shift
+        ;;
+    *)
+        echo "usage: bench/run.sh [--cpu=x86-64-v3] [--rust PATH]" >&2
+        exit 2
+        ;;
+    esac
+    shift
+done
+if [ -n "$rust" ] && [ ! -f "$rust/src/fuzzing.rs" ]; then
+    echo "$rust has no src/fuzzing.rs: it is no checkout of faster-hex 1.0.0" >&2
+    exit 2
+fi
+
+# `rt ci` refuses sources in the repository that belong to no crate, so the copies stand outside it.
+# What the proofs leave there is kept, and with it a later run takes seconds.
+build=${BENCH_BUILD:-${XDG_CACHE_HOME:-$HOME/.cache}}/hex_bench
+own=$build/crates/hex_bench
+mkdir -p "$own" "$build/rust"
+
+find "$build/crates" -mindepth 2 -maxdepth 2 ! -name out -exec rm -rf {} +
+tar -C "$top" -c --exclude=out crates crates.txt | tar -C "$build" -x
+echo 'hex_bench staticlib: faster_hex hex_core' >>"$build/crates.txt"
+
+# What the repository's own checks left saves a first run most of the proving.
+for crate in hex_core faster_hex; do
+    kept=$build/crates/$crate/out
+    if [ ! -e "$kept" ] && [ -e "$top/crates/$crate/out" ]; then
+        cp -R "$top/crates/$crate/out" "$kept" || rm -rf "$kept"
+    fi
+done
+
+# Each plan has a file of its own, with the same functions but for the plan; among them is
+# `decode_owned` where hex_core has that call.
+mkdir "$own/src"
+cp "$here/own/lib.rt.in" "$own/src/lib.rt"
+set -- "$here/own/plan.rt.in"
+flags=
+if grep -rq 'pub fn decode_owned' "$top/crates/hex_core/src"; then
+    set -- "$@" "$here/own/owned.rt.in"
+    flags=-DOWNED
+fi
+index=0
+for plan in scalar sse41 avx2 avx512 neon; do
+    cat "$@" | sed "s/PLAN/$plan/g; s/INDEX/$index/g" >"$own/src/$plan.rt"
+    index=$((index + 1))
+done
+
+# shellcheck disable=SC2086
+if ! (cd "$own" && "$rt" lib $cpu) >"$build/log" 2>&1; then
+    tail -n 40 "$build/log" >&2
+    exit 1
+fi
+
+# The exported functions go behind the Rust crate's own adapters to its kernels, whose private names
+# they use. It is built for the default processor in any case: it asks the machine when it runs.
+set -- "$own/out/libhex_bench.a"
+if [ -n "$rust" ]; then
+    rm -rf "$build/rust/src"
+    cp -R "$rust/src" "$build/rust/src"
+    chmod -R u+w "$build/rust/src"
+    cat "$here/rust/calls.rs.in" >>"$build/rust/src/fuzzing.rs"
+    for plan in scalar:Scalar sse41:Sse41 avx2:Avx2 avx512:Avx512; do
+        sed "s/PLAN/${plan%:*}/g; s/KIND/${plan#*:}/g" "$here/rust/plan.rs.in" \
+            >>"$build/rust/src/fuzzing.rs"
+    done
+    if ! grep -q 'mod fuzzing;' "$build/rust/src/lib.rs"; then
+        echo 'mod fuzzing;' >>"$build/rust/src/lib.rs"
+    fi
+    "$rustc" --edition 2021 --crate-name faster_hex --crate-type staticlib --cap-lints allow \
+        --cfg fuzzing --cfg 'feature="std"' --cfg 'feature="alloc"' \
+        -C opt-level=3 -C codegen-units=1 -C lto=fat -C panic=abort \
+        -o "$build/rust/libfaster_hex.a" "$build/rust/src/lib.rs"
+    set -- "$@" "$build/rust/libfaster_hex.a"
+    case $cpu in
+    *v3) flags="$flags -DRUST -DSAME_WIDTH=avx2" ;;
+    *) flags="$flags -DRUST -DSAME_WIDTH=sse41" ;;
+    esac
+fi
+
+# The kit's library has the allocator that a vector takes.
+kit=$(dirname "$("$rt" doc)")
+# shellcheck disable=SC2086
+"$cc" -std=gnu11 -O2 -Wall -Wextra $flags -o "$build/bench" "$here/bench.c" "$@" \
+    "$kit/c/liblibc_c.a"
+
+echo "Built by $("$rt" version), $(sed -n 's/.* \(cpu=[^ ]*\).*/\1/p' "$build/log" | tail -n 1)."
+"$build/bench"
