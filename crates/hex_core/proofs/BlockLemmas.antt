@@ -1,6 +1,6 @@
 -- Blocks of a source, and what decoding them makes of a destination.
 use Rattle.std.proofs.Common.{◌≡◌, ℕ, suc, ◌+◌, ◌-◌, ◌*◌, ◌/◌, ◌%◌, ◌<◌, ◌≤◌, ◌↔◌, Bool, List, length, map, get_or, inl, inr, refl, sym, ap, subst, ◌∙◌, Option, Some, None, Fits, w8, arith}
-use Rattle.std.specs.Prelude.{IsSome, IsTrue, slice_index}
+use Rattle.std.specs.Prelude.{IsSome, IsTrue, slice_index, slice_range}
 use Rattle.std.proofs.Math.Nat.{le-div_iff_mul-le, lt-div-mul-add, mod-add-div, mul_comm}
 use Rattle.std.proofs.lemmas.Bool.{cases_lt}
 use Rattle.std.proofs.lemmas.List.{length-map}
@@ -8,7 +8,7 @@ use Rattle.std.proofs.lemmas.Simd.{get_or-chunk, get_or-put_chunk_above, get_or-
 use lib.Lanes.{chunk, put_chunk}
 use Rattle.hex_core.specs.declared.digit.CheckCase.{CheckCase}
 use Rattle.hex_core.specs.Arithmetic.{packed, valid_nibble}
-use Rattle.hex_core.specs.Blocks.{DecodesRange, NibblesFrom, SpellsAt, SpellsRange}
+use Rattle.hex_core.specs.Blocks.{DecodesRange, NibblesFrom, SpellsAt}
 use Rattle.hex_core.specs.Digit.{value}
 use Rattle.hex_core.specs.Fault.{IsClear, fault}
 use Rattle.hex_core.specs.Lanes.{AreNibbles, AreSmall, IsNibble}
@@ -16,7 +16,7 @@ use Rattle.hex_core.specs.Text.{Spells}
 use Rattle.hex_core.proofs.ByteLemmas.{valid_value, value_small}
 use Rattle.hex_core.proofs.LaneLemmas.{mapped_at}
 use Rattle.hex_core.proofs.PairLemmas.{length-packed, packed_at}
-use Rattle.hex_core.proofs.ProbeLemmas.{clear_none, fault_none}
+use Rattle.hex_core.proofs.ProbeLemmas.{clear_none, clear_part, fault_none, part_clear}
 
 -- ---- places of blocks of any width
 
@@ -64,6 +64,13 @@ last_clear c s block some inside front =
       λ back. fault_none c s (clear_over c s 0 (length s / block * block) (length s - block) (length s) (omega (arith, past)) front back),
       λ none. clear_range c s (length s - block) (length s) (omega arith) none,
     )
+
+-- what is behind a clear front
+pub rest_valid : (c : CheckCase) (s : List ℕ) (done : ℕ) (t : Bool) → done ≤ length s → IsClear c s 0 done → IsTrue t ↔ (fault c (slice_range s done (length s)) ≡ None) → IsTrue t ↔ (fault c s ≡ None)
+rest_valid c s done t inside front rest = (
+  λ x. fault_none c s (clear_over c s 0 done done (length s) (omega arith) front (clear_part c s done (length s) (omega arith) (rest.0 x))),
+  λ none. rest.1 (part_clear c s done (length s) (omega arith) (clear_range c s done (length s) (omega arith) none)),
+)
 
 -- ---- the lanes of a block
 

@@ -1,5 +1,5 @@
 -- The hash map at each byte beside each neighbour.
-use Rattle.std.proofs.Common.{◌≡◌, ℕ, ◌-◌, ◌<◌, ◌↔◌, Bool, true, false, ◌&&◌, eqb, ltb, leb, List, map, length, get_or, bit_and, bit_or, bit_xor, Option, Some, None, refl, sym, ap, ap₂, ◌∙◌, eqb-true, leb-true, ltb-true, lt-ltb, arith}
+use Rattle.std.proofs.Common.{◌≡◌, ℕ, ◌-◌, ◌<◌, ◌↔◌, Bool, true, false, ◌&&◌, eqb, ltb, List, map, length, get_or, bit_and, bit_or, bit_xor, Option, Some, None, refl, sym, ap, ◌∙◌, eqb-true, ltb-true, lt-ltb, arith}
 use Rattle.std.specs.Prelude.{IfSome, IsSome}
 use Rattle.std.proofs.lemmas.Bool.{agree_below, agree_below_at, and_parts}
 use Rattle.std.proofs.lemmas.Bool.Decides.{nat_tests}

@@ -1,5 +1,5 @@
 -- What an operation makes of the lanes of a vector.
-use Rattle.std.proofs.Common.{◌≡◌, ℕ, zero, suc, ◌+◌, ◌-◌, ◌*◌, ◌/◌, ◌^◌, ◌%◌, ◌<◌, ◌≤◌, ◌↔◌, Bool, true, false, not, ◌&&◌, cond, ltb, eqb, eqb-true, inl, inr, List, [], ◌∷◌, map, length, get_or, replicate, bit_and, bit_or, refl, ap, ap₂, sym, ◌∙◌, subst, Fits, w8, arith, ltb-true, ltb-false, lt-ltb}
+use Rattle.std.proofs.Common.{◌≡◌, ℕ, zero, suc, ◌+◌, ◌-◌, ◌*◌, ◌/◌, ◌^◌, ◌%◌, ◌<◌, ◌↔◌, Bool, true, false, not, ◌&&◌, cond, ltb, eqb, eqb-true, inl, inr, List, [], ◌∷◌, map, length, get_or, replicate, bit_and, bit_or, refl, ap, ap₂, sym, ◌∙◌, subst, Fits, w8, arith, ltb-true, ltb-false, lt-ltb}
 use Rattle.std.specs.Prelude.{EachIndex, IsTrue, min}
 use Rattle.std.specs.List.{list_all}
 use Rattle.std.proofs.lemmas.Bool.{cases_eq, ne_eqb, agree_below, agree_below_at}
@@ -10,7 +10,6 @@ use Rattle.std.proofs.lemmas.Simd.{get_or-zip2, length-zip2, zip2_splat}
 use lib.Lanes.{zip2, sel_l, top, mask_l, Each1}
 use Rattle.hex_core.specs.Arithmetic.{AreZero, pair_byte, saturating_add, wrapping_sub}
 use Rattle.hex_core.specs.Hash.{average}
-use Rattle.hex_core.specs.Lanes.{AreSmall}
 
 -- ---- lanes by place
 

@@ -1,6 +1,6 @@
 -- What decoding block by block leaves: whole blocks in order, and then a rest.
-use Rattle.std.proofs.Common.{◌≡◌, ℕ, suc, ◌+◌, ◌-◌, ◌*◌, ◌/◌, ◌%◌, ◌<◌, ◌≤◌, ◌↔◌, Bool, List, ◌++◌, length, take, drop, get_or, inl, inr, refl, sym, ap, ◌∙◌, Option, Some, None, arith}
-use Rattle.std.specs.Prelude.{IsFalse, IsTrue, slice_range, unwrap_or, option_map}
+use Rattle.std.proofs.Common.{◌≡◌, ℕ, suc, ◌+◌, ◌-◌, ◌*◌, ◌/◌, ◌%◌, ◌<◌, ◌≤◌, List, ◌++◌, length, take, drop, get_or, inl, inr, refl, sym, ap, ◌∙◌, Option, Some, None, arith}
+use Rattle.std.specs.Prelude.{slice_range, unwrap_or, option_map}
 use Rattle.std.proofs.Math.Nat.{le-div_iff_mul-le}
 use Rattle.std.proofs.lemmas.Bool.{cases_lt}
 use Rattle.std.proofs.lemmas.Grind.{common_steps}
@@ -12,8 +12,7 @@ use Rattle.hex_core.specs.Digit.{value}
 use Rattle.hex_core.specs.Fault.{IsClear, fault}
 use Rattle.hex_core.specs.Plans.{StoresBlocks, digits_before}
 use Rattle.hex_core.specs.Text.{Spells, laid}
-use Rattle.hex_core.proofs.BlockLemmas.{clear_over, clear_range}
-use Rattle.hex_core.proofs.ProbeLemmas.{clear_before, clear_misses, clear_part, fault_none, part_clear}
+use Rattle.hex_core.proofs.ProbeLemmas.{clear_before, clear_misses}
 
 -- ---- a part that is decoded, seen in the whole
 
@@ -50,14 +49,7 @@ part_decoded c s old part from twice inside long spells =
 
 -- ---- the first fault behind whole blocks
 
--- it is nowhere where the rest is clear as well
-pub rest_valid : (c : CheckCase) (s : List ℕ) (done : ℕ) (t : Bool) → done ≤ length s → IsClear c s 0 done → IsTrue t ↔ (fault c (slice_range s done (length s)) ≡ None) → IsTrue t ↔ (fault c s ≡ None)
-rest_valid c s done t inside front rest = (
-  λ x. fault_none c s (clear_over c s 0 done done (length s) (omega arith) front (clear_part c s done (length s) (omega arith) (rest.0 x))),
-  λ none. rest.1 (part_clear c s done (length s) (omega arith) (clear_range c s done (length s) (omega arith) none)),
-)
-
--- else it is in the block that stopped
+-- it is in the block that stopped
 fault_inside : (c : CheckCase) (s : List ℕ) (f : ℕ) → fault c s ≡ Some f → f < length s
 fault_inside c s f e = grind (arith, common_steps)
 

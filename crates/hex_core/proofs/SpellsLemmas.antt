@@ -1,5 +1,5 @@
 -- Steps of a list that a text spells.
-use Rattle.std.proofs.Common.{◌≡◌, ℕ, List, None, ◌+◌, ◌*◌, ◌/◌, ◌%◌, ◌<◌, length, get_or, Some, arith}
+use Rattle.std.proofs.Common.{◌≡◌, ℕ, List, None, ◌+◌, ◌*◌, ◌/◌, ◌%◌, ◌<◌, length, get_or, arith}
 use Rattle.std.proofs.Math.ListN.{set}
 use Rattle.std.proofs.lemmas.List.{get_or-set_same, get_or-set_other}
 use borrow.Author.Count.{below_more}
@@ -8,7 +8,6 @@ use Rattle.hex_core.proofs.TableLemmas.{value-entry}
 use Rattle.hex_core.specs.Fault.{fault}
 use Rattle.hex_core.specs.Blocks.{SpellsAt}
 use Rattle.hex_core.specs.declared.digit.CheckCase.{CheckCase}
-use Rattle.hex_core.specs.Digit.{value}
 use Rattle.hex_core.specs.Text.{Spells, value_table}
 
 -- the bytes below a place are those that their pairs of digits spell

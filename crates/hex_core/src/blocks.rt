@@ -42,9 +42,9 @@ pub fn check_two<const N: usize>(src: &[u8], case: CheckCase) -> bool
     is_zero(either(front, back))
 }
 
-/// Whether every byte of a source of `N` bytes or more has a value.
+// Whether every byte of a source of `N` bytes or more has a value, block by block.
 #[inline(never)]
-pub fn check_blocks<const N: usize>(src: &[u8], case: CheckCase) -> bool
+fn check_blocks<const N: usize>(src: &[u8], case: CheckCase) -> bool
     requires some { 1 ≤ N }
     requires lanes { N ≤ 64 }
     requires least { N ≤ length src.now }
@@ -56,6 +56,56 @@ pub fn check_blocks<const N: usize>(src: &[u8], case: CheckCase) -> bool
         }
     }
     src.len() % N == 0 || is_clear_at::<N>(src, src.len() - N, case)
+}
+
+// How many blocks one test is for in a long source: with more of them a fault is found later.
+const RUN: usize = 16;
+
+// Whether each byte of a run of blocks from `at` on has a value.
+#[inline(always)]
+fn is_run_clear<const N: usize>(src: &[u8], at: usize, case: CheckCase) -> bool
+    requires lanes { N ≤ 64 }
+    requires inside { at + 16 * N ≤ length src.now }
+    ensures { IsTrue result ↔ IsClear case src.now at (at + 16 * N) }
+{
+    let mut excesses = excess(Simd::<u8, N>::from_slice(&src[at..]), case);
+    'turns: for i in 1..RUN {
+        let block = Simd::<u8, N>::from_slice(&src[at + i * N..]);
+        excesses = either(excesses, excess(block, case));
+    }
+    is_zero(excesses)
+}
+
+// The same as `check_blocks`, by runs as long as there is one.
+#[inline(never)]
+fn check_runs<const N: usize>(src: &[u8], case: CheckCase) -> bool
+    requires some { 1 ≤ N }
+    requires lanes { N ≤ 64 }
+    requires least { N ≤ length src.now }
+    ensures { IsTrue result ↔ (fault case src.now ≡ None) }
+{
+    let runs = (src.len() - N) / (RUN * N);
+    'turns: for i in 0..runs {
+        if !is_run_clear::<N>(src, i * (RUN * N), case) {
+            return false;
+        }
+    }
+    check_blocks::<N>(&src[runs * (RUN * N)..], case)
+}
+
+/// Whether every byte of a source of `N` bytes or more has a value.
+#[inline(always)]
+pub fn check_long<const N: usize>(src: &[u8], case: CheckCase) -> bool
+    requires some { 1 ≤ N }
+    requires lanes { N ≤ 64 }
+    requires least { N ≤ length src.now }
+    ensures { IsTrue result ↔ (fault case src.now ≡ None) }
+{
+    if src.len() <= RUN * N {
+        check_blocks::<N>(src, case)
+    } else {
+        check_runs::<N>(src, case)
+    }
 }
 
 // The nibbles of `N` bytes from `at` on.

@@ -6,7 +6,7 @@ ghost use Rattle.std.specs.Bool.{OnFalse, OnTrue};
 ghost use Rattle.hex_core.specs.Fault.{fault};
 ghost use Rattle.hex_core.specs.Text.{Spells};
 
-use crate::blocks::{check_blocks, check_two, decode_four, decode_two, write_blocks, write_two};
+use crate::blocks::{check_long, check_two, decode_four, decode_two, write_blocks, write_two};
 use crate::digit::CheckCase;
 use crate::lanes::{NibbleMap, Saturating};
 use crate::scalar;
@@ -21,7 +21,7 @@ pub fn check(src: &[u8], case: CheckCase) -> bool
         16..=32 => check_two::<16>(src, case),
         33..=64 => check_two::<32>(src, case),
         65..=128 => check_two::<64>(src, case),
-        _ => check_blocks::<64>(src, case),
+        _ => check_long::<64>(src, case),
     }
 }
 
@@ -59,7 +59,7 @@ where
         65..=128 => decode_two::<M, 64, 32>(src, dst, case),
         129..=256 => decode_four::<M, 64, 32>(src, dst, case),
         _ => {
-            let valid = check_blocks::<64>(src, case);
+            let valid = check_long::<64>(src, case);
             if valid {
                 write_blocks::<64, 32>(src, dst, case);
             }

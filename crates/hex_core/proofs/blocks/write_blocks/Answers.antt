@@ -1,1 +1,0 @@
-use Rattle.hex_core.proofs.blocks.write_blocks.Goals as goal

@@ -1,4 +1,4 @@
-use Rattle.std.proofs.Common.{ℕ, eqb, not, true, ap, sym, ◌∙◌, w8}
+use Rattle.std.proofs.Common.{ℕ, eqb, not, ap, sym, ◌∙◌, w8}
 use Rattle.std.proofs.lemmas.Simd.{bitmask_splat}
 use Rattle.hex_core.proofs.LaneLemmas.{no_bit_set}
 use Rattle.hex_core.proofs.vector.is_zero.Goals as goal

@@ -1,4 +1,4 @@
-use Rattle.std.proofs.Common.{ℕ, ◌*◌, ◌/◌, ◌%◌, ◌^◌, arith, ◌∙◌, subst, sym, Fits, w8}
+use Rattle.std.proofs.Common.{◌*◌, ◌/◌, ◌%◌, ◌^◌, arith, ◌∙◌, subst, sym, Fits, w8}
 use Rattle.std.proofs.lemmas.Simd.{shifts_fit_splat}
 use lib.Lanes.{Each1}
 use Rattle.hex_core.proofs.LaneLemmas.{map_id, pair_bytes_fit, splat_twice}

@@ -1,8 +1,8 @@
-use Rattle.std.proofs.Common.{None, ◌≡◌, ◌+◌, ◌*◌, ◌≤◌, length, sym, ap, ◌∙◌, refl, arith}
+use Rattle.std.proofs.Common.{None, ◌≡◌, ◌+◌, ◌*◌, length, arith}
 use Rattle.std.proofs.lemmas.Bool.{OnFalse_at, OnFalse_from, OnTrue_at, OnTrue_from}
-use Rattle.hex_core.specs.Fault.{IsClear, fault}
-use Rattle.hex_core.proofs.BlockLemmas.{clear_range, decodes_over, decodes_whole}
-use Rattle.hex_core.proofs.OwnedLemmas.{blocks_stored, part_decoded, part_same, rest_valid}
+use Rattle.hex_core.specs.Fault.{fault}
+use Rattle.hex_core.proofs.BlockLemmas.{clear_range, decodes_over, decodes_whole, rest_valid}
+use Rattle.hex_core.proofs.OwnedLemmas.{blocks_stored, part_decoded, part_same}
 use Rattle.hex_core.proofs.plan.Backend.decode_by_blocks.Goals as goal
 
 pub returns-then-dst-done-clause-valid : goal.returns-then-dst-done-clause-valid

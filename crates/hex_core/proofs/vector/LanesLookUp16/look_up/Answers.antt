@@ -1,4 +1,4 @@
-use Rattle.std.proofs.Common.{ℕ, ◌%◌, get_or, refl, sym, ap, arith}
+use Rattle.std.proofs.Common.{get_or, refl, ap, arith}
 use Rattle.hex_core.proofs.LookupLemmas.{look_up_is, look_up_ok}
 use Rattle.hex_core.proofs.vector.LanesLookUp16.look_up.Goals as goal
 
