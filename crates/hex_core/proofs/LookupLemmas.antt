@@ -48,8 +48,8 @@ entry_of row t n i a j b false e is h whole rows =
     rows (16 * ((0 + i) / 16) + j) at ∙ ap (λ k. get_or row k 0) (omega arith)
 
 -- what the look-up finds
-pub look_up_is : (row t : List ℕ) (b n : ℕ) (v js : List ℕ) → (length v ≡ n) × Each1 (Fits w8) v → js ≡ map position v → n ≡ b * 16 → Repeats row t n → swz_l w8 16 t 0 js ≡ map (entry row) v
-look_up_is row t b n v js f is e rows =
+pub look_up_is : (b n : ℕ) (row t v js : List ℕ) → (length v ≡ n) × Each1 (Fits w8) v → js ≡ map position v → n ≡ b * 16 → Repeats row t n → swz_l w8 16 t 0 js ≡ map (entry row) v
+look_up_is b n row t v js f is e rows =
     let long : length js ≡ n = ap length is ∙ length-map v position ∙ f.0 in
     ext_get_or 0 _ _ (length-swz_l w8 16 t 0 js ∙ long ∙ sym (length-map v (entry row) ∙ f.0)) (λ i h.
     let lt : i < n = omega (arith, length-swz_l w8 16 t 0 js) in
@@ -66,12 +66,12 @@ over i zero = []
 over i (suc m) = (i % 16) ∷ over (suc i) m
 
 -- a row that is picked over and over repeats itself
-repeats : (row ks : List ℕ) (n : ℕ) → length row ≡ 16 → length ks ≡ n → agree_below (λ i. eqb (get_or ks i 0) (i % 16)) always n ≡ true → Repeats row (pick_l 0 (row ++ row) ks) n
-repeats row ks n long many all i h =
+repeats : (entries ks : List ℕ) (n : ℕ) → length entries ≡ 16 → length ks ≡ n → agree_below (λ i. eqb (get_or ks i 0) (i % 16)) always n ≡ true → Repeats entries (pick_l 0 (entries ++ entries) ks) n
+repeats entries ks n long many all i h =
     let at : get_or ks i 0 ≡ i % 16 = eqb-true _ _ (agree_below_at (λ i. eqb (get_or ks i 0) (i % 16)) always n i all h) in
-    get_or-map (λ k. get_or (row ++ row) k 0) ks i 0 0 (omega arith) ∙ ap (λ k. get_or (row ++ row) k 0) at ∙ get_or_append_left row row 0 (i % 16) (omega arith)
+    get_or-map (λ k. get_or (entries ++ entries) k 0) ks i 0 0 (omega arith) ∙ ap (λ k. get_or (entries ++ entries) k 0) at ∙ get_or_append_left entries entries 0 (i % 16) (omega arith)
 
 -- so it is looked up as the row itself
-pub look_up_repeated : (row ks : List ℕ) (b n : ℕ) (v js : List ℕ) → (length v ≡ n) × Each1 (Fits w8) v → js ≡ map position v → n ≡ b * 16 → length row ≡ 16 → length ks ≡ n
+pub look_up_repeated : (b n : ℕ) (row ks v js : List ℕ) → (length v ≡ n) × Each1 (Fits w8) v → js ≡ map position v → n ≡ b * 16 → length row ≡ 16 → length ks ≡ n
     → agree_below (λ i. eqb (get_or ks i 0) (i % 16)) always n ≡ true → swz_l w8 16 (pick_l 0 (row ++ row) ks) 0 js ≡ map (entry row) v
-look_up_repeated row ks b n v js f is e long many all = look_up_is row (pick_l 0 (row ++ row) ks) b n v js f is e (repeats row ks n long many all)
+look_up_repeated b n row ks v js f is e long many all = look_up_is b n row (pick_l 0 (row ++ row) ks) v js f is e (repeats row ks n long many all)

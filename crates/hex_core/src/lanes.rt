@@ -32,6 +32,12 @@ pub fn admitted_16(bytes: &[u8; 16], case: CheckCase) -> u16
 }
 
 /// The same as [`admitted_16`], of 32 bytes.
+///
+/// ```rust
+/// let mut bytes = [b'F'; 32];
+/// bytes[31] = b'f';
+/// assert_eq!(rt; admitted_32(&bytes, CheckCase::Upper), 0x7fff_ffff);
+/// ```
 #[inline(always)]
 pub fn admitted_32(bytes: &[u8; 32], case: CheckCase) -> u32
     ensures { Admits case bytes.now result }
@@ -40,6 +46,12 @@ pub fn admitted_32(bytes: &[u8; 32], case: CheckCase) -> u32
 }
 
 /// The same as [`admitted_16`], of 64 bytes.
+///
+/// ```rust
+/// let mut bytes = [b'g'; 64];
+/// bytes[63] = b'f';
+/// assert_eq!(rt; admitted_64(&bytes, CheckCase::None), 1 << 63);
+/// ```
 #[inline(always)]
 pub fn admitted_64(bytes: &[u8; 64], case: CheckCase) -> u64
     ensures { Admits case bytes.now result }
@@ -81,6 +93,13 @@ pub fn nibbles_hashed_32(bytes: &[u8; 32], case: CheckCase) -> ([u8; 32], [u8; 3
 }
 
 /// The same as [`nibbles_hashed_32`], of 64 bytes.
+///
+/// ```rust
+/// let mut bytes = [b'7'; 64];
+/// bytes[63] = b'g';
+/// let (nibbles, checked) = nibbles_hashed_64(&bytes, CheckCase::None);
+/// assert_eq!(rt; (nibbles[62], checked[62] < 128, checked[63] < 128), (7, true, false));
+/// ```
 #[inline(always)]
 pub fn nibbles_hashed_64(bytes: &[u8; 64], case: CheckCase) -> ([u8; 64], [u8; 64])
     ensures nibbles { AreValues case bytes.now result.0 }
@@ -111,6 +130,10 @@ pub fn pack_16(nibbles: &[u8; 16]) -> [u8; 8]
 }
 
 /// The same as [`pack_16`], of 32 nibbles.
+///
+/// ```rust
+/// assert_eq!(rt; pack_32(&[7; 32]), [0x77; 16]);
+/// ```
 #[inline(always)]
 pub fn pack_32(nibbles: &[u8; 32]) -> [u8; 16]
     requires { AreSmall nibbles.now }
@@ -120,6 +143,10 @@ pub fn pack_32(nibbles: &[u8; 32]) -> [u8; 16]
 }
 
 /// The same as [`pack_16`], of 64 nibbles.
+///
+/// ```rust
+/// assert_eq!(rt; pack_64(&[7; 64]), [0x77; 32]);
+/// ```
 #[inline(always)]
 pub fn pack_64(nibbles: &[u8; 64]) -> [u8; 32]
     requires { AreSmall nibbles.now }
@@ -154,6 +181,10 @@ pub fn encode_16(bytes: &[u8; 16], upper: bool) -> [u8; 32]
 }
 
 /// The same as [`encode_16`], of 32 bytes.
+///
+/// ```rust
+/// assert_eq!(rt; encode_32(&[0x77; 32], false), [b'7'; 64]);
+/// ```
 #[inline(always)]
 pub fn encode_32(bytes: &[u8; 32], upper: bool) -> [u8; 64]
     ensures { result ≡ text upper bytes.now }
@@ -286,31 +317,11 @@ pub(crate) trait NibbleMap<const N: usize> {
 /// Nibbles by saturating sums and differences.
 pub(crate) struct Saturating;
 
-impl NibbleMap<16> for Saturating {
+impl<const N: usize> NibbleMap<N> for Saturating {
     #[inline(always)]
-    fn nibbles(v: u8x16, case: CheckCase) -> u8x16
-        ensures len { length result ≡ 16 }
-        ensures nibbles { AreNibbles case v result }
-    {
-        saturated(v, case)
-    }
-}
-
-impl NibbleMap<32> for Saturating {
-    #[inline(always)]
-    fn nibbles(v: u8x32, case: CheckCase) -> u8x32
-        ensures len { length result ≡ 32 }
-        ensures nibbles { AreNibbles case v result }
-    {
-        saturated(v, case)
-    }
-}
-
-impl NibbleMap<64> for Saturating {
-    #[inline(always)]
-    fn nibbles(v: u8x64, case: CheckCase) -> u8x64
-        ensures len { length result ≡ 64 }
-        ensures nibbles { AreNibbles case v result }
+    fn nibbles(v: Simd<u8, N>, case: CheckCase) -> Simd<u8, N>
+        ensures len { length result ≡ N }
+        ensures nibbles { AreNibbles case v.entry result }
     {
         saturated(v, case)
     }

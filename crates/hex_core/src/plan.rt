@@ -218,6 +218,7 @@ impl Backend {
         ensures stored { OnFalse result (StoresBlocks (2 * N) case src.now dst.old dst.new) }
     {
         let done = blocks::decode_blocks::<M, N, HALF>(src, dst, case);
+        // The blocks end before the last whole one where the next has a fault.
         if dst.len() - done >= N {
             return false;
         }

@@ -6,4 +6,4 @@ pub swizzle : goal.swizzle
 swizzle c = look_up_ok 1 16 c.args.at c.masked.result c.fits-at c.masked.ensures refl
 
 pub returns : goal.returns
-returns c = look_up_is c.args.row c.args.row 1 16 c.args.at c.masked.result c.fits-at c.masked.ensures refl (λ i h. ap (λ k. get_or c.args.row k 0) (omega arith))
+returns c = look_up_is 1 16 c.args.row c.args.row c.args.at c.masked.result c.fits-at c.masked.ensures refl (λ i h. ap (λ k. get_or c.args.row k 0) (omega arith))

@@ -6,4 +6,4 @@ pub swizzle : goal.swizzle
 swizzle c = look_up_ok 2 32 c.args.at c.masked.result c.fits-at c.masked.ensures refl
 
 pub returns : goal.returns
-returns c = look_up_repeated c.args.row (over 0 32) 2 32 c.args.at c.masked.result c.fits-at c.masked.ensures refl c.fits-row.0 refl refl
+returns c = look_up_repeated 2 32 c.args.row (over 0 32) c.args.at c.masked.result c.fits-at c.masked.ensures refl c.fits-row.0 refl refl

@@ -6,4 +6,4 @@ pub swizzle : goal.swizzle
 swizzle c = look_up_ok 4 64 c.args.at c.masked.result c.fits-at c.masked.ensures refl
 
 pub returns : goal.returns
-returns c = look_up_repeated c.args.row (over 0 64) 4 64 c.args.at c.masked.result c.fits-at c.masked.ensures refl c.fits-row.0 refl refl
+returns c = look_up_repeated 4 64 c.args.row (over 0 64) c.args.at c.masked.result c.fits-at c.masked.ensures refl c.fits-row.0 refl refl
