@@ -7,7 +7,7 @@
 ghost use Rattle.std.specs.Prelude.{◌≡◌, ◌↔◌, ℕ, ◌+◌, ◌-◌, ◌*◌, ◌≤◌, IsTrue, None, length};
 ghost use Rattle.std.specs.Bool.{OnFalse, OnTrue};
 ghost use Rattle.std.specs.Simd.Lanes.{chunk, put_chunk};
-ghost use Rattle.hex_core.specs.Arithmetic.{packed};
+ghost use Rattle.hex_core.specs.Arithmetic.{AreZero, packed};
 ghost use Rattle.hex_core.specs.Blocks.{DecodesRange, NibblesFrom};
 ghost use Rattle.hex_core.specs.Fault.{IsClear, fault};
 ghost use Rattle.hex_core.specs.Lanes.{AreSmall};
@@ -42,6 +42,30 @@ pub fn check_two<const N: usize>(src: &[u8], case: CheckCase) -> bool
     is_zero(either(front, back))
 }
 
+// What is 0 in each lane exactly where each of `2 * N` bytes from `at` on has a value.
+#[inline(always)]
+fn excesses_of_two<const N: usize>(src: &[u8], at: usize, case: CheckCase) -> Simd<u8, N>
+    requires inside { at + 2 * N ≤ length src.now }
+    ensures { AreZero result ↔ IsClear case src.now at (at + 2 * N) }
+{
+    let first = excess(Simd::<u8, N>::from_slice(&src[at..]), case);
+    let second = excess(Simd::<u8, N>::from_slice(&src[at + N..]), case);
+    either(first, second)
+}
+
+/// Whether every byte of a source of `2 * N` to `4 * N` bytes has a value.
+#[inline(never)]
+pub fn check_four<const N: usize>(src: &[u8], case: CheckCase) -> bool
+    requires lanes { N ≤ 64 }
+    requires least { 2 * N ≤ length src.now }
+    requires most { length src.now ≤ 4 * N }
+    ensures { IsTrue result ↔ (fault case src.now ≡ None) }
+{
+    let front = excesses_of_two::<N>(src, 0, case);
+    let back = excesses_of_two::<N>(src, src.len() - 2 * N, case);
+    is_zero(either(front, back))
+}
+
 // Whether every byte of a source of `N` bytes or more has a value, block by block.
 #[inline(never)]
 fn check_blocks<const N: usize>(src: &[u8], case: CheckCase) -> bool
@@ -59,14 +83,14 @@ fn check_blocks<const N: usize>(src: &[u8], case: CheckCase) -> bool
 }
 
 // How many blocks one test is for in a long source: with more of them a fault is found later.
-const RUN: usize = 16;
+const RUN: usize = 8;
 
 // Whether each byte of a run of blocks from `at` on has a value.
 #[inline(always)]
 fn is_run_clear<const N: usize>(src: &[u8], at: usize, case: CheckCase) -> bool
     requires lanes { N ≤ 64 }
-    requires inside { at + 16 * N ≤ length src.now }
-    ensures { IsTrue result ↔ IsClear case src.now at (at + 16 * N) }
+    requires inside { at + 8 * N ≤ length src.now }
+    ensures { IsTrue result ↔ IsClear case src.now at (at + 8 * N) }
 {
     let mut excesses = excess(Simd::<u8, N>::from_slice(&src[at..]), case);
     'turns: for i in 1..RUN {

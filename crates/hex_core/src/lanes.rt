@@ -253,21 +253,24 @@ const VALUE_ROW: [u8; 16] = [
     128, 128, 128, 128, 48, 55, 128, 87, 128, 48, 128, 128, 128, 128, 128, 128,
 ];
 
+// One row for each policy, in the order of the policies.
+static CHECK_ROWS: [[u8; 16]; 3] = [
+    [
+        128, 128, 128, 128, 48, 65, 128, 97, 128, 55, 128, 128, 128, 128, 128, 128,
+    ],
+    [
+        128, 128, 128, 128, 48, 128, 128, 97, 128, 55, 128, 128, 128, 128, 128, 128,
+    ],
+    [
+        128, 128, 128, 128, 48, 65, 128, 128, 128, 55, 128, 128, 128, 128, 128, 128,
+    ],
+];
+
 #[inline(always)]
 fn check_row(case: CheckCase) -> u8x16
     ensures { result ≡ check_row case }
 {
-    u8x16::from_array(match case {
-        CheckCase::None => [
-            128, 128, 128, 128, 48, 65, 128, 97, 128, 55, 128, 128, 128, 128, 128, 128,
-        ],
-        CheckCase::Lower => [
-            128, 128, 128, 128, 48, 128, 128, 97, 128, 55, 128, 128, 128, 128, 128, 128,
-        ],
-        CheckCase::Upper => [
-            128, 128, 128, 128, 48, 65, 128, 128, 128, 55, 128, 128, 128, 128, 128, 128,
-        ],
-    })
+    u8x16::from_array(CHECK_ROWS[case as u8 as usize])
 }
 
 // The slot of each lane in both rows. It depends on a lane's neighbour above its low four bits,

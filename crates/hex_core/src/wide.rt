@@ -6,7 +6,9 @@ ghost use Rattle.std.specs.Bool.{OnFalse, OnTrue};
 ghost use Rattle.hex_core.specs.Fault.{fault};
 ghost use Rattle.hex_core.specs.Text.{Spells};
 
-use crate::blocks::{check_long, check_two, decode_four, decode_two, write_blocks, write_two};
+use crate::blocks::{
+    check_four, check_long, check_two, decode_four, decode_two, write_blocks, write_two,
+};
 use crate::digit::CheckCase;
 use crate::lanes::{NibbleMap, Saturating};
 use crate::scalar;
@@ -21,6 +23,7 @@ pub fn check(src: &[u8], case: CheckCase) -> bool
         16..=32 => check_two::<16>(src, case),
         33..=64 => check_two::<32>(src, case),
         65..=128 => check_two::<64>(src, case),
+        129..=256 => check_four::<64>(src, case),
         _ => check_long::<64>(src, case),
     }
 }
@@ -43,7 +46,7 @@ pub fn write_bytes(src: &[u8], dst: &mut [u8], case: CheckCase)
 
 /// Writes the bytes that `src` spells into the whole of `dst`, or answers false and writes nothing.
 /// Up to 256 digits are held in registers. `M` finds the nibbles of 64 digits.
-#[inline(always)]
+#[inline(never)]
 pub fn decode<M>(src: &[u8], dst: &mut [u8], case: CheckCase) -> bool
 where
     M: NibbleMap<64>,

@@ -4,4 +4,4 @@ use Rattle.hex_core.proofs.blocks.check_runs.Given as goal
 
 -- the runs so far are clear
 abbrev pub invariant-turns : goal.invariant-turns
-invariant-turns g l = IsClear l.fn.case l.src 0 (l.i * (16 * g.row.N))
+invariant-turns g l = IsClear l.fn.case l.src 0 (l.i * (8 * g.row.N))

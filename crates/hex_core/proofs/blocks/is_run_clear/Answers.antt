@@ -26,7 +26,7 @@ turns-preserved g c =
 
 pub returns : goal.returns
 returns g c =
-    let all : c.turns.i ≡ 16 = omega arith in (
+    let all : c.turns.i ≡ 8 = omega arith in (
       λ t k low lt. c.turns.invariant.0 (c.is_zero.ensures.0 t) k low (rw all lt),
       λ clear. c.is_zero.ensures.1 (c.turns.invariant.1 (λ k low lt. clear k low (rw (← all) lt))),
     )
