@@ -1,11 +1,11 @@
 //! Callers of the JSON adapters as a user writes them, each proved.
 
-ghost use Rattle.std.specs.Prelude.{◌≡◌, None, Some, codes, MatchResult, IfOk, IfErr};
+ghost use Rattle.std.specs.Prelude.{◌≡◌, None, Some, codes, MatchResult};
 ghost use Rattle.serde_json.specs.Data.{Data};
 ghost use Rattle.serde_json.specs.Find.{get};
 ghost use Rattle.serde_json.specs.View.{view};
 ghost use Rattle.faster_hex.specs.Adapters.{Reads, WriteFailure};
-ghost use Rattle.faster_hex.specs.Policies as wire;
+ghost use Rattle.faster_hex.specs.WireFormats as wire;
 ghost use Rattle.callers.specs.Records.{id_refusal};
 
 use faster_hex::laws::{
@@ -42,8 +42,9 @@ pub fn record_id(fields: &Value) -> Result<[u8; 4], RecordError>
 
 /// The same bytes, by way of a JSON text. It fails for want of memory or a text's length alone.
 pub fn copied(alloc: Global, bytes: &[u8]) -> Result<Vec<u8>, AdapterError>
-    ensures ok { IfOk result (λ v. v.items ≡ bytes.now) }
-    ensures err { IfErr result (λ e. WriteFailure wire.nopfx_lowercase bytes.now e) }
+    ensures { MatchResult result
+        (λ v. v.items ≡ bytes.now)
+        (λ e. WriteFailure wire.nopfx_lowercase bytes.now e) }
 {
     reading_inverts_writing();
     a_value_is_read_as_one_list();

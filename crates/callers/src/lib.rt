@@ -1,12 +1,12 @@
 //! Callers of `faster_hex` as a user writes them, each proved.
 #![tactic(auto)]
 
-ghost use Rattle.std.specs.Prelude.{◌≡◌, ◌<◌, ◌↔◌, ℕ, List, None, Some, IsTrue, true, false, IsSome, IfSome, IfOk, IfErr, OnOk, OnErr, length, slice_set, vec_len};
+ghost use Rattle.std.specs.Prelude.{◌≡◌, ◌<◌, ◌↔◌, ℕ, List, None, Some, IsTrue, IsSome, IfSome, IfOk, IfErr, OnOk, OnErr, length, slice_set, vec_len};
 ghost use Rattle.std.specs.Bool.{OnFalse, OnTrue};
 ghost use Rattle.hex_core.specs.declared.digit.CheckCase.TheVariants as policy;
-ghost use Rattle.hex_core.specs.Fault.{fault};
-ghost use Rattle.hex_core.specs.Refusal.{array_refusal, decode_refusal, encodable};
-ghost use Rattle.hex_core.specs.Text.{Spells, laid, text};
+ghost use Rattle.hex_core.specs.Search.{first_invalid};
+ghost use Rattle.hex_core.specs.Refusal.{array_refusal, decode_refusal, encode_refusal};
+ghost use Rattle.hex_core.specs.Text.{Spells, lowercase, text, uppercase, with_front};
 
 use faster_hex::{
     Backend, CheckCase, Error, hex_check, hex_decode_array_with_case, hex_decode_into,
@@ -21,7 +21,7 @@ pub mod json;
 /// behind it the old bytes.
 pub fn decode_and_mark(src: &[u8], buffer: &mut [u8]) -> Result<(), Error>
     ensures ok { OnOk result ((bytes : List ℕ) × Spells policy.None src.now bytes
-        × (buffer.new ≡ laid buffer.old (slice_set bytes 0 255))) }
+        × (buffer.new ≡ with_front buffer.old (slice_set bytes 0 255))) }
     ensures err { IfErr result
         (λ e. decode_refusal policy.None src.now (length buffer.old) ≡ Some e) }
     ensures unchanged { OnErr result (buffer.new ≡ buffer.old) }
@@ -46,7 +46,7 @@ pub fn parse_digest(text: &[u8]) -> Option<[u8; 32]>
 
 /// The 64 lowercase digits of a digest.
 pub fn digest_text(digest: &[u8; 32]) -> [u8; 64]
-    ensures { result ≡ text false digest.now }
+    ensures { result ≡ text lowercase digest.now }
 {
     let mut digits = [0; 64];
     Backend::PLAIN.encode(digest, &mut digits, false);
@@ -55,8 +55,8 @@ pub fn digest_text(digest: &[u8; 32]) -> [u8; 64]
 
 /// Writes an identifier's digits into the front of a line, where they fit.
 pub fn write_identifier(id: &[u8], line: &mut [u8]) -> bool
-    ensures fits { IsTrue result ↔ IsTrue (encodable id.now (length line.old)) }
-    ensures written { OnTrue result (line.new ≡ laid line.old (text true id.now)) }
+    ensures fits { IsTrue result ↔ (encode_refusal id.now (length line.old) ≡ None) }
+    ensures written { OnTrue result (line.new ≡ with_front line.old (text uppercase id.now)) }
     ensures unchanged { OnFalse result (line.new ≡ line.old) }
 {
     hex_encode_into(id, line, true).is_ok()
@@ -64,7 +64,7 @@ pub fn write_identifier(id: &[u8], line: &mut [u8]) -> bool
 
 /// Whether a key is one that this store hands out: 16 digits of either case.
 pub fn is_key(text: &[u8]) -> bool
-    ensures { IsTrue result ↔ ((length text.now ≡ 16) × (fault policy.None text.now ≡ None)) }
+    ensures { IsTrue result ↔ ((length text.now ≡ 16) × (first_invalid policy.None text.now ≡ None)) }
 {
     text.len() == 16 && hex_check(text)
 }

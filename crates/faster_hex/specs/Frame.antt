@@ -16,8 +16,8 @@ abbrev pub plain_flags : HexFlags
 plain_flags = record { plus = false; prefix = false; zero = false; width = None; fill = 32; align = Right; upper = false }
 
 -- `+` and then `0x`, each if asked
-abbrev pub head : HexFlags → List ℕ
-head flags = (if flags.plus then codes "+" else []) ++ (if flags.prefix then codes "0x" else [])
+abbrev pub sign_and_prefix : HexFlags → List ℕ
+sign_and_prefix flags = (if flags.plus then codes "+" else []) ++ (if flags.prefix then codes "0x" else [])
 
 -- the digits, without sign and prefix
 abbrev pub digits_of : HexFlags → List ℕ → List ℕ
@@ -30,13 +30,13 @@ missing (Some width) len = width - len
 
 -- how many characters of padding there are; sign, prefix and digits have a byte a character
 abbrev pub padding_of : HexFlags → List ℕ → ℕ
-padding_of flags bytes = missing flags.width (length (head flags ++ digits_of flags bytes))
+padding_of flags bytes = missing flags.width (length (sign_and_prefix flags ++ digits_of flags bytes))
 
 -- how many of the fill characters stand before the sign; at `Center` an odd one stands behind
-abbrev pub before : Align → ℕ → ℕ
-before Left padding = 0
-before Right padding = padding
-before Center padding = padding / 2
+abbrev pub left_padding : Align → ℕ → ℕ
+left_padding Left padding = 0
+left_padding Right padding = padding
+left_padding Center padding = padding / 2
 
 -- this many fill characters, in UTF-8
 abbrev pub fills : HexFlags → ℕ → List ℕ
@@ -46,6 +46,6 @@ fills flags count = repeat count (encode_utf8 flags.fill)
 abbrev pub frame : HexFlags → List ℕ → List ℕ
 frame flags bytes =
     let padding = padding_of flags bytes in
-    let left = before flags.align padding in
-    if flags.zero then head flags ++ (repeat padding (codes "0") ++ digits_of flags bytes)
-    else fills flags left ++ (head flags ++ (digits_of flags bytes ++ fills flags (padding - left)))
+    let left = left_padding flags.align padding in
+    if flags.zero then sign_and_prefix flags ++ (repeat padding (codes "0") ++ digits_of flags bytes)
+    else fills flags left ++ (sign_and_prefix flags ++ (digits_of flags bytes ++ fills flags (padding - left)))

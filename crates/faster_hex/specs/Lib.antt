@@ -1,9 +1,10 @@
 pub mod Append
+pub mod Calls
 pub mod Failure
 pub mod Frame
 pub mod Sink
 pub mod Sinks
 pub mod Adapters
-pub mod Policies
+pub mod WireFormats
 pub mod AdapterMessage
 pub mod AdapterLaws

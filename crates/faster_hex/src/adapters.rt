@@ -1,13 +1,12 @@
-//! What the JSON adapters share: their error, a policy, and the one way of reading and writing that
+//! What the JSON adapters share: their error, a format, and the one way of reading and writing that
 //! all twelve modules take.
 //!
-//! A caller with a policy or an allocator of its own takes these functions; any other the modules.
+//! A caller with a format or an allocator of its own takes these functions; any other the modules.
 
-ghost use Rattle.std.specs.Prelude.{◌≡◌, ◌≢◌, ◌<◌, ◌^◌, None, Some, Ok, Err, length, option_map, string_bytes, MatchResult, IfOk, IfErr};
-ghost use Rattle.serde_json.specs.Data.{null};
+ghost use Rattle.std.specs.Prelude.{◌≡◌, ◌<◌, ◌^◌, None, Some, Ok, Err, length, option_map, string_bytes, MatchResult};
 ghost use Rattle.serde_json.specs.View.{view};
 ghost use Rattle.faster_hex.specs.AdapterMessage.{adapter_error_text};
-ghost use Rattle.faster_hex.specs.Adapters.{OptionWriteFailure, ReadFailure, Reads, ReadsOption, WriteFailure, Writes, WritesOption, array_read_refusal, payload_in, prefix, wire_text};
+ghost use Rattle.faster_hex.specs.Adapters.{AnswersArrayRead, AnswersOptionArrayRead, AnswersOptionRead, AnswersOptionWrite, AnswersRead, AnswersWrite, WriteFailure, payload_in, prefix, wire_text};
 
 use crate::decode::{hex_decode_array_with_case, hex_decode_vec_with_case};
 use crate::encode::prefixed_string;
@@ -36,7 +35,7 @@ use std::{error, fmt};
 pub enum AdapterError {
     /// The value is no text.
     NotText,
-    /// The text does not begin with `0x`, where the policy asks for it.
+    /// The text does not begin with `0x`, where the format asks for it.
     InvalidPrefix,
     /// The text has an odd number of bytes behind the prefix.
     InvalidLength,
@@ -73,11 +72,11 @@ impl error::Error for AdapterError {}
 /// How bytes stand in a JSON text. Each of the six modules has one, which reads what it writes.
 ///
 /// ```rust
-/// let policy = Policy { prefixed: true, upper: true, case: CheckCase::Upper };
-/// assert_eq!(rt; policy, withpfx_uppercase::POLICY);
+/// let format = WireFormat { prefixed: true, upper: true, case: CheckCase::Upper };
+/// assert_eq!(rt; format, WireFormat::WITHPFX_UPPERCASE);
 /// ```
 #[derive(Clone, Copy, Debug, PartialEq, Eq)]
-pub struct Policy {
+pub struct WireFormat {
     /// Whether `0x` stands before the digits.
     pub prefixed: bool,
     /// Whether digits are written in uppercase.
@@ -86,12 +85,54 @@ pub struct Policy {
     pub case: CheckCase,
 }
 
-impl Policy {
-    /// Answers what stands before the digits: `0x`, or nothing.
+impl WireFormat {
+    /// The format of [`withpfx_ignorecase`](crate::withpfx_ignorecase).
+    pub const WITHPFX_IGNORECASE: WireFormat = WireFormat {
+        prefixed: true,
+        upper: false,
+        case: CheckCase::None,
+    };
+
+    /// The format of [`nopfx_ignorecase`](crate::nopfx_ignorecase).
+    pub const NOPFX_IGNORECASE: WireFormat = WireFormat {
+        prefixed: false,
+        upper: false,
+        case: CheckCase::None,
+    };
+
+    /// The format of [`withpfx_lowercase`](crate::withpfx_lowercase).
+    pub const WITHPFX_LOWERCASE: WireFormat = WireFormat {
+        prefixed: true,
+        upper: false,
+        case: CheckCase::Lower,
+    };
+
+    /// The format of [`nopfx_lowercase`](crate::nopfx_lowercase).
+    pub const NOPFX_LOWERCASE: WireFormat = WireFormat {
+        prefixed: false,
+        upper: false,
+        case: CheckCase::Lower,
+    };
+
+    /// The format of [`withpfx_uppercase`](crate::withpfx_uppercase).
+    pub const WITHPFX_UPPERCASE: WireFormat = WireFormat {
+        prefixed: true,
+        upper: true,
+        case: CheckCase::Upper,
+    };
+
+    /// The format of [`nopfx_uppercase`](crate::nopfx_uppercase).
+    pub const NOPFX_UPPERCASE: WireFormat = WireFormat {
+        prefixed: false,
+        upper: true,
+        case: CheckCase::Upper,
+    };
+
+    /// Returns what stands before the digits: `0x`, or nothing.
     ///
     /// ```rust
-    /// let policy = Policy { prefixed: true, upper: false, case: CheckCase::None };
-    /// assert_eq!(rt; policy.prefix(), b"0x");
+    /// let format = WireFormat { prefixed: true, upper: false, case: CheckCase::None };
+    /// assert_eq!(rt; format.prefix(), b"0x");
     /// ```
     pub fn prefix(self) -> &'static [u8]
         ensures { result.now ≡ prefix self }
@@ -101,15 +142,15 @@ impl Policy {
 }
 
 // The payload of a value, an even number of bytes.
-fn payload_of(policy: Policy, value: &Value) -> Result<&[u8], AdapterError>
+fn payload_of(format: WireFormat, value: &Value) -> Result<&[u8], AdapterError>
     ensures { MatchResult result
-        (λ payload. payload_in policy (view value.now) ≡ Ok payload.now)
-        (λ e. payload_in policy (view value.now) ≡ Err e) }
+        (λ payload. payload_in format (view value.now) ≡ Ok payload.now)
+        (λ e. payload_in format (view value.now) ≡ Err e) }
 {
     let Some(text) = value.as_str() else {
         return Err(AdapterError::NotText);
     };
-    let Some(payload) = text.as_bytes().strip_prefix(policy.prefix()) else {
+    let Some(payload) = text.as_bytes().strip_prefix(format.prefix()) else {
         return Err(AdapterError::InvalidPrefix);
     };
     if payload.len() % 2 == 1 {
@@ -118,7 +159,7 @@ fn payload_of(policy: Policy, value: &Value) -> Result<&[u8], AdapterError>
     Ok(payload)
 }
 
-/// Answers the bytes that the payload of a JSON text spells: the digits behind the policy's prefix,
+/// Returns the bytes that the payload of a JSON text spells: the digits behind the format's prefix,
 /// two a byte. They are at most `max`, where that is given. The text itself is not copied.
 ///
 /// An empty payload is read as no bytes, whatever the bound, and takes no memory. Any other takes
@@ -129,38 +170,37 @@ fn payload_of(policy: Policy, value: &Value) -> Result<&[u8], AdapterError>
 /// In this order:
 ///
 /// 1. `NotText` where the value is no text;
-/// 2. `InvalidPrefix` where the text does not begin with the policy's prefix;
+/// 2. `InvalidPrefix` where the text does not begin with the format's prefix;
 /// 3. `InvalidLength` where an odd number of bytes stands behind the prefix;
 /// 4. `OverBound` where more than `2 * max` bytes stand there, with `max` and half their number;
 /// 5. `Codec(OutOfMemory)` where the memory was refused;
-/// 6. `Codec(InvalidChar)` with the first byte that the policy does not read, and its place,
+/// 6. `Codec(InvalidChar)` with the first byte that the format does not read, and its place,
 ///    counted in bytes from the first digit.
 ///
 /// ```rust
-/// let policy = Policy { prefixed: false, upper: false, case: CheckCase::None };
+/// let format = WireFormat { prefixed: false, upper: false, case: CheckCase::None };
 /// let value = Value::from_str(rt.alloc(), "\"Ab01\"")?;
-/// assert_eq!(rt; read(rt.alloc(), policy, None, &value)?.as_slice(), [0xab, 1]);
+/// assert_eq!(rt; read(rt.alloc(), format, None, &value)?.as_slice(), [0xab, 1]);
 /// ```
 pub fn read<A: Allocator + Drop>(
     alloc: A,
-    policy: Policy,
+    format: WireFormat,
     max: Option<usize>,
     value: &Value,
 ) -> Result<Vec<u8, A>, AdapterError>
-    ensures ok { IfOk result (λ bytes. Reads policy max (view value.now) bytes.items) }
-    ensures err { IfErr result (λ e. ReadFailure policy max (view value.now) e) }
+    ensures { AnswersRead format max value.now result }
 {
-    let payload = payload_of(policy, value)?;
+    let payload = payload_of(format, value)?;
     let actual = payload.len() / 2;
     if let Some(max) = max {
         if actual > max {
             return Err(AdapterError::OverBound { max, actual });
         }
     }
-    hex_decode_vec_with_case(alloc, payload, policy.case).map_err(AdapterError::Codec)
+    hex_decode_vec_with_case(alloc, payload, format.case).map_err(AdapterError::Codec)
 }
 
-/// Answers the `N` bytes that the payload of a JSON text spells. No memory is taken.
+/// Returns the `N` bytes that the payload of a JSON text spells. No memory is taken.
 ///
 /// # Errors
 ///
@@ -172,16 +212,17 @@ pub fn read<A: Allocator + Drop>(
 /// 3. `Codec(InvalidChar)` as at [`read`].
 ///
 /// ```rust
-/// let policy = Policy { prefixed: false, upper: false, case: CheckCase::None };
+/// let format = WireFormat { prefixed: false, upper: false, case: CheckCase::None };
 /// let value = Value::from_str(rt.alloc(), "\"Ab01\"")?;
-/// assert_eq!(rt; read_array(policy, &value), Ok([0xab, 1]));
+/// assert_eq!(rt; read_array(format, &value), Ok([0xab, 1]));
 /// ```
-pub fn read_array<const N: usize>(policy: Policy, value: &Value) -> Result<[u8; N], AdapterError>
-    ensures { MatchResult result
-        (λ bytes. Reads policy None (view value.now) bytes)
-        (λ e. array_read_refusal policy N (view value.now) ≡ Some e) }
+pub fn read_array<const N: usize>(
+    format: WireFormat,
+    value: &Value,
+) -> Result<[u8; N], AdapterError>
+    ensures { AnswersArrayRead format N value.now result }
 {
-    hex_decode_array_with_case(payload_of(policy, value)?, policy.case).map_err(AdapterError::Codec)
+    hex_decode_array_with_case(payload_of(format, value)?, format.case).map_err(AdapterError::Codec)
 }
 
 /// Reads `null` as none, and any other value as [`read`] does.
@@ -191,24 +232,21 @@ pub fn read_array<const N: usize>(policy: Policy, value: &Value) -> Result<[u8; 
 /// Those of [`read`], in its order, and none for `null`.
 ///
 /// ```rust
-/// let policy = Policy { prefixed: true, upper: false, case: CheckCase::None };
-/// assert!(rt; read_option(rt.alloc(), policy, None, &Value::Null)?.is_none());
+/// let format = WireFormat { prefixed: true, upper: false, case: CheckCase::None };
+/// assert!(rt; read_option(rt.alloc(), format, None, &Value::Null)?.is_none());
 /// ```
 pub fn read_option<A: Allocator + Drop>(
     alloc: A,
-    policy: Policy,
+    format: WireFormat,
     max: Option<usize>,
     value: &Value,
 ) -> Result<Option<Vec<u8, A>>, AdapterError>
-    ensures ok { IfOk result
-        (λ read. ReadsOption policy max (view value.now) (option_map (λ v. v.items) read)) }
-    ensures not_null { IfErr result (λ _. view value.now ≢ null) }
-    ensures err { IfErr result (λ e. ReadFailure policy max (view value.now) e) }
+    ensures { AnswersOptionRead format max value.now result }
 {
     if value.is_null() {
         return Ok(None);
     }
-    Ok(Some(read(alloc, policy, max, value)?))
+    Ok(Some(read(alloc, format, max, value)?))
 }
 
 /// Reads `null` as none, and any other value as [`read_array`] does.
@@ -218,24 +256,22 @@ pub fn read_option<A: Allocator + Drop>(
 /// Those of [`read_array`], in its order, and none for `null`.
 ///
 /// ```rust
-/// let policy = Policy { prefixed: true, upper: false, case: CheckCase::None };
-/// assert_eq!(rt; read_option_array::<2>(policy, &Value::Null), Ok(None));
+/// let format = WireFormat { prefixed: true, upper: false, case: CheckCase::None };
+/// assert_eq!(rt; read_option_array::<2>(format, &Value::Null), Ok(None));
 /// ```
 pub fn read_option_array<const N: usize>(
-    policy: Policy,
+    format: WireFormat,
     value: &Value,
 ) -> Result<Option<[u8; N]>, AdapterError>
-    ensures ok { IfOk result (λ read. ReadsOption policy None (view value.now) read) }
-    ensures not_null { IfErr result (λ _. view value.now ≢ null) }
-    ensures err { IfErr result (λ e. array_read_refusal policy N (view value.now) ≡ Some e) }
+    ensures { AnswersOptionArrayRead format N value.now result }
 {
     if value.is_null() {
         return Ok(None);
     }
-    Ok(Some(read_array(policy, value)?))
+    Ok(Some(read_array(format, value)?))
 }
 
-/// Answers the text that a policy writes for some bytes: its prefix, and two digits a byte.
+/// Returns the text that a format writes for some bytes: its prefix, and two digits a byte.
 ///
 /// Memory is taken at most once, for the text's exact length, and not at all where that is 0.
 ///
@@ -247,64 +283,60 @@ pub fn read_option_array<const N: usize>(
 /// 2. `Codec(OutOfMemory)` where the memory was refused.
 ///
 /// ```rust
-/// let policy = Policy { prefixed: true, upper: true, case: CheckCase::Upper };
-/// assert_eq!(rt; text_of(rt.alloc(), policy, &[0xab, 1])?.as_str(), "0xAB01");
+/// let format = WireFormat { prefixed: true, upper: true, case: CheckCase::Upper };
+/// assert_eq!(rt; text_of(rt.alloc(), format, &[0xab, 1])?.as_str(), "0xAB01");
 /// ```
 pub fn text_of<A: Allocator + Drop>(
     alloc: A,
-    policy: Policy,
+    format: WireFormat,
     src: &[u8],
 ) -> Result<String<A>, AdapterError>
     ensures { MatchResult result
-        (λ string. (length (wire_text policy src.now) < 2 ^ 64)
-        × (string_bytes string ≡ wire_text policy src.now))
-        (λ e. WriteFailure policy src.now e) }
+        (λ string. (length (wire_text format src.now) < 2 ^ 64)
+        × (string_bytes string ≡ wire_text format src.now))
+        (λ e. WriteFailure format src.now e) }
 {
-    match prefixed_string(alloc, policy.prefix(), src, policy.upper) {
+    match prefixed_string(alloc, format.prefix(), src, format.upper) {
         Ok(string) => Ok(string),
         Err(e) => Err(AdapterError::Codec(e)),
     }
 }
 
-/// Answers bytes as the JSON text that a policy writes.
+/// Returns bytes as the JSON text that a format writes.
 ///
 /// # Errors
 ///
 /// Those of [`text_of`], which makes the text.
 ///
 /// ```rust
-/// let policy = Policy { prefixed: true, upper: true, case: CheckCase::Upper };
-/// assert_eq!(rt; write(rt.alloc(), policy, &[0xab, 1])?.as_str(), Some("0xAB01"));
+/// let format = WireFormat { prefixed: true, upper: true, case: CheckCase::Upper };
+/// assert_eq!(rt; write(rt.alloc(), format, &[0xab, 1])?.as_str(), Some("0xAB01"));
 /// ```
-pub fn write(alloc: Global, policy: Policy, src: &[u8]) -> Result<Value, AdapterError>
-    ensures { MatchResult result
-        (λ value. Writes policy src.now (view value))
-        (λ e. WriteFailure policy src.now e) }
+pub fn write(alloc: Global, format: WireFormat, src: &[u8]) -> Result<Value, AdapterError>
+    ensures { AnswersWrite format src.now result }
 {
-    Ok(Value::String(text_of(alloc, policy, src)?))
+    Ok(Value::String(text_of(alloc, format, src)?))
 }
 
-/// Answers none as `null`, for which no memory is taken, and bytes as [`write`] does.
+/// Returns none as `null`, for which no memory is taken, and bytes as [`write`] does.
 ///
 /// # Errors
 ///
 /// Those of [`write`], and none for none.
 ///
 /// ```rust
-/// let policy = Policy { prefixed: true, upper: true, case: CheckCase::Upper };
-/// assert!(rt; write_option(rt.alloc(), policy, None)?.is_null());
+/// let format = WireFormat { prefixed: true, upper: true, case: CheckCase::Upper };
+/// assert!(rt; write_option(rt.alloc(), format, None)?.is_null());
 /// ```
 pub fn write_option(
     alloc: Global,
-    policy: Policy,
+    format: WireFormat,
     src: Option<&[u8]>,
 ) -> Result<Value, AdapterError>
-    ensures { MatchResult result
-        (λ value. WritesOption policy (option_map (λ s. s.now) src.entry) (view value))
-        (λ e. OptionWriteFailure policy (option_map (λ s. s.now) src.entry) e) }
+    ensures { AnswersOptionWrite format (option_map (λ s. s.now) src.entry) result }
 {
     match src {
-        Some(bytes) => write(alloc, policy, bytes),
+        Some(bytes) => write(alloc, format, bytes),
         None => Ok(Value::Null),
     }
 }

@@ -1,17 +1,19 @@
 //! Decoding hex digits.
 
-ghost use Rattle.std.specs.Prelude.{◌≡◌, ◌≢◌, ◌*◌, ◌/◌, ℕ, List, None, Some, Ok, Err, length, MatchResult, IfOk, IfErr, OnOk, OnErr, IsTrue, ◌↔◌};
+ghost use Rattle.std.specs.Prelude.{◌≡◌, ◌≢◌, ◌*◌, ◌↔◌, IsTrue, None, Some, length, MatchResult};
 ghost use Rattle.std.specs.Borrow.{sem};
 ghost use Rattle.hex_core.specs.declared.digit.CheckCase.TheVariants as policy;
-ghost use Rattle.hex_core.specs.Fault.{fault};
+ghost use Rattle.hex_core.specs.Calls.{Decodes, DecodesFront};
 ghost use Rattle.hex_core.specs.Loan.{LendsAnswer};
-ghost use Rattle.hex_core.specs.Refusal.{OwnedRefusal, array_refusal, decode_refusal, first_bad_char};
-ghost use Rattle.hex_core.specs.Text.{Spells, laid};
+ghost use Rattle.hex_core.specs.Refusal.{first_bad_char};
+ghost use Rattle.hex_core.specs.Search.{first_invalid};
+ghost use Rattle.hex_core.specs.Text.{Spells};
+ghost use Rattle.faster_hex.specs.Calls.{DecodesArray, DecodesVec};
 
 use hex_core::{Backend, CheckCase, Error};
 use std::alloc::Allocator;
 
-/// Answers whether every byte of `src` is a hex digit, of either letter case.
+/// Returns whether every byte of `src` is a hex digit, of either letter case.
 ///
 /// It looks at bytes alone: an odd number of them passes, and so does the empty source. A call that
 /// decodes makes this test itself.
@@ -23,12 +25,12 @@ use std::alloc::Allocator;
 /// ```
 #[inline(always)]
 pub fn hex_check(src: &[u8]) -> bool
-    ensures { IsTrue result ↔ (fault policy.None src.now ≡ None) }
+    ensures { IsTrue result ↔ (first_invalid policy.None src.now ≡ None) }
 {
     hex_check_with_case(src, CheckCase::None)
 }
 
-/// Answers whether every byte of `src` is a hex digit that `case` reads.
+/// Returns whether every byte of `src` is a hex digit that `case` reads.
 ///
 /// Lengths are as at [`hex_check`].
 ///
@@ -38,12 +40,12 @@ pub fn hex_check(src: &[u8]) -> bool
 /// ```
 #[inline(always)]
 pub fn hex_check_with_case(src: &[u8], case: CheckCase) -> bool
-    ensures { IsTrue result ↔ (fault case src.now ≡ None) }
+    ensures { IsTrue result ↔ (first_invalid case src.now ≡ None) }
 {
     Backend::PLAIN.check(src, case)
 }
 
-/// Decodes all of `src` into the front of `dst`, reading letters of either case, and answers that
+/// Decodes all of `src` into the front of `dst`, reading letters of either case, and returns that
 /// front.
 ///
 /// `src` holds an even number of hex digits, with no prefix, blank or separator between them; two
@@ -69,16 +71,13 @@ pub fn hex_check_with_case(src: &[u8], case: CheckCase) -> bool
 #[inline(always)]
 pub fn hex_decode<'a>(src: &[u8], dst: &'a mut [u8]) -> Result<&'a mut [u8], Error>
     ensures* lends { sem 𝓛 (LendsAnswer dst.entry result) }
-    ensures answer { MatchResult result
-        (λ r. (decode_refusal policy.None src.now (length dst.old) ≡ None)
-        × Spells policy.None src.now r.now)
-        (λ e. decode_refusal policy.None src.now (length dst.old) ≡ Some e) }
+    ensures answer { DecodesFront policy.None src.now (length dst.old) result }
 {
     hex_decode_with_case(src, dst, CheckCase::None)
 }
 
 /// Decodes all of `src` into the front of `dst`, reading the letters that `case` admits, and
-/// answers that front.
+/// returns that front.
 ///
 /// Lengths, the borrow and the order of the errors are those of [`hex_decode`].
 ///
@@ -99,14 +98,12 @@ pub fn hex_decode_with_case<'a>(
     case: CheckCase,
 ) -> Result<&'a mut [u8], Error>
     ensures* lends { sem 𝓛 (LendsAnswer dst.entry result) }
-    ensures answer { MatchResult result
-        (λ r. (decode_refusal case src.now (length dst.old) ≡ None) × Spells case src.now r.now)
-        (λ e. decode_refusal case src.now (length dst.old) ≡ Some e) }
+    ensures answer { DecodesFront case src.now (length dst.old) result }
 {
     Backend::PLAIN.decode_slice(src, dst, case)
 }
 
-/// Decodes all of `src` into the front of `dst`, by an explicit letter-case policy, and answers how
+/// Decodes all of `src` into the front of `dst`, by an explicit letter-case policy, and returns how
 /// many bytes it wrote, `src.len() / 2`.
 ///
 /// This is [`hex_decode_with_case`] without the borrow: a caller that proves what its buffer holds
@@ -127,12 +124,7 @@ pub fn hex_decode_with_case<'a>(
 /// ```
 #[inline(always)]
 pub fn hex_decode_into(src: &[u8], dst: &mut [u8], case: CheckCase) -> Result<usize, Error>
-    ensures answer { MatchResult result
-        (λ n. (decode_refusal case src.now (length dst.old) ≡ None) × (n ≡ length src.now / 2))
-        (λ e. decode_refusal case src.now (length dst.old) ≡ Some e) }
-    ensures ok { OnOk result ((bytes : List ℕ) × Spells case src.now bytes
-        × (dst.new ≡ laid dst.old bytes)) }
-    ensures err { OnErr result (dst.new ≡ dst.old) }
+    ensures { Decodes case src.now dst.old dst.new result }
 {
     Backend::PLAIN.decode_into(src, dst, case)
 }
@@ -156,9 +148,7 @@ pub fn hex_decode_into(src: &[u8], dst: &mut [u8], case: CheckCase) -> Result<us
 /// ```
 #[inline(always)]
 pub fn hex_decode_array<const N: usize>(src: &[u8]) -> Result<[u8; N], Error>
-    ensures { MatchResult result
-        (λ bytes. (array_refusal policy.None src.now N ≡ None) × Spells policy.None src.now bytes)
-        (λ e. array_refusal policy.None src.now N ≡ Some e) }
+    ensures { DecodesArray policy.None src.now N result }
 {
     hex_decode_array_with_case(src, CheckCase::None)
 }
@@ -180,9 +170,7 @@ pub fn hex_decode_array_with_case<const N: usize>(
     src: &[u8],
     case: CheckCase,
 ) -> Result<[u8; N], Error>
-    ensures { MatchResult result
-        (λ bytes. (array_refusal case src.now N ≡ None) × Spells case src.now bytes)
-        (λ e. array_refusal case src.now N ≡ Some e) }
+    ensures { DecodesArray case src.now N result }
 {
     if src.len() % 2 == 1 {
         return Err(Error::OddLength);
@@ -218,8 +206,7 @@ pub fn hex_decode_array_with_case<const N: usize>(
 /// assert_eq!(rt; hex_decode_vec(rt.alloc(), b"00aBff")?.as_slice(), [0, 0xab, 0xff]);
 /// ```
 pub fn hex_decode_vec<A: Allocator + Drop>(alloc: A, src: &[u8]) -> Result<Vec<u8, A>, Error>
-    ensures ok { IfOk result (λ bytes. Spells policy.None src.now bytes.items) }
-    ensures err { IfErr result (λ e. OwnedRefusal policy.None src.now e) }
+    ensures { DecodesVec policy.None src.now result }
 {
     hex_decode_vec_with_case(alloc, src, CheckCase::None)
 }
@@ -241,8 +228,7 @@ pub fn hex_decode_vec_with_case<A: Allocator + Drop>(
     src: &[u8],
     case: CheckCase,
 ) -> Result<Vec<u8, A>, Error>
-    ensures ok { IfOk result (λ bytes. Spells case src.now bytes.items) }
-    ensures err { IfErr result (λ e. OwnedRefusal case src.now e) }
+    ensures { DecodesVec case src.now result }
 {
     if src.len() % 2 == 1 {
         return Err(Error::OddLength);
@@ -268,7 +254,7 @@ const OWNED: usize = 1024;
 fn decode_whole(src: &[u8], dst: &mut [u8], case: CheckCase) -> Result<(), Error>
     requires { length src.now ≡ 2 * length dst.old }
     ensures { MatchResult result
-        (λ _. (fault case src.now ≡ None) × Spells case src.now dst.new)
+        (λ _. (first_invalid case src.now ≡ None) × Spells case src.now dst.new)
         (λ e. first_bad_char case src.now ≡ Some e) }
 {
     let decoded = if dst.len() > OWNED {
@@ -282,10 +268,10 @@ fn decode_whole(src: &[u8], dst: &mut [u8], case: CheckCase) -> Result<(), Error
     Ok(())
 }
 
-// The first fault of a source that has one.
+// The first invalid byte of a source that has one.
 #[cold]
 fn first_error(src: &[u8], case: CheckCase) -> Error
-    requires { fault case src.now ≢ None }
+    requires { first_invalid case src.now ≢ None }
     ensures { first_bad_char case src.now ≡ Some result }
 {
     let Some(index) = Backend::PLAIN.first_invalid(src, case) else {

@@ -1,21 +1,22 @@
 //! Encoding bytes as hex digits.
 
-ghost use Rattle.std.specs.Prelude.{◌≡◌, ◌+◌, ◌*◌, ◌^◌, ◌<◌, ◌≤◌, ◌++◌, None, Some, Ok, Err, length, MatchResult, OnOk, OnErr, drop, IsUtf8, true, false, string_bytes, string_len, string_capacity};
+ghost use Rattle.std.specs.Prelude.{◌≡◌, ◌+◌, ◌*◌, ◌^◌, ◌<◌, ◌≤◌, ◌++◌, length, MatchResult, drop, IsUtf8, string_bytes, string_len, string_capacity};
 ghost use Rattle.std.specs.Borrow.{sem};
 ghost use Rattle.std.specs.Str.{IsAscii};
 ghost use Rattle.std.specs.Io.BufRead.{Rests};
 ghost use Rattle.std.specs.contracts.string.String.{the_row};
-ghost use Rattle.faster_hex.specs.Append.{AppendsText};
-ghost use Rattle.faster_hex.specs.Failure.{AppendFailure, GrowthFailure};
+ghost use Rattle.hex_core.specs.Calls.{Encodes, EncodesFront};
 ghost use Rattle.hex_core.specs.Loan.{LendsAnswer};
-ghost use Rattle.hex_core.specs.Refusal.{encode_refusal};
-ghost use Rattle.hex_core.specs.Text.{laid, text};
+ghost use Rattle.hex_core.specs.Text.{lowercase, text, uppercase};
+ghost use Rattle.faster_hex.specs.Append.{AppendsText};
+ghost use Rattle.faster_hex.specs.Calls.{EncodesBehind};
+ghost use Rattle.faster_hex.specs.Failure.{AppendFailure, GrowthFailure};
 
 use hex_core::{Backend, Error};
 use std::alloc::Allocator;
 use std::str;
 
-/// Encodes all of `src` as lowercase digits into the front of `dst`, and answers that front.
+/// Encodes all of `src` as lowercase digits into the front of `dst`, and returns that front.
 ///
 /// Each byte gives two ASCII digits, the high one first, in the order of the source; leading zero
 /// bytes are kept, and there is no prefix and no separator. The answer is the written prefix,
@@ -35,14 +36,12 @@ use std::str;
 #[inline(always)]
 pub fn hex_encode<'a>(src: &[u8], dst: &'a mut [u8]) -> Result<&'a mut [u8], Error>
     ensures* lends { sem 𝓛 (LendsAnswer dst.entry result) }
-    ensures answer { MatchResult result
-        (λ r. (encode_refusal src.now (length dst.old) ≡ None) × (r.now ≡ text false src.now))
-        (λ e. encode_refusal src.now (length dst.old) ≡ Some e) }
+    ensures answer { EncodesFront lowercase src.now (length dst.old) result }
 {
     Backend::PLAIN.encode_slice(src, dst, false)
 }
 
-/// Encodes all of `src` as uppercase digits into the front of `dst`, and answers that front.
+/// Encodes all of `src` as uppercase digits into the front of `dst`, and returns that front.
 ///
 /// All but the letters are as at [`hex_encode`].
 ///
@@ -57,14 +56,12 @@ pub fn hex_encode<'a>(src: &[u8], dst: &'a mut [u8]) -> Result<&'a mut [u8], Err
 #[inline(always)]
 pub fn hex_encode_upper<'a>(src: &[u8], dst: &'a mut [u8]) -> Result<&'a mut [u8], Error>
     ensures* lends { sem 𝓛 (LendsAnswer dst.entry result) }
-    ensures answer { MatchResult result
-        (λ r. (encode_refusal src.now (length dst.old) ≡ None) × (r.now ≡ text true src.now))
-        (λ e. encode_refusal src.now (length dst.old) ≡ Some e) }
+    ensures answer { EncodesFront uppercase src.now (length dst.old) result }
 {
     Backend::PLAIN.encode_slice(src, dst, true)
 }
 
-/// Encodes all of `src` into the front of `dst`, in uppercase where `upper` is true, and answers
+/// Encodes all of `src` into the front of `dst`, in uppercase where `upper` is true, and returns
 /// how many bytes it wrote, `2 * src.len()`.
 ///
 /// This is [`hex_encode`] without the borrow: a caller that proves what its buffer holds afterwards
@@ -84,11 +81,7 @@ pub fn hex_encode_upper<'a>(src: &[u8], dst: &'a mut [u8]) -> Result<&'a mut [u8
 /// ```
 #[inline(always)]
 pub fn hex_encode_into(src: &[u8], dst: &mut [u8], upper: bool) -> Result<usize, Error>
-    ensures answer { MatchResult result
-        (λ n. (encode_refusal src.now (length dst.old) ≡ None) × (n ≡ 2 * length src.now))
-        (λ e. encode_refusal src.now (length dst.old) ≡ Some e) }
-    ensures ok { OnOk result (dst.new ≡ laid dst.old (text upper src.now)) }
-    ensures err { OnErr result (dst.new ≡ dst.old) }
+    ensures { Encodes upper src.now dst.old dst.new result }
 {
     Backend::PLAIN.encode_into(src, dst, upper)
 }
@@ -110,9 +103,7 @@ pub fn hex_encode_into(src: &[u8], dst: &mut [u8], upper: bool) -> Result<usize,
 /// assert_eq!(rt; text.as_str(), "00abff");
 /// ```
 pub fn hex_string<A: Allocator + Drop>(alloc: A, src: &[u8]) -> Result<String<A>, Error>
-    ensures { MatchResult result
-        (λ string. (2 * length src.now < 2 ^ 64) × (string_bytes string ≡ text false src.now))
-        (λ e. AppendFailure 0 src.now e) }
+    ensures { EncodesBehind string_bytes 0 lowercase src.now result }
 {
     string_of(alloc, src, false)
 }
@@ -130,9 +121,7 @@ pub fn hex_string<A: Allocator + Drop>(alloc: A, src: &[u8]) -> Result<String<A>
 /// assert_eq!(rt; text.as_str(), "00ABFF");
 /// ```
 pub fn hex_string_upper<A: Allocator + Drop>(alloc: A, src: &[u8]) -> Result<String<A>, Error>
-    ensures { MatchResult result
-        (λ string. (2 * length src.now < 2 ^ 64) × (string_bytes string ≡ text true src.now))
-        (λ e. AppendFailure 0 src.now e) }
+    ensures { EncodesBehind string_bytes 0 uppercase src.now result }
 {
     string_of(alloc, src, true)
 }
@@ -179,7 +168,7 @@ pub fn hex_append_into<A: Allocator>(
     Ok(())
 }
 
-/// Appends the lowercase digits of all of `src` to `dst`, and answers the `2 * src.len()` new bytes
+/// Appends the lowercase digits of all of `src` to `dst`, and returns the `2 * src.len()` new bytes
 /// alone.
 ///
 /// Where the spare capacity of `dst` suffices no memory is asked for, and else once, for exactly
@@ -199,17 +188,15 @@ pub fn hex_append_into<A: Allocator>(
 /// ```
 pub fn hex_append<'a, A: Allocator>(src: &[u8], dst: &'a mut String<A>) -> Result<&'a str, Error>
     ensures* after_borrow { sem 𝓛 (Rests (the_row A.row A.Allocator) dst.entry
-        (λ new. AppendsText result (string_bytes dst.old) (text false src.now)
+        (λ new. AppendsText result (string_bytes dst.old) (text lowercase src.now)
         (string_bytes new))) }
-    ensures answer { MatchResult result
-        (λ suffix. (string_len dst.old + 2 * length src.now < 2 ^ 64)
-        × (suffix.now ≡ text false src.now))
-        (λ e. AppendFailure (string_len dst.old) src.now e) }
+    ensures answer { EncodesBehind (λ suffix. suffix.now) (string_len dst.old) lowercase src.now
+        result }
 {
     append_in(dst, src, false)
 }
 
-/// Appends the uppercase digits of all of `src` to `dst`, and answers the `2 * src.len()` new bytes
+/// Appends the uppercase digits of all of `src` to `dst`, and returns the `2 * src.len()` new bytes
 /// alone.
 ///
 /// The text that `dst` has keeps its letters. It asks for memory as [`hex_append`] does.
@@ -227,20 +214,16 @@ pub fn hex_append_upper<'a, A: Allocator>(
     dst: &'a mut String<A>,
 ) -> Result<&'a str, Error>
     ensures* after_borrow { sem 𝓛 (Rests (the_row A.row A.Allocator) dst.entry
-        (λ new. AppendsText result (string_bytes dst.old) (text true src.now) (string_bytes new))) }
-    ensures answer { MatchResult result
-        (λ suffix. (string_len dst.old + 2 * length src.now < 2 ^ 64)
-        × (suffix.now ≡ text true src.now))
-        (λ e. AppendFailure (string_len dst.old) src.now e) }
+        (λ new. AppendsText result (string_bytes dst.old) (text uppercase src.now) (string_bytes new))) }
+    ensures answer { EncodesBehind (λ suffix. suffix.now) (string_len dst.old) uppercase src.now
+        result }
 {
     append_in(dst, src, true)
 }
 
 // A new string of the digits of `src`.
 fn string_of<A: Allocator + Drop>(alloc: A, src: &[u8], upper: bool) -> Result<String<A>, Error>
-    ensures { MatchResult result
-        (λ string. (2 * length src.now < 2 ^ 64) × (string_bytes string ≡ text upper src.now))
-        (λ e. AppendFailure 0 src.now e) }
+    ensures { EncodesBehind string_bytes 0 upper src.now result }
 {
     prefixed_string(alloc, b"", src, upper)
 }
@@ -276,7 +259,7 @@ pub(crate) fn prefixed_string<A: Allocator + Drop>(
     Ok(unsafe { String::from_utf8_unchecked(string) })
 }
 
-// Appends the digits of `src` and answers them alone. `dst` stands first because a proof learns
+// Appends the digits of `src` and returns them alone. `dst` stands first because a proof learns
 // what a lent value ends as only where the first parameter lends it.
 fn append_in<'a, A: Allocator>(
     dst: &'a mut String<A>,
@@ -286,10 +269,8 @@ fn append_in<'a, A: Allocator>(
     ensures* after_borrow { sem 𝓛 (Rests (the_row A.row A.Allocator) dst.entry
         (λ new. AppendsText result (string_bytes dst.old) (text upper src.now)
         (string_bytes new))) }
-    ensures answer { MatchResult result
-        (λ suffix. (string_len dst.old + 2 * length src.now < 2 ^ 64)
-        × (suffix.now ≡ text upper src.now))
-        (λ e. AppendFailure (string_len dst.old) src.now e) }
+    ensures answer { EncodesBehind (λ suffix. suffix.now) (string_len dst.old) upper src.now
+        result }
 {
     // The clause of `as_bytes` ties this length to the bytes; that of the string's `len` does not.
     let start = dst.as_bytes().len();

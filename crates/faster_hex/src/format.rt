@@ -1,11 +1,11 @@
 //! A view of bytes that prints them as hex digits, and padded texts of it.
 
-ghost use Rattle.std.specs.Prelude.{◌≡◌, ◌-◌, ◌*◌, ◌^◌, ◌<◌, ◌≤◌, Some, length, false};
+ghost use Rattle.std.specs.Prelude.{◌≡◌, ◌-◌, ◌*◌, ◌^◌, ◌<◌, ◌≤◌, Some, length};
 ghost use Rattle.std.specs.Fmt.{WritesOnOk};
 ghost use Rattle.std.specs.List.{repeat};
 ghost use Rattle.std.specs.Str.{IsAscii};
-ghost use Rattle.hex_core.specs.Text.{text};
-ghost use Rattle.faster_hex.specs.Frame.{before, digits_of, frame, head, hex_bytes, padding_of, plain_flags};
+ghost use Rattle.hex_core.specs.Text.{lowercase, text};
+ghost use Rattle.faster_hex.specs.Frame.{digits_of, frame, hex_bytes, left_padding, padding_of, plain_flags, sign_and_prefix};
 ghost use Rattle.faster_hex.specs.Sink.{Puts};
 
 use crate::encode::encoded;
@@ -145,7 +145,7 @@ impl<'a> Hex<'a> {
 }
 
 impl fmt::Display for Hex<'_> {
-    ghost output = { λ hex. Some (text false (hex_bytes hex)) };
+    ghost output = { λ hex. Some (text lowercase (hex_bytes hex)) };
 
     fn fmt<W: fmt::Write>(&self, f: &mut fmt::Formatter<W>) -> fmt::Result {
         if self.bytes.len() <= SHORT {
@@ -171,7 +171,7 @@ fn write_ascii<W: fmt::Write>(f: &mut fmt::Formatter<W>, bytes: &[u8]) -> fmt::R
 
 // The sign and the prefix that `flags` ask for.
 fn sign_and_prefix(flags: &HexFlags) -> &'static [u8]
-    ensures { result.now ≡ head flags.now }
+    ensures { result.now ≡ sign_and_prefix flags.now }
 {
     match (flags.plus, flags.prefix) {
         (true, true) => b"+0x",
@@ -197,7 +197,7 @@ fn padding_of_view(flags: &HexFlags, bytes: &[u8]) -> usize
 
 // How many of the padding's characters stand before the text.
 fn before_text(align: Align, padding: usize) -> usize
-    ensures value { result ≡ before align padding }
+    ensures value { result ≡ left_padding align padding }
     ensures part { result ≤ padding }
 {
     match align {

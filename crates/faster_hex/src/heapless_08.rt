@@ -2,9 +2,8 @@
 //!
 //! The name is that of the module of the Rust crate; the texts are those of `arrayvec`.
 
-ghost use Rattle.std.specs.Prelude.{◌≡◌, None, Some, MatchResult, true, false};
-ghost use Rattle.hex_core.specs.Refusal.{encode_refusal};
-ghost use Rattle.hex_core.specs.Text.{text};
+ghost use Rattle.hex_core.specs.Text.{lowercase, uppercase};
+ghost use Rattle.faster_hex.specs.Calls.{EncodesWithin};
 
 use crate::encode::{PIECE, PIECE_DIGITS, piece_text};
 use arrayvec::ArrayString;
@@ -28,9 +27,7 @@ use hex_core::Error;
 /// assert_eq!(rt; hex_string::<3>(&[0xab, 1]).err(), Some(Error::OutputTooSmall { required: 4 }));
 /// ```
 pub fn hex_string<const N: usize>(src: &[u8]) -> Result<ArrayString<N>, Error>
-    ensures { MatchResult result
-        (λ string. (encode_refusal src.now N ≡ None) × (string.bytes ≡ text false src.now))
-        (λ e. encode_refusal src.now N ≡ Some e) }
+    ensures { EncodesWithin (λ string. string.bytes) lowercase src.now N result }
 {
     string_of(src, false)
 }
@@ -46,18 +43,14 @@ pub fn hex_string<const N: usize>(src: &[u8]) -> Result<ArrayString<N>, Error>
 /// assert_eq!(rt; hex_string_upper::<4>(&[0xab, 1])?.as_str(), "AB01");
 /// ```
 pub fn hex_string_upper<const N: usize>(src: &[u8]) -> Result<ArrayString<N>, Error>
-    ensures { MatchResult result
-        (λ string. (encode_refusal src.now N ≡ None) × (string.bytes ≡ text true src.now))
-        (λ e. encode_refusal src.now N ≡ Some e) }
+    ensures { EncodesWithin (λ string. string.bytes) uppercase src.now N result }
 {
     string_of(src, true)
 }
 
 // The text of `src`.
 fn string_of<const N: usize>(src: &[u8], upper: bool) -> Result<ArrayString<N>, Error>
-    ensures { MatchResult result
-        (λ string. (encode_refusal src.now N ≡ None) × (string.bytes ≡ text upper src.now))
-        (λ e. encode_refusal src.now N ≡ Some e) }
+    ensures { EncodesWithin (λ string. string.bytes) upper src.now N result }
 {
     let Some(required) = src.len().checked_mul(2) else {
         return Err(Error::Overflow);

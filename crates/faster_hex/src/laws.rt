@@ -31,7 +31,7 @@ pub fn a_bound_refuses_what_is_longer_alone()
     ensures array { ArrayHasNoBound }
 {}
 
-/// What one of the six policies writes, it reads as the same bytes, or as none.
+/// What one of the six formats writes, it reads as the same bytes, or as none.
 pub fn reading_inverts_writing()
     ensures bytes { ReadingInvertsWriting }
     ensures option { OptionReadingInvertsWriting }

@@ -19,19 +19,9 @@ pub mod encode;
 pub mod format;
 pub mod heapless_08;
 pub mod laws;
-pub mod nopfx_ignorecase;
-pub mod nopfx_lowercase;
-pub mod nopfx_uppercase;
-pub mod option_nopfx_ignorecase;
-pub mod option_nopfx_lowercase;
-pub mod option_nopfx_uppercase;
-pub mod option_withpfx_ignorecase;
-pub mod option_withpfx_lowercase;
-pub mod option_withpfx_uppercase;
+mod modules;
+mod option_modules;
 pub mod sink;
-pub mod withpfx_ignorecase;
-pub mod withpfx_lowercase;
-pub mod withpfx_uppercase;
 
 pub use crate::adapters::AdapterError;
 pub use crate::decode::{
@@ -43,8 +33,16 @@ pub use crate::encode::{
     hex_string, hex_string_upper,
 };
 pub use crate::format::{Align, Hex, HexFlags, WriteFault};
+pub use crate::modules::withpfx_ignorecase::{array, deserialize, deserialize_bounded, serialize};
+pub use crate::modules::{
+    nopfx_ignorecase, nopfx_lowercase, nopfx_uppercase, withpfx_ignorecase, withpfx_lowercase,
+    withpfx_uppercase,
+};
+pub use crate::option_modules::{
+    option_nopfx_ignorecase, option_nopfx_lowercase, option_nopfx_uppercase,
+    option_withpfx_ignorecase, option_withpfx_lowercase, option_withpfx_uppercase,
+};
 pub use crate::sink::{Sink, SinkFault, SliceSink, WriterSink};
-pub use crate::withpfx_ignorecase::{array, deserialize, deserialize_bounded, serialize};
 pub use hex_core::{
     Backend, CheckCase, Error, Probe, SliceProbe, backends, covered, digit_value, locate,
 };

@@ -13,7 +13,7 @@ pub struct SinkFault;
 
 /// Where bytes go, a piece at a time, with a count of the puts that failed.
 ///
-/// A put has failed where it answered `Err`, or took none of a nonempty piece.
+/// A put has failed where it returned `Err`, or took none of a nonempty piece.
 pub trait Sink {
     // The bytes taken so far, where the sink tells them.
     ghost taken: { Self → Option (List ℕ) };
@@ -25,9 +25,9 @@ pub trait Sink {
     fn failures(&self) -> u64
         ensures { result ≡ failure_count self.now };
 
-    /// Offers a piece and answers how many of its bytes were taken, from its front.
+    /// Offers a piece and returns how many of its bytes were taken, from its front.
     ///
-    /// The count of failures grows by one exactly where this answers an error, or takes none of a
+    /// The count of failures grows by one exactly where this returns an error, or takes none of a
     /// nonempty piece. The caller shows that the count has room for one more.
     ///
     /// # Errors
@@ -163,7 +163,7 @@ impl<W: Write> WriterSink<W> {
         }
     }
 
-    /// The last error that the writer answered, if it answered one. A `write` that took nothing
+    /// The last error that the writer returned, if it returned one. A `write` that took nothing
     /// of a nonempty piece is a failure without an error.
     pub fn last_error(&self) -> Option<&io::Error>
         ensures { option_copied result ≡ kept_error self.now }
@@ -190,11 +190,11 @@ impl<W: Write> Sink for WriterSink<W> {
         self.failed
     }
 
-    /// Hands `piece` to the writer in one `write`, and answers how much of it that took.
+    /// Hands `piece` to the writer in one `write`, and returns how much of it that took.
     ///
     /// # Errors
     ///
-    /// [`SinkFault`] where the writer answered an error, which is kept; nothing is taken then.
+    /// [`SinkFault`] where the writer returned an error, which is kept; nothing is taken then.
     fn put(&mut self, piece: &[u8]) -> Result<usize, SinkFault>
         requires { writer_failures self.old < 2 ^ 64 - 1 }
         ensures bound { IfOk result (λ n. n ≤ length piece.now) }

@@ -1,12 +1,12 @@
 -- What `fhex` does with its words and with what it reads.
-use Rattle.std.specs.Prelude.{◌≡◌, ◌≢◌, ◌+◌, ◌<◌, ◌%◌, ℕ, false, true, if◌then◌else◌, List, [], ◌∷◌, ◌++◌, length, codes, Option, Some, None, Result, Ok, Err}
+use Rattle.std.specs.Prelude.{◌≡◌, ◌≢◌, ◌+◌, ◌<◌, ◌%◌, ℕ, if◌then◌else◌, List, [], ◌∷◌, ◌++◌, length, codes, Option, Some, None, Result, Ok, Err}
 use Rattle.std.specs.Str.{bytes_eq}
 use Rattle.std.specs.Io.BufRead.{strip_last}
 use Rattle.std.specs.Io.KnownBytes.{Consumes, Appends, Keeps, IsAtEnd}
 use Rattle.hex_core.specs.declared.digit.CheckCase.TheVariants as policy
 use Rattle.hex_core.specs.declared.error.Error.{Error}
 use Rattle.hex_core.specs.Message.{error_text}
-use Rattle.hex_core.specs.Text.{Spells, text}
+use Rattle.hex_core.specs.Text.{Spells, lowercase, text, uppercase}
 use Rattle.hex_core.specs.Refusal.{source_refusal}
 use Rattle.faster_hex.specs.Sink.{AppendsBeginning}
 use Rattle.fhex.specs.declared.operation.Op.{Op}
@@ -42,8 +42,8 @@ without_newline input = strip_last 10 input
 
 -- the output of an operation: a text and a newline, or the bytes that the input spells
 abbrev pub IsOutput : Op → List ℕ → List ℕ → Type 0
-IsOutput Encode input output = output ≡ text false input ++ 10 ∷ []
-IsOutput EncodeUpper input output = output ≡ text true input ++ 10 ∷ []
+IsOutput Encode input output = output ≡ text lowercase input ++ 10 ∷ []
+IsOutput EncodeUpper input output = output ≡ text uppercase input ++ 10 ∷ []
 IsOutput Decode input output = Spells policy.None (without_newline input) output
 IsOutput DecodeLower input output = Spells policy.Lower (without_newline input) output
 IsOutput DecodeUpper input output = Spells policy.Upper (without_newline input) output

@@ -26,7 +26,7 @@ pub enum Op {
 }
 
 impl Op {
-    /// Answers the operation that a word names, or `None` for any other word.
+    /// Returns the operation that a word names, or `None` for any other word.
     ///
     /// ```rust
     /// assert_eq!(rt; Op::from_word("encode-upper"), Some(Op::EncodeUpper));
@@ -45,7 +45,7 @@ impl Op {
         }
     }
 
-    /// Answers the operation that the program's words name: there has to be one word.
+    /// Returns the operation that the program's words name: there has to be one word.
     ///
     /// ```rust
     /// assert_eq!(rt; Op::from_words(&["decode"]), Some(Op::Decode));

@@ -40,7 +40,7 @@ pub enum Failure {
 }
 
 impl Failure {
-    /// Answers the exit status: 1 for a refused input, 2 for wrong words, 3 for a fault of the
+    /// Returns the exit status: 1 for a refused input, 2 for wrong words, 3 for a fault of the
     /// surroundings.
     ///
     /// ```rust
@@ -133,7 +133,7 @@ fn finish<W: Write>(out: &mut W, ran: Result<(), RunFault>) -> Result<(), Failur
     }
 }
 
-/// Writes the line of a failure to `err` and answers the failure's status. A fault of `err` does
+/// Writes the line of a failure to `err` and returns the failure's status. A fault of `err` does
 /// not change it.
 pub fn refuse<E: Write>(err: &mut E, failure: Failure) -> u8
     ensures { result ≡ status_of failure }
@@ -183,7 +183,7 @@ fn serve_op<A: Allocator, R: Read, W: Write>(
     (ended, out)
 }
 
-// Runs stored vectors, which reads no input, and answers how many failed.
+// Runs stored vectors, which reads no input, and returns how many failed.
 fn check_vectors<W: Write>(table: &[Vector], out: W) -> (Result<usize, Failure>, W)
     ensures { IfErr result.0 (λ failure. failure ≡ Failure.WriteFailed) }
 {
@@ -198,7 +198,7 @@ fn check_vectors<W: Write>(table: &[Vector], out: W) -> (Result<usize, Failure>,
 }
 
 /// Runs stored vectors under each plan, writes a line each and the totals to `out`, flushes it and
-/// answers the exit status: 0 where none failed, else 1.
+/// returns the exit status: 0 where none failed, else 1.
 ///
 /// A failed write or flush is status 3, and `write failed` goes to `err`.
 pub fn serve_vectors<W: Write, E: Write>(table: &[Vector], out: W, err: E) -> (u8, W, E)
@@ -248,7 +248,7 @@ pub fn serve_in<A: Allocator, R: Read, W: Write, E: Write>(
     }
 }
 
-/// Runs `fhex` over what is handed in and answers the exit status with the two writers.
+/// Runs `fhex` over what is handed in and returns the exit status with the two writers.
 ///
 /// `words` are the program's words without its name. They are judged first. One word that names an
 /// [`Op`]: all of `input` is read, at most [`INPUT_LIMIT`] bytes, and the operation's output goes

@@ -30,7 +30,7 @@ pub enum Call {
     },
 }
 
-/// A stored vector: a call, and what it answers and leaves.
+/// A stored vector: a call, and what it returns and leaves.
 ///
 /// It passes where the answer is the stated one, and the destination, which was filled with 0xa5,
 /// holds the stated bytes and 0xa5 behind them.
@@ -226,7 +226,7 @@ fn agree(answer: Result<&mut [u8], Error>, stated: Result<&[u8], Error>) -> bool
     }
 }
 
-// Runs a vector under a plan, and answers whether it passes. One with more room than there is
+// Runs a vector under a plan, and returns whether it passes. One with more room than there is
 // fails.
 fn passes(plan: Backend, vector: &Vector) -> bool {
     let mut buffer = [FILL; LONGEST];
@@ -253,7 +253,7 @@ fn put_line<S: Sink, L: fmt::Display + Drop>(sink: &mut S, line: L) -> Result<()
     put_all(sink, text.as_bytes())
 }
 
-// Runs each vector under a plan, puts its line, and answers how many failed.
+// Runs each vector under a plan, puts its line, and returns how many failed.
 fn run_under<S: Sink>(plan: Backend, table: &[Vector], sink: &mut S) -> Result<usize, WriteFault>
     requires { S.failure_count sink.old < 2 ^ 64 - 1 }
     ensures failed { IfOk result (λ failed. failed ≤ length table.now) }
@@ -273,7 +273,7 @@ fn run_under<S: Sink>(plan: Backend, table: &[Vector], sink: &mut S) -> Result<u
 }
 
 /// Runs each vector under each plan, in the order of [`backends`], and puts a line each, as
-/// `scalar v01 pass`, or `fail` in the place of `pass`. The last line has the totals. Answers how
+/// `scalar v01 pass`, or `fail` in the place of `pass`. The last line has the totals. Returns how
 /// many failed, a vector counted once for each plan. No memory is taken.
 ///
 /// # Errors

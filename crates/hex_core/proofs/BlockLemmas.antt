@@ -10,13 +10,13 @@ use Rattle.hex_core.specs.declared.digit.CheckCase.{CheckCase}
 use Rattle.hex_core.specs.Arithmetic.{packed, valid_nibble}
 use Rattle.hex_core.specs.Blocks.{DecodesRange, NibblesFrom, SpellsAt}
 use Rattle.hex_core.specs.Digit.{value}
-use Rattle.hex_core.specs.Fault.{IsClear, fault}
+use Rattle.hex_core.specs.Search.{AllValid, first_invalid}
 use Rattle.hex_core.specs.Lanes.{AreNibbles, AreSmall, IsNibble}
 use Rattle.hex_core.specs.Text.{Spells}
 use Rattle.hex_core.proofs.ByteLemmas.{valid_value, value_small}
 use Rattle.hex_core.proofs.LaneLemmas.{mapped_at}
 use Rattle.hex_core.proofs.PairLemmas.{length-packed, packed_at}
-use Rattle.hex_core.proofs.ProbeLemmas.{clear_none, clear_part, fault_none, part_clear}
+use Rattle.hex_core.proofs.SearchLemmas.{none_valid, valid_part, first_invalid_none, part_valid}
 
 -- ---- places of blocks of any width
 
@@ -36,48 +36,48 @@ blocks_within len block i some le = (le-div_iff_mul-le some).0 le
 pub blocks_past : (len block : ℕ) → 0 < block → len < len / block * block + block
 blocks_past len block some = lt-div-mul-add some
 
--- ---- ranges that are clear
+-- ---- ranges that are valid
 
 -- a range, and one that begins inside it or at its end
-pub clear_over : (c : CheckCase) (s : List ℕ) (first middle start end : ℕ) → start ≤ middle → IsClear c s first middle → IsClear c s start end → IsClear c s first end
-clear_over c s first middle start end le front back k low lt =
+pub valid_over : (c : CheckCase) (s : List ℕ) (first middle start end : ℕ) → start ≤ middle → AllValid c s first middle → AllValid c s start end → AllValid c s first end
+valid_over c s first middle start end le front back k low lt =
     elim (cases_lt k middle) [
       | inl before ↦ front k low before
       | inr past ↦ back k (omega arith) lt
     ]
 
-pub clear_within : (c : CheckCase) (s : List ℕ) (start end first last : ℕ) → first ≤ start → end ≤ last → IsClear c s first last → IsClear c s start end
-clear_within c s start end first last low high clear k a b = clear k (omega arith) (omega arith)
+pub valid_within : (c : CheckCase) (s : List ℕ) (start end first last : ℕ) → first ≤ start → end ≤ last → AllValid c s first last → AllValid c s start end
+valid_within c s start end first last low high valid k a b = valid k (omega arith) (omega arith)
 
--- a range of a source that has no fault
-pub clear_range : (c : CheckCase) (s : List ℕ) (start end : ℕ) → end ≤ length s → fault c s ≡ None → IsClear c s start end
-clear_range c s start end inside none = clear_within c s start end 0 (length s) (omega arith) inside (clear_none c s none)
+-- a range of a source that has no invalid byte
+pub valid_range : (c : CheckCase) (s : List ℕ) (start end : ℕ) → end ≤ length s → first_invalid c s ≡ None → AllValid c s start end
+valid_range c s start end inside none = valid_within c s start end 0 (length s) (omega arith) inside (none_valid c s none)
 
 -- whole blocks that are the source
-pub whole_clear : (c : CheckCase) (s : List ℕ) (block : ℕ) → length s % block ≡ 0 → IsClear c s 0 (length s / block * block) → fault c s ≡ None
-whole_clear c s block e clear = fault_none c s (subst (IsClear c s 0) (blocks_end (length s) block e) clear)
+pub whole_valid : (c : CheckCase) (s : List ℕ) (block : ℕ) → length s % block ≡ 0 → AllValid c s 0 (length s / block * block) → first_invalid c s ≡ None
+whole_valid c s block e valid = first_invalid_none c s (subst (AllValid c s 0) (blocks_end (length s) block e) valid)
 
 -- a last block that overlaps them
-pub last_clear : (c : CheckCase) (s : List ℕ) (block : ℕ) → 0 < block → block ≤ length s → IsClear c s 0 (length s / block * block) → IsClear c s (length s - block) (length s) ↔ (fault c s ≡ None)
-last_clear c s block some inside front =
+pub last_valid : (c : CheckCase) (s : List ℕ) (block : ℕ) → 0 < block → block ≤ length s → AllValid c s 0 (length s / block * block) → AllValid c s (length s - block) (length s) ↔ (first_invalid c s ≡ None)
+last_valid c s block some inside front =
     let past = blocks_past (length s) block some in (
-      λ back. fault_none c s (clear_over c s 0 (length s / block * block) (length s - block) (length s) (omega (arith, past)) front back),
-      λ none. clear_range c s (length s - block) (length s) (omega arith) none,
+      λ back. first_invalid_none c s (valid_over c s 0 (length s / block * block) (length s - block) (length s) (omega (arith, past)) front back),
+      λ none. valid_range c s (length s - block) (length s) (omega arith) none,
     )
 
--- what is behind a clear front
-pub rest_valid : (c : CheckCase) (s : List ℕ) (done : ℕ) (t : Bool) → done ≤ length s → IsClear c s 0 done → IsTrue t ↔ (fault c (slice_range s done (length s)) ≡ None) → IsTrue t ↔ (fault c s ≡ None)
+-- what is behind a valid front
+pub rest_valid : (c : CheckCase) (s : List ℕ) (done : ℕ) (t : Bool) → done ≤ length s → AllValid c s 0 done → IsTrue t ↔ (first_invalid c (slice_range s done (length s)) ≡ None) → IsTrue t ↔ (first_invalid c s ≡ None)
 rest_valid c s done t inside front rest = (
-  λ x. fault_none c s (clear_over c s 0 done done (length s) (omega arith) front (clear_part c s done (length s) (omega arith) (rest.0 x))),
-  λ none. rest.1 (part_clear c s done (length s) (omega arith) (clear_range c s done (length s) (omega arith) none)),
+  λ x. first_invalid_none c s (valid_over c s 0 done done (length s) (omega arith) front (valid_part c s done (length s) (omega arith) (rest.0 x))),
+  λ none. rest.1 (part_valid c s done (length s) (omega arith) (valid_range c s done (length s) (omega arith) none)),
 )
 
 -- ---- the lanes of a block
 
-pub clear_chunk : (c : CheckCase) (s : List ℕ) (at n : ℕ) → at + n ≤ length s → IsClear c (chunk at n s) 0 n ↔ IsClear c s at (at + n)
-clear_chunk c s at n inside = (
-  λ clear k low lt. subst (λ b. IsSome (value c b)) (get_or-chunk at n s (k - at) 0 (omega arith) ∙ ap (slice_index s) (omega arith)) (clear (k - at) (omega arith) (omega arith)),
-  λ clear k low lt. subst (λ b. IsSome (value c b)) (sym (get_or-chunk at n s k 0 lt)) (clear (at + k) (omega arith) (omega arith)),
+pub valid_chunk : (c : CheckCase) (s : List ℕ) (at n : ℕ) → at + n ≤ length s → AllValid c (chunk at n s) 0 n ↔ AllValid c s at (at + n)
+valid_chunk c s at n inside = (
+  λ valid k low lt. subst (λ b. IsSome (value c b)) (get_or-chunk at n s (k - at) 0 (omega arith) ∙ ap (slice_index s) (omega arith)) (valid (k - at) (omega arith) (omega arith)),
+  λ valid k low lt. subst (λ b. IsSome (value c b)) (sym (get_or-chunk at n s k 0 lt)) (valid (at + k) (omega arith) (omega arith)),
 )
 
 pub nibbles_chunk : (c : CheckCase) (s v : List ℕ) (at n : ℕ) → at + n ≤ length s → length v ≡ n → AreNibbles c (chunk at n s) v → NibblesFrom c s at n v
@@ -87,18 +87,18 @@ nibbles_chunk c s v at n inside long are = record {
 }
 
 -- where each byte has a value
-pub valid_chunk : (c : CheckCase) (s v : List ℕ) (at n : ℕ) → at + n ≤ length s → ((k : ℕ) → Fits w8 (get_or s k 0)) → IsClear c s at (at + n) → v ≡ map valid_nibble (chunk at n s) → NibblesFrom c s at n v × AreSmall v
-valid_chunk c s v at n inside fits clear is =
+pub valid_nibbles_chunk : (c : CheckCase) (s v : List ℕ) (at n : ℕ) → at + n ≤ length s → ((k : ℕ) → Fits w8 (get_or s k 0)) → AllValid c s at (at + n) → v ≡ map valid_nibble (chunk at n s) → NibblesFrom c s at n v × AreSmall v
+valid_nibbles_chunk c s v at n inside fits valid is =
     let wide : length (chunk at n s) ≡ n = length-chunk at n s inside in
     let long : length v ≡ n = ap length is ∙ length-map (chunk at n s) valid_nibble ∙ wide in
     let lane : (k : ℕ) → k < n → get_or v k 0 ≡ valid_nibble (get_or s (at + k) 0) = λ k h. mapped_at valid_nibble (chunk at n s) k is (omega arith) ∙ ap valid_nibble (get_or-chunk at n s k 0 h) in
     let good : (k : ℕ) → k < n → (value c (get_or s (at + k) 0) ≡ Some (valid_nibble (get_or s (at + k) 0))) × (valid_nibble (get_or s (at + k) 0) < 16) =
-    λ k h. valid_value c (get_or s (at + k) 0) (fits (at + k)).fits (clear (at + k) (omega arith) (omega arith)) in (
+    λ k h. valid_value c (get_or s (at + k) 0) (fits (at + k)).fits (valid (at + k) (omega arith) (omega arith)) in (
       record { long = long; each = λ k h. subst (λ o. IsNibble o (get_or v k 0)) (sym (good k h).0) (lane k h) },
       λ k h. rw (lane k (omega arith)) (good k (omega arith)).1,
     )
 
--- all nibbles of a block are below 16 exactly where it is clear
+-- all nibbles of a block are below 16 exactly where it is valid
 some_of : (o : Option ℕ) (n : ℕ) → IsNibble o n → n < 16 → IsSome o
 some_of (Some v) n e lt = refl
 some_of None n e lt = absurd (omega arith)
@@ -107,42 +107,42 @@ small_of : (c : CheckCase) (b n : ℕ) (o : Option ℕ) → value c b ≡ o → 
 small_of c b n (Some v) is e s = let small : v < 16 = value_small c b v is in omega arith
 small_of c b n None is e s = cc
 
-pub small_clear : (c : CheckCase) (s v : List ℕ) (at n : ℕ) → NibblesFrom c s at n v → AreSmall v ↔ IsClear c s at (at + n)
-small_clear c s v at n are = (
+pub small_valid : (c : CheckCase) (s v : List ℕ) (at n : ℕ) → NibblesFrom c s at n v → AreSmall v ↔ AllValid c s at (at + n)
+small_valid c s v at n are = (
   λ small k low lt.
       let j = k - at in
       let there : at + j ≡ k = omega arith in
       subst (λ i. IsSome (value c (get_or s i 0))) there (some_of _ (get_or v j 0) (are.each j (omega arith)) (small j (omega (arith, are.long)))),
-  λ clear k h. small_of c (get_or s (at + k) 0) (get_or v k 0) _ refl (are.each k (omega (arith, are.long))) (clear (at + k) (omega arith) (omega (arith, are.long))),
+  λ valid k h. small_of c (get_or s (at + k) 0) (get_or v k 0) _ refl (are.each k (omega (arith, are.long))) (valid (at + k) (omega arith) (omega (arith, are.long))),
 )
 
 -- two blocks that cover a range
-pub pair_clear : (c : CheckCase) (s f b : List ℕ) (start mid end n : ℕ) → NibblesFrom c s start n f → NibblesFrom c s mid n b → end ≡ mid + n → start ≤ mid → mid ≤ start + n → (AreSmall f × AreSmall b) ↔ IsClear c s start end
-pair_clear c s f b start mid end n front back whole low le =
-    let one = small_clear c s f start n front in
-    let two = small_clear c s b mid n back in (
-      λ small. clear_over c s start (start + n) mid end le (one.0 small.0) (λ k a h. two.0 small.1 k a (omega arith)),
-      λ clear. (one.1 (clear_within c s start (start + n) start end (omega arith) (omega arith) clear), two.1 (clear_within c s mid (mid + n) start end low (omega arith) clear)),
+pub pair_valid : (c : CheckCase) (s f b : List ℕ) (start mid end n : ℕ) → NibblesFrom c s start n f → NibblesFrom c s mid n b → end ≡ mid + n → start ≤ mid → mid ≤ start + n → (AreSmall f × AreSmall b) ↔ AllValid c s start end
+pair_valid c s f b start mid end n front back whole low le =
+    let one = small_valid c s f start n front in
+    let two = small_valid c s b mid n back in (
+      λ small. valid_over c s start (start + n) mid end le (one.0 small.0) (λ k a h. two.0 small.1 k a (omega arith)),
+      λ valid. (one.1 (valid_within c s start (start + n) start end (omega arith) (omega arith) valid), two.1 (valid_within c s mid (mid + n) start end low (omega arith) valid)),
     )
 
 -- one test of both, which are a source
 pub pair_tested : (c : CheckCase) (s f b r : List ℕ) (mid n : ℕ) (t : Bool) → NibblesFrom c s 0 n f → NibblesFrom c s mid n b → length s ≡ mid + n → mid ≤ n
-    → IsTrue t ↔ AreSmall r → AreSmall r ↔ (AreSmall f × AreSmall b) → IsTrue t ↔ (fault c s ≡ None)
+    → IsTrue t ↔ AreSmall r → AreSmall r ↔ (AreSmall f × AreSmall b) → IsTrue t ↔ (first_invalid c s ≡ None)
 pair_tested c s f b r mid n t front back whole le test either =
-    let both = pair_clear c s f b 0 mid (length s) n front back whole (omega arith) (omega arith) in
-    (λ x. fault_none c s (both.0 (either.0 (test.0 x))), λ none. test.1 (either.1 (both.1 (clear_range c s 0 (length s) (omega arith) none))))
+    let both = pair_valid c s f b 0 mid (length s) n front back whole (omega arith) (omega arith) in
+    (λ x. first_invalid_none c s (both.0 (either.0 (test.0 x))), λ none. test.1 (either.1 (both.1 (valid_range c s 0 (length s) (omega arith) none))))
 
 -- one test of two pairs, which are a source
 pub pairs_tested : (c : CheckCase) (s f b g d p q r : List ℕ) (from mid n : ℕ) (t : Bool) → NibblesFrom c s 0 n f → NibblesFrom c s n n b → NibblesFrom c s from n g → NibblesFrom c s mid n d
     → mid ≡ from + n → length s ≡ mid + n → from ≤ n + n → IsTrue t ↔ AreSmall r → AreSmall r ↔ (AreSmall p × AreSmall q) → AreSmall p ↔ (AreSmall f × AreSmall b) → AreSmall q ↔ (AreSmall g × AreSmall d)
-    → IsTrue t ↔ (fault c s ≡ None)
+    → IsTrue t ↔ (first_invalid c s ≡ None)
 pairs_tested c s f b g d p q r from mid n t one two three four at whole le test both front back =
-    let first = pair_clear c s f b 0 n (n + n) n one two refl (omega arith) (omega arith) in
-    let last = pair_clear c s g d from mid (length s) n three four whole (omega arith) (omega arith) in (
+    let first = pair_valid c s f b 0 n (n + n) n one two refl (omega arith) (omega arith) in
+    let last = pair_valid c s g d from mid (length s) n three four whole (omega arith) (omega arith) in (
       λ x.
           let small = both.0 (test.0 x) in
-          fault_none c s (clear_over c s 0 (n + n) from (length s) le (first.0 (front.0 small.0)) (last.0 (back.0 small.1))),
-      λ none. test.1 (both.1 (front.1 (first.1 (clear_range c s 0 (n + n) (omega arith) none)), back.1 (last.1 (clear_range c s from (length s) (omega arith) none)))),
+          first_invalid_none c s (valid_over c s 0 (n + n) from (length s) le (first.0 (front.0 small.0)) (last.0 (back.0 small.1))),
+      λ none. test.1 (both.1 (front.1 (first.1 (valid_range c s 0 (n + n) (omega arith) none)), back.1 (last.1 (valid_range c s from (length s) (omega arith) none)))),
     )
 
 -- ---- a block that is decoded

@@ -12,7 +12,7 @@ use Rattle.hex_core.specs.declared.digit.CheckCase.{CheckCase}
 use Rattle.hex_core.specs.declared.digit.CheckCase.TheVariants as policy
 use Rattle.hex_core.specs.Arithmetic.{AreZero, excess, first_letter, fold_of, interleaved, saturated, saturating_add, valid_nibble, wrapping_sub}
 use Rattle.hex_core.specs.Digit.{digit, value}
-use Rattle.hex_core.specs.Fault.{IsClear}
+use Rattle.hex_core.specs.Search.{AllValid}
 use Rattle.hex_core.specs.Lanes.{Admits, AreNibbles, IsNibble}
 use Rattle.hex_core.specs.Lookup.{entry}
 use Rattle.hex_core.specs.Text.{text}
@@ -39,10 +39,10 @@ excess_is_zero : (c : CheckCase) (b : ℕ) → b < 256 → (excess c b ≡ 0) �
 excess_is_zero c b h = (λ z. sym (excess_zero c b h) ∙ rw z refl, λ s. eqb-true _ _ (excess_zero c b h ∙ s))
 
 -- all lanes are 0 exactly where each byte has a value
-pub excess_clear : (c : CheckCase) (v r : List ℕ) (n : ℕ) → (length v ≡ n) × Each1 (Fits w8) v → r ≡ map (excess c) v → AreZero r ↔ IsClear c v 0 n
-excess_clear c v r n fits is =
+pub excess_valid : (c : CheckCase) (v r : List ℕ) (n : ℕ) → (length v ≡ n) × Each1 (Fits w8) v → r ≡ map (excess c) v → AreZero r ↔ AllValid c v 0 n
+excess_valid c v r n fits is =
     let all = zero_where (excess c) (λ b. IsSome (value c b)) (excess_is_zero c) v fits.1 is in
-    (λ zero k low lt. all.0 zero k (omega (arith, fits.0)), λ clear. all.1 (λ k h. clear k (omega arith) (omega (arith, fits.0))))
+    (λ zero k low lt. all.0 zero k (omega (arith, fits.0)), λ valid. all.1 (λ k h. valid k (omega arith) (omega (arith, fits.0))))
 
 -- the test, with the policy's bit and letter at hand
 pub excess_with : (c : CheckCase) (v : List ℕ) {r : List ℕ} (fold first : ℕ) → fold ≡ fold_of c → first ≡ first_letter c
@@ -76,10 +76,10 @@ full_mask (suc n) m h all =
     omega (arith, low, rest)
 
 -- the mask of sixteen bytes is full exactly where each has a value
-pub full_16 : (c : CheckCase) (v : List ℕ) (m : ℕ) → length v ≡ 16 → m < 65536 → Admits c v m → (m ≡ 65535) ↔ IsClear c v 0 16
+pub full_16 : (c : CheckCase) (v : List ℕ) (m : ℕ) → length v ≡ 16 → m < 65536 → Admits c v m → (m ≡ 65535) ↔ AllValid c v 0 16
 full_16 c v m long small admits = (
   λ e k low lt. (admits k (omega arith)).0 (rw e (bit_at_ones 16 k lt)),
-  λ clear. omega (arith, full_mask 16 m small (λ i lt. (admits i (omega arith)).1 (clear i (omega arith) lt))),
+  λ valid. omega (arith, full_mask 16 m small (λ i lt. (admits i (omega arith)).1 (valid i (omega arith) lt))),
 )
 
 -- ---- the saturating map

@@ -15,11 +15,12 @@ use Rattle.hex_core.specs.declared.digit.CheckCase.TheVariants as policy
 use Rattle.hex_core.specs.declared.error.Error.{Error}
 use Rattle.hex_core.specs.declared.error.Error.TheVariants.{InvalidChar, OddLength}
 use Rattle.hex_core.specs.Digit.{value, digit, strict}
-use Rattle.hex_core.specs.Text.{Spells, text}
-use Rattle.hex_core.specs.Fault.{fault}
+use Rattle.hex_core.specs.Text.{Spells, lowercase, text}
+use Rattle.hex_core.specs.Search.{first_invalid}
 use Rattle.hex_core.specs.Refusal.{source_refusal}
 use Rattle.hex_core.specs.Laws.{AreBytes}
-use Rattle.hex_core.proofs.FaultLemmas.{admitted, fault-none, faulty}
+use Rattle.hex_core.proofs.PositionLemmas.{position_none}
+use Rattle.hex_core.proofs.SearchLemmas.{has_value, lacks}
 use Rattle.hex_core.proofs.TableLemmas.{value_at}
 use Rattle.hex_core.proofs.TextLemmas.{length-text, high-text, low-text}
 
@@ -56,7 +57,7 @@ spells-bytes c s bytes h = All-from_get_or (λ b. b < 256) bytes 0 (λ i lt.
 pairs : CheckCase → List ℕ → ℕ → ℕ
 pairs c s i = 16 * unwrap_or (value c (get_or s (2 * i) 0)) 255 + unwrap_or (value c (get_or s (2 * i + 1) 0)) 255
 
-pub spelled : (c : CheckCase) (s : List ℕ) → length s % 2 ≡ 0 → fault c s ≡ None → (bytes : List ℕ) × Spells c s bytes
+pub spelled : (c : CheckCase) (s : List ℕ) → length s % 2 ≡ 0 → first_invalid c s ≡ None → (bytes : List ℕ) × Spells c s bytes
 unfolding pairs
 spelled c s even none =
     let n = length s / 2 in
@@ -64,9 +65,9 @@ spelled c s even none =
     let size : length bytes ≡ n = length-map-range_with_len (pairs c s) 0 n in
     let at : (i : ℕ) → i < length bytes → get_or bytes i 0 ≡ pairs c s i = λ i lt. get_or-map-range_with_len (pairs c s) 0 n i i 0 (rw size at lt) (zero-add i) in
     let high : (i : ℕ) → i < length bytes → (value c (get_or s (2 * i) 0) ≡ Some (unwrap_or (value c (get_or s (2 * i) 0)) 255)) × (unwrap_or (value c (get_or s (2 * i) 0)) 255 < 16) =
-    λ i lt. value_at c (get_or s (2 * i) 0) (admitted c s (2 * i) none (omega (arith, size))) in
+    λ i lt. value_at c (get_or s (2 * i) 0) (has_value c s (2 * i) none (omega (arith, size))) in
     let low : (i : ℕ) → i < length bytes → (value c (get_or s (2 * i + 1) 0) ≡ Some (unwrap_or (value c (get_or s (2 * i + 1) 0)) 255)) × (unwrap_or (value c (get_or s (2 * i + 1) 0)) 255 < 16) =
-    λ i lt. value_at c (get_or s (2 * i + 1) 0) (admitted c s (2 * i + 1) none (omega (arith, size))) in (
+    λ i lt. value_at c (get_or s (2 * i + 1) 0) (has_value c s (2 * i + 1) none (omega (arith, size))) in (
       bytes,
       record {
         twice = omega (arith, size);
@@ -75,18 +76,18 @@ spelled c s even none =
       },
     )
 
--- a byte with a value has no fault
-not-faulty : (c : CheckCase) (b n : ℕ) → value c b ≡ Some n → faulty c b ≡ false
-not-faulty c b n e = rw e refl
+-- a byte with a value does not lack one
+valued : (c : CheckCase) (b n : ℕ) → value c b ≡ Some n → lacks c b ≡ false
+valued c b n e = rw e refl
 
-pub fault-spelled : (c : CheckCase) (s bytes : List ℕ) → Spells c s bytes → fault c s ≡ None
-fault-spelled c s bytes h = fault-none c s (λ k lt.
+pub valid-spelled : (c : CheckCase) (s bytes : List ℕ) → Spells c s bytes → first_invalid c s ≡ None
+valid-spelled c s bytes h = position_none (lacks c) s (λ k lt.
     let twice = h.twice in
     let i = k / 2 in
     let small : i < length bytes = omega arith in
     elim (cases_lt (k % 2) 1) [
-      | inl even ↦ (let e : 2 * i ≡ k = omega arith in let f : faulty c (get_or s (2 * i) 0) ≡ false = not-faulty c (get_or s (2 * i) 0) (get_or bytes i 0 / 16) (h.high i small) in rw e at f)
-      | inr odd ↦ (let e : 2 * i + 1 ≡ k = omega arith in let f : faulty c (get_or s (2 * i + 1) 0) ≡ false = not-faulty c (get_or s (2 * i + 1) 0) (get_or bytes i 0 % 16) (h.low i small) in rw e at f)
+      | inl even ↦ (let e : 2 * i ≡ k = omega arith in let f : lacks c (get_or s (2 * i) 0) ≡ false = valued c (get_or s (2 * i) 0) (get_or bytes i 0 / 16) (h.high i small) in rw e at f)
+      | inr odd ↦ (let e : 2 * i + 1 ≡ k = omega arith in let f : lacks c (get_or s (2 * i + 1) 0) ≡ false = valued c (get_or s (2 * i + 1) 0) (get_or bytes i 0 % 16) (h.low i small) in rw e at f)
     ])
 
 nothing-refused : (odd : Bool) (f : Option ℕ) (name : ℕ → Error) → (if odd then Some OddLength else option_map name f) ≡ None → (odd ≡ false) × (f ≡ None)
@@ -94,19 +95,19 @@ nothing-refused true f name h = cc
 nothing-refused false (Some x) name h = cc
 nothing-refused false None name h = (refl, refl)
 
--- where nothing is refused the length is even and there is no fault, and the other way round
-accepted-parts : (c : CheckCase) (s : List ℕ) → source_refusal c s ≡ None → (length s % 2 ≡ 0) × (fault c s ≡ None)
+-- where nothing is refused the length is even and there is no invalid byte, and the other way round
+accepted-parts : (c : CheckCase) (s : List ℕ) → source_refusal c s ≡ None → (length s % 2 ≡ 0) × (first_invalid c s ≡ None)
 accepted-parts c s h =
-    let parts = nothing-refused (length s % 2 == 1) (fault c s) (λ f. InvalidChar f (get_or s f 0)) h in
+    let parts = nothing-refused (length s % 2 == 1) (first_invalid c s) (λ f. InvalidChar f (get_or s f 0)) h in
     let odd = parts.0 in (grind (arith, nat_tests, odd), parts.1)
 
-accepted-whole : (c : CheckCase) (s : List ℕ) → length s % 2 ≡ 0 → fault c s ≡ None → source_refusal c s ≡ None
+accepted-whole : (c : CheckCase) (s : List ℕ) → length s % 2 ≡ 0 → first_invalid c s ≡ None → source_refusal c s ≡ None
 accepted-whole c s even none = let test : (length s % 2 == 1) ≡ false = grind (arith, nat_tests) in rw (test, none) refl
 
 pub accepts_what_spells : (c : CheckCase) (s : List ℕ) → (source_refusal c s ≡ None) ↔ ((bytes : List ℕ) × Spells c s bytes)
 accepts_what_spells c s = (
   λ h. let parts = accepted-parts c s h in spelled c s parts.0 parts.1,
-  λ (bytes, h). let twice = h.twice in accepted-whole c s (omega arith) (fault-spelled c s bytes h),
+  λ (bytes, h). let twice = h.twice in accepted-whole c s (omega arith) (valid-spelled c s bytes h),
 )
 
 -- the text of bytes is read as those bytes, where each digit is read as its number
@@ -156,5 +157,5 @@ either-lowercased s bytes =
       },
     )
 
-pub encoding-lowercases : (s bytes : List ℕ) → Spells policy.None s bytes → text false bytes ≡ str_to_ascii_lowercase s
+pub encoding-lowercases : (s bytes : List ℕ) → Spells policy.None s bytes → text lowercase bytes ≡ str_to_ascii_lowercase s
 encoding-lowercases s bytes h = encoding-inverts false (str_to_ascii_lowercase s) bytes ((either-lowercased s bytes).0 h)

@@ -1,7 +1,6 @@
 pub mod BlockLemmas
 pub mod ByteLemmas
 pub mod Facts
-pub mod FaultLemmas
 pub mod Fronts
 pub mod HashLemmas
 pub mod LaneLemmas
@@ -11,7 +10,7 @@ pub mod NumberLemmas
 pub mod OwnedLemmas
 pub mod PairLemmas
 pub mod PositionLemmas
-pub mod ProbeLemmas
+pub mod SearchLemmas
 pub mod Lent
 pub mod Refused
 pub mod Results

@@ -9,10 +9,10 @@ use borrow.Rule.Slice.PartMut.{put_mid}
 use Rattle.hex_core.specs.declared.digit.CheckCase.{CheckCase}
 use Rattle.hex_core.specs.Blocks.{DecodesRange, SpellsRange}
 use Rattle.hex_core.specs.Digit.{value}
-use Rattle.hex_core.specs.Fault.{IsClear, fault}
+use Rattle.hex_core.specs.Search.{AllValid, first_invalid}
 use Rattle.hex_core.specs.Plans.{StoresBlocks, digits_before}
-use Rattle.hex_core.specs.Text.{Spells, laid}
-use Rattle.hex_core.proofs.ProbeLemmas.{clear_before, clear_misses}
+use Rattle.hex_core.specs.Text.{Spells, with_front}
+use Rattle.hex_core.proofs.SearchLemmas.{valid_before, valid_misses}
 
 -- ---- a part that is decoded, seen in the whole
 
@@ -47,19 +47,19 @@ part_decoded c s old part from twice inside long spells =
       behind = λ k h. grind (arith, common_steps);
     }
 
--- ---- the first fault behind whole blocks
+-- ---- the first invalid byte behind whole blocks
 
 -- it is in the block that stopped
-fault_inside : (c : CheckCase) (s : List ℕ) (f : ℕ) → fault c s ≡ Some f → f < length s
-fault_inside c s f e = grind (arith, common_steps)
+first_invalid_inside : (c : CheckCase) (s : List ℕ) (f : ℕ) → first_invalid c s ≡ Some f → f < length s
+first_invalid_inside c s f e = grind (arith, common_steps)
 
-fault_after : (c : CheckCase) (s : List ℕ) (done block f : ℕ) → fault c s ≡ Some f → IsClear c s 0 done → (done + block ≤ length s → ¬ IsClear c s done (done + block)) → (done ≤ f) × (f < done + block)
-fault_after c s done block f e front stopped =
-    let inside = fault_inside c s f e in (
-      clear_misses c s f 0 done e front (omega arith),
+first_invalid_after : (c : CheckCase) (s : List ℕ) (done block f : ℕ) → first_invalid c s ≡ Some f → AllValid c s 0 done → (done + block ≤ length s → ¬ AllValid c s done (done + block)) → (done ≤ f) × (f < done + block)
+first_invalid_after c s done block f e front stopped =
+    let inside = first_invalid_inside c s f e in (
+      valid_misses c s f 0 done e front (omega arith),
       elim (cases_lt f (done + block)) [
         | inl lt ↦ lt
-        | inr past ↦ absurd (stopped (omega arith) (λ k a b. clear_before c s f e k (omega arith) (omega arith)))
+        | inr past ↦ absurd (stopped (omega arith) (λ k a b. valid_before c s f e k (omega arith) (omega arith)))
       ],
     )
 
@@ -72,10 +72,10 @@ block_of block i f some low high =
       | inr same ↦ omega arith
     ]
 
-digits_are : (c : CheckCase) (s : List ℕ) (i block done : ℕ) (o : Option ℕ) → fault c s ≡ o → done ≡ i * block → (o ≡ None → ⊥) → 0 < block → IsClear c s 0 done → (done + block ≤ length s → ¬ IsClear c s done (done + block))
+digits_are : (c : CheckCase) (s : List ℕ) (i block done : ℕ) (o : Option ℕ) → first_invalid c s ≡ o → done ≡ i * block → (o ≡ None → ⊥) → 0 < block → AllValid c s 0 done → (done + block ≤ length s → ¬ AllValid c s done (done + block))
     → unwrap_or (option_map (λ f. block * (f / block)) o) 0 ≡ done
 digits_are c s i block done (Some f) e is bad some front stopped =
-    let at = fault_after c s done block f e front stopped in
+    let at = first_invalid_after c s done block f e front stopped in
     let same = block_of block i f some (omega (arith, at.0)) (omega (arith, at.1)) in
     ap (λ n. block * n) same ∙ omega arith
 digits_are c s i block done None e is bad some front stopped = absurd (bad refl)
@@ -94,8 +94,8 @@ front_spelled c s mid from twice inside range =
       low = λ i h. ap (value c) (digit (2 * i + 1) (omega arith)) ∙ (range i (omega arith) (omega arith)).low ∙ ap (λ b. Some (b % 16)) (sym (byte i (omega arith)));
     }
 
-front_laid : (old mid : List ℕ) (from : ℕ) → length mid ≡ length old → from ≤ length mid → ((k : ℕ) → from ≤ k → get_or mid k 0 ≡ get_or old k 0) → mid ≡ laid old (take from mid)
-front_laid old mid from same inside behind =
+front_kept : (old mid : List ℕ) (from : ℕ) → length mid ≡ length old → from ≤ length mid → ((k : ℕ) → from ≤ k → get_or mid k 0 ≡ get_or old k 0) → mid ≡ with_front old (take from mid)
+front_kept old mid from same inside behind =
     let long : length (take from mid) ≡ from = omega (arith, length-take from mid) in
     let back : drop from mid ≡ drop from old = ext_get_or 0 (drop from mid) (drop from old) (grind (arith, common_steps)) (λ i h.
     let a : get_or (drop from mid) i 0 ≡ get_or mid (from + i) 0 = grind (arith, common_steps) in
@@ -103,12 +103,12 @@ front_laid old mid from same inside behind =
     a ∙ behind (from + i) (omega arith) ∙ sym b) in
     sym (take-append-drop from mid) ∙ ap (λ l. take from mid ++ l) (back ∙ ap (λ n. drop n old) (sym long))
 
-pub blocks_stored : (c : CheckCase) (s old new : List ℕ) (i block from : ℕ) → length s ≡ 2 * length new → length new ≡ length old → 2 * from ≡ i * block → from ≤ length new → 0 < block → ¬ (fault c s ≡ None)
-    → IsClear c s 0 (2 * from) → (2 * from + block ≤ length s → ¬ IsClear c s (2 * from) (2 * from + block)) → DecodesRange c s old new 0 from → StoresBlocks block c s old new
+pub blocks_stored : (c : CheckCase) (s old new : List ℕ) (i block from : ℕ) → length s ≡ 2 * length new → length new ≡ length old → 2 * from ≡ i * block → from ≤ length new → 0 < block → ¬ (first_invalid c s ≡ None)
+    → AllValid c s 0 (2 * from) → (2 * from + block ≤ length s → ¬ AllValid c s (2 * from) (2 * from + block)) → DecodesRange c s old new 0 from → StoresBlocks block c s old new
 blocks_stored c s old new i block from twice same even inside some bad front stopped done =
-    let digits : digits_before block c s ≡ 2 * from = digits_are c s i block (2 * from) (fault c s) refl even bad some front stopped in
+    let digits : digits_before block c s ≡ 2 * from = digits_are c s i block (2 * from) (first_invalid c s) refl even bad some front stopped in
     record {
       bytes = take from new;
       spelled = rw digits (front_spelled c s new from twice inside done.decoded);
-      is_laid = front_laid old new from same inside done.behind;
+      fronted = front_kept old new from same inside done.behind;
     }

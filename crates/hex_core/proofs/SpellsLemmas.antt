@@ -3,9 +3,9 @@ use Rattle.std.proofs.Common.{◌≡◌, ℕ, List, None, ◌+◌, ◌*◌, ◌/
 use Rattle.std.proofs.Math.ListN.{set}
 use Rattle.std.proofs.lemmas.List.{get_or-set_same, get_or-set_other}
 use borrow.Author.Count.{below_more}
-use Rattle.hex_core.proofs.FaultLemmas.{admitted}
+use Rattle.hex_core.proofs.SearchLemmas.{has_value}
 use Rattle.hex_core.proofs.TableLemmas.{value-entry}
-use Rattle.hex_core.specs.Fault.{fault}
+use Rattle.hex_core.specs.Search.{first_invalid}
 use Rattle.hex_core.specs.Blocks.{SpellsAt}
 use Rattle.hex_core.specs.declared.digit.CheckCase.{CheckCase}
 use Rattle.hex_core.specs.Text.{Spells, value_table}
@@ -19,12 +19,12 @@ pub Spells-all : (c : CheckCase) (s bytes : List ℕ) (n : ℕ) → n ≡ length
 Spells-all c s bytes n is twice all = record { twice = twice; high = λ i h. (all i (omega arith)).high; low = λ i h. (all i (omega arith)).low }
 
 -- the next byte is packed from the entries of its pair
-pub Spells-more : (c : CheckCase) (table s bytes : List ℕ) (i v : ℕ) → table ≡ value_table c → ((k : ℕ) → get_or s k 0 < 256) → fault c s ≡ None → length s ≡ 2 * length bytes → i < length bytes
+pub Spells-more : (c : CheckCase) (table s bytes : List ℕ) (i v : ℕ) → table ≡ value_table c → ((k : ℕ) → get_or s k 0 < 256) → first_invalid c s ≡ None → length s ≡ 2 * length bytes → i < length bytes
     → v ≡ 16 * get_or table (get_or s (2 * i) 0) 0 + get_or table (get_or s (2 * i + 1) 0) 0
     → SpellsBelow c s bytes i → SpellsBelow c s (set bytes i v) (i + 1)
 Spells-more c table s bytes i v is byte none twice h packed below =
-    let high = value-entry c table (get_or s (2 * i) 0) is (byte (2 * i)) (admitted c s (2 * i) none (omega arith)) in
-    let low = value-entry c table (get_or s (2 * i + 1) 0) is (byte (2 * i + 1)) (admitted c s (2 * i + 1) none (omega arith)) in
+    let high = value-entry c table (get_or s (2 * i) 0) is (byte (2 * i)) (has_value c s (2 * i) none (omega arith)) in
+    let low = value-entry c table (get_or s (2 * i + 1) 0) is (byte (2 * i + 1)) (has_value c s (2 * i + 1) none (omega arith)) in
     let quotient : v / 16 ≡ get_or table (get_or s (2 * i) 0) 0 = omega (arith, high.1, low.1) in
     let remainder : v % 16 ≡ get_or table (get_or s (2 * i + 1) 0) 0 = omega (arith, high.1, low.1) in
     below_more (λ (k : ℕ). SpellsAt c s (set bytes i v) k) i

@@ -32,8 +32,8 @@ value_at policy.Lower b h = grind (arith, nat_tests)
 value_at policy.Upper b h = grind (arith, nat_tests)
 
 -- the same of an entry that a table holds
-pub faulty-entry : (c : CheckCase) (table : List ℕ) (b : ℕ) → table ≡ value_table c → b < 256 → get_or table b 0 ≡ 255 → is_none (value c b) ≡ true
-faulty-entry c table b is h e = none_at c b (sym (get_or-value_table c b 0 h) ∙ rw is at e)
+pub lacking-entry : (c : CheckCase) (table : List ℕ) (b : ℕ) → table ≡ value_table c → b < 256 → get_or table b 0 ≡ 255 → is_none (value c b) ≡ true
+lacking-entry c table b is h e = none_at c b (sym (get_or-value_table c b 0 h) ∙ rw is at e)
 
 pub admitted-entry : (c : CheckCase) (table : List ℕ) (b : ℕ) → table ≡ value_table c → b < 256 → get_or table b 0 ≢ 255 → is_none (value c b) ≡ false
 admitted-entry c table b is h e = some_at c b (λ x. e (rw is (get_or-value_table c b 0 h ∙ x)))
@@ -43,10 +43,10 @@ pub value-entry : (c : CheckCase) (table : List ℕ) (b : ℕ) → table ≡ val
 value-entry c table b is h e = rw is (rw (get_or-value_table c b 0 h) (value_at c b e))
 
 -- one more entry that is looked up
-pub clear-more : (clear : Bool) (entry : ℕ) → IsTrue (clear && not (entry == 255)) → IsTrue clear × (entry ≢ 255)
-clear-more true entry h = (refl, λ e. grind (arith, nat_tests))
-clear-more false entry h = cc
+pub valid-more : (valid : Bool) (entry : ℕ) → IsTrue (valid && not (entry == 255)) → IsTrue valid × (entry ≢ 255)
+valid-more true entry h = (refl, λ e. grind (arith, nat_tests))
+valid-more false entry h = cc
 
-pub clear-kept : (clear : Bool) (entry : ℕ) → IsTrue clear → entry < 16 → IsTrue (clear && not (entry == 255))
-clear-kept true entry h small = grind (arith, nat_tests)
-clear-kept false entry h small = cc
+pub valid-kept : (valid : Bool) (entry : ℕ) → IsTrue valid → entry < 16 → IsTrue (valid && not (entry == 255))
+valid-kept true entry h small = grind (arith, nat_tests)
+valid-kept false entry h small = cc

@@ -4,8 +4,8 @@ use Rattle.hex_core.specs.declared.digit.CheckCase.{CheckCase}
 use Rattle.hex_core.specs.declared.digit.CheckCase.TheVariants as policy
 
 -- whether b lies in an interval, both ends included
-abbrev pub within : ℕ → ℕ → ℕ → Bool
-within low high b = nat_le low b && nat_le b high
+abbrev pub between : ℕ → ℕ → ℕ → Bool
+between low high b = nat_le low b && nat_le b high
 
 -- whether the policy reads `a` to `f`
 abbrev pub reads_lower : CheckCase → Bool
@@ -19,12 +19,12 @@ reads_upper policy.None = true
 reads_upper policy.Lower = false
 reads_upper policy.Upper = true
 
--- the value of a byte: three intervals, `0` to `9`, `a` to `f` and `A` to `F`, and no other byte
+-- the value of a byte: three intervals, and no other byte
 abbrev pub value : CheckCase → ℕ → Option ℕ
 value c b =
-    if within 48 57 b then Some (b - 48)
-    else if reads_lower c && within 97 102 b then Some (b - 87)
-    else if reads_upper c && within 65 70 b then Some (b - 55)
+    if between 48 57 b then Some (b - 48)  -- `0` to `9`
+    else if reads_lower c && between 97 102 b then Some (b - 97 + 10)  -- `a` to `f`
+    else if reads_upper c && between 65 70 b then Some (b - 65 + 10)  -- `A` to `F`
     else None
 
 -- the digit of a number below 16: `0` to `9`, then `a` to `f`, or `A` to `F` in uppercase

@@ -1,10 +1,10 @@
 -- Facts that the definitions alone imply.
-use Rattle.std.specs.Prelude.{◌≡◌, ◌<◌, ◌↔◌, ℕ, Bool, false, List, ◌++◌, All, None}
+use Rattle.std.specs.Prelude.{◌≡◌, ◌<◌, ◌↔◌, ℕ, Bool, List, ◌++◌, All, None}
 use Rattle.std.specs.Str.{str_to_ascii_lowercase}
 use Rattle.hex_core.specs.declared.digit.CheckCase.{CheckCase}
 use Rattle.hex_core.specs.declared.digit.CheckCase.TheVariants as policy
 use Rattle.hex_core.specs.Digit.{strict}
-use Rattle.hex_core.specs.Text.{Spells, text}
+use Rattle.hex_core.specs.Text.{Spells, lowercase, text}
 use Rattle.hex_core.specs.Refusal.{source_refusal}
 
 -- every number of the list is a byte
@@ -42,7 +42,7 @@ EitherCaseIsLowercased = (s bytes : List ℕ) → Spells policy.None s bytes ↔
 
 -- encoding what was read under either case gives the source's lowercased form
 abbrev pub EncodingLowercases : Type 0
-EncodingLowercases = (s bytes : List ℕ) → Spells policy.None s bytes → text false bytes ≡ str_to_ascii_lowercase s
+EncodingLowercases = (s bytes : List ℕ) → Spells policy.None s bytes → text lowercase bytes ≡ str_to_ascii_lowercase s
 
 -- the text of a joined list is the two texts joined
 abbrev pub JoinedTexts : Type 0

@@ -1,7 +1,8 @@
 pub mod Digit
 pub mod Text
-pub mod Fault
+pub mod Search
 pub mod Refusal
+pub mod Calls
 pub mod Message
 pub mod Plans
 pub mod Loan

@@ -4,8 +4,8 @@ use Rattle.hex_core.specs.declared.digit.CheckCase.{CheckCase}
 use Rattle.hex_core.specs.declared.plan.Backend.{Backend}
 use Rattle.hex_core.specs.declared.plan.Kind.{Kind}
 use Rattle.hex_core.specs.declared.plan.Kind.TheVariants.{Scalar, Sse41, Avx2, Avx512, Neon}
-use Rattle.hex_core.specs.Fault.{fault}
-use Rattle.hex_core.specs.Text.{Spells, laid}
+use Rattle.hex_core.specs.Search.{first_invalid}
+use Rattle.hex_core.specs.Text.{Spells, with_front}
 
 -- the bytes of a kind's name
 abbrev pub kind_name : Kind → List ℕ
@@ -31,12 +31,12 @@ owned_block name =
     else if bytes_eq name (codes "avx2") || bytes_eq name (codes "neon") then 64
     else 0
 
--- how many digits stand in whole blocks before the first fault; none where a block is 0 digits
+-- how many digits stand in whole blocks before the first invalid byte; none where a block is 0 digits
 abbrev pub digits_before : ℕ → CheckCase → List ℕ → ℕ
-digits_before block c s = unwrap_or (option_map (λ f. block * (f / block)) (fault c s)) 0
+digits_before block c s = unwrap_or (option_map (λ f. block * (f / block)) (first_invalid c s)) 0
 
--- a refusal has stored the bytes that the whole blocks before the first fault spell, and nothing else
+-- a refusal has stored the bytes that the whole blocks before the first invalid byte spell, and nothing else
 pub record StoresBlocks (block : ℕ) (c : CheckCase) (s old new : List ℕ) : Type 0 where
   pub bytes : List ℕ
   pub spelled : Spells c (take (digits_before block c s) s) bytes
-  pub is_laid : new ≡ laid old bytes
+  pub fronted : new ≡ with_front old bytes

@@ -1,8 +1,15 @@
 -- The text of a list of bytes, and what a text spells.
-use Rattle.std.specs.Prelude.{◌≡◌, ℕ, ◌+◌, ◌*◌, ◌/◌, ◌%◌, Bool, List, [], ◌∷◌, ◌++◌, length, drop, map, slice_index, EachIndex, Some, unwrap_or}
+use Rattle.std.specs.Prelude.{◌≡◌, ℕ, ◌+◌, ◌*◌, ◌/◌, ◌%◌, Bool, false, true, List, [], ◌∷◌, ◌++◌, length, drop, map, slice_index, EachIndex, Some, unwrap_or}
 use Rattle.std.specs.List.{flat_map, range_with_len}
 use Rattle.hex_core.specs.declared.digit.CheckCase.{CheckCase}
 use Rattle.hex_core.specs.Digit.{value, digit}
+
+-- in which case letters are written
+abbrev pub lowercase : Bool
+lowercase = false
+
+abbrev pub uppercase : Bool
+uppercase = true
 
 -- the two digits of a byte, the high one first
 abbrev pub digits : Bool → ℕ → List ℕ
@@ -19,9 +26,9 @@ pub record Spells (c : CheckCase) (s bytes : List ℕ) : Type 0 where
   pub high : EachIndex bytes (λ i. value c (slice_index s (2 * i)) ≡ Some (slice_index bytes i / 16))
   pub low : EachIndex bytes (λ i. value c (slice_index s (2 * i + 1)) ≡ Some (slice_index bytes i % 16))
 
--- a list laid over the old bytes: the list, and what was behind its length
-abbrev pub laid : List ℕ → List ℕ → List ℕ
-laid old bytes = bytes ++ drop (length bytes) old
+-- old bytes with a new front: the list, and what was behind its length
+abbrev pub with_front : List ℕ → List ℕ → List ℕ
+with_front old bytes = bytes ++ drop (length bytes) old
 
 -- each byte's value under a policy, in the order of the bytes, and 255 where there is none
 unfoldable pub value_table : CheckCase → List ℕ

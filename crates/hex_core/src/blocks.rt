@@ -9,7 +9,7 @@ ghost use Rattle.std.specs.Bool.{OnFalse, OnTrue};
 ghost use Rattle.std.specs.Simd.Lanes.{chunk, put_chunk};
 ghost use Rattle.hex_core.specs.Arithmetic.{AreZero, packed};
 ghost use Rattle.hex_core.specs.Blocks.{DecodesRange, NibblesFrom};
-ghost use Rattle.hex_core.specs.Fault.{IsClear, fault};
+ghost use Rattle.hex_core.specs.Search.{AllValid, first_invalid};
 ghost use Rattle.hex_core.specs.Lanes.{AreSmall};
 ghost use Rattle.hex_core.specs.Text.{Spells, text};
 
@@ -21,10 +21,10 @@ use std::simd::prelude::*;
 
 // Whether each of `N` bytes from `at` on has a value.
 #[inline(always)]
-fn is_clear_at<const N: usize>(src: &[u8], at: usize, case: CheckCase) -> bool
+fn is_valid_at<const N: usize>(src: &[u8], at: usize, case: CheckCase) -> bool
     requires lanes { N ≤ 64 }
     requires inside { at + N ≤ length src.now }
-    ensures { IsTrue result ↔ IsClear case src.now at (at + N) }
+    ensures { IsTrue result ↔ AllValid case src.now at (at + N) }
 {
     is_zero(excess(Simd::<u8, N>::from_slice(&src[at..]), case))
 }
@@ -35,7 +35,7 @@ pub fn check_two<const N: usize>(src: &[u8], case: CheckCase) -> bool
     requires lanes { N ≤ 64 }
     requires least { N ≤ length src.now }
     requires most { length src.now ≤ 2 * N }
-    ensures { IsTrue result ↔ (fault case src.now ≡ None) }
+    ensures { IsTrue result ↔ (first_invalid case src.now ≡ None) }
 {
     let front = excess(Simd::<u8, N>::from_slice(src), case);
     let back = excess(Simd::<u8, N>::from_slice(&src[src.len() - N..]), case);
@@ -46,7 +46,7 @@ pub fn check_two<const N: usize>(src: &[u8], case: CheckCase) -> bool
 #[inline(always)]
 fn excesses_of_two<const N: usize>(src: &[u8], at: usize, case: CheckCase) -> Simd<u8, N>
     requires inside { at + 2 * N ≤ length src.now }
-    ensures { AreZero result ↔ IsClear case src.now at (at + 2 * N) }
+    ensures { AreZero result ↔ AllValid case src.now at (at + 2 * N) }
 {
     let first = excess(Simd::<u8, N>::from_slice(&src[at..]), case);
     let second = excess(Simd::<u8, N>::from_slice(&src[at + N..]), case);
@@ -59,7 +59,7 @@ pub fn check_four<const N: usize>(src: &[u8], case: CheckCase) -> bool
     requires lanes { N ≤ 64 }
     requires least { 2 * N ≤ length src.now }
     requires most { length src.now ≤ 4 * N }
-    ensures { IsTrue result ↔ (fault case src.now ≡ None) }
+    ensures { IsTrue result ↔ (first_invalid case src.now ≡ None) }
 {
     let front = excesses_of_two::<N>(src, 0, case);
     let back = excesses_of_two::<N>(src, src.len() - 2 * N, case);
@@ -72,25 +72,25 @@ fn check_blocks<const N: usize>(src: &[u8], case: CheckCase) -> bool
     requires some { 1 ≤ N }
     requires lanes { N ≤ 64 }
     requires least { N ≤ length src.now }
-    ensures { IsTrue result ↔ (fault case src.now ≡ None) }
+    ensures { IsTrue result ↔ (first_invalid case src.now ≡ None) }
 {
     'turns: for i in 0..src.len() / N {
-        if !is_clear_at::<N>(src, i * N, case) {
+        if !is_valid_at::<N>(src, i * N, case) {
             return false;
         }
     }
-    src.len() % N == 0 || is_clear_at::<N>(src, src.len() - N, case)
+    src.len() % N == 0 || is_valid_at::<N>(src, src.len() - N, case)
 }
 
-// How many blocks one test is for in a long source: with more of them a fault is found later.
+// How many blocks one test is for in a long source: with more of them an invalid byte is found later.
 const RUN: usize = 8;
 
 // Whether each byte of a run of blocks from `at` on has a value.
 #[inline(always)]
-fn is_run_clear<const N: usize>(src: &[u8], at: usize, case: CheckCase) -> bool
+fn is_run_valid<const N: usize>(src: &[u8], at: usize, case: CheckCase) -> bool
     requires lanes { N ≤ 64 }
-    requires inside { at + 8 * N ≤ length src.now }
-    ensures { IsTrue result ↔ IsClear case src.now at (at + 8 * N) }
+    requires inside { at + RUN * N ≤ length src.now }
+    ensures { IsTrue result ↔ AllValid case src.now at (at + RUN * N) }
 {
     let mut excesses = excess(Simd::<u8, N>::from_slice(&src[at..]), case);
     'turns: for i in 1..RUN {
@@ -106,11 +106,11 @@ fn check_runs<const N: usize>(src: &[u8], case: CheckCase) -> bool
     requires some { 1 ≤ N }
     requires lanes { N ≤ 64 }
     requires least { N ≤ length src.now }
-    ensures { IsTrue result ↔ (fault case src.now ≡ None) }
+    ensures { IsTrue result ↔ (first_invalid case src.now ≡ None) }
 {
     let runs = (src.len() - N) / (RUN * N);
     'turns: for i in 0..runs {
-        if !is_run_clear::<N>(src, i * (RUN * N), case) {
+        if !is_run_valid::<N>(src, i * (RUN * N), case) {
             return false;
         }
     }
@@ -123,7 +123,7 @@ pub fn check_long<const N: usize>(src: &[u8], case: CheckCase) -> bool
     requires some { 1 ≤ N }
     requires lanes { N ≤ 64 }
     requires least { N ≤ length src.now }
-    ensures { IsTrue result ↔ (fault case src.now ≡ None) }
+    ensures { IsTrue result ↔ (first_invalid case src.now ≡ None) }
 {
     if src.len() <= RUN * N {
         check_blocks::<N>(src, case)
@@ -147,7 +147,7 @@ where
 #[inline(always)]
 fn valid_nibbles_at<const N: usize>(src: &[u8], at: usize, case: CheckCase) -> Simd<u8, N>
     requires inside { at + N ≤ length src.now }
-    requires clear { IsClear case src.now at (at + N) }
+    requires valid { AllValid case src.now at (at + N) }
     ensures nibbles { NibblesFrom case src.now at N result }
     ensures small { AreSmall result }
 {
@@ -179,7 +179,7 @@ where
     requires lanes { N ≡ 2 * HALF }
     requires twice { length src.now ≡ 2 * length dst.old }
     requires room { at + HALF ≤ length dst.old }
-    requires valid { fault case src.now ≡ None }
+    requires valid { first_invalid case src.now ≡ None }
     ensures { DecodesRange case src.now dst.old dst.new at (at + HALF) }
 {
     put(valid_nibbles_at::<N>(src, 2 * at, case), dst, at);
@@ -194,7 +194,7 @@ where
     requires lanes { N ≡ 2 * HALF }
     requires twice { length src.now ≡ 2 * length dst.old }
     requires least { HALF ≤ length dst.old }
-    requires valid { fault case src.now ≡ None }
+    requires valid { first_invalid case src.now ≡ None }
     ensures { Spells case src.now dst.new }
 {
     'turns: for i in 0..dst.len() / HALF {
@@ -237,7 +237,7 @@ where
     requires twice { length src.now ≡ 2 * length dst.old }
     requires least { N ≤ length src.now }
     requires most { length src.now ≤ 2 * N }
-    requires valid { fault case src.now ≡ None }
+    requires valid { first_invalid case src.now ≡ None }
     ensures { Spells case src.now dst.new }
 {
     // Both blocks are read before the first store, so that the compiler joins these reads with
@@ -263,7 +263,7 @@ where
     requires twice { length src.now ≡ 2 * length dst.old }
     requires least { N ≤ length src.now }
     requires most { length src.now ≤ 2 * N }
-    ensures valid { IsTrue result ↔ (fault case src.now ≡ None) }
+    ensures valid { IsTrue result ↔ (first_invalid case src.now ≡ None) }
     ensures decoded { OnTrue result (Spells case src.now dst.new) }
     ensures unchanged { OnFalse result (dst.new ≡ dst.old) }
 {
@@ -292,7 +292,7 @@ where
     requires twice { length src.now ≡ 2 * length dst.old }
     requires least { 2 * N ≤ length src.now }
     requires most { length src.now ≤ 4 * N }
-    ensures valid { IsTrue result ↔ (fault case src.now ≡ None) }
+    ensures valid { IsTrue result ↔ (first_invalid case src.now ≡ None) }
     ensures decoded { OnTrue result (Spells case src.now dst.new) }
     ensures unchanged { OnFalse result (dst.new ≡ dst.old) }
 {
@@ -311,7 +311,7 @@ where
 }
 
 /// Decodes whole blocks of `2 * N` digits in order, each tested before its bytes are stored, up to
-/// one that has a fault, and answers how many bytes it stored.
+/// one that has an invalid byte, and returns how many bytes it stored.
 #[inline(never)]
 pub fn decode_blocks<M, const N: usize, const HALF: usize>(
     src: &[u8],
@@ -327,9 +327,9 @@ where
     requires twice { length src.now ≡ 2 * length dst.old }
     ensures inside { result ≤ length dst.old }
     ensures whole { (i : ℕ) × (result ≡ i * N) }
-    ensures clear { IsClear case src.now 0 (2 * result) }
+    ensures valid { AllValid case src.now 0 (2 * result) }
     ensures stopped { 2 * result + 2 * N ≤ length src.now
-        → ¬ IsClear case src.now (2 * result) (2 * result + 2 * N) }
+        → ¬ AllValid case src.now (2 * result) (2 * result + 2 * N) }
     ensures decoded { DecodesRange case src.now dst.old dst.new 0 result }
 {
     let blocks = dst.len() / N;

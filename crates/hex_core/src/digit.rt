@@ -24,7 +24,7 @@ pub enum CheckCase {
     Upper,
 }
 
-/// Answers the value of `byte` as a digit under `case`, from 0 to 15, or `None` where the policy
+/// Returns the value of `byte` as a digit under `case`, from 0 to 15, or `None` where the policy
 /// does not read it.
 ///
 /// ```rust
@@ -118,7 +118,7 @@ static DIGITS_UPPER: [u8; 512] = *b"\
     E0E1E2E3E4E5E6E7E8E9EAEBECEDEEEFF0F1F2F3F4F5F6F7F8F9FAFBFCFDFEFF\
 ";
 
-/// Answers the table of every byte's value under `case`, with [`NIL`] where there is none.
+/// Returns the table of every byte's value under `case`, with [`NIL`] where there is none.
 pub(crate) fn values_of(case: CheckCase) -> &'static [u8; 256]
     ensures { result.now ≡ value_table case }
 {
@@ -129,7 +129,7 @@ pub(crate) fn values_of(case: CheckCase) -> &'static [u8; 256]
     }
 }
 
-/// Answers the table of every byte's two digits, the high one first, byte after byte.
+/// Returns the table of every byte's two digits, the high one first, byte after byte.
 pub(crate) fn digit_pairs_of(upper: bool) -> &'static [u8; 512]
     ensures { result.now ≡ digits_table upper }
 {

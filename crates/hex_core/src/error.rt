@@ -8,7 +8,7 @@ use std::{error, fmt};
 /// An error from checked hexadecimal encoding or decoding.
 ///
 /// A refused slice call leaves its whole destination as it was, and a refused append its string's
-/// text. Each call's documentation says which cases it answers, and in which order it tests them.
+/// text. Each call's documentation says which cases it returns, and in which order it tests them.
 ///
 /// [`Display`](fmt::Display) prints exactly these texts:
 ///

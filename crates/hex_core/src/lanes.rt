@@ -6,7 +6,7 @@ ghost use Rattle.std.specs.Prelude.{◌≡◌, ◌↔◌, ℕ, ◌≤◌, ◌<�
 ghost use Rattle.std.specs.Simd.Lanes.{mask_l};
 ghost use Rattle.hex_core.specs.Arithmetic.{AreZero, excess, first_letter, fold_of, valid_nibble};
 ghost use Rattle.hex_core.specs.Digit.{digit, value};
-ghost use Rattle.hex_core.specs.Fault.{IsClear};
+ghost use Rattle.hex_core.specs.Search.{AllValid};
 ghost use Rattle.hex_core.specs.Hash.{Hashed, check_row, hashed_check, hashed_value};
 ghost use Rattle.hex_core.specs.Lanes.{Admits, AreChecked, AreNibbles, ArePacked, AreSmall, AreValues};
 ghost use Rattle.hex_core.specs.Text.{text};
@@ -19,7 +19,7 @@ use crate::vector::{
 };
 use std::simd::prelude::*;
 
-/// Answers a mask whose bit `i` is set exactly where byte `i` has a value under `case`.
+/// Returns a mask whose bit `i` is set exactly where byte `i` has a value under `case`.
 ///
 /// ```rust
 /// assert_eq!(rt; admitted_16(b"0123456789ABCDEF", CheckCase::Lower), 0x03ff);
@@ -59,7 +59,7 @@ pub fn admitted_64(bytes: &[u8; 64], case: CheckCase) -> u64
     admitted(u8x64::from_array(*bytes), case)
 }
 
-/// Answers for each byte its value under `case`, or at least 16 where it has none.
+/// Returns for each byte its value under `case`, or at least 16 where it has none.
 ///
 /// ```rust
 /// let nibbles = nibbles_saturating_16(b"0123456789abcdef", CheckCase::None);
@@ -72,7 +72,7 @@ pub fn nibbles_saturating_16(bytes: &[u8; 16], case: CheckCase) -> [u8; 16]
     saturated(u8x16::from_array(*bytes), case).to_array()
 }
 
-/// Answers a nibble and a check for each byte: a check is below 128 exactly where its byte has a
+/// Returns a nibble and a check for each byte: a check is below 128 exactly where its byte has a
 /// value under `case`, and there the nibble is that value. Nothing is said of other nibbles.
 ///
 /// ```rust
@@ -113,7 +113,7 @@ pub fn nibbles_hashed_64(bytes: &[u8; 64], case: CheckCase) -> ([u8; 64], [u8; 6
     )
 }
 
-/// Answers the byte of each pair of nibbles: the first of a pair is its high half.
+/// Returns the byte of each pair of nibbles: the first of a pair is its high half.
 ///
 /// The caller shows that every nibble is below 16.
 ///
@@ -155,7 +155,7 @@ pub fn pack_64(nibbles: &[u8; 64]) -> [u8; 32]
     Lanes::pack(u8x64::from_array(*nibbles)).to_array()
 }
 
-/// Answers the text of 8 bytes, in uppercase where `upper` is true.
+/// Returns the text of 8 bytes, in uppercase where `upper` is true.
 ///
 /// ```rust
 /// let text = encode_8(&[0x01, 0x23, 0x45, 0x67, 0x89, 0xab, 0xcd, 0xef], false);
@@ -168,7 +168,7 @@ pub fn encode_8(bytes: &[u8; 8], upper: bool) -> [u8; 16]
     encoded(u8x8::from_array(*bytes), upper).to_array()
 }
 
-/// Answers the text of 16 bytes, in uppercase where `upper` is true.
+/// Returns the text of 16 bytes, in uppercase where `upper` is true.
 ///
 /// ```rust
 /// assert_eq!(rt; encode_16(&[0xab; 16], true), *b"ABABABABABABABABABABABABABABABAB");
@@ -217,7 +217,7 @@ fn first_letter(case: CheckCase) -> u8
 #[inline(always)]
 pub(crate) fn excess<const N: usize>(v: Simd<u8, N>, case: CheckCase) -> Simd<u8, N>
     ensures lanes { result ≡ map (excess case) v.entry }
-    ensures zero { AreZero result ↔ IsClear case v.entry 0 N }
+    ensures zero { AreZero result ↔ AllValid case v.entry 0 N }
 {
     let digits = saturating_sub(wrapping_sub(v, b'0'), 9);
     let letters = wrapping_sub(with_bits(v, fold_of(case)), first_letter(case));

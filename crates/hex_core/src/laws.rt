@@ -9,7 +9,7 @@ pub fn a_text_spells_one_list()
     ensures bytes { SpellsBytes }
 {}
 
-/// A source of even length without a fault is exactly one that spells some list.
+/// A source of even length without an invalid byte is exactly one that spells some list.
 pub fn a_source_is_accepted_where_it_spells_a_list()
     ensures { AcceptsWhatSpells }
 {}

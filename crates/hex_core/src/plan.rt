@@ -1,14 +1,15 @@
 //! Plans by name, and the slice calls under each.
 
-ghost use Rattle.std.specs.Prelude.{◌≡◌, ◌≢◌, ◌/◌, ◌*◌, ◌≤◌, ◌↔◌, ℕ, List, IsTrue, None, Some, Ok, Err, length, map, MatchResult, OnOk, OnErr, IfOk, IfErr, IsOkAnd};
+ghost use Rattle.std.specs.Prelude.{◌≡◌, ◌≢◌, ◌/◌, ◌*◌, ◌≤◌, ◌↔◌, ℕ, List, IsTrue, None, Some, Ok, Err, length, map, MatchResult, IfOk, IfErr, IsOkAnd};
 ghost use Rattle.std.specs.Bool.{OnTrue, OnFalse};
 ghost use Rattle.std.specs.Borrow.{sem};
-ghost use Rattle.hex_core.specs.Fault.{fault};
+ghost use Rattle.hex_core.specs.Search.{first_invalid};
+ghost use Rattle.hex_core.specs.Calls.{Decodes, DecodesFront, Encodes, EncodesFront};
 ghost use Rattle.hex_core.specs.Loan.{LendsAnswer};
 ghost use Rattle.hex_core.specs.Plans.{StoresBlocks, name_of, owned_block, plan_names};
 ghost use Rattle.hex_core.specs.Refusal.{decode_refusal, encode_refusal, first_bad_char};
 ghost use Rattle.hex_core.specs.declared.digit.CheckCase.{CheckCase};
-ghost use Rattle.hex_core.specs.Text.{Spells, laid, text};
+ghost use Rattle.hex_core.specs.Text.{Spells, text};
 
 use crate::digit::CheckCase;
 use crate::error::Error;
@@ -33,7 +34,7 @@ enum Kind {
 #[derive(Clone, Copy)]
 pub struct Backend(Kind);
 
-/// Answers all five plans, whatever the machine: scalar, sse41, avx2, avx512, neon, in this order.
+/// Returns all five plans, whatever the machine: scalar, sse41, avx2, avx512, neon, in this order.
 ///
 /// ```rust
 /// let [scalar, ..] = backends();
@@ -55,7 +56,7 @@ impl Backend {
     /// The plan of the calls that name none. Which plan that is, is no promise.
     pub const PLAIN: Backend = Backend(Kind::Avx2);
 
-    /// Answers the plan's name: `scalar`, `sse41`, `avx2`, `avx512` or `neon`.
+    /// Returns the plan's name: `scalar`, `sse41`, `avx2`, `avx512` or `neon`.
     ///
     /// ```rust
     /// let [_, _, avx2, ..] = backends();
@@ -73,7 +74,7 @@ impl Backend {
         }
     }
 
-    /// Answers whether every byte of `src` has a value under `case`, whatever its length.
+    /// Returns whether every byte of `src` has a value under `case`, whatever its length.
     ///
     /// ```rust
     /// assert!(rt; Backend::PLAIN.check(b"00aBc", CheckCase::None));
@@ -81,7 +82,7 @@ impl Backend {
     /// ```
     #[inline(always)]
     pub fn check(self, src: &[u8], case: CheckCase) -> bool
-        ensures { IsTrue result ↔ (fault case src.now ≡ None) }
+        ensures { IsTrue result ↔ (first_invalid case src.now ≡ None) }
     {
         match self.0 {
             Kind::Scalar => scalar::check(src, case),
@@ -116,7 +117,7 @@ impl Backend {
     #[inline(always)]
     fn write_bytes(self, src: &[u8], dst: &mut [u8], case: CheckCase)
         requires twice { length src.now ≡ 2 * length dst.old }
-        requires valid { fault case src.now ≡ None }
+        requires valid { first_invalid case src.now ≡ None }
         ensures { Spells case src.now dst.new }
     {
         match self.0 {
@@ -126,8 +127,8 @@ impl Backend {
         }
     }
 
-    /// Writes the bytes that `src` spells over the whole of `dst`, and answers whether every byte
-    /// of `src` has a value under `case`. Where it answers false, `dst` is as it was.
+    /// Writes the bytes that `src` spells over the whole of `dst`, and returns whether every byte
+    /// of `src` has a value under `case`. Where it returns false, `dst` is as it was.
     ///
     /// The caller shows that `src` is exactly twice as long as `dst`, in bytes.
     ///
@@ -141,7 +142,7 @@ impl Backend {
     #[inline(always)]
     pub fn decode(self, src: &[u8], dst: &mut [u8], case: CheckCase) -> bool
         requires { length src.now ≡ 2 * length dst.old }
-        ensures valid { IsTrue result ↔ (fault case src.now ≡ None) }
+        ensures valid { IsTrue result ↔ (first_invalid case src.now ≡ None) }
         ensures decoded { OnTrue result (Spells case src.now dst.new) }
         ensures unchanged { OnFalse result (dst.new ≡ dst.old) }
     {
@@ -153,7 +154,7 @@ impl Backend {
         }
     }
 
-    /// Decodes as [`Backend::decode`] does, into a buffer that is given up where it answers false.
+    /// Decodes as [`Backend::decode`] does, into a buffer that is given up where it returns false.
     ///
     /// Then `avx2` and `neon` have stored exactly the bytes of the whole blocks of 64 digits before
     /// the first one with a byte that has no value, or of all whole blocks where that byte stands
@@ -175,7 +176,7 @@ impl Backend {
     #[inline(always)]
     pub fn decode_owned(self, src: &[u8], dst: &mut [u8], case: CheckCase) -> bool
         requires { length src.now ≡ 2 * length dst.old }
-        ensures valid { IsTrue result ↔ (fault case src.now ≡ None) }
+        ensures valid { IsTrue result ↔ (first_invalid case src.now ≡ None) }
         ensures decoded { OnTrue result (Spells case src.now dst.new) }
         ensures stored { OnFalse result
             (StoresBlocks (owned_block (name_of self)) case src.now dst.old dst.new) }
@@ -191,7 +192,7 @@ impl Backend {
     #[inline(always)]
     fn decode_at_once(self, src: &[u8], dst: &mut [u8], case: CheckCase) -> bool
         requires { length src.now ≡ 2 * length dst.old }
-        ensures valid { IsTrue result ↔ (fault case src.now ≡ None) }
+        ensures valid { IsTrue result ↔ (first_invalid case src.now ≡ None) }
         ensures decoded { OnTrue result (Spells case src.now dst.new) }
         ensures stored { OnFalse result (StoresBlocks 0 case src.now dst.old dst.new) }
     {
@@ -213,19 +214,19 @@ impl Backend {
         requires lanes { N ≤ 64 }
         requires half { N ≡ 2 * HALF }
         requires twice { length src.now ≡ 2 * length dst.old }
-        ensures valid { IsTrue result ↔ (fault case src.now ≡ None) }
+        ensures valid { IsTrue result ↔ (first_invalid case src.now ≡ None) }
         ensures decoded { OnTrue result (Spells case src.now dst.new) }
         ensures stored { OnFalse result (StoresBlocks (2 * N) case src.now dst.old dst.new) }
     {
         let done = blocks::decode_blocks::<M, N, HALF>(src, dst, case);
-        // The blocks end before the last whole one where the next has a fault.
+        // The blocks end before the last whole one where the next has an invalid byte.
         if dst.len() - done >= N {
             return false;
         }
         self.decode(&src[2 * done..], &mut dst[done..], case)
     }
 
-    /// Answers the first place of `src` whose byte has no value under `case`, from 0 and in bytes,
+    /// Returns the first place of `src` whose byte has no value under `case`, from 0 and in bytes,
     /// or `None` where each byte has one, whatever its length.
     ///
     /// A source of more than 64 bytes is tested block by block before single bytes are looked at,
@@ -237,7 +238,7 @@ impl Backend {
     /// assert_eq!(rt; scalar.first_invalid(b"00FF", CheckCase::Upper), None);
     /// ```
     pub fn first_invalid(self, src: &[u8], case: CheckCase) -> Option<usize>
-        ensures { result ≡ fault case src.now }
+        ensures { result ≡ first_invalid case src.now }
     {
         locate(&mut SliceProbe::new(self, src, case))
     }
@@ -259,11 +260,11 @@ impl Backend {
         Ok(required)
     }
 
-    // The first fault of a source that has one.
+    // The first invalid byte of a source that has one.
     #[cold]
     #[inline(never)]
     fn first_error(self, src: &[u8], case: CheckCase) -> Error
-        requires { fault case src.now ≢ None }
+        requires { first_invalid case src.now ≢ None }
         ensures { first_bad_char case src.now ≡ Some result }
     {
         let Some(index) = self.first_invalid(src, case) else {
@@ -314,7 +315,7 @@ impl Backend {
         case: CheckCase,
     ) -> Result<&'a mut [u8], Error>
         requires { IfOk lent (λ r. (length src.now ≡ 2 * length r.now)
-            × (fault case src.now ≡ None)) }
+            × (first_invalid case src.now ≡ None)) }
         ensures ok { IfOk lent.entry (λ r. IsOkAnd result (λ s. (s.ghost_name ≡ r.ghost_name)
             × Spells case src.now s.now)) }
         ensures err { IfErr lent.entry (λ e. result ≡ Err e) }
@@ -350,7 +351,7 @@ impl Backend {
         }
     }
 
-    /// Decodes all of `src` into the front of `dst` and answers how many bytes it wrote,
+    /// Decodes all of `src` into the front of `dst` and returns how many bytes it wrote,
     /// `src.len() / 2`. The bytes behind them stay as they were.
     ///
     /// # Errors
@@ -369,12 +370,7 @@ impl Backend {
     /// ```
     #[inline(always)]
     pub fn decode_into(self, src: &[u8], dst: &mut [u8], case: CheckCase) -> Result<usize, Error>
-        ensures answer { MatchResult result
-            (λ n. (decode_refusal case src.now (length dst.old) ≡ None) × (n ≡ length src.now / 2))
-            (λ e. decode_refusal case src.now (length dst.old) ≡ Some e) }
-        ensures ok { OnOk result ((bytes : List ℕ) × Spells case src.now bytes
-            × (dst.new ≡ laid dst.old bytes)) }
-        ensures err { OnErr result (dst.new ≡ dst.old) }
+        ensures { Decodes case src.now dst.old dst.new result }
     {
         let required = Backend::decoded_len(src, dst.len())?;
         if !self.decode(src, &mut dst[..required], case) {
@@ -384,7 +380,7 @@ impl Backend {
     }
 
     /// Encodes all of `src` into the front of `dst`, in uppercase where `upper` is true, and
-    /// answers how many bytes it wrote, `2 * src.len()`. The bytes behind them stay as they were.
+    /// returns how many bytes it wrote, `2 * src.len()`. The bytes behind them stay as they were.
     ///
     /// # Errors
     ///
@@ -400,18 +396,14 @@ impl Backend {
     /// ```
     #[inline(always)]
     pub fn encode_into(self, src: &[u8], dst: &mut [u8], upper: bool) -> Result<usize, Error>
-        ensures answer { MatchResult result
-            (λ n. (encode_refusal src.now (length dst.old) ≡ None) × (n ≡ 2 * length src.now))
-            (λ e. encode_refusal src.now (length dst.old) ≡ Some e) }
-        ensures ok { OnOk result (dst.new ≡ laid dst.old (text upper src.now)) }
-        ensures err { OnErr result (dst.new ≡ dst.old) }
+        ensures { Encodes upper src.now dst.old dst.new result }
     {
         let written = Backend::encoded_len(src, dst.len())?;
         self.encode(src, &mut dst[..written], upper);
         Ok(written)
     }
 
-    /// Decodes all of `src` into the front of `dst` and answers that front, `src.len() / 2` bytes,
+    /// Decodes all of `src` into the front of `dst` and returns that front, `src.len() / 2` bytes,
     /// which borrows `dst` alone. The bytes behind it stay as they were.
     ///
     /// # Errors
@@ -438,9 +430,7 @@ impl Backend {
         case: CheckCase,
     ) -> Result<&'a mut [u8], Error>
         ensures* lends { sem 𝓛 (LendsAnswer dst.entry result) }
-        ensures answer { MatchResult result
-            (λ r. (decode_refusal case src.now (length dst.old) ≡ None) × Spells case src.now r.now)
-            (λ e. decode_refusal case src.now (length dst.old) ≡ Some e) }
+        ensures answer { DecodesFront case src.now (length dst.old) result }
     {
         let answer = self.accepted(src, dst.len(), case);
         let lent = lend_accepted(dst, answer);
@@ -448,7 +438,7 @@ impl Backend {
     }
 
     /// Encodes all of `src` into the front of `dst`, in uppercase where `upper` is true, and
-    /// answers that front, `2 * src.len()` bytes, which borrows `dst` alone. The bytes behind it
+    /// returns that front, `2 * src.len()` bytes, which borrows `dst` alone. The bytes behind it
     /// stay as they were.
     ///
     /// # Errors
@@ -471,9 +461,7 @@ impl Backend {
         upper: bool,
     ) -> Result<&'a mut [u8], Error>
         ensures* lends { sem 𝓛 (LendsAnswer dst.entry result) }
-        ensures answer { MatchResult result
-            (λ r. (encode_refusal src.now (length dst.old) ≡ None) × (r.now ≡ text upper src.now))
-            (λ e. encode_refusal src.now (length dst.old) ≡ Some e) }
+        ensures answer { EncodesFront upper src.now (length dst.old) result }
     {
         let answer = Backend::encoded_len(src, dst.len());
         let lent = lend_accepted(dst, answer);

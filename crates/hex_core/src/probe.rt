@@ -1,8 +1,8 @@
-//! Counted sources, and the search for the first fault through their counted calls.
+//! Counted sources, and the search for the first invalid byte through their counted calls.
 
 ghost use Rattle.std.specs.Prelude.{◌≡◌, ℕ, None, ◌+◌, ◌*◌, ◌/◌, ◌^◌, ◌<◌, ◌≤◌, ◌↔◌, IsTrue, List, MatchOption, length, min, slice_index};
 ghost use Rattle.hex_core.specs.Blocks.{cover};
-ghost use Rattle.hex_core.specs.Fault.{IsClear, fault, steps, whole_blocks};
+ghost use Rattle.hex_core.specs.Search.{AllValid, first_invalid, steps, tested_blocks};
 ghost use Rattle.hex_core.specs.declared.digit.CheckCase.{CheckCase};
 
 use crate::digit::{CheckCase, digit_value};
@@ -37,27 +37,27 @@ pub trait Probe {
 
     ghost test_count: { Self → ℕ };
 
-    /// Answers how many bytes the source has.
+    /// Returns how many bytes the source has.
     fn len(&self) -> usize
         ensures { result ≡ length (source self.now) };
 
-    /// Answers the policy under which a byte has a value.
+    /// Returns the policy under which a byte has a value.
     fn case(&self) -> CheckCase
         ensures { result ≡ policy self.now };
 
-    /// Answers the block: how many bytes the widest test takes.
+    /// Returns the block: how many bytes the widest test takes.
     fn block(&self) -> usize
         ensures { result ≡ widest self.now };
 
-    /// Answers how many looks were made.
+    /// Returns how many looks were made.
     fn looks(&self) -> usize
         ensures { result ≡ look_count self.now };
 
-    /// Answers how many tests were made.
+    /// Returns how many tests were made.
     fn tests(&self) -> usize
         ensures { result ≡ test_count self.now };
 
-    /// Answers byte `i` of the source and adds one look.
+    /// Returns byte `i` of the source and adds one look.
     ///
     /// The place `i`, from 0 and in bytes, is inside the source, and the count of looks is below
     /// `usize::MAX`.
@@ -71,7 +71,7 @@ pub trait Probe {
         ensures same_policy { policy self.new ≡ policy self.old }
         ensures same_block { widest self.new ≡ widest self.old };
 
-    /// Answers whether each byte of `start..start + width` has a value under the policy, and adds
+    /// Returns whether each byte of `start..start + width` has a value under the policy, and adds
     /// one test.
     ///
     /// The range, in bytes, is inside the source, `width` is at most the block, and the count of
@@ -80,8 +80,8 @@ pub trait Probe {
         requires inside { start + width ≤ length (source self.old) }
         requires narrow { width ≤ widest self.old }
         requires countable { test_count self.old < usize.MAX }
-        ensures clear { IsTrue result
-            ↔ IsClear (policy self.old) (source self.old) start (start + width) }
+        ensures valid { IsTrue result
+            ↔ AllValid (policy self.old) (source self.old) start (start + width) }
         ensures counted { test_count self.new ≡ test_count self.old + 1 }
         ensures same_looks { look_count self.new ≡ look_count self.old }
         ensures same_source { source self.new ≡ source self.old }
@@ -108,7 +108,7 @@ pub struct SliceProbe<'a> {
 }
 
 impl<'a> SliceProbe<'a> {
-    /// Answers a probe over `src` under `case`, with both counts 0.
+    /// Returns a probe over `src` under `case`, with both counts 0.
     ///
     /// ```rust
     /// let [scalar, ..] = backends();
@@ -178,20 +178,20 @@ impl<'a> Probe for SliceProbe<'a> {
 // How many whole blocks of a source of `len` bytes are tested. A source of one block is not tested:
 // its bytes are few enough to look at.
 fn block_count(len: usize) -> usize
-    ensures { result ≡ whole_blocks len }
+    ensures { result ≡ tested_blocks len }
 {
     if len > BLOCK { len / BLOCK } else { 0 }
 }
 
-// Tests the whole blocks in order, and answers where the looks begin: at the first block that does
+// Tests the whole blocks in order, and returns where the looks begin: at the first block that does
 // not pass, or behind the last one.
 fn test_blocks<P: Probe>(p: &mut P) -> usize
     requires block { P.widest p.old ≡ 64 }
     requires countable { P.test_count p.old + length (P.source p.old) < 2 ^ 64 }
-    ensures clear { IsClear (P.policy p.old) (P.source p.old) 0 result }
-    ensures start { MatchOption (fault (P.policy p.old) (P.source p.old))
-        (result ≡ 64 * whole_blocks (length (P.source p.old)))
-        (λ f. result ≡ 64 * min (whole_blocks (length (P.source p.old))) (f / 64)) }
+    ensures valid { AllValid (P.policy p.old) (P.source p.old) 0 result }
+    ensures start { MatchOption (first_invalid (P.policy p.old) (P.source p.old))
+        (result ≡ 64 * tested_blocks (length (P.source p.old)))
+        (λ f. result ≡ 64 * min (tested_blocks (length (P.source p.old))) (f / 64)) }
     ensures tests { P.test_count p.new
         ≡ P.test_count p.old + (steps (P.policy p.old) (P.source p.old)).tests }
     ensures same_looks { P.look_count p.new ≡ P.look_count p.old }
@@ -209,15 +209,15 @@ fn test_blocks<P: Probe>(p: &mut P) -> usize
 }
 
 // Looks at byte after byte from `start` on, up to the first one without a value. It makes at most
-// 64 looks, since the first fault is within a block of `start`, or the end is.
+// 64 looks, since the first invalid byte is within a block of `start`, or the end is.
 fn look_from<P: Probe>(p: &mut P, start: usize) -> Option<usize>
-    requires clear { IsClear (P.policy p.old) (P.source p.old) 0 start }
-    requires near { MatchOption (fault (P.policy p.old) (P.source p.old))
+    requires valid { AllValid (P.policy p.old) (P.source p.old) 0 start }
+    requires near { MatchOption (first_invalid (P.policy p.old) (P.source p.old))
         (length (P.source p.old) ≤ start + 64)
         (λ f. f < start + 64) }
     requires inside { start ≤ length (P.source p.old) }
     requires countable { P.look_count p.old + 64 < 2 ^ 64 }
-    ensures place { result ≡ fault (P.policy p.old) (P.source p.old) }
+    ensures place { result ≡ first_invalid (P.policy p.old) (P.source p.old) }
     ensures looks { MatchOption result
         (P.look_count p.new + start ≡ P.look_count p.old + length (P.source p.old))
         (λ f. P.look_count p.new + start ≡ P.look_count p.old + (f + 1)) }
@@ -236,7 +236,7 @@ fn look_from<P: Probe>(p: &mut P, start: usize) -> Option<usize>
     None
 }
 
-/// Answers the first place of the source whose byte has no value under the policy, from 0 and in
+/// Returns the first place of the source whose byte has no value under the policy, from 0 and in
 /// bytes, or `None` where each byte has one.
 ///
 /// A source of at most 64 bytes is looked at byte by byte from place 0. Of a longer one the whole
@@ -257,7 +257,7 @@ pub fn locate<P: Probe>(p: &mut P) -> Option<usize>
     requires block { P.widest p.old ≡ 64 }
     requires tests { P.test_count p.old + length (P.source p.old) < 2 ^ 64 }
     requires looks { P.look_count p.old + 64 < 2 ^ 64 }
-    ensures place { result ≡ fault (P.policy p.old) (P.source p.old) }
+    ensures place { result ≡ first_invalid (P.policy p.old) (P.source p.old) }
     ensures tests { P.test_count p.new
         ≡ P.test_count p.old + (steps (P.policy p.old) (P.source p.old)).tests }
     ensures looks { P.look_count p.new
@@ -272,7 +272,7 @@ pub fn locate<P: Probe>(p: &mut P) -> Option<usize>
     look_from(p, start)
 }
 
-/// Answers whether each byte of the source has a value under the policy, by tests alone.
+/// Returns whether each byte of the source has a value under the policy, by tests alone.
 ///
 /// The whole blocks are tested in order, until one does not pass. Where the length is no multiple
 /// of the block, one more block is tested, which ends with the source and overlaps the one before.
@@ -292,7 +292,7 @@ pub fn covered<P: Probe>(p: &mut P) -> bool
     requires some { 1 ≤ P.widest p.old }
     requires most { P.widest p.old ≤ length (P.source p.old) }
     requires tests { P.test_count p.old + length (P.source p.old) < 2 ^ 64 }
-    ensures clear { IsTrue result ↔ (fault (P.policy p.old) (P.source p.old) ≡ None) }
+    ensures valid { IsTrue result ↔ (first_invalid (P.policy p.old) (P.source p.old) ≡ None) }
     ensures few_tests { P.test_count p.new
         ≤ P.test_count p.old + cover (length (P.source p.old)) (P.widest p.old) }
     ensures no_looks { P.look_count p.new ≡ P.look_count p.old }

@@ -2,7 +2,7 @@
 
 ghost use Rattle.std.specs.Prelude.{◌≡◌, ◌+◌, ◌*◌, ◌<◌, ◌≤◌, ◌↔◌, IsTrue, None, length};
 ghost use Rattle.std.specs.Bool.{OnFalse, OnTrue};
-ghost use Rattle.hex_core.specs.Fault.{fault};
+ghost use Rattle.hex_core.specs.Search.{first_invalid};
 ghost use Rattle.hex_core.specs.Text.{Spells, text};
 
 use crate::digit::{CheckCase, NIL, digit_pairs_of, values_of};
@@ -10,30 +10,30 @@ use crate::digit::{CheckCase, NIL, digit_pairs_of, values_of};
 // How many bytes are looked up between two tests.
 const BLOCK: usize = 64;
 
-/// Answers whether every byte of `src` has a value under `case`.
+/// Returns whether every byte of `src` has a value under `case`.
 #[inline(never)]
 pub fn check(src: &[u8], case: CheckCase) -> bool
-    ensures { IsTrue result ↔ (fault case src.now ≡ None) }
+    ensures { IsTrue result ↔ (first_invalid case src.now ≡ None) }
 {
     let whole = src.len() / BLOCK;
     'passes: for i in 0..whole {
-        if !block_is_clear(&src[BLOCK * i..BLOCK * i + BLOCK], case) {
+        if !is_block_valid(&src[BLOCK * i..BLOCK * i + BLOCK], case) {
             return false;
         }
     }
-    block_is_clear(&src[BLOCK * whole..], case)
+    is_block_valid(&src[BLOCK * whole..], case)
 }
 
 // Whether every byte of a block has a value. All are looked up, since a branch a byte costs more.
-fn block_is_clear(block: &[u8], case: CheckCase) -> bool
-    ensures { IsTrue result ↔ (fault case block.now ≡ None) }
+fn is_block_valid(block: &[u8], case: CheckCase) -> bool
+    ensures { IsTrue result ↔ (first_invalid case block.now ≡ None) }
 {
     let values = values_of(case);
-    let mut clear = true;
+    let mut valid = true;
     for byte in block {
-        clear &= values[*byte as usize] != NIL;
+        valid &= values[*byte as usize] != NIL;
     }
-    clear
+    valid
 }
 
 // The byte of two values.
@@ -49,7 +49,7 @@ fn packed(high: u8, low: u8) -> u8
 #[inline(never)]
 pub fn write_bytes(src: &[u8], dst: &mut [u8], case: CheckCase)
     requires twice { length src.now ≡ 2 * length dst.old }
-    requires valid { fault case src.now ≡ None }
+    requires valid { first_invalid case src.now ≡ None }
     ensures { Spells case src.now dst.new }
 {
     let values = values_of(case);
@@ -58,11 +58,11 @@ pub fn write_bytes(src: &[u8], dst: &mut [u8], case: CheckCase)
     }
 }
 
-/// Writes the bytes that `src` spells into the whole of `dst`, or answers false and writes nothing.
+/// Writes the bytes that `src` spells into the whole of `dst`, or returns false and writes nothing.
 #[inline(never)]
 pub fn decode(src: &[u8], dst: &mut [u8], case: CheckCase) -> bool
     requires { length src.now ≡ 2 * length dst.old }
-    ensures valid { IsTrue result ↔ (fault case src.now ≡ None) }
+    ensures valid { IsTrue result ↔ (first_invalid case src.now ≡ None) }
     ensures decoded { OnTrue result (Spells case src.now dst.new) }
     ensures unchanged { OnFalse result (dst.new ≡ dst.old) }
 {
@@ -79,7 +79,7 @@ pub fn decode(src: &[u8], dst: &mut [u8], case: CheckCase) -> bool
 pub fn decode_short(src: &[u8], dst: &mut [u8], case: CheckCase) -> bool
     requires twice { length src.now ≡ 2 * length dst.old }
     requires few { length dst.old ≤ 7 }
-    ensures valid { IsTrue result ↔ (fault case src.now ≡ None) }
+    ensures valid { IsTrue result ↔ (first_invalid case src.now ≡ None) }
     ensures decoded { OnTrue result (Spells case src.now dst.new) }
     ensures unchanged { OnFalse result (dst.new ≡ dst.old) }
 {

@@ -2,7 +2,7 @@
 
 ghost use Rattle.std.specs.Prelude.{◌≡◌, ◌↔◌, ◌+◌, ◌*◌, ◌≤◌, ◌<◌, IsTrue, None, length, slice_index};
 ghost use Rattle.std.specs.Bool.{OnFalse, OnTrue};
-ghost use Rattle.hex_core.specs.Fault.{IsClear, fault};
+ghost use Rattle.hex_core.specs.Search.{AllValid, first_invalid};
 ghost use Rattle.hex_core.specs.Text.{Spells};
 
 use crate::blocks::{decode_four, decode_two, write_blocks};
@@ -69,7 +69,7 @@ impl<'a> Probe for BlockProbe<'a> {
 // Whether each byte of at most a block has a value.
 #[inline(always)]
 fn passes(part: &[u8], case: CheckCase) -> bool
-    ensures { IsTrue result ↔ (fault case part.now ≡ None) }
+    ensures { IsTrue result ↔ (first_invalid case part.now ≡ None) }
 {
     match part.as_array::<BLOCK>() {
         Some(block) => admitted_16(block, case) == u16::MAX,
@@ -77,10 +77,10 @@ fn passes(part: &[u8], case: CheckCase) -> bool
     }
 }
 
-/// Answers whether every byte of `src` has a value under `case`.
+/// Returns whether every byte of `src` has a value under `case`.
 #[inline(never)]
 pub fn check(src: &[u8], case: CheckCase) -> bool
-    ensures { IsTrue result ↔ (fault case src.now ≡ None) }
+    ensures { IsTrue result ↔ (first_invalid case src.now ≡ None) }
 {
     if src.len() < BLOCK {
         return scalar::check(src, case);
@@ -97,7 +97,7 @@ pub fn check(src: &[u8], case: CheckCase) -> bool
 #[inline(never)]
 pub fn write_bytes(src: &[u8], dst: &mut [u8], case: CheckCase)
     requires twice { length src.now ≡ 2 * length dst.old }
-    requires valid { fault case src.now ≡ None }
+    requires valid { first_invalid case src.now ≡ None }
     ensures { Spells case src.now dst.new }
 {
     if src.len() < BLOCK {
@@ -107,11 +107,11 @@ pub fn write_bytes(src: &[u8], dst: &mut [u8], case: CheckCase)
     }
 }
 
-/// Writes the bytes that `src` spells into the whole of `dst`, or answers false and writes nothing.
+/// Writes the bytes that `src` spells into the whole of `dst`, or returns false and writes nothing.
 #[inline(never)]
 pub fn decode(src: &[u8], dst: &mut [u8], case: CheckCase) -> bool
     requires { length src.now ≡ 2 * length dst.old }
-    ensures valid { IsTrue result ↔ (fault case src.now ≡ None) }
+    ensures valid { IsTrue result ↔ (first_invalid case src.now ≡ None) }
     ensures decoded { OnTrue result (Spells case src.now dst.new) }
     ensures unchanged { OnFalse result (dst.new ≡ dst.old) }
 {

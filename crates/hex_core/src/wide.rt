@@ -3,7 +3,7 @@
 
 ghost use Rattle.std.specs.Prelude.{◌≡◌, ◌↔◌, ◌*◌, IsTrue, None, length};
 ghost use Rattle.std.specs.Bool.{OnFalse, OnTrue};
-ghost use Rattle.hex_core.specs.Fault.{fault};
+ghost use Rattle.hex_core.specs.Search.{first_invalid};
 ghost use Rattle.hex_core.specs.Text.{Spells};
 
 use crate::blocks::{
@@ -13,10 +13,10 @@ use crate::digit::CheckCase;
 use crate::lanes::{NibbleMap, Saturating};
 use crate::scalar;
 
-/// Answers whether every byte of `src` has a value under `case`.
+/// Returns whether every byte of `src` has a value under `case`.
 #[inline(always)]
 pub fn check(src: &[u8], case: CheckCase) -> bool
-    ensures { IsTrue result ↔ (fault case src.now ≡ None) }
+    ensures { IsTrue result ↔ (first_invalid case src.now ≡ None) }
 {
     match src.len() {
         0..16 => scalar::check(src, case),
@@ -32,7 +32,7 @@ pub fn check(src: &[u8], case: CheckCase) -> bool
 #[inline(always)]
 pub fn write_bytes(src: &[u8], dst: &mut [u8], case: CheckCase)
     requires twice { length src.now ≡ 2 * length dst.old }
-    requires valid { fault case src.now ≡ None }
+    requires valid { first_invalid case src.now ≡ None }
     ensures { Spells case src.now dst.new }
 {
     match src.len() {
@@ -44,14 +44,14 @@ pub fn write_bytes(src: &[u8], dst: &mut [u8], case: CheckCase)
     }
 }
 
-/// Writes the bytes that `src` spells into the whole of `dst`, or answers false and writes nothing.
+/// Writes the bytes that `src` spells into the whole of `dst`, or returns false and writes nothing.
 /// Up to 256 digits are held in registers. `M` finds the nibbles of 64 digits.
 #[inline(never)]
 pub fn decode<M>(src: &[u8], dst: &mut [u8], case: CheckCase) -> bool
 where
     M: NibbleMap<64>,
     requires { length src.now ≡ 2 * length dst.old }
-    ensures valid { IsTrue result ↔ (fault case src.now ≡ None) }
+    ensures valid { IsTrue result ↔ (first_invalid case src.now ≡ None) }
     ensures decoded { OnTrue result (Spells case src.now dst.new) }
     ensures unchanged { OnFalse result (dst.new ≡ dst.old) }
 {

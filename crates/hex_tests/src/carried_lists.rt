@@ -3,7 +3,7 @@
 
 use crate::carried::encode;
 use crate::rules::{
-    CASES, FILL, decode_by_rule, digit, digits, first_fault, held, invalid, is_filled, pattern,
+    CASES, FILL, decode_by_rule, digit, digits, first_invalid, held, invalid, is_filled, pattern,
     patterns, seen, text_of, too_small,
 };
 use faster_hex::{
@@ -92,7 +92,7 @@ fn generated_hex_covers_success_and_controlled_failures(rt: HostRuntime) -> Resu
                 source[place] = 0xff;
                 for case in CASES {
                     let mut output = [FILL; 1088];
-                    let Some((index, byte)) = first_fault(source, case) else {
+                    let Some((index, byte)) = first_invalid(source, case) else {
                         panic!(rt; "no fault at {place} of length {len}");
                     };
                     let got = hex_decode_with_case(source, &mut output[to..to + len + spare], case);
@@ -190,7 +190,7 @@ fn arbitrary_character_checks_agree(rt: HostRuntime) {
                     );
                     assert_eq!(rt;
                         passes,
-                        first_fault(src, case).is_none(),
+                        first_invalid(src, case).is_none(),
                         "length {len}, {place}, {case:?}"
                     );
                 }

@@ -17,7 +17,7 @@ fn plans_stand_in_their_order(rt: HostRuntime) {
 // Each row: the length of a source of `0`, the places and bytes that are put in, and then the place
 // that is found, the tests and the looks.
 #[test]
-fn locates_the_first_fault_in_few_steps(rt: HostRuntime) {
+fn locates_the_first_invalid_byte_in_few_steps(rt: HostRuntime) {
     let rows: [(usize, &[(usize, u8)], Option<usize>, usize, usize); 9] = [
         (0, &[], None, 0, 0),
         (64, &[(0, b'!')], Some(0), 0, 1),
@@ -97,7 +97,7 @@ fn each_plan_decodes_the_rows(rt: HostRuntime) {
 }
 
 #[test]
-fn names_the_first_of_two_faults_in_a_long_source(rt: HostRuntime) {
+fn names_the_first_of_two_invalid_bytes_in_a_long_source(rt: HostRuntime) {
     let mut source = [b'0'; 8192];
     source[65] = b'!';
     source[8191] = 0xff;

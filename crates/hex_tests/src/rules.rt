@@ -94,7 +94,7 @@ pub fn digits<const N: usize>() -> [u8; N] {
 }
 
 /// The first byte that a policy does not read, with its place.
-pub fn first_fault(src: &[u8], case: CheckCase) -> Option<(usize, u8)> {
+pub fn first_invalid(src: &[u8], case: CheckCase) -> Option<(usize, u8)> {
     for (i, byte) in src.iter().enumerate() {
         if value(*byte, case).is_none() {
             return Some((i, *byte));
@@ -119,7 +119,7 @@ pub fn decode_by_rule(src: &[u8], dst: &mut [u8], case: CheckCase) -> Result<usi
     if dst.len() < required {
         return too_small(required);
     }
-    if let Some((index, byte)) = first_fault(src, case) {
+    if let Some((index, byte)) = first_invalid(src, case) {
         return invalid(index, byte);
     }
     for (pair, byte) in src.chunks_exact(2).zip(dst.iter_mut()) {

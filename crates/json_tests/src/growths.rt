@@ -2,9 +2,7 @@
 
 use crate::answers::{Answer, OptionAnswer, held, invalid, option_held, over};
 use faster_hex::AdapterError;
-use faster_hex::adapters::{Policy, read, read_option, text_of};
-use faster_hex::nopfx_uppercase::POLICY as PLAIN;
-use faster_hex::withpfx_ignorecase::POLICY as PREFIXED;
+use faster_hex::adapters::{WireFormat, read, read_option, text_of};
 use hex_core::Error;
 use refusing_allocator::Refusing;
 use serde_json::Value;
@@ -55,11 +53,11 @@ fn a_reading_asks_for_its_memory_once(rt: HostRuntime) -> Result<(), Fail> {
         let value = Value::from_str(rt.alloc(), text)?;
         let growths = if refused == ample { 0 } else { 1 };
         let alloc = Refusing::new(rt.alloc(), 0);
-        let got = read(&alloc, PREFIXED, max, &value);
+        let got = read(&alloc, WireFormat::WITHPFX_IGNORECASE, max, &value);
         assert_eq!(rt; held(&got), refused, "{text}, no growth granted");
         assert_eq!(rt; alloc.asked(), growths, "growths of {text}, none granted");
         alloc.set_left(1);
-        let got = read(&alloc, PREFIXED, max, &value);
+        let got = read(&alloc, WireFormat::WITHPFX_IGNORECASE, max, &value);
         assert_eq!(rt; held(&got), ample, "{text}, one growth granted");
         assert_eq!(rt;
             alloc.asked(),
@@ -83,11 +81,11 @@ fn none_asks_for_no_memory(rt: HostRuntime) -> Result<(), Fail> {
         let value = Value::from_str(rt.alloc(), text)?;
         let growths = if refused == ample { 0 } else { 1 };
         let alloc = Refusing::new(rt.alloc(), 0);
-        let got = read_option(&alloc, PREFIXED, None, &value);
+        let got = read_option(&alloc, WireFormat::WITHPFX_IGNORECASE, None, &value);
         assert_eq!(rt; option_held(&got), refused, "{text}, no growth granted");
         assert_eq!(rt; alloc.asked(), growths, "growths of {text}, none granted");
         alloc.set_left(1);
-        let got = read_option(&alloc, PREFIXED, None, &value);
+        let got = read_option(&alloc, WireFormat::WITHPFX_IGNORECASE, None, &value);
         assert_eq!(rt; option_held(&got), ample, "{text}, one growth granted");
         assert_eq!(rt;
             alloc.asked(),
@@ -98,31 +96,31 @@ fn none_asks_for_no_memory(rt: HostRuntime) -> Result<(), Fail> {
     Ok(())
 }
 
-// Each row: the policy, the bytes, and the text. Where it is not empty there is one growth, for its
+// Each row: the format, the bytes, and the text. Where it is not empty there is one growth, for its
 // exact length.
 #[test]
 fn a_text_asks_for_its_memory_once(rt: HostRuntime) {
-    let rows: [(Policy, &[u8], &str); 5] = [
-        (PREFIXED, &[0xab, 1], "0xab01"),
-        (PREFIXED, &[], "0x"),
-        (PLAIN, &[0xab, 1], "AB01"),
+    let rows: [(WireFormat, &[u8], &str); 5] = [
+        (WireFormat::WITHPFX_IGNORECASE, &[0xab, 1], "0xab01"),
+        (WireFormat::WITHPFX_IGNORECASE, &[], "0x"),
+        (WireFormat::NOPFX_UPPERCASE, &[0xab, 1], "AB01"),
         (
-            PLAIN,
+            WireFormat::NOPFX_UPPERCASE,
             &[0xcd; 20],
             "CDCDCDCDCDCDCDCDCDCDCDCDCDCDCDCDCDCDCDCD",
         ),
-        (PLAIN, &[], ""),
+        (WireFormat::NOPFX_UPPERCASE, &[], ""),
     ];
-    for (policy, bytes, text) in rows {
+    for (format, bytes, text) in rows {
         let growths = if text.is_empty() { 0 } else { 1 };
         let alloc = Refusing::new(rt.alloc(), 0);
-        match text_of(&alloc, policy, bytes) {
+        match text_of(&alloc, format, bytes) {
             Ok(string) => assert_eq!(rt; (string.as_str(), growths), (text, 0)),
             Err(e) => assert_eq!(rt; (e, growths), (REFUSED, 1)),
         }
         assert_eq!(rt; alloc.asked(), growths, "growths of {text}, none granted");
         alloc.set_left(1);
-        match text_of(&alloc, policy, bytes) {
+        match text_of(&alloc, format, bytes) {
             Ok(string) => assert_eq!(rt; (string.as_str(), string.capacity()), (text, text.len())),
             Err(e) => panic!(rt; "{e}"),
         }

@@ -3,7 +3,7 @@
 use crate::answers::{Answer, OptionAnswer, held, invalid, mismatch, option_held, over};
 use crate::modules::{MODULES, Module};
 use faster_hex::AdapterError;
-use faster_hex::adapters::{Policy, read, read_array, read_option_array, write, write_option};
+use faster_hex::adapters::{WireFormat, read, read_array, read_option_array, write, write_option};
 use hex_core::{CheckCase, Error};
 use serde_json::{Value, json};
 use std::alloc::Global;
@@ -149,22 +149,22 @@ fn values_are_written_as_json(rt: HostRuntime) -> Result<(), Fail> {
     Ok(())
 }
 
-// No module has this policy: uppercase is written, and either letter case is read.
+// No module has this format: uppercase is written, and either letter case is read.
 #[test]
-fn a_policy_may_be_the_callers_own(rt: HostRuntime) -> Result<(), Fail> {
-    let policy = Policy {
+fn a_format_may_be_the_callers_own(rt: HostRuntime) -> Result<(), Fail> {
+    let format = WireFormat {
         prefixed: true,
         upper: true,
         case: CheckCase::None,
     };
-    let value = write(rt.alloc(), policy, &[0xab, 1])?;
+    let value = write(rt.alloc(), format, &[0xab, 1])?;
     assert_eq!(rt; value.as_str(), Some("0xAB01"));
-    let got = read(rt.alloc(), policy, None, &value);
+    let got = read(rt.alloc(), format, None, &value);
     assert_eq!(rt; held(&got), Ok([0xab, 1].as_slice()));
     let value = Value::try_from_str(rt.alloc(), "0xaB")?;
-    assert_eq!(rt; read_array(policy, &value), Ok([0xab]));
-    assert_eq!(rt; read_option_array(policy, &value), Ok(Some([0xab])));
-    assert!(rt; write_option(rt.alloc(), policy, None)?.is_null());
+    assert_eq!(rt; read_array(format, &value), Ok([0xab]));
+    assert_eq!(rt; read_option_array(format, &value), Ok(Some([0xab])));
+    assert!(rt; write_option(rt.alloc(), format, None)?.is_null());
     Ok(())
 }
 

@@ -69,7 +69,7 @@ impl<B: Allocator> Refusing<B> {
     }
 }
 
-// Counts one allocation that is asked for, and answers whether it is granted.
+// Counts one allocation that is asked for, and returns whether it is granted.
 fn grants(counts: &Counts) -> bool {
     // No clause knows what a cell holds, so a plain `+` could not be shown to fit.
     counts.asked.set(counts.asked.get().saturating_add(1));

@@ -67,7 +67,7 @@ impl Write for Narrow {
     }
 }
 
-/// Takes nothing of what it is given, and answers no error.
+/// Takes nothing of what it is given, and returns no error.
 #[derive(Drop)]
 pub struct Stuck;
 

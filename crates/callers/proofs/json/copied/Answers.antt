@@ -2,15 +2,15 @@
 -- of memory alone.
 use Rattle.std.proofs.Common.{rules, ◌≡◌, ◌<◌, ℕ, List, None, get_or, arith}
 use Rattle.std.proofs.lemmas.List.Elements.{All-get_or, All-from_get_or}
-use Rattle.std.proofs.lemmas.Result.{IfOk-weaker, IfErr-weaker}
+use Rattle.std.proofs.lemmas.Result.{MatchResult-weaker}
 use Rattle.serde_json.specs.Data.{Data}
 use Rattle.serde_json.specs.View.{view}
 use Rattle.hex_core.specs.declared.error.Error.TheVariants as codec
 use Rattle.faster_hex.specs.declared.adapters.AdapterError.{AdapterError}
 use Rattle.faster_hex.specs.declared.adapters.AdapterError.TheVariants.{NotText, InvalidPrefix, InvalidLength, OverBound, Codec}
-use Rattle.faster_hex.specs.AdapterLaws.{ReadingInvertsWriting, policies}
+use Rattle.faster_hex.specs.AdapterLaws.{ReadingInvertsWriting, wire_formats}
 use Rattle.faster_hex.specs.Adapters.{ReadFailure, Reads, WriteFailure, Writes, read_refusal}
-use Rattle.faster_hex.specs.Policies as wire
+use Rattle.faster_hex.specs.WireFormats as wire
 use Rattle.callers.proofs.json.copied.Goals as goal
 
 -- what was written and is not refused is not read for want of memory alone
@@ -29,17 +29,12 @@ fails-as-writing bytes d (Codec (codec.LengthMismatch expected actual)) writes n
 -- what was written is read as the bytes
 reads-back : ReadingInvertsWriting → (bytes : List ℕ) (d : Data) → ((i : ℕ) → get_or bytes i 0 < 256) → Writes wire.nopfx_lowercase bytes d → Reads wire.nopfx_lowercase None d bytes
 reads-back law bytes d range =
-    All-get_or (λ p. Writes p bytes d → Reads p None d bytes) policies 3 wire.nopfx_lowercase (omega arith) (law bytes d (All-from_get_or (λ b. b < 256) bytes 0 (λ i _. range i)))
+    All-get_or (λ p. Writes p bytes d → Reads p None d bytes) wire_formats 3 wire.nopfx_lowercase (omega arith) (law bytes d (All-from_get_or (λ b. b < 256) bytes 0 (λ i _. range i)))
 
-pub returns-clause-ok : goal.returns-clause-ok
-returns-clause-ok c =
+pub returns : goal.returns
+returns c =
+    let bytes = c.args.bytes.now in
     let value = view c.in_ok-value.value in
-    let read = reads-back c.reading_inverts_writing.ensures.bytes c.args.bytes.now value (λ i. (c.type_inv.bytes i).fits) c.in_ok-value.ensures in
-    IfOk-weaker c.deserialize.result _ _ (λ v reads. c.a_value_is_read_as_one_list.ensures wire.nopfx_lowercase None None value v.items c.args.bytes.now reads read) c.deserialize.ensures.ok
-
-pub returns-clause-err : goal.returns-clause-err
-returns-clause-err c =
-    let value = view c.in_ok-value.value in
-    let read = reads-back c.reading_inverts_writing.ensures.bytes c.args.bytes.now value (λ i. (c.type_inv.bytes i).fits) c.in_ok-value.ensures in
-    let none : read_refusal wire.nopfx_lowercase None value ≡ None = (c.a_value_is_read_where_nothing_is_refused.ensures.list wire.nopfx_lowercase None value).1 (c.args.bytes.now, read) in
-    IfErr-weaker c.deserialize.result _ _ (λ e failure. fails-as-writing c.args.bytes.now value e c.in_ok-value.ensures none failure) c.deserialize.ensures.err
+    let read = reads-back c.reading_inverts_writing.ensures.bytes bytes value (λ i. (c.type_inv.bytes i).fits) c.in_ok-value.ensures in
+    let none : read_refusal wire.nopfx_lowercase None value ≡ None = (c.a_value_is_read_where_nothing_is_refused.ensures.list wire.nopfx_lowercase None value).1 (bytes, read) in
+    MatchResult-weaker c.deserialize.result c.deserialize.ensures (λ v reads. c.a_value_is_read_as_one_list.ensures wire.nopfx_lowercase None None value v.items bytes reads read) (λ e failure. fails-as-writing bytes value e c.in_ok-value.ensures none failure)

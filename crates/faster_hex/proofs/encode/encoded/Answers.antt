@@ -9,6 +9,6 @@ pub returns : goal.returns
 returns c =
     let bytes = c.args.bytes.now in
     let written = text c.args.upper bytes in
-    let len : c.in-Ok.len ≡ length written = c.in-Ok.ensures.answer.1 ∙ sym (length-text c.args.upper bytes) in
-    let front : take c.in-Ok.len c.hex_encode_into.new.dst ≡ written = rw (len, c.in-Ok.ensures.ok) (take-append_seam written _) in
+    let len : c.in-Ok.len ≡ length written = c.in-Ok.ensures.1 ∙ sym (length-text c.args.upper bytes) in
+    let front : take c.in-Ok.len c.hex_encode_into.new.dst ≡ written = rw (len, c.in-Ok.ensures.2) (take-append_seam written _) in
     record { text = front; ascii = rw front (IsAscii-text c.args.upper bytes (λ i. (c.type_inv.bytes i).fits)) }

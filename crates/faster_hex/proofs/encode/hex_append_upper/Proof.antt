@@ -4,6 +4,7 @@ use Rattle.faster_hex.proofs.AppendWalk.enum_laws
 use Rattle.faster_hex.proofs.AppendWalk.RS
 use Rattle.faster_hex.proofs.AppendWalk.S
 use Rattle.faster_hex.proofs.AppendWalk.E
+use Rattle.hex_core.specs.Text.{uppercase}
 use Rattle.faster_hex.specs.contracts.encode.append_in as h
 use Rattle.faster_hex.proofs.encode.append_in.Met as h_met
 use Rattle.faster_hex.specs.contracts.encode.hex_append_upper as f
@@ -41,7 +42,7 @@ hex_append_upper_spec 𝓤 𝓛 𝓜 𝓡 wired A LA g d dd mA mG =
     (and_then ! (get ! refl) (and_then ! (get ! refl) (and_then ! (true_lit !) (no_more !)))) (λ w.
     use1 𝓛 (later (some (λ (r : Result (Bor (List ℕ)) E.the_row.Denot). ((‵ (flft κ₁ q₁) ⊛ ‵ (flft κ₀ q₀) ⊛ ‵ (flft κ₂ q₂) ⊛ ‵ ftrue) ⊛ ‵ ((Answer κ₁).own_val r (w ∷ [])))
     ⊛ some (λ (ws : Lasts (h.ended A g d dd) z.0.0 z.0.3). ‵ (lasts (h.ended A g d dd) z.0.0 z.0.3 ws)
-    ⊛ (‵ (Rests Owner dst (λ new. AppendsText r (string_bytes dst.now) (text true src.now) (string_bytes new)))
+    ⊛ (‵ (Rests Owner dst (λ new. AppendsText r (string_bytes dst.now) (text uppercase src.now) (string_bytes new)))
     ⊛ raw (fact 𝓤 (Says true (string_len dst.now) src.now r))))))) (id⊢ 𝓤 _) $
     await ! tt $ pick ! (λ r. split ! $ split ! $ move ! (1 ∷ []) $
     peeks ! (Answer κ₁) (Is (Answer κ₁)) (shows 𝓛 (Answer κ₁)) r (w ∷ []) (λ is-r.

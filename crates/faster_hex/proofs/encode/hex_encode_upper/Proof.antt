@@ -3,7 +3,7 @@ use Rattle.hex_core.proofs.WalkKit.{◌≡◌, refl, [], ◌∷◌, lit<, length
 use Rattle.hex_core.proofs.Lent.{Plan, plan_vals, plan_makes, plain_plan, plain_plan_is, Lent, Answer, lent_lawful}
 use Rattle.hex_core.specs.Loan.{LendsAnswer}
 use Rattle.hex_core.specs.Refusal.{encode_refusal}
-use Rattle.hex_core.specs.Text.{text}
+use Rattle.hex_core.specs.Text.{text, uppercase}
 use Rattle.hex_core.specs.contracts.plan.Backend.encode_slice as h
 use Rattle.hex_core.proofs.plan.Backend.encode_slice.Met as h_met
 use Rattle.faster_hex.specs.contracts.encode.hex_encode_upper as f
@@ -35,7 +35,7 @@ hex_encode_upper_spec 𝓤 𝓛 𝓜 𝓡 wired =
     owned ! Plan _ (plan_makes 𝓛) plain_plan (plan_vals plain_plan) plain_plan_is $ fjoin ! $ move ! (1 ∷ 0 ∷ []) $ join ! $ use2 𝓛 (raw (G.pre z)) (id⊢ 𝓤 _) $
     calls_at ! (framed 𝓤 𝓛.H 𝓜 (tables 𝓤 𝓛.H 𝓜 𝓡 𝓡.env)) G (h_met.met 𝓤 𝓛 𝓜 𝓡 (code.calls-hex_core::plan::Backend::encode_slice 𝓡.env wired)) z (and_then ! (get ! refl) (and_then ! (get ! refl) (and_then ! (get ! refl) (and_then ! (true_lit !) (no_more !))))) (λ w.
     use1 𝓛 (later (some (λ (r : Answer). ((‵ (flft κ₀ q₀) ⊛ ‵ (flft κ q) ⊛ ‵ ftrue) ⊛ ‵ ((Lent (named 1) κ).own_val r (w ∷ []))) ⊛ some (λ (ws : Lasts h.ended z.0.0 z.0.3). ‵ (lasts h.ended z.0.0 z.0.3 ws)
-    ⊛ (‵ (LendsAnswer dst r) ⊛ raw (fact 𝓤 (MatchResult r (λ p. (encode_refusal s (length xs) ≡ None) × (p.now ≡ text true s)) (λ e. encode_refusal s (length xs) ≡ Some e)))))))) (id⊢ 𝓤 _) $
+    ⊛ (‵ (LendsAnswer dst r) ⊛ raw (fact 𝓤 (MatchResult r (λ p. (encode_refusal s (length xs) ≡ None) × (p.now ≡ text uppercase s)) (λ e. encode_refusal s (length xs) ≡ Some e)))))))) (id⊢ 𝓤 _) $
     await ! tt $ pick ! (λ r. split ! $ split ! $ move ! (1 ∷ []) $ peeks ! (Lent (named 1) κ) (Is (Lent (named 1) κ)) (shows 𝓛 (Lent (named 1) κ)) r (w ∷ []) (λ is. lands_as ! refl refl ((lent_lawful 𝓛 (named 1) κ).typed r (w ∷ []) is).0 $
     move ! (2 ∷ []) $ pick ! (λ ws. split ! $ drop ! $ split ! $ move ! (1 ∷ []) $ heard ! _ (λ answer.
     -- [the loan; the result; the tokens; the locals]

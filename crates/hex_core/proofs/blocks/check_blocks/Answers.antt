@@ -1,25 +1,25 @@
 use Rattle.std.proofs.Common.{refl, ◌≡◌, ◌+◌, ◌-◌, ◌*◌, ◌/◌, ◌%◌, length, arith}
 use Rattle.std.proofs.lemmas.Bool.Decides.{nat_tests}
-use Rattle.hex_core.specs.Fault.{IsClear}
-use Rattle.hex_core.proofs.BlockLemmas.{block_inside, clear_range, last_clear, whole_clear}
+use Rattle.hex_core.specs.Search.{AllValid}
+use Rattle.hex_core.proofs.BlockLemmas.{block_inside, valid_range, last_valid, whole_valid}
 use Rattle.hex_core.proofs.blocks.check_blocks.Goals as goal
 
-pub returns-then-not-is_clear_at : goal.returns-then-not-is_clear_at
-returns-then-not-is_clear_at g c =
+pub returns-then-not-is_valid_at : goal.returns-then-not-is_valid_at
+returns-then-not-is_valid_at g c =
     let s = c.args.src.now in let at = c.turns.i * g.row.N in
-    (λ h. cc, λ none. let t = c.is_clear_at.ensures.1 (clear_range c.args.case s at (at + g.row.N) (block_inside (length s) g.row.N c.turns.i (omega arith) (omega arith)) none) in cc)
+    (λ h. cc, λ none. let t = c.is_valid_at.ensures.1 (valid_range c.args.case s at (at + g.row.N) (block_inside (length s) g.row.N c.turns.i (omega arith) (omega arith)) none) in cc)
 
 pub returns-then-src-eq0 : goal.returns-then-src-eq0
 returns-then-src-eq0 g c =
     let s = c.args.src.now in let n = g.row.N in
     let whole : length s % n ≡ 0 = grind (arith, nat_tests) in
-    let front : IsClear c.args.case s 0 (length s / n * n) = λ k low lt. c.turns.invariant k low (grind (arith, nat_tests)) in
-    (λ h. whole_clear c.args.case s n whole front, λ none. rw c.if-src-eq0.true refl)
+    let front : AllValid c.args.case s 0 (length s / n * n) = λ k low lt. c.turns.invariant k low (grind (arith, nat_tests)) in
+    (λ h. whole_valid c.args.case s n whole front, λ none. rw c.if-src-eq0.true refl)
 
 pub returns-else-src-eq0 : goal.returns-else-src-eq0
 returns-else-src-eq0 g c =
-    let s = c.args.src.now in let n = g.row.N in let test = c.is_clear_at-else-src-eq0.ensures in
-    let front : IsClear c.args.case s 0 (length s / n * n) = λ k low lt. c.turns.invariant k low (grind (arith, nat_tests)) in
-    let last = last_clear c.args.case s n c.requires.some c.requires.least front in
+    let s = c.args.src.now in let n = g.row.N in let test = c.is_valid_at-else-src-eq0.ensures in
+    let front : AllValid c.args.case s 0 (length s / n * n) = λ k low lt. c.turns.invariant k low (grind (arith, nat_tests)) in
+    let last = last_valid c.args.case s n c.requires.some c.requires.least front in
     let end : length s - n + n ≡ length s = omega arith in
     (λ t. last.0 (λ k low lt. test.0 t k low (omega arith)), λ none. test.1 (λ k low lt. last.1 none k low (omega arith)))

@@ -1,6 +1,6 @@
 use Rattle.std.proofs.Common.{◌+◌, ◌-◌, ◌*◌, length, arith}
-use Rattle.hex_core.proofs.BlockLemmas.{clear_over, clear_range}
-use Rattle.hex_core.proofs.ProbeLemmas.{fault_none}
+use Rattle.hex_core.proofs.BlockLemmas.{valid_over, valid_range}
+use Rattle.hex_core.proofs.SearchLemmas.{first_invalid_none}
 use Rattle.hex_core.proofs.blocks.check_four.Goals as goal
 
 pub returns : goal.returns
@@ -10,9 +10,9 @@ returns g c =
           let both = c.either.ensures.zero.0 (c.is_zero.ensures.0 t) in
           let front = c.excesses_of_two-front.ensures.0 both.0 in
           let back = c.excesses_of_two-back.ensures.0 both.1 in
-          fault_none case s (clear_over case s 0 (0 + 2 * n) at (length s) (omega arith) front (λ k low lt. back k low (omega arith))),
+          first_invalid_none case s (valid_over case s 0 (0 + 2 * n) at (length s) (omega arith) front (λ k low lt. back k low (omega arith))),
       λ none.
-          let front = c.excesses_of_two-front.ensures.1 (clear_range case s 0 (0 + 2 * n) (omega arith) none) in
-          let back = c.excesses_of_two-back.ensures.1 (clear_range case s at (at + 2 * n) (omega arith) none) in
+          let front = c.excesses_of_two-front.ensures.1 (valid_range case s 0 (0 + 2 * n) (omega arith) none) in
+          let back = c.excesses_of_two-back.ensures.1 (valid_range case s at (at + 2 * n) (omega arith) none) in
           c.is_zero.ensures.1 (c.either.ensures.zero.1 (front, back)),
     )

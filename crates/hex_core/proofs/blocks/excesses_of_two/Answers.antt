@@ -1,18 +1,18 @@
 use Rattle.std.proofs.Common.{◌+◌, ◌*◌, arith}
-use Rattle.hex_core.proofs.BlockLemmas.{clear_chunk, clear_over}
+use Rattle.hex_core.proofs.BlockLemmas.{valid_chunk, valid_over}
 use Rattle.hex_core.proofs.blocks.excesses_of_two.Goals as goal
 
 pub returns : goal.returns
 returns g c =
     let case = c.args.case in let s = c.args.src.now in let n = g.row.N in let at = c.args.at in
-    let first = clear_chunk case s at n (omega arith) in
-    let second = clear_chunk case s (at + n) n (omega arith) in (
+    let first = valid_chunk case s at n (omega arith) in
+    let second = valid_chunk case s (at + n) n (omega arith) in (
       λ zero.
           let both = c.either.ensures.zero.0 zero in
           let back = second.0 (c.excess-second.ensures.zero.0 both.1) in
-          clear_over case s at (at + n) (at + n) (at + 2 * n) (omega arith) (first.0 (c.excess-first.ensures.zero.0 both.0)) (λ k low lt. back k low (omega arith)),
-      λ clear.
-          let one = c.excess-first.ensures.zero.1 (first.1 (λ k low lt. clear k low (omega arith))) in
-          let two = c.excess-second.ensures.zero.1 (second.1 (λ k low lt. clear k (omega arith) (omega arith))) in
+          valid_over case s at (at + n) (at + n) (at + 2 * n) (omega arith) (first.0 (c.excess-first.ensures.zero.0 both.0)) (λ k low lt. back k low (omega arith)),
+      λ valid.
+          let one = c.excess-first.ensures.zero.1 (first.1 (λ k low lt. valid k low (omega arith))) in
+          let two = c.excess-second.ensures.zero.1 (second.1 (λ k low lt. valid k (omega arith) (omega arith))) in
           c.either.ensures.zero.1 (one, two),
     )

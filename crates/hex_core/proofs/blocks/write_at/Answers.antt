@@ -1,9 +1,9 @@
 use Rattle.std.proofs.Common.{◌*◌, ◌+◌, refl, arith}
-use Rattle.hex_core.proofs.BlockLemmas.{clear_range, decodes}
+use Rattle.hex_core.proofs.BlockLemmas.{valid_range, decodes}
 use Rattle.hex_core.proofs.blocks.write_at.Goals as goal
 
 pub valid_nibbles_at-requires : goal.valid_nibbles_at-requires
-valid_nibbles_at-requires g c = (omega arith, (omega arith, clear_range c.args.case c.args.src.now (2 * c.args.at) (2 * c.args.at + g.row.N) (omega arith) c.requires.valid))
+valid_nibbles_at-requires g c = (omega arith, (omega arith, valid_range c.args.case c.args.src.now (2 * c.args.at) (2 * c.args.at + g.row.N) (omega arith) c.requires.valid))
 
 pub returns : goal.returns
 returns g c =

@@ -1,14 +1,14 @@
 use Rattle.std.proofs.Common.{◌+◌, ◌-◌, length, arith}
-use Rattle.hex_core.proofs.BlockLemmas.{clear_range, decodes_whole, pair_decodes}
+use Rattle.hex_core.proofs.BlockLemmas.{valid_range, decodes_whole, pair_decodes}
 use Rattle.hex_core.proofs.blocks.write_two.Goals as goal
 
 pub valid_nibbles_at-front-requires : goal.valid_nibbles_at-front-requires
-valid_nibbles_at-front-requires g c = (omega arith, (omega arith, clear_range c.args.case c.args.src.now 0 (0 + g.row.N) (omega arith) c.requires.valid))
+valid_nibbles_at-front-requires g c = (omega arith, (omega arith, valid_range c.args.case c.args.src.now 0 (0 + g.row.N) (omega arith) c.requires.valid))
 
 pub valid_nibbles_at-back-requires : goal.valid_nibbles_at-back-requires
 valid_nibbles_at-back-requires g c =
     let at = length c.args.src.now - g.row.N in
-    (omega arith, (omega arith, clear_range c.args.case c.args.src.now at (at + g.row.N) (omega arith) c.requires.valid))
+    (omega arith, (omega arith, valid_range c.args.case c.args.src.now at (at + g.row.N) (omega arith) c.requires.valid))
 
 pub returns : goal.returns
 returns g c =

@@ -1,39 +1,39 @@
 use Rattle.std.proofs.Common.{◌≡◌, ◌≤◌, ◌+◌, ◌-◌, ◌*◌, ◌/◌, ◌%◌, length, refl, sym, arith}
 use Rattle.std.proofs.lemmas.Bool.Decides.{nat_tests}
-use Rattle.hex_core.specs.Fault.{IsClear}
-use Rattle.hex_core.proofs.BlockLemmas.{block_inside, clear_range, last_clear, whole_clear}
-use Rattle.hex_core.proofs.ProbeLemmas.{clear_along}
+use Rattle.hex_core.specs.Search.{AllValid}
+use Rattle.hex_core.proofs.BlockLemmas.{block_inside, valid_range, last_valid, whole_valid}
+use Rattle.hex_core.proofs.SearchLemmas.{valid_along}
 use Rattle.hex_core.proofs.probe.covered.Goals as goal
 
-pub returns-then-not-test-clause-clear : goal.returns-then-not-test-clause-clear
-returns-then-not-test-clause-clear g c =
+pub returns-then-not-test-clause-valid : goal.returns-then-not-test-clause-valid
+returns-then-not-test-clause-valid g c =
     let s = g.P.Probe.source c.args.p.now in
     let policy = g.P.Probe.policy c.args.p.now in
     let start = c.turns.i * c.block-block.result in
     let kept = c.turns.invariant in
     let inside : start + c.block-block.result ≤ length s = omega (arith, block_inside c.len-len.result c.block-block.result c.turns.i (omega arith) c.turns-test.true) in
-    let fails : ¬ IsClear policy s start (start + c.block-block.result) = λ clear. let t = c.test.ensures.clear.1 (clear_along _ _ (sym kept.same_policy) (sym kept.same_source) clear) in cc in
-    (λ h. cc, λ none. absurd (fails (clear_range policy s start (start + c.block-block.result) inside none)))
+    let fails : ¬ AllValid policy s start (start + c.block-block.result) = λ valid. let t = c.test.ensures.valid.1 (valid_along _ _ (sym kept.same_policy) (sym kept.same_source) valid) in cc in
+    (λ h. cc, λ none. absurd (fails (valid_range policy s start (start + c.block-block.result) inside none)))
 
-pub returns-then-len-block-eq0-clause-clear : goal.returns-then-len-block-eq0-clause-clear
-returns-then-len-block-eq0-clause-clear g c =
+pub returns-then-len-block-eq0-clause-valid : goal.returns-then-len-block-eq0-clause-valid
+returns-then-len-block-eq0-clause-valid g c =
     let s = g.P.Probe.source c.args.p.now in
     let policy = g.P.Probe.policy c.args.p.now in
     let block = g.P.Probe.widest c.args.p.now in
     let whole : length s % block ≡ 0 = grind (arith, nat_tests) in
-    let front : IsClear policy s 0 (length s / block * block) = λ k low lt. c.turns.invariant.clear k low (grind (arith, nat_tests)) in
-    (λ h. whole_clear policy s block whole front, λ none. rw (c.if-len-block-eq0.true) refl)
+    let front : AllValid policy s 0 (length s / block * block) = λ k low lt. c.turns.invariant.valid k low (grind (arith, nat_tests)) in
+    (λ h. whole_valid policy s block whole front, λ none. rw (c.if-len-block-eq0.true) refl)
 
-pub returns-else-len-block-eq0-clause-clear : goal.returns-else-len-block-eq0-clause-clear
-returns-else-len-block-eq0-clause-clear g c =
+pub returns-else-len-block-eq0-clause-valid : goal.returns-else-len-block-eq0-clause-valid
+returns-else-len-block-eq0-clause-valid g c =
     let s = g.P.Probe.source c.args.p.now in
     let policy = g.P.Probe.policy c.args.p.now in
     let block = g.P.Probe.widest c.args.p.now in
     let kept = c.turns.invariant in
-    let front : IsClear policy s 0 (length s / block * block) = λ k low lt. kept.clear k low (grind (arith, nat_tests)) in
-    let last = last_clear policy s block c.requires.some c.requires.most front in
+    let front : AllValid policy s 0 (length s / block * block) = λ k low lt. kept.valid k low (grind (arith, nat_tests)) in
+    let last = last_valid policy s block c.requires.some c.requires.most front in
     let from : c.len-len.result - c.block-block.result ≡ length s - block = omega arith in
     let to : c.len-len.result - c.block-block.result + c.block-block.result ≡ length s = omega arith in (
-      λ passed. last.0 (λ k low lt. clear_along _ _ kept.same_policy kept.same_source (c.test-else-len-block-eq0.ensures.clear.0 passed) k (omega arith) (omega arith)),
-      λ none. c.test-else-len-block-eq0.ensures.clear.1 (clear_along _ _ (sym kept.same_policy) (sym kept.same_source) (λ k low lt. last.1 none k (omega arith) (omega arith))),
+      λ passed. last.0 (λ k low lt. valid_along _ _ kept.same_policy kept.same_source (c.test-else-len-block-eq0.ensures.valid.0 passed) k (omega arith) (omega arith)),
+      λ none. c.test-else-len-block-eq0.ensures.valid.1 (valid_along _ _ (sym kept.same_policy) (sym kept.same_source) (λ k low lt. last.1 none k (omega arith) (omega arith))),
     )

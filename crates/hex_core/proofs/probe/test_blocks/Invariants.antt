@@ -1,10 +1,10 @@
 use Rattle.std.proofs.Common.{◌≡◌, ◌+◌, ◌*◌}
-use Rattle.hex_core.specs.Fault.{IsClear}
+use Rattle.hex_core.specs.Search.{AllValid}
 use Rattle.hex_core.proofs.probe.test_blocks.Given as goal
 
 abbrev pub invariant-loop-i : goal.invariant-loop-i
 invariant-loop-i g l = record {
-  clear : IsClear (g.P.Probe.policy l.fn.p) (g.P.Probe.source l.fn.p) 0 (64 * l.i);
+  valid : AllValid (g.P.Probe.policy l.fn.p) (g.P.Probe.source l.fn.p) 0 (64 * l.i);
   counted : g.P.Probe.test_count l.p ≡ g.P.Probe.test_count l.fn.p + l.i;
   same_looks : g.P.Probe.look_count l.p ≡ g.P.Probe.look_count l.fn.p;
   same_source : g.P.Probe.source l.p ≡ g.P.Probe.source l.fn.p;

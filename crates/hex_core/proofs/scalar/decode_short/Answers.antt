@@ -1,10 +1,9 @@
 -- Each turn keeps one more byte in the number, and then each takes one out of it.
 use Rattle.std.proofs.Math.ListN.{length-set, set}
 use Rattle.std.proofs.Common.{◌≡◌, ℕ, ◌%◌, ◌<◌, ◌+◌, ◌-◌, ◌*◌, length, get_or, None, refl, sym, ap, ◌∙◌, arith}
-use Rattle.hex_core.specs.Fault.{IsClear, fault}
-use Rattle.hex_core.proofs.FaultLemmas.{admitted}
+use Rattle.hex_core.specs.Search.{AllValid, first_invalid}
 use Rattle.hex_core.proofs.NumberLemmas.{byte_more, limit_small, number, number_more, number_small, pair_entries}
-use Rattle.hex_core.proofs.ProbeLemmas.{fault_none}
+use Rattle.hex_core.proofs.SearchLemmas.{first_invalid_none, has_value}
 use Rattle.hex_core.proofs.TableLemmas.{value-entry}
 use Rattle.hex_core.proofs.scalar.decode_short.Goals as goal
 use Rattle.hex_core.proofs.scalar.decode_short.Goals.{then-high-via-then-high, then-high-via-else-high+then-low}
@@ -12,7 +11,7 @@ use Rattle.hex_core.proofs.scalar.decode_short.Goals.{then-high-via-then-high, t
 pub returns-then-high-clause-valid : goal.returns-then-high-clause-valid
 returns-then-high-clause-valid c =
     let s = c.args.src.now in
-    let entry : fault c.args.case s ≡ None → (k : ℕ) → k < length s → get_or c.values_of-values.result.now (get_or s k 0) 0 < 16 = λ none k inside. (value-entry c.args.case _ (get_or s k 0) c.values_of-values.ensures (c.type_inv.src k).fits (admitted c.args.case s k none inside)).1 in (
+    let entry : first_invalid c.args.case s ≡ None → (k : ℕ) → k < length s → get_or c.values_of-values.result.now (get_or s k 0) 0 < 16 = λ none k inside. (value-entry c.args.case _ (get_or s k 0) c.values_of-values.ensures (c.type_inv.src k).fits (has_value c.args.case s k none inside)).1 in (
       λ h. cc,
       λ none. elim c.then-high.branch [
         | then-high-via-then-high w ↦ absurd (omega (arith, w.if-high.true, entry none (2 * c.pairs.i) (omega arith)))
@@ -28,27 +27,27 @@ packed-requires-clause-low c = (pair_entries c.args.case _ c.args.src.now c.pair
 
 pub overflow_mul-kept : goal.overflow_mul-kept
 overflow_mul-kept c =
-    record { fits = omega (arith, c.pairs.invariant.kept, number_small c.args.case c.args.src.now c.pairs.i c.pairs.invariant.clear, limit_small c.pairs.i (omega arith)) }
+    record { fits = omega (arith, c.pairs.invariant.kept, number_small c.args.case c.args.src.now c.pairs.i c.pairs.invariant.valid, limit_small c.pairs.i (omega arith)) }
 
 pub overflow_add-kept : goal.overflow_add-kept
 overflow_add-kept c =
-    record { fits = omega (arith, c.packed.ensures, c.packed.type_inv, c.pairs.invariant.kept, number_small c.args.case c.args.src.now c.pairs.i c.pairs.invariant.clear, limit_small c.pairs.i (omega arith)) }
+    record { fits = omega (arith, c.packed.ensures, c.packed.type_inv, c.pairs.invariant.kept, number_small c.args.case c.args.src.now c.pairs.i c.pairs.invariant.valid, limit_small c.pairs.i (omega arith)) }
 
 pub pairs-preserved : goal.pairs-preserved
 pairs-preserved c =
     let both = pair_entries c.args.case _ c.args.src.now c.pairs.i c.values_of-values.ensures (λ k. (c.type_inv.src k).fits) c.if-high.false c.if-low.false in
-    let more = number_more c.args.case c.args.src.now c.pairs.i c.pairs.kept _ _ c.packed.result c.pairs.invariant.kept c.pairs.invariant.clear both.0.0 both.1.0 c.packed.ensures in
-    record { kept = more.0; clear = more.1 }
+    let more = number_more c.args.case c.args.src.now c.pairs.i c.pairs.kept _ _ c.packed.result c.pairs.invariant.kept c.pairs.invariant.valid both.0.0 both.1.0 c.packed.ensures in
+    record { kept = more.0; valid = more.1 }
 
 pub bytes-preserved : goal.bytes-preserved
 bytes-preserved c =
     let n = length c.bytes.dst in
     let at = n - 1 - c.bytes.i in
-    let valid : IsClear c.args.case c.args.src.now 0 (2 * n) = λ k low lt. c.pairs.invariant.clear k low (omega arith) in
+    let valid : AllValid c.args.case c.args.src.now 0 (2 * n) = λ k low lt. c.pairs.invariant.valid k low (omega arith) in
     let more = byte_more c.args.case c.args.src.now c.bytes.dst n at (n - c.bytes.i) c.bytes.kept (omega arith) (omega arith) refl (omega arith) valid c.bytes.invariant.kept c.bytes.invariant.written in
     let long : length (set c.bytes.dst at (c.bytes.kept % 256)) ≡ n = length-set c.bytes.dst at (c.bytes.kept % 256) in
     let place : length (set c.bytes.dst at (c.bytes.kept % 256)) - (c.bytes.i + 1) ≡ at = omega arith in
     record { kept = more.0 ∙ ap (number c.args.case c.args.src.now) (sym place); written = λ k low lt. more.1 k (omega arith) (omega arith) }
 
 pub returns-clause-valid : goal.returns-clause-valid
-returns-clause-valid c = (λ h. fault_none c.args.case c.args.src.now (λ k low lt. c.pairs.invariant.clear k low (omega arith)), λ none. refl)
+returns-clause-valid c = (λ h. first_invalid_none c.args.case c.args.src.now (λ k low lt. c.pairs.invariant.valid k low (omega arith)), λ none. refl)

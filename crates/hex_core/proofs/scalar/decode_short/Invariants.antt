@@ -1,6 +1,6 @@
 use Rattle.std.proofs.Common.{◌≡◌, ◌-◌, ◌*◌, length}
 use Rattle.hex_core.specs.Blocks.{SpellsRange}
-use Rattle.hex_core.specs.Fault.{IsClear}
+use Rattle.hex_core.specs.Search.{AllValid}
 use Rattle.hex_core.proofs.NumberLemmas.{number}
 use Rattle.hex_core.proofs.scalar.decode_short.Given as goal
 
@@ -8,7 +8,7 @@ use Rattle.hex_core.proofs.scalar.decode_short.Given as goal
 abbrev pub invariant-pairs : goal.invariant-pairs
 invariant-pairs l = record {
   kept : l.kept ≡ number l.fn.case l.src l.i;
-  clear : IsClear l.fn.case l.src 0 (2 * l.i);
+  valid : AllValid l.fn.case l.src 0 (2 * l.i);
 }
 
 -- the last bytes are written, and the others still kept

@@ -1,7 +1,7 @@
 -- The parts that were put, one behind another, are the text, or a beginning of it where one failed.
 use Rattle.std.proofs.Common.{◌≡◌, ◌-◌, ◌++◌, codes, encode_utf8, ◌∙◌}
 use Rattle.std.specs.List.{repeat}
-use Rattle.faster_hex.specs.Frame.{digits_of, fills, head}
+use Rattle.faster_hex.specs.Frame.{digits_of, fills, sign_and_prefix}
 use Rattle.faster_hex.proofs.FrameFacts.{frame-fills, frame-zeros}
 use Rattle.faster_hex.proofs.PutsLemmas.{Failed-stop, Failed-then, Puts-err, Puts-then}
 use Rattle.faster_hex.proofs.format.Hex.write_to.Goals as goal
@@ -43,7 +43,7 @@ returns-in_err-put_copies-2 g c =
     let left = c.before_text-left.result in
     let fill : c.as_bytes-fill.result.now ≡ encode_utf8 flags.fill = c.as_bytes-fill.ensures.value ∙ c.encode_utf8.ensures.value in
     let whole = frame-fills flags bytes padding left c.if-flags.false c.padding_of_view-padding.ensures c.before_text-left.ensures.value in
-    let first = Failed-stop _ _ _ _ _ (head flags ++ (digits_of flags bytes ++ fills flags (padding - left))) (rw fill at c.in_err-put_copies-2.ensures) in
+    let first = Failed-stop _ _ _ _ _ (sign_and_prefix flags ++ (digits_of flags bytes ++ fills flags (padding - left))) (rw fill at c.in_err-put_copies-2.ensures) in
     Puts-err _ _ _ _ c.from_residual-in_err-put_copies-2.result _ c.from_residual-in_err-put_copies-2.ensures.0 (rw whole at first)
 
 pub returns-in_err-put_all-2 : goal.returns-in_err-put_all-2

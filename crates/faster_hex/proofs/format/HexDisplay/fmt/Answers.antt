@@ -2,7 +2,7 @@
 use Rattle.std.proofs.Common.{◌++◌, false, ◌∙◌, rules, append_assoc}
 use Rattle.std.proofs.Output.{has_written_append}
 use Rattle.std.specs.Slice.Iter.{chunks_rest}
-use Rattle.hex_core.specs.Text.{text}
+use Rattle.hex_core.specs.Text.{lowercase, text}
 use Rattle.faster_hex.proofs.TextFacts.{text-next}
 use Rattle.faster_hex.proofs.format.HexDisplay.fmt.Goals as goal
 
@@ -17,6 +17,6 @@ loop-chunk-preserved g c =
       steps.0 ∙ c.loop-chunk.invariant.2,
       λ plain.
           let so_far = c.loop-chunk.invariant.3 plain in
-          let whole = text-next false so_far.0 shown (text false bytes) (chunks_rest c.loop-chunk.chunk-iterator) c.in-Some.chunk.now rest so_far.2 steps.1.0 c.encoded-digits.ensures.text in
-          (so_far.0 ++ shown, has_written_append _ _ _ _ _ _ so_far.1 (search rules), append_assoc so_far.0 shown (text false rest) ∙ whole),
+          let whole = text-next false so_far.0 shown (text lowercase bytes) (chunks_rest c.loop-chunk.chunk-iterator) c.in-Some.chunk.now rest so_far.2 steps.1.0 c.encoded-digits.ensures.text in
+          (so_far.0 ++ shown, has_written_append _ _ _ _ _ _ so_far.1 (search rules), append_assoc so_far.0 shown (text lowercase rest) ∙ whole),
     )

@@ -2,7 +2,7 @@
 use Rattle.std.proofs.Common.{◌≡◌, ℕ, List, ◌++◌, false}
 use Rattle.std.specs.Fmt.{HasWritten, IsPlainFormatter}
 use Rattle.std.specs.Slice.Iter.{chunks_rest, chunks_size}
-use Rattle.hex_core.specs.Text.{text}
+use Rattle.hex_core.specs.Text.{lowercase, text}
 use Rattle.faster_hex.specs.Frame.{hex_bytes}
 use Rattle.faster_hex.proofs.format.HexDisplay.fmt.Given as goal
 
@@ -12,4 +12,4 @@ invariant-loop-chunk g l =
     × (goal.iterator-loop-chunk g).is_finite l.chunk-iterator
     × (chunks_size l.chunk-iterator ≡ 512)
     × (IsPlainFormatter l.initial.f → (done : List ℕ) × HasWritten g.W.Write.write_str_gives l.initial.f done l.f
-    × (done ++ text false (chunks_rest l.chunk-iterator) ≡ text false (hex_bytes l.fn.self)))
+    × (done ++ text lowercase (chunks_rest l.chunk-iterator) ≡ text lowercase (hex_bytes l.fn.self)))

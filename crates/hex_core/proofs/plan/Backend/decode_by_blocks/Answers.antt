@@ -1,26 +1,26 @@
 use Rattle.std.proofs.Common.{None, ◌≡◌, ◌+◌, ◌*◌, length, arith}
 use Rattle.std.proofs.lemmas.Bool.{OnFalse_at, OnFalse_from, OnTrue_at, OnTrue_from}
-use Rattle.hex_core.specs.Fault.{fault}
-use Rattle.hex_core.proofs.BlockLemmas.{clear_range, decodes_over, decodes_whole, rest_valid}
+use Rattle.hex_core.specs.Search.{first_invalid}
+use Rattle.hex_core.proofs.BlockLemmas.{valid_range, decodes_over, decodes_whole, rest_valid}
 use Rattle.hex_core.proofs.OwnedLemmas.{blocks_stored, part_decoded, part_same}
 use Rattle.hex_core.proofs.plan.Backend.decode_by_blocks.Goals as goal
 
 pub returns-then-dst-done-clause-valid : goal.returns-then-dst-done-clause-valid
 returns-then-dst-done-clause-valid g c =
     let s = c.args.src.now in let blocks = c.decode_blocks-done in let done = 2 * blocks.result in
-    (λ h. cc, λ none. absurd (blocks.ensures.stopped (omega arith) (clear_range c.args.case s done (done + 2 * g.row.N) (omega arith) none)))
+    (λ h. cc, λ none. absurd (blocks.ensures.stopped (omega arith) (valid_range c.args.case s done (done + 2 * g.row.N) (omega arith) none)))
 
 pub returns-then-dst-done-clause-stored : goal.returns-then-dst-done-clause-stored
 returns-then-dst-done-clause-stored g c =
     let case = c.args.case in let s = c.args.src.now in let blocks = c.decode_blocks-done in let done = blocks.result in let i = blocks.ensures.whole.0 in let block = 2 * g.row.N in
     let even : 2 * done ≡ i * block = omega (arith, blocks.ensures.whole.1) in
-    let bad : ¬ (fault case s ≡ None) = λ none. blocks.ensures.stopped (omega arith) (clear_range case s (2 * done) (2 * done + block) (omega arith) none) in
-    blocks_stored case s c.args.dst.now blocks.new.dst i block done (omega arith) (omega arith) even (omega arith) (omega arith) bad blocks.ensures.clear blocks.ensures.stopped blocks.ensures.decoded
+    let bad : ¬ (first_invalid case s ≡ None) = λ none. blocks.ensures.stopped (omega arith) (valid_range case s (2 * done) (2 * done + block) (omega arith) none) in
+    blocks_stored case s c.args.dst.now blocks.new.dst i block done (omega arith) (omega arith) even (omega arith) (omega arith) bad blocks.ensures.valid blocks.ensures.stopped blocks.ensures.decoded
 
 pub returns-clause-valid : goal.returns-clause-valid
 returns-clause-valid g c =
     let blocks = c.decode_blocks-done in
-    rest_valid c.args.case c.args.src.now (2 * blocks.result) c.decode.result (omega arith) blocks.ensures.clear c.decode.ensures.valid
+    rest_valid c.args.case c.args.src.now (2 * blocks.result) c.decode.result (omega arith) blocks.ensures.valid c.decode.ensures.valid
 
 pub returns-clause-decoded : goal.returns-clause-decoded
 returns-clause-decoded g c =
@@ -33,7 +33,7 @@ pub returns-clause-stored : goal.returns-clause-stored
 returns-clause-stored g c =
     let case = c.args.case in let s = c.args.src.now in let blocks = c.decode_blocks-done in let mid = blocks.new.dst in let done = blocks.result in let i = blocks.ensures.whole.0 in let block = 2 * g.row.N in
     let even : 2 * done ≡ i * block = omega (arith, blocks.ensures.whole.1) in
-    let valid = rest_valid case s (2 * done) c.decode.result (omega arith) blocks.ensures.clear c.decode.ensures.valid in
+    let valid = rest_valid case s (2 * done) c.decode.result (omega arith) blocks.ensures.valid c.decode.ensures.valid in
     OnFalse_from c.decode.result _ (λ f.
-    let bad : ¬ (fault case s ≡ None) = λ none. let t = valid.1 none in cc in
-    rw (part_same mid c.decode.new.dst done (omega arith) (OnFalse_at f c.decode.ensures.unchanged)) (blocks_stored case s c.args.dst.now mid i block done (omega arith) (omega arith) even (omega arith) (omega arith) bad blocks.ensures.clear blocks.ensures.stopped blocks.ensures.decoded))
+    let bad : ¬ (first_invalid case s ≡ None) = λ none. let t = valid.1 none in cc in
+    rw (part_same mid c.decode.new.dst done (omega arith) (OnFalse_at f c.decode.ensures.unchanged)) (blocks_stored case s c.args.dst.now mid i block done (omega arith) (omega arith) even (omega arith) (omega arith) bad blocks.ensures.valid blocks.ensures.stopped blocks.ensures.decoded))

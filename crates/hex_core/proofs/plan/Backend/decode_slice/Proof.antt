@@ -3,7 +3,7 @@ use Rattle.hex_core.proofs.WalkKit.{◌≡◌, refl, subst, ℕ, ◌*◌, ◌/�
 use borrow.Table.Elements.{length-take-le}
 use Rattle.hex_core.proofs.Lent.{Plan, plan_vals, plan_tells, plan_lawful, plan_makes, Policy, policy_vals, policy_tells, policy_lawful, policy_makes, Counted, counted_lawful, Lent, Answer, lent_lawful, LendsFront, same_loan}
 use Rattle.hex_core.proofs.Refused.{decodes}
-use Rattle.hex_core.specs.Fault.{fault}
+use Rattle.hex_core.specs.Search.{first_invalid}
 use Rattle.hex_core.specs.Loan.{LendsAnswer}
 use Rattle.hex_core.specs.Refusal.{decode_refusal}
 use Rattle.hex_core.specs.Text.{Spells}
@@ -31,7 +31,7 @@ inside case s xs (Err e) h = tt
 
 -- what is lent is as long as what a valid source spells
 ready : (case : Policy.Denot) (s xs : List ℕ) (u : Counted.Denot) (r : Answer) → Accepts case s (length xs) u → LendsFront xs u r → IfErr u (λ e. r ≡ Err e)
-    → IfOk r (λ p. (length s ≡ 2 * length p.now) × (fault case s ≡ None))
+    → IfOk r (λ p. (length s ≡ 2 * length p.now) × (first_invalid case s ≡ None))
 ready case s xs (Ok n) (Ok p) h ok err = let d = decodes case s (length xs) h.0 in let fits : n ≤ length xs = rw h.1 d.fits in (rw (ok, length-take-le n xs fits, h.1) d.even, d.valid)
 ready case s xs (Ok n) (Err e) h ok err = tt
 ready case s xs (Err e) r h ok err = rw err tt
@@ -92,7 +92,7 @@ decode_slice_spec 𝓤 𝓛 𝓜 𝓡 wired =
     let z'' : G''.Ghost = (((κ₀, (κ, tt)), (q₀, (q, tt)), tt, (plan, (src, (r, (case, tt)))), (plan_vs, (shr_slice_vals src, (w ∷ [], (case_vs, tt))))), tt) in
     nothing ! $ owned ! Policy _ (policy_makes 𝓛) case case_vs are.1.1.1.0 $ fjoin ! $ move ! (2 ∷ 0 ∷ []) $ fjoin ! $ move ! (5 ∷ 0 ∷ []) $ fjoin ! $ owned ! Plan _ (plan_makes 𝓛) plan plan_vs are.0 $ fjoin ! $
     move ! (2 ∷ 3 ∷ []) $ join ! $ move ! (3 ∷ 0 ∷ []) $ join ! $ join ! $
-    use0 𝓛 (raw (fact 𝓤 (IfOk r (λ p. (length s ≡ 2 * length p.now) × (fault case s ≡ None))))) (fact_i 𝓤 _ (emp 𝓤) (ready case s xs u r accepts ok err)) $ move ! (1 ∷ 0 ∷ []) $ use2 𝓛 (raw (G''.pre z'')) (id⊢ 𝓤 _) $
+    use0 𝓛 (raw (fact 𝓤 (IfOk r (λ p. (length s ≡ 2 * length p.now) × (first_invalid case s ≡ None))))) (fact_i 𝓤 _ (emp 𝓤) (ready case s xs u r accepts ok err)) $ move ! (1 ∷ 0 ∷ []) $ use2 𝓛 (raw (G''.pre z'')) (id⊢ 𝓤 _) $
     calls_at ! framed_calls G'' (k_met.met 𝓤 𝓛 𝓜 𝓡 (code.calls-hex_core::plan::Backend::decoded 𝓡.env wired)) z'' (and_then ! (get ! refl) (and_then ! (get ! refl) (and_then ! (get ! refl) (and_then ! (get ! refl) (no_more !))))) (λ y.
     use1 𝓛 (later (some (λ (t : Answer). ((‵ (flft κ₀ q₀) ⊛ ‵ (flft κ q) ⊛ ‵ ftrue) ⊛ ‵ ((Lent (named 1) κ).own_val t (y ∷ []))) ⊛ some (λ (ws'' : Lasts k.ended z''.0.0 z''.0.3). ‵ (lasts k.ended z''.0.0 z''.0.3 ws'')
     ⊛ (raw (fact 𝓤 (Writes case s r t)) ⊛ raw (fact 𝓤 (IfErr r (λ e. t ≡ Err e)))))))) (id⊢ 𝓤 _) $

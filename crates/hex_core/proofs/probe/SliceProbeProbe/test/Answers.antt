@@ -1,11 +1,11 @@
 use Rattle.std.proofs.Common.{◌+◌}
-use Rattle.hex_core.proofs.ProbeLemmas.{clear_part, part_clear}
+use Rattle.hex_core.proofs.SearchLemmas.{valid_part, part_valid}
 use Rattle.hex_core.proofs.probe.SliceProbeProbe.test.Goals as goal
 
-pub returns-clause-clear : goal.returns-clause-clear
-returns-clause-clear c =
+pub returns-clause-valid : goal.returns-clause-valid
+returns-clause-valid c =
     let p = c.args.self.now in
     let end = c.args.start + c.args.width in (
-      λ passed. clear_part p.case p.src.now c.args.start end c.requires.inside (c.check.ensures.0 passed),
-      λ clear. c.check.ensures.1 (part_clear p.case p.src.now c.args.start end c.requires.inside clear),
+      λ passed. valid_part p.case p.src.now c.args.start end c.requires.inside (c.check.ensures.0 passed),
+      λ valid. c.check.ensures.1 (part_valid p.case p.src.now c.args.start end c.requires.inside valid),
     )

@@ -1,4 +1,4 @@
-//! What each policy reads and writes: every call of every module, over one table of texts.
+//! What each format reads and writes: every call of every module, over one table of texts.
 
 ghost use Rattle.std.specs.Prelude.{◌<◌};
 
@@ -11,7 +11,7 @@ use std::alloc::Global;
 use std::process::Abort;
 use std::test::Fail;
 
-// The texts that each policy is asked to read.
+// The texts that each format is asked to read.
 const TEXTS: [&str; 11] = [
     "0xab", "0xAB", "0xaB", "ab", "AB", "aB", "", "0x", "0X", "0xa", "a",
 ];
@@ -63,7 +63,7 @@ const LOW_X_1: Answer = Err(AdapterError::Codec(Error::InvalidChar {
     byte: b'x',
 }));
 
-// The modules of a policy; what it answers for each of `TEXTS`, read with no bound, within one byte
+// The modules of a format; what it answers for each of `TEXTS`, read with no bound, within one byte
 // and as an array of one; and what it writes for `[0xab, 1]` and for no bytes.
 #[derive(Drop)]
 struct Row {
@@ -173,7 +173,7 @@ fn rows() -> [Row; 6] {
 }
 
 #[test]
-fn each_module_reads_by_its_policy(rt: HostRuntime) -> Result<(), Fail> {
+fn each_module_reads_by_its_format(rt: HostRuntime) -> Result<(), Fail> {
     for row in rows() {
         for module in row.modules {
             for (text, answer) in TEXTS.into_iter().zip(row.read) {
@@ -212,7 +212,7 @@ fn each_module_reads_arrays(rt: HostRuntime) -> Result<(), Fail> {
 }
 
 #[test]
-fn each_module_writes_by_its_policy(rt: HostRuntime) -> Result<(), Fail> {
+fn each_module_writes_by_its_format(rt: HostRuntime) -> Result<(), Fail> {
     for row in rows() {
         for module in row.modules {
             module.expect_written(&rt, rt.alloc(), &[0xab, 1], row.written)?;

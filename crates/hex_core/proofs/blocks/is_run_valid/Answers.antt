@@ -1,13 +1,13 @@
 use Rattle.std.proofs.Common.{◌≡◌, ◌+◌, ◌*◌, ◌≤◌, length, arith}
 use Rattle.std.proofs.lemmas.Bool.Decides.{nat_tests}
-use Rattle.hex_core.proofs.BlockLemmas.{clear_chunk, clear_over}
-use Rattle.hex_core.proofs.blocks.is_run_clear.Goals as goal
+use Rattle.hex_core.proofs.BlockLemmas.{valid_chunk, valid_over}
+use Rattle.hex_core.proofs.blocks.is_run_valid.Goals as goal
 
 pub turns-init : goal.turns-init
 turns-init g c =
-    let first = clear_chunk c.args.case c.args.src.now c.args.at g.row.N (omega arith) in (
+    let first = valid_chunk c.args.case c.args.src.now c.args.at g.row.N (omega arith) in (
       λ zero k low lt. first.0 (c.excess-excesses.ensures.zero.0 zero) k low (omega arith),
-      λ clear. c.excess-excesses.ensures.zero.1 (first.1 (λ k low lt. clear k low (omega arith))),
+      λ valid. c.excess-excesses.ensures.zero.1 (first.1 (λ k low lt. valid k low (omega arith))),
     )
 
 pub turns-preserved : goal.turns-preserved
@@ -15,18 +15,18 @@ turns-preserved g c =
     let case = c.args.case in let s = c.args.src.now in let n = g.row.N in let start = c.args.at in let at = start + c.turns.i * n in
     let next : (c.turns.i + 1) * n ≡ c.turns.i * n + n = grind (arith, nat_tests) in
     let inside : at + n ≤ length s = grind (arith, nat_tests) in
-    let block = clear_chunk case s at n inside in (
+    let block = valid_chunk case s at n inside in (
       λ zero k low lt.
           let both = c.either-excesses.ensures.zero.0 zero in
-          clear_over case s start at at (at + n) (omega arith) (c.turns.invariant.0 both.0) (block.0 (c.excess.ensures.zero.0 both.1)) k low (omega (arith, next)),
-      λ clear.
-          let front = c.turns.invariant.1 (λ k low lt. clear k low (omega (arith, next))) in
-          c.either-excesses.ensures.zero.1 (front, c.excess.ensures.zero.1 (block.1 (λ k low lt. clear k (omega arith) (omega (arith, next))))),
+          valid_over case s start at at (at + n) (omega arith) (c.turns.invariant.0 both.0) (block.0 (c.excess.ensures.zero.0 both.1)) k low (omega (arith, next)),
+      λ valid.
+          let front = c.turns.invariant.1 (λ k low lt. valid k low (omega (arith, next))) in
+          c.either-excesses.ensures.zero.1 (front, c.excess.ensures.zero.1 (block.1 (λ k low lt. valid k (omega arith) (omega (arith, next))))),
     )
 
 pub returns : goal.returns
 returns g c =
     let all : c.turns.i ≡ 8 = omega arith in (
       λ t k low lt. c.turns.invariant.0 (c.is_zero.ensures.0 t) k low (rw all lt),
-      λ clear. c.is_zero.ensures.1 (c.turns.invariant.1 (λ k low lt. clear k low (rw (← all) lt))),
+      λ valid. c.is_zero.ensures.1 (c.turns.invariant.1 (λ k low lt. valid k low (rw (← all) lt))),
     )

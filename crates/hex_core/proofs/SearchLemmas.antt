@@ -1,0 +1,149 @@
+-- The first invalid byte, by ranges of which all bytes are valid.
+use Rattle.std.proofs.Common.{◌≡◌, ℕ, ◌+◌, ◌-◌, ◌*◌, ◌/◌, ◌<◌, ◌≤◌, Bool, true, false, inl, inr, List, length, slice_index, Option, Some, None, is_none, is_some, refl, sym, ◌∙◌, ap, subst, arith}
+use Rattle.std.specs.Prelude.{IsSome, MatchOption, min, slice_range}
+use Rattle.std.proofs.lemmas.Bool.{cases_lt}
+use Rattle.std.proofs.lemmas.Bool.Decides.{nat_tests}
+use Rattle.std.proofs.lemmas.Grind.{common_steps}
+use Rattle.std.proofs.lemmas.List.Quantifiers.{position-Some}
+use Rattle.hex_core.specs.declared.digit.CheckCase.{CheckCase}
+use Rattle.hex_core.specs.Digit.{value}
+use Rattle.hex_core.proofs.PositionLemmas.{before_none, position_is, position_none}
+use Rattle.hex_core.specs.Search.{AllValid, first_invalid, steps_to, tested_blocks}
+
+-- the test of a byte that has no value
+abbrev pub lacks : CheckCase → ℕ → Bool
+lacks c b = is_none (value c b)
+
+-- where no byte is invalid each has a value
+pub has_value : (c : CheckCase) (s : List ℕ) (i : ℕ) → first_invalid c s ≡ None → i < length s → lacks c (slice_index s i) ≡ false
+has_value c s i none h = before_none (lacks c) s none i h
+
+-- a value is there where the test for none fails
+some_from_test : (o : Option ℕ) → is_none o ≡ false → IsSome o
+some_from_test (Some x) e = refl
+some_from_test None e = cc
+
+-- and the test fails where a value is there
+test_from_some : (o : Option ℕ) → IsSome o → is_none o ≡ false
+test_from_some (Some x) h = refl
+test_from_some None h = cc
+
+-- the test for none passes where a value is not there
+test_from_none : (o : Option ℕ) → is_some o ≡ false → is_none o ≡ true
+test_from_none (Some x) e = cc
+test_from_none None e = refl
+
+-- a range stays valid along equal policies and sources
+pub valid_along : {c d : CheckCase} {s t : List ℕ} (start end : ℕ) → c ≡ d → s ≡ t → AllValid c s start end → AllValid d t start end
+valid_along {c = c} {d = d} {s = s} {t = t} start end p q valid =
+    subst (λ w. AllValid d w start end) q (subst (λ w. AllValid w s start end) p valid)
+
+-- and grows by a byte that has a value
+pub valid_more : (c : CheckCase) (s : List ℕ) (i : ℕ) → AllValid c s 0 i → IsSome (value c (slice_index s i)) → AllValid c s 0 (i + 1)
+valid_more c s i valid here k low lt =
+    elim (cases_lt k i) [
+      | inl below ↦ valid k low below
+      | inr top ↦
+          let at : i ≡ k = omega arith in
+          subst (λ n. IsSome (value c (slice_index s n))) at here
+    ]
+
+-- what a byte reads as, along equal policies and sources
+pub read_along : (c w : CheckCase) (s t : List ℕ) (i b : ℕ) (d : Option ℕ) → d ≡ value w b → w ≡ c → b ≡ slice_index t i → t ≡ s → d ≡ value c (slice_index s i)
+read_along c w s t i b d read p byte q =
+    read ∙ (ap (value w) (byte ∙ ap (λ u. slice_index u i) q) ∙ ap (λ v. value v (slice_index s i)) p)
+
+-- the invalid byte is the place behind a valid range, if its byte has no value
+pub first_invalid_is : (c : CheckCase) (s : List ℕ) (f : ℕ) → f < length s → AllValid c s 0 f → is_some (value c (slice_index s f)) ≡ false → first_invalid c s ≡ Some f
+first_invalid_is c s f inside valid here =
+    position_is (lacks c) s f inside (λ k lt. test_from_some (value c (slice_index s k)) (valid k (omega arith) lt)) (test_from_none (value c (slice_index s f)) here)
+
+-- there is none where the whole source is valid
+pub first_invalid_none : (c : CheckCase) (s : List ℕ) → AllValid c s 0 (length s) → first_invalid c s ≡ None
+first_invalid_none c s valid =
+    position_none (lacks c) s (λ k lt. test_from_some (value c (slice_index s k)) (valid k (omega arith) lt))
+
+-- the whole source is valid where there is none
+pub none_valid : (c : CheckCase) (s : List ℕ) → first_invalid c s ≡ None → AllValid c s 0 (length s)
+none_valid c s e k low lt = some_from_test (value c (slice_index s k)) (has_value c s k e lt)
+
+-- all that is before the invalid byte is valid
+pub valid_before : (c : CheckCase) (s : List ℕ) (f : ℕ) → first_invalid c s ≡ Some f → AllValid c s 0 f
+valid_before c s f e k low lt =
+    some_from_test (value c (slice_index s k)) ((position-Some (lacks c) s f 0 e).2 k lt)
+
+-- a valid range that begins before the invalid byte, or at it, ends no later than it
+pub valid_misses : (c : CheckCase) (s : List ℕ) (f start end : ℕ) → first_invalid c s ≡ Some f → AllValid c s start end → start ≤ f → end ≤ f
+valid_misses c s f start end e valid low =
+    elim (cases_lt f end) [
+      | inl lt ↦
+          let has = test_from_some (value c (slice_index s f)) (valid f low lt) in
+          let lacks = (position-Some (lacks c) s f 0 e).1 in
+          absurd (cc (has, lacks))
+      | inr past ↦ past
+    ]
+
+-- a byte of a part, by its place in the whole
+part_at : (s : List ℕ) (start end k : ℕ) → end ≤ length s → k < end - start → slice_index (slice_range s start end) k ≡ slice_index s (start + k)
+part_at s start end k inside lt = grind (arith, common_steps)
+
+-- a part has no invalid byte where its range is valid
+pub part_valid : (c : CheckCase) (s : List ℕ) (start end : ℕ) → end ≤ length s → AllValid c s start end → first_invalid c (slice_range s start end) ≡ None
+part_valid c s start end inside valid =
+    first_invalid_none c (slice_range s start end) (λ k low lt.
+    let short : k < end - start = grind (arith, common_steps) in
+    subst (λ b. IsSome (value c b)) (sym (part_at s start end k inside short)) (valid (start + k) (omega arith) (omega arith)))
+
+-- and its range is valid where it has none
+pub valid_part : (c : CheckCase) (s : List ℕ) (start end : ℕ) → end ≤ length s → first_invalid c (slice_range s start end) ≡ None → AllValid c s start end
+valid_part c s start end inside e k low lt =
+    let P : ℕ → Type 0 = λ b. IsSome (value c b) in
+    let long : k - start < length (slice_range s start end) = grind (arith, common_steps) in
+    let place : start + (k - start) ≡ k = omega arith in
+    let read = none_valid c (slice_range s start end) e (k - start) (omega arith) long in
+    subst P (part_at s start end (k - start) inside (omega arith) ∙ ap (slice_index s) place) read
+
+-- two ranges in a row are one
+pub valid_joined : (c : CheckCase) (s : List ℕ) (middle end : ℕ) → AllValid c s 0 middle → AllValid c s middle end → AllValid c s 0 end
+valid_joined c s middle end front back k low lt =
+    elim (cases_lt k middle) [
+      | inl before ↦ front k low before
+      | inr behind ↦ back k behind lt
+    ]
+
+-- the whole blocks are within the source
+blocks_within : (len : ℕ) → 64 * tested_blocks len ≤ len
+blocks_within len = grind (arith, nat_tests)
+
+-- a block behind a valid range that does not pass is the invalid byte's
+first_invalid_block : (c : CheckCase) (s : List ℕ) (f i : ℕ) → first_invalid c s ≡ Some f → AllValid c s 0 (64 * i) → ¬ AllValid c s (64 * i) (64 * i + 64) → f / 64 ≡ i
+first_invalid_block c s f i e valid fails =
+    let low : 64 * i ≤ f = valid_misses c s f 0 (64 * i) e valid (omega arith) in
+    elim (cases_lt f (64 * i + 64)) [
+      | inl lt ↦ omega arith
+      | inr past ↦ absurd (fails (λ k a b. valid_before c s f e k (omega arith) (omega arith)))
+    ]
+
+-- where the looks begin, in a source of this length with this first invalid byte: at the invalid byte's block, or behind the whole blocks
+abbrev pub BeginsAt : ℕ → Option ℕ → ℕ → Type 0
+BeginsAt len o start = MatchOption o (start ≡ 64 * tested_blocks len) (λ f. start ≡ 64 * min (tested_blocks len) (f / 64))
+
+-- at a block that does not pass, the tests end and the looks begin
+pub stops_at_block : (c : CheckCase) (s : List ℕ) (i whole : ℕ) (o : Option ℕ) → first_invalid c s ≡ o → whole ≡ tested_blocks (length s) → i < whole → AllValid c s 0 (64 * i) → ¬ AllValid c s (64 * i) (64 * i + 64) → BeginsAt (length s) o (64 * i) × ((steps_to (length s) o).tests ≡ i + 1)
+stops_at_block c s i whole (Some f) e all inside valid fails =
+    let same = first_invalid_block c s f i e valid fails in
+    (omega arith, omega arith)
+stops_at_block c s i whole None e all inside valid fails =
+    absurd (fails (λ k low lt. none_valid c s e k (omega arith) (omega (arith, blocks_within (length s)))))
+
+-- behind the whole blocks likewise, where each one passed
+pub stops_at_end : (c : CheckCase) (s : List ℕ) (whole : ℕ) (o : Option ℕ) → first_invalid c s ≡ o → whole ≡ tested_blocks (length s) → AllValid c s 0 (64 * whole) → BeginsAt (length s) o (64 * whole) × ((steps_to (length s) o).tests ≡ whole)
+stops_at_end c s whole (Some f) e all valid =
+    let low = valid_misses c s f 0 (64 * whole) e valid (omega arith) in
+    (omega arith, omega arith)
+stops_at_end c s whole None e all valid = (omega arith, sym all)
+
+-- behind a valid range, a place inside the source is not past the invalid byte
+pub first_invalid_within : (c : CheckCase) (s : List ℕ) (i end : ℕ) (o : Option ℕ) → first_invalid c s ≡ o → AllValid c s 0 i → i < length s → MatchOption o (length s ≤ end) (λ f. f < end) → i < end
+first_invalid_within c s i end (Some f) e valid inside near = omega (arith, valid_misses c s f 0 i e valid (omega arith))
+first_invalid_within c s i end None e valid inside near = omega arith

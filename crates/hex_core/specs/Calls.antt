@@ -1,0 +1,34 @@
+-- What a call answers and what it leaves: one word for each kind of call.
+use Rattle.std.specs.Prelude.{◌≡◌, ℕ, ◌*◌, ◌/◌, Bool, List, length, Result, MatchResult, Some, None}
+use Rattle.std.specs.Borrow.{MutBor}
+use Rattle.hex_core.specs.declared.digit.CheckCase.{CheckCase}
+use Rattle.hex_core.specs.declared.error.Error.{Error}
+use Rattle.hex_core.specs.Refusal.{decode_refusal, encode_refusal}
+use Rattle.hex_core.specs.Text.{Spells, text, with_front}
+
+-- decoding into the front of a destination: the number of bytes, which are what the source spells
+-- and stand over the old ones; or the refusal, and the destination as it was
+abbrev pub Decodes : CheckCase → List ℕ → List ℕ → List ℕ → Result ℕ Error → Type 0
+Decodes c s old new result = MatchResult result
+    (λ n. (decode_refusal c s (length old) ≡ None) × (n ≡ length s / 2)
+    × ((bytes : List ℕ) × Spells c s bytes × (new ≡ with_front old bytes)))
+    (λ e. (decode_refusal c s (length old) ≡ Some e) × (new ≡ old))
+
+-- encoding likewise: the number of digits, which are the text
+abbrev pub Encodes : Bool → List ℕ → List ℕ → List ℕ → Result ℕ Error → Type 0
+Encodes upper bytes old new result = MatchResult result
+    (λ n. (encode_refusal bytes (length old) ≡ None) × (n ≡ 2 * length bytes)
+    × (new ≡ with_front old (text upper bytes)))
+    (λ e. (encode_refusal bytes (length old) ≡ Some e) × (new ≡ old))
+
+-- decoding that lends the written front of this much room: what the source spells, or the refusal
+abbrev pub DecodesFront : CheckCase → List ℕ → ℕ → Result (MutBor (List ℕ)) Error → Type 0
+DecodesFront c s room result = MatchResult result
+    (λ front. (decode_refusal c s room ≡ None) × Spells c s front.now)
+    (λ e. decode_refusal c s room ≡ Some e)
+
+-- encoding likewise: the text, or the refusal
+abbrev pub EncodesFront : Bool → List ℕ → ℕ → Result (MutBor (List ℕ)) Error → Type 0
+EncodesFront upper bytes room result = MatchResult result
+    (λ front. (encode_refusal bytes room ≡ None) × (front.now ≡ text upper bytes))
+    (λ e. encode_refusal bytes room ≡ Some e)

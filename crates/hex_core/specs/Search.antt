@@ -1,0 +1,30 @@
+-- The first byte of a source that has no value, and what it takes to find it.
+use Rattle.std.specs.Prelude.{ℕ, ◌+◌, ◌-◌, ◌*◌, ◌/◌, ◌%◌, ◌<◌, ◌≤◌, nat_lt, if◌then◌else◌, Option, Some, None, List, length, min, position, is_none, slice_index, IsSome}
+use Rattle.hex_core.specs.declared.digit.CheckCase.{CheckCase}
+use Rattle.hex_core.specs.Digit.{value}
+
+-- the first invalid byte: the least index whose byte has no value under the policy
+abbrev pub first_invalid : CheckCase → List ℕ → Option ℕ
+first_invalid c s = position (λ b. is_none (value c b)) s
+
+-- all bytes of a range, from start up to end, have a value
+abbrev pub AllValid : CheckCase → List ℕ → ℕ → ℕ → Type 0
+AllValid c s start end = (k : ℕ) → start ≤ k → k < end → IsSome (value c (slice_index s k))
+
+-- how many blocks of 64 bytes are tested: the whole ones, and none where the source is at most one block
+abbrev pub tested_blocks : ℕ → ℕ
+tested_blocks len = if nat_lt 64 len then len / 64 else 0
+
+-- what finding the first invalid byte takes: tests of blocks, and looks at single bytes
+pub record Steps : Type 0 where
+  pub tests : ℕ
+  pub looks : ℕ
+
+-- the steps in a source of this length: up to this first invalid byte, or to the end where there is none
+abbrev pub steps_to : ℕ → Option ℕ → Steps
+steps_to len (Some f) = record { tests = min (tested_blocks len) (f / 64 + 1); looks = f % 64 + 1 }
+steps_to len None = record { tests = tested_blocks len; looks = len - 64 * tested_blocks len }
+
+-- the steps in a source: those up to its own first invalid byte
+abbrev pub steps : CheckCase → List ℕ → Steps
+steps c s = steps_to (length s) (first_invalid c s)
