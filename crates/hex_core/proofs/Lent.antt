@@ -15,10 +15,10 @@ use Rattle.hex_core.specs.contracts.error.Error as ER
 use Rattle.hex_core.proofs.error.Error.TheLaws as EL
 use Rattle.hex_core.specs.contracts.plan.Backend as BA
 use Rattle.hex_core.proofs.plan.Backend.TheLaws as BL
-use Rattle.hex_core.specs.contracts.plan.Kind as KI
-use Rattle.hex_core.proofs.plan.Kind.TheLaws as KL
+use Rattle.hex_core.specs.contracts.kind.Kind as KI
+use Rattle.hex_core.proofs.kind.Kind.TheLaws as KL
 use Rattle.hex_core.specs.declared.digit.CheckCase.TheVariants as policy
-use Rattle.hex_core.specs.declared.plan.Kind.TheVariants.{Avx2}
+use Rattle.hex_core.specs.declared.kind.Kind.TheVariants.{Avx2}
 use Rattle.hex_core.specs.declared.error.Error.{Error}
 use Rattle.hex_core.specs.Loan.{LendsAnswer}
 

@@ -4,17 +4,26 @@
 mod blocks;
 pub mod digit;
 pub mod error;
+mod kind;
 pub mod lanes;
 pub mod laws;
 mod lend;
 pub mod plan;
-pub mod probe;
 mod scalar;
+mod search;
 mod sixteen;
+mod slice_probe;
+mod slices;
+mod tables;
 mod vector;
 mod wide;
 
+/// Counted sources, and what is found through their counted calls.
+pub mod probe {
+    pub use crate::search::{Probe, covered, locate};
+    pub use crate::slice_probe::SliceProbe;
+}
+
 pub use crate::digit::{CheckCase, digit_value};
 pub use crate::error::Error;
-pub use crate::plan::{Backend, backends};
-pub use crate::probe::{Probe, SliceProbe, covered, locate};
+pub use crate::plan::{Backend, Probe, SliceProbe, backends, covered, locate};

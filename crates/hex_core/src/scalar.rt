@@ -5,7 +5,8 @@ ghost use Rattle.std.specs.Bool.{OnFalse, OnTrue};
 ghost use Rattle.hex_core.specs.Search.{first_invalid};
 ghost use Rattle.hex_core.specs.Text.{Spells, text};
 
-use crate::digit::{CheckCase, NIL, digit_pairs_of, values_of};
+use crate::digit::CheckCase;
+use crate::tables::{NIL, digit_pairs_of, values_of};
 
 // How many bytes are looked up between two tests.
 const BLOCK: usize = 64;

@@ -8,8 +8,8 @@ ghost use Rattle.hex_core.specs.Text.{Spells};
 use crate::blocks::{decode_four, decode_two, write_blocks};
 use crate::digit::CheckCase;
 use crate::lanes::{Saturating, admitted_16};
-use crate::probe::{Probe, covered};
 use crate::scalar;
+use crate::search::{Probe, covered};
 
 // How many bytes a block has, and so the widest test of the probe.
 const BLOCK: usize = 16;

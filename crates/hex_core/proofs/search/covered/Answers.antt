@@ -3,7 +3,7 @@ use Rattle.std.proofs.lemmas.Bool.Decides.{nat_tests}
 use Rattle.hex_core.specs.Search.{AllValid}
 use Rattle.hex_core.proofs.BlockLemmas.{block_inside, valid_range, last_valid, whole_valid}
 use Rattle.hex_core.proofs.SearchLemmas.{valid_along}
-use Rattle.hex_core.proofs.probe.covered.Goals as goal
+use Rattle.hex_core.proofs.search.covered.Goals as goal
 
 pub returns-then-not-test-clause-valid : goal.returns-then-not-test-clause-valid
 returns-then-not-test-clause-valid g c =

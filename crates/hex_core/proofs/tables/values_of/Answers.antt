@@ -1,7 +1,7 @@
 -- Each table is what the definition computes to.
 use Rattle.std.proofs.Common.{refl}
 use Rattle.hex_core.specs.Text.{value_table}
-use Rattle.hex_core.proofs.digit.values_of.Goals as goal
+use Rattle.hex_core.proofs.tables.values_of.Goals as goal
 
 pub returns-in-None : goal.returns-in-None
 unfolding value_table

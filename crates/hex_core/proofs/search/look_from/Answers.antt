@@ -1,6 +1,6 @@
 use Rattle.std.proofs.Common.{◌+◌, ◌<◌, is_some, length, refl, sym, ◌∙◌, ap, arith}
 use Rattle.hex_core.proofs.SearchLemmas.{valid_more, first_invalid_is, first_invalid_none, first_invalid_within, read_along}
-use Rattle.hex_core.proofs.probe.look_from.Goals as goal
+use Rattle.hex_core.proofs.search.look_from.Goals as goal
 
 pub look-requires-clause-countable : goal.look-requires-clause-countable
 look-requires-clause-countable g c =

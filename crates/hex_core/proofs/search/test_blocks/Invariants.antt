@@ -1,6 +1,6 @@
 use Rattle.std.proofs.Common.{◌≡◌, ◌+◌, ◌*◌}
 use Rattle.hex_core.specs.Search.{AllValid}
-use Rattle.hex_core.proofs.probe.test_blocks.Given as goal
+use Rattle.hex_core.proofs.search.test_blocks.Given as goal
 
 abbrev pub invariant-loop-i : goal.invariant-loop-i
 invariant-loop-i g l = record {

@@ -1,8 +1,8 @@
 use Rattle.std.proofs.Common.{◌≡◌, ◌+◌, ◌*◌, length, refl, sym, ◌∙◌, ap, arith}
 use Rattle.hex_core.specs.Search.{AllValid, first_invalid, steps, tested_blocks}
 use Rattle.hex_core.proofs.SearchLemmas.{BeginsAt, valid_along, stops_at_block, stops_at_end}
-use Rattle.hex_core.proofs.probe.test_blocks.Given as given
-use Rattle.hex_core.proofs.probe.test_blocks.Goals as goal
+use Rattle.hex_core.proofs.search.test_blocks.Given as given
+use Rattle.hex_core.proofs.search.test_blocks.Goals as goal
 
 -- the block that did not pass
 at_block : (g : given.Over) (c : goal.In-if-not g) → BeginsAt (length (g.P.Probe.source c.args.p.now)) (first_invalid (g.P.Probe.policy c.args.p.now) (g.P.Probe.source c.args.p.now)) (64 * c.loop-i.i) × ((steps (g.P.Probe.policy c.args.p.now) (g.P.Probe.source c.args.p.now)).tests ≡ c.loop-i.i + 1)

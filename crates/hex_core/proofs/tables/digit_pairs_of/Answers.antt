@@ -1,7 +1,7 @@
 -- Each table is what the definition computes to.
 use Rattle.std.proofs.Common.{refl}
 use Rattle.hex_core.specs.Text.{digits_table}
-use Rattle.hex_core.proofs.digit.digit_pairs_of.Goals as goal
+use Rattle.hex_core.proofs.tables.digit_pairs_of.Goals as goal
 
 pub returns-then-upper : goal.returns-then-upper
 unfolding digits_table

@@ -6,9 +6,8 @@ ghost use Rattle.hex_core.specs.Search.{AllValid, first_invalid, steps, tested_b
 ghost use Rattle.hex_core.specs.declared.digit.CheckCase.{CheckCase};
 
 use crate::digit::{CheckCase, digit_value};
-use crate::plan::Backend;
 
-// How many bytes the widest test of a `SliceProbe` takes, and each test that `locate` makes.
+// How many bytes each test that `locate` makes takes.
 const BLOCK: usize = 64;
 
 /// A counted source: bytes that are seen through `look` and `test` alone, and a policy.
@@ -87,92 +86,6 @@ pub trait Probe {
         ensures same_source { source self.new ≡ source self.old }
         ensures same_policy { policy self.new ≡ policy self.old }
         ensures same_block { widest self.new ≡ widest self.old };
-}
-
-/// A slice as a counted source, whose tests are checks under a plan.
-///
-/// Its block is 64 bytes.
-///
-/// ```rust
-/// let [scalar, ..] = backends();
-/// let probe = SliceProbe::new(scalar, b"00ff0g", CheckCase::None);
-/// assert_eq!(rt; (probe.len(), probe.block()), (6, 64));
-/// ```
-#[derive(Drop)]
-pub struct SliceProbe<'a> {
-    backend: Backend,
-    src: &'a [u8],
-    case: CheckCase,
-    looks: usize,
-    tests: usize,
-}
-
-impl<'a> SliceProbe<'a> {
-    /// Returns a probe over `src` under `case`, with both counts 0.
-    ///
-    /// ```rust
-    /// let [scalar, ..] = backends();
-    /// let mut probe = SliceProbe::new(scalar, b"00ff0g", CheckCase::None);
-    /// assert_eq!(rt; locate(&mut probe), Some(5));
-    /// ```
-    pub fn new(backend: Backend, src: &'a [u8], case: CheckCase) -> Self
-        ensures source { ⟦<SliceProbe<'a> as Probe>⟧.source result ≡ src.now }
-        ensures policy { ⟦<SliceProbe<'a> as Probe>⟧.policy result ≡ case }
-        ensures block { ⟦<SliceProbe<'a> as Probe>⟧.widest result ≡ 64 }
-        ensures looks { ⟦<SliceProbe<'a> as Probe>⟧.look_count result ≡ 0 }
-        ensures tests { ⟦<SliceProbe<'a> as Probe>⟧.test_count result ≡ 0 }
-    {
-        SliceProbe {
-            backend,
-            src,
-            case,
-            looks: 0,
-            tests: 0,
-        }
-    }
-}
-
-impl<'a> Probe for SliceProbe<'a> {
-    ghost source = { λ p. p.src.now };
-
-    ghost policy = { λ p. p.case };
-
-    ghost widest = { λ p. 64 };
-
-    ghost look_count = { λ p. p.looks };
-
-    ghost test_count = { λ p. p.tests };
-
-    fn len(&self) -> usize {
-        self.src.len()
-    }
-
-    fn case(&self) -> CheckCase {
-        self.case
-    }
-
-    fn block(&self) -> usize {
-        BLOCK
-    }
-
-    fn looks(&self) -> usize {
-        self.looks
-    }
-
-    fn tests(&self) -> usize {
-        self.tests
-    }
-
-    fn look(&mut self, i: usize) -> u8 {
-        self.looks += 1;
-        self.src[i]
-    }
-
-    fn test(&mut self, start: usize, width: usize) -> bool {
-        self.tests += 1;
-        self.backend
-            .check(&self.src[start..start + width], self.case)
-    }
 }
 
 // How many whole blocks of a source of `len` bytes are tested. A source of one block is not tested:

@@ -1,0 +1,262 @@
+//! The slice calls under a plan: decoding and encoding into the front of a destination, of any
+//! length, and the loan of that front.
+
+ghost use Rattle.std.specs.Prelude.{◌≡◌, ◌≢◌, ◌/◌, ◌*◌, ◌≤◌, None, Some, Ok, Err, length, MatchResult, IfOk, IfErr, IsOkAnd};
+ghost use Rattle.std.specs.Borrow.{sem};
+ghost use Rattle.hex_core.specs.declared.digit.CheckCase.{CheckCase};
+ghost use Rattle.hex_core.specs.Calls.{Decodes, DecodesFront, Encodes, EncodesFront};
+ghost use Rattle.hex_core.specs.Loan.{LendsAnswer};
+ghost use Rattle.hex_core.specs.Refusal.{decode_refusal, encode_refusal, first_bad_char};
+ghost use Rattle.hex_core.specs.Search.{first_invalid};
+ghost use Rattle.hex_core.specs.Text.{Spells, text};
+
+use crate::digit::CheckCase;
+use crate::error::Error;
+use crate::lend::lend_accepted;
+use crate::plan::Backend;
+use crate::search::locate;
+use crate::slice_probe::SliceProbe;
+
+impl Backend {
+    /// Returns the first place of `src` whose byte has no value under `case`, from 0 and in bytes,
+    /// or `None` where each byte has one, whatever its length.
+    ///
+    /// A source of more than 64 bytes is tested block by block before single bytes are looked at,
+    /// as [`locate`] says.
+    ///
+    /// ```rust
+    /// let [scalar, ..] = backends();
+    /// assert_eq!(rt; scalar.first_invalid(b"00ff0g", CheckCase::None), Some(5));
+    /// assert_eq!(rt; scalar.first_invalid(b"00FF", CheckCase::Upper), None);
+    /// ```
+    pub fn first_invalid(self, src: &[u8], case: CheckCase) -> Option<usize>
+        ensures { result ≡ first_invalid case src.now }
+    {
+        locate(&mut SliceProbe::new(self, src, case))
+    }
+
+    // How many bytes so many digits spell, or what their number refuses in this room.
+    #[inline(always)]
+    fn decoded_len(src: &[u8], room: usize) -> Result<usize, Error>
+        ensures { MatchResult result
+            (λ n. (length src.now ≡ 2 * n) × (n ≤ room))
+            (λ e. (case : CheckCase) → decode_refusal case src.now room ≡ Some e) }
+    {
+        if src.len() % 2 == 1 {
+            return Err(Error::OddLength);
+        }
+        let required = src.len() / 2;
+        if room < required {
+            return Err(Error::OutputTooSmall { required });
+        }
+        Ok(required)
+    }
+
+    // The first invalid byte of a source that has one.
+    #[cold]
+    #[inline(never)]
+    fn first_error(self, src: &[u8], case: CheckCase) -> Error
+        requires { first_invalid case src.now ≢ None }
+        ensures { first_bad_char case src.now ≡ Some result }
+    {
+        let Some(index) = self.first_invalid(src, case) else {
+            unreachable!();
+        };
+        Error::InvalidChar {
+            index,
+            byte: src[index],
+        }
+    }
+
+    // How many bytes `src` decodes to, or what decoding it into this room refuses.
+    #[inline(always)]
+    fn accepted(self, src: &[u8], room: usize, case: CheckCase) -> Result<usize, Error>
+        ensures { MatchResult result
+            (λ n. (decode_refusal case src.now room ≡ None) × (n ≡ length src.now / 2))
+            (λ e. decode_refusal case src.now room ≡ Some e) }
+    {
+        let required = Backend::decoded_len(src, room)?;
+        if !self.check(src, case) {
+            return Err(self.first_error(src, case));
+        }
+        Ok(required)
+    }
+
+    // How many bytes the text of `src` takes, or what encoding it into this room refuses.
+    #[inline(always)]
+    fn encoded_len(src: &[u8], room: usize) -> Result<usize, Error>
+        ensures { MatchResult result
+            (λ n. (encode_refusal src.now room ≡ None) × (n ≡ 2 * length src.now))
+            (λ e. encode_refusal src.now room ≡ Some e) }
+    {
+        let Some(required) = src.len().checked_mul(2) else {
+            return Err(Error::Overflow);
+        };
+        if room < required {
+            return Err(Error::OutputTooSmall { required });
+        }
+        Ok(required)
+    }
+
+    // Writes the bytes behind a reference that was lent for them, or hands on the refusal.
+    #[inline(always)]
+    fn decoded<'a>(
+        self,
+        src: &[u8],
+        lent: Result<&'a mut [u8], Error>,
+        case: CheckCase,
+    ) -> Result<&'a mut [u8], Error>
+        requires { IfOk lent (λ r. (length src.now ≡ 2 * length r.now)
+            × (first_invalid case src.now ≡ None)) }
+        ensures ok { IfOk lent.entry (λ r. IsOkAnd result (λ s. (s.ghost_name ≡ r.ghost_name)
+            × Spells case src.now s.now)) }
+        ensures err { IfErr lent.entry (λ e. result ≡ Err e) }
+    {
+        match lent {
+            Ok(front) => {
+                self.0.write_bytes(src, front, case);
+                Ok(front)
+            }
+            Err(e) => Err(e),
+        }
+    }
+
+    // Writes the text behind a reference that was lent for it, or hands on the refusal.
+    #[inline(always)]
+    fn encoded<'a>(
+        self,
+        src: &[u8],
+        lent: Result<&'a mut [u8], Error>,
+        upper: bool,
+    ) -> Result<&'a mut [u8], Error>
+        requires { IfOk lent (λ r. length r.now ≡ 2 * length src.now) }
+        ensures ok { IfOk lent.entry (λ r. IsOkAnd result (λ s. (s.ghost_name ≡ r.ghost_name)
+            × (s.now ≡ text upper src.now))) }
+        ensures err { IfErr lent.entry (λ e. result ≡ Err e) }
+    {
+        match lent {
+            Ok(front) => {
+                self.encode(src, front, upper);
+                Ok(front)
+            }
+            Err(e) => Err(e),
+        }
+    }
+
+    /// Decodes all of `src` into the front of `dst` and returns how many bytes it wrote,
+    /// `src.len() / 2`. The bytes behind them stay as they were.
+    ///
+    /// # Errors
+    ///
+    /// In this order, each of which leaves all of `dst` as it was:
+    ///
+    /// 1. [`Error::OddLength`] where `src` has an odd number of bytes;
+    /// 2. [`Error::OutputTooSmall`] where `dst` has fewer than `src.len() / 2` bytes;
+    /// 3. [`Error::InvalidChar`] with the first byte of `src` that `case` does not read, and its
+    ///    place in bytes.
+    ///
+    /// ```rust
+    /// let mut buffer = [0xa5; 3];
+    /// assert_eq!(rt; Backend::PLAIN.decode_into(b"00ab", &mut buffer, CheckCase::None), Ok(2));
+    /// assert_eq!(rt; buffer, [0, 0xab, 0xa5]);
+    /// ```
+    #[inline(always)]
+    pub fn decode_into(self, src: &[u8], dst: &mut [u8], case: CheckCase) -> Result<usize, Error>
+        ensures { Decodes case src.now dst.old dst.new result }
+    {
+        let required = Backend::decoded_len(src, dst.len())?;
+        if !self.decode(src, &mut dst[..required], case) {
+            return Err(self.first_error(src, case));
+        }
+        Ok(required)
+    }
+
+    /// Encodes all of `src` into the front of `dst`, in uppercase where `upper` is true, and
+    /// returns how many bytes it wrote, `2 * src.len()`. The bytes behind them stay as they were.
+    ///
+    /// # Errors
+    ///
+    /// In this order, each of which leaves all of `dst` as it was:
+    ///
+    /// 1. [`Error::Overflow`] where `2 * src.len()` is no `usize`;
+    /// 2. [`Error::OutputTooSmall`] where `dst` has fewer than `2 * src.len()` bytes.
+    ///
+    /// ```rust
+    /// let mut buffer = [b'-'; 5];
+    /// assert_eq!(rt; Backend::PLAIN.encode_into(&[0, 0xab], &mut buffer, false), Ok(4));
+    /// assert_eq!(rt; &buffer, b"00ab-");
+    /// ```
+    #[inline(always)]
+    pub fn encode_into(self, src: &[u8], dst: &mut [u8], upper: bool) -> Result<usize, Error>
+        ensures { Encodes upper src.now dst.old dst.new result }
+    {
+        let written = Backend::encoded_len(src, dst.len())?;
+        self.encode(src, &mut dst[..written], upper);
+        Ok(written)
+    }
+
+    /// Decodes all of `src` into the front of `dst` and returns that front, `src.len() / 2` bytes,
+    /// which borrows `dst` alone. The bytes behind it stay as they were.
+    ///
+    /// # Errors
+    ///
+    /// In this order, each of which leaves all of `dst` as it was:
+    ///
+    /// 1. [`Error::OddLength`] where `src` has an odd number of bytes;
+    /// 2. [`Error::OutputTooSmall`] where `dst` has fewer than `src.len() / 2` bytes;
+    /// 3. [`Error::InvalidChar`] with the first byte of `src` that `case` does not read, and its
+    ///    place in bytes.
+    ///
+    /// ```rust
+    /// let [_, _, avx2, ..] = backends();
+    /// let mut buffer = [0xa5; 3];
+    /// let bytes = avx2.decode_slice(b"00ab", &mut buffer, CheckCase::None)?;
+    /// bytes[0] = 0xff;
+    /// assert_eq!(rt; buffer, [0xff, 0xab, 0xa5]);
+    /// ```
+    #[inline(always)]
+    pub fn decode_slice<'a>(
+        self,
+        src: &[u8],
+        dst: &'a mut [u8],
+        case: CheckCase,
+    ) -> Result<&'a mut [u8], Error>
+        ensures* lends { sem 𝓛 (LendsAnswer dst.entry result) }
+        ensures answer { DecodesFront case src.now (length dst.old) result }
+    {
+        let answer = self.accepted(src, dst.len(), case);
+        let lent = lend_accepted(dst, answer);
+        self.decoded(src, lent, case)
+    }
+
+    /// Encodes all of `src` into the front of `dst`, in uppercase where `upper` is true, and
+    /// returns that front, `2 * src.len()` bytes, which borrows `dst` alone. The bytes behind it
+    /// stay as they were.
+    ///
+    /// # Errors
+    ///
+    /// In this order, each of which leaves all of `dst` as it was:
+    ///
+    /// 1. [`Error::Overflow`] where `2 * src.len()` is no `usize`;
+    /// 2. [`Error::OutputTooSmall`] where `dst` has fewer than `2 * src.len()` bytes.
+    ///
+    /// ```rust
+    /// let [_, _, avx2, ..] = backends();
+    /// let mut buffer = [0; 4];
+    /// assert_eq!(rt; avx2.encode_slice(&[0, 0xab], &mut buffer, true)?, b"00AB");
+    /// ```
+    #[inline(always)]
+    pub fn encode_slice<'a>(
+        self,
+        src: &[u8],
+        dst: &'a mut [u8],
+        upper: bool,
+    ) -> Result<&'a mut [u8], Error>
+        ensures* lends { sem 𝓛 (LendsAnswer dst.entry result) }
+        ensures answer { EncodesFront upper src.now (length dst.old) result }
+    {
+        let answer = Backend::encoded_len(src, dst.len());
+        let lent = lend_accepted(dst, answer);
+        self.encoded(src, lent, upper)
+    }
+}
