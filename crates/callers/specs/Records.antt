@@ -1,8 +1,8 @@
 -- What a record's identifier is refused for.
 use Rattle.std.specs.Prelude.{Option, None, Some, option_map}
 use Rattle.serde_json.specs.Data.{Data}
-use Rattle.faster_hex.specs.Adapters.{array_read_refusal}
-use Rattle.faster_hex.specs.WireFormats.{withpfx_ignorecase}
+use Rattle.hex_json.specs.Adapters.{array_read_refusal}
+use Rattle.hex_json.specs.WireFormats.{withpfx_ignorecase}
 use Rattle.callers.specs.declared.json.RecordError.{RecordError}
 use Rattle.callers.specs.declared.json.RecordError.TheVariants.{NoId, BadId}
 

@@ -4,8 +4,8 @@ ghost use Rattle.std.specs.Prelude.{◌≡◌, None, Some, codes, MatchResult};
 ghost use Rattle.serde_json.specs.Data.{Data};
 ghost use Rattle.serde_json.specs.Find.{get};
 ghost use Rattle.serde_json.specs.View.{view};
-ghost use Rattle.faster_hex.specs.Adapters.{Reads, WriteFailure};
-ghost use Rattle.faster_hex.specs.WireFormats as wire;
+ghost use Rattle.hex_json.specs.Adapters.{Reads, WriteFailure};
+ghost use Rattle.hex_json.specs.WireFormats as wire;
 ghost use Rattle.callers.specs.Records.{id_refusal};
 
 use faster_hex::laws::{

@@ -13,36 +13,21 @@
 //! | [`nopfx_uppercase`] | none | uppercase | uppercase |
 #![tactic(auto)]
 
-pub mod adapters;
-pub mod decode;
-pub mod encode;
-pub mod format;
-pub mod heapless_08;
-pub mod laws;
-mod modules;
-mod option_modules;
-pub mod sink;
-
-pub use crate::adapters::AdapterError;
-pub use crate::decode::{
-    hex_check, hex_check_with_case, hex_decode, hex_decode_array, hex_decode_array_with_case,
-    hex_decode_into, hex_decode_vec, hex_decode_vec_with_case, hex_decode_with_case,
+pub use hex_codec::{
+    decode, encode, heapless_08, hex_append, hex_append_into, hex_append_upper, hex_check,
+    hex_check_with_case, hex_decode, hex_decode_array, hex_decode_array_with_case, hex_decode_into,
+    hex_decode_vec, hex_decode_vec_with_case, hex_decode_with_case, hex_encode, hex_encode_into,
+    hex_encode_upper, hex_string, hex_string_upper,
 };
-pub use crate::encode::{
-    hex_append, hex_append_into, hex_append_upper, hex_encode, hex_encode_into, hex_encode_upper,
-    hex_string, hex_string_upper,
-};
-pub use crate::format::{Align, Hex, HexFlags, WriteFault};
-pub use crate::modules::withpfx_ignorecase::{array, deserialize, deserialize_bounded, serialize};
-pub use crate::modules::{
-    nopfx_ignorecase, nopfx_lowercase, nopfx_uppercase, withpfx_ignorecase, withpfx_lowercase,
-    withpfx_uppercase,
-};
-pub use crate::option_modules::{
-    option_nopfx_ignorecase, option_nopfx_lowercase, option_nopfx_uppercase,
-    option_withpfx_ignorecase, option_withpfx_lowercase, option_withpfx_uppercase,
-};
-pub use crate::sink::{Sink, SinkFault, SliceSink, WriterSink};
 pub use hex_core::{
     Backend, CheckCase, Error, Probe, SliceProbe, backends, covered, digit_value, locate,
+};
+pub use hex_format::{
+    Align, Hex, HexFlags, Sink, SinkFault, SliceSink, WriteFault, WriterSink, format, sink,
+};
+pub use hex_json::{
+    AdapterError, adapters, array, deserialize, deserialize_bounded, laws, nopfx_ignorecase,
+    nopfx_lowercase, nopfx_uppercase, option_nopfx_ignorecase, option_nopfx_lowercase,
+    option_nopfx_uppercase, option_withpfx_ignorecase, option_withpfx_lowercase,
+    option_withpfx_uppercase, serialize, withpfx_ignorecase, withpfx_lowercase, withpfx_uppercase,
 };

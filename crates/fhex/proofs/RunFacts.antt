@@ -3,7 +3,7 @@ use Rattle.std.specs.Prelude.{◌≡◌, ◌+◌, ℕ, List, ◌++◌, Option, R
 use Rattle.std.proofs.Common.{arith, ap, ◌∙◌, append_assoc, length-append}
 use Rattle.std.specs.Io.KnownBytes.{Appends, Consumes, Keeps, IsAtEnd}
 use Rattle.std.proofs.KnownBytes.{Appends-trans, Keeps-trans}
-use Rattle.faster_hex.specs.Sink.{AppendsBeginning}
+use Rattle.hex_format.specs.Sink.{AppendsBeginning}
 use Rattle.fhex.specs.declared.operation.Op.{Op}
 use Rattle.fhex.specs.declared.operation.RunFault.{RunFault}
 use Rattle.fhex.specs.declared.operation.RunFault.TheVariants as fault

@@ -8,7 +8,7 @@ use Rattle.hex_core.specs.declared.error.Error.{Error}
 use Rattle.hex_core.specs.Message.{error_text}
 use Rattle.hex_core.specs.Text.{Spells, lowercase, text, uppercase}
 use Rattle.hex_core.specs.Refusal.{source_refusal}
-use Rattle.faster_hex.specs.Sink.{AppendsBeginning}
+use Rattle.hex_format.specs.Sink.{AppendsBeginning}
 use Rattle.fhex.specs.declared.operation.Op.{Op}
 use Rattle.fhex.specs.declared.operation.Op.TheVariants.{Encode, EncodeUpper, Decode, DecodeLower, DecodeUpper}
 use Rattle.fhex.specs.declared.operation.RunFault.{RunFault}

@@ -1,5 +1,0 @@
-mod AppendWalk
-mod FrameFacts
-mod PutsLemmas
-mod Repeats
-mod TextFacts

@@ -1,0 +1,2 @@
+mod AppendWalk
+mod TextFacts

@@ -1,0 +1,13 @@
+-- What is appended and what is left make up the whole text, and there is room for what is left.
+use Rattle.std.proofs.Common.{◌≡◌, ◌+◌, ◌*◌, ◌≤◌, ◌++◌, length, string_bytes, string_len, string_capacity}
+use Rattle.std.specs.Slice.Iter.{chunks_rest, chunks_size}
+use Rattle.hex_core.specs.Text.{text}
+use Rattle.hex_codec.proofs.strings.append_reserved.Given as goal
+
+abbrev pub invariant-pieces : goal.invariant-pieces
+invariant-pieces g l =
+    (goal.iterator-pieces g).can_next l.piece-iterator
+    × (goal.iterator-pieces g).is_finite l.piece-iterator
+    × (chunks_size l.piece-iterator ≡ 256)
+    × (string_bytes l.dst ++ text l.fn.upper (chunks_rest l.piece-iterator) ≡ string_bytes l.initial.dst ++ text l.fn.upper l.fn.src)
+    × (string_len l.dst + 2 * length (chunks_rest l.piece-iterator) ≤ string_capacity l.dst)

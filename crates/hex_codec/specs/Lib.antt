@@ -1,0 +1,3 @@
+pub mod Append
+pub mod Calls
+pub mod Failure

@@ -1,0 +1,67 @@
+//! Hex texts of a fixed capacity, which lie in the value itself and take no memory.
+//!
+//! The name is that of the module of the Rust crate; the texts are those of `arrayvec`.
+
+ghost use Rattle.hex_core.specs.Text.{lowercase, uppercase};
+ghost use Rattle.hex_codec.specs.Calls.{EncodesWithin};
+
+use crate::pieces::{PIECE, PIECE_DIGITS, piece_text};
+use arrayvec::ArrayString;
+use hex_core::Error;
+
+/// Encodes all of `src` as a text of lowercase digits, `2 * src.len()` bytes long, with room for
+/// `N` bytes.
+///
+/// The empty source gives the empty text, also where `N` is 0. Room that is left stays free in the
+/// answer.
+///
+/// # Errors
+///
+/// In this order:
+///
+/// 1. [`Error::Overflow`] where `2 * src.len()` is no `usize`;
+/// 2. [`Error::OutputTooSmall`] with `2 * src.len()` where that is more than `N`.
+///
+/// ```rust
+/// assert_eq!(rt; hex_string::<4>(&[0xab, 1])?.as_str(), "ab01");
+/// assert_eq!(rt; hex_string::<3>(&[0xab, 1]).err(), Some(Error::OutputTooSmall { required: 4 }));
+/// ```
+pub fn hex_string<const N: usize>(src: &[u8]) -> Result<ArrayString<N>, Error>
+    ensures { EncodesWithin (λ string. string.bytes) lowercase src.now N result }
+{
+    string_of(src, false)
+}
+
+/// Encodes all of `src` as a text of uppercase digits, `2 * src.len()` bytes long, with room for
+/// `N` bytes.
+///
+/// # Errors
+///
+/// Those of [`hex_string`], in the same order.
+///
+/// ```rust
+/// assert_eq!(rt; hex_string_upper::<4>(&[0xab, 1])?.as_str(), "AB01");
+/// ```
+pub fn hex_string_upper<const N: usize>(src: &[u8]) -> Result<ArrayString<N>, Error>
+    ensures { EncodesWithin (λ string. string.bytes) uppercase src.now N result }
+{
+    string_of(src, true)
+}
+
+// The text of `src`.
+fn string_of<const N: usize>(src: &[u8], upper: bool) -> Result<ArrayString<N>, Error>
+    ensures { EncodesWithin (λ string. string.bytes) upper src.now N result }
+{
+    let Some(required) = src.len().checked_mul(2) else {
+        return Err(Error::Overflow);
+    };
+    if N < required {
+        return Err(Error::OutputTooSmall { required });
+    }
+    let mut string = ArrayString::new();
+    let mut buffer = [0; PIECE_DIGITS];
+    'pieces: for piece in src.chunks(PIECE) {
+        string.push_str(piece_text(&mut buffer, piece, upper));
+    }
+    Ok(string)
+}

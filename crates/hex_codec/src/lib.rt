@@ -1,0 +1,17 @@
+//! Encoding and decoding hex digits: slices, arrays, vectors, strings and texts of a fixed capacity.
+#![tactic(auto)]
+
+pub mod decode;
+pub mod encode;
+pub mod heapless_08;
+pub mod pieces;
+pub mod strings;
+
+pub use crate::decode::{
+    hex_check, hex_check_with_case, hex_decode, hex_decode_array, hex_decode_array_with_case,
+    hex_decode_into, hex_decode_vec, hex_decode_vec_with_case, hex_decode_with_case,
+};
+pub use crate::encode::{
+    hex_append, hex_append_into, hex_append_upper, hex_encode, hex_encode_into, hex_encode_upper,
+    hex_string, hex_string_upper,
+};

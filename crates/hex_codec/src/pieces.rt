@@ -1,0 +1,48 @@
+//! The digits of a piece, in a buffer on the stack.
+
+ghost use Rattle.std.specs.Prelude.{◌≡◌, ◌*◌, ◌≤◌, length};
+ghost use Rattle.std.specs.Str.{IsAscii};
+ghost use Rattle.hex_core.specs.Text.{text};
+
+use crate::encode::hex_encode_into;
+use std::str;
+
+/// A string that is lent hands out no room to write into, so its text grows by pieces of so many
+/// bytes, encoded into a buffer on the stack and copied once.
+pub const PIECE: usize = 256;
+
+/// How many digits a whole piece has.
+pub const PIECE_DIGITS: usize = 512;
+
+/// Returns the text of some bytes, written into the front of the buffer.
+///
+/// The caller shows that the buffer holds it: `2 * bytes.len()` bytes.
+///
+/// ```rust
+/// let mut buffer = [0; 8];
+/// assert_eq!(rt; encoded(&[0xab, 1], true, &mut buffer), b"AB01");
+/// ```
+pub fn encoded<'b>(bytes: &[u8], upper: bool, buffer: &'b mut [u8]) -> &'b [u8]
+    requires { 2 * length bytes.now ≤ length buffer.old }
+    ensures text { result.now ≡ text upper bytes.now }
+    ensures ascii { IsAscii result.now }
+{
+    let Ok(len) = hex_encode_into(bytes, buffer, upper) else {
+        unreachable!();
+    };
+    &buffer[..len]
+}
+
+/// Returns the digits of a piece of at most [`PIECE`] bytes, written into the front of `buffer`.
+///
+/// ```rust
+/// let mut buffer = [0; PIECE_DIGITS];
+/// assert_eq!(rt; piece_text(&mut buffer, &[0xab, 1], false), "ab01");
+/// ```
+pub fn piece_text<'a>(buffer: &'a mut [u8; PIECE_DIGITS], piece: &[u8], upper: bool) -> &'a str
+    requires { 2 * length piece.now ≤ PIECE_DIGITS }
+    ensures text { result.now ≡ text upper piece.now }
+    ensures len { length result.now ≡ 2 * length piece.now }
+{
+    unsafe { str::from_utf8_unchecked(encoded(piece, upper, buffer)) }
+}

@@ -1,0 +1,243 @@
+//! Strings of hex digits: new ones, and ones that grow by the digits of more bytes.
+
+ghost use Rattle.std.specs.Prelude.{◌≡◌, ◌+◌, ◌*◌, ◌^◌, ◌<◌, ◌≤◌, ◌++◌, length, MatchResult, drop, IsUtf8, string_bytes, string_len, string_capacity};
+ghost use Rattle.std.specs.Borrow.{sem};
+ghost use Rattle.std.specs.Str.{IsAscii};
+ghost use Rattle.std.specs.Io.BufRead.{Rests};
+ghost use Rattle.std.specs.contracts.string.String.{the_row};
+ghost use Rattle.hex_core.specs.Text.{lowercase, text, uppercase};
+ghost use Rattle.hex_codec.specs.Append.{AppendsText};
+ghost use Rattle.hex_codec.specs.Calls.{EncodesBehind};
+ghost use Rattle.hex_codec.specs.Failure.{AppendFailure, GrowthFailure};
+
+use crate::pieces::{PIECE, PIECE_DIGITS, piece_text};
+use hex_core::{Backend, Error};
+use std::alloc::Allocator;
+use std::str;
+
+/// Encodes all of `src` as a new string of lowercase digits, `2 * src.len()` bytes long.
+///
+/// Memory is taken from `alloc` at most once, for exactly that length, and not at all where `src`
+/// is empty.
+///
+/// # Errors
+///
+/// In this order:
+///
+/// 1. [`Error::Overflow`] where `2 * src.len()` is no `usize`;
+/// 2. [`Error::OutOfMemory`] where the memory was refused, so never where `src` is empty.
+///
+/// ```rust
+/// let text = hex_string(rt.alloc(), &[0, 0xab, 0xff])?;
+/// assert_eq!(rt; text.as_str(), "00abff");
+/// ```
+pub fn hex_string<A: Allocator + Drop>(alloc: A, src: &[u8]) -> Result<String<A>, Error>
+    ensures { EncodesBehind string_bytes 0 lowercase src.now result }
+{
+    string_of(alloc, src, false)
+}
+
+/// Encodes all of `src` as a new string of uppercase digits, `2 * src.len()` bytes long.
+///
+/// It takes memory as [`hex_string`] does.
+///
+/// # Errors
+///
+/// Those of [`hex_string`], in the same order.
+///
+/// ```rust
+/// let text = hex_string_upper(rt.alloc(), &[0, 0xab, 0xff])?;
+/// assert_eq!(rt; text.as_str(), "00ABFF");
+/// ```
+pub fn hex_string_upper<A: Allocator + Drop>(alloc: A, src: &[u8]) -> Result<String<A>, Error>
+    ensures { EncodesBehind string_bytes 0 uppercase src.now result }
+{
+    string_of(alloc, src, true)
+}
+
+/// Appends the digits of all of `src` to `dst`, in uppercase where `upper` is true: `2 * src.len()`
+/// bytes behind the text that `dst` has.
+///
+/// This is [`hex_append`] without the borrow: a caller that proves what its string holds afterwards
+/// learns it from this form. It asks for memory as [`hex_append`] does.
+///
+/// # Errors
+///
+/// In this order, each of which leaves the text of `dst` as it was:
+///
+/// 1. [`Error::Overflow`] where `dst.len() + 2 * src.len()` is no `usize`;
+/// 2. [`Error::OutOfMemory`] where the memory was refused, so never where `src` is empty.
+///
+/// ```rust
+/// let mut text = String::from_str(rt.alloc(), "id: ")?;
+/// hex_append_into(&[0xab, 0xcd], &mut text, true)?;
+/// assert_eq!(rt; text.as_str(), "id: ABCD");
+/// ```
+pub fn hex_append_into<A: Allocator>(
+    src: &[u8],
+    dst: &mut String<A>,
+    upper: bool,
+) -> Result<(), Error>
+    ensures answer { MatchResult result
+        (λ _. string_len dst.old + 2 * length src.now < 2 ^ 64)
+        (λ e. AppendFailure (string_len dst.old) src.now e) }
+    ensures appended { AppendsText result (string_bytes dst.old) (text upper src.now)
+        (string_bytes dst.new) }
+{
+    let Some(added) = src.len().checked_mul(2) else {
+        return Err(Error::Overflow);
+    };
+    if dst.len().checked_add(added).is_none() {
+        return Err(Error::Overflow);
+    }
+    if dst.reserve_exact(added).is_err() {
+        return Err(Error::OutOfMemory);
+    }
+    append_reserved(dst, src, upper);
+    Ok(())
+}
+
+/// Appends the lowercase digits of all of `src` to `dst`, and returns the `2 * src.len()` new bytes
+/// alone.
+///
+/// Where the spare capacity of `dst` suffices no memory is asked for, and else once, for exactly
+/// what is missing. A program that appends many times to one string reserves its room first.
+///
+/// # Errors
+///
+/// In this order, each of which leaves the text of `dst` as it was:
+///
+/// 1. [`Error::Overflow`] where `dst.len() + 2 * src.len()` is no `usize`;
+/// 2. [`Error::OutOfMemory`] where the memory was refused, so never where `src` is empty.
+///
+/// ```rust
+/// let mut text = String::from_str(rt.alloc(), "hash: ")?;
+/// assert_eq!(rt; hex_append(&[0xab, 0xcd], &mut text)?, "abcd");
+/// assert_eq!(rt; text.as_str(), "hash: abcd");
+/// ```
+pub fn hex_append<'a, A: Allocator>(src: &[u8], dst: &'a mut String<A>) -> Result<&'a str, Error>
+    ensures* after_borrow { sem 𝓛 (Rests (the_row A.row A.Allocator) dst.entry
+        (λ new. AppendsText result (string_bytes dst.old) (text lowercase src.now)
+        (string_bytes new))) }
+    ensures answer { EncodesBehind (λ suffix. suffix.now) (string_len dst.old) lowercase src.now
+        result }
+{
+    append_in(dst, src, false)
+}
+
+/// Appends the uppercase digits of all of `src` to `dst`, and returns the `2 * src.len()` new bytes
+/// alone.
+///
+/// The text that `dst` has keeps its letters. It asks for memory as [`hex_append`] does.
+///
+/// # Errors
+///
+/// Those of [`hex_append`], in the same order; each leaves the text of `dst` as it was.
+///
+/// ```rust
+/// let mut text = String::from_str(rt.alloc(), "hash: ")?;
+/// assert_eq!(rt; hex_append_upper(&[0xab, 0xcd], &mut text)?, "ABCD");
+/// ```
+pub fn hex_append_upper<'a, A: Allocator>(
+    src: &[u8],
+    dst: &'a mut String<A>,
+) -> Result<&'a str, Error>
+    ensures* after_borrow { sem 𝓛 (Rests (the_row A.row A.Allocator) dst.entry
+        (λ new. AppendsText result (string_bytes dst.old) (text uppercase src.now) (string_bytes new))) }
+    ensures answer { EncodesBehind (λ suffix. suffix.now) (string_len dst.old) uppercase src.now
+        result }
+{
+    append_in(dst, src, true)
+}
+
+// A new string of the digits of `src`.
+fn string_of<A: Allocator + Drop>(alloc: A, src: &[u8], upper: bool) -> Result<String<A>, Error>
+    ensures { EncodesBehind string_bytes 0 upper src.now result }
+{
+    prefixed_string(alloc, b"", src, upper)
+}
+
+/// Returns a new string of the digits of `src` behind a prefix of ASCII bytes.
+///
+/// Memory is taken from `alloc` at most once, for exactly that length, and not at all where it is
+/// 0.
+///
+/// # Errors
+///
+/// In this order:
+///
+/// 1. [`Error::Overflow`] where `prefix.len() + 2 * src.len()` is no `usize`;
+/// 2. [`Error::OutOfMemory`] where the memory was refused.
+///
+/// ```rust
+/// let text = prefixed_string(rt.alloc(), b"0x", &[0xab], false)?;
+/// assert_eq!(rt; text.as_str(), "0xab");
+/// ```
+pub fn prefixed_string<A: Allocator + Drop>(
+    alloc: A,
+    prefix: &[u8],
+    src: &[u8],
+    upper: bool,
+) -> Result<String<A>, Error>
+    requires { IsAscii prefix.now }
+    ensures { MatchResult result
+        (λ string. (length prefix.now + 2 * length src.now < 2 ^ 64)
+        × (string_bytes string ≡ prefix.now ++ text upper src.now))
+        (λ e. GrowthFailure 0 (length prefix.now + 2 * length src.now) e) }
+{
+    let Some(digits_len) = src.len().checked_mul(2) else {
+        return Err(Error::Overflow);
+    };
+    let Some(len) = digits_len.checked_add(prefix.len()) else {
+        return Err(Error::Overflow);
+    };
+    if len == 0 {
+        return Ok(String::new(alloc));
+    }
+    let Ok(mut string) = Vec::from_elem(alloc, 0u8, len) else {
+        return Err(Error::OutOfMemory);
+    };
+    let (front, digits) = string.as_mut_slice().split_at_mut(prefix.len());
+    front.copy_from_slice(prefix);
+    Backend::PLAIN.encode(src, digits, upper);
+    Ok(unsafe { String::from_utf8_unchecked(string) })
+}
+
+// Appends the digits of `src` and returns them alone. `dst` stands first because a proof learns
+// what a lent value ends as only where the first parameter lends it.
+fn append_in<'a, A: Allocator>(
+    dst: &'a mut String<A>,
+    src: &[u8],
+    upper: bool,
+) -> Result<&'a str, Error>
+    ensures* after_borrow { sem 𝓛 (Rests (the_row A.row A.Allocator) dst.entry
+        (λ new. AppendsText result (string_bytes dst.old) (text upper src.now)
+        (string_bytes new))) }
+    ensures answer { EncodesBehind (λ suffix. suffix.now) (string_len dst.old) upper src.now
+        result }
+{
+    // The clause of `as_bytes` ties this length to the bytes; that of the string's `len` does not.
+    let start = dst.as_bytes().len();
+    hex_append_into(src, dst, upper)?;
+    Ok(text_from(dst, start))
+}
+
+// The text from the byte `start` on.
+fn text_from<A: Allocator>(string: &String<A>, start: usize) -> &str
+    requires within { start ≤ string_len string.now }
+    requires text { IsUtf8 (drop start (string_bytes string.now)) }
+    ensures { result.now ≡ drop start (string_bytes string.now) }
+{
+    unsafe { str::from_utf8_unchecked(&string.as_bytes()[start..]) }
+}
+
+// Appends the digits of `src`, for which `dst` has room already.
+fn append_reserved<A: Allocator>(dst: &mut String<A>, src: &[u8], upper: bool)
+    requires { string_len dst.old + 2 * length src.now ≤ string_capacity dst.old }
+    ensures { string_bytes dst.new ≡ string_bytes dst.old ++ text upper src.now }
+{
+    let mut buffer = [0; PIECE_DIGITS];
+    'pieces: for piece in src.chunks(PIECE) {
+        dst.push_str(piece_text(&mut buffer, piece, upper)).unwrap();
+    }
+}

@@ -1,0 +1,4 @@
+mod ChunkFacts
+mod FrameFacts
+mod PutsLemmas
+mod Repeats

@@ -1,0 +1,30 @@
+-- What is put of the block is copies, and what was put before it is the copies that are not left.
+use Rattle.std.proofs.Common.{◌≡◌, ◌-◌, ◌*◌, length, take, arith}
+use Rattle.std.proofs.KnownBytes.{Appends-trans}
+use Rattle.std.specs.List.{repeat}
+use Rattle.hex_format.proofs.PutsLemmas.{Failed-stop, Failed-then, Puts-err}
+use Rattle.hex_format.proofs.Repeats.{repeat-more, repeat-parts, take-repeat}
+use Rattle.hex_format.proofs.format.put_copies.Goals as goal
+
+pub returns-in_err-put_all : goal.returns-in_err-put_all
+returns-in_err-put_all g c =
+    let piece = c.args.piece.now in
+    let left = c.loop-left.left in
+    let some = c.min-copies.result in
+    let copies : take (some * length piece) c.copy_into.new.block ≡ repeat some piece = rw c.copy_into.ensures (take-repeat some c.min-most.result piece (omega arith)) in
+    let failed = Failed-then _ _ _ _ _ _ _ _ c.loop-left.invariant.taken c.loop-left.invariant.counted (Failed-stop _ _ _ _ _ (repeat (left - some) piece) (rw copies at c.in_err-put_all.ensures)) in
+    Puts-err _ _ _ _ c.from_residual.result _ c.from_residual.ensures.0
+    (rw (repeat-parts c.args.count left some piece c.loop-left.invariant.within (omega arith)) at failed)
+
+pub loop-left-preserved : goal.loop-left-preserved
+loop-left-preserved g c =
+    let piece = c.args.piece.now in
+    let left = c.loop-left.left in
+    let some = c.min-copies.result in
+    let copies : take (some * length piece) c.copy_into.new.block ≡ repeat some piece = rw c.copy_into.ensures (take-repeat some c.min-most.result piece (omega arith)) in
+    let taken = Appends-trans _ _ _ _ _ c.loop-left.invariant.taken (rw copies at c.in_ok-put_all.ensures.0) in
+    record {
+      within = omega arith;
+      taken = rw (repeat-more c.args.count left some piece c.loop-left.invariant.within (omega arith)) at taken;
+      counted = omega (arith, c.in_ok-put_all.ensures.1);
+    }

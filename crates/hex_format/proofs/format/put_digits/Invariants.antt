@@ -1,0 +1,15 @@
+-- The digits before those of the chunks that are left have been taken, and no put has failed.
+use Rattle.std.proofs.Common.{◌≡◌, ℕ, List, ◌++◌}
+use Rattle.std.specs.Io.KnownBytes.{Appends}
+use Rattle.std.specs.Slice.Iter.{chunks_rest, chunks_size}
+use Rattle.hex_format.specs.Frame.{digits_of}
+use Rattle.hex_format.proofs.format.put_digits.Given as goal
+
+abbrev pub invariant-loop-chunk : goal.invariant-loop-chunk
+invariant-loop-chunk g l =
+    (goal.iterator-loop-chunk g).can_next l.chunk-iterator
+    × (goal.iterator-loop-chunk g).is_finite l.chunk-iterator
+    × (chunks_size l.chunk-iterator ≡ 512)
+    × (g.S.Sink.failure_count l.sink ≡ g.S.Sink.failure_count l.initial.sink)
+    × ((done : List ℕ) × Appends (g.S.Sink.taken l.initial.sink) (g.S.Sink.taken l.sink) done
+    × (done ++ digits_of l.flags (chunks_rest l.chunk-iterator) ≡ digits_of l.flags l.bytes))

@@ -1,0 +1,250 @@
+//! A view of bytes that prints them as hex digits, and padded texts of it.
+
+ghost use Rattle.std.specs.Prelude.{◌≡◌, ◌-◌, ◌*◌, ◌^◌, ◌<◌, ◌≤◌, Some, length};
+ghost use Rattle.std.specs.Fmt.{WritesOnOk};
+ghost use Rattle.std.specs.List.{repeat};
+ghost use Rattle.std.specs.Str.{IsAscii};
+ghost use Rattle.hex_core.specs.Text.{lowercase, text};
+ghost use Rattle.hex_format.specs.Frame.{digits_of, frame, hex_bytes, left_padding, padding_of, plain_flags, sign_and_prefix};
+ghost use Rattle.hex_format.specs.Sink.{Puts};
+
+pub use crate::sink::{Sink, SinkFault, SliceSink, WriteFault, WriterSink, put_all};
+use hex_codec::pieces::encoded;
+use std::{fmt, str};
+
+// How many source bytes are encoded at a time, and up to how many a smaller buffer serves, so that
+// a digest does not pay for the large one.
+const CHUNK: usize = 512;
+
+const SHORT: usize = 64;
+
+// How many copies of a padding character are put at a time, and how long one is at most.
+const COPIES: usize = 64;
+
+const LONGEST: usize = 4;
+
+/// Where the fill characters of a padded text stand.
+#[derive(Clone, Copy, Debug, PartialEq, Eq)]
+pub enum Align {
+    /// The text stands left, the fill characters behind it.
+    Left,
+    /// The text stands right, the fill characters before it.
+    Right,
+    /// The text stands between the fill characters; an odd one is behind it.
+    Center,
+}
+
+/// How [`Hex::write_to`] writes a view.
+///
+/// The default is the plain text: no sign, no prefix, no width, lowercase digits. A width is then
+/// filled with spaces before the text.
+#[derive(Clone, Copy, Debug, PartialEq, Eq)]
+pub struct HexFlags {
+    /// Begin with `+`.
+    pub plus: bool,
+    /// Write `0x` behind the sign, also in uppercase and for no bytes at all.
+    pub prefix: bool,
+    /// Fill up to the width with `0` between prefix and digits; `fill` and `align` are not read.
+    pub zero: bool,
+    /// The least length of the text, in characters.
+    pub width: Option<usize>,
+    /// The character that fills up to the width.
+    pub fill: char,
+    /// Where the fill characters stand.
+    pub align: Align,
+    /// Write `A` to `F` in place of `a` to `f`.
+    pub upper: bool,
+}
+
+impl Default for HexFlags {
+    ghost is_default = { λ flags. flags ≡ plain_flags };
+
+    fn default() -> HexFlags {
+        HexFlags {
+            plus: false,
+            prefix: false,
+            zero: false,
+            width: None,
+            fill: ' ',
+            align: Align::Right,
+            upper: false,
+        }
+    }
+}
+
+/// Bytes that print as their hex digits, two a byte, in their order. The bytes are borrowed.
+///
+/// ```rust
+/// let text = format!(in alloc; "{}", Hex::new(&[0, 0xab, 0xcd]))?;
+/// assert_eq!(rt; text.as_str(), "00abcd");
+/// ```
+#[derive(Clone, Copy, Debug)]
+pub struct Hex<'a> {
+    bytes: &'a [u8],
+}
+
+impl<'a> Hex<'a> {
+    /// A view of `bytes`. Nothing is copied or encoded yet.
+    pub fn new(bytes: &'a [u8]) -> Hex<'a>
+        ensures { hex_bytes result ≡ bytes.entry.now }
+    {
+        Hex { bytes }
+    }
+
+    /// Puts the view's text into `sink`: sign, prefix and digits, padded as `flags` say.
+    ///
+    /// At `Ok` the sink has taken exactly this text more, and has counted no failure; an empty text
+    /// is always `Ok`. Padding is added up to `flags.width` characters, so a text that is as long
+    /// has none. No memory is taken, and number and size of the puts are open.
+    ///
+    /// # Errors
+    ///
+    /// A put that failed ends the call at once. The sink has then taken a beginning of the text,
+    /// which may end inside a fill character, and has counted one failure more.
+    ///
+    /// - [`WriteFault::Sink`] where the sink refused a piece;
+    /// - [`WriteFault::TookNothing`] where it took no byte of a piece that had some.
+    ///
+    /// ```rust
+    /// let mut buffer = [0; 10];
+    /// let mut sink = SliceSink::new(&mut buffer);
+    /// let flags = HexFlags { prefix: true, zero: true, width: Some(8), ..HexFlags::default() };
+    /// assert_eq!(rt; Hex::new(&[0xab]).write_to(&mut sink, &flags), Ok(()));
+    /// assert_eq!(rt; sink.written(), b"0x0000ab");
+    /// ```
+    pub fn write_to<S: Sink>(&self, sink: &mut S, flags: &HexFlags) -> Result<(), WriteFault>
+        requires { S.failure_count sink.old < 2 ^ 64 - 1 }
+        ensures { Puts (S.taken sink.old) (S.taken sink.new) (S.failure_count sink.old)
+            (S.failure_count sink.new) result (frame flags.now (hex_bytes self.now)) }
+    {
+        let padding = padding_of_view(flags, self.bytes);
+        if flags.zero {
+            put_all(sink, sign_and_prefix(flags))?;
+            put_copies(sink, b"0", padding)?;
+            put_digits(sink, flags, self.bytes)
+        } else {
+            let mut buffer = [0; LONGEST];
+            let fill = flags.fill.encode_utf8(&mut buffer).as_bytes();
+            let left = before_text(flags.align, padding);
+            put_copies(sink, fill, left)?;
+            put_all(sink, sign_and_prefix(flags))?;
+            put_digits(sink, flags, self.bytes)?;
+            put_copies(sink, fill, padding - left)
+        }
+    }
+}
+
+impl fmt::Display for Hex<'_> {
+    ghost output = { λ hex. Some (text lowercase (hex_bytes hex)) };
+
+    fn fmt<W: fmt::Write>(&self, f: &mut fmt::Formatter<W>) -> fmt::Result {
+        if self.bytes.len() <= SHORT {
+            let mut buffer = [0; 2 * SHORT];
+            return write_ascii(f, encoded(self.bytes, false, &mut buffer));
+        }
+        let mut buffer = [0; 2 * CHUNK];
+        for chunk in self.bytes.chunks(CHUNK) {
+            let digits = encoded(chunk, false, &mut buffer);
+            write_ascii(f, digits)?;
+        }
+        Ok(())
+    }
+}
+
+// Writes ASCII bytes as the text that they are.
+fn write_ascii<W: fmt::Write>(f: &mut fmt::Formatter<W>, bytes: &[u8]) -> fmt::Result
+    requires { IsAscii bytes.now }
+    ensures { WritesOnOk W.write_str_gives f.old result bytes.now f.new }
+{
+    f.write_str(unsafe { str::from_utf8_unchecked(bytes) })
+}
+
+// The sign and the prefix that `flags` ask for.
+fn sign_and_prefix(flags: &HexFlags) -> &'static [u8]
+    ensures { result.now ≡ sign_and_prefix flags.now }
+{
+    match (flags.plus, flags.prefix) {
+        (true, true) => b"+0x",
+        (true, false) => b"+",
+        (false, true) => b"0x",
+        (false, false) => b"",
+    }
+}
+
+// How many characters the text of `bytes` lacks of the width. The width is counted down, since a
+// sum of lengths may be no `usize`.
+fn padding_of_view(flags: &HexFlags, bytes: &[u8]) -> usize
+    ensures { result ≡ padding_of flags.now bytes.now }
+{
+    match flags.width {
+        None => 0,
+        Some(width) => width
+            .saturating_sub(sign_and_prefix(flags).len())
+            .saturating_sub(bytes.len())
+            .saturating_sub(bytes.len()),
+    }
+}
+
+// How many of the padding's characters stand before the text.
+fn before_text(align: Align, padding: usize) -> usize
+    ensures value { result ≡ left_padding align padding }
+    ensures part { result ≤ padding }
+{
+    match align {
+        Align::Left => 0,
+        Align::Right => padding,
+        Align::Center => padding / 2,
+    }
+}
+
+// Puts the digits of `bytes`, a chunk at a time.
+fn put_digits<S: Sink>(sink: &mut S, flags: &HexFlags, bytes: &[u8]) -> Result<(), WriteFault>
+    requires { S.failure_count sink.old < 2 ^ 64 - 1 }
+    ensures { Puts (S.taken sink.old) (S.taken sink.new) (S.failure_count sink.old)
+        (S.failure_count sink.new) result (digits_of flags.now bytes.now) }
+{
+    if bytes.len() <= SHORT {
+        let mut buffer = [0; 2 * SHORT];
+        return put_all(sink, encoded(bytes, flags.upper, &mut buffer));
+    }
+    let mut buffer = [0; 2 * CHUNK];
+    for chunk in bytes.chunks(CHUNK) {
+        let digits = encoded(chunk, flags.upper, &mut buffer);
+        put_all(sink, digits)?;
+    }
+    Ok(())
+}
+
+// Writes copies of a piece behind one another into the whole of the block.
+fn copy_into(piece: &[u8], count: usize, block: &mut [u8])
+    requires { length block.old ≡ count * length piece.now }
+    ensures { block.new ≡ repeat count piece.now }
+{
+    let len = piece.len();
+    'copies: for i in 0..count {
+        block[i * len..i * len + len].copy_from_slice(piece);
+    }
+}
+
+// Puts `count` copies of a piece, a block of them at a time.
+fn put_copies<S: Sink>(sink: &mut S, piece: &[u8], count: usize) -> Result<(), WriteFault>
+    requires counts { S.failure_count sink.old < 2 ^ 64 - 1 }
+    requires short { length piece.now ≤ LONGEST }
+    ensures { Puts (S.taken sink.old) (S.taken sink.new) (S.failure_count sink.old)
+        (S.failure_count sink.new) result (repeat count piece.now) }
+{
+    if count == 0 {
+        return Ok(());
+    }
+    let mut buffer = [0; COPIES * LONGEST];
+    let most = count.min(COPIES);
+    let block = &mut buffer[..most * piece.len()];
+    copy_into(piece, most, block);
+    let mut left = count;
+    while left > 0 {
+        let copies = left.min(COPIES);
+        put_all(sink, &block[..copies * piece.len()])?;
+        left -= copies;
+    }
+    Ok(())
+}

@@ -1,0 +1,8 @@
+//! Sinks, and a view of bytes that is written into them as a padded text of hex digits.
+#![tactic(auto)]
+
+pub mod format;
+pub mod sink;
+
+pub use crate::format::{Align, Hex, HexFlags};
+pub use crate::sink::{Sink, SinkFault, SliceSink, WriteFault, WriterSink, put_all};

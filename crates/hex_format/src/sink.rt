@@ -1,0 +1,274 @@
+//! Sinks, which take bytes a piece at a time, and two of them: over a slice and over a writer.
+
+ghost use Rattle.std.specs.Prelude.{◌≡◌, ◌↔◌, ◌+◌, ◌-◌, ◌^◌, ◌<◌, ◌≤◌, ℕ, min, List, [], Option, Some, length, take, IsSome, IsErr, IfOk, OnOk, OnErr};
+ghost use Rattle.std.specs.Io.KnownBytes.{Appends, Keeps};
+ghost use Rattle.std.specs.Option.{option_copied};
+ghost use Rattle.hex_format.specs.Sink.{AppendsBeginning, Puts, faults_of};
+
+use std::io::{self, Write};
+
+/// The fault of a [`Sink`] that refused a piece. Why it did is the sink's to tell.
+#[derive(Clone, Copy, Debug, PartialEq, Eq)]
+pub struct SinkFault;
+
+/// Where bytes go, a piece at a time, with a count of the puts that failed.
+///
+/// A put has failed where it returned `Err`, or took none of a nonempty piece.
+pub trait Sink {
+    // The bytes taken so far, where the sink tells them.
+    ghost taken: { Self → Option (List ℕ) };
+
+    // How many puts have failed so far.
+    ghost failure_count: { Self → ℕ };
+
+    /// How many puts have failed so far.
+    fn failures(&self) -> u64
+        ensures { result ≡ failure_count self.now };
+
+    /// Offers a piece and returns how many of its bytes were taken, from its front.
+    ///
+    /// The count of failures grows by one exactly where this returns an error, or takes none of a
+    /// nonempty piece. The caller shows that the count has room for one more.
+    ///
+    /// # Errors
+    ///
+    /// [`SinkFault`] where the sink refuses; a beginning of the piece may have been taken.
+    fn put(&mut self, piece: &[u8]) -> Result<usize, SinkFault>
+        requires { failure_count self.old < 2 ^ 64 - 1 }
+        ensures bound { IfOk result (λ n. n ≤ length piece.now) }
+        ensures ok { IfOk result
+            (λ n. Appends (taken self.old) (taken self.new) (take n piece.now)) }
+        ensures err { OnErr result (AppendsBeginning (taken self.old) (taken self.new) piece.now) }
+        ensures counted { failure_count self.new
+            ≡ failure_count self.old + faults_of result piece.now };
+}
+
+/// Why a text was not written to its end. A beginning of it may have been taken, and nothing was
+/// put after the fault.
+#[derive(Clone, Copy, Debug, PartialEq, Eq)]
+pub enum WriteFault {
+    /// The sink refused a piece.
+    Sink(SinkFault),
+    /// The sink took no byte of a piece that had some.
+    TookNothing,
+}
+
+/// Puts a piece into `sink`, and what a put leaves of it again, until all of it is taken.
+///
+/// At `Ok` the sink has taken exactly the piece more, and has counted no failure. An empty piece
+/// is not put at all, and is always `Ok`.
+///
+/// # Errors
+///
+/// A put that failed ends the call at once; the sink has then taken a beginning of the piece, and
+/// has counted one failure more.
+///
+/// - [`WriteFault::Sink`] where the sink refused;
+/// - [`WriteFault::TookNothing`] where it took no byte.
+///
+/// ```rust
+/// let mut buffer = [0; 3];
+/// let mut sink = SliceSink::new(&mut buffer);
+/// assert_eq!(rt; put_all(&mut sink, b"ab"), Ok(()));
+/// assert_eq!(rt; put_all(&mut sink, b"cd"), Err(WriteFault::Sink(SinkFault)));
+/// assert_eq!(rt; sink.written(), b"abc");
+/// ```
+pub fn put_all<S: Sink>(sink: &mut S, piece: &[u8]) -> Result<(), WriteFault>
+    requires { S.failure_count sink.old < 2 ^ 64 - 1 }
+    ensures { Puts (S.taken sink.old) (S.taken sink.new) (S.failure_count sink.old)
+        (S.failure_count sink.new) result piece.now }
+{
+    let mut at = 0;
+    while at < piece.len() {
+        match sink.put(&piece[at..]) {
+            Ok(0) => return Err(WriteFault::TookNothing),
+            Ok(count) => at += count,
+            Err(fault) => return Err(WriteFault::Sink(fault)),
+        }
+    }
+    Ok(())
+}
+
+/// A sink over a slice: it fills the slice from its front, and refuses once it is full.
+///
+/// ```rust
+/// let mut buffer = [0; 3];
+/// let mut sink = SliceSink::new(&mut buffer);
+/// assert_eq!(rt; sink.put(b"ab"), Ok(2));
+/// assert_eq!(rt; sink.put(b"cd"), Ok(1));
+/// assert_eq!(rt; sink.put(b"d"), Err(SinkFault));
+/// assert_eq!(rt; sink.written(), b"abc");
+/// assert_eq!(rt; sink.failures(), 1);
+/// ```
+#[derive(Drop)]
+pub struct SliceSink<'a> {
+    buf: &'a mut [u8],
+    used: usize,
+    refused: u64,
+    ghost in_range: { used ≤ length buf.now },
+}
+
+impl<'a> SliceSink<'a> {
+    ghost use Rattle.hex_format.specs.Sinks.{written_bytes, free_len, slice_failures};
+
+    /// A sink that has taken nothing, has all of `buf` free and counts no failure.
+    pub fn new(buf: &'a mut [u8]) -> SliceSink<'a>
+        ensures written { written_bytes result ≡ [] }
+        ensures free { free_len result ≡ length buf.entry.now }
+        ensures failures { slice_failures result ≡ 0 }
+    {
+        SliceSink {
+            buf,
+            used: 0,
+            refused: 0,
+        }
+    }
+
+    /// The bytes taken so far, in the order in which they were put.
+    pub fn written(&self) -> &[u8]
+        ensures { result.now ≡ written_bytes self.now }
+    {
+        &self.buf[..self.used]
+    }
+}
+
+impl Sink for SliceSink<'_> {
+    ghost use Rattle.hex_format.specs.Sinks.{written_bytes, free_len, slice_failures};
+
+    ghost taken = { λ sink. Some (written_bytes sink) };
+
+    ghost failure_count = { λ sink. slice_failures sink };
+
+    fn failures(&self) -> u64 {
+        self.refused
+    }
+
+    /// Takes as much of `piece` as fits into the free rest of the slice.
+    ///
+    /// # Errors
+    ///
+    /// [`SinkFault`] exactly for a nonempty piece where nothing is free; nothing is taken then.
+    fn put(&mut self, piece: &[u8]) -> Result<usize, SinkFault>
+        requires { slice_failures self.old < 2 ^ 64 - 1 }
+        ensures bound { IfOk result (λ n. n ≤ length piece.now) }
+        ensures ok { IfOk result
+            (λ n. Appends (Some (written_bytes self.old)) (Some (written_bytes self.new))
+            (take n piece.now)) }
+        ensures err { OnErr result (AppendsBeginning (Some (written_bytes self.old))
+            (Some (written_bytes self.new)) piece.now) }
+        ensures counted { slice_failures self.new
+            ≡ slice_failures self.old + faults_of result piece.now }
+        // All that fits is taken, and the rest stays free.
+        ensures fits { IfOk result (λ n. n ≡ min (length piece.now) (free_len self.old)) }
+        ensures room { IfOk result (λ n. free_len self.new ≡ free_len self.old - n) }
+        // A refusal takes nothing.
+        ensures full { IsErr result ↔ ((0 < length piece.now) × (free_len self.old ≡ 0)) }
+        ensures unchanged { OnErr result ((written_bytes self.new ≡ written_bytes self.old)
+            × (free_len self.new ≡ 0)) }
+    {
+        let free = self.buf.len() - self.used;
+        if free == 0 && !piece.is_empty() {
+            self.refused += 1;
+            return Err(SinkFault);
+        }
+        let count = piece.len().min(free);
+        self.buf[self.used..self.used + count].copy_from_slice(&piece[..count]);
+        self.used += count;
+        Ok(count)
+    }
+}
+
+/// A sink over a writer: each put is one `write`, and no kind of error is tried again.
+///
+/// ```rust
+/// let mut sink = WriterSink::new(Vec::new(Global));
+/// assert_eq!(rt; sink.put(b"ab"), Ok(2));
+/// assert!(rt; sink.last_error().is_none());
+/// assert_eq!(rt; sink.into_inner().as_slice(), b"ab");
+/// ```
+#[derive(Drop)]
+pub struct WriterSink<W: Write> {
+    writer: W,
+    last_error: Option<io::Error>,
+    failed: u64,
+}
+
+impl<W: Write> WriterSink<W> {
+    ghost use Rattle.hex_format.specs.Sinks.{writer_of, kept_error, writer_failures};
+
+    /// A sink that hands its pieces to `writer`, has met no error and counts no failure.
+    pub fn new(writer: W) -> WriterSink<W>
+        ensures writer { writer_of result ≡ writer }
+        ensures error { kept_error result ≡ None }
+        ensures failures { writer_failures result ≡ 0 }
+    {
+        WriterSink {
+            writer,
+            last_error: None,
+            failed: 0,
+        }
+    }
+
+    /// The last error that the writer returned, if it returned one. A `write` that took nothing
+    /// of a nonempty piece is a failure without an error.
+    pub fn last_error(&self) -> Option<&io::Error>
+        ensures { option_copied result ≡ kept_error self.now }
+    {
+        self.last_error.as_ref()
+    }
+
+    /// Gives the writer back. It holds what it took; nothing is written or flushed here.
+    pub fn into_inner(self) -> W
+        ensures { result ≡ writer_of self }
+    {
+        self.writer
+    }
+}
+
+impl<W: Write> Sink for WriterSink<W> {
+    ghost use Rattle.hex_format.specs.Sinks.{writer_of, kept_error, writer_failures};
+
+    ghost taken = { λ sink. W.contents (writer_of sink) };
+
+    ghost failure_count = { λ sink. writer_failures sink };
+
+    fn failures(&self) -> u64 {
+        self.failed
+    }
+
+    /// Hands `piece` to the writer in one `write`, and returns how much of it that took.
+    ///
+    /// # Errors
+    ///
+    /// [`SinkFault`] where the writer returned an error, which is kept; nothing is taken then.
+    fn put(&mut self, piece: &[u8]) -> Result<usize, SinkFault>
+        requires { writer_failures self.old < 2 ^ 64 - 1 }
+        ensures bound { IfOk result (λ n. n ≤ length piece.now) }
+        ensures ok { IfOk result
+            (λ n. Appends (W.contents (writer_of self.old)) (W.contents (writer_of self.new))
+            (take n piece.now)) }
+        ensures err { OnErr result (AppendsBeginning (W.contents (writer_of self.old))
+            (W.contents (writer_of self.new)) piece.now) }
+        ensures counted { writer_failures self.new
+            ≡ writer_failures self.old + faults_of result piece.now }
+        // A refusal takes nothing and keeps the writer's error.
+        ensures unchanged { OnErr result (Keeps (W.contents (writer_of self.old))
+            (W.contents (writer_of self.new))) }
+        ensures error { OnErr result (IsSome (kept_error self.new)) }
+        ensures no_error { OnOk result (kept_error self.new ≡ kept_error self.old) }
+    {
+        match self.writer.write(piece) {
+            Ok(count) => {
+                if count == 0 && !piece.is_empty() {
+                    self.failed += 1;
+                }
+                Ok(count)
+            }
+            Err(error) => {
+                self.last_error = Some(error);
+                self.failed += 1;
+                Err(SinkFault)
+            }
+        }
+    }
+}

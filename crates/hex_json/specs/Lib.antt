@@ -1,0 +1,4 @@
+pub mod Adapters
+pub mod WireFormats
+pub mod AdapterMessage
+pub mod AdapterLaws
