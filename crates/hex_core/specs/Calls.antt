@@ -1,9 +1,12 @@
 -- What a call answers and what it leaves: one word for each kind of call.
-use Rattle.std.specs.Prelude.{◌≡◌, ℕ, ◌*◌, ◌/◌, Bool, List, length, Result, MatchResult, Some, None}
+use Rattle.std.specs.Prelude.{◌≡◌, ℕ, ◌*◌, ◌/◌, Bool, List, length, ◌↔◌, IsTrue, Result, MatchResult, Some, None}
+use Rattle.std.specs.Bool.{OnFalse, OnTrue}
 use Rattle.std.specs.Borrow.{MutBor}
 use Rattle.hex_core.specs.declared.digit.CheckCase.{CheckCase}
 use Rattle.hex_core.specs.declared.error.Error.{Error}
+use Rattle.hex_core.specs.Plans.{StoresBlocks}
 use Rattle.hex_core.specs.Refusal.{decode_refusal, encode_refusal}
+use Rattle.hex_core.specs.Search.{first_invalid}
 use Rattle.hex_core.specs.Text.{Spells, text, with_front}
 
 -- decoding into the front of a destination: the number of bytes, which are what the source spells
@@ -32,3 +35,17 @@ abbrev pub EncodesFront : Bool → List ℕ → ℕ → Result (MutBor (List ℕ
 EncodesFront upper bytes room result = MatchResult result
     (λ front. (encode_refusal bytes room ≡ None) × (front.now ≡ text upper bytes))
     (λ e. encode_refusal bytes room ≡ Some e)
+
+-- decoding over a whole destination, by an answer that is true where each byte of the source has a
+-- value: then the destination is what the source spells, and else this holds of it
+abbrev pub DecodesElse : Type 0 → CheckCase → List ℕ → List ℕ → Bool → Type 0
+DecodesElse otherwise c s new done =
+    (IsTrue done ↔ (first_invalid c s ≡ None)) × OnTrue done (Spells c s new) × OnFalse done otherwise
+
+-- else it is as it was
+abbrev pub DecodesWhole : CheckCase → List ℕ → List ℕ → List ℕ → Bool → Type 0
+DecodesWhole c s old new done = DecodesElse (new ≡ old) c s new done
+
+-- or, where it is given up then, the blocks before the first invalid byte were stored
+abbrev pub DecodesOwned : ℕ → CheckCase → List ℕ → List ℕ → List ℕ → Bool → Type 0
+DecodesOwned block c s old new done = DecodesElse (StoresBlocks block c s old new) c s new done

@@ -5,10 +5,10 @@
 //! overlaps the one before: what both cover is read twice, or written twice with equal bytes.
 
 ghost use Rattle.std.specs.Prelude.{◌≡◌, ◌↔◌, ℕ, ◌+◌, ◌-◌, ◌*◌, ◌≤◌, IsTrue, None, length};
-ghost use Rattle.std.specs.Bool.{OnFalse, OnTrue};
 ghost use Rattle.std.specs.Simd.Lanes.{chunk, put_chunk};
 ghost use Rattle.hex_core.specs.Arithmetic.{AreZero, packed};
 ghost use Rattle.hex_core.specs.Blocks.{DecodesRange, NibblesFrom};
+ghost use Rattle.hex_core.specs.Calls.{DecodesWhole};
 ghost use Rattle.hex_core.specs.Search.{AllValid, first_invalid};
 ghost use Rattle.hex_core.specs.Lanes.{AreSmall};
 ghost use Rattle.hex_core.specs.Text.{Spells, text};
@@ -263,9 +263,7 @@ where
     requires twice { length src.now ≡ 2 * length dst.old }
     requires least { N ≤ length src.now }
     requires most { length src.now ≤ 2 * N }
-    ensures valid { IsTrue result ↔ (first_invalid case src.now ≡ None) }
-    ensures decoded { OnTrue result (Spells case src.now dst.new) }
-    ensures unchanged { OnFalse result (dst.new ≡ dst.old) }
+    ensures { DecodesWhole case src.now dst.old dst.new result }
 {
     let front = nibbles_at::<M, N>(src, 0, case);
     let back = nibbles_at::<M, N>(src, src.len() - N, case);
@@ -292,9 +290,7 @@ where
     requires twice { length src.now ≡ 2 * length dst.old }
     requires least { 2 * N ≤ length src.now }
     requires most { length src.now ≤ 4 * N }
-    ensures valid { IsTrue result ↔ (first_invalid case src.now ≡ None) }
-    ensures decoded { OnTrue result (Spells case src.now dst.new) }
-    ensures unchanged { OnFalse result (dst.new ≡ dst.old) }
+    ensures { DecodesWhole case src.now dst.old dst.new result }
 {
     let len = src.len();
     let first = nibbles_at::<M, N>(src, 0, case);

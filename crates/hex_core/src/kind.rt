@@ -1,7 +1,7 @@
 //! The choice of a body: one `match` for each thing that a plan does.
 
 ghost use Rattle.std.specs.Prelude.{◌≡◌, ◌*◌, ◌↔◌, IsTrue, None, length};
-ghost use Rattle.std.specs.Bool.{OnFalse, OnTrue};
+ghost use Rattle.hex_core.specs.Calls.{DecodesWhole};
 ghost use Rattle.hex_core.specs.Search.{first_invalid};
 ghost use Rattle.hex_core.specs.Text.{Spells, text};
 
@@ -65,9 +65,7 @@ impl Kind {
     #[inline(always)]
     pub fn decode(self, src: &[u8], dst: &mut [u8], case: CheckCase) -> bool
         requires { length src.now ≡ 2 * length dst.old }
-        ensures valid { IsTrue result ↔ (first_invalid case src.now ≡ None) }
-        ensures decoded { OnTrue result (Spells case src.now dst.new) }
-        ensures unchanged { OnFalse result (dst.new ≡ dst.old) }
+        ensures { DecodesWhole case src.now dst.old dst.new result }
     {
         match self {
             Kind::Scalar => scalar::decode(src, dst, case),

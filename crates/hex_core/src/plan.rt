@@ -1,10 +1,10 @@
 //! Plans by name, and the calls whose caller shows the ratio of the lengths.
 
 ghost use Rattle.std.specs.Prelude.{◌≡◌, ◌*◌, ◌≤◌, ◌↔◌, IsTrue, None, length, map};
-ghost use Rattle.std.specs.Bool.{OnTrue, OnFalse};
-ghost use Rattle.hex_core.specs.Plans.{StoresBlocks, name_of, owned_block, plan_names};
+ghost use Rattle.hex_core.specs.Calls.{DecodesOwned, DecodesWhole};
+ghost use Rattle.hex_core.specs.Plans.{name_of, owned_block, plan_names};
 ghost use Rattle.hex_core.specs.Search.{first_invalid};
-ghost use Rattle.hex_core.specs.Text.{Spells, text};
+ghost use Rattle.hex_core.specs.Text.{text};
 
 use crate::blocks;
 use crate::digit::CheckCase;
@@ -105,9 +105,7 @@ impl Backend {
     #[inline(always)]
     pub fn decode(self, src: &[u8], dst: &mut [u8], case: CheckCase) -> bool
         requires { length src.now ≡ 2 * length dst.old }
-        ensures valid { IsTrue result ↔ (first_invalid case src.now ≡ None) }
-        ensures decoded { OnTrue result (Spells case src.now dst.new) }
-        ensures unchanged { OnFalse result (dst.new ≡ dst.old) }
+        ensures { DecodesWhole case src.now dst.old dst.new result }
     {
         self.0.decode(src, dst, case)
     }
@@ -134,10 +132,7 @@ impl Backend {
     #[inline(always)]
     pub fn decode_owned(self, src: &[u8], dst: &mut [u8], case: CheckCase) -> bool
         requires { length src.now ≡ 2 * length dst.old }
-        ensures valid { IsTrue result ↔ (first_invalid case src.now ≡ None) }
-        ensures decoded { OnTrue result (Spells case src.now dst.new) }
-        ensures stored { OnFalse result
-            (StoresBlocks (owned_block (name_of self)) case src.now dst.old dst.new) }
+        ensures { DecodesOwned (owned_block (name_of self)) case src.now dst.old dst.new result }
     {
         match self.0 {
             Kind::Scalar | Kind::Sse41 => self.decode_at_once(src, dst, case),
@@ -150,9 +145,7 @@ impl Backend {
     #[inline(always)]
     fn decode_at_once(self, src: &[u8], dst: &mut [u8], case: CheckCase) -> bool
         requires { length src.now ≡ 2 * length dst.old }
-        ensures valid { IsTrue result ↔ (first_invalid case src.now ≡ None) }
-        ensures decoded { OnTrue result (Spells case src.now dst.new) }
-        ensures stored { OnFalse result (StoresBlocks 0 case src.now dst.old dst.new) }
+        ensures { DecodesOwned 0 case src.now dst.old dst.new result }
     {
         self.decode(src, dst, case)
     }
@@ -172,9 +165,7 @@ impl Backend {
         requires lanes { N ≤ 64 }
         requires half { N ≡ 2 * HALF }
         requires twice { length src.now ≡ 2 * length dst.old }
-        ensures valid { IsTrue result ↔ (first_invalid case src.now ≡ None) }
-        ensures decoded { OnTrue result (Spells case src.now dst.new) }
-        ensures stored { OnFalse result (StoresBlocks (2 * N) case src.now dst.old dst.new) }
+        ensures { DecodesOwned (2 * N) case src.now dst.old dst.new result }
     {
         let done = blocks::decode_blocks::<M, N, HALF>(src, dst, case);
         // The blocks end before the last whole one where the next has an invalid byte.

@@ -1,7 +1,7 @@
 //! The plain bodies: a table look-up a digit.
 
 ghost use Rattle.std.specs.Prelude.{◌≡◌, ◌+◌, ◌*◌, ◌<◌, ◌≤◌, ◌↔◌, IsTrue, None, length};
-ghost use Rattle.std.specs.Bool.{OnFalse, OnTrue};
+ghost use Rattle.hex_core.specs.Calls.{DecodesWhole};
 ghost use Rattle.hex_core.specs.Search.{first_invalid};
 ghost use Rattle.hex_core.specs.Text.{Spells, text};
 
@@ -63,9 +63,7 @@ pub fn write_bytes(src: &[u8], dst: &mut [u8], case: CheckCase)
 #[inline(never)]
 pub fn decode(src: &[u8], dst: &mut [u8], case: CheckCase) -> bool
     requires { length src.now ≡ 2 * length dst.old }
-    ensures valid { IsTrue result ↔ (first_invalid case src.now ≡ None) }
-    ensures decoded { OnTrue result (Spells case src.now dst.new) }
-    ensures unchanged { OnFalse result (dst.new ≡ dst.old) }
+    ensures { DecodesWhole case src.now dst.old dst.new result }
 {
     if !check(src, case) {
         return false;
@@ -80,9 +78,7 @@ pub fn decode(src: &[u8], dst: &mut [u8], case: CheckCase) -> bool
 pub fn decode_short(src: &[u8], dst: &mut [u8], case: CheckCase) -> bool
     requires twice { length src.now ≡ 2 * length dst.old }
     requires few { length dst.old ≤ 7 }
-    ensures valid { IsTrue result ↔ (first_invalid case src.now ≡ None) }
-    ensures decoded { OnTrue result (Spells case src.now dst.new) }
-    ensures unchanged { OnFalse result (dst.new ≡ dst.old) }
+    ensures { DecodesWhole case src.now dst.old dst.new result }
 {
     let values = values_of(case);
     let mut kept = 0u64;

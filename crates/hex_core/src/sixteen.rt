@@ -1,7 +1,7 @@
 //! Checking and decoding under the plans of 16 lanes.
 
 ghost use Rattle.std.specs.Prelude.{◌≡◌, ◌↔◌, ◌+◌, ◌*◌, ◌≤◌, ◌<◌, IsTrue, None, length, slice_index};
-ghost use Rattle.std.specs.Bool.{OnFalse, OnTrue};
+ghost use Rattle.hex_core.specs.Calls.{DecodesWhole};
 ghost use Rattle.hex_core.specs.Search.{AllValid, first_invalid};
 ghost use Rattle.hex_core.specs.Text.{Spells};
 
@@ -111,9 +111,7 @@ pub fn write_bytes(src: &[u8], dst: &mut [u8], case: CheckCase)
 #[inline(never)]
 pub fn decode(src: &[u8], dst: &mut [u8], case: CheckCase) -> bool
     requires { length src.now ≡ 2 * length dst.old }
-    ensures valid { IsTrue result ↔ (first_invalid case src.now ≡ None) }
-    ensures decoded { OnTrue result (Spells case src.now dst.new) }
-    ensures unchanged { OnFalse result (dst.new ≡ dst.old) }
+    ensures { DecodesWhole case src.now dst.old dst.new result }
 {
     match src.len() {
         0..16 => scalar::decode_short(src, dst, case),

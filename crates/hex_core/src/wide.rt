@@ -2,7 +2,7 @@
 //! short, and blocks of 64 digits above.
 
 ghost use Rattle.std.specs.Prelude.{◌≡◌, ◌↔◌, ◌*◌, IsTrue, None, length};
-ghost use Rattle.std.specs.Bool.{OnFalse, OnTrue};
+ghost use Rattle.hex_core.specs.Calls.{DecodesWhole};
 ghost use Rattle.hex_core.specs.Search.{first_invalid};
 ghost use Rattle.hex_core.specs.Text.{Spells};
 
@@ -51,9 +51,7 @@ pub fn decode<M>(src: &[u8], dst: &mut [u8], case: CheckCase) -> bool
 where
     M: NibbleMap<64>,
     requires { length src.now ≡ 2 * length dst.old }
-    ensures valid { IsTrue result ↔ (first_invalid case src.now ≡ None) }
-    ensures decoded { OnTrue result (Spells case src.now dst.new) }
-    ensures unchanged { OnFalse result (dst.new ≡ dst.old) }
+    ensures { DecodesWhole case src.now dst.old dst.new result }
 {
     match src.len() {
         0..16 => scalar::decode_short(src, dst, case),

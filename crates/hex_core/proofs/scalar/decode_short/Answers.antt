@@ -1,22 +1,27 @@
 -- Each turn keeps one more byte in the number, and then each takes one out of it.
 use Rattle.std.proofs.Math.ListN.{length-set, set}
-use Rattle.std.proofs.Common.{◌≡◌, ℕ, ◌%◌, ◌<◌, ◌+◌, ◌-◌, ◌*◌, length, get_or, None, refl, sym, ap, ◌∙◌, arith}
+use Rattle.std.proofs.Common.{◌≡◌, ℕ, ◌%◌, ◌<◌, ◌+◌, ◌-◌, ◌*◌, length, get_or, None, refl, sym, ap, ◌∙◌, arith, rules}
 use Rattle.hex_core.specs.Search.{AllValid, first_invalid}
+use Rattle.hex_core.specs.Text.{Spells}
 use Rattle.hex_core.proofs.NumberLemmas.{byte_more, limit_small, number, number_more, number_small, pair_entries}
 use Rattle.hex_core.proofs.SearchLemmas.{first_invalid_none, has_value}
 use Rattle.hex_core.proofs.TableLemmas.{value-entry}
 use Rattle.hex_core.proofs.scalar.decode_short.Goals as goal
 use Rattle.hex_core.proofs.scalar.decode_short.Goals.{then-high-via-then-high, then-high-via-else-high+then-low}
 
-pub returns-then-high-clause-valid : goal.returns-then-high-clause-valid
-returns-then-high-clause-valid c =
+pub returns-then-high : goal.returns-then-high
+returns-then-high c =
     let s = c.args.src.now in
     let entry : first_invalid c.args.case s ≡ None → (k : ℕ) → k < length s → get_or c.values_of-values.result.now (get_or s k 0) 0 < 16 = λ none k inside. (value-entry c.args.case _ (get_or s k 0) c.values_of-values.ensures (c.type_inv.src k).fits (has_value c.args.case s k none inside)).1 in (
-      λ h. cc,
-      λ none. elim c.then-high.branch [
-        | then-high-via-then-high w ↦ absurd (omega (arith, w.if-high.true, entry none (2 * c.pairs.i) (omega arith)))
-        | then-high-via-else-high+then-low w ↦ absurd (omega (arith, w.if-low.true, entry none (2 * c.pairs.i + 1) (omega arith)))
-      ],
+      (
+        λ h. cc,
+        λ none. elim c.then-high.branch [
+          | then-high-via-then-high w ↦ absurd (omega (arith, w.if-high.true, entry none (2 * c.pairs.i) (omega arith)))
+          | then-high-via-else-high+then-low w ↦ absurd (omega (arith, w.if-low.true, entry none (2 * c.pairs.i + 1) (omega arith)))
+        ],
+      ),
+      tt,
+      refl,
     )
 
 pub packed-requires-clause-high : goal.packed-requires-clause-high
@@ -49,5 +54,10 @@ bytes-preserved c =
     let place : length (set c.bytes.dst at (c.bytes.kept % 256)) - (c.bytes.i + 1) ≡ at = omega arith in
     record { kept = more.0 ∙ ap (number c.args.case c.args.src.now) (sym place); written = λ k low lt. more.1 k (omega arith) (omega arith) }
 
-pub returns-clause-valid : goal.returns-clause-valid
-returns-clause-valid c = (λ h. first_invalid_none c.args.case c.args.src.now (λ k low lt. c.pairs.invariant.valid k low (omega arith)), λ none. refl)
+pub returns : goal.returns
+returns c =
+    let spelled : Spells c.args.case c.args.src.now c.bytes.dst = search rules in (
+      (λ h. first_invalid_none c.args.case c.args.src.now (λ k low lt. c.pairs.invariant.valid k low (omega arith)), λ none. refl),
+      spelled,
+      tt,
+    )
