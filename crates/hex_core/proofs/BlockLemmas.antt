@@ -185,10 +185,6 @@ decodes c s old new v at from w n twice even room are small is =
 spelled_along : (c : CheckCase) (s old new : List ℕ) (k : ℕ) → get_or new k 0 ≡ get_or old k 0 → SpellsAt c s old k → SpellsAt c s new k
 spelled_along c s old new k e at = record { high = rw e at.high; low = rw e at.low }
 
--- none yet
-pub decodes_none : (c : CheckCase) (s old : List ℕ) (start end : ℕ) → end ≡ start → DecodesRange c s old old start end
-decodes_none c s old start end is = record { decoded = λ k low lt. absurd (omega arith); before = λ k lt. refl; behind = λ k h. refl }
-
 -- a range, and one that begins inside it or at its end
 pub decodes_over : (c : CheckCase) (s old mid new : List ℕ) (first middle start end : ℕ) → first ≤ start → start ≤ middle → middle ≤ end → DecodesRange c s old mid first middle → DecodesRange c s mid new start end → DecodesRange c s old new first end
 decodes_over c s old mid new first middle start end from le to one two = record {

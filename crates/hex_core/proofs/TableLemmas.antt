@@ -13,13 +13,7 @@ pub get_or-value_table : (c : CheckCase) (b d : ℕ) → b < 256 → get_or (val
 unfolding value_table
 get_or-value_table c b d h = get_or-map-range_with_len (λ (k : ℕ). unwrap_or (value c k) 255) 0 256 b b d h (omega arith)
 
--- an entry of 255 says that the byte has no value
-pub none_at : (c : CheckCase) (b : ℕ) → unwrap_or (value c b) 255 ≡ 255 → is_none (value c b) ≡ true
-none_at policy.None b h = grind (arith, nat_tests)
-none_at policy.Lower b h = grind (arith, nat_tests)
-none_at policy.Upper b h = grind (arith, nat_tests)
-
--- any other entry says that it has one
+-- an entry that is not 255 says that the byte has a value
 pub some_at : (c : CheckCase) (b : ℕ) → unwrap_or (value c b) 255 ≢ 255 → is_none (value c b) ≡ false
 some_at policy.None b h = grind (arith, nat_tests)
 some_at policy.Lower b h = grind (arith, nat_tests)
@@ -31,10 +25,7 @@ value_at policy.None b h = grind (arith, nat_tests)
 value_at policy.Lower b h = grind (arith, nat_tests)
 value_at policy.Upper b h = grind (arith, nat_tests)
 
--- the same of an entry that a table holds
-pub lacking-entry : (c : CheckCase) (table : List ℕ) (b : ℕ) → table ≡ value_table c → b < 256 → get_or table b 0 ≡ 255 → is_none (value c b) ≡ true
-lacking-entry c table b is h e = none_at c b (sym (get_or-value_table c b 0 h) ∙ rw is at e)
-
+-- an entry of a table that is not 255 says so too
 pub admitted-entry : (c : CheckCase) (table : List ℕ) (b : ℕ) → table ≡ value_table c → b < 256 → get_or table b 0 ≢ 255 → is_none (value c b) ≡ false
 admitted-entry c table b is h e = some_at c b (λ x. e (rw is (get_or-value_table c b 0 h ∙ x)))
 

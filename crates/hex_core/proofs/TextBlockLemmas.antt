@@ -39,7 +39,3 @@ two_blocks upper src dst mid w i at ratio whole le p is =
     let same : length mid ≡ length dst = ap length is ∙ length-put_chunk 0 dst (text upper (chunk 0 w src)) in
     let front : take (2 * w) mid ≡ text upper (take w src) = ap (take (2 * w)) is ∙ block_step upper src dst 0 w w 0 (2 * w) ratio (omega arith) (omega arith) refl refl refl in
     block_last upper src mid i w w at (2 * w) (omega arith) whole le (omega arith) p refl front
-
--- all is written
-pub text_whole : (upper : Bool) (src dst : List ℕ) (i at : ℕ) → length src ≡ i → length dst ≡ at → take at dst ≡ text upper (take i src) → dst ≡ text upper src
-text_whole upper src dst i at p q front = sym (take_all at dst (omega arith)) ∙ front ∙ ap (text upper) (take_all i src (omega arith))

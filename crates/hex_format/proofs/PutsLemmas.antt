@@ -4,7 +4,7 @@ use Rattle.std.proofs.Math.Seq.{take-add}
 use Rattle.std.proofs.lemmas.List.{take_rest}
 use Rattle.std.proofs.KnownBytes.{Appends-trans}
 use Rattle.std.specs.Io.KnownBytes.{Appends}
-use Rattle.hex_format.specs.Sink.{AppendsBeginning, Puts, faults_of}
+use Rattle.hex_format.specs.Sink.{AppendsBeginning, Puts, SinkState, Stops, Takes, faults_of}
 
 -- ---- one put
 
@@ -61,28 +61,21 @@ AppendsBeginning-stop a b xs ys p = record {
   appended = p.appended;
 }
 
--- what `Puts` is at an error
-abbrev pub Failed : Option (List ℕ) → Option (List ℕ) → ℕ → ℕ → List ℕ → Type 0
-Failed old new before after bs = AppendsBeginning old new bs × (after ≡ before + 1) × (0 < length bs)
-
 -- xs was taken without a failure, and then a put of ys failed
-pub Failed-then : (a b c : Option (List ℕ)) (f g h : ℕ) (xs ys : List ℕ)
-    → Appends a b xs → g ≡ f → Failed b c g h ys → Failed a c f h (xs ++ ys)
-Failed-then a b c f g h xs ys p same q =
-    (AppendsBeginning-then a b c xs ys p q.0, q.1 ∙ ap (λ n. n + 1) same, simp length-append (omega (arith, q.2)))
+pub Stops-then : (a b c : SinkState) (xs ys : List ℕ) → Takes a b xs → Stops b c ys → Stops a c (xs ++ ys)
+Stops-then a b c xs ys p q =
+    (AppendsBeginning-then a.taken b.taken c.taken xs ys p.0 q.0, q.1 ∙ ap (λ n. n + 1) p.1, simp length-append (omega (arith, q.2)))
 
 -- a put of xs failed, and nothing of ys was put
-pub Failed-stop : (a b : Option (List ℕ)) (f g : ℕ) (xs ys : List ℕ) → Failed a b f g xs → Failed a b f g (xs ++ ys)
-Failed-stop a b f g xs ys p = (AppendsBeginning-stop a b xs ys p.0, p.1, simp length-append (omega (arith, p.2)))
+pub Stops-stop : (a b : SinkState) (xs ys : List ℕ) → Stops a b xs → Stops a b (xs ++ ys)
+Stops-stop a b xs ys p = (AppendsBeginning-stop a.taken b.taken xs ys p.0, p.1, simp length-append (omega (arith, p.2)))
 
 -- xs was taken without a failure, and then ys was put
-pub Puts-then : {E : Type 0} (a b c : Option (List ℕ)) (f g h : ℕ) (r : Result (Unit {0}) E) (xs ys : List ℕ)
-    → Appends a b xs → g ≡ f → Puts b c g h r ys → Puts a c f h r (xs ++ ys)
-Puts-then a b c f g h (Ok _) xs ys p same q = (Appends-trans a b c xs ys p q.0, q.1 ∙ same)
-Puts-then a b c f g h (Err _) xs ys p same q = Failed-then a b c f g h xs ys p same q
+pub Puts-then : {E : Type 0} (a b c : SinkState) (r : Result (Unit {0}) E) (xs ys : List ℕ) → Takes a b xs → Puts b c r ys → Puts a c r (xs ++ ys)
+Puts-then a b c (Ok _) xs ys p q = (Appends-trans a.taken b.taken c.taken xs ys p.0 q.0, q.1 ∙ p.1)
+Puts-then a b c (Err _) xs ys p q = Stops-then a b c xs ys p q
 
 -- a put that failed, handed on as the error that it is
-pub Puts-err : {E : Type 0} (a b : Option (List ℕ)) (f g : ℕ) (r : Result (Unit {0}) E) (bs : List ℕ)
-    → IsErr r → Failed a b f g bs → Puts a b f g r bs
-Puts-err a b f g (Ok _) bs err failed = cc
-Puts-err a b f g (Err _) bs err failed = failed
+pub Puts-err : {E : Type 0} (a b : SinkState) (r : Result (Unit {0}) E) (bs : List ℕ) → IsErr r → Stops a b bs → Puts a b r bs
+Puts-err a b (Ok _) bs err failed = cc
+Puts-err a b (Err _) bs err failed = failed

@@ -1,8 +1,9 @@
 -- What the sinks of this crate show.
-use Rattle.std.specs.Prelude.{ℕ, ◌-◌, List, length, take, Option}
+use Rattle.std.specs.Prelude.{ℕ, ◌-◌, List, length, take, Option, Some}
 use Rattle.std.specs.declared.io.Error.{Error}
 use Rattle.hex_format.specs.declared.sink.SliceSink.{SliceSink}
 use Rattle.hex_format.specs.declared.sink.WriterSink.{WriterSink}
+use Rattle.hex_format.specs.Sink.{SinkState}
 
 -- the bytes that a slice's sink has taken: the front of its buffer
 abbrev pub written_bytes : SliceSink → List ℕ
@@ -12,9 +13,9 @@ written_bytes sink = take sink.used sink.buf.now
 abbrev pub free_len : SliceSink → ℕ
 free_len sink = length sink.buf.now - sink.used
 
--- how many puts into a slice's sink have failed
-abbrev pub slice_failures : SliceSink → ℕ
-slice_failures sink = sink.refused
+-- what it shows: the bytes that it has taken, and how many puts failed
+abbrev pub slice_state : SliceSink → SinkState
+slice_state sink = record { taken = Some (written_bytes sink); failures = sink.refused }
 
 -- the writer inside a writer's sink
 abbrev pub writer_of : {W : Type 0} → WriterSink W → W
@@ -24,6 +25,6 @@ writer_of sink = sink.writer
 abbrev pub kept_error : {W : Type 0} → WriterSink W → Option Error
 kept_error sink = sink.last_error
 
--- how many puts into a writer's sink have failed
-abbrev pub writer_failures : {W : Type 0} → WriterSink W → ℕ
-writer_failures sink = sink.failed
+-- what it shows, by what its writer tells to hold
+abbrev pub writer_state : {W : Type 0} → (W → Option (List ℕ)) → WriterSink W → SinkState
+writer_state contents sink = record { taken = contents sink.writer; failures = sink.failed }

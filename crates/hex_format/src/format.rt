@@ -113,9 +113,8 @@ impl<'a> Hex<'a> {
     /// assert_eq!(rt; sink.written(), b"0x0000ab");
     /// ```
     pub fn write_to<S: Sink>(&self, sink: &mut S, flags: &HexFlags) -> Result<(), WriteFault>
-        requires { S.failure_count sink.old < 2 ^ 64 - 1 }
-        ensures { Puts (S.taken sink.old) (S.taken sink.new) (S.failure_count sink.old)
-            (S.failure_count sink.new) result (frame flags.now (hex_bytes self.now)) }
+        requires { (S.state sink.old).failures < 2 ^ 64 - 1 }
+        ensures { Puts (S.state sink.old) (S.state sink.new) result (frame flags.now (hex_bytes self.now)) }
     {
         let padding = padding_of_view(flags, self.bytes);
         if flags.zero {
@@ -199,9 +198,8 @@ fn before_text(align: Align, padding: usize) -> usize
 
 // Puts the digits of `bytes`, a chunk at a time.
 fn put_digits<S: Sink>(sink: &mut S, flags: &HexFlags, bytes: &[u8]) -> Result<(), WriteFault>
-    requires { S.failure_count sink.old < 2 ^ 64 - 1 }
-    ensures { Puts (S.taken sink.old) (S.taken sink.new) (S.failure_count sink.old)
-        (S.failure_count sink.new) result (digits_of flags.now bytes.now) }
+    requires { (S.state sink.old).failures < 2 ^ 64 - 1 }
+    ensures { Puts (S.state sink.old) (S.state sink.new) result (digits_of flags.now bytes.now) }
 {
     if bytes.len() <= SHORT {
         let mut buffer = [0; 2 * SHORT];
@@ -228,10 +226,9 @@ fn copy_into(piece: &[u8], count: usize, block: &mut [u8])
 
 // Puts `count` copies of a piece, a block of them at a time.
 fn put_copies<S: Sink>(sink: &mut S, piece: &[u8], count: usize) -> Result<(), WriteFault>
-    requires counts { S.failure_count sink.old < 2 ^ 64 - 1 }
+    requires counts { (S.state sink.old).failures < 2 ^ 64 - 1 }
     requires short { length piece.now ≤ LONGEST }
-    ensures { Puts (S.taken sink.old) (S.taken sink.new) (S.failure_count sink.old)
-        (S.failure_count sink.new) result (repeat count piece.now) }
+    ensures { Puts (S.state sink.old) (S.state sink.new) result (repeat count piece.now) }
 {
     if count == 0 {
         return Ok(());

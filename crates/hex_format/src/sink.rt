@@ -1,9 +1,9 @@
 //! Sinks, which take bytes a piece at a time, and two of them: over a slice and over a writer.
 
 ghost use Rattle.std.specs.Prelude.{◌≡◌, ◌↔◌, ◌+◌, ◌-◌, ◌^◌, ◌<◌, ◌≤◌, ℕ, min, List, [], Option, Some, length, take, IsSome, IsErr, IfOk, OnOk, OnErr};
-ghost use Rattle.std.specs.Io.KnownBytes.{Appends, Keeps};
+ghost use Rattle.std.specs.Io.KnownBytes.{Keeps};
 ghost use Rattle.std.specs.Option.{option_copied};
-ghost use Rattle.hex_format.specs.Sink.{AppendsBeginning, Puts, faults_of};
+ghost use Rattle.hex_format.specs.Sink.{Puts, PutsPiece, SinkState};
 
 use std::io::{self, Write};
 
@@ -15,15 +15,12 @@ pub struct SinkFault;
 ///
 /// A put has failed where it returned `Err`, or took none of a nonempty piece.
 pub trait Sink {
-    // The bytes taken so far, where the sink tells them.
-    ghost taken: { Self → Option (List ℕ) };
-
-    // How many puts have failed so far.
-    ghost failure_count: { Self → ℕ };
+    // The bytes taken so far, where the sink tells them, and how many puts have failed.
+    ghost state: { Self → SinkState };
 
     /// How many puts have failed so far.
     fn failures(&self) -> u64
-        ensures { result ≡ failure_count self.now };
+        ensures { result ≡ (state self.now).failures };
 
     /// Offers a piece and returns how many of its bytes were taken, from its front.
     ///
@@ -34,13 +31,8 @@ pub trait Sink {
     ///
     /// [`SinkFault`] where the sink refuses; a beginning of the piece may have been taken.
     fn put(&mut self, piece: &[u8]) -> Result<usize, SinkFault>
-        requires { failure_count self.old < 2 ^ 64 - 1 }
-        ensures bound { IfOk result (λ n. n ≤ length piece.now) }
-        ensures ok { IfOk result
-            (λ n. Appends (taken self.old) (taken self.new) (take n piece.now)) }
-        ensures err { OnErr result (AppendsBeginning (taken self.old) (taken self.new) piece.now) }
-        ensures counted { failure_count self.new
-            ≡ failure_count self.old + faults_of result piece.now };
+        requires { (state self.old).failures < 2 ^ 64 - 1 }
+        ensures { PutsPiece (state self.old) (state self.new) result piece.now };
 }
 
 /// Why a text was not written to its end. A beginning of it may have been taken, and nothing was
@@ -74,9 +66,8 @@ pub enum WriteFault {
 /// assert_eq!(rt; sink.written(), b"abc");
 /// ```
 pub fn put_all<S: Sink>(sink: &mut S, piece: &[u8]) -> Result<(), WriteFault>
-    requires { S.failure_count sink.old < 2 ^ 64 - 1 }
-    ensures { Puts (S.taken sink.old) (S.taken sink.new) (S.failure_count sink.old)
-        (S.failure_count sink.new) result piece.now }
+    requires { (S.state sink.old).failures < 2 ^ 64 - 1 }
+    ensures { Puts (S.state sink.old) (S.state sink.new) result piece.now }
 {
     let mut at = 0;
     while at < piece.len() {
@@ -109,13 +100,13 @@ pub struct SliceSink<'a> {
 }
 
 impl<'a> SliceSink<'a> {
-    ghost use Rattle.hex_format.specs.Sinks.{written_bytes, free_len, slice_failures};
+    ghost use Rattle.hex_format.specs.Sinks.{written_bytes, free_len, slice_state};
 
     /// A sink that has taken nothing, has all of `buf` free and counts no failure.
     pub fn new(buf: &'a mut [u8]) -> SliceSink<'a>
         ensures written { written_bytes result ≡ [] }
         ensures free { free_len result ≡ length buf.entry.now }
-        ensures failures { slice_failures result ≡ 0 }
+        ensures failures { (slice_state result).failures ≡ 0 }
     {
         SliceSink {
             buf,
@@ -133,11 +124,9 @@ impl<'a> SliceSink<'a> {
 }
 
 impl Sink for SliceSink<'_> {
-    ghost use Rattle.hex_format.specs.Sinks.{written_bytes, free_len, slice_failures};
+    ghost use Rattle.hex_format.specs.Sinks.{written_bytes, free_len, slice_state};
 
-    ghost taken = { λ sink. Some (written_bytes sink) };
-
-    ghost failure_count = { λ sink. slice_failures sink };
+    ghost state = { slice_state };
 
     fn failures(&self) -> u64 {
         self.refused
@@ -149,15 +138,8 @@ impl Sink for SliceSink<'_> {
     ///
     /// [`SinkFault`] exactly for a nonempty piece where nothing is free; nothing is taken then.
     fn put(&mut self, piece: &[u8]) -> Result<usize, SinkFault>
-        requires { slice_failures self.old < 2 ^ 64 - 1 }
-        ensures bound { IfOk result (λ n. n ≤ length piece.now) }
-        ensures ok { IfOk result
-            (λ n. Appends (Some (written_bytes self.old)) (Some (written_bytes self.new))
-            (take n piece.now)) }
-        ensures err { OnErr result (AppendsBeginning (Some (written_bytes self.old))
-            (Some (written_bytes self.new)) piece.now) }
-        ensures counted { slice_failures self.new
-            ≡ slice_failures self.old + faults_of result piece.now }
+        requires { (slice_state self.old).failures < 2 ^ 64 - 1 }
+        ensures puts { PutsPiece (slice_state self.old) (slice_state self.new) result piece.now }
         // All that fits is taken, and the rest stays free.
         ensures fits { IfOk result (λ n. n ≡ min (length piece.now) (free_len self.old)) }
         ensures room { IfOk result (λ n. free_len self.new ≡ free_len self.old - n) }
@@ -194,13 +176,13 @@ pub struct WriterSink<W: Write> {
 }
 
 impl<W: Write> WriterSink<W> {
-    ghost use Rattle.hex_format.specs.Sinks.{writer_of, kept_error, writer_failures};
+    ghost use Rattle.hex_format.specs.Sinks.{writer_of, kept_error, writer_state};
 
     /// A sink that hands its pieces to `writer`, has met no error and counts no failure.
     pub fn new(writer: W) -> WriterSink<W>
         ensures writer { writer_of result ≡ writer }
         ensures error { kept_error result ≡ None }
-        ensures failures { writer_failures result ≡ 0 }
+        ensures failures { (writer_state W.contents result).failures ≡ 0 }
     {
         WriterSink {
             writer,
@@ -226,11 +208,9 @@ impl<W: Write> WriterSink<W> {
 }
 
 impl<W: Write> Sink for WriterSink<W> {
-    ghost use Rattle.hex_format.specs.Sinks.{writer_of, kept_error, writer_failures};
+    ghost use Rattle.hex_format.specs.Sinks.{writer_of, kept_error, writer_state};
 
-    ghost taken = { λ sink. W.contents (writer_of sink) };
-
-    ghost failure_count = { λ sink. writer_failures sink };
+    ghost state = { writer_state W.contents };
 
     fn failures(&self) -> u64 {
         self.failed
@@ -242,15 +222,9 @@ impl<W: Write> Sink for WriterSink<W> {
     ///
     /// [`SinkFault`] where the writer returned an error, which is kept; nothing is taken then.
     fn put(&mut self, piece: &[u8]) -> Result<usize, SinkFault>
-        requires { writer_failures self.old < 2 ^ 64 - 1 }
-        ensures bound { IfOk result (λ n. n ≤ length piece.now) }
-        ensures ok { IfOk result
-            (λ n. Appends (W.contents (writer_of self.old)) (W.contents (writer_of self.new))
-            (take n piece.now)) }
-        ensures err { OnErr result (AppendsBeginning (W.contents (writer_of self.old))
-            (W.contents (writer_of self.new)) piece.now) }
-        ensures counted { writer_failures self.new
-            ≡ writer_failures self.old + faults_of result piece.now }
+        requires { (writer_state W.contents self.old).failures < 2 ^ 64 - 1 }
+        ensures puts { PutsPiece (writer_state W.contents self.old)
+            (writer_state W.contents self.new) result piece.now }
         // A refusal takes nothing and keeps the writer's error.
         ensures unchanged { OnErr result (Keeps (W.contents (writer_of self.old))
             (W.contents (writer_of self.new))) }

@@ -2,7 +2,7 @@
 use Rattle.std.proofs.Common.{◌≡◌, ◌-◌, ◌*◌, length, take, arith}
 use Rattle.std.proofs.KnownBytes.{Appends-trans}
 use Rattle.std.specs.List.{repeat}
-use Rattle.hex_format.proofs.PutsLemmas.{Failed-stop, Failed-then, Puts-err}
+use Rattle.hex_format.proofs.PutsLemmas.{Puts-err, Stops-stop, Stops-then}
 use Rattle.hex_format.proofs.Repeats.{repeat-more, repeat-parts, take-repeat}
 use Rattle.hex_format.proofs.format.put_copies.Goals as goal
 
@@ -12,8 +12,9 @@ returns-in_err-put_all g c =
     let left = c.loop-left.left in
     let some = c.min-copies.result in
     let copies : take (some * length piece) c.copy_into.new.block ≡ repeat some piece = rw c.copy_into.ensures (take-repeat some c.min-most.result piece (omega arith)) in
-    let failed = Failed-then _ _ _ _ _ _ _ _ c.loop-left.invariant.taken c.loop-left.invariant.counted (Failed-stop _ _ _ _ _ (repeat (left - some) piece) (rw copies at c.in_err-put_all.ensures)) in
-    Puts-err _ _ _ _ c.from_residual.result _ c.from_residual.ensures.0
+    let start = g.S.Sink.state c.args.sink.now in let so_far = g.S.Sink.state c.loop-left.sink in let end = g.S.Sink.state c.put_all.new.sink in
+    let failed = Stops-then start so_far end _ _ (c.loop-left.invariant.taken, c.loop-left.invariant.counted) (Stops-stop so_far end _ (repeat (left - some) piece) (rw copies at c.in_err-put_all.ensures)) in
+    Puts-err start end c.from_residual.result _ c.from_residual.ensures.0
     (rw (repeat-parts c.args.count left some piece c.loop-left.invariant.within (omega arith)) at failed)
 
 pub loop-left-preserved : goal.loop-left-preserved

@@ -7,8 +7,8 @@ use Rattle.hex_format.proofs.format.put_copies.Given as goal
 abbrev pub invariant-loop-left : goal.invariant-loop-left
 invariant-loop-left g l = record {
   within : l.left ≤ l.count;
-  taken : Appends (g.S.Sink.taken l.initial.sink) (g.S.Sink.taken l.sink) (repeat (l.count - l.left) l.piece);
-  counted : g.S.Sink.failure_count l.sink ≡ g.S.Sink.failure_count l.initial.sink;
+  taken : Appends (g.S.Sink.state l.initial.sink).taken (g.S.Sink.state l.sink).taken (repeat (l.count - l.left) l.piece);
+  counted : (g.S.Sink.state l.sink).failures ≡ (g.S.Sink.state l.initial.sink).failures;
 }
 
 abbrev pub decreases-loop-left : goal.decreases-loop-left

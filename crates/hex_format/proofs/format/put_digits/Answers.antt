@@ -3,7 +3,7 @@ use Rattle.std.proofs.Common.{◌++◌, ◌∙◌, arith, rules, append_assoc}
 use Rattle.std.proofs.KnownBytes.{Appends-trans}
 use Rattle.std.specs.Slice.Iter.{chunks_rest}
 use Rattle.hex_format.specs.Frame.{digits_of}
-use Rattle.hex_format.proofs.PutsLemmas.{Failed-stop, Failed-then, Puts-err}
+use Rattle.hex_format.proofs.PutsLemmas.{Puts-err, Stops-stop, Stops-then}
 use Rattle.hex_format.proofs.ChunkFacts.{text-next}
 use Rattle.hex_format.proofs.format.put_digits.Goals as goal
 
@@ -29,5 +29,6 @@ returns-in_err-put_all g c =
     let so_far = c.loop-chunk.invariant.4 in
     let shown = c.encoded-digits.result.now in
     let whole = text-next flags.upper so_far.0 shown (digits_of flags c.args.bytes.now) (chunks_rest c.loop-chunk.chunk-iterator) c.in-Some.chunk.now rest so_far.2 c.in-Some.ensures.steps.1.0 c.encoded-digits.ensures.text in
-    let failed = Failed-then _ _ _ _ _ _ _ _ so_far.1 c.loop-chunk.invariant.3 (Failed-stop _ _ _ _ _ (digits_of flags rest) c.in_err-put_all.ensures) in
-    Puts-err _ _ _ _ c.from_residual.result _ c.from_residual.ensures.0 (rw whole at failed)
+    let start = g.S.Sink.state c.args.sink.now in let middle = g.S.Sink.state c.loop-chunk.sink in let end = g.S.Sink.state c.put_all-in-loop-chunk.new.sink in
+    let failed = Stops-then start middle end _ _ (so_far.1, c.loop-chunk.invariant.3) (Stops-stop middle end _ (digits_of flags rest) c.in_err-put_all.ensures) in
+    Puts-err start end c.from_residual.result _ c.from_residual.ensures.0 (rw whole at failed)

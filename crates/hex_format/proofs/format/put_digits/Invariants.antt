@@ -10,6 +10,6 @@ invariant-loop-chunk g l =
     (goal.iterator-loop-chunk g).can_next l.chunk-iterator
     × (goal.iterator-loop-chunk g).is_finite l.chunk-iterator
     × (chunks_size l.chunk-iterator ≡ 512)
-    × (g.S.Sink.failure_count l.sink ≡ g.S.Sink.failure_count l.initial.sink)
-    × ((done : List ℕ) × Appends (g.S.Sink.taken l.initial.sink) (g.S.Sink.taken l.sink) done
+    × ((g.S.Sink.state l.sink).failures ≡ (g.S.Sink.state l.initial.sink).failures)
+    × ((done : List ℕ) × Appends (g.S.Sink.state l.initial.sink).taken (g.S.Sink.state l.sink).taken done
     × (done ++ digits_of l.flags (chunks_rest l.chunk-iterator) ≡ digits_of l.flags l.bytes))

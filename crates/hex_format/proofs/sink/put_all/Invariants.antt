@@ -6,8 +6,8 @@ use Rattle.hex_format.proofs.sink.put_all.Given as goal
 abbrev pub invariant-loop-at : goal.invariant-loop-at
 invariant-loop-at g l = record {
   within : l.at ≤ length l.piece;
-  taken : Appends (g.S.Sink.taken l.initial.sink) (g.S.Sink.taken l.sink) (take l.at l.piece);
-  counted : g.S.Sink.failure_count l.sink ≡ g.S.Sink.failure_count l.initial.sink;
+  taken : Appends (g.S.Sink.state l.initial.sink).taken (g.S.Sink.state l.sink).taken (take l.at l.piece);
+  counted : (g.S.Sink.state l.sink).failures ≡ (g.S.Sink.state l.initial.sink).failures;
 }
 
 abbrev pub decreases-loop-at : goal.decreases-loop-at
