@@ -1,13 +1,7 @@
 //! `fhex`: turns standard input into hex digits, or hex digits back into bytes.
 #![tactic(auto)]
 
-mod operation;
-mod program;
-#[cfg(test)]
-mod tests;
-mod vectors;
-
-use program::{Failure, refuse, serve};
+use hex_program::{Failure, refuse, serve};
 use std::env;
 use std::io::{BufWriter, ErrorKind};
 use std::process::ExitCode;

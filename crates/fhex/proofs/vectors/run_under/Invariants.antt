@@ -1,6 +1,0 @@
--- At most each vector so far has failed, and no put has.
-use Rattle.std.proofs.Common.{◌≡◌, ◌≤◌}
-use Rattle.fhex.proofs.vectors.run_under.Given as goal
-
-abbrev pub invariant-table : goal.invariant-table
-invariant-table g l = (l.failed ≤ l.vector-index) × (g.S.Sink.failure_count l.sink ≡ g.S.Sink.failure_count l.initial.sink)

@@ -1,8 +1,0 @@
--- At most each vector has failed under each plan so far, and no put has.
-use Rattle.std.proofs.Common.{◌≡◌, ◌≤◌, ◌*◌, length}
-use Rattle.fhex.proofs.vectors.run_vectors.Given as goal
-
-abbrev pub invariant-plans : goal.invariant-plans
-invariant-plans g l =
-    (length l.plan-items ≡ 5) × (l.total ≡ 5 * length l.table) × (l.failed ≤ l.plan-index * length l.table)
-    × (g.S.Sink.failure_count l.sink ≡ g.S.Sink.failure_count l.initial.sink)

@@ -1,0 +1,36 @@
+-- The failures of `fhex`: their statuses, their texts, and which one a run and a flush end in.
+use Rattle.std.specs.Prelude.{◌≡◌, ℕ, List, codes, Result, Ok, Err}
+use Rattle.hex_core.specs.Message.{error_text}
+use Rattle.hex_program.specs.declared.operation.RunFault.{RunFault}
+use Rattle.hex_program.specs.declared.operation.RunFault.TheVariants as fault
+use Rattle.hex_program.specs.declared.failure.Failure.{Failure}
+use Rattle.hex_program.specs.declared.failure.Failure.TheVariants.{Codec, Usage, ReadFailed, WriteFailed, OutOfMemory, InputTooLong}
+
+-- the exit status of a failure
+abbrev pub status_of : Failure → ℕ
+status_of (Codec e) = 1
+status_of Usage = 2
+status_of ReadFailed = 3
+status_of WriteFailed = 3
+status_of OutOfMemory = 3
+status_of InputTooLong = 3
+
+-- what a failure prints, byte for byte
+abbrev pub failure_text : Failure → List ℕ
+failure_text (Codec e) = error_text e
+failure_text Usage = codes "usage: fhex encode|encode-upper|decode|decode-lower|decode-upper|vectors"
+failure_text ReadFailed = codes "read failed"
+failure_text WriteFailed = codes "write failed"
+failure_text OutOfMemory = codes "out of memory"
+failure_text InputTooLong = codes "input too long"
+
+-- the program's failure after a fault of its run
+abbrev pub failure_of : RunFault → Failure
+failure_of (fault.Codec e) = Codec e
+failure_of (fault.Write why) = WriteFailed
+failure_of fault.OutOfMemory = OutOfMemory
+
+-- the program's failure after a run and a flush: the run's own fault, or the flush's
+abbrev pub EndsIn : Result (Unit {0}) RunFault → Failure → Type 0
+EndsIn (Ok done) failure = failure ≡ WriteFailed
+EndsIn (Err why) failure = failure ≡ failure_of why

@@ -1,0 +1,84 @@
+-- The operations of `fhex`: their words, their outputs and refusals, and what a run tells.
+use Rattle.std.specs.Prelude.{◌≡◌, ◌+◌, ◌<◌, ◌%◌, ℕ, if◌then◌else◌, List, [], ◌∷◌, ◌++◌, length, codes, Option, Some, None}
+use Rattle.std.specs.Str.{bytes_eq}
+use Rattle.std.specs.Io.BufRead.{strip_last}
+use Rattle.std.specs.Io.KnownBytes.{Keeps}
+use Rattle.hex_core.specs.declared.digit.CheckCase.TheVariants as policy
+use Rattle.hex_core.specs.declared.error.Error.{Error}
+use Rattle.hex_core.specs.Text.{Spells, lowercase, text, uppercase}
+use Rattle.hex_core.specs.Refusal.{source_refusal}
+use Rattle.faster_hex.specs.Sink.{AppendsBeginning}
+use Rattle.hex_program.specs.declared.operation.Op.{Op}
+use Rattle.hex_program.specs.declared.operation.Op.TheVariants.{Encode, EncodeUpper, Decode, DecodeLower, DecodeUpper}
+use Rattle.hex_program.specs.declared.operation.RunFault.{RunFault}
+use Rattle.hex_program.specs.declared.operation.RunFault.TheVariants as fault
+
+-- the operation that a word names
+abbrev pub op_of_word : List ℕ → Option Op
+op_of_word word =
+    if bytes_eq word (codes "encode") then Some Encode
+    else if bytes_eq word (codes "encode-upper") then Some EncodeUpper
+    else if bytes_eq word (codes "decode") then Some Decode
+    else if bytes_eq word (codes "decode-lower") then Some DecodeLower
+    else if bytes_eq word (codes "decode-upper") then Some DecodeUpper
+    else None
+
+-- the operation that the program's words name: there has to be one word
+abbrev pub op_of_words : List (List ℕ) → Option Op
+op_of_words [] = None
+op_of_words (word ∷ []) = op_of_word word
+op_of_words (word ∷ another ∷ rest) = None
+
+-- the input without one final newline, where it has one
+abbrev pub without_newline : List ℕ → List ℕ
+without_newline input = strip_last 10 input
+
+-- the output of an operation: a text and a newline, or the bytes that the input spells
+abbrev pub IsOutput : Op → List ℕ → List ℕ → Type 0
+IsOutput Encode input output = output ≡ text lowercase input ++ 10 ∷ []
+IsOutput EncodeUpper input output = output ≡ text uppercase input ++ 10 ∷ []
+IsOutput Decode input output = Spells policy.None (without_newline input) output
+IsOutput DecodeLower input output = Spells policy.Lower (without_newline input) output
+IsOutput DecodeUpper input output = Spells policy.Upper (without_newline input) output
+
+-- what an operation refuses
+abbrev pub op_refusal : Op → List ℕ → Option Error
+op_refusal Encode input = None
+op_refusal EncodeUpper input = None
+op_refusal Decode input = source_refusal policy.None (without_newline input)
+op_refusal DecodeLower input = source_refusal policy.Lower (without_newline input)
+op_refusal DecodeUpper input = source_refusal policy.Upper (without_newline input)
+
+-- decoding these digits needs memory: their length is even and above 0
+abbrev pub NeedsMemory : List ℕ → Type 0
+NeedsMemory digits = (length digits % 2 ≡ 0) × (0 < length digits)
+
+-- an operation needs memory: encoding never does
+abbrev pub OpNeedsMemory : Op → List ℕ → Type 0
+OpNeedsMemory Encode input = ⊥
+OpNeedsMemory EncodeUpper input = ⊥
+OpNeedsMemory Decode input = NeedsMemory (without_newline input)
+OpNeedsMemory DecodeLower input = NeedsMemory (without_newline input)
+OpNeedsMemory DecodeUpper input = NeedsMemory (without_newline input)
+
+-- nothing was put: the bytes taken and the failure count are as before
+abbrev pub NothingPut : Option (List ℕ) → Option (List ℕ) → ℕ → ℕ → Type 0
+NothingPut taken taken' count count' = Keeps taken taken' × (count' ≡ count)
+
+-- the puts of an output ended early: a beginning was taken, and one put failed
+abbrev pub PutsStopped : Option (List ℕ) → Option (List ℕ) → ℕ → ℕ → List ℕ → Type 0
+PutsStopped taken taken' count count' output =
+    AppendsBeginning taken taken' output × (0 < length output) × (count' ≡ count + 1)
+
+-- what a fault of a run tells, by its outputs, its refusal and whether it needs memory
+abbrev pub FailureBy : (List ℕ → Type 0) → Option Error → Type 0 → Option (List ℕ) → Option (List ℕ) → ℕ → ℕ → RunFault → Type 0
+FailureBy is_output refusal needs taken taken' count count' (fault.Codec e) =
+    (refusal ≡ Some e) × NothingPut taken taken' count count'
+FailureBy is_output refusal needs taken taken' count count' (fault.Write why) =
+    (output : List ℕ) × is_output output × PutsStopped taken taken' count count' output
+FailureBy is_output refusal needs taken taken' count count' fault.OutOfMemory =
+    needs × NothingPut taken taken' count count'
+
+-- what a fault of an operation's run over this input tells
+abbrev pub RunFailure : Op → List ℕ → Option (List ℕ) → Option (List ℕ) → ℕ → ℕ → RunFault → Type 0
+RunFailure op input = FailureBy (IsOutput op input) (op_refusal op input) (OpNeedsMemory op input)

@@ -1,0 +1,54 @@
+//! The input, which is read to its end before an operation runs over it.
+
+ghost use Rattle.std.specs.Prelude.{◌≡◌, ◌≤◌, vec_len, IfOk, IfErr, OnOk};
+ghost use Rattle.std.specs.Io.KnownBytes.{Consumes, IsAtEnd};
+ghost use Rattle.hex_program.specs.Failures.{status_of};
+
+use crate::failure::Failure;
+use std::alloc::Allocator;
+use std::io::Read;
+
+/// The longest input, in bytes, that is read.
+pub const INPUT_LIMIT: usize = 16_777_216;
+
+// How many bytes one read asks for.
+const CHUNK: usize = 65_536;
+
+/// Reads all of an input of at most [`INPUT_LIMIT`] bytes. No error is retried.
+///
+/// # Errors
+///
+/// [`Failure::ReadFailed`], [`Failure::OutOfMemory`], or [`Failure::InputTooLong`] for an input
+/// that is longer than the limit.
+///
+/// ```rust
+/// let mut input: &[u8] = b"hello";
+/// assert_eq!(rt; read_input(rt.alloc(), &mut input).unwrap().as_slice(), b"hello");
+/// ```
+pub fn read_input<A: Allocator + Drop, R: Read>(
+    alloc: A,
+    input: &mut R,
+) -> Result<Vec<u8, A>, Failure>
+    ensures read { IfOk result
+        (λ v. Consumes (R.remaining input.old) (R.remaining input.new) v.items) }
+    ensures ended { OnOk result (IsAtEnd (R.remaining input.new)) }
+    ensures limit { IfOk result (λ v. vec_len v ≤ INPUT_LIMIT) }
+    ensures err { IfErr result (λ f. status_of f ≡ 3) }
+{
+    let mut chunk = [0u8; CHUNK];
+    let mut all = Vec::new(alloc);
+    // Room for any input, so that none of it is moved. Where it is not granted, the vector grows.
+    let _ = all.reserve_exact(INPUT_LIMIT + CHUNK);
+    'reads: while all.len() <= INPUT_LIMIT {
+        match input.read(&mut chunk) {
+            Ok(0) => return Ok(all),
+            Ok(n) => {
+                if all.extend_from_slice(&chunk[..n]).is_err() {
+                    return Err(Failure::OutOfMemory);
+                }
+            }
+            Err(_) => return Err(Failure::ReadFailed),
+        }
+    }
+    Err(Failure::InputTooLong)
+}

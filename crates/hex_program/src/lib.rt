@@ -1,0 +1,17 @@
+//! The program `fhex` as a library: its operations over any sink, all of it over words, an input
+//! and two outputs that are handed in, and its stored vectors.
+#![tactic(auto)]
+
+pub mod failure;
+pub mod input;
+pub mod operation;
+pub mod program;
+pub mod vector_run;
+pub mod vectors;
+
+pub use crate::failure::Failure;
+pub use crate::input::{INPUT_LIMIT, read_input};
+pub use crate::operation::{Op, RunFault, run};
+pub use crate::program::{refuse, serve, serve_vectors};
+pub use crate::vector_run::run_vectors;
+pub use crate::vectors::{Call, VECTORS, Vector};

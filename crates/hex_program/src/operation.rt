@@ -1,0 +1,193 @@
+//! The operations of `fhex`, and how one runs over an input and a sink.
+
+ghost use Rattle.std.specs.Prelude.{◌≡◌, ◌++◌, ◌∷◌, [], ◌<◌, ◌-◌, ◌^◌, ℕ, List, Some, map, IfErr, OnOk};
+ghost use Rattle.std.specs.Io.KnownBytes.{Appends};
+ghost use Rattle.hex_core.specs.Text.{Spells, text};
+ghost use Rattle.hex_core.specs.Refusal.{source_refusal};
+ghost use Rattle.hex_program.specs.Operations.{FailureBy, NeedsMemory, IsOutput, RunFailure, op_of_word, op_of_words, without_newline};
+
+use faster_hex::format::put_all;
+use faster_hex::{CheckCase, Error, Hex, HexFlags, Sink, WriteFault, hex_decode_vec_with_case};
+use std::alloc::{Allocator, Global};
+
+/// What `fhex` does with its input.
+#[derive(Clone, Copy, Debug, PartialEq, Eq)]
+pub enum Op {
+    /// Writes the lowercase text and a newline.
+    Encode,
+    /// Writes the uppercase text and a newline.
+    EncodeUpper,
+    /// Writes the bytes that the digits spell, lowercase or uppercase.
+    Decode,
+    /// Writes the bytes that the digits spell, and reads no `A` to `F`.
+    DecodeLower,
+    /// Writes the bytes that the digits spell, and reads no `a` to `f`.
+    DecodeUpper,
+}
+
+impl Op {
+    /// Returns the operation that a word names, or `None` for any other word.
+    ///
+    /// ```rust
+    /// assert_eq!(rt; Op::from_word("encode-upper"), Some(Op::EncodeUpper));
+    /// assert_eq!(rt; Op::from_word("Encode"), None);
+    /// ```
+    pub fn from_word(word: &str) -> Option<Op>
+        ensures { result ≡ op_of_word word.now }
+    {
+        match word {
+            "encode" => Some(Op::Encode),
+            "encode-upper" => Some(Op::EncodeUpper),
+            "decode" => Some(Op::Decode),
+            "decode-lower" => Some(Op::DecodeLower),
+            "decode-upper" => Some(Op::DecodeUpper),
+            _ => None,
+        }
+    }
+
+    /// Returns the operation that the program's words name: there has to be one word.
+    ///
+    /// ```rust
+    /// assert_eq!(rt; Op::from_words(&["decode"]), Some(Op::Decode));
+    /// assert_eq!(rt; Op::from_words(&["encode", "decode"]), None);
+    /// ```
+    pub fn from_words(words: &[&str]) -> Option<Op>
+        ensures { result ≡ op_of_words (map (λ w. w.now) words.now) }
+    {
+        match words {
+            [word] => Op::from_word(word),
+            _ => None,
+        }
+    }
+}
+
+/// Why a run did not put all of its output.
+#[derive(Clone, Copy, Debug, PartialEq, Eq)]
+pub enum RunFault {
+    /// The operation refuses the input; nothing was put.
+    Codec(Error),
+    /// A put failed; a beginning of the output was taken.
+    Write(WriteFault),
+    /// Memory was refused; nothing was put.
+    OutOfMemory,
+}
+
+// The input without one final newline, where it has one.
+fn digits_in(input: &[u8]) -> &[u8]
+    ensures { result.now ≡ without_newline input.now }
+{
+    match input {
+        [digits @ .., b'\n'] => digits,
+        _ => input,
+    }
+}
+
+// Puts the text of the input, and a newline. No memory is taken.
+fn encode<S: Sink>(input: &[u8], upper: bool, sink: &mut S) -> Result<(), RunFault>
+    requires { S.failure_count sink.old < 2 ^ 64 - 1 }
+    ensures ok { OnOk result (Appends (S.taken sink.old) (S.taken sink.new)
+        (text upper input.now ++ 10 ∷ [])) }
+    ensures ok_count { OnOk result (S.failure_count sink.new ≡ S.failure_count sink.old) }
+    ensures err { IfErr result (λ why.
+        FailureBy (λ output. output ≡ text upper input.now ++ 10 ∷ []) None ⊥
+        (S.taken sink.old) (S.taken sink.new)
+        (S.failure_count sink.old) (S.failure_count sink.new) why) }
+{
+    let flags = HexFlags {
+        upper,
+        ..HexFlags::default()
+    };
+    if let Err(why) = Hex::new(input).write_to(sink, &flags) {
+        return Err(RunFault::Write(why));
+    }
+    match put_all(sink, b"\n") {
+        Ok(()) => Ok(()),
+        Err(why) => Err(RunFault::Write(why)),
+    }
+}
+
+// Puts the bytes that the input spells, or refuses it. All are collected before the first put.
+fn decode<A: Allocator + Drop, S: Sink>(
+    alloc: A,
+    input: &[u8],
+    case: CheckCase,
+    sink: &mut S,
+) -> Result<(), RunFault>
+    requires { S.failure_count sink.old < 2 ^ 64 - 1 }
+    ensures ok { OnOk result ((bytes : List ℕ) × Spells case (without_newline input.now) bytes
+        × Appends (S.taken sink.old) (S.taken sink.new) bytes) }
+    ensures ok_count { OnOk result (S.failure_count sink.new ≡ S.failure_count sink.old) }
+    ensures err { IfErr result (λ why. FailureBy (Spells case (without_newline input.now))
+        (source_refusal case (without_newline input.now)) (NeedsMemory (without_newline input.now))
+        (S.taken sink.old) (S.taken sink.new)
+        (S.failure_count sink.old) (S.failure_count sink.new) why) }
+{
+    match hex_decode_vec_with_case(alloc, digits_in(input), case) {
+        Ok(bytes) => match put_all(sink, bytes.as_slice()) {
+            Ok(()) => Ok(()),
+            Err(why) => Err(RunFault::Write(why)),
+        },
+        Err(Error::OutOfMemory) => Err(RunFault::OutOfMemory),
+        Err(e) => Err(RunFault::Codec(e)),
+    }
+}
+
+/// [`run`] over any allocator, so that a test can refuse its growths.
+pub fn run_in<A: Allocator + Drop, S: Sink>(
+    alloc: A,
+    op: Op,
+    input: &[u8],
+    sink: &mut S,
+) -> Result<(), RunFault>
+    requires { S.failure_count sink.old < 2 ^ 64 - 1 }
+    ensures ok { OnOk result ((output : List ℕ) × IsOutput op input.now output
+        × Appends (S.taken sink.old) (S.taken sink.new) output) }
+    ensures ok_count { OnOk result (S.failure_count sink.new ≡ S.failure_count sink.old) }
+    ensures err { IfErr result
+        (λ why. RunFailure op input.now (S.taken sink.old) (S.taken sink.new)
+        (S.failure_count sink.old) (S.failure_count sink.new) why) }
+{
+    match op {
+        Op::Encode => encode(input, false, sink),
+        Op::EncodeUpper => encode(input, true, sink),
+        Op::Decode => decode(alloc, input, CheckCase::None, sink),
+        Op::DecodeLower => decode(alloc, input, CheckCase::Lower, sink),
+        Op::DecodeUpper => decode(alloc, input, CheckCase::Upper, sink),
+    }
+}
+
+/// Runs an operation over all of `input`, and puts its output into `sink`.
+///
+/// Encoding puts the text, two digits a byte, and one newline; it takes no memory. Decoding drops
+/// one final newline of the input, where there is one, and collects the bytes that the rest spells
+/// before it puts the first of them, half as many as there are digits.
+///
+/// At `Ok` the sink has taken exactly the output more, and has counted no failure.
+///
+/// # Errors
+///
+/// - [`RunFault::Codec`] where decoding refuses the input, and nothing was put: an odd length is
+///   [`Error::OddLength`], and else the first byte that is no digit under the operation's policy is
+///   [`Error::InvalidChar`];
+/// - [`RunFault::OutOfMemory`] where decoding was refused memory; nothing was put. The digits are
+///   then even in number, and not none;
+/// - [`RunFault::Write`] where a put failed, which ends the run. The sink has then taken a
+///   beginning of the output, and has counted one failure more.
+///
+/// ```rust
+/// let mut buffer = [0; 16];
+/// let mut sink = SliceSink::new(&mut buffer);
+/// assert_eq!(rt; run(rt.alloc(), Op::EncodeUpper, &[0xab], &mut sink), Ok(()));
+/// assert_eq!(rt; sink.written(), b"AB\n");
+/// ```
+pub fn run<S: Sink>(alloc: Global, op: Op, input: &[u8], sink: &mut S) -> Result<(), RunFault>
+    requires { S.failure_count sink.old < 2 ^ 64 - 1 }
+    ensures ok { OnOk result ((output : List ℕ) × IsOutput op input.now output
+        × Appends (S.taken sink.old) (S.taken sink.new) output) }
+    ensures ok_count { OnOk result (S.failure_count sink.new ≡ S.failure_count sink.old) }
+    ensures err { IfErr result
+        (λ why. RunFailure op input.now (S.taken sink.old) (S.taken sink.new)
+        (S.failure_count sink.old) (S.failure_count sink.new) why) }
+{
+    run_in(alloc, op, input, sink)
+}

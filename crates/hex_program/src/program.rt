@@ -1,0 +1,203 @@
+//! All of `fhex` over what is handed in: words, an input and two outputs.
+
+ghost use Rattle.std.specs.Prelude.{◌≡◌, ◌⊎◌, Some, map, IfErr, OnOk, IsOk};
+ghost use Rattle.std.specs.Io.KnownBytes.{Keeps};
+ghost use Rattle.hex_program.specs.declared.operation.Op.{Op as OpValue};
+ghost use Rattle.hex_program.specs.Operations.{op_of_words};
+ghost use Rattle.hex_program.specs.Failures.{EndsIn, status_of};
+ghost use Rattle.hex_program.specs.Serving.{NamesNothing, Refused, Served};
+
+use crate::failure::Failure;
+use crate::input::read_input;
+use crate::operation::{Op, RunFault, run_in};
+use crate::vector_run::run_vectors;
+use crate::vectors::{VECTORS, Vector};
+use arrayvec::ArrayString;
+use faster_hex::WriterSink;
+use std::alloc::{Allocator, Global};
+use std::fmt;
+use std::io::{Read, Write};
+
+// The longest message, in bytes, with its newline.
+const MESSAGE: usize = 128;
+
+// Flushes the output of a run that has put all of it.
+fn finish<W: Write>(out: &mut W, ran: Result<(), RunFault>) -> Result<(), Failure>
+    ensures ok { OnOk result (IsOk ran) }
+    ensures err { IfErr result (λ f. EndsIn ran f) }
+    ensures status { IfErr result (λ f. (status_of f ≡ 1) ⊎ (status_of f ≡ 3)) }
+    ensures kept { Keeps (W.contents out.old) (W.contents out.new) }
+{
+    if let Err(fault) = ran {
+        return Err(Failure::of_run(fault));
+    }
+    match out.flush() {
+        Ok(()) => Ok(()),
+        Err(_) => Err(Failure::WriteFailed),
+    }
+}
+
+/// Writes the line of a failure to `err` and returns the failure's status. A fault of `err` does
+/// not change it.
+pub fn refuse<E: Write>(err: &mut E, failure: Failure) -> u8
+    ensures { result ≡ status_of failure }
+{
+    let mut line = ArrayString::<MESSAGE>::new();
+    if fmt::Write::write_fmt(&mut line, format_args!("{failure}\n")).is_ok() {
+        write_line(err, line.as_bytes());
+    }
+    failure.status()
+}
+
+// Writes a line as far as the writer takes it. No error is retried.
+fn write_line<E: Write>(err: &mut E, line: &[u8]) {
+    let mut at = 0;
+    'writes: while at < line.len() {
+        match err.write(&line[at..]) {
+            Ok(0) => return,
+            Ok(n) => at += n,
+            Err(_) => return,
+        }
+    }
+    let _ = err.flush();
+}
+
+// Reads the input, runs an operation over it and flushes the output.
+fn serve_op<A: Allocator, R: Read, W: Write>(
+    alloc: &A,
+    op: Op,
+    input: &mut R,
+    out: W,
+) -> (Result<(), Failure>, W)
+    ensures done { OnOk result.0 (Served op (R.remaining input.old) (R.remaining input.new)
+        (W.contents out) (W.contents result.1)) }
+    ensures refused { IfErr result.0 (λ f. status_of f ≡ 1
+        → Refused op (R.remaining input.old) (R.remaining input.new)
+        (W.contents out) (W.contents result.1)) }
+    ensures status { IfErr result.0 (λ f. (status_of f ≡ 1) ⊎ (status_of f ≡ 3)) }
+{
+    let source = match read_input(alloc, input) {
+        Ok(source) => source,
+        Err(failure) => return (Err(failure), out),
+    };
+    let mut sink = WriterSink::new(out);
+    let ran = run_in(alloc, op, source.as_slice(), &mut sink);
+    let mut out = sink.into_inner();
+    let ended = finish(&mut out, ran);
+    (ended, out)
+}
+
+// Runs stored vectors, which reads no input, and returns how many failed.
+fn check_vectors<W: Write>(table: &[Vector], out: W) -> (Result<usize, Failure>, W)
+    ensures { IfErr result.0 (λ failure. failure ≡ Failure.WriteFailed) }
+{
+    let mut sink = WriterSink::new(out);
+    let ran = run_vectors(table, &mut sink);
+    let mut out = sink.into_inner();
+    let ended = match ran {
+        Ok(failed) if out.flush().is_ok() => Ok(failed),
+        _ => Err(Failure::WriteFailed),
+    };
+    (ended, out)
+}
+
+/// Runs stored vectors under each plan, writes a line each and the totals to `out`, flushes it and
+/// returns the exit status: 0 where none failed, else 1.
+///
+/// A failed write or flush is status 3, and `write failed` goes to `err`.
+pub fn serve_vectors<W: Write, E: Write>(table: &[Vector], out: W, err: E) -> (u8, W, E)
+    ensures { (result.0 ≡ 0) ⊎ (result.0 ≡ 1) ⊎ (result.0 ≡ 3) }
+{
+    let mut err = err;
+    match check_vectors(table, out) {
+        (Ok(0), out) => (0, out, err),
+        (Ok(_), out) => (1, out, err),
+        (Err(failure), out) => (refuse(&mut err, failure), out, err),
+    }
+}
+
+/// [`serve`] over any allocator, so that a test can refuse its growths.
+pub fn serve_in<A: Allocator, R: Read, W: Write, E: Write>(
+    alloc: &A,
+    words: &[&str],
+    input: &mut R,
+    out: W,
+    err: E,
+) -> (u8, W, E)
+    ensures done { (op : OpValue) → op_of_words (map (λ w. w.now) words.now) ≡ Some op
+        → result.0 ≡ 0
+        → Served op (R.remaining input.old) (R.remaining input.new) (W.contents out)
+        (W.contents result.1) }
+    ensures refused { (op : OpValue) → op_of_words (map (λ w. w.now) words.now) ≡ Some op
+        → result.0 ≡ 1
+        → Refused op (R.remaining input.old) (R.remaining input.new) (W.contents out)
+        (W.contents result.1) }
+    ensures status { (op : OpValue) → op_of_words (map (λ w. w.now) words.now) ≡ Some op
+        → (result.0 ≡ 0) ⊎ (result.0 ≡ 1) ⊎ (result.0 ≡ 3) }
+    ensures unread { NamesNothing (map (λ w. w.now) words.now)
+        → (R.remaining input.new ≡ R.remaining input.old)
+        × (W.contents result.1 ≡ W.contents out) }
+    ensures usage { NamesNothing (map (λ w. w.now) words.now) → result.0 ≡ 2 }
+{
+    let mut err = err;
+    let Some(op) = Op::from_words(words) else {
+        return match words {
+            ["vectors"] => serve_vectors(&VECTORS, out, err),
+            _ => (refuse(&mut err, Failure::Usage), out, err),
+        };
+    };
+    match serve_op(alloc, op, input, out) {
+        (Ok(()), out) => (0, out, err),
+        (Err(failure), out) => (refuse(&mut err, failure), out, err),
+    }
+}
+
+/// Runs `fhex` over what is handed in and returns the exit status with the two writers.
+///
+/// `words` are the program's words without its name. They are judged first. One word that names an
+/// [`Op`]: all of `input` is read, at most [`INPUT_LIMIT`](crate::INPUT_LIMIT) bytes, and the
+/// operation's output goes to `out`, which is flushed. The word `vectors`: `input` is not read, and the stored vectors'
+/// lines go to `out`, which is flushed.
+///
+/// | Status | When | Written to `err`, as one line |
+/// |---|---|---|
+/// | 0 | done | nothing |
+/// | 1 | the input is refused, and then nothing went to `out` | the error's text |
+/// | 1 | a stored vector failed | nothing |
+/// | 2 | no word, several, or another one; nothing was read or written | the usage |
+/// | 3 | a fault of the surroundings | `read failed`, `write failed`, `out of memory` |
+/// | 3 | the input is longer than the limit | `input too long` |
+///
+/// No error of a reader or a writer is retried. A fault of `err` does not change the status.
+///
+/// ```rust
+/// let mut input: &[u8] = b"hello";
+/// let (out, err) = (Vec::new(rt.alloc()), Vec::new(rt.alloc()));
+/// let (status, out, _) = serve(rt.alloc(), &["encode"], &mut input, out, err);
+/// assert_eq!(rt; status, 0);
+/// assert_eq!(rt; out.as_slice(), b"68656c6c6f\n");
+/// ```
+pub fn serve<R: Read, W: Write, E: Write>(
+    alloc: Global,
+    words: &[&str],
+    input: &mut R,
+    out: W,
+    err: E,
+) -> (u8, W, E)
+    ensures done { (op : OpValue) → op_of_words (map (λ w. w.now) words.now) ≡ Some op
+        → result.0 ≡ 0
+        → Served op (R.remaining input.old) (R.remaining input.new) (W.contents out)
+        (W.contents result.1) }
+    ensures refused { (op : OpValue) → op_of_words (map (λ w. w.now) words.now) ≡ Some op
+        → result.0 ≡ 1
+        → Refused op (R.remaining input.old) (R.remaining input.new) (W.contents out)
+        (W.contents result.1) }
+    ensures status { (op : OpValue) → op_of_words (map (λ w. w.now) words.now) ≡ Some op
+        → (result.0 ≡ 0) ⊎ (result.0 ≡ 1) ⊎ (result.0 ≡ 3) }
+    ensures unread { NamesNothing (map (λ w. w.now) words.now)
+        → (R.remaining input.new ≡ R.remaining input.old)
+        × (W.contents result.1 ≡ W.contents out) }
+    ensures usage { NamesNothing (map (λ w. w.now) words.now) → result.0 ≡ 2 }
+{
+    serve_in(&alloc, words, input, out, err)
+}

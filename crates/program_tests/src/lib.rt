@@ -1,0 +1,13 @@
+//! Tests of the program over words, inputs, outputs and sinks of their own.
+#![tactic(auto)]
+
+#[cfg(test)]
+mod faults;
+#[cfg(test)]
+mod rows;
+#[cfg(test)]
+mod runs;
+#[cfg(test)]
+mod streams;
+#[cfg(test)]
+mod vectors;
