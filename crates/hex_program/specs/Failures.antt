@@ -1,5 +1,5 @@
 -- The failures of `fhex`: their statuses, their texts, and which one a run and a flush end in.
-use Rattle.std.specs.Prelude.{◌≡◌, ℕ, List, codes, Result, Ok, Err}
+use Rattle.std.specs.Prelude.{◌≡◌, ℕ, List, codes, Result, Ok, Err, IfErr}
 use Rattle.hex_core.specs.Message.{error_text}
 use Rattle.hex_program.specs.declared.operation.RunFault.{RunFault}
 use Rattle.hex_program.specs.declared.operation.RunFault.TheVariants as fault
@@ -30,7 +30,13 @@ failure_of (fault.Codec e) = Codec e
 failure_of (fault.Write why) = WriteFailed
 failure_of fault.OutOfMemory = OutOfMemory
 
--- the program's failure after a run and a flush: the run's own fault, or the flush's
-abbrev pub EndsIn : Result (Unit {0}) RunFault → Failure → Type 0
-EndsIn (Ok done) failure = failure ≡ WriteFailed
-EndsIn (Err why) failure = failure ≡ failure_of why
+-- how a program ends after a run and a flush: well only where both went well, and else with the
+-- run's own failure, or the flush's
+abbrev pub EndsRun : Result (Unit {0}) RunFault → Result (Unit {0}) Failure → Type 0
+EndsRun (Ok done) ended = IfErr ended (λ failure. failure ≡ WriteFailed)
+EndsRun (Err why) ended = ended ≡ Err (failure_of why)
+
+-- the exit status of a program that ended so
+abbrev pub status_after : Result (Unit {0}) Failure → ℕ
+status_after (Ok done) = 0
+status_after (Err failure) = status_of failure

@@ -1,8 +1,8 @@
 -- The operations of `fhex`: their words, their outputs and refusals, and what a run tells.
-use Rattle.std.specs.Prelude.{◌≡◌, ◌+◌, ◌<◌, ◌%◌, ℕ, if◌then◌else◌, List, [], ◌∷◌, ◌++◌, length, codes, Option, Some, None}
+use Rattle.std.specs.Prelude.{◌≡◌, ◌+◌, ◌<◌, ◌%◌, ℕ, if◌then◌else◌, List, [], ◌∷◌, ◌++◌, length, codes, Option, Some, None, Result, MatchResult}
 use Rattle.std.specs.Str.{bytes_eq}
 use Rattle.std.specs.Io.BufRead.{strip_last}
-use Rattle.std.specs.Io.KnownBytes.{Keeps}
+use Rattle.std.specs.Io.KnownBytes.{Appends, Keeps}
 use Rattle.hex_core.specs.declared.digit.CheckCase.TheVariants as policy
 use Rattle.hex_core.specs.declared.error.Error.{Error}
 use Rattle.hex_core.specs.Text.{Spells, lowercase, text, uppercase}
@@ -79,6 +79,13 @@ FailureBy is_output refusal needs taken taken' count count' (fault.Write why) =
 FailureBy is_output refusal needs taken taken' count count' fault.OutOfMemory =
     needs × NothingPut taken taken' count count'
 
--- what a fault of an operation's run over this input tells
-abbrev pub RunFailure : Op → List ℕ → Option (List ℕ) → Option (List ℕ) → ℕ → ℕ → RunFault → Type 0
-RunFailure op input = FailureBy (IsOutput op input) (op_refusal op input) (OpNeedsMemory op input)
+-- a run, told by its outputs, its refusal and whether it needs memory: at `Ok` the sink took exactly
+-- an output more and no put failed, at `Err` what the fault tells
+abbrev pub RunsBy : (List ℕ → Type 0) → Option Error → Type 0 → Option (List ℕ) → Option (List ℕ) → ℕ → ℕ → Result (Unit {0}) RunFault → Type 0
+RunsBy is_output refusal needs taken taken' count count' result = MatchResult result
+    (λ _. ((output : List ℕ) × is_output output × Appends taken taken' output) × (count' ≡ count))
+    (λ why. FailureBy is_output refusal needs taken taken' count count' why)
+
+-- an operation's run over this input, with the bytes taken and the failure count before and after it
+abbrev pub Runs : Op → List ℕ → Option (List ℕ) → Option (List ℕ) → ℕ → ℕ → Result (Unit {0}) RunFault → Type 0
+Runs op input = RunsBy (IsOutput op input) (op_refusal op input) (OpNeedsMemory op input)

@@ -1,5 +1,5 @@
 -- What all of `fhex` does with its words and with what it reads.
-use Rattle.std.specs.Prelude.{◌≡◌, ◌≢◌, List, ℕ, [], ◌∷◌, codes, Option, Some, None}
+use Rattle.std.specs.Prelude.{◌≡◌, ◌≢◌, ◌⊎◌, List, ℕ, [], ◌∷◌, codes, Option, Some, None}
 use Rattle.std.specs.Io.KnownBytes.{Consumes, Appends, Keeps, IsAtEnd}
 use Rattle.hex_core.specs.declared.error.Error.{Error}
 use Rattle.hex_program.specs.declared.operation.Op.{Op}
@@ -26,3 +26,17 @@ pub record Refused (op : Op) (left left' held held' : Option (List ℕ)) : Type 
   pub ended : IsAtEnd left'
   pub is_refusal : op_refusal op input ≡ Some refusal
   pub kept : Keeps held held'
+
+-- a program that an operation's word started, by its status: 0 where it is done, 1 where the input is
+-- refused, 3 for a fault of the surroundings
+pub record ServesOp (op : Op) (left left' held held' : Option (List ℕ)) (status : ℕ) : Type 0 where
+  pub done : status ≡ 0 → Served op left left' held held'
+  pub refused : status ≡ 1 → Refused op left left' held held'
+  pub statuses : (status ≡ 0) ⊎ (status ≡ 1) ⊎ (status ≡ 3)
+
+-- the program, by its words: an operation, or words that name nothing, after which nothing was read
+-- or written
+pub record Serves (words : List (List ℕ)) (left left' held held' : Option (List ℕ)) (status : ℕ) : Type 0 where
+  pub operation : (op : Op) → op_of_words words ≡ Some op → ServesOp op left left' held held' status
+  pub unread : NamesNothing words → (left' ≡ left) × (held' ≡ held)
+  pub usage : NamesNothing words → status ≡ 2

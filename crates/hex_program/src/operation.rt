@@ -1,10 +1,9 @@
 //! The operations of `fhex`, and how one runs over an input and a sink.
 
-ghost use Rattle.std.specs.Prelude.{◌≡◌, ◌++◌, ◌∷◌, [], ◌<◌, ◌-◌, ◌^◌, ℕ, List, Some, map, IfErr, OnOk};
-ghost use Rattle.std.specs.Io.KnownBytes.{Appends};
+ghost use Rattle.std.specs.Prelude.{◌≡◌, ◌++◌, ◌∷◌, [], ◌<◌, ◌-◌, ◌^◌, map};
 ghost use Rattle.hex_core.specs.Text.{Spells, text};
 ghost use Rattle.hex_core.specs.Refusal.{source_refusal};
-ghost use Rattle.hex_program.specs.Operations.{FailureBy, NeedsMemory, IsOutput, RunFailure, op_of_word, op_of_words, without_newline};
+ghost use Rattle.hex_program.specs.Operations.{NeedsMemory, Runs, RunsBy, op_of_word, op_of_words, without_newline};
 
 use faster_hex::format::put_all;
 use faster_hex::{CheckCase, Error, Hex, HexFlags, Sink, WriteFault, hex_decode_vec_with_case};
@@ -85,13 +84,9 @@ fn digits_in(input: &[u8]) -> &[u8]
 // Puts the text of the input, and a newline. No memory is taken.
 fn encode<S: Sink>(input: &[u8], upper: bool, sink: &mut S) -> Result<(), RunFault>
     requires { S.failure_count sink.old < 2 ^ 64 - 1 }
-    ensures ok { OnOk result (Appends (S.taken sink.old) (S.taken sink.new)
-        (text upper input.now ++ 10 ∷ [])) }
-    ensures ok_count { OnOk result (S.failure_count sink.new ≡ S.failure_count sink.old) }
-    ensures err { IfErr result (λ why.
-        FailureBy (λ output. output ≡ text upper input.now ++ 10 ∷ []) None ⊥
+    ensures { RunsBy (λ output. output ≡ text upper input.now ++ 10 ∷ []) None ⊥
         (S.taken sink.old) (S.taken sink.new)
-        (S.failure_count sink.old) (S.failure_count sink.new) why) }
+        (S.failure_count sink.old) (S.failure_count sink.new) result }
 {
     let flags = HexFlags {
         upper,
@@ -114,13 +109,10 @@ fn decode<A: Allocator + Drop, S: Sink>(
     sink: &mut S,
 ) -> Result<(), RunFault>
     requires { S.failure_count sink.old < 2 ^ 64 - 1 }
-    ensures ok { OnOk result ((bytes : List ℕ) × Spells case (without_newline input.now) bytes
-        × Appends (S.taken sink.old) (S.taken sink.new) bytes) }
-    ensures ok_count { OnOk result (S.failure_count sink.new ≡ S.failure_count sink.old) }
-    ensures err { IfErr result (λ why. FailureBy (Spells case (without_newline input.now))
+    ensures { RunsBy (Spells case (without_newline input.now))
         (source_refusal case (without_newline input.now)) (NeedsMemory (without_newline input.now))
         (S.taken sink.old) (S.taken sink.new)
-        (S.failure_count sink.old) (S.failure_count sink.new) why) }
+        (S.failure_count sink.old) (S.failure_count sink.new) result }
 {
     match hex_decode_vec_with_case(alloc, digits_in(input), case) {
         Ok(bytes) => match put_all(sink, bytes.as_slice()) {
@@ -140,12 +132,8 @@ pub fn run_in<A: Allocator + Drop, S: Sink>(
     sink: &mut S,
 ) -> Result<(), RunFault>
     requires { S.failure_count sink.old < 2 ^ 64 - 1 }
-    ensures ok { OnOk result ((output : List ℕ) × IsOutput op input.now output
-        × Appends (S.taken sink.old) (S.taken sink.new) output) }
-    ensures ok_count { OnOk result (S.failure_count sink.new ≡ S.failure_count sink.old) }
-    ensures err { IfErr result
-        (λ why. RunFailure op input.now (S.taken sink.old) (S.taken sink.new)
-        (S.failure_count sink.old) (S.failure_count sink.new) why) }
+    ensures { Runs op input.now (S.taken sink.old) (S.taken sink.new)
+        (S.failure_count sink.old) (S.failure_count sink.new) result }
 {
     match op {
         Op::Encode => encode(input, false, sink),
@@ -182,12 +170,8 @@ pub fn run_in<A: Allocator + Drop, S: Sink>(
 /// ```
 pub fn run<S: Sink>(alloc: Global, op: Op, input: &[u8], sink: &mut S) -> Result<(), RunFault>
     requires { S.failure_count sink.old < 2 ^ 64 - 1 }
-    ensures ok { OnOk result ((output : List ℕ) × IsOutput op input.now output
-        × Appends (S.taken sink.old) (S.taken sink.new) output) }
-    ensures ok_count { OnOk result (S.failure_count sink.new ≡ S.failure_count sink.old) }
-    ensures err { IfErr result
-        (λ why. RunFailure op input.now (S.taken sink.old) (S.taken sink.new)
-        (S.failure_count sink.old) (S.failure_count sink.new) why) }
+    ensures { Runs op input.now (S.taken sink.old) (S.taken sink.new)
+        (S.failure_count sink.old) (S.failure_count sink.new) result }
 {
     run_in(alloc, op, input, sink)
 }

@@ -1,11 +1,9 @@
 //! All of `fhex` over what is handed in: words, an input and two outputs.
 
-ghost use Rattle.std.specs.Prelude.{◌≡◌, ◌⊎◌, Some, map, IfErr, OnOk, IsOk};
+ghost use Rattle.std.specs.Prelude.{◌≡◌, ◌⊎◌, map, IfErr};
 ghost use Rattle.std.specs.Io.KnownBytes.{Keeps};
-ghost use Rattle.hex_program.specs.declared.operation.Op.{Op as OpValue};
-ghost use Rattle.hex_program.specs.Operations.{op_of_words};
-ghost use Rattle.hex_program.specs.Failures.{EndsIn, status_of};
-ghost use Rattle.hex_program.specs.Serving.{NamesNothing, Refused, Served};
+ghost use Rattle.hex_program.specs.Failures.{EndsRun, status_after, status_of};
+ghost use Rattle.hex_program.specs.Serving.{Serves, ServesOp};
 
 use crate::failure::Failure;
 use crate::input::read_input;
@@ -23,9 +21,7 @@ const MESSAGE: usize = 128;
 
 // Flushes the output of a run that has put all of it.
 fn finish<W: Write>(out: &mut W, ran: Result<(), RunFault>) -> Result<(), Failure>
-    ensures ok { OnOk result (IsOk ran) }
-    ensures err { IfErr result (λ f. EndsIn ran f) }
-    ensures status { IfErr result (λ f. (status_of f ≡ 1) ⊎ (status_of f ≡ 3)) }
+    ensures ended { EndsRun ran result }
     ensures kept { Keeps (W.contents out.old) (W.contents out.new) }
 {
     if let Err(fault) = ran {
@@ -69,12 +65,8 @@ fn serve_op<A: Allocator, R: Read, W: Write>(
     input: &mut R,
     out: W,
 ) -> (Result<(), Failure>, W)
-    ensures done { OnOk result.0 (Served op (R.remaining input.old) (R.remaining input.new)
-        (W.contents out) (W.contents result.1)) }
-    ensures refused { IfErr result.0 (λ f. status_of f ≡ 1
-        → Refused op (R.remaining input.old) (R.remaining input.new)
-        (W.contents out) (W.contents result.1)) }
-    ensures status { IfErr result.0 (λ f. (status_of f ≡ 1) ⊎ (status_of f ≡ 3)) }
+    ensures { ServesOp op (R.remaining input.old) (R.remaining input.new)
+        (W.contents out) (W.contents result.1) (status_after result.0) }
 {
     let source = match read_input(alloc, input) {
         Ok(source) => source,
@@ -124,20 +116,8 @@ pub fn serve_in<A: Allocator, R: Read, W: Write, E: Write>(
     out: W,
     err: E,
 ) -> (u8, W, E)
-    ensures done { (op : OpValue) → op_of_words (map (λ w. w.now) words.now) ≡ Some op
-        → result.0 ≡ 0
-        → Served op (R.remaining input.old) (R.remaining input.new) (W.contents out)
-        (W.contents result.1) }
-    ensures refused { (op : OpValue) → op_of_words (map (λ w. w.now) words.now) ≡ Some op
-        → result.0 ≡ 1
-        → Refused op (R.remaining input.old) (R.remaining input.new) (W.contents out)
-        (W.contents result.1) }
-    ensures status { (op : OpValue) → op_of_words (map (λ w. w.now) words.now) ≡ Some op
-        → (result.0 ≡ 0) ⊎ (result.0 ≡ 1) ⊎ (result.0 ≡ 3) }
-    ensures unread { NamesNothing (map (λ w. w.now) words.now)
-        → (R.remaining input.new ≡ R.remaining input.old)
-        × (W.contents result.1 ≡ W.contents out) }
-    ensures usage { NamesNothing (map (λ w. w.now) words.now) → result.0 ≡ 2 }
+    ensures { Serves (map (λ w. w.now) words.now) (R.remaining input.old) (R.remaining input.new)
+        (W.contents out) (W.contents result.1) result.0 }
 {
     let mut err = err;
     let Some(op) = Op::from_words(words) else {
@@ -184,20 +164,8 @@ pub fn serve<R: Read, W: Write, E: Write>(
     out: W,
     err: E,
 ) -> (u8, W, E)
-    ensures done { (op : OpValue) → op_of_words (map (λ w. w.now) words.now) ≡ Some op
-        → result.0 ≡ 0
-        → Served op (R.remaining input.old) (R.remaining input.new) (W.contents out)
-        (W.contents result.1) }
-    ensures refused { (op : OpValue) → op_of_words (map (λ w. w.now) words.now) ≡ Some op
-        → result.0 ≡ 1
-        → Refused op (R.remaining input.old) (R.remaining input.new) (W.contents out)
-        (W.contents result.1) }
-    ensures status { (op : OpValue) → op_of_words (map (λ w. w.now) words.now) ≡ Some op
-        → (result.0 ≡ 0) ⊎ (result.0 ≡ 1) ⊎ (result.0 ≡ 3) }
-    ensures unread { NamesNothing (map (λ w. w.now) words.now)
-        → (R.remaining input.new ≡ R.remaining input.old)
-        × (W.contents result.1 ≡ W.contents out) }
-    ensures usage { NamesNothing (map (λ w. w.now) words.now) → result.0 ≡ 2 }
+    ensures { Serves (map (λ w. w.now) words.now) (R.remaining input.old) (R.remaining input.new)
+        (W.contents out) (W.contents result.1) result.0 }
 {
     serve_in(&alloc, words, input, out, err)
 }

@@ -14,6 +14,11 @@ const FILL: u8 = 0xa5;
 const LONGEST: usize = 128;
 
 /// Returns whether a destination holds these bytes, and behind them what it was filled with, 0xa5.
+///
+/// ```rust
+/// assert!(rt; holds(&[0xab, 0xa5], &[0xab]));
+/// assert!(rt; !holds(&[0xab, 0], &[0xab]));
+/// ```
 pub fn holds(destination: &[u8], bytes: &[u8]) -> bool {
     match destination.strip_prefix(bytes) {
         Some(rest) => rest.iter().all(|&byte| byte == FILL),
