@@ -3,12 +3,12 @@ use Rattle.std.specs.Prelude.{◌≡◌, ◌+◌, ℕ, List, ◌++◌, Option, R
 use Rattle.std.proofs.Common.{arith, refl, ap, ◌∙◌, inl, inr, append_assoc, length-append}
 use Rattle.std.specs.Io.KnownBytes.{Appends, Consumes, Keeps, IsAtEnd}
 use Rattle.std.proofs.KnownBytes.{Appends-kept, Appends-trans, Keeps-trans}
-use Rattle.faster_hex.specs.Sink.{AppendsBeginning}
+use Rattle.hex_format.specs.Sink.{AppendsBeginning, SinkState, Stops, Takes}
 use Rattle.hex_program.specs.declared.operation.Op.{Op}
 use Rattle.hex_program.specs.declared.operation.RunFault.{RunFault}
 use Rattle.hex_program.specs.declared.operation.RunFault.TheVariants as fault
 use Rattle.hex_program.specs.declared.failure.Failure.{Failure}
-use Rattle.hex_program.specs.Operations.{PutsStopped, Runs}
+use Rattle.hex_program.specs.Operations.{Runs}
 use Rattle.hex_program.specs.Failures.{EndsRun, status_after}
 use Rattle.hex_program.specs.Serving.{ServesOp}
 
@@ -22,9 +22,9 @@ beginning_behind a b c xs ys first more = record {
 }
 
 -- one part of an output was put, and a put of the next one failed
-pub stopped_behind : (a b c : Option (List ℕ)) (f g h : ℕ) (xs ys : List ℕ) → Appends a b xs → g ≡ f → PutsStopped b c g h ys → PutsStopped a c f h (xs ++ ys)
-stopped_behind a b c f g h xs ys first same more =
-    (beginning_behind a b c xs ys first more.0, simp length-append (omega (arith, more.1)), more.2 ∙ ap (λ n. n + 1) same)
+pub stops_behind : (a b c : SinkState) (xs ys : List ℕ) → Takes a b xs → Stops b c ys → Stops a c (xs ++ ys)
+stops_behind a b c xs ys first more =
+    (beginning_behind a.taken b.taken c.taken xs ys first.0 more.0, more.1 ∙ ap (λ n. n + 1) first.1, simp length-append (omega (arith, more.2)))
 
 -- a fault of the surroundings is neither done nor a refusal
 served_at_three : (op : Op) (left left' held held' : Option (List ℕ)) (status : ℕ) → status ≡ 3 → ServesOp op left left' held held' status
@@ -35,18 +35,18 @@ served_at_three op left left' held held' status three = record {
 }
 
 -- all of an input was read, run and flushed: the operation is served with the status of the end
-pub serves_run : (op : Op) (input : List ℕ) (left left' held middle held' : Option (List ℕ)) (f g : ℕ) (ran : Result (Unit {0}) RunFault) (ended : Result (Unit {0}) Failure)
-    → Consumes left left' input → IsAtEnd left' → Runs op input held middle f g ran → Keeps middle held' → EndsRun ran ended → ServesOp op left left' held held' (status_after ended)
-serves_run op input left left' held middle held' f g (Ok done) (Ok well) all end runs kept ends = record {
-  done = λ is_zero. record { input = input; output = runs.0.0; consumed = all; ended = end; is_output = runs.0.1; written = Appends-kept held middle held' runs.0.0 runs.0.2 kept };
+pub serves_run : (op : Op) (input : List ℕ) (left left' held' : Option (List ℕ)) (old new : SinkState) (ran : Result (Unit {0}) RunFault) (ended : Result (Unit {0}) Failure)
+    → Consumes left left' input → IsAtEnd left' → Runs op input old new ran → Keeps new.taken held' → EndsRun ran ended → ServesOp op left left' old.taken held' (status_after ended)
+serves_run op input left left' held' old new (Ok done) (Ok well) all end runs kept ends = record {
+  done = λ is_zero. record { input = input; output = runs.0; consumed = all; ended = end; is_output = runs.1; written = Appends-kept old.taken new.taken held' runs.0 runs.2.0 kept };
   refused = λ is_one. absurd (omega (arith, is_one));
   statuses = inl refl;
 }
-serves_run op input left left' held middle held' f g (Ok done) (Err failure) all end runs kept ends = served_at_three op left left' held held' _ (ap (λ f. status_after (Err f)) ends)
-serves_run op input left left' held middle held' f g (Err (fault.Codec e)) ended all end runs kept ends = rw ends (record {
+serves_run op input left left' held' old new (Ok done) (Err failure) all end runs kept ends = served_at_three op left left' old.taken held' _ (ap (λ f. status_after (Err f)) ends)
+serves_run op input left left' held' old new (Err (fault.Codec e)) ended all end runs kept ends = rw ends (record {
   done = λ is_zero. absurd (omega (arith, is_zero));
-  refused = λ is_one. record { input = input; refusal = e; consumed = all; ended = end; is_refusal = runs.0; kept = Keeps-trans held middle held' runs.1.0 kept };
+  refused = λ is_one. record { input = input; refusal = e; consumed = all; ended = end; is_refusal = runs.0; kept = Keeps-trans old.taken new.taken held' runs.1.0 kept };
   statuses = inr (inl refl);
 })
-serves_run op input left left' held middle held' f g (Err (fault.Write why)) ended all end runs kept ends = served_at_three op left left' held held' _ (ap status_after ends)
-serves_run op input left left' held middle held' f g (Err fault.OutOfMemory) ended all end runs kept ends = served_at_three op left left' held held' _ (ap status_after ends)
+serves_run op input left left' held' old new (Err (fault.Write why)) ended all end runs kept ends = served_at_three op left left' old.taken held' _ (ap status_after ends)
+serves_run op input left left' held' old new (Err fault.OutOfMemory) ended all end runs kept ends = served_at_three op left left' old.taken held' _ (ap status_after ends)

@@ -2,12 +2,11 @@
 use Rattle.std.specs.Prelude.{◌≡◌, ◌+◌, ◌<◌, ◌%◌, ℕ, if◌then◌else◌, List, [], ◌∷◌, ◌++◌, length, codes, Option, Some, None, Result, MatchResult}
 use Rattle.std.specs.Str.{bytes_eq}
 use Rattle.std.specs.Io.BufRead.{strip_last}
-use Rattle.std.specs.Io.KnownBytes.{Appends, Keeps}
 use Rattle.hex_core.specs.declared.digit.CheckCase.TheVariants as policy
 use Rattle.hex_core.specs.declared.error.Error.{Error}
 use Rattle.hex_core.specs.Text.{Spells, lowercase, text, uppercase}
 use Rattle.hex_core.specs.Refusal.{source_refusal}
-use Rattle.faster_hex.specs.Sink.{AppendsBeginning}
+use Rattle.hex_format.specs.Sink.{PutsNothing, SinkState, Stops, Takes}
 use Rattle.hex_program.specs.declared.operation.Op.{Op}
 use Rattle.hex_program.specs.declared.operation.Op.TheVariants.{Encode, EncodeUpper, Decode, DecodeLower, DecodeUpper}
 use Rattle.hex_program.specs.declared.operation.RunFault.{RunFault}
@@ -61,31 +60,19 @@ OpNeedsMemory Decode input = NeedsMemory (without_newline input)
 OpNeedsMemory DecodeLower input = NeedsMemory (without_newline input)
 OpNeedsMemory DecodeUpper input = NeedsMemory (without_newline input)
 
--- nothing was put: the bytes taken and the failure count are as before
-abbrev pub NothingPut : Option (List ℕ) → Option (List ℕ) → ℕ → ℕ → Type 0
-NothingPut taken taken' count count' = Keeps taken taken' × (count' ≡ count)
-
--- the puts of an output ended early: a beginning was taken, and one put failed
-abbrev pub PutsStopped : Option (List ℕ) → Option (List ℕ) → ℕ → ℕ → List ℕ → Type 0
-PutsStopped taken taken' count count' output =
-    AppendsBeginning taken taken' output × (0 < length output) × (count' ≡ count + 1)
-
 -- what a fault of a run tells, by its outputs, its refusal and whether it needs memory
-abbrev pub FailureBy : (List ℕ → Type 0) → Option Error → Type 0 → Option (List ℕ) → Option (List ℕ) → ℕ → ℕ → RunFault → Type 0
-FailureBy is_output refusal needs taken taken' count count' (fault.Codec e) =
-    (refusal ≡ Some e) × NothingPut taken taken' count count'
-FailureBy is_output refusal needs taken taken' count count' (fault.Write why) =
-    (output : List ℕ) × is_output output × PutsStopped taken taken' count count' output
-FailureBy is_output refusal needs taken taken' count count' fault.OutOfMemory =
-    needs × NothingPut taken taken' count count'
+abbrev pub FailureBy : (List ℕ → Type 0) → Option Error → Type 0 → SinkState → SinkState → RunFault → Type 0
+FailureBy is_output refusal needs old new (fault.Codec e) = (refusal ≡ Some e) × PutsNothing old new
+FailureBy is_output refusal needs old new (fault.Write why) = (output : List ℕ) × is_output output × Stops old new output
+FailureBy is_output refusal needs old new fault.OutOfMemory = needs × PutsNothing old new
 
 -- a run, told by its outputs, its refusal and whether it needs memory: at `Ok` the sink took exactly
 -- an output more and no put failed, at `Err` what the fault tells
-abbrev pub RunsBy : (List ℕ → Type 0) → Option Error → Type 0 → Option (List ℕ) → Option (List ℕ) → ℕ → ℕ → Result (Unit {0}) RunFault → Type 0
-RunsBy is_output refusal needs taken taken' count count' result = MatchResult result
-    (λ _. ((output : List ℕ) × is_output output × Appends taken taken' output) × (count' ≡ count))
-    (λ why. FailureBy is_output refusal needs taken taken' count count' why)
+abbrev pub RunsBy : (List ℕ → Type 0) → Option Error → Type 0 → SinkState → SinkState → Result (Unit {0}) RunFault → Type 0
+RunsBy is_output refusal needs old new result = MatchResult result
+    (λ _. (output : List ℕ) × is_output output × Takes old new output)
+    (λ why. FailureBy is_output refusal needs old new why)
 
--- an operation's run over this input, with the bytes taken and the failure count before and after it
-abbrev pub Runs : Op → List ℕ → Option (List ℕ) → Option (List ℕ) → ℕ → ℕ → Result (Unit {0}) RunFault → Type 0
+-- an operation's run over this input, with what the sink shows before and after it
+abbrev pub Runs : Op → List ℕ → SinkState → SinkState → Result (Unit {0}) RunFault → Type 0
 Runs op input = RunsBy (IsOutput op input) (op_refusal op input) (OpNeedsMemory op input)

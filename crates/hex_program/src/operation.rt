@@ -5,8 +5,9 @@ ghost use Rattle.hex_core.specs.Text.{Spells, text};
 ghost use Rattle.hex_core.specs.Refusal.{source_refusal};
 ghost use Rattle.hex_program.specs.Operations.{NeedsMemory, Runs, RunsBy, op_of_word, op_of_words, without_newline};
 
-use faster_hex::format::put_all;
-use faster_hex::{CheckCase, Error, Hex, HexFlags, Sink, WriteFault, hex_decode_vec_with_case};
+use hex_codec::hex_decode_vec_with_case;
+use hex_core::{CheckCase, Error};
+use hex_format::{Hex, HexFlags, Sink, WriteFault, put_all};
 use std::alloc::{Allocator, Global};
 
 /// What `fhex` does with its input.
@@ -83,10 +84,9 @@ fn digits_in(input: &[u8]) -> &[u8]
 
 // Puts the text of the input, and a newline. No memory is taken.
 fn encode<S: Sink>(input: &[u8], upper: bool, sink: &mut S) -> Result<(), RunFault>
-    requires { S.failure_count sink.old < 2 ^ 64 - 1 }
+    requires { (S.state sink.old).failures < 2 ^ 64 - 1 }
     ensures { RunsBy (λ output. output ≡ text upper input.now ++ 10 ∷ []) None ⊥
-        (S.taken sink.old) (S.taken sink.new)
-        (S.failure_count sink.old) (S.failure_count sink.new) result }
+        (S.state sink.old) (S.state sink.new) result }
 {
     let flags = HexFlags {
         upper,
@@ -108,11 +108,10 @@ fn decode<A: Allocator + Drop, S: Sink>(
     case: CheckCase,
     sink: &mut S,
 ) -> Result<(), RunFault>
-    requires { S.failure_count sink.old < 2 ^ 64 - 1 }
+    requires { (S.state sink.old).failures < 2 ^ 64 - 1 }
     ensures { RunsBy (Spells case (without_newline input.now))
         (source_refusal case (without_newline input.now)) (NeedsMemory (without_newline input.now))
-        (S.taken sink.old) (S.taken sink.new)
-        (S.failure_count sink.old) (S.failure_count sink.new) result }
+        (S.state sink.old) (S.state sink.new) result }
 {
     match hex_decode_vec_with_case(alloc, digits_in(input), case) {
         Ok(bytes) => match put_all(sink, bytes.as_slice()) {
@@ -131,9 +130,8 @@ pub fn run_in<A: Allocator + Drop, S: Sink>(
     input: &[u8],
     sink: &mut S,
 ) -> Result<(), RunFault>
-    requires { S.failure_count sink.old < 2 ^ 64 - 1 }
-    ensures { Runs op input.now (S.taken sink.old) (S.taken sink.new)
-        (S.failure_count sink.old) (S.failure_count sink.new) result }
+    requires { (S.state sink.old).failures < 2 ^ 64 - 1 }
+    ensures { Runs op input.now (S.state sink.old) (S.state sink.new) result }
 {
     match op {
         Op::Encode => encode(input, false, sink),
@@ -169,9 +167,8 @@ pub fn run_in<A: Allocator + Drop, S: Sink>(
 /// assert_eq!(rt; sink.written(), b"AB\n");
 /// ```
 pub fn run<S: Sink>(alloc: Global, op: Op, input: &[u8], sink: &mut S) -> Result<(), RunFault>
-    requires { S.failure_count sink.old < 2 ^ 64 - 1 }
-    ensures { Runs op input.now (S.taken sink.old) (S.taken sink.new)
-        (S.failure_count sink.old) (S.failure_count sink.new) result }
+    requires { (S.state sink.old).failures < 2 ^ 64 - 1 }
+    ensures { Runs op input.now (S.state sink.old) (S.state sink.new) result }
 {
     run_in(alloc, op, input, sink)
 }

@@ -11,7 +11,7 @@ use crate::operation::{Op, RunFault, run_in};
 use crate::vector_run::run_vectors;
 use crate::vectors::{VECTORS, Vector};
 use arrayvec::ArrayString;
-use faster_hex::WriterSink;
+use hex_format::WriterSink;
 use std::alloc::{Allocator, Global};
 use std::fmt;
 use std::io::{Read, Write};

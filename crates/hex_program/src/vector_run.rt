@@ -3,9 +3,10 @@
 ghost use Rattle.std.specs.Prelude.{◌≡◌, ◌<◌, ◌≤◌, ◌-◌, ◌*◌, ◌^◌, length, IfOk, OnOk};
 
 use crate::vectors::{Call, Vector};
-use faster_hex::format::put_all;
-use faster_hex::{Backend, Error, Sink, WriteFault, backends};
-use itoa::Buffer;
+use arrayvec::ArrayString;
+use hex_core::{Backend, Error, backends};
+use hex_format::{Sink, WriteFault, put_all};
+use std::fmt::Write;
 
 // What stands in a destination before a call.
 const FILL: u8 = 0xa5;
@@ -52,13 +53,21 @@ fn passes(plan: Backend, vector: &Vector) -> bool {
 
 // Puts texts, one behind the other.
 fn put_texts<S: Sink>(sink: &mut S, texts: &[&str]) -> Result<(), WriteFault>
-    requires { S.failure_count sink.old < 2 ^ 64 - 1 }
-    ensures { OnOk result (S.failure_count sink.new ≡ S.failure_count sink.old) }
+    requires { (S.state sink.old).failures < 2 ^ 64 - 1 }
+    ensures { OnOk result ((S.state sink.new).failures ≡ (S.state sink.old).failures) }
 {
     'texts: for text in texts {
         put_all(sink, text.as_bytes())?;
     }
     Ok(())
+}
+
+// The digits of a number.
+fn decimal(number: usize) -> ArrayString<20> {
+    let mut digits = ArrayString::new();
+    // No `usize` has more than 20 digits, so all of them fit.
+    let _ = write!(digits, "{number}");
+    digits
 }
 
 // Puts the last line of a run.
@@ -68,21 +77,17 @@ fn put_totals<S: Sink>(
     passed: usize,
     failed: usize,
 ) -> Result<(), WriteFault>
-    requires { S.failure_count sink.old < 2 ^ 64 - 1 }
-    ensures { OnOk result (S.failure_count sink.new ≡ S.failure_count sink.old) }
+    requires { (S.state sink.old).failures < 2 ^ 64 - 1 }
+    ensures { OnOk result ((S.state sink.new).failures ≡ (S.state sink.old).failures) }
 {
-    let (mut total_digits, mut passed_digits, mut failed_digits) = (
-        Buffer::new(),
-        Buffer::new(),
-        Buffer::new(),
-    );
+    let (total, passed, failed) = (decimal(total), decimal(passed), decimal(failed));
     let texts = [
         "total ",
-        total_digits.format(total),
+        total.as_str(),
         " passed ",
-        passed_digits.format(passed),
+        passed.as_str(),
         " failed ",
-        failed_digits.format(failed),
+        failed.as_str(),
         "\n",
     ];
     put_texts(sink, &texts)
@@ -90,9 +95,9 @@ fn put_totals<S: Sink>(
 
 // Runs each vector under a plan, puts its line, and returns how many failed.
 fn run_under<S: Sink>(plan: Backend, table: &[Vector], sink: &mut S) -> Result<usize, WriteFault>
-    requires { S.failure_count sink.old < 2 ^ 64 - 1 }
+    requires { (S.state sink.old).failures < 2 ^ 64 - 1 }
     ensures failed { IfOk result (λ failed. failed ≤ length table.now) }
-    ensures counted { OnOk result (S.failure_count sink.new ≡ S.failure_count sink.old) }
+    ensures counted { OnOk result ((S.state sink.new).failures ≡ (S.state sink.old).failures) }
 {
     let mut failed = 0;
     'table: for vector in table {
@@ -122,9 +127,9 @@ fn run_under<S: Sink>(plan: Backend, table: &[Vector], sink: &mut S) -> Result<u
 /// assert!(rt; sink.written().starts_with(b"scalar v01 pass\n"));
 /// ```
 pub fn run_vectors<S: Sink>(table: &[Vector], sink: &mut S) -> Result<usize, WriteFault>
-    requires { S.failure_count sink.old < 2 ^ 64 - 1 }
+    requires { (S.state sink.old).failures < 2 ^ 64 - 1 }
     ensures failed { IfOk result (λ failed. failed ≤ 5 * length table.now) }
-    ensures counted { OnOk result (S.failure_count sink.new ≡ S.failure_count sink.old) }
+    ensures counted { OnOk result ((S.state sink.new).failures ≡ (S.state sink.old).failures) }
 {
     let plans = backends();
     let total = plans.len() * table.len();

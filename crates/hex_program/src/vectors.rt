@@ -1,6 +1,6 @@
 //! The stored vectors, which `fhex vectors` runs under each plan.
 
-use faster_hex::{CheckCase, Error};
+use hex_core::{CheckCase, Error};
 
 /// The call of a stored vector.
 #[derive(Clone, Copy)]

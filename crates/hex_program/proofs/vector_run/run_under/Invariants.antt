@@ -3,4 +3,4 @@ use Rattle.std.proofs.Common.{◌≡◌, ◌≤◌}
 use Rattle.hex_program.proofs.vector_run.run_under.Given as goal
 
 abbrev pub invariant-table : goal.invariant-table
-invariant-table g l = (l.failed ≤ l.vector-index) × (g.S.Sink.failure_count l.sink ≡ g.S.Sink.failure_count l.initial.sink)
+invariant-table g l = (l.failed ≤ l.vector-index) × ((g.S.Sink.state l.sink).failures ≡ (g.S.Sink.state l.initial.sink).failures)

@@ -5,4 +5,4 @@ use Rattle.hex_program.proofs.vector_run.run_vectors.Given as goal
 abbrev pub invariant-plans : goal.invariant-plans
 invariant-plans g l =
     (length l.plan-items ≡ 5) × (l.total ≡ 5 * length l.table) × (l.failed ≤ l.plan-index * length l.table)
-    × (g.S.Sink.failure_count l.sink ≡ g.S.Sink.failure_count l.initial.sink)
+    × ((g.S.Sink.state l.sink).failures ≡ (g.S.Sink.state l.initial.sink).failures)
