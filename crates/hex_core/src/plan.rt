@@ -16,7 +16,8 @@ use crate::vector::{Lanes, Pack};
 
 /// A plan: one way to check, encode and decode.
 ///
-/// All plans give the same answers and leave the same bytes.
+/// All plans give the same answers and leave the same bytes, what [`Backend::decode_owned`] leaves
+/// where it returns false aside.
 #[derive(Clone, Copy)]
 pub struct Backend(pub(crate) Kind);
 

@@ -7,7 +7,7 @@ use Rattle.hex_json.specs.declared.adapters.AdapterError.TheVariants.{OverBound}
 use Rattle.hex_json.specs.Adapters.{ReadFailure, Reads, ReadsOption, Writes, WritesOption, array_read_refusal, read_refusal}
 use Rattle.hex_json.specs.WireFormats.{nopfx_ignorecase, nopfx_lowercase, nopfx_uppercase, withpfx_ignorecase, withpfx_lowercase, withpfx_uppercase}
 
--- the six wire_formats
+-- the six formats
 abbrev pub wire_formats : List WireFormat
 wire_formats = withpfx_ignorecase ∷ nopfx_ignorecase ∷ withpfx_lowercase ∷ nopfx_lowercase ∷ withpfx_uppercase ∷ nopfx_uppercase ∷ []
 
@@ -34,7 +34,7 @@ UnboundedHasNoBound = (p : WireFormat) (d : Data) (max actual : ℕ) → ReadFai
 abbrev pub ArrayHasNoBound : Type 0
 ArrayHasNoBound = (p : WireFormat) (n : ℕ) (d : Data) (max actual : ℕ) → array_read_refusal p n d ≢ Some (OverBound max actual)
 
--- what one of the six wire_formats writes, it reads as the same bytes
+-- what one of the six formats writes, it reads as the same bytes
 abbrev pub ReadingInvertsWriting : Type 0
 ReadingInvertsWriting = (bytes : List ℕ) (d : Data) → AreBytes bytes → All (λ p. Writes p bytes d → Reads p None d bytes) wire_formats
 

@@ -1,4 +1,4 @@
--- The six wire_formats: whether `0x` stands before the digits, which letters are written, which are read.
+-- The six formats: whether `0x` stands before the digits, which letters are written, which are read.
 use Rattle.std.specs.Prelude.{true, false}
 use Rattle.hex_core.specs.declared.digit.CheckCase.TheVariants.{None, Lower, Upper}
 use Rattle.hex_json.specs.declared.adapters.WireFormat.{WireFormat}

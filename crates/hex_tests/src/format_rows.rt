@@ -1,35 +1,41 @@
-//! Rows of padded texts, and what sinks that fail are left with.
+//! Rows of padded texts.
+
+ghost use Rattle.std.specs.Prelude.{◌<◌, ◌^◌, ◌-◌};
 
 use crate::limited_sink::{LimitedSink, Mode};
-use faster_hex::{Align, Hex, HexFlags, Sink, SinkFault, SliceSink, WriteFault, WriterSink};
+use faster_hex::{Align, Hex, HexFlags, Sink, SliceSink, WriteFault};
 use std::alloc::{AllocError, Global};
-use std::io;
 use std::test::Fail;
 
-// The flags that these letters of a format string name: `<` or `^` for the alignment, `+`, `#` for
-// the prefix, `0` and `X`.
-fn flags_of(letters: &str, width: Option<usize>, fill: char) -> HexFlags {
-    let letters = letters.as_bytes();
-    let align = if letters.contains(&b'<') {
-        Align::Left
-    } else if letters.contains(&b'^') {
-        Align::Center
-    } else {
-        Align::Right
-    };
-    HexFlags {
-        plus: letters.contains(&b'+'),
-        prefix: letters.contains(&b'#'),
-        zero: letters.contains(&b'0'),
-        width,
-        fill,
-        align,
-        upper: letters.contains(&b'X'),
+// Sets the flag that a letter names.
+fn set_flag(flags: &mut HexFlags, letter: u8) {
+    match letter {
+        b'<' => flags.align = Align::Left,
+        b'^' => flags.align = Align::Center,
+        b'+' => flags.plus = true,
+        b'#' => flags.prefix = true,
+        b'0' => flags.zero = true,
+        b'X' => flags.upper = true,
+        _ => {}
     }
 }
 
-// The pieces behind one another, each as often as it says.
-fn joined(alloc: Global, pieces: &[(&str, usize)]) -> Result<Vec<u8>, AllocError> {
+/// The flags that these letters of a format string name: `<` or `^` for the alignment, `+`, `#` for
+/// the prefix, `0` and `X`.
+pub fn flags_of(letters: &str, width: Option<usize>, fill: char) -> HexFlags {
+    let mut flags = HexFlags {
+        width,
+        fill,
+        ..HexFlags::default()
+    };
+    for letter in letters.as_bytes() {
+        set_flag(&mut flags, *letter);
+    }
+    flags
+}
+
+/// The pieces behind one another, each as often as it says.
+pub fn joined(alloc: Global, pieces: &[(&str, usize)]) -> Result<Vec<u8>, AllocError> {
     let mut text = Vec::new(alloc);
     for (piece, count) in pieces {
         for _ in 0..*count {
@@ -39,32 +45,26 @@ fn joined(alloc: Global, pieces: &[(&str, usize)]) -> Result<Vec<u8>, AllocError
     Ok(text)
 }
 
+/// Writes the text of these bytes.
+pub fn write_hex<S: Sink>(sink: &mut S, bytes: &[u8], flags: &HexFlags) -> Result<(), WriteFault>
+    requires { (S.state sink.old).failures < 2 ^ 64 - 1 }
+{
+    Hex::new(bytes).write_to(sink, flags)
+}
+
 // Whether a slice then holds exactly this text, and no failure was counted.
 fn writes(bytes: &[u8], flags: &HexFlags, want: &[u8]) -> bool {
     let mut buffer = [0; 8194];
     let mut sink = SliceSink::new(&mut buffer);
-    let answer = Hex::new(bytes).write_to(&mut sink, flags);
-    answer == Ok(()) && sink.written() == want && sink.failures() == 0
+    let is_written = write_hex(&mut sink, bytes, flags) == Ok(());
+    is_written && sink.written() == want && sink.failures() == 0
 }
 
-// The same of a sink that takes as many bytes as the text has, in this way.
-fn writes_in_parts(bytes: &[u8], flags: &HexFlags, want: &[u8], mode: Mode) -> bool {
+/// The same of a sink that takes as many bytes as the text has, in this way.
+pub fn writes_in_parts(bytes: &[u8], flags: &HexFlags, want: &[u8], mode: Mode) -> bool {
     let mut sink = LimitedSink::new(mode, want.len());
-    let answer = Hex::new(bytes).write_to(&mut sink, flags);
-    answer == Ok(()) && sink.taken() == want && sink.failures() == 0
-}
-
-// Whether a sink that fails behind `limit` bytes of a longer text holds exactly these, or, where it
-// takes whole pieces alone, some beginning, and met one failure and no put behind it.
-fn stops_at(bytes: &[u8], flags: &HexFlags, text: &[u8], mode: Mode, limit: usize) -> bool {
-    let mut sink = LimitedSink::new(mode, limit);
-    let answer = Hex::new(bytes).write_to(&mut sink, flags);
-    let taken = sink.taken();
-    answer.is_err()
-        && text.starts_with(taken)
-        && (mode == Mode::WholePieces || taken.len() == limit)
-        && sink.failures() == 1
-        && !sink.was_put_to_again()
+    let is_written = write_hex(&mut sink, bytes, flags) == Ok(());
+    is_written && sink.taken() == want && sink.failures() == 0
 }
 
 // The bytes 0, 1, 2 and so on, from 0 again behind 255, and their digits.
@@ -218,164 +218,14 @@ fn bytes_keep_their_order_and_leading_zeroes(rt: HostRuntime) -> Result<(), Fail
 
 #[test]
 fn writes_into_fixed_storage(rt: HostRuntime) {
-    let view = Hex::new(&[0, 0xab, 0xcd]);
     let mut buffer = [0; 1100];
     let mut sink = SliceSink::new(&mut buffer);
-    assert_eq!(rt; sink.put(b"hash="), Ok(5));
+    assert!(rt; sink.put(b"hash=") == Ok(5));
     let upper = flags_of("#X", None, ' ');
-    assert_eq!(rt; view.write_to(&mut sink, &upper), Ok(()));
-    assert_eq!(rt; sink.failures(), 0);
-    assert_eq!(rt; sink.put(b", again="), Ok(8));
-    assert_eq!(rt; sink.failures(), 0);
-    assert_eq!(rt; view.write_to(&mut sink, &HexFlags::default()), Ok(()));
-    assert_eq!(rt; sink.written(), b"hash=0x00ABCD, again=00abcd".as_slice());
-}
-
-#[test]
-fn a_full_slice_holds_the_beginning(rt: HostRuntime) {
-    let widest = Some(usize::MAX);
-    // Letters, width, room and the bytes that are taken; the fill is a space.
-    for (letters, width, room, text) in [
-        ("+#", None, 3, "+0x"),
-        ("", widest, 10, "          "),
-        ("<", widest, 10, "ab        "),
-        ("^", widest, 10, "          "),
-        ("+#0", widest, 10, "+0x0000000"),
-    ] {
-        let mut buffer = [0; 10];
-        let mut sink = SliceSink::new(&mut buffer[..room]);
-        let flags = flags_of(letters, width, ' ');
-        let answer = Hex::new(&[0xab]).write_to(&mut sink, &flags);
-        assert_eq!(rt; answer, Err(WriteFault::Sink(SinkFault)), "{text}");
-        assert_eq!(rt; sink.written(), text.as_bytes(), "{text}");
-        assert_eq!(rt; sink.failures(), 1, "{text}");
-    }
-}
-
-const FAILING: [Mode; 3] = [Mode::WholePieces, Mode::PartAndRefusal, Mode::WhatFits];
-
-#[test]
-fn an_empty_text_meets_no_failure(rt: HostRuntime) {
-    // The last mode refuses a put of an empty piece too.
-    for mode in [
-        Mode::OneByte,
-        Mode::WholePieces,
-        Mode::PartAndRefusal,
-        Mode::WhatFits,
-        Mode::Nothing,
-    ] {
-        let mut sink = LimitedSink::new(mode, 0);
-        let answer = Hex::new(&[]).write_to(&mut sink, &HexFlags::default());
-        assert_eq!(rt; answer, Ok(()), "{mode:?}");
-        assert_eq!(rt; sink.failures(), 0, "{mode:?}");
-    }
-    let mut sink = LimitedSink::new(Mode::Nothing, 0);
-    assert_eq!(rt; sink.put(b""), Err(SinkFault));
-    assert_eq!(rt; sink.failures(), 1);
-    assert_eq!(rt;
-        Hex::new(&[]).write_to(&mut sink, &HexFlags::default()),
-        Ok(())
-    );
-    assert_eq!(rt; sink.failures(), 1);
-    let mut sink = LimitedSink::new(Mode::WhatFits, 0);
-    let answer = Hex::new(&[0xab]).write_to(&mut sink, &HexFlags::default());
-    assert_eq!(rt; answer, Err(WriteFault::TookNothing));
-    assert_eq!(rt; sink.failures(), 1);
-}
-
-#[test]
-fn a_failure_ends_the_call_after_the_exact_beginning(rt: HostRuntime) -> Result<(), Fail> {
-    let alloc = rt.alloc();
-    let bytes = [0xab; 513];
-    // Letters, fill, and the pieces of the text at width 1040.
-    for (letters, fill, pieces) in [
-        ("^+#X", '💠', [("💠", 5), ("+0x", 1), ("AB", 513), ("💠", 6)]),
-        ("+#", '💠', [("💠", 11), ("+0x", 1), ("ab", 513), ("", 0)]),
-        ("+#0X", ' ', [("+0x", 1), ("0", 11), ("AB", 513), ("", 0)]),
-    ] {
-        let flags = flags_of(letters, Some(1040), fill);
-        let text = joined(alloc, &pieces)?;
-        for mode in FAILING {
-            for limit in 0..text.len() {
-                assert!(rt;
-                    stops_at(&bytes, &flags, &text, mode, limit),
-                    "{mode:?} at {limit}"
-                );
-            }
-            assert!(rt;
-                writes_in_parts(&bytes, &flags, &text, mode),
-                "{letters} {mode:?}"
-            );
-        }
-        assert!(rt;
-            writes_in_parts(&bytes, &flags, &text, Mode::OneByte),
-            "{letters}"
-        );
-    }
-    Ok(())
-}
-
-#[test]
-fn a_failure_ends_the_call_at_each_length(rt: HostRuntime) -> Result<(), Fail> {
-    let alloc = rt.alloc();
-    let bytes = [0xab; 513];
-    for len in [0usize, 1, 10, 32, 63, 64, 65, 128, 129, 513] {
-        let flags = flags_of("^+#X", Some(2 * len + 14), '💠');
-        let text = joined(alloc, &[("💠", 5), ("+0x", 1), ("AB", len), ("💠", 6)])?;
-        for limit in [0, 1, 4, 7, 8, 9, 10, 100, 511, 512, 513, 1024, 1040] {
-            if limit < text.len() {
-                for mode in FAILING {
-                    assert!(rt;
-                        stops_at(&bytes[..len], &flags, &text, mode, limit),
-                        "{len} {limit}"
-                    );
-                }
-            }
-        }
-        assert!(rt;
-            writes_in_parts(&bytes[..len], &flags, &text, Mode::WholePieces),
-            "{len}"
-        );
-    }
-    Ok(())
-}
-
-// A writer that takes one byte and then answers an error.
-#[derive(Drop)]
-struct OneByteWriter {
-    held: Option<u8>,
-}
-
-impl io::Write for OneByteWriter {
-    fn write(&mut self, buf: &[u8]) -> io::Result<usize> {
-        if self.held.is_some() {
-            return Err(io::Error::from(io::ErrorKind::Interrupted));
-        }
-        if buf.is_empty() {
-            return Ok(0);
-        }
-        self.held = Some(buf[0]);
-        Ok(1)
-    }
-
-    fn flush(&mut self) -> io::Result<()> {
-        Ok(())
-    }
-}
-
-#[test]
-fn a_writer_that_fails_is_not_asked_again(rt: HostRuntime) {
-    let mut sink = WriterSink::new(OneByteWriter { held: None });
-    let answer = Hex::new(&[0xab]).write_to(&mut sink, &HexFlags::default());
-    assert_eq!(rt; answer, Err(WriteFault::Sink(SinkFault)));
-    assert_eq!(rt; sink.failures(), 1);
-    assert!(rt; sink.last_error().is_some());
-    assert_eq!(rt; sink.into_inner().held, Some(b'a'));
-
-    let mut sink = WriterSink::new(Vec::new(rt.alloc()));
-    let answer = Hex::new(&[0xab]).write_to(&mut sink, &HexFlags::default());
-    assert_eq!(rt; answer, Ok(()));
-    assert_eq!(rt; sink.failures(), 0);
-    assert!(rt; sink.last_error().is_none());
-    assert_eq!(rt; sink.into_inner().as_slice(), b"ab".as_slice());
+    assert!(rt; write_hex(&mut sink, THREE, &upper) == Ok(()));
+    assert!(rt; sink.failures() == 0);
+    assert!(rt; sink.put(b", again=") == Ok(8));
+    assert!(rt; sink.failures() == 0);
+    assert!(rt; write_hex(&mut sink, THREE, &HexFlags::default()) == Ok(()));
+    assert!(rt; sink.written() == b"hash=0x00ABCD, again=00abcd".as_slice());
 }

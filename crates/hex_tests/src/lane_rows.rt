@@ -1,26 +1,33 @@
 //! Rows of the lanes: what each block of them answers, and how many tests cover a source.
 
+ghost use Rattle.std.specs.Prelude.{◌≤◌, length};
+
+use crate::rules::damaged;
 use hex_core::lanes::{
     admitted_16, admitted_32, admitted_64, encode_8, encode_16, encode_32, nibbles_hashed_32,
     nibbles_hashed_64, nibbles_saturating_16, pack_16, pack_32, pack_64,
 };
 use hex_core::{CheckCase, Probe, SliceProbe, backends, covered};
 
-// Each row: the policy, and the masks of the three sources.
-#[test]
-fn admitted_places_are_the_bits_of_a_mask(rt: HostRuntime) {
-    let rows = [
-        (CheckCase::None, 0xffff, 0x003f_ffff, 0x003f_ffff_003f_ffff),
-        (CheckCase::Lower, 0x03ff, 0x003f_03ff, 0x003f_f03f_003f_03ff),
-        (CheckCase::Upper, 0xffff, 0x0000_ffff, 0x003f_ffc0_0000_ffff),
-    ];
+// Whether the places that are admitted are those of three masks.
+fn admits(case: CheckCase, of_16: u16, of_32: u32, of_64: u64) -> bool {
     let half = b"0123456789ABCDEFabcdef/:@G`g\x7f\x80\xb0\xff";
     let whole = b"0123456789ABCDEFabcdef/:@G`g\x7f\x80\xb0\xff\
         fedcbaFEDCBA9876543210 xX-_\n\r\0\xc3\xa9";
-    for (case, of_16, of_32, of_64) in rows {
-        assert_eq!(rt; admitted_16(b"0123456789ABCDEF", case), of_16, "{case:?}");
-        assert_eq!(rt; admitted_32(half, case), of_32, "{case:?}");
-        assert_eq!(rt; admitted_64(whole, case), of_64, "{case:?}");
+    admitted_16(b"0123456789ABCDEF", case) == of_16
+        && admitted_32(half, case) == of_32
+        && admitted_64(whole, case) == of_64
+}
+
+// Each row: the policy, and the masks of the three sources.
+#[test]
+fn admitted_places_are_the_bits_of_a_mask(rt: HostRuntime) {
+    for (case, of_16, of_32, of_64) in [
+        (CheckCase::None, 0xffff, 0x003f_ffff, 0x003f_ffff_003f_ffff),
+        (CheckCase::Lower, 0x03ff, 0x003f_03ff, 0x003f_f03f_003f_03ff),
+        (CheckCase::Upper, 0xffff, 0x0000_ffff, 0x003f_ffc0_0000_ffff),
+    ] {
+        assert!(rt; admits(case, of_16, of_32, of_64), "{case:?}");
     }
 }
 
@@ -51,29 +58,29 @@ fn saturated_nibbles_are_those_of_the_map(rt: HostRuntime) {
         ),
     ];
     for (case, src, nibbles) in rows {
-        assert_eq!(rt;
-            nibbles_saturating_16(src, case),
-            nibbles,
-            "{src:?} under {case:?}"
-        );
+        let is_mapped = nibbles_saturating_16(src, case) == nibbles;
+        assert!(rt; is_mapped, "{src:?} under {case:?}");
     }
 }
 
-// Each row: the policy, and the checks of the first bytes. The others are of `0`.
+// Whether the checks of the first bytes are these, at both widths. The others are of `0`.
+fn hashes_to(case: CheckCase, front: &[u8; 8]) -> bool {
+    let half = b"@0A0f090000000000000000000000000";
+    let whole = b"@0A0f09000000000000000000000000000000000000000000000000000000000";
+    let (_, of_32) = nibbles_hashed_32(half, case);
+    let (_, of_64) = nibbles_hashed_64(whole, case);
+    of_32.starts_with(front) && of_64.starts_with(front)
+}
+
+// Each row: the policy, and the checks of the first bytes.
 #[test]
 fn hashed_checks_are_those_of_the_map(rt: HostRuntime) {
-    let rows = [
+    for (case, front) in [
         (CheckCase::None, [255, 0, 0, 0, 5, 0, 2, 0]),
         (CheckCase::Lower, [192, 0, 193, 0, 5, 0, 2, 0]),
         (CheckCase::Upper, [255, 0, 0, 0, 230, 0, 2, 0]),
-    ];
-    let half = b"@0A0f090000000000000000000000000";
-    let whole = b"@0A0f09000000000000000000000000000000000000000000000000000000000";
-    for (case, front) in rows {
-        let (_, checked) = nibbles_hashed_32(half, case);
-        assert_eq!(rt; &checked[..8], front.as_slice(), "32 under {case:?}");
-        let (_, checked) = nibbles_hashed_64(whole, case);
-        assert_eq!(rt; &checked[..8], front.as_slice(), "64 under {case:?}");
+    ] {
+        assert!(rt; hashes_to(case, &front), "{case:?}");
     }
 }
 
@@ -93,32 +100,22 @@ fn refuses_only(place: usize, nibbles: &[u8], checked: &[u8]) -> bool {
 #[test]
 fn hashed_checks_refuse_a_byte_past_ascii_between_digits(rt: HostRuntime) {
     for place in [1, 3] {
-        let mut half = [b'7'; 32];
-        half[place] = 0xff;
-        let (nibbles, checked) = nibbles_hashed_32(&half, CheckCase::None);
-        assert!(rt;
-            refuses_only(place, &nibbles, &checked),
-            "32, place {place}"
-        );
-        let mut whole = [b'7'; 64];
-        whole[place] = 0xff;
-        let (nibbles, checked) = nibbles_hashed_64(&whole, CheckCase::None);
-        assert!(rt;
-            refuses_only(place, &nibbles, &checked),
-            "64, place {place}"
-        );
+        let (nibbles, checked) = nibbles_hashed_32(&damaged(b'7', place, 0xff), CheckCase::None);
+        let is_refused = refuses_only(place, &nibbles, &checked);
+        assert!(rt; is_refused, "32, place {place}");
+        let (nibbles, checked) = nibbles_hashed_64(&damaged(b'7', place, 0xff), CheckCase::None);
+        let is_refused = refuses_only(place, &nibbles, &checked);
+        assert!(rt; is_refused, "64, place {place}");
     }
 }
 
 #[test]
 fn blocks_of_16_digits_are_packed_and_written(rt: HostRuntime) {
     let bytes = [0x01, 0x23, 0x45, 0x67, 0x89, 0xab, 0xcd, 0xef];
-    assert_eq!(rt;
-        pack_16(&[0, 1, 2, 3, 4, 5, 6, 7, 8, 9, 10, 11, 12, 13, 14, 15]),
-        bytes
-    );
-    assert_eq!(rt; encode_8(&bytes, false), *b"0123456789abcdef");
-    assert_eq!(rt; encode_8(&bytes, true), *b"0123456789ABCDEF");
+    let nibbles = [0, 1, 2, 3, 4, 5, 6, 7, 8, 9, 10, 11, 12, 13, 14, 15];
+    assert!(rt; pack_16(&nibbles) == bytes);
+    assert!(rt; encode_8(&bytes, false) == *b"0123456789abcdef");
+    assert!(rt; encode_8(&bytes, true) == *b"0123456789ABCDEF");
 }
 
 #[test]
@@ -128,14 +125,11 @@ fn blocks_of_32_digits_are_packed_and_written(rt: HostRuntime) {
         0x78,
     ];
     let lower = b"fedcba98765432100f1e2d3c4b5a6978";
-    assert_eq!(rt; encode_16(&bytes, false), *lower);
-    assert_eq!(rt;
-        encode_16(&bytes, true),
-        *b"FEDCBA98765432100F1E2D3C4B5A6978"
-    );
+    assert!(rt; encode_16(&bytes, false) == *lower);
+    assert!(rt; encode_16(&bytes, true) == *b"FEDCBA98765432100F1E2D3C4B5A6978");
     let (nibbles, _) = nibbles_hashed_32(lower, CheckCase::None);
     assert!(rt; nibbles.iter().all(|nibble| *nibble < 16));
-    assert_eq!(rt; pack_32(&nibbles), bytes);
+    assert!(rt; pack_32(&nibbles) == bytes);
 }
 
 #[test]
@@ -147,43 +141,41 @@ fn blocks_of_64_digits_are_packed_and_written(rt: HostRuntime) {
     ];
     let lower = b"0123456789abcdeffedcba98765432100f1e2d3c4b5a6978f0e1d2c3b4a59687";
     let upper = b"0123456789ABCDEFFEDCBA98765432100F1E2D3C4B5A6978F0E1D2C3B4A59687";
-    assert_eq!(rt; encode_32(&bytes, false), *lower);
-    assert_eq!(rt; encode_32(&bytes, true), *upper);
+    assert!(rt; encode_32(&bytes, false) == *lower);
+    assert!(rt; encode_32(&bytes, true) == *upper);
     let (nibbles, _) = nibbles_hashed_64(lower, CheckCase::None);
     assert!(rt; nibbles.iter().all(|nibble| *nibble < 16));
-    assert_eq!(rt; pack_64(&nibbles), bytes);
+    assert!(rt; pack_64(&nibbles) == bytes);
+}
+
+// Whether each plan covers a source, or finds that it can't, by so many tests and no look.
+fn is_covered_by(source: &[u8], is_clear: bool, tests: usize) -> bool
+    requires { 64 ≤ length source.now }
+{
+    for plan in backends() {
+        let mut probe = SliceProbe::new(plan, source, CheckCase::None);
+        let is_covered = covered(&mut probe);
+        if is_covered != is_clear || probe.tests() != tests || probe.looks() != 0 {
+            return false;
+        }
+    }
+    true
 }
 
 // Each row: the length of a source of `0`, the place of a `!` in it, and how many tests are made.
 #[test]
 fn a_source_is_covered_by_few_tests_and_no_look(rt: HostRuntime) {
-    let rows = [
+    for (len, place, tests) in [
         (64, None, 1),
         (65, None, 2),
         (130, None, 3),
         (130, Some(0), 1),
         (130, Some(64), 2),
         (130, Some(129), 3),
-    ];
-    for (len, place, tests) in rows {
-        let mut room = [b'0'; 130];
-        if let Some(at) = place {
-            assert!(rt; at < 130);
-            room[at] = b'!';
-        }
+    ] {
+        let room = damaged::<130>(b'0', place.unwrap_or(usize::MAX), b'!');
         assert!(rt; 64 <= len && len <= 130);
-        for plan in backends() {
-            let mut probe = SliceProbe::new(plan, &room[..len], CheckCase::None);
-            assert_eq!(rt;
-                covered(&mut probe),
-                place.is_none(),
-                "length {len}, {place:?}"
-            );
-            assert_eq!(rt;
-                (probe.tests(), probe.looks()),
-                (tests, 0),
-                "length {len}, {place:?}"
-            );
-        }
+        let is_covered = is_covered_by(&room[..len], place.is_none(), tests);
+        assert!(rt; is_covered, "length {len}, {place:?}");
     }
 }

@@ -3,11 +3,15 @@
 #![tactic(auto)]
 
 #[cfg(test)]
+mod calls;
+#[cfg(test)]
 mod carried;
 #[cfg(test)]
 mod carried_lists;
 #[cfg(test)]
 mod carried_owned;
+#[cfg(test)]
+mod fixed_rows;
 #[cfg(test)]
 mod format_rows;
 #[cfg(test)]
@@ -22,6 +26,8 @@ mod owned_rows;
 mod plan_rows;
 #[cfg(test)]
 mod rules;
+#[cfg(test)]
+mod sink_rows;
 #[cfg(test)]
 mod slice_rows;
 #[cfg(test)]

@@ -38,7 +38,7 @@ pub struct LimitedSink {
 impl LimitedSink {
     /// A sink that takes `limit` bytes in this way.
     pub fn new(mode: Mode, limit: usize) -> LimitedSink
-        ensures { ⟦<LimitedSink as Sink>⟧.failure_count result ≡ 0 }
+        ensures { (⟦<LimitedSink as Sink>⟧.state result).failures ≡ 0 }
     {
         LimitedSink {
             mode,
@@ -62,9 +62,7 @@ impl LimitedSink {
 }
 
 impl Sink for LimitedSink {
-    ghost taken = { λ _. None };
-
-    ghost failure_count = { λ sink. sink.failed };
+    ghost state = { λ sink. record { taken = None; failures = sink.failed } };
 
     fn failures(&self) -> u64 {
         self.failed

@@ -1,13 +1,21 @@
 //! Rows of the checks, arrays and vectors, and what a refused growth answers.
 
-use crate::rules::{CASES, held, invalid};
-use crate::slice_rows::Answer;
+use crate::calls::{Answer, reads_array, reads_array_under, reads_vector};
+use crate::rules::{held, invalid, mismatch};
 use faster_hex::{
-    CheckCase, Error, hex_check, hex_check_with_case, hex_decode_array, hex_decode_array_with_case,
-    hex_decode_vec, hex_decode_vec_with_case,
+    CheckCase, Error, hex_check, hex_check_with_case, hex_decode_vec, hex_decode_vec_with_case,
 };
 use refusing_allocator::Refusing;
-use std::test::Fail;
+use std::alloc::Global;
+
+// Whether a source passes under each policy in turn, and by the call that names none.
+fn passes_as(src: &[u8], passes: [bool; 3]) -> bool {
+    let [of_any, of_lower, of_upper] = passes;
+    hex_check(src) == of_any
+        && hex_check_with_case(src, CheckCase::None) == of_any
+        && hex_check_with_case(src, CheckCase::Lower) == of_lower
+        && hex_check_with_case(src, CheckCase::Upper) == of_upper
+}
 
 // Each row: the source, and whether each policy in turn passes it.
 #[test]
@@ -23,66 +31,51 @@ fn checks_look_at_bytes_alone(rt: HostRuntime) {
         (b"00\n", [false, false, false]),
         (b"\xc3\xa9", [false, false, false]),
     ];
-    for (src, answers) in rows {
-        for (case, passes) in CASES.into_iter().zip(answers) {
-            assert_eq!(rt;
-                hex_check_with_case(src, case),
-                passes,
-                "{src:?} under {case:?}"
-            );
-            if case == CheckCase::None {
-                assert_eq!(rt; hex_check(src), passes, "{src:?}");
-            }
-        }
+    for (src, passes) in rows {
+        assert!(rt; passes_as(src, passes), "{src:?}");
     }
 }
 
 #[test]
-fn arrays_hold_the_bytes_or_are_refused(rt: HostRuntime) -> Result<(), Fail> {
-    let mismatch = Error::LengthMismatch {
-        expected: 32,
-        actual: 1,
-    };
-    assert_eq!(rt; hex_decode_array::<4>(b"0001aBff"), Ok([0, 1, 0xab, 0xff]));
-    assert_eq!(rt; hex_decode_array::<0>(b"g"), Err(Error::OddLength));
-    assert_eq!(rt;
-        hex_decode_array::<0>(b"gg"),
-        Err(Error::LengthMismatch {
-            expected: 0,
-            actual: 1
-        })
-    );
-    assert_eq!(rt; hex_decode_array::<32>(b"gg"), Err(mismatch));
-    assert_eq!(rt;
-        format!(in rt.alloc(); "{mismatch}")?.as_str(),
-        "expected 32 decoded bytes, got 1"
-    );
-    assert_eq!(rt; hex_decode_array::<1>(b"0g"), invalid(1, 0x67));
-    assert_eq!(rt; hex_decode_array::<0>(b""), Ok([]));
-    assert_eq!(rt;
-        hex_decode_array_with_case::<2>(b"ab01", CheckCase::Lower),
-        Ok([0xab, 1])
-    );
-    assert_eq!(rt;
-        hex_decode_array_with_case::<2>(b"AB01", CheckCase::Upper),
-        Ok([0xab, 1])
-    );
-    assert_eq!(rt;
-        hex_decode_array_with_case::<2>(b"01AB", CheckCase::Lower),
-        invalid(2, 0x41)
-    );
-    assert_eq!(rt;
-        hex_decode_array_with_case::<2>(b"01ab", CheckCase::Upper),
-        invalid(2, 0x61)
-    );
-    Ok(())
+fn arrays_hold_the_bytes_or_are_refused(rt: HostRuntime) {
+    assert!(rt; reads_array::<4>(b"0001aBff", Ok(&[0, 1, 0xab, 0xff])));
+    assert!(rt; reads_array::<0>(b"g", Err(Error::OddLength)));
+    assert!(rt; reads_array::<0>(b"gg", mismatch(0, 1)));
+    assert!(rt; reads_array::<32>(b"gg", mismatch(32, 1)));
+    assert!(rt; reads_array::<1>(b"0g", invalid(1, 0x67)));
+    assert!(rt; reads_array::<0>(b"", Ok(&[])));
+    let rows: [(&[u8], CheckCase, Answer<'_>); 4] = [
+        (b"ab01", CheckCase::Lower, Ok(&[0xab, 1])),
+        (b"AB01", CheckCase::Upper, Ok(&[0xab, 1])),
+        (b"01AB", CheckCase::Lower, invalid(2, 0x41)),
+        (b"01ab", CheckCase::Upper, invalid(2, 0x61)),
+    ];
+    for (src, case, answer) in rows {
+        assert!(rt;
+            reads_array_under::<2>(src, case, answer),
+            "{src:?} under {case:?}"
+        );
+    }
+}
+
+// Whether a vector answers so with no growth granted, and so with one, and asks for that one where
+// the answers differ.
+fn asks_once(alloc: Global, src: &[u8], refused: Answer<'_>, ample: Answer<'_>) -> bool {
+    let growths = if ample == refused { 0 } else { 1 };
+    let refusing = Refusing::new(alloc, 0);
+    let is_refused = held(&hex_decode_vec(&refusing, src)) == refused;
+    let is_asked_once = refusing.asked() == growths;
+    refusing.set_left(1);
+    let is_read = held(&hex_decode_vec(&refusing, src)) == ample;
+    let is_granted = refusing.left() == 1 - growths && refusing.asked() == 2 * growths;
+    is_refused && is_asked_once && is_read && is_granted && reads_vector(alloc, src, ample)
 }
 
 // Each row: the source, the answer with ample memory, and the answer where each growth is refused.
 // Where the two differ there is one growth, and it is asked for before any byte is tested.
 #[test]
 fn vectors_ask_for_their_memory_once(rt: HostRuntime) {
-    let rows: [(&[u8], Answer, Answer); 8] = [
+    let rows: [(&[u8], Answer<'_>, Answer<'_>); 8] = [
         (b"00aBff", Ok(b"\x00\xab\xff"), Err(Error::OutOfMemory)),
         (b"00", Ok(b"\x00"), Err(Error::OutOfMemory)),
         (b"0x01", invalid(1, 0x78), Err(Error::OutOfMemory)),
@@ -93,56 +86,34 @@ fn vectors_ask_for_their_memory_once(rt: HostRuntime) {
         (b"000", Err(Error::OddLength), Err(Error::OddLength)),
     ];
     for (src, ample, refused) in rows {
-        let growths = if ample == refused { 0 } else { 1 };
-        let alloc = Refusing::new(rt.alloc(), 0);
-        assert_eq!(rt;
-            held(&hex_decode_vec(&alloc, src)),
-            refused,
-            "{src:?}, no growth granted"
-        );
-        assert_eq!(rt; alloc.asked(), growths, "growths of {src:?}, none granted");
-        alloc.set_left(1);
-        assert_eq!(rt;
-            held(&hex_decode_vec(&alloc, src)),
-            ample,
-            "{src:?}, one growth granted"
-        );
-        assert_eq!(rt;
-            alloc.left(),
-            1 - growths,
-            "growths of {src:?}, one granted"
-        );
-        assert_eq!(rt;
-            alloc.asked(),
-            2 * growths,
-            "growths of {src:?}, one granted"
-        );
-        assert_eq!(rt; held(&hex_decode_vec(rt.alloc(), src)), ample, "{src:?}");
+        assert!(rt; asks_once(rt.alloc(), src, refused, ample), "{src:?}");
     }
 }
 
-// Each row: the policy, the source and the answer.
+// Whether a vector answers so with one growth granted, and asks for so many.
+fn asks(alloc: Global, src: &[u8], case: CheckCase, answer: Answer<'_>, growths: u64) -> bool {
+    let refusing = Refusing::new(alloc, 1);
+    let is_read = held(&hex_decode_vec_with_case(&refusing, src, case)) == answer;
+    is_read && refusing.asked() == growths
+}
+
+// Each row: the policy, the source, the answer, and how many growths are asked for.
 #[test]
 fn vectors_read_the_letters_of_a_policy(rt: HostRuntime) {
-    let rows: [(CheckCase, &[u8], Answer); 8] = [
-        (CheckCase::None, b"aBfF", Ok(b"\xab\xff")),
-        (CheckCase::Lower, b"abff", Ok(b"\xab\xff")),
-        (CheckCase::Upper, b"ABFF", Ok(b"\xab\xff")),
-        (CheckCase::Lower, b"aBff", invalid(1, 0x42)),
-        (CheckCase::Upper, b"ABfF", invalid(2, 0x66)),
-        (CheckCase::Upper, b"", Ok(b"")),
-        (CheckCase::Lower, b"A", Err(Error::OddLength)),
-        (CheckCase::Lower, b"0x01", invalid(1, 0x78)),
+    let rows: [(CheckCase, &[u8], Answer<'_>, u64); 8] = [
+        (CheckCase::None, b"aBfF", Ok(b"\xab\xff"), 1),
+        (CheckCase::Lower, b"abff", Ok(b"\xab\xff"), 1),
+        (CheckCase::Upper, b"ABFF", Ok(b"\xab\xff"), 1),
+        (CheckCase::Lower, b"aBff", invalid(1, 0x42), 1),
+        (CheckCase::Upper, b"ABfF", invalid(2, 0x66), 1),
+        (CheckCase::Upper, b"", Ok(b""), 0),
+        (CheckCase::Lower, b"A", Err(Error::OddLength), 0),
+        (CheckCase::Lower, b"0x01", invalid(1, 0x78), 1),
     ];
-    for (case, src, answer) in rows {
-        let alloc = Refusing::new(rt.alloc(), 1);
-        let got = hex_decode_vec_with_case(&alloc, src, case);
-        assert_eq!(rt; held(&got), answer, "{src:?} under {case:?}");
-        let growths = if src.len() == 0 || src.len() % 2 == 1 {
-            0
-        } else {
-            1
-        };
-        assert_eq!(rt; alloc.asked(), growths, "growths of {src:?} under {case:?}");
+    for (case, src, answer, growths) in rows {
+        assert!(rt;
+            asks(rt.alloc(), src, case, answer, growths),
+            "{src:?} under {case:?}"
+        );
     }
 }

@@ -1,9 +1,11 @@
 //! Rows of the plans: their names, the counted search, and the slice calls under each of them.
 
-use crate::rules::{CASES, FILL, invalid, is_filled, patterns, seen, text_of};
+ghost use Rattle.std.specs.Prelude.{◌≤◌, length};
+
+use crate::calls::{Decoder, Encoder, leaves};
+use crate::rules::{CASES, FILL, damaged, invalid, is_filled, patterns, text_of};
 use crate::slice_rows::{decodings, encodings};
-use faster_hex::hex_decode_with_case;
-use hex_core::{CheckCase, Probe, SliceProbe, backends, locate};
+use hex_core::{Backend, CheckCase, Probe, SliceProbe, backends, locate};
 use std::test::Fail;
 
 #[test]
@@ -12,6 +14,43 @@ fn plans_stand_in_their_order(rt: HostRuntime) {
     for (plan, name) in backends().into_iter().zip(names) {
         assert_eq!(rt; plan.name(), name);
     }
+}
+
+// What the search for the first fault finds under a plan, and the tests and the looks that it takes.
+fn located(plan: Backend, source: &[u8], case: CheckCase) -> (Option<usize>, usize, usize) {
+    let mut probe = SliceProbe::new(plan, source, case);
+    let place = locate(&mut probe);
+    (place, probe.tests(), probe.looks())
+}
+
+// The plan under which it is searched for otherwise.
+fn otherwise_located(
+    source: &[u8],
+    place: Option<usize>,
+    tests: usize,
+    looks: usize,
+) -> Option<&'static str> {
+    for plan in backends() {
+        for case in CASES {
+            let is_located = located(plan, source, case) == (place, tests, looks)
+                && plan.first_invalid(source, case) == place;
+            if !is_located {
+                return Some(plan.name());
+            }
+        }
+    }
+    None
+}
+
+// A source of `0` with these bytes at these places.
+fn faulty(faults: &[(usize, u8)]) -> [u8; 8192] {
+    let mut room = [b'0'; 8192];
+    for (at, byte) in faults {
+        if let Some(there) = room.get_mut(*at) {
+            *there = *byte;
+        }
+    }
+    room
 }
 
 // Each row: the length of a source of `0`, the places and bytes that are put in, and then the place
@@ -30,45 +69,24 @@ fn locates_the_first_invalid_byte_in_few_steps(rt: HostRuntime) {
         (8192, &[(65, b'!'), (8191, 0xff)], Some(65), 2, 2),
     ];
     for (len, faults, place, tests, looks) in rows {
-        let mut room = [b'0'; 8192];
-        for (at, byte) in faults {
-            if let Some(there) = room.get_mut(*at) {
-                *there = *byte;
-            }
-        }
-        let source = &room[..len.min(8192)];
-        for plan in backends() {
-            for case in CASES {
-                let mut probe = SliceProbe::new(plan, source, case);
-                assert_eq!(rt; locate(&mut probe), place, "length {len}, {faults:?}");
-                assert_eq!(rt;
-                    (probe.tests(), probe.looks()),
-                    (tests, looks),
-                    "length {len}, {faults:?}"
-                );
-                assert_eq!(rt;
-                    plan.first_invalid(source, case),
-                    place,
-                    "length {len}, {faults:?}"
-                );
-            }
-        }
+        let room = faulty(faults);
+        let source = room.get(..len).unwrap_or_default();
+        let otherwise = otherwise_located(source, place, tests, looks);
+        assert!(rt;
+            source.len() == len && otherwise.is_none(),
+            "length {len}, {faults:?}, {otherwise:?}"
+        );
     }
 }
 
 #[test]
 fn each_plan_encodes_the_rows(rt: HostRuntime) {
-    for (upper, src, answer, after) in encodings() {
+    for (upper, src, room, answer) in encodings() {
         for plan in backends() {
-            let name = plan.name();
-            let mut buffer = [FILL; 16];
-            assert!(rt; after.len() <= buffer.len());
-            let got = plan.encode_slice(src, &mut buffer[..after.len()], upper);
-            assert_eq!(rt; seen(got), answer, "{src:?} by {name}");
-            assert_eq!(rt; &buffer[..after.len()], after, "{src:?} by {name}");
             assert!(rt;
-                is_filled(&buffer[after.len()..]),
-                "behind {src:?} by {name}"
+                Encoder::By(plan, upper).encodes_at::<40>(src, 0, room, answer),
+                "{src:?} into {room} by {}",
+                plan.name()
             );
         }
     }
@@ -76,103 +94,117 @@ fn each_plan_encodes_the_rows(rt: HostRuntime) {
 
 #[test]
 fn each_plan_decodes_the_rows(rt: HostRuntime) {
-    for (case, src, answer, after) in decodings() {
+    for (case, src, room, answer) in decodings() {
         for plan in backends() {
-            let name = plan.name();
-            let mut buffer = [FILL; 40];
-            assert!(rt; after.len() <= buffer.len());
-            let got = plan.decode_slice(src, &mut buffer[..after.len()], case);
-            assert_eq!(rt; seen(got), answer, "{src:?} under {case:?} by {name}");
-            assert_eq!(rt;
-                &buffer[..after.len()],
-                after,
-                "{src:?} under {case:?} by {name}"
-            );
             assert!(rt;
-                is_filled(&buffer[after.len()..]),
-                "behind {src:?} by {name}"
+                Decoder::By(plan, case).decodes_at::<40>(src, 0, room, answer),
+                "{src:?} into {room} under {case:?} by {}",
+                plan.name()
             );
         }
     }
+}
+
+// The plan that does not name the first of two faults, or one of the call and the plans does not.
+fn names_first_fault(source: &[u8; 8192], case: CheckCase) -> bool {
+    let refusal = invalid(65, b'!');
+    for plan in backends() {
+        if !Decoder::By(plan, case).decodes::<4096>(source, refusal) {
+            return false;
+        }
+    }
+    Decoder::Under(case).decodes::<4096>(source, refusal)
 }
 
 #[test]
 fn names_the_first_of_two_invalid_bytes_in_a_long_source(rt: HostRuntime) {
-    let mut source = [b'0'; 8192];
-    source[65] = b'!';
-    source[8191] = 0xff;
-    let refusal = invalid(65, 0x21);
-    let mut buffer = [FILL; 4096];
+    let source = faulty(&[(65, b'!'), (8191, 0xff)]);
     for case in CASES {
-        let got = hex_decode_with_case(&source, &mut buffer, case);
-        assert_eq!(rt; seen(got), refusal, "under {case:?}");
-        assert!(rt; is_filled(&buffer), "under {case:?}");
-        for plan in backends() {
-            let name = plan.name();
-            let got = plan.decode_slice(&source, &mut buffer, case);
-            assert_eq!(rt; seen(got), refusal, "under {case:?} by {name}");
-            assert!(rt; is_filled(&buffer), "under {case:?} by {name}");
-        }
+        assert!(rt; names_first_fault(&source, case), "under {case:?}");
     }
+}
+
+// Whether a plan refuses a source, and leaves its destination as it was filled.
+fn refuses(plan: Backend, source: &[u8; 64], case: CheckCase) -> bool {
+    let mut buffer = [FILL; 32];
+    let refusal = invalid(1, 0xff);
+    !plan.check(source, case)
+        && !plan.decode(source, &mut buffer, case)
+        && is_filled(&buffer)
+        && Decoder::By(plan, case).decodes::<32>(source, refusal)
 }
 
 #[test]
 fn refuses_a_byte_past_ascii_between_digits(rt: HostRuntime) {
-    let mut source = [b'7'; 64];
-    source[1] = 0xff;
+    let source = damaged::<64>(b'7', 1, 0xff);
     for plan in backends() {
         for case in CASES {
-            let name = plan.name();
-            let mut buffer = [FILL; 32];
-            assert!(rt; !plan.check(&source, case), "{name}");
-            assert!(rt; !plan.decode(&source, &mut buffer, case), "{name}");
-            assert!(rt; is_filled(&buffer), "{name}");
-            let refusal = invalid(1, 0xff);
-            assert_eq!(rt;
-                seen(plan.decode_slice(&source, &mut buffer, case)),
-                refusal,
-                "{name}"
-            );
-            assert!(rt; is_filled(&buffer), "{name}");
+            assert!(rt; refuses(plan, &source, case), "{case:?} by {}", plan.name());
         }
     }
 }
 
-#[test]
-fn each_plan_reads_back_what_it_writes(rt: HostRuntime) -> Result<(), Fail> {
-    let bytes = patterns::<257>();
-    for (upper, case) in [(false, CheckCase::Lower), (true, CheckCase::Upper)] {
-        let whole = text_of(rt.alloc(), &bytes, upper)?;
-        let whole = whole.as_slice();
-        assert_eq!(rt; whole.len(), 514);
-        for plan in backends() {
-            let name = plan.name();
-            for len in 0..258 {
-                let src = &bytes[..len];
-                let text = &whole[..2 * len];
-                let mut written = [FILL; 530];
-                plan.encode(src, &mut written[..2 * len], upper);
-                assert_eq!(rt; &written[..2 * len], text, "length {len} by {name}");
-                assert!(rt;
-                    is_filled(&written[2 * len..]),
-                    "behind length {len} by {name}"
-                );
-                for read in [case, CheckCase::None] {
-                    assert!(rt; plan.check(text, read), "length {len} by {name}");
-                    let mut buffer = [FILL; 270];
-                    assert!(rt;
-                        plan.decode(text, &mut buffer[..len], read),
-                        "length {len} by {name}"
-                    );
-                    assert_eq!(rt; &buffer[..len], src, "length {len} by {name}");
-                    assert!(rt; is_filled(&buffer[len..]), "behind length {len} by {name}");
-                }
-            }
+// Whether a plan writes this text of these bytes, and nothing else.
+fn writes(plan: Backend, bytes: &[u8], text: &[u8], upper: bool) -> bool
+    requires { length bytes.now ≤ 257 }
+{
+    let mut buffer = [FILL; 530];
+    plan.encode(bytes, &mut buffer[..2 * bytes.len()], upper);
+    leaves(&buffer, text)
+}
+
+// Whether a plan reads these bytes from this text, and nothing else.
+fn reads(plan: Backend, text: &[u8], bytes: &[u8], case: CheckCase) -> bool
+    requires { length bytes.now ≤ 257 }
+{
+    let mut buffer = [FILL; 270];
+    let dst = &mut buffer[..bytes.len()];
+    if text.len() != 2 * dst.len() || !plan.check(text, case) || !plan.decode(text, dst, case) {
+        return false;
+    }
+    leaves(&buffer, bytes)
+}
+
+// The length at which a plan does not read back what it writes of a list's front.
+fn unread_length(plan: Backend, list: &[u8; 257], text: &[u8], upper: bool) -> Option<usize> {
+    let case = if upper {
+        CheckCase::Upper
+    } else {
+        CheckCase::Lower
+    };
+    for len in 0..258usize {
+        let bytes = &list[..len];
+        let text = text.get(..2 * len).unwrap_or_default();
+        let is_read_back = writes(plan, bytes, text, upper)
+            && reads(plan, text, bytes, case)
+            && reads(plan, text, bytes, CheckCase::None);
+        if !is_read_back {
+            return Some(len);
         }
     }
+    None
+}
+
+#[test]
+fn each_plan_reads_back_what_it_writes(rt: HostRuntime) -> Result<(), Fail> {
+    let list = patterns::<257>();
+    let lower = text_of(rt.alloc(), &list, false)?;
+    let upper = text_of(rt.alloc(), &list, true)?;
+    for plan in backends() {
+        let name = plan.name();
+        assert_eq!(rt;
+            unread_length(plan, &list, &lower, false),
+            None,
+            "lower by {name}"
+        );
+        assert_eq!(rt;
+            unread_length(plan, &list, &upper, true),
+            None,
+            "upper by {name}"
+        );
+    }
     // The list and its text are these, so that both are what the plans were meant to be given.
-    let text = text_of(rt.alloc(), &bytes, false)?;
-    assert!(rt; text.starts_with(b"004992db246db600"));
-    assert!(rt; text.ends_with(b"24"));
+    assert!(rt; lower.len() == 514 && lower.starts_with(b"004992db246db600"));
+    assert!(rt; lower.ends_with(b"24"));
     Ok(())
 }

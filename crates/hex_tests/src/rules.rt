@@ -1,7 +1,10 @@
 //! What the tests expect, by the rules themselves and not by the calls that are tested.
 
+ghost use Rattle.std.specs.Prelude.{◌<◌};
+
 use hex_core::{CheckCase, Error};
 use std::alloc::{AllocError, Allocator, Global};
+use std::mem;
 
 /// What a test fills its destinations with.
 pub const FILL: u8 = 0xa5;
@@ -28,8 +31,11 @@ pub fn text_of(alloc: Global, bytes: &[u8], upper: bool) -> Result<Vec<u8>, Allo
     };
     let mut text = Vec::new(alloc);
     for byte in bytes {
-        text.push(letters[usize::from(*byte / 16)])?;
-        text.push(letters[usize::from(*byte % 16)])?;
+        let pair = [
+            letters[usize::from(*byte / 16)],
+            letters[usize::from(*byte % 16)],
+        ];
+        text.extend_from_slice(&pair)?;
     }
     Ok(text)
 }
@@ -42,6 +48,11 @@ pub fn invalid<T>(index: usize, byte: u8) -> Result<T, Error> {
 /// The refusal that names this room.
 pub fn too_small<T>(required: usize) -> Result<T, Error> {
     Err(Error::OutputTooSmall { required })
+}
+
+/// The refusal of another number of bytes than an array has.
+pub fn mismatch<T>(expected: usize, actual: usize) -> Result<T, Error> {
+    Err(Error::LengthMismatch { expected, actual })
 }
 
 /// What a slice call answered, to be read alone.
@@ -57,6 +68,32 @@ pub fn held<A: Allocator>(got: &Result<Vec<u8, A>, Error>) -> Result<&[u8], Erro
     match got {
         Ok(bytes) => Ok(bytes.as_slice()),
         Err(e) => Err(*e),
+    }
+}
+
+/// What a call of an array answered, to be read alone.
+pub fn array_held<const N: usize>(got: &Result<[u8; N], Error>) -> Result<&[u8], Error>
+    requires { N < 10000 }
+{
+    match got {
+        Ok(bytes) => Ok(bytes.as_slice()),
+        Err(e) => Err(*e),
+    }
+}
+
+/// What a call of a string answered, to be read alone.
+pub fn text_held<A: Allocator>(got: &Result<String<A>, Error>) -> Result<&str, Error> {
+    match got {
+        Ok(text) => Ok(text.as_str()),
+        Err(e) => Err(*e),
+    }
+}
+
+/// Puts a byte at a place, and answers the one that was there.
+pub fn swapped(list: &mut [u8], place: usize, byte: u8) -> u8 {
+    match list.get_mut(place) {
+        Some(there) => mem::replace(there, byte),
+        None => byte,
     }
 }
 
@@ -91,6 +128,28 @@ pub fn digits<const N: usize>() -> [u8; N] {
         *byte = digit(i);
     }
     list
+}
+
+/// A source of one digit, but for another byte at a place.
+pub fn damaged<const N: usize>(digit: u8, place: usize, byte: u8) -> [u8; N]
+    requires { N < 10000 }
+{
+    let mut source = [digit; N];
+    if let Some(there) = source.get_mut(place) {
+        *there = byte;
+    }
+    source
+}
+
+/// A filled buffer that holds these bytes at a place.
+pub fn placed<const N: usize>(at: usize, bytes: &[u8]) -> [u8; N]
+    requires { N < 10000 }
+{
+    let mut buffer = [FILL; N];
+    for (there, byte) in buffer.iter_mut().skip(at).zip(bytes) {
+        *there = *byte;
+    }
+    buffer
 }
 
 /// The first byte that a policy does not read, with its place.

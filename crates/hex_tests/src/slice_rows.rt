@@ -1,136 +1,101 @@
 //! Rows of the slice calls: what each answers, and its whole destination afterwards.
 
-use crate::rules::{CASES, FILL, invalid, is_filled, seen, too_small, value};
-use faster_hex::{
-    CheckCase, Error, digit_value, hex_decode, hex_decode_into, hex_decode_with_case, hex_encode,
-    hex_encode_into, hex_encode_upper,
-};
+use crate::calls::{Answer, Decoder, Encoder, decodes_into, encodes_into};
+use crate::rules::{CASES, invalid, swapped, too_small, value};
+use faster_hex::{CheckCase, Error, digit_value, hex_decode, hex_encode_upper};
 use std::hash::{DefaultHasher, Hash, Hasher};
 use std::test::Fail;
 
-/// What a slice call answers: the written front, or the refusal.
-pub type Answer = Result<&'static [u8], Error>;
+/// A row of encoding: whether the digits are uppercase, the source, the length of the destination,
+/// and the answer. The destination ends as the answer and, behind it, as it was filled.
+pub type Encoding = (bool, &'static [u8], usize, Answer<'static>);
 
-/// A row of encoding: whether the digits are uppercase, the source, the answer, and the whole
-/// destination afterwards.
-pub type Encoding = (bool, &'static [u8], Answer, &'static [u8]);
+/// A row of decoding: the policy, the source, the length of the destination, and the answer. The
+/// destination ends as the answer and, behind it, as it was filled.
+pub type Decoding = (CheckCase, &'static [u8], usize, Answer<'static>);
 
-/// A row of decoding: the policy, the source, the answer, and the whole destination afterwards.
-pub type Decoding = (CheckCase, &'static [u8], Answer, &'static [u8]);
-
-/// The rows of encoding. The destination is filled with 0xa5 before.
+/// The rows of encoding.
 pub fn encodings() -> [Encoding; 8] {
     [
-        (false, b"hello", Ok(b"68656c6c6f"), b"68656c6c6f"),
-        (true, b"\x00\xab\xff", Ok(b"00ABFF"), b"00ABFF"),
-        (false, b"\xab\xcd", too_small(4), &[0xa5; 3]),
-        (true, b"\xab\xcd", too_small(4), &[0xa5; 3]),
-        (false, b"\xab", too_small(2), b""),
-        (false, b"\x00\x0f", Ok(b"000f"), b"000f\xa5\xa5\xa5"),
-        (true, b"", Ok(b""), &[0xa5; 5]),
-        (false, b"", Ok(b""), b""),
+        (false, b"hello", 10, Ok(b"68656c6c6f")),
+        (true, b"\x00\xab\xff", 6, Ok(b"00ABFF")),
+        (false, b"\xab\xcd", 3, too_small(4)),
+        (true, b"\xab\xcd", 3, too_small(4)),
+        (false, b"\xab", 0, too_small(2)),
+        (false, b"\x00\x0f", 7, Ok(b"000f")),
+        (true, b"", 5, Ok(b"")),
+        (false, b"", 0, Ok(b"")),
     ]
 }
 
-/// The rows of decoding. The destination is filled with 0xa5 before.
+/// The rows of decoding.
 pub fn decodings() -> [Decoding; 15] {
     [
-        (
-            CheckCase::None,
-            b"00aBcD",
-            Ok(b"\x00\xab\xcd"),
-            b"\x00\xab\xcd\xa5\xa5",
-        ),
-        (CheckCase::Lower, b"00ab", Ok(b"\x00\xab"), b"\x00\xab\xa5"),
-        (CheckCase::Upper, b"00AB", Ok(b"\x00\xab"), b"\x00\xab\xa5"),
-        (CheckCase::None, b"00ff0g", invalid(5, 0x67), &[0xa5; 3]),
-        (CheckCase::None, b"g", Err(Error::OddLength), &[0xa5; 32]),
-        (CheckCase::None, b"g", Err(Error::OddLength), b""),
-        (CheckCase::None, b"gg", too_small(1), b""),
-        (CheckCase::None, b"gg", invalid(0, 0x67), &[0xa5; 32]),
-        (CheckCase::None, b"\xc3\xa9", invalid(0, 0xc3), &[0xa5; 4]),
-        (CheckCase::None, b"0A0bg!ff", invalid(4, 0x67), &[0xa5; 4]),
-        (CheckCase::Lower, b"0A0bg!ff", invalid(1, 0x41), &[0xa5; 4]),
-        (CheckCase::Upper, b"0A0bg!ff", invalid(3, 0x62), &[0xa5; 4]),
-        (CheckCase::None, b"", Ok(b""), &[0xa5; 5]),
-        (CheckCase::Lower, b"", Ok(b""), b""),
-        (CheckCase::Upper, b"", Ok(b""), &[0xa5; 1]),
+        (CheckCase::None, b"00aBcD", 5, Ok(b"\x00\xab\xcd")),
+        (CheckCase::Lower, b"00ab", 3, Ok(b"\x00\xab")),
+        (CheckCase::Upper, b"00AB", 3, Ok(b"\x00\xab")),
+        (CheckCase::None, b"00ff0g", 3, invalid(5, 0x67)),
+        (CheckCase::None, b"g", 32, Err(Error::OddLength)),
+        (CheckCase::None, b"g", 0, Err(Error::OddLength)),
+        (CheckCase::None, b"gg", 0, too_small(1)),
+        (CheckCase::None, b"gg", 32, invalid(0, 0x67)),
+        (CheckCase::None, b"\xc3\xa9", 4, invalid(0, 0xc3)),
+        (CheckCase::None, b"0A0bg!ff", 4, invalid(4, 0x67)),
+        (CheckCase::Lower, b"0A0bg!ff", 4, invalid(1, 0x41)),
+        (CheckCase::Upper, b"0A0bg!ff", 4, invalid(3, 0x62)),
+        (CheckCase::None, b"", 5, Ok(b"")),
+        (CheckCase::Lower, b"", 0, Ok(b"")),
+        (CheckCase::Upper, b"", 1, Ok(b"")),
     ]
 }
 
 #[test]
 fn encoding_writes_the_front_or_nothing(rt: HostRuntime) {
-    for (upper, src, answer, after) in encodings() {
-        let mut buffer = [FILL; 16];
-        assert!(rt; after.len() <= buffer.len());
-        let dst = &mut buffer[..after.len()];
-        let got = if upper {
-            hex_encode_upper(src, dst)
-        } else {
-            hex_encode(src, dst)
-        };
-        assert_eq!(rt; seen(got), answer, "{src:?}, upper {upper}");
-        assert_eq!(rt; &buffer[..after.len()], after, "{src:?}, upper {upper}");
-        assert!(rt; is_filled(&buffer[after.len()..]), "behind {src:?}");
-        let mut buffer = [FILL; 16];
-        let got = hex_encode_into(src, &mut buffer[..after.len()], upper);
-        assert_eq!(rt;
-            got,
-            answer.map(|text| text.len()),
-            "{src:?}, upper {upper}, without a loan"
-        );
-        assert_eq!(rt;
-            &buffer[..after.len()],
-            after,
-            "{src:?}, upper {upper}, without a loan"
+    for (upper, src, room, answer) in encodings() {
+        let encoder = Encoder::Plain(upper);
+        assert!(rt;
+            encoder.encodes_at::<40>(src, 0, room, answer)
+                && encodes_into(src, room, upper, answer),
+            "{src:?} into {room}, upper {upper}"
         );
     }
 }
 
 #[test]
 fn decoding_writes_the_front_or_nothing(rt: HostRuntime) {
-    for (case, src, answer, after) in decodings() {
-        let mut buffer = [FILL; 40];
-        assert!(rt; after.len() <= buffer.len());
-        let got = hex_decode_with_case(src, &mut buffer[..after.len()], case);
-        assert_eq!(rt; seen(got), answer, "{src:?} under {case:?}");
-        assert_eq!(rt; &buffer[..after.len()], after, "{src:?} under {case:?}");
-        assert!(rt; is_filled(&buffer[after.len()..]), "behind {src:?}");
-        let mut buffer = [FILL; 40];
-        let got = hex_decode_into(src, &mut buffer[..after.len()], case);
-        assert_eq!(rt;
-            got,
-            answer.map(|bytes| bytes.len()),
-            "{src:?} under {case:?}, without a loan"
+    for (case, src, room, answer) in decodings() {
+        let is_plain = case == CheckCase::None;
+        assert!(rt;
+            Decoder::Under(case).decodes_at::<40>(src, 0, room, answer)
+                && decodes_into(src, room, case, answer)
+                && (!is_plain || Decoder::Plain.decodes_at::<40>(src, 0, room, answer)),
+            "{src:?} into {room} under {case:?}"
         );
-        assert_eq!(rt;
-            &buffer[..after.len()],
-            after,
-            "{src:?} under {case:?}, without a loan"
-        );
-        if case == CheckCase::None {
-            let mut buffer = [FILL; 40];
-            let got = hex_decode(src, &mut buffer[..after.len()]);
-            assert_eq!(rt; seen(got), answer, "{src:?}");
-            assert_eq!(rt; &buffer[..after.len()], after, "{src:?}");
-        }
     }
 }
 
+// Whether a call answers these bytes. Puts a byte at a place of the answer.
+fn answers_and_marks(got: Result<&mut [u8], Error>, want: &[u8], place: usize, byte: u8) -> bool {
+    let Ok(front) = got else {
+        return false;
+    };
+    let is_answered = &*front == want;
+    swapped(front, place, byte);
+    is_answered
+}
+
 #[test]
-fn a_write_through_the_answer_stays_in_the_front(rt: HostRuntime) -> Result<(), Fail> {
+fn a_write_through_the_answer_stays_in_the_front(rt: HostRuntime) {
     let mut buffer = [0xa5; 5];
-    let front = hex_decode(b"00aBcD", &mut buffer)?;
-    assert_eq!(rt; &*front, [0, 0xab, 0xcd].as_slice());
-    front[0] = 0xff;
-    assert_eq!(rt; buffer, [0xff, 0xab, 0xcd, 0xa5, 0xa5]);
-    let front = hex_encode_upper(b"\xab\xcd", &mut buffer)?;
-    assert_eq!(rt; &*front, b"ABCD".as_slice());
-    front[3] = b'-';
-    assert_eq!(rt; &buffer, b"ABC-\xa5");
-    hex_decode(b"", &mut buffer)?.fill(0);
-    assert_eq!(rt; &buffer, b"ABC-\xa5");
-    Ok(())
+    let got = hex_decode(b"00aBcD", &mut buffer);
+    assert!(rt; answers_and_marks(got, &[0, 0xab, 0xcd], 0, 0xff));
+    assert!(rt; buffer == [0xff, 0xab, 0xcd, 0xa5, 0xa5]);
+    let got = hex_encode_upper(b"\xab\xcd", &mut buffer);
+    assert!(rt; answers_and_marks(got, b"ABCD", 3, b'-'));
+    assert!(rt; buffer == *b"ABC-\xa5");
+    let got = hex_decode(b"", &mut buffer);
+    assert!(rt; answers_and_marks(got, b"", 0, 0));
+    assert!(rt; buffer == *b"ABC-\xa5");
 }
 
 #[test]

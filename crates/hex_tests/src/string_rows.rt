@@ -1,64 +1,41 @@
-//! Strings, appends and texts of a fixed capacity.
+//! Strings and appends.
 
-ghost use Rattle.std.specs.Prelude.{◌<◌, ◌≤◌};
-
+use crate::rules::{patterns, text_held, text_of};
 use faster_hex::{
-    Error, heapless_08, hex_append, hex_append_into, hex_append_upper, hex_string, hex_string_upper,
+    Error, hex_append, hex_append_into, hex_append_upper, hex_string, hex_string_upper,
 };
 use refusing_allocator::Refusing;
 use std::alloc::{AllocError, Global};
-use std::process::Abort;
+use std::test::Fail;
 
-const LOWER: &[u8; 16] = b"0123456789abcdef";
-
-const UPPER: &[u8; 16] = b"0123456789ABCDEF";
-
-// A list with no short period: `i * 73 + i / 7`, modulo 256, at each place `i`.
-fn list() -> [u8; 600] {
-    let mut bytes = [0; 600];
-    for i in 0..600 {
-        bytes[i] = ((i * 73 + i / 7) % 256) as u8;
-    }
-    bytes
+// Whether both string calls and an append write these digits of some bytes.
+fn is_written(alloc: Global, bytes: &[u8], lower: &str, upper: &str) -> bool {
+    text_held(&hex_string(alloc, bytes)) == Ok(lower)
+        && text_held(&hex_string_upper(alloc, bytes)) == Ok(upper)
 }
 
-// The digits of `bytes`, a letter at a time.
-fn spelled(alloc: Global, letters: &[u8; 16], bytes: &[u8]) -> Result<String, AllocError> {
-    let mut text = String::new(alloc);
-    for byte in bytes {
-        text.push(letters[(*byte / 16) as usize] as char)?;
-        text.push(letters[(*byte % 16) as usize] as char)?;
-    }
-    Ok(text)
+// Whether an append writes these digits of some bytes behind a text.
+fn is_appended(alloc: Global, bytes: &[u8], lower: &str) -> Result<bool, AllocError> {
+    let mut text = String::from_str(alloc, "前缀:")?;
+    let is_appended = hex_append_into(bytes, &mut text, false) == Ok(());
+    Ok(is_appended && text.as_str().strip_prefix("前缀:") == Some(lower))
 }
 
 #[test]
-fn strings_hold_the_digits_of_lists_of_every_length(rt: HostRuntime) -> Result<(), AllocError> {
+fn strings_hold_the_digits_of_lists_of_every_length(rt: HostRuntime) -> Result<(), Fail> {
     let alloc = rt.alloc();
-    let list = list();
-    assert_eq!(rt;
-        spelled(alloc, LOWER, &list[..8])?.as_str(),
-        "004992db246db600"
-    );
+    let list = patterns::<600>();
+    let lower = text_of(alloc, &list, false)?;
+    let upper = text_of(alloc, &list, true)?;
+    let lower = str::from_utf8(&lower)?;
+    let upper = str::from_utf8(&upper)?;
+    assert!(rt; lower.starts_with("004992db246db600"));
     for len in 0..600 {
         let bytes = &list[..len];
-        let lower = spelled(alloc, LOWER, bytes)?;
-        let upper = spelled(alloc, UPPER, bytes)?;
-        assert!(rt;
-            hex_string(alloc, bytes).is_ok_and(|text| text == lower),
-            "lower at {len}"
-        );
-        assert!(rt;
-            hex_string_upper(alloc, bytes).is_ok_and(|text| text == upper),
-            "upper at {len}"
-        );
-        let mut text = String::from_str(alloc, "前缀:")?;
-        assert_eq!(rt;
-            hex_append_into(bytes, &mut text, false),
-            Ok(()),
-            "append at {len}"
-        );
-        assert_eq!(rt; text, format!(in alloc; "前缀:{lower}")?, "append at {len}");
+        let lower = lower.get(..2 * len).ok_or("digits")?;
+        let upper = upper.get(..2 * len).ok_or("digits")?;
+        assert!(rt; is_written(alloc, bytes, lower, upper), "at {len}");
+        assert!(rt; is_appended(alloc, bytes, lower)?, "append at {len}");
     }
     Ok(())
 }
@@ -76,70 +53,47 @@ fn strings_of_rows(rt: HostRuntime) {
         ),
     ];
     for (bytes, lower, upper) in rows {
-        let alloc = rt.alloc();
-        assert!(rt;
-            hex_string(alloc, bytes).is_ok_and(|text| text.as_str() == lower),
-            "{lower}"
-        );
-        assert!(rt;
-            hex_string_upper(alloc, bytes).is_ok_and(|text| text.as_str() == upper),
-            "{upper}"
-        );
+        assert!(rt; is_written(rt.alloc(), bytes, lower, upper), "{lower}");
     }
 }
 
-// What a string call answers where `granted` growths are granted, and how many it asks for.
-#[derive(Drop)]
-struct StringRow {
-    source: &'static [u8],
+// Whether a string call answers so where `granted` growths are granted, and asks for so many.
+fn is_string_of(
+    alloc: Global,
+    source: &[u8],
     granted: u64,
-    answer: Result<&'static str, Error>,
+    answer: Result<&str, Error>,
     asked: u64,
+) -> bool {
+    let refusing = Refusing::new(alloc, granted);
+    let is_answered = text_held(&hex_string(&refusing, source)) == answer;
+    is_answered && refusing.asked() == asked
 }
 
+// Whether the text of these bytes takes its memory once, and no more than it needs.
+fn takes_its_length(alloc: Global, source: &[u8; 600]) -> bool {
+    let refusing = Refusing::new(alloc, 1);
+    let is_exact = match hex_string_upper(&refusing, source) {
+        Ok(text) => text.len() == 1200 && text.capacity() == 1200,
+        Err(_) => false,
+    };
+    is_exact && refusing.asked() == 1
+}
+
+// Each row: the source, how many growths are granted, the answer, and how many it asks for.
 #[test]
 fn strings_take_their_memory_once(rt: HostRuntime) {
-    let rows = [
-        StringRow {
-            source: &[],
-            granted: 0,
-            answer: Ok(""),
-            asked: 0,
-        },
-        StringRow {
-            source: &[0xab],
-            granted: 0,
-            answer: Err(Error::OutOfMemory),
-            asked: 1,
-        },
-        StringRow {
-            source: &[0xab],
-            granted: 1,
-            answer: Ok("ab"),
-            asked: 1,
-        },
-        StringRow {
-            source: &[0; 600],
-            granted: 0,
-            answer: Err(Error::OutOfMemory),
-            asked: 1,
-        },
+    let rows: [(&[u8], u64, Result<&str, Error>, u64); 4] = [
+        (&[], 0, Ok(""), 0),
+        (&[0xab], 0, Err(Error::OutOfMemory), 1),
+        (&[0xab], 1, Ok("ab"), 1),
+        (&[0; 600], 0, Err(Error::OutOfMemory), 1),
     ];
-    for row in rows {
-        let alloc = Refusing::new(rt.alloc(), row.granted);
-        match (hex_string(&alloc, row.source), row.answer) {
-            (Ok(text), Ok(want)) => assert_eq!(rt; text.as_str(), want),
-            (Err(e), Err(want)) => assert_eq!(rt; e, want),
-            _ => panic!(rt; "another answer"),
-        }
-        assert_eq!(rt; alloc.asked(), row.asked);
+    for (source, granted, answer, asked) in rows {
+        let is_string = is_string_of(rt.alloc(), source, granted, answer, asked);
+        assert!(rt; is_string, "{source:?}, {granted} granted");
     }
-    let alloc = Refusing::new(rt.alloc(), 1);
-    match hex_string_upper(&alloc, &[0xcd; 600]) {
-        Ok(text) => assert_eq!(rt; (text.len(), text.capacity()), (1200, 1200)),
-        Err(e) => panic!(rt; "{e}"),
-    }
-    assert_eq!(rt; alloc.asked(), 1);
+    assert!(rt; takes_its_length(rt.alloc(), &[0xcd; 600]));
 }
 
 // An append onto `text`, in a string of `capacity` bytes, where `granted` more growths are granted:
@@ -157,7 +111,7 @@ struct AppendRow {
     asked: u64,
 }
 
-const APPENDS: [AppendRow; 9] = [
+static APPENDS: [AppendRow; 9] = [
     AppendRow {
         text: "前缀:",
         capacity: 256,
@@ -250,148 +204,86 @@ const APPENDS: [AppendRow; 9] = [
     },
 ];
 
+// Appends in one of the two letter cases.
+fn append<'a>(
+    source: &[u8],
+    text: &'a mut String<&Refusing<Global>>,
+    upper: bool,
+) -> Result<&'a str, Error> {
+    if upper {
+        hex_append_upper(source, text)
+    } else {
+        hex_append(source, text)
+    }
+}
+
+// Whether the call that lends the suffix does what a row says.
+fn is_row_appended(alloc: Global, row: &'static AppendRow) -> Result<bool, AllocError> {
+    let refusing = Refusing::new(alloc, 1);
+    let mut text = String::with_capacity(&refusing, row.capacity)?;
+    text.push_str(row.text)?;
+    let before = refusing.asked();
+    refusing.set_left(row.granted);
+    let is_answered = append(row.source, &mut text, row.upper) == row.answer;
+    let asked = refusing.asked().wrapping_sub(before);
+    Ok(is_answered && text.as_str() == row.after && asked == row.asked)
+}
+
+// Whether the call that lends nothing does.
+fn is_row_appended_plainly(alloc: Global, row: &'static AppendRow) -> Result<bool, AllocError> {
+    let refusing = Refusing::new(alloc, 1);
+    let mut text = String::with_capacity(&refusing, row.capacity)?;
+    text.push_str(row.text)?;
+    refusing.set_left(row.granted);
+    let answer = hex_append_into(row.source, &mut text, row.upper);
+    Ok(answer.err() == row.answer.err() && text.as_str() == row.after)
+}
+
 #[test]
-fn appends_of_rows(rt: HostRuntime) -> Result<(), AllocError> {
-    for (i, row) in APPENDS.iter().enumerate() {
-        let alloc = Refusing::new(rt.alloc(), 1);
-        let mut text = String::with_capacity(&alloc, row.capacity)?;
-        text.push_str(row.text)?;
-        let before = alloc.asked();
-        alloc.set_left(row.granted);
-        let answer = if row.upper {
-            hex_append_upper(row.source, &mut text)
-        } else {
-            hex_append(row.source, &mut text)
-        };
-        assert!(rt; answer == row.answer, "at {i}");
-        assert_eq!(rt; text.as_str(), row.after, "at {i}");
-        assert_eq!(rt; alloc.asked().wrapping_sub(before), row.asked, "at {i}");
+fn appends_of_rows(rt: HostRuntime) -> Result<(), Fail> {
+    let rows: &'static [AppendRow] = &APPENDS;
+    for (i, row) in rows.iter().enumerate() {
+        assert!(rt; is_row_appended(rt.alloc(), row)?, "at {i}");
     }
     Ok(())
 }
 
 #[test]
-fn plain_appends_of_rows(rt: HostRuntime) -> Result<(), AllocError> {
-    for (i, row) in APPENDS.iter().enumerate() {
-        let alloc = Refusing::new(rt.alloc(), 1);
-        let mut text = String::with_capacity(&alloc, row.capacity)?;
-        text.push_str(row.text)?;
-        alloc.set_left(row.granted);
-        let answer = hex_append_into(row.source, &mut text, row.upper);
-        assert_eq!(rt; answer.err(), row.answer.err(), "at {i}");
-        assert_eq!(rt; text.as_str(), row.after, "at {i}");
+fn plain_appends_of_rows(rt: HostRuntime) -> Result<(), Fail> {
+    let rows: &'static [AppendRow] = &APPENDS;
+    for (i, row) in rows.iter().enumerate() {
+        assert!(rt; is_row_appended_plainly(rt.alloc(), row)?, "at {i}");
     }
     Ok(())
 }
 
 #[test]
-fn appends_follow_one_another(rt: HostRuntime) -> Result<(), AllocError> {
-    let alloc = Refusing::new(rt.alloc(), 1);
-    let mut text = String::with_capacity(&alloc, 256)?;
+fn appends_follow_one_another(rt: HostRuntime) -> Result<(), Fail> {
+    let refusing = Refusing::new(rt.alloc(), 1);
+    let mut text = String::with_capacity(&refusing, 256)?;
     text.push_str("前缀:")?;
     let lower = "abababababababababababababababababababababababababababababababab";
     let upper = "CDCDCDCDCDCDCDCDCDCDCDCDCDCDCDCDCDCDCDCDCDCDCDCDCDCDCDCDCDCDCDCD";
-    assert!(rt; hex_append(&[0xab; 32], &mut text) == Ok(lower));
-    assert_eq!(rt; text.len(), 71);
-    assert!(rt; hex_append_upper(&[0xcd; 32], &mut text) == Ok(upper));
-    assert!(rt; hex_append(&[], &mut text) == Ok(""));
-    assert_eq!(rt;
-        text.as_str(),
-        format!(in rt.alloc(); "前缀:{lower}{upper}")?.as_str()
-    );
-    assert_eq!(rt; alloc.asked(), 1);
+    assert!(rt; append(&[0xab; 32], &mut text, false) == Ok(lower));
+    assert!(rt; text.len() == 71);
+    assert!(rt; append(&[0xcd; 32], &mut text, true) == Ok(upper));
+    assert!(rt; append(&[], &mut text, false) == Ok(""));
+    let after = format!(in rt.alloc(); "前缀:{lower}{upper}")?;
+    assert!(rt; text.as_str() == after.as_str() && refusing.asked() == 1);
     Ok(())
 }
 
 #[test]
-fn an_append_of_several_pieces_grows_once(rt: HostRuntime) -> Result<(), AllocError> {
-    let list = list();
-    let digits = spelled(rt.alloc(), LOWER, &list)?;
-    let alloc = Refusing::new(rt.alloc(), 2);
-    let mut text = String::from_str(&alloc, "prefix:")?;
-    let before = alloc.asked();
-    assert!(rt; hex_append(&list, &mut text) == Ok(digits.as_str()));
-    assert_eq!(rt; alloc.asked().wrapping_sub(before), 1);
-    assert_eq!(rt;
-        text.as_str(),
-        format!(in rt.alloc(); "prefix:{digits}")?.as_str()
-    );
-    assert_eq!(rt; (text.len(), text.capacity()), (1207, 1207));
+fn an_append_of_several_pieces_grows_once(rt: HostRuntime) -> Result<(), Fail> {
+    let list = patterns::<600>();
+    let digits = text_of(rt.alloc(), &list, false)?;
+    let digits = str::from_utf8(&digits)?;
+    let refusing = Refusing::new(rt.alloc(), 2);
+    let mut text = String::from_str(&refusing, "prefix:")?;
+    let before = refusing.asked();
+    assert!(rt; append(&list, &mut text, false) == Ok(digits));
+    assert!(rt; refusing.asked().wrapping_sub(before) == 1);
+    assert!(rt; text.as_str().strip_prefix("prefix:") == Some(digits));
+    assert!(rt; text.len() == 1207 && text.capacity() == 1207);
     Ok(())
-}
-
-#[test]
-fn fixed_texts_of_rows(rt: HostRuntime) {
-    assert!(rt; heapless_08::hex_string::<4>(&[0xab, 1]).is_ok_and(|text| text.as_str() == "ab01"));
-    assert!(rt; heapless_08::hex_string::<0>(&[]).is_ok_and(|text| text.as_str() == ""));
-    assert!(rt; heapless_08::hex_string::<8>(&[0xab]).is_ok_and(|text| text.as_str() == "ab"));
-    assert!(rt;
-        heapless_08::hex_string_upper::<2>(&[0xab]).is_ok_and(|text| text.as_str() == "AB")
-    );
-    let small = [
-        (heapless_08::hex_string::<3>(&[0xab, 1]).err(), 4),
-        (heapless_08::hex_string::<1>(&[0xab]).err(), 2),
-        (heapless_08::hex_string_upper::<0>(&[0xab]).err(), 2),
-    ];
-    for (error, required) in small {
-        assert_eq!(rt; error, Some(Error::OutputTooSmall { required }));
-    }
-}
-
-// The first `len` bytes of the list, in room for `N` digits: their text, or a refusal where it does
-// not fit.
-fn fits_or_is_refused<const N: usize>(
-    rt: &impl Abort,
-    alloc: Global,
-    len: usize,
-) -> Result<(), AllocError>
-    requires capacity { N < 600 }
-    requires len { len ≤ 600 }
-{
-    let list = list();
-    let bytes = &list[..len];
-    for (letters, answer) in [
-        (LOWER, heapless_08::hex_string::<N>(bytes)),
-        (UPPER, heapless_08::hex_string_upper::<N>(bytes)),
-    ] {
-        match answer {
-            Ok(text) => {
-                assert!(rt; 2 * len <= N, "{len} bytes in {N}");
-                assert_eq!(rt; text.as_str(), spelled(alloc, letters, bytes)?.as_str());
-            }
-            Err(e) => {
-                assert!(rt; 2 * len > N, "{len} bytes in {N}");
-                assert_eq!(rt; e, Error::OutputTooSmall { required: 2 * len });
-            }
-        }
-    }
-    Ok(())
-}
-
-// The empty list, the longest that fits, and two that do not.
-fn fills_exactly<const N: usize>(rt: &impl Abort, alloc: Global) -> Result<(), AllocError>
-    requires { N < 600 }
-{
-    fits_or_is_refused::<N>(rt, alloc, 0)?;
-    fits_or_is_refused::<N>(rt, alloc, N / 2)?;
-    fits_or_is_refused::<N>(rt, alloc, N / 2 + 1)?;
-    fits_or_is_refused::<N>(rt, alloc, N + 1)
-}
-
-#[test]
-fn fixed_texts_fill_every_capacity(rt: HostRuntime) -> Result<(), AllocError> {
-    fills_exactly::<0>(&rt, rt.alloc())?;
-    fills_exactly::<1>(&rt, rt.alloc())?;
-    fills_exactly::<2>(&rt, rt.alloc())?;
-    fills_exactly::<3>(&rt, rt.alloc())?;
-    fills_exactly::<15>(&rt, rt.alloc())?;
-    fills_exactly::<16>(&rt, rt.alloc())?;
-    fills_exactly::<17>(&rt, rt.alloc())?;
-    fills_exactly::<31>(&rt, rt.alloc())?;
-    fills_exactly::<32>(&rt, rt.alloc())?;
-    fills_exactly::<33>(&rt, rt.alloc())?;
-    fills_exactly::<127>(&rt, rt.alloc())?;
-    fills_exactly::<128>(&rt, rt.alloc())?;
-    fills_exactly::<129>(&rt, rt.alloc())?;
-    fills_exactly::<513>(&rt, rt.alloc())
 }

@@ -1,7 +1,10 @@
 //! What a test expects of a reading, and what it sees of it.
 
+ghost use Rattle.std.specs.Prelude.{◌<◌};
+
 use faster_hex::AdapterError;
 use hex_core::Error;
+use serde_json::Value;
 use std::alloc::Allocator;
 
 /// What a reading answers.
@@ -25,6 +28,14 @@ pub fn mismatch<T>(expected: usize, actual: usize) -> Result<T, AdapterError> {
     Err(AdapterError::Codec(Error::LengthMismatch { expected, actual }))
 }
 
+/// The answer of a reading of bytes or none where one of bytes answers this.
+pub fn some_of(answer: Answer) -> OptionAnswer {
+    match answer {
+        Ok(bytes) => Ok(Some(bytes)),
+        Err(e) => Err(e),
+    }
+}
+
 /// What was read, to be read alone.
 pub fn held<A: Allocator>(got: &Result<Vec<u8, A>, AdapterError>) -> Result<&[u8], AdapterError> {
     match got {
@@ -36,10 +47,33 @@ pub fn held<A: Allocator>(got: &Result<Vec<u8, A>, AdapterError>) -> Result<&[u8
 /// The array that was read, to be read alone.
 pub fn array_held<const N: usize>(
     got: &Result<[u8; N], AdapterError>,
-) -> Result<&[u8], AdapterError> {
+) -> Result<&[u8], AdapterError>
+    requires { N < 600 }
+{
     match got {
         Ok(bytes) => Ok(bytes.as_slice()),
         Err(e) => Err(*e),
+    }
+}
+
+/// The array or none that was read, to be read alone.
+pub fn option_array_held<const N: usize>(
+    got: &Result<Option<[u8; N]>, AdapterError>,
+) -> Result<Option<&[u8]>, AdapterError>
+    requires { N < 600 }
+{
+    match got {
+        Ok(Some(bytes)) => Ok(Some(bytes.as_slice())),
+        Ok(None) => Ok(None),
+        Err(e) => Err(*e),
+    }
+}
+
+/// Whether this text was written.
+pub fn is_text(got: &Result<Value, AdapterError>, text: &str) -> bool {
+    match got {
+        Ok(value) => value.as_str() == Some(text),
+        Err(_) => false,
     }
 }
 

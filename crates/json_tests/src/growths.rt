@@ -6,9 +6,38 @@ use faster_hex::adapters::{WireFormat, read, read_option, text_of};
 use hex_core::Error;
 use refusing_allocator::Refusing;
 use serde_json::Value;
+use std::alloc::{Allocator, Global};
 use std::test::Fail;
 
 const REFUSED: AdapterError = AdapterError::Codec(Error::OutOfMemory);
+
+// Whether a reading with this allocator answers so.
+fn reads(
+    alloc: &Refusing<Global>,
+    value: &Value,
+    max: Option<usize>,
+    answer: Result<&[u8], AdapterError>,
+) -> bool {
+    let got = read(alloc, WireFormat::WITHPFX_IGNORECASE, max, value);
+    held(&got) == answer
+}
+
+// Whether a reading answers so with no growth granted, and so with one, and asks for that one where
+// the answers differ.
+fn asks_once(
+    alloc: Global,
+    value: &Value,
+    max: Option<usize>,
+    refused: Result<&[u8], AdapterError>,
+    ample: Result<&[u8], AdapterError>,
+) -> bool {
+    let growths = if refused == ample { 0 } else { 1 };
+    let refusing = Refusing::new(alloc, 0);
+    let is_refused = reads(&refusing, value, max, refused) && refusing.asked() == growths;
+    refusing.set_left(1);
+    let is_read = reads(&refusing, value, max, ample) && refusing.asked() == 2 * growths;
+    is_refused && is_read
+}
 
 // Each row: the JSON text, the bound, the answer where no growth is granted, and the answer with
 // ample memory. Where the two differ there is one growth, and it is asked for before any digit is
@@ -51,21 +80,37 @@ fn a_reading_asks_for_its_memory_once(rt: HostRuntime) -> Result<(), Fail> {
     ];
     for (text, max, refused, ample) in rows {
         let value = Value::from_str(rt.alloc(), text)?;
-        let growths = if refused == ample { 0 } else { 1 };
-        let alloc = Refusing::new(rt.alloc(), 0);
-        let got = read(&alloc, WireFormat::WITHPFX_IGNORECASE, max, &value);
-        assert_eq!(rt; held(&got), refused, "{text}, no growth granted");
-        assert_eq!(rt; alloc.asked(), growths, "growths of {text}, none granted");
-        alloc.set_left(1);
-        let got = read(&alloc, WireFormat::WITHPFX_IGNORECASE, max, &value);
-        assert_eq!(rt; held(&got), ample, "{text}, one growth granted");
-        assert_eq!(rt;
-            alloc.asked(),
-            2 * growths,
-            "growths of {text}, one granted"
+        assert!(rt;
+            asks_once(rt.alloc(), &value, max, refused, ample),
+            "{text}, {max:?}"
         );
     }
     Ok(())
+}
+
+// Whether a reading of bytes or none with this allocator answers so.
+fn reads_option(
+    alloc: &Refusing<Global>,
+    value: &Value,
+    answer: Result<Option<&[u8]>, AdapterError>,
+) -> bool {
+    let got = read_option(alloc, WireFormat::WITHPFX_IGNORECASE, None, value);
+    option_held(&got) == answer
+}
+
+// The same of a reading of bytes or none, with no bound.
+fn asks_once_or_none(
+    alloc: Global,
+    value: &Value,
+    refused: Result<Option<&[u8]>, AdapterError>,
+    ample: Result<Option<&[u8]>, AdapterError>,
+) -> bool {
+    let growths = if refused == ample { 0 } else { 1 };
+    let refusing = Refusing::new(alloc, 0);
+    let is_refused = reads_option(&refusing, value, refused) && refusing.asked() == growths;
+    refusing.set_left(1);
+    let is_read = reads_option(&refusing, value, ample) && refusing.asked() == 2 * growths;
+    is_refused && is_read
 }
 
 // Each row as above, but for the bound.
@@ -79,21 +124,35 @@ fn none_asks_for_no_memory(rt: HostRuntime) -> Result<(), Fail> {
     ];
     for (text, refused, ample) in rows {
         let value = Value::from_str(rt.alloc(), text)?;
-        let growths = if refused == ample { 0 } else { 1 };
-        let alloc = Refusing::new(rt.alloc(), 0);
-        let got = read_option(&alloc, WireFormat::WITHPFX_IGNORECASE, None, &value);
-        assert_eq!(rt; option_held(&got), refused, "{text}, no growth granted");
-        assert_eq!(rt; alloc.asked(), growths, "growths of {text}, none granted");
-        alloc.set_left(1);
-        let got = read_option(&alloc, WireFormat::WITHPFX_IGNORECASE, None, &value);
-        assert_eq!(rt; option_held(&got), ample, "{text}, one growth granted");
-        assert_eq!(rt;
-            alloc.asked(),
-            2 * growths,
-            "growths of {text}, one granted"
+        assert!(rt;
+            asks_once_or_none(rt.alloc(), &value, refused, ample),
+            "{text}"
         );
     }
     Ok(())
+}
+
+// Whether a writing is refused where no growth is granted and its text is not empty, and with one
+// growth is this text, at its exact length.
+fn writes_once(alloc: Global, format: WireFormat, bytes: &[u8], text: &str) -> bool {
+    let growths = if text.is_empty() { 0 } else { 1 };
+    let refusing = Refusing::new(alloc, 0);
+    let is_refused = match text_of(&refusing, format, bytes) {
+        Ok(string) => string.as_str() == text && growths == 0,
+        Err(e) => e == REFUSED && growths == 1,
+    };
+    let is_asked_once = refusing.asked() == growths;
+    refusing.set_left(1);
+    let is_written = is_exact(&text_of(&refusing, format, bytes), text);
+    is_refused && is_asked_once && is_written && refusing.asked() == 2 * growths
+}
+
+// Whether this text was written, at its exact length.
+fn is_exact<A: Allocator>(got: &Result<String<A>, AdapterError>, text: &str) -> bool {
+    match got {
+        Ok(string) => string.as_str() == text && string.capacity() == text.len(),
+        Err(_) => false,
+    }
 }
 
 // Each row: the format, the bytes, and the text. Where it is not empty there is one growth, for its
@@ -112,22 +171,6 @@ fn a_text_asks_for_its_memory_once(rt: HostRuntime) {
         (WireFormat::NOPFX_UPPERCASE, &[], ""),
     ];
     for (format, bytes, text) in rows {
-        let growths = if text.is_empty() { 0 } else { 1 };
-        let alloc = Refusing::new(rt.alloc(), 0);
-        match text_of(&alloc, format, bytes) {
-            Ok(string) => assert_eq!(rt; (string.as_str(), growths), (text, 0)),
-            Err(e) => assert_eq!(rt; (e, growths), (REFUSED, 1)),
-        }
-        assert_eq!(rt; alloc.asked(), growths, "growths of {text}, none granted");
-        alloc.set_left(1);
-        match text_of(&alloc, format, bytes) {
-            Ok(string) => assert_eq!(rt; (string.as_str(), string.capacity()), (text, text.len())),
-            Err(e) => panic!(rt; "{e}"),
-        }
-        assert_eq!(rt;
-            alloc.asked(),
-            2 * growths,
-            "growths of {text}, one granted"
-        );
+        assert!(rt; writes_once(rt.alloc(), format, bytes, text), "{text}");
     }
 }

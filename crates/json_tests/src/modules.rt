@@ -2,7 +2,7 @@
 
 ghost use Rattle.std.specs.Prelude.{◌<◌};
 
-use crate::answers::{Answer, array_held, held, option_held};
+use crate::answers::{Answer, array_held, held, is_text, option_array_held, option_held, some_of};
 use faster_hex::{
     AdapterError, nopfx_ignorecase, nopfx_lowercase, nopfx_uppercase, option_nopfx_ignorecase,
     option_nopfx_lowercase, option_nopfx_uppercase, option_withpfx_ignorecase,
@@ -11,7 +11,6 @@ use faster_hex::{
 };
 use serde_json::Value;
 use std::alloc::Global;
-use std::process::Abort;
 
 /// A module and its option module. Those of the root are its own calls and, as it has none for
 /// options, `option_withpfx_ignorecase`.
@@ -201,79 +200,36 @@ impl Module {
         }
     }
 
-    /// Asserts what the two readings of a JSON value answer, and names the value by its text.
-    pub fn expect_read(
-        self,
-        rt: &impl Abort,
-        alloc: Global,
-        text: &str,
-        value: &Value,
-        answer: Answer,
-    ) {
-        let got = self.read(alloc, value);
-        assert_eq!(rt; held(&got), answer, "{text} by {self:?}");
-        let got = self.read_option(alloc, value);
-        assert_eq!(rt;
-            option_held(&got),
-            answer.map(Some),
-            "{text} or none by {self:?}"
-        );
+    /// Whether the two readings of a JSON value answer so.
+    pub fn reads(self, alloc: Global, value: &Value, answer: Answer) -> bool {
+        held(&self.read(alloc, value)) == answer
+            && option_held(&self.read_option(alloc, value)) == some_of(answer)
     }
 
-    /// The same of the two bounded readings.
-    pub fn expect_within<const MAX: usize>(
+    /// Whether the two bounded readings do.
+    pub fn reads_within<const MAX: usize>(
         self,
-        rt: &impl Abort,
         alloc: Global,
-        text: &str,
         value: &Value,
         answer: Answer,
-    ) {
-        let got = self.read_bounded::<MAX>(alloc, value);
-        assert_eq!(rt; held(&got), answer, "{text} within {MAX} by {self:?}");
-        let got = self.read_option_bounded::<MAX>(alloc, value);
-        assert_eq!(rt;
-            option_held(&got),
-            answer.map(Some),
-            "{text} or none within {MAX} by {self:?}"
-        );
+    ) -> bool {
+        held(&self.read_bounded::<MAX>(alloc, value)) == answer
+            && option_held(&self.read_option_bounded::<MAX>(alloc, value)) == some_of(answer)
     }
 
-    /// The same of the two readings of arrays.
-    pub fn expect_array<const N: usize>(
-        self,
-        rt: &impl Abort,
-        text: &str,
-        value: &Value,
-        answer: Answer,
-    )
+    /// Whether the two readings of arrays do.
+    pub fn reads_array<const N: usize>(self, value: &Value, answer: Answer) -> bool
         requires { N < 600 }
     {
-        let got = self.read_array::<N>(value);
-        assert_eq!(rt; array_held(&got), answer, "{text} as {N} bytes by {self:?}");
-        let other = self.read_option_array::<N>(value);
-        assert!(rt;
-            other == got.map(Some),
-            "{text} as {N} bytes or none by {self:?}"
-        );
+        array_held(&self.read_array::<N>(value)) == answer
+            && option_array_held(&self.read_option_array::<N>(value)) == some_of(answer)
     }
 
-    /// Asserts that each of the four writings gives this text.
-    pub fn expect_written(
-        self,
-        rt: &impl Abort,
-        alloc: Global,
-        bytes: &[u8],
-        text: &str,
-    ) -> Result<(), AdapterError> {
-        for value in [
-            self.write(alloc, bytes)?,
-            self.write_array(alloc, bytes)?,
-            self.write_option(alloc, Some(bytes))?,
-            self.write_option_array(alloc, Some(bytes))?,
-        ] {
-            assert_eq!(rt; value.as_str(), Some(text), "{bytes:?} by {self:?}");
-        }
-        Ok(())
+    /// Whether each of the four writings gives this text.
+    pub fn writes(self, alloc: Global, bytes: &[u8], text: &str) -> bool {
+        is_text(&self.write(alloc, bytes), text)
+            && is_text(&self.write_array(alloc, bytes), text)
+            && is_text(&self.write_option(alloc, Some(bytes)), text)
+            && is_text(&self.write_option_array(alloc, Some(bytes)), text)
     }
 }

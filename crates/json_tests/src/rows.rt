@@ -1,13 +1,16 @@
 //! Single values and what is read from them, each a row, and the texts of the errors.
 
-use crate::answers::{Answer, OptionAnswer, held, invalid, mismatch, option_held, over};
+ghost use Rattle.std.specs.Prelude.{◌<◌};
+
+use crate::answers::{
+    Answer, OptionAnswer, array_held, held, invalid, mismatch, option_array_held, option_held, over,
+};
 use crate::modules::{MODULES, Module};
 use faster_hex::AdapterError;
 use faster_hex::adapters::{WireFormat, read, read_array, read_option_array, write, write_option};
 use hex_core::{CheckCase, Error};
-use serde_json::{Value, json};
-use std::alloc::Global;
-use std::process::Abort;
+use serde_json::Value;
+use std::alloc::{AllocError, Global};
 use std::test::Fail;
 
 // Each row: the module, the JSON text and the answer.
@@ -27,66 +30,83 @@ fn texts_are_read_or_refused(rt: HostRuntime) -> Result<(), Fail> {
     ];
     for (module, text, answer) in rows {
         let value = Value::from_str(rt.alloc(), text)?;
-        module.expect_read(&rt, rt.alloc(), text, &value, answer);
+        assert!(rt;
+            module.reads(rt.alloc(), &value, answer),
+            "{text} by {module:?}"
+        );
     }
     Ok(())
 }
 
-// What the root reads within a bound. Each row: the JSON text and the answer.
-fn reads_within<const MAX: usize>(
-    rt: &impl Abort,
-    alloc: Global,
-    rows: &[(&str, Answer)],
-) -> Result<(), Fail> {
-    for (text, answer) in rows {
-        let value = Value::from_str(alloc, text)?;
-        let got = faster_hex::deserialize_bounded::<MAX>(alloc, &value);
-        assert_eq!(rt; held(&got), *answer, "{text} within {MAX}");
-    }
-    Ok(())
+// Whether the root reads a text so within a bound.
+fn reads_within<const MAX: usize>(alloc: Global, text: &str, answer: Answer) -> Result<bool, Fail> {
+    let value = Value::from_str(alloc, text)?;
+    let got = faster_hex::deserialize_bounded::<MAX>(alloc, &value);
+    Ok(held(&got) == answer)
 }
 
 #[test]
 fn a_bound_comes_before_the_digits(rt: HostRuntime) -> Result<(), Fail> {
-    reads_within::<0>(
-        &rt,
-        rt.alloc(),
-        &[(r#""0x""#, Ok(&[])), (r#""0x00""#, over(0, 1))],
-    )?;
-    reads_within::<2>(
-        &rt,
-        rt.alloc(),
-        &[
-            (r#""0xab01""#, Ok(&[0xab, 1])),
-            (r#""0xab""#, Ok(&[0xab])),
-            (r#""0x000102""#, over(2, 3)),
-            (r#""0xgggggg""#, over(2, 3)),
-            (r#""0Xab""#, Err(AdapterError::InvalidPrefix)),
-            (r#""0xa""#, Err(AdapterError::InvalidLength)),
-            (r#""0xabcdefa""#, Err(AdapterError::InvalidLength)),
-            (r#""0x0g""#, invalid(1, 0x67)),
-            ("7", Err(AdapterError::NotText)),
-        ],
-    )?;
-    reads_within::<{ usize::MAX }>(&rt, rt.alloc(), &[(r#""0xabcd""#, Ok(&[0xab, 0xcd]))])
+    let alloc = rt.alloc();
+    assert!(rt; reads_within::<0>(alloc, r#""0x""#, Ok(&[]))?);
+    assert!(rt; reads_within::<0>(alloc, r#""0x00""#, over(0, 1))?);
+    assert!(rt; reads_within::<{ usize::MAX }>(alloc, r#""0xabcd""#, Ok(&[0xab, 0xcd]))?);
+    let rows: [(&str, Answer); 9] = [
+        (r#""0xab01""#, Ok(&[0xab, 1])),
+        (r#""0xab""#, Ok(&[0xab])),
+        (r#""0x000102""#, over(2, 3)),
+        (r#""0xgggggg""#, over(2, 3)),
+        (r#""0Xab""#, Err(AdapterError::InvalidPrefix)),
+        (r#""0xa""#, Err(AdapterError::InvalidLength)),
+        (r#""0xabcdefa""#, Err(AdapterError::InvalidLength)),
+        (r#""0x0g""#, invalid(1, 0x67)),
+        ("7", Err(AdapterError::NotText)),
+    ];
+    for (text, answer) in rows {
+        assert!(rt; reads_within::<2>(alloc, text, answer)?, "{text} within 2");
+    }
+    Ok(())
+}
+
+// Whether the root reads an array of `N` bytes from a text so.
+fn reads_array<const N: usize>(value: &Value, answer: Answer) -> bool
+    requires { N < 600 }
+{
+    array_held(&faster_hex::array::deserialize::<N>(value)) == answer
 }
 
 #[test]
 fn arrays_have_their_length(rt: HostRuntime) -> Result<(), Fail> {
     let two = Value::from_str(rt.alloc(), r#""0xab01""#)?;
     let none = Value::from_str(rt.alloc(), r#""0x""#)?;
-    assert_eq!(rt; faster_hex::array::deserialize::<2>(&two), Ok([0xab, 1]));
-    assert_eq!(rt; faster_hex::array::deserialize::<4>(&two), mismatch(4, 2));
-    assert_eq!(rt; faster_hex::array::deserialize::<0>(&two), mismatch(0, 2));
-    assert_eq!(rt; faster_hex::array::deserialize::<0>(&none), Ok([]));
-    assert_eq!(rt; faster_hex::array::deserialize::<2>(&none), mismatch(2, 0));
+    assert!(rt; reads_array::<2>(&two, Ok(&[0xab, 1])));
+    assert!(rt; reads_array::<4>(&two, mismatch(4, 2)));
+    assert!(rt; reads_array::<0>(&two, mismatch(0, 2)));
+    assert!(rt; reads_array::<0>(&none, Ok(&[])));
+    assert!(rt; reads_array::<2>(&none, mismatch(2, 0)));
+    Ok(())
+}
+
+// Whether a module reads two bytes or none from a text so.
+fn reads_two_or_none(module: Module, value: &Value, answer: OptionAnswer) -> bool {
+    option_array_held(&module.read_option_array::<2>(value)) == answer
+}
+
+#[test]
+fn optional_arrays_have_their_length(rt: HostRuntime) -> Result<(), Fail> {
     let module = Module::NopfxLowercase;
     let two = Value::from_str(rt.alloc(), r#""cd02""#)?;
     let none = Value::from_str(rt.alloc(), r#""""#)?;
-    assert_eq!(rt; module.read_option_array::<2>(&two), Ok(Some([0xcd, 2])));
-    assert_eq!(rt; module.read_option_array::<2>(&none), mismatch(2, 0));
-    assert_eq!(rt; module.read_option_array::<2>(&Value::Null), Ok(None));
+    assert!(rt; reads_two_or_none(module, &two, Ok(Some(&[0xcd, 2]))));
+    assert!(rt; reads_two_or_none(module, &none, mismatch(2, 0)));
+    assert!(rt; reads_two_or_none(module, &Value::Null, Ok(None)));
     Ok(())
+}
+
+// Whether a module reads bytes or none from a value so, also within no byte.
+fn reads_option(alloc: Global, module: Module, value: &Value, answer: OptionAnswer) -> bool {
+    option_held(&module.read_option(alloc, value)) == answer
+        && option_held(&module.read_option_bounded::<0>(alloc, value)) == answer
 }
 
 // Each row: the module, the JSON text and the answer.
@@ -106,65 +126,76 @@ fn none_is_null_alone(rt: HostRuntime) -> Result<(), Fail> {
     ];
     for (module, text, answer) in rows {
         let value = Value::from_str(rt.alloc(), text)?;
-        let got = module.read_option(rt.alloc(), &value);
-        assert_eq!(rt; option_held(&got), answer, "{text} by {module:?}");
-        let got = module.read_option_bounded::<0>(rt.alloc(), &value);
-        assert_eq!(rt; option_held(&got), answer, "{text} within 0 by {module:?}");
+        let is_read = reads_option(rt.alloc(), module, &value, answer);
+        assert!(rt; is_read, "{text} by {module:?}");
     }
     Ok(())
+}
+
+// The module that does not refuse a value that is no text.
+fn text_seen_by(alloc: Global, value: &Value) -> Option<Module> {
+    let refused = Err(AdapterError::NotText);
+    for module in MODULES {
+        let is_refused = module.reads(alloc, value, refused)
+            && module.reads_within::<0>(alloc, value, refused)
+            && module.reads_array::<0>(value, refused);
+        if !is_refused {
+            return Some(module);
+        }
+    }
+    None
 }
 
 #[test]
 fn what_is_no_text_is_refused(rt: HostRuntime) -> Result<(), Fail> {
     for text in ["true", "7", "0.5", "[]", r#"["0x"]"#, "{}"] {
         let value = Value::from_str(rt.alloc(), text)?;
-        for module in MODULES {
-            let refused = Err(AdapterError::NotText);
-            module.expect_read(&rt, rt.alloc(), text, &value, refused);
-            module.expect_within::<0>(&rt, rt.alloc(), text, &value, refused);
-            module.expect_array::<0>(&rt, text, &value, refused);
-        }
+        let seen = text_seen_by(rt.alloc(), &value);
+        assert!(rt; seen.is_none(), "{text} by {seen:?}");
     }
     Ok(())
 }
 
-#[test]
-fn values_are_written_as_json(rt: HostRuntime) -> Result<(), Fail> {
-    let alloc = rt.alloc();
-    let rows = [
-        (
-            Module::WithpfxUppercase.write(alloc, &[0xab, 1])?,
-            r#""0xAB01""#,
-        ),
-        (Module::NopfxUppercase.write(alloc, &[])?, r#""""#),
-        (Module::WithpfxIgnorecase.write_option(alloc, None)?, "null"),
-        (
-            Module::WithpfxIgnorecase.write_option(alloc, Some(&[]))?,
-            r#""0x""#,
-        ),
-    ];
-    for (value, text) in rows {
-        assert_eq!(rt; value.to_string(alloc)?.as_str(), text);
+// Whether this JSON text was written.
+fn is_json(alloc: Global, got: &Result<Value, AdapterError>, text: &str) -> bool {
+    match got {
+        Ok(value) => value
+            .to_string(alloc)
+            .is_ok_and(|json| json.as_str() == text),
+        Err(_) => false,
     }
-    Ok(())
+}
+
+#[test]
+fn values_are_written_as_json(rt: HostRuntime) {
+    let alloc = rt.alloc();
+    let some = Module::WithpfxUppercase.write(alloc, &[0xab, 1]);
+    assert!(rt; is_json(alloc, &some, r#""0xAB01""#));
+    let empty = Module::NopfxUppercase.write(alloc, &[]);
+    assert!(rt; is_json(alloc, &empty, r#""""#));
+    let none = Module::WithpfxIgnorecase.write_option(alloc, None);
+    assert!(rt; is_json(alloc, &none, "null"));
+    let empty = Module::WithpfxIgnorecase.write_option(alloc, Some(&[]));
+    assert!(rt; is_json(alloc, &empty, r#""0x""#));
 }
 
 // No module has this format: uppercase is written, and either letter case is read.
 #[test]
 fn a_format_may_be_the_callers_own(rt: HostRuntime) -> Result<(), Fail> {
+    let alloc = rt.alloc();
     let format = WireFormat {
         prefixed: true,
         upper: true,
         case: CheckCase::None,
     };
-    let value = write(rt.alloc(), format, &[0xab, 1])?;
-    assert_eq!(rt; value.as_str(), Some("0xAB01"));
-    let got = read(rt.alloc(), format, None, &value);
-    assert_eq!(rt; held(&got), Ok([0xab, 1].as_slice()));
-    let value = Value::try_from_str(rt.alloc(), "0xaB")?;
-    assert_eq!(rt; read_array(format, &value), Ok([0xab]));
-    assert_eq!(rt; read_option_array(format, &value), Ok(Some([0xab])));
-    assert!(rt; write_option(rt.alloc(), format, None)?.is_null());
+    let value = write(alloc, format, &[0xab, 1])?;
+    assert!(rt; value.as_str() == Some("0xAB01"));
+    assert!(rt; held(&read(alloc, format, None, &value)) == Ok(&[0xab, 1]));
+    let value = Value::try_from_str(alloc, "0xaB")?;
+    assert!(rt; array_held(&read_array::<1>(format, &value)) == Ok(&[0xab]));
+    let option = read_option_array::<1>(format, &value);
+    assert!(rt; option_array_held(&option) == Ok(Some(&[0xab])));
+    assert!(rt; is_json(alloc, &write_option(alloc, format, None), "null"));
     Ok(())
 }
 
@@ -186,12 +217,20 @@ fn errors_print_their_texts(rt: HostRuntime) -> Result<(), Fail> {
     Ok(())
 }
 
+// Whether a refusal prints so.
+fn prints<T>(alloc: Global, got: &Result<T, AdapterError>, text: &str) -> Result<bool, AllocError> {
+    match got {
+        Ok(_) => Ok(false),
+        Err(e) => Ok(format!(in alloc; "{e}")?.as_str() == text),
+    }
+}
+
 // Each row: the text, and what is printed where it is read as one byte: as an array, and within a
 // bound.
 #[test]
 fn refusals_print_their_texts(rt: HostRuntime) -> Result<(), Fail> {
     let alloc = rt.alloc();
-    let rows = [
+    for (text, as_array, bounded) in [
         ("0Xg", "invalid prefix", "invalid prefix"),
         ("0Xgg00", "invalid prefix", "invalid prefix"),
         ("0xg", "invalid length", "invalid length"),
@@ -211,24 +250,12 @@ fn refusals_print_their_texts(rt: HostRuntime) -> Result<(), Fail> {
             "invalid hex byte 0xc3 at index 0",
             "invalid hex byte 0xc3 at index 0",
         ),
-    ];
-    for (text, array, bounded) in rows {
-        let value = json!(in alloc; text)?;
-        let refused = faster_hex::array::deserialize::<1>(&value)
-            .err()
-            .ok_or("a refusal")?;
-        assert_eq!(rt;
-            format!(in alloc; "{refused}")?.as_str(),
-            array,
-            "{text} as an array"
-        );
+    ] {
+        let value = Value::try_from_str(alloc, text)?;
+        let got = faster_hex::array::deserialize::<1>(&value);
+        assert!(rt; prints(alloc, &got, as_array)?, "{text} as an array");
         let got = faster_hex::deserialize_bounded::<1>(alloc, &value);
-        let refused = got.err().ok_or("a refusal")?;
-        assert_eq!(rt;
-            format!(in alloc; "{refused}")?.as_str(),
-            bounded,
-            "{text} within 1"
-        );
+        assert!(rt; prints(alloc, &got, bounded)?, "{text} within 1");
     }
     Ok(())
 }
