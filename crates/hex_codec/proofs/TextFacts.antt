@@ -1,11 +1,11 @@
 -- The text of a list of bytes is ASCII.
-use Rattle.std.proofs.Common.{◌≡◌, ℕ, suc, ◌+◌, ◌*◌, ◌/◌, ◌%◌, ◌<◌, Bool, true, false, List, [], ◌∷◌, ◌++◌, length, get_or, refl, arith, IsAscii}
+use Rattle.std.proofs.Common.{ℕ, suc, ◌/◌, ◌%◌, ◌<◌, Bool, true, false, List, [], ◌∷◌, get_or, arith, IsAscii}
 use Rattle.std.proofs.lemmas.Bool.Decides.{nat_tests}
 use Rattle.std.proofs.lemmas.Str.Ascii.{IsAscii-nil, IsAscii-cons}
 use Rattle.std.specs.Str.{IsUtf8}
 use Rattle.std.proofs.lemmas.Str.{IsUtf8-from_ascii}
 use Rattle.hex_core.specs.Digit.{digit}
-use Rattle.hex_core.specs.Text.{digits, text}
+use Rattle.hex_core.specs.Text.{text}
 
 digit_below : (upper : Bool) (n : ℕ) → n < 16 → digit upper n < 128
 digit_below true n h = grind (arith, nat_tests)

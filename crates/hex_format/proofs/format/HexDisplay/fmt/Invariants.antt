@@ -1,5 +1,5 @@
 -- The digits before those of the chunks that are left have been written.
-use Rattle.std.proofs.Common.{◌≡◌, ℕ, List, ◌++◌, false}
+use Rattle.std.proofs.Common.{◌≡◌, ℕ, List, ◌++◌}
 use Rattle.std.specs.Fmt.{HasWritten, IsPlainFormatter}
 use Rattle.std.specs.Slice.Iter.{chunks_rest, chunks_size}
 use Rattle.hex_core.specs.Text.{lowercase, text}
