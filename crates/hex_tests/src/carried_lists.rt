@@ -7,8 +7,8 @@ use crate::calls::{
     Answer, Decoder, Encoder, reads_array_under, reads_owned_under, reads_vector_under,
 };
 use crate::rules::{
-    CASES, FILL, decode_by_rule, digit, digits, first_invalid, invalid, mismatch, pattern, patterns,
-    placed, seen, swapped, text_of, too_small,
+    CASES, FILL, decode_by_rule, digit, digits, first_invalid, invalid, mismatch, pattern,
+    patterns, placed, seen, swapped, text_of, too_small,
 };
 use faster_hex::{CheckCase, Error, hex_check_with_case, hex_decode_with_case};
 use hex_core::{Backend, backends};

@@ -105,7 +105,7 @@ fn each_plan_decodes_the_rows(rt: HostRuntime) {
     }
 }
 
-// The plan that does not name the first of two faults, or one of the call and the plans does not.
+// Whether the call and each plan name the first of the two faults.
 fn names_first_fault(source: &[u8; 8192], case: CheckCase) -> bool {
     let refusal = invalid(65, b'!');
     for plan in backends() {

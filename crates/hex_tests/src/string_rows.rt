@@ -8,7 +8,7 @@ use refusing_allocator::Refusing;
 use std::alloc::{AllocError, Global};
 use std::test::Fail;
 
-// Whether both string calls and an append write these digits of some bytes.
+// Whether both string calls write these digits of some bytes.
 fn is_written(alloc: Global, bytes: &[u8], lower: &str, upper: &str) -> bool {
     text_held(&hex_string(alloc, bytes)) == Ok(lower)
         && text_held(&hex_string_upper(alloc, bytes)) == Ok(upper)

@@ -4,11 +4,11 @@
 #[cfg(test)]
 mod answers;
 #[cfg(test)]
+mod formats;
+#[cfg(test)]
 mod growths;
 #[cfg(test)]
 mod modules;
-#[cfg(test)]
-mod formats;
 #[cfg(test)]
 mod records;
 #[cfg(test)]
