@@ -136,13 +136,13 @@ pub fn serve_in<A: Allocator, R: Read, W: Write, E: Write>(
 ///
 /// `words` are the program's words without its name. They are judged first. One word that names an
 /// [`Op`]: all of `input` is read, at most [`INPUT_LIMIT`](crate::INPUT_LIMIT) bytes, and the
-/// operation's output goes to `out`, which is flushed. The word `vectors`: `input` is not read, and the stored vectors'
-/// lines go to `out`, which is flushed.
+/// operation's output goes to `out`, which is flushed. The word `vectors`: `input` is not read, and
+/// the stored vectors' lines go to `out`, which is flushed.
 ///
 /// | Status | When | Written to `err`, as one line |
 /// |---|---|---|
 /// | 0 | done | nothing |
-/// | 1 | the input is refused, and then nothing went to `out` | the error's text |
+/// | 1 | the input is refused, and then nothing went to `out` | the [`Error`](faster_hex::Error)'s text |
 /// | 1 | a stored vector failed | nothing |
 /// | 2 | no word, several, or another one; nothing was read or written | the usage |
 /// | 3 | a fault of the surroundings | `read failed`, `write failed`, `out of memory` |
