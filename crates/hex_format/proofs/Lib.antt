@@ -1,4 +1,4 @@
 mod ChunkFacts
 mod FrameFacts
-mod PutsLemmas
+pub mod PutsLemmas
 mod Repeats

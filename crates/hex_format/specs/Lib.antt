@@ -1,3 +1,4 @@
 pub mod Frame
 pub mod Sink
 pub mod Sinks
+pub mod SinkLaws

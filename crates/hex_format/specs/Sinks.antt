@@ -1,5 +1,6 @@
 -- What the sinks of this crate show.
-use Rattle.std.specs.Prelude.{ℕ, ◌-◌, List, length, take, Option, Some}
+use Rattle.std.specs.Prelude.{ℕ, ◌-◌, List, [], length, take, drop, Option, Some, None}
+use Rattle.std.specs.Borrow.{MutBor}
 use Rattle.std.specs.declared.io.Error.{Error}
 use Rattle.hex_format.specs.declared.sink.SliceSink.{SliceSink}
 use Rattle.hex_format.specs.declared.sink.WriterSink.{WriterSink}
@@ -13,9 +14,18 @@ written_bytes sink = take sink.used sink.buf.now
 abbrev pub free_len : SliceSink → ℕ
 free_len sink = length sink.buf.now - sink.used
 
--- what it shows: the bytes that it has taken, and how many puts failed
+-- what stands in its buffer
+abbrev pub buffer_bytes : SliceSink → List ℕ
+buffer_bytes sink = sink.buf.now
+
+-- what it shows
 abbrev pub slice_state : SliceSink → SinkState
-slice_state sink = record { taken = Some (written_bytes sink); failures = sink.refused }
+slice_state sink = record {
+  taken = Some (written_bytes sink);
+  failures = sink.refused;
+  free = Some (drop sink.used sink.buf.now);
+  loan = Some sink.buf.ghost_name;
+}
 
 -- the writer inside a writer's sink
 abbrev pub writer_of : {W : Type 0} → WriterSink W → W
@@ -27,4 +37,8 @@ kept_error sink = sink.last_error
 
 -- what it shows, by what its writer tells to hold
 abbrev pub writer_state : {W : Type 0} → (W → Option (List ℕ)) → WriterSink W → SinkState
-writer_state contents sink = record { taken = contents sink.writer; failures = sink.failed }
+writer_state contents sink = record { taken = contents sink.writer; failures = sink.failed; free = None; loan = None }
+
+-- what a new slice's sink shows: it has taken nothing, and all of the buffer that it is lent is free
+abbrev pub fresh_state : MutBor (List ℕ) → SinkState
+fresh_state buf = record { taken = Some []; failures = 0; free = Some buf.now; loan = Some buf.ghost_name }

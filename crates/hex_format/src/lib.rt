@@ -2,6 +2,7 @@
 #![tactic(auto)]
 
 pub mod format;
+pub mod laws;
 pub mod sink;
 
 pub use crate::format::{Align, Hex, HexFlags};

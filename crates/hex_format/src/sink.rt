@@ -100,13 +100,14 @@ pub struct SliceSink<'a> {
 }
 
 impl<'a> SliceSink<'a> {
-    ghost use Rattle.hex_format.specs.Sinks.{written_bytes, free_len, slice_state};
+    ghost use Rattle.hex_format.specs.Sinks.{buffer_bytes, free_len, fresh_state, slice_state, written_bytes};
 
     /// A sink that has taken nothing, has all of `buf` free and counts no failure.
     pub fn new(buf: &'a mut [u8]) -> SliceSink<'a>
         ensures written { written_bytes result ≡ [] }
         ensures free { free_len result ≡ length buf.entry.now }
-        ensures failures { (slice_state result).failures ≡ 0 }
+        ensures buffer { buffer_bytes result ≡ buf.entry.now }
+        ensures shown { slice_state result ≡ fresh_state buf.entry }
     {
         SliceSink {
             buf,
@@ -124,7 +125,7 @@ impl<'a> SliceSink<'a> {
 }
 
 impl Sink for SliceSink<'_> {
-    ghost use Rattle.hex_format.specs.Sinks.{written_bytes, free_len, slice_state};
+    ghost use Rattle.hex_format.specs.Sinks.{buffer_bytes, free_len, fresh_state, slice_state, written_bytes};
 
     ghost state = { slice_state };
 

@@ -1,9 +1,9 @@
--- What a run has put where one of its puts fails, and how the program ends after a run.
+-- How the program ends after a run.
 use Rattle.std.specs.Prelude.{◌≡◌, ◌+◌, ℕ, List, ◌++◌, Option, Result, Ok, Err}
 use Rattle.std.proofs.Common.{arith, refl, ap, ◌∙◌, inl, inr, append_assoc, length-append}
 use Rattle.std.specs.Io.KnownBytes.{Appends, Consumes, Keeps, IsAtEnd}
 use Rattle.std.proofs.KnownBytes.{Appends-kept, Appends-trans, Keeps-trans}
-use Rattle.hex_format.specs.Sink.{AppendsBeginning, SinkState, Stops, Takes}
+use Rattle.hex_format.specs.Sink.{SinkState}
 use Rattle.hex_program.specs.declared.operation.Op.{Op}
 use Rattle.hex_program.specs.declared.operation.RunFault.{RunFault}
 use Rattle.hex_program.specs.declared.operation.RunFault.TheVariants as fault
@@ -11,20 +11,6 @@ use Rattle.hex_program.specs.declared.failure.Failure.{Failure}
 use Rattle.hex_program.specs.Operations.{Runs}
 use Rattle.hex_program.specs.Failures.{EndsRun, status_after}
 use Rattle.hex_program.specs.Serving.{ServesOp}
-
--- one part of an output was taken, and a beginning of the next one was
-beginning_behind : (a b c : Option (List ℕ)) (xs ys : List ℕ) → Appends a b xs → AppendsBeginning b c ys → AppendsBeginning a c (xs ++ ys)
-beginning_behind a b c xs ys first more = record {
-  front = xs ++ more.front;
-  rest = more.rest;
-  parts = append_assoc xs more.front more.rest ∙ ap (λ l. xs ++ l) more.parts;
-  appended = Appends-trans a b c xs more.front first more.appended;
-}
-
--- one part of an output was put, and a put of the next one failed
-pub stops_behind : (a b c : SinkState) (xs ys : List ℕ) → Takes a b xs → Stops b c ys → Stops a c (xs ++ ys)
-stops_behind a b c xs ys first more =
-    (beginning_behind a.taken b.taken c.taken xs ys first.0 more.0, more.1 ∙ ap (λ n. n + 1) first.1, simp length-append (omega (arith, more.2)))
 
 -- a fault of the surroundings is neither done nor a refusal
 served_at_three : (op : Op) (left left' held held' : Option (List ℕ)) (status : ℕ) → status ≡ 3 → ServesOp op left left' held held' status

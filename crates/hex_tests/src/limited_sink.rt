@@ -62,7 +62,7 @@ impl LimitedSink {
 }
 
 impl Sink for LimitedSink {
-    ghost state = { λ sink. record { taken = None; failures = sink.failed } };
+    ghost state = { λ sink. record { taken = None; failures = sink.failed; free = None; loan = None } };
 
     fn failures(&self) -> u64 {
         self.failed

@@ -1,8 +1,8 @@
 -- The digits before those of the chunks that are left have been taken, and no put has failed.
 use Rattle.std.proofs.Common.{◌≡◌, ℕ, List, ◌++◌}
-use Rattle.std.specs.Io.KnownBytes.{Appends}
 use Rattle.std.specs.Slice.Iter.{chunks_rest, chunks_size}
 use Rattle.hex_format.specs.Frame.{digits_of}
+use Rattle.hex_format.specs.Sink.{Takes}
 use Rattle.hex_format.proofs.format.put_digits.Given as goal
 
 abbrev pub invariant-loop-chunk : goal.invariant-loop-chunk
@@ -10,6 +10,5 @@ invariant-loop-chunk g l =
     (goal.iterator-loop-chunk g).can_next l.chunk-iterator
     × (goal.iterator-loop-chunk g).is_finite l.chunk-iterator
     × (chunks_size l.chunk-iterator ≡ 512)
-    × ((g.S.Sink.state l.sink).failures ≡ (g.S.Sink.state l.initial.sink).failures)
-    × ((done : List ℕ) × Appends (g.S.Sink.state l.initial.sink).taken (g.S.Sink.state l.sink).taken done
+    × ((done : List ℕ) × Takes (g.S.Sink.state l.initial.sink) (g.S.Sink.state l.sink) done
     × (done ++ digits_of l.flags (chunks_rest l.chunk-iterator) ≡ digits_of l.flags l.bytes))
