@@ -57,7 +57,3 @@ Answer κ = RS.the_row (str-field (slot κ)).row E.the_row
 -- its laws
 abbrev pub AnswerLaws : (κ : Lft) → enum_laws.Laws (RS.the_type (str-field (slot κ)).row E.the_row)
 AnswerLaws κ = RL.the_laws (str-field (slot κ)).row E.the_row (str_laws (slot κ)) EL.the_row_laws (param_laws.field_told (str-field (slot κ)) (str-laws (slot κ))) EL.the_told
-
--- what the answer says of the old length and the source
-abbrev pub Says : Bool → ℕ → List ℕ → Result (Bor (List ℕ)) E.the_row.Denot → Type 0
-Says upper had src r = MatchResult r (λ suffix. (had + 2 * length src < 2 ^ 64) × (suffix.now ≡ text upper src)) (λ e. AppendFailure had src e)

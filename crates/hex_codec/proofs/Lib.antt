@@ -1,2 +1,1 @@
 mod AppendWalk
-mod TextFacts

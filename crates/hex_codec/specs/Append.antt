@@ -1,7 +1,26 @@
 -- What a string holds after an append.
-use Rattle.std.specs.Prelude.{◌≡◌, ℕ, List, ◌++◌, Result, MatchResult}
+use Rattle.std.specs.Prelude.{◌≡◌, ℕ, ◌+◌, ◌*◌, ◌≤◌, Bool, List, ◌++◌, length, Result, MatchResult, IsOk, OnOk, string_bytes, string_len, string_capacity}
+use Rattle.std.specs.declared.string.String.{String}
 use Rattle.hex_core.specs.declared.error.Error.{Error}
+use Rattle.hex_core.specs.Text.{text}
+use Rattle.hex_codec.specs.Calls.{EncodesBehind}
 
 -- the old text followed by the new one at `Ok`, the old text alone at `Err`
 abbrev pub AppendsText : {T : Type 0} → Result T Error → List ℕ → List ℕ → List ℕ → Type 0
 AppendsText result old added new = MatchResult result (λ _. new ≡ old ++ added) (λ _. new ≡ old)
+
+-- what a string ends as after an append of a list's digits: these are behind its text, or it has its
+-- text alone, and it gives no room back
+abbrev pub AppendsDigits : {A T : Type 0} → Bool → List ℕ → Result T Error → String A → String A → Type 0
+AppendsDigits upper bytes result old new =
+    AppendsText result (string_bytes old) (text upper bytes) (string_bytes new)
+    × OnOk result (string_len new ≡ string_len old + 2 * length bytes)
+    × (string_capacity old ≤ string_capacity new)
+
+-- there is no error where the spare room of the string holds the digits
+abbrev pub FitsWithout : {A T : Type 0} → List ℕ → String A → Result T Error → Type 0
+FitsWithout bytes old result = string_len old + 2 * length bytes ≤ string_capacity old → IsOk result
+
+-- an append that answers the new suffix: the digits, or a failure
+abbrev pub AnswersSuffix : {A S : Type 0} → (S → List ℕ) → Bool → List ℕ → String A → Result S Error → Type 0
+AnswersSuffix shown upper bytes old result = EncodesBehind shown (string_len old) upper bytes result × FitsWithout bytes old result

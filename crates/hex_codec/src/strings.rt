@@ -6,7 +6,7 @@ ghost use Rattle.std.specs.Str.{IsAscii};
 ghost use Rattle.std.specs.Io.BufRead.{Rests};
 ghost use Rattle.std.specs.contracts.string.String.{the_row};
 ghost use Rattle.hex_core.specs.Text.{lowercase, text, uppercase};
-ghost use Rattle.hex_codec.specs.Append.{AppendsText};
+ghost use Rattle.hex_codec.specs.Append.{AnswersSuffix, AppendsDigits, FitsWithout};
 ghost use Rattle.hex_codec.specs.Calls.{EncodesBehind};
 ghost use Rattle.hex_codec.specs.Failure.{AppendFailure, GrowthFailure};
 
@@ -81,8 +81,8 @@ pub fn hex_append_into<A: Allocator>(
     ensures answer { MatchResult result
         (λ _. string_len dst.old + 2 * length src.now < 2 ^ 64)
         (λ e. AppendFailure (string_len dst.old) src.now e) }
-    ensures appended { AppendsText result (string_bytes dst.old) (text upper src.now)
-        (string_bytes dst.new) }
+    ensures fits { FitsWithout src.now dst.old result }
+    ensures appended { AppendsDigits upper src.now result dst.old dst.new }
 {
     let Some(added) = src.len().checked_mul(2) else {
         return Err(Error::Overflow);
@@ -117,10 +117,8 @@ pub fn hex_append_into<A: Allocator>(
 /// ```
 pub fn hex_append<'a, A: Allocator>(src: &[u8], dst: &'a mut String<A>) -> Result<&'a str, Error>
     ensures* after_borrow { sem 𝓛 (Rests (the_row A.row A.Allocator) dst.entry
-        (λ new. AppendsText result (string_bytes dst.old) (text lowercase src.now)
-        (string_bytes new))) }
-    ensures answer { EncodesBehind (λ suffix. suffix.now) (string_len dst.old) lowercase src.now
-        result }
+        (λ new. AppendsDigits lowercase src.now result dst.old new)) }
+    ensures answer { AnswersSuffix (λ suffix. suffix.now) lowercase src.now dst.old result }
 {
     append_in(dst, src, false)
 }
@@ -143,9 +141,8 @@ pub fn hex_append_upper<'a, A: Allocator>(
     dst: &'a mut String<A>,
 ) -> Result<&'a str, Error>
     ensures* after_borrow { sem 𝓛 (Rests (the_row A.row A.Allocator) dst.entry
-        (λ new. AppendsText result (string_bytes dst.old) (text uppercase src.now) (string_bytes new))) }
-    ensures answer { EncodesBehind (λ suffix. suffix.now) (string_len dst.old) uppercase src.now
-        result }
+        (λ new. AppendsDigits uppercase src.now result dst.old new)) }
+    ensures answer { AnswersSuffix (λ suffix. suffix.now) uppercase src.now dst.old result }
 {
     append_in(dst, src, true)
 }
@@ -211,10 +208,8 @@ fn append_in<'a, A: Allocator>(
     upper: bool,
 ) -> Result<&'a str, Error>
     ensures* after_borrow { sem 𝓛 (Rests (the_row A.row A.Allocator) dst.entry
-        (λ new. AppendsText result (string_bytes dst.old) (text upper src.now)
-        (string_bytes new))) }
-    ensures answer { EncodesBehind (λ suffix. suffix.now) (string_len dst.old) upper src.now
-        result }
+        (λ new. AppendsDigits upper src.now result dst.old new)) }
+    ensures answer { AnswersSuffix (λ suffix. suffix.now) upper src.now dst.old result }
 {
     // The clause of `as_bytes` ties this length to the bytes; that of the string's `len` does not.
     let start = dst.as_bytes().len();
@@ -234,7 +229,9 @@ fn text_from<A: Allocator>(string: &String<A>, start: usize) -> &str
 // Appends the digits of `src`, for which `dst` has room already.
 fn append_reserved<A: Allocator>(dst: &mut String<A>, src: &[u8], upper: bool)
     requires { string_len dst.old + 2 * length src.now ≤ string_capacity dst.old }
-    ensures { string_bytes dst.new ≡ string_bytes dst.old ++ text upper src.now }
+    ensures text { string_bytes dst.new ≡ string_bytes dst.old ++ text upper src.now }
+    ensures len { string_len dst.new ≡ string_len dst.old + 2 * length src.now }
+    ensures room { string_capacity dst.old ≤ string_capacity dst.new }
 {
     let mut buffer = [0; PIECE_DIGITS];
     'pieces: for piece in src.chunks(PIECE) {

@@ -3,7 +3,7 @@ use Rattle.std.proofs.Common.{◌≡◌, length, take, sym, ◌∙◌}
 use Rattle.std.proofs.Math.Seq.{take-append_seam}
 use Rattle.hex_core.specs.Text.{text}
 use Rattle.hex_core.proofs.TextLemmas.{length-text}
-use Rattle.hex_codec.proofs.TextFacts.{IsAscii-text}
+use Rattle.hex_core.proofs.AsciiLemmas.{IsAscii-text}
 use Rattle.hex_codec.proofs.pieces.encoded.Goals as goal
 
 pub returns : goal.returns

@@ -10,4 +10,6 @@ invariant-pieces g l =
     × (goal.iterator-pieces g).is_finite l.piece-iterator
     × (chunks_size l.piece-iterator ≡ 256)
     × (string_bytes l.dst ++ text l.fn.upper (chunks_rest l.piece-iterator) ≡ string_bytes l.initial.dst ++ text l.fn.upper l.fn.src)
+    × (string_capacity l.initial.dst ≤ string_capacity l.dst)
+    × (string_len l.dst + 2 * length (chunks_rest l.piece-iterator) ≡ string_len l.initial.dst + 2 * length l.fn.src)
     × (string_len l.dst + 2 * length (chunks_rest l.piece-iterator) ≤ string_capacity l.dst)

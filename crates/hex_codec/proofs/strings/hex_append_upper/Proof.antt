@@ -1,9 +1,10 @@
 -- `hex_append_upper` passes on what `append_in` answers, with the lender in the other place.
-use Rattle.hex_codec.proofs.AppendWalk.{Answer, AnswerLaws, Says, slot, refl, List, [], ◌∷◌, ℕ, length, Args, a_type, dcons, dnil, named, inst_fn, vbool, id⊢, ftrue, flft, ◌⊑◌, fact, tables, ‵, ◌⊛◌, raw, some, later, ◌$◌, ◌∵◌, !, qed, move, keep, drop, split, join, fjoin, use1, use2, await, pick, suffices, frame, done, stop, addr, true_lit, and_then, no_more, returns, enter, alloc_all, pass_all, free_all, look_at, get, sets, lands_as, through, u8, bool, yes, no, Is, shows, param, bounded, bool_vals, bool_Makes, RattleType, MutRef, mut_vals, mut_Tells, plain, shr_slice_of, mut_ref_to, ShrSlice, Room, shr_slice_vals, shr_slice_Tells, Bor, nothing, owned, peeks, heard, str-field, calls_at, Lasts, lasts, triple_of, framed, says, Stays, stay_dropped, ends_at, Goes-dropped, Goes-spent_ref, Result, string_bytes, string_len, true, Rests, proved, text, AppendsText}
+use Rattle.hex_codec.proofs.AppendWalk.{Answer, AnswerLaws, slot, refl, List, [], ◌∷◌, ℕ, length, Args, a_type, dcons, dnil, named, inst_fn, vbool, id⊢, ftrue, flft, ◌⊑◌, fact, tables, ‵, ◌⊛◌, raw, some, later, ◌$◌, ◌∵◌, !, qed, move, keep, drop, split, join, fjoin, use1, use2, await, pick, suffices, frame, done, stop, addr, true_lit, and_then, no_more, returns, enter, alloc_all, pass_all, free_all, look_at, get, sets, lands_as, through, u8, bool, yes, no, Is, shows, param, bounded, bool_vals, bool_Makes, RattleType, MutRef, mut_vals, mut_Tells, plain, shr_slice_of, mut_ref_to, ShrSlice, Room, shr_slice_vals, shr_slice_Tells, Bor, nothing, owned, peeks, heard, str-field, calls_at, Lasts, lasts, triple_of, framed, says, Stays, stay_dropped, ends_at, Goes-dropped, Goes-spent_ref, Result, string_bytes, string_len, true, Rests, proved, text, AppendsText}
 use Rattle.hex_codec.proofs.AppendWalk.enum_laws
 use Rattle.hex_codec.proofs.AppendWalk.RS
 use Rattle.hex_codec.proofs.AppendWalk.S
 use Rattle.hex_codec.proofs.AppendWalk.E
+use Rattle.hex_codec.specs.Append.{AnswersSuffix, AppendsDigits}
 use Rattle.hex_core.specs.Text.{uppercase}
 use Rattle.hex_codec.specs.contracts.strings.append_in as h
 use Rattle.hex_codec.proofs.strings.append_in.Met as h_met
@@ -42,8 +43,8 @@ hex_append_upper_spec 𝓤 𝓛 𝓜 𝓡 wired A LA g d dd mA mG =
     (and_then ! (get ! refl) (and_then ! (get ! refl) (and_then ! (true_lit !) (no_more !)))) (λ w.
     use1 𝓛 (later (some (λ (r : Result (Bor (List ℕ)) E.the_row.Denot). ((‵ (flft κ₁ q₁) ⊛ ‵ (flft κ₀ q₀) ⊛ ‵ (flft κ₂ q₂) ⊛ ‵ ftrue) ⊛ ‵ ((Answer κ₁).own_val r (w ∷ [])))
     ⊛ some (λ (ws : Lasts (h.ended A g d dd) z.0.0 z.0.3). ‵ (lasts (h.ended A g d dd) z.0.0 z.0.3 ws)
-    ⊛ (‵ (Rests Owner dst (λ new. AppendsText r (string_bytes dst.now) (text uppercase src.now) (string_bytes new)))
-    ⊛ raw (fact 𝓤 (Says true (string_len dst.now) src.now r))))))) (id⊢ 𝓤 _) $
+    ⊛ (‵ (Rests Owner dst (λ new. AppendsDigits uppercase src.now r dst.now new))
+    ⊛ raw (fact 𝓤 (AnswersSuffix (λ suffix. suffix.now) uppercase src.now dst.now r))))))) (id⊢ 𝓤 _) $
     await ! tt $ pick ! (λ r. split ! $ split ! $ move ! (1 ∷ []) $
     peeks ! (Answer κ₁) (Is (Answer κ₁)) (shows 𝓛 (Answer κ₁)) r (w ∷ []) (λ is-r.
     lands_as ! refl refl ((enum_laws.lawful (RS.the_type (str-field (slot κ₁)).row E.the_row) (AnswerLaws κ₁) 𝓛 tt).typed r (w ∷ []) is-r).0 $

@@ -4,7 +4,7 @@ use Rattle.std.proofs.lemmas.List.{take_at}
 use Rattle.std.proofs.lemmas.Str.{IsAscii-append, IsUtf8-from_ascii}
 use Rattle.hex_core.specs.Text.{text}
 use Rattle.hex_core.proofs.TextLemmas.{length-text}
-use Rattle.hex_codec.proofs.TextFacts.{IsAscii-text}
+use Rattle.hex_core.proofs.AsciiLemmas.{IsAscii-text}
 use Rattle.hex_codec.proofs.strings.prefixed_string.Goals as goal
 
 pub from_utf8_unchecked-requires : goal.from_utf8_unchecked-requires
