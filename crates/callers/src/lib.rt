@@ -13,7 +13,9 @@ use faster_hex::{
     hex_encode_into,
 };
 
+pub mod dumps;
 pub mod json;
+pub mod texts;
 
 /// Decodes into a buffer and marks it as read by setting its first byte to 0xff.
 ///

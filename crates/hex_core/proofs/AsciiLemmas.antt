@@ -1,10 +1,14 @@
 -- The text of a list of bytes is ASCII.
-use Rattle.std.proofs.Common.{ℕ, suc, ◌/◌, ◌%◌, ◌<◌, Bool, true, false, List, [], ◌∷◌, get_or, arith, IsAscii}
+use Rattle.std.proofs.Common.{ℕ, suc, ◌/◌, ◌%◌, ◌<◌, Bool, true, false, List, [], ◌∷◌, length, get_or, inl, inr, arith, IsAscii}
+use Rattle.std.proofs.lemmas.Bool.{cases_lt}
 use Rattle.std.proofs.lemmas.Bool.Decides.{nat_tests}
+use Rattle.std.proofs.lemmas.Grind.{common_steps}
+use Rattle.std.proofs.lemmas.List.Elements.{All-get_or}
 use Rattle.std.proofs.lemmas.Str.Ascii.{IsAscii-nil, IsAscii-cons}
 use Rattle.std.specs.Str.{IsUtf8}
 use Rattle.std.proofs.lemmas.Str.{IsUtf8-from_ascii}
 use Rattle.hex_core.specs.Digit.{digit}
+use Rattle.hex_core.specs.Laws.{AreBytes}
 use Rattle.hex_core.specs.Text.{text}
 
 digit_below : (upper : Bool) (n : ℕ) → n < 16 → digit upper n < 128
@@ -22,3 +26,14 @@ IsAscii-text upper (b ∷ bytes) range =
 -- so it is UTF-8
 pub IsUtf8-text : (upper : Bool) (bytes : List ℕ) → ((i : ℕ) → get_or bytes i 0 < 256) → IsUtf8 (text upper bytes)
 IsUtf8-text upper bytes range = IsUtf8-from_ascii _ (IsAscii-text upper bytes range)
+
+-- each byte of a list of bytes, and the default
+in_range : (bytes : List ℕ) → AreBytes bytes → (i : ℕ) → get_or bytes i 0 < 256
+in_range bytes all i =
+    elim (cases_lt i (length bytes)) [
+      | inl lt ↦ All-get_or (λ b. b < 256) bytes i 0 lt all
+      | inr past ↦ grind (arith, common_steps)
+    ]
+
+pub ascii_and_utf8 : (upper : Bool) (bytes : List ℕ) → AreBytes bytes → IsAscii (text upper bytes) × IsUtf8 (text upper bytes)
+ascii_and_utf8 upper bytes all = (IsAscii-text upper bytes (in_range bytes all), IsUtf8-text upper bytes (in_range bytes all))

@@ -1,3 +1,4 @@
+pub mod AsciiLemmas
 pub mod BlockLemmas
 pub mod ByteLemmas
 pub mod Facts

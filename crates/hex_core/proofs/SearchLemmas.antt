@@ -1,6 +1,6 @@
 -- The first invalid byte, by ranges of which all bytes are valid.
 use Rattle.std.proofs.Common.{◌≡◌, ℕ, ◌+◌, ◌-◌, ◌*◌, ◌/◌, ◌<◌, ◌≤◌, Bool, true, false, inl, inr, List, length, slice_index, Option, Some, None, is_none, is_some, refl, sym, ◌∙◌, ap, subst, arith}
-use Rattle.std.specs.Prelude.{IsSome, MatchOption, min, slice_range}
+use Rattle.std.specs.Prelude.{IsSome, MatchOption, min, slice_range, ◌↔◌}
 use Rattle.std.proofs.lemmas.Bool.{cases_lt}
 use Rattle.std.proofs.lemmas.Bool.Decides.{nat_tests}
 use Rattle.std.proofs.lemmas.Grind.{common_steps}
@@ -147,3 +147,17 @@ stops_at_end c s whole None e all valid = (omega arith, sym all)
 pub first_invalid_within : (c : CheckCase) (s : List ℕ) (i end : ℕ) (o : Option ℕ) → first_invalid c s ≡ o → AllValid c s 0 i → i < length s → MatchOption o (length s ≤ end) (λ f. f < end) → i < end
 first_invalid_within c s i end (Some f) e valid inside near = omega (arith, valid_misses c s f 0 i e valid (omega arith))
 first_invalid_within c s i end None e valid inside near = omega arith
+
+-- the first invalid byte is in the source, has no value, and all before it have one
+none_from_test : (o : Option ℕ) → is_none o ≡ true → o ≡ None
+none_from_test (Some x) e = cc
+none_from_test None e = refl
+
+pub first_is_first : (c : CheckCase) (s : List ℕ) (f : ℕ) → first_invalid c s ≡ Some f → (f < length s) × (value c (slice_index s f) ≡ None) × AllValid c s 0 f
+first_is_first c s f e =
+    let found = position-Some (lacks c) s f 0 e in
+    (found.0, none_from_test (value c (slice_index s f)) found.1, valid_before c s f e)
+
+-- a part has no invalid byte exactly where all bytes of its range are valid
+pub part_is_valid : (c : CheckCase) (s : List ℕ) (start end : ℕ) → end ≤ length s → (first_invalid c (slice_range s start end) ≡ None) ↔ AllValid c s start end
+part_is_valid c s start end inside = (valid_part c s start end inside, part_valid c s start end inside)

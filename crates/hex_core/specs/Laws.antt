@@ -1,10 +1,11 @@
 -- Facts that the definitions alone imply.
-use Rattle.std.specs.Prelude.{◌≡◌, ◌<◌, ◌↔◌, ℕ, Bool, List, ◌++◌, All, None}
-use Rattle.std.specs.Str.{str_to_ascii_lowercase}
+use Rattle.std.specs.Prelude.{◌≡◌, ◌<◌, ◌≤◌, ◌↔◌, ◌*◌, ℕ, Bool, List, ◌++◌, length, take, slice_index, slice_range, All, None, Some}
+use Rattle.std.specs.Str.{IsAscii, IsUtf8, str_to_ascii_lowercase}
 use Rattle.hex_core.specs.declared.digit.CheckCase.{CheckCase}
 use Rattle.hex_core.specs.declared.digit.CheckCase.TheVariants as policy
-use Rattle.hex_core.specs.Digit.{strict}
-use Rattle.hex_core.specs.Text.{Spells, lowercase, text}
+use Rattle.hex_core.specs.Digit.{strict, value}
+use Rattle.hex_core.specs.Search.{AllValid, first_invalid}
+use Rattle.hex_core.specs.Text.{Spells, lowercase, text, with_front}
 use Rattle.hex_core.specs.Refusal.{source_refusal}
 
 -- every number of the list is a byte
@@ -47,3 +48,23 @@ EncodingLowercases = (s bytes : List ℕ) → Spells policy.None s bytes → tex
 -- the text of a joined list is the two texts joined
 abbrev pub JoinedTexts : Type 0
 JoinedTexts = (upper : Bool) (front back : List ℕ) → text upper (front ++ back) ≡ text upper front ++ text upper back
+
+-- a text has two digits for each byte
+abbrev pub TextsAreTwiceAsLong : Type 0
+TextsAreTwiceAsLong = (upper : Bool) (bytes : List ℕ) → length (text upper bytes) ≡ 2 * length bytes
+
+-- the text of a list of bytes is ASCII, and so it is UTF-8
+abbrev pub TextsAreAscii : Type 0
+TextsAreAscii = (upper : Bool) (bytes : List ℕ) → AreBytes bytes → IsAscii (text upper bytes) × IsUtf8 (text upper bytes)
+
+-- the first invalid byte is in the source, has no value, and all before it have one
+abbrev pub FirstInvalidIsFirst : Type 0
+FirstInvalidIsFirst = (c : CheckCase) (s : List ℕ) (f : ℕ) → first_invalid c s ≡ Some f → (f < length s) × (value c (slice_index s f) ≡ None) × AllValid c s 0 f
+
+-- a part has no invalid byte exactly where all bytes of its range are valid
+abbrev pub PartsAreValidWhereTheirRangesAre : Type 0
+PartsAreValidWhereTheirRangesAre = (c : CheckCase) (s : List ℕ) (start end : ℕ) → end ≤ length s → (first_invalid c (slice_range s start end) ≡ None) ↔ AllValid c s start end
+
+-- the front of old bytes with a new front is that front
+abbrev pub FrontsAreKept : Type 0
+FrontsAreKept = (old bytes : List ℕ) → take (length bytes) (with_front old bytes) ≡ bytes

@@ -1,7 +1,7 @@
 //! Laws of the definitions, each as the contract of a function that does nothing: a caller that
 //! needs one in a proof calls it.
 
-ghost use Rattle.hex_core.specs.Laws.{AcceptsWhatSpells, DecodingInvertsEncoding, EitherCaseIsLowercased, EncodingInvertsStrictDecoding, EncodingLowercases, JoinedTexts, SpellsBytes, SpellsOneList, StrictAcceptsTexts};
+ghost use Rattle.hex_core.specs.Laws.{AcceptsWhatSpells, DecodingInvertsEncoding, EitherCaseIsLowercased, EncodingInvertsStrictDecoding, EncodingLowercases, FirstInvalidIsFirst, FrontsAreKept, JoinedTexts, PartsAreValidWhereTheirRangesAre, SpellsBytes, SpellsOneList, StrictAcceptsTexts, TextsAreAscii, TextsAreTwiceAsLong};
 
 /// A text spells at most one list, and that is a list of bytes.
 pub fn a_text_spells_one_list()
@@ -38,4 +38,22 @@ pub fn either_case_is_the_lowercased_source()
 /// The text of a joined list is the two texts joined.
 pub fn the_text_of_a_joined_list_is_the_texts_joined()
     ensures { JoinedTexts }
+{}
+
+/// The text of bytes is ASCII, and so UTF-8, and twice as long as they are.
+pub fn a_text_is_ascii_and_twice_as_long()
+    ensures twice { TextsAreTwiceAsLong }
+    ensures ascii { TextsAreAscii }
+{}
+
+/// The first invalid byte is in the source and has no value, and all before it have one; a part has
+/// none exactly where each byte of its range has a value.
+pub fn the_first_invalid_byte_is_the_first()
+    ensures first { FirstInvalidIsFirst }
+    ensures parts { PartsAreValidWhereTheirRangesAre }
+{}
+
+/// The front of old bytes with a new front is that front.
+pub fn a_new_front_is_the_front()
+    ensures { FrontsAreKept }
 {}
