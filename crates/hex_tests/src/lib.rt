@@ -32,3 +32,5 @@ mod sink_rows;
 mod slice_rows;
 #[cfg(test)]
 mod string_rows;
+#[cfg(test)]
+mod writer_rows;
