@@ -10,4 +10,6 @@ mod runs;
 #[cfg(test)]
 mod streams;
 #[cfg(test)]
+mod vector_rows;
+#[cfg(test)]
 mod vectors;
