@@ -307,3 +307,27 @@ fn lists_of_every_length_go_both_ways(rt: HostRuntime) {
         assert!(rt; module.is_none(), "{len} bytes by {module:?}");
     }
 }
+
+// Whether a module reads a long list from what it writes for it, and for it or none.
+fn long_list_goes_both_ways(
+    alloc: Global,
+    module: Module,
+    bytes: &[u8],
+) -> Result<bool, AdapterError> {
+    let value = module.write(alloc, bytes)?;
+    let is_read = held(&module.read(alloc, &value)) == Ok(bytes);
+    let value = module.write_option(alloc, Some(bytes))?;
+    let got = module.read_option(alloc, &value);
+    Ok(is_read && option_held(&got) == Ok(Some(bytes)))
+}
+
+#[test]
+fn long_lists_go_both_ways(rt: HostRuntime) {
+    let bytes: [u8; 5000] = array::from_fn(pattern);
+    for module in MODULES {
+        for len in [301, 1025, 4097, 5000] {
+            let is_read = long_list_goes_both_ways(rt.alloc(), module, &bytes[..len]);
+            assert!(rt; is_read == Ok(true), "{len} bytes by {module:?}");
+        }
+    }
+}

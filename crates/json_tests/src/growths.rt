@@ -6,7 +6,7 @@ use faster_hex::adapters::{WireFormat, read, read_option, text_of};
 use hex_core::Error;
 use refusing_allocator::Refusing;
 use serde_json::Value;
-use std::alloc::{Allocator, Global};
+use std::alloc::{AllocError, Allocator, Global};
 use std::test::Fail;
 
 const REFUSED: AdapterError = AdapterError::Codec(Error::OutOfMemory);
@@ -84,6 +84,33 @@ fn a_reading_asks_for_its_memory_once(rt: HostRuntime) -> Result<(), Fail> {
             asks_once(rt.alloc(), &value, max, refused, ample),
             "{text}, {max:?}"
         );
+    }
+    Ok(())
+}
+
+// The JSON text of `0x` and so many bytes 0xab.
+fn long_value(alloc: Global, count: usize) -> Result<Value, AllocError> {
+    let mut text = String::from_str(alloc, "0x")?;
+    for _ in 0..count {
+        text.push_str("ab")?;
+    }
+    Ok(Value::String(text))
+}
+
+const LENGTHS: [usize; 5] = [64, 301, 1025, 4097, 5000];
+
+// A list of many bytes is read in one growth too, with a bound that admits it and with none.
+#[test]
+fn a_long_reading_asks_for_its_memory_once(rt: HostRuntime) -> Result<(), Fail> {
+    let bytes = [0xab; 5000];
+    for count in LENGTHS {
+        let value = long_value(rt.alloc(), count)?;
+        for max in [None, Some(count)] {
+            assert!(rt;
+                asks_once(rt.alloc(), &value, max, Err(REFUSED), Ok(&bytes[..count])),
+                "{count} bytes, {max:?}"
+            );
+        }
     }
     Ok(())
 }
