@@ -1,5 +1,5 @@
 -- How the program ends after a run.
-use Rattle.std.specs.Prelude.{◌≡◌, ◌+◌, ℕ, List, ◌++◌, Option, Result, Ok, Err}
+use Rattle.std.specs.Prelude.{◌≡◌, ◌≤◌, ℕ, List, length, Option, Result, Ok, Err}
 use Rattle.std.proofs.Common.{arith, refl, ap, ◌∙◌, inl, inr, append_assoc, length-append}
 use Rattle.std.specs.Io.KnownBytes.{Appends, Consumes, Keeps, IsAtEnd}
 use Rattle.std.proofs.KnownBytes.{Appends-kept, Appends-trans, Keeps-trans}
@@ -22,17 +22,17 @@ served_at_three op left left' held held' status three = record {
 
 -- all of an input was read, run and flushed: the operation is served with the status of the end
 pub serves_run : (op : Op) (input : List ℕ) (left left' held' : Option (List ℕ)) (old new : SinkState) (ran : Result (Unit {0}) RunFault) (ended : Result (Unit {0}) Failure)
-    → Consumes left left' input → IsAtEnd left' → Runs op input old new ran → Keeps new.taken held' → EndsRun ran ended → ServesOp op left left' old.taken held' (status_after ended)
-serves_run op input left left' held' old new (Ok done) (Ok well) all end runs kept ends = record {
-  done = λ is_zero. record { input = input; output = runs.0; consumed = all; ended = end; is_output = runs.1; written = Appends-kept old.taken new.taken held' runs.0 runs.2.0 kept };
+    → Consumes left left' input → IsAtEnd left' → length input ≤ 16777216 → Runs op input old new ran → Keeps new.taken held' → EndsRun ran ended → ServesOp op left left' old.taken held' (status_after ended)
+serves_run op input left left' held' old new (Ok done) (Ok well) all end short runs kept ends = record {
+  done = λ is_zero. record { input = input; output = runs.0; consumed = all; ended = end; bounded = short; is_output = runs.1; written = Appends-kept old.taken new.taken held' runs.0 runs.2.0 kept };
   refused = λ is_one. absurd (omega (arith, is_one));
   statuses = inl refl;
 }
-serves_run op input left left' held' old new (Ok done) (Err failure) all end runs kept ends = served_at_three op left left' old.taken held' _ (ap (λ f. status_after (Err f)) ends)
-serves_run op input left left' held' old new (Err (fault.Codec e)) ended all end runs kept ends = rw ends (record {
+serves_run op input left left' held' old new (Ok done) (Err failure) all end short runs kept ends = served_at_three op left left' old.taken held' _ (ap (λ f. status_after (Err f)) ends)
+serves_run op input left left' held' old new (Err (fault.Codec e)) ended all end short runs kept ends = rw ends (record {
   done = λ is_zero. absurd (omega (arith, is_zero));
-  refused = λ is_one. record { input = input; refusal = e; consumed = all; ended = end; is_refusal = runs.0; kept = Keeps-trans old.taken new.taken held' runs.1.0 kept };
+  refused = λ is_one. record { input = input; refusal = e; consumed = all; ended = end; bounded = short; is_refusal = runs.0; kept = Keeps-trans old.taken new.taken held' runs.1.0 kept };
   statuses = inr (inl refl);
 })
-serves_run op input left left' held' old new (Err (fault.Write why)) ended all end runs kept ends = served_at_three op left left' old.taken held' _ (ap status_after ends)
-serves_run op input left left' held' old new (Err fault.OutOfMemory) ended all end runs kept ends = served_at_three op left left' old.taken held' _ (ap status_after ends)
+serves_run op input left left' held' old new (Err (fault.Write why)) ended all end short runs kept ends = served_at_three op left left' old.taken held' _ (ap status_after ends)
+serves_run op input left left' held' old new (Err fault.OutOfMemory) ended all end short runs kept ends = served_at_three op left left' old.taken held' _ (ap status_after ends)

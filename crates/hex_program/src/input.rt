@@ -1,6 +1,6 @@
 //! The input, which is read to its end before an operation runs over it.
 
-ghost use Rattle.std.specs.Prelude.{◌≡◌, ◌≤◌, vec_len, IfOk, IfErr, OnOk};
+ghost use Rattle.std.specs.Prelude.{◌≡◌, ◌≤◌, ◌<◌, length, vec_len, IfOk, IfErr, IfSome, OnOk};
 ghost use Rattle.std.specs.Io.KnownBytes.{Consumes, IsAtEnd};
 ghost use Rattle.hex_program.specs.Failures.{status_of};
 
@@ -33,6 +33,8 @@ pub fn read_input<A: Allocator + Drop, R: Read>(
         (λ v. Consumes (R.remaining input.old) (R.remaining input.new) v.items) }
     ensures ended { OnOk result (IsAtEnd (R.remaining input.new)) }
     ensures limit { IfOk result (λ v. vec_len v ≤ INPUT_LIMIT) }
+    ensures too_long { IfErr result (λ f. f ≡ Failure.InputTooLong
+        → IfSome (R.remaining input.old) (λ bytes. 16777216 < length bytes)) }
     ensures err { IfErr result (λ f. status_of f ≡ 3) }
 {
     let mut chunk = [0u8; CHUNK];

@@ -1,7 +1,7 @@
-//! Reads, writes and flushes that fail, and inputs that are too long.
+//! Reads, writes and flushes that fail.
 
 use crate::streams::{Narrow, Repeated, Stuck};
-use hex_program::{INPUT_LIMIT, serve};
+use hex_program::serve;
 use std::test::Fail;
 
 // A run over one byte this many times, with what is made to fail in it, and how it ends.
@@ -33,15 +33,6 @@ const SOUND: Faulty = Faulty {
     status: 0,
 };
 
-// An input that is longer than the limit by one byte.
-const TOO_LONG: Faulty = Faulty {
-    count: INPUT_LIMIT + 1,
-    message: "input too long\n",
-    flushes: 0,
-    status: 3,
-    ..SOUND
-};
-
 // A read that fails.
 const NOT_READ: Faulty = Faulty {
     read_fails: true,
@@ -69,38 +60,7 @@ const NOT_FLUSHED: Faulty = Faulty {
 // How many bytes the lines of the stored vectors are.
 const LINES: usize = 1228;
 
-static FAULTS: [Faulty; 26] = [
-    TOO_LONG,
-    Faulty {
-        word: "encode",
-        byte: 0,
-        ..TOO_LONG
-    },
-    Faulty {
-        word: "encode-upper",
-        byte: 0xff,
-        ..TOO_LONG
-    },
-    Faulty {
-        word: "decode",
-        byte: b'g',
-        ..TOO_LONG
-    },
-    Faulty {
-        word: "decode-lower",
-        byte: b'A',
-        ..TOO_LONG
-    },
-    Faulty {
-        word: "decode-upper",
-        byte: b'\n',
-        ..TOO_LONG
-    },
-    Faulty {
-        count: INPUT_LIMIT,
-        written: INPUT_LIMIT / 2,
-        ..SOUND
-    },
+static FAULTS: [Faulty; 19] = [
     Faulty {
         count: 4,
         ..NOT_READ
@@ -218,6 +178,7 @@ fn tells_a_fault_of_the_surroundings(rt: HostRuntime) -> Result<(), Fail> {
         let mut input = Repeated {
             byte: row.byte,
             left: row.count,
+            newline: false,
             fails: row.read_fails,
         };
         let out = Narrow::new(row.room, row.flush_fails);

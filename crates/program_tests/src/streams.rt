@@ -3,16 +3,22 @@
 use std::io;
 use std::io::{ErrorKind, Read, Write};
 
-/// Gives this many times one byte, then fails where it is told to, and else ends.
+/// Gives this many times one byte, then a newline and a failure where it is told to, and ends.
 #[derive(Drop)]
 pub struct Repeated {
     pub byte: u8,
     pub left: usize,
+    pub newline: bool,
     pub fails: bool,
 }
 
 impl Read for Repeated {
     fn read(&mut self, buf: &mut [u8]) -> io::Result<usize> {
+        if self.left == 0 && self.newline {
+            self.newline = false;
+            self.byte = b'\n';
+            self.left = 1;
+        }
         if self.left == 0 && self.fails {
             self.fails = false;
             return Err(io::Error::from(ErrorKind::Interrupted));
@@ -63,6 +69,23 @@ impl Write for Narrow {
         if self.flush_fails {
             return Err(io::Error::from(ErrorKind::Other));
         }
+        Ok(())
+    }
+}
+
+/// Takes all that it is given, and counts it.
+#[derive(Drop)]
+pub struct Counting {
+    pub taken: usize,
+}
+
+impl Write for Counting {
+    fn write(&mut self, buf: &[u8]) -> io::Result<usize> {
+        self.taken = self.taken.saturating_add(buf.len());
+        Ok(buf.len())
+    }
+
+    fn flush(&mut self) -> io::Result<()> {
         Ok(())
     }
 }

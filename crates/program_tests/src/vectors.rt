@@ -10,6 +10,7 @@ fn the_stored_vectors_pass_under_each_plan(rt: HostRuntime) {
     let mut input = Repeated {
         byte: b'0',
         left: 9,
+        newline: false,
         fails: true,
     };
     let (status, out, err) = serve(
