@@ -1,10 +1,11 @@
 -- Facts on the adapters that the definitions imply.
 use Rattle.std.specs.Prelude.{◌≡◌, ◌≢◌, ◌≤◌, ◌↔◌, ℕ, List, [], ◌∷◌, length, All, Option, Some, None, MatchOption, ⊤}
-use Rattle.serde_json.specs.Data.{Data}
+use Rattle.serde_json.specs.Data.{Data, string}
+use Rattle.hex_core.specs.Digit.{strict}
 use Rattle.hex_core.specs.Laws.{AreBytes}
 use Rattle.hex_json.specs.declared.adapters.WireFormat.{WireFormat}
 use Rattle.hex_json.specs.declared.adapters.AdapterError.TheVariants.{OverBound}
-use Rattle.hex_json.specs.Adapters.{ReadFailure, Reads, ReadsOption, Writes, WritesOption, array_read_refusal, read_refusal}
+use Rattle.hex_json.specs.Adapters.{ReadFailure, Reads, ReadsOption, Writes, WritesOption, array_read_refusal, read_refusal, wire_text}
 use Rattle.hex_json.specs.WireFormats.{nopfx_ignorecase, nopfx_lowercase, nopfx_uppercase, withpfx_ignorecase, withpfx_lowercase, withpfx_uppercase}
 
 -- the six formats
@@ -49,3 +50,8 @@ WritesNoneApart = (p : WireFormat) (d : Data) (bytes : List ℕ) → WritesOptio
 -- no value is read as none and as a list
 abbrev pub ReadsNoneApart : Type 0
 ReadsNoneApart = (p : WireFormat) (max : Option ℕ) (d : Data) (bytes : List ℕ) → ReadsOption p max d None → ReadsOption p max d (Some bytes) → ⊥
+
+-- by a format that reads the letters alone that it writes, a value that is read as a list is the one
+-- that is written for it
+abbrev pub WritingInvertsStrictReading : Type 0
+WritingInvertsStrictReading = (p : WireFormat) (d : Data) (bytes : List ℕ) → p.case ≡ strict p.upper → Reads p None d bytes → d ≡ string (wire_text p bytes)

@@ -1,10 +1,11 @@
 //! Laws of the adapters, each as the contract of a function that does nothing: a caller that needs
 //! one in a proof calls it.
 
-ghost use Rattle.hex_json.specs.AdapterLaws.{ArrayHasNoBound, BoundedReadsWhatFits, OptionReadingInvertsWriting, ReadingInvertsWriting, ReadsArrayOfItsLength, ReadsNoneApart, ReadsOneList, ReadsWhatIsNotRefused, UnboundedHasNoBound, WritesNoneApart};
+ghost use Rattle.hex_json.specs.AdapterLaws.{ArrayHasNoBound, BoundedReadsWhatFits, OptionReadingInvertsWriting, ReadingInvertsWriting, ReadsArrayOfItsLength, ReadsNoneApart, ReadsOneList, ReadsWhatIsNotRefused, UnboundedHasNoBound, WritesNoneApart, WritingInvertsStrictReading};
 
 use hex_core::laws::{
     a_source_is_accepted_where_it_spells_a_list, a_text_spells_one_list, decoding_inverts_encoding,
+    encoding_inverts_strict_decoding,
 };
 
 /// A JSON value is read as at most one list of bytes, whatever the bound.
@@ -44,3 +45,11 @@ pub fn none_and_an_empty_list_stay_apart()
     ensures written { WritesNoneApart }
     ensures read { ReadsNoneApart }
 {}
+
+/// By a format that reads the letters alone that it writes, a value that is read is the one that is
+/// written for its bytes.
+pub fn strict_writing_inverts_reading()
+    ensures { WritingInvertsStrictReading }
+{
+    encoding_inverts_strict_decoding();
+}
