@@ -1,0 +1,41 @@
+//! An interrupted write behind a buffer.
+
+use crate::Unretried;
+use std::io;
+use std::io::{BufWriter, ErrorKind, Write};
+
+// Is interrupted in its first write, takes all of the later ones, and counts them.
+#[derive(Drop)]
+struct Interrupted {
+    writes: usize,
+}
+
+impl Write for Interrupted {
+    fn write(&mut self, buf: &[u8]) -> io::Result<usize> {
+        self.writes = self.writes.saturating_add(1);
+        if self.writes == 1 {
+            return Err(io::Error::from(ErrorKind::Interrupted));
+        }
+        Ok(buf.len())
+    }
+
+    fn flush(&mut self) -> io::Result<()> {
+        Ok(())
+    }
+}
+
+// The first piece is kept back and written by the flush; the second has no room and is written at
+// once.
+#[test]
+fn an_interrupted_write_is_not_tried_again(rt: HostRuntime) -> io::Result<()> {
+    let pieces: [&[u8]; 2] = [b"ab", b"abcdef"];
+    for piece in pieces {
+        let inner = Interrupted { writes: 0 };
+        let mut out = BufWriter::with_capacity(rt.alloc(), 4, Unretried { inner })?;
+        let well = out.write(piece).is_ok() && out.flush().is_ok();
+        let (stdout, _) = out.into_parts();
+        assert_eq!(rt; well, false, "end of {piece:?}");
+        assert_eq!(rt; stdout.inner.writes, 1, "writes of {piece:?}");
+    }
+    Ok(())
+}
