@@ -6,6 +6,8 @@ mod answers;
 #[cfg(test)]
 mod formats;
 #[cfg(test)]
+mod global_growths;
+#[cfg(test)]
 mod growths;
 #[cfg(test)]
 mod modules;
