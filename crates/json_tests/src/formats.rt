@@ -322,12 +322,14 @@ fn long_list_goes_both_ways(
 }
 
 #[test]
-fn long_lists_go_both_ways(rt: HostRuntime) {
+fn long_lists_go_both_ways(rt: HostRuntime) -> Result<(), Fail> {
     let bytes: [u8; 5000] = array::from_fn(pattern);
     for module in MODULES {
         for len in [301, 1025, 4097, 5000] {
-            let is_read = long_list_goes_both_ways(rt.alloc(), module, &bytes[..len]);
+            let bytes = bytes.get(..len).ok_or("a length")?;
+            let is_read = long_list_goes_both_ways(rt.alloc(), module, bytes);
             assert!(rt; is_read == Ok(true), "{len} bytes by {module:?}");
         }
     }
+    Ok(())
 }

@@ -105,9 +105,10 @@ fn a_long_reading_asks_for_its_memory_once(rt: HostRuntime) -> Result<(), Fail> 
     let bytes = [0xab; 5000];
     for count in LENGTHS {
         let value = long_value(rt.alloc(), count)?;
+        let bytes = bytes.get(..count).ok_or("a length")?;
         for max in [None, Some(count)] {
             assert!(rt;
-                asks_once(rt.alloc(), &value, max, Err(REFUSED), Ok(&bytes[..count])),
+                asks_once(rt.alloc(), &value, max, Err(REFUSED), Ok(bytes)),
                 "{count} bytes, {max:?}"
             );
         }
