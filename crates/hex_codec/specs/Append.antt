@@ -18,9 +18,9 @@ AppendsDigits upper bytes result old new =
     × (string_capacity old ≤ string_capacity new)
 
 -- there is no error where the spare room of the string holds the digits
-abbrev pub FitsWithout : {A T : Type 0} → List ℕ → String A → Result T Error → Type 0
-FitsWithout bytes old result = string_len old + 2 * length bytes ≤ string_capacity old → IsOk result
+abbrev pub SucceedsInSpareRoom : {A T : Type 0} → List ℕ → String A → Result T Error → Type 0
+SucceedsInSpareRoom bytes old result = string_len old + 2 * length bytes ≤ string_capacity old → IsOk result
 
 -- an append that answers the new suffix: the digits, or a failure
 abbrev pub AnswersSuffix : {A S : Type 0} → (S → List ℕ) → Bool → List ℕ → String A → Result S Error → Type 0
-AnswersSuffix shown upper bytes old result = EncodesBehind shown (string_len old) upper bytes result × FitsWithout bytes old result
+AnswersSuffix shown upper bytes old result = EncodesBehind shown (string_len old) upper bytes result × SucceedsInSpareRoom bytes old result

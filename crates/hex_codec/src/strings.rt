@@ -6,7 +6,7 @@ ghost use Rattle.std.specs.Str.{IsAscii};
 ghost use Rattle.std.specs.Io.BufRead.{Rests};
 ghost use Rattle.std.specs.contracts.string.String.{the_row};
 ghost use Rattle.hex_core.specs.Text.{lowercase, text, uppercase};
-ghost use Rattle.hex_codec.specs.Append.{AnswersSuffix, AppendsDigits, FitsWithout};
+ghost use Rattle.hex_codec.specs.Append.{AnswersSuffix, AppendsDigits, SucceedsInSpareRoom};
 ghost use Rattle.hex_codec.specs.Calls.{EncodesBehind};
 ghost use Rattle.hex_codec.specs.Failure.{AppendFailure, GrowthFailure};
 
@@ -81,7 +81,7 @@ pub fn hex_append_into<A: Allocator>(
     ensures answer { MatchResult result
         (λ _. string_len dst.old + 2 * length src.now < 2 ^ 64)
         (λ e. AppendFailure (string_len dst.old) src.now e) }
-    ensures fits { FitsWithout src.now dst.old result }
+    ensures fits { SucceedsInSpareRoom src.now dst.old result }
     ensures appended { AppendsDigits upper src.now result dst.old dst.new }
 {
     let Some(added) = src.len().checked_mul(2) else {

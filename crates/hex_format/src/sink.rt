@@ -15,7 +15,8 @@ pub struct SinkFault;
 ///
 /// A put has failed where it returned `Err`, or took none of a nonempty piece.
 pub trait Sink {
-    // The bytes taken so far, where the sink tells them, and how many puts have failed.
+    // What the sink shows: bytes taken, failed puts, and the free bytes of a buffer that it is lent,
+    // with the loan. A sink over anything else shows `None` for the last two.
     ghost state: { Self → SinkState };
 
     /// How many puts have failed so far.
@@ -25,7 +26,8 @@ pub trait Sink {
     /// Offers a piece and returns how many of its bytes were taken, from its front.
     ///
     /// The count of failures grows by one exactly where this returns an error, or takes none of a
-    /// nonempty piece. The caller shows that the count has room for one more.
+    /// nonempty piece. The caller shows that the count has room for one more. A sink over a lent
+    /// buffer takes a nonempty piece whole where it fits.
     ///
     /// # Errors
     ///

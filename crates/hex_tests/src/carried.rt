@@ -215,8 +215,8 @@ fn diagnostics_identify_the_first_invalid_byte_for_each_policy(rt: HostRuntime) 
     assert!(rt; Decoder::Plain.decodes::<4>("é".as_bytes(), invalid(0, 0xc3)));
 }
 
-// A source of `0` with two faults, the second of which ends it.
-fn with_two_faults(len: usize, place: usize) -> [u8; 8192] {
+// A source of `0` with two invalid bytes, the second of which ends it.
+fn with_two_invalid_bytes(len: usize, place: usize) -> [u8; 8192] {
     let mut source = damaged::<8192>(b'0', len.wrapping_sub(1), 0xff);
     if let Some(there) = source.get_mut(place) {
         *there = b'!';
@@ -225,8 +225,8 @@ fn with_two_faults(len: usize, place: usize) -> [u8; 8192] {
 }
 
 // The policy that does not name the first of the two.
-fn other_fault_named(len: usize, place: usize) -> Option<CheckCase> {
-    let source = with_two_faults(len, place);
+fn other_byte_named(len: usize, place: usize) -> Option<CheckCase> {
+    let source = with_two_invalid_bytes(len, place);
     let src = source.get(..len).unwrap_or_default();
     let room = (len / 2).wrapping_add(3);
     for case in CASES {
@@ -243,7 +243,7 @@ fn diagnostic_block_skipping_keeps_byte_offsets_and_first_error(rt: HostRuntime)
     for len in [64, 66, 128, 130, 8192usize] {
         for place in [0, 31, 32, 63, 64, 65, len.saturating_sub(1)] {
             if place < len {
-                assert_eq!(rt; other_fault_named(len, place), None, "{place} of {len}");
+                assert_eq!(rt; other_byte_named(len, place), None, "{place} of {len}");
             }
         }
     }

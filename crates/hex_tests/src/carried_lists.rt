@@ -99,9 +99,9 @@ fn is_decoded(text: &[u8], bytes: &[u8], strict: CheckCase) -> bool {
         && answers(Decoder::Plain, source, len, room, Ok(bytes))
 }
 
-// Whether the first fault of a source is named, but not where there is no room for it, nor where
+// Whether the first invalid byte of a source is named, but not where there is no room for it, nor where
 // its last digit is left out.
-fn is_fault_named(source: &[u8], case: CheckCase) -> bool {
+fn is_invalid_byte_named(source: &[u8], case: CheckCase) -> bool {
     let len = source.len() / 2;
     let room = with_spare(len);
     let (Some((index, byte)), Some((_, odd))) = (first_invalid(source, case), source.split_last())
@@ -114,15 +114,15 @@ fn is_fault_named(source: &[u8], case: CheckCase) -> bool {
         && answers(decoder, odd, len, room, Err(Error::OddLength))
 }
 
-// The policy under which a fault at this place of a mixed text is answered otherwise.
-fn fault_hidden(text: &[u8], place: usize) -> Option<CheckCase> {
+// The policy under which an invalid byte at this place of a mixed text is answered otherwise.
+fn invalid_byte_hidden(text: &[u8], place: usize) -> Option<CheckCase> {
     let mut letters = mixed(text);
     if let Some(letter) = letters.get_mut(place) {
         *letter = 0xff;
     }
     let source = letters.get(..text.len()).unwrap_or_default();
     for case in CASES {
-        if !is_fault_named(source, case) {
+        if !is_invalid_byte_named(source, case) {
             return Some(case);
         }
     }
@@ -142,7 +142,7 @@ fn generated_hex_covers_success_and_controlled_failures(rt: HostRuntime) -> Resu
             );
             let last = len.wrapping_mul(2).wrapping_sub(1);
             for place in [0, 1, len, last, len.wrapping_mul(7) / 4] {
-                let is_named = len == 0 || fault_hidden(&text, place).is_none();
+                let is_named = len == 0 || invalid_byte_hidden(&text, place).is_none();
                 assert!(rt; is_named, "{place}, length {len}, {strict:?}");
             }
         }
@@ -294,7 +294,7 @@ fn place_hidden(alloc: Global, text: &mut [u8], byte: u8, case: CheckCase) -> Op
 }
 
 // Whether the text of these bytes is read, and each byte that is none of its digits named.
-fn is_read_and_faults_named(
+fn is_read_and_invalid_bytes_named(
     alloc: Global,
     text: &mut [u8],
     bytes: &[u8; 32],
@@ -320,7 +320,7 @@ fn owned_decoders_match_independently_generated_hashes(rt: HostRuntime) -> Resul
             let mut storage = placed::<96>(offset, &text);
             let input = &mut storage[offset..offset + 64];
             assert!(rt;
-                is_read_and_faults_named(rt.alloc(), input, &bytes, case),
+                is_read_and_invalid_bytes_named(rt.alloc(), input, &bytes, case),
                 "from {offset} under {case:?}"
             );
         }

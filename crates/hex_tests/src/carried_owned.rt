@@ -136,7 +136,7 @@ fn vectors_keep_slice_decoder_error_precedence_and_grammar(rt: HostRuntime) {
 }
 
 // Whether a byte at this place of a source of `1` is named, and then, put at the first place too,
-// there. A later fault hides no earlier one.
+// there. A later invalid byte hides no earlier one.
 fn is_named<const N: usize>(
     alloc: Global,
     input: &mut [u8],

@@ -16,7 +16,7 @@ fn plans_stand_in_their_order(rt: HostRuntime) {
     }
 }
 
-// What the search for the first fault finds under a plan, and the tests and the looks that it takes.
+// What the search for the first invalid byte finds under a plan, and the tests and the looks that it takes.
 fn located(plan: Backend, source: &[u8], case: CheckCase) -> (Option<usize>, usize, usize) {
     let mut probe = SliceProbe::new(plan, source, case);
     let place = locate(&mut probe);
@@ -43,9 +43,9 @@ fn otherwise_located(
 }
 
 // A source of `0` with these bytes at these places.
-fn faulty(faults: &[(usize, u8)]) -> [u8; 8192] {
+fn with_invalid_bytes(invalid_bytes: &[(usize, u8)]) -> [u8; 8192] {
     let mut room = [b'0'; 8192];
-    for (at, byte) in faults {
+    for (at, byte) in invalid_bytes {
         if let Some(there) = room.get_mut(*at) {
             *there = *byte;
         }
@@ -68,13 +68,13 @@ fn locates_the_first_invalid_byte_in_few_steps(rt: HostRuntime) {
         (130, &[(129, b'!')], Some(129), 2, 2),
         (8192, &[(65, b'!'), (8191, 0xff)], Some(65), 2, 2),
     ];
-    for (len, faults, place, tests, looks) in rows {
-        let room = faulty(faults);
+    for (len, invalid_bytes, place, tests, looks) in rows {
+        let room = with_invalid_bytes(invalid_bytes);
         let source = room.get(..len).unwrap_or_default();
         let otherwise = otherwise_located(source, place, tests, looks);
         assert!(rt;
             source.len() == len && otherwise.is_none(),
-            "length {len}, {faults:?}, {otherwise:?}"
+            "length {len}, {invalid_bytes:?}, {otherwise:?}"
         );
     }
 }
@@ -105,8 +105,8 @@ fn each_plan_decodes_the_rows(rt: HostRuntime) {
     }
 }
 
-// Whether the call and each plan name the first of the two faults.
-fn names_first_fault(source: &[u8; 8192], case: CheckCase) -> bool {
+// Whether the call and each plan name the first of the two invalid bytes.
+fn names_first_invalid_byte(source: &[u8; 8192], case: CheckCase) -> bool {
     let refusal = invalid(65, b'!');
     for plan in backends() {
         if !Decoder::By(plan, case).decodes::<4096>(source, refusal) {
@@ -118,9 +118,9 @@ fn names_first_fault(source: &[u8; 8192], case: CheckCase) -> bool {
 
 #[test]
 fn names_the_first_of_two_invalid_bytes_in_a_long_source(rt: HostRuntime) {
-    let source = faulty(&[(65, b'!'), (8191, 0xff)]);
+    let source = with_invalid_bytes(&[(65, b'!'), (8191, 0xff)]);
     for case in CASES {
-        assert!(rt; names_first_fault(&source, case), "under {case:?}");
+        assert!(rt; names_first_invalid_byte(&source, case), "under {case:?}");
     }
 }
 
