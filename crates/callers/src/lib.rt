@@ -51,7 +51,7 @@ pub fn digest_text(digest: &[u8; 32]) -> [u8; 64]
     ensures { result ≡ text lowercase digest.now }
 {
     let mut digits = [0; 64];
-    Backend::PLAIN.encode(digest, &mut digits, false);
+    Backend::plain().encode(digest, &mut digits, false);
     digits
 }
 

@@ -42,7 +42,7 @@ pub fn hex_check(src: &[u8]) -> bool
 pub fn hex_check_with_case(src: &[u8], case: CheckCase) -> bool
     ensures { IsTrue result ↔ (first_invalid case src.now ≡ None) }
 {
-    Backend::PLAIN.check(src, case)
+    Backend::plain().check(src, case)
 }
 
 /// Decodes all of `src` into the front of `dst`, reading letters of either case, and returns that
@@ -100,7 +100,7 @@ pub fn hex_decode_with_case<'a>(
     ensures* lends { sem 𝓛 (LendsAnswer dst.entry result) }
     ensures answer { DecodesFront case src.now (length dst.old) result }
 {
-    Backend::PLAIN.decode_slice(src, dst, case)
+    Backend::plain().decode_slice(src, dst, case)
 }
 
 /// Decodes all of `src` into the front of `dst`, by an explicit letter-case policy, and returns how
@@ -126,7 +126,7 @@ pub fn hex_decode_with_case<'a>(
 pub fn hex_decode_into(src: &[u8], dst: &mut [u8], case: CheckCase) -> Result<usize, Error>
     ensures { Decodes case src.now dst.old dst.new result }
 {
-    Backend::PLAIN.decode_into(src, dst, case)
+    Backend::plain().decode_into(src, dst, case)
 }
 
 /// Decodes exactly `N` bytes into an array, reading letters of either case. No memory is taken.
@@ -258,9 +258,9 @@ fn decode_whole(src: &[u8], dst: &mut [u8], case: CheckCase) -> Result<(), Error
         (λ e. first_bad_char case src.now ≡ Some e) }
 {
     let decoded = if dst.len() > OWNED {
-        Backend::PLAIN.decode_owned(src, dst, case)
+        Backend::plain().decode_owned(src, dst, case)
     } else {
-        Backend::PLAIN.decode(src, dst, case)
+        Backend::plain().decode(src, dst, case)
     };
     if !decoded {
         return Err(first_error(src, case));
@@ -274,7 +274,7 @@ fn first_error(src: &[u8], case: CheckCase) -> Error
     requires { first_invalid case src.now ≢ None }
     ensures { first_bad_char case src.now ≡ Some result }
 {
-    let Some(index) = Backend::PLAIN.first_invalid(src, case) else {
+    let Some(index) = Backend::plain().first_invalid(src, case) else {
         unreachable!();
     };
     Error::InvalidChar {

@@ -34,7 +34,7 @@ pub fn hex_encode<'a>(src: &[u8], dst: &'a mut [u8]) -> Result<&'a mut [u8], Err
     ensures* lends { sem 𝓛 (LendsAnswer dst.entry result) }
     ensures answer { EncodesFront lowercase src.now (length dst.old) result }
 {
-    Backend::PLAIN.encode_slice(src, dst, false)
+    Backend::plain().encode_slice(src, dst, false)
 }
 
 /// Encodes all of `src` as uppercase digits into the front of `dst`, and returns that front.
@@ -54,7 +54,7 @@ pub fn hex_encode_upper<'a>(src: &[u8], dst: &'a mut [u8]) -> Result<&'a mut [u8
     ensures* lends { sem 𝓛 (LendsAnswer dst.entry result) }
     ensures answer { EncodesFront uppercase src.now (length dst.old) result }
 {
-    Backend::PLAIN.encode_slice(src, dst, true)
+    Backend::plain().encode_slice(src, dst, true)
 }
 
 /// Encodes all of `src` into the front of `dst`, in uppercase where `upper` is true, and returns
@@ -79,5 +79,5 @@ pub fn hex_encode_upper<'a>(src: &[u8], dst: &'a mut [u8]) -> Result<&'a mut [u8
 pub fn hex_encode_into(src: &[u8], dst: &mut [u8], upper: bool) -> Result<usize, Error>
     ensures { Encodes upper src.now dst.old dst.new result }
 {
-    Backend::PLAIN.encode_into(src, dst, upper)
+    Backend::plain().encode_into(src, dst, upper)
 }

@@ -196,7 +196,7 @@ pub fn prefixed_string<A: Allocator + Drop>(
     };
     let (front, digits) = string.as_mut_slice().split_at_mut(prefix.len());
     front.copy_from_slice(prefix);
-    Backend::PLAIN.encode(src, digits, upper);
+    Backend::plain().encode(src, digits, upper);
     Ok(unsafe { String::from_utf8_unchecked(string) })
 }
 

@@ -15,10 +15,7 @@ use Rattle.hex_core.specs.contracts.error.Error as ER
 use Rattle.hex_core.proofs.error.Error.TheLaws as EL
 use Rattle.hex_core.specs.contracts.plan.Backend as BA
 use Rattle.hex_core.proofs.plan.Backend.TheLaws as BL
-use Rattle.hex_core.specs.contracts.kind.Kind as KI
-use Rattle.hex_core.proofs.kind.Kind.TheLaws as KL
 use Rattle.hex_core.specs.declared.digit.CheckCase.TheVariants as policy
-use Rattle.hex_core.specs.declared.kind.Kind.TheVariants.{Avx2}
 use Rattle.hex_core.specs.declared.error.Error.{Error}
 use Rattle.hex_core.specs.Loan.{LendsAnswer}
 
@@ -37,13 +34,6 @@ plan_lawful = struct_laws.lawful BA.the_type BL.the_laws
 
 pub plan_makes : {M : Type 1} {𝓤 : Ura M} (𝓛 : Logic 𝓤) → Makes 𝓛 Plan (Is Plan)
 plan_makes = struct_laws.makes BA.the_type BL.the_plain
-
--- the plan of the calls that name none
-abbrev pub plain_plan : Plan.Denot
-plain_plan = record { 0 = Avx2 }
-
-pub plain_plan_is : Is Plan plain_plan (plan_vals plain_plan)
-plain_plan_is = struct_laws.owes BA.the_type BL.the_laws plain_plan (enum_laws.owes KI.the_type KL.the_laws Avx2 tt, tt)
 
 -- a policy
 abbrev pub Policy : RattleType

@@ -157,7 +157,7 @@ impl Backend {
     ///
     /// ```rust
     /// let mut buffer = [0xa5; 3];
-    /// assert_eq!(rt; Backend::PLAIN.decode_into(b"00ab", &mut buffer, CheckCase::None), Ok(2));
+    /// assert_eq!(rt; Backend::plain().decode_into(b"00ab", &mut buffer, CheckCase::None), Ok(2));
     /// assert_eq!(rt; buffer, [0, 0xab, 0xa5]);
     /// ```
     #[inline(always)]
@@ -183,7 +183,7 @@ impl Backend {
     ///
     /// ```rust
     /// let mut buffer = [b'-'; 5];
-    /// assert_eq!(rt; Backend::PLAIN.encode_into(&[0, 0xab], &mut buffer, false), Ok(4));
+    /// assert_eq!(rt; Backend::plain().encode_into(&[0, 0xab], &mut buffer, false), Ok(4));
     /// assert_eq!(rt; &buffer, b"00ab-");
     /// ```
     #[inline(always)]

@@ -1,5 +1,5 @@
 -- `hex_append_upper` passes on what `append_in` answers, with the lender in the other place.
-use Rattle.hex_codec.proofs.AppendWalk.{Answer, AnswerLaws, slot, refl, List, [], ◌∷◌, ℕ, length, Args, a_type, dcons, dnil, named, inst_fn, vbool, id⊢, ftrue, flft, ◌⊑◌, fact, tables, ‵, ◌⊛◌, raw, some, later, ◌$◌, ◌∵◌, !, qed, move, keep, drop, split, join, fjoin, use1, use2, await, pick, suffices, frame, done, stop, addr, true_lit, and_then, no_more, returns, enter, alloc_all, pass_all, free_all, look_at, get, sets, lands_as, through, u8, bool, yes, no, Is, shows, param, bounded, bool_vals, bool_Makes, RattleType, MutRef, mut_vals, mut_Tells, plain, shr_slice_of, mut_ref_to, ShrSlice, Room, shr_slice_vals, shr_slice_Tells, Bor, nothing, owned, peeks, heard, str-field, calls_at, Lasts, lasts, triple_of, framed, says, Stays, stay_dropped, ends_at, Goes-dropped, Goes-spent_ref, Result, string_bytes, string_len, true, Rests, proved, text, AppendsText}
+use Rattle.hex_codec.proofs.AppendWalk.{Answer, AnswerLaws, slot, refl, List, [], ◌∷◌, ℕ, length, Args, a_type, dcons, dnil, named, inst_fn, vbool, id⊢, ftrue, flft, ◌⊑◌, fact, tables, ‵, ◌⊛◌, raw, some, later, ◌$◌, ◌∵◌, !, qed, move, keep, drop, split, join, fjoin, use1, use2, await, pick, suffices, frame, done, stop, addr, true_lit, and_then, no_more, returns, enter, alloc_all, pass_all, free_all, look_at, get, sets, lands_as, through, u8, bool, yes, no, Is, shows, param, bounded, bool_vals, bool_Makes, RattleType, MutRef, mut_vals, mut_Tells, plain, shr_slice_of, mut_ref_to, ShrSlice, Room, shr_slice_vals, shr_slice_Tells, Bor, nothing, owned, peeks, heard, str-field, calls_at, Lasts, lasts, triple_of, framed, says, Stays, stay_dropped, ends_at, Goes-dropped, Goes-spent_ref, Result, true, Rests, proved}
 use Rattle.hex_codec.proofs.AppendWalk.enum_laws
 use Rattle.hex_codec.proofs.AppendWalk.RS
 use Rattle.hex_codec.proofs.AppendWalk.S

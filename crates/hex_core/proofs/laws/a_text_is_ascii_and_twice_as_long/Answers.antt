@@ -1,5 +1,3 @@
-use Rattle.std.proofs.Common.{◌<◌}
-use Rattle.std.proofs.lemmas.List.Elements.{All-get_or}
 use Rattle.hex_core.proofs.AsciiLemmas.{ascii_and_utf8}
 use Rattle.hex_core.proofs.TextLemmas.{length-text}
 use Rattle.hex_core.proofs.laws.a_text_is_ascii_and_twice_as_long.Goals as goal
