@@ -13,6 +13,7 @@ pub mod PairLemmas
 pub mod PositionLemmas
 pub mod SearchLemmas
 pub mod Lent
+pub mod RefusalLemmas
 pub mod Refused
 pub mod Results
 pub mod ShiftLemmas

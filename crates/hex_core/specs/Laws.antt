@@ -1,8 +1,10 @@
 -- Facts that the definitions alone imply.
-use Rattle.std.specs.Prelude.{◌≡◌, ◌<◌, ◌≤◌, ◌↔◌, ◌*◌, ℕ, Bool, List, ◌++◌, length, take, slice_index, slice_range, All, None, Some}
+use Rattle.std.specs.Prelude.{◌≡◌, ◌<◌, ◌≤◌, ◌↔◌, ◌*◌, ℕ, Bool, List, ◌++◌, length, take, slice_index, slice_range, All, Option, None, Some}
 use Rattle.std.specs.Str.{IsAscii, IsUtf8, str_to_ascii_lowercase}
 use Rattle.hex_core.specs.declared.digit.CheckCase.{CheckCase}
 use Rattle.hex_core.specs.declared.digit.CheckCase.TheVariants as policy
+use Rattle.hex_core.specs.declared.error.Error.{Error}
+use Rattle.hex_core.specs.declared.error.Error.TheVariants.{InvalidChar}
 use Rattle.hex_core.specs.Digit.{strict, value}
 use Rattle.hex_core.specs.Search.{AllValid, first_invalid}
 use Rattle.hex_core.specs.Text.{Spells, lowercase, text, with_front}
@@ -64,6 +66,11 @@ FirstInvalidIsFirst = (c : CheckCase) (s : List ℕ) (f : ℕ) → first_invalid
 -- a part has no invalid byte exactly where all bytes of its range are valid
 abbrev pub PartsAreValidWhereTheirRangesAre : Type 0
 PartsAreValidWhereTheirRangesAre = (c : CheckCase) (s : List ℕ) (start end : ℕ) → end ≤ length s → (first_invalid c (slice_range s start end) ≡ None) ↔ AllValid c s start end
+
+-- where a refusal is an invalid character, it names the first invalid byte of the source: its place,
+-- and the byte there, which has no value
+abbrev pub NamesFirstInvalid : (CheckCase → List ℕ → Option Error) → Type 0
+NamesFirstInvalid refusal = (c : CheckCase) (s : List ℕ) (i b : ℕ) → refusal c s ≡ Some (InvalidChar i b) → (first_invalid c s ≡ Some i) × (b ≡ slice_index s i) × (value c b ≡ None)
 
 -- the front of old bytes with a new front is that front
 abbrev pub FrontsAreKept : Type 0

@@ -1,7 +1,9 @@
 //! Laws of the definitions, each as the contract of a function that does nothing: a caller that
 //! needs one in a proof calls it.
 
-ghost use Rattle.hex_core.specs.Laws.{AcceptsWhatSpells, DecodingInvertsEncoding, EitherCaseIsLowercased, EncodingInvertsStrictDecoding, EncodingLowercases, FirstInvalidIsFirst, FrontsAreKept, JoinedTexts, PartsAreValidWhereTheirRangesAre, SpellsBytes, SpellsOneList, StrictAcceptsTexts, TextsAreAscii, TextsAreTwiceAsLong};
+ghost use Rattle.std.specs.Prelude.{ℕ};
+ghost use Rattle.hex_core.specs.Laws.{AcceptsWhatSpells, DecodingInvertsEncoding, EitherCaseIsLowercased, EncodingInvertsStrictDecoding, EncodingLowercases, FirstInvalidIsFirst, FrontsAreKept, JoinedTexts, NamesFirstInvalid, PartsAreValidWhereTheirRangesAre, SpellsBytes, SpellsOneList, StrictAcceptsTexts, TextsAreAscii, TextsAreTwiceAsLong};
+ghost use Rattle.hex_core.specs.Refusal.{array_refusal, decode_refusal, source_refusal};
 
 /// A text spells at most one list, and that is a list of bytes.
 pub fn a_text_spells_one_list()
@@ -51,6 +53,14 @@ pub fn a_text_is_ascii_and_twice_as_long()
 pub fn the_first_invalid_byte_is_the_first()
     ensures first { FirstInvalidIsFirst }
     ensures parts { PartsAreValidWhereTheirRangesAre }
+{}
+
+/// Where decoding into a slice, an array or new memory refuses a source for an `InvalidChar`, that
+/// names the first invalid byte: its place, and the byte there, which has no value.
+pub fn an_invalid_char_is_the_first_invalid_byte()
+    ensures slice { (room : ℕ) → NamesFirstInvalid (λ c s. decode_refusal c s room) }
+    ensures array { (n : ℕ) → NamesFirstInvalid (λ c s. array_refusal c s n) }
+    ensures source { NamesFirstInvalid source_refusal }
 {}
 
 /// The front of old bytes with a new front is that front.

@@ -1,0 +1,40 @@
+-- What a refusal that is an invalid character names.
+use Rattle.std.proofs.Common.{◌≡◌, ℕ, List, Option, Some, None, refl, arith}
+use Rattle.std.specs.Prelude.{option_map, slice_index}
+use Rattle.std.proofs.lemmas.Bool.Decides.{nat_tests}
+use Rattle.hex_core.specs.declared.digit.CheckCase.{CheckCase}
+use Rattle.hex_core.specs.declared.error.Error.TheVariants.{InvalidChar}
+use Rattle.hex_core.specs.Digit.{value}
+use Rattle.hex_core.specs.Laws.{NamesFirstInvalid}
+use Rattle.hex_core.specs.Refusal.{array_refusal, decode_refusal, first_bad_char, source_refusal}
+use Rattle.hex_core.specs.Search.{first_invalid}
+use Rattle.hex_core.proofs.SearchLemmas.{first_is_first}
+
+-- what the first bad character names
+bad_char_is_first : (c : CheckCase) (s : List ℕ) (o : Option ℕ) → first_invalid c s ≡ o → (i b : ℕ) → option_map (λ f. InvalidChar f (slice_index s f)) o ≡ Some (InvalidChar i b) → (first_invalid c s ≡ Some i) × (b ≡ slice_index s i) × (value c b ≡ None)
+bad_char_is_first c s (Some f) e i b h =
+    let none = (first_is_first c s f e).1 in
+    (cc (e, h), cc h, cc (h, none))
+bad_char_is_first c s None e i b h = absurd (cc h)
+
+bad_char_names_first : NamesFirstInvalid first_bad_char
+bad_char_names_first c s i b h = bad_char_is_first c s (first_invalid c s) refl i b h
+
+-- a refusal that is an invalid character is the first bad character
+decode_bad_char : (c : CheckCase) (s : List ℕ) (room i b : ℕ) → decode_refusal c s room ≡ Some (InvalidChar i b) → first_bad_char c s ≡ Some (InvalidChar i b)
+decode_bad_char c s room i b h = grind (arith, nat_tests, h)
+
+array_bad_char : (c : CheckCase) (s : List ℕ) (n i b : ℕ) → array_refusal c s n ≡ Some (InvalidChar i b) → first_bad_char c s ≡ Some (InvalidChar i b)
+array_bad_char c s n i b h = grind (arith, nat_tests, h)
+
+source_bad_char : (c : CheckCase) (s : List ℕ) (i b : ℕ) → source_refusal c s ≡ Some (InvalidChar i b) → first_bad_char c s ≡ Some (InvalidChar i b)
+source_bad_char c s i b h = grind (arith, nat_tests, h)
+
+pub decode_names_first : (room : ℕ) → NamesFirstInvalid (λ c s. decode_refusal c s room)
+decode_names_first room c s i b h = bad_char_names_first c s i b (decode_bad_char c s room i b h)
+
+pub array_names_first : (n : ℕ) → NamesFirstInvalid (λ c s. array_refusal c s n)
+array_names_first n c s i b h = bad_char_names_first c s i b (array_bad_char c s n i b h)
+
+pub source_names_first : NamesFirstInvalid source_refusal
+source_names_first c s i b h = bad_char_names_first c s i b (source_bad_char c s i b h)
