@@ -1,10 +1,13 @@
 //! Callers that write padded texts, each proved.
 
-ghost use Rattle.std.specs.Prelude.{◌≡◌, ◌≤◌, length, IsOk, OnOk};
+ghost use Rattle.std.specs.Prelude.{◌≡◌, ◌≤◌, ◌<◌, ◌-◌, ◌^◌, length, IsOk, OnOk};
+ghost use Rattle.std.specs.List.{flat_map};
 ghost use Rattle.hex_core.specs.Text.{with_front};
 ghost use Rattle.hex_format.specs.Frame.{frame};
+ghost use Rattle.hex_format.specs.Sink.{Puts};
 
-use faster_hex::{Hex, HexFlags, SliceSink, WriteFault};
+use faster_hex::{Hex, HexFlags, Sink, SliceSink, WriteFault};
+use hex_format::laws::puts_in_a_row_are_one;
 
 /// Writes the padded text of some bytes into the front of a line, where it fits.
 ///
@@ -16,4 +19,34 @@ pub fn write_line(bytes: &[u8], flags: &HexFlags, line: &mut [u8]) -> Result<(),
 {
     let mut sink = SliceSink::new(line);
     Hex::new(bytes).write_to(&mut sink, flags)
+}
+
+/// Writes the padded texts of identifiers behind one another into any sink.
+///
+/// The caller's proof knows the total: at `Ok` the sink has taken all of the texts, in their order;
+/// at `Err` it has taken a beginning of them, and has counted one failure more.
+///
+/// ```rust
+/// let mut buffer = [0; 70];
+/// let mut sink = SliceSink::new(&mut buffer);
+/// let flags = HexFlags { prefix: true, ..HexFlags::default() };
+/// let ids = [*b"hello, 16 bytes!", [0xab; 16]];
+/// assert_eq!(rt; write_identifiers(&ids, &flags, &mut sink), Ok(()));
+/// let texts = b"0x68656c6c6f2c203136206279746573210xabababababababababababababababab";
+/// assert_eq!(rt; sink.written(), texts.as_slice());
+/// ```
+pub fn write_identifiers<S: Sink>(
+    ids: &[[u8; 16]],
+    flags: &HexFlags,
+    sink: &mut S,
+) -> Result<(), WriteFault>
+    requires { (S.state sink.old).failures < 2 ^ 64 - 1 }
+    ensures { Puts (S.state sink.old) (S.state sink.new) result
+        (flat_map (frame flags.now) ids.now) }
+{
+    puts_in_a_row_are_one();
+    for id in ids {
+        Hex::new(id).write_to(sink, flags)?;
+    }
+    Ok(())
 }

@@ -1,20 +1,25 @@
 //! Callers of `faster_hex` as a user writes them, each proved.
 #![tactic(auto)]
 
-ghost use Rattle.std.specs.Prelude.{◌≡◌, ◌<◌, ◌↔◌, ℕ, List, None, Some, IsTrue, IsSome, IfSome, IfOk, IfErr, OnOk, OnErr, length, slice_set, vec_len};
+ghost use Rattle.std.specs.Prelude.{◌≡◌, ◌<◌, ◌↔◌, ℕ, List, None, Some, IsTrue, IsSome, IfSome, IfOk, IfErr, OnOk, OnErr, length, slice_index, slice_set, vec_len};
 ghost use Rattle.std.specs.Bool.{OnFalse, OnTrue};
 ghost use Rattle.hex_core.specs.declared.digit.CheckCase.TheVariants as policy;
+ghost use Rattle.hex_core.specs.Digit.{value};
 ghost use Rattle.hex_core.specs.Search.{first_invalid};
 ghost use Rattle.hex_core.specs.Refusal.{array_refusal, decode_refusal, encode_refusal};
 ghost use Rattle.hex_core.specs.Text.{Spells, lowercase, text, uppercase, with_front};
 
 use faster_hex::{
-    Backend, CheckCase, Error, hex_check, hex_decode_array_with_case, hex_decode_into,
-    hex_encode_into,
+    Backend, CheckCase, Error, hex_check, hex_decode_array, hex_decode_array_with_case,
+    hex_decode_into, hex_encode_into,
+};
+use hex_core::laws::{
+    an_invalid_char_is_the_first_invalid_byte, the_first_invalid_byte_is_the_first,
 };
 
 pub mod dumps;
 pub mod json;
+pub mod probes;
 pub mod texts;
 
 /// Decodes into a buffer and marks it as read by setting its first byte to 0xff.
@@ -69,4 +74,39 @@ pub fn is_key(text: &[u8]) -> bool
     ensures { IsTrue result ↔ ((length text.now ≡ 16) × (first_invalid policy.None text.now ≡ None)) }
 {
     text.len() == 16 && hex_check(text)
+}
+
+/// A hardware address of six bytes, by the policy that is the default, which reads either case.
+///
+/// ```rust
+/// assert_eq!(rt; parse_address(b"00005E0053aF"), Some([0, 0, 0x5e, 0, 0x53, 0xaf]));
+/// ```
+pub fn parse_address(text: &[u8]) -> Option<[u8; 6]>
+    ensures found { IsSome result ↔ (array_refusal policy.None text.now 6 ≡ None) }
+    ensures value { IfSome result (λ address. Spells policy.None text.now address) }
+{
+    match hex_decode_array_with_case::<6>(text, CheckCase::default()) {
+        Ok(address) => Some(address),
+        Err(_) => None,
+    }
+}
+
+/// The place of the byte for which a text is refused as four bytes, where it is refused for a byte:
+/// the first one of eight that is no digit.
+///
+/// ```rust
+/// assert_eq!(rt; bad_place(b"deadbe3g"), Some(7));
+/// assert_eq!(rt; bad_place(b"deadbeef"), None);
+/// ```
+pub fn bad_place(text: &[u8]) -> Option<usize>
+    ensures bad { IfSome result (λ i. (i < length text.now)
+        × (value policy.None (slice_index text.now i) ≡ None)) }
+    ensures eight { length text.now ≡ 8 → result ≡ first_invalid policy.None text.now }
+{
+    an_invalid_char_is_the_first_invalid_byte();
+    the_first_invalid_byte_is_the_first();
+    match hex_decode_array::<4>(text) {
+        Err(Error::InvalidChar { index, .. }) => Some(index),
+        _ => None,
+    }
 }

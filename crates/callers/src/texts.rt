@@ -1,10 +1,12 @@
 //! Callers that keep digits as text, each proved.
 
-ghost use Rattle.std.specs.Prelude.{◌≡◌, ◌+◌, ◌*◌, ◌≤◌, ◌++◌, length, string_bytes, string_len, string_capacity};
+ghost use Rattle.std.specs.Prelude.{◌≡◌, ◌+◌, ◌*◌, ◌≤◌, ◌++◌, MatchResult, length, string_bytes, string_len, string_capacity};
 ghost use Rattle.hex_core.specs.Text.{lowercase, text};
 
-use faster_hex::hex_append_into;
-use std::alloc::Allocator;
+use faster_hex::{hex_append_into, hex_encode};
+use hex_core::laws::a_text_is_ascii_and_twice_as_long;
+use std::alloc::{AllocError, Allocator};
+use std::str;
 
 /// Appends the digits of two parts to a text that has room for both, which can't fail.
 pub fn append_both<A: Allocator>(line: &mut String<A>, first: &[u8], second: &[u8])
@@ -15,4 +17,27 @@ pub fn append_both<A: Allocator>(line: &mut String<A>, first: &[u8], second: &[u
 {
     hex_append_into(first, line, false).unwrap();
     hex_append_into(second, line, false).unwrap();
+}
+
+/// Appends the 32 digits of an identifier to a text, by way of a buffer on the stack. It fails for
+/// want of memory alone, and leaves the text as it was then.
+///
+/// ```rust
+/// let mut line = String::new(rt.alloc());
+/// line.push_str("id ")?;
+/// append_identifier(&mut line, b"hello, 16 bytes!")?;
+/// assert_eq!(rt; line.as_str(), "id 68656c6c6f2c20313620627974657321");
+/// ```
+pub fn append_identifier<A: Allocator>(
+    line: &mut String<A>,
+    id: &[u8; 16],
+) -> Result<(), AllocError>
+    ensures { MatchResult result
+        (λ _. string_bytes line.new ≡ string_bytes line.old ++ text lowercase id.now)
+        (λ _. string_bytes line.new ≡ string_bytes line.old) }
+{
+    a_text_is_ascii_and_twice_as_long();
+    let mut buffer = [0; 32];
+    let digits = hex_encode(id, &mut buffer).unwrap();
+    line.push_str(str::from_utf8(digits).unwrap())
 }
