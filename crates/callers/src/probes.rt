@@ -9,7 +9,7 @@ use hex_core::laws::the_first_invalid_byte_is_the_first;
 // How many bytes the widest test takes, as `locate` wants it.
 const BLOCK: usize = 64;
 
-/// Two parts that are read as one source, as a ring buffer holds its bytes.
+// Two parts that are read as one source, as a ring buffer holds its bytes.
 #[derive(Drop)]
 struct TwoParts<'a> {
     front: &'a [u8],

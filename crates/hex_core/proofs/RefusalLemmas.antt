@@ -10,7 +10,7 @@ use Rattle.hex_core.specs.Refusal.{array_refusal, decode_refusal, first_bad_char
 use Rattle.hex_core.specs.Search.{first_invalid}
 use Rattle.hex_core.proofs.SearchLemmas.{first_is_first}
 
--- what the first bad character names
+-- the first bad character is the first invalid byte
 bad_char_is_first : (c : CheckCase) (s : List ℕ) (o : Option ℕ) → first_invalid c s ≡ o → (i b : ℕ) → option_map (λ f. InvalidChar f (slice_index s f)) o ≡ Some (InvalidChar i b) → (first_invalid c s ≡ Some i) × (b ≡ slice_index s i) × (value c b ≡ None)
 bad_char_is_first c s (Some f) e i b h =
     let none = (first_is_first c s f e).1 in
@@ -30,6 +30,7 @@ array_bad_char c s n i b h = grind (arith, nat_tests, h)
 source_bad_char : (c : CheckCase) (s : List ℕ) (i b : ℕ) → source_refusal c s ≡ Some (InvalidChar i b) → first_bad_char c s ≡ Some (InvalidChar i b)
 source_bad_char c s i b h = grind (arith, nat_tests, h)
 
+-- and so it names the first invalid byte
 pub decode_names_first : (room : ℕ) → NamesFirstInvalid (λ c s. decode_refusal c s room)
 decode_names_first room c s i b h = bad_char_names_first c s i b (decode_bad_char c s room i b h)
 

@@ -8,6 +8,7 @@ use Rattle.hex_core.specs.Digit.{value}
 use Rattle.hex_core.specs.Search.{AllValid}
 use Rattle.callers.proofs.probes.TwoPartsProbe.test.Goals as goal
 
+-- where the front and the back of a range are valid, the range is
 in_whole : (c : CheckCase) (front back : List ℕ) (start end a b d e : ℕ) → a ≡ min start (length front) → b ≡ min end (length front) → d ≡ start - length front → e ≡ end - length front → AllValid c front a b → AllValid c back d e → AllValid c (front ++ back) start end
 in_whole c front back start end a b d e is_a is_b is_d is_e valid_front valid_back k low lt =
     elim (cases_lt k (length front)) [
@@ -15,6 +16,7 @@ in_whole c front back start end a b d e is_a is_b is_d is_e valid_front valid_ba
       | inr behind ↦ subst (λ x. IsSome (value c x)) (sym (get_or-append_right front back (length front) k 0 refl behind)) (valid_back (k - length front) (omega arith) (omega arith))
     ]
 
+-- and the other way round
 in_front : (c : CheckCase) (front back : List ℕ) (start end a b : ℕ) → a ≡ min start (length front) → b ≡ min end (length front) → AllValid c (front ++ back) start end → AllValid c front a b
 in_front c front back start end a b is_a is_b valid k low lt =
     subst (λ x. IsSome (value c x)) (get_or_append_left front back 0 k (omega arith)) (valid k (omega arith) (omega arith))
