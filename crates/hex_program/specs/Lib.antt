@@ -1,3 +1,4 @@
 pub mod Failures
 pub mod Operations
 pub mod Serving
+pub mod Vectors

@@ -13,5 +13,5 @@ pub use crate::failure::Failure;
 pub use crate::input::{INPUT_LIMIT, read_input};
 pub use crate::operation::{Op, RunFault, run};
 pub use crate::program::{refuse, serve, serve_vectors};
-pub use crate::vector_run::run_vectors;
+pub use crate::vector_run::{Codec, run_vectors, run_vectors_under};
 pub use crate::vectors::{Call, VECTORS, Vector};

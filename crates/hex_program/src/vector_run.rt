@@ -1,10 +1,14 @@
-//! The run of stored vectors under each plan, which puts a line each and their totals.
+//! The run of stored vectors under each plan, or under other codecs that are handed in, which puts a
+//! line each and their totals.
 
-ghost use Rattle.std.specs.Prelude.{◌≡◌, ◌<◌, ◌≤◌, ◌-◌, ◌*◌, ◌^◌, length, IfOk, OnOk};
+ghost use Rattle.std.specs.Prelude.{◌≡◌, ◌<◌, ◌≤◌, ◌-◌, ◌*◌, ◌^◌, ◌↔◌, length, IfOk, IsTrue, MatchResult, IsOkAnd, IsErrAnd, OnOk};
+ghost use Rattle.hex_core.specs.Calls.{DecodesFront, EncodesFront};
+ghost use Rattle.hex_core.specs.Plans.{name_of};
+ghost use Rattle.hex_program.specs.Vectors.{AreFill, HoldsOverFill};
 
 use crate::vectors::{Call, Vector};
 use arrayvec::ArrayString;
-use hex_core::{Backend, Error, backends};
+use hex_core::{Backend, CheckCase, Error, backends};
 use hex_format::{Sink, WriteFault, put_all};
 use std::fmt::Write;
 
@@ -14,39 +18,117 @@ const FILL: u8 = 0xa5;
 // The longest destination, in bytes.
 const LONGEST: usize = 128;
 
-/// Returns whether a destination holds these bytes, and behind them what it was filled with, 0xa5.
+/// What vectors are run under: a name, and two calls that may do anything. Each plan is one, by
+/// its calls `encode_slice` and `decode_slice`.
 ///
 /// ```rust
-/// assert!(rt; holds(&[0xab, 0xa5], &[0xab]));
-/// assert!(rt; !holds(&[0xab, 0], &[0xab]));
+/// let [scalar, ..] = backends();
+/// let mut buffer = [0xa5; 3];
+/// assert_eq!(rt; Codec::name(&scalar), "scalar");
+/// assert_eq!(rt; Codec::encode(&scalar, &[0xab], &mut buffer, false)?, b"ab");
 /// ```
-pub fn holds(destination: &[u8], bytes: &[u8]) -> bool {
+pub trait Codec {
+    /// Returns what its lines call it.
+    fn name(&self) -> &str;
+
+    /// Encodes all of `source` into the front of `destination`, in uppercase where `upper` is
+    /// true, and returns that front.
+    ///
+    /// # Errors
+    ///
+    /// What it refuses; then a right one leaves all of `destination` as it was.
+    fn encode<'a>(
+        &self,
+        source: &[u8],
+        destination: &'a mut [u8],
+        upper: bool,
+    ) -> Result<&'a mut [u8], Error>;
+
+    /// Decodes all of `source`, read under `case`, into the front of `destination`, and returns
+    /// that front.
+    ///
+    /// # Errors
+    ///
+    /// What it refuses; then a right one leaves all of `destination` as it was.
+    fn decode<'a>(
+        &self,
+        source: &[u8],
+        destination: &'a mut [u8],
+        case: CheckCase,
+    ) -> Result<&'a mut [u8], Error>;
+}
+
+impl Codec for Backend {
+    fn name(&self) -> &str
+        ensures { result.now ≡ name_of self.now }
+    {
+        Backend::name(*self)
+    }
+
+    fn encode<'a>(
+        &self,
+        source: &[u8],
+        destination: &'a mut [u8],
+        upper: bool,
+    ) -> Result<&'a mut [u8], Error>
+        ensures { EncodesFront upper source.now (length destination.old) result }
+    {
+        self.encode_slice(source, destination, upper)
+    }
+
+    fn decode<'a>(
+        &self,
+        source: &[u8],
+        destination: &'a mut [u8],
+        case: CheckCase,
+    ) -> Result<&'a mut [u8], Error>
+        ensures { DecodesFront case source.now (length destination.old) result }
+    {
+        self.decode_slice(source, destination, case)
+    }
+}
+
+// Whether every byte is what a destination is filled with.
+fn is_fill(bytes: &[u8]) -> bool
+    ensures { IsTrue result ↔ AreFill bytes.now }
+{
+    bytes.iter().all(|&byte| byte == FILL)
+}
+
+// Whether a destination holds these bytes, and behind them what it was filled with.
+fn holds(destination: &[u8], bytes: &[u8]) -> bool
+    ensures { IsTrue result ↔ HoldsOverFill destination.now bytes.now }
+{
     match destination.strip_prefix(bytes) {
-        Some(rest) => rest.iter().all(|&byte| byte == FILL),
+        Some(rest) => is_fill(rest),
         None => false,
     }
 }
 
 // Whether a call gave the stated answer.
-fn agree(answer: Result<&mut [u8], Error>, stated: Result<&[u8], Error>) -> bool {
+fn agree(answer: Result<&mut [u8], Error>, stated: Result<&[u8], Error>) -> bool
+    ensures { IsTrue result ↔ MatchResult stated.entry
+        (λ wanted. IsOkAnd answer.entry (λ bytes. bytes.now ≡ wanted.now))
+        (λ wanted. IsErrAnd answer.entry (λ refusal. refusal ≡ wanted)) }
+{
     match (answer, stated) {
         (Ok(bytes), Ok(wanted)) => *bytes == *wanted,
-        (Err(e), Err(wanted)) => e == wanted,
+        (Err(refusal), Err(wanted)) => refusal == wanted,
         _ => false,
     }
 }
 
-// Runs a vector under a plan, and returns whether it passes. One with more room than there is
+// Runs a vector under a codec, and returns whether it passes. One with more room than there is
 // fails.
-fn passes(plan: Backend, vector: &Vector) -> bool {
+fn passes<C: Codec>(codec: &C, vector: &Vector) -> bool {
     let mut buffer = [FILL; LONGEST];
     if LONGEST < vector.room {
         return false;
     }
     let destination = &mut buffer[..vector.room];
     let answer = match vector.call {
-        Call::Encode { upper } => plan.encode_slice(vector.source, destination, upper),
-        Call::Decode { case } => plan.decode_slice(vector.source, destination, case),
+        Call::Encode { upper } => codec.encode(vector.source, destination, upper),
+        Call::Decode { case } => codec.decode(vector.source, destination, case),
     };
     agree(answer, vector.answer) && holds(&buffer[..vector.room], vector.answer.unwrap_or_default())
 }
@@ -93,28 +175,73 @@ fn put_totals<S: Sink>(
     put_texts(sink, &texts)
 }
 
-// Runs each vector under a plan, puts its line, and returns how many failed.
-fn run_under<S: Sink>(plan: Backend, table: &[Vector], sink: &mut S) -> Result<usize, WriteFault>
+// Puts the line of a vector.
+fn put_line<S: Sink>(sink: &mut S, under: &str, name: &str, passed: bool) -> Result<(), WriteFault>
+    requires { (S.state sink.old).failures < 2 ^ 64 - 1 }
+    ensures { OnOk result ((S.state sink.new).failures ≡ (S.state sink.old).failures) }
+{
+    let verdict = if passed { " pass\n" } else { " fail\n" };
+    put_texts(sink, &[under, " ", name, verdict])
+}
+
+// Runs each vector under a codec, puts its line, and returns how many failed.
+fn run_under<C: Codec, S: Sink>(
+    codec: &C,
+    table: &[Vector],
+    sink: &mut S,
+) -> Result<usize, WriteFault>
     requires { (S.state sink.old).failures < 2 ^ 64 - 1 }
     ensures failed { IfOk result (λ failed. failed ≤ length table.now) }
     ensures counted { OnOk result ((S.state sink.new).failures ≡ (S.state sink.old).failures) }
 {
     let mut failed = 0;
     'table: for vector in table {
-        let (plan_name, name) = (plan.name(), vector.name);
-        if passes(plan, vector) {
-            put_texts(sink, &[plan_name, " ", name, " pass\n"])?;
-        } else {
+        let passed = passes(codec, vector);
+        put_line(sink, codec.name(), vector.name, passed)?;
+        if !passed {
             failed += 1;
-            put_texts(sink, &[plan_name, " ", name, " fail\n"])?;
         }
     }
     Ok(failed)
 }
 
-/// Runs each vector under each plan, in the order of [`backends`], and puts a line each, as
+/// Runs each vector under each codec, in the order of `codecs`, and puts a line each, as
 /// `scalar v01 pass`, or `fail` in the place of `pass`. The last line has the totals. Returns how
-/// many failed, a vector counted once for each plan. No memory is taken.
+/// many failed, a vector counted once for each codec. No memory is taken.
+///
+/// The caller shows that the number of codecs times that of vectors is a `usize`.
+///
+/// # Errors
+///
+/// [`WriteFault`] where a put failed, which ends the run.
+///
+/// ```rust
+/// let [scalar, ..] = backends();
+/// let mut buffer = [0; 64];
+/// let mut sink = SliceSink::new(&mut buffer);
+/// assert_eq!(rt; run_vectors_under(&[scalar], &VECTORS[..1], &mut sink), Ok(0));
+/// assert_eq!(rt; sink.written(), b"scalar v01 pass\ntotal 1 passed 1 failed 0\n");
+/// ```
+pub fn run_vectors_under<C: Codec, S: Sink>(
+    codecs: &[C],
+    table: &[Vector],
+    sink: &mut S,
+) -> Result<usize, WriteFault>
+    requires countable { length codecs.now * length table.now < 2 ^ 64 }
+    requires room { (S.state sink.old).failures < 2 ^ 64 - 1 }
+    ensures failed { IfOk result (λ failed. failed ≤ length codecs.now * length table.now) }
+    ensures counted { OnOk result ((S.state sink.new).failures ≡ (S.state sink.old).failures) }
+{
+    let total = codecs.len() * table.len();
+    let mut failed = 0;
+    'codecs: for codec in codecs {
+        failed += run_under(codec, table, sink)?;
+    }
+    put_totals(sink, total, total - failed, failed)?;
+    Ok(failed)
+}
+
+/// [`run_vectors_under`] each plan, in the order of [`backends`].
 ///
 /// # Errors
 ///
@@ -131,12 +258,5 @@ pub fn run_vectors<S: Sink>(table: &[Vector], sink: &mut S) -> Result<usize, Wri
     ensures failed { IfOk result (λ failed. failed ≤ 5 * length table.now) }
     ensures counted { OnOk result ((S.state sink.new).failures ≡ (S.state sink.old).failures) }
 {
-    let plans = backends();
-    let total = plans.len() * table.len();
-    let mut failed = 0;
-    'plans: for plan in plans {
-        failed += run_under(plan, table, sink)?;
-    }
-    put_totals(sink, total, total - failed, failed)?;
-    Ok(failed)
+    run_vectors_under(&backends(), table, sink)
 }

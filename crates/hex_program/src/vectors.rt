@@ -5,12 +5,12 @@ use hex_core::{CheckCase, Error};
 /// The call of a stored vector.
 #[derive(Clone, Copy)]
 pub enum Call {
-    /// `Backend::encode_slice`.
+    /// Encoding; under a plan, `Backend::encode_slice`.
     Encode {
         /// Whether the digits are uppercase.
         upper: bool,
     },
-    /// `Backend::decode_slice`.
+    /// Decoding; under a plan, `Backend::decode_slice`.
     Decode {
         /// The policy.
         case: CheckCase,

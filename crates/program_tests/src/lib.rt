@@ -2,6 +2,8 @@
 #![tactic(auto)]
 
 #[cfg(test)]
+mod codecs;
+#[cfg(test)]
 mod faults;
 #[cfg(test)]
 mod limit;

@@ -1,9 +1,9 @@
 //! The stored vectors, and tables with wrong ones.
 
+use crate::codecs::{Slip, Slipping};
 use crate::streams::Repeated;
-use faster_hex::{CheckCase, Error};
-use hex_program::vector_run::holds;
-use hex_program::{Call, VECTORS, Vector, serve, serve_vectors};
+use faster_hex::{CheckCase, Error, SliceSink};
+use hex_program::{Call, VECTORS, Vector, run_vectors_under, serve, serve_vectors};
 
 #[test]
 fn the_stored_vectors_pass_under_each_plan(rt: HostRuntime) {
@@ -133,24 +133,122 @@ fn each_name_of_a_vector_stands_once(rt: HostRuntime) {
     }
 }
 
-// The destination of a vector holds its bytes, and 0xa5 behind them.
+// Vectors that a right codec passes, of each kind of answer.
+static RIGHT: [Vector; 5] = [
+    Vector {
+        name: "text",
+        call: Call::Encode { upper: false },
+        source: b"\xab\xcd",
+        room: 7,
+        answer: Ok(b"abcd"),
+    },
+    Vector {
+        name: "bytes",
+        ..SOUND
+    },
+    Vector {
+        name: "full",
+        room: 2,
+        ..SOUND
+    },
+    Vector {
+        name: "refused",
+        source: b"00ag",
+        answer: Err(Error::InvalidChar {
+            index: 3,
+            byte: b'g',
+        }),
+        ..SOUND
+    },
+    Vector {
+        name: "narrow",
+        room: 1,
+        answer: Err(Error::OutputTooSmall { required: 2 }),
+        ..SOUND
+    },
+];
+
+fn codec(name: &'static str, slip: Slip) -> Slipping {
+    Slipping { name, slip }
+}
+
+// The lines of a run under three codecs, of which the second answers refusals wrong.
+const WRONG_REFUSALS: &[u8] = b"\
+    first text pass\nfirst bytes pass\nfirst full pass\nfirst refused pass\nfirst narrow pass\n\
+    wrong text pass\nwrong bytes pass\nwrong full pass\nwrong refused fail\nwrong narrow fail\n\
+    last text pass\nlast bytes pass\nlast full pass\nlast refused pass\nlast narrow pass\n\
+    total 15 passed 13 failed 2\n";
+
+// The same where it answers or writes bytes wrong.
+const WRONG_BYTES: &[u8] = b"\
+    first text pass\nfirst bytes pass\nfirst full pass\nfirst refused pass\nfirst narrow pass\n\
+    wrong text fail\nwrong bytes fail\nwrong full fail\nwrong refused pass\nwrong narrow pass\n\
+    last text pass\nlast bytes pass\nlast full pass\nlast refused pass\nlast narrow pass\n\
+    total 15 passed 12 failed 3\n";
+
+// The same where it writes behind them, and there is room.
+const WRONG_BEHIND: &[u8] = b"\
+    first text pass\nfirst bytes pass\nfirst full pass\nfirst refused pass\nfirst narrow pass\n\
+    wrong text fail\nwrong bytes fail\nwrong full pass\nwrong refused pass\nwrong narrow pass\n\
+    last text pass\nlast bytes pass\nlast full pass\nlast refused pass\nlast narrow pass\n\
+    total 15 passed 13 failed 2\n";
+
 #[test]
-fn a_byte_behind_the_answer_is_seen(rt: HostRuntime) {
-    let rows: [(&[u8], &[u8], bool); 6] = [
-        (&[0, 0xab, 0xa5], &[0, 0xab], true),
-        (&[0, 0xab], &[0, 0xab], true),
-        (&[0xa5, 0xa5], &[], true),
-        (&[0, 0xab, 0], &[0, 0xab], false),
-        (&[0xa5, 0], &[], false),
-        (&[0], &[0, 0xab], false),
+fn a_wrong_codec_fails_under_its_own_name(rt: HostRuntime) {
+    let rows: [(Slip, usize, &[u8]); 9] = [
+        (Slip::OtherError, 2, WRONG_REFUSALS),
+        (Slip::EmptyAnswer, 2, WRONG_REFUSALS),
+        (Slip::RefusalWrites, 2, WRONG_REFUSALS),
+        (Slip::LateError, 3, WRONG_BYTES),
+        (Slip::ShortAnswer, 3, WRONG_BYTES),
+        (Slip::ShiftedAnswer, 3, WRONG_BYTES),
+        (Slip::WrongLastByte, 3, WRONG_BYTES),
+        (Slip::ShiftedBytes, 3, WRONG_BYTES),
+        (Slip::ByteBehind, 2, WRONG_BEHIND),
     ];
-    for (destination, bytes, held) in rows {
-        assert_eq!(rt;
-            holds(destination, bytes),
-            held,
-            "{bytes:?} in {destination:?}"
-        );
+    for (slip, failed, lines) in rows {
+        let codecs = [
+            codec("first", Slip::Nothing),
+            codec("wrong", slip),
+            codec("last", Slip::Nothing),
+        ];
+        let mut buffer = [0; 512];
+        let mut sink = SliceSink::new(&mut buffer);
+        let ran = run_vectors_under(&codecs, &RIGHT, &mut sink);
+        assert_eq!(rt; ran, Ok(failed), "failed under {slip:?}");
+        assert_eq!(rt; sink.written(), lines, "lines under {slip:?}");
     }
+}
+
+// Two codecs that are wrong in different things, on both sides of a right one.
+#[test]
+fn each_codec_has_its_own_lines(rt: HostRuntime) {
+    let codecs = [
+        codec("first", Slip::OtherError),
+        codec("right", Slip::Nothing),
+        codec("last", Slip::LateError),
+    ];
+    let mut buffer = [0; 512];
+    let mut sink = SliceSink::new(&mut buffer);
+    let ran = run_vectors_under(&codecs, &RIGHT[2..4], &mut sink);
+    assert_eq!(rt; ran, Ok(2));
+    assert_eq!(rt;
+        sink.written(),
+        b"first full pass\nfirst refused fail\n\
+          right full pass\nright refused pass\n\
+          last full fail\nlast refused pass\n\
+          total 6 passed 4 failed 2\n"
+            .as_slice()
+    );
+}
+
+#[test]
+fn no_codecs_are_a_line_of_totals(rt: HostRuntime) {
+    let codecs: [Slipping; 0] = [];
+    let mut buffer = [0; 512];
+    let mut sink = SliceSink::new(&mut buffer);
+    assert_eq!(rt; run_vectors_under(&codecs, &RIGHT, &mut sink), Ok(0));
+    assert_eq!(rt; sink.written(), b"total 0 passed 0 failed 0\n".as_slice());
 }
 
 // A name makes its line as long as it is.

@@ -1,0 +1,10 @@
+-- When a codec has met what a vector states.
+use Rattle.std.specs.Prelude.{◌≡◌, ℕ, List, length, take, drop, All}
+
+-- every byte is what a destination is filled with before a call
+abbrev pub AreFill : List ℕ → Type 0
+AreFill bytes = All (λ b. b ≡ 165) bytes
+
+-- a destination holds these bytes in its front, and behind them what it was filled with
+abbrev pub HoldsOverFill : List ℕ → List ℕ → Type 0
+HoldsOverFill destination bytes = (take (length bytes) destination ≡ bytes) × AreFill (drop (length bytes) destination)
