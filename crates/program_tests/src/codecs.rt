@@ -112,7 +112,7 @@ impl Codec for Slipping {
         destination: &'a mut [u8],
         upper: bool,
     ) -> Result<&'a mut [u8], Error> {
-        let answer = Backend::PLAIN.encode_into(source, destination, upper);
+        let answer = Backend::plain().encode_into(source, destination, upper);
         self.after(destination, answer)
     }
 
@@ -122,7 +122,7 @@ impl Codec for Slipping {
         destination: &'a mut [u8],
         case: CheckCase,
     ) -> Result<&'a mut [u8], Error> {
-        let answer = Backend::PLAIN.decode_into(source, destination, case);
+        let answer = Backend::plain().decode_into(source, destination, case);
         self.after(destination, answer)
     }
 }
