@@ -142,8 +142,8 @@ pub fn encodes_into(src: &[u8], room: usize, upper: bool, want: Answer<'_>) -> b
     }
 }
 
-// Whether a buffer holds the written bytes from this place on, and is else as it was filled.
-fn holds_only(buffer: &[u8], at: usize, answer: Answer<'_>) -> bool {
+/// Whether a buffer holds the written bytes from this place on, and is else as it was filled.
+pub fn holds_only(buffer: &[u8], at: usize, answer: Answer<'_>) -> bool {
     let Some((before, rest)) = buffer.split_at_checked(at) else {
         return false;
     };

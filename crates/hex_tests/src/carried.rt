@@ -1,7 +1,9 @@
 //! The Rust crate's tests of its slice calls, under the names that they have there.
 
 use crate::calls::{Decoder, Encoder};
-use crate::rules::{CASES, FILL, damaged, invalid, placed, spelled, text_of, too_small, value};
+use crate::rules::{
+    CASES, FILL, damaged, invalid, placed, spelled, strict, text_of, too_small, value,
+};
 use faster_hex::{CheckCase, Error, hex_check, hex_check_with_case, hex_decode};
 use std::array;
 use std::test::Fail;
@@ -129,11 +131,6 @@ fn strict_uppercase_fixed_hash_keeps_numeric_nibbles(rt: HostRuntime) {
 // Whether `len` bytes from `start` on are encoded to another place, and decoded from there to where
 // they were.
 fn moves_both_ways(list: &[u8], text: &[u8], start: usize, len: usize, upper: bool) -> bool {
-    let case = if upper {
-        CheckCase::Upper
-    } else {
-        CheckCase::Lower
-    };
     let to = start.wrapping_mul(7) % 32;
     let twice = len.wrapping_mul(2);
     let from = start.wrapping_mul(2);
@@ -143,7 +140,7 @@ fn moves_both_ways(list: &[u8], text: &[u8], start: usize, len: usize, upper: bo
     let source = encoded.get(to..to.wrapping_add(twice)).unwrap_or_default();
     bytes.len() == len
         && Encoder::Plain(upper).encodes_at::<580>(bytes, to, twice, Ok(text))
-        && Decoder::Under(case).decodes_at::<321>(source, start, len, Ok(bytes))
+        && Decoder::Under(strict(upper)).decodes_at::<321>(source, start, len, Ok(bytes))
 }
 
 #[test]

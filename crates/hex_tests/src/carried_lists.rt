@@ -22,10 +22,7 @@ fn decodes_by_rule(src: &[u8], room: usize, case: CheckCase) -> bool {
     let Some(dst) = after.get_mut(..room) else {
         return false;
     };
-    let want = match decode_by_rule(src, dst, case) {
-        Ok(len) => Ok(after.get(..len).unwrap_or_default()),
-        Err(e) => Err(e),
-    };
+    let want = decode_by_rule(src, dst, case);
     Decoder::Under(case).decodes_at::<1031>(src, 0, room, want)
 }
 

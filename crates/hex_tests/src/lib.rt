@@ -11,6 +11,8 @@ mod carried_lists;
 #[cfg(test)]
 mod carried_owned;
 #[cfg(test)]
+mod carried_plans;
+#[cfg(test)]
 mod fixed_rows;
 #[cfg(test)]
 mod format_rows;
@@ -32,5 +34,7 @@ mod sink_rows;
 mod slice_rows;
 #[cfg(test)]
 mod string_rows;
+#[cfg(test)]
+mod whole_calls;
 #[cfg(test)]
 mod writer_rows;

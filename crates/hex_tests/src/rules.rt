@@ -12,6 +12,15 @@ pub const FILL: u8 = 0xa5;
 /// Each policy.
 pub const CASES: [CheckCase; 3] = [CheckCase::None, CheckCase::Lower, CheckCase::Upper];
 
+/// The policy that reads the letters of one case.
+pub fn strict(upper: bool) -> CheckCase {
+    if upper {
+        CheckCase::Upper
+    } else {
+        CheckCase::Lower
+    }
+}
+
 /// The value of a byte as a digit: three intervals, each read under two or three policies.
 pub fn value(byte: u8, case: CheckCase) -> Option<u8> {
     match (byte, case) {
@@ -169,8 +178,26 @@ pub fn spelled(high: u8, low: u8, case: CheckCase) -> Option<u8> {
     Some(high.wrapping_mul(16).wrapping_add(low))
 }
 
-/// What decoding answers, and what it leaves in its destination.
-pub fn decode_by_rule(src: &[u8], dst: &mut [u8], case: CheckCase) -> Result<usize, Error> {
+/// Writes the bytes of the pairs before the one that holds the first invalid byte, and answers them.
+pub fn front_by_rule<'a>(src: &[u8], dst: &'a mut [u8], case: CheckCase) -> &'a [u8] {
+    let count = match first_invalid(src, case) {
+        Some((place, _)) => place / 2,
+        None => src.len() / 2,
+    };
+    for (pair, byte) in src.chunks_exact(2).zip(dst.iter_mut()).take(count) {
+        if let [high, low] = pair {
+            *byte = spelled(*high, *low, case).unwrap_or(0);
+        }
+    }
+    dst.get(..count).unwrap_or_default()
+}
+
+/// What decoding answers into this destination, which then holds the answer.
+pub fn decode_by_rule<'a>(
+    src: &[u8],
+    dst: &'a mut [u8],
+    case: CheckCase,
+) -> Result<&'a [u8], Error> {
     let required = src.len() / 2;
     if src.len() % 2 == 1 {
         return Err(Error::OddLength);
@@ -178,13 +205,19 @@ pub fn decode_by_rule(src: &[u8], dst: &mut [u8], case: CheckCase) -> Result<usi
     if dst.len() < required {
         return too_small(required);
     }
-    if let Some((index, byte)) = first_invalid(src, case) {
-        return invalid(index, byte);
+    match first_invalid(src, case) {
+        Some((index, byte)) => invalid(index, byte),
+        None => Ok(front_by_rule(src, dst, case)),
     }
-    for (pair, byte) in src.chunks_exact(2).zip(dst.iter_mut()) {
-        if let [high, low] = pair {
-            *byte = spelled(*high, *low, case).unwrap_or(0);
-        }
-    }
-    Ok(required)
+}
+
+/// How many digits each plan, in their order, decodes at a time into a buffer that is given up; 0
+/// where it decodes all of them at once.
+pub const OWNED_BLOCKS: [usize; 5] = [0, 0, 64, 128, 64];
+
+/// How many bytes such decoding has stored where the first invalid byte is at this place: those of
+/// the whole blocks before the one that holds it.
+pub fn stored_before(place: usize, block: usize) -> usize {
+    let blocks = place.checked_div(block).unwrap_or(0);
+    blocks.wrapping_mul(block / 2)
 }
