@@ -7,6 +7,8 @@ mod calls;
 #[cfg(test)]
 mod carried;
 #[cfg(test)]
+mod carried_guards;
+#[cfg(test)]
 mod carried_lists;
 #[cfg(test)]
 mod carried_owned;
