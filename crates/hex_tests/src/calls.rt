@@ -121,8 +121,15 @@ fn counts(got: Result<usize, Error>, want: Answer<'_>) -> bool {
 }
 
 /// Whether `hex_decode_into` answers so, and leaves nothing but the answer in a filled buffer.
-pub fn decodes_into(src: &[u8], room: usize, case: CheckCase, want: Answer<'_>) -> bool {
-    let mut buffer = [FILL; 40];
+pub fn decodes_into<const N: usize>(
+    src: &[u8],
+    room: usize,
+    case: CheckCase,
+    want: Answer<'_>,
+) -> bool
+    requires { N < 10000 }
+{
+    let mut buffer = [FILL; N];
     match buffer.get_mut(..room) {
         Some(dst) => {
             counts(hex_decode_into(src, dst, case), want) && holds_only(&buffer, 0, want)
@@ -132,8 +139,10 @@ pub fn decodes_into(src: &[u8], room: usize, case: CheckCase, want: Answer<'_>) 
 }
 
 /// Whether `hex_encode_into` answers so, and leaves nothing but the answer in a filled buffer.
-pub fn encodes_into(src: &[u8], room: usize, upper: bool, want: Answer<'_>) -> bool {
-    let mut buffer = [FILL; 40];
+pub fn encodes_into<const N: usize>(src: &[u8], room: usize, upper: bool, want: Answer<'_>) -> bool
+    requires { N < 10000 }
+{
+    let mut buffer = [FILL; N];
     match buffer.get_mut(..room) {
         Some(dst) => {
             counts(hex_encode_into(src, dst, upper), want) && holds_only(&buffer, 0, want)

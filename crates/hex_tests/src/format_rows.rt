@@ -3,6 +3,7 @@
 ghost use Rattle.std.specs.Prelude.{◌<◌, ◌^◌, ◌-◌};
 
 use crate::limited_sink::{LimitedSink, Mode};
+use crate::rules::joined;
 use faster_hex::{Align, Hex, HexFlags, Sink, SliceSink, WriteFault};
 use std::alloc::{AllocError, Global};
 use std::test::Fail;
@@ -32,17 +33,6 @@ pub fn flags_of(letters: &str, width: Option<usize>, fill: char) -> HexFlags {
         set_flag(&mut flags, *letter);
     }
     flags
-}
-
-/// The pieces behind one another, each as often as it says.
-pub fn joined(alloc: Global, pieces: &[(&str, usize)]) -> Result<Vec<u8>, AllocError> {
-    let mut text = Vec::new(alloc);
-    for (piece, count) in pieces {
-        for _ in 0..*count {
-            text.extend_from_slice(piece.as_bytes())?;
-        }
-    }
-    Ok(text)
 }
 
 /// Writes the text of these bytes.

@@ -19,6 +19,8 @@ mod fixed_rows;
 #[cfg(test)]
 mod format_rows;
 #[cfg(test)]
+mod generator;
+#[cfg(test)]
 mod lane_rows;
 #[cfg(test)]
 mod limited_sink;
@@ -28,6 +30,8 @@ mod owned_plan_rows;
 mod owned_rows;
 #[cfg(test)]
 mod plan_rows;
+#[cfg(test)]
+mod random_rows;
 #[cfg(test)]
 mod rules;
 #[cfg(test)]

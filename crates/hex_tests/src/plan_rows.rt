@@ -3,7 +3,7 @@
 ghost use Rattle.std.specs.Prelude.{◌≤◌, length};
 
 use crate::calls::{Decoder, Encoder, leaves};
-use crate::rules::{CASES, FILL, damaged, invalid, is_filled, patterns, text_of};
+use crate::rules::{CASES, FILL, Search, damaged, invalid, is_filled, patterns, strict, text_of};
 use crate::slice_rows::{decodings, encodings};
 use hex_core::{Backend, CheckCase, Probe, SliceProbe, backends, locate};
 use std::test::Fail;
@@ -16,27 +16,34 @@ fn plans_stand_in_their_order(rt: HostRuntime) {
     }
 }
 
-// What the search for the first invalid byte finds under a plan, and the tests and the looks that it takes.
-fn located(plan: Backend, source: &[u8], case: CheckCase) -> (Option<usize>, usize, usize) {
+// What the search for the first invalid byte finds and takes under a plan.
+fn located(plan: Backend, source: &[u8], case: CheckCase) -> Search {
     let mut probe = SliceProbe::new(plan, source, case);
     let place = locate(&mut probe);
     (place, probe.tests(), probe.looks())
 }
 
-// The plan under which it is searched for otherwise.
-fn otherwise_located(
+/// The plan under which it is searched for otherwise.
+pub fn plan_that_locates_otherwise(
     source: &[u8],
-    place: Option<usize>,
-    tests: usize,
-    looks: usize,
+    case: CheckCase,
+    search: Search,
 ) -> Option<&'static str> {
     for plan in backends() {
-        for case in CASES {
-            let is_located = located(plan, source, case) == (place, tests, looks)
-                && plan.first_invalid(source, case) == place;
-            if !is_located {
-                return Some(plan.name());
-            }
+        let is_located = located(plan, source, case) == search
+            && plan.first_invalid(source, case) == search.0;
+        if !is_located {
+            return Some(plan.name());
+        }
+    }
+    None
+}
+
+// The policy and the plan under which it is searched for otherwise.
+fn otherwise_located(source: &[u8], search: Search) -> Option<(CheckCase, &'static str)> {
+    for case in CASES {
+        if let Some(name) = plan_that_locates_otherwise(source, case, search) {
+            return Some((case, name));
         }
     }
     None
@@ -71,7 +78,7 @@ fn locates_the_first_invalid_byte_in_few_steps(rt: HostRuntime) {
     for (len, invalid_bytes, place, tests, looks) in rows {
         let room = with_invalid_bytes(invalid_bytes);
         let source = room.get(..len).unwrap_or_default();
-        let otherwise = otherwise_located(source, place, tests, looks);
+        let otherwise = otherwise_located(source, (place, tests, looks));
         assert!(rt;
             source.len() == len && otherwise.is_none(),
             "length {len}, {invalid_bytes:?}, {otherwise:?}"
@@ -167,11 +174,7 @@ fn reads(plan: Backend, text: &[u8], bytes: &[u8], case: CheckCase) -> bool
 
 // The length at which a plan does not read back what it writes of a list's front.
 fn unread_length(plan: Backend, list: &[u8; 257], text: &[u8], upper: bool) -> Option<usize> {
-    let case = if upper {
-        CheckCase::Upper
-    } else {
-        CheckCase::Lower
-    };
+    let case = strict(upper);
     for len in 0..258usize {
         let bytes = &list[..len];
         let text = text.get(..2 * len).unwrap_or_default();

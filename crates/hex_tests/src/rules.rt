@@ -2,6 +2,7 @@
 
 ghost use Rattle.std.specs.Prelude.{◌<◌};
 
+use faster_hex::{Align, HexFlags};
 use hex_core::{CheckCase, Error};
 use std::alloc::{AllocError, Allocator, Global};
 use std::mem;
@@ -220,4 +221,64 @@ pub const OWNED_BLOCKS: [usize; 5] = [0, 0, 64, 128, 64];
 pub fn stored_before(place: usize, block: usize) -> usize {
     let blocks = place.checked_div(block).unwrap_or(0);
     blocks.wrapping_mul(block / 2)
+}
+
+/// What the search for the first invalid byte finds, and the tests and the looks that it takes.
+pub type Search = (Option<usize>, usize, usize);
+
+/// The search by the rules: a source of more than 64 bytes is tested by whole blocks of 64, up to
+/// one with an invalid byte, and what is behind the blocks that pass is looked at up to that byte.
+pub fn search_by_rule(src: &[u8], case: CheckCase) -> Search {
+    let len = src.len();
+    let blocks = if len > 64 { len / 64 } else { 0 };
+    match first_invalid(src, case) {
+        Some((place, _)) => (Some(place), blocks.min(place / 64 + 1), place % 64 + 1),
+        None => (None, blocks, len - 64 * blocks),
+    }
+}
+
+// Appends a piece as often as it is to stand.
+fn append_copies(text: &mut Vec<u8>, piece: &[u8], count: usize) -> Result<(), AllocError> {
+    for _ in 0..count {
+        text.extend_from_slice(piece)?;
+    }
+    Ok(())
+}
+
+/// The pieces behind one another, each as often as it says.
+pub fn joined(alloc: Global, pieces: &[(&str, usize)]) -> Result<Vec<u8>, AllocError> {
+    let mut text = Vec::new(alloc);
+    for (piece, count) in pieces {
+        append_copies(&mut text, piece.as_bytes(), *count)?;
+    }
+    Ok(text)
+}
+
+/// The text of some digits that these flags ask for: sign, prefix and digits, and the characters
+/// that they lack of the width where the flags put them.
+pub fn padded_by_rule(
+    alloc: Global,
+    digits: &[u8],
+    flags: &HexFlags,
+) -> Result<Vec<u8>, AllocError> {
+    let sign = usize::from(flags.plus);
+    let prefix = usize::from(flags.prefix);
+    let frame = digits.len().wrapping_add(sign + 2 * prefix);
+    let lacking = flags.width.unwrap_or(0).saturating_sub(frame);
+    let (before, zeros, behind) = match (flags.zero, flags.align) {
+        (true, _) => (0, lacking, 0),
+        (false, Align::Left) => (0, 0, lacking),
+        (false, Align::Right) => (lacking, 0, 0),
+        (false, Align::Center) => (lacking / 2, 0, lacking - lacking / 2),
+    };
+    let mut buffer = [0; 4];
+    let fill = flags.fill.encode_utf8(&mut buffer).as_bytes();
+    let mut text = Vec::new(alloc);
+    append_copies(&mut text, fill, before)?;
+    append_copies(&mut text, b"+", sign)?;
+    append_copies(&mut text, b"0x", prefix)?;
+    append_copies(&mut text, b"0", zeros)?;
+    append_copies(&mut text, digits, 1)?;
+    append_copies(&mut text, fill, behind)?;
+    Ok(text)
 }

@@ -1,7 +1,8 @@
 //! What sinks that fail are left with.
 
-use crate::format_rows::{flags_of, joined, write_hex, writes_in_parts};
+use crate::format_rows::{flags_of, write_hex, writes_in_parts};
 use crate::limited_sink::{LimitedSink, Mode};
+use crate::rules::joined;
 use faster_hex::{HexFlags, Sink, SinkFault, SliceSink, WriteFault, WriterSink};
 use std::alloc::Global;
 use std::io;

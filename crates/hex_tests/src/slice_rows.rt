@@ -55,7 +55,7 @@ fn encoding_writes_the_front_or_nothing(rt: HostRuntime) {
         let encoder = Encoder::Plain(upper);
         assert!(rt;
             encoder.encodes_at::<40>(src, 0, room, answer)
-                && encodes_into(src, room, upper, answer),
+                && encodes_into::<40>(src, room, upper, answer),
             "{src:?} into {room}, upper {upper}"
         );
     }
@@ -67,7 +67,7 @@ fn decoding_writes_the_front_or_nothing(rt: HostRuntime) {
         let is_plain = case == CheckCase::None;
         assert!(rt;
             Decoder::Under(case).decodes_at::<40>(src, 0, room, answer)
-                && decodes_into(src, room, case, answer)
+                && decodes_into::<40>(src, room, case, answer)
                 && (!is_plain || Decoder::Plain.decodes_at::<40>(src, 0, room, answer)),
             "{src:?} into {room} under {case:?}"
         );
