@@ -3,6 +3,7 @@
 use hex_program::program::serve_in;
 use hex_program::{Op, serve};
 use refusing_allocator::Refusing;
+use std::alloc::Global;
 use std::test::Fail;
 
 const USAGE: &str = "usage: fhex encode|encode-upper|decode|decode-lower|decode-upper|vectors\n";
@@ -133,75 +134,76 @@ fn each_word_names_its_operation(rt: HostRuntime) {
     }
 }
 
-// A run with ample memory: its word, input, status, output and message, and how many growths it
-// asks for.
-type Growth = (
-    &'static str,
-    &'static [u8],
-    u8,
-    &'static [u8],
-    &'static str,
-    u64,
-);
+// A run with ample memory: its word and input, how it ends, and how many growths it can't do
+// without.
+type Growth = (&'static str, &'static [u8], End, u64);
+
+// A status, an output and a message.
+type End = (u8, &'static [u8], &'static str);
 
 static GROWTHS: [Growth; 8] = [
-    ("encode", b"hello", 0, b"68656c6c6f\n", "", 1),
-    ("encode-upper", b"\xab", 0, b"AB\n", "", 1),
-    ("decode", b"68656c6c6f\n", 0, b"hello", "", 2),
+    ("encode", b"hello", (0, b"68656c6c6f\n", ""), 1),
+    ("encode-upper", b"\xab", (0, b"AB\n", ""), 1),
+    ("decode", b"68656c6c6f\n", (0, b"hello", ""), 2),
     (
         "decode",
         b"0g",
-        1,
-        b"",
-        "invalid hex byte 0x67 at index 1\n",
+        (1, b"", "invalid hex byte 0x67 at index 1\n"),
         2,
     ),
-    ("decode", b"abc", 1, b"", ODD, 1),
-    ("decode", b"", 0, b"", "", 0),
-    ("decode-lower", b"00ab", 0, b"\x00\xab", "", 2),
+    ("decode", b"abc", (1, b"", ODD), 1),
+    ("decode", b"", (0, b"", ""), 0),
+    ("decode-lower", b"00ab", (0, b"\x00\xab", ""), 2),
     (
         "decode-upper",
         b"ab",
-        1,
-        b"",
-        "invalid hex byte 0x61 at index 0\n",
+        (1, b"", "invalid hex byte 0x61 at index 0\n"),
         2,
     ),
 ];
 
-// Each growth in turn is refused, and the run ends with `out of memory`.
+const WANTING: End = (3, b"", "out of memory\n");
+
+// Whether a run with this allocator ends so.
+fn ends(alloc: &Refusing<Global>, global: Global, word: &str, input: &[u8], end: End) -> bool {
+    let mut source = input;
+    let (out, err) = (Vec::new(global), Vec::new(global));
+    let (status, out, err) = serve_in(alloc, &[word], &mut source, out, err);
+    status == end.0 && out.as_slice() == end.1 && err.as_slice() == end.2.as_bytes()
+}
+
+// Each growth in turn is refused with those behind it, and the run ends with `out of memory`.
 #[test]
-fn tells_a_refused_growth(rt: HostRuntime) -> Result<(), Fail> {
-    for &(word, input, status, output, message, growths) in &GROWTHS {
+fn tells_a_refused_growth(rt: HostRuntime) {
+    for &(word, input, ample, growths) in &GROWTHS {
         for left in 0..=growths {
-            let (status, output, message): (u8, &[u8], &str) = if left < growths {
-                (3, b"", "out of memory\n")
-            } else {
-                (status, output, message)
-            };
+            let end = if left < growths { WANTING } else { ample };
             let alloc = Refusing::new(rt.alloc(), left);
-            let mut source = input;
-            let (answer, out, err) = serve_in(
-                &alloc,
-                &[word],
-                &mut source,
-                Vec::new(rt.alloc()),
-                Vec::new(rt.alloc()),
-            );
-            assert_eq!(rt; answer, status, "status of {word}, {left} growths granted");
-            assert_eq!(rt;
-                out.as_slice(),
-                output,
-                "output of {word}, {left} growths granted"
-            );
-            assert_eq!(rt;
-                err.as_slice(),
-                message.as_bytes(),
-                "message of {word}, {left} growths granted"
-            );
+            let is_told = ends(&alloc, rt.alloc(), word, input, end);
+            assert!(rt; is_told, "{word} of {input:?}, {left} growths granted");
         }
     }
-    Ok(())
+}
+
+// Each growth in turn is refused alone. The first is the room for any input: without it the input
+// grows as it comes, which is one growth here, and the run ends as with ample memory. The second is
+// what is decoded.
+#[test]
+fn tells_a_growth_that_is_refused_alone(rt: HostRuntime) {
+    for &(word, input, ample, growths) in &GROWTHS {
+        for left in 0..=growths {
+            let is_wanting = 0 < left && left < growths;
+            let end = if is_wanting { WANTING } else { ample };
+            let asked = if left == 0 {
+                growths.saturating_add(1)
+            } else {
+                growths
+            };
+            let alloc = Refusing::once(rt.alloc(), left);
+            let is_told = ends(&alloc, rt.alloc(), word, input, end) && alloc.asked() == asked;
+            assert!(rt; is_told, "{word} of {input:?}, growth {left} refused");
+        }
+    }
 }
 
 // An odd length is told before memory for the output is asked for.

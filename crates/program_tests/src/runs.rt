@@ -126,13 +126,45 @@ fn a_sink_that_takes_nothing_ends_a_run_that_has_something_to_put(rt: HostRuntim
     }
 }
 
+// A long source of decoding, of 2,050 digits and the bytes that they spell.
+static LONG: [u8; 2050] = [b'4'; 2050];
+
+static SPELT: [u8; 1025] = [b'D'; 1025];
+
+// With one growth granted, decoding ends as with ample memory, and asks for no second one.
+#[test]
+fn decoding_asks_for_its_memory_once(rt: HostRuntime) {
+    let rows: [(Op, &[u8], Result<(), RunFault>, &[u8]); 5] = [
+        (Op::Decode, b"00ff", Ok(()), b"\x00\xff"),
+        (Op::Decode, b"0g", Err(RunFault::Codec(bad(1, b'g'))), b""),
+        (Op::DecodeLower, &LONG, Ok(()), &SPELT),
+        (Op::DecodeUpper, b"00FF\n", Ok(()), b"\x00\xff"),
+        (
+            Op::DecodeUpper,
+            b"ff",
+            Err(RunFault::Codec(bad(0, b'f'))),
+            b"",
+        ),
+    ];
+    for (op, input, answer, taken) in rows {
+        let alloc = Refusing::new(rt.alloc(), 1);
+        let mut buffer = [0xa5; 1025];
+        let mut sink = SliceSink::new(&mut buffer);
+        let ran = run_in(&alloc, op, input, &mut sink);
+        assert_eq!(rt; ran, answer, "answer of {op:?}");
+        assert!(rt; sink.written() == taken, "output of {op:?}");
+        assert_eq!(rt; alloc.asked(), 1, "growths of {op:?}");
+    }
+}
+
 // A run with no memory at all: its answer, what was taken and how many growths were asked for.
 #[test]
 fn only_decoding_of_even_digits_wants_memory(rt: HostRuntime) {
     let wanting = Err(RunFault::OutOfMemory);
     let odd = Err(RunFault::Codec(Error::OddLength));
-    let rows: [(Op, &[u8], Result<(), RunFault>, &[u8], u64); 11] = [
+    let rows: [(Op, &[u8], Result<(), RunFault>, &[u8], u64); 12] = [
         (Op::Decode, b"00ff", wanting, b"", 1),
+        (Op::Decode, &LONG, wanting, b"", 1),
         (Op::Decode, b"00ff\n", wanting, b"", 1),
         (Op::Decode, b"0g", wanting, b"", 1),
         (Op::DecodeLower, b"00ff", wanting, b"", 1),

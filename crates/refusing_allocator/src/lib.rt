@@ -11,7 +11,8 @@ use std::cell::Cell;
 #[cfg(test)]
 mod tests;
 
-/// Passes the first `left` allocations on to `inner` and refuses each later one.
+/// Passes the first `left` allocations on to `inner` and refuses each later one, or, made by
+/// [`once`](Refusing::once), the next one alone.
 ///
 /// Each block that a collection takes counts as one allocation: its first one, each larger one that
 /// it grows into, and each smaller one that it shrinks into. To give a block back counts as none,
@@ -36,6 +37,8 @@ pub struct Refusing<B: Allocator> {
 struct Counts {
     left: Cell<u64>,
     asked: Cell<u64>,
+    // How many it grants behind one that it refuses.
+    behind: u64,
 }
 
 impl<B: Allocator> Refusing<B> {
@@ -46,6 +49,26 @@ impl<B: Allocator> Refusing<B> {
             counts: Counts {
                 left: Cell::new(left),
                 asked: Cell::new(0),
+                behind: 0,
+            },
+        }
+    }
+
+    /// An allocator that grants `left` allocations, refuses one, and grants those behind it.
+    ///
+    /// ```
+    /// let alloc = Refusing::once(rt.alloc(), 0);
+    /// let mut bytes = Vec::new(&alloc);
+    /// assert_eq!(rt; bytes.push(7u8).is_ok(), false);
+    /// assert_eq!(rt; bytes.push(7u8).is_ok(), true);
+    /// ```
+    pub fn once(inner: B, left: u64) -> Refusing<B> {
+        Refusing {
+            inner,
+            counts: Counts {
+                left: Cell::new(left),
+                asked: Cell::new(0),
+                behind: u64::MAX,
             },
         }
     }
@@ -74,9 +97,9 @@ fn grants(counts: &Counts) -> bool {
     // No clause knows what a cell holds, so a plain `+` could not be shown to fit.
     counts.asked.set(counts.asked.get().saturating_add(1));
     let left = counts.left.get();
-    if left > 0 {
-        counts.left.set(left - 1);
-    }
+    counts
+        .left
+        .set(left.checked_sub(1).unwrap_or(counts.behind));
     left > 0
 }
 

@@ -59,3 +59,13 @@ fn counts_a_smaller_block_too(rt: HostRuntime) -> Result<(), AllocError> {
     assert_eq!(rt; (alloc.left(), alloc.asked()), (0, 3));
     Ok(())
 }
+
+#[test]
+fn refuses_one_growth_alone(rt: HostRuntime) {
+    let alloc = Refusing::once(rt.alloc(), 1);
+    for taken in [true, false, true, true] {
+        let mut bytes = Vec::new(&alloc);
+        assert_eq!(rt; bytes.push(7u8).is_ok(), taken);
+    }
+    assert_eq!(rt; alloc.asked(), 4);
+}
