@@ -7,13 +7,16 @@ use serde_json::Value;
 use std::alloc::Global;
 use std::test::Fail;
 
-// Reads and writes one byte in each way that takes memory, five growths in all.
+// Reads and writes one byte in each way that takes memory, eight growths in all.
 fn calls_in_turn(alloc: Global, module: Module, value: &Value) -> Result<(), AdapterError> {
     let _ = module.read(alloc, value)?;
     let _ = module.read_bounded::<1>(alloc, value)?;
     let _ = module.read_option(alloc, value)?;
+    let _ = module.read_option_bounded::<1>(alloc, value)?;
     let _ = module.write(alloc, &[0x12])?;
+    let _ = module.write_array(alloc, &[0x12])?;
     let _ = module.write_option(alloc, Some(&[0x12]))?;
+    let _ = module.write_option_array(alloc, Some(&[0x12]))?;
     Ok(())
 }
 
@@ -38,45 +41,53 @@ fn none_grows_nothing(rt: HostRuntime) {
     }
 }
 
-// The value is two growths, and each call one: a test fails where one of those seven is refused.
+// The value is two growths, and each call one: a test fails where one of those ten is refused, and
+// prints the answer of the refused call.
+#[test]
+fn root_grows_once_a_call(rt: HostRuntime) -> Result<(), Fail> {
+    let value = Value::from_str(rt.alloc(), r#""0x12""#)?;
+    calls_in_turn(rt.alloc(), Module::Root, &value)?;
+    Ok(())
+}
+
 #[test]
 fn withpfx_ignorecase_grows_once_a_call(rt: HostRuntime) -> Result<(), Fail> {
     let value = Value::from_str(rt.alloc(), r#""0x12""#)?;
-    assert!(rt; calls_in_turn(rt.alloc(), Module::WithpfxIgnorecase, &value).is_ok());
+    calls_in_turn(rt.alloc(), Module::WithpfxIgnorecase, &value)?;
     Ok(())
 }
 
 #[test]
 fn nopfx_ignorecase_grows_once_a_call(rt: HostRuntime) -> Result<(), Fail> {
     let value = Value::from_str(rt.alloc(), r#""12""#)?;
-    assert!(rt; calls_in_turn(rt.alloc(), Module::NopfxIgnorecase, &value).is_ok());
+    calls_in_turn(rt.alloc(), Module::NopfxIgnorecase, &value)?;
     Ok(())
 }
 
 #[test]
 fn withpfx_lowercase_grows_once_a_call(rt: HostRuntime) -> Result<(), Fail> {
     let value = Value::from_str(rt.alloc(), r#""0x12""#)?;
-    assert!(rt; calls_in_turn(rt.alloc(), Module::WithpfxLowercase, &value).is_ok());
+    calls_in_turn(rt.alloc(), Module::WithpfxLowercase, &value)?;
     Ok(())
 }
 
 #[test]
 fn nopfx_lowercase_grows_once_a_call(rt: HostRuntime) -> Result<(), Fail> {
     let value = Value::from_str(rt.alloc(), r#""12""#)?;
-    assert!(rt; calls_in_turn(rt.alloc(), Module::NopfxLowercase, &value).is_ok());
+    calls_in_turn(rt.alloc(), Module::NopfxLowercase, &value)?;
     Ok(())
 }
 
 #[test]
 fn withpfx_uppercase_grows_once_a_call(rt: HostRuntime) -> Result<(), Fail> {
     let value = Value::from_str(rt.alloc(), r#""0x12""#)?;
-    assert!(rt; calls_in_turn(rt.alloc(), Module::WithpfxUppercase, &value).is_ok());
+    calls_in_turn(rt.alloc(), Module::WithpfxUppercase, &value)?;
     Ok(())
 }
 
 #[test]
 fn nopfx_uppercase_grows_once_a_call(rt: HostRuntime) -> Result<(), Fail> {
     let value = Value::from_str(rt.alloc(), r#""12""#)?;
-    assert!(rt; calls_in_turn(rt.alloc(), Module::NopfxUppercase, &value).is_ok());
+    calls_in_turn(rt.alloc(), Module::NopfxUppercase, &value)?;
     Ok(())
 }

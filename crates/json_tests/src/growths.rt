@@ -1,6 +1,6 @@
 //! What the calls that take an allocator answer where it refuses, and how often they ask.
 
-use crate::answers::{Answer, OptionAnswer, held, invalid, option_held, over};
+use crate::answers::{Answer, OptionAnswer, held, invalid, option_held, over, some_of};
 use faster_hex::AdapterError;
 use faster_hex::adapters::{WireFormat, read, read_option, text_of};
 use hex_core::Error;
@@ -11,21 +11,25 @@ use std::test::Fail;
 
 const REFUSED: AdapterError = AdapterError::Codec(Error::OutOfMemory);
 
+// The format of the tests that take one.
+const FORMAT: WireFormat = WireFormat::WITHPFX_IGNORECASE;
+
 // Whether a reading with this allocator answers so.
 fn reads(
     alloc: &Refusing<Global>,
+    format: WireFormat,
     value: &Value,
     max: Option<usize>,
     answer: Result<&[u8], AdapterError>,
 ) -> bool {
-    let got = read(alloc, WireFormat::WITHPFX_IGNORECASE, max, value);
-    held(&got) == answer
+    held(&read(alloc, format, max, value)) == answer
 }
 
 // Whether a reading answers so with no growth granted, and so with one, and asks for that one where
 // the answers differ.
 fn asks_once(
     alloc: Global,
+    format: WireFormat,
     value: &Value,
     max: Option<usize>,
     refused: Result<&[u8], AdapterError>,
@@ -33,9 +37,9 @@ fn asks_once(
 ) -> bool {
     let growths = if refused == ample { 0 } else { 1 };
     let refusing = Refusing::new(alloc, 0);
-    let is_refused = reads(&refusing, value, max, refused) && refusing.asked() == growths;
+    let is_refused = reads(&refusing, format, value, max, refused) && refusing.asked() == growths;
     refusing.set_left(1);
-    let is_read = reads(&refusing, value, max, ample) && refusing.asked() == 2 * growths;
+    let is_read = reads(&refusing, format, value, max, ample) && refusing.asked() == 2 * growths;
     is_refused && is_read
 }
 
@@ -81,7 +85,7 @@ fn a_reading_asks_for_its_memory_once(rt: HostRuntime) -> Result<(), Fail> {
     for (text, max, refused, ample) in rows {
         let value = Value::from_str(rt.alloc(), text)?;
         assert!(rt;
-            asks_once(rt.alloc(), &value, max, refused, ample),
+            asks_once(rt.alloc(), FORMAT, &value, max, refused, ample),
             "{text}, {max:?}"
         );
     }
@@ -108,7 +112,7 @@ fn a_long_reading_asks_for_its_memory_once(rt: HostRuntime) -> Result<(), Fail> 
         let bytes = bytes.get(..count).ok_or("a length")?;
         for max in [None, Some(count)] {
             assert!(rt;
-                asks_once(rt.alloc(), &value, max, Err(REFUSED), Ok(bytes)),
+                asks_once(rt.alloc(), FORMAT, &value, max, Err(REFUSED), Ok(bytes)),
                 "{count} bytes, {max:?}"
             );
         }
@@ -119,26 +123,30 @@ fn a_long_reading_asks_for_its_memory_once(rt: HostRuntime) -> Result<(), Fail> 
 // Whether a reading of bytes or none with this allocator answers so.
 fn reads_option(
     alloc: &Refusing<Global>,
+    format: WireFormat,
     value: &Value,
+    max: Option<usize>,
     answer: Result<Option<&[u8]>, AdapterError>,
 ) -> bool {
-    let got = read_option(alloc, WireFormat::WITHPFX_IGNORECASE, None, value);
-    option_held(&got) == answer
+    option_held(&read_option(alloc, format, max, value)) == answer
 }
 
-// The same of a reading of bytes or none, with no bound.
+// The same of a reading of bytes or none.
 fn asks_once_or_none(
     alloc: Global,
+    format: WireFormat,
     value: &Value,
+    max: Option<usize>,
     refused: Result<Option<&[u8]>, AdapterError>,
     ample: Result<Option<&[u8]>, AdapterError>,
 ) -> bool {
     let growths = if refused == ample { 0 } else { 1 };
     let refusing = Refusing::new(alloc, 0);
-    let is_refused = reads_option(&refusing, value, refused) && refusing.asked() == growths;
+    let is_refused = reads_option(&refusing, format, value, max, refused);
+    let is_asked_once = refusing.asked() == growths;
     refusing.set_left(1);
-    let is_read = reads_option(&refusing, value, ample) && refusing.asked() == 2 * growths;
-    is_refused && is_read
+    let is_read = reads_option(&refusing, format, value, max, ample);
+    is_refused && is_asked_once && is_read && refusing.asked() == 2 * growths
 }
 
 // Each row as above, but for the bound.
@@ -153,7 +161,7 @@ fn none_asks_for_no_memory(rt: HostRuntime) -> Result<(), Fail> {
     for (text, refused, ample) in rows {
         let value = Value::from_str(rt.alloc(), text)?;
         assert!(rt;
-            asks_once_or_none(rt.alloc(), &value, refused, ample),
+            asks_once_or_none(rt.alloc(), FORMAT, &value, None, refused, ample),
             "{text}"
         );
     }
@@ -201,4 +209,46 @@ fn a_text_asks_for_its_memory_once(rt: HostRuntime) {
     for (format, bytes, text) in rows {
         assert!(rt; writes_once(rt.alloc(), format, bytes, text), "{text}");
     }
+}
+
+// Each format, the text that it writes for `[0x12, 0x34]`, and one that it refuses for its third
+// digit.
+const FORMATS: [(WireFormat, &str, &str); 6] = [
+    (WireFormat::WITHPFX_IGNORECASE, "0x1234", "0x12g4"),
+    (WireFormat::NOPFX_IGNORECASE, "1234", "12g4"),
+    (WireFormat::WITHPFX_LOWERCASE, "0x1234", "0x12g4"),
+    (WireFormat::NOPFX_LOWERCASE, "1234", "12g4"),
+    (WireFormat::WITHPFX_UPPERCASE, "0x1234", "0x12g4"),
+    (WireFormat::NOPFX_UPPERCASE, "1234", "12g4"),
+];
+
+// Whether each reading of a text by this format asks for its memory once, and answers so then.
+fn each_reading_asks_once(
+    alloc: Global,
+    format: WireFormat,
+    text: &str,
+    ample: Answer,
+) -> Result<bool, AllocError> {
+    let value = Value::try_from_str(alloc, text)?;
+    for max in [None, Some(2)] {
+        let is_asked = asks_once(alloc, format, &value, max, Err(REFUSED), ample)
+            && asks_once_or_none(alloc, format, &value, max, Err(REFUSED), some_of(ample));
+        if !is_asked {
+            return Ok(false);
+        }
+    }
+    Ok(true)
+}
+
+#[test]
+fn each_format_asks_for_its_memory_once(rt: HostRuntime) -> Result<(), Fail> {
+    for (format, text, refused) in FORMATS {
+        let is_read = each_reading_asks_once(rt.alloc(), format, text, Ok(&[0x12, 0x34]))?;
+        assert!(rt; is_read, "{text} by {format:?}");
+        let is_refused = each_reading_asks_once(rt.alloc(), format, refused, invalid(2, b'g'))?;
+        assert!(rt; is_refused, "{refused} by {format:?}");
+        let is_written = writes_once(rt.alloc(), format, &[0x12, 0x34], text);
+        assert!(rt; is_written, "a text by {format:?}");
+    }
+    Ok(())
 }
