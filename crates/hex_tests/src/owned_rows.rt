@@ -1,7 +1,7 @@
 //! Rows of the checks, arrays and vectors, and what a refused growth answers.
 
 use crate::calls::{Answer, reads_array, reads_array_under, reads_vector};
-use crate::rules::{held, invalid, mismatch};
+use crate::rules::{damaged, held, invalid, mismatch};
 use faster_hex::{
     CheckCase, Error, hex_check, hex_check_with_case, hex_decode_vec, hex_decode_vec_with_case,
 };
@@ -90,11 +90,44 @@ fn vectors_ask_for_their_memory_once(rt: HostRuntime) {
     }
 }
 
-// Whether a vector answers so with one growth granted, and asks for so many.
+// More than 1,024 bytes are decoded block by block into the vector, which is given up where a byte
+// is refused. There is one growth too, and a late bad byte is no reason for another.
+#[test]
+fn long_vectors_ask_for_their_memory_once(rt: HostRuntime) {
+    let late = damaged::<2050>(b'1', 2049, b'g');
+    let first = damaged::<2050>(b'1', 0, b'g');
+    let longer = damaged::<8192>(b'1', 8191, b'g');
+    let rows: [(&[u8], Answer<'_>, Answer<'_>); 6] = [
+        (&[b'4'; 2050], Ok(&[b'D'; 1025]), Err(Error::OutOfMemory)),
+        (&[b'4'; 8192], Ok(&[b'D'; 4096]), Err(Error::OutOfMemory)),
+        (&late, invalid(2049, 0x67), Err(Error::OutOfMemory)),
+        (&first, invalid(0, 0x67), Err(Error::OutOfMemory)),
+        (&longer, invalid(8191, 0x67), Err(Error::OutOfMemory)),
+        (&[b'g'; 2051], Err(Error::OddLength), Err(Error::OddLength)),
+    ];
+    for (src, ample, refused) in rows {
+        let len = src.len();
+        assert!(rt; asks_once(rt.alloc(), src, refused, ample), "{len} digits");
+    }
+    let upper = damaged::<2050>(b'1', 2049, b'A');
+    let refusal = invalid(2049, 0x41);
+    assert!(rt; asks(rt.alloc(), &upper, CheckCase::Lower, refusal, 1));
+}
+
+// Whether a vector answers so with one growth granted, and asks for so many. With none granted it
+// answers want of memory, where it asks for one.
 fn asks(alloc: Global, src: &[u8], case: CheckCase, answer: Answer<'_>, growths: u64) -> bool {
     let refusing = Refusing::new(alloc, 1);
     let is_read = held(&hex_decode_vec_with_case(&refusing, src, case)) == answer;
-    is_read && refusing.asked() == growths
+    let is_asked = refusing.asked() == growths;
+    let refused = if growths == 0 {
+        answer
+    } else {
+        Err(Error::OutOfMemory)
+    };
+    refusing.set_left(0);
+    let is_refused = held(&hex_decode_vec_with_case(&refusing, src, case)) == refused;
+    is_read && is_asked && is_refused && refusing.asked().wrapping_sub(growths) == growths
 }
 
 // Each row: the policy, the source, the answer, and how many growths are asked for.

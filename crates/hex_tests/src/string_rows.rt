@@ -57,7 +57,7 @@ fn strings_of_rows(rt: HostRuntime) {
     }
 }
 
-// Whether a string call answers so where `granted` growths are granted, and asks for so many.
+// Whether each string call answers so where `granted` growths are granted, and asks for so many.
 fn is_string_of(
     alloc: Global,
     source: &[u8],
@@ -66,8 +66,11 @@ fn is_string_of(
     asked: u64,
 ) -> bool {
     let refusing = Refusing::new(alloc, granted);
-    let is_answered = text_held(&hex_string(&refusing, source)) == answer;
-    is_answered && refusing.asked() == asked
+    let is_lower = text_held(&hex_string(&refusing, source)) == answer;
+    let is_lower_asked = refusing.asked() == asked;
+    refusing.set_left(granted);
+    let is_upper = text_held(&hex_string_upper(&refusing, source)) == answer;
+    is_lower && is_lower_asked && is_upper && refusing.asked().wrapping_sub(asked) == asked
 }
 
 // Whether the text of these bytes takes its memory once, and no more than it needs.
@@ -80,13 +83,14 @@ fn takes_its_length(alloc: Global, source: &[u8; 600]) -> bool {
     is_exact && refusing.asked() == 1
 }
 
-// Each row: the source, how many growths are granted, the answer, and how many it asks for.
+// Each row: the source, whose text has no letters, how many growths are granted, the answer, and
+// how many it asks for.
 #[test]
 fn strings_take_their_memory_once(rt: HostRuntime) {
     let rows: [(&[u8], u64, Result<&str, Error>, u64); 4] = [
         (&[], 0, Ok(""), 0),
-        (&[0xab], 0, Err(Error::OutOfMemory), 1),
-        (&[0xab], 1, Ok("ab"), 1),
+        (&[0x12], 0, Err(Error::OutOfMemory), 1),
+        (&[0x12], 1, Ok("12"), 1),
         (&[0; 600], 0, Err(Error::OutOfMemory), 1),
     ];
     for (source, granted, answer, asked) in rows {
@@ -234,9 +238,11 @@ fn is_row_appended_plainly(alloc: Global, row: &'static AppendRow) -> Result<boo
     let refusing = Refusing::new(alloc, 1);
     let mut text = String::with_capacity(&refusing, row.capacity)?;
     text.push_str(row.text)?;
+    let before = refusing.asked();
     refusing.set_left(row.granted);
     let answer = hex_append_into(row.source, &mut text, row.upper);
-    Ok(answer.err() == row.answer.err() && text.as_str() == row.after)
+    let asked = refusing.asked().wrapping_sub(before);
+    Ok(answer.err() == row.answer.err() && text.as_str() == row.after && asked == row.asked)
 }
 
 #[test]
