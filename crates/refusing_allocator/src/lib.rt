@@ -44,14 +44,7 @@ struct Counts {
 impl<B: Allocator> Refusing<B> {
     /// An allocator that grants `left` allocations, whose memory `inner` gives.
     pub fn new(inner: B, left: u64) -> Refusing<B> {
-        Refusing {
-            inner,
-            counts: Counts {
-                left: Cell::new(left),
-                asked: Cell::new(0),
-                behind: 0,
-            },
-        }
+        Refusing::with_behind(inner, left, 0)
     }
 
     /// An allocator that grants `left` allocations, refuses one, and grants those behind it.
@@ -63,12 +56,17 @@ impl<B: Allocator> Refusing<B> {
     /// assert_eq!(rt; bytes.push(7u8).is_ok(), true);
     /// ```
     pub fn once(inner: B, left: u64) -> Refusing<B> {
+        Refusing::with_behind(inner, left, u64::MAX)
+    }
+
+    // One that grants `left` allocations, and after each that it refuses `behind` more.
+    fn with_behind(inner: B, left: u64, behind: u64) -> Refusing<B> {
         Refusing {
             inner,
             counts: Counts {
                 left: Cell::new(left),
                 asked: Cell::new(0),
-                behind: u64::MAX,
+                behind,
             },
         }
     }
