@@ -1,1 +1,2 @@
 mod AppendWalk
+pub mod GroupLemmas

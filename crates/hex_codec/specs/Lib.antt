@@ -1,3 +1,5 @@
 pub mod Append
 pub mod Calls
 pub mod Failure
+pub mod Grouped
+pub mod Groups

@@ -3,9 +3,15 @@
 
 pub mod decode;
 pub mod encode;
+mod group;
 pub mod heapless_08;
 pub mod pieces;
 pub mod strings;
+
+/// Grouped digits: pieces with a separator between two.
+pub mod grouped {
+    pub use crate::group::Group;
+}
 
 pub use crate::decode::{
     hex_check, hex_check_with_case, hex_decode, hex_decode_array, hex_decode_array_with_case,
@@ -15,3 +21,4 @@ pub use crate::encode::{
     hex_append, hex_append_into, hex_append_upper, hex_encode, hex_encode_into, hex_encode_upper,
     hex_string, hex_string_upper,
 };
+pub use crate::group::Group;

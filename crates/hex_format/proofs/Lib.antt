@@ -1,4 +1,5 @@
 mod ChunkFacts
-mod FrameFacts
+pub mod FrameFacts
+mod GroupFacts
 pub mod PutsLemmas
 mod Repeats

@@ -1,7 +1,9 @@
 -- The padded text of a list of bytes.
-use Rattle.std.specs.Prelude.{ℕ, ◌-◌, ◌/◌, false, List, [], ◌++◌, length, codes, encode_utf8, Option, Some, None, if◌then◌else◌}
+use Rattle.std.specs.Prelude.{ℕ, ◌-◌, ◌/◌, Bool, false, List, [], ◌++◌, length, codes, encode_utf8, Option, Some, None, if◌then◌else◌}
 use Rattle.std.specs.List.{repeat}
 use Rattle.hex_core.specs.Text.{text}
+use Rattle.hex_codec.specs.declared.group.Group.{Group}
+use Rattle.hex_codec.specs.Grouped.{grouped, piece_count, piece_len}
 use Rattle.hex_format.specs.declared.format.Align.{Align}
 use Rattle.hex_format.specs.declared.format.Align.TheVariants.{Left, Right, Center}
 use Rattle.hex_format.specs.declared.format.Hex.{Hex}
@@ -11,17 +13,27 @@ use Rattle.hex_format.specs.declared.format.HexFlags.{HexFlags}
 abbrev pub hex_bytes : Hex → List ℕ
 hex_bytes hex = hex.bytes.now
 
--- no sign, no prefix, lowercase, and no padding: spaces would stand before the text
+-- no sign, no prefix, lowercase, no group, and no padding: spaces would stand before the text
 abbrev pub plain_flags : HexFlags
-plain_flags = record { plus = false; prefix = false; zero = false; width = None; fill = 32; align = Right; upper = false }
+plain_flags = record { plus = false; prefix = false; zero = false; width = None; fill = 32; align = Right; upper = false; group = None }
 
 -- `+` and then `0x`, each if asked
 abbrev pub sign_and_prefix : HexFlags → List ℕ
 sign_and_prefix flags = (if flags.plus then codes "+" else []) ++ (if flags.prefix then codes "0x" else [])
 
+-- the digits of a list, grouped where there is a group
+abbrev pub digits_by : Option Group → Bool → List ℕ → List ℕ
+digits_by None upper bytes = text upper bytes
+digits_by (Some group) upper bytes = grouped group upper bytes
+
 -- the digits, without sign and prefix
 abbrev pub digits_of : HexFlags → List ℕ → List ℕ
-digits_of flags bytes = text flags.upper bytes
+digits_of flags bytes = digits_by flags.group flags.upper bytes
+
+-- how many separators stand between the digits of n bytes
+abbrev pub separators_by : Option Group → ℕ → ℕ
+separators_by None n = 0
+separators_by (Some group) n = piece_count (piece_len group) n - 1
 
 -- how many characters a text of this length lacks of the width, if there is one
 abbrev pub missing : Option ℕ → ℕ → ℕ

@@ -2,3 +2,4 @@ pub mod Frame
 pub mod Sink
 pub mod Sinks
 pub mod SinkLaws
+pub mod FrameLaws

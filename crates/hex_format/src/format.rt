@@ -5,18 +5,14 @@ ghost use Rattle.std.specs.Fmt.{WritesOnOk};
 ghost use Rattle.std.specs.List.{repeat};
 ghost use Rattle.std.specs.Str.{IsAscii};
 ghost use Rattle.hex_core.specs.Text.{lowercase, text};
-ghost use Rattle.hex_format.specs.Frame.{digits_of, frame, hex_bytes, left_padding, padding_of, plain_flags, sign_and_prefix};
+ghost use Rattle.hex_format.specs.Frame.{frame, hex_bytes, left_padding, padding_of, plain_flags, separators_by, sign_and_prefix};
 ghost use Rattle.hex_format.specs.Sink.{Puts};
 
+use crate::digits::{CHUNK, SHORT, put_digits};
 pub use crate::sink::{Sink, SinkFault, SliceSink, WriteFault, WriterSink, put_all};
+use hex_codec::Group;
 use hex_codec::pieces::encoded;
 use std::{fmt, str};
-
-// How many source bytes are encoded at a time, and up to how many a smaller buffer serves, so that
-// a digest does not pay for the large one.
-const CHUNK: usize = 512;
-
-const SHORT: usize = 64;
 
 // How many copies of a padding character are put at a time, and how long one is at most.
 const COPIES: usize = 64;
@@ -54,6 +50,8 @@ pub struct HexFlags {
     pub align: Align,
     /// Write `A` to `F` in place of `a` to `f`.
     pub upper: bool,
+    /// Put a separator between pieces of the digits; padding is not grouped.
+    pub group: Option<Group>,
 }
 
 impl Default for HexFlags {
@@ -68,6 +66,7 @@ impl Default for HexFlags {
             fill: ' ',
             align: Align::Right,
             upper: false,
+            group: None,
         }
     }
 }
@@ -120,14 +119,14 @@ impl<'a> Hex<'a> {
         if flags.zero {
             put_all(sink, sign_and_prefix(flags))?;
             put_copies(sink, b"0", padding)?;
-            put_digits(sink, flags, self.bytes)
+            put_digits(sink, flags.upper, flags.group, self.bytes)
         } else {
             let mut buffer = [0; LONGEST];
             let fill = flags.fill.encode_utf8(&mut buffer).as_bytes();
             let left = before_text(flags.align, padding);
             put_copies(sink, fill, left)?;
             put_all(sink, sign_and_prefix(flags))?;
-            put_digits(sink, flags, self.bytes)?;
+            put_digits(sink, flags.upper, flags.group, self.bytes)?;
             put_copies(sink, fill, padding - left)
         }
     }
@@ -170,6 +169,16 @@ fn sign_and_prefix(flags: &HexFlags) -> &'static [u8]
     }
 }
 
+// How many separators stand between the digits of `bytes`.
+fn separators(group: Option<Group>, bytes: &[u8]) -> usize
+    ensures { result ≡ separators_by group (length bytes.now) }
+{
+    match group {
+        None => 0,
+        Some(group) => bytes.len().div_ceil(group.every()).saturating_sub(1),
+    }
+}
+
 // How many characters the text of `bytes` lacks of the width. The width is counted down, since a
 // sum of lengths may be no `usize`.
 fn padding_of_view(flags: &HexFlags, bytes: &[u8]) -> usize
@@ -180,7 +189,8 @@ fn padding_of_view(flags: &HexFlags, bytes: &[u8]) -> usize
         Some(width) => width
             .saturating_sub(sign_and_prefix(flags).len())
             .saturating_sub(bytes.len())
-            .saturating_sub(bytes.len()),
+            .saturating_sub(bytes.len())
+            .saturating_sub(separators(flags.group, bytes)),
     }
 }
 
@@ -194,23 +204,6 @@ fn before_text(align: Align, padding: usize) -> usize
         Align::Right => padding,
         Align::Center => padding / 2,
     }
-}
-
-// Puts the digits of `bytes`, a chunk at a time.
-fn put_digits<S: Sink>(sink: &mut S, flags: &HexFlags, bytes: &[u8]) -> Result<(), WriteFault>
-    requires { (S.state sink.old).failures < 2 ^ 64 - 1 }
-    ensures { Puts (S.state sink.old) (S.state sink.new) result (digits_of flags.now bytes.now) }
-{
-    if bytes.len() <= SHORT {
-        let mut buffer = [0; 2 * SHORT];
-        return put_all(sink, encoded(bytes, flags.upper, &mut buffer));
-    }
-    let mut buffer = [0; 2 * CHUNK];
-    for chunk in bytes.chunks(CHUNK) {
-        let digits = encoded(chunk, flags.upper, &mut buffer);
-        put_all(sink, digits)?;
-    }
-    Ok(())
 }
 
 // Writes copies of a piece behind one another into the whole of the block.

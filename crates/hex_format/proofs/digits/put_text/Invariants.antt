@@ -1,9 +1,9 @@
 -- The digits before those of the chunks that are left have been taken, and no put has failed.
 use Rattle.std.proofs.Common.{◌≡◌, ℕ, List, ◌++◌}
 use Rattle.std.specs.Slice.Iter.{chunks_rest, chunks_size}
-use Rattle.hex_format.specs.Frame.{digits_of}
+use Rattle.hex_core.specs.Text.{text}
 use Rattle.hex_format.specs.Sink.{Takes}
-use Rattle.hex_format.proofs.format.put_digits.Given as goal
+use Rattle.hex_format.proofs.digits.put_text.Given as goal
 
 abbrev pub invariant-loop-chunk : goal.invariant-loop-chunk
 invariant-loop-chunk g l =
@@ -11,4 +11,4 @@ invariant-loop-chunk g l =
     × (goal.iterator-loop-chunk g).is_finite l.chunk-iterator
     × (chunks_size l.chunk-iterator ≡ 512)
     × ((done : List ℕ) × Takes (g.S.Sink.state l.initial.sink) (g.S.Sink.state l.sink) done
-    × (done ++ digits_of l.flags (chunks_rest l.chunk-iterator) ≡ digits_of l.flags l.bytes))
+    × (done ++ text l.upper (chunks_rest l.chunk-iterator) ≡ text l.upper l.bytes))

@@ -1,0 +1,119 @@
+-- The pieces of a list, and the texts of them.
+use Rattle.std.proofs.Common.{◌≡◌, ◌⊎◌, inl, inr, ℕ, zero, suc, ◌+◌, ◌-◌, ◌*◌, ◌/◌, ◌%◌, ◌<◌, ◌≤◌, Bool, refl, sym, ap, ◌∙◌, arith, List, [], ◌∷◌, ◌++◌, length, take, drop, map, min, append_assoc, length-append, length-take, length-drop, take-append-drop}
+use Rattle.std.proofs.Math.Nat.{add-div_left, add-mod_left, zero-add, zero-div, zero-mod, div-eq_of_lt, mod-eq_of_lt}
+use Rattle.std.proofs.Math.Seq.{take-append_seam}
+use Rattle.std.proofs.lemmas.Bool.{cases_lt}
+use Rattle.std.proofs.lemmas.List.{drop-drop}
+use Rattle.std.proofs.lemmas.Grind.{common_steps}
+use Rattle.std.specs.List.{flat_map, join_by, range_with_len}
+use Rattle.hex_core.specs.Text.{text}
+use Rattle.hex_core.proofs.TextLemmas.{length-text}
+use Rattle.hex_codec.specs.declared.group.Group.{Group}
+use Rattle.hex_codec.specs.Grouped.{grouped, piece_count, piece_len, pieces, separated, separator}
+
+-- ---- pieces
+
+no_pieces : (every : ℕ) → pieces every [] ≡ []
+no_pieces every = rw (zero-div every, zero-mod every) refl
+
+-- one piece fewer is left behind the first
+count-next : (every n : ℕ) → 0 < every → 0 < n → piece_count every n ≡ suc (piece_count every (n - every))
+count-next every n pos some = from_cases (cases_lt n every)
+  where
+    from_cases : (n < every) ⊎ (every ≤ n) → piece_count every n ≡ suc (piece_count every (n - every))
+    from_cases (inl h) =
+        let none : n - every ≡ 0 = omega arith in
+        rw (none, zero-div every, zero-mod every, div-eq_of_lt h, mod-eq_of_lt h) (omega arith)
+    from_cases (inr h) =
+        let m = n - every in
+        let sum : n ≡ every + m = omega arith in
+        omega (arith, ap (λ x. x / every) sum, ap (λ x. x % every) sum, add-div_left m {k = every} pos, add-mod_left every m)
+
+-- a map over numbers, moved by one
+map-next : (f h : ℕ → List ℕ) → ((i : ℕ) → f (i + 1) ≡ h i) → (a n : ℕ) → map f (range_with_len (a + 1) n) ≡ map h (range_with_len a n)
+map-next f h same a zero = refl
+map-next f h same a (suc n) = rw (same a) (ap (λ l. h a ∷ l) (map-next f h same (a + 1) n))
+
+-- the first piece, and those behind it
+pieces-next : (every : ℕ) (bytes : List ℕ) → 0 < every → 0 < length bytes → pieces every bytes ≡ take every bytes ∷ pieces every (drop every bytes)
+pieces-next every bytes pos some =
+    let back = drop every bytes in
+    let count : piece_count every (length bytes) ≡ suc (piece_count every (length back)) = rw (length-drop every bytes) (count-next every (length bytes) pos some) in
+    let here : ℕ → List ℕ = λ i. take every (drop (i * every) bytes) in
+    let behind : ℕ → List ℕ = λ i. take every (drop (i * every) back) in
+    let first : 0 * every ≡ 0 = omega arith in
+    let same : (i : ℕ) → here (i + 1) ≡ behind i = λ i. let at : (i + 1) * every ≡ every + i * every = grind arith in rw at (ap (take every) (sym (drop-drop (i * every) every bytes))) in
+    rw (count, first) (ap (λ l. take every bytes ∷ l) (map-next here behind same 0 (piece_count every (length back))))
+
+-- ---- their texts
+
+-- the text of the first piece behind its separator, and those of the pieces behind it
+pub separated-next : (group : Group) (upper : Bool) (bytes : List ℕ) → 0 < length bytes
+    → separated group upper bytes ≡ separator group ∷ (text upper (take (piece_len group) bytes) ++ separated group upper (drop (piece_len group) bytes))
+separated-next group upper bytes some =
+    ap (flat_map (λ piece. separator group ∷ text upper piece)) (pieces-next (piece_len group) bytes group.is_group.0 some)
+
+pub separated-none : (group : Group) (upper : Bool) → separated group upper [] ≡ []
+separated-none group upper = ap (flat_map (λ piece. separator group ∷ text upper piece)) (no_pieces (piece_len group))
+
+-- the grouped text is that without the first separator
+pub grouped-separated : (group : Group) (upper : Bool) (bytes : List ℕ) → grouped group upper bytes ≡ drop 1 (separated group upper bytes)
+grouped-separated group upper bytes = joined (pieces (piece_len group) bytes)
+  where
+    joined : (parts : List (List ℕ)) → join_by (text upper) (separator group ∷ []) parts ≡ drop 1 (flat_map (λ piece. separator group ∷ text upper piece) parts)
+    joined [] = refl
+    joined (piece ∷ parts) = refl
+
+-- whole pieces, and what is behind them
+pub separated-append : (group : Group) (upper : Bool) (count : ℕ) (front back : List ℕ) → length front ≡ count * piece_len group
+    → separated group upper (front ++ back) ≡ separated group upper front ++ separated group upper back
+separated-append group upper zero [] back whole = rw (separated-none group upper) refl
+separated-append group upper zero (b ∷ front) back whole = absurd (omega arith)
+separated-append group upper (suc count) front back whole =
+    let every = piece_len group in
+    let some : 0 < every = group.is_group.0 in
+    let size : length front ≡ every + count * every = omega (arith, whole) in
+    let first : take every (front ++ back) ≡ take every front = grind (arith, common_steps, size, some) in
+    let behind : drop every (front ++ back) ≡ drop every front ++ back = grind (arith, common_steps, size, some) in
+    let rest = separated-append group upper count (drop every front) back (omega (arith, length-drop every front, size)) in
+    separated-next group upper (front ++ back) (omega (arith, length-append front back, size, some))
+    ∙ (rw (first, behind, rest) (ap (λ l. separator group ∷ l) (sym (append_assoc (text upper (take every front)) (separated group upper (drop every front)) (separated group upper back))))
+    ∙ ap (λ l. l ++ separated group upper back) (sym (separated-next group upper front (omega (arith, size, some)))))
+
+-- ---- lengths
+
+-- a separator, the digits of the first piece, and what is behind it
+tally : (total digits behind front back n here left : ℕ) → total ≡ suc (digits + behind) → digits ≡ 2 * front → behind ≡ 2 * back + left → front + back ≡ n → here ≡ suc left → total ≡ 2 * n + here
+tally total digits behind front back n here left all twice rest parts count = omega arith
+
+-- a separator for each piece, and two digits for each byte
+length-separated : (group : Group) (upper : Bool) (fuel : ℕ) (bytes : List ℕ) → length bytes ≤ fuel
+    → length (separated group upper bytes) ≡ 2 * length bytes + piece_count (piece_len group) (length bytes)
+length-separated group upper fuel [] fits = rw (separated-none group upper, zero-div (piece_len group), zero-mod (piece_len group)) refl
+length-separated group upper zero (b ∷ bytes) fits = absurd (omega arith)
+length-separated group upper (suc fuel) (b ∷ bytes) fits =
+    let every = piece_len group in
+    let all = b ∷ bytes in
+    let some : 0 < every = group.is_group.0 in
+    let front = take every all in
+    let back = drop every all in
+    let behind : length back ≡ length all - every = length-drop every all in
+    let rest = length-separated group upper fuel back (omega (arith, behind, some)) in
+    let cut : length front + length back ≡ length all = omega (arith, length-take every all, behind) in
+    let parts = ap length (separated-next group upper all (omega arith)) ∙ ap suc (length-append (text upper front) (separated group upper back)) in
+    tally (length (separated group upper all)) (length (text upper front)) (length (separated group upper back)) (length front) (length back) (length all) (piece_count every (length all)) (piece_count every (length back))
+    parts (length-text upper front) rest cut (rw behind (count-next every (length all) some (omega arith)))
+
+-- and no separator before the first piece
+pub length-grouped : (group : Group) (upper : Bool) (bytes : List ℕ)
+    → length (grouped group upper bytes) ≡ 2 * length bytes + (piece_count (piece_len group) (length bytes) - 1)
+length-grouped group upper [] = rw (grouped-separated group upper [], separated-none group upper, zero-div (piece_len group), zero-mod (piece_len group)) refl
+length-grouped group upper (b ∷ bytes) =
+    let all = b ∷ bytes in
+    let count = length-separated group upper (length all) all (omega arith) in
+    let one = count-next (piece_len group) (length all) group.is_group.0 (omega arith) in
+    ap length (grouped-separated group upper all) ∙ length-drop 1 (separated group upper all)
+    ∙ ap (λ n. n - 1) count ∙ minus (2 * length all) (piece_count (piece_len group) (length all)) (piece_count (piece_len group) (length all - piece_len group)) one
+  where
+    minus : (n count left : ℕ) → count ≡ suc left → n + count - 1 ≡ n + (count - 1)
+    minus n count left one = omega arith

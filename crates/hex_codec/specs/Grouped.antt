@@ -1,0 +1,29 @@
+-- Grouped texts: the texts of a list's pieces, with a separator between two.
+use Rattle.std.specs.Prelude.{ℕ, ◌-◌, ◌+◌, ◌*◌, ◌/◌, Bool, List, [], ◌∷◌, length, take, drop, map}
+use Rattle.std.specs.Int.{div_ceil}
+use Rattle.std.specs.List.{flat_map, join_by, range_with_len}
+use Rattle.hex_core.specs.Text.{text}
+use Rattle.hex_codec.specs.declared.group.Group.{Group}
+
+-- how many bytes a piece has, and what stands between two pieces
+abbrev pub piece_len : Group → ℕ
+piece_len group = group.every
+
+abbrev pub separator : Group → ℕ
+separator group = group.sep
+
+-- how many pieces n bytes make: n divided by a piece's length, rounded up
+abbrev pub piece_count : ℕ → ℕ → ℕ
+piece_count every n = div_ceil n every
+
+-- the pieces of a list, each of so many bytes but the last, which may be shorter
+abbrev pub pieces : ℕ → List ℕ → List (List ℕ)
+pieces every bytes = map (λ i. take every (drop (i * every) bytes)) (range_with_len 0 (piece_count every (length bytes)))
+
+-- the grouped text of a list: the texts of its pieces, joined by the separator
+abbrev pub grouped : Group → Bool → List ℕ → List ℕ
+grouped group upper bytes = join_by (text upper) (separator group ∷ []) (pieces (piece_len group) bytes)
+
+-- the same with a separator before each piece, the first one too
+abbrev pub separated : Group → Bool → List ℕ → List ℕ
+separated group upper bytes = flat_map (λ piece. separator group ∷ text upper piece) (pieces (piece_len group) bytes)

@@ -1,0 +1,64 @@
+//! How digits are grouped.
+
+ghost use Rattle.hex_codec.specs.Groups.{IsGroup};
+
+use hex_core::{CheckCase, digit_value};
+
+/// How digits are grouped: in pieces of so many bytes, the last of them possibly shorter, with one
+/// separator between two pieces.
+///
+/// ```rust
+/// let group = Group::new(2, b':').unwrap();
+/// assert_eq!(rt; (group.every(), group.sep()), (2, b':'));
+/// ```
+#[derive(Clone, Copy, Debug, PartialEq, Eq)]
+pub struct Group {
+    every: usize,
+    sep: u8,
+    ghost is_group: { IsGroup every sep },
+}
+
+impl Group {
+    ghost use Rattle.std.specs.Prelude.{◌≡◌, MatchOption};
+    ghost use Rattle.hex_codec.specs.Grouped.{piece_len, separator};
+
+    /// Returns pieces of `every` bytes with `sep` between them, or `None` where `every` is 0, or
+    /// `sep` is not ASCII or is a digit of either case.
+    ///
+    /// ```rust
+    /// assert!(rt; Group::new(2, b'-').is_some());
+    /// assert!(rt; Group::new(0, b'-').is_none());
+    /// assert!(rt; Group::new(2, b'a').is_none());
+    /// ```
+    pub fn new(every: usize, sep: u8) -> Option<Group>
+        ensures { MatchOption result (IsGroup every sep → ⊥)
+            (λ group. IsGroup every sep × (piece_len group ≡ every) × (separator group ≡ sep)) }
+    {
+        if every == 0 || !sep.is_ascii() || digit_value(sep, CheckCase::None).is_some() {
+            return None;
+        }
+        Some(Group { every, sep })
+    }
+
+    /// Returns how many bytes a piece has, the last one aside.
+    ///
+    /// ```rust
+    /// assert_eq!(rt; Group::new(4, b' ').unwrap().every(), 4);
+    /// ```
+    pub fn every(self) -> usize
+        ensures { result ≡ piece_len self }
+    {
+        self.every
+    }
+
+    /// Returns the separator, an ASCII byte that is no digit.
+    ///
+    /// ```rust
+    /// assert_eq!(rt; Group::new(4, b' ').unwrap().sep(), b' ');
+    /// ```
+    pub fn sep(self) -> u8
+        ensures { result ≡ separator self }
+    {
+        self.sep
+    }
+}
