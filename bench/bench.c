@@ -21,7 +21,7 @@ static const size_t sizes[] = {8, 16, 32, 64, 100, 256, 1024, 4096, LARGEST};
 
 // What a call works on. One that checks, and one that decodes into memory of its own, is given no
 // room to write into.
-enum kind { CHECK, ENCODE, DECODE, DECODE_VEC, KINDS };
+enum kind { CHECK, ENCODE, DECODE, DECODE_VEC, PADDED, KINDS };
 
 struct task {
     const uint8_t *src;
@@ -68,8 +68,17 @@ struct task {
     X(WRITES, rust, plan, decode, DECODE) \
     X(WRITES, rust, plan, decode_owned, DECODE)
 
+// The padded text into a slice, ungrouped and in pieces of so many bytes.
+#define PIECES(X) \
+    X(WRITES, own, ungrouped, write_to, PADDED) \
+    X(WRITES, own, by_1, write_to, PADDED) \
+    X(WRITES, own, by_2, write_to, PADDED) \
+    X(WRITES, own, by_4, write_to, PADDED) \
+    X(WRITES, own, by_16, write_to, PADDED) \
+    X(WRITES, own, by_1000, write_to, PADDED)
+
 #define OWN_CALLS(X) \
-    PLAIN(X) PLAN(X, scalar) PLAN(X, sse41) PLAN(X, avx2) PLAN(X, avx512) PLAN(X, neon)
+    PIECES(X) PLAIN(X) PLAN(X, scalar) PLAN(X, sse41) PLAN(X, avx2) PLAN(X, avx512) PLAN(X, neon)
 
 #ifdef RUST
 #define RUST_CALLS(X) PUBLIC(X) KERNEL(X, scalar) KERNEL(X, sse41) KERNEL(X, avx2) KERNEL(X, avx512)
@@ -163,11 +172,11 @@ static volatile size_t sink;
 
 // The same bytes, and their text in lowercase, in uppercase and in both.
 static uint8_t bytes[LARGEST], lower[2 * LARGEST], upper[2 * LARGEST], mixed[2 * LARGEST];
-static uint8_t out[2 * LARGEST] __attribute__((aligned(64)));
+static uint8_t out[3 * LARGEST] __attribute__((aligned(64)));
 
 static struct task task_of(enum kind kind, size_t size) {
-    if (kind == ENCODE) {
-        return (struct task){bytes, size, out, 2 * size};
+    if (kind == ENCODE || kind == PADDED) {
+        return (struct task){bytes, size, out, kind == ENCODE ? 2 * size : 3 * size};
     }
     return (struct task){mixed, 2 * size, out, size};
 }
@@ -196,7 +205,30 @@ static void stop_unless(bool holds, const char *side, const char *plan, const ch
     }
 }
 
+static const char *const pieces[] = {"ungrouped", "by_1", "by_2", "by_4", "by_16", "by_1000"};
+#define FORMS (sizeof pieces / sizeof *pieces)
+
+// Checks a grouped text, whose separators are colons.
+static void check_padded(const struct call *call, size_t size) {
+    struct task task = task_of(PADDED, size);
+    size_t every = strcmp(call->plan, "ungrouped") ? strtoul(call->plan + 3, NULL, 10) : 0;
+    size_t length = call->loop(&task, 1), at = 0;
+    bool holds = true;
+    for (size_t i = 0; i < size; i++) {
+        if (every != 0 && i != 0 && i % every == 0) {
+            holds = holds && out[at++] == ':';
+        }
+        holds = holds && !memcmp(out + at, lower + 2 * i, 2);
+        at += 2;
+    }
+    stop_unless(holds && length == at, "own", call->plan, call->name, size);
+}
+
 static void check(const struct call *call, size_t size) {
+    if (call->kind == PADDED) {
+        check_padded(call, size);
+        return;
+    }
     struct task task = task_of(call->kind, size);
     memset(out, 0xa5, sizeof out);
     bool holds = call->loop(&task, 1) == (call->kind == CHECK ? 1 : task.room);
@@ -335,6 +367,25 @@ static void heads(const char *const *names, size_t count) {
     }
 }
 
+// The padded text in its forms, and each over the ungrouped one.
+static void print_padded(void) {
+    printf("\nHex::write_to into a slice: ns\n   bytes");
+    heads(pieces, FORMS);
+    printf(" | / ungrouped\n");
+    for (size_t at_size = 0; at_size < SIZES; at_size++) {
+        printf("%8zu", sizes[at_size]);
+        for (size_t at = 0; at < FORMS; at++) {
+            cell(" %8.1f", time_of(at_size, false, pieces[at], "write_to", PADDED));
+        }
+        printf(" |");
+        double whole = time_of(at_size, false, pieces[0], "write_to", PADDED);
+        for (size_t at = 1; at < FORMS; at++) {
+            cell(" %8.2f", time_of(at_size, false, pieces[at], "write_to", PADDED) / whole);
+        }
+        printf("\n");
+    }
+}
+
 static void print_times(const struct table *table) {
     printf("\n%s%s%s: ns\n   bytes", table->name, table->plain ? ", plain: " : "",
         table->plain ? table->plain : "");
@@ -459,5 +510,6 @@ int main(void) {
         print_ratios(&tables[at]);
 #endif
     }
+    print_padded();
     return 0;
 }

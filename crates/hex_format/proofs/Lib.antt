@@ -3,3 +3,4 @@ pub mod FrameFacts
 mod GroupFacts
 pub mod PutsLemmas
 mod Repeats
+mod SpreadLemmas

@@ -1,15 +1,15 @@
 //! Puts of digits: the text of some bytes, with separators between its pieces where it is grouped.
 
-ghost use Rattle.std.specs.Prelude.{◌≡◌, ◌-◌, ◌*◌, ◌^◌, ◌<◌, ◌≤◌, length, take};
+ghost use Rattle.std.specs.Prelude.{◌≡◌, ◌-◌, ◌*◌, ◌^◌, ◌<◌, ◌≤◌};
 ghost use Rattle.hex_core.specs.Text.{text};
-ghost use Rattle.hex_codec.specs.Grouped.{grouped, piece_len, separated};
+ghost use Rattle.hex_codec.specs.Grouped.{grouped, piece_len};
 ghost use Rattle.hex_format.specs.Frame.{digits_by};
 ghost use Rattle.hex_format.specs.Sink.{Puts};
 
 use crate::sink::{Sink, WriteFault, put_all};
+use crate::spread::separated_text;
 use hex_codec::Group;
 use hex_codec::pieces::encoded;
-use hex_core::Backend;
 
 /// How many source bytes are encoded at a time.
 pub const CHUNK: usize = 512;
@@ -114,29 +114,4 @@ fn put_long_pieces<S: Sink>(
         before = &separator;
     }
     Ok(())
-}
-
-// The text of each piece behind a separator, written into the front of the buffer.
-fn separated_text<'b>(bytes: &[u8], upper: bool, group: Group, buffer: &'b mut [u8]) -> &'b [u8]
-    requires { 3 * length bytes.now ≤ length buffer.old }
-    ensures { result.now ≡ separated group upper bytes.now }
-{
-    let end = write_separated(bytes, upper, group, buffer);
-    &buffer[..end]
-}
-
-// Writes the text of each piece behind a separator, and returns how many bytes that is.
-fn write_separated(bytes: &[u8], upper: bool, group: Group, out: &mut [u8]) -> usize
-    requires { 3 * length bytes.now ≤ length out.old }
-    ensures inside { result ≤ length out.new }
-    ensures written { take result out.new ≡ separated group upper bytes.now }
-{
-    let mut to = 0;
-    for piece in bytes.chunks(group.every()) {
-        let end = to + 1 + 2 * piece.len();
-        out[to] = group.sep();
-        Backend::plain().encode(piece, &mut out[to + 1..end], upper);
-        to = end;
-    }
-    to
 }

@@ -5,6 +5,7 @@ mod digits;
 pub mod format;
 pub mod laws;
 pub mod sink;
+mod spread;
 
 pub use crate::format::{Align, Hex, HexFlags};
 pub use crate::sink::{Sink, SinkFault, SliceSink, WriteFault, WriterSink, put_all};

@@ -42,8 +42,8 @@ pub fn write_hex<S: Sink>(sink: &mut S, bytes: &[u8], flags: &HexFlags) -> Resul
     Hex::new(bytes).write_to(sink, flags)
 }
 
-// Whether a slice then holds exactly this text, and no failure was counted.
-fn writes(bytes: &[u8], flags: &HexFlags, want: &[u8]) -> bool {
+/// Whether a slice then holds exactly this text, and no failure was counted.
+pub fn writes(bytes: &[u8], flags: &HexFlags, want: &[u8]) -> bool {
     let mut buffer = [0; 8194];
     let mut sink = SliceSink::new(&mut buffer);
     let is_written = write_hex(&mut sink, bytes, flags) == Ok(());

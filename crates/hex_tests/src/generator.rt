@@ -3,7 +3,7 @@
 ghost use Rattle.std.specs.Prelude.{◌<◌, ◌≤◌, length};
 
 use crate::rules::CASES;
-use faster_hex::{Align, CheckCase, HexFlags};
+use faster_hex::{Align, CheckCase, Group, HexFlags};
 
 // Numbers that look random, from a seed.
 #[derive(Drop)]
@@ -89,13 +89,22 @@ impl Generator {
 
     // Room for so many bytes, or for fewer or for a few more.
     fn room_for(&mut self, len: usize) -> usize
-        requires { len ≤ 1600 }
+        requires { len ≤ 1900 }
     {
         match self.below(4) {
             0 => self.below(len + 1),
             1 => len.saturating_sub(1),
             2 => len,
             _ => len + self.below(9),
+        }
+    }
+
+    // Often no group, and often one of short pieces.
+    fn group(&mut self) -> Option<Group> {
+        match self.below(4) {
+            0 => Group::new(1 + self.below(4), self.byte_of(b":-. x")),
+            1 => Group::new(1 + self.below(320), self.byte_of(b":-. x")),
+            _ => None,
         }
     }
 
@@ -112,6 +121,7 @@ impl Generator {
             fill: [' ', '*', '0', 'é', '💠'][self.below(5)],
             align: [Align::Left, Align::Right, Align::Center][self.below(3)],
             upper: self.is_heads(),
+            group: self.group(),
         }
     }
 }
@@ -155,7 +165,7 @@ impl Input {
             room: random.room_for(len / 2),
             flags,
             text_room: random.room_for(2 * len),
-            sink_room: random.room_for(padding.min(900) + 2 * len + 3),
+            sink_room: random.room_for(padding.min(900) + 3 * len + 3),
         }
     }
 

@@ -3,6 +3,7 @@
 use crate::calls::{Decoder, Encoder, decodes_into, encodes_into, leaves, reads_vector_under};
 use crate::format_rows::write_hex;
 use crate::generator::Input;
+use crate::grouped_rows::grouped_by_rule;
 use crate::plan_rows::plan_that_locates_otherwise;
 use crate::rules::{
     FILL, decode_by_rule, first_invalid, padded_by_rule, search_by_rule, text_of, too_small,
@@ -74,7 +75,7 @@ fn reads_by_rule(alloc: Global, src: &[u8], case: CheckCase) -> bool {
 
 // Whether a slice of this length takes this text, or the beginning of it that fits and is then full.
 fn fills(list: &[u8], flags: &HexFlags, text: &[u8], room: usize) -> bool {
-    let mut buffer = [FILL; 1520];
+    let mut buffer = [FILL; 1820];
     let Some(slice) = buffer.get_mut(..room) else {
         return false;
     };
@@ -97,7 +98,8 @@ fn random_inputs_are_answered_by_the_rules(rt: HostRuntime) -> Result<(), Fail> 
         let input = Input::from_seed(seed);
         let (src, case, flags) = (input.source(), input.case, input.flags);
         let text = text_of(alloc, src, flags.upper)?;
-        let padded = padded_by_rule(alloc, &text, &flags)?;
+        let grouped = grouped_by_rule(alloc, &text, flags.group)?;
+        let padded = padded_by_rule(alloc, &grouped, &flags)?;
         assert_eq!(rt; plan_that_differs(src, case), None, "seed {seed}");
         assert_eq!(rt; search_that_differs(src, case), None, "seed {seed}");
         assert_eq!(rt;

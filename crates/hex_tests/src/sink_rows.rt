@@ -33,14 +33,14 @@ fn otherwise_stopped(bytes: &[u8], flags: &HexFlags, text: &[u8], limit: usize) 
     None
 }
 
-// Whether a slice of this length is refused the text of one byte, and then holds this beginning.
-fn fills_slice(flags: &HexFlags, room: usize, beginning: &str) -> bool {
+/// Whether a slice of this length is refused the text of some bytes, and then holds this beginning.
+pub fn fills_slice(bytes: &[u8], flags: &HexFlags, room: usize, beginning: &str) -> bool {
     let mut buffer = [0; 10];
     let Some(slice) = buffer.get_mut(..room) else {
         return false;
     };
     let mut sink = SliceSink::new(slice);
-    let answer = write_hex(&mut sink, &[0xab], flags);
+    let answer = write_hex(&mut sink, bytes, flags);
     answer == Err(WriteFault::Sink(SinkFault))
         && sink.written() == beginning.as_bytes()
         && sink.failures() == 1
@@ -58,7 +58,10 @@ fn a_full_slice_holds_the_beginning(rt: HostRuntime) {
         ("+#0", widest, 10, "+0x0000000"),
     ] {
         let flags = flags_of(letters, width, ' ');
-        assert!(rt; fills_slice(&flags, room, text), "{letters} {text}");
+        assert!(rt;
+            fills_slice(&[0xab], &flags, room, text),
+            "{letters} {text}"
+        );
     }
 }
 
@@ -91,8 +94,8 @@ fn an_empty_text_meets_no_failure(rt: HostRuntime) {
     assert!(rt; answer == Err(WriteFault::TookNothing) && sink.failures() == 1);
 }
 
-// The number of bytes behind which the text of these bytes is stopped otherwise.
-fn limit_missed(bytes: &[u8], flags: &HexFlags, text: &[u8]) -> Option<usize> {
+/// The number of bytes behind which the text of these bytes is stopped otherwise.
+pub fn limit_missed(bytes: &[u8], flags: &HexFlags, text: &[u8]) -> Option<usize> {
     for limit in 0..text.len() {
         if otherwise_stopped(bytes, flags, text, limit).is_some() {
             return Some(limit);

@@ -5,7 +5,7 @@ use Rattle.hex_core.specs.Text.{text}
 use Rattle.hex_core.proofs.TextLemmas.{length-text}
 use Rattle.hex_codec.specs.Grouped.{separated, separator}
 use Rattle.hex_format.proofs.GroupFacts.{piece-next, write-next}
-use Rattle.hex_format.proofs.digits.write_separated.Goals as goal
+use Rattle.hex_format.proofs.spread.write_separated.Goals as goal
 
 pub loop-piece-preserved : goal.loop-piece-preserved
 loop-piece-preserved c =

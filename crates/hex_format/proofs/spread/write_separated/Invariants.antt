@@ -2,7 +2,7 @@
 use Rattle.std.proofs.Common.{◌≡◌, ◌+◌, ◌*◌, ◌≤◌, ◌++◌, length, take}
 use Rattle.std.specs.Slice.Iter.{chunks_rest, chunks_size}
 use Rattle.hex_codec.specs.Grouped.{piece_len, separated}
-use Rattle.hex_format.proofs.digits.write_separated.Given as goal
+use Rattle.hex_format.proofs.spread.write_separated.Given as goal
 
 abbrev pub invariant-loop-piece : goal.invariant-loop-piece
 invariant-loop-piece l =
