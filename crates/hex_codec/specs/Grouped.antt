@@ -1,5 +1,5 @@
 -- Grouped texts: the texts of a list's pieces, with a separator between two.
-use Rattle.std.specs.Prelude.{ℕ, ◌-◌, ◌+◌, ◌*◌, ◌/◌, Bool, List, [], ◌∷◌, length, take, drop, map}
+use Rattle.std.specs.Prelude.{ℕ, ◌*◌, Bool, List, [], ◌∷◌, length, take, drop, map}
 use Rattle.std.specs.Int.{div_ceil}
 use Rattle.std.specs.List.{flat_map, join_by, range_with_len}
 use Rattle.hex_core.specs.Text.{digits, text}

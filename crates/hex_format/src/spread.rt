@@ -49,13 +49,21 @@ fn spread_16(bytes: &[u8; BLOCK], upper: bool, sep: u8) -> [u8; 3 * BLOCK]
     ensures { result ≡ bytes_apart sep upper bytes.now }
 {
     let digits = encode_16(bytes, upper);
+    let first = u8x16::from_slice(&digits);
+    let last = u8x16::from_slice(&digits[BLOCK..]);
+    let inner = first.shuffle(
+        last,
+        [
+            10, 11, 12, 13, 14, 15, 16, 17, 18, 19, 20, 21, 22, 23, 24, 25,
+        ],
+    );
     let seps = u8x16::splat(sep);
-    let front = u8x16::from_slice(&digits)
-        .shuffle(seps, [16, 0, 1, 16, 2, 3, 16, 4, 5, 16, 6, 7, 16, 8, 9, 16]);
-    let middle = u8x16::from_slice(&digits[10..])
-        .shuffle(seps, [0, 1, 16, 2, 3, 16, 4, 5, 16, 6, 7, 16, 8, 9, 16, 10]);
-    let back = u8x16::from_slice(&digits[16..])
-        .shuffle(seps, [5, 16, 6, 7, 16, 8, 9, 16, 10, 11, 16, 12, 13, 16, 14, 15]);
+    let front = first.shuffle(seps, [16, 0, 1, 16, 2, 3, 16, 4, 5, 16, 6, 7, 16, 8, 9, 16]);
+    let middle = inner.shuffle(seps, [0, 1, 16, 2, 3, 16, 4, 5, 16, 6, 7, 16, 8, 9, 16, 10]);
+    let back = last.shuffle(
+        seps,
+        [5, 16, 6, 7, 16, 8, 9, 16, 10, 11, 16, 12, 13, 16, 14, 15],
+    );
     let mut spread = [0; 3 * BLOCK];
     front.copy_to_slice(&mut spread);
     middle.copy_to_slice(&mut spread[BLOCK..]);

@@ -1,8 +1,8 @@
 -- How the program ends after a run.
 use Rattle.std.specs.Prelude.{◌≡◌, ◌≤◌, ℕ, List, length, Option, Result, Ok, Err}
-use Rattle.std.proofs.Common.{arith, refl, ap, ◌∙◌, inl, inr, append_assoc, length-append}
-use Rattle.std.specs.Io.KnownBytes.{Appends, Consumes, Keeps, IsAtEnd}
-use Rattle.std.proofs.KnownBytes.{Appends-kept, Appends-trans, Keeps-trans}
+use Rattle.std.proofs.Common.{arith, refl, ap, inl, inr}
+use Rattle.std.specs.Io.KnownBytes.{Consumes, Keeps, IsAtEnd}
+use Rattle.std.proofs.KnownBytes.{Appends-kept, Keeps-trans}
 use Rattle.hex_format.specs.Sink.{SinkState}
 use Rattle.hex_program.specs.declared.operation.Op.{Op}
 use Rattle.hex_program.specs.declared.operation.RunFault.{RunFault}

@@ -1,5 +1,5 @@
 -- A piece is the next of all pieces; no separator is put before the first one.
-use Rattle.std.proofs.Common.{◌≡◌, ◌+◌, ◌-◌, [], ◌∷◌, ◌++◌, drop, length, refl, ap, sym, ◌∙◌, arith, rules, length-append}
+use Rattle.std.proofs.Common.{◌≡◌, ◌-◌, ◌∷◌, ◌++◌, length, refl, ◌∙◌, arith, rules, length-append}
 use Rattle.std.specs.Slice.Iter.{chunks_rest}
 use Rattle.hex_core.specs.Text.{text}
 use Rattle.hex_codec.specs.Grouped.{separated, separator}

@@ -1,5 +1,5 @@
 -- A chunk's pieces are the next of all pieces; no separator is put before the first one.
-use Rattle.std.proofs.Common.{◌≡◌, ◌≤◌, ◌+◌, ◌-◌, ◌*◌, ◌/◌, [], ◌++◌, drop, length, refl, ap, ◌∙◌, arith, rules, length-append}
+use Rattle.std.proofs.Common.{◌/◌, [], ◌++◌, drop, length, refl, ap, ◌∙◌, arith, rules, length-append}
 use Rattle.std.proofs.lemmas.List.{take_rest}
 use Rattle.std.specs.Slice.Iter.{chunks_rest}
 use Rattle.hex_codec.specs.Grouped.{piece_len, separated}

@@ -1,5 +1,5 @@
 -- A chunk's digits are the next of those of all bytes.
-use Rattle.std.proofs.Common.{◌++◌, ◌∙◌, arith, rules, append_assoc}
+use Rattle.std.proofs.Common.{◌++◌, ◌∙◌, rules, append_assoc}
 use Rattle.std.specs.Slice.Iter.{chunks_rest}
 use Rattle.hex_core.specs.Text.{text}
 use Rattle.hex_format.proofs.PutsLemmas.{Puts-err, Stops-stop, Stops-then, Takes-then}

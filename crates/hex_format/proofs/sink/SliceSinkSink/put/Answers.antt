@@ -1,8 +1,8 @@
 -- What fits is copied behind what was taken, and the rest stays free.
-use Rattle.std.proofs.Common.{◌≡◌, ◌+◌, ◌-◌, ◌≤◌, ◌++◌, length, take, drop, ap, refl, sym, ◌∙◌, arith, Some, Ok, rules, length-drop, length-take}
+use Rattle.std.proofs.Common.{◌≡◌, ◌+◌, ◌-◌, ◌++◌, length, take, drop, ap, refl, sym, ◌∙◌, arith, Some, Ok, rules, length-drop, length-take}
 use Rattle.std.proofs.lemmas.Slice.{drop-put_mid, take-put_mid}
 use borrow.Rule.Slice.PartMut.{put_mid}
-use Rattle.hex_format.proofs.PutsLemmas.{dropped, faults_of-some}
+use Rattle.hex_format.proofs.PutsLemmas.{dropped}
 use Rattle.hex_format.proofs.sink.SliceSinkSink.put.Goals as goal
 
 pub returns-clause-puts : goal.returns-clause-puts
