@@ -1,8 +1,8 @@
 -- A piece's text is the next of those of all pieces.
-use Rattle.std.proofs.Common.{◌≡◌, Bool, ℕ, ◌+◌, ◌-◌, ◌*◌, ◌≤◌, ◌<◌, suc, min, List, [], ◌∷◌, ◌++◌, length, take, drop, refl, sym, ap, ◌∙◌, arith, append_assoc, append-nil, length-append}
-use Rattle.std.proofs.Math.Seq.{drop-append_seam, take-append_seam}
+use Rattle.std.proofs.Common.{◌≡◌, Bool, ℕ, ◌+◌, ◌-◌, ◌*◌, ◌≤◌, ◌<◌, suc, min, List, [], ◌∷◌, ◌++◌, length, take, drop, refl, sym, ap, ◌∙◌, arith, append_assoc, append-nil, length-append, length-drop, take-append-drop}
+use Rattle.std.proofs.Math.Seq.{drop-append_seam, take-add, take-append_seam}
 use Rattle.std.proofs.Math.ListN.{length-set, set}
-use Rattle.std.proofs.lemmas.List.{drop_all, take_all, take_more_set}
+use Rattle.std.proofs.lemmas.List.{drop_all, length-take-le, take_all, take_more_set}
 use Rattle.std.proofs.lemmas.Slice.{take-put_mid}
 use borrow.Rule.Slice.PartMut.{put_mid}
 use Rattle.hex_core.specs.Text.{text}
@@ -43,6 +43,26 @@ chunk-next group upper count all chunk [] parts size =
 chunk-next group upper count all chunk (b ∷ rest) parts size =
     let long = ap length parts ∙ length-append chunk (b ∷ rest) in
     ap (separated group upper) parts ∙ separated-append group upper count chunk (b ∷ rest) (omega (arith, size, long))
+
+-- whole pieces, and what is behind them in the list
+pub behind-whole : (group : Group) (upper : Bool) (count at : ℕ) (bytes : List ℕ) → at ≡ count * piece_len group → at ≤ length bytes
+    → separated group upper (take at bytes) ++ separated group upper (drop at bytes) ≡ separated group upper bytes
+behind-whole group upper count at bytes whole inside =
+    let size : length (take at bytes) ≡ count * piece_len group = length-take-le at bytes inside ∙ whole in
+    sym (separated-append group upper count (take at bytes) (drop at bytes) size) ∙ ap (separated group upper) (take-append-drop at bytes)
+
+-- one whole piece more
+pub one-more : (group : Group) (upper : Bool) (count at : ℕ) (bytes : List ℕ) → at ≡ count * piece_len group → at + piece_len group ≤ length bytes
+    → separated group upper (take at bytes) ++ (separator group ∷ text upper (take (piece_len group) (drop at bytes))) ≡ separated group upper (take (at + piece_len group) bytes)
+one-more group upper count at bytes whole inside =
+    let every = piece_len group in
+    let some : 0 < every = group.is_group.0 in
+    let piece = take every (drop at bytes) in
+    let size : length (take at bytes) ≡ count * every = length-take-le at bytes (omega arith) ∙ whole in
+    let long : length piece ≡ every = length-take-le every (drop at bytes) (omega (arith, length-drop at bytes)) in
+    let last = piece-next group upper piece piece [] (sym (append-nil piece)) (omega (arith, long)) (omega (arith, long, some)) in
+    let one : separator group ∷ text upper piece ≡ separated group upper piece = sym (last ∙ ap (λ l. (separator group ∷ text upper piece) ++ l) (separated-none group upper) ∙ append-nil (separator group ∷ text upper piece)) in
+    ap (λ l. separated group upper (take at bytes) ++ l) one ∙ sym (separated-append group upper count (take at bytes) piece size) ∙ ap (separated group upper) (sym (take-add at every bytes))
 
 -- there is a separator before the first piece
 pub separated-some : (group : Group) (upper : Bool) (bytes : List ℕ) → 0 < length bytes → 0 < length (separated group upper bytes)

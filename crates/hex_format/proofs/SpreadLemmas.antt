@@ -1,13 +1,14 @@
 -- Digits of bytes, each two of them behind a separator.
-use Rattle.std.proofs.Common.{◌≡◌, Bool, ℕ, ◌+◌, ◌*◌, ◌≤◌, List, [], ◌∷◌, ◌++◌, length, get_or, map, take, drop, refl, sym, ap, ◌∙◌, arith}
+use Rattle.std.proofs.Common.{◌≡◌, Bool, ℕ, ◌+◌, ◌*◌, ◌≤◌, List, [], ◌∷◌, ◌++◌, length, get_or, map, take, drop, refl, sym, ap, ◌∙◌, arith, take-append-drop}
 use Rattle.std.proofs.lemmas.List.{length-take-le, take-take}
-use Rattle.std.proofs.Math.Seq.{take-add, take-append-add}
+use Rattle.std.proofs.Math.Seq.{take-add, take-append-add, take-append_seam}
 use Rattle.std.proofs.lemmas.Grind.{flat_map-append, same_number_lists}
 use Rattle.std.proofs.lemmas.List.FromFn.{get_or-map-range_with_len, length-map-range_with_len}
 use Rattle.std.proofs.lemmas.Slice.{take-put_mid}
 use Rattle.std.specs.List.{range_with_len}
 use borrow.Rule.Slice.PartMut.{put_mid}
-use Rattle.hex_core.specs.Text.{digits}
+use Rattle.hex_core.specs.Text.{digits, text}
+use Rattle.hex_core.proofs.TextLemmas.{length-text, text-append}
 use Rattle.hex_codec.specs.Grouped.{bytes_apart}
 
 -- a list by its entries
@@ -31,3 +32,11 @@ take-front_put a k r xs ys inside fits =
     let front : length (take a xs) + r ≡ a + r = omega (arith, length-take-le a xs inside) in
     sym (take-take (a + r) (a + length ys) (put_mid a k xs ys) (omega arith)) ∙ ap (take (a + r)) whole
     ∙ rw front at (take-append-add (take a xs) ys r)
+
+-- the first digits of a text are those of the first bytes
+pub take-text : (upper : Bool) (n : ℕ) (bytes : List ℕ) → n ≤ length bytes → take (2 * n) (text upper bytes) ≡ text upper (take n bytes)
+take-text upper n bytes inside =
+    let front = text upper (take n bytes) in
+    let size : length front ≡ 2 * n = omega (arith, length-text upper (take n bytes), length-take-le n bytes inside) in
+    let parts : text upper bytes ≡ front ++ text upper (drop n bytes) = ap (text upper) (sym (take-append-drop n bytes)) ∙ text-append upper (take n bytes) (drop n bytes) in
+    rw (parts, ← size) (take-append_seam front (text upper (drop n bytes)))

@@ -5,11 +5,14 @@ ghost use Rattle.hex_codec.specs.Grouped.{bytes_apart, piece_len, separated};
 
 use hex_codec::Group;
 use hex_core::Backend;
-use hex_core::lanes::encode_16;
+use hex_core::lanes::{encode_8, encode_16};
 use std::simd::prelude::*;
 
 // How many bytes are spread at a time where each is a piece.
 const BLOCK: usize = 16;
+
+// How many bytes are encoded at a time where a piece has fewer or as many.
+const EIGHT: usize = 8;
 
 /// Returns the text of each piece behind a separator, written into the front of the buffer.
 ///
@@ -18,10 +21,10 @@ pub fn separated_text<'b>(bytes: &[u8], upper: bool, group: Group, buffer: &'b m
     requires { 3 * length bytes.now ≤ length buffer.old }
     ensures { result.now ≡ separated group upper bytes.now }
 {
-    let end = if group.every() == 1 {
-        write_apart(bytes, upper, group, buffer)
-    } else {
-        write_separated(bytes, upper, group, buffer)
+    let end = match group.every() {
+        1 => write_apart(bytes, upper, group, buffer),
+        2..=8 => write_short(bytes, upper, group, buffer),
+        _ => write_separated(bytes, upper, group, buffer),
     };
     &buffer[..end]
 }
@@ -40,6 +43,28 @@ fn write_separated(bytes: &[u8], upper: bool, group: Group, out: &mut [u8]) -> u
         to = end;
     }
     to
+}
+
+// The same as `write_separated` where a piece is short: each is written with the digits that follow it,
+// which the next piece is written over.
+fn write_short(bytes: &[u8], upper: bool, group: Group, out: &mut [u8]) -> usize
+    requires short { piece_len group ≤ 8 }
+    requires room { 3 * length bytes.now ≤ length out.old }
+    ensures inside { result ≤ length out.new }
+    ensures written { take result out.new ≡ separated group upper bytes.now }
+{
+    let every = group.every();
+    let mut at = 0;
+    let mut to = 0;
+    while bytes.len() - at >= EIGHT && out.len() - to > 2 * EIGHT {
+        let mut block = [0; EIGHT];
+        block.copy_from_slice(&bytes[at..at + EIGHT]);
+        out[to] = group.sep();
+        out[to + 1..to + 1 + 2 * EIGHT].copy_from_slice(&encode_8(&block, upper));
+        at += every;
+        to += 1 + 2 * every;
+    }
+    to + write_separated(&bytes[at..], upper, group, &mut out[to..])
 }
 
 // The digits of each of 16 bytes behind a separator. Each third takes its lanes from 16 of the
