@@ -3,7 +3,7 @@ use Rattle.std.proofs.Common.{◌≡◌, ◌⊎◌, inl, inr, ℕ, zero, suc, �
 use Rattle.std.proofs.Math.Nat.{add-div_left, add-mod_left, zero-div, zero-mod, div-eq_of_lt, mod-eq_of_lt}
 use Rattle.std.proofs.lemmas.Bool.{cases_lt}
 use Rattle.std.proofs.lemmas.List.{drop-drop}
-use Rattle.std.proofs.lemmas.Grind.{common_steps}
+use Rattle.std.proofs.lemmas.Grind.{common_steps, flat_map-append}
 use Rattle.std.specs.List.{flat_map, join_by, range_with_len}
 use Rattle.hex_core.specs.Text.{digits, text}
 use Rattle.hex_core.proofs.TextLemmas.{length-text}
@@ -12,7 +12,7 @@ use Rattle.hex_codec.specs.Grouped.{bytes_apart, grouped, piece_count, piece_len
 
 -- ---- pieces
 
-no_pieces : (every : ℕ) → pieces every [] ≡ []
+pub no_pieces : (every : ℕ) → pieces every [] ≡ []
 no_pieces every = rw (zero-div every, zero-mod every) refl
 
 -- one piece fewer is left behind the first
@@ -34,7 +34,7 @@ map-next f h same a zero = refl
 map-next f h same a (suc n) = rw (same a) (ap (λ l. h a ∷ l) (map-next f h same (a + 1) n))
 
 -- the first piece, and those behind it
-pieces-next : (every : ℕ) (bytes : List ℕ) → 0 < every → 0 < length bytes → pieces every bytes ≡ take every bytes ∷ pieces every (drop every bytes)
+pub pieces-next : (every : ℕ) (bytes : List ℕ) → 0 < every → 0 < length bytes → pieces every bytes ≡ take every bytes ∷ pieces every (drop every bytes)
 pieces-next every bytes pos some =
     let back = drop every bytes in
     let count : piece_count every (length bytes) ≡ suc (piece_count every (length back)) = rw (length-drop every bytes) (count-next every (length bytes) pos some) in
@@ -43,6 +43,19 @@ pieces-next every bytes pos some =
     let first : 0 * every ≡ 0 = omega arith in
     let same : (i : ℕ) → here (i + 1) ≡ behind i = λ i. let at : (i + 1) * every ≡ every + i * every = grind arith in rw at (ap (take every) (sym (drop-drop (i * every) every bytes))) in
     rw (count, first) (ap (λ l. take every bytes ∷ l) (map-next here behind same 0 (piece_count every (length back))))
+
+-- whole pieces, and those behind them
+pub pieces-append : (every count : ℕ) (front back : List ℕ) → 0 < every → length front ≡ count * every → pieces every (front ++ back) ≡ pieces every front ++ pieces every back
+pieces-append every zero [] back pos whole = rw (no_pieces every) refl
+pieces-append every zero (b ∷ front) back pos whole = absurd (omega arith)
+pieces-append every (suc count) front back pos whole =
+    let size : length front ≡ every + count * every = omega (arith, whole) in
+    let first : take every (front ++ back) ≡ take every front = grind (arith, common_steps, size, pos) in
+    let behind : drop every (front ++ back) ≡ drop every front ++ back = grind (arith, common_steps, size, pos) in
+    let rest = pieces-append every count (drop every front) back pos (omega (arith, length-drop every front, size)) in
+    pieces-next every (front ++ back) pos (omega (arith, length-append front back, size, pos))
+    ∙ rw (first, behind, rest) refl
+    ∙ ap (λ l. l ++ pieces every back) (sym (pieces-next every front pos (omega (arith, size, pos))))
 
 -- ---- their texts
 
@@ -66,18 +79,10 @@ grouped-separated group upper bytes = joined (pieces (piece_len group) bytes)
 -- whole pieces, and what is behind them
 pub separated-append : (group : Group) (upper : Bool) (count : ℕ) (front back : List ℕ) → length front ≡ count * piece_len group
     → separated group upper (front ++ back) ≡ separated group upper front ++ separated group upper back
-separated-append group upper zero [] back whole = rw (separated-none group upper) refl
-separated-append group upper zero (b ∷ front) back whole = absurd (omega arith)
-separated-append group upper (suc count) front back whole =
+separated-append group upper count front back whole =
+    let shown : List ℕ → List ℕ = λ piece. separator group ∷ text upper piece in
     let every = piece_len group in
-    let some : 0 < every = group.is_group.0 in
-    let size : length front ≡ every + count * every = omega (arith, whole) in
-    let first : take every (front ++ back) ≡ take every front = grind (arith, common_steps, size, some) in
-    let behind : drop every (front ++ back) ≡ drop every front ++ back = grind (arith, common_steps, size, some) in
-    let rest = separated-append group upper count (drop every front) back (omega (arith, length-drop every front, size)) in
-    separated-next group upper (front ++ back) (omega (arith, length-append front back, size, some))
-    ∙ (rw (first, behind, rest) (ap (λ l. separator group ∷ l) (sym (append_assoc (text upper (take every front)) (separated group upper (drop every front)) (separated group upper back))))
-    ∙ ap (λ l. l ++ separated group upper back) (sym (separated-next group upper front (omega (arith, size, some)))))
+    ap (flat_map shown) (pieces-append every count front back group.is_group.0 whole) ∙ flat_map-append shown (pieces every front) (pieces every back)
 
 -- ---- lengths
 

@@ -1,2 +1,5 @@
 mod AppendWalk
 pub mod GroupLemmas
+pub mod ListLemmas
+mod StripLemmas
+mod WrongLemmas

@@ -4,14 +4,11 @@
 pub mod decode;
 pub mod encode;
 mod group;
+pub mod grouped;
 pub mod heapless_08;
 pub mod pieces;
 pub mod strings;
-
-/// Grouped digits: pieces with a separator between two.
-pub mod grouped {
-    pub use crate::group::Group;
-}
+mod strip;
 
 pub use crate::decode::{
     hex_check, hex_check_with_case, hex_decode, hex_decode_array, hex_decode_array_with_case,

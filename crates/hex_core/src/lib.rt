@@ -7,7 +7,7 @@ pub mod error;
 mod kind;
 pub mod lanes;
 pub mod laws;
-mod lend;
+pub mod lend;
 pub mod plan;
 mod scalar;
 mod search;

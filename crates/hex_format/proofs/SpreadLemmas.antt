@@ -11,12 +11,6 @@ use Rattle.hex_core.specs.Text.{digits, text}
 use Rattle.hex_core.proofs.TextLemmas.{length-text, text-append}
 use Rattle.hex_codec.specs.Grouped.{bytes_apart}
 
--- a list by its entries
-pub entries : (xs : List ℕ) (n : ℕ) → length xs ≡ n → xs ≡ map (λ i. get_or xs i 0) (range_with_len 0 n)
-entries xs n is =
-    let here = λ (i : ℕ). get_or xs i 0 in
-    same_number_lists xs (map here (range_with_len 0 n)) (is ∙ sym (length-map-range_with_len here 0 n)) (λ k lt. sym (get_or-map-range_with_len here 0 n k k 0 (omega arith) (omega arith)))
-
 pub length-apart : (sep : ℕ) (upper : Bool) (bytes : List ℕ) → length (bytes_apart sep upper bytes) ≡ 3 * length bytes
 length-apart sep upper [] = refl
 length-apart sep upper (b ∷ bytes) = let rest = length-apart sep upper bytes in omega arith
@@ -24,14 +18,6 @@ length-apart sep upper (b ∷ bytes) = let rest = length-apart sep upper bytes i
 -- the next bytes are written behind those before them
 pub apart-more : (sep : ℕ) (upper : Bool) (at n : ℕ) (bytes : List ℕ) → bytes_apart sep upper (take at bytes) ++ bytes_apart sep upper (take n (drop at bytes)) ≡ bytes_apart sep upper (take (at + n) bytes)
 apart-more sep upper at n bytes = sym (flat_map-append (λ b. sep ∷ digits upper b) (take at bytes) (take n (drop at bytes))) ∙ ap (bytes_apart sep upper) (sym (take-add at n bytes))
-
--- the front of a list whose middle was written
-pub take-front_put : (a k r : ℕ) (xs ys : List ℕ) → a ≤ length xs → r ≤ length ys → take (a + r) (put_mid a k xs ys) ≡ take a xs ++ take r ys
-take-front_put a k r xs ys inside fits =
-    let whole = take-put_mid a k xs ys (a + length ys) refl inside in
-    let front : length (take a xs) + r ≡ a + r = omega (arith, length-take-le a xs inside) in
-    sym (take-take (a + r) (a + length ys) (put_mid a k xs ys) (omega arith)) ∙ ap (take (a + r)) whole
-    ∙ rw front at (take-append-add (take a xs) ys r)
 
 -- the first digits of a text are those of the first bytes
 pub take-text : (upper : Bool) (n : ℕ) (bytes : List ℕ) → n ≤ length bytes → take (2 * n) (text upper bytes) ≡ text upper (take n bytes)

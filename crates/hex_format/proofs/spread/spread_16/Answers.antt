@@ -2,7 +2,7 @@
 use Rattle.std.proofs.Common.{rules, ◌≡◌, ◌∙◌, length, ap, sym}
 use Rattle.hex_core.specs.Text.{text}
 use Rattle.hex_codec.specs.Grouped.{bytes_apart}
-use Rattle.hex_format.proofs.SpreadLemmas.{entries}
+use Rattle.hex_codec.proofs.ListLemmas.{entries}
 use Rattle.hex_format.proofs.spread.spread_16.Goals as goal
 
 pub returns : goal.returns

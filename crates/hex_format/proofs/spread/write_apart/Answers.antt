@@ -4,7 +4,8 @@ use Rattle.std.proofs.lemmas.List.{take_all}
 use Rattle.std.proofs.lemmas.Slice.{take-put_mid}
 use Rattle.hex_codec.specs.Grouped.{bytes_apart, separator}
 use Rattle.hex_codec.proofs.GroupLemmas.{separated-apart}
-use Rattle.hex_format.proofs.SpreadLemmas.{apart-more, length-apart, take-front_put}
+use Rattle.hex_codec.proofs.ListLemmas.{take-front_put}
+use Rattle.hex_format.proofs.SpreadLemmas.{apart-more, length-apart}
 use Rattle.hex_format.proofs.spread.write_apart.Goals as goal
 
 pub copy_from_slice-requires-in-turns : goal.copy_from_slice-requires-in-turns

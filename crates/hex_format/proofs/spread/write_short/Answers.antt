@@ -6,7 +6,8 @@ use Rattle.hex_core.specs.Text.{text}
 use Rattle.hex_core.proofs.TextLemmas.{length-text}
 use Rattle.hex_codec.specs.Grouped.{piece_len, separated, separator}
 use Rattle.hex_format.proofs.GroupFacts.{behind-whole, one-more}
-use Rattle.hex_format.proofs.SpreadLemmas.{take-front_put, take-text}
+use Rattle.hex_codec.proofs.ListLemmas.{take-front_put}
+use Rattle.hex_format.proofs.SpreadLemmas.{take-text}
 use Rattle.hex_format.proofs.spread.write_short.Goals as goal
 
 pub loop-at-preserved : goal.loop-at-preserved

@@ -1,0 +1,32 @@
+-- Lists by their entries, and lists whose middle was written.
+use Rattle.std.proofs.Common.{◌≡◌, ℕ, ◌+◌, ◌≤◌, List, ◌++◌, length, get_or, map, take, refl, sym, ap, ◌∙◌, arith}
+use Rattle.std.proofs.Math.Seq.{take-append-add}
+use Rattle.std.proofs.lemmas.Grind.{same_number_lists}
+use Rattle.std.proofs.lemmas.List.{length-take-le, take-take}
+use Rattle.std.proofs.lemmas.List.FromFn.{get_or-map-range_with_len, length-map-range_with_len}
+use Rattle.std.proofs.lemmas.Slice.{take-put_mid}
+use Rattle.std.proofs.lemmas.Simd.{take_more_put_chunk}
+use Rattle.std.specs.List.{range_with_len}
+use Rattle.std.specs.Simd.Lanes.{put_chunk}
+use borrow.Rule.Slice.PartMut.{put_mid}
+
+-- a list by its entries
+pub entries : (xs : List ℕ) (n : ℕ) → length xs ≡ n → xs ≡ map (λ i. get_or xs i 0) (range_with_len 0 n)
+entries xs n is =
+    let here = λ (i : ℕ). get_or xs i 0 in
+    same_number_lists xs (map here (range_with_len 0 n)) (is ∙ sym (length-map-range_with_len here 0 n)) (λ k lt. sym (get_or-map-range_with_len here 0 n k k 0 (omega arith) (omega arith)))
+
+-- the front of a list whose middle was written
+pub take-front_put : (a k r : ℕ) (xs ys : List ℕ) → a ≤ length xs → r ≤ length ys → take (a + r) (put_mid a k xs ys) ≡ take a xs ++ take r ys
+take-front_put a k r xs ys inside fits =
+    let whole = take-put_mid a k xs ys (a + length ys) refl inside in
+    let front : length (take a xs) + r ≡ a + r = omega (arith, length-take-le a xs inside) in
+    sym (take-take (a + r) (a + length ys) (put_mid a k xs ys) (omega arith)) ∙ ap (take (a + r)) whole
+    ∙ rw front at (take-append-add (take a xs) ys r)
+
+pub take-front_chunk : (a r : ℕ) (xs ys : List ℕ) → a + length ys ≤ length xs → r ≤ length ys → take (a + r) (put_chunk a xs ys) ≡ take a xs ++ take r ys
+take-front_chunk a r xs ys inside fits =
+    let whole = take_more_put_chunk a xs ys (a + length ys) (omega arith) inside in
+    let front : length (take a xs) + r ≡ a + r = omega (arith, length-take-le a xs (omega arith)) in
+    sym (take-take (a + r) (a + length ys) (put_chunk a xs ys) (omega arith)) ∙ ap (take (a + r)) whole
+    ∙ rw front at (take-append-add (take a xs) ys r)

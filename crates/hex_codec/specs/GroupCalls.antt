@@ -1,0 +1,43 @@
+-- What reading a grouped text answers and leaves.
+use Rattle.std.specs.Prelude.{◌≡◌, ℕ, List, length, Result, MatchResult, Some, None}
+use Rattle.std.specs.Borrow.{LendsIfOk, MutBor, Fml, u8, Array}
+use Rattle.hex_core.specs.declared.digit.CheckCase.{CheckCase}
+use Rattle.hex_core.specs.declared.error.Error.{Error}
+use Rattle.hex_core.specs.declared.error.Error.TheVariants as codec
+use Rattle.hex_core.specs.Text.{with_front}
+use Rattle.hex_codec.specs.declared.group.Group.{Group}
+use Rattle.hex_codec.specs.declared.grouped.GroupFault.{GroupFault}
+use Rattle.hex_codec.specs.declared.grouped.GroupFault.TheVariants.{BadLength, OutputTooSmall, InvalidByte}
+use Rattle.hex_codec.specs.Grouped.{piece_len}
+use Rattle.hex_codec.specs.GroupedText.{GroupSpells, byte_count, group_refusal}
+
+-- how many bytes a text that is read has, or the refusal
+abbrev pub Accepts : CheckCase → Group → List ℕ → ℕ → Result ℕ GroupFault → Type 0
+Accepts c group s room result = MatchResult result
+    (λ n. (group_refusal c group s room ≡ None) × (byte_count (piece_len group) (length s) ≡ Some n))
+    (λ e. group_refusal c group s room ≡ Some e)
+
+-- reading into the front of a destination: the number of bytes, which are what the text spells and
+-- stand over the old ones; or the refusal, and the destination as it was
+abbrev pub Reads : CheckCase → Group → List ℕ → List ℕ → List ℕ → Result ℕ GroupFault → Type 0
+Reads c group s old new result = MatchResult result
+    (λ n. (group_refusal c group s (length old) ≡ None) × (byte_count (piece_len group) (length s) ≡ Some n)
+    × ((bytes : List ℕ) × GroupSpells c group s bytes × (new ≡ with_front old bytes)))
+    (λ e. (group_refusal c group s (length old) ≡ Some e) × (new ≡ old))
+
+-- reading that lends the written front of this much room: what the text spells, or the refusal
+abbrev pub ReadsFront : CheckCase → Group → List ℕ → ℕ → Result (MutBor (List ℕ)) GroupFault → Type 0
+ReadsFront c group s room result = MatchResult result
+    (λ front. (group_refusal c group s room ≡ None) × GroupSpells c group s front.now)
+    (λ e. group_refusal c group s room ≡ Some e)
+
+-- at `Ok` the slice ends as the answer, as it was last written, over the old bytes; at `Err`
+-- it ends as it was
+abbrev pub LendsRead : MutBor (List ℕ) → Result (MutBor (List ℕ)) GroupFault → Fml
+LendsRead s r = LendsIfOk (Array u8 0) (Array u8 0) s r (with_front s.now) s.now
+
+-- the fault that an error of the codec stands for
+abbrev pub fault_of : Error → GroupFault
+fault_of (codec.OutputTooSmall required) = OutputTooSmall required
+fault_of (codec.InvalidChar index byte) = InvalidByte index byte
+fault_of _ = BadLength

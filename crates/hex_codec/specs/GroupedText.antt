@@ -1,0 +1,55 @@
+-- What a grouped text spells, and what reading it refuses.
+use Rattle.std.specs.Prelude.{◌≡◌, ℕ, ◌+◌, ◌-◌, ◌*◌, ◌==◌, nat_lt, Bool, not, if◌then◌else◌, List, ◌++◌, length, take, drop, map, position, slice_index, is_none, All, Option, Some, None, option_map}
+use Rattle.std.specs.List.{flat_map, range_with_len}
+use Rattle.hex_core.specs.declared.digit.CheckCase.{CheckCase}
+use Rattle.hex_core.specs.Digit.{value}
+use Rattle.hex_core.specs.Text.{Spells}
+use Rattle.hex_codec.specs.declared.group.Group.{Group}
+use Rattle.hex_codec.specs.declared.grouped.GroupFault.{GroupFault}
+use Rattle.hex_codec.specs.declared.grouped.GroupFault.TheVariants.{BadLength, OutputTooSmall, InvalidByte}
+use Rattle.hex_codec.specs.Grouped.{piece_count, piece_len, pieces, separator}
+
+-- how long the grouped text of n bytes is: two digits for each, and a separator between two pieces
+abbrev pub grouped_len : ℕ → ℕ → ℕ
+grouped_len every n = 2 * n + (piece_count every n - 1)
+
+-- how many bytes have a grouped text of this length, or none
+abbrev pub byte_count : ℕ → ℕ → Option ℕ
+byte_count every len = position (λ n. grouped_len every n == len) (range_with_len 0 (len + 1))
+
+-- the parts of a text: the digits of a piece and the separator behind them, which the last part lacks
+abbrev pub parts : ℕ → List ℕ → List (List ℕ)
+parts every s = pieces (2 * every + 1) s
+
+-- what stands in a text at the places of digits, and at those of separators
+abbrev pub digits_in : ℕ → List ℕ → List ℕ
+digits_in every s = flat_map (take (2 * every)) (parts every s)
+
+abbrev pub separators_in : ℕ → List ℕ → List ℕ
+separators_in every s = flat_map (drop (2 * every)) (parts every s)
+
+-- a grouped text spells a list: it is as long as the list's grouped text, each separator is the
+-- group's, and the digits spell the list
+pub record GroupSpells (c : CheckCase) (group : Group) (s bytes : List ℕ) : Type 0 where
+  pub long : length s ≡ grouped_len (piece_len group) (length bytes)
+  pub separated : All (λ b. b ≡ separator group) (separators_in (piece_len group) s)
+  pub spelled : Spells c (digits_in (piece_len group) s) bytes
+
+-- of each byte of a part, whether it is wrong: a digit without a value, or another separator
+abbrev pub wrong_in : CheckCase → Group → List ℕ → List Bool
+wrong_in c group part =
+    map (λ b. is_none (value c b)) (take (2 * piece_len group) part) ++ map (λ b. not (b == separator group)) (drop (2 * piece_len group) part)
+
+-- the first wrong byte of a text, by its index
+abbrev pub first_wrong : CheckCase → Group → List ℕ → Option ℕ
+first_wrong c group s = position (λ wrong. wrong) (flat_map (wrong_in c group) (parts (piece_len group) s))
+
+-- what reading into this room refuses: a length of no grouped text, then too little room, then the
+-- first wrong byte
+abbrev pub refusal_of_count : Option ℕ → Option GroupFault → ℕ → Option GroupFault
+refusal_of_count None fault room = Some BadLength
+refusal_of_count (Some n) fault room = if nat_lt room n then Some (OutputTooSmall n) else fault
+
+abbrev pub group_refusal : CheckCase → Group → List ℕ → ℕ → Option GroupFault
+group_refusal c group s room =
+    refusal_of_count (byte_count (piece_len group) (length s)) (option_map (λ i. InvalidByte i (slice_index s i)) (first_wrong c group s)) room

@@ -1,0 +1,269 @@
+//! Grouped digits: pieces with a separator between two, read into bytes.
+
+ghost use Rattle.std.specs.Prelude.{◌≡◌, ◌*◌, ◌≤◌, ◌<◌, None, Some, Err, IfOk, IfErr, IsOkAnd, MatchResult, length, min};
+ghost use Rattle.std.specs.Borrow.{sem};
+ghost use Rattle.hex_core.specs.Search.{first_invalid};
+ghost use Rattle.hex_core.specs.Text.{Spells};
+ghost use Rattle.hex_codec.specs.Grouped.{piece_len};
+ghost use Rattle.hex_codec.specs.GroupedText.{GroupSpells, byte_count, digits_in, first_wrong, group_refusal, grouped_len};
+ghost use Rattle.hex_codec.specs.GroupCalls.{Accepts, LendsRead, Reads, ReadsFront, fault_of};
+ghost use Rattle.hex_codec.specs.Strip.{ClearsFront, WritesFront};
+
+pub use crate::group::Group;
+use crate::decode::hex_decode_into;
+use crate::strip::{Front, SHORT, strip};
+use hex_core::lend::lend_accepted;
+use hex_core::{Backend, CheckCase, Error};
+
+/// Why a grouped text was not read.
+#[derive(Clone, Copy, Debug, PartialEq, Eq)]
+pub enum GroupFault {
+    /// No number of bytes has a grouped text of this length.
+    BadLength,
+    /// The destination has fewer bytes than the text spells.
+    OutputTooSmall {
+        /// How many bytes the text spells.
+        required: usize,
+    },
+    /// A byte is wrong at its place: no digit that is read, or another separator.
+    InvalidByte {
+        /// Its place in the text, in bytes.
+        index: usize,
+        /// The byte.
+        byte: u8,
+    },
+}
+
+// How many digits are copied together.
+const BUFFER: usize = 1024;
+
+// How many bytes have a grouped text of this length.
+fn byte_count(len: usize, every: usize) -> Option<usize>
+    requires { 0 < every }
+    ensures { result ≡ byte_count every len }
+{
+    if every > len / 2 {
+        return if len % 2 == 0 { Some(len / 2) } else { None };
+    }
+    let part = 2 * every + 1;
+    let last = len % part;
+    if last == 0 || last % 2 == 1 {
+        return None;
+    }
+    Some(len / part * every + last / 2)
+}
+
+// How many digits stand before a separator or the end.
+fn run_len(left: usize, every: usize) -> usize
+    ensures { result ≡ min left (2 * every) }
+{
+    if every > left / 2 { left } else { 2 * every }
+}
+
+// The first invalid digit.
+fn invalid_digit(digits: &[u8], case: CheckCase) -> Option<usize>
+    ensures { result ≡ first_invalid case digits.now }
+{
+    if Backend::plain().check(digits, case) {
+        return None;
+    }
+    Backend::plain().first_invalid(digits, case)
+}
+
+// The first wrong byte, a part at a time.
+fn first_wrong_part(src: &[u8], group: Group, case: CheckCase) -> Option<usize>
+    ensures { result ≡ first_wrong case group src.now }
+{
+    let mut at = 0;
+    while at < src.len() {
+        let end = at + run_len(src.len() - at, group.every());
+        if let Some(index) = invalid_digit(&src[at..end], case) {
+            return Some(at + index);
+        }
+        if end == src.len() {
+            return None;
+        }
+        if src[end] != group.sep() {
+            return Some(end);
+        }
+        at = end + 1;
+    }
+    None
+}
+
+// How long a front of whole parts without a wrong byte is.
+fn clear_front(src: &[u8], group: Group, case: CheckCase) -> usize
+    ensures { ClearsFront case group src.now result }
+{
+    let mut buffer = [0; BUFFER];
+    let mut at = 0;
+    loop {
+        let front = strip(&src[at..], group, &mut buffer);
+        if front.len == 0 || !Backend::plain().check(&buffer[..front.digits], case) {
+            return at;
+        }
+        at += front.len;
+    }
+}
+
+// The first wrong byte.
+fn first_wrong(src: &[u8], group: Group, case: CheckCase) -> Option<usize>
+    ensures { result ≡ first_wrong case group src.now }
+{
+    let clear = if group.every() <= SHORT { clear_front(src, group, case) } else { 0 };
+    match first_wrong_part(&src[clear..], group, case) {
+        Some(index) => Some(clear + index),
+        None => None,
+    }
+}
+
+// Writes the bytes of the digits of whole parts, and returns the front that has them.
+fn write_front(src: &[u8], dst: &mut [u8], group: Group, case: CheckCase) -> Front
+    requires twice { length (digits_in (piece_len group) src.now) ≡ 2 * length dst.old }
+    requires valid { first_invalid case (digits_in (piece_len group) src.now) ≡ None }
+    ensures { WritesFront case (piece_len group) src.now dst.new result }
+{
+    let mut buffer = [0; BUFFER];
+    let mut done = Front { len: 0, digits: 0 };
+    loop {
+        let front = strip(&src[done.len..], group, &mut buffer);
+        if front.len == 0 {
+            return done;
+        }
+        let end = done.digits + front.digits;
+        let _ = hex_decode_into(&buffer[..front.digits], &mut dst[done.digits / 2..end / 2], case);
+        done.len += front.len;
+        done.digits = end;
+    }
+}
+
+// Writes the bytes of the digits of a text, a part at a time.
+fn write_parts(src: &[u8], dst: &mut [u8], group: Group, case: CheckCase)
+    requires twice { length (digits_in (piece_len group) src.now) ≡ 2 * length dst.old }
+    requires valid { first_invalid case (digits_in (piece_len group) src.now) ≡ None }
+    ensures { Spells case (digits_in (piece_len group) src.now) dst.new }
+{
+    let mut at = 0;
+    let mut done = 0;
+    while done < dst.len() {
+        let count = group.every().min(dst.len() - done);
+        let _ = hex_decode_into(&src[at..at + 2 * count], &mut dst[done..done + count], case);
+        done += count;
+        at += 2 * count + 1;
+    }
+}
+
+// Writes the bytes of the digits of a text.
+fn write_bytes(src: &[u8], dst: &mut [u8], group: Group, case: CheckCase)
+    requires twice { length (digits_in (piece_len group) src.now) ≡ 2 * length dst.old }
+    requires valid { first_invalid case (digits_in (piece_len group) src.now) ≡ None }
+    ensures { Spells case (digits_in (piece_len group) src.now) dst.new }
+{
+    if group.every() > SHORT {
+        return write_parts(src, dst, group, case);
+    }
+    let front = write_front(src, dst, group, case);
+    write_parts(&src[front.len..], &mut dst[front.digits / 2..], group, case)
+}
+
+// How many bytes a text spells, or what reading it into this room refuses.
+fn accepted(src: &[u8], room: usize, group: Group, case: CheckCase) -> Result<usize, GroupFault>
+    ensures { Accepts case group src.now room result }
+{
+    let Some(required) = byte_count(src.len(), group.every()) else {
+        return Err(GroupFault::BadLength);
+    };
+    if room < required {
+        return Err(GroupFault::OutputTooSmall { required });
+    }
+    match first_wrong(src, group, case) {
+        Some(index) => Err(GroupFault::InvalidByte {
+            index,
+            byte: src[index],
+        }),
+        None => Ok(required),
+    }
+}
+
+pub fn read_into(
+    src: &[u8],
+    dst: &mut [u8],
+    group: Group,
+    case: CheckCase,
+) -> Result<usize, GroupFault>
+    ensures { Reads case group src.now dst.old dst.new result }
+{
+    let count = accepted(src, dst.len(), group, case)?;
+    write_bytes(src, &mut dst[..count], group, case);
+    Ok(count)
+}
+
+// The codec's error that stands for a fault while the destination is lent.
+fn error_of(fault: GroupFault) -> Error
+    ensures { fault_of result ≡ fault }
+{
+    match fault {
+        GroupFault::BadLength => Error::OddLength,
+        GroupFault::OutputTooSmall { required } => Error::OutputTooSmall { required },
+        GroupFault::InvalidByte { index, byte } => Error::InvalidChar { index, byte },
+    }
+}
+
+// The fault that an error of the codec stands for.
+fn fault_of(error: Error) -> GroupFault
+    ensures { result ≡ fault_of error }
+{
+    match error {
+        Error::OutputTooSmall { required } => GroupFault::OutputTooSmall { required },
+        Error::InvalidChar { index, byte } => GroupFault::InvalidByte { index, byte },
+        _ => GroupFault::BadLength,
+    }
+}
+
+// How many bytes are read, or the error that stands for the refusal.
+fn judged(src: &[u8], room: usize, group: Group, case: CheckCase) -> Result<usize, Error>
+    ensures { MatchResult result
+            (λ n. (group_refusal case group src.now room ≡ None) × (byte_count (piece_len group) (length src.now) ≡ Some n))
+            (λ e. group_refusal case group src.now room ≡ Some (fault_of e)) }
+{
+    match accepted(src, room, group, case) {
+        Ok(count) => Ok(count),
+        Err(fault) => Err(error_of(fault)),
+    }
+}
+
+// Writes the bytes behind a reference that was lent for them, or hands on the refusal.
+fn written<'a>(
+    src: &[u8],
+    lent: Result<&'a mut [u8], Error>,
+    group: Group,
+    case: CheckCase,
+) -> Result<&'a mut [u8], GroupFault>
+    requires { IfOk lent (λ front. (length src.now ≡ grouped_len (piece_len group) (length front.now))
+        × (first_wrong case group src.now ≡ None)) }
+    ensures ok { IfOk lent.entry (λ front. IsOkAnd result (λ written. (written.ghost_name ≡ front.ghost_name)
+        × GroupSpells case group src.now written.now)) }
+    ensures err { IfErr lent.entry (λ e. result ≡ Err (fault_of e)) }
+{
+    match lent {
+        Ok(front) => {
+            write_bytes(src, front, group, case);
+            Ok(front)
+        }
+        Err(e) => Err(fault_of(e)),
+    }
+}
+
+pub fn read<'a>(
+    src: &[u8],
+    dst: &'a mut [u8],
+    group: Group,
+    case: CheckCase,
+) -> Result<&'a mut [u8], GroupFault>
+    ensures* lends { sem 𝓛 (LendsRead dst.entry result) }
+    ensures answer { ReadsFront case group src.now (length dst.old) result }
+{
+    let answer = judged(src, dst.len(), group, case);
+    let lent = lend_accepted(dst, answer);
+    written(src, lent, group, case)
+}
