@@ -23,7 +23,7 @@ one_part every s some fits =
     pieces-next (2 * every + 1) s (omega arith) some ∙ rw (take_all (2 * every + 1) s fits, drop_all (2 * every + 1) s fits, no_pieces (2 * every + 1)) refl
 
 -- whole parts, and those behind them
-whole-more : (every len step : ℕ) → IsWhole every len → IsWhole every step → IsWhole every (len + step)
+pub whole-more : (every len step : ℕ) → IsWhole every len → IsWhole every step → IsWhole every (len + step)
 whole-more every len step a b = record { count = a.count + b.count; lines = grind (arith, a.lines, b.lines) }
 
 -- the digits of the next parts are copied behind those before them

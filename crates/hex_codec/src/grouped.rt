@@ -35,7 +35,10 @@ pub enum GroupFault {
 }
 
 // How many digits are copied together.
-const BUFFER: usize = 1024;
+const LARGE: usize = 2048;
+
+// The same in a source of so many bytes, so that a line of a dump does not pay for the large buffer.
+const SMALL: usize = 128;
 
 // How many bytes have a grouped text of this length.
 fn byte_count(len: usize, every: usize) -> Option<usize>
@@ -92,12 +95,13 @@ fn first_wrong_part(src: &[u8], group: Group, case: CheckCase) -> Option<usize>
 }
 
 // How long a front of whole parts without a wrong byte is.
-fn clear_front(src: &[u8], group: Group, case: CheckCase) -> usize
+fn clear_front<const N: usize>(src: &[u8], group: Group, case: CheckCase) -> usize
+    requires { N ≤ LARGE }
     ensures { ClearsFront case group src.now result }
 {
-    let mut buffer = [0; BUFFER];
+    let mut buffer = [0; N];
     let mut at = 0;
-    loop {
+    'fronts: loop {
         let front = strip(&src[at..], group, &mut buffer);
         if front.len == 0 || !Backend::plain().check(&buffer[..front.digits], case) {
             return at;
@@ -110,7 +114,13 @@ fn clear_front(src: &[u8], group: Group, case: CheckCase) -> usize
 fn first_wrong(src: &[u8], group: Group, case: CheckCase) -> Option<usize>
     ensures { result ≡ first_wrong case group src.now }
 {
-    let clear = if group.every() <= SHORT { clear_front(src, group, case) } else { 0 };
+    let clear = if group.every() > SHORT {
+        0
+    } else if src.len() <= SMALL {
+        clear_front::<SMALL>(src, group, case)
+    } else {
+        clear_front::<LARGE>(src, group, case)
+    };
     match first_wrong_part(&src[clear..], group, case) {
         Some(index) => Some(clear + index),
         None => None,
@@ -118,14 +128,15 @@ fn first_wrong(src: &[u8], group: Group, case: CheckCase) -> Option<usize>
 }
 
 // Writes the bytes of the digits of whole parts, and returns the front that has them.
-fn write_front(src: &[u8], dst: &mut [u8], group: Group, case: CheckCase) -> Front
+fn write_front<const N: usize>(src: &[u8], dst: &mut [u8], group: Group, case: CheckCase) -> Front
     requires twice { length (digits_in (piece_len group) src.now) ≡ 2 * length dst.old }
     requires valid { first_invalid case (digits_in (piece_len group) src.now) ≡ None }
+    requires size { N ≤ LARGE }
     ensures { WritesFront case (piece_len group) src.now dst.new result }
 {
-    let mut buffer = [0; BUFFER];
+    let mut buffer = [0; N];
     let mut done = Front { len: 0, digits: 0 };
-    loop {
+    'fronts: loop {
         let front = strip(&src[done.len..], group, &mut buffer);
         if front.len == 0 {
             return done;
@@ -162,7 +173,11 @@ fn write_bytes(src: &[u8], dst: &mut [u8], group: Group, case: CheckCase)
     if group.every() > SHORT {
         return write_parts(src, dst, group, case);
     }
-    let front = write_front(src, dst, group, case);
+    let front = if src.len() <= SMALL {
+        write_front::<SMALL>(src, dst, group, case)
+    } else {
+        write_front::<LARGE>(src, dst, group, case)
+    };
     write_parts(&src[front.len..], &mut dst[front.digits / 2..], group, case)
 }
 

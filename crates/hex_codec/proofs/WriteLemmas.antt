@@ -1,0 +1,154 @@
+-- Bytes that are written behind others.
+use Rattle.std.proofs.Common.{◌≡◌, ◌⊎◌, inl, inr, ℕ, zero, suc, ◌+◌, ◌-◌, ◌*◌, ◌/◌, ◌%◌, ◌<◌, ◌≤◌, Bool, false, ◌||◌, refl, sym, ap, ◌∙◌, arith, Result, Ok, Err, Some, None, is_none, List, [], ◌∷◌, ◌++◌, length, take, drop, get_or, append-nil, length-append, length-take, length-drop, take-append-drop}
+use Rattle.std.proofs.Math.Seq.{take-add}
+use Rattle.std.proofs.lemmas.Bool.{cases_lt}
+use Rattle.std.proofs.lemmas.Bool.Decides.{nat_tests}
+use Rattle.std.proofs.lemmas.Option.{none-some}
+use Rattle.std.proofs.lemmas.List.{drop_all, get_or_append_left, get_or-append_right, length-take-le, take_rest}
+use Rattle.std.proofs.lemmas.List.Folds.{list_any-append}
+use Rattle.std.proofs.lemmas.Slice.{take-put_mid}
+use Rattle.std.specs.List.{flat_map, list_any}
+use borrow.Rule.Slice.PartMut.{put_mid}
+use Rattle.hex_core.specs.declared.digit.CheckCase.{CheckCase}
+use Rattle.hex_core.specs.declared.error.Error.{Error}
+use Rattle.hex_core.specs.Calls.{Decodes}
+use Rattle.hex_core.specs.Digit.{value}
+use Rattle.hex_core.specs.Refusal.{decode_refusal}
+use Rattle.hex_core.specs.Search.{first_invalid}
+use Rattle.hex_core.specs.Text.{Spells}
+use Rattle.hex_codec.specs.declared.group.Group.{Group}
+use Rattle.hex_codec.specs.declared.strip.Front.{Front}
+use Rattle.hex_codec.specs.Grouped.{piece_len}
+use Rattle.hex_codec.specs.GroupedText.{digits_in, parts}
+use Rattle.hex_codec.specs.Strip.{IsWhole, StripsFront, WritesFront}
+use Rattle.hex_codec.proofs.GroupLemmas.{no_pieces, pieces-next}
+use Rattle.hex_codec.proofs.StripLemmas.{joined, whole-more}
+use Rattle.hex_codec.proofs.WrongLemmas.{any-none, both, none-any}
+
+-- what two texts spell, they spell joined
+pub spells-joined : (c : CheckCase) (a b x y : List ℕ) → Spells c a x → Spells c b y → Spells c (a ++ b) (x ++ y)
+spells-joined c a b x y h k = record {
+  twice = omega (arith, length-append a b, length-append x y, h.twice, k.twice);
+  high = λ i lt. high i (omega (arith, lt, length-append x y)) (cases_lt i (length x));
+  low = λ i lt. low i (omega (arith, lt, length-append x y)) (cases_lt i (length x));
+}
+  where
+    high : (i : ℕ) → i < length x + length y → (i < length x) ⊎ (length x ≤ i) → value c (get_or (a ++ b) (2 * i) 0) ≡ Some (get_or (x ++ y) i 0 / 16)
+    high i lt (inl l) = rw (get_or_append_left a b 0 (2 * i) (omega (arith, h.twice)), get_or_append_left x y 0 i l) (h.high i l)
+    high i lt (inr r) =
+        let place : 2 * i - length a ≡ 2 * (i - length x) = omega (arith, h.twice) in
+        rw (get_or-append_right a b (length a) (2 * i) 0 refl (omega (arith, h.twice)), get_or-append_right x y (length x) i 0 refl r, place) (k.high (i - length x) (omega arith))
+    low : (i : ℕ) → i < length x + length y → (i < length x) ⊎ (length x ≤ i) → value c (get_or (a ++ b) (2 * i + 1) 0) ≡ Some (get_or (x ++ y) i 0 % 16)
+    low i lt (inl l) = rw (get_or_append_left a b 0 (2 * i + 1) (omega (arith, h.twice)), get_or_append_left x y 0 i l) (h.low i l)
+    low i lt (inr r) =
+        let place : 2 * i + 1 - length a ≡ 2 * (i - length x) + 1 = omega (arith, h.twice) in
+        rw (get_or-append_right a b (length a) (2 * i + 1) 0 refl (omega (arith, h.twice)), get_or-append_right x y (length x) i 0 refl r, place) (k.low (i - length x) (omega arith))
+
+-- where two lists have no invalid byte joined, neither has one
+pub valid-parts : (c : CheckCase) (a b : List ℕ) → first_invalid c (a ++ b) ≡ None → (first_invalid c a ≡ None) × (first_invalid c b ≡ None)
+valid-parts c a b none =
+    let bad : ℕ → Bool = λ x. is_none (value c x) in
+    let sides = both (list_any bad a) (list_any bad b) (sym (list_any-append bad a b) ∙ none-any bad (a ++ b) none) in
+    (any-none bad a sides.0, any-none bad b sides.1)
+
+-- whole parts have two digits for each byte of their pieces
+pub even-digits : (every count : ℕ) (s : List ℕ) → length s ≡ count * (2 * every + 1) → length (digits_in every s) ≡ 2 * (count * every)
+even-digits every zero [] whole = rw (no_pieces (2 * every + 1)) (omega arith)
+even-digits every zero (b ∷ s) whole = absurd (omega arith)
+even-digits every (suc count) s whole =
+    let line = 2 * every + 1 in
+    let size : length s ≡ line + count * line = omega (arith, whole) in
+    let rest = even-digits every count (drop line s) (omega (arith, length-drop line s, size)) in
+    let first = length-take-le line s (omega (arith, size)) in
+    ap (λ ps. length (flat_map (take (2 * every)) ps)) (pieces-next line s (omega arith) (omega (arith, size)))
+    ∙ omega (arith, length-append (take (2 * every) (take line s)) (digits_in every (drop line s)), rest, length-take (2 * every) (take line s), first)
+
+-- decoding valid digits over a destination for as many bytes leaves what they spell
+pub decoded : (c : CheckCase) (s old new : List ℕ) (result : Result ℕ Error) → length s ≡ 2 * length old → first_invalid c s ≡ None → Decodes c s old new result → Spells c s new
+decoded c s old new result twice valid answer = from_result result answer
+  where
+    accepted : decode_refusal c s (length old) ≡ None
+    accepted = let even : length s % 2 ≡ 0 = omega (arith, twice) in let half : length s / 2 ≡ length old = omega (arith, twice) in grind (arith, nat_tests, even, half, valid)
+    from_result : (r : Result ℕ Error) → Decodes c s old new r → Spells c s new
+    from_result (Ok n) (_, _, w) =
+        let all : length w.0 ≡ length old = omega (arith, w.1.twice, twice) in
+        let e : new ≡ w.0 = w.2 ∙ ap (λ l. w.0 ++ l) (drop_all (length w.0) old (omega arith)) ∙ append-nil w.0 in
+        rw e w.1
+    from_result (Err e) (refused, _) = absurd (none-some e (sym accepted ∙ refused))
+
+-- the digits of a text are those of a front of whole parts, of those behind it, and of the rest
+pub record Cut (every : ℕ) (s : List ℕ) (len next : ℕ) : Type 0 where
+  pub all : digits_in every s ≡ digits_in every (take (len + next) s) ++ digits_in every (drop (len + next) s)
+  pub front : digits_in every (take (len + next) s) ≡ digits_in every (take len s) ++ digits_in every (take next (drop len s))
+
+pub cut : (every : ℕ) (s : List ℕ) (len next : ℕ) → IsWhole every len → IsWhole every next → len + next ≤ length s → Cut every s len next
+cut every s len next whole more inside =
+    let size : length (take (len + next) s) ≡ len + next = length-take-le (len + next) s inside in
+    let first : length (take len s) ≡ len = length-take-le len s (omega arith) in
+    let lines : IsWhole every (length (take (len + next) s)) = rw size (whole-more every len next whole more) in
+    let before : IsWhole every (length (take len s)) = rw first whole in
+    record {
+      all = ap (digits_in every) (sym (take-append-drop (len + next) s)) ∙ joined (take (2 * every)) every (take (len + next) s) (drop (len + next) s) lines;
+      front = ap (digits_in every) (take-add len next s) ∙ joined (take (2 * every)) every (take len s) (take next (drop len s)) before;
+    }
+
+-- digits that were copied: they are valid, and there is room for their bytes
+pub record Fitting (c : CheckCase) (digits : List ℕ) (done all : ℕ) : Type 0 where
+  pub valid : first_invalid c digits ≡ None
+  pub even : length digits % 2 ≡ 0
+  pub room : done + length digits ≤ 2 * all
+
+pub fitting : (c : CheckCase) (every : ℕ) (s dst : List ℕ) (done : Front) (next : ℕ) → WritesFront c every s dst done → IsWhole every next → done.len + next ≤ length s
+    → length (digits_in every s) ≡ 2 * length dst → first_invalid c (digits_in every s) ≡ None → Fitting c (digits_in every (take next (drop done.len s))) done.digits (length dst)
+fitting c every s dst done next so_far more inside twice valid =
+    let parts_of = cut every s done.len next so_far.whole more inside in
+    let digits = digits_in every (take next (drop done.len s)) in
+    let before = digits_in every (take done.len s) in
+    let size : length (take next (drop done.len s)) ≡ next = length-take-le next (drop done.len s) (omega (arith, length-drop done.len s)) in
+    let first = valid-parts c (digits_in every (take (done.len + next) s)) (digits_in every (drop (done.len + next) s)) (rw parts_of.all at valid) in
+    let second = valid-parts c before digits (rw parts_of.front at first.0) in
+    let lengths = ap length parts_of.all ∙ length-append (digits_in every (take (done.len + next) s)) (digits_in every (drop (done.len + next) s)) in
+    let fronts = ap length parts_of.front ∙ length-append before digits in
+    let written = length-take-le (done.digits / 2) dst (omega (arith, so_far.room)) in
+    let twice_more = even-digits every more.count (take next (drop done.len s)) (size ∙ more.lines) in
+    record {
+      valid = second.1;
+      even = omega (arith, twice_more);
+      room = omega (arith, lengths, fronts, written, so_far.spelled.twice, so_far.even, twice);
+    }
+
+-- the bytes of more digits are written behind those before them
+pub writes-more : (c : CheckCase) (every : ℕ) (s old part : List ℕ) (done : Front) (next more k : ℕ) → WritesFront c every s old done → IsWhole every next → done.len + next ≤ length s
+    → Fitting c (digits_in every (take next (drop done.len s))) done.digits (length old) → more ≡ length (digits_in every (take next (drop done.len s))) → length (put_mid (done.digits / 2) k old part) ≡ length old
+    → Spells c (digits_in every (take next (drop done.len s))) part
+    → WritesFront c every s (put_mid (done.digits / 2) k old part) (record { len = done.len + next; digits = done.digits + more })
+writes-more c every s old part done next more k so_far whole inside fits is same spelled =
+    let parts_of = cut every s done.len next so_far.whole whole inside in
+    let end : (done.digits + more) / 2 ≡ done.digits / 2 + length part = omega (arith, is, spelled.twice, so_far.even) in
+    let put = take-put_mid (done.digits / 2) k old part ((done.digits + more) / 2) end (omega (arith, so_far.room)) in
+    record {
+      inside = inside;
+      whole = whole-more every done.len next so_far.whole whole;
+      even = omega (arith, so_far.even, fits.even, is);
+      room = omega (arith, same, fits.room, is);
+      spelled = rw (put, parts_of.front) (spells-joined c (digits_in every (take done.len s)) (digits_in every (take next (drop done.len s))) (take (done.digits / 2) old) part so_far.spelled spelled);
+    }
+
+-- what is known of digits that were copied from behind those that were decoded
+pub record Copied (c : CheckCase) (group : Group) (s dst new : List ℕ) (done front : Front) : Type 0 where
+  pub strips : StripsFront group (drop done.len s) new front
+  pub inside : done.len + front.len ≤ length s
+  pub fits : Fitting c (digits_in (piece_len group) (take front.len (drop done.len s))) done.digits (length dst)
+  pub size : front.digits ≡ length (digits_in (piece_len group) (take front.len (drop done.len s)))
+
+pub copied : (c : CheckCase) (group : Group) (s dst new : List ℕ) (done front : Front) (all : ℕ) → WritesFront c (piece_len group) s dst done → StripsFront group (take (length s - done.len) (drop done.len s)) new front
+    → length (digits_in (piece_len group) s) ≡ 2 * all → length dst ≡ all → first_invalid c (digits_in (piece_len group) s) ≡ None → Copied c group s dst new done front
+copied c group s dst new done front all so_far strips twice same valid =
+    let behind : StripsFront group (drop done.len s) new front = rw (take_rest s done.len) at strips in
+    let inside : done.len + front.len ≤ length s = omega (arith, behind.inside, length-drop done.len s, so_far.inside) in
+    record {
+      strips = behind;
+      inside = inside;
+      fits = fitting c (piece_len group) s dst done front.len so_far behind.whole inside (omega (arith, twice, same)) valid;
+      size = sym (length-take-le front.digits new behind.room) ∙ ap length behind.copied;
+    }
