@@ -1,10 +1,10 @@
 -- Bytes that are written behind others.
-use Rattle.std.proofs.Common.{◌≡◌, ◌⊎◌, inl, inr, ℕ, zero, suc, ◌+◌, ◌-◌, ◌*◌, ◌/◌, ◌%◌, ◌<◌, ◌≤◌, Bool, false, ◌||◌, refl, sym, ap, ◌∙◌, arith, Result, Ok, Err, Some, None, is_none, List, [], ◌∷◌, ◌++◌, length, take, drop, get_or, append-nil, length-append, length-take, length-drop, take-append-drop}
+use Rattle.std.proofs.Common.{◌≡◌, ◌⊎◌, inl, inr, ℕ, zero, suc, min, ◌+◌, ◌-◌, ◌*◌, ◌/◌, ◌%◌, ◌<◌, ◌≤◌, Bool, false, ◌||◌, refl, sym, ap, ◌∙◌, arith, Result, Ok, Err, Some, None, is_none, List, [], ◌∷◌, ◌++◌, length, take, drop, get_or, append-nil, append_assoc, length-append, length-take, length-drop, take-append-drop}
 use Rattle.std.proofs.Math.Seq.{take-add}
 use Rattle.std.proofs.lemmas.Bool.{cases_lt}
 use Rattle.std.proofs.lemmas.Bool.Decides.{nat_tests}
 use Rattle.std.proofs.lemmas.Option.{none-some}
-use Rattle.std.proofs.lemmas.List.{drop_all, get_or_append_left, get_or-append_right, length-take-le, take_rest}
+use Rattle.std.proofs.lemmas.List.{drop-drop, drop_all, get_or_append_left, get_or-append_right, length-take-le, take-take, take_all, take_rest}
 use Rattle.std.proofs.lemmas.List.Folds.{list_any-append}
 use Rattle.std.proofs.lemmas.Slice.{take-put_mid}
 use Rattle.std.specs.List.{flat_map, list_any}
@@ -22,7 +22,7 @@ use Rattle.hex_codec.specs.Grouped.{piece_len}
 use Rattle.hex_codec.specs.GroupedText.{digits_in, parts}
 use Rattle.hex_codec.specs.Strip.{IsWhole, StripsFront, WritesFront}
 use Rattle.hex_codec.proofs.GroupLemmas.{no_pieces, pieces-next}
-use Rattle.hex_codec.proofs.StripLemmas.{joined, whole-more}
+use Rattle.hex_codec.proofs.StripLemmas.{joined, one_part, whole-more}
 use Rattle.hex_codec.proofs.WrongLemmas.{any-none, both, none-any}
 
 -- what two texts spell, they spell joined
@@ -152,3 +152,55 @@ copied c group s dst new done front all so_far strips twice same valid =
       fits = fitting c (piece_len group) s dst done front.len so_far behind.whole inside (omega (arith, twice, same)) valid;
       size = sym (length-take-le front.digits new behind.room) ∙ ap length behind.copied;
     }
+
+-- the digits of the next part, where so many bytes are left
+pub record Next (every n : ℕ) (s : List ℕ) : Type 0 where
+  pub inside : 2 * min every n ≤ length s
+  pub digits : digits_in every s ≡ take (2 * min every n) s ++ digits_in every (drop (2 * min every n + 1) s)
+
+pub next : (every n : ℕ) (s : List ℕ) → 0 < every → 0 < n → length (digits_in every s) ≡ 2 * n → Next every n s
+next every n s pos some size = from_cases (cases_lt (2 * every) (length s))
+  where
+    none : digits_in every [] ≡ []
+    none = ap (flat_map (take (2 * every))) (no_pieces (2 * every + 1))
+    from_cases : (2 * every < length s) ⊎ (length s ≤ 2 * every) → Next every n s
+    from_cases (inl long) =
+        let line = 2 * every + 1 in
+        let parts_of : digits_in every s ≡ take (2 * every) s ++ digits_in every (drop line s) =
+            ap (flat_map (take (2 * every))) (pieces-next line s (omega arith) (omega arith)) ∙ ap (λ l. l ++ digits_in every (drop line s)) (take-take (2 * every) line s (omega arith)) in
+        let lengths = ap length parts_of ∙ length-append (take (2 * every) s) (digits_in every (drop line s)) in
+        let first = length-take-le (2 * every) s (omega arith) in
+        let count : min every n ≡ every = omega (arith, lengths, first, size) in
+        record { inside = omega (arith, count); digits = rw count parts_of }
+    from_cases (inr short) =
+        let filled : 0 < length s = from_empty s size in
+        let one : digits_in every s ≡ s = ap (flat_map (take (2 * every))) (one_part every s filled (omega arith)) ∙ append-nil (take (2 * every) s) ∙ take_all (2 * every) s short in
+        let whole : length s ≡ 2 * n = sym (ap length one) ∙ size in
+        let count : min every n ≡ n = omega (arith, whole, short) in
+        let rest : drop (2 * n + 1) s ≡ [] = drop_all (2 * n + 1) s (omega arith) in
+        record { inside = omega (arith, count, whole); digits = rw count (one ∙ sym (rw (rest, none) (append-nil (take (2 * n) s) ∙ take_all (2 * n) s (omega arith)))) }
+      where
+        from_empty : (l : List ℕ) → length (digits_in every l) ≡ 2 * n → 0 < length l
+        from_empty [] e = absurd (omega (arith, ap length none, e))
+        from_empty (b ∷ l) e = omega arith
+
+-- the digits of the next part, behind those that were decoded
+pub record Part (c : CheckCase) (every : ℕ) (s front : List ℕ) (at n : ℕ) : Type 0 where
+  pub inside : at + 2 * min every n ≤ length s
+  pub valid : first_invalid c (take (2 * min every n) (drop at s)) ≡ None
+  pub digits : digits_in every s ≡ (front ++ take (2 * min every n) (drop at s)) ++ digits_in every (drop (at + (2 * min every n + 1)) s)
+
+pub part : (c : CheckCase) (every : ℕ) (s front : List ℕ) (at n : ℕ) → 0 < every → 0 < n → digits_in every s ≡ front ++ digits_in every (drop at s) → length (digits_in every s) ≡ length front + 2 * n
+    → first_invalid c (digits_in every s) ≡ None → Part c every s front at n
+part c every s front at n pos some is size valid =
+    let rest = drop at s in
+    let lengths = ap length is ∙ length-append front (digits_in every rest) in
+    let ahead = next every n rest pos some (omega (arith, lengths, size)) in
+    let behind = (valid-parts c front (digits_in every rest) (rw is at valid)).1 in
+    record {
+      inside = omega (arith, ahead.inside, length-drop at s, pos, some);
+      valid = (valid-parts c (take (2 * min every n) rest) (digits_in every (drop (2 * min every n + 1) rest)) (rw ahead.digits at behind)).0;
+      digits = is ∙ ap (λ l. front ++ l) ahead.digits ∙ sym (append_assoc front (take (2 * min every n) rest) (digits_in every (drop (2 * min every n + 1) rest)))
+          ∙ ap (λ l. (front ++ take (2 * min every n) rest) ++ digits_in every l) (drop-drop (2 * min every n + 1) at s);
+    }
+

@@ -5,11 +5,12 @@ use Rattle.hex_codec.specs.Grouped.{piece_len}
 use Rattle.hex_codec.specs.GroupedText.{digits_in}
 use Rattle.hex_codec.proofs.grouped.write_parts.Given as goal
 
-abbrev pub invariant-loop-at : goal.invariant-loop-at
-invariant-loop-at l = record {
+abbrev pub invariant-loop-done : goal.invariant-loop-done
+invariant-loop-done l = record {
+  reached : l.at ≤ length l.src + 1;
   within : l.done ≤ length l.dst;
   before : (front : List ℕ) × (digits_in (piece_len l.group) l.src ≡ front ++ digits_in (piece_len l.group) (drop l.at l.src)) × Spells l.case front (take l.done l.dst);
 }
 
-abbrev pub decreases-loop-at : goal.decreases-loop-at
-decreases-loop-at l = length l.dst - l.done
+abbrev pub decreases-loop-done : goal.decreases-loop-done
+decreases-loop-done l = length l.dst - l.done
