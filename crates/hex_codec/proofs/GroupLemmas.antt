@@ -16,7 +16,7 @@ pub no_pieces : (every : ℕ) → pieces every [] ≡ []
 no_pieces every = rw (zero-div every, zero-mod every) refl
 
 -- one piece fewer is left behind the first
-count-next : (every n : ℕ) → 0 < every → 0 < n → piece_count every n ≡ suc (piece_count every (n - every))
+pub count-next : (every n : ℕ) → 0 < every → 0 < n → piece_count every n ≡ suc (piece_count every (n - every))
 count-next every n pos some = from_cases (cases_lt n every)
   where
     from_cases : (n < every) ⊎ (every ≤ n) → piece_count every n ≡ suc (piece_count every (n - every))

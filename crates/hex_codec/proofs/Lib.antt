@@ -1,4 +1,5 @@
 mod AppendWalk
+mod CountLemmas
 pub mod GroupLemmas
 pub mod ListLemmas
 mod StripLemmas

@@ -1,8 +1,8 @@
 -- Lists by their entries, and lists whose middle was written.
-use Rattle.std.proofs.Common.{◌≡◌, ℕ, ◌+◌, ◌≤◌, List, ◌++◌, length, get_or, map, take, refl, sym, ap, ◌∙◌, arith}
+use Rattle.std.proofs.Common.{rules, ◌≡◌, ℕ, ◌+◌, ◌-◌, ◌≤◌, List, ◌++◌, length, get_or, map, take, refl, sym, ap, ◌∙◌, arith}
 use Rattle.std.proofs.Math.Seq.{take-append-add}
 use Rattle.std.proofs.lemmas.Grind.{same_number_lists}
-use Rattle.std.proofs.lemmas.List.{length-take-le, take-take}
+use Rattle.std.proofs.lemmas.List.{length-take-le, places, take-take, take_all}
 use Rattle.std.proofs.lemmas.List.FromFn.{get_or-map-range_with_len, length-map-range_with_len}
 use Rattle.std.proofs.lemmas.Slice.{take-put_mid}
 use Rattle.std.proofs.lemmas.Simd.{take_more_put_chunk}
@@ -30,3 +30,10 @@ take-front_chunk a r xs ys inside fits =
     let front : length (take a xs) + r ≡ a + r = omega (arith, length-take-le a xs (omega arith)) in
     sym (take-take (a + r) (a + length ys) (put_chunk a xs ys) (omega arith)) ∙ ap (take (a + r)) whole
     ∙ rw front at (take-append-add (take a xs) ys r)
+
+-- a list whose end was written
+pub put-behind : (a : ℕ) (xs ys : List ℕ) → a ≤ length xs → length ys ≡ length xs - a → put_mid a (length xs - a) xs ys ≡ take a xs ++ ys
+put-behind a xs ys inside size =
+    let whole = take-put_mid a (length xs - a) xs ys (a + length ys) refl inside in
+    let all : length (put_mid a (length xs - a) xs ys) ≡ length xs = search (rules, places, size, inside) in
+    sym (take_all (a + length ys) (put_mid a (length xs - a) xs ys) (omega (arith, all))) ∙ whole

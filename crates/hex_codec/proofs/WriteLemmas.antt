@@ -204,3 +204,24 @@ part c every s front at n pos some is size valid =
           ∙ ap (λ l. (front ++ take (2 * min every n) rest) ++ digits_in every l) (drop-drop (2 * min every n + 1) at s);
     }
 
+-- the digits behind a front that was decoded
+pub record Behind (c : CheckCase) (every : ℕ) (s dst : List ℕ) (front : Front) : Type 0 where
+  pub digits : digits_in every s ≡ digits_in every (take front.len s) ++ digits_in every (drop front.len s)
+  pub twice : length (digits_in every (drop front.len s)) ≡ 2 * (length dst - front.digits / 2)
+  pub valid : first_invalid c (digits_in every (drop front.len s)) ≡ None
+
+pub behind : (c : CheckCase) (every : ℕ) (s dst : List ℕ) (front : Front) → WritesFront c every s dst front → length (digits_in every s) ≡ 2 * length dst → first_invalid c (digits_in every s) ≡ None
+    → Behind c every s dst front
+behind c every s dst front so_far twice valid =
+    let size : length (take front.len s) ≡ front.len = length-take-le front.len s so_far.inside in
+    let lines : IsWhole every (length (take front.len s)) = rw size so_far.whole in
+    let digits : digits_in every s ≡ digits_in every (take front.len s) ++ digits_in every (drop front.len s) =
+        ap (digits_in every) (sym (take-append-drop front.len s)) ∙ joined (take (2 * every)) every (take front.len s) (drop front.len s) lines in
+    let lengths = ap length digits ∙ length-append (digits_in every (take front.len s)) (digits_in every (drop front.len s)) in
+    let written = length-take-le (front.digits / 2) dst (omega (arith, so_far.room)) in
+    record {
+      digits = digits;
+      twice = omega (arith, lengths, so_far.spelled.twice, written, twice, so_far.room);
+      valid = (valid-parts c (digits_in every (take front.len s)) (digits_in every (drop front.len s)) (rw digits at valid)).1;
+    }
+

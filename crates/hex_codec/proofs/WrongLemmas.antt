@@ -190,6 +190,13 @@ whole-clear c group s len inside whole valid all =
     ∙ position-behind (λ w. w) (flags (parts every front)) (flags (parts every back)) (none-wrong c group front valid all)
     ∙ rw long refl
 
+position-inside : {X : Type 0} (p : X → Bool) (xs : List X) (i : ℕ) → position p xs ≡ Some i → i < length xs
+position-inside p xs i e = grind (arith, common_steps, e)
+
+-- the first wrong byte is inside the text
+pub wrong-inside : (c : CheckCase) (group : Group) (s : List ℕ) (i : ℕ) → first_wrong c group s ≡ Some i → i < length s
+wrong-inside c group s i e = omega (arith, position-inside (λ w. w) (flat_map (wrong_in c group) (parts (piece_len group) s)) i e, length-wrong c group (length s) s (omega arith))
+
 -- ---- one part
 
 -- an invalid digit of the first part

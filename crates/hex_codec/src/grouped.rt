@@ -5,7 +5,7 @@ ghost use Rattle.std.specs.Borrow.{sem};
 ghost use Rattle.hex_core.specs.Search.{first_invalid};
 ghost use Rattle.hex_core.specs.Text.{Spells};
 ghost use Rattle.hex_codec.specs.Grouped.{piece_len};
-ghost use Rattle.hex_codec.specs.GroupedText.{GroupSpells, byte_count, digits_in, first_wrong, group_refusal, grouped_len};
+ghost use Rattle.hex_codec.specs.GroupedText.{byte_count, digits_in, first_wrong, group_refusal};
 ghost use Rattle.hex_codec.specs.GroupCalls.{Accepts, LendsRead, Reads, ReadsFront, fault_of};
 ghost use Rattle.hex_codec.specs.Strip.{ClearsFront, WritesFront};
 
@@ -94,8 +94,8 @@ fn first_wrong_part(src: &[u8], group: Group, case: CheckCase) -> Option<usize>
     None
 }
 
-// How long a front of whole parts without a wrong byte is.
-fn clear_front<const N: usize>(src: &[u8], group: Group, case: CheckCase) -> usize
+// How long a front of whole parts without a wrong byte is, by so many digits at a time.
+fn clear_front_with<const N: usize>(src: &[u8], group: Group, case: CheckCase) -> usize
     requires { N ≤ LARGE }
     ensures { ClearsFront case group src.now result }
 {
@@ -110,25 +110,33 @@ fn clear_front<const N: usize>(src: &[u8], group: Group, case: CheckCase) -> usi
     }
 }
 
+// How long a front of whole parts without a wrong byte is, where pieces are short.
+fn clear_front(src: &[u8], group: Group, case: CheckCase) -> usize
+    ensures { ClearsFront case group src.now result }
+{
+    if group.every() > SHORT {
+        0
+    } else if src.len() <= SMALL {
+        clear_front_with::<SMALL>(src, group, case)
+    } else {
+        clear_front_with::<LARGE>(src, group, case)
+    }
+}
+
 // The first wrong byte.
 fn first_wrong(src: &[u8], group: Group, case: CheckCase) -> Option<usize>
     ensures { result ≡ first_wrong case group src.now }
 {
-    let clear = if group.every() > SHORT {
-        0
-    } else if src.len() <= SMALL {
-        clear_front::<SMALL>(src, group, case)
-    } else {
-        clear_front::<LARGE>(src, group, case)
-    };
+    let clear = clear_front(src, group, case);
     match first_wrong_part(&src[clear..], group, case) {
         Some(index) => Some(clear + index),
         None => None,
     }
 }
 
-// Writes the bytes of the digits of whole parts, and returns the front that has them.
-fn write_front<const N: usize>(src: &[u8], dst: &mut [u8], group: Group, case: CheckCase) -> Front
+// Writes the bytes of the digits of whole parts, by so many at a time, and returns the front that has
+// them.
+fn write_front_with<const N: usize>(src: &[u8], dst: &mut [u8], group: Group, case: CheckCase) -> Front
     requires twice { length (digits_in (piece_len group) src.now) ≡ 2 * length dst.old }
     requires valid { first_invalid case (digits_in (piece_len group) src.now) ≡ None }
     requires size { N ≤ LARGE }
@@ -164,21 +172,29 @@ fn write_parts(src: &[u8], dst: &mut [u8], group: Group, case: CheckCase)
     }
 }
 
+// The same, where pieces are short.
+fn write_front(src: &[u8], dst: &mut [u8], group: Group, case: CheckCase) -> Front
+    requires twice { length (digits_in (piece_len group) src.now) ≡ 2 * length dst.old }
+    requires valid { first_invalid case (digits_in (piece_len group) src.now) ≡ None }
+    ensures { WritesFront case (piece_len group) src.now dst.new result }
+{
+    if group.every() > SHORT {
+        Front { len: 0, digits: 0 }
+    } else if src.len() <= SMALL {
+        write_front_with::<SMALL>(src, dst, group, case)
+    } else {
+        write_front_with::<LARGE>(src, dst, group, case)
+    }
+}
+
 // Writes the bytes of the digits of a text.
 fn write_bytes(src: &[u8], dst: &mut [u8], group: Group, case: CheckCase)
     requires twice { length (digits_in (piece_len group) src.now) ≡ 2 * length dst.old }
     requires valid { first_invalid case (digits_in (piece_len group) src.now) ≡ None }
     ensures { Spells case (digits_in (piece_len group) src.now) dst.new }
 {
-    if group.every() > SHORT {
-        return write_parts(src, dst, group, case);
-    }
-    let front = if src.len() <= SMALL {
-        write_front::<SMALL>(src, dst, group, case)
-    } else {
-        write_front::<LARGE>(src, dst, group, case)
-    };
-    write_parts(&src[front.len..], &mut dst[front.digits / 2..], group, case)
+    let front = write_front(src, dst, group, case);
+    write_parts(&src[front.len..], &mut dst[front.digits / 2..], group, case);
 }
 
 // How many bytes a text spells, or what reading it into this room refuses.
@@ -254,10 +270,10 @@ fn written<'a>(
     group: Group,
     case: CheckCase,
 ) -> Result<&'a mut [u8], GroupFault>
-    requires { IfOk lent (λ front. (length src.now ≡ grouped_len (piece_len group) (length front.now))
-        × (first_wrong case group src.now ≡ None)) }
+    requires { IfOk lent (λ front. (length (digits_in (piece_len group) src.now) ≡ 2 * length front.now)
+        × (first_invalid case (digits_in (piece_len group) src.now) ≡ None)) }
     ensures ok { IfOk lent.entry (λ front. IsOkAnd result (λ written. (written.ghost_name ≡ front.ghost_name)
-        × GroupSpells case group src.now written.now)) }
+        × Spells case (digits_in (piece_len group) src.now) written.now)) }
     ensures err { IfErr lent.entry (λ e. result ≡ Err (fault_of e)) }
 {
     match lent {

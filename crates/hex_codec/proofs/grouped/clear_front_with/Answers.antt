@@ -6,7 +6,7 @@ use Rattle.hex_codec.specs.Grouped.{piece_len, separator}
 use Rattle.hex_codec.specs.GroupedText.{digits_in, separators_in}
 use Rattle.hex_codec.specs.Strip.{StripsFront}
 use Rattle.hex_codec.proofs.WrongLemmas.{clears-more, whole-clear}
-use Rattle.hex_codec.proofs.grouped.clear_front.Goals as goal
+use Rattle.hex_codec.proofs.grouped.clear_front_with.Goals as goal
 
 pub fronts-preserved : goal.fronts-preserved
 fronts-preserved g c =

@@ -5,7 +5,7 @@ use borrow.Rule.Slice.PartMut.{put_mid}
 use Rattle.hex_codec.specs.Grouped.{piece_len}
 use Rattle.hex_codec.specs.GroupedText.{digits_in}
 use Rattle.hex_codec.proofs.WriteLemmas.{copied, decoded, writes-more}
-use Rattle.hex_codec.proofs.grouped.write_front.Goals as goal
+use Rattle.hex_codec.proofs.grouped.write_front_with.Goals as goal
 
 pub overflow_add-end : goal.overflow_add-end
 overflow_add-end g c =

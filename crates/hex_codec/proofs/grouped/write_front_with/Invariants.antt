@@ -2,7 +2,7 @@
 use Rattle.std.proofs.Common.{◌-◌, length}
 use Rattle.hex_codec.specs.Grouped.{piece_len}
 use Rattle.hex_codec.specs.Strip.{WritesFront}
-use Rattle.hex_codec.proofs.grouped.write_front.Given as goal
+use Rattle.hex_codec.proofs.grouped.write_front_with.Given as goal
 
 abbrev pub invariant-fronts : goal.invariant-fronts
 invariant-fronts g l = WritesFront l.case (piece_len l.group) l.src l.dst l.done

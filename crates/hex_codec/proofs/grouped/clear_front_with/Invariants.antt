@@ -1,7 +1,7 @@
 -- No byte before this place is wrong.
 use Rattle.std.proofs.Common.{◌-◌, length}
 use Rattle.hex_codec.specs.Strip.{ClearsFront}
-use Rattle.hex_codec.proofs.grouped.clear_front.Given as goal
+use Rattle.hex_codec.proofs.grouped.clear_front_with.Given as goal
 
 abbrev pub invariant-fronts : goal.invariant-fronts
 invariant-fronts g l = ClearsFront l.case l.group l.src l.at

@@ -1,0 +1,20 @@
+-- The front is as long as the number of bytes.
+use Rattle.std.proofs.Common.{◌≡◌, ◌*◌, ◌++◌, sym, ap, ◌∙◌, length, drop, arith}
+use Rattle.std.proofs.lemmas.List.{length-take-le}
+use Rattle.hex_codec.proofs.CountLemmas.{accepted, group-spells}
+use Rattle.hex_codec.proofs.grouped.read_into.Goals as goal
+
+pub write_bytes-requires-clause-twice : goal.write_bytes-requires-clause-twice
+write_bytes-requires-clause-twice c =
+    let is = accepted c.args.case c.args.group c.args.src.now (length c.args.dst.now) c.in_ok-count.count c.in_ok-count.ensures.0 c.in_ok-count.ensures.1 in
+    is.twice ∙ ap (λ n. 2 * n) (sym (length-take-le c.in_ok-count.count c.args.dst.now is.fits))
+
+pub write_bytes-requires-clause-valid : goal.write_bytes-requires-clause-valid
+write_bytes-requires-clause-valid c = (accepted c.args.case c.args.group c.args.src.now (length c.args.dst.now) c.in_ok-count.count c.in_ok-count.ensures.0 c.in_ok-count.ensures.1).valid
+
+pub returns : goal.returns
+returns c =
+    let count = c.in_ok-count.count in let new = c.write_bytes.new.dst in let old = c.args.dst.now in
+    let is = accepted c.args.case c.args.group c.args.src.now (length old) count c.in_ok-count.ensures.0 c.in_ok-count.ensures.1 in
+    let spells = group-spells c.args.case c.args.group c.args.src.now new (length old) count is c.write_bytes.ensures in
+    (c.in_ok-count.ensures.0, c.in_ok-count.ensures.1, (new, spells.0, ap (λ n. new ++ drop n old) (sym spells.1)))
