@@ -117,6 +117,7 @@ digits-fuel every (suc fuel) (suc n) s pos fits long =
   where
     count : piece_count every (suc n) ≡ suc (piece_count every (suc n - every))
     count = count-next every (suc n) pos (omega arith)
+
     from_cases : (length (drop (2 * every + 1) s) ≡ grouped_len every (suc n - every) → length (digits_in every (drop (2 * every + 1) s)) ≡ 2 * (suc n - every)) → (every < suc n) ⊎ (suc n ≤ every)
         → length (digits_in every s) ≡ 2 * suc n
     from_cases rest (inl more) =
@@ -126,7 +127,7 @@ digits-fuel every (suc fuel) (suc n) s pos fits long =
         let behind = rest (omega (arith, length-drop line s, size)) in
         let first : take (2 * every) (take line s) ≡ take (2 * every) s = take-take (2 * every) line s (omega arith) in
         let parts_of : digits_in every s ≡ take (2 * every) s ++ digits_in every (drop line s) =
-            ap (flat_map (take (2 * every))) (pieces-next line s (omega arith) (omega (arith, size))) ∙ ap (λ l. l ++ digits_in every (drop line s)) first in
+        ap (flat_map (take (2 * every))) (pieces-next line s (omega arith) (omega (arith, size))) ∙ ap (λ l. l ++ digits_in every (drop line s)) first in
         ap length parts_of ∙ omega (arith, length-append (take (2 * every) s) (digits_in every (drop line s)), length-take-le (2 * every) s (omega (arith, size)), behind)
     from_cases rest (inr one) =
         let none : suc n - every ≡ 0 = omega arith in

@@ -71,8 +71,8 @@ part-separator every sep s long here =
     let size : length part ≡ 2 * every + 1 = length-take-le (2 * every + 1) s (omega arith) in
     let one : separators_in every part ≡ drop (2 * every) part = ap (flat_map (drop (2 * every))) (one_part every part (omega arith) (omega arith)) ∙ append-nil (drop (2 * every) part) in
     rw one (All-from_get_or (λ b. b ≡ sep) (drop (2 * every) part) 0 (λ i lt.
-        let first : 2 * every + i ≡ 2 * every = omega (arith, lt, length-drop (2 * every) part, size) in
-        get_or-drop (2 * every) part i 0 ∙ rw first (get_or-take (2 * every + 1) s (2 * every) 0 (omega arith) ∙ here)))
+    let first : 2 * every + i ≡ 2 * every = omega (arith, lt, length-drop (2 * every) part, size) in
+    get_or-drop (2 * every) part i 0 ∙ rw first (get_or-take (2 * every + 1) s (2 * every) 0 (omega arith) ∙ here)))
 
 -- what holds of all bytes holds of the first ones
 pub all-taken : (n : ℕ) (s : List ℕ) (sep : ℕ) → All (λ b. b ≡ sep) s → All (λ b. b ≡ sep) (take n s)

@@ -38,6 +38,7 @@ spells-joined c a b x y h k = record {
     high i lt (inr r) =
         let place : 2 * i - length a ≡ 2 * (i - length x) = omega (arith, h.twice) in
         rw (get_or-append_right a b (length a) (2 * i) 0 refl (omega (arith, h.twice)), get_or-append_right x y (length x) i 0 refl r, place) (k.high (i - length x) (omega arith))
+
     low : (i : ℕ) → i < length x + length y → (i < length x) ⊎ (length x ≤ i) → value c (get_or (a ++ b) (2 * i + 1) 0) ≡ Some (get_or (x ++ y) i 0 % 16)
     low i lt (inl l) = rw (get_or_append_left a b 0 (2 * i + 1) (omega (arith, h.twice)), get_or_append_left x y 0 i l) (h.low i l)
     low i lt (inr r) =
@@ -69,6 +70,7 @@ decoded c s old new result twice valid answer = from_result result answer
   where
     accepted : decode_refusal c s (length old) ≡ None
     accepted = let even : length s % 2 ≡ 0 = omega (arith, twice) in let half : length s / 2 ≡ length old = omega (arith, twice) in grind (arith, nat_tests, even, half, valid)
+
     from_result : (r : Result ℕ Error) → Decodes c s old new r → Spells c s new
     from_result (Ok n) (_, _, w) =
         let all : length w.0 ≡ length old = omega (arith, w.1.twice, twice) in
@@ -163,11 +165,12 @@ next every n s pos some size = from_cases (cases_lt (2 * every) (length s))
   where
     none : digits_in every [] ≡ []
     none = ap (flat_map (take (2 * every))) (no_pieces (2 * every + 1))
+
     from_cases : (2 * every < length s) ⊎ (length s ≤ 2 * every) → Next every n s
     from_cases (inl long) =
         let line = 2 * every + 1 in
         let parts_of : digits_in every s ≡ take (2 * every) s ++ digits_in every (drop line s) =
-            ap (flat_map (take (2 * every))) (pieces-next line s (omega arith) (omega arith)) ∙ ap (λ l. l ++ digits_in every (drop line s)) (take-take (2 * every) line s (omega arith)) in
+        ap (flat_map (take (2 * every))) (pieces-next line s (omega arith) (omega arith)) ∙ ap (λ l. l ++ digits_in every (drop line s)) (take-take (2 * every) line s (omega arith)) in
         let lengths = ap length parts_of ∙ length-append (take (2 * every) s) (digits_in every (drop line s)) in
         let first = length-take-le (2 * every) s (omega arith) in
         let count : min every n ≡ every = omega (arith, lengths, first, size) in
@@ -216,7 +219,7 @@ behind c every s dst front so_far twice valid =
     let size : length (take front.len s) ≡ front.len = length-take-le front.len s so_far.inside in
     let lines : IsWhole every (length (take front.len s)) = rw size so_far.whole in
     let digits : digits_in every s ≡ digits_in every (take front.len s) ++ digits_in every (drop front.len s) =
-        ap (digits_in every) (sym (take-append-drop front.len s)) ∙ joined (take (2 * every)) every (take front.len s) (drop front.len s) lines in
+    ap (digits_in every) (sym (take-append-drop front.len s)) ∙ joined (take (2 * every)) every (take front.len s) (drop front.len s) lines in
     let lengths = ap length digits ∙ length-append (digits_in every (take front.len s)) (digits_in every (drop front.len s)) in
     let written = length-take-le (front.digits / 2) dst (omega (arith, so_far.room)) in
     record {
@@ -224,4 +227,3 @@ behind c every s dst front so_far twice valid =
       twice = omega (arith, lengths, so_far.spelled.twice, written, twice, so_far.room);
       valid = (valid-parts c (digits_in every (take front.len s)) (digits_in every (drop front.len s)) (rw digits at valid)).1;
     }
-

@@ -60,6 +60,7 @@ position-before p (x ∷ a) b i some = from_cases (λ k. position-before p a b k
     more : (o : Option ℕ) → option_map suc o ≡ Some i → ((k : ℕ) → o ≡ Some k → position p (a ++ b) ≡ Some k) → option_map suc (position p (a ++ b)) ≡ Some i
     more None e next = cc
     more (Some k) e next = ap (option_map suc) (next k refl) ∙ e
+
     from_cases : ((k : ℕ) → position p a ≡ Some k → position p (a ++ b) ≡ Some k) → (p x ≡ true) ⊎ (p x ≡ false) → position p (x ∷ (a ++ b)) ≡ Some i
     from_cases rest (inl h) = position-here p x (a ++ b) h ∙ (sym (position-here p x a h) ∙ some)
     from_cases rest (inr h) = position-later p x (a ++ b) h ∙ more (position p a) (sym (position-later p x a h) ∙ some) rest
@@ -111,8 +112,14 @@ wrong-any c group (part ∷ ps) =
     let front = take (2 * piece_len group) part in
     let back = drop (2 * piece_len group) part in
     list_any-append (λ w. w) (wrong_in c group part) (flat_map (wrong_in c group) ps)
-    ∙ rw (list_any-append (λ w. w) (map d front) (map s back), any-map d front, any-map s back, wrong-any c group ps,
-    list_any-append d front (flat_map (take (2 * piece_len group)) ps), list_any-append s back (flat_map (drop (2 * piece_len group)) ps))
+    ∙ rw (
+      list_any-append (λ w. w) (map d front) (map s back),
+      any-map d front,
+      any-map s back,
+      wrong-any c group ps,
+      list_any-append d front (flat_map (take (2 * piece_len group)) ps),
+      list_any-append s back (flat_map (drop (2 * piece_len group)) ps),
+    )
     (in_turn (list_any d front) (list_any s back) (list_any d (flat_map (take (2 * piece_len group)) ps)) (list_any s (flat_map (drop (2 * piece_len group)) ps)))
 
 -- what both sides of a disjunction are that is false

@@ -1,4 +1,7 @@
 //! Grouped digits: pieces with a separator between two, read into bytes.
+//!
+//! All of a text is tested before the first store. Pieces of up to 16 bytes are stripped of their
+//! separators into a buffer, many at a time, and tested and decoded there.
 
 ghost use Rattle.std.specs.Prelude.{◌≡◌, ◌*◌, ◌≤◌, ◌<◌, None, Some, Err, IfOk, IfErr, IsOkAnd, MatchResult, length, min};
 ghost use Rattle.std.specs.Borrow.{sem};
@@ -9,13 +12,19 @@ ghost use Rattle.hex_codec.specs.GroupedText.{byte_count, digits_in, first_wrong
 ghost use Rattle.hex_codec.specs.GroupCalls.{Accepts, LendsRead, Reads, ReadsFront, fault_of};
 ghost use Rattle.hex_codec.specs.Strip.{ClearsFront, WritesFront};
 
-pub use crate::group::Group;
 use crate::decode::hex_decode_into;
+pub use crate::group::Group;
 use crate::strip::{Front, SHORT, strip};
 use hex_core::lend::lend_accepted;
 use hex_core::{Backend, CheckCase, Error};
 
 /// Why a grouped text was not read.
+///
+/// ```rust
+/// let group = Group::new(2, b':').unwrap();
+/// let refused = read_into(b"0001-02", &mut [0; 3], group, CheckCase::None);
+/// assert_eq!(rt; refused, Err(GroupFault::InvalidByte { index: 4, byte: b'-' }));
+/// ```
 #[derive(Clone, Copy, Debug, PartialEq, Eq)]
 pub enum GroupFault {
     /// No number of bytes has a grouped text of this length.
@@ -136,7 +145,12 @@ fn first_wrong(src: &[u8], group: Group, case: CheckCase) -> Option<usize>
 
 // Writes the bytes of the digits of whole parts, by so many at a time, and returns the front that has
 // them.
-fn write_front_with<const N: usize>(src: &[u8], dst: &mut [u8], group: Group, case: CheckCase) -> Front
+fn write_front_with<const N: usize>(
+    src: &[u8],
+    dst: &mut [u8],
+    group: Group,
+    case: CheckCase,
+) -> Front
     requires twice { length (digits_in (piece_len group) src.now) ≡ 2 * length dst.old }
     requires valid { first_invalid case (digits_in (piece_len group) src.now) ≡ None }
     requires size { N ≤ LARGE }
@@ -150,7 +164,11 @@ fn write_front_with<const N: usize>(src: &[u8], dst: &mut [u8], group: Group, ca
             return done;
         }
         let end = done.digits + front.digits;
-        let _ = hex_decode_into(&buffer[..front.digits], &mut dst[done.digits / 2..end / 2], case);
+        let _ = hex_decode_into(
+            &buffer[..front.digits],
+            &mut dst[done.digits / 2..end / 2],
+            case,
+        );
         done.len += front.len;
         done.digits = end;
     }
@@ -216,6 +234,31 @@ fn accepted(src: &[u8], room: usize, group: Group, case: CheckCase) -> Result<us
     }
 }
 
+/// Reads all of a grouped text into the front of `dst`, by an explicit letter-case policy, and
+/// returns how many bytes it wrote.
+///
+/// The text is that of pieces of [`Group::every`] bytes, the last of them possibly shorter, with one
+/// [`Group::sep`] between two: for `n` bytes `2 * n` digits and a separator fewer than pieces. The
+/// bytes behind the written ones stay as they were. The empty source gives 0 and changes nothing.
+///
+/// This is [`read`] without the borrow: a caller that proves what its buffer holds afterwards learns
+/// it from this form.
+///
+/// # Errors
+///
+/// In this order, each of which leaves all of `dst` as it was:
+///
+/// 1. [`GroupFault::BadLength`] where no number of bytes has a grouped text of `src.len()` bytes;
+/// 2. [`GroupFault::OutputTooSmall`] where `dst` has fewer bytes than that number;
+/// 3. [`GroupFault::InvalidByte`] with the first byte of `src` that is wrong at its place, a digit
+///    that `case` does not read or another separator, and its index in bytes.
+///
+/// ```rust
+/// let group = Group::new(2, b':').unwrap();
+/// let mut buffer = [0xa5; 4];
+/// assert_eq!(rt; read_into(b"0001:02", &mut buffer, group, CheckCase::None), Ok(3));
+/// assert_eq!(rt; buffer, [0, 1, 2, 0xa5]);
+/// ```
 pub fn read_into(
     src: &[u8],
     dst: &mut [u8],
@@ -254,8 +297,8 @@ fn fault_of(error: Error) -> GroupFault
 // How many bytes are read, or the error that stands for the refusal.
 fn judged(src: &[u8], room: usize, group: Group, case: CheckCase) -> Result<usize, Error>
     ensures { MatchResult result
-            (λ n. (group_refusal case group src.now room ≡ None) × (byte_count (piece_len group) (length src.now) ≡ Some n))
-            (λ e. group_refusal case group src.now room ≡ Some (fault_of e)) }
+        (λ n. (group_refusal case group src.now room ≡ None) × (byte_count (piece_len group) (length src.now) ≡ Some n))
+        (λ e. group_refusal case group src.now room ≡ Some (fault_of e)) }
 {
     match accepted(src, room, group, case) {
         Ok(count) => Ok(count),
@@ -285,6 +328,22 @@ fn written<'a>(
     }
 }
 
+/// Reads all of a grouped text into the front of `dst`, by an explicit letter-case policy, and
+/// returns that front, which borrows `dst` alone.
+///
+/// The text and its length are as at [`read_into`]. The bytes behind the answer stay as they were.
+///
+/// # Errors
+///
+/// Those of [`read_into`], in its order, each of which leaves all of `dst` as it was.
+///
+/// ```rust
+/// let group = Group::new(2, b':').unwrap();
+/// let mut buffer = [0xa5; 4];
+/// let bytes = read(b"0001:02", &mut buffer, group, CheckCase::None)?;
+/// bytes[0] = 0xff;
+/// assert_eq!(rt; buffer, [0xff, 1, 2, 0xa5]);
+/// ```
 pub fn read<'a>(
     src: &[u8],
     dst: &'a mut [u8],

@@ -19,3 +19,4 @@ pub use crate::encode::{
     hex_string, hex_string_upper,
 };
 pub use crate::group::Group;
+pub use crate::grouped::GroupFault;

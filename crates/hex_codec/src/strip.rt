@@ -21,6 +21,7 @@ pub struct Front {
 
 // How many bytes a block has, and how many of them are whole parts where a piece has one byte or two.
 const BLOCK: usize = 16;
+
 const WHOLE: usize = 15;
 
 /// Copies the digits of whole parts at the front of a text, as many as find room and up to one
@@ -93,7 +94,11 @@ fn are_all(lanes: u8x16, byte: u8) -> bool
 }
 
 // The same as `strip` where a piece has one byte or two, by blocks.
-fn strip_blocks<const EVERY: usize, const DIGITS: usize>(text: &[u8], group: Group, digits: &mut [u8]) -> Front
+fn strip_blocks<const EVERY: usize, const DIGITS: usize>(
+    text: &[u8],
+    group: Group,
+    digits: &mut [u8],
+) -> Front
 where
     Places: Parts<EVERY, DIGITS>,
     requires every { piece_len group ≡ EVERY }

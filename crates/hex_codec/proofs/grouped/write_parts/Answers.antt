@@ -14,7 +14,7 @@ overflow_add-at c =
     let front = c.loop-done.invariant.before in let dst = c.loop-done.dst in
     let written = length-take-le c.loop-done.done dst c.loop-done.invariant.within in
     let known = part c.args.case (piece_len c.args.group) c.args.src.now front.0 c.loop-done.at (length dst - c.loop-done.done) c.args.group.is_group.0 (omega (arith, c.loop-done-test.true)) front.1
-        (omega (arith, c.requires.twice, c.loop-done.auto.dst, front.2.twice, written, c.loop-done.invariant.within)) c.requires.valid in
+    (omega (arith, c.requires.twice, c.loop-done.auto.dst, front.2.twice, written, c.loop-done.invariant.within)) c.requires.valid in
     search (arith, rules, known.inside, c.min-count.ensures, c.every.ensures)
 
 pub slice_bounds-hex_decode_into-end : goal.slice_bounds-hex_decode_into-end
@@ -22,7 +22,7 @@ slice_bounds-hex_decode_into-end c =
     let front = c.loop-done.invariant.before in let dst = c.loop-done.dst in
     let written = length-take-le c.loop-done.done dst c.loop-done.invariant.within in
     let known = part c.args.case (piece_len c.args.group) c.args.src.now front.0 c.loop-done.at (length dst - c.loop-done.done) c.args.group.is_group.0 (omega (arith, c.loop-done-test.true)) front.1
-        (omega (arith, c.requires.twice, c.loop-done.auto.dst, front.2.twice, written, c.loop-done.invariant.within)) c.requires.valid in
+    (omega (arith, c.requires.twice, c.loop-done.auto.dst, front.2.twice, written, c.loop-done.invariant.within)) c.requires.valid in
     search (arith, rules, known.inside, c.min-count.ensures, c.every.ensures)
 
 pub loop-done-preserved : goal.loop-done-preserved
@@ -31,7 +31,7 @@ loop-done-preserved c =
     let every = piece_len c.args.group in let count = c.min-count.result in let new = c.hex_decode_into.new.dst in
     let written = length-take-le done dst c.loop-done.invariant.within in
     let known = part c.args.case every src front.0 at (length dst - done) c.args.group.is_group.0 (omega (arith, c.loop-done-test.true)) front.1
-        (omega (arith, c.requires.twice, c.loop-done.auto.dst, front.2.twice, written, c.loop-done.invariant.within)) c.requires.valid in
+    (omega (arith, c.requires.twice, c.loop-done.auto.dst, front.2.twice, written, c.loop-done.invariant.within)) c.requires.valid in
     let is : min every (length dst - done) ≡ count = sym (c.min-count.ensures ∙ ap (λ n. min n (length dst - done)) c.every.ensures) in
     let now = rw is at known.digits in
     let inside = rw is at known.inside in
