@@ -2,6 +2,7 @@ pub mod Append
 pub mod Calls
 pub mod Failure
 pub mod GroupCalls
+pub mod GroupLaws
 pub mod Grouped
 pub mod GroupedText
 pub mod Groups

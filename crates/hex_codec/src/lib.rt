@@ -6,6 +6,7 @@ pub mod encode;
 mod group;
 pub mod grouped;
 pub mod heapless_08;
+pub mod laws;
 pub mod pieces;
 pub mod strings;
 mod strip;

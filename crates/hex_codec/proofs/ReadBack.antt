@@ -1,0 +1,129 @@
+-- A text that was written in groups is read back, and one that is read spells a list.
+use Rattle.std.proofs.Common.{◌≡◌, ◌⊎◌, inl, inr, Bool, ℕ, zero, suc, false, ◌+◌, ◌*◌, ◌%◌, ◌<◌, ◌≤◌, nat_lt, refl, sym, ap, ◌∙◌, arith, Option, Some, None, List, [], ◌∷◌, ◌++◌, length, take, drop, slice_index, All, append-nil, append_assoc, length-append, length-drop, take-append-drop, option_map}
+use Rattle.std.specs.List.{flat_map}
+use Rattle.std.proofs.Math.Seq.{drop-append_seam, take-append_seam}
+use Rattle.std.proofs.lemmas.Bool.{cases_lt, le-ltb}
+use Rattle.std.proofs.lemmas.Bool.Decides.{nat_tests}
+use Rattle.std.proofs.lemmas.List.{drop_all, length-take-le, take_all}
+use Rattle.std.proofs.lemmas.List.Elements.{All-append}
+use Rattle.hex_core.specs.declared.digit.CheckCase.{CheckCase}
+use Rattle.hex_core.specs.Refusal.{source_refusal}
+use Rattle.hex_core.specs.Search.{first_invalid}
+use Rattle.hex_core.specs.Text.{Spells, text}
+use Rattle.hex_core.proofs.TextLemmas.{length-text, text-append}
+use Rattle.hex_codec.specs.declared.group.Group.{Group}
+use Rattle.hex_codec.specs.declared.grouped.GroupFault.{GroupFault}
+use Rattle.hex_codec.specs.declared.grouped.GroupFault.TheVariants.{InvalidByte}
+use Rattle.hex_codec.specs.Grouped.{grouped, piece_len, separated, separator}
+use Rattle.hex_codec.specs.GroupedText.{GroupSpells, byte_count, digits_in, first_wrong, group_refusal, parts, refusal_of_count, separators_in}
+use Rattle.hex_codec.specs.Strip.{IsWhole}
+use Rattle.hex_codec.proofs.CountLemmas.{accepted, count-is, group-spells}
+use Rattle.hex_codec.proofs.GroupLemmas.{grouped-separated, length-grouped, no_pieces, separated-next, separated-none}
+use Rattle.hex_codec.proofs.StripLemmas.{joined, one_part}
+use Rattle.hex_codec.proofs.WrongLemmas.{none-wrong}
+
+-- ---- written, and read back
+
+-- the text of the first piece, and those behind it
+grouped-next : (group : Group) (upper : Bool) (bytes : List ℕ) → 0 < length bytes → grouped group upper bytes ≡ text upper (take (piece_len group) bytes) ++ separated group upper (drop (piece_len group) bytes)
+grouped-next group upper bytes some = grouped-separated group upper bytes ∙ ap (drop 1) (separated-next group upper bytes some)
+
+separated-cons : (group : Group) (upper : Bool) (bytes : List ℕ) → 0 < length bytes → separated group upper bytes ≡ separator group ∷ grouped group upper bytes
+separated-cons group upper bytes some = separated-next group upper bytes some ∙ ap (λ l. separator group ∷ l) (sym (grouped-next group upper bytes some))
+
+-- the digits of a grouped text are those of the list, and its separators the group's
+pub record Back (group : Group) (upper : Bool) (bytes : List ℕ) : Type 0 where
+  pub digits : digits_in (piece_len group) (grouped group upper bytes) ≡ text upper bytes
+  pub separated : All (λ b. b ≡ separator group) (separators_in (piece_len group) (grouped group upper bytes))
+
+-- one piece has no separator
+back-last : (group : Group) (upper : Bool) (bytes : List ℕ) → 0 < length bytes → length bytes ≤ piece_len group → Back group upper bytes
+back-last group upper bytes some fits =
+    let every = piece_len group in
+    let all = text upper bytes in
+    let size : length all ≡ 2 * length bytes = length-text upper bytes in
+    let is : grouped group upper bytes ≡ all =
+        grouped-next group upper bytes some ∙ rw (take_all every bytes fits, drop_all every bytes fits, separated-none group upper) (append-nil all) in
+    let one = one_part every all (omega (arith, size)) (omega (arith, size)) in
+    record {
+      digits = rw is (ap (flat_map (take (2 * every))) one ∙ append-nil (take (2 * every) all) ∙ take_all (2 * every) all (omega (arith, size)));
+      separated =
+          let none : separators_in every all ≡ [] = ap (flat_map (drop (2 * every))) one ∙ append-nil (drop (2 * every) all) ∙ drop_all (2 * every) all (omega (arith, size)) in
+          rw (is, none) (λ k d lt. absurd (omega arith));
+    }
+
+-- a piece, its separator, and what is behind them
+back-more : (group : Group) (upper : Bool) (bytes : List ℕ) → piece_len group < length bytes → Back group upper (drop (piece_len group) bytes) → Back group upper bytes
+back-more group upper bytes long rest =
+    let every = piece_len group in
+    let sep = separator group in
+    let first = text upper (take every bytes) in
+    let behind = grouped group upper (drop every bytes) in
+    let part = first ++ (sep ∷ []) in
+    let size : length first ≡ 2 * every = length-text upper (take every bytes) ∙ ap (λ n. 2 * n) (length-take-le every bytes (omega arith)) in
+    let is : grouped group upper bytes ≡ part ++ behind =
+        grouped-next group upper bytes (omega arith) ∙ ap (λ l. first ++ l) (separated-cons group upper (drop every bytes) (omega (arith, length-drop every bytes)))
+        ∙ sym (append_assoc first (sep ∷ []) behind) in
+    let line : length part ≡ 2 * every + 1 = omega (arith, length-append first (sep ∷ []), size) in
+    let whole : IsWhole every (length part) = record { count = 1; lines = omega (arith, line) } in
+    let one = one_part every part (omega (arith, line)) (omega (arith, line)) in
+    let digits : digits_in every part ≡ first = ap (flat_map (take (2 * every))) one ∙ append-nil (take (2 * every) part) ∙ rw (← size) (take-append_seam first (sep ∷ [])) in
+    let separators : separators_in every part ≡ sep ∷ [] = ap (flat_map (drop (2 * every))) one ∙ append-nil (drop (2 * every) part) ∙ rw (← size) (drop-append_seam first (sep ∷ [])) in
+    record {
+      digits = ap (digits_in every) is ∙ joined (take (2 * every)) every part behind whole ∙ ap (λ l. l ++ digits_in every behind) digits ∙ ap (λ l. first ++ l) rest.digits
+          ∙ sym (text-append upper (take every bytes) (drop every bytes)) ∙ ap (text upper) (take-append-drop every bytes);
+      separated = rw (is, joined (drop (2 * every)) every part behind whole, separators) (All-append (λ b. b ≡ sep) (sep ∷ []) (separators_in every behind) (only sep) rest.separated);
+    }
+  where
+    only : (sep : ℕ) → All (λ b. b ≡ sep) (sep ∷ [])
+    only sep zero d lt = refl
+    only sep (suc k) d lt = absurd (omega arith)
+
+back : (group : Group) (upper : Bool) (fuel : ℕ) (bytes : List ℕ) → length bytes ≤ fuel → Back group upper bytes
+back group upper fuel [] fits =
+    let none : grouped group upper [] ≡ [] = grouped-separated group upper [] ∙ ap (drop 1) (separated-none group upper) in
+    let empty = no_pieces (2 * piece_len group + 1) in
+    record { digits = rw (none, empty) refl; separated = rw (none, empty) (λ k d lt. absurd (omega arith)) }
+back group upper zero (b ∷ bytes) fits = absurd (omega arith)
+back group upper (suc fuel) (b ∷ bytes) fits =
+    from_cases (back group upper fuel (drop (piece_len group) (b ∷ bytes)) (omega (arith, length-drop (piece_len group) (b ∷ bytes), group.is_group.0))) (cases_lt (piece_len group) (length (b ∷ bytes)))
+  where
+    from_cases : Back group upper (drop (piece_len group) (b ∷ bytes)) → (piece_len group < length (b ∷ bytes)) ⊎ (length (b ∷ bytes) ≤ piece_len group) → Back group upper (b ∷ bytes)
+    from_cases rest (inl long) = back-more group upper (b ∷ bytes) long rest
+    from_cases rest (inr short) = back-last group upper (b ∷ bytes) (omega arith) short
+
+pub read-back : (c : CheckCase) (group : Group) (upper : Bool) (bytes : List ℕ) → Spells c (text upper bytes) bytes → GroupSpells c group (grouped group upper bytes) bytes
+read-back c group upper bytes spelled =
+    let b = back group upper (length bytes) bytes (omega arith) in
+    record { long = length-grouped group upper bytes; separated = b.separated; spelled = rw b.digits spelled }
+
+-- ---- read, and spelled
+
+has-count : (count : Option ℕ) (f : Option GroupFault) (room : ℕ) → refusal_of_count count f room ≡ None → (n : ℕ) × (count ≡ Some n)
+has-count None f room h = cc
+has-count (Some n) f room h = (n, refl)
+
+pub read-spells : (c : CheckCase) (group : Group) (s : List ℕ) (room : ℕ) → (source_refusal c (digits_in (piece_len group) s) ≡ None → (bytes : List ℕ) × Spells c (digits_in (piece_len group) s) bytes)
+    → group_refusal c group s room ≡ None → (bytes : List ℕ) × GroupSpells c group s bytes × (length bytes ≤ room)
+read-spells c group s room some h =
+    let n = has-count (byte_count (piece_len group) (length s)) _ room h in
+    let is = accepted c group s room n.0 h n.1 in
+    let digits = digits_in (piece_len group) s in
+    let even : length digits % 2 ≡ 0 = omega (arith, is.twice) in
+    let none : first_invalid c digits ≡ None = is.valid in
+    let w = some (grind (arith, nat_tests, even, none)) in
+    let spells = group-spells c group s w.0 room n.0 is w.1 in
+    (w.0, spells.0, omega (arith, spells.1, is.fits))
+
+pub spells-read : (c : CheckCase) (group : Group) (s bytes : List ℕ) (room : ℕ) → GroupSpells c group s bytes → length bytes ≤ room → source_refusal c (digits_in (piece_len group) s) ≡ None → group_refusal c group s room ≡ None
+spells-read c group s bytes room h fits accepts =
+    let count = count-is (piece_len group) (length s) (length bytes) group.is_group.0 (sym h.long) in
+    let even : length (digits_in (piece_len group) s) % 2 ≡ 0 = omega (arith, h.spelled.twice) in
+    let valid : first_invalid c (digits_in (piece_len group) s) ≡ None = unrefused c (digits_in (piece_len group) s) (first_invalid c (digits_in (piece_len group) s)) refl even accepts in
+    let none = none-wrong c group s valid h.separated in
+    let enough : nat_lt room (length bytes) ≡ false = le-ltb room (length bytes) fits in
+    rw (count, enough, none) refl
+  where
+    unrefused : (c : CheckCase) (s : List ℕ) (f : Option ℕ) → first_invalid c s ≡ f → length s % 2 ≡ 0 → source_refusal c s ≡ None → f ≡ None
+    unrefused c s None is even h = refl
+    unrefused c s (Some i) is even h = grind (arith, nat_tests, even, is, h)
