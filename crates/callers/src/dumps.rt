@@ -1,13 +1,20 @@
 //! Callers that write padded texts, each proved.
 
-ghost use Rattle.std.specs.Prelude.{◌≡◌, ◌≤◌, ◌<◌, ◌-◌, ◌^◌, length, IsOk, OnOk};
+ghost use Rattle.std.specs.Prelude.{◌≡◌, ◌↔◌, ◌≤◌, ◌<◌, ◌-◌, ◌^◌, ℕ, List, None, length, IsOk, IsTrue, OnOk};
+ghost use Rattle.std.specs.Bool.{OnFalse, OnTrue};
 ghost use Rattle.std.specs.List.{flat_map};
-ghost use Rattle.hex_core.specs.Text.{with_front};
+ghost use Rattle.hex_core.specs.declared.digit.CheckCase.TheVariants as policy;
+ghost use Rattle.hex_core.specs.Text.{lowercase, with_front};
+ghost use Rattle.hex_codec.specs.Grouped.{grouped};
+ghost use Rattle.hex_codec.specs.GroupedText.{GroupSpells, group_refusal};
 ghost use Rattle.hex_format.specs.Frame.{frame};
 ghost use Rattle.hex_format.specs.Sink.{Puts};
 
-use faster_hex::{Hex, HexFlags, Sink, SliceSink, WriteFault};
-use hex_format::laws::puts_in_a_row_are_one;
+use faster_hex::grouped::read_into;
+use faster_hex::{CheckCase, Group, Hex, HexFlags, Sink, SliceSink, WriteFault};
+use hex_codec::laws::reading_inverts_grouping;
+use hex_core::laws::a_text_spells_one_list;
+use hex_format::laws::{a_bare_text_is_its_digits, puts_in_a_row_are_one};
 
 /// Writes the padded text of some bytes into the front of a line, where it fits.
 ///
@@ -49,4 +56,32 @@ pub fn write_identifiers<S: Sink>(
         Hex::new(id).write_to(sink, flags)?;
     }
     Ok(())
+}
+
+/// Writes a line of a dump of at most 16 bytes back over itself, in lowercase, where it is one, and
+/// returns whether it is.
+///
+/// ```rust
+/// let mut line = *b"0A0B:0c";
+/// assert!(rt; lowercase_line(&mut line, Group::new(2, b':').unwrap()));
+/// assert_eq!(rt; &line, b"0a0b:0c");
+/// ```
+pub fn lowercase_line(line: &mut [u8], group: Group) -> bool
+    ensures read { IsTrue result ↔ (group_refusal policy.None group line.old 16 ≡ None) }
+    ensures written { OnTrue result ((bytes : List ℕ) × GroupSpells policy.None group line.old bytes
+        × (line.new ≡ grouped group lowercase bytes)) }
+    ensures unchanged { OnFalse result (line.new ≡ line.old) }
+{
+    a_text_spells_one_list();
+    a_bare_text_is_its_digits();
+    reading_inverts_grouping();
+    let mut bytes = [0; 16];
+    let Ok(count) = read_into(line, &mut bytes, group, CheckCase::None) else {
+        return false;
+    };
+    let flags = HexFlags {
+        group: Some(group),
+        ..HexFlags::default()
+    };
+    write_line(&bytes[..count], &flags, line).is_ok()
 }

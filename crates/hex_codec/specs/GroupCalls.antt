@@ -21,8 +21,8 @@ Accepts c group s room result = MatchResult result
 -- stand over the old ones; or the refusal, and the destination as it was
 abbrev pub Reads : CheckCase → Group → List ℕ → List ℕ → List ℕ → Result ℕ GroupFault → Type 0
 Reads c group s old new result = MatchResult result
-    (λ n. (group_refusal c group s (length old) ≡ None) × (byte_count (piece_len group) (length s) ≡ Some n)
-    × ((bytes : List ℕ) × GroupSpells c group s bytes × (new ≡ with_front old bytes)))
+    (λ n. (group_refusal c group s (length old) ≡ None)
+    × ((bytes : List ℕ) × GroupSpells c group s bytes × (n ≡ length bytes) × (new ≡ with_front old bytes)))
     (λ e. (group_refusal c group s (length old) ≡ Some e) × (new ≡ old))
 
 -- reading that lends the written front of this much room: what the text spells, or the refusal

@@ -17,4 +17,4 @@ returns c =
     let count = c.in_ok-count.count in let new = c.write_bytes.new.dst in let old = c.args.dst.now in
     let is = accepted c.args.case c.args.group c.args.src.now (length old) count c.in_ok-count.ensures.0 c.in_ok-count.ensures.1 in
     let spells = group-spells c.args.case c.args.group c.args.src.now new (length old) count is c.write_bytes.ensures in
-    (c.in_ok-count.ensures.0, c.in_ok-count.ensures.1, (new, spells.0, ap (λ n. new ++ drop n old) (sym spells.1)))
+    (c.in_ok-count.ensures.0, (new, spells.0, sym spells.1, ap (λ n. new ++ drop n old) (sym spells.1)))
