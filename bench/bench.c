@@ -21,7 +21,7 @@ static const size_t sizes[] = {8, 16, 32, 64, 100, 256, 1024, 4096, LARGEST};
 
 // What a call works on. One that checks, and one that decodes into memory of its own, is given no
 // room to write into.
-enum kind { CHECK, ENCODE, DECODE, DECODE_VEC, PADDED, KINDS };
+enum kind { CHECK, ENCODE, DECODE, DECODE_VEC, PADDED, GROUPED, KINDS };
 
 struct task {
     const uint8_t *src;
@@ -77,8 +77,17 @@ struct task {
     X(WRITES, own, by_16, write_to, PADDED) \
     X(WRITES, own, by_1000, write_to, PADDED)
 
+// Reading the same text ungrouped, by hex_decode, and in pieces of so many bytes.
+#define READS_OF(X) \
+    X(WRITES, own, ungrouped, read, GROUPED) \
+    X(WRITES, own, by_1, read, GROUPED) \
+    X(WRITES, own, by_2, read, GROUPED) \
+    X(WRITES, own, by_4, read, GROUPED) \
+    X(WRITES, own, by_16, read, GROUPED) \
+    X(WRITES, own, by_1000, read, GROUPED)
+
 #define OWN_CALLS(X) \
-    PIECES(X) PLAIN(X) PLAN(X, scalar) PLAN(X, sse41) PLAN(X, avx2) PLAN(X, avx512) PLAN(X, neon)
+    PIECES(X) READS_OF(X) PLAIN(X) PLAN(X, scalar) PLAN(X, sse41) PLAN(X, avx2) PLAN(X, avx512) PLAN(X, neon)
 
 #ifdef RUST
 #define RUST_CALLS(X) PUBLIC(X) KERNEL(X, scalar) KERNEL(X, sse41) KERNEL(X, avx2) KERNEL(X, avx512)
@@ -174,9 +183,43 @@ static volatile size_t sink;
 static uint8_t bytes[LARGEST], lower[2 * LARGEST], upper[2 * LARGEST], mixed[2 * LARGEST];
 static uint8_t out[3 * LARGEST] __attribute__((aligned(64)));
 
-static struct task task_of(enum kind kind, size_t size) {
-    if (kind == ENCODE || kind == PADDED) {
-        return (struct task){bytes, size, out, kind == ENCODE ? 2 * size : 3 * size};
+static const char *const pieces[] = {"ungrouped", "by_1", "by_2", "by_4", "by_16", "by_1000"};
+#define FORMS (sizeof pieces / sizeof *pieces)
+
+// The text in both cases in each of these forms, with colons. That of fewer bytes is its front.
+static uint8_t grouped[FORMS][3 * LARGEST];
+
+static size_t form_of(const struct call *call) {
+    size_t form = 0;
+    while (strcmp(call->plan, pieces[form])) {
+        form++;
+    }
+    return form;
+}
+
+// How many bytes a piece has, or 0 where there are none.
+static size_t every_of(size_t form) {
+    return form ? strtoul(pieces[form] + 3, NULL, 10) : 0;
+}
+
+static void group(size_t form) {
+    size_t every = every_of(form), at = 0;
+    for (size_t i = 0; i < LARGEST; i++) {
+        if (every != 0 && i != 0 && i % every == 0) {
+            grouped[form][at++] = ':';
+        }
+        memcpy(grouped[form] + at, mixed + 2 * i, 2);
+        at += 2;
+    }
+}
+
+static struct task task_of(const struct call *call, size_t size) {
+    if (call->kind == ENCODE || call->kind == PADDED) {
+        return (struct task){bytes, size, out, call->kind == ENCODE ? 2 * size : 3 * size};
+    }
+    if (call->kind == GROUPED) {
+        size_t form = form_of(call), every = every_of(form);
+        return (struct task){grouped[form], 2 * size + (every ? (size - 1) / every : 0), out, size};
     }
     return (struct task){mixed, 2 * size, out, size};
 }
@@ -205,13 +248,10 @@ static void stop_unless(bool holds, const char *side, const char *plan, const ch
     }
 }
 
-static const char *const pieces[] = {"ungrouped", "by_1", "by_2", "by_4", "by_16", "by_1000"};
-#define FORMS (sizeof pieces / sizeof *pieces)
-
 // Checks a grouped text, whose separators are colons.
 static void check_padded(const struct call *call, size_t size) {
-    struct task task = task_of(PADDED, size);
-    size_t every = strcmp(call->plan, "ungrouped") ? strtoul(call->plan + 3, NULL, 10) : 0;
+    struct task task = task_of(call, size);
+    size_t every = every_of(form_of(call));
     size_t length = call->loop(&task, 1), at = 0;
     bool holds = true;
     for (size_t i = 0; i < size; i++) {
@@ -229,10 +269,10 @@ static void check(const struct call *call, size_t size) {
         check_padded(call, size);
         return;
     }
-    struct task task = task_of(call->kind, size);
+    struct task task = task_of(call, size);
     memset(out, 0xa5, sizeof out);
     bool holds = call->loop(&task, 1) == (call->kind == CHECK ? 1 : task.room);
-    if (call->kind == ENCODE || call->kind == DECODE) {
+    if (call->kind == ENCODE || call->kind == DECODE || call->kind == GROUPED) {
         holds = holds && !memcmp(out, call->kind == ENCODE ? lower : bytes, task.room);
     }
     stop_unless(holds, call->is_rust ? "rust" : "own", call->plan, call->name, size);
@@ -315,14 +355,15 @@ static uint32_t next(void) {
 // to wake its wide vectors. Behind these some are slower for a while, which else would always meet
 // the same calls, so each round has another order.
 static void measure(enum kind kind, size_t at_size) {
-    struct task task = task_of(kind, sizes[at_size]);
+    struct task tasks[CALLS];
     size_t order[CALLS], count = 0;
     long turns[CALLS];
     for (size_t at = 0; at < CALLS; at++) {
         if (calls[at].kind == kind && is_there(&calls[at])) {
             order[count++] = at;
+            tasks[at] = task_of(&calls[at], sizes[at_size]);
             turns[at] = 1;
-            while (spent(&calls[at], &task, turns[at]) < TURNS_NS) {
+            while (spent(&calls[at], &tasks[at], turns[at]) < TURNS_NS) {
                 turns[at] *= 2;
             }
         }
@@ -332,8 +373,8 @@ static void measure(enum kind kind, size_t at_size) {
             size_t pick = next() % left, at = order[pick];
             order[pick] = order[left - 1];
             order[left - 1] = at;
-            spent(&calls[at], &task, turns[at]);
-            double time = spent(&calls[at], &task, turns[at]) / turns[at];
+            spent(&calls[at], &tasks[at], turns[at]);
+            double time = spent(&calls[at], &tasks[at], turns[at]) / turns[at];
             if (least[at_size][at] == 0 || time < least[at_size][at]) {
                 least[at_size][at] = time;
             }
@@ -367,20 +408,20 @@ static void heads(const char *const *names, size_t count) {
     }
 }
 
-// The padded text in its forms, and each over the ungrouped one.
-static void print_padded(void) {
-    printf("\nHex::write_to into a slice: ns\n   bytes");
+// The text in its forms, written or read, and each over the ungrouped one.
+static void print_forms(const char *title, const char *name, enum kind kind) {
+    printf("\n%s: ns\n   bytes", title);
     heads(pieces, FORMS);
     printf(" | / ungrouped\n");
     for (size_t at_size = 0; at_size < SIZES; at_size++) {
         printf("%8zu", sizes[at_size]);
         for (size_t at = 0; at < FORMS; at++) {
-            cell(" %8.1f", time_of(at_size, false, pieces[at], "write_to", PADDED));
+            cell(" %8.1f", time_of(at_size, false, pieces[at], name, kind));
         }
         printf(" |");
-        double whole = time_of(at_size, false, pieces[0], "write_to", PADDED);
+        double whole = time_of(at_size, false, pieces[0], name, kind);
         for (size_t at = 1; at < FORMS; at++) {
-            cell(" %8.2f", time_of(at_size, false, pieces[at], "write_to", PADDED) / whole);
+            cell(" %8.2f", time_of(at_size, false, pieces[at], name, kind) / whole);
         }
         printf("\n");
     }
@@ -492,6 +533,9 @@ int main(void) {
     printf("No Rust crate was given, so there are no ratios: --rust PATH gives one.\n");
 #endif
     fill();
+    for (size_t form = 0; form < FORMS; form++) {
+        group(form);
+    }
     for (size_t at_size = 0; at_size < SIZES; at_size++) {
         check_all(sizes[at_size]);
     }
@@ -510,6 +554,7 @@ int main(void) {
         print_ratios(&tables[at]);
 #endif
     }
-    print_padded();
+    print_forms("Hex::write_to into a slice", "write_to", PADDED);
+    print_forms("grouped::read, ungrouped: hex_decode", "read", GROUPED);
     return 0;
 }
