@@ -1,11 +1,10 @@
 -- Lengths of grouped texts, and what reading one needs.
-use Rattle.std.proofs.Common.{◌≡◌, ◌⊎◌, inl, inr, Bool, ℕ, zero, suc, ◌+◌, ◌-◌, ◌*◌, ◌/◌, ◌%◌, ◌<◌, ◌≤◌, nat_lt, ◌==◌, refl, sym, ap, ◌∙◌, arith, Option, Some, None, List, [], ◌∷◌, ◌++◌, length, take, drop, get_or, append-nil, length-append, length-take, length-drop, slice_index, All, option_map}
-use Rattle.std.specs.Prelude.{position}
+use Rattle.std.proofs.Common.{◌≡◌, ◌⊎◌, inl, inr, Bool, ℕ, zero, suc, ◌+◌, ◌-◌, ◌*◌, ◌/◌, ◌%◌, ◌<◌, ◌≤◌, ◌==◌, refl, sym, ap, ◌∙◌, arith, Option, Some, None, List, [], ◌∷◌, ◌++◌, length, take, drop, get_or, append-nil, length-append, length-drop, slice_index, All, option_map}
 use Rattle.std.specs.List.{flat_map, position_or_len, range_with_len}
 use Rattle.std.proofs.lemmas.Bool.{cases_lt, eq-eqb, eqb-true, ne_eqb}
 use Rattle.std.proofs.lemmas.Bool.Decides.{nat_tests}
 use Rattle.std.proofs.lemmas.Grind.{common_steps}
-use Rattle.std.proofs.lemmas.List.{drop_all, length-take-le, take-take, take_all}
+use Rattle.std.proofs.lemmas.List.{length-take-le, take-take, take_all}
 use Rattle.std.proofs.lemmas.List.Sums.{passes_at_first}
 use Rattle.std.proofs.lemmas.List.FromFn.{get_or-range_with_len, length-range_with_len}
 use Rattle.std.proofs.lemmas.Nat.{div-add-mod', div-mul-add, le-div, mod-mul-add, mod_below}
@@ -16,9 +15,9 @@ use Rattle.hex_core.specs.Search.{first_invalid}
 use Rattle.hex_core.proofs.PositionLemmas.{position_is, position_none}
 use Rattle.hex_codec.specs.declared.group.Group.{Group}
 use Rattle.hex_codec.specs.declared.grouped.GroupFault.{GroupFault}
-use Rattle.hex_codec.specs.declared.grouped.GroupFault.TheVariants.{BadLength, OutputTooSmall, InvalidByte}
+use Rattle.hex_codec.specs.declared.grouped.GroupFault.TheVariants.{InvalidByte}
 use Rattle.hex_codec.specs.Grouped.{piece_count, piece_len, separator}
-use Rattle.hex_codec.specs.GroupedText.{GroupSpells, byte_count, digits_in, first_wrong, group_refusal, grouped_len, parts, refusal_of_count, separators_in}
+use Rattle.hex_codec.specs.GroupedText.{GroupSpells, byte_count, digits_in, first_wrong, group_refusal, grouped_len, refusal_of_count, separators_in}
 use Rattle.hex_codec.proofs.GroupLemmas.{count-next, no_pieces, pieces-next}
 use Rattle.hex_codec.proofs.StripLemmas.{one_part}
 use Rattle.hex_codec.proofs.WrongLemmas.{wrong-none}

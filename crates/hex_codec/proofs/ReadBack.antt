@@ -1,5 +1,5 @@
 -- A text that was written in groups is read back, and one that is read spells a list.
-use Rattle.std.proofs.Common.{◌≡◌, ◌⊎◌, inl, inr, Bool, ℕ, zero, suc, false, ◌+◌, ◌*◌, ◌%◌, ◌<◌, ◌≤◌, nat_lt, refl, sym, ap, ◌∙◌, arith, Option, Some, None, List, [], ◌∷◌, ◌++◌, length, take, drop, slice_index, All, append-nil, append_assoc, length-append, length-drop, take-append-drop, option_map}
+use Rattle.std.proofs.Common.{◌≡◌, ◌⊎◌, inl, inr, Bool, ℕ, zero, suc, false, ◌+◌, ◌*◌, ◌%◌, ◌<◌, ◌≤◌, nat_lt, refl, sym, ap, ◌∙◌, arith, Option, Some, None, List, [], ◌∷◌, ◌++◌, length, take, drop, All, append-nil, append_assoc, length-append, length-drop, take-append-drop}
 use Rattle.std.specs.List.{flat_map}
 use Rattle.std.proofs.Math.Seq.{drop-append_seam, take-append_seam}
 use Rattle.std.proofs.lemmas.Bool.{cases_lt, le-ltb}
@@ -13,9 +13,8 @@ use Rattle.hex_core.specs.Text.{Spells, text}
 use Rattle.hex_core.proofs.TextLemmas.{length-text, text-append}
 use Rattle.hex_codec.specs.declared.group.Group.{Group}
 use Rattle.hex_codec.specs.declared.grouped.GroupFault.{GroupFault}
-use Rattle.hex_codec.specs.declared.grouped.GroupFault.TheVariants.{InvalidByte}
 use Rattle.hex_codec.specs.Grouped.{grouped, piece_len, separated, separator}
-use Rattle.hex_codec.specs.GroupedText.{GroupSpells, byte_count, digits_in, first_wrong, group_refusal, parts, refusal_of_count, separators_in}
+use Rattle.hex_codec.specs.GroupedText.{GroupSpells, byte_count, digits_in, group_refusal, refusal_of_count, separators_in}
 use Rattle.hex_codec.specs.Strip.{IsWhole}
 use Rattle.hex_codec.proofs.CountLemmas.{accepted, count-is, group-spells}
 use Rattle.hex_codec.proofs.GroupLemmas.{grouped-separated, length-grouped, no_pieces, separated-next, separated-none}
@@ -43,7 +42,7 @@ back-last group upper bytes some fits =
     let all = text upper bytes in
     let size : length all ≡ 2 * length bytes = length-text upper bytes in
     let is : grouped group upper bytes ≡ all =
-        grouped-next group upper bytes some ∙ rw (take_all every bytes fits, drop_all every bytes fits, separated-none group upper) (append-nil all) in
+    grouped-next group upper bytes some ∙ rw (take_all every bytes fits, drop_all every bytes fits, separated-none group upper) (append-nil all) in
     let one = one_part every all (omega (arith, size)) (omega (arith, size)) in
     record {
       digits = rw is (ap (flat_map (take (2 * every))) one ∙ append-nil (take (2 * every) all) ∙ take_all (2 * every) all (omega (arith, size)));
@@ -62,8 +61,8 @@ back-more group upper bytes long rest =
     let part = first ++ (sep ∷ []) in
     let size : length first ≡ 2 * every = length-text upper (take every bytes) ∙ ap (λ n. 2 * n) (length-take-le every bytes (omega arith)) in
     let is : grouped group upper bytes ≡ part ++ behind =
-        grouped-next group upper bytes (omega arith) ∙ ap (λ l. first ++ l) (separated-cons group upper (drop every bytes) (omega (arith, length-drop every bytes)))
-        ∙ sym (append_assoc first (sep ∷ []) behind) in
+    grouped-next group upper bytes (omega arith) ∙ ap (λ l. first ++ l) (separated-cons group upper (drop every bytes) (omega (arith, length-drop every bytes)))
+    ∙ sym (append_assoc first (sep ∷ []) behind) in
     let line : length part ≡ 2 * every + 1 = omega (arith, length-append first (sep ∷ []), size) in
     let whole : IsWhole every (length part) = record { count = 1; lines = omega (arith, line) } in
     let one = one_part every part (omega (arith, line)) (omega (arith, line)) in

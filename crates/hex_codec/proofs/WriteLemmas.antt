@@ -1,5 +1,5 @@
 -- Bytes that are written behind others.
-use Rattle.std.proofs.Common.{◌≡◌, ◌⊎◌, inl, inr, ℕ, zero, suc, min, ◌+◌, ◌-◌, ◌*◌, ◌/◌, ◌%◌, ◌<◌, ◌≤◌, Bool, false, ◌||◌, refl, sym, ap, ◌∙◌, arith, Result, Ok, Err, Some, None, is_none, List, [], ◌∷◌, ◌++◌, length, take, drop, get_or, append-nil, append_assoc, length-append, length-take, length-drop, take-append-drop}
+use Rattle.std.proofs.Common.{◌≡◌, ◌⊎◌, inl, inr, ℕ, zero, suc, min, ◌+◌, ◌-◌, ◌*◌, ◌/◌, ◌%◌, ◌<◌, ◌≤◌, Bool, refl, sym, ap, ◌∙◌, arith, Result, Ok, Err, Some, None, is_none, List, [], ◌∷◌, ◌++◌, length, take, drop, get_or, append-nil, append_assoc, length-append, length-take, length-drop, take-append-drop}
 use Rattle.std.proofs.Math.Seq.{take-add}
 use Rattle.std.proofs.lemmas.Bool.{cases_lt}
 use Rattle.std.proofs.lemmas.Bool.Decides.{nat_tests}
@@ -19,7 +19,7 @@ use Rattle.hex_core.specs.Text.{Spells}
 use Rattle.hex_codec.specs.declared.group.Group.{Group}
 use Rattle.hex_codec.specs.declared.strip.Front.{Front}
 use Rattle.hex_codec.specs.Grouped.{piece_len}
-use Rattle.hex_codec.specs.GroupedText.{digits_in, parts}
+use Rattle.hex_codec.specs.GroupedText.{digits_in}
 use Rattle.hex_codec.specs.Strip.{IsWhole, StripsFront, WritesFront}
 use Rattle.hex_codec.proofs.GroupLemmas.{no_pieces, pieces-next}
 use Rattle.hex_codec.proofs.StripLemmas.{joined, one_part, whole-more}

@@ -1,5 +1,5 @@
 -- The first wrong byte of a text, a part at a time.
-use Rattle.std.proofs.Common.{◌≡◌, ◌≢◌, ◌⊎◌, inl, inr, ℕ, zero, suc, ◌+◌, ◌*◌, ◌<◌, ◌≤◌, Bool, true, false, not, ◌||◌, ◌==◌, refl, sym, ap, ◌∙◌, arith, Option, Some, None, is_none, List, [], ◌∷◌, ◌++◌, length, take, drop, map, get_or, All, append-nil, length-append, length-take, length-drop, option_map, take-append-drop}
+use Rattle.std.proofs.Common.{◌≡◌, ◌⊎◌, inl, inr, ℕ, zero, suc, ◌+◌, ◌*◌, ◌<◌, ◌≤◌, Bool, true, false, not, ◌||◌, ◌==◌, refl, sym, ap, ◌∙◌, arith, Option, Some, None, is_none, List, [], ◌∷◌, ◌++◌, length, take, drop, map, get_or, All, append-nil, length-append, length-take, length-drop, option_map, take-append-drop}
 use Rattle.std.specs.Prelude.{position}
 use Rattle.std.specs.List.{flat_map, list_any, position_or_len}
 use Rattle.std.proofs.lemmas.Bool.{cases_Bool, cases_lt, both_ways, eq-eqb, eqb-true, ne_eqb}

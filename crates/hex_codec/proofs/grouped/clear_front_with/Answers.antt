@@ -1,9 +1,9 @@
 -- The parts that were copied have no wrong byte.
-use Rattle.std.proofs.Common.{◌≡◌, ◌+◌, ◌-◌, ◌≤◌, None, length, take, drop, refl, sym, ap, ◌∙◌, arith, length-drop, All}
+use Rattle.std.proofs.Common.{◌≡◌, None, take, drop, refl, arith, length-drop}
 use Rattle.std.proofs.lemmas.List.{take_rest}
 use Rattle.hex_core.specs.Search.{first_invalid}
-use Rattle.hex_codec.specs.Grouped.{piece_len, separator}
-use Rattle.hex_codec.specs.GroupedText.{digits_in, separators_in}
+use Rattle.hex_codec.specs.Grouped.{piece_len}
+use Rattle.hex_codec.specs.GroupedText.{digits_in}
 use Rattle.hex_codec.specs.Strip.{StripsFront}
 use Rattle.hex_codec.proofs.WrongLemmas.{clears-more, whole-clear}
 use Rattle.hex_codec.proofs.grouped.clear_front_with.Goals as goal

@@ -1,5 +1,5 @@
 -- The first wrong byte is inside the source.
-use Rattle.std.proofs.Common.{rules, ◌≡◌, ◌∙◌, ap, sym, Some, length, drop, arith, length-drop}
+use Rattle.std.proofs.Common.{rules, ◌≡◌, ◌∙◌, ap, sym, Some, drop, arith, length-drop}
 use Rattle.std.proofs.lemmas.List.{take_rest}
 use Rattle.hex_codec.specs.GroupedText.{first_wrong}
 use Rattle.hex_codec.proofs.WrongLemmas.{wrong-inside}

@@ -4,7 +4,6 @@ use Rattle.std.proofs.lemmas.Bool.{cases_lt}
 use Rattle.std.proofs.lemmas.List.{get_or-drop, take_all}
 use Rattle.hex_core.specs.Search.{first_invalid}
 use Rattle.hex_codec.specs.Grouped.{piece_len, separator}
-use Rattle.hex_codec.specs.GroupedText.{first_wrong}
 use Rattle.hex_codec.proofs.WrongLemmas.{clears-more, digit-wrong, last-clear, part-clear, separator-wrong}
 use Rattle.hex_codec.proofs.grouped.first_wrong_part.Goals as goal
 

@@ -1,5 +1,5 @@
 -- `read` judges, lends the front, and writes behind it.
-use Rattle.hex_core.proofs.WalkKit.{◌≡◌, refl, subst, ap, sym, ℕ, ◌*◌, ◌/◌, ◌≤◌, List, [], ◌∷◌, length, named, erased, w64, vint, emp, id⊢, ftrue, flft, ‵, ◌⊛◌, raw, some, later, ◌$◌, ◌∵◌, !, qed, move, keep, drop, rewrite, split, split3, join, fsplit3, fjoin, use0, use1, use2, await, pick, suffices, frame, done, whole, sub, agg, stop, fld, hop, from, addr, of_opd, and_then, no_more, returns, enter, alloc_all, pass_all, free_all, look_at, look_in_at, get, get_in, sets, lands_as, fact, fact_i, tables, u8, usize, yes, no, Is, shows, uint_Makes, uint_row_laws, owns, plain, mut_slice_of, shr_slice_of, Ura, Val, Lifetime, Lft, GName, Fml, Logic, RattleType, MutBor, ShrSlice, MutSlice, Room, shr_slice_vals, shr_slice_Tells, shr_slice_copy, mut_slice_vals, mut_slice_Tells, nothing, owned, peeks, heard, calls_at, Lasts, lasts, triple_of, framed, says, Stays, stay_dropped, ends_at, Goes-dropped, Goes-spent_slice, Result, None, Some, Ok, Err, MatchResult, IfOk, IfErr, IsOkAnd, proved}
+use Rattle.hex_core.proofs.WalkKit.{◌≡◌, refl, subst, ap, sym, ℕ, ◌*◌, ◌≤◌, List, [], ◌∷◌, length, named, erased, w64, vint, emp, id⊢, ftrue, flft, ‵, ◌⊛◌, raw, some, later, ◌$◌, ◌∵◌, !, qed, move, keep, drop, rewrite, split, split3, join, fsplit3, fjoin, use0, use1, use2, await, pick, suffices, frame, done, whole, sub, agg, stop, fld, hop, from, addr, of_opd, and_then, no_more, returns, enter, alloc_all, pass_all, free_all, look_at, look_in_at, get, get_in, sets, lands_as, fact, fact_i, tables, u8, usize, yes, no, Is, shows, uint_Makes, uint_row_laws, owns, plain, mut_slice_of, shr_slice_of, Ura, Val, Lifetime, Lft, GName, Fml, Logic, RattleType, MutBor, ShrSlice, MutSlice, Room, shr_slice_vals, shr_slice_Tells, shr_slice_copy, mut_slice_vals, mut_slice_Tells, nothing, owned, peeks, heard, calls_at, Lasts, lasts, triple_of, framed, says, Stays, stay_dropped, ends_at, Goes-dropped, Goes-spent_slice, Result, None, Some, Ok, Err, MatchResult, IfOk, IfErr, IsOkAnd, proved}
 use mathlib.Core.Path.{◌∙◌}
 use borrow.Table.Elements.{length-take-le}
 use denote.Enum.Laws as enum_laws

@@ -1,5 +1,5 @@
 -- The front is as long as the number of bytes.
-use Rattle.std.proofs.Common.{◌≡◌, ◌*◌, ◌++◌, sym, ap, ◌∙◌, length, drop, arith}
+use Rattle.std.proofs.Common.{◌*◌, ◌++◌, sym, ap, ◌∙◌, length, drop}
 use Rattle.std.proofs.lemmas.List.{length-take-le}
 use Rattle.hex_codec.proofs.CountLemmas.{accepted, group-spells}
 use Rattle.hex_codec.proofs.grouped.read_into.Goals as goal

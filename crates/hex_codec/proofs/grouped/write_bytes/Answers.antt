@@ -1,8 +1,6 @@
 -- The digits behind the front are those of the rest.
-use Rattle.std.proofs.Common.{rules, ◌≡◌, ◌+◌, ◌-◌, ◌*◌, ◌/◌, ◌≤◌, ◌++◌, length, take, drop, refl, sym, ap, ◌∙◌, arith, length-append, length-drop, take-append-drop}
-use Rattle.std.proofs.lemmas.List.{length-take-le, take_all, take_rest}
-use Rattle.std.proofs.lemmas.Slice.{take-put_mid}
-use borrow.Rule.Slice.PartMut.{put_mid}
+use Rattle.std.proofs.Common.{rules, ◌≡◌, ◌-◌, ◌/◌, ◌≤◌, length, take, drop, arith}
+use Rattle.std.proofs.lemmas.List.{take_rest}
 use Rattle.hex_core.specs.Text.{Spells}
 use Rattle.hex_codec.specs.Grouped.{piece_len}
 use Rattle.hex_codec.specs.GroupedText.{digits_in}

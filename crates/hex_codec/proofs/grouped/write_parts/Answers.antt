@@ -1,11 +1,9 @@
 -- The digits of the next part are decoded behind those before it.
-use Rattle.std.proofs.Common.{rules, ◌≡◌, ◌+◌, ◌-◌, ◌*◌, ◌++◌, None, length, take, drop, min, refl, sym, ap, ◌∙◌, arith, length-drop, length-take, append-nil}
-use Rattle.std.proofs.lemmas.List.{length-take-le, places, take_all}
+use Rattle.std.proofs.Common.{rules, ◌≡◌, ◌+◌, ◌-◌, ◌*◌, ◌++◌, length, take, drop, min, sym, ap, ◌∙◌, arith, length-drop}
+use Rattle.std.proofs.lemmas.List.{length-take-le, places}
 use Rattle.std.proofs.lemmas.Slice.{take-put_mid}
 use borrow.Rule.Slice.PartMut.{put_mid}
-use Rattle.hex_core.specs.Text.{Spells}
 use Rattle.hex_codec.specs.Grouped.{piece_len}
-use Rattle.hex_codec.specs.GroupedText.{digits_in}
 use Rattle.hex_codec.proofs.WriteLemmas.{decoded, part, spells-joined}
 use Rattle.hex_codec.proofs.grouped.write_parts.Goals as goal
 

@@ -1,5 +1,5 @@
 -- No bit of the mask is set, so no lane is another byte.
-use Rattle.std.proofs.Common.{All, ◌≡◌, ◌⊎◌, inl, inr, ℕ, ◌<◌, Bool, true, false, not, eqb, length, map, take, refl, sym, ap, ◌∙◌, arith, w8, List}
+use Rattle.std.proofs.Common.{All, ◌≡◌, ◌⊎◌, inl, inr, ℕ, Bool, true, false, not, eqb, map, take, refl, sym, ap, ◌∙◌, arith, w8}
 use Rattle.std.proofs.lemmas.Bool.{cases_Bool, eqb-true, both_ways}
 use Rattle.std.proofs.lemmas.Simd.{bitmask_splat, none_from_empty_mask}
 use Rattle.std.proofs.lemmas.List.{take_all}

@@ -1,11 +1,10 @@
 -- The digits of one more block are copied.
-use Rattle.std.proofs.Common.{rules, ◌≡◌, ◌+◌, ◌-◌, ◌≤◌, ◌++◌, length, take, drop, refl, ap, sym, ◌∙◌, arith, length-drop, All}
-use Rattle.std.proofs.lemmas.List.{length-take-le, take-take}
+use Rattle.std.proofs.Common.{rules, ◌≡◌, ◌+◌, ◌-◌, ◌≤◌, ◌++◌, length, take, drop, refl, ap, ◌∙◌, arith, length-drop, All}
+use Rattle.std.proofs.lemmas.List.{take-take}
 use Rattle.std.proofs.lemmas.Simd.{length-put_chunk}
 use Rattle.std.specs.Simd.Lanes.{put_chunk}
 use Rattle.hex_codec.specs.Grouped.{piece_len}
 use Rattle.hex_codec.specs.GroupedText.{digits_in, separators_in}
-use Rattle.hex_codec.specs.Strip.{IsWhole}
 use Rattle.hex_codec.proofs.ListLemmas.{take-front_chunk}
 use Rattle.hex_codec.proofs.StripLemmas.{all-taken, strip-more}
 use Rattle.hex_codec.proofs.strip.strip_blocks.Goals as goal

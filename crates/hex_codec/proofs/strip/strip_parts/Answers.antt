@@ -4,7 +4,6 @@ use Rattle.std.proofs.lemmas.List.{get_or-drop, length-take-le, take-take}
 use borrow.Rule.Slice.PartMut.{put_mid}
 use Rattle.hex_codec.specs.Grouped.{piece_len}
 use Rattle.hex_codec.specs.GroupedText.{digits_in}
-use Rattle.hex_codec.specs.Strip.{IsWhole}
 use Rattle.hex_codec.proofs.ListLemmas.{take-front_put}
 use Rattle.hex_codec.proofs.StripLemmas.{part-digits, part-separator, strip-more}
 use Rattle.hex_codec.proofs.strip.strip_parts.Goals as goal
