@@ -1,12 +1,8 @@
 -- Digits of bytes, each two of them behind a separator.
-use Rattle.std.proofs.Common.{◌≡◌, Bool, ℕ, ◌+◌, ◌*◌, ◌≤◌, List, [], ◌∷◌, ◌++◌, length, get_or, map, take, drop, refl, sym, ap, ◌∙◌, arith, take-append-drop}
-use Rattle.std.proofs.lemmas.List.{length-take-le, take-take}
-use Rattle.std.proofs.Math.Seq.{take-add, take-append-add, take-append_seam}
-use Rattle.std.proofs.lemmas.Grind.{flat_map-append, same_number_lists}
-use Rattle.std.proofs.lemmas.List.FromFn.{get_or-map-range_with_len, length-map-range_with_len}
-use Rattle.std.proofs.lemmas.Slice.{take-put_mid}
-use Rattle.std.specs.List.{range_with_len}
-use borrow.Rule.Slice.PartMut.{put_mid}
+use Rattle.std.proofs.Common.{◌≡◌, Bool, ℕ, ◌+◌, ◌*◌, ◌≤◌, List, [], ◌∷◌, ◌++◌, length, take, drop, refl, sym, ap, ◌∙◌, arith, take-append-drop}
+use Rattle.std.proofs.lemmas.List.{length-take-le}
+use Rattle.std.proofs.Math.Seq.{take-add, take-append_seam}
+use Rattle.std.proofs.lemmas.Grind.{flat_map-append}
 use Rattle.hex_core.specs.Text.{digits, text}
 use Rattle.hex_core.proofs.TextLemmas.{length-text, text-append}
 use Rattle.hex_codec.specs.Grouped.{bytes_apart}

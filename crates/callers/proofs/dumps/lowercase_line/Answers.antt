@@ -1,8 +1,7 @@
 -- The text in lowercase is as long as the line, and so it fits.
-use Rattle.std.proofs.Common.{◌≡◌, ◌+◌, ◌*◌, ◌≤◌, ◌++◌, Bool, true, ℕ, List, Result, Ok, Err, IsOk, OnOk, length, take, drop, refl, sym, ap, ◌∙◌, arith, append-nil, None, Some}
+use Rattle.std.proofs.Common.{◌≡◌, ◌≤◌, ◌++◌, true, ℕ, List, Result, Ok, Err, IsOk, OnOk, length, take, refl, sym, ap, ◌∙◌, arith, append-nil, Some}
 use Rattle.std.proofs.Math.Seq.{take-append_seam}
 use Rattle.std.proofs.lemmas.List.{drop_all}
-use Rattle.std.specs.Bool.{OnFalse, OnTrue}
 use Rattle.std.specs.Result.{is_ok}
 use Rattle.hex_core.specs.declared.digit.CheckCase.TheVariants as policy
 use Rattle.hex_core.specs.Text.{lowercase, with_front}
@@ -28,7 +27,7 @@ rewritten c =
     let read = c.reading_inverts_grouping.ensures group lowercase bytes (c.a_text_spells_one_list.ensures.bytes policy.None _ bytes w.1.spelled) in
     let size : length (grouped group lowercase bytes) ≡ length c.args.line.now = read.1.long ∙ sym w.1.long in
     let answer = whole c.write_line.result c.args.line.now c.write_line.new.line (grouped group lowercase bytes) size
-        (rw (front, shown) at c.write_line.ensures.fits) (rw (front, shown) at c.write_line.ensures.written) in
+    (rw (front, shown) at c.write_line.ensures.fits) (rw (front, shown) at c.write_line.ensures.written) in
     (c.is_ok.ensures.value ∙ answer.0, answer.1)
 
 pub returns-clause-read : goal.returns-clause-read
