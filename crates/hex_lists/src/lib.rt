@@ -1,0 +1,6 @@
+//! Digest lists, as programs print and check them: a digest and a name on each line.
+#![tactic(auto)]
+
+pub mod digests;
+mod lines;
+mod writing;
