@@ -1,5 +1,5 @@
 -- What reading and writing a list answers, and what writing does to a sink.
-use Rattle.std.specs.Prelude.{◌≡◌, ℕ, Bool, List, Option, Some, None, Result, Ok, Err, MatchResult, vec_items}
+use Rattle.std.specs.Prelude.{◌≡◌, ℕ, Bool, List, Some, None, Result, Ok, Err, MatchResult, vec_items}
 use Rattle.std.specs.declared.vec.Vec.{Vec}
 use Rattle.hex_core.specs.declared.digit.CheckCase.{CheckCase}
 use Rattle.hex_format.specs.Sink.{SinkState, Stops, Takes}

@@ -2,5 +2,6 @@
 #![tactic(auto)]
 
 pub mod digests;
+pub mod laws;
 mod lines;
 mod writing;

@@ -1,7 +1,6 @@
 -- The next line is read, or is the first one with a fault.
-use Rattle.std.proofs.Common.{◌≡◌, [], ◌∷◌, ◌++◌, ◌+◌, ◌-◌, ◌≤◌, drop, length, take, sym, ◌∙◌, arith, rules}
-use Rattle.hex_lists.proofs.LineLemmas.{fault-here, first-clear, line-at, read-all, read-more}
-use Rattle.hex_lists.specs.Lists.{lines_of}
+use Rattle.std.proofs.Common.{◌≡◌, [], ◌∷◌, ◌++◌, ◌+◌, drop, arith}
+use Rattle.hex_lists.proofs.LineLemmas.{fault-here, first-clear, line-at, read-more}
 use Rattle.hex_lists.proofs.digests.read_in.Goals as goal
 
 pub returns-then-is_err : goal.returns-then-is_err

@@ -1,5 +1,5 @@
 -- The first newline, or the end.
-use Rattle.std.proofs.Common.{◌≡◌, ◌<◌, ◌+◌, sym, arith, length, get_or, true, false}
+use Rattle.std.proofs.Common.{sym, arith, length, get_or}
 use Rattle.std.specs.Prelude.{◌==◌}
 use Rattle.std.proofs.lemmas.Bool.{eq-eqb}
 use Rattle.std.proofs.lemmas.List.Sums.{position_or_len_is}

@@ -1,5 +1,5 @@
 -- The parts of a line, one behind another.
-use Rattle.std.proofs.Common.{◌≡◌, ℕ, Bool, List, [], ◌∷◌, ◌++◌, sym, ap, ◌∙◌, append_assoc}
+use Rattle.std.proofs.Common.{◌≡◌, ℕ, Bool, [], ◌∷◌, ◌++◌, sym, ◌∙◌, append_assoc}
 use Rattle.hex_core.specs.Text.{text}
 use Rattle.hex_format.proofs.PutsLemmas.{Puts-err, Puts-then, Stops-stop, Stops-then}
 use Rattle.hex_lists.specs.declared.digests.Entry.{Entry}

@@ -1,0 +1,24 @@
+-- Facts on digest lists that the definitions imply.
+use Rattle.std.specs.Prelude.{◌≡◌, ℕ, Bool, List, length, None}
+use Rattle.std.specs.List.{AllByRecursion}
+use Rattle.hex_core.specs.declared.digit.CheckCase.{CheckCase}
+use Rattle.hex_core.specs.declared.digit.CheckCase.TheVariants as policy
+use Rattle.hex_core.specs.Digit.{strict}
+use Rattle.hex_core.specs.Laws.{AreBytes}
+use Rattle.hex_lists.specs.declared.digests.Entry.{Entry}
+use Rattle.hex_lists.specs.declared.digests.LineFault.{LineFault}
+use Rattle.hex_lists.specs.Lists.{FirstFault, Lists, first_bad_name, list_of}
+
+-- an entry's digest is one of N bytes, as that of each entry in a program is
+abbrev pub HasDigest : {N : ℕ} → Entry N → Type 0
+HasDigest {N} e = (length e.digest ≡ N) × AreBytes e.digest
+
+-- the list of some entries, none of which has a bad name, is read as the same entries, under the
+-- strict policy of its digits' case and under either case
+abbrev pub ReadingInvertsWriting : Type 0
+ReadingInvertsWriting = (N : ℕ) (upper : Bool) (entries : List (Entry N)) → AllByRecursion HasDigest entries → first_bad_name entries ≡ None
+    → Lists (strict upper) (list_of upper entries) entries × Lists policy.None (list_of upper entries) entries
+
+-- a source that has a line with a fault is the list of no entries
+abbrev pub FaultyListsNothing : Type 0
+FaultyListsNothing = (N : ℕ) (c : CheckCase) (s : List ℕ) (line : ℕ) (why : LineFault) (entries : List (Entry N)) → FirstFault c N s line why → Lists c s entries → ⊥
