@@ -1,10 +1,54 @@
 //! The end of a line.
 
-ghost use Rattle.std.specs.Prelude.{◌≡◌, ◌==◌};
+ghost use Rattle.std.specs.Prelude.{◌≡◌, ◌==◌, ◌+◌, ◌≤◌, length, map};
 ghost use Rattle.std.specs.List.{position_or_len};
+ghost use Rattle.std.specs.Simd.Lanes.{chunk, mask_l};
+
+use std::simd::prelude::*;
+
+// How many bytes are looked at at a time.
+const BLOCK: usize = 16;
 
 /// Returns where the first line of a source ends: at its newline, or at the end.
 pub fn line_end(src: &[u8]) -> usize
+    ensures { result ≡ position_or_len (λ b. b == 10) src.now }
+{
+    let whole = src.len() / BLOCK;
+    'turns: for i in 0..whole {
+        let before = before_newline(src, BLOCK * i);
+        if before < BLOCK {
+            return BLOCK * i + before;
+        }
+    }
+    let done = BLOCK * whole;
+    done + line_end_by_bytes(&src[done..])
+}
+
+// A mask whose bit i says whether lane i is a newline.
+#[inline(always)]
+fn newline_bits<const N: usize>(block: Simd<u8, N>) -> u64
+    requires { N ≤ 64 }
+    ensures { result ≡ mask_l (map (λ b. b == 10) block.entry) }
+{
+    block.simd_eq(Simd::splat(b'\n')).to_bitmask()
+}
+
+// How many bytes of the block at a place stand before its first newline: all where it has none.
+#[inline(always)]
+fn before_newline(src: &[u8], at: usize) -> usize
+    requires { at + BLOCK ≤ length src.now }
+    ensures { result ≡ position_or_len (λ b. b == 10) (chunk at BLOCK src.now) }
+{
+    let newlines = newline_bits(u8x16::from_slice(&src[at..]));
+    if newlines == 0 {
+        BLOCK
+    } else {
+        newlines.trailing_zeros() as usize
+    }
+}
+
+// The same as `line_end`, a byte at a time.
+fn line_end_by_bytes(src: &[u8]) -> usize
     ensures { result ≡ position_or_len (λ b. b == 10) src.now }
 {
     'bytes: for i in 0..src.len() {

@@ -1,7 +1,7 @@
--- No newline stands before the place.
-use Rattle.std.proofs.Common.{◌≡◌, ◌<◌, ℕ, false, slice_index}
+-- No newline stands in the blocks so far.
+use Rattle.std.proofs.Common.{◌≡◌, ◌<◌, ◌*◌, ℕ, false, slice_index}
 use Rattle.std.specs.Prelude.{◌==◌}
 use Rattle.hex_lists.proofs.lines.line_end.Given as goal
 
-abbrev pub invariant-bytes : goal.invariant-bytes
-invariant-bytes l = (k : ℕ) → k < l.i → (slice_index l.src k == 10) ≡ false
+abbrev pub invariant-turns : goal.invariant-turns
+invariant-turns l = (k : ℕ) → k < 16 * l.i → (slice_index l.src k == 10) ≡ false
