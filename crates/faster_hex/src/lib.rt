@@ -31,3 +31,4 @@ pub use hex_json::{
     option_nopfx_uppercase, option_withpfx_ignorecase, option_withpfx_lowercase,
     option_withpfx_uppercase, serialize, withpfx_ignorecase, withpfx_lowercase, withpfx_uppercase,
 };
+pub use hex_lists::digests;
