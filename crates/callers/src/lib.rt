@@ -17,6 +17,7 @@ use hex_core::laws::{
     an_invalid_char_is_the_first_invalid_byte, the_first_invalid_byte_is_the_first,
 };
 
+pub mod digest_lists;
 pub mod dumps;
 pub mod json;
 pub mod probes;

@@ -27,6 +27,8 @@ mod lane_rows;
 #[cfg(test)]
 mod limited_sink;
 #[cfg(test)]
+mod list_rows;
+#[cfg(test)]
 mod owned_plan_rows;
 #[cfg(test)]
 mod owned_rows;
