@@ -5,6 +5,8 @@
 pub mod failure;
 pub mod input;
 pub mod operation;
+mod plain_run;
+pub mod plain_vectors;
 pub mod program;
 pub mod vector_run;
 pub mod vectors;
@@ -12,6 +14,7 @@ pub mod vectors;
 pub use crate::failure::Failure;
 pub use crate::input::{INPUT_LIMIT, read_input};
 pub use crate::operation::{Op, RunFault, run};
+pub use crate::plain_vectors::{PLAIN_VECTORS, PlainVector, Statement};
 pub use crate::program::{refuse, serve, serve_vectors};
-pub use crate::vector_run::{Codec, run_vectors, run_vectors_under};
+pub use crate::vector_run::{Codec, VectorFault, run_vectors, run_vectors_under};
 pub use crate::vectors::{Call, VECTORS, Vector};

@@ -8,7 +8,8 @@ ghost use Rattle.hex_program.specs.Serving.{Serves, ServesOp};
 use crate::failure::Failure;
 use crate::input::read_input;
 use crate::operation::{Op, RunFault, run_in};
-use crate::vector_run::run_vectors;
+use crate::plain_vectors::{PLAIN_VECTORS, PlainVector};
+use crate::vector_run::{VectorFault, run_vectors};
 use crate::vectors::{VECTORS, Vector};
 use arrayvec::ArrayString;
 use hex_format::WriterSink;
@@ -80,28 +81,42 @@ fn serve_op<A: Allocator, R: Read, W: Write>(
 }
 
 // Runs stored vectors, which reads no input, and returns how many failed.
-fn check_vectors<W: Write>(table: &[Vector], out: W) -> (Result<usize, Failure>, W)
-    ensures { IfErr result.0 (λ failure. failure ≡ Failure.WriteFailed) }
+fn check_vectors<A: Allocator, W: Write>(
+    alloc: &A,
+    table: &[Vector],
+    plain: &[PlainVector],
+    out: W,
+) -> (Result<usize, Failure>, W)
+    ensures { IfErr result.0 (λ failure. (failure ≡ Failure.WriteFailed) ⊎ (failure ≡ Failure.OutOfMemory)) }
 {
     let mut sink = WriterSink::new(out);
-    let ran = run_vectors(table, &mut sink);
+    let ran = run_vectors(alloc, table, plain, &mut sink);
     let mut out = sink.into_inner();
     let ended = match ran {
         Ok(failed) if out.flush().is_ok() => Ok(failed),
+        Err(VectorFault::OutOfMemory) => Err(Failure::OutOfMemory),
         _ => Err(Failure::WriteFailed),
     };
     (ended, out)
 }
 
-/// Runs stored vectors under each plan, writes a line each and the totals to `out`, flushes it and
-/// returns the exit status: 0 where none failed, else 1.
+/// Runs stored vectors, those of `table` under each plan and those of `plain` once, writes a line
+/// each and the totals to `out`, flushes it and returns the exit status: 0 where none failed, else
+/// 1.
 ///
-/// A failed write or flush is status 3, and `write failed` goes to `err`.
-pub fn serve_vectors<W: Write, E: Write>(table: &[Vector], out: W, err: E) -> (u8, W, E)
+/// A failed write or flush is status 3, and `write failed` goes to `err`; want of memory for a vector
+/// is status 3 likewise, and `out of memory`.
+pub fn serve_vectors<A: Allocator, W: Write, E: Write>(
+    alloc: &A,
+    table: &[Vector],
+    plain: &[PlainVector],
+    out: W,
+    err: E,
+) -> (u8, W, E)
     ensures { (result.0 ≡ 0) ⊎ (result.0 ≡ 1) ⊎ (result.0 ≡ 3) }
 {
     let mut err = err;
-    match check_vectors(table, out) {
+    match check_vectors(alloc, table, plain, out) {
         (Ok(0), out) => (0, out, err),
         (Ok(_), out) => (1, out, err),
         (Err(failure), out) => (refuse(&mut err, failure), out, err),
@@ -122,7 +137,7 @@ pub fn serve_in<A: Allocator, R: Read, W: Write, E: Write>(
     let mut err = err;
     let Some(op) = Op::from_words(words) else {
         return match words {
-            ["vectors"] => serve_vectors(&VECTORS, out, err),
+            ["vectors"] => serve_vectors(alloc, &VECTORS, &PLAIN_VECTORS, out, err),
             _ => (refuse(&mut err, Failure::Usage), out, err),
         };
     };

@@ -1,22 +1,25 @@
-//! The run of stored vectors under each plan, or under other codecs that are handed in, which puts a
-//! line each and their totals.
+//! The run of stored vectors under each plan, or under other codecs that are handed in, and of those
+//! that name no plan, which puts a line each and their totals.
 
-ghost use Rattle.std.specs.Prelude.{◌≡◌, ◌<◌, ◌≤◌, ◌-◌, ◌*◌, ◌^◌, ◌↔◌, length, IfOk, IsTrue, MatchResult, IsOkAnd, IsErrAnd, OnOk};
+ghost use Rattle.std.specs.Prelude.{◌≡◌, ◌<◌, ◌≤◌, ◌+◌, ◌-◌, ◌*◌, ◌^◌, ◌↔◌, length, IfOk, IsTrue, MatchResult, IsOkAnd, IsErrAnd, OnOk};
 ghost use Rattle.hex_core.specs.Calls.{DecodesFront, EncodesFront};
 ghost use Rattle.hex_core.specs.Plans.{name_of};
 ghost use Rattle.hex_program.specs.Vectors.{AreFill, HoldsOverFill};
 
+use crate::plain_run::run_plain;
+use crate::plain_vectors::PlainVector;
 use crate::vectors::{Call, Vector};
 use arrayvec::ArrayString;
 use hex_core::{Backend, CheckCase, Error, backends};
 use hex_format::{Sink, WriteFault, put_all};
+use std::alloc::Allocator;
 use std::fmt::Write;
 
-// What stands in a destination before a call.
-const FILL: u8 = 0xa5;
+/// What stands in a destination before a call.
+pub const FILL: u8 = 0xa5;
 
-// The longest destination, in bytes.
-const LONGEST: usize = 128;
+/// The longest destination, in bytes.
+pub const LONGEST: usize = 128;
 
 /// What vectors are run under: a name, and two calls that may do anything. Each plan is one, by
 /// its calls `encode_slice` and `decode_slice`.
@@ -89,8 +92,8 @@ impl Codec for Backend {
     }
 }
 
-// Whether every byte is what a destination is filled with.
-fn is_fill(bytes: &[u8]) -> bool
+/// Whether every byte is what a destination is filled with.
+pub fn is_fill(bytes: &[u8]) -> bool
     ensures { IsTrue result ↔ AreFill bytes.now }
 {
     bytes.iter().all(|&byte| byte == FILL)
@@ -176,8 +179,8 @@ fn put_totals<S: Sink>(
     put_texts(sink, &texts)
 }
 
-// Puts the line of a vector.
-fn put_line<S: Sink>(sink: &mut S, under: &str, name: &str, passed: bool) -> Result<(), WriteFault>
+/// Puts the line of a vector.
+pub fn put_line<S: Sink>(sink: &mut S, under: &str, name: &str, passed: bool) -> Result<(), WriteFault>
     requires { (S.state sink.old).failures < 2 ^ 64 - 1 }
     ensures { OnOk result ((S.state sink.new).failures ≡ (S.state sink.old).failures) }
 {
@@ -202,6 +205,24 @@ fn run_under<C: Codec, S: Sink>(
         if !passed {
             failed += 1;
         }
+    }
+    Ok(failed)
+}
+
+// Runs each vector under each codec, puts a line each, and returns how many failed.
+fn run_codecs<C: Codec, S: Sink>(
+    codecs: &[C],
+    table: &[Vector],
+    sink: &mut S,
+) -> Result<usize, WriteFault>
+    requires countable { length codecs.now * length table.now < 2 ^ 64 }
+    requires room { (S.state sink.old).failures < 2 ^ 64 - 1 }
+    ensures failed { IfOk result (λ failed. failed ≤ length codecs.now * length table.now) }
+    ensures counted { OnOk result ((S.state sink.new).failures ≡ (S.state sink.old).failures) }
+{
+    let mut failed = 0;
+    'codecs: for codec in codecs {
+        failed += run_under(codec, table, sink)?;
     }
     Ok(failed)
 }
@@ -233,31 +254,58 @@ pub fn run_vectors_under<C: Codec, S: Sink>(
     ensures failed { IfOk result (λ failed. failed ≤ length codecs.now * length table.now) }
     ensures counted { OnOk result ((S.state sink.new).failures ≡ (S.state sink.old).failures) }
 {
+    let failed = run_codecs(codecs, table, sink)?;
     let total = codecs.len() * table.len();
-    let mut failed = 0;
-    'codecs: for codec in codecs {
-        failed += run_under(codec, table, sink)?;
-    }
     put_totals(sink, total, total - failed, failed)?;
     Ok(failed)
 }
 
-/// [`run_vectors_under`] each plan, in the order of [`backends`].
+/// Why a run of stored vectors ended early.
+#[derive(Clone, Copy, Debug, PartialEq, Eq)]
+pub enum VectorFault {
+    /// A put failed.
+    Write(WriteFault),
+    /// A vector could not be run for want of memory.
+    OutOfMemory,
+}
+
+/// Runs each vector of `table` under each plan, in the order of [`backends`], and each of `plain`
+/// once, and puts a line each, as [`run_vectors_under`] does. The last line has the totals of all.
+/// Returns how many failed.
+///
+/// Memory is taken for a list that a vector of `plain` reads, and for nothing else.
 ///
 /// # Errors
 ///
-/// [`WriteFault`] where a put failed, which ends the run.
+/// - [`VectorFault::Write`] where a put failed, which ends the run;
+/// - [`VectorFault::OutOfMemory`] where a vector could not be run for want of memory, which ends it
+///   before that vector's line.
 ///
 /// ```rust
 /// let mut buffer = [0; 2048];
 /// let mut sink = SliceSink::new(&mut buffer);
-/// assert_eq!(rt; run_vectors(&VECTORS, &mut sink), Ok(0));
-/// assert!(rt; sink.written().starts_with(b"scalar v01 pass\n"));
+/// assert_eq!(rt; run_vectors(&rt.alloc(), &VECTORS, &PLAIN_VECTORS, &mut sink), Ok(0));
+/// assert!(rt; sink.written().ends_with(b"plain v20 pass\ntotal 84 passed 84 failed 0\n"));
 /// ```
-pub fn run_vectors<S: Sink>(table: &[Vector], sink: &mut S) -> Result<usize, WriteFault>
+pub fn run_vectors<A: Allocator, S: Sink>(
+    alloc: &A,
+    table: &[Vector],
+    plain: &[PlainVector],
+    sink: &mut S,
+) -> Result<usize, VectorFault>
     requires { (S.state sink.old).failures < 2 ^ 64 - 1 }
-    ensures failed { IfOk result (λ failed. failed ≤ 5 * length table.now) }
+    ensures failed { IfOk result (λ failed. failed ≤ 5 * length table.now + length plain.now) }
     ensures counted { OnOk result ((S.state sink.new).failures ≡ (S.state sink.old).failures) }
 {
-    run_vectors_under(&backends(), table, sink)
+    let plans = backends();
+    let of_plans = match run_codecs(&plans, table, sink) {
+        Ok(failed) => failed,
+        Err(fault) => return Err(VectorFault::Write(fault)),
+    };
+    let failed = of_plans + run_plain(alloc, plain, sink)?;
+    let total = plans.len() * table.len() + plain.len();
+    match put_totals(sink, total, total - failed, failed) {
+        Ok(()) => Ok(failed),
+        Err(fault) => Err(VectorFault::Write(fault)),
+    }
 }

@@ -1,8 +1,8 @@
 -- At most each vector has failed under each codec so far, and no put has.
 use Rattle.std.proofs.Common.{◌≡◌, ◌≤◌, ◌*◌, length}
-use Rattle.hex_program.proofs.vector_run.run_vectors_under.Given as goal
+use Rattle.hex_program.proofs.vector_run.run_codecs.Given as goal
 
 abbrev pub invariant-codecs : goal.invariant-codecs
 invariant-codecs g l =
-    (l.total ≡ length l.codecs * length l.table) × (l.failed ≤ l.codec-index * length l.table)
+    (l.failed ≤ l.codec-index * length l.table)
     × ((g.S.Sink.state l.sink).failures ≡ (g.S.Sink.state l.initial.sink).failures)
