@@ -25,6 +25,9 @@ for plan in scalar sse41 avx2 avx512 neon; do
         lines="$lines$plan v$vector pass\\n"
     done
 done
+for vector in 17 18 19 20; do
+    lines="${lines}plain v$vector pass\\n"
+done
 
 # Counts a run, by what it is called, the wanted status and its own, and by the files that it wrote.
 count() {
@@ -58,7 +61,7 @@ run 0 '00aBcD\n' '\000\253\315' '' decode
 run 0 '' '' '' decode
 run 0 '00ab' '\000\253' '' decode-lower
 run 0 '00AB' '\000\253' '' decode-upper
-run 0 'not read' "${lines}total 80 passed 80 failed 0\\n" '' vectors
+run 0 'not read' "${lines}total 84 passed 84 failed 0\\n" '' vectors
 
 # Refused inputs.
 run 1 '0g' '' 'invalid hex byte 0x67 at index 1\n' decode

@@ -8,6 +8,8 @@ mod faults;
 #[cfg(test)]
 mod limit;
 #[cfg(test)]
+mod plain_vectors;
+#[cfg(test)]
 mod rows;
 #[cfg(test)]
 mod runs;

@@ -23,9 +23,15 @@ fn the_stored_vectors_pass_under_each_plan(rt: HostRuntime) {
     let lines = out.iter().filter(|&&byte| byte == b'\n').count();
     assert_eq!(rt; status, 0);
     assert_eq!(rt; err.len(), 0);
-    assert_eq!(rt; lines, 81);
+    assert_eq!(rt; lines, 85);
     assert!(rt; out.starts_with(b"scalar v01 pass\nscalar v02 pass\n"));
-    assert!(rt; out.ends_with(b"neon v16 pass\ntotal 80 passed 80 failed 0\n"));
+    assert!(rt;
+        out.ends_with(
+            b"neon v16 pass\n\
+        plain v17 pass\nplain v18 pass\nplain v19 pass\nplain v20 pass\n\
+        total 84 passed 84 failed 0\n"
+        )
+    );
     assert_eq!(rt; input.left, 9, "what is left of the input");
 }
 
@@ -97,7 +103,13 @@ fn a_wrong_vector_fails(rt: HostRuntime) {
             },
             SOUND,
         ];
-        let (status, out, err) = serve_vectors(&table, Vec::new(rt.alloc()), Vec::new(rt.alloc()));
+        let (status, out, err) = serve_vectors(
+            &rt.alloc(),
+            &table,
+            &[],
+            Vec::new(rt.alloc()),
+            Vec::new(rt.alloc()),
+        );
         assert_eq!(rt; status, 1, "status of the wrong vector {place}");
         assert_eq!(rt; err.len(), 0, "message of the wrong vector {place}");
         assert_eq!(rt;
@@ -116,7 +128,13 @@ fn a_wrong_vector_fails(rt: HostRuntime) {
 
 #[test]
 fn no_vectors_are_a_line_of_totals(rt: HostRuntime) {
-    let (status, out, err) = serve_vectors(&[], Vec::new(rt.alloc()), Vec::new(rt.alloc()));
+    let (status, out, err) = serve_vectors(
+        &rt.alloc(),
+        &[],
+        &[],
+        Vec::new(rt.alloc()),
+        Vec::new(rt.alloc()),
+    );
     assert_eq!(rt; status, 0);
     assert_eq!(rt; err.len(), 0);
     assert_eq!(rt; out.as_slice(), b"total 0 passed 0 failed 0\n".as_slice());
@@ -259,7 +277,13 @@ fn a_line_of_a_long_name_is_put_whole(rt: HostRuntime) {
                has, which are about one hundred and twenty-eight at the very most",
         ..SOUND
     }];
-    let (status, out, err) = serve_vectors(&table, Vec::new(rt.alloc()), Vec::new(rt.alloc()));
+    let (status, out, err) = serve_vectors(
+        &rt.alloc(),
+        &table,
+        &[],
+        Vec::new(rt.alloc()),
+        Vec::new(rt.alloc()),
+    );
     assert_eq!(rt; status, 0);
     assert_eq!(rt; err.len(), 0);
     assert!(rt; out.starts_with(b"scalar a name of a vector that has by itself more bytes"));
