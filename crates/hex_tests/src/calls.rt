@@ -3,9 +3,11 @@
 ghost use Rattle.std.specs.Prelude.{◌<◌};
 
 use crate::rules::{FILL, array_held, held, is_filled, seen};
+use faster_hex::grouped::{GroupFault, read, read_into};
 use faster_hex::{
-    hex_decode, hex_decode_array, hex_decode_array_with_case, hex_decode_into, hex_decode_vec,
-    hex_decode_vec_with_case, hex_decode_with_case, hex_encode, hex_encode_into, hex_encode_upper,
+    Group, hex_decode, hex_decode_array, hex_decode_array_with_case, hex_decode_into,
+    hex_decode_vec, hex_decode_vec_with_case, hex_decode_with_case, hex_encode, hex_encode_into,
+    hex_encode_upper,
 };
 use hex_core::{Backend, CheckCase, Error};
 use std::alloc::Global;
@@ -201,4 +203,61 @@ pub fn reads_owned_under<const N: usize>(
     requires { N < 10000 }
 {
     reads_array_under::<N>(src, case, want) && reads_vector_under(alloc, src, case, want)
+}
+
+/// What reading a grouped text answers: the bytes that it spells, or the refusal.
+pub type Reading<'a> = Result<&'a [u8], GroupFault>;
+
+/// The calls that read a grouped text, `read` and `read_into`, under one group and one policy.
+#[derive(Clone, Copy)]
+pub struct Reader {
+    /// The group of the texts.
+    pub group: Group,
+    /// The policy under which digits are read.
+    pub case: CheckCase,
+}
+
+impl Reader {
+    fn lends<const N: usize>(self, src: &[u8], room: usize, want: Reading<'_>) -> bool
+        requires { N < 10000 }
+    {
+        let mut buffer = [FILL; N];
+        let Some(dst) = buffer.get_mut(..room) else {
+            return false;
+        };
+        let is_answered = match (read(src, dst, self.group, self.case), want) {
+            (Ok(front), Ok(bytes)) => *front == *bytes,
+            (Err(fault), Err(refusal)) => fault == refusal,
+            _ => false,
+        };
+        is_answered && leaves_front(&buffer, want)
+    }
+
+    fn counts<const N: usize>(self, src: &[u8], room: usize, want: Reading<'_>) -> bool
+        requires { N < 10000 }
+    {
+        let mut buffer = [FILL; N];
+        let Some(dst) = buffer.get_mut(..room) else {
+            return false;
+        };
+        let is_answered = match (read_into(src, dst, self.group, self.case), want) {
+            (Ok(count), Ok(bytes)) => count == bytes.len(),
+            (Err(fault), Err(refusal)) => fault == refusal,
+            _ => false,
+        };
+        is_answered && leaves_front(&buffer, want)
+    }
+
+    /// Whether both calls answer so into `room` bytes of a filled buffer, and leave nothing in the
+    /// buffer but the answer.
+    pub fn reads<const N: usize>(self, src: &[u8], room: usize, want: Reading<'_>) -> bool
+        requires { N < 10000 }
+    {
+        self.lends::<N>(src, room, want) && self.counts::<N>(src, room, want)
+    }
+}
+
+// Whether a buffer begins with the bytes that were read, if any, and is else as it was filled.
+fn leaves_front(buffer: &[u8], answer: Reading<'_>) -> bool {
+    leaves(buffer, answer.unwrap_or_default())
 }

@@ -21,6 +21,8 @@ mod format_rows;
 #[cfg(test)]
 mod generator;
 #[cfg(test)]
+mod grouped_reading;
+#[cfg(test)]
 mod grouped_rows;
 #[cfg(test)]
 mod lane_rows;

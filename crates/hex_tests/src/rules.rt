@@ -2,7 +2,9 @@
 
 ghost use Rattle.std.specs.Prelude.{◌<◌};
 
-use faster_hex::{Align, HexFlags};
+use crate::calls::Reading;
+use faster_hex::grouped::GroupFault;
+use faster_hex::{Align, Group, HexFlags};
 use hex_core::{CheckCase, Error};
 use std::alloc::{AllocError, Allocator, Global};
 use std::mem;
@@ -281,4 +283,71 @@ pub fn padded_by_rule(
     append_copies(&mut text, digits, 1)?;
     append_copies(&mut text, fill, behind)?;
     Ok(text)
+}
+
+/// Whether a separator stands at this place of a text whose pieces have so many bytes.
+pub fn is_separator_place(place: usize, every: usize) -> bool {
+    let digits = every.saturating_mul(2);
+    place % digits.saturating_add(1) == digits
+}
+
+/// How many bytes have a grouped text of this length: the number whose digits and separators are as
+/// many.
+pub fn count_by_rule(len: usize, every: usize) -> Option<usize>
+    requires { 0 < every }
+{
+    for count in 0..=len {
+        let separators = count.div_ceil(every).saturating_sub(1);
+        if count.saturating_mul(2).saturating_add(separators) == len {
+            return Some(count);
+        }
+    }
+    None
+}
+
+/// The first byte of a grouped text that is wrong at its place, with the place.
+pub fn first_wrong(src: &[u8], group: Group, case: CheckCase) -> Option<(usize, u8)> {
+    for (place, byte) in src.iter().enumerate() {
+        let is_right = if is_separator_place(place, group.every()) {
+            *byte == group.sep()
+        } else {
+            value(*byte, case).is_some()
+        };
+        if !is_right {
+            return Some((place, *byte));
+        }
+    }
+    None
+}
+
+/// The digits of a grouped text.
+pub fn digits_by_rule(alloc: Global, src: &[u8], every: usize) -> Result<Vec<u8>, AllocError> {
+    let mut digits = Vec::new(alloc);
+    for (place, byte) in src.iter().enumerate() {
+        if !is_separator_place(place, every) {
+            digits.push(*byte)?;
+        }
+    }
+    Ok(digits)
+}
+
+/// What reading a grouped text with these digits answers into this destination, which then holds the
+/// answer.
+pub fn read_by_rule<'a>(
+    src: &[u8],
+    digits: &[u8],
+    dst: &'a mut [u8],
+    group: Group,
+    case: CheckCase,
+) -> Reading<'a> {
+    let Some(required) = count_by_rule(src.len(), group.every()) else {
+        return Err(GroupFault::BadLength);
+    };
+    if dst.len() < required {
+        return Err(GroupFault::OutputTooSmall { required });
+    }
+    match first_wrong(src, group, case) {
+        Some((index, byte)) => Err(GroupFault::InvalidByte { index, byte }),
+        None => Ok(front_by_rule(digits, dst, case)),
+    }
 }
