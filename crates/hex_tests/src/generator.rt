@@ -108,6 +108,15 @@ impl Generator {
         }
     }
 
+    // Damage that often leaves a text as long as it was, and sometimes as it was.
+    fn group_damage(&mut self) -> Damage {
+        Damage {
+            place: self.number() as usize,
+            byte: self.byte_of(b":-. x0aAg\xff"),
+            cut: self.below(16).saturating_sub(12),
+        }
+    }
+
     // Flags of the text of so many bytes, whose width is now below and now above its length.
     fn flags(&mut self, len: usize) -> HexFlags
         requires { len ≤ 300 }
@@ -126,6 +135,17 @@ impl Generator {
     }
 }
 
+/// How a grouped text is damaged: a byte is put at one of its places, and its end is cut off.
+#[derive(Clone, Copy)]
+pub struct Damage {
+    /// A number whose remainder by the text's length is the place.
+    pub place: usize,
+    /// The byte that is put there.
+    pub byte: u8,
+    /// How many bytes are cut off.
+    pub cut: usize,
+}
+
 /// An input that a test gives to every plan and call.
 #[derive(Drop)]
 pub struct Input {
@@ -141,6 +161,10 @@ pub struct Input {
     pub text_room: usize,
     /// How long a sink of the padded text is.
     pub sink_room: usize,
+    /// How the grouped text is damaged before it is read.
+    pub damage: Damage,
+    /// How long a destination of that text's bytes is.
+    pub group_room: usize,
 }
 
 impl Input {
@@ -166,6 +190,8 @@ impl Input {
             flags,
             text_room: random.room_for(2 * len),
             sink_room: random.room_for(padding.min(900) + 3 * len + 3),
+            damage: random.group_damage(),
+            group_room: random.room_for(len),
         }
     }
 

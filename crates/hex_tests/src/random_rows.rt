@@ -1,19 +1,22 @@
 //! Inputs that look random: every plan, and the calls that name none, against the rules.
 
-use crate::calls::{Decoder, Encoder, decodes_into, encodes_into, leaves, reads_vector_under};
+use crate::calls::{
+    Decoder, Encoder, Reader, decodes_into, encodes_into, leaves, reads_vector_under,
+};
 use crate::format_rows::write_hex;
 use crate::generator::Input;
 use crate::grouped_rows::grouped_by_rule;
 use crate::plan_rows::plan_that_locates_otherwise;
 use crate::rules::{
-    FILL, decode_by_rule, first_invalid, padded_by_rule, search_by_rule, text_of, too_small,
+    FILL, decode_by_rule, digits_by_rule, first_invalid, padded_by_rule, read_by_rule,
+    search_by_rule, strict, swapped, text_of, too_small,
 };
 use crate::whole_calls::plan_that_differs;
 use faster_hex::{
-    CheckCase, HexFlags, Sink, SinkFault, SliceSink, WriteFault, hex_check_with_case,
+    CheckCase, Group, HexFlags, Sink, SinkFault, SliceSink, WriteFault, hex_check_with_case,
 };
 use hex_core::backends;
-use std::alloc::Global;
+use std::alloc::{AllocError, Global};
 use std::test::Fail;
 
 // The plan that searches a source for its first invalid byte otherwise, or in more or fewer steps.
@@ -91,6 +94,37 @@ fn fills(list: &[u8], flags: &HexFlags, text: &[u8], room: usize) -> bool {
     is_taken && leaves(&buffer, taken)
 }
 
+// Digits without separators are one piece.
+fn group_of(flags: &HexFlags) -> Option<Group> {
+    flags.group.or(Group::new(usize::MAX, b':'))
+}
+
+// Whether the grouped text of a list is read back, under the policy of its letters.
+fn reads_back(list: &[u8], flags: &HexFlags, text: &[u8]) -> bool {
+    let Some(group) = group_of(flags) else {
+        return false;
+    };
+    let case = strict(flags.upper);
+    Reader { group, case }.reads::<308>(text, list.len(), Ok(list))
+}
+
+// Whether a grouped text is read as the rules say once it is damaged.
+fn reads_damaged(alloc: Global, input: &Input, text: &mut [u8]) -> Result<bool, AllocError> {
+    let (damage, case) = (input.damage, input.case);
+    let Some(group) = group_of(&input.flags) else {
+        return Ok(false);
+    };
+    let place = damage.place.checked_rem(text.len()).unwrap_or(0);
+    swapped(text, place, damage.byte);
+    let left = text.len().saturating_sub(damage.cut);
+    let src = text.get(..left).unwrap_or_default();
+    let digits = digits_by_rule(alloc, src, group.every())?;
+    let mut after = [FILL; 308];
+    let dst = after.get_mut(..input.group_room).unwrap_or_default();
+    let want = read_by_rule(src, &digits, dst, group, case);
+    Ok(Reader { group, case }.reads::<308>(src, input.group_room, want))
+}
+
 #[test]
 fn random_inputs_are_answered_by_the_rules(rt: HostRuntime) -> Result<(), Fail> {
     let alloc = rt.alloc();
@@ -98,7 +132,7 @@ fn random_inputs_are_answered_by_the_rules(rt: HostRuntime) -> Result<(), Fail> 
         let input = Input::from_seed(seed);
         let (src, case, flags) = (input.source(), input.case, input.flags);
         let text = text_of(alloc, src, flags.upper)?;
-        let grouped = grouped_by_rule(alloc, &text, flags.group)?;
+        let mut grouped = grouped_by_rule(alloc, &text, flags.group)?;
         let padded = padded_by_rule(alloc, &grouped, &flags)?;
         assert_eq!(rt; plan_that_differs(src, case), None, "seed {seed}");
         assert_eq!(rt; search_that_differs(src, case), None, "seed {seed}");
@@ -114,6 +148,8 @@ fn random_inputs_are_answered_by_the_rules(rt: HostRuntime) -> Result<(), Fail> 
         );
         assert!(rt; reads_by_rule(alloc, src, case), "seed {seed}");
         assert!(rt; fills(src, &flags, &padded, input.sink_room), "seed {seed}");
+        assert!(rt; reads_back(src, &flags, &grouped), "seed {seed}");
+        assert!(rt; reads_damaged(alloc, &input, &mut grouped)?, "seed {seed}");
     }
     Ok(())
 }
