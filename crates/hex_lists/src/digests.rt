@@ -68,10 +68,14 @@ pub enum ListFault {
 ///   the entry's line was read without a fault.
 ///
 /// ```rust
-/// let entries = read::<2>(rt.alloc(), b"ab01  a.txt\nCD02 *b\n", CheckCase::None)?;
+/// let list = b"ab01  a.txt\nCD02 *b\n";
+/// let entries = read::<2>(rt.alloc(), list, CheckCase::None).map_err(|_| "no list")?;
 /// assert_eq!(rt; entries.len(), 2);
 /// assert_eq!(rt; entries[1].digest, [0xcd, 2]);
-/// assert_eq!(rt; entries[1].name, b"b");
+/// assert_eq!(rt; entries[1].name, b"b".as_slice());
+/// let refused = read::<2>(rt.alloc(), list, CheckCase::Lower);
+/// let why = LineFault::InvalidByte { index: 0, byte: b'C' };
+/// assert_eq!(rt; refused.err(), Some(ListFault::Line { line: 2, why }));
 /// ```
 pub fn read<'a, const N: usize>(
     alloc: Global,
@@ -90,8 +94,8 @@ pub fn read<'a, const N: usize>(
 /// Those of [`read`], at the same events.
 ///
 /// ```rust
-/// let entries = read_in::<_, 0>(rt.alloc(), b"  x", CheckCase::None)?;
-/// assert_eq!(rt; entries[0].name, b"x");
+/// let entries = read_in::<_, 0>(rt.alloc(), b"  x", CheckCase::None).map_err(|_| "no list")?;
+/// assert_eq!(rt; entries[0].name, b"x".as_slice());
 /// ```
 pub fn read_in<'a, A: Allocator + Drop, const N: usize>(
     alloc: A,

@@ -44,7 +44,7 @@ pub enum ListWriteFault {
 /// let mut sink = SliceSink::new(&mut buffer);
 /// let entry = Entry { digest: [0xab, 1], binary: true, name: b"b" };
 /// assert_eq!(rt; write_to(&[entry], &mut sink, true), Ok(()));
-/// assert_eq!(rt; sink.written(), b"AB01 *b\n");
+/// assert_eq!(rt; sink.written(), b"AB01 *b\n".as_slice());
 /// ```
 pub fn write_to<S: Sink, const N: usize>(
     entries: &[Entry<'_, N>],
