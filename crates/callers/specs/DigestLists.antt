@@ -1,5 +1,5 @@
 -- The names that a list has for a digest.
-use Rattle.std.specs.Prelude.{◌≡◌, ◌<◌, ◌==◌, ℕ, List, length, nat_eq, Option, Some, None, if◌then◌else◌, Result, MatchResult, vec_items}
+use Rattle.std.specs.Prelude.{◌≡◌, ◌<◌, ℕ, List, length, nat_eq, Option, Some, None, if◌then◌else◌, Result, MatchResult, vec_items}
 use Rattle.std.specs.Borrow.{Bor}
 use Rattle.std.specs.List.{filter_map}
 use Rattle.std.specs.Cmp.Lexicographic.{pointwise}

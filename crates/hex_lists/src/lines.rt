@@ -7,7 +7,7 @@ ghost use Rattle.std.specs.Simd.Lanes.{chunk, mask_l};
 use std::simd::prelude::*;
 
 // How many bytes are looked at at a time.
-const BLOCK: usize = 16;
+const BLOCK: usize = 32;
 
 /// Returns where the first line of a source ends: at its newline, or at the end.
 pub fn line_end(src: &[u8]) -> usize
@@ -39,7 +39,7 @@ fn before_newline(src: &[u8], at: usize) -> usize
     requires { at + BLOCK ≤ length src.now }
     ensures { result ≡ position_or_len (λ b. b == 10) (chunk at BLOCK src.now) }
 {
-    let newlines = newline_bits(u8x16::from_slice(&src[at..]));
+    let newlines = newline_bits(u8x32::from_slice(&src[at..]));
     if newlines == 0 {
         BLOCK
     } else {

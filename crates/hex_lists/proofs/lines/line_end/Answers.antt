@@ -26,17 +26,17 @@ behind s at inside before =
 
 pub returns-then-before-lt-BLOCK : goal.returns-then-before-lt-BLOCK
 returns-then-before-lt-BLOCK c =
-    let s = c.args.src.now in let at = 16 * c.turns.i in
+    let s = c.args.src.now in let at = 32 * c.turns.i in
     let r = c.before_newline-before.result in
-    let none = further s at (at + r) c.turns.invariant (run_in_chunk_fails newline s at 16 r 0 (omega arith) c.before_newline-before.ensures) in
-    sym (position_or_len_is newline s (at + r) 0 (omega arith) none (λ _. run_in_chunk_stops newline s at 16 r 0 (omega arith) c.before_newline-before.ensures c.if-before-lt-BLOCK.true))
+    let none = further s at (at + r) c.turns.invariant (run_in_chunk_fails newline s at 32 r 0 (omega arith) c.before_newline-before.ensures) in
+    sym (position_or_len_is newline s (at + r) 0 (omega arith) none (λ _. run_in_chunk_stops newline s at 32 r 0 (omega arith) c.before_newline-before.ensures c.if-before-lt-BLOCK.true))
 
 pub turns-preserved : goal.turns-preserved
 turns-preserved c =
-    let s = c.args.src.now in let at = 16 * c.turns.i in
+    let s = c.args.src.now in let at = 32 * c.turns.i in
     let r = c.before_newline-before.result in
-    let most = run_in_chunk_le newline s at 16 r 0 (omega arith) c.before_newline-before.ensures in
-    let none = further s at (at + r) c.turns.invariant (run_in_chunk_fails newline s at 16 r 0 (omega arith) c.before_newline-before.ensures) in
+    let most = run_in_chunk_le newline s at 32 r 0 (omega arith) c.before_newline-before.ensures in
+    let none = further s at (at + r) c.turns.invariant (run_in_chunk_fails newline s at 32 r 0 (omega arith) c.before_newline-before.ensures) in
     λ k lt. none k (omega (arith, most, lt))
 
 -- where the bytes behind the blocks end
@@ -45,13 +45,13 @@ rest-end s at end is = rw (take_rest s at) at is
 
 pub overflow_add-result-2 : goal.overflow_add-result-2
 overflow_add-result-2 c =
-    let s = c.args.src.now in let at = 16 * (length s / 16) in
+    let s = c.args.src.now in let at = 32 * (length s / 32) in
     let is = rest-end s at c.line_end_by_bytes.result c.line_end_by_bytes.ensures in
     let most : position_or_len newline (drop at s) ≤ length (drop at s) = prefix_len-le-length (λ b. not (newline b)) (drop at s) in
     omega (arith, is, most, length-drop at s)
 
 pub returns : goal.returns
 returns c =
-    let s = c.args.src.now in let at = 16 * (length s / 16) in
+    let s = c.args.src.now in let at = 32 * (length s / 32) in
     let is = rest-end s at c.line_end_by_bytes.result c.line_end_by_bytes.ensures in
     ap (λ r. at + r) is ∙ behind s at (omega arith) (λ k lt. c.turns.invariant k (omega arith))

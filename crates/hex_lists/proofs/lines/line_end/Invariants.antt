@@ -4,4 +4,4 @@ use Rattle.std.specs.Prelude.{◌==◌}
 use Rattle.hex_lists.proofs.lines.line_end.Given as goal
 
 abbrev pub invariant-turns : goal.invariant-turns
-invariant-turns l = (k : ℕ) → k < 16 * l.i → (slice_index l.src k == 10) ≡ false
+invariant-turns l = (k : ℕ) → k < 32 * l.i → (slice_index l.src k == 10) ≡ false
