@@ -58,7 +58,7 @@ const NOT_FLUSHED: Faulty = Faulty {
 };
 
 // How many bytes the lines of the stored vectors are.
-const LINES: usize = 1228;
+const LINES: usize = 1288;
 
 static FAULTS: [Faulty; 19] = [
     Faulty {
