@@ -1,5 +1,7 @@
 //! Reading grouped texts: rows, each length of pieces and of texts, and a wrong byte at each place.
 
+ghost use Rattle.std.specs.Prelude.{◌<◌};
+
 use crate::calls::{Reader, Reading};
 use crate::grouped_rows::grouped_by_rule;
 use crate::rules::{CASES, count_by_rule, is_separator_place, patterns, strict, swapped, text_of};
@@ -151,8 +153,7 @@ fn the_first_wrong_byte_is_named(rt: HostRuntime) -> Result<(), Fail> {
 
 // The first length whose texts are read otherwise than the rule counts their bytes. No byte of them
 // is right, so that only the empty one is read.
-fn length_missed(every: usize) -> Option<usize> {
-    let reader = reader(every, b':', ANY)?;
+fn length_missed(reader: Reader) -> Option<usize> {
     let text = [b'z'; 100];
     for len in 0..=100 {
         let src = text.get(..len).unwrap_or_default();
@@ -169,10 +170,12 @@ fn length_missed(every: usize) -> Option<usize> {
 }
 
 #[test]
-fn each_length_of_a_text_has_one_number_of_bytes_or_none(rt: HostRuntime) {
+fn each_length_of_a_text_has_one_number_of_bytes_or_none(rt: HostRuntime) -> Result<(), Fail> {
     for every in [1, 2, 3, 16, 17, 49, 50, 51, usize::MAX / 2, usize::MAX] {
-        assert_eq!(rt; length_missed(every), None, "pieces of {every}");
+        let reader = reader(every, b':', ANY).ok_or("a group")?;
+        assert_eq!(rt; length_missed(reader), None, "pieces of {every}");
     }
+    Ok(())
 }
 
 // Whether the grouped text of a list is read back, under no policy and under that of its letters.
@@ -273,7 +276,8 @@ fn wrong_bytes(place: usize, reader: Reader) -> [u8; 3] {
 
 // The place and the byte that is put there and not named, of each of every so many places.
 fn place_missed<const N: usize>(reader: Reader, text: &mut [u8], step: usize) -> Option<(usize, u8)>
-    requires { N < 10000 }
+    requires size { N < 10000 }
+    requires step { 0 < step }
 {
     for place in (0..text.len()).step_by(step) {
         for byte in wrong_bytes(place, reader) {
@@ -293,7 +297,8 @@ fn byte_missed<const N: usize>(
     reader: Reader,
     step: usize,
 ) -> Result<Option<(usize, u8)>, AllocError>
-    requires { N < 10000 }
+    requires size { N < 10000 }
+    requires step { 0 < step }
 {
     let digits = text_of(alloc, &patterns::<N>(), reader.case == CheckCase::Upper)?;
     let mut text = grouped_by_rule(alloc, &digits, Some(reader.group))?;
@@ -318,9 +323,9 @@ fn a_wrong_byte_is_named_at_each_place(rt: HostRuntime) -> Result<(), Fail> {
 fn a_wrong_byte_is_named_in_a_long_text(rt: HostRuntime) -> Result<(), Fail> {
     for every in [1, 2, 3, 4, 8, 16, 17, 513, usize::MAX] {
         let reader = reader(every, separator(every), ANY).ok_or("a group")?;
-        let missed = byte_missed::<1030>(rt.alloc(), reader, 97)?;
+        let missed = byte_missed::<1030>(rt.alloc(), reader, 206)?;
         assert_eq!(rt; missed, None, "1030 bytes, pieces of {every}");
-        let missed = byte_missed::<2049>(rt.alloc(), reader, 397)?;
+        let missed = byte_missed::<2049>(rt.alloc(), reader, 866)?;
         assert_eq!(rt; missed, None, "2049 bytes, pieces of {every}");
     }
     Ok(())
