@@ -180,7 +180,12 @@ fn put_totals<S: Sink>(
 }
 
 /// Puts the line of a vector.
-pub fn put_line<S: Sink>(sink: &mut S, under: &str, name: &str, passed: bool) -> Result<(), WriteFault>
+pub fn put_line<S: Sink>(
+    sink: &mut S,
+    under: &str,
+    name: &str,
+    passed: bool,
+) -> Result<(), WriteFault>
     requires { (S.state sink.old).failures < 2 ^ 64 - 1 }
     ensures { OnOk result ((S.state sink.new).failures ≡ (S.state sink.old).failures) }
 {
