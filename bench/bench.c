@@ -3,12 +3,13 @@
 // It is compiled with -DRUST where the Rust crate's library is linked, and then with SAME_WIDTH, the
 // kernel whose vectors are as wide as this build's; and with -DOWNED where hex_core has
 // `decode_owned`.
+#include "common.h"
+
 #include <stdbool.h>
 #include <stdint.h>
 #include <stdio.h>
 #include <stdlib.h>
 #include <string.h>
-#include <time.h>
 
 // The rounds of a size are spread over the whole run, since a shared machine has slow seconds.
 #define PASSES 20
@@ -330,24 +331,11 @@ static void check_all(size_t size) {
 #endif
 }
 
-static double now(void) {
-    struct timespec at;
-    clock_gettime(CLOCK_MONOTONIC, &at);
-    return at.tv_sec * 1e9 + at.tv_nsec;
-}
-
 // The nanoseconds of some calls in a row.
 static double spent(const struct call *call, const struct task *task, long turns) {
     double start = now();
     sink = call->loop(task, turns);
     return now() - start;
-}
-
-// The next of some numbers with no pattern.
-static uint32_t next(void) {
-    static uint64_t state = 1;
-    state = state * 6364136223846793005 + 1442695040888963407;
-    return state >> 32;
 }
 
 // Times the calls of one kind in turn, so that each meets the same machine. A call's turns are long

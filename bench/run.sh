@@ -1,6 +1,7 @@
 #!/bin/sh
 # Builds the crates as a static library of thin exported functions, times its calls beside the Rust
-# crate's in one run, and prints nanoseconds and ratios; README.md says what the columns mean.
+# crate's in one run, then reading digest lists beside a loop in C, and prints nanoseconds and
+# ratios; README.md says what the columns mean.
 # Usage: bench/run.sh [--cpu=x86-64-v3] [--rust PATH]
 # PATH is a checkout of the Rust crate faster-hex 1.0.0. RT, CC and RUSTC name other commands, and
 # BENCH_BUILD another folder than the user's cache to build in.
@@ -45,7 +46,7 @@ tar -C "$top" -c --exclude=out crates crates.txt | tar -C "$build" -x
 echo 'hex_bench staticlib: faster_hex hex_core' >>"$build/crates.txt"
 
 # What the repository's own checks left saves a first run most of the proving.
-for crate in hex_core hex_codec hex_format hex_json faster_hex; do
+for crate in hex_core hex_codec hex_format hex_json hex_lists faster_hex; do
     kept=$build/crates/$crate/out
     if [ ! -e "$kept" ] && [ -e "$top/crates/$crate/out" ]; then
         cp -R "$top/crates/$crate/out" "$kept" || rm -rf "$kept"
@@ -102,9 +103,12 @@ fi
 
 # The kit's library has the allocator that a vector takes.
 kit=$(dirname "$("$rt" doc)")
-# shellcheck disable=SC2086
-"$cc" -std=gnu11 -O2 -Wall -Wextra $flags -o "$build/bench" "$here/bench.c" "$@" \
-    "$kit/c/liblibc_c.a"
+for program in bench lists; do
+    # shellcheck disable=SC2086
+    "$cc" -std=gnu11 -O2 -Wall -Wextra $flags -o "$build/$program" "$here/$program.c" "$@" \
+        "$kit/c/liblibc_c.a"
+done
 
 echo "Built by $("$rt" version), $(sed -n 's/.* \(cpu=[^ ]*\).*/\1/p' "$build/log" | tail -n 1)."
 "$build/bench"
+"$build/lists"
