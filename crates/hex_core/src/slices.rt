@@ -21,8 +21,8 @@ impl Backend {
     /// Returns the first place of `src` whose byte has no value under `case`, from 0 and in bytes,
     /// or `None` where each byte has one, whatever its length.
     ///
-    /// A source of more than 64 bytes is tested block by block before single bytes are looked at,
-    /// as [`locate`] says.
+    /// It is [`locate`] over a [`SliceProbe`], whose counts are not kept: the contract says the
+    /// place, and nothing of the steps.
     ///
     /// ```rust
     /// let [scalar, ..] = backends();

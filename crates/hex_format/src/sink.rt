@@ -14,6 +14,9 @@ pub struct SinkFault;
 /// Where bytes go, a piece at a time, with a count of the puts that failed.
 ///
 /// A put has failed where it returned `Err`, or took none of a nonempty piece.
+///
+/// What a call promises of the bytes that a sink has taken holds where the sink tells them, as a
+/// [`SliceSink`] does, and a [`WriterSink`] over a writer that does.
 pub trait Sink {
     // What the sink shows: bytes taken, failed puts, and the free bytes of a buffer that it is lent,
     // with the loan. A sink over anything else shows `None` for the last two.

@@ -19,6 +19,6 @@ abbrev pub ReadingInvertsWriting : Type 0
 ReadingInvertsWriting = (N : ℕ) (upper : Bool) (entries : List (Entry N)) → AllByRecursion HasDigest entries → first_bad_name entries ≡ None
     → Lists (strict upper) (list_of upper entries) entries × Lists policy.None (list_of upper entries) entries
 
--- a source that has a line with a fault is the list of no entries
+-- a source that has a line with a fault is no list, whatever the entries
 abbrev pub FaultyListsNothing : Type 0
 FaultyListsNothing = (N : ℕ) (c : CheckCase) (s : List ℕ) (line : ℕ) (why : LineFault) (entries : List (Entry N)) → FirstFault c N s line why → Lists c s entries → ⊥

@@ -17,8 +17,9 @@ pub struct Entry<'a, const N: usize> {
     pub digest: [u8; N],
     /// Whether the mark is `*`, which says that the file was read as binary; else it is a space.
     pub binary: bool,
-    /// The file's name: one byte or more, and no newline. No other byte means anything here, so a
-    /// carriage return before the newline belongs to the name.
+    /// The file's name. One that was read has one byte or more, and no newline, and [`write_to`]
+    /// refuses any other. No other byte means anything here, so a carriage return before the newline
+    /// belongs to the name.
     pub name: &'a [u8],
 }
 

@@ -12,8 +12,8 @@ pub fn reading_inverts_writing()
     decoding_inverts_encoding();
 }
 
-/// A source that has a line with a fault is the list of no entries, so reading never refuses a list
-/// but for want of memory.
+/// A source that has a line with a fault is no list, whatever the entries, so reading never refuses
+/// a list but for want of memory.
 pub fn a_faulty_source_is_no_list()
     ensures { FaultyListsNothing }
 {

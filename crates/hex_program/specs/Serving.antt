@@ -38,8 +38,8 @@ pub record ServesOp (op : Op) (left left' held held' : Option (List ℕ)) (statu
   pub refused : status ≡ 1 → Refused op left left' held held'
   pub statuses : (status ≡ 0) ⊎ (status ≡ 1) ⊎ (status ≡ 3)
 
--- the program, by its words: an operation, or words that name nothing, after which nothing was read
--- or written
+-- the program, by its words: an operation, or words that name nothing, after which nothing was read,
+-- and nothing was written to the output
 pub record Serves (words : List (List ℕ)) (left left' held held' : Option (List ℕ)) (status : ℕ) : Type 0 where
   pub operation : (op : Op) → op_of_words words ≡ Some op → ServesOp op left left' held held' status
   pub unread : NamesNothing words → (left' ≡ left) × (held' ≡ held)

@@ -159,11 +159,13 @@ pub fn serve_in<A: Allocator, R: Read, W: Write, E: Write>(
 /// | 0 | done | nothing |
 /// | 1 | the input is refused, and then nothing went to `out` | the [`Error`](faster_hex::Error)'s text |
 /// | 1 | a stored vector failed | nothing |
-/// | 2 | no word, several, or another one; nothing was read or written | the usage |
+/// | 2 | no word, several, or another one; nothing was read, nothing went to `out` | the usage |
 /// | 3 | a fault of the surroundings | `read failed`, `write failed`, `out of memory` |
 /// | 3 | the input is longer than the limit | `input too long` |
 ///
-/// No error of a reader or a writer is retried. A fault of `err` does not change the status.
+/// No error of a reader or a writer is retried. A fault of `err` does not change the status. The
+/// contract speaks of the bytes that a reader gave or a writer took where its type tells them, and
+/// not of `err`.
 ///
 /// ```rust
 /// let mut input: &[u8] = b"hello";
