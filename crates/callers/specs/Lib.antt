@@ -1,2 +1,4 @@
 pub mod Records
 pub mod DigestLists
+pub mod Streams
+pub mod Dump

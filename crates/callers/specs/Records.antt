@@ -1,12 +1,46 @@
--- What a record's identifier is refused for.
-use Rattle.std.specs.Prelude.{Option, None, Some, option_map}
+-- A record of JSON: what it is read as, and how it is written.
+use Rattle.std.specs.Prelude.{◌≡◌, codes, Option, None, Some, option_map, Result, MatchResult}
+use Rattle.std.specs.Option.{option_or}
 use Rattle.serde_json.specs.Data.{Data}
-use Rattle.hex_json.specs.Adapters.{array_read_refusal}
-use Rattle.hex_json.specs.WireFormats.{withpfx_ignorecase}
+use Rattle.serde_json.specs.Find.{get}
+use Rattle.hex_json.specs.Adapters.{Reads, Writes, array_read_refusal}
+use Rattle.hex_json.specs.WireFormats.{nopfx_lowercase, withpfx_ignorecase}
+use Rattle.callers.specs.declared.json.Record.{Record}
 use Rattle.callers.specs.declared.json.RecordError.{RecordError}
-use Rattle.callers.specs.declared.json.RecordError.TheVariants.{NoId, BadId}
+use Rattle.callers.specs.declared.json.RecordError.TheVariants.{NoId, BadId, NoKey, BadKey}
 
 -- the field is missing, or it is there and no array of four bytes is read from it
 abbrev pub id_refusal : Option Data → Option RecordError
 id_refusal None = Some NoId
 id_refusal (Some d) = option_map BadId (array_read_refusal withpfx_ignorecase 4 d)
+
+-- the two fields of an object, and that they are read as the record's
+pub record IsReadAs (d : Data) (r : Record) : Type 0 where
+  pub id : Data
+  pub key : Data
+  pub has_id : get (codes "id") d ≡ Some id
+  pub has_key : get (codes "key") d ≡ Some key
+  pub id_read : Reads withpfx_ignorecase None id r.id
+  pub key_read : Reads nopfx_lowercase None key r.key
+
+-- or that they are written for the record
+pub record ShowsRecord (r : Record) (d : Data) : Type 0 where
+  pub id : Data
+  pub key : Data
+  pub has_id : get (codes "id") d ≡ Some id
+  pub has_key : get (codes "key") d ≡ Some key
+  pub id_written : Writes withpfx_ignorecase r.id id
+  pub key_written : Writes nopfx_lowercase r.key key
+
+-- the key is missing, or it is there and no array of eight bytes is read from it
+abbrev pub key_refusal : Option Data → Option RecordError
+key_refusal None = Some NoKey
+key_refusal (Some d) = option_map BadKey (array_read_refusal nopfx_lowercase 8 d)
+
+-- the first field that is missing or refused
+abbrev pub record_refusal : Data → Option RecordError
+record_refusal d = option_or (id_refusal (get (codes "id") d)) (key_refusal (get (codes "key") d))
+
+-- reading a record: its fields, or what is refused
+abbrev pub ReadsRecord : Data → Result Record RecordError → Type 0
+ReadsRecord d result = MatchResult result (λ r. IsReadAs d r) (λ e. record_refusal d ≡ Some e)

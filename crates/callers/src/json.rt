@@ -1,27 +1,41 @@
 //! Callers of the JSON adapters as a user writes them, each proved.
 
-ghost use Rattle.std.specs.Prelude.{◌≡◌, None, Some, codes, MatchResult};
+ghost use Rattle.std.specs.Prelude.{◌≡◌, None, Some, IfOk, codes, MatchResult};
 ghost use Rattle.serde_json.specs.Data.{Data};
 ghost use Rattle.serde_json.specs.Find.{get};
 ghost use Rattle.serde_json.specs.View.{view};
 ghost use Rattle.hex_json.specs.Adapters.{Reads, WriteFailure};
 ghost use Rattle.hex_json.specs.WireFormats as wire;
-ghost use Rattle.callers.specs.Records.{id_refusal};
+ghost use Rattle.callers.specs.Records.{ReadsRecord, ShowsRecord, id_refusal};
 
 use faster_hex::laws::{
     a_value_is_read_as_one_list, a_value_is_read_where_nothing_is_refused, reading_inverts_writing,
 };
-use faster_hex::{AdapterError, array, nopfx_lowercase};
-use serde_json::Value;
+use faster_hex::{AdapterError, Error, array, nopfx_lowercase};
+use hex_core::laws::a_slice_holds_bytes;
+use serde_json::{Value, json};
 use std::alloc::Global;
 
-/// Why a record has no identifier.
+/// A record: an identifier and a key.
+#[derive(Clone, Copy, Debug, PartialEq, Eq)]
+pub struct Record {
+    /// The field `id`, digits of either case behind `0x`.
+    pub id: [u8; 4],
+    /// The field `key`, lowercase digits.
+    pub key: [u8; 8],
+}
+
+/// Why a value is no record.
 #[derive(Clone, Copy, Debug, PartialEq, Eq)]
 pub enum RecordError {
     /// There is no field `id`.
     NoId,
     /// The field is there, and is not four bytes behind `0x`.
     BadId(AdapterError),
+    /// There is no field `key`.
+    NoKey,
+    /// The field is there, and is not eight bytes in lowercase digits.
+    BadKey(AdapterError),
 }
 
 /// The identifier of a record: its field `id`, four bytes behind `0x`.
@@ -38,6 +52,53 @@ pub fn record_id(fields: &Value) -> Result<[u8; 4], RecordError>
         Ok(bytes) => Ok(bytes),
         Err(e) => Err(RecordError::BadId(e)),
     }
+}
+
+/// Reads a record, and takes no memory.
+///
+/// ```rust
+/// let text = r#"{"id": "0xDEADbeef", "key": "0123456789abcdef"}"#;
+/// let record = read_record(&Value::from_str(rt.alloc(), text)?).map_err(|_| "no record")?;
+/// assert_eq!(rt; record.id, [0xde, 0xad, 0xbe, 0xef]);
+/// assert_eq!(rt; record.key[7], 0xef);
+/// ```
+pub fn read_record(fields: &Value) -> Result<Record, RecordError>
+    ensures { ReadsRecord (view fields.now) result }
+{
+    a_value_is_read_where_nothing_is_refused();
+    let id = record_id(fields)?;
+    let Some(key) = fields.get("key") else {
+        return Err(RecordError::NoKey);
+    };
+    match nopfx_lowercase::array::deserialize(key) {
+        Ok(key) => Ok(Record { id, key }),
+        Err(e) => Err(RecordError::BadKey(e)),
+    }
+}
+
+/// Writes a record as a JSON object. It fails where memory is refused.
+pub fn write_record(alloc: Global, record: Record) -> Result<Value, AdapterError>
+    ensures { IfOk result (λ value. ShowsRecord «record» (view value)) }
+{
+    let id = array::serialize(alloc, &record.id)?;
+    let key = nopfx_lowercase::serialize(alloc, &record.key)?;
+    match json!(in alloc; {"id": id, "key": key}) {
+        Ok(value) => Ok(value),
+        Err(_) => Err(AdapterError::Codec(Error::OutOfMemory)),
+    }
+}
+
+/// Writes a record and reads it back, which is not refused and gives the same.
+pub fn record_again(alloc: Global, record: Record) -> Result<Record, AdapterError>
+    ensures { IfOk result (λ same. same ≡ «record») }
+{
+    a_slice_holds_bytes(&record.id);
+    a_slice_holds_bytes(&record.key);
+    reading_inverts_writing();
+    a_value_is_read_as_one_list();
+    a_value_is_read_where_nothing_is_refused();
+    let value = write_record(alloc, record)?;
+    Ok(read_record(&value).unwrap())
 }
 
 /// The same bytes, by way of a JSON text. It fails for want of memory or a text's length alone.

@@ -1,7 +1,7 @@
 //! Callers of `faster_hex` as a user writes them, each proved.
 #![tactic(auto)]
 
-ghost use Rattle.std.specs.Prelude.{◌≡◌, ◌<◌, ◌↔◌, ℕ, List, None, Some, IsTrue, IsSome, IfSome, IfOk, IfErr, OnOk, OnErr, length, slice_index, slice_set, vec_len};
+ghost use Rattle.std.specs.Prelude.{◌≡◌, ◌∷◌, [], ◌<◌, ◌↔◌, ℕ, List, None, Some, IsTrue, IsSome, IfSome, IfOk, IfErr, OnOk, OnErr, length, slice_index, slice_set, vec_len};
 ghost use Rattle.std.specs.Bool.{OnFalse, OnTrue};
 ghost use Rattle.hex_core.specs.declared.digit.CheckCase.TheVariants as policy;
 ghost use Rattle.hex_core.specs.Digit.{value};
@@ -10,17 +10,21 @@ ghost use Rattle.hex_core.specs.Refusal.{array_refusal, decode_refusal, encode_r
 ghost use Rattle.hex_core.specs.Text.{Spells, lowercase, text, uppercase, with_front};
 
 use faster_hex::{
-    Backend, CheckCase, Error, hex_check, hex_decode_array, hex_decode_array_with_case,
-    hex_decode_into, hex_encode_into,
+    CheckCase, Error, hex_check, hex_decode_array, hex_decode_array_with_case, hex_decode_into,
+    hex_encode_into,
 };
 use hex_core::laws::{
-    an_invalid_char_is_the_first_invalid_byte, the_first_invalid_byte_is_the_first,
+    a_text_spells_one_list, an_invalid_char_is_the_first_invalid_byte,
+    the_first_invalid_byte_is_the_first,
 };
 
+pub mod digest;
 pub mod digest_lists;
+pub mod dump;
 pub mod dumps;
 pub mod json;
 pub mod probes;
+pub mod streams;
 pub mod texts;
 
 /// Decodes into a buffer and marks it as read by setting its first byte to 0xff.
@@ -41,24 +45,17 @@ pub fn decode_and_mark(src: &[u8], buffer: &mut [u8]) -> Result<(), Error>
     Ok(())
 }
 
-/// A digest of 32 bytes, written as 64 lowercase digits and in no other way.
-pub fn parse_digest(text: &[u8]) -> Option<[u8; 32]>
-    ensures found { IsSome result ↔ (array_refusal policy.Lower text.now 32 ≡ None) }
-    ensures value { IfSome result (λ digest. Spells policy.Lower text.now digest) }
+/// The first bytes of a file, which the source shows in hex. What they are is known to the proof, and
+/// that the `unwrap` holds.
+///
+/// ```rust
+/// assert_eq!(rt; file_mark(), [0, 0xab, 0xcd]);
+/// ```
+pub fn file_mark() -> [u8; 3]
+    ensures { result ≡ 0 ∷ 171 ∷ 205 ∷ [] }
 {
-    match hex_decode_array_with_case::<32>(text, CheckCase::Lower) {
-        Ok(digest) => Some(digest),
-        Err(_) => None,
-    }
-}
-
-/// The 64 lowercase digits of a digest.
-pub fn digest_text(digest: &[u8; 32]) -> [u8; 64]
-    ensures { result ≡ text lowercase digest.now }
-{
-    let mut digits = [0; 64];
-    Backend::plain().encode(digest, &mut digits, false);
-    digits
+    a_text_spells_one_list();
+    hex_decode_array::<3>(b"00aBcD").unwrap()
 }
 
 /// Writes an identifier's digits into the front of a line, where they fit.

@@ -8,7 +8,7 @@ use Rattle.hex_core.specs.declared.error.Error.TheVariants.{InvalidChar}
 use Rattle.hex_core.specs.Digit.{strict, value}
 use Rattle.hex_core.specs.Search.{AllValid, first_invalid}
 use Rattle.hex_core.specs.Text.{Spells, lowercase, text, with_front}
-use Rattle.hex_core.specs.Refusal.{source_refusal}
+use Rattle.hex_core.specs.Refusal.{array_refusal, decode_refusal, source_refusal}
 
 -- every number of the list is a byte
 abbrev pub AreBytes : List ℕ → Type 0
@@ -25,6 +25,14 @@ SpellsBytes = (c : CheckCase) (s bytes : List ℕ) → Spells c s bytes → AreB
 -- a source is accepted exactly where it spells some list
 abbrev pub AcceptsWhatSpells : Type 0
 AcceptsWhatSpells = (c : CheckCase) (s : List ℕ) → (source_refusal c s ≡ None) ↔ ((bytes : List ℕ) × Spells c s bytes)
+
+-- it is accepted for a slice of this room exactly where it spells a list that fits
+abbrev pub AcceptsWhatFits : Type 0
+AcceptsWhatFits = (c : CheckCase) (s : List ℕ) (room : ℕ) → (decode_refusal c s room ≡ None) ↔ ((bytes : List ℕ) × Spells c s bytes × (length bytes ≤ room))
+
+-- and for an array of n bytes exactly where it spells a list of this length
+abbrev pub AcceptsWhatFills : Type 0
+AcceptsWhatFills = (c : CheckCase) (s : List ℕ) (n : ℕ) → (array_refusal c s n ≡ None) ↔ ((bytes : List ℕ) × Spells c s bytes × (length bytes ≡ n))
 
 -- decoding inverts encoding, under the strict policy of the text's own case and under either case
 abbrev pub DecodingInvertsEncoding : Type 0

@@ -2,8 +2,13 @@
 //! needs one in a proof calls it.
 
 ghost use Rattle.std.specs.Prelude.{ℕ};
-ghost use Rattle.hex_core.specs.Laws.{AcceptsWhatSpells, DecodingInvertsEncoding, EitherCaseIsLowercased, EncodingInvertsStrictDecoding, EncodingLowercases, FirstInvalidIsFirst, FrontsAreKept, JoinedTexts, NamesFirstInvalid, PartsAreValidWhereTheirRangesAre, SpellsBytes, SpellsOneList, StrictAcceptsTexts, TextsAreAscii, TextsAreTwiceAsLong};
+ghost use Rattle.hex_core.specs.Laws.{AcceptsWhatFills, AcceptsWhatFits, AcceptsWhatSpells, AreBytes, DecodingInvertsEncoding, EitherCaseIsLowercased, EncodingInvertsStrictDecoding, EncodingLowercases, FirstInvalidIsFirst, FrontsAreKept, JoinedTexts, NamesFirstInvalid, PartsAreValidWhereTheirRangesAre, SpellsBytes, SpellsOneList, StrictAcceptsTexts, TextsAreAscii, TextsAreTwiceAsLong};
 ghost use Rattle.hex_core.specs.Refusal.{array_refusal, decode_refusal, source_refusal};
+
+/// What a slice holds are bytes, as a law asks that is for bytes alone.
+pub fn a_slice_holds_bytes(bytes: &[u8])
+    ensures { AreBytes bytes.now }
+{}
 
 /// A text spells at most one list, and that is a list of bytes.
 pub fn a_text_spells_one_list()
@@ -15,6 +20,15 @@ pub fn a_text_spells_one_list()
 pub fn a_source_is_accepted_where_it_spells_a_list()
     ensures { AcceptsWhatSpells }
 {}
+
+/// A source is accepted for a slice exactly where it spells a list that fits, and for an array
+/// exactly where it spells one of its length.
+pub fn a_source_is_accepted_where_its_list_has_room()
+    ensures slice { AcceptsWhatFits }
+    ensures array { AcceptsWhatFills }
+{
+    a_source_is_accepted_where_it_spells_a_list();
+}
 
 /// What encoding writes, decoding reads as the same bytes, under the text's own case or either.
 pub fn decoding_inverts_encoding()
