@@ -4,7 +4,7 @@ use Rattle.std.specs.Io.KnownBytes.{Consumes, IsAtEnd}
 use Rattle.hex_core.specs.Text.{lowercase, text}
 use Rattle.hex_format.specs.Sink.{SinkState, Stops, Takes}
 use Rattle.callers.specs.declared.streams.StreamFault.{StreamFault}
-use Rattle.callers.specs.declared.streams.StreamFault.TheVariants.{Read, Write, TooLong}
+use Rattle.callers.specs.declared.streams.StreamFault.TheVariants.{Write}
 
 -- the answer for the bytes that were read: at `Ok` they are all that there were, and their number;
 -- at `Ok` and where a read failed the sink took their text, and where a put failed a beginning of it

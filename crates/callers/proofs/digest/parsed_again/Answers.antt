@@ -1,10 +1,10 @@
 -- The text of a digest spells it, and no other list.
-use Rattle.std.proofs.Common.{rules, ◌≡◌, ◌∙◌, ℕ, List, Result, Ok, Err, None, Some, IsOk, MatchResult, length, ap, sym, refl}
+use Rattle.std.proofs.Common.{rules, ◌≡◌, ℕ, List, Result, Ok, Err, None, Some, IsOk, MatchResult, length, ap, refl}
 use Rattle.hex_core.specs.declared.digit.CheckCase.TheVariants as policy
 use Rattle.hex_core.specs.declared.error.Error.{Error}
 use Rattle.hex_core.specs.Laws.{SpellsOneList}
 use Rattle.hex_core.specs.Refusal.{array_refusal}
-use Rattle.hex_core.specs.Text.{Spells, lowercase, text}
+use Rattle.hex_core.specs.Text.{Spells, lowercase}
 use Rattle.callers.specs.declared.digest.Digest.{Digest}
 use Rattle.callers.proofs.digest.parsed_again.Goals as goal
 

@@ -1,5 +1,5 @@
 -- One line more is taken in each turn, and where a put failed no line after it was put.
-use Rattle.std.proofs.Common.{◌≡◌, ◌∙◌, ◌*◌, ◌-◌, ◌<◌, ◌≤◌, ℕ, List, [], ap, drop, length, refl, slice_index_or, subst, sym, take, zero-add, arith}
+use Rattle.std.proofs.Common.{◌≡◌, ◌∙◌, ◌*◌, ◌-◌, ◌<◌, ◌≤◌, ℕ, List, [], ap, drop, length, slice_index_or, subst, sym, take, zero-add, arith}
 use Rattle.std.proofs.lemmas.List.{length-drop, take_all, take_min}
 use Rattle.std.proofs.Math.Seq.{take-length}
 use Rattle.std.proofs.lemmas.List.FromFn.{get_or-map-range_with_len, length-map-range_with_len}

@@ -1,5 +1,5 @@
 -- An identifier that is read is not refused, so the key's refusal is the record's.
-use Rattle.std.proofs.Common.{rules, ◌≡◌, ℕ, List, Option, None, Some, codes, length, refl}
+use Rattle.std.proofs.Common.{rules, ◌≡◌, ℕ, List, None, Some, codes, length, refl}
 use Rattle.serde_json.specs.Data.{Data}
 use Rattle.serde_json.specs.Find.{get}
 use Rattle.serde_json.specs.View.{view}
@@ -7,7 +7,7 @@ use Rattle.hex_json.specs.AdapterLaws.{ReadsArrayOfItsLength}
 use Rattle.hex_json.specs.Adapters.{Reads, array_read_refusal}
 use Rattle.hex_json.specs.WireFormats as wire
 use Rattle.callers.specs.declared.json.RecordError.{RecordError}
-use Rattle.callers.specs.Records.{id_refusal, key_refusal, record_refusal}
+use Rattle.callers.specs.Records.{key_refusal, record_refusal}
 use Rattle.callers.proofs.json.read_record.Goals as goal
 
 key-refused : ReadsArrayOfItsLength → (d : Data) (id : List ℕ) (e : RecordError) → length id ≡ 4
