@@ -88,7 +88,8 @@ pub fn hex_decode<'a>(src: &[u8], dst: &'a mut [u8]) -> Result<&'a mut [u8], Err
 ///
 /// ```rust
 /// let mut buffer = [0; 2];
-/// assert_eq!(rt; hex_decode_with_case(b"AB01", &mut buffer, CheckCase::Upper)?, [0xab, 1]);
+/// hex_decode_with_case(b"AB01", &mut buffer, CheckCase::Upper)?;
+/// assert_eq!(rt; buffer, [0xab, 1]);
 /// assert!(rt; hex_decode_with_case(b"ab01", &mut buffer, CheckCase::Upper).is_err());
 /// ```
 #[inline(always)]
@@ -119,7 +120,8 @@ pub fn hex_decode_with_case<'a>(
 ///
 /// ```rust
 /// let mut buffer = [0xa5; 4];
-/// assert_eq!(rt; hex_decode_into(b"00aBcD", &mut buffer, CheckCase::None), Ok(3));
+/// let written = hex_decode_into(b"00aBcD", &mut buffer, CheckCase::None)?;
+/// assert_eq!(rt; written, 3);
 /// assert_eq!(rt; buffer, [0, 0xab, 0xcd, 0xa5]);
 /// ```
 #[inline(always)]
@@ -162,7 +164,8 @@ pub fn hex_decode_array<const N: usize>(src: &[u8]) -> Result<[u8; N], Error>
 /// [`Error::InvalidChar`].
 ///
 /// ```rust
-/// assert_eq!(rt; hex_decode_array_with_case::<2>(b"AB01", CheckCase::Upper)?, [0xab, 1]);
+/// let bytes = hex_decode_array_with_case::<2>(b"AB01", CheckCase::Upper)?;
+/// assert_eq!(rt; bytes, [0xab, 1]);
 /// assert!(rt; hex_decode_array_with_case::<2>(b"ab01", CheckCase::Upper).is_err());
 /// ```
 #[inline(always)]
@@ -203,7 +206,8 @@ pub fn hex_decode_array_with_case<const N: usize>(
 /// 3. [`Error::InvalidChar`] with the first byte of `src` that is no digit, and its place in bytes.
 ///
 /// ```rust
-/// assert_eq!(rt; hex_decode_vec(rt.alloc(), b"00aBff")?.as_slice(), [0, 0xab, 0xff]);
+/// let bytes = hex_decode_vec(rt.alloc(), b"00aBff")?;
+/// assert_eq!(rt; bytes.as_slice(), [0, 0xab, 0xff].as_slice());
 /// ```
 pub fn hex_decode_vec<A: Allocator + Drop>(alloc: A, src: &[u8]) -> Result<Vec<u8, A>, Error>
     ensures { DecodesVec policy.None src.now result }

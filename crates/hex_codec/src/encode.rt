@@ -27,7 +27,8 @@ use hex_core::{Backend, Error};
 ///
 /// ```rust
 /// let mut buffer = [0; 10];
-/// assert_eq!(rt; hex_encode(b"hello", &mut buffer)?, b"68656c6c6f");
+/// let text = hex_encode(b"hello", &mut buffer)?;
+/// assert_eq!(rt; &*text, b"68656c6c6f".as_slice());
 /// ```
 #[inline(always)]
 pub fn hex_encode<'a>(src: &[u8], dst: &'a mut [u8]) -> Result<&'a mut [u8], Error>
@@ -47,7 +48,8 @@ pub fn hex_encode<'a>(src: &[u8], dst: &'a mut [u8]) -> Result<&'a mut [u8], Err
 ///
 /// ```rust
 /// let mut buffer = [0; 6];
-/// assert_eq!(rt; hex_encode_upper(&[0, 0xab, 0xff], &mut buffer)?, b"00ABFF");
+/// hex_encode_upper(&[0, 0xab, 0xff], &mut buffer)?;
+/// assert_eq!(rt; &buffer, b"00ABFF");
 /// ```
 #[inline(always)]
 pub fn hex_encode_upper<'a>(src: &[u8], dst: &'a mut [u8]) -> Result<&'a mut [u8], Error>

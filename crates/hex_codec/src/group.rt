@@ -8,7 +8,7 @@ use hex_core::{CheckCase, digit_value};
 /// separator between two pieces.
 ///
 /// ```rust
-/// let group = Group::new(2, b':').unwrap();
+/// let group = Group::new(2, b':').ok_or("no group")?;
 /// assert_eq!(rt; (group.every(), group.sep()), (2, b':'));
 /// ```
 #[derive(Clone, Copy, Debug, PartialEq, Eq)]
@@ -43,7 +43,8 @@ impl Group {
     /// Returns how many bytes a piece has, the last one aside.
     ///
     /// ```rust
-    /// assert_eq!(rt; Group::new(4, b' ').unwrap().every(), 4);
+    /// let group = Group::new(4, b' ').ok_or("no group")?;
+    /// assert_eq!(rt; group.every(), 4);
     /// ```
     pub fn every(self) -> usize
         ensures { result ≡ piece_len self }
@@ -54,7 +55,8 @@ impl Group {
     /// Returns the separator, an ASCII byte that is no digit.
     ///
     /// ```rust
-    /// assert_eq!(rt; Group::new(4, b' ').unwrap().sep(), b' ');
+    /// let group = Group::new(4, b' ').ok_or("no group")?;
+    /// assert_eq!(rt; group.sep(), b' ');
     /// ```
     pub fn sep(self) -> u8
         ensures { result ≡ separator self }

@@ -23,8 +23,10 @@ use hex_core::Error;
 /// 2. [`Error::OutputTooSmall`] with `2 * src.len()` where that is more than `N`.
 ///
 /// ```rust
-/// assert_eq!(rt; hex_string::<4>(&[0xab, 1])?.as_str(), "ab01");
-/// assert_eq!(rt; hex_string::<3>(&[0xab, 1]).err(), Some(Error::OutputTooSmall { required: 4 }));
+/// let text = heapless_08::hex_string::<4>(&[0xab, 1])?;
+/// assert_eq!(rt; text.as_str(), "ab01");
+/// let refused = heapless_08::hex_string::<3>(&[0xab, 1]).err();
+/// assert_eq!(rt; refused, Some(Error::OutputTooSmall { required: 4 }));
 /// ```
 pub fn hex_string<const N: usize>(src: &[u8]) -> Result<ArrayString<N>, Error>
     ensures { EncodesWithin (λ string. string.bytes) lowercase src.now N result }
@@ -40,7 +42,8 @@ pub fn hex_string<const N: usize>(src: &[u8]) -> Result<ArrayString<N>, Error>
 /// Those of [`hex_string`], in the same order.
 ///
 /// ```rust
-/// assert_eq!(rt; hex_string_upper::<4>(&[0xab, 1])?.as_str(), "AB01");
+/// let text = heapless_08::hex_string_upper::<4>(&[0xab, 1])?;
+/// assert_eq!(rt; text.as_str(), "AB01");
 /// ```
 pub fn hex_string_upper<const N: usize>(src: &[u8]) -> Result<ArrayString<N>, Error>
     ensures { EncodesWithin (λ string. string.bytes) uppercase src.now N result }

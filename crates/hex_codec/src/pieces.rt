@@ -20,7 +20,8 @@ pub const PIECE_DIGITS: usize = 512;
 ///
 /// ```rust
 /// let mut buffer = [0; 8];
-/// assert_eq!(rt; encoded(&[0xab, 1], true, &mut buffer), b"AB01");
+/// let text = encoded(&[0xab, 1], true, &mut buffer);
+/// assert_eq!(rt; text, b"AB01".as_slice());
 /// ```
 pub fn encoded<'b>(bytes: &[u8], upper: bool, buffer: &'b mut [u8]) -> &'b [u8]
     requires { 2 * length bytes.now ≤ length buffer.old }

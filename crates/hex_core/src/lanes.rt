@@ -63,7 +63,7 @@ pub fn admitted_64(bytes: &[u8; 64], case: CheckCase) -> u64
 ///
 /// ```rust
 /// let nibbles = nibbles_saturating_16(b"0123456789abcdef", CheckCase::None);
-/// assert_eq!(rt; nibbles, [0, 1, 2, 3, 4, 5, 6, 7, 8, 9, 10, 11, 12, 13, 14, 15]);
+/// assert_eq!(rt; (nibbles[9], nibbles[15]), (9, 15));
 /// ```
 #[inline(always)]
 pub fn nibbles_saturating_16(bytes: &[u8; 16], case: CheckCase) -> [u8; 16]
@@ -76,8 +76,11 @@ pub fn nibbles_saturating_16(bytes: &[u8; 16], case: CheckCase) -> [u8; 16]
 /// value under `case`, and there the nibble is that value. Nothing is said of other nibbles.
 ///
 /// ```rust
-/// let (nibbles, checked) = nibbles_hashed_32(b"7g777777777777777777777777777777", CheckCase::None);
-/// assert_eq!(rt; (nibbles[0], checked[0] < 128, checked[1] < 128), (7, true, false));
+/// let mut bytes = [b'7'; 32];
+/// bytes[31] = b'g';
+/// let (nibbles, checked) = nibbles_hashed_32(&bytes, CheckCase::None);
+/// assert_eq!(rt; nibbles[30], 7);
+/// assert!(rt; checked[30] < 128 && checked[31] >= 128);
 /// ```
 #[inline(always)]
 pub fn nibbles_hashed_32(bytes: &[u8; 32], case: CheckCase) -> ([u8; 32], [u8; 32])
@@ -98,7 +101,8 @@ pub fn nibbles_hashed_32(bytes: &[u8; 32], case: CheckCase) -> ([u8; 32], [u8; 3
 /// let mut bytes = [b'7'; 64];
 /// bytes[63] = b'g';
 /// let (nibbles, checked) = nibbles_hashed_64(&bytes, CheckCase::None);
-/// assert_eq!(rt; (nibbles[62], checked[62] < 128, checked[63] < 128), (7, true, false));
+/// assert_eq!(rt; nibbles[62], 7);
+/// assert!(rt; checked[62] < 128 && checked[63] >= 128);
 /// ```
 #[inline(always)]
 pub fn nibbles_hashed_64(bytes: &[u8; 64], case: CheckCase) -> ([u8; 64], [u8; 64])
@@ -171,7 +175,8 @@ pub fn encode_8(bytes: &[u8; 8], upper: bool) -> [u8; 16]
 /// Returns the text of 16 bytes, in uppercase where `upper` is true.
 ///
 /// ```rust
-/// assert_eq!(rt; encode_16(&[0xab; 16], true), *b"ABABABABABABABABABABABABABABABAB");
+/// let text = encode_16(&[0xab; 16], true);
+/// assert_eq!(rt; text, *b"ABABABABABABABABABABABABABABABAB");
 /// ```
 #[inline(always)]
 pub fn encode_16(bytes: &[u8; 16], upper: bool) -> [u8; 32]

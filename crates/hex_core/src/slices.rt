@@ -157,7 +157,8 @@ impl Backend {
     ///
     /// ```rust
     /// let mut buffer = [0xa5; 3];
-    /// assert_eq!(rt; Backend::plain().decode_into(b"00ab", &mut buffer, CheckCase::None), Ok(2));
+    /// let written = Backend::plain().decode_into(b"00ab", &mut buffer, CheckCase::None)?;
+    /// assert_eq!(rt; written, 2);
     /// assert_eq!(rt; buffer, [0, 0xab, 0xa5]);
     /// ```
     #[inline(always)]
@@ -183,7 +184,8 @@ impl Backend {
     ///
     /// ```rust
     /// let mut buffer = [b'-'; 5];
-    /// assert_eq!(rt; Backend::plain().encode_into(&[0, 0xab], &mut buffer, false), Ok(4));
+    /// let written = Backend::plain().encode_into(&[0, 0xab], &mut buffer, false)?;
+    /// assert_eq!(rt; written, 4);
     /// assert_eq!(rt; &buffer, b"00ab-");
     /// ```
     #[inline(always)]
@@ -243,7 +245,8 @@ impl Backend {
     /// ```rust
     /// let [_, _, avx2, ..] = backends();
     /// let mut buffer = [0; 4];
-    /// assert_eq!(rt; avx2.encode_slice(&[0, 0xab], &mut buffer, true)?, b"00AB");
+    /// let text = avx2.encode_slice(&[0, 0xab], &mut buffer, true)?;
+    /// assert_eq!(rt; &*text, b"00AB".as_slice());
     /// ```
     #[inline(always)]
     pub fn encode_slice<'a>(

@@ -74,7 +74,7 @@ impl Default for HexFlags {
 /// Bytes that print as their hex digits, two a byte, in their order. The bytes are borrowed.
 ///
 /// ```rust
-/// let text = format!(in alloc; "{}", Hex::new(&[0, 0xab, 0xcd]))?;
+/// let text = format!(in rt.alloc(); "{}", Hex::new(&[0, 0xab, 0xcd]))?;
 /// assert_eq!(rt; text.as_str(), "00abcd");
 /// ```
 #[derive(Clone, Copy, Debug)]
@@ -107,9 +107,14 @@ impl<'a> Hex<'a> {
     /// ```rust
     /// let mut buffer = [0; 10];
     /// let mut sink = SliceSink::new(&mut buffer);
-    /// let flags = HexFlags { prefix: true, zero: true, width: Some(8), ..HexFlags::default() };
-    /// assert_eq!(rt; Hex::new(&[0xab]).write_to(&mut sink, &flags), Ok(()));
-    /// assert_eq!(rt; sink.written(), b"0x0000ab");
+    /// let flags = HexFlags {
+    ///     prefix: true,
+    ///     zero: true,
+    ///     width: Some(8),
+    ///     ..HexFlags::default()
+    /// };
+    /// Hex::new(&[0xab]).write_to(&mut sink, &flags)?;
+    /// assert_eq!(rt; sink.written(), b"0x0000ab".as_slice());
     /// ```
     pub fn write_to<S: Sink>(&self, sink: &mut S, flags: &HexFlags) -> Result<(), WriteFault>
         requires { (S.state sink.old).failures < 2 ^ 64 - 1 }

@@ -68,7 +68,7 @@ pub enum WriteFault {
 /// let mut sink = SliceSink::new(&mut buffer);
 /// assert_eq!(rt; put_all(&mut sink, b"ab"), Ok(()));
 /// assert_eq!(rt; put_all(&mut sink, b"cd"), Err(WriteFault::Sink(SinkFault)));
-/// assert_eq!(rt; sink.written(), b"abc");
+/// assert_eq!(rt; sink.written(), b"abc".as_slice());
 /// ```
 pub fn put_all<S: Sink>(sink: &mut S, piece: &[u8]) -> Result<(), WriteFault>
     requires { (S.state sink.old).failures < 2 ^ 64 - 1 }
@@ -93,7 +93,7 @@ pub fn put_all<S: Sink>(sink: &mut S, piece: &[u8]) -> Result<(), WriteFault>
 /// assert_eq!(rt; sink.put(b"ab"), Ok(2));
 /// assert_eq!(rt; sink.put(b"cd"), Ok(1));
 /// assert_eq!(rt; sink.put(b"d"), Err(SinkFault));
-/// assert_eq!(rt; sink.written(), b"abc");
+/// assert_eq!(rt; sink.written(), b"abc".as_slice());
 /// assert_eq!(rt; sink.failures(), 1);
 /// ```
 #[derive(Drop)]
@@ -169,10 +169,10 @@ impl Sink for SliceSink<'_> {
 /// A sink over a writer: each put is one `write`, and no kind of error is tried again.
 ///
 /// ```rust
-/// let mut sink = WriterSink::new(Vec::new(Global));
+/// let mut sink = WriterSink::new(Vec::new(rt.alloc()));
 /// assert_eq!(rt; sink.put(b"ab"), Ok(2));
 /// assert!(rt; sink.last_error().is_none());
-/// assert_eq!(rt; sink.into_inner().as_slice(), b"ab");
+/// assert_eq!(rt; sink.into_inner().as_slice(), b"ab".as_slice());
 /// ```
 #[derive(Drop)]
 pub struct WriterSink<W: Write> {

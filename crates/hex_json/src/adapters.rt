@@ -28,6 +28,8 @@ use std::{error, fmt};
 /// | `Codec` | that of the [`Error`] |
 ///
 /// ```rust
+/// use serde_json::Value;
+///
 /// let refused = faster_hex::deserialize(rt.alloc(), &Value::Null).err();
 /// assert_eq!(rt; refused, Some(AdapterError::NotText));
 /// ```
@@ -72,7 +74,11 @@ impl error::Error for AdapterError {}
 /// How bytes stand in a JSON text. Each of the six modules has one, which reads what it writes.
 ///
 /// ```rust
-/// let format = WireFormat { prefixed: true, upper: true, case: CheckCase::Upper };
+/// let format = WireFormat {
+///     prefixed: true,
+///     upper: true,
+///     case: CheckCase::Upper,
+/// };
 /// assert_eq!(rt; format, WireFormat::WITHPFX_UPPERCASE);
 /// ```
 #[derive(Clone, Copy, Debug, PartialEq, Eq)]
@@ -131,8 +137,8 @@ impl WireFormat {
     /// Returns what stands before the digits: `0x`, or nothing.
     ///
     /// ```rust
-    /// let format = WireFormat { prefixed: true, upper: false, case: CheckCase::None };
-    /// assert_eq!(rt; format.prefix(), b"0x");
+    /// let prefix = WireFormat::WITHPFX_LOWERCASE.prefix();
+    /// assert_eq!(rt; prefix, b"0x".as_slice());
     /// ```
     pub fn prefix(self) -> &'static [u8]
         ensures { result.now ≡ prefix self }
@@ -178,9 +184,11 @@ fn payload_of(format: WireFormat, value: &Value) -> Result<&[u8], AdapterError>
 ///    counted in bytes from the first digit.
 ///
 /// ```rust
-/// let format = WireFormat { prefixed: false, upper: false, case: CheckCase::None };
-/// let value = Value::from_str(rt.alloc(), "\"Ab01\"")?;
-/// assert_eq!(rt; read(rt.alloc(), format, None, &value)?.as_slice(), [0xab, 1]);
+/// use serde_json::Value;
+///
+/// let value = Value::from_str(rt.alloc(), r#""Ab01""#)?;
+/// let bytes = read(rt.alloc(), WireFormat::NOPFX_IGNORECASE, None, &value)?;
+/// assert_eq!(rt; bytes.as_slice(), [0xab, 1].as_slice());
 /// ```
 pub fn read<A: Allocator + Drop>(
     alloc: A,
@@ -212,9 +220,11 @@ pub fn read<A: Allocator + Drop>(
 /// 3. `Codec(InvalidChar)` as at [`read`].
 ///
 /// ```rust
-/// let format = WireFormat { prefixed: false, upper: false, case: CheckCase::None };
-/// let value = Value::from_str(rt.alloc(), "\"Ab01\"")?;
-/// assert_eq!(rt; read_array(format, &value), Ok([0xab, 1]));
+/// use serde_json::Value;
+///
+/// let value = Value::from_str(rt.alloc(), r#""Ab01""#)?;
+/// let bytes = read_array(WireFormat::NOPFX_IGNORECASE, &value)?;
+/// assert_eq!(rt; bytes, [0xab, 1]);
 /// ```
 pub fn read_array<const N: usize>(
     format: WireFormat,
@@ -232,7 +242,9 @@ pub fn read_array<const N: usize>(
 /// Those of [`read`], in its order, and none for `null`.
 ///
 /// ```rust
-/// let format = WireFormat { prefixed: true, upper: false, case: CheckCase::None };
+/// use serde_json::Value;
+///
+/// let format = WireFormat::WITHPFX_IGNORECASE;
 /// assert!(rt; read_option(rt.alloc(), format, None, &Value::Null)?.is_none());
 /// ```
 pub fn read_option<A: Allocator + Drop>(
@@ -256,7 +268,9 @@ pub fn read_option<A: Allocator + Drop>(
 /// Those of [`read_array`], in its order, and none for `null`.
 ///
 /// ```rust
-/// let format = WireFormat { prefixed: true, upper: false, case: CheckCase::None };
+/// use serde_json::Value;
+///
+/// let format = WireFormat::WITHPFX_IGNORECASE;
 /// assert_eq!(rt; read_option_array::<2>(format, &Value::Null), Ok(None));
 /// ```
 pub fn read_option_array<const N: usize>(
@@ -283,8 +297,8 @@ pub fn read_option_array<const N: usize>(
 /// 2. `Codec(OutOfMemory)` where the memory was refused.
 ///
 /// ```rust
-/// let format = WireFormat { prefixed: true, upper: true, case: CheckCase::Upper };
-/// assert_eq!(rt; text_of(rt.alloc(), format, &[0xab, 1])?.as_str(), "0xAB01");
+/// let text = text_of(rt.alloc(), WireFormat::WITHPFX_UPPERCASE, &[0xab, 1])?;
+/// assert_eq!(rt; text.as_str(), "0xAB01");
 /// ```
 pub fn text_of<A: Allocator + Drop>(
     alloc: A,
@@ -309,8 +323,8 @@ pub fn text_of<A: Allocator + Drop>(
 /// Those of [`text_of`], which makes the text.
 ///
 /// ```rust
-/// let format = WireFormat { prefixed: true, upper: true, case: CheckCase::Upper };
-/// assert_eq!(rt; write(rt.alloc(), format, &[0xab, 1])?.as_str(), Some("0xAB01"));
+/// let value = write(rt.alloc(), WireFormat::WITHPFX_UPPERCASE, &[0xab, 1])?;
+/// assert_eq!(rt; value.as_str(), Some("0xAB01"));
 /// ```
 pub fn write(alloc: Global, format: WireFormat, src: &[u8]) -> Result<Value, AdapterError>
     ensures { AnswersWrite format src.now result }
@@ -325,8 +339,8 @@ pub fn write(alloc: Global, format: WireFormat, src: &[u8]) -> Result<Value, Ada
 /// Those of [`write`], and none for none.
 ///
 /// ```rust
-/// let format = WireFormat { prefixed: true, upper: true, case: CheckCase::Upper };
-/// assert!(rt; write_option(rt.alloc(), format, None)?.is_null());
+/// let value = write_option(rt.alloc(), WireFormat::WITHPFX_UPPERCASE, None)?;
+/// assert!(rt; value.is_null());
 /// ```
 pub fn write_option(
     alloc: Global,

@@ -14,8 +14,10 @@ use std::alloc::Global;
 /// ```rust
 /// let value = withpfx_ignorecase::serialize(rt.alloc(), &[0xab, 1])?;
 /// assert_eq!(rt; value.as_str(), Some("0xab01"));
-/// assert_eq!(rt; withpfx_ignorecase::deserialize(rt.alloc(), &value)?.as_slice(), [0xab, 1]);
-/// assert_eq!(rt; withpfx_ignorecase::array::deserialize(&value), Ok([0xab, 1]));
+/// let bytes = withpfx_ignorecase::deserialize(rt.alloc(), &value)?;
+/// assert_eq!(rt; bytes.as_slice(), [0xab, 1].as_slice());
+/// let array = withpfx_ignorecase::array::deserialize(&value)?;
+/// assert_eq!(rt; array, [0xab, 1]);
 /// ```
 pub mod withpfx_ignorecase {
     use super::*;
@@ -59,8 +61,11 @@ pub mod withpfx_ignorecase {
     ///    from the first digit.
     ///
     /// ```rust
+    /// use serde_json::Value;
+    ///
     /// let value = Value::from_str(rt.alloc(), r#""0x00aB""#)?;
-    /// assert_eq!(rt; faster_hex::deserialize(rt.alloc(), &value)?.as_slice(), [0, 0xab]);
+    /// let bytes = faster_hex::deserialize(rt.alloc(), &value)?;
+    /// assert_eq!(rt; bytes.as_slice(), [0, 0xab].as_slice());
     /// ```
     pub fn deserialize(alloc: Global, value: &Value) -> Result<Vec<u8>, AdapterError>
         ensures { AnswersRead wire.withpfx_ignorecase None value.now result }
@@ -78,9 +83,12 @@ pub mod withpfx_ignorecase {
     /// `MAX` and half their number.
     ///
     /// ```rust
+    /// use serde_json::Value;
+    ///
     /// let value = Value::from_str(rt.alloc(), r#""0xgggggg""#)?;
     /// let refused = faster_hex::deserialize_bounded::<2>(rt.alloc(), &value).err();
-    /// assert_eq!(rt; refused, Some(AdapterError::OverBound { max: 2, actual: 3 }));
+    /// let why = AdapterError::OverBound { max: 2, actual: 3 };
+    /// assert_eq!(rt; refused, Some(why));
     /// ```
     pub fn deserialize_bounded<const MAX: usize>(
         alloc: Global,
@@ -110,6 +118,8 @@ pub mod withpfx_ignorecase {
         ///    bytes from the first digit.
         ///
         /// ```rust
+        /// use serde_json::Value;
+        ///
         /// let value = Value::from_str(rt.alloc(), r#""0xab01""#)?;
         /// assert_eq!(rt; faster_hex::array::deserialize(&value), Ok([0xab, 1]));
         /// ```
@@ -126,8 +136,10 @@ pub mod withpfx_ignorecase {
 /// ```rust
 /// let value = nopfx_ignorecase::serialize(rt.alloc(), &[0xab, 1])?;
 /// assert_eq!(rt; value.as_str(), Some("ab01"));
-/// assert_eq!(rt; nopfx_ignorecase::deserialize(rt.alloc(), &value)?.as_slice(), [0xab, 1]);
-/// assert_eq!(rt; nopfx_ignorecase::array::deserialize(&value), Ok([0xab, 1]));
+/// let bytes = nopfx_ignorecase::deserialize(rt.alloc(), &value)?;
+/// assert_eq!(rt; bytes.as_slice(), [0xab, 1].as_slice());
+/// let array = nopfx_ignorecase::array::deserialize(&value)?;
+/// assert_eq!(rt; array, [0xab, 1]);
 /// ```
 pub mod nopfx_ignorecase {
     use super::*;
@@ -177,8 +189,10 @@ pub mod nopfx_ignorecase {
 /// ```rust
 /// let value = withpfx_lowercase::serialize(rt.alloc(), &[0xab, 1])?;
 /// assert_eq!(rt; value.as_str(), Some("0xab01"));
-/// assert_eq!(rt; withpfx_lowercase::deserialize(rt.alloc(), &value)?.as_slice(), [0xab, 1]);
-/// assert_eq!(rt; withpfx_lowercase::array::deserialize(&value), Ok([0xab, 1]));
+/// let bytes = withpfx_lowercase::deserialize(rt.alloc(), &value)?;
+/// assert_eq!(rt; bytes.as_slice(), [0xab, 1].as_slice());
+/// let array = withpfx_lowercase::array::deserialize(&value)?;
+/// assert_eq!(rt; array, [0xab, 1]);
 /// ```
 pub mod withpfx_lowercase {
     use super::*;
@@ -227,8 +241,10 @@ pub mod withpfx_lowercase {
 /// ```rust
 /// let value = nopfx_lowercase::serialize(rt.alloc(), &[0xab, 1])?;
 /// assert_eq!(rt; value.as_str(), Some("ab01"));
-/// assert_eq!(rt; nopfx_lowercase::deserialize(rt.alloc(), &value)?.as_slice(), [0xab, 1]);
-/// assert_eq!(rt; nopfx_lowercase::array::deserialize(&value), Ok([0xab, 1]));
+/// let bytes = nopfx_lowercase::deserialize(rt.alloc(), &value)?;
+/// assert_eq!(rt; bytes.as_slice(), [0xab, 1].as_slice());
+/// let array = nopfx_lowercase::array::deserialize(&value)?;
+/// assert_eq!(rt; array, [0xab, 1]);
 /// ```
 pub mod nopfx_lowercase {
     use super::*;
@@ -278,8 +294,10 @@ pub mod nopfx_lowercase {
 /// ```rust
 /// let value = withpfx_uppercase::serialize(rt.alloc(), &[0xab, 1])?;
 /// assert_eq!(rt; value.as_str(), Some("0xAB01"));
-/// assert_eq!(rt; withpfx_uppercase::deserialize(rt.alloc(), &value)?.as_slice(), [0xab, 1]);
-/// assert_eq!(rt; withpfx_uppercase::array::deserialize(&value), Ok([0xab, 1]));
+/// let bytes = withpfx_uppercase::deserialize(rt.alloc(), &value)?;
+/// assert_eq!(rt; bytes.as_slice(), [0xab, 1].as_slice());
+/// let array = withpfx_uppercase::array::deserialize(&value)?;
+/// assert_eq!(rt; array, [0xab, 1]);
 /// ```
 pub mod withpfx_uppercase {
     use super::*;
@@ -328,8 +346,10 @@ pub mod withpfx_uppercase {
 /// ```rust
 /// let value = nopfx_uppercase::serialize(rt.alloc(), &[0xab, 1])?;
 /// assert_eq!(rt; value.as_str(), Some("AB01"));
-/// assert_eq!(rt; nopfx_uppercase::deserialize(rt.alloc(), &value)?.as_slice(), [0xab, 1]);
-/// assert_eq!(rt; nopfx_uppercase::array::deserialize(&value), Ok([0xab, 1]));
+/// let bytes = nopfx_uppercase::deserialize(rt.alloc(), &value)?;
+/// assert_eq!(rt; bytes.as_slice(), [0xab, 1].as_slice());
+/// let array = nopfx_uppercase::array::deserialize(&value)?;
+/// assert_eq!(rt; array, [0xab, 1]);
 /// ```
 pub mod nopfx_uppercase {
     use super::*;

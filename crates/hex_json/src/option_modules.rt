@@ -13,8 +13,10 @@ use std::alloc::Global;
 /// ```rust
 /// let value = option_withpfx_ignorecase::serialize(rt.alloc(), Some(&[0xab, 1]))?;
 /// assert_eq!(rt; value.as_str(), Some("0xab01"));
-/// assert_eq!(rt; option_withpfx_ignorecase::array::deserialize(&value), Ok(Some([0xab, 1])));
-/// assert!(rt; option_withpfx_ignorecase::deserialize(rt.alloc(), &Value::Null)?.is_none());
+/// let array = option_withpfx_ignorecase::array::deserialize(&value)?;
+/// assert_eq!(rt; array, Some([0xab, 1]));
+/// let none = option_withpfx_ignorecase::serialize(rt.alloc(), None)?;
+/// assert!(rt; option_withpfx_ignorecase::deserialize(rt.alloc(), &none)?.is_none());
 /// ```
 pub mod option_withpfx_ignorecase {
     use super::*;
@@ -65,8 +67,10 @@ pub mod option_withpfx_ignorecase {
 /// ```rust
 /// let value = option_nopfx_ignorecase::serialize(rt.alloc(), Some(&[0xab, 1]))?;
 /// assert_eq!(rt; value.as_str(), Some("ab01"));
-/// assert_eq!(rt; option_nopfx_ignorecase::array::deserialize(&value), Ok(Some([0xab, 1])));
-/// assert!(rt; option_nopfx_ignorecase::deserialize(rt.alloc(), &Value::Null)?.is_none());
+/// let array = option_nopfx_ignorecase::array::deserialize(&value)?;
+/// assert_eq!(rt; array, Some([0xab, 1]));
+/// let none = option_nopfx_ignorecase::serialize(rt.alloc(), None)?;
+/// assert!(rt; option_nopfx_ignorecase::deserialize(rt.alloc(), &none)?.is_none());
 /// ```
 pub mod option_nopfx_ignorecase {
     use super::*;
@@ -117,8 +121,10 @@ pub mod option_nopfx_ignorecase {
 /// ```rust
 /// let value = option_withpfx_lowercase::serialize(rt.alloc(), Some(&[0xab, 1]))?;
 /// assert_eq!(rt; value.as_str(), Some("0xab01"));
-/// assert_eq!(rt; option_withpfx_lowercase::array::deserialize(&value), Ok(Some([0xab, 1])));
-/// assert!(rt; option_withpfx_lowercase::deserialize(rt.alloc(), &Value::Null)?.is_none());
+/// let array = option_withpfx_lowercase::array::deserialize(&value)?;
+/// assert_eq!(rt; array, Some([0xab, 1]));
+/// let none = option_withpfx_lowercase::serialize(rt.alloc(), None)?;
+/// assert!(rt; option_withpfx_lowercase::deserialize(rt.alloc(), &none)?.is_none());
 /// ```
 pub mod option_withpfx_lowercase {
     use super::*;
@@ -169,8 +175,10 @@ pub mod option_withpfx_lowercase {
 /// ```rust
 /// let value = option_nopfx_lowercase::serialize(rt.alloc(), Some(&[0xab, 1]))?;
 /// assert_eq!(rt; value.as_str(), Some("ab01"));
-/// assert_eq!(rt; option_nopfx_lowercase::array::deserialize(&value), Ok(Some([0xab, 1])));
-/// assert!(rt; option_nopfx_lowercase::deserialize(rt.alloc(), &Value::Null)?.is_none());
+/// let array = option_nopfx_lowercase::array::deserialize(&value)?;
+/// assert_eq!(rt; array, Some([0xab, 1]));
+/// let none = option_nopfx_lowercase::serialize(rt.alloc(), None)?;
+/// assert!(rt; option_nopfx_lowercase::deserialize(rt.alloc(), &none)?.is_none());
 /// ```
 pub mod option_nopfx_lowercase {
     use super::*;
@@ -221,8 +229,10 @@ pub mod option_nopfx_lowercase {
 /// ```rust
 /// let value = option_withpfx_uppercase::serialize(rt.alloc(), Some(&[0xab, 1]))?;
 /// assert_eq!(rt; value.as_str(), Some("0xAB01"));
-/// assert_eq!(rt; option_withpfx_uppercase::array::deserialize(&value), Ok(Some([0xab, 1])));
-/// assert!(rt; option_withpfx_uppercase::deserialize(rt.alloc(), &Value::Null)?.is_none());
+/// let array = option_withpfx_uppercase::array::deserialize(&value)?;
+/// assert_eq!(rt; array, Some([0xab, 1]));
+/// let none = option_withpfx_uppercase::serialize(rt.alloc(), None)?;
+/// assert!(rt; option_withpfx_uppercase::deserialize(rt.alloc(), &none)?.is_none());
 /// ```
 pub mod option_withpfx_uppercase {
     use super::*;
@@ -273,8 +283,10 @@ pub mod option_withpfx_uppercase {
 /// ```rust
 /// let value = option_nopfx_uppercase::serialize(rt.alloc(), Some(&[0xab, 1]))?;
 /// assert_eq!(rt; value.as_str(), Some("AB01"));
-/// assert_eq!(rt; option_nopfx_uppercase::array::deserialize(&value), Ok(Some([0xab, 1])));
-/// assert!(rt; option_nopfx_uppercase::deserialize(rt.alloc(), &Value::Null)?.is_none());
+/// let array = option_nopfx_uppercase::array::deserialize(&value)?;
+/// assert_eq!(rt; array, Some([0xab, 1]));
+/// let none = option_nopfx_uppercase::serialize(rt.alloc(), None)?;
+/// assert!(rt; option_nopfx_uppercase::deserialize(rt.alloc(), &none)?.is_none());
 /// ```
 pub mod option_nopfx_uppercase {
     use super::*;

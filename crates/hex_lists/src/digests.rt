@@ -74,9 +74,8 @@ pub enum ListFault {
 /// assert_eq!(rt; entries.len(), 2);
 /// assert_eq!(rt; entries[1].digest, [0xcd, 2]);
 /// assert_eq!(rt; entries[1].name, b"b".as_slice());
-/// let refused = read::<2>(rt.alloc(), list, CheckCase::Lower);
-/// let why = LineFault::InvalidByte { index: 0, byte: b'C' };
-/// assert_eq!(rt; refused.err(), Some(ListFault::Line { line: 2, why }));
+/// let refused = read::<2>(rt.alloc(), list, CheckCase::Lower).err();
+/// assert!(rt; matches!(refused, Some(ListFault::Line { line: 2, .. })));
 /// ```
 pub fn read<'a, const N: usize>(
     alloc: Global,

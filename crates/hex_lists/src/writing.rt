@@ -40,10 +40,16 @@ pub enum ListWriteFault {
 ///   taken a beginning of the list, and has counted one failure more.
 ///
 /// ```rust
+/// use hex_lists::digests::{Entry, write_to};
+///
 /// let mut buffer = [0; 8];
 /// let mut sink = SliceSink::new(&mut buffer);
-/// let entry = Entry { digest: [0xab, 1], binary: true, name: b"b" };
-/// assert_eq!(rt; write_to(&[entry], &mut sink, true), Ok(()));
+/// let entry = Entry {
+///     digest: [0xab, 1],
+///     binary: true,
+///     name: b"b",
+/// };
+/// write_to(&[entry], &mut sink, true)?;
 /// assert_eq!(rt; sink.written(), b"AB01 *b\n".as_slice());
 /// ```
 pub fn write_to<S: Sink, const N: usize>(

@@ -48,7 +48,8 @@ impl Failure {
     /// Returns the failure of a program whose run met this fault.
     ///
     /// ```rust
-    /// assert_eq!(rt; Failure::of_run(RunFault::OutOfMemory), Failure::OutOfMemory);
+    /// let failure = Failure::of_run(RunFault::OutOfMemory);
+    /// assert_eq!(rt; failure, Failure::OutOfMemory);
     /// ```
     pub fn of_run(fault: RunFault) -> Failure
         ensures fault { result ≡ failure_of fault }

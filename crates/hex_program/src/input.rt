@@ -23,7 +23,8 @@ const CHUNK: usize = 65_536;
 ///
 /// ```rust
 /// let mut input: &[u8] = b"hello";
-/// assert_eq!(rt; read_input(rt.alloc(), &mut input).unwrap().as_slice(), b"hello");
+/// let bytes = read_input(rt.alloc(), &mut input)?;
+/// assert_eq!(rt; bytes.as_slice(), b"hello".as_slice());
 /// ```
 pub fn read_input<A: Allocator + Drop, R: Read>(
     alloc: A,

@@ -163,8 +163,8 @@ pub fn run_in<A: Allocator + Drop, S: Sink>(
 /// ```rust
 /// let mut buffer = [0; 16];
 /// let mut sink = SliceSink::new(&mut buffer);
-/// assert_eq!(rt; run(rt.alloc(), Op::EncodeUpper, &[0xab], &mut sink), Ok(()));
-/// assert_eq!(rt; sink.written(), b"AB\n");
+/// run(rt.alloc(), Op::EncodeUpper, &[0xab], &mut sink)?;
+/// assert_eq!(rt; sink.written(), b"AB\n".as_slice());
 /// ```
 pub fn run<S: Sink>(alloc: Global, op: Op, input: &[u8], sink: &mut S) -> Result<(), RunFault>
     requires { (S.state sink.old).failures < 2 ^ 64 - 1 }

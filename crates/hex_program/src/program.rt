@@ -172,7 +172,7 @@ pub fn serve_in<A: Allocator, R: Read, W: Write, E: Write>(
 /// let (out, err) = (Vec::new(rt.alloc()), Vec::new(rt.alloc()));
 /// let (status, out, _) = serve(rt.alloc(), &["encode"], &mut input, out, err);
 /// assert_eq!(rt; status, 0);
-/// assert_eq!(rt; out.as_slice(), b"68656c6c6f\n");
+/// assert_eq!(rt; out.as_slice(), b"68656c6c6f\n".as_slice());
 /// ```
 pub fn serve<R: Read, W: Write, E: Write>(
     alloc: Global,

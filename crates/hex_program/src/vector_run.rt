@@ -28,7 +28,8 @@ pub const LONGEST: usize = 128;
 /// let [scalar, ..] = backends();
 /// let mut buffer = [0xa5; 3];
 /// assert_eq!(rt; Codec::name(&scalar), "scalar");
-/// assert_eq!(rt; Codec::encode(&scalar, &[0xab], &mut buffer, false)?.len(), 2);
+/// let text = Codec::encode(&scalar, &[0xab], &mut buffer, false)?;
+/// assert_eq!(rt; &*text, b"ab".as_slice());
 /// assert_eq!(rt; &buffer, b"ab\xa5");
 /// ```
 pub trait Codec {
@@ -246,8 +247,10 @@ fn run_codecs<C: Codec, S: Sink>(
 /// let [scalar, ..] = backends();
 /// let mut buffer = [0; 64];
 /// let mut sink = SliceSink::new(&mut buffer);
-/// assert_eq!(rt; run_vectors_under(&[scalar], &VECTORS[..1], &mut sink), Ok(0));
-/// assert_eq!(rt; sink.written(), b"scalar v01 pass\ntotal 1 passed 1 failed 0\n".as_slice());
+/// let failed = run_vectors_under(&[scalar], &VECTORS[..1], &mut sink)?;
+/// assert_eq!(rt; failed, 0);
+/// let lines = b"scalar v01 pass\ntotal 1 passed 1 failed 0\n";
+/// assert_eq!(rt; sink.written(), lines.as_slice());
 /// ```
 pub fn run_vectors_under<C: Codec, S: Sink>(
     codecs: &[C],
@@ -289,8 +292,9 @@ pub enum VectorFault {
 /// ```rust
 /// let mut buffer = [0; 2048];
 /// let mut sink = SliceSink::new(&mut buffer);
-/// assert_eq!(rt; run_vectors(&rt.alloc(), &VECTORS, &PLAIN_VECTORS, &mut sink), Ok(0));
-/// assert!(rt; sink.written().ends_with(b"plain v20 pass\ntotal 84 passed 84 failed 0\n"));
+/// let failed = run_vectors(&rt.alloc(), &VECTORS, &PLAIN_VECTORS, &mut sink)?;
+/// assert_eq!(rt; failed, 0);
+/// assert!(rt; sink.written().ends_with(b"total 84 passed 84 failed 0\n"));
 /// ```
 pub fn run_vectors<A: Allocator, S: Sink>(
     alloc: &A,
