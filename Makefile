@@ -14,6 +14,7 @@ build:
 		tail -n 40 out/make.log >&2; exit 1; fi
 
 test:
+	scripts/examples.sh --check
 	rt ci
 
 install: build

@@ -1,4 +1,4 @@
-//! Made by `scripts/examples.sh` from `crates/hex_codec/src/decode.rt`: correct the examples there.
+//! Made by `scripts/examples.sh` from the doc comments of `crates/hex_codec/src/decode.rt`.
 
 use hex_codec::decode::*;
 use hex_codec::*;

@@ -1,4 +1,4 @@
-//! Made by `scripts/examples.sh` from `crates/hex_codec/src/encode.rt`: correct the examples there.
+//! Made by `scripts/examples.sh` from the doc comments of `crates/hex_codec/src/encode.rt`.
 
 use hex_codec::encode::*;
 use hex_codec::*;

@@ -1,4 +1,4 @@
-//! Made by `scripts/examples.sh` from `crates/hex_codec/src/grouped.rt`: correct the examples there.
+//! Made by `scripts/examples.sh` from the doc comments of `crates/hex_codec/src/grouped.rt`.
 
 use hex_codec::grouped::*;
 use hex_codec::*;

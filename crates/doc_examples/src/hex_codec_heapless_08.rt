@@ -1,4 +1,4 @@
-//! Made by `scripts/examples.sh` from `crates/hex_codec/src/heapless_08.rt`: correct the examples there.
+//! Made by `scripts/examples.sh` from the doc comments of `crates/hex_codec/src/heapless_08.rt`.
 
 use hex_codec::heapless_08::*;
 use hex_codec::*;

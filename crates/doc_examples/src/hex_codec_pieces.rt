@@ -1,4 +1,4 @@
-//! Made by `scripts/examples.sh` from `crates/hex_codec/src/pieces.rt`: correct the examples there.
+//! Made by `scripts/examples.sh` from the doc comments of `crates/hex_codec/src/pieces.rt`.
 
 use hex_codec::pieces::*;
 use hex_codec::*;

@@ -1,4 +1,4 @@
-//! Made by `scripts/examples.sh` from `crates/hex_core/src/digit.rt`: correct the examples there.
+//! Made by `scripts/examples.sh` from the doc comments of `crates/hex_core/src/digit.rt`.
 
 use hex_core::digit::*;
 use hex_core::*;

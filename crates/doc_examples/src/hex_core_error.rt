@@ -1,4 +1,4 @@
-//! Made by `scripts/examples.sh` from `crates/hex_core/src/error.rt`: correct the examples there.
+//! Made by `scripts/examples.sh` from the doc comments of `crates/hex_core/src/error.rt`.
 
 use hex_core::error::*;
 use hex_core::*;

@@ -1,4 +1,4 @@
-//! Made by `scripts/examples.sh` from `crates/hex_core/src/search.rt`: correct the examples there.
+//! Made by `scripts/examples.sh` from the doc comments of `crates/hex_core/src/search.rt`.
 
 use hex_core::*;
 use std::test::Fail;

@@ -1,4 +1,4 @@
-//! Made by `scripts/examples.sh` from `crates/hex_json/src/option_modules.rt`: correct the examples there.
+//! Made by `scripts/examples.sh` from the doc comments of `crates/hex_json/src/option_modules.rt`.
 
 use hex_codec::*;
 use hex_core::*;

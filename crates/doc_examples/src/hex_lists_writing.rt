@@ -1,4 +1,4 @@
-//! Made by `scripts/examples.sh` from `crates/hex_lists/src/writing.rt`: correct the examples there.
+//! Made by `scripts/examples.sh` from the doc comments of `crates/hex_lists/src/writing.rt`.
 
 use hex_codec::*;
 use hex_core::*;

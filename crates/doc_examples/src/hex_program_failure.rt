@@ -1,4 +1,4 @@
-//! Made by `scripts/examples.sh` from `crates/hex_program/src/failure.rt`: correct the examples there.
+//! Made by `scripts/examples.sh` from the doc comments of `crates/hex_program/src/failure.rt`.
 
 use hex_codec::*;
 use hex_core::*;

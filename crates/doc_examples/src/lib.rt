@@ -1,4 +1,4 @@
-//! The examples of the doc comments. `scripts/examples.sh` makes every file of this crate.
+//! The examples of the libraries' doc comments, as tests. Made by `scripts/examples.sh`.
 #![tactic(auto)]
 
 #[cfg(test)]
