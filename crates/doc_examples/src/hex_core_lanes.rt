@@ -62,13 +62,17 @@ fn pack_16_example(rt: HostRuntime) -> Result<(), Fail> {
 
 #[test]
 fn pack_32_example(rt: HostRuntime) -> Result<(), Fail> {
-    assert_eq!(rt; pack_32(&[7; 32]), [0x77; 16]);
+    let (nibbles, _) = nibbles_hashed_32(&[b'7'; 32], CheckCase::None);
+    assert!(rt; nibbles.iter().all(|nibble| *nibble < 16));
+    assert_eq!(rt; pack_32(&nibbles), [0x77; 16]);
     Ok(())
 }
 
 #[test]
 fn pack_64_example(rt: HostRuntime) -> Result<(), Fail> {
-    assert_eq!(rt; pack_64(&[7; 64]), [0x77; 32]);
+    let (nibbles, _) = nibbles_hashed_64(&[b'7'; 64], CheckCase::None);
+    assert!(rt; nibbles.iter().all(|nibble| *nibble < 16));
+    assert_eq!(rt; pack_64(&nibbles), [0x77; 32]);
     Ok(())
 }
 

@@ -136,7 +136,9 @@ pub fn pack_16(nibbles: &[u8; 16]) -> [u8; 8]
 /// The same as [`pack_16`], of 32 nibbles.
 ///
 /// ```rust
-/// assert_eq!(rt; pack_32(&[7; 32]), [0x77; 16]);
+/// let (nibbles, _) = nibbles_hashed_32(&[b'7'; 32], CheckCase::None);
+/// assert!(rt; nibbles.iter().all(|nibble| *nibble < 16));
+/// assert_eq!(rt; pack_32(&nibbles), [0x77; 16]);
 /// ```
 #[inline(always)]
 pub fn pack_32(nibbles: &[u8; 32]) -> [u8; 16]
@@ -149,7 +151,9 @@ pub fn pack_32(nibbles: &[u8; 32]) -> [u8; 16]
 /// The same as [`pack_16`], of 64 nibbles.
 ///
 /// ```rust
-/// assert_eq!(rt; pack_64(&[7; 64]), [0x77; 32]);
+/// let (nibbles, _) = nibbles_hashed_64(&[b'7'; 64], CheckCase::None);
+/// assert!(rt; nibbles.iter().all(|nibble| *nibble < 16));
+/// assert_eq!(rt; pack_64(&nibbles), [0x77; 32]);
 /// ```
 #[inline(always)]
 pub fn pack_64(nibbles: &[u8; 64]) -> [u8; 32]
