@@ -77,11 +77,11 @@ pub fn read_record(fields: &Value) -> Result<Record, RecordError>
 }
 
 /// Writes a record as a JSON object. It fails where memory is refused.
-pub fn write_record(alloc: Global, record: Record) -> Result<Value, AdapterError>
-    ensures { IfOk result (λ value. ShowsRecord «record» (view value)) }
+pub fn write_record(alloc: Global, source: Record) -> Result<Value, AdapterError>
+    ensures { IfOk result (λ value. ShowsRecord source (view value)) }
 {
-    let id = array::serialize(alloc, &record.id)?;
-    let key = nopfx_lowercase::serialize(alloc, &record.key)?;
+    let id = array::serialize(alloc, &source.id)?;
+    let key = nopfx_lowercase::serialize(alloc, &source.key)?;
     match json!(in alloc; {"id": id, "key": key}) {
         Ok(value) => Ok(value),
         Err(_) => Err(AdapterError::Codec(Error::OutOfMemory)),
@@ -89,15 +89,15 @@ pub fn write_record(alloc: Global, record: Record) -> Result<Value, AdapterError
 }
 
 /// Writes a record and reads it back, which is not refused and gives the same.
-pub fn record_again(alloc: Global, record: Record) -> Result<Record, AdapterError>
-    ensures { IfOk result (λ same. same ≡ «record») }
+pub fn record_again(alloc: Global, source: Record) -> Result<Record, AdapterError>
+    ensures { IfOk result (λ same. same ≡ source) }
 {
-    a_slice_holds_bytes(&record.id);
-    a_slice_holds_bytes(&record.key);
+    a_slice_holds_bytes(&source.id);
+    a_slice_holds_bytes(&source.key);
     reading_inverts_writing();
     a_value_is_read_as_one_list();
     a_value_is_read_where_nothing_is_refused();
-    let value = write_record(alloc, record)?;
+    let value = write_record(alloc, source)?;
     Ok(read_record(&value).unwrap())
 }
 

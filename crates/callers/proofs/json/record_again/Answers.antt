@@ -49,13 +49,13 @@ same-answer law d (Err e) found wanted reads is as_wanted = absurd (cc is)
 
 pub unwrap-requires : goal.unwrap-requires
 unwrap-requires c =
-    let r = c.args.record in let d = view c.in_ok-value.value in
+    let r = c.args.source in let d = view c.in_ok-value.value in
     let four : length r.id ≡ 4 = search rules in let eight : length r.key ≡ 8 = search rules in
     let read = read-as-written c.reading_inverts_writing.ensures.bytes r d c.a_slice_holds_bytes.ensures c.a_slice_holds_bytes-2.ensures c.in_ok-value.ensures in
     answered d c.read_record.result c.read_record.ensures (not-refused c.a_value_is_read_where_nothing_is_refused.ensures.array r d four eight read)
 
 pub returns : goal.returns
 returns c =
-    let r = c.args.record in let d = view c.in_ok-value.value in
+    let r = c.args.source in let d = view c.in_ok-value.value in
     let read = read-as-written c.reading_inverts_writing.ensures.bytes r d c.a_slice_holds_bytes.ensures c.a_slice_holds_bytes-2.ensures c.in_ok-value.ensures in
     same-answer c.a_value_is_read_as_one_list.ensures d c.read_record.result c.unwrap.result r c.read_record.ensures c.unwrap.ensures read
