@@ -1,9 +1,12 @@
 #!/bin/sh
-# Writes the crate doc_examples, whose tests are the examples of the libraries' doc comments, as
-# they stand there; `rt ci` proves and runs them. Run it after each change of an example.
+# Writes the crate doc_examples, whose tests are the examples of the doc comments of the libraries
+# and of callers, and the statements of CALLING.md, as they stand there; `rt ci` proves and runs
+# them. Run it after each change of an example.
 # Usage: scripts/examples.sh [--check]
 # With --check it writes nothing, and prints the name of each file of the crate that differs, is
-# missing or is left over, one a line; its status is then 1 where there is one.
+# missing or is left over, one a line. In any case it prints each function of CALLING.md that does
+# not stand in callers, and each program of README.md that is no program of a crate, by its first
+# line. Its status is 1 where it has printed one.
 #
 # An example stands in a doc comment between ```rust and ```. It is the body of a test, where `rt`
 # is the runtime and `?` takes any error. Without saying so it names what is public at the root of
@@ -24,7 +27,7 @@ case $#:${1-} in
 esac
 
 cd "$(dirname "$0")/.."
-libraries='hex_core hex_codec hex_format hex_lists hex_json faster_hex hex_program'
+libraries='hex_core hex_codec hex_format hex_lists hex_json faster_hex hex_program callers'
 own=crates/doc_examples/src
 made=$(mktemp -d)
 trap 'rm -rf "$made"' EXIT
@@ -56,6 +59,56 @@ write_tests() {
     } >"$made/$1_$2.rt"
 }
 
+# blocks PAGE: writes the rust blocks of a page into files.
+blocks() {
+    rm -rf "$made/blocks"
+    mkdir "$made/blocks"
+    awk -v to="$made/blocks/" '
+        /^```rust$/ { count++; inside = 1; next }
+        /^```$/ { inside = 0; next }
+        inside { print >(to count) }' "$1"
+}
+
+# stands_in BLOCK FILE..: whether the lines of the block stand in a row in one of the files.
+stands_in() {
+    block=$1
+    shift
+    for source in "$@"; do
+        ! awk 'NR == FNR { block = block $0 "\n"; next } { source = source $0 "\n" }
+            END { exit !index(source, block) }' "$block" "$source" || return 0
+    done
+    return 1
+}
+
+# write_page_tests PAGE NAME: the page's blocks that hold no function, as tests.
+write_page_tests() {
+    blocks "$1"
+    {
+        echo "//! Made by \`scripts/examples.sh\` from \`$1\`."
+        echo
+        echo 'use faster_hex::*;'
+        echo 'use std::test::Fail;'
+        for block in "$made"/blocks/*; do
+            ! grep -q '^ *\(pub \)\{0,1\}fn ' "$block" || continue
+            printf '\n#[test]\nfn example_%s(rt: HostRuntime) -> Result<(), Fail> {\n' \
+                "$(basename "$block")"
+            sed 's/^./    &/' "$block"
+            printf '    Ok(())\n}\n'
+        done
+    } >"$made/$2.rt"
+}
+
+# strayed PAGE FILE..: the blocks of the page that hold a function and stand in none of the files.
+strayed() {
+    page=$1
+    shift
+    blocks "$page"
+    for block in "$made"/blocks/*; do
+        ! grep -q '^ *\(pub \)\{0,1\}fn ' "$block" || stands_in "$block" "$@" \
+            || echo "$page: $(head -n 1 "$block")"
+    done
+}
+
 # write_root: the crate's root, once its modules are written.
 write_root() {
     cat <<'HEAD'
@@ -82,15 +135,19 @@ for library in $libraries; do
         write_tests "$library" "$(basename "$file" .rt)" "$file"
     done
 done
+write_page_tests crates/faster_hex/CALLING.md calling
 write_root >"$made/root"
 mv "$made/root" "$made/lib.rt"
 
-if [ -n "$check" ]; then
-    wrong=$(differing)
-    [ -z "$wrong" ] || printf '%s\n' "$wrong"
-    [ -z "$wrong" ]
-    exit
+wrong=$(
+    strayed crates/faster_hex/CALLING.md crates/callers/src/*.rt
+    strayed README.md crates/*/src/main.rt
+    [ -z "$check" ] || differing
+)
+if [ -z "$check" ]; then
+    mkdir -p "$own"
+    rm -f "$own"/*.rt
+    cp "$made"/*.rt "$own"
 fi
-mkdir -p "$own"
-rm -f "$own"/*.rt
-cp "$made"/*.rt "$own"
+[ -z "$wrong" ] || printf '%s\n' "$wrong"
+[ -z "$wrong" ]

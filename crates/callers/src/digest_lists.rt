@@ -44,6 +44,8 @@ pub fn names_with_digest<'a>(
 /// [`ListWriteFault::Write`] where a put failed.
 ///
 /// ```rust
+/// use callers::digest::Digest;
+///
 /// let mut buffer = [0; 72];
 /// let mut sink = SliceSink::new(&mut buffer);
 /// assert!(rt; write_digest_line(&Digest { bytes: [0; 32] }, b"a.txt", &mut sink).is_ok());

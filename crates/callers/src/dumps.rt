@@ -36,7 +36,10 @@ pub fn write_line(bytes: &[u8], flags: &HexFlags, line: &mut [u8]) -> Result<(),
 /// ```rust
 /// let mut buffer = [0; 70];
 /// let mut sink = SliceSink::new(&mut buffer);
-/// let flags = HexFlags { prefix: true, ..HexFlags::default() };
+/// let flags = HexFlags {
+///     prefix: true,
+///     ..HexFlags::default()
+/// };
 /// let ids = [*b"hello, 16 bytes!", [0xab; 16]];
 /// assert_eq!(rt; write_identifiers(&ids, &flags, &mut sink), Ok(()));
 /// let texts = b"0x68656c6c6f2c203136206279746573210xabababababababababababababababab";

@@ -57,6 +57,8 @@ pub fn record_id(fields: &Value) -> Result<[u8; 4], RecordError>
 /// Reads a record, and takes no memory.
 ///
 /// ```rust
+/// use serde_json::Value;
+///
 /// let text = r#"{"id": "0xDEADbeef", "key": "0123456789abcdef"}"#;
 /// let record = read_record(&Value::from_str(rt.alloc(), text)?).map_err(|_| "no record")?;
 /// assert_eq!(rt; record.id, [0xde, 0xad, 0xbe, 0xef]);

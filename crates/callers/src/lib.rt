@@ -77,7 +77,8 @@ pub fn is_key(text: &[u8]) -> bool
 /// A hardware address of six bytes, by the policy that is the default, which reads either case.
 ///
 /// ```rust
-/// assert_eq!(rt; parse_address(b"00005E0053aF"), Some([0, 0, 0x5e, 0, 0x53, 0xaf]));
+/// let address = [0, 0, 0x5e, 0, 0x53, 0xaf];
+/// assert_eq!(rt; parse_address(b"00005E0053aF"), Some(address));
 /// ```
 pub fn parse_address(text: &[u8]) -> Option<[u8; 6]>
     ensures found { IsSome result ↔ (array_refusal policy.None text.now 6 ≡ None) }

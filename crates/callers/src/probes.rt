@@ -85,7 +85,8 @@ pub struct Found {
 ///
 /// ```rust
 /// let found = find_in_two_parts(b"00f", b"f0g", CheckCase::None);
-/// assert_eq!(rt; found, Found { place: Some(5), tests: 0, looks: 6 });
+/// assert_eq!(rt; found.place, Some(5));
+/// assert_eq!(rt; (found.tests, found.looks), (0, 6));
 /// ```
 pub fn find_in_two_parts(front: &[u8], back: &[u8], case: CheckCase) -> Found
     ensures place { result.place ≡ first_invalid case (front.now ++ back.now) }

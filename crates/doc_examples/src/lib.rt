@@ -2,6 +2,26 @@
 #![tactic(auto)]
 
 #[cfg(test)]
+mod callers_digest;
+#[cfg(test)]
+mod callers_digest_lists;
+#[cfg(test)]
+mod callers_dump;
+#[cfg(test)]
+mod callers_dumps;
+#[cfg(test)]
+mod callers_json;
+#[cfg(test)]
+mod callers_lib;
+#[cfg(test)]
+mod callers_probes;
+#[cfg(test)]
+mod callers_streams;
+#[cfg(test)]
+mod callers_texts;
+#[cfg(test)]
+mod calling;
+#[cfg(test)]
 mod hex_codec_decode;
 #[cfg(test)]
 mod hex_codec_encode;
