@@ -17,7 +17,7 @@ use std::alloc::Global;
 /// ```rust
 /// let list = b"0000000000000000000000000000000000000000000000000000000000000000  a.txt\n";
 /// let names = names_with_digest(rt.alloc(), list, &[0; 32]).map_err(|_| "no list")?;
-/// assert_eq!(rt; names[0], b"a.txt".as_slice());
+/// assert_eq!(rt; names.first().copied(), Some(b"a.txt".as_slice()));
 /// ```
 pub fn names_with_digest<'a>(
     alloc: Global,
