@@ -1,10 +1,13 @@
 # `make` builds fhex, `make test` runs the gate, `make install PREFIX=DIR` puts fhex into PREFIX/bin
-# and its manual page into PREFIX/share/man/man1. `make -s` prints nothing where all goes well.
+# and its manual page into PREFIX/share/man/man1. `make lib CPU=x86-64-v3` builds libfaster_hex.a for
+# such processors. `make -s` prints nothing where all goes well.
 PREFIX ?= /usr/local
 PROGRAM = crates/fhex/out/fhex
 PAGE = docs/fhex.1
+CPU = x86-64-v2
+LIBRARY = crates/faster_hex_c/out
 
-.PHONY: build test install clean
+.PHONY: build lib test install clean
 
 # `rt run` proves, builds and runs a program, and leaves it in out/. What it says goes to a log there,
 # of which the end is printed where it fails.
@@ -12,6 +15,13 @@ build:
 	mkdir -p crates/fhex/out
 	cd crates/fhex && if ! rt run -- encode </dev/null >out/make.log 2>&1; then \
 		tail -n 40 out/make.log >&2; exit 1; fi
+
+# The header stands beside its folder: crates/faster_hex_c/faster_hex.h.
+lib:
+	mkdir -p $(LIBRARY)
+	cd crates/faster_hex_c && if ! rt lib --cpu=$(CPU) >out/make.log 2>&1; then \
+		tail -n 40 out/make.log >&2; exit 1; fi
+	cp $(LIBRARY)/libfaster_hex_c.a $(LIBRARY)/libfaster_hex.a
 
 test:
 	scripts/examples.sh --check

@@ -1,0 +1,132 @@
+//! The calls that C and Rust link: thin exported functions over the library's, with the same
+//! promises. `faster_hex.h` declares them and says what a caller owes: nothing here can see whether
+//! a pointer is good.
+#![tactic(auto)]
+
+ghost use Rattle.std.specs.Prelude.{◌≡◌, ◌↔◌, IsTrue, None};
+ghost use Rattle.hex_core.specs.declared.digit.CheckCase.TheVariants as policy;
+ghost use Rattle.hex_core.specs.Search.{first_invalid};
+ghost use Rattle.faster_hex_c.specs.Answers.{DecodesBy, DecodesTo, EncodesTo, FindsInvalid, answer_of, policy_of};
+
+use hex_codec::{hex_check, hex_decode_into, hex_encode_into};
+use hex_core::{Backend, CheckCase, Error};
+
+// The statuses, by the names of `faster_hex.h`.
+const DONE: u8 = 0;
+
+const ODD_LENGTH: u8 = 1;
+
+const OUTPUT_TOO_SMALL: u8 = 2;
+
+const INVALID_CHAR: u8 = 3;
+
+const OVERFLOW: u8 = 4;
+
+const UNKNOWN_POLICY: u8 = 5;
+
+/// What a call answers.
+#[repr(C)]
+#[derive(Clone, Copy, Debug, PartialEq, Eq)]
+pub struct Answer {
+    /// With status 0 the number of bytes that were written; with status 2 how many bytes the output
+    /// takes, with status 3 the place of the first invalid byte, from 0, and else 0.
+    pub number: usize,
+    /// 0 where nothing is refused; 1 for an odd length, 2 for too little room, 3 for an invalid
+    /// byte, 4 for a text whose length is no `usize`, 5 for a number that names no policy.
+    pub status: u8,
+    /// With status 3 the first invalid byte, and else 0.
+    pub byte: u8,
+}
+
+// The policy that a number names.
+fn policy(number: u8) -> Option<CheckCase>
+    ensures { result ≡ policy_of number }
+{
+    match number {
+        0 => Some(CheckCase::None),
+        1 => Some(CheckCase::Lower),
+        2 => Some(CheckCase::Upper),
+        _ => None,
+    }
+}
+
+// The answer for a number that names no policy.
+const NO_POLICY: Answer = Answer {
+    number: 0,
+    status: UNKNOWN_POLICY,
+    byte: 0,
+};
+
+// The answer that tells a result.
+fn answer_of(outcome: Result<usize, Error>) -> Answer
+    ensures { result ≡ answer_of outcome }
+{
+    let (number, status, byte) = match outcome {
+        Ok(written) => (written, DONE, 0),
+        Err(Error::OddLength) => (0, ODD_LENGTH, 0),
+        Err(Error::OutputTooSmall { required }) => (required, OUTPUT_TOO_SMALL, 0),
+        Err(Error::InvalidChar { index, byte }) => (index, INVALID_CHAR, byte),
+        // The calls here answer no other error than that of a text's length.
+        Err(_) => (0, OVERFLOW, 0),
+    };
+    Answer {
+        number,
+        status,
+        byte,
+    }
+}
+
+/// Whether every byte is a digit, of either case.
+#[unsafe(no_mangle)]
+pub extern "C" fn faster_hex_check(src: &[u8]) -> bool
+    ensures { IsTrue result ↔ (first_invalid policy.None src.now ≡ None) }
+{
+    hex_check(src)
+}
+
+/// The first byte that is no digit by a policy: 0 reads either case, 1 lowercase and 2 uppercase.
+#[unsafe(no_mangle)]
+pub extern "C" fn faster_hex_first_invalid(src: &[u8], case: u8) -> Answer
+    ensures { FindsInvalid case src.now result }
+{
+    let Some(case) = policy(case) else {
+        return NO_POLICY;
+    };
+    match Backend::plain().first_invalid(src, case) {
+        None => answer_of(Ok(0)),
+        Some(index) => answer_of(Err(Error::InvalidChar {
+            index,
+            byte: src[index],
+        })),
+    }
+}
+
+/// Writes the digits of some bytes into the front of a destination.
+#[unsafe(no_mangle)]
+pub extern "C" fn faster_hex_encode(src: &[u8], dst: &mut [u8], upper: bool) -> Answer
+    ensures { EncodesTo upper src.now dst.old dst.new result }
+{
+    answer_of(hex_encode_into(src, dst, upper))
+}
+
+/// Writes the bytes that digits of either case spell into the front of a destination.
+#[unsafe(no_mangle)]
+pub extern "C" fn faster_hex_decode(src: &[u8], dst: &mut [u8]) -> Answer
+    ensures { DecodesTo policy.None src.now dst.old dst.new result }
+{
+    answer_of(hex_decode_into(src, dst, CheckCase::None))
+}
+
+/// The same by a policy: 0 reads either case, 1 lowercase and 2 uppercase.
+#[unsafe(no_mangle)]
+pub extern "C" fn faster_hex_decode_with_case(src: &[u8], dst: &mut [u8], case: u8) -> Answer
+    ensures { DecodesBy case src.now dst.old dst.new result }
+{
+    match policy(case) {
+        Some(case) => answer_of(hex_decode_into(src, dst, case)),
+        None => NO_POLICY,
+    }
+}
+
+#[cfg(test)]
+mod tests;
