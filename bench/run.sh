@@ -109,6 +109,7 @@ for program in bench lists; do
         "$kit/c/liblibc_c.a"
 done
 
+sed -n 's/^model name[^:]*: /Run on /p' /proc/cpuinfo | head -n 1
 echo "Built by $("$rt" version), $(sed -n 's/.* \(cpu=[^ ]*\).*/\1/p' "$build/log" | tail -n 1)."
 "$build/bench"
 "$build/lists"
