@@ -6,7 +6,7 @@ ghost use Rattle.hex_lists.specs.ListCalls.{ReadsList};
 
 use crate::lines::line_end;
 pub use crate::writing::{ListWriteFault, write_to};
-use hex_codec::hex_decode_array_with_case;
+use hex_codec::hex_decode_into;
 use hex_core::{CheckCase, Error};
 use std::alloc::{Allocator, Global};
 
@@ -134,14 +134,15 @@ fn read_line<'a, const N: usize>(line: &'a [u8], case: CheckCase) -> Result<Entr
     if line.len() < 3 || (line.len() - 3) / 2 < N {
         return Err(LineFault::ShortLine);
     }
-    let digest = match hex_decode_array_with_case::<N>(&line[..2 * N], case) {
-        Ok(digest) => digest,
+    let mut digest = [0; N];
+    match hex_decode_into(&line[..2 * N], &mut digest, case) {
+        Ok(_) => {}
         Err(Error::InvalidChar { index, byte }) => {
             return Err(LineFault::InvalidByte { index, byte });
         }
         // The digits are as many as the array takes, so no other error comes.
         Err(_) => return Err(LineFault::ShortLine),
-    };
+    }
     let binary = match (line[2 * N], line[2 * N + 1]) {
         (b' ', b' ') => false,
         (b' ', b'*') => true,
