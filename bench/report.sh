@@ -36,9 +36,13 @@ row() {
     ratios "$2" | awk -v call="$3" '$1 == call { printf " %s |", $3 } END { print "" }'
 }
 
-printf '| Call |'
-ratios "$1" | awk '$1 == "hex_check" { printf " %s |", $2 } END { print "" }'
-ratios "$1" | awk '$1 == "hex_check" { line = line "---|" } END { print "|---|" line }'
+ratios "$1" | awk '
+    $1 == "hex_check" {
+        bytes = length($2) > 3 ? substr($2, 1, length($2) - 3) "," substr($2, length($2) - 2) : $2
+        head = head " " bytes (head == "" ? " bytes" : "") " |"
+        rule = rule "---|"
+    }
+    END { print "| Call |" head; print "|---|" rule }'
 for call in $calls; do
     case $call in
     decode_owned) row "\`Backend::decode_owned\` of \`avx2\`" "$1" "$call" ;;
