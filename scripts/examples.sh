@@ -112,7 +112,7 @@ strayed() {
 # write_root: the crate's root, once its modules are written.
 write_root() {
     cat <<'HEAD'
-//! The examples of the libraries' doc comments, as tests. Made by `scripts/examples.sh`.
+//! The examples of doc comments and of CALLING.md, as tests. Made by `scripts/examples.sh`.
 #![tactic(auto)]
 
 HEAD

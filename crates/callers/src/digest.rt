@@ -1,6 +1,6 @@
 //! A digest as a type of its own, with one spelling, proved.
 
-ghost use Rattle.std.specs.Prelude.{◌≡◌, MatchResult, Some, IfOk, IfSome, string_bytes};
+ghost use Rattle.std.specs.Prelude.{◌≡◌, MatchOption, MatchResult, Some, IfOk, IsSome, string_bytes};
 ghost use Rattle.hex_core.specs.declared.digit.CheckCase.TheVariants as policy;
 ghost use Rattle.hex_core.specs.Refusal.{array_refusal};
 ghost use Rattle.hex_core.specs.Text.{Spells, lowercase, text};
@@ -66,10 +66,15 @@ pub fn parsed_again<A: Allocator>(alloc: A, digest: &Digest) -> Result<Digest, A
 }
 
 /// Parses a text and prints the digest, where there is one: the same text.
-pub fn printed_again<A: Allocator>(alloc: A, text: &[u8]) -> Option<String<A>>
-    ensures { IfSome result (λ printed. string_bytes printed ≡ text.now) }
+pub fn printed_again<A: Allocator>(alloc: A, text: &[u8]) -> Result<Option<String<A>>, AllocError>
+    ensures { IfOk result (λ answer. MatchOption answer
+        (IsSome (array_refusal policy.Lower text.now 32))
+        (λ printed. string_bytes printed ≡ text.now)) }
 {
     encoding_inverts_strict_decoding();
-    let digest = Digest::parse(text).ok()?;
-    digest.to_string(alloc).ok()
+    let Ok(digest) = Digest::parse(text) else {
+        return Ok(None);
+    };
+    let again = digest.to_string(alloc)?;
+    Ok(Some(again))
 }

@@ -1,8 +1,8 @@
 //! A caller that looks names up in a digest list, proved.
 
-ghost use Rattle.std.specs.Prelude.{◌≡◌, ◌↔◌, ◌<◌, ◌-◌, ◌^◌, ◌++◌, ◌∷◌, [], codes, Err, OnOk, true, vec_items};
+ghost use Rattle.std.specs.Prelude.{◌≡◌, ◌⊎◌, ◌↔◌, ◌<◌, ◌-◌, ◌^◌, ◌++◌, ◌∷◌, [], codes, Err, IfErr, OnOk, true, vec_items};
 ghost use Rattle.hex_core.specs.Text.{lowercase, text};
-ghost use Rattle.hex_format.specs.Sink.{Takes};
+ghost use Rattle.hex_format.specs.Sink.{Stops, Takes};
 ghost use Rattle.hex_lists.specs.Lists.{is_bad_name};
 ghost use Rattle.callers.specs.DigestLists.{FindsNames};
 
@@ -58,6 +58,10 @@ pub fn write_digest_line<S: Sink>(
 ) -> Result<(), ListWriteFault>
     requires { (S.state sink.old).failures < 2 ^ 64 - 1 }
     ensures written { OnOk result (Takes (S.state sink.old) (S.state sink.new)
+        (text lowercase digest.now.bytes ++ codes "  " ++ name.now ++ (10 ∷ []))) }
+    ensures refused { IfErr result (λ e.
+        ((e ≡ ListWriteFault.BadName 0) × (S.state sink.new ≡ S.state sink.old))
+        ⊎ Stops (S.state sink.old) (S.state sink.new)
         (text lowercase digest.now.bytes ++ codes "  " ++ name.now ++ (10 ∷ []))) }
     ensures bad { (result ≡ Err (ListWriteFault.BadName 0)) ↔ (is_bad_name name.now ≡ true) }
 {

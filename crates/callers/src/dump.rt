@@ -1,8 +1,8 @@
 //! A caller that writes a dump in lines, proved.
 
-ghost use Rattle.std.specs.Prelude.{◌<◌, ◌-◌, ◌^◌};
+ghost use Rattle.std.specs.Prelude.{◌≡◌, ◌⊎◌, ◌<◌, ◌-◌, ◌^◌};
 ghost use Rattle.std.specs.Bool.{OnFalse, OnTrue};
-ghost use Rattle.hex_format.specs.Sink.{AppendsBeginning, Puts, Takes};
+ghost use Rattle.hex_format.specs.Sink.{Puts, Stops, Takes};
 ghost use Rattle.callers.specs.Dump.{dump_line, dump_of};
 
 use faster_hex::format::put_all;
@@ -27,7 +27,9 @@ const LINE: usize = 16;
 /// ```
 pub fn write_dump<S: Sink>(bytes: &[u8], group: Group, sink: &mut S) -> bool
     ensures written { OnTrue result (Takes (S.state sink.old) (S.state sink.new) (dump_of group bytes.now)) }
-    ensures stopped { OnFalse result (AppendsBeginning (S.state sink.old) (S.state sink.new) (dump_of group bytes.now)) }
+    ensures stopped { OnFalse result
+        ((((S.state sink.old).failures ≡ 2 ^ 64 - 1) × (S.state sink.new ≡ S.state sink.old))
+        ⊎ Stops (S.state sink.old) (S.state sink.new) (dump_of group bytes.now)) }
 {
     if sink.failures() == u64::MAX {
         return false;

@@ -9,7 +9,11 @@ use std::test::Fail;
 fn group_fault_example(rt: HostRuntime) -> Result<(), Fail> {
     let group = Group::new(2, b':').ok_or("no group")?;
     let refused = read_into(b"0001-02", &mut [0; 3], group, CheckCase::None);
-    assert!(rt; matches!(refused, Err(GroupFault::InvalidByte { index: 4, .. })));
+    let fault = GroupFault::InvalidByte {
+        index: 4,
+        byte: b'-',
+    };
+    assert_eq!(rt; refused, Err(fault));
     Ok(())
 }
 

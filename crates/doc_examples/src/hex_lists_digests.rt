@@ -15,7 +15,11 @@ fn read_example(rt: HostRuntime) -> Result<(), Fail> {
     assert_eq!(rt; entries[1].digest, [0xcd, 2]);
     assert_eq!(rt; entries[1].name, b"b".as_slice());
     let refused = read::<2>(rt.alloc(), list, CheckCase::Lower).err();
-    assert!(rt; matches!(refused, Some(ListFault::Line { line: 2, .. })));
+    let why = LineFault::InvalidByte {
+        index: 0,
+        byte: b'C',
+    };
+    assert_eq!(rt; refused, Some(ListFault::Line { line: 2, why }));
     Ok(())
 }
 

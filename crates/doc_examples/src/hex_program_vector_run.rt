@@ -37,6 +37,7 @@ fn run_vectors_example(rt: HostRuntime) -> Result<(), Fail> {
     let mut sink = SliceSink::new(&mut buffer);
     let failed = run_vectors(&rt.alloc(), &VECTORS, &PLAIN_VECTORS, &mut sink)?;
     assert_eq!(rt; failed, 0);
-    assert!(rt; sink.written().ends_with(b"total 84 passed 84 failed 0\n"));
+    let end = b"plain v20 pass\ntotal 84 passed 84 failed 0\n";
+    assert!(rt; sink.written().ends_with(end));
     Ok(())
 }

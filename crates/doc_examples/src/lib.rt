@@ -1,4 +1,4 @@
-//! The examples of the libraries' doc comments, as tests. Made by `scripts/examples.sh`.
+//! The examples of doc comments and of CALLING.md, as tests. Made by `scripts/examples.sh`.
 #![tactic(auto)]
 
 #[cfg(test)]

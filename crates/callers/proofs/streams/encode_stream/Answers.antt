@@ -50,7 +50,8 @@ returns-in-None g c =
     let middle = g.S.Sink.state c.reads.sink in let end = g.S.Sink.state c.write_to.new.sink in
     let shown = plain c.a_bare_text_is_its_digits.ensures c.default.result _ (take c.in-Ok.count c.read.new.buf) c.default.ensures c.new.ensures in
     let all = taken-more c.the_text_of_a_joined_list_is_the_texts_joined.ensures c.puts_in_a_row_are_one.ensures.taken _ _ _ _ middle end _ c.reads.total c.reads.invariant c.in-Ok.ensures.bytes.0 (subst (Takes middle end) shown c.in_default.ensures) in
-    (all.0, all.1, all.3)
+    let size = length-take-le c.in-Ok.count c.read.new.buf c.in-Ok.ensures.bound.0 in
+    (all.0, all.1, (omega (arith, c.in-None.ensures, all.2, size), all.3))
 
 pub reads-preserved : goal.reads-preserved
 reads-preserved g c =
