@@ -4,5 +4,5 @@ pub mod GroupLemmas
 pub mod ListLemmas
 mod ReadBack
 mod StripLemmas
-mod WriteLemmas
+pub mod WriteLemmas
 mod WrongLemmas

@@ -21,7 +21,7 @@ bad_char_names_first : NamesFirstInvalid first_bad_char
 bad_char_names_first c s i b h = bad_char_is_first c s (first_invalid c s) refl i b h
 
 -- a refusal that is an invalid character is the first bad character
-decode_bad_char : (c : CheckCase) (s : List ℕ) (room i b : ℕ) → decode_refusal c s room ≡ Some (InvalidChar i b) → first_bad_char c s ≡ Some (InvalidChar i b)
+pub decode_bad_char : (c : CheckCase) (s : List ℕ) (room i b : ℕ) → decode_refusal c s room ≡ Some (InvalidChar i b) → first_bad_char c s ≡ Some (InvalidChar i b)
 decode_bad_char c s room i b h = grind (arith, nat_tests, h)
 
 array_bad_char : (c : CheckCase) (s : List ℕ) (n i b : ℕ) → array_refusal c s n ≡ Some (InvalidChar i b) → first_bad_char c s ≡ Some (InvalidChar i b)

@@ -1,3 +1,4 @@
+pub mod Decoding
 pub mod Failures
 pub mod Operations
 pub mod Serving

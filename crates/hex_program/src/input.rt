@@ -11,8 +11,8 @@ use std::io::Read;
 /// The longest input, in bytes, that is read.
 pub const INPUT_LIMIT: usize = 16_777_216;
 
-// How many bytes one read asks for.
-const CHUNK: usize = 65_536;
+/// How many bytes one read asks for.
+pub const CHUNK: usize = 65_536;
 
 /// Reads all of an input of at most [`INPUT_LIMIT`] bytes. No error is retried.
 ///

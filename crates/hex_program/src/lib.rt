@@ -2,6 +2,7 @@
 //! and two outputs that are handed in, and its stored vectors.
 #![tactic(auto)]
 
+mod decoding;
 pub mod failure;
 pub mod input;
 pub mod operation;

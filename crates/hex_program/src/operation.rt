@@ -72,8 +72,8 @@ pub enum RunFault {
     OutOfMemory,
 }
 
-// The input without one final newline, where it has one.
-fn digits_in(input: &[u8]) -> &[u8]
+/// The input without one final newline, where it has one.
+pub(crate) fn digits_in(input: &[u8]) -> &[u8]
     ensures { result.now ≡ without_newline input.now }
 {
     match input {

@@ -1,0 +1,40 @@
+-- Decoding an input as it is read.
+use Rattle.std.specs.Prelude.{◌≡◌, ◌<◌, ◌≤◌, ◌%◌, ℕ, ⊤, List, length, Option, Some, MatchOption, IfSome}
+use Rattle.std.specs.Io.KnownBytes.{Consumes, IsAtEnd}
+use Rattle.hex_core.specs.declared.digit.CheckCase.{CheckCase}
+use Rattle.hex_core.specs.declared.error.Error.{Error}
+use Rattle.hex_core.specs.Refusal.{first_bad_char, source_refusal}
+use Rattle.hex_core.specs.Text.{Spells}
+use Rattle.hex_program.specs.declared.failure.Failure.{Failure}
+use Rattle.hex_program.specs.declared.failure.Failure.TheVariants.{Codec, Usage, ReadFailed, WriteFailed, OutOfMemory, InputTooLong}
+use Rattle.hex_program.specs.Operations.{without_newline}
+
+-- all of an input was read, and it is no longer than the limit
+abbrev pub ReadsAll : Option (List ℕ) → Option (List ℕ) → List ℕ → Type 0
+ReadsAll left left' input = Consumes left left' input × IsAtEnd left' × (length input ≤ 16777216)
+
+-- an input was read whose digits spell these bytes
+abbrev pub ReadsDecoded : CheckCase → Option (List ℕ) → Option (List ℕ) → List ℕ → Type 0
+ReadsDecoded case left left' bytes = (input : List ℕ) × ReadsAll left left' input × Spells case (without_newline input) bytes
+
+-- why there are none: the input was read and is refused, it is longer than the limit, a read failed,
+-- or memory was refused
+abbrev pub DecodingFailure : CheckCase → Option (List ℕ) → Option (List ℕ) → Failure → Type 0
+DecodingFailure case left left' (Codec e) = (input : List ℕ) × ReadsAll left left' input × (source_refusal case (without_newline input) ≡ Some e)
+DecodingFailure case left left' InputTooLong = IfSome left (λ bytes. 16777216 < length bytes)
+DecodingFailure case left left' ReadFailed = ⊤
+DecodingFailure case left left' OutOfMemory = ⊤
+DecodingFailure case left left' Usage = ⊥
+DecodingFailure case left left' WriteFailed = ⊥
+
+-- how the decoding of a whole input ends without its bytes: it is refused, or memory was
+abbrev pub EndsRefused : Option Error → Failure → Type 0
+EndsRefused refusal (Codec e) = refusal ≡ Some e
+EndsRefused refusal OutOfMemory = ⊤
+EndsRefused refusal f = ⊥
+
+-- what is kept of an even number of digits: the bytes that they spell, or the first that is
+-- invalid, and their number
+abbrev pub Kept : CheckCase → List ℕ → List ℕ → Option Error → ℕ → Type 0
+Kept case digits bytes refusal count = (count ≡ length digits) × (length digits % 2 ≡ 0)
+    × MatchOption refusal (Spells case digits bytes) (λ e. first_bad_char case digits ≡ Some e)
