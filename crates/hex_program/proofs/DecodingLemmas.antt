@@ -1,5 +1,5 @@
 -- What is kept of digits that are read piece by piece.
-use Rattle.std.proofs.Common.{◌≡◌, ◌∙◌, ◌⊎◌, inl, inr, ℕ, ◌+◌, ◌-◌, ◌%◌, ◌<◌, ◌≤◌, Bool, true, false, List, [], ◌∷◌, ◌++◌, length, length-append, slice_index, Option, Some, None, is_some, refl, sym, ap, subst, take, drop, append_assoc, arith}
+use Rattle.std.proofs.Common.{◌≡◌, ◌∙◌, ◌⊎◌, inl, inr, ℕ, ◌+◌, ◌-◌, ◌%◌, ◌<◌, ◌≤◌, true, false, List, [], ◌++◌, length, length-append, slice_index, Option, Some, None, is_some, refl, sym, ap, subst, take, drop, append_assoc, arith}
 use Rattle.std.specs.Prelude.{option_map, IfSome, IsSome}
 use Rattle.std.specs.Io.KnownBytes.{Consumes}
 use Rattle.std.specs.List.{copy_within}
@@ -15,14 +15,15 @@ use Rattle.hex_core.specs.declared.error.Error.{Error}
 use Rattle.hex_core.specs.declared.error.Error.TheVariants.{InvalidChar}
 use Rattle.hex_core.specs.Digit.{value}
 use Rattle.hex_core.specs.Refusal.{first_bad_char, source_refusal}
-use Rattle.hex_core.specs.Search.{AllValid, first_invalid}
+use Rattle.hex_core.specs.Search.{first_invalid}
 use Rattle.hex_core.specs.Text.{Spells, with_front}
 use Rattle.hex_core.proofs.LawProofs.{valid-spelled}
 use Rattle.hex_core.proofs.SearchLemmas.{first_invalid_is, first_is_first, none_valid}
 use Rattle.hex_codec.proofs.WriteLemmas.{spells-joined}
 use Rattle.hex_program.specs.declared.failure.Failure.{Failure}
 use Rattle.hex_program.specs.declared.failure.Failure.TheVariants.{Codec, Usage, ReadFailed, WriteFailed, OutOfMemory, InputTooLong}
-use Rattle.hex_program.specs.Decoding.{DecodingFailure, EndsRefused, Kept, ReadsAll}
+use Rattle.hex_program.specs.Decoding.{DecodingFailure, EndsRefused, Kept}
+use Rattle.hex_program.specs.Input.{ReadsAll}
 use Rattle.hex_program.specs.Operations.{without_newline}
 
 -- a byte of the first of two pieces, and one of the second

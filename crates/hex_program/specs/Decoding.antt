@@ -1,17 +1,13 @@
 -- Decoding an input as it is read.
-use Rattle.std.specs.Prelude.{◌≡◌, ◌<◌, ◌≤◌, ◌%◌, ℕ, ⊤, List, length, Option, Some, MatchOption, IfSome}
-use Rattle.std.specs.Io.KnownBytes.{Consumes, IsAtEnd}
+use Rattle.std.specs.Prelude.{◌≡◌, ◌<◌, ◌%◌, ℕ, ⊤, List, length, Option, Some, MatchOption, IfSome}
 use Rattle.hex_core.specs.declared.digit.CheckCase.{CheckCase}
 use Rattle.hex_core.specs.declared.error.Error.{Error}
 use Rattle.hex_core.specs.Refusal.{first_bad_char, source_refusal}
 use Rattle.hex_core.specs.Text.{Spells}
 use Rattle.hex_program.specs.declared.failure.Failure.{Failure}
 use Rattle.hex_program.specs.declared.failure.Failure.TheVariants.{Codec, Usage, ReadFailed, WriteFailed, OutOfMemory, InputTooLong}
+use Rattle.hex_program.specs.Input.{ReadsAll}
 use Rattle.hex_program.specs.Operations.{without_newline}
-
--- all of an input was read, and it is no longer than the limit
-abbrev pub ReadsAll : Option (List ℕ) → Option (List ℕ) → List ℕ → Type 0
-ReadsAll left left' input = Consumes left left' input × IsAtEnd left' × (length input ≤ 16777216)
 
 -- an input was read whose digits spell these bytes
 abbrev pub ReadsDecoded : CheckCase → Option (List ℕ) → Option (List ℕ) → List ℕ → Type 0

@@ -1,8 +1,8 @@
 //! The input, which is read to its end before an operation runs over it.
 
-ghost use Rattle.std.specs.Prelude.{◌≡◌, ◌≤◌, ◌<◌, length, vec_len, IfOk, IfErr, IfSome, OnOk};
-ghost use Rattle.std.specs.Io.KnownBytes.{Consumes, IsAtEnd};
+ghost use Rattle.std.specs.Prelude.{◌≡◌, ◌<◌, length, IfOk, IfErr, IfSome};
 ghost use Rattle.hex_program.specs.Failures.{status_of};
+ghost use Rattle.hex_program.specs.Input.{ReadsAll};
 
 use crate::failure::Failure;
 use std::alloc::Allocator;
@@ -30,10 +30,7 @@ pub fn read_input<A: Allocator + Drop, R: Read>(
     alloc: A,
     input: &mut R,
 ) -> Result<Vec<u8, A>, Failure>
-    ensures read { IfOk result
-        (λ v. Consumes (R.remaining input.old) (R.remaining input.new) v.items) }
-    ensures ended { OnOk result (IsAtEnd (R.remaining input.new)) }
-    ensures limit { IfOk result (λ v. vec_len v ≤ INPUT_LIMIT) }
+    ensures ok { IfOk result (λ v. ReadsAll (R.remaining input.old) (R.remaining input.new) v.items) }
     ensures too_long { IfErr result (λ f. f ≡ Failure.InputTooLong
         → IfSome (R.remaining input.old) (λ bytes. 16777216 < length bytes)) }
     ensures err { IfErr result (λ f. status_of f ≡ 3) }

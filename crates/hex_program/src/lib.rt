@@ -2,7 +2,7 @@
 //! and two outputs that are handed in, and its stored vectors.
 #![tactic(auto)]
 
-mod decoding;
+pub mod decoding;
 pub mod failure;
 pub mod input;
 pub mod operation;
@@ -12,6 +12,7 @@ pub mod program;
 pub mod vector_run;
 pub mod vectors;
 
+pub use crate::decoding::read_decoded;
 pub use crate::failure::Failure;
 pub use crate::input::{INPUT_LIMIT, read_input};
 pub use crate::operation::{Op, RunFault, run};

@@ -4,6 +4,8 @@
 #[cfg(test)]
 mod codecs;
 #[cfg(test)]
+mod decoding;
+#[cfg(test)]
 mod faults;
 #[cfg(test)]
 mod limit;

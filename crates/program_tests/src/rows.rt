@@ -144,21 +144,21 @@ type End = (u8, &'static [u8], &'static str);
 static GROWTHS: [Growth; 8] = [
     ("encode", b"hello", (0, b"68656c6c6f\n", ""), 1),
     ("encode-upper", b"\xab", (0, b"AB\n", ""), 1),
-    ("decode", b"68656c6c6f\n", (0, b"hello", ""), 2),
+    ("decode", b"68656c6c6f\n", (0, b"hello", ""), 1),
     (
         "decode",
         b"0g",
         (1, b"", "invalid hex byte 0x67 at index 1\n"),
-        2,
+        0,
     ),
     ("decode", b"abc", (1, b"", ODD), 1),
     ("decode", b"", (0, b"", ""), 0),
-    ("decode-lower", b"00ab", (0, b"\x00\xab", ""), 2),
+    ("decode-lower", b"00ab", (0, b"\x00\xab", ""), 1),
     (
         "decode-upper",
         b"ab",
         (1, b"", "invalid hex byte 0x61 at index 0\n"),
-        2,
+        0,
     ),
 ];
 
@@ -185,30 +185,28 @@ fn tells_a_refused_growth(rt: HostRuntime) {
     }
 }
 
-// Each growth in turn is refused alone. The first is the room for any input: without it the input
-// grows as it comes, which is one growth here, and the run ends as with ample memory. The second is
-// what is decoded.
+// Each growth in turn is refused alone. The first is the room for any input, or for the bytes of any
+// digits: without it these grow as they come, which is one growth here, and the run ends as with
+// ample memory.
 #[test]
 fn tells_a_growth_that_is_refused_alone(rt: HostRuntime) {
     for &(word, input, ample, growths) in &GROWTHS {
         for left in 0..=growths {
-            let is_wanting = 0 < left && left < growths;
-            let end = if is_wanting { WANTING } else { ample };
             let asked = if left == 0 {
                 growths.saturating_add(1)
             } else {
                 growths
             };
             let alloc = Refusing::once(rt.alloc(), left);
-            let is_told = ends(&alloc, rt.alloc(), word, input, end) && alloc.asked() == asked;
+            let is_told = ends(&alloc, rt.alloc(), word, input, ample) && alloc.asked() == asked;
             assert!(rt; is_told, "{word} of {input:?}, growth {left} refused");
         }
     }
 }
 
-// An odd length is told before memory for the output is asked for.
+// An odd length asks for no memory beyond the room that is asked for at the start.
 #[test]
-fn tells_an_odd_length_before_it_asks_for_memory(rt: HostRuntime) {
+fn tells_an_odd_length_in_the_room_for_any_input(rt: HostRuntime) {
     let alloc = Refusing::new(rt.alloc(), 1);
     let mut source: &[u8] = b"abc";
     let (status, _, err) = serve_in(

@@ -30,6 +30,23 @@ impl Read for Repeated {
     }
 }
 
+/// Gives its bytes in order, at most so many a read.
+#[derive(Drop)]
+pub struct Pieces<'a> {
+    pub rest: &'a [u8],
+    pub every: usize,
+}
+
+impl<'a> Read for Pieces<'a> {
+    fn read(&mut self, buf: &mut [u8]) -> io::Result<usize> {
+        let n = self.every.min(self.rest.len()).min(buf.len());
+        let (given, rest) = self.rest.split_at(n);
+        buf[..n].copy_from_slice(given);
+        self.rest = rest;
+        Ok(n)
+    }
+}
+
 /// Takes this many bytes, one a write, and then fails once. It counts what it took and how often
 /// it was flushed.
 #[derive(Drop)]

@@ -1,11 +1,11 @@
 -- What was read is taken two digits at a time, but for the last one or two.
-use Rattle.std.proofs.Common.{rules, arith, ◌≡◌, ◌⊎◌, ◌∙◌, ◌++◌, ◌+◌, ◌-◌, ◌*◌, ◌/◌, ◌<◌, ◌≤◌, inl, inr, ℕ, List, [], length, length-append, take, ap, sym, append-nil, append_assoc}
+use Rattle.std.proofs.Common.{rules, arith, ◌≡◌, ◌⊎◌, ◌∙◌, ◌++◌, ◌+◌, ◌-◌, ◌*◌, ◌/◌, ◌≤◌, inl, inr, ℕ, List, [], length, length-append, take, ap, sym, append-nil, append_assoc}
 use Rattle.std.proofs.KnownBytes.{Consumes-trans}
 use Rattle.std.proofs.lemmas.List.{length-take-le}
 use Rattle.std.proofs.lemmas.Result.{IfErr-weaker, IfOk-weaker}
 use Rattle.std.specs.Io.KnownBytes.{Consumes}
 use borrow.Rule.Slice.PartMut.{put_mid, take_put}
-use Rattle.hex_program.specs.Decoding.{ReadsAll}
+use Rattle.hex_program.specs.Input.{ReadsAll}
 use Rattle.hex_program.proofs.DecodingLemmas.{longer, moved-front, read-front, refused-all}
 use Rattle.hex_program.proofs.decoding.read_decoded.Given as given
 use Rattle.hex_program.proofs.decoding.read_decoded.Goals as goal
@@ -32,8 +32,7 @@ read_all g c =
     let room : length c.read.new.buf ≡ 65536 - held = search rules in
     let same : rest g c ≡ take held c.reads.chunk = take_put held (65536 - held) c.reads.chunk c.read.new.buf (omega (arith, inv.0, inv.2)) in
     let nothing : Consumes (g.R.Read.remaining c.reads.input) (g.R.Read.remaining c.read.new.self) [] = rw c.in-Ok-eq0.field-0-test at c.in-Ok-eq0.ensures.bytes.0 in
-    let bound : length (digits ++ take held c.reads.chunk) ≤ 16777216 = omega (arith, inv.3.1.0, length-append digits (take held c.reads.chunk), length-take-le held c.reads.chunk (omega (arith, inv.0, inv.2)), c.reads-test.true) in
-    (
+    let bound : length (digits ++ take held c.reads.chunk) ≤ 16777216 = omega (arith, inv.3.1.0, length-append digits (take held c.reads.chunk), length-take-le held c.reads.chunk (omega (arith, inv.0, inv.2)), c.reads-test.true) in (
       rw (same, sym (append-nil (digits ++ take held c.reads.chunk))) (Consumes-trans _ _ _ _ _ inv.3.3 nothing),
       c.in-Ok-eq0.ensures.bytes.1 c.in-Ok-eq0.field-0-test (omega (arith, room, inv.0)),
       rw same bound,
@@ -63,12 +62,11 @@ reads-preserved g c =
     let room : held + n ≤ 65536 = search rules in
     let consumed : Consumes (g.R.Read.remaining c.args.input.now) (g.R.Read.remaining c.read.new.self) ((digits ++ take held c.reads.chunk) ++ take n c.read.new.buf) = Consumes-trans _ _ _ _ _ inv.3.3 c.in-Ok.ensures.bytes.0 in
     let same : (digits ++ take whole full) ++ take (held + n - whole) c.copy_within.new.self ≡ (digits ++ take held c.reads.chunk) ++ take n c.read.new.buf =
-        rw c.copy_within.ensures.after (moved-front digits full whole (held + n) (omega arith) (omega (arith, size, room))
-        ∙ ap (λ l. digits ++ l) (read-front c.reads.chunk c.read.new.buf held (65536 - held) n (omega (arith, inv.0, inv.2)) given)
-        ∙ sym (append_assoc digits (take held c.reads.chunk) (take n c.read.new.buf))) in
+    rw c.copy_within.ensures.after (moved-front digits full whole (held + n) (omega arith) (omega (arith, size, room))
+    ∙ ap (λ l. digits ++ l) (read-front c.reads.chunk c.read.new.buf held (65536 - held) n (omega (arith, inv.0, inv.2)) given)
+    ∙ sym (append_assoc digits (take held c.reads.chunk) (take n c.read.new.buf))) in
     let kept = c.in_ok-take-in-Ok.ensures.ok digits inv.3.1 in
-    let count : c.take.new.self.count ≡ c.reads.decoding.count + whole = omega (arith, kept.0, inv.3.1.0, length-append digits (take whole full), length-take-le whole full (omega (arith, size, room))) in
-    (
+    let count : c.take.new.self.count ≡ c.reads.decoding.count + whole = omega (arith, kept.0, inv.3.1.0, length-append digits (take whole full), length-take-le whole full (omega (arith, size, room))) in (
       omega (arith, inv.0, some),
       omega (arith, count, c.reads-test.true, room),
       c.copy_within.ensures.len ∙ size,

@@ -1,7 +1,5 @@
 -- The digits so far and the last two are all of them.
-use Rattle.std.proofs.Common.{◌≡◌, ◌++◌, ℕ, List, sym}
-use Rattle.hex_core.specs.Refusal.{source_refusal}
-use Rattle.hex_core.specs.Text.{Spells}
+use Rattle.std.proofs.Common.{sym}
 use Rattle.hex_program.proofs.DecodingLemmas.{refused-even, spelled-all, strip-behind}
 use Rattle.hex_program.proofs.decoding.Decoding.end.Goals as goal
 
