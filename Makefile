@@ -1,6 +1,6 @@
-# `make` builds fhex, `make test` runs the gate, `make install PREFIX=DIR` puts fhex into PREFIX/bin
-# and its manual page into PREFIX/share/man/man1. `make lib CPU=x86-64-v3` builds libfaster_hex.a for
-# such processors. `make -s` prints nothing where all goes well.
+# `make` builds fhex, `make lib` libfaster_hex.a, each for the processors that CPU names, as in
+# `make CPU=x86-64-v3`. `make test` runs the gate, `make install PREFIX=DIR` puts fhex into PREFIX/bin
+# and its manual page into PREFIX/share/man/man1. `make -s` prints nothing where all goes well.
 PREFIX ?= /usr/local
 PROGRAM = crates/fhex/out/fhex
 PAGE = docs/fhex.1
@@ -13,7 +13,7 @@ LIBRARY = crates/faster_hex_c/out
 # of which the end is printed where it fails.
 build:
 	mkdir -p crates/fhex/out
-	cd crates/fhex && if ! rt run -- encode </dev/null >out/make.log 2>&1; then \
+	cd crates/fhex && if ! rt run --cpu=$(CPU) -- encode </dev/null >out/make.log 2>&1; then \
 		tail -n 40 out/make.log >&2; exit 1; fi
 
 # The header stands beside its folder: crates/faster_hex_c/faster_hex.h.

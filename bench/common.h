@@ -1,4 +1,4 @@
-// What both programs need: the clock, and numbers with no pattern.
+// What the programs here need: the clock, and numbers with no pattern.
 #include <stdint.h>
 #include <time.h>
 

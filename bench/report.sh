@@ -1,11 +1,12 @@
 #!/bin/sh
 # Makes of two outputs of run.sh, of the default build and of that for x86-64-v3, the table of
-# README.md, which it prints, and the picture beside it.
-# Usage: bench/report.sh DEFAULT V3 PICTURE.svg
+# ../README.md, which it prints, and the picture beside it. Of two outputs of scripts/compare.sh, of
+# the same builds, it prints the table of README.md, of programs.
+# Usage: bench/report.sh DEFAULT V3 PICTURE.svg [PROGRAMS PROGRAMS_V3]
 set -eu
 
-if [ $# -ne 3 ]; then
-    echo "usage: bench/report.sh DEFAULT V3 PICTURE.svg" >&2
+if [ $# -ne 3 ] && [ $# -ne 5 ]; then
+    echo "usage: bench/report.sh DEFAULT V3 PICTURE.svg [PROGRAMS PROGRAMS_V3]" >&2
     exit 2
 fi
 here=$(cd "$(dirname "$0")" && pwd)
@@ -54,3 +55,8 @@ done
     ratios "$1" | sed 's/^/0 /'
     ratios "$2" | sed 's/^/1 /'
 } | awk -v calls="$calls" -f "$here/picture.awk" >"$3"
+
+if [ $# -eq 5 ]; then
+    echo
+    awk -f "$here/programs.awk" "$4" "$5"
+fi
