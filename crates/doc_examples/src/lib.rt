@@ -64,6 +64,8 @@ mod hex_lists_digests;
 #[cfg(test)]
 mod hex_lists_writing;
 #[cfg(test)]
+mod hex_program_decoding;
+#[cfg(test)]
 mod hex_program_failure;
 #[cfg(test)]
 mod hex_program_input;

@@ -107,6 +107,8 @@ impl<A: Allocator + Drop> Decoding<A> {
 /// let bytes = read_decoded(rt.alloc(), &mut input, CheckCase::None)?;
 /// assert_eq!(rt; bytes.as_slice(), [0, 0xab, 0xff].as_slice());
 /// ```
+// Inlined, its buffers would stand on the stack beside those of another operation.
+#[inline(never)]
 pub fn read_decoded<A: Allocator + Drop, R: Read>(
     alloc: A,
     input: &mut R,

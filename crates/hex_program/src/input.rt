@@ -26,6 +26,7 @@ pub const CHUNK: usize = 65_536;
 /// let bytes = read_input(rt.alloc(), &mut input)?;
 /// assert_eq!(rt; bytes.as_slice(), b"hello".as_slice());
 /// ```
+#[inline(never)]
 pub fn read_input<A: Allocator + Drop, R: Read>(
     alloc: A,
     input: &mut R,
