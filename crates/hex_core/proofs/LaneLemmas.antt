@@ -1,6 +1,6 @@
 -- What an operation makes of the lanes of a vector.
 use Rattle.std.proofs.Common.{◌≡◌, ℕ, zero, suc, ◌+◌, ◌-◌, ◌*◌, ◌/◌, ◌^◌, ◌%◌, ◌<◌, ◌↔◌, Bool, true, false, not, ◌&&◌, cond, ltb, eqb, eqb-true, inl, inr, List, [], ◌∷◌, map, length, get_or, replicate, bit_and, bit_or, refl, ap, ap₂, sym, ◌∙◌, subst, Fits, w8, arith, ltb-true, ltb-false, lt-ltb}
-use Rattle.std.specs.Prelude.{EachIndex, IsTrue, min}
+use Rattle.std.specs.Prelude.{EachIndex, IsTrue, max, min}
 use Rattle.std.specs.List.{list_all}
 use Rattle.std.proofs.lemmas.Bool.{cases_eq, ne_eqb, agree_below, agree_below_at}
 use Rattle.std.proofs.lemmas.List.{get_or-map, length-map}
@@ -59,6 +59,16 @@ minima (x ∷ xs) [] = refl
 minima (x ∷ xs) (y ∷ ys) = ap₂ (λ a r. a ∷ r) (go (ltb x y) refl) (minima xs ys)
   where
     go : (t : Bool) → ltb x y ≡ t → cond (top 7 (cond t 255 0)) x y ≡ min x y
+    go true e = omega (arith, ltb-true _ _ e)
+    go false e = omega (arith, ltb-false _ _ e)
+
+pub maxima : (xs ys : List ℕ) → sel_l (map (top 7) (zip2 below xs ys)) ys xs ≡ zip2 max xs ys
+maxima [] [] = refl
+maxima [] (y ∷ ys) = refl
+maxima (x ∷ xs) [] = refl
+maxima (x ∷ xs) (y ∷ ys) = ap₂ (λ a r. a ∷ r) (go (ltb x y) refl) (maxima xs ys)
+  where
+    go : (t : Bool) → ltb x y ≡ t → cond (top 7 (cond t 255 0)) y x ≡ max x y
     go true e = omega (arith, ltb-true _ _ e)
     go false e = omega (arith, ltb-false _ _ e)
 
@@ -148,20 +158,25 @@ no_bit_set v =
       λ zero. none_set v ∙ places.1 (λ i h. rw (zero i h) refl),
     )
 
--- a computed vector is 0 where each byte has a property
-pub zero_where : (f : ℕ → ℕ) (P : ℕ → Type 0) → ((x : ℕ) → x < 256 → (f x ≡ 0) ↔ P x) → (v : List ℕ) {r : List ℕ} → Each1 (Fits w8) v → r ≡ map f v → AreZero r ↔ EachIndex v (λ i. P (get_or v i 0))
-zero_where f P test v {r} fits is =
+-- a computed vector passes where each byte has a property
+pub passes_where : (f : ℕ → ℕ) (Q P : ℕ → Type 0) → ((x : ℕ) → x < 256 → Q (f x) ↔ P x) → (v : List ℕ) {r : List ℕ} → Each1 (Fits w8) v → r ≡ map f v
+    → EachIndex r (λ i. Q (get_or r i 0)) ↔ EachIndex v (λ i. P (get_or v i 0))
+passes_where f Q P test v {r} fits is =
     let long : length r ≡ length v = ap length is ∙ length-map v f in (
-      λ zero i h. (test (get_or v i 0) (lane_below v fits i)).0 (sym (mapped_at f v i is h) ∙ zero i (omega arith)),
-      λ all i h. mapped_at f v i is (omega arith) ∙ (test (get_or v i 0) (lane_below v fits i)).1 (all i (omega arith)),
+      λ all i h. (test (get_or v i 0) (lane_below v fits i)).0 (subst Q (mapped_at f v i is h) (all i (omega arith))),
+      λ all i h. subst Q (sym (mapped_at f v i is (omega arith))) ((test (get_or v i 0) (lane_below v fits i)).1 (all i (omega arith))),
     )
 
--- one test does for two vectors, where it passes the bits of two lanes exactly with both of them
-pub each_either : (P : ℕ → Type 0) → ((x y : ℕ) → P (bit_or x y) ↔ (P x × P y)) → (v w : List ℕ) → length v ≡ length w
-    → EachIndex (zip2 bit_or v w) (λ i. P (get_or (zip2 bit_or v w) i 0)) ↔ (EachIndex v (λ i. P (get_or v i 0)) × EachIndex w (λ i. P (get_or w i 0)))
-each_either P both v w same =
-    let long : length (zip2 bit_or v w) ≡ length v = length-zip2 bit_or v w same in
-    let at : (i : ℕ) → i < length v → get_or (zip2 bit_or v w) i 0 ≡ bit_or (get_or v i 0) (get_or w i 0) = λ i h. zipped_at bit_or v w i refl h (omega arith) in (
+-- it is 0 there
+pub zero_where : (f : ℕ → ℕ) (P : ℕ → Type 0) → ((x : ℕ) → x < 256 → (f x ≡ 0) ↔ P x) → (v : List ℕ) {r : List ℕ} → Each1 (Fits w8) v → r ≡ map f v → AreZero r ↔ EachIndex v (λ i. P (get_or v i 0))
+zero_where f P test v fits is = passes_where f (λ x. x ≡ 0) P test v fits is
+
+-- one test does for two vectors, where it passes what two lanes make exactly with both of them
+pub each_of_two : (f : ℕ → ℕ → ℕ) (P : ℕ → Type 0) → ((x y : ℕ) → P (f x y) ↔ (P x × P y)) → (v w : List ℕ) → length v ≡ length w
+    → EachIndex (zip2 f v w) (λ i. P (get_or (zip2 f v w) i 0)) ↔ (EachIndex v (λ i. P (get_or v i 0)) × EachIndex w (λ i. P (get_or w i 0)))
+each_of_two f P both v w same =
+    let long : length (zip2 f v w) ≡ length v = length-zip2 f v w same in
+    let at : (i : ℕ) → i < length v → get_or (zip2 f v w) i 0 ≡ f (get_or v i 0) (get_or w i 0) = λ i h. zipped_at f v w i refl h (omega arith) in (
       λ all. (
         λ i h. ((both (get_or v i 0) (get_or w i 0)).0 (subst P (at i h) (all i (omega arith)))).0,
         λ i h. ((both (get_or v i 0) (get_or w i 0)).0 (subst P (at i (omega arith)) (all i (omega arith)))).1,
@@ -169,8 +184,8 @@ each_either P both v w same =
       λ all i h. subst P (sym (at i (omega arith))) ((both (get_or v i 0) (get_or w i 0)).1 (all.0 i (omega arith), all.1 i (omega arith))),
     )
 
-pub or_zero : (x y : ℕ) → (bit_or x y ≡ 0) ↔ ((x ≡ 0) × (y ≡ 0))
-or_zero x y = (λ e. (omega (arith, e, le_or_l x y), omega (arith, e, le_or_r x y)), λ p. rw (p.0, p.1) refl)
+pub max_low : (x y : ℕ) → (max x y < 10) ↔ ((x < 10) × (y < 10))
+max_low x y = (λ h. (omega arith, omega arith), λ p. let a = p.0 in let b = p.1 in omega arith)
 
 ors_small : agree_below (λ a. agree_below (λ b. ltb (bit_or a b) 16) (λ _. true) 16) (λ _. true) 16 ≡ true
 ors_small = refl

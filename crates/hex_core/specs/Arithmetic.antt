@@ -1,11 +1,15 @@
 -- The arithmetic of the lanes, on one byte, one pair or one list. No public promise rests on it.
-use Rattle.std.specs.Prelude.{◌≡◌, ℕ, ◌+◌, ◌-◌, ◌*◌, ◌/◌, ◌%◌, min, bit_or, List, [], ◌∷◌, EachIndex, slice_index}
+use Rattle.std.specs.Prelude.{◌≡◌, ℕ, ◌+◌, ◌-◌, ◌*◌, ◌/◌, ◌%◌, ◌<◌, min, bit_or, List, [], ◌∷◌, EachIndex, slice_index}
 use Rattle.hex_core.specs.declared.digit.CheckCase.{CheckCase}
 use Rattle.hex_core.specs.declared.digit.CheckCase.TheVariants as policy
 
 -- each lane is 0
 abbrev pub AreZero : List ℕ → Type 0
 AreZero lanes = EachIndex lanes (λ i. slice_index lanes i ≡ 0)
+
+-- each lane is below 10
+abbrev pub AreLow : List ℕ → Type 0
+AreLow lanes = EachIndex lanes (λ i. slice_index lanes i < 10)
 
 -- a difference of bytes, modulo 256
 abbrev pub wrapping_sub : ℕ → ℕ → ℕ
@@ -30,6 +34,10 @@ first_letter policy.Upper = 65
 -- how far a byte is past the ten digits and past the six letters: 0 exactly where it has a value
 abbrev pub excess : CheckCase → ℕ → ℕ
 excess c b = min (wrapping_sub b 48 - 9) (wrapping_sub (bit_or b (fold_of c)) (first_letter c) - 5)
+
+-- how far a byte reaches past the first of ten digits, or past the first of six letters and four more: below 10 exactly where it has a value
+abbrev pub reach : CheckCase → ℕ → ℕ
+reach c b = min (wrapping_sub b 48) (saturating_add (wrapping_sub (bit_or b (fold_of c)) (first_letter c)) 4)
 
 -- a byte's value, or at least 16: for a byte that is no digit (no letter) the first (second) number is large
 abbrev pub saturated : CheckCase → ℕ → ℕ

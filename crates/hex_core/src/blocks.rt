@@ -6,7 +6,7 @@
 
 ghost use Rattle.std.specs.Prelude.{◌≡◌, ◌↔◌, ℕ, ◌+◌, ◌-◌, ◌*◌, ◌≤◌, IsTrue, None, length};
 ghost use Rattle.std.specs.Simd.Lanes.{chunk, put_chunk};
-ghost use Rattle.hex_core.specs.Arithmetic.{AreZero, packed};
+ghost use Rattle.hex_core.specs.Arithmetic.{AreLow, packed};
 ghost use Rattle.hex_core.specs.Blocks.{DecodesRange, NibblesFrom};
 ghost use Rattle.hex_core.specs.Calls.{DecodesWhole};
 ghost use Rattle.hex_core.specs.Search.{AllValid, first_invalid};
@@ -14,9 +14,9 @@ ghost use Rattle.hex_core.specs.Lanes.{AreSmall};
 ghost use Rattle.hex_core.specs.Text.{Spells, text};
 
 use crate::digit::CheckCase;
-use crate::lanes::{NibbleMap, encoded, excess, valid_nibbles};
+use crate::lanes::{NibbleMap, encoded, reach, valid_nibbles};
 use crate::scalar;
-use crate::vector::{Interleave, Lanes, LookUp, Pack, either, is_small, is_zero};
+use crate::vector::{Interleave, Lanes, LookUp, Pack, either, is_low, is_small, larger};
 use std::simd::prelude::*;
 
 // Whether each of `N` bytes from `at` on has a value.
@@ -26,7 +26,17 @@ fn is_valid_at<const N: usize>(src: &[u8], at: usize, case: CheckCase) -> bool
     requires inside { at + N ≤ length src.now }
     ensures { IsTrue result ↔ AllValid case src.now at (at + N) }
 {
-    is_zero(excess(Simd::<u8, N>::from_slice(&src[at..]), case))
+    is_low(reach(Simd::<u8, N>::from_slice(&src[at..]), case))
+}
+
+/// Whether every byte of a source of `N` bytes has a value.
+#[inline(always)]
+pub fn check_one<const N: usize>(src: &[u8], case: CheckCase) -> bool
+    requires lanes { N ≤ 64 }
+    requires whole { length src.now ≡ N }
+    ensures { IsTrue result ↔ (first_invalid case src.now ≡ None) }
+{
+    is_valid_at::<N>(src, 0, case)
 }
 
 /// Whether every byte of a source of `N` to `2 * N` bytes has a value.
@@ -37,20 +47,20 @@ pub fn check_two<const N: usize>(src: &[u8], case: CheckCase) -> bool
     requires most { length src.now ≤ 2 * N }
     ensures { IsTrue result ↔ (first_invalid case src.now ≡ None) }
 {
-    let front = excess(Simd::<u8, N>::from_slice(src), case);
-    let back = excess(Simd::<u8, N>::from_slice(&src[src.len() - N..]), case);
-    is_zero(either(front, back))
+    let front = reach(Simd::<u8, N>::from_slice(src), case);
+    let back = reach(Simd::<u8, N>::from_slice(&src[src.len() - N..]), case);
+    is_low(larger(front, back))
 }
 
-// What is 0 in each lane exactly where each of `2 * N` bytes from `at` on has a value.
+// What is below 10 in each lane exactly where each of `2 * N` bytes from `at` on has a value.
 #[inline(always)]
-fn excesses_of_two<const N: usize>(src: &[u8], at: usize, case: CheckCase) -> Simd<u8, N>
+fn reach_of_two<const N: usize>(src: &[u8], at: usize, case: CheckCase) -> Simd<u8, N>
     requires inside { at + 2 * N ≤ length src.now }
-    ensures { AreZero result ↔ AllValid case src.now at (at + 2 * N) }
+    ensures { AreLow result ↔ AllValid case src.now at (at + 2 * N) }
 {
-    let first = excess(Simd::<u8, N>::from_slice(&src[at..]), case);
-    let second = excess(Simd::<u8, N>::from_slice(&src[at + N..]), case);
-    either(first, second)
+    let first = reach(Simd::<u8, N>::from_slice(&src[at..]), case);
+    let second = reach(Simd::<u8, N>::from_slice(&src[at + N..]), case);
+    larger(first, second)
 }
 
 /// Whether every byte of a source of `2 * N` to `4 * N` bytes has a value.
@@ -61,9 +71,9 @@ pub fn check_four<const N: usize>(src: &[u8], case: CheckCase) -> bool
     requires most { length src.now ≤ 4 * N }
     ensures { IsTrue result ↔ (first_invalid case src.now ≡ None) }
 {
-    let front = excesses_of_two::<N>(src, 0, case);
-    let back = excesses_of_two::<N>(src, src.len() - 2 * N, case);
-    is_zero(either(front, back))
+    let front = reach_of_two::<N>(src, 0, case);
+    let back = reach_of_two::<N>(src, src.len() - 2 * N, case);
+    is_low(larger(front, back))
 }
 
 // Whether every byte of a source of `N` bytes or more has a value, block by block.
@@ -92,12 +102,12 @@ fn is_run_valid<const N: usize>(src: &[u8], at: usize, case: CheckCase) -> bool
     requires inside { at + RUN * N ≤ length src.now }
     ensures { IsTrue result ↔ AllValid case src.now at (at + RUN * N) }
 {
-    let mut excesses = excess(Simd::<u8, N>::from_slice(&src[at..]), case);
+    let mut farthest = reach(Simd::<u8, N>::from_slice(&src[at..]), case);
     'turns: for i in 1..RUN {
         let block = Simd::<u8, N>::from_slice(&src[at + i * N..]);
-        excesses = either(excesses, excess(block, case));
+        farthest = larger(farthest, reach(block, case));
     }
-    is_zero(excesses)
+    is_low(farthest)
 }
 
 // The same as `check_blocks`, by runs as long as there is one.
@@ -206,6 +216,20 @@ where
     }
 }
 
+/// Writes the bytes that a valid source of `N` digits spells.
+#[inline(always)]
+pub fn write_one<const N: usize, const HALF: usize>(src: &[u8], dst: &mut [u8], case: CheckCase)
+where
+    Lanes: Pack<N, HALF>,
+    requires lanes { N ≡ 2 * HALF }
+    requires twice { length src.now ≡ 2 * length dst.old }
+    requires whole { length src.now ≡ N }
+    requires valid { first_invalid case src.now ≡ None }
+    ensures { Spells case src.now dst.new }
+{
+    write_at::<N, HALF>(src, dst, 0, case);
+}
+
 // Writes the bytes of two blocks of nibbles, one at each end of a range.
 #[inline(always)]
 fn put_two<const N: usize, const HALF: usize>(
@@ -246,6 +270,30 @@ where
     let back = valid_nibbles_at::<N>(src, src.len() - N, case);
     let end = dst.len();
     put_two(front, back, dst, 0, end);
+}
+
+/// Decodes a source of `N` digits: all of it is tested before the first store.
+#[inline(always)]
+pub fn decode_one<M, const N: usize, const HALF: usize>(
+    src: &[u8],
+    dst: &mut [u8],
+    case: CheckCase,
+) -> bool
+where
+    M: NibbleMap<N>,
+    Lanes: Pack<N, HALF>,
+    requires lanes { N ≤ 64 }
+    requires half { N ≡ 2 * HALF }
+    requires twice { length src.now ≡ 2 * length dst.old }
+    requires whole { length src.now ≡ N }
+    ensures { DecodesWhole case src.now dst.old dst.new result }
+{
+    let nibbles = nibbles_at::<M, N>(src, 0, case);
+    if !is_small(nibbles) {
+        return false;
+    }
+    put(nibbles, dst, 0);
+    true
 }
 
 /// Decodes a source of `N` to `2 * N` digits: all of it is tested before the first store.
@@ -304,6 +352,29 @@ where
     put_two(first, second, dst, 0, N);
     put_two(third, last, dst, end - N, end);
     true
+}
+
+/// Decodes a source of `N` digits or more: all of it is tested before the first store.
+#[inline(never)]
+pub fn decode_long<const N: usize, const HALF: usize>(
+    src: &[u8],
+    dst: &mut [u8],
+    case: CheckCase,
+) -> bool
+where
+    Lanes: Pack<N, HALF>,
+    requires some { 1 ≤ HALF }
+    requires lanes { N ≤ 64 }
+    requires half { N ≡ 2 * HALF }
+    requires twice { length src.now ≡ 2 * length dst.old }
+    requires least { N ≤ length src.now }
+    ensures { DecodesWhole case src.now dst.old dst.new result }
+{
+    let valid = check_long::<N>(src, case);
+    if valid {
+        write_blocks::<N, HALF>(src, dst, case);
+    }
+    valid
 }
 
 /// Decodes whole blocks of `2 * N` digits in order, each tested before its bytes are stored, up to

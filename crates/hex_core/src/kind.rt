@@ -55,8 +55,9 @@ impl Kind {
     {
         match self {
             Kind::Scalar => scalar::write_bytes(src, dst, case),
-            Kind::Sse41 | Kind::Neon => sixteen::write_bytes(src, dst, case),
-            Kind::Avx2 | Kind::Avx512 => wide::write_bytes(src, dst, case),
+            Kind::Sse41 | Kind::Avx2 | Kind::Avx512 | Kind::Neon => {
+                wide::write_bytes(src, dst, case)
+            }
         }
     }
 
@@ -69,8 +70,7 @@ impl Kind {
     {
         match self {
             Kind::Scalar => scalar::decode(src, dst, case),
-            Kind::Sse41 | Kind::Neon => sixteen::decode(src, dst, case),
-            Kind::Avx2 => wide::decode::<Saturating>(src, dst, case),
+            Kind::Sse41 | Kind::Avx2 | Kind::Neon => wide::decode::<Saturating>(src, dst, case),
             Kind::Avx512 => wide::decode::<Hashing>(src, dst, case),
         }
     }

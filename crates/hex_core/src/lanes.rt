@@ -4,7 +4,7 @@
 
 ghost use Rattle.std.specs.Prelude.{◌≡◌, ◌↔◌, ℕ, ◌≤◌, ◌<◌, length, is_some, map, slice_index};
 ghost use Rattle.std.specs.Simd.Lanes.{mask_l};
-ghost use Rattle.hex_core.specs.Arithmetic.{AreZero, excess, first_letter, fold_of, valid_nibble};
+ghost use Rattle.hex_core.specs.Arithmetic.{AreLow, excess, first_letter, fold_of, reach, valid_nibble};
 ghost use Rattle.hex_core.specs.Digit.{digit, value};
 ghost use Rattle.hex_core.specs.Search.{AllValid};
 ghost use Rattle.hex_core.specs.Hash.{Hashed, check_row, hashed_check, hashed_value};
@@ -222,11 +222,22 @@ fn first_letter(case: CheckCase) -> u8
     FIRST_LETTERS[case as u8 as usize]
 }
 
-/// How far each lane is past the digits and letters: 0 exactly where it has a value.
+/// How far each lane reaches past the first digit, or past the first letter and four more: below 10
+/// exactly where it has a value. One bound for both leaves the comparison to the end of a test.
 #[inline(always)]
-pub(crate) fn excess<const N: usize>(v: Simd<u8, N>, case: CheckCase) -> Simd<u8, N>
-    ensures lanes { result ≡ map (excess case) v.entry }
-    ensures zero { AreZero result ↔ AllValid case v.entry 0 N }
+pub(crate) fn reach<const N: usize>(v: Simd<u8, N>, case: CheckCase) -> Simd<u8, N>
+    ensures lanes { result ≡ map (reach case) v.entry }
+    ensures low { AreLow result ↔ AllValid case v.entry 0 N }
+{
+    let letters = wrapping_sub(with_bits(v, fold_of(case)), first_letter(case));
+    smaller(wrapping_sub(v, b'0'), saturating_add(letters, 4))
+}
+
+// How far each lane is past the digits and letters: 0 exactly where it has a value. For one block
+// alone this takes an instruction less than a comparison of its reach.
+#[inline(always)]
+fn excess<const N: usize>(v: Simd<u8, N>, case: CheckCase) -> Simd<u8, N>
+    ensures { result ≡ map (excess case) v.entry }
 {
     let digits = saturating_sub(wrapping_sub(v, b'0'), 9);
     let letters = wrapping_sub(with_bits(v, fold_of(case)), first_letter(case));

@@ -159,9 +159,36 @@ impl Backend {
         self.decode(src, dst, case)
     }
 
-    // Decodes block by block, and what is behind the whole blocks as [`Backend::decode`] does.
+    // Decodes at once what [`Backend::decode`] holds in registers: the blocks before a refusal are
+    // stored behind it alone.
     #[inline(always)]
     fn decode_by_blocks<M, const N: usize, const HALF: usize>(
+        self,
+        src: &[u8],
+        dst: &mut [u8],
+        case: CheckCase,
+    ) -> bool
+    where
+        M: NibbleMap<N>,
+        Lanes: Pack<N, HALF>,
+        requires some { 1 ≤ HALF }
+        requires lanes { N ≤ 64 }
+        requires half { N ≡ 2 * HALF }
+        requires twice { length src.now ≡ 2 * length dst.old }
+        ensures { DecodesOwned (2 * N) case src.now dst.old dst.new result }
+    {
+        if src.len() > 256 {
+            return self.decode_in_turn::<M, N, HALF>(src, dst, case);
+        }
+        if self.decode(src, dst, case) {
+            return true;
+        }
+        self.decode_in_turn::<M, N, HALF>(src, dst, case)
+    }
+
+    // Decodes block by block, and what is behind the whole blocks as [`Backend::decode`] does.
+    #[inline(always)]
+    fn decode_in_turn<M, const N: usize, const HALF: usize>(
         self,
         src: &[u8],
         dst: &mut [u8],

@@ -1,13 +1,10 @@
-//! Checking and decoding under the plans of 16 lanes.
+//! Checking under the plans of 16 lanes.
 
 ghost use Rattle.std.specs.Prelude.{◌≡◌, ◌↔◌, ◌+◌, ◌*◌, ◌≤◌, ◌<◌, IsTrue, None, length, slice_index};
-ghost use Rattle.hex_core.specs.Calls.{DecodesWhole};
 ghost use Rattle.hex_core.specs.Search.{AllValid, first_invalid};
-ghost use Rattle.hex_core.specs.Text.{Spells};
 
-use crate::blocks::{decode_four, decode_two, write_blocks};
 use crate::digit::CheckCase;
-use crate::lanes::{Saturating, admitted_16};
+use crate::lanes::admitted_16;
 use crate::scalar;
 use crate::search::{Probe, covered};
 
@@ -91,39 +88,4 @@ pub fn check(src: &[u8], case: CheckCase) -> bool
         looks: 0,
         tests: 0,
     })
-}
-
-/// Writes the bytes that a valid source spells into the whole of `dst`.
-#[inline(never)]
-pub fn write_bytes(src: &[u8], dst: &mut [u8], case: CheckCase)
-    requires twice { length src.now ≡ 2 * length dst.old }
-    requires valid { first_invalid case src.now ≡ None }
-    ensures { Spells case src.now dst.new }
-{
-    if src.len() < BLOCK {
-        scalar::write_bytes(src, dst, case);
-    } else {
-        write_blocks::<16, 8>(src, dst, case);
-    }
-}
-
-/// Writes the bytes that `src` spells into the whole of `dst`, or returns false and writes nothing.
-#[inline(never)]
-pub fn decode(src: &[u8], dst: &mut [u8], case: CheckCase) -> bool
-    requires { length src.now ≡ 2 * length dst.old }
-    ensures { DecodesWhole case src.now dst.old dst.new result }
-{
-    match src.len() {
-        0..16 => scalar::decode_short(src, dst, case),
-        16..=32 => decode_two::<Saturating, 16, 8>(src, dst, case),
-        33..=64 => decode_four::<Saturating, 16, 8>(src, dst, case),
-        65..=128 => decode_four::<Saturating, 32, 16>(src, dst, case),
-        _ => {
-            let valid = check(src, case);
-            if valid {
-                write_bytes(src, dst, case);
-            }
-            valid
-        }
-    }
 }

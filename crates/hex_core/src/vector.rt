@@ -1,8 +1,8 @@
 //! Vectors: one operation a function, and what it makes of the lanes.
 
-ghost use Rattle.std.specs.Prelude.{◌≡◌, ◌↔◌, ℕ, ◌-◌, ◌/◌, ◌^◌, ◌≤◌, ◌<◌, ◌==◌, IsTrue, length, min, map, slice_index, bit_and, bit_or, bit_xor};
+ghost use Rattle.std.specs.Prelude.{◌≡◌, ◌↔◌, ℕ, ◌-◌, ◌/◌, ◌^◌, ◌≤◌, ◌<◌, ◌==◌, IsTrue, length, max, min, map, slice_index, bit_and, bit_or, bit_xor};
 ghost use Rattle.std.specs.Simd.Lanes.{Each1, mask_l, zip2};
-ghost use Rattle.hex_core.specs.Arithmetic.{AreZero, interleaved, packed, pair_byte, saturating_add, wrapping_sub};
+ghost use Rattle.hex_core.specs.Arithmetic.{AreLow, AreZero, interleaved, packed, pair_byte, saturating_add, wrapping_sub};
 ghost use Rattle.hex_core.specs.Hash.{average, shifted};
 ghost use Rattle.hex_core.specs.Lanes.{AreSmall};
 ghost use Rattle.hex_core.specs.Lookup.{entry};
@@ -66,11 +66,19 @@ pub fn smaller<const N: usize>(a: Simd<u8, N>, b: Simd<u8, N>) -> Simd<u8, N>
     a.simd_min(b)
 }
 
+/// The larger lane of each two, so that one test does for two vectors.
+#[inline(always)]
+pub fn larger<const N: usize>(a: Simd<u8, N>, b: Simd<u8, N>) -> Simd<u8, N>
+    ensures lanes { result ≡ zip2 max a.entry b.entry }
+    ensures low { AreLow result ↔ (AreLow a.entry × AreLow b.entry) }
+{
+    a.simd_max(b)
+}
+
 /// The bits of both, so that one test does for two vectors.
 #[inline(always)]
 pub fn either<const N: usize>(a: Simd<u8, N>, b: Simd<u8, N>) -> Simd<u8, N>
     ensures lanes { result ≡ zip2 bit_or a.entry b.entry }
-    ensures zero { AreZero result ↔ (AreZero a.entry × AreZero b.entry) }
     ensures small { AreSmall result ↔ (AreSmall a.entry × AreSmall b.entry) }
 {
     a | b
@@ -93,6 +101,15 @@ pub fn is_zero<const N: usize>(v: Simd<u8, N>) -> bool
     ensures { IsTrue result ↔ AreZero v.entry }
 {
     v.simd_ne(Simd::splat(0)).to_bitmask() == 0
+}
+
+/// Whether each lane is below 10.
+#[inline(always)]
+pub fn is_low<const N: usize>(v: Simd<u8, N>) -> bool
+    requires { N ≤ 64 }
+    ensures { IsTrue result ↔ AreLow v.entry }
+{
+    is_zero(saturating_sub(v, 9))
 }
 
 /// Whether each lane is below 16.

@@ -1,5 +1,5 @@
-//! Checking and decoding under the plans of 32 and 64 lanes: blocks in registers where a source is
-//! short, and blocks of 64 digits above.
+//! Decoding under every plan of lanes, and checking under those of 64 of them: blocks in registers
+//! where a source is short, and blocks of 64 digits above.
 
 ghost use Rattle.std.specs.Prelude.{◌≡◌, ◌↔◌, ◌*◌, IsTrue, None, length};
 ghost use Rattle.hex_core.specs.Calls.{DecodesWhole};
@@ -7,7 +7,8 @@ ghost use Rattle.hex_core.specs.Search.{first_invalid};
 ghost use Rattle.hex_core.specs.Text.{Spells};
 
 use crate::blocks::{
-    check_four, check_long, check_two, decode_four, decode_two, write_blocks, write_two,
+    check_four, check_long, check_one, check_two, decode_four, decode_long, decode_one, decode_two,
+    write_blocks, write_one, write_two,
 };
 use crate::digit::CheckCase;
 use crate::lanes::{NibbleMap, Saturating};
@@ -20,7 +21,8 @@ pub fn check(src: &[u8], case: CheckCase) -> bool
 {
     match src.len() {
         0..16 => scalar::check(src, case),
-        16..=32 => check_two::<16>(src, case),
+        16 => check_one::<16>(src, case),
+        17..=32 => check_two::<16>(src, case),
         33..=64 => check_two::<32>(src, case),
         65..=128 => check_two::<64>(src, case),
         129..=256 => check_four::<64>(src, case),
@@ -37,7 +39,8 @@ pub fn write_bytes(src: &[u8], dst: &mut [u8], case: CheckCase)
 {
     match src.len() {
         0..16 => scalar::write_bytes(src, dst, case),
-        16..=32 => write_two::<16, 8>(src, dst, case),
+        16 => write_one::<16, 8>(src, dst, case),
+        17..=32 => write_two::<16, 8>(src, dst, case),
         33..=64 => write_two::<32, 16>(src, dst, case),
         65..=128 => write_two::<64, 32>(src, dst, case),
         _ => write_blocks::<64, 32>(src, dst, case),
@@ -55,16 +58,11 @@ where
 {
     match src.len() {
         0..16 => scalar::decode_short(src, dst, case),
-        16..=32 => decode_two::<Saturating, 16, 8>(src, dst, case),
+        16 => decode_one::<Saturating, 16, 8>(src, dst, case),
+        17..=32 => decode_two::<Saturating, 16, 8>(src, dst, case),
         33..=64 => decode_two::<Saturating, 32, 16>(src, dst, case),
         65..=128 => decode_two::<M, 64, 32>(src, dst, case),
         129..=256 => decode_four::<M, 64, 32>(src, dst, case),
-        _ => {
-            let valid = check_long::<64>(src, case);
-            if valid {
-                write_blocks::<64, 32>(src, dst, case);
-            }
-            valid
-        }
+        _ => decode_long::<64, 32>(src, dst, case),
     }
 }

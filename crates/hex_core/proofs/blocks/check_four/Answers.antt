@@ -7,12 +7,12 @@ pub returns : goal.returns
 returns g c =
     let case = c.args.case in let s = c.args.src.now in let n = g.row.N in let at = length s - 2 * n in (
       λ t.
-          let both = c.either.ensures.zero.0 (c.is_zero.ensures.0 t) in
-          let front = c.excesses_of_two-front.ensures.0 both.0 in
-          let back = c.excesses_of_two-back.ensures.0 both.1 in
+          let both = c.larger.ensures.low.0 (c.is_low.ensures.0 t) in
+          let front = c.reach_of_two-front.ensures.0 both.0 in
+          let back = c.reach_of_two-back.ensures.0 both.1 in
           first_invalid_none case s (valid_over case s 0 (0 + 2 * n) at (length s) (omega arith) front (λ k low lt. back k low (omega arith))),
       λ none.
-          let front = c.excesses_of_two-front.ensures.1 (valid_range case s 0 (0 + 2 * n) (omega arith) none) in
-          let back = c.excesses_of_two-back.ensures.1 (valid_range case s at (at + 2 * n) (omega arith) none) in
-          c.is_zero.ensures.1 (c.either.ensures.zero.1 (front, back)),
+          let front = c.reach_of_two-front.ensures.1 (valid_range case s 0 (0 + 2 * n) (omega arith) none) in
+          let back = c.reach_of_two-back.ensures.1 (valid_range case s at (at + 2 * n) (omega arith) none) in
+          c.is_low.ensures.1 (c.larger.ensures.low.1 (front, back)),
     )

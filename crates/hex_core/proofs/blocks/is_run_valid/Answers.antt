@@ -6,8 +6,8 @@ use Rattle.hex_core.proofs.blocks.is_run_valid.Goals as goal
 pub turns-init : goal.turns-init
 turns-init g c =
     let first = valid_chunk c.args.case c.args.src.now c.args.at g.row.N (omega arith) in (
-      λ zero k low lt. first.0 (c.excess-excesses.ensures.zero.0 zero) k low (omega arith),
-      λ valid. c.excess-excesses.ensures.zero.1 (first.1 (λ k low lt. valid k low (omega arith))),
+      λ zero k low lt. first.0 (c.reach-farthest.ensures.low.0 zero) k low (omega arith),
+      λ valid. c.reach-farthest.ensures.low.1 (first.1 (λ k low lt. valid k low (omega arith))),
     )
 
 pub turns-preserved : goal.turns-preserved
@@ -17,16 +17,16 @@ turns-preserved g c =
     let inside : at + n ≤ length s = grind (arith, nat_tests) in
     let block = valid_chunk case s at n inside in (
       λ zero k low lt.
-          let both = c.either-excesses.ensures.zero.0 zero in
-          valid_over case s start at at (at + n) (omega arith) (c.turns.invariant.0 both.0) (block.0 (c.excess.ensures.zero.0 both.1)) k low (omega (arith, next)),
+          let both = c.larger-farthest.ensures.low.0 zero in
+          valid_over case s start at at (at + n) (omega arith) (c.turns.invariant.0 both.0) (block.0 (c.reach.ensures.low.0 both.1)) k low (omega (arith, next)),
       λ valid.
           let front = c.turns.invariant.1 (λ k low lt. valid k low (omega (arith, next))) in
-          c.either-excesses.ensures.zero.1 (front, c.excess.ensures.zero.1 (block.1 (λ k low lt. valid k (omega arith) (omega (arith, next))))),
+          c.larger-farthest.ensures.low.1 (front, c.reach.ensures.low.1 (block.1 (λ k low lt. valid k (omega arith) (omega (arith, next))))),
     )
 
 pub returns : goal.returns
 returns g c =
     let all : c.turns.i ≡ 8 = omega arith in (
-      λ t k low lt. c.turns.invariant.0 (c.is_zero.ensures.0 t) k low (rw all lt),
-      λ valid. c.is_zero.ensures.1 (c.turns.invariant.1 (λ k low lt. valid k low (rw (← all) lt))),
+      λ t k low lt. c.turns.invariant.0 (c.is_low.ensures.0 t) k low (rw all lt),
+      λ valid. c.is_low.ensures.1 (c.turns.invariant.1 (λ k low lt. valid k low (rw (← all) lt))),
     )

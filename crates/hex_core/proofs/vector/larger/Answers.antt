@@ -1,0 +1,11 @@
+use Rattle.std.proofs.Common.{◌<◌, sym, subst, ◌↔◌, ◌∙◌}
+use Rattle.std.specs.Prelude.{max}
+use Rattle.hex_core.specs.Arithmetic.{AreLow}
+use Rattle.hex_core.proofs.LaneLemmas.{each_of_two, max_low, maxima}
+use Rattle.hex_core.proofs.vector.larger.Goals as goal
+
+pub returns-clause-lanes : goal.returns-clause-lanes
+returns-clause-lanes g c = maxima c.args.a c.args.b
+
+pub returns-clause-low : goal.returns-clause-low
+returns-clause-low g c = subst (λ r. AreLow r ↔ (AreLow c.args.a × AreLow c.args.b)) (sym (maxima c.args.a c.args.b)) (each_of_two max (λ x. x < 10) max_low c.args.a c.args.b (c.fits-a.0 ∙ sym c.fits-b.0))
