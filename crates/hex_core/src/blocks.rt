@@ -76,6 +76,30 @@ pub fn check_four<const N: usize>(src: &[u8], case: CheckCase) -> bool
     is_low(larger(front, back))
 }
 
+// The same, of `4 * N` bytes.
+#[inline(always)]
+fn reach_of_four<const N: usize>(src: &[u8], at: usize, case: CheckCase) -> Simd<u8, N>
+    requires inside { at + 4 * N ≤ length src.now }
+    ensures { AreLow result ↔ AllValid case src.now at (at + 4 * N) }
+{
+    let first = reach_of_two::<N>(src, at, case);
+    let second = reach_of_two::<N>(src, at + 2 * N, case);
+    larger(first, second)
+}
+
+// Whether every byte of a source of `4 * N` to `8 * N` bytes has a value.
+#[inline(never)]
+fn check_eight<const N: usize>(src: &[u8], case: CheckCase) -> bool
+    requires lanes { N ≤ 64 }
+    requires least { 4 * N ≤ length src.now }
+    requires most { length src.now ≤ 8 * N }
+    ensures { IsTrue result ↔ (first_invalid case src.now ≡ None) }
+{
+    let front = reach_of_four::<N>(src, 0, case);
+    let back = reach_of_four::<N>(src, src.len() - 4 * N, case);
+    is_low(larger(front, back))
+}
+
 // Whether every byte of a source of `N` bytes or more has a value, block by block.
 #[inline(never)]
 fn check_blocks<const N: usize>(src: &[u8], case: CheckCase) -> bool
@@ -135,8 +159,10 @@ pub fn check_long<const N: usize>(src: &[u8], case: CheckCase) -> bool
     requires least { N ≤ length src.now }
     ensures { IsTrue result ↔ (first_invalid case src.now ≡ None) }
 {
-    if src.len() <= RUN * N {
+    if src.len() < 4 * N {
         check_blocks::<N>(src, case)
+    } else if src.len() <= RUN * N {
+        check_eight::<N>(src, case)
     } else {
         check_runs::<N>(src, case)
     }
