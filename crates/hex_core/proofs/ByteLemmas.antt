@@ -10,13 +10,13 @@ use Rattle.std.proofs.lemmas.Simd.{bit_mask_l, mask_l-lt}
 use lib.Lanes.{Each1, mask_l}
 use Rattle.hex_core.specs.declared.digit.CheckCase.{CheckCase}
 use Rattle.hex_core.specs.declared.digit.CheckCase.TheVariants as policy
-use Rattle.hex_core.specs.Arithmetic.{AreLow, excess, first_letter, fold_of, interleaved, reach, saturated, saturating_add, valid_nibble, wrapping_sub}
+use Rattle.hex_core.specs.Arithmetic.{AreLow, AreZero, excess, first_letter, fold_of, interleaved, reach, saturated, saturating_add, valid_nibble, wrapping_sub}
 use Rattle.hex_core.specs.Digit.{digit, value}
 use Rattle.hex_core.specs.Search.{AllValid}
 use Rattle.hex_core.specs.Lanes.{Admits, AreNibbles, IsNibble}
 use Rattle.hex_core.specs.Lookup.{entry}
 use Rattle.hex_core.specs.Text.{text}
-use Rattle.hex_core.proofs.LaneLemmas.{lane_below, mapped, mapped_at, maps_agree, passes_where}
+use Rattle.hex_core.proofs.LaneLemmas.{lane_below, mapped, mapped_at, maps_agree, passes_where, zero_where}
 
 -- whether a byte has a value
 abbrev pub has : CheckCase → ℕ → Bool
@@ -59,6 +59,15 @@ excess_zeros policy.Upper = refl
 
 excess_zero : (c : CheckCase) (b : ℕ) → b < 256 → eqb (excess c b) 0 ≡ has c b
 excess_zero c b h = agree_below_at (λ x. eqb (excess c x) 0) (has c) 256 b (excess_zeros c) h
+
+excess_is_zero : (c : CheckCase) (b : ℕ) → b < 256 → (excess c b ≡ 0) ↔ IsSome (value c b)
+excess_is_zero c b h = (λ z. sym (excess_zero c b h) ∙ rw z refl, λ s. eqb-true _ _ (excess_zero c b h ∙ s))
+
+-- all lanes are 0 exactly where each byte has a value
+pub excess_valid : (c : CheckCase) (v r : List ℕ) (n : ℕ) → (length v ≡ n) × Each1 (Fits w8) v → r ≡ map (excess c) v → AreZero r ↔ AllValid c v 0 n
+excess_valid c v r n fits is =
+    let all = zero_where (excess c) (λ b. IsSome (value c b)) (excess_is_zero c) v fits.1 is in
+    (λ zero k low lt. all.0 zero k (omega (arith, fits.0)), λ valid. all.1 (λ k h. valid k (omega arith) (omega (arith, fits.0))))
 
 pub excess_with : (c : CheckCase) (v : List ℕ) {r : List ℕ} (fold first : ℕ) → fold ≡ fold_of c → first ≡ first_letter c
     → r ≡ map (λ b. min (wrapping_sub b 48 - 9) (wrapping_sub (bit_or b fold) first - 5)) v → r ≡ map (excess c) v

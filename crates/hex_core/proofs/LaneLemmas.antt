@@ -184,6 +184,9 @@ each_of_two f P both v w same =
       λ all i h. subst P (sym (at i (omega arith))) ((both (get_or v i 0) (get_or w i 0)).1 (all.0 i (omega arith), all.1 i (omega arith))),
     )
 
+pub or_zero : (x y : ℕ) → (bit_or x y ≡ 0) ↔ ((x ≡ 0) × (y ≡ 0))
+or_zero x y = (λ e. (omega (arith, e, le_or_l x y), omega (arith, e, le_or_r x y)), λ p. rw (p.0, p.1) refl)
+
 pub max_low : (x y : ℕ) → (max x y < 10) ↔ ((x < 10) × (y < 10))
 max_low x y = (λ h. (omega arith, omega arith), λ p. let a = p.0 in let b = p.1 in omega arith)
 

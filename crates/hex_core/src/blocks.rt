@@ -14,9 +14,9 @@ ghost use Rattle.hex_core.specs.Lanes.{AreSmall};
 ghost use Rattle.hex_core.specs.Text.{Spells, text};
 
 use crate::digit::CheckCase;
-use crate::lanes::{NibbleMap, encoded, reach, valid_nibbles};
+use crate::lanes::{NibbleMap, encoded, excess, reach, valid_nibbles};
 use crate::scalar;
-use crate::vector::{Interleave, Lanes, LookUp, Pack, either, is_low, is_small, larger};
+use crate::vector::{Interleave, Lanes, LookUp, Pack, either, is_low, is_small, is_zero, larger};
 use std::simd::prelude::*;
 
 // Whether each of `N` bytes from `at` on has a value.
@@ -26,7 +26,7 @@ fn is_valid_at<const N: usize>(src: &[u8], at: usize, case: CheckCase) -> bool
     requires inside { at + N ≤ length src.now }
     ensures { IsTrue result ↔ AllValid case src.now at (at + N) }
 {
-    is_low(reach(Simd::<u8, N>::from_slice(&src[at..]), case))
+    is_zero(excess(Simd::<u8, N>::from_slice(&src[at..]), case))
 }
 
 /// Whether every byte of a source of `N` bytes has a value.
@@ -47,9 +47,9 @@ pub fn check_two<const N: usize>(src: &[u8], case: CheckCase) -> bool
     requires most { length src.now ≤ 2 * N }
     ensures { IsTrue result ↔ (first_invalid case src.now ≡ None) }
 {
-    let front = reach(Simd::<u8, N>::from_slice(src), case);
-    let back = reach(Simd::<u8, N>::from_slice(&src[src.len() - N..]), case);
-    is_low(larger(front, back))
+    let front = excess(Simd::<u8, N>::from_slice(src), case);
+    let back = excess(Simd::<u8, N>::from_slice(&src[src.len() - N..]), case);
+    is_zero(either(front, back))
 }
 
 // What is below 10 in each lane exactly where each of `2 * N` bytes from `at` on has a value.

@@ -4,7 +4,7 @@
 
 ghost use Rattle.std.specs.Prelude.{◌≡◌, ◌↔◌, ℕ, ◌≤◌, ◌<◌, length, is_some, map, slice_index};
 ghost use Rattle.std.specs.Simd.Lanes.{mask_l};
-ghost use Rattle.hex_core.specs.Arithmetic.{AreLow, excess, first_letter, fold_of, reach, valid_nibble};
+ghost use Rattle.hex_core.specs.Arithmetic.{AreLow, AreZero, excess, first_letter, fold_of, reach, valid_nibble};
 ghost use Rattle.hex_core.specs.Digit.{digit, value};
 ghost use Rattle.hex_core.specs.Search.{AllValid};
 ghost use Rattle.hex_core.specs.Hash.{Hashed, check_row, hashed_check, hashed_value};
@@ -223,7 +223,8 @@ fn first_letter(case: CheckCase) -> u8
 }
 
 /// How far each lane reaches past the first digit, or past the first letter and four more: below 10
-/// exactly where it has a value. One bound for both leaves the comparison to the end of a test.
+/// exactly where it has a value. One bound for both leaves the comparison to the end of a test of
+/// many blocks; for one or two of them the excess takes an instruction less.
 #[inline(always)]
 pub(crate) fn reach<const N: usize>(v: Simd<u8, N>, case: CheckCase) -> Simd<u8, N>
     ensures lanes { result ≡ map (reach case) v.entry }
@@ -233,11 +234,11 @@ pub(crate) fn reach<const N: usize>(v: Simd<u8, N>, case: CheckCase) -> Simd<u8,
     smaller(wrapping_sub(v, b'0'), saturating_add(letters, 4))
 }
 
-// How far each lane is past the digits and letters: 0 exactly where it has a value. For one block
-// alone this takes an instruction less than a comparison of its reach.
+/// How far each lane is past the digits and letters: 0 exactly where it has a value.
 #[inline(always)]
-fn excess<const N: usize>(v: Simd<u8, N>, case: CheckCase) -> Simd<u8, N>
-    ensures { result ≡ map (excess case) v.entry }
+pub(crate) fn excess<const N: usize>(v: Simd<u8, N>, case: CheckCase) -> Simd<u8, N>
+    ensures lanes { result ≡ map (excess case) v.entry }
+    ensures zero { AreZero result ↔ AllValid case v.entry 0 N }
 {
     let digits = saturating_sub(wrapping_sub(v, b'0'), 9);
     let letters = wrapping_sub(with_bits(v, fold_of(case)), first_letter(case));

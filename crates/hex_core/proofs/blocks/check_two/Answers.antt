@@ -9,12 +9,12 @@ returns g c =
     let front = valid_chunk case s 0 n (omega arith) in
     let back = valid_chunk case s at n (omega arith) in (
       λ t.
-          let both = c.larger.ensures.low.0 (c.is_low.ensures.0 t) in
-          let one = front.0 (c.reach-front.ensures.low.0 both.0) in
-          let two = back.0 (c.reach-back.ensures.low.0 both.1) in
+          let both = c.either.ensures.zero.0 (c.is_zero.ensures.0 t) in
+          let one = front.0 (c.excess-front.ensures.zero.0 both.0) in
+          let two = back.0 (c.excess-back.ensures.zero.0 both.1) in
           first_invalid_none case s (valid_over case s 0 (0 + n) at (length s) (omega arith) one (λ k low lt. two k low (omega arith))),
       λ none.
-          let one = c.reach-front.ensures.low.1 (front.1 (valid_range case s 0 (0 + n) (omega arith) none)) in
-          let two = c.reach-back.ensures.low.1 (back.1 (valid_range case s at (at + n) (omega arith) none)) in
-          c.is_low.ensures.1 (c.larger.ensures.low.1 (one, two)),
+          let one = c.excess-front.ensures.zero.1 (front.1 (valid_range case s 0 (0 + n) (omega arith) none)) in
+          let two = c.excess-back.ensures.zero.1 (back.1 (valid_range case s at (at + n) (omega arith) none)) in
+          c.is_zero.ensures.1 (c.either.ensures.zero.1 (one, two)),
     )
