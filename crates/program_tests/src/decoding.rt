@@ -1,7 +1,7 @@
 //! Decodings that are read in pieces, beside `run` over the whole input.
 
 use crate::streams::Pieces;
-use hex_format::WriterSink;
+use faster_hex::WriterSink;
 use hex_program::{Failure, Op, run, serve};
 use std::alloc::{AllocError, Global};
 
