@@ -31,7 +31,7 @@ END {
 
 function keep(key, ratio) {
     if (key in cell)
-        ratio = cell[key] ", " ratio
+        ratio = cell[key] " / " ratio
     cell[key] = ratio
 }
 

@@ -36,6 +36,7 @@ pub record ServesBy (Outputs : List ℕ → List ℕ → Type 0) (refusal_of : L
   pub refused : status ≡ 1 → Refused refusal_of left left' held held'
   pub statuses : (status ≡ 0) ⊎ (status ≡ 1) ⊎ (status ≡ 3)
 
+-- one operation's
 abbrev pub ServesOp : Op → Option (List ℕ) → Option (List ℕ) → Option (List ℕ) → Option (List ℕ) → ℕ → Type 0
 ServesOp op = ServesBy (IsOutput op) (op_refusal op)
 
