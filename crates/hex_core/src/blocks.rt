@@ -4,6 +4,7 @@
 //! bytes. Where a length is no multiple of a block, the last block ends with the source and
 //! overlaps the one before: what both cover is read twice, or written twice with equal bytes.
 
+ghost use Rattle.std.specs.Bool.{OnFalse, OnTrue};
 ghost use Rattle.std.specs.Prelude.{◌≡◌, ◌↔◌, ℕ, ◌+◌, ◌-◌, ◌*◌, ◌≤◌, IsTrue, None, length};
 ghost use Rattle.std.specs.Simd.Lanes.{chunk, put_chunk};
 ghost use Rattle.hex_core.specs.Arithmetic.{AreLow, packed};
@@ -14,7 +15,7 @@ ghost use Rattle.hex_core.specs.Lanes.{AreSmall};
 ghost use Rattle.hex_core.specs.Text.{Spells, text};
 
 use crate::digit::CheckCase;
-use crate::lanes::{NibbleMap, encoded, excess, reach, valid_nibbles};
+use crate::lanes::{Hashing, NibbleMap, Saturating, encoded, excess, reach, valid_nibbles};
 use crate::scalar;
 use crate::vector::{Interleave, Lanes, LookUp, Pack, either, is_low, is_small, is_zero, larger};
 use std::simd::prelude::*;
@@ -298,6 +299,25 @@ where
     put_two(front, back, dst, 0, end);
 }
 
+/// Writes the bytes that a valid source of `2 * N` to `4 * N` digits spells.
+#[inline(never)]
+pub fn write_four<const N: usize, const HALF: usize>(src: &[u8], dst: &mut [u8], case: CheckCase)
+where
+    Lanes: Pack<N, HALF>,
+    requires lanes { N ≡ 2 * HALF }
+    requires twice { length src.now ≡ 2 * length dst.old }
+    requires least { 2 * N ≤ length src.now }
+    requires most { length src.now ≤ 4 * N }
+    requires valid { first_invalid case src.now ≡ None }
+    ensures { Spells case src.now dst.new }
+{
+    let end = dst.len();
+    write_at::<N, HALF>(src, dst, 0, case);
+    write_at::<N, HALF>(src, dst, HALF, case);
+    write_at::<N, HALF>(src, dst, end - N, case);
+    write_at::<N, HALF>(src, dst, end - HALF, case);
+}
+
 /// Decodes a source of `N` digits: all of it is tested before the first store.
 #[inline(always)]
 pub fn decode_one<M, const N: usize, const HALF: usize>(
@@ -403,39 +423,83 @@ where
     valid
 }
 
-/// Decodes whole blocks of `2 * N` digits in order, each tested before its bytes are stored, up to
-/// one that has an invalid byte, and returns how many bytes it stored.
+/// How the digits of one block of `SIZE` bytes are decoded: all of them are tested before the first
+/// store.
+pub trait DecodeBlock<const SIZE: usize> {
+    /// Decodes the block of the bytes from `at` on, and returns whether it is valid.
+    fn decode_at(src: &[u8], dst: &mut [u8], at: usize, case: CheckCase) -> bool
+        requires twice { length src.now ≡ 2 * length dst.old }
+        requires room { at + SIZE ≤ length dst.old }
+        ensures valid { IsTrue result ↔ AllValid case src.now (2 * at) (2 * at + 2 * SIZE) }
+        ensures decoded { OnTrue result (DecodesRange case src.now dst.old dst.new at (at + SIZE)) }
+        ensures kept { OnFalse result (dst.new ≡ dst.old) };
+}
+
+/// A block of 64 digits in one vector.
+pub struct OneVector;
+
+impl DecodeBlock<32> for OneVector {
+    #[inline(always)]
+    fn decode_at(src: &[u8], dst: &mut [u8], at: usize, case: CheckCase) -> bool
+        requires twice { length src.now ≡ 2 * length dst.old }
+        requires room { at + 32 ≤ length dst.old }
+        ensures valid { IsTrue result ↔ AllValid case src.now (2 * at) (2 * at + 2 * 32) }
+        ensures decoded { OnTrue result (DecodesRange case src.now dst.old dst.new at (at + 32)) }
+        ensures kept { OnFalse result (dst.new ≡ dst.old) }
+    {
+        let block = nibbles_at::<Saturating, 64>(src, 2 * at, case);
+        if !is_small(block) {
+            return false;
+        }
+        put::<64, 32>(block, dst, at);
+        true
+    }
+}
+
+/// A block of 128 digits in two vectors, whose nibbles are found by a hash.
+pub struct TwoHashed;
+
+impl DecodeBlock<64> for TwoHashed {
+    #[inline(always)]
+    fn decode_at(src: &[u8], dst: &mut [u8], at: usize, case: CheckCase) -> bool
+        requires twice { length src.now ≡ 2 * length dst.old }
+        requires room { at + 64 ≤ length dst.old }
+        ensures valid { IsTrue result ↔ AllValid case src.now (2 * at) (2 * at + 2 * 64) }
+        ensures decoded { OnTrue result (DecodesRange case src.now dst.old dst.new at (at + 64)) }
+        ensures kept { OnFalse result (dst.new ≡ dst.old) }
+    {
+        let front = nibbles_at::<Hashing, 64>(src, 2 * at, case);
+        let back = nibbles_at::<Hashing, 64>(src, 2 * at + 64, case);
+        if !is_small(either(front, back)) {
+            return false;
+        }
+        put_two::<64, 32>(front, back, dst, at, at + 64);
+        true
+    }
+}
+
+/// Decodes whole blocks of `2 * SIZE` digits in order, each tested before its bytes are stored, up
+/// to one that has an invalid byte, and returns how many bytes it stored.
 #[inline(never)]
-pub fn decode_blocks<M, const N: usize, const HALF: usize>(
-    src: &[u8],
-    dst: &mut [u8],
-    case: CheckCase,
-) -> usize
+pub fn decode_blocks<B, const SIZE: usize>(src: &[u8], dst: &mut [u8], case: CheckCase) -> usize
 where
-    M: NibbleMap<N>,
-    Lanes: Pack<N, HALF>,
-    requires some { 1 ≤ HALF }
-    requires lanes { N ≤ 64 }
-    requires half { N ≡ 2 * HALF }
+    B: DecodeBlock<SIZE>,
+    requires some { 1 ≤ SIZE }
     requires twice { length src.now ≡ 2 * length dst.old }
     ensures inside { result ≤ length dst.old }
-    ensures whole { (i : ℕ) × (result ≡ i * N) }
+    ensures whole { (i : ℕ) × (result ≡ i * SIZE) }
     ensures valid { AllValid case src.now 0 (2 * result) }
-    ensures stopped { 2 * result + 2 * N ≤ length src.now
-        → ¬ AllValid case src.now (2 * result) (2 * result + 2 * N) }
+    ensures stopped { 2 * result + 2 * SIZE ≤ length src.now
+        → ¬ AllValid case src.now (2 * result) (2 * result + 2 * SIZE) }
     ensures decoded { DecodesRange case src.now dst.old dst.new 0 result }
 {
-    let blocks = dst.len() / N;
+    let blocks = dst.len() / SIZE;
     'turns: for i in 0..blocks {
-        let at = i * N;
-        let front = nibbles_at::<M, N>(src, 2 * at, case);
-        let back = nibbles_at::<M, N>(src, 2 * at + N, case);
-        if !is_small(either(front, back)) {
-            return at;
+        if !B::decode_at(src, dst, i * SIZE, case) {
+            return i * SIZE;
         }
-        put_two(front, back, dst, at, at + N);
     }
-    blocks * N
+    blocks * SIZE
 }
 
 // Writes the text of `N` bytes from `at` on.

@@ -6,13 +6,11 @@ ghost use Rattle.hex_core.specs.Plans.{name_of, owned_block, plan_names};
 ghost use Rattle.hex_core.specs.Search.{first_invalid};
 ghost use Rattle.hex_core.specs.Text.{text};
 
-use crate::blocks;
+use crate::blocks::{DecodeBlock, OneVector, TwoHashed, decode_blocks};
 use crate::digit::CheckCase;
 use crate::kind::Kind;
-use crate::lanes::{Hashing, NibbleMap, Saturating};
 pub use crate::search::{Probe, covered, locate};
 pub use crate::slice_probe::SliceProbe;
-use crate::vector::{Lanes, Pack};
 
 /// A plan: one way to check, encode and decode.
 ///
@@ -145,8 +143,8 @@ impl Backend {
     {
         match self.0 {
             Kind::Scalar | Kind::Sse41 => self.decode_at_once(src, dst, case),
-            Kind::Avx2 | Kind::Neon => self.decode_by_blocks::<Saturating, 32, 16>(src, dst, case),
-            Kind::Avx512 => self.decode_by_blocks::<Hashing, 64, 32>(src, dst, case),
+            Kind::Avx2 | Kind::Neon => self.decode_by_blocks::<OneVector, 32>(src, dst, case),
+            Kind::Avx512 => self.decode_by_blocks::<TwoHashed, 64>(src, dst, case),
         }
     }
 
@@ -162,50 +160,44 @@ impl Backend {
     // Decodes at once what [`Backend::decode`] holds in registers: the blocks before a refusal are
     // stored behind it alone.
     #[inline(always)]
-    fn decode_by_blocks<M, const N: usize, const HALF: usize>(
+    fn decode_by_blocks<B, const SIZE: usize>(
         self,
         src: &[u8],
         dst: &mut [u8],
         case: CheckCase,
     ) -> bool
     where
-        M: NibbleMap<N>,
-        Lanes: Pack<N, HALF>,
-        requires some { 1 ≤ HALF }
-        requires lanes { N ≤ 64 }
-        requires half { N ≡ 2 * HALF }
+        B: DecodeBlock<SIZE>,
+        requires some { 1 ≤ SIZE }
         requires twice { length src.now ≡ 2 * length dst.old }
-        ensures { DecodesOwned (2 * N) case src.now dst.old dst.new result }
+        ensures { DecodesOwned (2 * SIZE) case src.now dst.old dst.new result }
     {
         if src.len() > 256 {
-            return self.decode_in_turn::<M, N, HALF>(src, dst, case);
+            return self.decode_in_turn::<B, SIZE>(src, dst, case);
         }
         if self.decode(src, dst, case) {
             return true;
         }
-        self.decode_in_turn::<M, N, HALF>(src, dst, case)
+        self.decode_in_turn::<B, SIZE>(src, dst, case)
     }
 
     // Decodes block by block, and what is behind the whole blocks as [`Backend::decode`] does.
     #[inline(always)]
-    fn decode_in_turn<M, const N: usize, const HALF: usize>(
+    fn decode_in_turn<B, const SIZE: usize>(
         self,
         src: &[u8],
         dst: &mut [u8],
         case: CheckCase,
     ) -> bool
     where
-        M: NibbleMap<N>,
-        Lanes: Pack<N, HALF>,
-        requires some { 1 ≤ HALF }
-        requires lanes { N ≤ 64 }
-        requires half { N ≡ 2 * HALF }
+        B: DecodeBlock<SIZE>,
+        requires some { 1 ≤ SIZE }
         requires twice { length src.now ≡ 2 * length dst.old }
-        ensures { DecodesOwned (2 * N) case src.now dst.old dst.new result }
+        ensures { DecodesOwned (2 * SIZE) case src.now dst.old dst.new result }
     {
-        let done = blocks::decode_blocks::<M, N, HALF>(src, dst, case);
+        let done = decode_blocks::<B, SIZE>(src, dst, case);
         // The blocks end before the last whole one where the next has an invalid byte.
-        if dst.len() - done >= N {
+        if dst.len() - done >= SIZE {
             return false;
         }
         self.decode(&src[2 * done..], &mut dst[done..], case)

@@ -8,7 +8,7 @@ ghost use Rattle.hex_core.specs.Text.{Spells};
 
 use crate::blocks::{
     check_four, check_long, check_one, check_two, decode_four, decode_long, decode_one, decode_two,
-    write_blocks, write_one, write_two,
+    write_blocks, write_four, write_one, write_two,
 };
 use crate::digit::CheckCase;
 use crate::lanes::{NibbleMap, Saturating};
@@ -43,6 +43,7 @@ pub fn write_bytes(src: &[u8], dst: &mut [u8], case: CheckCase)
         17..=32 => write_two::<16, 8>(src, dst, case),
         33..=64 => write_two::<32, 16>(src, dst, case),
         65..=128 => write_two::<64, 32>(src, dst, case),
+        129..=256 => write_four::<64, 32>(src, dst, case),
         _ => write_blocks::<64, 32>(src, dst, case),
     }
 }

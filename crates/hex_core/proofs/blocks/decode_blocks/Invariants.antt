@@ -6,6 +6,6 @@ use Rattle.hex_core.proofs.blocks.decode_blocks.Given as goal
 -- the blocks so far are valid and decoded, and nothing else is stored
 abbrev pub invariant-turns : goal.invariant-turns
 invariant-turns g l = record {
-  valid : AllValid l.fn.case l.src 0 (2 * (l.i * g.row.N));
-  decoded : DecodesRange l.fn.case l.src l.fn.dst l.dst 0 (l.i * g.row.N);
+  valid : AllValid l.fn.case l.src 0 (2 * (l.i * g.row.SIZE));
+  decoded : DecodesRange l.fn.case l.src l.fn.dst l.dst 0 (l.i * g.row.SIZE);
 }

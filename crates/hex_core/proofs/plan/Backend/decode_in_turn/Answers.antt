@@ -7,7 +7,7 @@ use Rattle.hex_core.proofs.plan.Backend.decode_in_turn.Goals as goal
 
 pub returns-then-dst-done : goal.returns-then-dst-done
 returns-then-dst-done g c =
-    let case = c.args.case in let s = c.args.src.now in let blocks = c.decode_blocks-done in let done = blocks.result in let i = blocks.ensures.whole.0 in let block = 2 * g.row.N in
+    let case = c.args.case in let s = c.args.src.now in let blocks = c.decode_blocks-done in let done = blocks.result in let i = blocks.ensures.whole.0 in let block = 2 * g.row.SIZE in
     let even : 2 * done ≡ i * block = omega (arith, blocks.ensures.whole.1) in
     let bad : ¬ (first_invalid case s ≡ None) = λ none. blocks.ensures.stopped (omega arith) (valid_range case s (2 * done) (2 * done + block) (omega arith) none) in (
       (λ h. cc, λ none. absurd (bad none)),
@@ -17,7 +17,7 @@ returns-then-dst-done g c =
 
 pub returns : goal.returns
 returns g c =
-    let case = c.args.case in let s = c.args.src.now in let old = c.args.dst.now in let blocks = c.decode_blocks-done in let mid = blocks.new.dst in let done = blocks.result in let i = blocks.ensures.whole.0 in let block = 2 * g.row.N in
+    let case = c.args.case in let s = c.args.src.now in let old = c.args.dst.now in let blocks = c.decode_blocks-done in let mid = blocks.new.dst in let done = blocks.result in let i = blocks.ensures.whole.0 in let block = 2 * g.row.SIZE in
     let even : 2 * done ≡ i * block = omega (arith, blocks.ensures.whole.1) in
     let valid = rest_valid case s (2 * done) c.decode.result (omega arith) blocks.ensures.valid c.decode.ensures.0 in (
       valid,
