@@ -8,7 +8,7 @@ use Rattle.std.specs.List.{flat_map, join_by, range_with_len}
 use Rattle.hex_core.specs.Text.{digits, text}
 use Rattle.hex_core.proofs.TextLemmas.{length-text}
 use Rattle.hex_codec.specs.declared.group.Group.{Group}
-use Rattle.hex_codec.specs.Grouped.{bytes_apart, grouped, piece_count, piece_len, pieces, separated, separator}
+use Rattle.hex_codec.specs.Grouped.{grouped, piece_count, piece_len, pieces, separated, separator}
 
 -- ---- pieces
 
@@ -121,13 +121,3 @@ length-grouped group upper (b ∷ bytes) =
   where
     minus : (n count left : ℕ) → count ≡ suc left → n + count - 1 ≡ n + (count - 1)
     minus n count left one = omega arith
-
--- ---- pieces of one byte
-
-pub separated-apart : (group : Group) (upper : Bool) (bytes : List ℕ) → piece_len group ≡ 1 → separated group upper bytes ≡ bytes_apart (separator group) upper bytes
-separated-apart group upper [] one = separated-none group upper
-separated-apart group upper (b ∷ bytes) one =
-    let rest = separated-apart group upper bytes one in
-    let front : take (piece_len group) (b ∷ bytes) ≡ b ∷ [] = ap (λ n. take n (b ∷ bytes)) one in
-    let back : drop (piece_len group) (b ∷ bytes) ≡ bytes = ap (λ n. drop n (b ∷ bytes)) one in
-    separated-next group upper (b ∷ bytes) (omega arith) ∙ rw (front, back, rest) refl

@@ -2,7 +2,7 @@
 use Rattle.std.specs.Prelude.{ℕ, ◌*◌, Bool, List, [], ◌∷◌, length, take, drop, map}
 use Rattle.std.specs.Int.{div_ceil}
 use Rattle.std.specs.List.{flat_map, join_by, range_with_len}
-use Rattle.hex_core.specs.Text.{digits, text}
+use Rattle.hex_core.specs.Text.{text}
 use Rattle.hex_codec.specs.declared.group.Group.{Group}
 
 -- how many bytes a piece has, and what stands between two pieces
@@ -27,7 +27,3 @@ grouped group upper bytes = join_by (text upper) (separator group ∷ []) (piece
 -- the same with a separator before each piece, the first one too
 abbrev pub separated : Group → Bool → List ℕ → List ℕ
 separated group upper bytes = flat_map (λ piece. separator group ∷ text upper piece) (pieces (piece_len group) bytes)
-
--- the digits of each byte behind a separator
-abbrev pub bytes_apart : ℕ → Bool → List ℕ → List ℕ
-bytes_apart sep upper bytes = flat_map (λ b. sep ∷ digits upper b) bytes

@@ -51,6 +51,13 @@ behind-whole group upper count at bytes whole inside =
     let size : length (take at bytes) ≡ count * piece_len group = length-take-le at bytes inside ∙ whole in
     sym (separated-append group upper count (take at bytes) (drop at bytes) size) ∙ ap (separated group upper) (take-append-drop at bytes)
 
+-- so many bytes more, behind whole pieces
+pub bytes-more : (group : Group) (upper : Bool) (count at n : ℕ) (bytes : List ℕ) → at ≡ count * piece_len group → at ≤ length bytes
+    → separated group upper (take at bytes) ++ separated group upper (take n (drop at bytes)) ≡ separated group upper (take (at + n) bytes)
+bytes-more group upper count at n bytes whole inside =
+    let size : length (take at bytes) ≡ count * piece_len group = length-take-le at bytes inside ∙ whole in
+    sym (separated-append group upper count (take at bytes) (take n (drop at bytes)) size) ∙ ap (separated group upper) (sym (take-add at n bytes))
+
 -- one whole piece more
 pub one-more : (group : Group) (upper : Bool) (count at : ℕ) (bytes : List ℕ) → at ≡ count * piece_len group → at + piece_len group ≤ length bytes
     → separated group upper (take at bytes) ++ (separator group ∷ text upper (take (piece_len group) (drop at bytes))) ≡ separated group upper (take (at + piece_len group) bytes)
@@ -58,11 +65,10 @@ one-more group upper count at bytes whole inside =
     let every = piece_len group in
     let some : 0 < every = group.is_group.0 in
     let piece = take every (drop at bytes) in
-    let size : length (take at bytes) ≡ count * every = length-take-le at bytes (omega arith) ∙ whole in
     let long : length piece ≡ every = length-take-le every (drop at bytes) (omega (arith, length-drop at bytes)) in
     let last = piece-next group upper piece piece [] (sym (append-nil piece)) (omega (arith, long)) (omega (arith, long, some)) in
     let one : separator group ∷ text upper piece ≡ separated group upper piece = sym (last ∙ ap (λ l. (separator group ∷ text upper piece) ++ l) (separated-none group upper) ∙ append-nil (separator group ∷ text upper piece)) in
-    ap (λ l. separated group upper (take at bytes) ++ l) one ∙ sym (separated-append group upper count (take at bytes) piece size) ∙ ap (separated group upper) (sym (take-add at every bytes))
+    ap (λ l. separated group upper (take at bytes) ++ l) one ∙ bytes-more group upper count at every bytes whole (omega arith)
 
 -- there is a separator before the first piece
 pub separated-some : (group : Group) (upper : Bool) (bytes : List ℕ) → 0 < length bytes → 0 < length (separated group upper bytes)

@@ -1,19 +1,13 @@
--- Digits of bytes, each two of them behind a separator.
-use Rattle.std.proofs.Common.{◌≡◌, Bool, ℕ, ◌+◌, ◌*◌, ◌≤◌, List, [], ◌∷◌, ◌++◌, length, take, drop, refl, sym, ap, ◌∙◌, arith, take-append-drop}
+-- Texts of bytes of which there is a known number.
+use Rattle.std.proofs.Common.{◌≡◌, Bool, ℕ, ◌*◌, ◌≤◌, ◌∷◌, ◌++◌, List, length, get_or, map, take, drop, sym, ap, ◌∙◌, arith, take-append-drop}
 use Rattle.std.proofs.lemmas.List.{length-take-le}
-use Rattle.std.proofs.Math.Seq.{take-add, take-append_seam}
-use Rattle.std.proofs.lemmas.Grind.{flat_map-append}
-use Rattle.hex_core.specs.Text.{digits, text}
+use Rattle.std.proofs.Math.Seq.{take-append_seam}
+use Rattle.std.specs.List.{flat_map, range_with_len}
+use Rattle.hex_core.specs.Text.{text}
 use Rattle.hex_core.proofs.TextLemmas.{length-text, text-append}
-use Rattle.hex_codec.specs.Grouped.{bytes_apart}
-
-pub length-apart : (sep : ℕ) (upper : Bool) (bytes : List ℕ) → length (bytes_apart sep upper bytes) ≡ 3 * length bytes
-length-apart sep upper [] = refl
-length-apart sep upper (b ∷ bytes) = let rest = length-apart sep upper bytes in omega arith
-
--- the next bytes are written behind those before them
-pub apart-more : (sep : ℕ) (upper : Bool) (at n : ℕ) (bytes : List ℕ) → bytes_apart sep upper (take at bytes) ++ bytes_apart sep upper (take n (drop at bytes)) ≡ bytes_apart sep upper (take (at + n) bytes)
-apart-more sep upper at n bytes = sym (flat_map-append (λ b. sep ∷ digits upper b) (take at bytes) (take n (drop at bytes))) ∙ ap (bytes_apart sep upper) (sym (take-add at n bytes))
+use Rattle.hex_codec.specs.declared.group.Group.{Group}
+use Rattle.hex_codec.specs.Grouped.{piece_len, pieces, separated, separator}
+use Rattle.hex_codec.proofs.ListLemmas.{entries}
 
 -- the first digits of a text are those of the first bytes
 pub take-text : (upper : Bool) (n : ℕ) (bytes : List ℕ) → n ≤ length bytes → take (2 * n) (text upper bytes) ≡ text upper (take n bytes)
@@ -22,3 +16,13 @@ take-text upper n bytes inside =
     let size : length front ≡ 2 * n = omega (arith, length-text upper (take n bytes), length-take-le n bytes inside) in
     let parts : text upper bytes ≡ front ++ text upper (drop n bytes) = ap (text upper) (sym (take-append-drop n bytes)) ∙ text-append upper (take n bytes) (drop n bytes) in
     rw (parts, ← size) (take-append_seam front (text upper (drop n bytes)))
+
+-- sixteen bytes by their entries, so that what is said of them computes
+abbrev pub listed : List ℕ → List ℕ
+listed bytes = map (λ i. get_or bytes i 0) (range_with_len 0 16)
+
+-- so do their pieces where a piece's length is known
+pub separated-listed : (group : Group) (upper : Bool) (bytes : List ℕ) (every : ℕ) → length bytes ≡ 16 → piece_len group ≡ every
+    → flat_map (λ piece. separator group ∷ text upper piece) (pieces every (listed bytes)) ≡ separated group upper bytes
+separated-listed group upper bytes every long is =
+    ap (λ n. flat_map (λ piece. separator group ∷ text upper piece) (pieces n (listed bytes))) (sym is) ∙ ap (separated group upper) (sym (entries bytes 16 long))

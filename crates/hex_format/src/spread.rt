@@ -1,14 +1,14 @@
 //! Texts of pieces, each behind a separator.
 
-ghost use Rattle.std.specs.Prelude.{◌≡◌, ◌*◌, ◌≤◌, length, take};
-ghost use Rattle.hex_codec.specs.Grouped.{bytes_apart, piece_len, separated};
+ghost use Rattle.std.specs.Prelude.{◌≡◌, ◌++◌, ◌-◌, ℕ, ◌*◌, ◌≤◌, length, take};
+ghost use Rattle.hex_codec.specs.Grouped.{piece_len, separated};
 
 use hex_codec::Group;
 use hex_core::Backend;
 use hex_core::lanes::{encode_8, encode_16};
 use std::simd::prelude::*;
 
-// How many bytes are spread at a time where each is a piece.
+// How many bytes are spread at a time where whole pieces are so many.
 const BLOCK: usize = 16;
 
 // How many bytes are encoded at a time where a piece has fewer or as many.
@@ -22,8 +22,10 @@ pub fn separated_text<'b>(bytes: &[u8], upper: bool, group: Group, buffer: &'b m
     ensures { result.now ≡ separated group upper bytes.now }
 {
     let end = match group.every() {
-        1 => write_apart(bytes, upper, group, buffer),
-        2..=8 => write_short(bytes, upper, group, buffer),
+        1 => write_blocks::<Spread, 1, 48>(bytes, upper, group, buffer),
+        2 => write_blocks::<Spread, 2, 40>(bytes, upper, group, buffer),
+        4 => write_blocks::<Spread, 4, 36>(bytes, upper, group, buffer),
+        3..=8 => write_short(bytes, upper, group, buffer),
         _ => write_separated(bytes, upper, group, buffer),
     };
     &buffer[..end]
@@ -67,50 +69,139 @@ fn write_short(bytes: &[u8], upper: bool, group: Group, out: &mut [u8]) -> usize
     to + write_separated(&bytes[at..], upper, group, &mut out[to..])
 }
 
-// The digits of each of 16 bytes behind a separator. Each third takes its lanes from 16 of the
-// digits: a shuffle of more lanes is done byte by byte.
-#[inline(always)]
-fn spread_16(bytes: &[u8; BLOCK], upper: bool, sep: u8) -> [u8; 3 * BLOCK]
-    ensures { result ≡ bytes_apart sep upper bytes.now }
-{
-    let digits = encode_16(bytes, upper);
-    let first = u8x16::from_slice(&digits);
-    let last = u8x16::from_slice(&digits[BLOCK..]);
-    let inner = first.shuffle(
-        last,
-        [
-            10, 11, 12, 13, 14, 15, 16, 17, 18, 19, 20, 21, 22, 23, 24, 25,
-        ],
-    );
-    let seps = u8x16::splat(sep);
-    let front = first.shuffle(seps, [16, 0, 1, 16, 2, 3, 16, 4, 5, 16, 6, 7, 16, 8, 9, 16]);
-    let middle = inner.shuffle(seps, [0, 1, 16, 2, 3, 16, 4, 5, 16, 6, 7, 16, 8, 9, 16, 10]);
-    let back = last.shuffle(
-        seps,
-        [5, 16, 6, 7, 16, 8, 9, 16, 10, 11, 16, 12, 13, 16, 14, 15],
-    );
-    let mut spread = [0; 3 * BLOCK];
-    front.copy_to_slice(&mut spread);
-    middle.copy_to_slice(&mut spread[BLOCK..]);
-    back.copy_to_slice(&mut spread[2 * BLOCK..]);
-    spread
+// A block of whole pieces, each behind a separator.
+trait SpreadBlock<const EVERY: usize, const OUT: usize> {
+    fn spread(bytes: &[u8; BLOCK], upper: bool, group: Group, out: &mut [u8])
+        requires every { piece_len group ≡ EVERY }
+        requires long { length out.old ≡ OUT }
+        ensures whole { (pieces : ℕ) × (BLOCK ≡ pieces * EVERY) }
+        ensures text { out.new ≡ separated group upper bytes.now };
 }
 
-// The same as `write_separated` where each byte is a piece, a block at a time.
-fn write_apart(bytes: &[u8], upper: bool, group: Group, out: &mut [u8]) -> usize
-    requires single { piece_len group ≡ 1 }
+// Each vector of what is written takes its lanes from 16 of the digits: a shuffle of more lanes is done
+// byte by byte.
+struct Spread;
+
+impl SpreadBlock<1, 48> for Spread {
+    #[inline(always)]
+    fn spread(bytes: &[u8; BLOCK], upper: bool, group: Group, out: &mut [u8])
+        requires every { piece_len group ≡ 1 }
+        requires long { length out.old ≡ 48 }
+        ensures whole { (pieces : ℕ) × (BLOCK ≡ pieces * 1) }
+        ensures text { out.new ≡ separated group upper bytes.now }
+    {
+        let digits = encode_16(bytes, upper);
+        let first = u8x16::from_slice(&digits);
+        let last = u8x16::from_slice(&digits[BLOCK..]);
+        let inner = first.shuffle(
+            last,
+            [
+                10, 11, 12, 13, 14, 15, 16, 17, 18, 19, 20, 21, 22, 23, 24, 25,
+            ],
+        );
+        let seps = u8x16::splat(group.sep());
+        let front = first.shuffle(seps, [16, 0, 1, 16, 2, 3, 16, 4, 5, 16, 6, 7, 16, 8, 9, 16]);
+        let middle = inner.shuffle(seps, [0, 1, 16, 2, 3, 16, 4, 5, 16, 6, 7, 16, 8, 9, 16, 10]);
+        let back = last.shuffle(
+            seps,
+            [5, 16, 6, 7, 16, 8, 9, 16, 10, 11, 16, 12, 13, 16, 14, 15],
+        );
+        put_three(front, middle, back, out);
+    }
+}
+
+impl SpreadBlock<2, 40> for Spread {
+    #[inline(always)]
+    fn spread(bytes: &[u8; BLOCK], upper: bool, group: Group, out: &mut [u8])
+        requires every { piece_len group ≡ 2 }
+        requires long { length out.old ≡ 40 }
+        ensures whole { (pieces : ℕ) × (BLOCK ≡ pieces * 2) }
+        ensures text { out.new ≡ separated group upper bytes.now }
+    {
+        let digits = encode_16(bytes, upper);
+        let first = u8x16::from_slice(&digits);
+        let last = u8x16::from_slice(&digits[BLOCK..]);
+        let inner = first.shuffle(
+            last,
+            [
+                12, 13, 14, 15, 16, 17, 18, 19, 20, 21, 22, 23, 24, 25, 26, 27,
+            ],
+        );
+        let seps = u8x16::splat(group.sep());
+        let front = first.shuffle(seps, [16, 0, 1, 2, 3, 16, 4, 5, 6, 7, 16, 8, 9, 10, 11, 16]);
+        let middle = inner.shuffle(seps, [0, 1, 2, 3, 16, 4, 5, 6, 7, 16, 8, 9, 10, 11, 16, 12]);
+        let back = last.shuffle(
+            seps,
+            [3, 16, 4, 5, 6, 7, 16, 8, 9, 10, 11, 16, 12, 13, 14, 15],
+        );
+        put_three(front, middle, back, out);
+    }
+}
+
+impl SpreadBlock<4, 36> for Spread {
+    #[inline(always)]
+    fn spread(bytes: &[u8; BLOCK], upper: bool, group: Group, out: &mut [u8])
+        requires every { piece_len group ≡ 4 }
+        requires long { length out.old ≡ 36 }
+        ensures whole { (pieces : ℕ) × (BLOCK ≡ pieces * 4) }
+        ensures text { out.new ≡ separated group upper bytes.now }
+    {
+        let digits = encode_16(bytes, upper);
+        let first = u8x16::from_slice(&digits);
+        let last = u8x16::from_slice(&digits[BLOCK..]);
+        let inner = first.shuffle(
+            last,
+            [
+                14, 15, 16, 17, 18, 19, 20, 21, 22, 23, 24, 25, 26, 27, 28, 29,
+            ],
+        );
+        let seps = u8x16::splat(group.sep());
+        let front = first.shuffle(seps, [16, 0, 1, 2, 3, 4, 5, 6, 7, 16, 8, 9, 10, 11, 12, 13]);
+        let middle = inner.shuffle(seps, [0, 1, 16, 2, 3, 4, 5, 6, 7, 8, 9, 16, 10, 11, 12, 13]);
+        let back = last.shuffle(
+            seps,
+            [1, 2, 3, 4, 5, 6, 7, 16, 8, 9, 10, 11, 12, 13, 14, 15],
+        );
+        put_three(front, middle, back, out);
+    }
+}
+
+// Writes three vectors, of which the last ends where the output does, over the end of the one before.
+#[inline(always)]
+fn put_three(front: u8x16, middle: u8x16, back: u8x16, out: &mut [u8])
+    requires least { 2 * BLOCK ≤ length out.old }
+    requires most { length out.old ≤ 3 * BLOCK }
+    ensures { out.new ≡ front ++ (take (length out.old - 2 * BLOCK) middle ++ back) }
+{
+    let last = out.len() - BLOCK;
+    front.copy_to_slice(out);
+    middle.copy_to_slice(&mut out[BLOCK..]);
+    back.copy_to_slice(&mut out[last..]);
+}
+
+// The same as `write_separated` where whole pieces make a block, a block at a time.
+fn write_blocks<S, const EVERY: usize, const OUT: usize>(
+    bytes: &[u8],
+    upper: bool,
+    group: Group,
+    out: &mut [u8],
+) -> usize
+where
+    S: SpreadBlock<EVERY, OUT>,
+    requires every { piece_len group ≡ EVERY }
+    requires thrice { OUT ≤ 3 * BLOCK }
     requires room { 3 * length bytes.now ≤ length out.old }
     ensures inside { result ≤ length out.new }
     ensures written { take result out.new ≡ separated group upper bytes.now }
 {
     let whole = bytes.len() / BLOCK;
+    let mut to = 0;
     'turns: for i in 0..whole {
         let at = BLOCK * i;
         let mut block = [0; BLOCK];
         block.copy_from_slice(&bytes[at..at + BLOCK]);
-        let spread = spread_16(&block, upper, group.sep());
-        out[3 * at..3 * at + 3 * BLOCK].copy_from_slice(&spread);
+        S::spread(&block, upper, group, &mut out[to..to + OUT]);
+        to += OUT;
     }
-    let done = BLOCK * whole;
-    3 * done + write_separated(&bytes[done..], upper, group, &mut out[3 * done..])
+    to + write_separated(&bytes[BLOCK * whole..], upper, group, &mut out[to..])
 }

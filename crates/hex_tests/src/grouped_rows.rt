@@ -102,6 +102,19 @@ fn grouped_texts_are_the_written_ones(rt: HostRuntime) {
     }
 }
 
+#[test]
+fn sixteen_bytes_are_grouped_as_xxd_prints_them(rt: HostRuntime) {
+    let bytes = [0, 1, 2, 3, 4, 5, 6, 7, 8, 9, 10, 11, 12, 13, 14, 15];
+    for (every, text) in [
+        (1usize, "00 01 02 03 04 05 06 07 08 09 0a 0b 0c 0d 0e 0f"),
+        (2, "0001 0203 0405 0607 0809 0a0b 0c0d 0e0f"),
+        (4, "00010203 04050607 08090a0b 0c0d0e0f"),
+    ] {
+        let flags = grouped_flags("", None, ' ', every, b' ');
+        assert!(rt; writes(&bytes, &flags, text.as_bytes()), "{text}");
+    }
+}
+
 // The number of bytes whose text is grouped otherwise than the rule says.
 fn length_missed(alloc: Global, every: usize) -> Result<Option<usize>, AllocError> {
     let group = Group::new(every, b'_');
