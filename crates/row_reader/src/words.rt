@@ -1,0 +1,68 @@
+//! The words of a row, read one after another.
+
+use crate::notation::{self, Bytes};
+
+/// One side of a row: its words, with one space between two, as one turn reads them.
+#[derive(Clone, Copy)]
+pub struct Words<'a> {
+    rest: &'a [u8],
+    turn: usize,
+}
+
+impl<'a> Words<'a> {
+    /// Returns the words of `side`, as they are read in `turn`.
+    pub fn new(side: &'a [u8], turn: usize) -> Words<'a> {
+        Words { rest: side, turn }
+    }
+
+    /// Takes the next word. Returns an empty one where none is left.
+    pub fn next(&mut self) -> &'a [u8] {
+        let side = self.rest;
+        let end = side
+            .iter()
+            .position(|byte| *byte == b' ')
+            .unwrap_or(side.len());
+        self.rest = side.get(end.saturating_add(1)..).unwrap_or_default();
+        side.get(..end).unwrap_or_default()
+    }
+
+    /// Takes the next word as a number. Returns `None` where it is none.
+    pub fn number(&mut self) -> Option<usize> {
+        notation::number(self.next(), self.turn)
+    }
+
+    /// Takes the next word as bytes, which `bytes` then holds. Returns `None` where it is none.
+    pub fn bytes(&mut self, bytes: &mut Bytes) -> Option<()> {
+        notation::write(self.next(), self.turn, bytes)
+    }
+
+    /// Takes the next word as one byte, which it writes as two digits or as a letter.
+    pub fn byte(&mut self) -> Option<u8> {
+        let mut bytes = Bytes::new();
+        self.bytes(&mut bytes)?;
+        match bytes.as_slice() {
+            [byte] => Some(*byte),
+            _ => None,
+        }
+    }
+
+    /// Takes the next word, where it is this one. Returns whether it was.
+    pub fn takes(&mut self, word: &[u8]) -> bool {
+        let mut behind = *self;
+        let is_next = behind.next() == word;
+        if is_next {
+            *self = behind;
+        }
+        is_next
+    }
+
+    /// Returns the words that are left, as they are written.
+    pub fn rest(&self) -> &'a [u8] {
+        self.rest
+    }
+
+    /// Returns whether no word is left.
+    pub fn are_read(&self) -> bool {
+        self.rest.is_empty()
+    }
+}
