@@ -1,13 +1,14 @@
 # `make` builds fhex, `make lib` libfaster_hex.a, each for the processors that CPU names, as in
-# `make CPU=x86-64-v3`. `make test` runs the gate, `make install PREFIX=DIR` puts fhex into PREFIX/bin
-# and its manual page into PREFIX/share/man/man1. `make -s` prints nothing where all goes well.
+# `make CPU=x86-64-v3`. `make test` runs the examples and the gate, `make deep` what a release takes
+# beside it. `make install PREFIX=DIR` puts fhex into PREFIX/bin and its manual page into
+# PREFIX/share/man/man1. `make -s` prints nothing where all goes well.
 PREFIX ?= /usr/local
 PROGRAM = crates/fhex/out/fhex
 PAGE = docs/fhex.1
 CPU = x86-64-v2
 LIBRARY = crates/faster_hex_c/out
 
-.PHONY: build lib test install clean
+.PHONY: build lib test deep install clean
 
 # `rt run` proves, builds and runs a program, and leaves it in out/. What it says goes to a log there,
 # of which the end is printed where it fails.
@@ -24,8 +25,19 @@ lib:
 	cp $(LIBRARY)/libfaster_hex_c.a $(LIBRARY)/libfaster_hex.a
 
 test:
-	scripts/examples.sh --check
+	scripts/examples.sh
 	rt ci
+
+# Before a release. It stops at the first that fails.
+deep: build
+	scripts/wrong-bodies
+	scripts/test-wrong-bodies
+	scripts/examples.sh --prove
+	scripts/growths.sh
+	scripts/statuses.sh
+	scripts/digests.sh
+	scripts/link.sh
+	scripts/random-rows
 
 install: build
 	install -d $(DESTDIR)$(PREFIX)/bin $(DESTDIR)$(PREFIX)/share/man/man1
