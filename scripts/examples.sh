@@ -1,36 +1,37 @@
 #!/bin/sh
-# Writes the crate doc_examples, whose tests are the examples of the doc comments of the libraries
-# and of callers, and the statements of CALLING.md, as they stand there; `rt ci` proves and runs
-# them. Run it after each change of an example.
-# Usage: scripts/examples.sh [--check]
-# With --check it writes nothing, and prints the name of each file of the crate that differs, is
-# missing or is left over, one a line. In any case it prints each function of CALLING.md that does
-# not stand in callers, and each program of README.md that is no program of a crate, by its first
-# line. Its status is 1 where it has printed one.
+# Runs the examples of the doc comments of the libraries and of callers, and the statements of
+# CALLING.md, as they stand there: each is a test of a crate that this script makes outside the
+# repository, and that `rt try --test` runs and nothing proves. Run it after each change of one.
+# Usage: scripts/examples.sh [--prove]
+# With --prove, `rt test` proves that crate before it runs, and what below it is not proved yet.
+# Prints each file with an example that `rt fmt` would lay out otherwise, each function of CALLING.md
+# that does not stand in callers, and each program of README.md that is no program of a crate, by its
+# first line; then what a run says beside the examples that pass, where one fails. The last line is
+# `N examples passed, M failed`, and the status is 1 where one failed or something else was printed.
 #
 # An example stands in a doc comment between ```rust and ```. It is the body of a test, where `rt`
 # is the runtime and `?` takes any error. Without saying so it names what is public at the root of
 # its crate, in its own module, and at the roots of those crates of this repository that crates.txt
-# names for its crate. What else it needs it imports itself. It is laid out as `rt fmt` lays out a
-# function's body.
+# names for its crate. What else it needs it imports itself.
 set -eu
 LC_ALL=C
 export LC_ALL
 
 case $#:${1-} in
-0:) check= ;;
-1:--check) check=1 ;;
+0:) prove= ;;
+1:--prove) prove=1 ;;
 *)
-    echo "usage: scripts/examples.sh [--check]" >&2
+    echo "usage: scripts/examples.sh [--prove]" >&2
     exit 2
     ;;
 esac
 
 cd "$(dirname "$0")/.."
 libraries='hex_core hex_codec hex_format hex_lists hex_json faster_hex hex_program callers'
-own=crates/doc_examples/src
 made=$(mktemp -d)
 trap 'rm -rf "$made"' EXIT
+own=$made/crates/doc_examples
+mkdir -p "$own/src"
 
 # imports CRATE MODULE: what an example there names without saying so. `rt fmt` puts a `*` behind
 # other names, and `sort` before them.
@@ -56,7 +57,7 @@ write_tests() {
         echo
         imports "$1" "$2"
         cat "$made/tests"
-    } >"$made/$1_$2.rt"
+    } >"$own/src/$1_$2.rt"
 }
 
 # blocks PAGE: writes the rust blocks of a page into files.
@@ -95,7 +96,7 @@ write_page_tests() {
             sed 's/^./    &/' "$block"
             printf '    Ok(())\n}\n'
         done
-    } >"$made/$2.rt"
+    } >"$own/src/$2.rt"
 }
 
 # strayed PAGE FILE..: the blocks of the page that hold a function and stand in none of the files.
@@ -116,18 +117,26 @@ write_root() {
 #![tactic(auto)]
 
 HEAD
-    for file in "$made"/*.rt; do
+    for file in "$own"/src/*.rt; do
         echo '#[cfg(test)]'
         echo "mod $(basename "$file" .rt);"
     done
 }
 
-# differing: the files of the crate that are not as they are made.
-differing() {
-    for file in "$made"/*.rt "$own"/*.rt; do
-        name=$(basename "$file")
-        [ ! -e "$file" ] || cmp -s "$made/$name" "$own/$name" || echo "$own/$name"
-    done | sort -u
+# copy_libraries: what a run of the crate reads of the libraries. A proof reads their specs and
+# proofs too, and takes from out/ what checks in the repository have kept.
+copy_libraries() {
+    parts=src
+    [ -z "$prove" ] || parts='src specs proofs out'
+    for library in $libraries; do
+        mkdir "$made/crates/$library"
+        for part in $parts; do
+            [ ! -e "crates/$library/$part" ] \
+                || cp -R "crates/$library/$part" "$made/crates/$library/"
+        done
+        grep "^$library:" crates.txt
+    done >"$made/crates.txt"
+    echo "doc_examples: $libraries serde_json" >>"$made/crates.txt"
 }
 
 for library in $libraries; do
@@ -137,17 +146,23 @@ for library in $libraries; do
 done
 write_page_tests crates/faster_hex/CALLING.md calling
 write_root >"$made/root"
-mv "$made/root" "$made/lib.rt"
+mv "$made/root" "$own/src/lib.rt"
+copy_libraries
 
 wrong=$(
+    (cd "$own" && rt fmt) | sed -n 's/^rt: formatted src./not in the layout of rt fmt: /p'
     strayed crates/faster_hex/CALLING.md crates/callers/src/*.rt
     strayed README.md crates/*/src/main.rt
-    [ -z "$check" ] || differing
 )
-if [ -z "$check" ]; then
-    mkdir -p "$own"
-    rm -f "$own"/*.rt
-    cp "$made"/*.rt "$own"
-fi
 [ -z "$wrong" ] || printf '%s\n' "$wrong"
-[ -z "$wrong" ]
+
+run='rt try --test'
+[ -z "$prove" ] || run='rt test'
+status=0
+(cd "$own" && $run </dev/null) >"$made/log" 2>&1 || status=$?
+[ "$status" -eq 0 ] || grep -v ' \.\.\. ok$' "$made/log" | tail -n 40
+
+examples=$(cat "$own"/src/*.rt | grep -c '^#\[test\]$')
+passed=$(sed -n 's/^test result: .* \([0-9]*\) passed;.*/\1/p' "$made/log")
+echo "${passed:=0} examples passed, $((examples - passed)) failed"
+[ "$status" -eq 0 ] && [ "$passed" -eq "$examples" ] && [ -z "$wrong" ]

@@ -2,8 +2,8 @@
 //!
 //! Bytes are parts behind one another, with a comma between two: `0*129,g`. A part is its own
 //! letters, and `\xhh` any byte; `#00abff` are the bytes of these digits. Behind a part `*3` repeats
-//! it, and `^100` repeats it up to 100 bytes. At the end of the word `%7` keeps the first seven of
-//! all bytes. A lone `-` is no byte at all.
+//! it, and `^100` repeats it up to 100 bytes. Behind the last part `&3:g` puts a `g` at place 3,
+//! and at the end of the word `%7` keeps the first seven bytes. A lone `-` is no byte at all.
 //!
 //! A row that stands for several has a turn for each, counted from 0. `[30+1]` is the byte 0x30 in
 //! the first turn and 0x31 in the next; where a number stands, `[30+2]` is 30, 32 and so on, and
@@ -126,7 +126,7 @@ impl Cursor<'_> {
 
     // Whether a part goes on.
     fn is_inside(&self) -> bool {
-        !matches!(self.peek(), None | Some(b',' | b'*' | b'^' | b'%'))
+        !matches!(self.peek(), None | Some(b',' | b'*' | b'^' | b'&' | b'%'))
     }
 
     // Writes the bytes of a part once.
@@ -162,6 +162,16 @@ impl Cursor<'_> {
         repeat(bytes, once, end)
     }
 
+    // Puts one byte at a place.
+    fn put(&mut self, bytes: &mut Bytes) -> Option<()> {
+        let place = self.number()?;
+        if !self.takes(b':') {
+            return None;
+        }
+        *bytes.get_mut(place)? = self.byte(false)?;
+        Some(())
+    }
+
     // Writes all parts.
     fn write(&mut self, bytes: &mut Bytes) -> Option<()> {
         for _ in 0..ROOM {
@@ -169,6 +179,12 @@ impl Cursor<'_> {
             if !self.takes(b',') {
                 break;
             }
+        }
+        for _ in 0..ROOM {
+            if !self.takes(b'&') {
+                break;
+            }
+            self.put(bytes)?;
         }
         if self.takes(b'%') {
             bytes.truncate(self.number()?);

@@ -56,6 +56,11 @@ impl<'a> Words<'a> {
         is_next
     }
 
+    /// Returns the turn that the words are read in.
+    pub fn turn(&self) -> usize {
+        self.turn
+    }
+
     /// Returns the words that are left, as they are written.
     pub fn rest(&self) -> &'a [u8] {
         self.rest
