@@ -2,12 +2,12 @@
 //! how often they asked.
 
 use crate::seen::{is_bytes, is_option};
-use crate::terms::{Answer, Buffers, answer, value, wire_format};
+use crate::terms::{Answer, Buffers, answer, has_bytes, value, wire_format};
 use hex_core::Error;
 use hex_json::AdapterError;
 use hex_json::adapters::{WireFormat, read, read_option, text_of};
 use refusing_allocator::Refusing;
-use row_reader::{Bytes, Words};
+use row_reader::Words;
 use serde_json::Value;
 use std::alloc::{Allocator, Global};
 
@@ -82,15 +82,6 @@ fn is_text<A: Allocator + Drop>(got: Result<String<A>, AdapterError>, want: Opti
     }
 }
 
-// Reads the answer of a writing: its text, or `no-memory`.
-fn text<'a>(wanted: &mut Words<'_>, bytes: &'a mut Bytes) -> Option<Option<&'a [u8]>> {
-    if wanted.takes(b"no-memory") {
-        return Some(None);
-    }
-    wanted.bytes(bytes)?;
-    Some(Some(bytes.as_slice()))
-}
-
 /// Returns whether `granted-text FORMAT GRANTED BYTES` answers so: how often it asked, and the text,
 /// or `no-memory`.
 pub fn text_row(
@@ -104,7 +95,8 @@ pub fn text_row(
     let refusing = Refusing::new(alloc, u64::try_from(row.number()?).ok()?);
     row.bytes(&mut buffers.given)?;
     let asked = u64::try_from(wanted.number()?).ok()?;
-    let want = text(&mut wanted, &mut buffers.wanted)?;
+    let is_written = has_bytes(&mut wanted, b"no-memory", &mut buffers.wanted)?;
+    let want = is_written.then_some(buffers.wanted.as_slice());
     if !row.are_read() || !wanted.are_read() {
         return None;
     }

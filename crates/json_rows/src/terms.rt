@@ -155,13 +155,13 @@ pub fn answer<'a>(answer: Words<'_>, found: &[u8], bytes: &'a mut Bytes) -> Opti
     words.are_read().then_some(want)
 }
 
-/// Reads the bytes that a row has written: bytes, or `none`.
-pub fn source<'a>(row: &mut Words<'_>, bytes: &'a mut Bytes) -> Option<Option<&'a [u8]>> {
-    if row.takes(b"none") {
-        return Some(None);
+/// Reads bytes, or `word` in place of them. Returns whether there are any.
+pub fn has_bytes(words: &mut Words<'_>, word: &[u8], bytes: &mut Bytes) -> Option<bool> {
+    if words.takes(word) {
+        return Some(false);
     }
-    row.bytes(bytes)?;
-    Some(Some(bytes.as_slice()))
+    words.bytes(bytes)?;
+    Some(true)
 }
 
 /// What a row is read into.

@@ -1,7 +1,7 @@
 //! Rows of writings: of bytes, of none, and beside the reading of an array.
 
 use crate::places::Place;
-use crate::terms::{Buffers, source};
+use crate::terms::{Buffers, has_bytes};
 use hex_json::AdapterError;
 use row_reader::{Bytes, Words};
 use serde_json::Value;
@@ -29,11 +29,12 @@ pub fn write_row(
 ) -> Option<bool> {
     let (mut row, mut wanted) = (row, wanted);
     let place = Place::from_row(&mut row)?;
-    let src = source(&mut row, &mut buffers.given)?;
+    let is_given = has_bytes(&mut row, b"none", &mut buffers.given)?;
     wanted.bytes(&mut buffers.wanted)?;
     if !row.are_read() || !wanted.are_read() {
         return None;
     }
+    let src = is_given.then_some(buffers.given.as_slice());
     let got = if is_array {
         place.write_array(alloc, src)?
     } else {
