@@ -43,51 +43,43 @@ fn none_grows_nothing(rt: HostRuntime) {
 
 // The value is two growths, and each call one: a test fails where one of those ten is refused, and
 // prints the answer of the refused call.
+fn calls_of(alloc: Global, module: Module, json: &str) -> Result<(), Fail> {
+    let value = Value::from_str(alloc, json)?;
+    calls_in_turn(alloc, module, &value)?;
+    Ok(())
+}
+
 #[test]
 fn root_grows_once_a_call(rt: HostRuntime) -> Result<(), Fail> {
-    let value = Value::from_str(rt.alloc(), r#""0x12""#)?;
-    calls_in_turn(rt.alloc(), Module::Root, &value)?;
-    Ok(())
+    calls_of(rt.alloc(), Module::Root, r#""0x12""#)
 }
 
 #[test]
 fn withpfx_ignorecase_grows_once_a_call(rt: HostRuntime) -> Result<(), Fail> {
-    let value = Value::from_str(rt.alloc(), r#""0x12""#)?;
-    calls_in_turn(rt.alloc(), Module::WithpfxIgnorecase, &value)?;
-    Ok(())
+    calls_of(rt.alloc(), Module::WithpfxIgnorecase, r#""0x12""#)
 }
 
 #[test]
 fn nopfx_ignorecase_grows_once_a_call(rt: HostRuntime) -> Result<(), Fail> {
-    let value = Value::from_str(rt.alloc(), r#""12""#)?;
-    calls_in_turn(rt.alloc(), Module::NopfxIgnorecase, &value)?;
-    Ok(())
+    calls_of(rt.alloc(), Module::NopfxIgnorecase, r#""12""#)
 }
 
 #[test]
 fn withpfx_lowercase_grows_once_a_call(rt: HostRuntime) -> Result<(), Fail> {
-    let value = Value::from_str(rt.alloc(), r#""0x12""#)?;
-    calls_in_turn(rt.alloc(), Module::WithpfxLowercase, &value)?;
-    Ok(())
+    calls_of(rt.alloc(), Module::WithpfxLowercase, r#""0x12""#)
 }
 
 #[test]
 fn nopfx_lowercase_grows_once_a_call(rt: HostRuntime) -> Result<(), Fail> {
-    let value = Value::from_str(rt.alloc(), r#""12""#)?;
-    calls_in_turn(rt.alloc(), Module::NopfxLowercase, &value)?;
-    Ok(())
+    calls_of(rt.alloc(), Module::NopfxLowercase, r#""12""#)
 }
 
 #[test]
 fn withpfx_uppercase_grows_once_a_call(rt: HostRuntime) -> Result<(), Fail> {
-    let value = Value::from_str(rt.alloc(), r#""0x12""#)?;
-    calls_in_turn(rt.alloc(), Module::WithpfxUppercase, &value)?;
-    Ok(())
+    calls_of(rt.alloc(), Module::WithpfxUppercase, r#""0x12""#)
 }
 
 #[test]
 fn nopfx_uppercase_grows_once_a_call(rt: HostRuntime) -> Result<(), Fail> {
-    let value = Value::from_str(rt.alloc(), r#""12""#)?;
-    calls_in_turn(rt.alloc(), Module::NopfxUppercase, &value)?;
-    Ok(())
+    calls_of(rt.alloc(), Module::NopfxUppercase, r#""12""#)
 }

@@ -3,7 +3,7 @@
 use faster_hex::{AdapterError, option_nopfx_lowercase};
 use hex_core::Error;
 use serde_json::{Value, json};
-use std::alloc::Global;
+use std::alloc::{AllocError, Global};
 use std::test::Fail;
 
 // An optional field, none where it is missing.
@@ -42,13 +42,16 @@ fn a_record_of_two_arrays_is_read(rt: HostRuntime) {
     assert!(rt; is_read);
 }
 
+// The text of a record of two fields.
+fn record_text(alloc: Global, id: Value, extra: Value) -> Result<String, AllocError> {
+    json!(in alloc; {"id": id, "extra": extra})?.to_string(alloc)
+}
+
 // Whether a record of two arrays is written so.
 fn writes_record(alloc: Global, text: &str) -> Result<bool, Fail> {
-    let record = json!(in alloc; {
-        "id": faster_hex::array::serialize(alloc, &[0xab, 1])?,
-        "extra": option_nopfx_lowercase::array::serialize(alloc, Some(&[0xcd, 2]))?,
-    })?;
-    Ok(record.to_string(alloc)?.as_str() == text)
+    let id = faster_hex::array::serialize(alloc, &[0xab, 1])?;
+    let extra = option_nopfx_lowercase::array::serialize(alloc, Some(&[0xcd, 2]))?;
+    Ok(record_text(alloc, id, extra)?.as_str() == text)
 }
 
 #[test]
@@ -57,16 +60,28 @@ fn a_record_of_two_arrays_is_written(rt: HostRuntime) -> Result<(), Fail> {
     Ok(())
 }
 
+// Whether these bytes were read.
+fn is_bytes(got: Result<Vec<u8>, AdapterError>, wanted: &[u8]) -> bool {
+    match got {
+        Ok(bytes) => bytes.as_slice() == wanted,
+        Err(_) => false,
+    }
+}
+
 // Whether these bytes are read from a field, also within two bytes.
-fn holds_bytes(alloc: Global, text: &str, wanted: &[u8]) -> Result<bool, Fail> {
-    let record = Value::from_str(alloc, text)?;
-    let bytes = record.get("bytes").ok_or("a field")?;
-    let is_bounded = faster_hex::deserialize_bounded::<2>(alloc, bytes)?.as_slice() == wanted;
-    Ok(is_bounded && faster_hex::deserialize(alloc, bytes)?.as_slice() == wanted)
+fn holds_bytes(alloc: Global, text: &str, wanted: &[u8]) -> bool {
+    let Ok(record) = Value::from_str(alloc, text) else {
+        return false;
+    };
+    let Some(field) = record.get("bytes") else {
+        return false;
+    };
+    is_bytes(faster_hex::deserialize(alloc, field), wanted)
+        && is_bytes(faster_hex::deserialize_bounded::<2>(alloc, field), wanted)
 }
 
 #[test]
-fn a_record_of_bytes_is_read(rt: HostRuntime) -> Result<(), Fail> {
-    assert!(rt; holds_bytes(rt.alloc(), r#"{"bytes":"0x00aB"}"#, &[0, 0xab])?);
-    Ok(())
+fn a_record_of_bytes_is_read(rt: HostRuntime) {
+    assert!(rt; holds_bytes(rt.alloc(), r#"{"bytes":"0xab01"}"#, &[0xab, 1]));
+    assert!(rt; holds_bytes(rt.alloc(), r#"{"bytes":"0x00aB"}"#, &[0, 0xab]));
 }
