@@ -46,6 +46,10 @@ valid_over c s first middle start end le front back k low lt =
       | inr past ↦ back k (omega arith) lt
     ]
 
+-- one more block of w bytes behind the first i
+pub valid_next : (c : CheckCase) (s : List ℕ) (i w : ℕ) → AllValid c s 0 (i * w) → AllValid c s (i * w) (i * w + w) → AllValid c s 0 ((i + 1) * w)
+valid_next c s i w front block = subst (AllValid c s 0) (omega arith) (valid_over c s 0 (i * w) (i * w) (i * w + w) (omega arith) front block)
+
 pub valid_within : (c : CheckCase) (s : List ℕ) (start end first last : ℕ) → first ≤ start → end ≤ last → AllValid c s first last → AllValid c s start end
 valid_within c s start end first last low high valid k a b = valid k (omega arith) (omega arith)
 
