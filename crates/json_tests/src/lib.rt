@@ -1,17 +1,10 @@
-//! Tests of the JSON adapters: rows of values and their answers, records, and refused growths.
+//! Tests of the JSON adapters that no row of `json_rows` can say: records, and refused growths of the
+//! calls that fix their allocator.
 #![tactic(auto)]
 
 #[cfg(test)]
-mod answers;
-#[cfg(test)]
-mod formats;
-#[cfg(test)]
 mod global_growths;
-#[cfg(test)]
-mod growths;
 #[cfg(test)]
 mod modules;
 #[cfg(test)]
 mod records;
-#[cfg(test)]
-mod rows;

@@ -1,8 +1,5 @@
 //! The modules as data: a test names one, and calls its functions.
 
-ghost use Rattle.std.specs.Prelude.{◌<◌};
-
-use crate::answers::{Answer, array_held, held, is_text, option_array_held, option_held, some_of};
 use faster_hex::{
     AdapterError, nopfx_ignorecase, nopfx_lowercase, nopfx_uppercase, option_nopfx_ignorecase,
     option_nopfx_lowercase, option_nopfx_uppercase, option_withpfx_ignorecase,
@@ -14,7 +11,7 @@ use std::alloc::Global;
 
 /// A module and its option module. Those of the root are its own calls and, as it has none for
 /// options, `option_withpfx_ignorecase`.
-#[derive(Clone, Copy, Debug, PartialEq, Eq)]
+#[derive(Clone, Copy)]
 pub enum Module {
     Root,
     WithpfxIgnorecase,
@@ -95,19 +92,6 @@ impl Module {
         }
     }
 
-    /// The module's `array::deserialize`.
-    pub fn read_array<const N: usize>(self, value: &Value) -> Result<[u8; N], AdapterError> {
-        match self {
-            Module::Root => faster_hex::array::deserialize::<N>(value),
-            Module::WithpfxIgnorecase => withpfx_ignorecase::array::deserialize::<N>(value),
-            Module::NopfxIgnorecase => nopfx_ignorecase::array::deserialize::<N>(value),
-            Module::WithpfxLowercase => withpfx_lowercase::array::deserialize::<N>(value),
-            Module::NopfxLowercase => nopfx_lowercase::array::deserialize::<N>(value),
-            Module::WithpfxUppercase => withpfx_uppercase::array::deserialize::<N>(value),
-            Module::NopfxUppercase => nopfx_uppercase::array::deserialize::<N>(value),
-        }
-    }
-
     /// The option module's `serialize`.
     pub fn write_option(self, alloc: Global, src: Option<&[u8]>) -> Result<Value, AdapterError> {
         match self {
@@ -182,54 +166,5 @@ impl Module {
                 alloc, value,
             ),
         }
-    }
-
-    /// The option module's `array::deserialize`.
-    pub fn read_option_array<const N: usize>(
-        self,
-        value: &Value,
-    ) -> Result<Option<[u8; N]>, AdapterError> {
-        match self {
-            Module::Root => option_withpfx_ignorecase::array::deserialize::<N>(value),
-            Module::WithpfxIgnorecase => option_withpfx_ignorecase::array::deserialize::<N>(value),
-            Module::NopfxIgnorecase => option_nopfx_ignorecase::array::deserialize::<N>(value),
-            Module::WithpfxLowercase => option_withpfx_lowercase::array::deserialize::<N>(value),
-            Module::NopfxLowercase => option_nopfx_lowercase::array::deserialize::<N>(value),
-            Module::WithpfxUppercase => option_withpfx_uppercase::array::deserialize::<N>(value),
-            Module::NopfxUppercase => option_nopfx_uppercase::array::deserialize::<N>(value),
-        }
-    }
-
-    /// Whether the two readings of a JSON value answer so.
-    pub fn reads(self, alloc: Global, value: &Value, answer: Answer) -> bool {
-        held(&self.read(alloc, value)) == answer
-            && option_held(&self.read_option(alloc, value)) == some_of(answer)
-    }
-
-    /// Whether the two bounded readings do.
-    pub fn reads_within<const MAX: usize>(
-        self,
-        alloc: Global,
-        value: &Value,
-        answer: Answer,
-    ) -> bool {
-        held(&self.read_bounded::<MAX>(alloc, value)) == answer
-            && option_held(&self.read_option_bounded::<MAX>(alloc, value)) == some_of(answer)
-    }
-
-    /// Whether the two readings of arrays do.
-    pub fn reads_array<const N: usize>(self, value: &Value, answer: Answer) -> bool
-        requires { N < 600 }
-    {
-        array_held(&self.read_array::<N>(value)) == answer
-            && option_array_held(&self.read_option_array::<N>(value)) == some_of(answer)
-    }
-
-    /// Whether each of the four writings gives this text.
-    pub fn writes(self, alloc: Global, bytes: &[u8], text: &str) -> bool {
-        is_text(&self.write(alloc, bytes), text)
-            && is_text(&self.write_array(alloc, bytes), text)
-            && is_text(&self.write_option(alloc, Some(bytes)), text)
-            && is_text(&self.write_option_array(alloc, Some(bytes)), text)
     }
 }

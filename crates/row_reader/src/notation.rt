@@ -12,7 +12,7 @@
 use arrayvec::ArrayVec;
 
 /// How many bytes a word can write.
-pub const ROOM: usize = 8_400;
+pub const ROOM: usize = 10_100;
 
 /// The bytes that a word wrote.
 pub type Bytes = ArrayVec<u8, ROOM>;

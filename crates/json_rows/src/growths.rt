@@ -1,0 +1,105 @@
+//! Rows of the calls that take an allocator, which grants so many growths: what they answer, and
+//! how often they asked.
+
+use crate::seen::{is_bytes, is_option};
+use crate::terms::{Answer, Buffers, answer, has_bytes, value, wire_format};
+use hex_core::Error;
+use hex_json::AdapterError;
+use hex_json::adapters::{WireFormat, read, read_option, text_of};
+use refusing_allocator::Refusing;
+use row_reader::Words;
+use serde_json::Value;
+use std::alloc::{Allocator, Global};
+
+// Reads a bound: a number, or `unbounded`.
+fn bound(row: &mut Words<'_>) -> Option<Option<usize>> {
+    if row.takes(b"unbounded") {
+        Some(None)
+    } else {
+        Some(Some(row.number()?))
+    }
+}
+
+// A reading by a format, with an allocator that grants so many growths.
+#[derive(Clone, Copy)]
+struct Reading<'a> {
+    format: WireFormat,
+    max: Option<usize>,
+    value: &'a Value,
+    want: Answer<'a>,
+}
+
+impl Reading<'_> {
+    // Whether it answers so.
+    fn is_so(self, alloc: &Refusing<Global>) -> bool {
+        is_bytes(read(alloc, self.format, self.max, self.value), self.want)
+    }
+
+    // Whether the reading of bytes or none answers so.
+    fn is_so_or_none(self, alloc: &Refusing<Global>) -> bool {
+        let got = read_option(alloc, self.format, self.max, self.value);
+        is_option(got, self.want)
+    }
+}
+
+/// Returns whether `granted-read FORMAT GRANTED MAX JSON` answers so, or `granted-read-option` where
+/// `is_option` is true: how often it asked, and the answer.
+pub fn read_row(
+    alloc: Global,
+    is_option: bool,
+    row: Words<'_>,
+    wanted: Words<'_>,
+    buffers: &mut Buffers,
+) -> Option<bool> {
+    let (mut row, mut wanted) = (row, wanted);
+    let format = wire_format(&mut row)?;
+    let refusing = Refusing::new(alloc, u64::try_from(row.number()?).ok()?);
+    let max = bound(&mut row)?;
+    row.bytes(&mut buffers.given)?;
+    let asked = u64::try_from(wanted.number()?).ok()?;
+    let found = if is_option { b"some".as_slice() } else { b"ok" };
+    let want = answer(wanted, found, &mut buffers.wanted)?;
+    let value = value(alloc, buffers.given.as_slice())?;
+    let reading = Reading {
+        format,
+        max,
+        value: &value,
+        want,
+    };
+    let is_so = if is_option {
+        reading.is_so_or_none(&refusing)
+    } else {
+        reading.is_so(&refusing)
+    };
+    row.are_read().then_some(is_so && refusing.asked() == asked)
+}
+
+// Whether a writing gives this text at its exact length, or wants memory where that is none.
+fn is_text<A: Allocator + Drop>(got: Result<String<A>, AdapterError>, want: Option<&[u8]>) -> bool {
+    match got {
+        Ok(text) => want == Some(text.as_str().as_bytes()) && text.capacity() == text.len(),
+        Err(e) => want.is_none() && e == AdapterError::Codec(Error::OutOfMemory),
+    }
+}
+
+/// Returns whether `granted-text FORMAT GRANTED BYTES` answers so: how often it asked, and the text,
+/// or `no-memory`.
+pub fn text_row(
+    alloc: Global,
+    row: Words<'_>,
+    wanted: Words<'_>,
+    buffers: &mut Buffers,
+) -> Option<bool> {
+    let (mut row, mut wanted) = (row, wanted);
+    let format = wire_format(&mut row)?;
+    let refusing = Refusing::new(alloc, u64::try_from(row.number()?).ok()?);
+    row.bytes(&mut buffers.given)?;
+    let asked = u64::try_from(wanted.number()?).ok()?;
+    let is_written = has_bytes(&mut wanted, b"no-memory", &mut buffers.wanted)?;
+    let want = is_written.then_some(buffers.wanted.as_slice());
+    if !row.are_read() || !wanted.are_read() {
+        return None;
+    }
+    let is_so = is_text(text_of(&refusing, format, buffers.given.as_slice()), want);
+    Some(is_so && refusing.asked() == asked)
+}

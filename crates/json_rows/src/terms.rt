@@ -1,0 +1,184 @@
+//! What rows are made of: formats, modules, JSON values and answers.
+
+use hex_core::{CheckCase, Error};
+use hex_json::AdapterError;
+use hex_json::adapters::WireFormat;
+use row_reader::{Bytes, Words};
+use serde_json::Value;
+use std::alloc::Global;
+use std::str;
+
+/// What a reading answers: some bytes or none, or the refusal. A call that knows no none answers
+/// with some.
+pub type Answer<'a> = Result<Option<&'a [u8]>, AdapterError>;
+
+/// A format that modules are named by.
+#[derive(Clone, Copy)]
+pub enum Format {
+    WithpfxIgnorecase,
+    NopfxIgnorecase,
+    WithpfxLowercase,
+    NopfxLowercase,
+    WithpfxUppercase,
+    NopfxUppercase,
+}
+
+impl Format {
+    /// Returns the format of this name.
+    pub fn from_word(word: &[u8]) -> Option<Format> {
+        match word.strip_prefix(b"withpfx_") {
+            Some(letters) => Format::with_prefix(letters),
+            None => Format::without_prefix(word.strip_prefix(b"nopfx_")?),
+        }
+    }
+
+    fn with_prefix(letters: &[u8]) -> Option<Format> {
+        if letters == b"ignorecase".as_slice() {
+            Some(Format::WithpfxIgnorecase)
+        } else if letters == b"lowercase".as_slice() {
+            Some(Format::WithpfxLowercase)
+        } else {
+            (letters == b"uppercase".as_slice()).then_some(Format::WithpfxUppercase)
+        }
+    }
+
+    fn without_prefix(letters: &[u8]) -> Option<Format> {
+        if letters == b"ignorecase".as_slice() {
+            Some(Format::NopfxIgnorecase)
+        } else if letters == b"lowercase".as_slice() {
+            Some(Format::NopfxLowercase)
+        } else {
+            (letters == b"uppercase".as_slice()).then_some(Format::NopfxUppercase)
+        }
+    }
+
+    /// Returns the format as the adapters take it.
+    pub fn wire(self) -> WireFormat {
+        match self {
+            Format::WithpfxIgnorecase => WireFormat::WITHPFX_IGNORECASE,
+            Format::NopfxIgnorecase => WireFormat::NOPFX_IGNORECASE,
+            Format::WithpfxLowercase => WireFormat::WITHPFX_LOWERCASE,
+            Format::NopfxLowercase => WireFormat::NOPFX_LOWERCASE,
+            Format::WithpfxUppercase => WireFormat::WITHPFX_UPPERCASE,
+            Format::NopfxUppercase => WireFormat::NOPFX_UPPERCASE,
+        }
+    }
+}
+
+// Reads a policy: `any`, `lower` or `upper`.
+fn policy(row: &mut Words<'_>) -> Option<CheckCase> {
+    if row.takes(b"any") {
+        Some(CheckCase::None)
+    } else if row.takes(b"lower") {
+        Some(CheckCase::Lower)
+    } else {
+        row.takes(b"upper").then_some(CheckCase::Upper)
+    }
+}
+
+/// Reads a format: the name of one of the six, or `own`, then `0x` or `plain`, the letters that are
+/// written, and those that are read.
+pub fn wire_format(row: &mut Words<'_>) -> Option<WireFormat> {
+    if !row.takes(b"own") {
+        return Some(Format::from_word(row.next())?.wire());
+    }
+    let prefixed = row.takes(b"0x");
+    if !prefixed && !row.takes(b"plain") {
+        return None;
+    }
+    let upper = row.takes(b"upper");
+    if !upper && !row.takes(b"lower") {
+        return None;
+    }
+    let case = policy(row)?;
+    Some(WireFormat {
+        prefixed,
+        upper,
+        case,
+    })
+}
+
+/// Returns the value that this JSON text writes.
+pub fn value(alloc: Global, json: &[u8]) -> Option<Value> {
+    Value::from_str(alloc, str::from_utf8(json).ok()?).ok()
+}
+
+// Reads a refusal by the codec.
+fn codec_refusal(answer: &mut Words<'_>) -> Option<Error> {
+    if answer.takes(b"invalid") {
+        let index = answer.number()?;
+        let byte = answer.byte()?;
+        Some(Error::InvalidChar { index, byte })
+    } else if answer.takes(b"mismatch") {
+        let expected = answer.number()?;
+        let actual = answer.number()?;
+        Some(Error::LengthMismatch { expected, actual })
+    } else {
+        answer.takes(b"no-memory").then_some(Error::OutOfMemory)
+    }
+}
+
+/// Reads a refusal: `not-text`, `invalid-prefix`, `invalid-length`, `over-bound MAX ACTUAL`, `invalid INDEX
+/// BYTE`, `mismatch EXPECTED ACTUAL` or `no-memory`.
+pub fn refusal(answer: &mut Words<'_>) -> Option<AdapterError> {
+    if answer.takes(b"not-text") {
+        Some(AdapterError::NotText)
+    } else if answer.takes(b"invalid-prefix") {
+        Some(AdapterError::InvalidPrefix)
+    } else if answer.takes(b"invalid-length") {
+        Some(AdapterError::InvalidLength)
+    } else if answer.takes(b"over-bound") {
+        let max = answer.number()?;
+        let actual = answer.number()?;
+        Some(AdapterError::OverBound { max, actual })
+    } else {
+        Some(AdapterError::Codec(codec_refusal(answer)?))
+    }
+}
+
+// Reads what a whole answer says, up to words behind it.
+fn answer_in<'a>(answer: &mut Words<'_>, found: &[u8], bytes: &'a mut Bytes) -> Option<Answer<'a>> {
+    if answer.takes(found) {
+        answer.bytes(bytes)?;
+        Some(Ok(Some(bytes.as_slice())))
+    } else if answer.takes(b"none") {
+        Some(Ok(None))
+    } else {
+        Some(Err(refusal(answer)?))
+    }
+}
+
+/// Reads a whole answer: bytes behind the word `found`, `none`, or a refusal.
+pub fn answer<'a>(answer: Words<'_>, found: &[u8], bytes: &'a mut Bytes) -> Option<Answer<'a>> {
+    let mut words = answer;
+    let want = answer_in(&mut words, found, bytes)?;
+    words.are_read().then_some(want)
+}
+
+/// Reads bytes, or `word` in place of them. Returns whether there are any.
+pub fn has_bytes(words: &mut Words<'_>, word: &[u8], bytes: &mut Bytes) -> Option<bool> {
+    if words.takes(word) {
+        return Some(false);
+    }
+    words.bytes(bytes)?;
+    Some(true)
+}
+
+/// What a row is read into.
+#[derive(Drop)]
+pub struct Buffers {
+    /// The bytes of the row.
+    pub given: Bytes,
+    /// The bytes of its answer.
+    pub wanted: Bytes,
+}
+
+impl Buffers {
+    /// Returns buffers that hold nothing.
+    pub fn new() -> Buffers {
+        Buffers {
+            given: Bytes::new(),
+            wanted: Bytes::new(),
+        }
+    }
+}

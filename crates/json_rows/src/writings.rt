@@ -1,0 +1,44 @@
+//! Rows of writings: of bytes, of none, and beside the reading of an array.
+
+use crate::places::Place;
+use crate::terms::{Buffers, has_bytes};
+use hex_json::AdapterError;
+use row_reader::{Bytes, Words};
+use serde_json::Value;
+use std::alloc::Global;
+
+// Whether this JSON text is written.
+fn is_json(alloc: Global, got: Result<Value, AdapterError>, wanted: &Bytes) -> bool {
+    let Ok(value) = got else {
+        return false;
+    };
+    match value.to_string(alloc) {
+        Ok(text) => text.as_str().as_bytes() == wanted.as_slice(),
+        Err(_) => false,
+    }
+}
+
+/// Returns whether `write PLACE BYTES` answers so, or `write-array PLACE BYTES`. The bytes may be
+/// `none`.
+pub fn write_row(
+    alloc: Global,
+    is_array: bool,
+    row: Words<'_>,
+    wanted: Words<'_>,
+    buffers: &mut Buffers,
+) -> Option<bool> {
+    let (mut row, mut wanted) = (row, wanted);
+    let place = Place::from_row(&mut row)?;
+    let is_given = has_bytes(&mut row, b"none", &mut buffers.given)?;
+    wanted.bytes(&mut buffers.wanted)?;
+    if !row.are_read() || !wanted.are_read() {
+        return None;
+    }
+    let src = is_given.then_some(buffers.given.as_slice());
+    let got = if is_array {
+        place.write_array(alloc, src)?
+    } else {
+        place.write(alloc, src)?
+    };
+    Some(is_json(alloc, got, &buffers.wanted))
+}
