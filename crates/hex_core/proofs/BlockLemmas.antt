@@ -46,6 +46,10 @@ valid_over c s first middle start end le front back k low lt =
       | inr past ↦ back k (omega arith) lt
     ]
 
+-- one more block of w bytes behind the first i
+pub valid_next : (c : CheckCase) (s : List ℕ) (i w : ℕ) → AllValid c s 0 (i * w) → AllValid c s (i * w) (i * w + w) → AllValid c s 0 ((i + 1) * w)
+valid_next c s i w front block = subst (AllValid c s 0) (omega arith) (valid_over c s 0 (i * w) (i * w) (i * w + w) (omega arith) front block)
+
 pub valid_within : (c : CheckCase) (s : List ℕ) (start end first last : ℕ) → first ≤ start → end ≤ last → AllValid c s first last → AllValid c s start end
 valid_within c s start end first last low high valid k a b = valid k (omega arith) (omega arith)
 
@@ -204,6 +208,27 @@ decodes_whole c s old new n is twice all = record {
   high = λ i h. (all.decoded i (omega arith) (omega arith)).high;
   low = λ i h. (all.decoded i (omega arith) (omega arith)).low;
 }
+
+-- nothing yet
+pub decodes_none : (c : CheckCase) (s old : List ℕ) (n : ℕ) → n ≡ 0 → DecodesRange c s old old 0 n
+decodes_none c s old n none = record { decoded = λ k low lt. absurd (omega arith); before = λ k lt. refl; behind = λ k le. refl }
+
+-- one more block of w bytes behind the first i
+pub decodes_next : (c : CheckCase) (s old mid new : List ℕ) (i w : ℕ) → DecodesRange c s old mid 0 (i * w) → DecodesRange c s mid new (i * w) (i * w + w) → DecodesRange c s old new 0 ((i + 1) * w)
+decodes_next c s old mid new i w front block = subst (DecodesRange c s old new 0) (omega arith) (decodes_over c s old mid new 0 (i * w) (i * w) (i * w + w) (omega arith) (omega arith) (omega arith) front block)
+
+-- i whole blocks that are the destination
+pub blocks_spell : (c : CheckCase) (s old new : List ℕ) (i w n : ℕ) → n ≡ length new → length s ≡ 2 * n → n % w ≡ 0 → i ≡ n / w → DecodesRange c s old new 0 (i * w) → Spells c s new
+blocks_spell c s old new i w n long twice whole all front =
+    let end : i * w ≡ n = rw all (blocks_end n w whole) in
+    decodes_whole c s old new (i * w) (omega arith) (omega arith) front
+
+-- a last block that overlaps them
+pub last_spells : (c : CheckCase) (s old mid new : List ℕ) (i w at n : ℕ) → n ≡ length new → length s ≡ 2 * n → 0 < w → n ≡ at + w → i ≡ n / w → DecodesRange c s old mid 0 (i * w) → DecodesRange c s mid new at (at + w) → Spells c s new
+last_spells c s old mid new i w at n long twice some end all front back =
+    let past : n < i * w + w = rw all (blocks_past n w some) in
+    let within = blocks_within n w i some (omega arith) in
+    decodes_whole c s old new (at + w) (omega arith) (omega arith) (decodes_over c s old mid new 0 (i * w) at (at + w) (omega arith) (omega arith) (omega arith) front back)
 
 -- two blocks of n nibbles, one at each end of a range
 pub pair_decodes : (c : CheckCase) (s old new f b : List ℕ) (start at end from n w : ℕ) → n ≡ 2 * w → end ≡ at + w → from ≡ 2 * at → start ≤ at → at ≤ start + w → end ≤ length old

@@ -232,6 +232,21 @@ fn put_copies<S: Sink>(sink: &mut S, piece: &[u8], count: usize) -> Result<(), W
         return Ok(());
     }
     let mut buffer = [0; COPIES * LONGEST];
+    put_by_blocks(sink, piece, count, &mut buffer)
+}
+
+// Puts copies of a short piece, at most as many at a time as a block of the buffer holds.
+fn put_by_blocks<S: Sink>(
+    sink: &mut S,
+    piece: &[u8],
+    count: usize,
+    buffer: &mut [u8],
+) -> Result<(), WriteFault>
+    requires counts { (S.state sink.old).failures < 2 ^ 64 - 1 }
+    requires short { length piece.now ≤ LONGEST }
+    requires room { length buffer.old ≡ COPIES * LONGEST }
+    ensures { Puts (S.state sink.old) (S.state sink.new) result (repeat count piece.now) }
+{
     let most = count.min(COPIES);
     let block = &mut buffer[..most * piece.len()];
     copy_into(piece, most, block);

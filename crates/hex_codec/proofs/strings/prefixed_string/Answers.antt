@@ -16,3 +16,12 @@ from_utf8_unchecked-requires g c =
     let whole : take c.in-Ok.string.len (c.copy_from_slice.new.self ++ c.encode.new.dst ++ drop (length (c.copy_from_slice.new.self ++ c.encode.new.dst)) c.in-Ok.string.items) ≡ c.args.prefix.now ++ shown =
     rw (front, digits) (take_at (c.args.prefix.now ++ shown) (drop (length (c.args.prefix.now ++ shown)) c.in-Ok.string.items) c.in-Ok.string.len size) in
     rw whole (IsUtf8-from_ascii _ (IsAscii-append c.args.prefix.now shown c.requires (IsAscii-text c.args.upper c.args.src.now (λ i. (c.type_inv.src i).fits))))
+
+pub split_at_mut-front-requires : goal.split_at_mut-front-requires
+split_at_mut-front-requires g c = omega (arith, c.in-Some.ensures, c.in-Some-checked_add.ensures, c.in-Ok.ensures.len, c.as_mut_slice.ensures.len)
+
+pub copy_from_slice-requires : goal.copy_from_slice-requires
+copy_from_slice-requires g c = c.split_at_mut-front.ensures.front_len
+
+pub encode-requires : goal.encode-requires
+encode-requires g c = omega (arith, c.in-Some.ensures, c.in-Some-checked_add.ensures, c.in-Ok.ensures.len, c.as_mut_slice.ensures.len, c.split_at_mut-front.ensures.back_len)

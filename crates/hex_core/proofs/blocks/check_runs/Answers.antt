@@ -3,6 +3,12 @@ use Rattle.hex_core.specs.Search.{AllValid}
 use Rattle.hex_core.proofs.BlockLemmas.{block_inside, blocks_within, valid_range, rest_valid}
 use Rattle.hex_core.proofs.blocks.check_runs.Goals as goal
 
+pub overflow_mul-i : goal.overflow_mul-i
+overflow_mul-i g c = omega (arith, block_inside (length c.args.src.now - g.row.N) (8 * g.row.N) c.turns.i (omega arith) c.turns-test.true)
+
+pub is_run_valid-requires-clause-inside : goal.is_run_valid-requires-clause-inside
+is_run_valid-requires-clause-inside g c = omega (arith, block_inside (length c.args.src.now - g.row.N) (8 * g.row.N) c.turns.i (omega arith) c.turns-test.true)
+
 pub returns-then-not-is_run_valid : goal.returns-then-not-is_run_valid
 returns-then-not-is_run_valid g c =
     let s = c.args.src.now in let n = g.row.N in let run = 8 * n in let at = c.turns.i * run in

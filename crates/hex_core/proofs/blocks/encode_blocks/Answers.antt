@@ -3,6 +3,15 @@ use Rattle.hex_core.proofs.BlockLemmas.{block_inside, blocks_past, blocks_within
 use Rattle.hex_core.proofs.TextBlockLemmas.{block_last, block_step}
 use Rattle.hex_core.proofs.blocks.encode_blocks.Goals as goal
 
+pub overflow_mul-i : goal.overflow_mul-i
+overflow_mul-i g c = omega (arith, block_inside (length c.args.src.now) g.row.N c.turns.i c.requires.some (omega arith))
+
+pub spell_at-requires-clause-source : goal.spell_at-requires-clause-source
+spell_at-requires-clause-source g c = omega (arith, block_inside (length c.args.src.now) g.row.N c.turns.i c.requires.some (omega arith))
+
+pub spell_at-requires-clause-room : goal.spell_at-requires-clause-room
+spell_at-requires-clause-room g c = omega (arith, block_inside (length c.args.src.now) g.row.N c.turns.i c.requires.some (omega arith))
+
 pub turns-preserved : goal.turns-preserved
 turns-preserved g c =
     let src = c.args.src.now in let n = g.row.N in let i = c.turns.i in

@@ -1,7 +1,7 @@
-use Rattle.std.proofs.Common.{◌≡◌, ◌≤◌, ◌+◌, ◌-◌, ◌*◌, ◌/◌, ◌%◌, length, refl, sym, arith}
+use Rattle.std.proofs.Common.{◌≡◌, ◌≤◌, ◌+◌, ◌-◌, ◌*◌, ◌/◌, ◌%◌, length, refl, sym, ap, ◌∙◌, arith}
 use Rattle.std.proofs.lemmas.Bool.Decides.{nat_tests}
 use Rattle.hex_core.specs.Search.{AllValid}
-use Rattle.hex_core.proofs.BlockLemmas.{block_inside, valid_range, last_valid, whole_valid}
+use Rattle.hex_core.proofs.BlockLemmas.{block_inside, valid_range, last_valid, valid_next, whole_valid}
 use Rattle.hex_core.proofs.SearchLemmas.{valid_along}
 use Rattle.hex_core.proofs.search.covered.Goals as goal
 
@@ -37,3 +37,28 @@ returns-else-len-block-eq0-clause-valid g c =
       λ passed. last.0 (λ k low lt. valid_along _ _ kept.same_policy kept.same_source (c.test-else-len-block-eq0.ensures.valid.0 passed) k (omega arith) (omega arith)),
       λ none. c.test-else-len-block-eq0.ensures.valid.1 (valid_along _ _ (sym kept.same_policy) (sym kept.same_source) (λ k low lt. last.1 none k (omega arith) (omega arith))),
     )
+
+pub turns-init : goal.turns-init
+turns-init g c = record { valid = λ k low lt. absurd (omega arith); counted = omega arith; same_looks = refl; same_source = refl; same_policy = refl; same_block = refl }
+
+pub overflow_mul-i : goal.overflow_mul-i
+overflow_mul-i g c = omega (arith, block_inside c.len-len.result c.block-block.result c.turns.i (omega arith) c.turns-test.true)
+
+pub test-requires-clause-inside : goal.test-requires-clause-inside
+test-requires-clause-inside g c = omega (arith, ap length c.turns.invariant.same_source, block_inside c.len-len.result c.block-block.result c.turns.i (omega arith) c.turns-test.true)
+
+pub test-requires-else-len-block-eq0-clause-inside : goal.test-requires-else-len-block-eq0-clause-inside
+test-requires-else-len-block-eq0-clause-inside g c = omega (arith, ap length c.turns.invariant.same_source)
+
+pub turns-preserved : goal.turns-preserved
+turns-preserved g c =
+    let kept = c.turns.invariant in
+    let block : c.block-block.result ≡ g.P.Probe.widest c.args.p.now = omega arith in
+    record {
+      valid = valid_next (g.P.Probe.policy c.args.p.now) (g.P.Probe.source c.args.p.now) c.turns.i _ kept.valid (valid_along _ _ kept.same_policy kept.same_source (rw block at (c.test.ensures.valid.0 c.if-not-test.false)));
+      counted = omega arith;
+      same_looks = c.test.ensures.same_looks ∙ kept.same_looks;
+      same_source = c.test.ensures.same_source ∙ kept.same_source;
+      same_policy = c.test.ensures.same_policy ∙ kept.same_policy;
+      same_block = c.test.ensures.same_block ∙ kept.same_block;
+    }

@@ -1,5 +1,6 @@
 use Rattle.std.proofs.Common.{◌≡◌, ◌+◌, ◌*◌, length, refl, sym, ◌∙◌, ap, arith}
 use Rattle.hex_core.specs.Search.{AllValid, first_invalid, steps, tested_blocks}
+use Rattle.hex_core.proofs.BlockLemmas.{valid_over}
 use Rattle.hex_core.proofs.SearchLemmas.{BeginsAt, valid_along, stops_at_block, stops_at_end}
 use Rattle.hex_core.proofs.search.test_blocks.Given as given
 use Rattle.hex_core.proofs.search.test_blocks.Goals as goal
@@ -30,3 +31,19 @@ returns-clause-start g c = (at_end g c).0
 
 pub returns-clause-tests : goal.returns-clause-tests
 returns-clause-tests g c = omega (arith, (at_end g c).1)
+
+pub loop-i-init : goal.loop-i-init
+loop-i-init g c = record { valid = λ k low lt. absurd (omega arith); counted = omega arith; same_looks = refl; same_source = refl; same_policy = refl; same_block = refl }
+
+pub loop-i-preserved : goal.loop-i-preserved
+loop-i-preserved g c =
+    let kept = c.loop-i.invariant in
+    let passed = valid_along _ _ kept.same_policy kept.same_source (c.test.ensures.valid.0 c.if-not-test.false) in
+    record {
+      valid = λ k low lt. valid_over (g.P.Probe.policy c.args.p.now) (g.P.Probe.source c.args.p.now) 0 (64 * c.loop-i.i) (64 * c.loop-i.i) (64 * c.loop-i.i + 64) (omega arith) kept.valid passed k low (omega arith);
+      counted = omega arith;
+      same_looks = c.test.ensures.same_looks ∙ kept.same_looks;
+      same_source = c.test.ensures.same_source ∙ kept.same_source;
+      same_policy = c.test.ensures.same_policy ∙ kept.same_policy;
+      same_block = c.test.ensures.same_block ∙ kept.same_block;
+    }

@@ -2,7 +2,7 @@
 use Rattle.std.proofs.Common.{◌-◌, ◌≤◌}
 use Rattle.std.specs.List.{repeat}
 use Rattle.hex_format.specs.Sink.{Takes}
-use Rattle.hex_format.proofs.format.put_copies.Given as goal
+use Rattle.hex_format.proofs.format.put_by_blocks.Given as goal
 
 abbrev pub invariant-loop-left : goal.invariant-loop-left
 invariant-loop-left g l = record {
