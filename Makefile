@@ -29,6 +29,7 @@ lib:
 	cp $(LIBRARY)/libfaster_hex_c.a $(LIBRARY)/libfaster_hex.a
 
 test:
+	scripts/header.sh
 	scripts/examples.sh
 	rt ci
 
@@ -36,6 +37,7 @@ test:
 deep: build
 	scripts/wrong-bodies
 	scripts/test-wrong-bodies
+	scripts/test-rows
 	scripts/examples.sh --prove
 	scripts/growths.sh
 	scripts/statuses.sh
