@@ -14,16 +14,25 @@ fn hash_equally<T: Hash + Copy>(x: &T) -> bool {
     hash_of(&copy) == hash_of(x)
 }
 
+// Whether each of some values is equal to itself alone, and a copy of it hashes as it does.
+fn are_distinct<T: Hash + PartialEq + Copy>(values: &[T]) -> bool {
+    for (i, value) in values.iter().enumerate() {
+        for (k, other) in values.iter().enumerate() {
+            if (value == other) != (i == k) {
+                return false;
+            }
+        }
+        if !hash_equally(value) {
+            return false;
+        }
+    }
+    true
+}
+
 #[test]
 fn a_policy_is_equal_to_itself_alone(rt: HostRuntime) {
     let cases = [CheckCase::None, CheckCase::Lower, CheckCase::Upper];
-    for (i, case) in cases.iter().enumerate() {
-        for (k, other) in cases.iter().enumerate() {
-            assert!(rt; (case == other) == (i == k));
-        }
-        assert!(rt; hash_equally(case));
-    }
-    assert!(rt; CheckCase::default() == CheckCase::None);
+    assert!(rt; are_distinct(&cases) && CheckCase::default() == CheckCase::None);
 }
 
 fn errors() -> [Error; 8] {
@@ -47,11 +56,5 @@ fn errors() -> [Error; 8] {
 
 #[test]
 fn an_error_is_equal_to_itself_alone(rt: HostRuntime) {
-    let errors = errors();
-    for (i, error) in errors.iter().enumerate() {
-        for (k, other) in errors.iter().enumerate() {
-            assert!(rt; (error == other) == (i == k));
-        }
-        assert!(rt; hash_equally(error));
-    }
+    assert!(rt; are_distinct(&errors()));
 }
