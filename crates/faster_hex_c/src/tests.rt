@@ -5,63 +5,60 @@ use crate::{
     faster_hex_first_invalid,
 };
 
-// What is answered, from a destination of 0xa5 of this many bytes, and whether that ends so.
-fn decodes(src: &[u8], room: usize, case: u8, wanted: (usize, u8, u8), ends: &[u8; 4]) -> bool {
-    let mut buffer = [0xa5; 4];
-    let told = faster_hex_decode_with_case(src, &mut buffer[..room.min(4)], case);
-    told == answer(wanted) && buffer == *ends
-}
+// A number, a status and a byte.
+type Wanted = (usize, u8, u8);
 
-fn answer(wanted: (usize, u8, u8)) -> Answer {
-    let (number, status, byte) = wanted;
-    Answer {
-        number,
-        status,
-        byte,
-    }
+fn is(told: Answer, wanted: Wanted) -> bool {
+    (told.number, told.status, told.byte) == wanted
 }
 
 const OLD: [u8; 4] = [0xa5; 4];
 
+// Whether this is answered, from a destination of 0xa5 of this many bytes, that then ends so.
+fn decodes(src: &[u8], room: usize, case: u8, wanted: Wanted, ends: &[u8; 4]) -> bool {
+    let mut buffer = OLD;
+    let told = faster_hex_decode_with_case(src, &mut buffer[..room.min(4)], case);
+    is(told, wanted) && buffer == *ends
+}
+
+// The same of the call that names no policy.
+fn decodes_plainly(src: &[u8], wanted: Wanted, ends: &[u8; 4]) -> bool {
+    let mut buffer = OLD;
+    is(faster_hex_decode(src, &mut buffer), wanted) && buffer == *ends
+}
+
 #[test]
 fn statuses_of_decoding(rt: HostRuntime) {
-    assert!(rt; decodes(b"00aBcD", 4, 0, (3, 0, 0), &[0, 0xab, 0xcd, 0xa5]));
-    assert!(rt; decodes(b"", 0, 2, (0, 0, 0), &OLD));
-    assert!(rt; decodes(b"00g", 0, 0, (0, 1, 0), &OLD));
-    assert!(rt; decodes(b"000g", 1, 0, (2, 2, 0), &OLD));
-    assert!(rt; decodes(b"00ff0g", 4, 0, (5, 3, b'g'), &OLD));
-    assert!(rt; decodes(b"aB", 4, 1, (1, 3, b'B'), &OLD));
-    assert!(rt; decodes(b"aB", 4, 2, (0, 3, b'a'), &OLD));
-    assert!(rt; decodes(b"00", 4, 3, (0, 5, 0), &OLD));
+    let holds = decodes(b"00aBcD", 4, 0, (3, 0, 0), &[0, 0xab, 0xcd, 0xa5])
+        && decodes(b"", 0, 2, (0, 0, 0), &OLD)
+        && decodes(b"00g", 0, 0, (0, 1, 0), &OLD)
+        && decodes(b"000g", 1, 0, (2, 2, 0), &OLD)
+        && decodes(b"00ff0g", 4, 0, (5, 3, b'g'), &OLD)
+        && decodes(b"aB", 4, 1, (1, 3, b'B'), &OLD)
+        && decodes(b"aB", 4, 2, (0, 3, b'a'), &OLD)
+        && decodes(b"00", 4, 3, (0, 5, 0), &OLD)
+        && decodes_plainly(b"aB01", (2, 0, 0), &[0xab, 1, 0xa5, 0xa5]);
+    assert!(rt; holds);
 }
 
-#[test]
-fn either_case_is_the_policy_of_decoding(rt: HostRuntime) {
+// Whether this is answered, and a destination of 0xa5 ends so.
+fn encodes(src: &[u8], upper: bool, wanted: Wanted, ends: &[u8; 4]) -> bool {
     let mut buffer = OLD;
-    assert_eq!(rt; faster_hex_decode(b"aB01", &mut buffer), answer((2, 0, 0)));
-    assert_eq!(rt; buffer, [0xab, 1, 0xa5, 0xa5]);
+    is(faster_hex_encode(src, &mut buffer, upper), wanted) && buffer == *ends
+}
+
+fn finds(src: &[u8], case: u8, wanted: Wanted) -> bool {
+    is(faster_hex_first_invalid(src, case), wanted)
 }
 
 #[test]
-fn encoding_wants_room(rt: HostRuntime) {
-    let mut buffer = OLD;
-    assert_eq!(rt;
-        faster_hex_encode(&[0xab], &mut buffer, true),
-        answer((2, 0, 0))
-    );
-    assert_eq!(rt; buffer, [b'A', b'B', 0xa5, 0xa5]);
-    assert_eq!(rt;
-        faster_hex_encode(&[0xab; 3], &mut buffer, false),
-        answer((6, 2, 0))
-    );
-    assert_eq!(rt; buffer, [b'A', b'B', 0xa5, 0xa5]);
-}
-
-#[test]
-fn the_first_invalid_byte_is_told(rt: HostRuntime) {
-    assert_eq!(rt; faster_hex_first_invalid(b"00aB", 0), answer((0, 0, 0)));
-    assert_eq!(rt; faster_hex_first_invalid(b"00aBg", 1), answer((3, 3, b'B')));
-    assert_eq!(rt; faster_hex_first_invalid(b"g", 7), answer((0, 5, 0)));
-    assert!(rt; faster_hex_check(b"00aB0"));
-    assert!(rt; !faster_hex_check(b"00ag"));
+fn statuses_of_encoding_and_of_a_search(rt: HostRuntime) {
+    let holds = encodes(&[0xab], true, (2, 0, 0), &[b'A', b'B', 0xa5, 0xa5])
+        && encodes(&[0xab; 3], false, (6, 2, 0), &OLD)
+        && finds(b"00aB", 0, (0, 0, 0))
+        && finds(b"00aBg", 1, (3, 3, b'B'))
+        && finds(b"g", 7, (0, 5, 0))
+        && faster_hex_check(b"00aB0")
+        && !faster_hex_check(b"00ag");
+    assert!(rt; holds);
 }

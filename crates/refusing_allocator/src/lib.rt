@@ -8,9 +8,6 @@
 use std::alloc::{AllocError, Allocator};
 use std::cell::Cell;
 
-#[cfg(test)]
-mod tests;
-
 /// Passes the first `left` allocations on to `inner` and refuses each later one, or, made by
 /// [`once`](Refusing::once), the next one alone.
 ///
