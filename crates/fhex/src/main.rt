@@ -1,47 +1,13 @@
 //! `fhex`: turns standard input into hex digits, or hex digits back into bytes.
 #![tactic(auto)]
 
-ghost use Rattle.std.specs.Prelude.{◌≢◌, IfErr};
-ghost use Rattle.std.specs.Io.{WritesAtMost};
-ghost use Rattle.std.specs.Io.KnownBytes.{WriteAppends};
-ghost use Rattle.std.specs.IoError.{error_kind};
-
-#[cfg(test)]
-mod interrupted;
-
-use hex_program::{Failure, refuse, serve};
-use std::io::{BufWriter, ErrorKind, Write};
+use hex_program::{Failure, Unretried, refuse, serve};
+use std::io::{BufWriter, ErrorKind};
 use std::process::ExitCode;
 use std::{env, io};
 
 // How many bytes are kept back before standard output is written to.
 const OUTPUT_BUFFER: usize = 65_536;
-
-// A writer that tells an interrupted write as another error. `BufWriter` tries an interrupted write
-// of what it kept back again, and a direct one not.
-#[derive(Drop)]
-struct Unretried<W> {
-    inner: W,
-}
-
-impl<W: Write> Write for Unretried<W> {
-    ghost contents = { λ w. W.contents w.inner };
-
-    fn write(&mut self, buf: &[u8]) -> io::Result<usize>
-        ensures bound { WritesAtMost result buf.now }
-        ensures bytes { WriteAppends (W.contents self.old.inner) (W.contents self.new.inner) result buf.now }
-        ensures unretried { IfErr result (λ e. error_kind e ≢ ErrorKind.Interrupted) }
-    {
-        match self.inner.write(buf) {
-            Err(e) if e.kind() == ErrorKind::Interrupted => Err(io::Error::from(ErrorKind::Other)),
-            answer => answer,
-        }
-    }
-
-    fn flush(&mut self) -> io::Result<()> {
-        self.inner.flush()
-    }
-}
 
 // The program's words, without its name.
 fn words(rt: &HostRuntime) -> Result<Vec<String>, Failure> {

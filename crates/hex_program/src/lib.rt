@@ -9,6 +9,7 @@ pub mod operation;
 mod plain_run;
 pub mod plain_vectors;
 pub mod program;
+pub mod unretried;
 pub mod vector_run;
 pub mod vectors;
 
@@ -18,5 +19,6 @@ pub use crate::input::{INPUT_LIMIT, read_input};
 pub use crate::operation::{Op, RunFault, run};
 pub use crate::plain_vectors::{PLAIN_VECTORS, PlainVector, Statement};
 pub use crate::program::{refuse, serve, serve_vectors};
+pub use crate::unretried::Unretried;
 pub use crate::vector_run::{Codec, VectorFault, run_vectors, run_vectors_under};
 pub use crate::vectors::{Call, VECTORS, Vector};

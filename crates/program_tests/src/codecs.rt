@@ -1,10 +1,10 @@
 //! Codecs that are wrong where a test wants it.
 
-use faster_hex::{Backend, CheckCase, Error};
+use hex_core::{Backend, CheckCase, Error};
 use hex_program::Codec;
 
 /// The one thing that is wrong with a codec.
-#[derive(Clone, Copy, Debug)]
+#[derive(Clone, Copy)]
 pub enum Slip {
     /// It is right.
     Nothing,

@@ -1,23 +1,16 @@
-//! Tests of the program over words, inputs, outputs and sinks of their own.
+//! Tests of what no row of `program_rows` can say: the stored vectors, wrong ones and wrong codecs,
+//! and an interrupted write.
 #![tactic(auto)]
 
 #[cfg(test)]
 mod codecs;
 #[cfg(test)]
-mod decoding;
-#[cfg(test)]
-mod faults;
-#[cfg(test)]
-mod limit;
+mod interrupted;
 #[cfg(test)]
 mod plain_vectors;
-#[cfg(test)]
-mod rows;
-#[cfg(test)]
-mod runs;
-#[cfg(test)]
-mod streams;
 #[cfg(test)]
 mod vector_rows;
 #[cfg(test)]
 mod vectors;
+#[cfg(test)]
+mod words;

@@ -1,10 +1,11 @@
 //! The stored vectors of calls that name no plan, wrong ones, and want of memory for one.
 
-use faster_hex::CheckCase;
-use faster_hex::digests::Entry;
-use faster_hex::grouped::GroupFault;
+use hex_codec::GroupFault;
+use hex_core::CheckCase;
+use hex_lists::digests::Entry;
 use hex_program::{PLAIN_VECTORS, PlainVector, Statement, VECTORS, serve_vectors};
 use refusing_allocator::Refusing;
+use std::alloc::Global;
 
 const ENTRY: Entry<'static, 2> = Entry {
     digest: [0xab, 0x01],
@@ -47,14 +48,12 @@ fn is_written(vector: &PlainVector) -> bool {
 #[test]
 fn the_stored_vectors_without_a_plan_are_the_written_ones(rt: HostRuntime) {
     let mut names = PLAIN_VECTORS.iter().map(|vector| vector.name);
-    assert_eq!(rt; names.next(), Some("v17"));
-    assert_eq!(rt; names.next(), Some("v18"));
-    assert_eq!(rt; names.next(), Some("v19"));
-    assert_eq!(rt; names.next(), Some("v20"));
-    assert_eq!(rt; names.next(), None);
-    for vector in PLAIN_VECTORS.iter() {
-        assert!(rt; is_written(vector), "{}", vector.name);
-    }
+    let are_named = names.next() == Some("v17")
+        && names.next() == Some("v18")
+        && names.next() == Some("v19")
+        && names.next() == Some("v20")
+        && names.next().is_none();
+    assert!(rt; are_named && PLAIN_VECTORS.iter().all(is_written));
 }
 
 const SOUND: Statement = Statement::WritesEntry {
@@ -122,46 +121,39 @@ fn reads(list: &'static [u8], case: CheckCase) -> Statement {
     }
 }
 
+const ONE_WRONG: &[u8] = b"plain wrong fail\nplain sound pass\ntotal 2 passed 1 failed 1\n";
+
+// Whether a wrong vector fails, and the one behind it passes.
+fn fails(alloc: Global, states: Statement) -> bool {
+    let name = "wrong";
+    let wrong = PlainVector { name, states };
+    let sound = PlainVector {
+        name: "sound",
+        states: SOUND,
+    };
+    let (out, err) = (Vec::new(alloc), Vec::new(alloc));
+    let (status, out, err) = serve_vectors(&alloc, &[], &[wrong, sound], out, err);
+    status == 1 && err.is_empty() && out.as_slice() == ONE_WRONG
+}
+
 #[test]
 fn a_wrong_vector_without_a_plan_fails(rt: HostRuntime) {
-    for (place, &states) in wrong_statements().iter().enumerate() {
-        let plain = [
-            PlainVector {
-                name: "wrong",
-                states,
-            },
-            PlainVector {
-                name: "sound",
-                states: SOUND,
-            },
-        ];
-        let (status, out, err) = serve_vectors(
-            &rt.alloc(),
-            &[],
-            &plain,
-            Vec::new(rt.alloc()),
-            Vec::new(rt.alloc()),
-        );
-        let lines = b"plain wrong fail\nplain sound pass\ntotal 2 passed 1 failed 1\n";
-        assert_eq!(rt; (status, err.len()), (1, 0), "the wrong vector {place}");
-        assert!(rt;
-            out.as_slice() == lines.as_slice(),
-            "the wrong vector {place}"
-        );
+    for (place, states) in wrong_statements().iter().enumerate() {
+        assert!(rt; fails(rt.alloc(), *states), "the wrong vector {place}");
     }
+}
+
+// Whether want of memory for a list ends a run, behind the lines before it.
+fn ends_without_memory(alloc: Global) -> bool {
+    let refusing = Refusing::new(alloc, 0);
+    let (out, err) = (Vec::new(alloc), Vec::new(alloc));
+    let (status, out, err) = serve_vectors(&&refusing, &VECTORS[..1], &PLAIN_VECTORS, out, err);
+    status == 3
+        && err.as_slice() == b"out of memory\n".as_slice()
+        && out.ends_with(b"neon v01 pass\nplain v17 pass\nplain v18 pass\n")
 }
 
 #[test]
 fn want_of_memory_ends_the_run_of_vectors(rt: HostRuntime) {
-    let alloc = Refusing::new(rt.alloc(), 0);
-    let (status, out, err) = serve_vectors(
-        &&alloc,
-        &VECTORS[..1],
-        &PLAIN_VECTORS,
-        Vec::new(rt.alloc()),
-        Vec::new(rt.alloc()),
-    );
-    assert_eq!(rt; status, 3);
-    assert_eq!(rt; err.as_slice(), b"out of memory\n".as_slice());
-    assert!(rt; out.ends_with(b"neon v01 pass\nplain v17 pass\nplain v18 pass\n"));
+    assert!(rt; ends_without_memory(rt.alloc()));
 }

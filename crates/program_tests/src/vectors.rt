@@ -1,38 +1,50 @@
 //! The stored vectors, and tables with wrong ones.
 
 use crate::codecs::{Slip, Slipping};
-use crate::streams::Repeated;
-use faster_hex::{CheckCase, Error, SliceSink};
+use hex_core::{CheckCase, Error};
+use hex_format::SliceSink;
 use hex_program::{Call, VECTORS, Vector, run_vectors_under, serve, serve_vectors};
+use std::alloc::Global;
+use std::io;
+use std::io::Read;
+
+// Gives zeros, and counts its reads.
+#[derive(Drop)]
+struct Zeros {
+    reads: u64,
+}
+
+impl Read for Zeros {
+    fn read(&mut self, buf: &mut [u8]) -> io::Result<usize> {
+        self.reads = self.reads.saturating_add(1);
+        buf.fill(b'0');
+        Ok(buf.len())
+    }
+}
+
+// Whether these are the lines of the stored vectors.
+fn are_stored_lines(lines: &[u8]) -> bool {
+    let count = lines.iter().filter(|&&byte| byte == b'\n').count();
+    count == 85
+        && lines.starts_with(b"scalar v01 pass\nscalar v02 pass\n")
+        && lines.ends_with(
+            b"neon v16 pass\n\
+        plain v17 pass\nplain v18 pass\nplain v19 pass\nplain v20 pass\n\
+        total 84 passed 84 failed 0\n",
+        )
+}
+
+// Whether the word `vectors` writes the lines of the stored vectors, and reads nothing.
+fn passes_the_stored_vectors(alloc: Global) -> bool {
+    let mut input = Zeros { reads: 0 };
+    let (out, err) = (Vec::new(alloc), Vec::new(alloc));
+    let (status, out, err) = serve(alloc, &["vectors"], &mut input, out, err);
+    status == 0 && err.is_empty() && input.reads == 0 && are_stored_lines(out.as_slice())
+}
 
 #[test]
 fn the_stored_vectors_pass_under_each_plan(rt: HostRuntime) {
-    let mut input = Repeated {
-        byte: b'0',
-        left: 9,
-        newline: false,
-        fails: true,
-    };
-    let (status, out, err) = serve(
-        rt.alloc(),
-        &["vectors"],
-        &mut input,
-        Vec::new(rt.alloc()),
-        Vec::new(rt.alloc()),
-    );
-    let lines = out.iter().filter(|&&byte| byte == b'\n').count();
-    assert_eq!(rt; status, 0);
-    assert_eq!(rt; err.len(), 0);
-    assert_eq!(rt; lines, 85);
-    assert!(rt; out.starts_with(b"scalar v01 pass\nscalar v02 pass\n"));
-    assert!(rt;
-        out.ends_with(
-            b"neon v16 pass\n\
-        plain v17 pass\nplain v18 pass\nplain v19 pass\nplain v20 pass\n\
-        total 84 passed 84 failed 0\n"
-        )
-    );
-    assert_eq!(rt; input.left, 9, "what is left of the input");
+    assert!(rt; passes_the_stored_vectors(rt.alloc()));
 }
 
 const SOUND: Vector = Vector {
@@ -93,62 +105,50 @@ static WRONG: [Vector; 10] = [
     },
 ];
 
+// Whether a run over a table ends with this status and these lines, and no message.
+fn writes(alloc: Global, table: &[Vector], wanted: u8, lines: &[u8]) -> bool {
+    let (out, err) = (Vec::new(alloc), Vec::new(alloc));
+    let (status, out, err) = serve_vectors(&alloc, table, &[], out, err);
+    status == wanted && err.is_empty() && out.as_slice() == lines
+}
+
+const ONE_WRONG: &[u8] = b"\
+    scalar wrong fail\nscalar sound pass\n\
+    sse41 wrong fail\nsse41 sound pass\n\
+    avx2 wrong fail\navx2 sound pass\n\
+    avx512 wrong fail\navx512 sound pass\n\
+    neon wrong fail\nneon sound pass\n\
+    total 10 passed 5 failed 5\n";
+
+// Whether a wrong vector fails under each plan, and the one behind it passes.
+fn fails(alloc: Global, wrong: &Vector) -> bool {
+    let wrong = Vector {
+        name: "wrong",
+        ..*wrong
+    };
+    writes(alloc, &[wrong, SOUND], 1, ONE_WRONG)
+}
+
 #[test]
 fn a_wrong_vector_fails(rt: HostRuntime) {
-    for (place, &wrong) in WRONG.iter().enumerate() {
-        let table = [
-            Vector {
-                name: "wrong",
-                ..wrong
-            },
-            SOUND,
-        ];
-        let (status, out, err) = serve_vectors(
-            &rt.alloc(),
-            &table,
-            &[],
-            Vec::new(rt.alloc()),
-            Vec::new(rt.alloc()),
-        );
-        assert_eq!(rt; status, 1, "status of the wrong vector {place}");
-        assert_eq!(rt; err.len(), 0, "message of the wrong vector {place}");
-        assert_eq!(rt;
-            out.as_slice(),
-            b"scalar wrong fail\nscalar sound pass\n\
-              sse41 wrong fail\nsse41 sound pass\n\
-              avx2 wrong fail\navx2 sound pass\n\
-              avx512 wrong fail\navx512 sound pass\n\
-              neon wrong fail\nneon sound pass\n\
-              total 10 passed 5 failed 5\n"
-                .as_slice(),
-            "lines of the wrong vector {place}"
-        );
+    for (place, wrong) in WRONG.iter().enumerate() {
+        assert!(rt; fails(rt.alloc(), wrong), "the wrong vector {place}");
     }
 }
 
 #[test]
 fn no_vectors_are_a_line_of_totals(rt: HostRuntime) {
-    let (status, out, err) = serve_vectors(
-        &rt.alloc(),
-        &[],
-        &[],
-        Vec::new(rt.alloc()),
-        Vec::new(rt.alloc()),
-    );
-    assert_eq!(rt; status, 0);
-    assert_eq!(rt; err.len(), 0);
-    assert_eq!(rt; out.as_slice(), b"total 0 passed 0 failed 0\n".as_slice());
+    assert!(rt; writes(rt.alloc(), &[], 0, b"total 0 passed 0 failed 0\n"));
+}
+
+// How many stored vectors have a name.
+fn twins(name: &str) -> usize {
+    VECTORS.iter().filter(|other| other.name == name).count()
 }
 
 #[test]
 fn each_name_of_a_vector_stands_once(rt: HostRuntime) {
-    for (place, vector) in VECTORS.iter().enumerate() {
-        let twins = VECTORS
-            .iter()
-            .filter(|other| other.name == vector.name)
-            .count();
-        assert_eq!(rt; twins, 1, "vectors with the name of {place}");
-    }
+    assert!(rt; VECTORS.iter().all(|vector| twins(vector.name) == 1));
 }
 
 // Vectors that a right codec passes, of each kind of answer.
@@ -211,32 +211,48 @@ const WRONG_BEHIND: &[u8] = b"\
     last text pass\nlast bytes pass\nlast full pass\nlast refused pass\nlast narrow pass\n\
     total 15 passed 13 failed 2\n";
 
+// Whether a run of at most five vectors under these codecs writes these lines, of which so many
+// fail.
+fn ends(codecs: &[Slipping; 3], table: &[Vector], failed: usize, lines: &[u8]) -> bool {
+    if table.len() > 5 {
+        return false;
+    }
+    let mut buffer = [0; 512];
+    let mut sink = SliceSink::new(&mut buffer);
+    let ran = run_vectors_under(codecs, table, &mut sink);
+    ran == Ok(failed) && sink.written() == lines
+}
+
+// Whether these lines are written under a wrong codec that stands between two right ones.
+fn slips(slip: Slip, failed: usize, lines: &[u8]) -> bool {
+    let codecs = [
+        codec("first", Slip::Nothing),
+        codec("wrong", slip),
+        codec("last", Slip::Nothing),
+    ];
+    ends(&codecs, &RIGHT, failed, lines)
+}
+
 #[test]
 fn a_wrong_codec_fails_under_its_own_name(rt: HostRuntime) {
-    let rows: [(Slip, usize, &[u8]); 9] = [
-        (Slip::OtherError, 2, WRONG_REFUSALS),
-        (Slip::EmptyAnswer, 2, WRONG_REFUSALS),
-        (Slip::RefusalWrites, 2, WRONG_REFUSALS),
-        (Slip::LateError, 3, WRONG_BYTES),
-        (Slip::ShortAnswer, 3, WRONG_BYTES),
-        (Slip::ShiftedAnswer, 3, WRONG_BYTES),
-        (Slip::WrongLastByte, 3, WRONG_BYTES),
-        (Slip::ShiftedBytes, 3, WRONG_BYTES),
-        (Slip::ByteBehind, 2, WRONG_BEHIND),
-    ];
-    for (slip, failed, lines) in rows {
-        let codecs = [
-            codec("first", Slip::Nothing),
-            codec("wrong", slip),
-            codec("last", Slip::Nothing),
-        ];
-        let mut buffer = [0; 512];
-        let mut sink = SliceSink::new(&mut buffer);
-        let ran = run_vectors_under(&codecs, &RIGHT, &mut sink);
-        assert_eq!(rt; ran, Ok(failed), "failed under {slip:?}");
-        assert_eq!(rt; sink.written(), lines, "lines under {slip:?}");
-    }
+    let refusals = slips(Slip::OtherError, 2, WRONG_REFUSALS)
+        && slips(Slip::EmptyAnswer, 2, WRONG_REFUSALS)
+        && slips(Slip::RefusalWrites, 2, WRONG_REFUSALS);
+    assert!(rt; refusals);
+    let bytes = slips(Slip::LateError, 3, WRONG_BYTES)
+        && slips(Slip::ShortAnswer, 3, WRONG_BYTES)
+        && slips(Slip::ShiftedAnswer, 3, WRONG_BYTES)
+        && slips(Slip::WrongLastByte, 3, WRONG_BYTES)
+        && slips(Slip::ShiftedBytes, 3, WRONG_BYTES)
+        && slips(Slip::ByteBehind, 2, WRONG_BEHIND);
+    assert!(rt; bytes);
 }
+
+const BOTH_WRONG: &[u8] = b"\
+    first full pass\nfirst refused fail\n\
+    right full pass\nright refused pass\n\
+    last full fail\nlast refused pass\n\
+    total 6 passed 4 failed 2\n";
 
 // Two codecs that are wrong in different things, on both sides of a right one.
 #[test]
@@ -246,18 +262,7 @@ fn each_codec_has_its_own_lines(rt: HostRuntime) {
         codec("right", Slip::Nothing),
         codec("last", Slip::LateError),
     ];
-    let mut buffer = [0; 512];
-    let mut sink = SliceSink::new(&mut buffer);
-    let ran = run_vectors_under(&codecs, &RIGHT[2..4], &mut sink);
-    assert_eq!(rt; ran, Ok(2));
-    assert_eq!(rt;
-        sink.written(),
-        b"first full pass\nfirst refused fail\n\
-          right full pass\nright refused pass\n\
-          last full fail\nlast refused pass\n\
-          total 6 passed 4 failed 2\n"
-            .as_slice()
-    );
+    assert!(rt; ends(&codecs, &RIGHT[2..4], 2, BOTH_WRONG));
 }
 
 #[test]
@@ -265,27 +270,27 @@ fn no_codecs_are_a_line_of_totals(rt: HostRuntime) {
     let codecs: [Slipping; 0] = [];
     let mut buffer = [0; 512];
     let mut sink = SliceSink::new(&mut buffer);
-    assert_eq!(rt; run_vectors_under(&codecs, &RIGHT, &mut sink), Ok(0));
-    assert_eq!(rt; sink.written(), b"total 0 passed 0 failed 0\n".as_slice());
+    let ran = run_vectors_under(&codecs, &RIGHT, &mut sink);
+    assert!(rt; ran == Ok(0) && sink.written() == b"total 0 passed 0 failed 0\n".as_slice());
+}
+
+const LONG: Vector = Vector {
+    name: "a name of a vector that has by itself more bytes than any other line of the program \
+           has, which are about one hundred and twenty-eight at the very most",
+    ..SOUND
+};
+
+// Whether a run over a table passes, with these lines at its ends.
+fn passes(alloc: Global, table: &[Vector], start: &[u8], end: &[u8]) -> bool {
+    let (out, err) = (Vec::new(alloc), Vec::new(alloc));
+    let (status, out, err) = serve_vectors(&alloc, table, &[], out, err);
+    status == 0 && err.is_empty() && out.starts_with(start) && out.ends_with(end)
 }
 
 // A name makes its line as long as it is.
 #[test]
 fn a_line_of_a_long_name_is_put_whole(rt: HostRuntime) {
-    let table = [Vector {
-        name: "a name of a vector that has by itself more bytes than any other line of the program \
-               has, which are about one hundred and twenty-eight at the very most",
-        ..SOUND
-    }];
-    let (status, out, err) = serve_vectors(
-        &rt.alloc(),
-        &table,
-        &[],
-        Vec::new(rt.alloc()),
-        Vec::new(rt.alloc()),
-    );
-    assert_eq!(rt; status, 0);
-    assert_eq!(rt; err.len(), 0);
-    assert!(rt; out.starts_with(b"scalar a name of a vector that has by itself more bytes"));
-    assert!(rt; out.ends_with(b"at the very most pass\ntotal 5 passed 5 failed 0\n"));
+    let start = b"scalar a name of a vector that has by itself more bytes";
+    let end = b"at the very most pass\ntotal 5 passed 5 failed 0\n";
+    assert!(rt; passes(rt.alloc(), &[LONG], start, end));
 }

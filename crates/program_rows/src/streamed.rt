@@ -1,0 +1,35 @@
+//! Rows of the whole program over one byte many times, into a writer that may fail:
+//! `stream WORD BYTE COUNT END ROOM`, with status, bytes that are taken, flushes and message.
+
+use crate::streams::{Narrow, Repeated};
+use crate::terms::{Buffers, is_message, word};
+use hex_program::serve;
+use row_reader::Words;
+use std::alloc::Global;
+
+// Whether a run ended so.
+fn is_end(status: u8, out: &Narrow, message: &[u8], answer: Words<'_>) -> Option<bool> {
+    let mut answer = answer;
+    let is_status = answer.number()? == usize::from(status);
+    let is_taken = answer.number()? == out.taken;
+    let is_flushed = answer.number()? == out.flushes;
+    Some(is_status && is_taken && is_flushed && is_message(message, answer.rest()))
+}
+
+/// Returns whether a run ends as its row says.
+pub fn row(
+    alloc: Global,
+    row: Words<'_>,
+    answer: Words<'_>,
+    buffers: &mut Buffers,
+) -> Option<bool> {
+    let mut row = row;
+    let word = word(&mut row, &mut buffers.first)?;
+    let mut input = Repeated::read_from(&mut row)?;
+    let out = Narrow::read_from(&mut row)?;
+    if !row.are_read() {
+        return None;
+    }
+    let (status, out, err) = serve(alloc, &[word], &mut input, out, Vec::new(alloc));
+    is_end(status, &out, err.as_slice(), answer)
+}

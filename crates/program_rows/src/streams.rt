@@ -1,0 +1,104 @@
+//! Readers and writers that fail where a row wants it.
+
+use row_reader::Words;
+use std::io;
+use std::io::{ErrorKind, Read, Write};
+
+/// Gives this many times one byte, then a newline and a failure where it is told to, and ends.
+#[derive(Drop)]
+pub struct Repeated {
+    byte: u8,
+    left: usize,
+    newline: bool,
+    fails: bool,
+}
+
+impl Repeated {
+    /// Reads `BYTE COUNT END`, where the last is `ends`, `newline` or `fails`.
+    pub fn read_from(row: &mut Words<'_>) -> Option<Repeated> {
+        let byte = row.byte()?;
+        let left = row.number()?;
+        let newline = row.takes(b"newline");
+        let fails = !newline && row.takes(b"fails");
+        (newline || fails || row.takes(b"ends")).then_some(Repeated {
+            byte,
+            left,
+            newline,
+            fails,
+        })
+    }
+}
+
+impl Read for Repeated {
+    fn read(&mut self, buf: &mut [u8]) -> io::Result<usize> {
+        if self.left == 0 && self.newline {
+            self.newline = false;
+            self.byte = b'\n';
+            self.left = 1;
+        }
+        if self.left == 0 && self.fails {
+            self.fails = false;
+            return Err(io::Error::from(ErrorKind::Interrupted));
+        }
+        let n = self.left.min(buf.len());
+        buf[..n].fill(self.byte);
+        self.left -= n;
+        Ok(n)
+    }
+}
+
+/// Takes this many bytes, one a write, and then fails once, or takes nothing where it is stuck. It
+/// counts what it took and how often it was flushed.
+#[derive(Drop)]
+pub struct Narrow {
+    /// How many bytes it took.
+    pub taken: usize,
+    /// How often it was flushed.
+    pub flushes: usize,
+    /// Whether its flush fails.
+    pub flush_fails: bool,
+    room: usize,
+    stuck: bool,
+}
+
+impl Narrow {
+    /// Reads how many bytes are taken: a number, `all`, `unflushed` for all and a flush that fails,
+    /// or `stuck` for none and no error.
+    pub fn read_from(row: &mut Words<'_>) -> Option<Narrow> {
+        let stuck = row.takes(b"stuck");
+        let flush_fails = row.takes(b"unflushed");
+        let room = if stuck || flush_fails || row.takes(b"all") {
+            usize::MAX
+        } else {
+            row.number()?
+        };
+        Some(Narrow {
+            taken: 0,
+            flushes: 0,
+            flush_fails,
+            room,
+            stuck,
+        })
+    }
+}
+
+impl Write for Narrow {
+    fn write(&mut self, buf: &[u8]) -> io::Result<usize> {
+        if self.room == 0 {
+            self.room = usize::MAX;
+            return Err(io::Error::from(ErrorKind::Interrupted));
+        }
+        let n = if self.stuck { 0 } else { buf.len().min(1) };
+        self.taken = self.taken.saturating_add(n);
+        self.room -= n;
+        Ok(n)
+    }
+
+    fn flush(&mut self) -> io::Result<()> {
+        self.flushes = self.flushes.saturating_add(1);
+        if self.flush_fails {
+            return Err(io::Error::from(ErrorKind::Other));
+        }
+        Ok(())
+    }
+}
