@@ -1,5 +1,5 @@
 #!/bin/sh
-# Runs the tests of crates/json_tests with one growth after another refused, and checks which of
+# Runs the tests of crates/hex_tests with one growth after another refused, and checks which of
 # those of `global_growths` then fail: the root's and each of the six modules' exactly where one of
 # its ten growths is refused, which each of its eight calls tells as want of memory, and that of none
 # never. Then runs `fhex decode` with one growth after another refused, which ends for want of memory
@@ -33,7 +33,7 @@ check() {
 }
 
 for growth in ${GROWTHS:-1 2 3 4 5 6 7 8 9 10 11}; do
-    (cd json_tests && rt try --test --fail-alloc "$growth") >"$lines" 2>&1 || true
+    (cd hex_tests && rt try --test --fail-alloc "$growth") >"$lines" 2>&1 || true
     wanted=FAILED
     error='error: Codec(OutOfMemory)'
     if [ "$growth" -gt 10 ]; then

@@ -47,15 +47,16 @@ impl Call {
     }
 }
 
+// Reads a word of the program, where it is one of so many.
+fn read_word(row: &mut Words<'_>, bytes: &mut Bytes, is_there: bool) -> Option<()> {
+    if is_there { row.bytes(bytes) } else { Some(()) }
+}
+
 // Reads how many words there are, at most two, the words and the input.
 fn count_of_words(row: &mut Words<'_>, buffers: &mut Buffers) -> Option<usize> {
     let count = row.number()?;
-    if count > 0 {
-        row.bytes(&mut buffers.first)?;
-    }
-    if count > 1 {
-        row.bytes(&mut buffers.second)?;
-    }
+    read_word(row, &mut buffers.first, count > 0)?;
+    read_word(row, &mut buffers.second, count > 1)?;
     row.bytes(&mut buffers.input)?;
     Some(count)
 }

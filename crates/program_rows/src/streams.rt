@@ -66,12 +66,9 @@ impl Narrow {
     /// or `stuck` for none and no error.
     pub fn read_from(row: &mut Words<'_>) -> Option<Narrow> {
         let stuck = row.takes(b"stuck");
-        let flush_fails = row.takes(b"unflushed");
-        let room = if stuck || flush_fails || row.takes(b"all") {
-            usize::MAX
-        } else {
-            row.number()?
-        };
+        let flush_fails = !stuck && row.takes(b"unflushed");
+        let is_all = stuck || flush_fails || row.takes(b"all");
+        let room = room(row, is_all)?;
         Some(Narrow {
             taken: 0,
             flushes: 0,
@@ -79,6 +76,15 @@ impl Narrow {
             room,
             stuck,
         })
+    }
+}
+
+// Reads how many bytes there is room for, where that is not told yet.
+fn room(row: &mut Words<'_>, is_all: bool) -> Option<usize> {
+    if is_all {
+        Some(usize::MAX)
+    } else {
+        row.number()
     }
 }
 

@@ -43,10 +43,9 @@ pub fn operation(row: &mut Words<'_>, bytes: &mut Bytes) -> Option<Op> {
 
 /// Returns whether these are the words that are left and a newline, or nothing where none is left.
 pub fn is_message(message: &[u8], wanted: &[u8]) -> bool {
-    if wanted.is_empty() {
-        message.is_empty()
-    } else {
-        message.strip_suffix(b"\n") == Some(wanted)
+    match message.split_last() {
+        Some((last, line)) => *last == b'\n' && !wanted.is_empty() && line == wanted,
+        None => wanted.is_empty(),
     }
 }
 

@@ -27,12 +27,6 @@ struct Counts {
     otherwise: u64,
 }
 
-// The two sides of a line.
-fn sides(line: &[u8]) -> Option<(&[u8], &[u8])> {
-    let at = line.windows(3).position(|part| part == b" = ".as_slice())?;
-    Some((line.get(..at)?, line.get(at.checked_add(3)?..)?))
-}
-
 // How many rows a line stands for, and the words of its call.
 fn turns(call: &[u8]) -> (usize, &[u8]) {
     let mut words = Words::new(call, 0);
@@ -43,10 +37,11 @@ fn turns(call: &[u8]) -> (usize, &[u8]) {
 }
 
 // Judges the rows of a line, and returns the first turn that is answered otherwise.
-fn turn_missed<C: Calls>(calls: &mut C, line: &[u8], counts: &mut Counts) -> Option<usize> {
+fn turn_missed<C: Calls>(calls: &mut C, line: &str, counts: &mut Counts) -> Option<usize> {
     let mut missed = None;
-    let (call, answer) = sides(line).unwrap_or((line, &[]));
-    let (count, call) = turns(call);
+    let (call, answer) = line.split_once(" = ").unwrap_or((line, ""));
+    let (count, call) = turns(call.as_bytes());
+    let answer = answer.as_bytes();
     for turn in 0..count {
         let is_answered = calls.is_answered(Words::new(call, turn), Words::new(answer, turn));
         counts.rows = counts.rows.saturating_add(1);
@@ -84,7 +79,7 @@ pub fn judge<C: Calls, R: BufRead + Drop, W: Write>(
         if is_comment(line.as_bytes()) {
             continue;
         }
-        if let Some(turn) = turn_missed(calls, line.as_bytes(), &mut counts) {
+        if let Some(turn) = turn_missed(calls, line.as_str(), &mut counts) {
             writeln!(output, "line {number}, turn {turn}: {}", line.as_str())?;
         }
     }

@@ -24,15 +24,6 @@ struct Cursor<'a> {
     turn: usize,
 }
 
-// The value of a hexadecimal digit.
-fn digit(byte: u8) -> Option<usize> {
-    match byte {
-        b'0'..=b'9' => Some(usize::from(byte - b'0')),
-        b'a'..=b'f' => Some(usize::from(byte - b'a') + 10),
-        _ => None,
-    }
-}
-
 impl Cursor<'_> {
     fn peek(&self) -> Option<u8> {
         self.rest.first().copied()
@@ -51,25 +42,26 @@ impl Cursor<'_> {
         is_next
     }
 
+    // The value of the next byte, where that is a digit to this base, at most 16; it is then read.
+    fn digit(&mut self, base: usize) -> Option<usize> {
+        let value = usize::try_from(char::from(self.peek()?).to_digit(16)?).ok()?;
+        if value >= base {
+            return None;
+        }
+        self.skip();
+        Some(value)
+    }
+
     // The digits of a number to this base.
     fn digits(&mut self, base: usize) -> Option<usize> {
-        let mut number = None;
+        let mut number = self.digit(base)?;
         for _ in 0..20 {
-            let Some(value) = self.peek().and_then(digit) else {
+            let Some(value) = self.digit(base) else {
                 break;
             };
-            if value >= base {
-                break;
-            }
-            self.skip();
-            number = Some(
-                number
-                    .unwrap_or(0usize)
-                    .checked_mul(base)?
-                    .checked_add(value)?,
-            );
+            number = number.checked_mul(base)?.checked_add(value)?;
         }
-        number
+        Some(number)
     }
 
     // What brackets hold, for this turn, once the first is read.
@@ -100,10 +92,8 @@ impl Cursor<'_> {
 
     // The two digits of a byte.
     fn pair(&mut self) -> Option<u8> {
-        let high = digit(self.peek()?)?;
-        self.skip();
-        let low = digit(self.peek()?)?;
-        self.skip();
+        let high = self.digit(16)?;
+        let low = self.digit(16)?;
         u8::try_from(high.checked_mul(16)?.checked_add(low)?).ok()
     }
 
@@ -129,6 +119,11 @@ impl Cursor<'_> {
         !matches!(self.peek(), None | Some(b',' | b'*' | b'^' | b'&' | b'%'))
     }
 
+    // Writes the next byte of a part.
+    fn write_byte(&mut self, is_hex: bool, bytes: &mut Bytes) -> Option<()> {
+        bytes.try_push(self.byte(is_hex)?).ok()
+    }
+
     // Writes the bytes of a part once.
     fn write_once(&mut self, bytes: &mut Bytes) -> Option<()> {
         let is_hex = self.takes(b'#');
@@ -136,8 +131,7 @@ impl Cursor<'_> {
             if !self.is_inside() {
                 break;
             }
-            let byte = self.byte(is_hex)?;
-            bytes.try_push(byte).ok()?;
+            self.write_byte(is_hex, bytes)?;
         }
         Some(())
     }

@@ -3,7 +3,8 @@
 ghost use Rattle.std.specs.Prelude.{IsTrue};
 ghost use Rattle.hex_core.specs.Lanes.{AreSmall};
 
-use crate::terms::{Buffers, is_upper, policy};
+use crate::terms::{Buffers, policy};
+use hex_core::CheckCase;
 use hex_core::lanes::{
     admitted_16, admitted_32, admitted_64, encode_8, encode_16, encode_32, nibbles_hashed_32,
     nibbles_hashed_64, nibbles_saturating_16, pack_16, pack_32, pack_64,
@@ -52,14 +53,21 @@ impl Call {
         answer: Words<'_>,
         buffers: &mut Buffers,
     ) -> Option<bool> {
-        let mut row = row;
+        let (mut row, mut answer) = (row, answer);
+        let case = match self {
+            Call::Pack => CheckCase::None,
+            _ => policy(&mut row)?,
+        };
+        row.bytes(&mut buffers.given)?;
+        answer.bytes(&mut buffers.wanted)?;
+        let (bytes, want) = (buffers.given.as_slice(), buffers.wanted.as_slice());
         match self {
-            Call::Admit => admit_row(&mut row, answer, buffers),
-            Call::Saturate => saturate_row(&mut row, answer, buffers),
-            Call::Hash => hash_row(&mut row, answer, buffers),
-            Call::Nibbles => nibbles_row(&mut row, answer, buffers),
-            Call::Pack => pack_row(&mut row, answer, buffers),
-            Call::Write => write_row(&mut row, answer, buffers),
+            Call::Admit => are_admitted(bytes, case, want),
+            Call::Saturate => are_saturated(bytes, case, want),
+            Call::Hash => are_checks(bytes, case, want),
+            Call::Nibbles => are_nibbles_of(bytes, case, want),
+            Call::Pack => are_packed(bytes, want),
+            Call::Write => are_written(bytes, case == CheckCase::Upper, want),
         }
     }
 }
@@ -73,37 +81,22 @@ fn mask(letters: &[u8]) -> u64 {
     mask
 }
 
-fn admit_row(row: &mut Words<'_>, answer: Words<'_>, buffers: &mut Buffers) -> Option<bool> {
-    let mut answer = answer;
-    let case = policy(row)?;
-    row.bytes(&mut buffers.given)?;
-    answer.bytes(&mut buffers.wanted)?;
-    let bytes = buffers.given.as_slice();
+fn are_admitted(bytes: &[u8], case: CheckCase, letters: &[u8]) -> Option<bool> {
     let got = match bytes.len() {
         16 => u64::from(admitted_16(bytes.first_chunk()?, case)),
         32 => u64::from(admitted_32(bytes.first_chunk()?, case)),
         64 => admitted_64(bytes.first_chunk()?, case),
         _ => return None,
     };
-    let letters = buffers.wanted.as_slice();
     Some(letters.len() == bytes.len() && got == mask(letters))
 }
 
-fn saturate_row(row: &mut Words<'_>, answer: Words<'_>, buffers: &mut Buffers) -> Option<bool> {
-    let mut answer = answer;
-    let case = policy(row)?;
-    row.bytes(&mut buffers.given)?;
-    answer.bytes(&mut buffers.wanted)?;
-    let nibbles = nibbles_saturating_16(buffers.given.as_slice().first_chunk()?, case);
-    Some(buffers.given.len() == 16 && nibbles.as_slice() == buffers.wanted.as_slice())
+fn are_saturated(bytes: &[u8], case: CheckCase, want: &[u8]) -> Option<bool> {
+    let nibbles = nibbles_saturating_16(bytes.first_chunk()?, case);
+    Some(bytes.len() == 16 && nibbles.as_slice() == want)
 }
 
-fn hash_row(row: &mut Words<'_>, answer: Words<'_>, buffers: &mut Buffers) -> Option<bool> {
-    let mut answer = answer;
-    let case = policy(row)?;
-    row.bytes(&mut buffers.given)?;
-    answer.bytes(&mut buffers.wanted)?;
-    let (bytes, want) = (buffers.given.as_slice(), buffers.wanted.as_slice());
+fn are_checks(bytes: &[u8], case: CheckCase, want: &[u8]) -> Option<bool> {
     match bytes.len() {
         32 => Some(nibbles_hashed_32(bytes.first_chunk()?, case).1.as_slice() == want),
         64 => Some(nibbles_hashed_64(bytes.first_chunk()?, case).1.as_slice() == want),
@@ -111,23 +104,26 @@ fn hash_row(row: &mut Words<'_>, answer: Words<'_>, buffers: &mut Buffers) -> Op
     }
 }
 
-// Whether each nibble is the wanted one, and its check below 128, but where the byte is refused.
+// Whether a nibble is the wanted one, and its check below 128, but where the byte is refused.
+fn is_hashed(nibble: Option<u8>, check: Option<u8>, want: u8) -> bool {
+    match (nibble, check) {
+        (Some(nibble), Some(check)) if check < 128 => nibble == want,
+        (Some(_), Some(_)) => want == 255,
+        _ => false,
+    }
+}
+
+// Whether each nibble of as many bytes is.
 fn are_hashed(nibbles: &[u8], checks: &[u8], want: &[u8]) -> bool {
-    for ((nibble, check), want) in nibbles.iter().zip(checks).zip(want) {
-        let is_refused = *check >= 128;
-        if is_refused != (*want == 255) || (!is_refused && nibble != want) {
+    for (i, want) in want.iter().enumerate() {
+        if !is_hashed(nibbles.get(i).copied(), checks.get(i).copied(), *want) {
             return false;
         }
     }
     want.len() == nibbles.len()
 }
 
-fn nibbles_row(row: &mut Words<'_>, answer: Words<'_>, buffers: &mut Buffers) -> Option<bool> {
-    let mut answer = answer;
-    let case = policy(row)?;
-    row.bytes(&mut buffers.given)?;
-    answer.bytes(&mut buffers.wanted)?;
-    let (bytes, want) = (buffers.given.as_slice(), buffers.wanted.as_slice());
+fn are_nibbles_of(bytes: &[u8], case: CheckCase, want: &[u8]) -> Option<bool> {
     match bytes.len() {
         32 => {
             let (nibbles, checks) = nibbles_hashed_32(bytes.first_chunk()?, case);
@@ -148,11 +144,7 @@ fn are_nibbles(nibbles: &[u8]) -> bool
     nibbles.iter().all(|nibble| *nibble < 16)
 }
 
-fn pack_row(row: &mut Words<'_>, answer: Words<'_>, buffers: &mut Buffers) -> Option<bool> {
-    let mut answer = answer;
-    row.bytes(&mut buffers.given)?;
-    answer.bytes(&mut buffers.wanted)?;
-    let (nibbles, bytes) = (buffers.given.as_slice(), buffers.wanted.as_slice());
+fn are_packed(nibbles: &[u8], bytes: &[u8]) -> Option<bool> {
     if !are_nibbles(nibbles) {
         return None;
     }
@@ -164,12 +156,7 @@ fn pack_row(row: &mut Words<'_>, answer: Words<'_>, buffers: &mut Buffers) -> Op
     }
 }
 
-fn write_row(row: &mut Words<'_>, answer: Words<'_>, buffers: &mut Buffers) -> Option<bool> {
-    let mut answer = answer;
-    let upper = is_upper(row)?;
-    row.bytes(&mut buffers.given)?;
-    answer.bytes(&mut buffers.wanted)?;
-    let (bytes, digits) = (buffers.given.as_slice(), buffers.wanted.as_slice());
+fn are_written(bytes: &[u8], upper: bool, digits: &[u8]) -> Option<bool> {
     match bytes.len() {
         8 => Some(encode_8(bytes.first_chunk()?, upper).as_slice() == digits),
         16 => Some(encode_16(bytes.first_chunk()?, upper).as_slice() == digits),

@@ -3,7 +3,7 @@
 ghost use Rattle.std.specs.Prelude.{◌<◌};
 
 use crate::limited_sink::{LimitedSink, Mode};
-use crate::terms::{Buffers, Destination, is_upper, policy, source};
+use crate::terms::{Buffers, Destination, Given, growths, is_stopped};
 use crate::texts::fault_of;
 use hex_codec::Group;
 use hex_codec::grouped::{GroupFault, read, read_into};
@@ -56,37 +56,42 @@ impl Call {
 // A grouped text and how it is read.
 #[derive(Clone, Copy)]
 struct Grouped<'a> {
-    src: &'a [u8],
+    given: Given<'a>,
     group: Group,
-    case: CheckCase,
 }
 
 // What reading a grouped text answers.
 type Reading<'a> = Result<&'a [u8], GroupFault>;
 
+// Whether it is refused so.
+fn is_refused(fault: GroupFault, want: Reading<'_>) -> bool {
+    match want {
+        Ok(_) => false,
+        Err(refusal) => fault == refusal,
+    }
+}
+
 impl Grouped<'_> {
     // Whether the call that lends what it writes answers so into this room.
-    fn lends(self, room: usize, to: &mut Destination, want: Reading<'_>) -> bool {
-        let Some(dst) = to.lend(room) else {
+    fn lends(self, to: &mut Destination, want: Reading<'_>) -> bool {
+        let Some(dst) = to.lend(self.given.number) else {
             return false;
         };
-        let is_answered = match (read(self.src, dst, self.group, self.case), want) {
-            (Ok(front), Ok(bytes)) => *front == *bytes,
-            (Err(fault), Err(refusal)) => fault == refusal,
-            _ => false,
+        let is_answered = match read(self.given.src, dst, self.group, self.given.case) {
+            Ok(front) => want.is_ok_and(|bytes| *front == *bytes),
+            Err(fault) => is_refused(fault, want),
         };
         is_answered && to.holds(want.unwrap_or_default())
     }
 
     // The same of the call that counts it.
-    fn counts(self, room: usize, to: &mut Destination, want: Reading<'_>) -> bool {
-        let Some(dst) = to.lend(room) else {
+    fn counts(self, to: &mut Destination, want: Reading<'_>) -> bool {
+        let Some(dst) = to.lend(self.given.number) else {
             return false;
         };
-        let is_answered = match (read_into(self.src, dst, self.group, self.case), want) {
-            (Ok(count), Ok(bytes)) => count == bytes.len(),
-            (Err(fault), Err(refusal)) => fault == refusal,
-            _ => false,
+        let is_answered = match read_into(self.given.src, dst, self.group, self.given.case) {
+            Ok(count) => want.is_ok_and(|bytes| count == bytes.len()),
+            Err(fault) => is_refused(fault, want),
         };
         is_answered && to.holds(want.unwrap_or_default())
     }
@@ -122,13 +127,11 @@ fn group_row(row: Words<'_>, answer: Words<'_>, buffers: &mut Buffers) -> Option
     let (mut row, mut answer) = (row, answer);
     let every = row.number()?;
     let group = Group::new(every, row.byte()?)?;
-    let case = policy(&mut row)?;
-    let room = row.number()?;
-    let src = source(&mut row, &mut buffers.given)?;
+    let given = Given::read(row, &mut buffers.given)?;
     let want = reading(&mut answer, &mut buffers.wanted)?;
-    let (text, to) = (Grouped { src, group, case }, &mut buffers.destination);
-    let is_read = text.lends(room, to, want) && text.counts(room, to, want);
-    (row.are_read() && answer.are_read()).then_some(is_read)
+    let (text, to) = (Grouped { given, group }, &mut buffers.destination);
+    let is_read = text.lends(to, want) && text.counts(to, want);
+    answer.are_read().then_some(is_read)
 }
 
 // Reads what is wrong with a line: `short`, `mark` or `invalid 2 g`.
@@ -159,19 +162,24 @@ fn list_fault(answer: &mut Words<'_>) -> Option<ListFault> {
     }
 }
 
+// Whether the next word is these bytes.
+fn is_next(answer: &mut Words<'_>, wanted: &[u8]) -> Option<bool> {
+    let mut bytes = Bytes::new();
+    answer.bytes(&mut bytes)?;
+    Some(bytes.as_slice() == wanted)
+}
+
 // Whether the next words are the digest, the mark and the name of an entry.
 fn is_entry<const N: usize>(entry: &Entry<'_, N>, answer: &mut Words<'_>) -> Option<bool>
     requires { N < 10000 }
 {
-    let mut bytes = Bytes::new();
-    answer.bytes(&mut bytes)?;
-    let is_digest = bytes.as_slice() == entry.digest.as_slice();
+    let is_digest = is_next(answer, entry.digest.as_slice())?;
     let is_binary = answer.takes(b"*");
     if !is_binary && !answer.takes(b"text") {
         return None;
     }
-    answer.bytes(&mut bytes)?;
-    Some(is_digest && is_binary == entry.binary && bytes.as_slice() == entry.name)
+    let is_name = is_next(answer, entry.name)?;
+    Some(is_digest && is_binary == entry.binary && is_name)
 }
 
 // Whether the answer is `ok` and these entries.
@@ -204,31 +212,37 @@ fn is_list<A: Allocator + Drop, const N: usize>(
     }
 }
 
-// A list, its policy, and how many growths are granted.
-#[derive(Clone, Copy)]
-struct Listed<'a> {
-    src: &'a [u8],
-    case: CheckCase,
-    granted: u64,
+// Whether the call in an allocator reads a list so, by so many growths.
+fn is_read_in<const N: usize>(
+    alloc: Global,
+    given: Given<'_>,
+    asked: u64,
+    answer: Words<'_>,
+) -> Option<bool>
+    requires { N < 10000 }
+{
+    let refusing = Refusing::new(alloc, given.granted());
+    let got = digests::read_in::<_, N>(&refusing, given.src, given.case);
+    let is_read = is_list(got, answer)?;
+    Some(is_read && refusing.asked() == asked)
 }
 
-impl Listed<'_> {
-    // Whether both calls read it so, and how many growths were asked for.
-    fn is_read<const N: usize>(self, alloc: Global, answer: Words<'_>) -> Option<bool>
-        requires { N < 10000 }
-    {
-        let mut answer = answer;
-        let asked = u64::try_from(answer.number()?).ok()?;
-        let refusing = Refusing::new(alloc, self.granted);
-        let is_read = is_list(
-            digests::read_in::<_, N>(&refusing, self.src, self.case),
-            answer,
-        )?;
-        let mut fault = answer;
-        let is_ample = fault.takes(b"no-memory")
-            || is_list(digests::read::<N>(alloc, self.src, self.case), answer)?;
-        Some(is_read && is_ample && refusing.asked() == asked)
+// Whether both calls do, the other one where memory is not wanted.
+fn is_read<const N: usize>(
+    alloc: Global,
+    given: Given<'_>,
+    asked: u64,
+    answer: Words<'_>,
+) -> Option<bool>
+    requires { N < 10000 }
+{
+    let mut fault = answer;
+    let is_read = is_read_in::<N>(alloc, given, asked, answer)?;
+    if fault.takes(b"no-memory") {
+        return Some(is_read);
     }
+    let is_ample = is_list(digests::read::<N>(alloc, given.src, given.case), answer)?;
+    Some(is_read && is_ample)
 }
 
 fn list_row(
@@ -237,18 +251,16 @@ fn list_row(
     answer: Words<'_>,
     buffers: &mut Buffers,
 ) -> Option<bool> {
-    let mut row = row;
+    let (mut row, mut answer) = (row, answer);
     let len = row.number()?;
-    let case = policy(&mut row)?;
-    let granted = u64::try_from(row.number()?).ok()?;
-    let src = source(&mut row, &mut buffers.given)?;
-    let list = Listed { src, case, granted };
+    let list = Given::read(row, &mut buffers.given)?;
+    let asked = growths(&mut answer)?;
     match len {
-        0 => list.is_read::<0>(alloc, answer),
-        2 => list.is_read::<2>(alloc, answer),
-        32 => list.is_read::<32>(alloc, answer),
-        64 => list.is_read::<64>(alloc, answer),
-        65 => list.is_read::<65>(alloc, answer),
+        0 => is_read::<0>(alloc, list, asked, answer),
+        2 => is_read::<2>(alloc, list, asked, answer),
+        32 => is_read::<32>(alloc, list, asked, answer),
+        64 => is_read::<64>(alloc, list, asked, answer),
+        65 => is_read::<65>(alloc, list, asked, answer),
         _ => None,
     }
 }
@@ -256,8 +268,7 @@ fn list_row(
 // A list that is to be written, in which letter case, and what of it is to be taken.
 #[derive(Clone, Copy)]
 struct Relisted<'a> {
-    src: &'a [u8],
-    upper: bool,
+    given: Given<'a>,
     text: &'a [u8],
     is_stopped: bool,
 }
@@ -268,7 +279,7 @@ impl Relisted<'_> {
         requires { N < 10000 }
     {
         let mut sink = SliceSink::new(dst);
-        let answer = digests::write_to(entries, &mut sink, self.upper);
+        let answer = digests::write_to(entries, &mut sink, self.given.is_upper());
         let (want, failures) = if self.is_stopped {
             (Err(ListWriteFault::Write(WriteFault::Sink(SinkFault))), 1)
         } else {
@@ -283,7 +294,7 @@ impl Relisted<'_> {
         requires { N < 10000 }
     {
         let mut sink = LimitedSink::new(mode, self.text.len());
-        let answer = digests::write_to(entries, &mut sink, self.upper);
+        let answer = digests::write_to(entries, &mut sink, self.given.is_upper());
         let taken = sink.taken();
         answer == Err(ListWriteFault::Write(fault_of(mode)))
             && self.text.starts_with(taken)
@@ -309,18 +320,23 @@ impl Relisted<'_> {
         true
     }
 
-    // Whether the entries of the list are written so into this room.
-    fn is_written<const N: usize>(
-        self,
-        alloc: Global,
-        room: usize,
-        to: &mut Destination,
-    ) -> Option<bool>
+    // Whether these entries are written so into as much room as is given.
+    fn writes<const N: usize>(self, entries: &[Entry<'_, N>], to: &mut Destination) -> bool
         requires { N < 10000 }
     {
-        let entries = digests::read::<N>(alloc, self.src, CheckCase::None).ok()?;
-        let is_filled = self.fills(&entries, to.lend(room)?) && to.holds(self.text);
-        Some(is_filled && (!self.is_stopped || self.all_stop(&entries)))
+        let Some(dst) = to.lend(self.given.number) else {
+            return false;
+        };
+        let is_filled = self.fills(entries, dst) && to.holds(self.text);
+        is_filled && (!self.is_stopped || self.all_stop(entries))
+    }
+
+    // Whether the entries of the list are.
+    fn is_written<const N: usize>(self, alloc: Global, to: &mut Destination) -> Option<bool>
+        requires { N < 10000 }
+    {
+        let entries = digests::read::<N>(alloc, self.given.src, CheckCase::None).ok()?;
+        Some(self.writes(entries.as_slice(), to))
     }
 }
 
@@ -332,28 +348,20 @@ fn relist_row(
 ) -> Option<bool> {
     let (mut row, mut answer) = (row, answer);
     let len = row.number()?;
-    let upper = is_upper(&mut row)?;
-    let room = row.number()?;
-    let src = source(&mut row, &mut buffers.given)?;
-    let is_stopped = answer.takes(b"stopped");
-    if !is_stopped && !answer.takes(b"ok") {
-        return None;
-    }
-    answer.bytes(&mut buffers.wanted)?;
-    let text = buffers.wanted.as_slice();
+    let given = Given::read(row, &mut buffers.given)?;
+    let is_stopped = is_stopped(&mut answer, &mut buffers.wanted)?;
     let list = Relisted {
-        src,
-        upper,
-        text,
+        given,
+        text: buffers.wanted.as_slice(),
         is_stopped,
     };
     let to = &mut buffers.destination;
     match len {
-        0 => list.is_written::<0>(alloc, room, to),
-        2 => list.is_written::<2>(alloc, room, to),
-        32 => list.is_written::<32>(alloc, room, to),
-        64 => list.is_written::<64>(alloc, room, to),
-        65 => list.is_written::<65>(alloc, room, to),
+        0 => list.is_written::<0>(alloc, to),
+        2 => list.is_written::<2>(alloc, to),
+        32 => list.is_written::<32>(alloc, to),
+        64 => list.is_written::<64>(alloc, to),
+        65 => list.is_written::<65>(alloc, to),
         _ => None,
     }
 }

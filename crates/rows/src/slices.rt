@@ -1,7 +1,9 @@
 //! Rows of the slice calls, each by all calls that do the same: those that name no plan, and those
 //! of each plan.
 
-use crate::terms::{Answer, Buffers, Destination, front, is_upper, is_yes, policy, source};
+use crate::terms::{
+    Answer, Buffers, Destination, Given, are_answer, front, is_answer, is_yes, policy, source,
+};
 use hex_codec::{
     hex_check, hex_check_with_case, hex_decode, hex_decode_into, hex_decode_with_case, hex_encode,
     hex_encode_into, hex_encode_upper,
@@ -39,11 +41,17 @@ impl Call {
         answer: Words<'_>,
         buffers: &mut Buffers,
     ) -> Option<bool> {
-        match self {
-            Call::Encode => encode_row(row, answer, buffers),
-            Call::Decode => decode_row(row, answer, buffers),
-            Call::Check => check_row(row, answer, buffers),
+        if matches!(self, Call::Check) {
+            return check_row(row, answer, buffers);
         }
+        let mut answer = answer;
+        let given = Given::read(row, &mut buffers.given)?;
+        let want = front(&mut answer, &mut buffers.wanted)?;
+        Some(if matches!(self, Call::Encode) {
+            all_encode(given, &mut buffers.destination, want)
+        } else {
+            all_decode(given, &mut buffers.destination, want)
+        })
     }
 }
 
@@ -69,19 +77,17 @@ enum Encoder {
 
 // Whether a call that lends what it writes answers so.
 fn lends(got: Result<&mut [u8], Error>, want: Answer<'_>) -> bool {
-    match (got, want) {
-        (Ok(front), Ok(bytes)) => *front == *bytes,
-        (Err(e), Err(refusal)) => e == refusal,
-        _ => false,
+    match got {
+        Ok(front) => are_answer(front, want),
+        Err(e) => is_answer(e, want),
     }
 }
 
 // Whether a call that counts what it writes answers so.
 fn counts(got: Result<usize, Error>, want: Answer<'_>) -> bool {
-    match (got, want) {
-        (Ok(count), Ok(bytes)) => count == bytes.len(),
-        (Err(e), Err(refusal)) => e == refusal,
-        _ => false,
+    match got {
+        Ok(count) => want.is_ok_and(|bytes| count == bytes.len()),
+        Err(e) => is_answer(e, want),
     }
 }
 
@@ -143,19 +149,13 @@ fn plans_decode(
     true
 }
 
-fn decode_row(row: Words<'_>, answer: Words<'_>, buffers: &mut Buffers) -> Option<bool> {
-    let (mut row, mut answer) = (row, answer);
-    let case = policy(&mut row)?;
-    let room = row.number()?;
-    let src = source(&mut row, &mut buffers.given)?;
-    let want = front(&mut answer, &mut buffers.wanted)?;
-    let to = &mut buffers.destination;
-    let is_plain = case == CheckCase::None;
-    let is_decoded = (!is_plain || Decoder::Plain.decodes(src, room, to, want))
-        && Decoder::Under(case).decodes(src, room, to, want)
-        && Decoder::Into(case).decodes(src, room, to, want)
-        && plans_decode(src, room, case, to, want);
-    row.are_read().then_some(is_decoded)
+// Whether each call that decodes does so.
+fn all_decode(given: Given<'_>, to: &mut Destination, want: Answer<'_>) -> bool {
+    let Given { case, number, src } = given;
+    (!given.is_plain() || Decoder::Plain.decodes(src, number, to, want))
+        && Decoder::Under(case).decodes(src, number, to, want)
+        && Decoder::Into(case).decodes(src, number, to, want)
+        && plans_decode(src, number, case, to, want)
 }
 
 // Whether each plan encodes so.
@@ -176,22 +176,17 @@ fn plans_encode(
     true
 }
 
-fn encode_row(row: Words<'_>, answer: Words<'_>, buffers: &mut Buffers) -> Option<bool> {
-    let (mut row, mut answer) = (row, answer);
-    let upper = is_upper(&mut row)?;
-    let room = row.number()?;
-    let src = source(&mut row, &mut buffers.given)?;
-    let want = front(&mut answer, &mut buffers.wanted)?;
-    let to = &mut buffers.destination;
+// Whether each call that encodes does so.
+fn all_encode(given: Given<'_>, to: &mut Destination, want: Answer<'_>) -> bool {
+    let (room, src, upper) = (given.number, given.src, given.is_upper());
     let plain = if upper {
         Encoder::Upper
     } else {
         Encoder::Lower
     };
-    let is_encoded = plain.encodes(src, room, to, want)
+    plain.encodes(src, room, to, want)
         && Encoder::Into(upper).encodes(src, room, to, want)
-        && plans_encode(src, room, upper, to, want);
-    row.are_read().then_some(is_encoded)
+        && plans_encode(src, room, upper, to, want)
 }
 
 // Whether each call of a check says so.

@@ -133,6 +133,43 @@ pub fn source<'a>(row: &mut Words<'_>, bytes: &'a mut Bytes) -> Option<&'a [u8]>
     bytes.as_slice().get(..len)
 }
 
+/// What most rows end with: a policy or a letter case, a number, and a source.
+#[derive(Clone, Copy)]
+pub struct Given<'a> {
+    /// The policy, or the one that reads the letter case alone.
+    pub case: CheckCase,
+    /// The number, which each call has its own word for.
+    pub number: usize,
+    /// The source.
+    pub src: &'a [u8],
+}
+
+impl<'a> Given<'a> {
+    /// Reads what is left of a row.
+    pub fn read(row: Words<'_>, bytes: &'a mut Bytes) -> Option<Given<'a>> {
+        let mut row = row;
+        let case = policy(&mut row)?;
+        let number = row.number()?;
+        let src = source(&mut row, bytes)?;
+        row.are_read().then_some(Given { case, number, src })
+    }
+
+    /// Returns whether the letter case is `upper`.
+    pub fn is_upper(self) -> bool {
+        matches!(self.case, CheckCase::Upper)
+    }
+
+    /// Returns whether the calls that name no policy do the same.
+    pub fn is_plain(self) -> bool {
+        matches!(self.case, CheckCase::None)
+    }
+
+    /// Returns the number as so many growths.
+    pub fn granted(self) -> u64 {
+        self.number as u64
+    }
+}
+
 // Reads a refusal that names numbers.
 fn counted_refusal(answer: &mut Words<'_>) -> Option<Error> {
     if answer.takes(b"invalid") {
@@ -173,6 +210,53 @@ pub fn answer<'a>(answer: &mut Words<'_>, bytes: &'a mut Bytes) -> Option<Answer
     } else {
         Some(Err(refusal(answer)?))
     }
+}
+
+/// Returns whether these bytes are the answer.
+pub fn are_answer(bytes: &[u8], want: Answer<'_>) -> bool {
+    match want {
+        Ok(want) => bytes == want,
+        Err(_) => false,
+    }
+}
+
+/// Returns whether this refusal is the answer.
+pub fn is_answer(e: Error, want: Answer<'_>) -> bool {
+    match want {
+        Ok(_) => false,
+        Err(refusal) => e == refusal,
+    }
+}
+
+/// What a call that takes memory answers, and how many growths it asks for.
+#[derive(Clone, Copy)]
+pub struct Grown<'a> {
+    /// How many growths it asks for.
+    pub asked: u64,
+    /// Its answer.
+    pub answer: Answer<'a>,
+}
+
+/// Reads how many growths are asked for.
+pub fn growths(words: &mut Words<'_>) -> Option<u64> {
+    u64::try_from(words.number()?).ok()
+}
+
+/// Reads how many growths are asked for, and an answer.
+pub fn grown_answer<'a>(words: &mut Words<'_>, bytes: &'a mut Bytes) -> Option<Grown<'a>> {
+    let asked = growths(words)?;
+    let answer = answer(words, bytes)?;
+    Some(Grown { asked, answer })
+}
+
+/// Reads `ok` or `stopped`, and the bytes that are taken by then. Returns whether it was the latter.
+pub fn is_stopped(answer: &mut Words<'_>, bytes: &mut Bytes) -> Option<bool> {
+    let is_stopped = answer.takes(b"stopped");
+    if !is_stopped && !answer.takes(b"ok") {
+        return None;
+    }
+    answer.bytes(bytes)?;
+    Some(is_stopped)
 }
 
 /// Reads the answer of a call that writes: behind a refusal stands `kept`, since the destination is

@@ -3,7 +3,7 @@
 ghost use Rattle.std.specs.Prelude.{◌<◌, ◌^◌, ◌-◌};
 
 use crate::limited_sink::{CAPACITY, LimitedSink, Mode};
-use crate::terms::{Buffers, Destination};
+use crate::terms::{Buffers, Destination, is_stopped};
 use arrayvec::ArrayString;
 use hex_codec::Group;
 use hex_format::{Align, Hex, HexFlags, Sink, SinkFault, SliceSink, WriteFault};
@@ -190,11 +190,7 @@ fn pad_into_row(row: Words<'_>, answer: Words<'_>, buffers: &mut Buffers) -> Opt
     let room = row.number()?;
     let flags = flags(&mut row)?;
     row.bytes(&mut buffers.given)?;
-    let is_stopped = answer.takes(b"stopped");
-    if !is_stopped && !answer.takes(b"ok") {
-        return None;
-    }
-    answer.bytes(&mut buffers.wanted)?;
+    let is_stopped = is_stopped(&mut answer, &mut buffers.wanted)?;
     let (bytes, text) = (buffers.given.as_slice(), buffers.wanted.as_slice());
     if into_slice {
         return Some(fills_slice(bytes, &flags, room, &mut buffers.destination, text));
