@@ -158,11 +158,13 @@ pub fn serve_vectors<A: Allocator, W: Write, E: Write>(
     ensures { (result.0 ≡ 0) ⊎ (result.0 ≡ 1) ⊎ (result.0 ≡ 3) }
 {
     let mut err = err;
-    match check_vectors(alloc, table, plain, out) {
-        (Ok(0), out) => (0, out, err),
-        (Ok(_), out) => (1, out, err),
-        (Err(failure), out) => (refuse(&mut err, failure), out, err),
-    }
+    let (ended, out) = check_vectors(alloc, table, plain, out);
+    let status = match ended {
+        Ok(0) => 0,
+        Ok(_) => 1,
+        Err(failure) => refuse(&mut err, failure),
+    };
+    (status, out, err)
 }
 
 /// [`serve`] over any allocator, so that a test can refuse its growths.

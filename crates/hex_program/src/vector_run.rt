@@ -116,10 +116,15 @@ fn agree(answer: Result<&mut [u8], Error>, stated: Result<&[u8], Error>) -> bool
         (λ wanted. IsOkAnd answer.entry (λ bytes. bytes.now ≡ wanted.now))
         (λ wanted. IsErrAnd answer.entry (λ refusal. refusal ≡ wanted)) }
 {
-    match (answer, stated) {
-        (Ok(bytes), Ok(wanted)) => *bytes == *wanted,
-        (Err(refusal), Err(wanted)) => refusal == wanted,
-        _ => false,
+    match stated {
+        Ok(wanted) => match answer {
+            Ok(bytes) => *bytes == *wanted,
+            Err(_) => false,
+        },
+        Err(wanted) => match answer {
+            Ok(_) => false,
+            Err(refusal) => refusal == wanted,
+        },
     }
 }
 
@@ -144,7 +149,9 @@ fn put_texts<S: Sink>(sink: &mut S, texts: &[&str]) -> Result<(), WriteFault>
     ensures { OnOk result ((S.state sink.new).failures ≡ (S.state sink.old).failures) }
 {
     'texts: for text in texts {
-        put_all(sink, text.as_bytes())?;
+        if let Err(why) = put_all(sink, text.as_bytes()) {
+            return Err(why);
+        }
     }
     Ok(())
 }
