@@ -20,11 +20,10 @@ lib:
 		tail -n 40 out/make.log >&2; exit 1; fi
 	cp $(LIBRARY)/libfaster_hex_c.a $(LIBRARY)/libfaster_hex.a
 
-# One task a processor, of one job each: more jobs of one proof cost more of the processors' time.
 test:
 	scripts/header.sh
 	scripts/examples.sh
-	RT_JOBS=$$(nproc) rt ci
+	rt ci
 
 # Before a release. It stops at the first that fails.
 deep: build
