@@ -116,15 +116,9 @@ fn agree(answer: Result<&mut [u8], Error>, stated: Result<&[u8], Error>) -> bool
         (λ wanted. IsOkAnd answer.entry (λ bytes. bytes.now ≡ wanted.now))
         (λ wanted. IsErrAnd answer.entry (λ refusal. refusal ≡ wanted)) }
 {
-    match stated {
-        Ok(wanted) => match answer {
-            Ok(bytes) => *bytes == *wanted,
-            Err(_) => false,
-        },
-        Err(wanted) => match answer {
-            Ok(_) => false,
-            Err(refusal) => refusal == wanted,
-        },
+    match answer {
+        Ok(bytes) => stated == Ok(&*bytes),
+        Err(refusal) => stated == Err(refusal),
     }
 }
 
