@@ -70,7 +70,7 @@ fn writes_entry(entry: Entry<'_, 2>, upper: bool, list: &[u8]) -> bool {
 }
 
 // Whether a vector passes. Want of memory is no answer.
-fn passes<A: Allocator>(alloc: &A, states: Statement) -> Result<bool, AllocError> {
+fn passes<A: Allocator>(alloc: &A, states: Statement<'_>) -> Result<bool, AllocError> {
     match states {
         Statement::WritesGrouped {
             bytes,
@@ -100,7 +100,7 @@ fn passes<A: Allocator>(alloc: &A, states: Statement) -> Result<bool, AllocError
 ///   before that vector's line.
 pub fn run_plain<A: Allocator, S: Sink>(
     alloc: &A,
-    table: &[PlainVector],
+    table: &[PlainVector<'_>],
     sink: &mut S,
 ) -> Result<usize, VectorFault>
     requires { (S.state sink.old).failures < 2 ^ 64 - 1 }

@@ -5,24 +5,24 @@ use hex_core::CheckCase;
 use hex_lists::digests::Entry;
 
 /// What a stored vector states of its call.
-#[derive(Clone, Copy)]
-pub enum Statement {
+#[derive(Clone, Copy, PartialEq, Eq)]
+pub enum Statement<'a> {
     /// `Hex::write_to` of `bytes`, in pieces of `every` with `sep` between two, fills a slice with
     /// `text`.
     WritesGrouped {
         /// The bytes.
-        bytes: &'static [u8],
+        bytes: &'a [u8],
         /// How many bytes a piece has.
         every: usize,
         /// What stands between two pieces.
         sep: u8,
         /// The text; at most 128 bytes, and a vector with more fails.
-        text: &'static [u8],
+        text: &'a [u8],
     },
     /// `grouped::read` of `text` is refused for `fault`, and leaves `room` bytes as they were.
     RefusesGrouped {
         /// The text, of either letter case.
-        text: &'static [u8],
+        text: &'a [u8],
         /// How many bytes a piece has.
         every: usize,
         /// What stands between two pieces.
@@ -35,30 +35,30 @@ pub enum Statement {
     /// `digests::read` of `list` gives this one entry.
     ReadsEntry {
         /// The list.
-        list: &'static [u8],
+        list: &'a [u8],
         /// The policy.
         case: CheckCase,
         /// The entry.
-        entry: Entry<'static, 2>,
+        entry: Entry<'a, 2>,
     },
     /// `digests::write_to` of one entry fills a slice with `list`.
     WritesEntry {
         /// The entry.
-        entry: Entry<'static, 2>,
+        entry: Entry<'a, 2>,
         /// Whether the digits are uppercase.
         upper: bool,
         /// The list; at most 128 bytes, and a vector with more fails.
-        list: &'static [u8],
+        list: &'a [u8],
     },
 }
 
 /// A stored vector of a call that names no plan.
-#[derive(Clone, Copy)]
-pub struct PlainVector {
+#[derive(Clone, Copy, PartialEq, Eq)]
+pub struct PlainVector<'a> {
     /// What its line calls it.
-    pub name: &'static str,
+    pub name: &'a str,
     /// What it states.
-    pub states: Statement,
+    pub states: Statement<'a>,
 }
 
 const BINARY: Entry<'static, 2> = Entry {
@@ -68,7 +68,7 @@ const BINARY: Entry<'static, 2> = Entry {
 };
 
 /// The stored vectors of calls that name no plan, in their order.
-pub static PLAIN_VECTORS: [PlainVector; 4] = [
+pub static PLAIN_VECTORS: [PlainVector<'static>; 4] = [
     PlainVector {
         name: "v17",
         states: Statement::WritesGrouped {

@@ -125,8 +125,8 @@ fn serve_op<A: Allocator, R: Read, W: Write>(
 // Runs stored vectors, which reads no input, and returns how many failed.
 fn check_vectors<A: Allocator, W: Write>(
     alloc: &A,
-    table: &[Vector],
-    plain: &[PlainVector],
+    table: &[Vector<'_>],
+    plain: &[PlainVector<'_>],
     out: W,
 ) -> (Result<usize, Failure>, W)
     ensures { IfErr result.0 (λ failure. (failure ≡ Failure.WriteFailed) ⊎ (failure ≡ Failure.OutOfMemory)) }
@@ -150,8 +150,8 @@ fn check_vectors<A: Allocator, W: Write>(
 /// is status 3 likewise, and `out of memory`.
 pub fn serve_vectors<A: Allocator, W: Write, E: Write>(
     alloc: &A,
-    table: &[Vector],
-    plain: &[PlainVector],
+    table: &[Vector<'_>],
+    plain: &[PlainVector<'_>],
     out: W,
     err: E,
 ) -> (u8, W, E)

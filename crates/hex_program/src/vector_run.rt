@@ -124,7 +124,7 @@ fn agree(answer: Result<&mut [u8], Error>, stated: Result<&[u8], Error>) -> bool
 
 // Runs a vector under a codec, and returns whether it passes. One with more room than there is
 // fails.
-fn passes<C: Codec>(codec: &C, vector: &Vector) -> bool {
+fn passes<C: Codec>(codec: &C, vector: &Vector<'_>) -> bool {
     let mut buffer = [FILL; LONGEST];
     if LONGEST < vector.room {
         return false;
@@ -198,7 +198,7 @@ pub fn put_line<S: Sink>(
 // Runs each vector under a codec, puts its line, and returns how many failed.
 fn run_under<C: Codec, S: Sink>(
     codec: &C,
-    table: &[Vector],
+    table: &[Vector<'_>],
     sink: &mut S,
 ) -> Result<usize, WriteFault>
     requires { (S.state sink.old).failures < 2 ^ 64 - 1 }
@@ -219,7 +219,7 @@ fn run_under<C: Codec, S: Sink>(
 // Runs each vector under each codec, puts a line each, and returns how many failed.
 fn run_codecs<C: Codec, S: Sink>(
     codecs: &[C],
-    table: &[Vector],
+    table: &[Vector<'_>],
     sink: &mut S,
 ) -> Result<usize, WriteFault>
     requires countable { length codecs.now * length table.now < 2 ^ 64 }
@@ -255,7 +255,7 @@ fn run_codecs<C: Codec, S: Sink>(
 /// ```
 pub fn run_vectors_under<C: Codec, S: Sink>(
     codecs: &[C],
-    table: &[Vector],
+    table: &[Vector<'_>],
     sink: &mut S,
 ) -> Result<usize, WriteFault>
     requires countable { length codecs.now * length table.now < 2 ^ 64 }
@@ -300,8 +300,8 @@ pub enum VectorFault {
 /// ```
 pub fn run_vectors<A: Allocator, S: Sink>(
     alloc: &A,
-    table: &[Vector],
-    plain: &[PlainVector],
+    table: &[Vector<'_>],
+    plain: &[PlainVector<'_>],
     sink: &mut S,
 ) -> Result<usize, VectorFault>
     requires { (S.state sink.old).failures < 2 ^ 64 - 1 }

@@ -3,7 +3,7 @@
 use hex_core::{CheckCase, Error};
 
 /// The call of a stored vector.
-#[derive(Clone, Copy)]
+#[derive(Clone, Copy, PartialEq, Eq)]
 pub enum Call {
     /// Encoding; under a plan, `Backend::encode_slice`.
     Encode {
@@ -21,18 +21,18 @@ pub enum Call {
 ///
 /// It passes where the answer is the stated one, and the destination, which was filled with 0xa5,
 /// holds the stated bytes and 0xa5 behind them.
-#[derive(Clone, Copy)]
-pub struct Vector {
+#[derive(Clone, Copy, PartialEq, Eq)]
+pub struct Vector<'a> {
     /// What its line calls it.
-    pub name: &'static str,
+    pub name: &'a str,
     /// What is called.
     pub call: Call,
     /// The source.
-    pub source: &'static [u8],
+    pub source: &'a [u8],
     /// How long the destination is, in bytes; at most 128, and a vector with more fails.
     pub room: usize,
     /// The bytes that are written, or the refusal, after which none are.
-    pub answer: Result<&'static [u8], Error>,
+    pub answer: Result<&'a [u8], Error>,
 }
 
 const LOWER: Call = Call::Encode { upper: false };
@@ -52,7 +52,7 @@ const READ_UPPER: Call = Call::Decode {
 };
 
 /// The stored vectors, in their order.
-pub static VECTORS: [Vector; 16] = [
+pub static VECTORS: [Vector<'static>; 16] = [
     Vector {
         name: "v01",
         call: LOWER,

@@ -8,45 +8,6 @@ use std::alloc::Global;
 use std::io;
 use std::io::Read;
 
-/// What a row may name here.
-#[derive(Clone, Copy)]
-pub enum Call {
-    /// `pieces INPUT EVERY`: each decoding, by reads of so many bytes at most.
-    Pieces,
-    /// `edge PLACE BEHIND BYTE EVERY`: a decoding of zeros with a byte at a place and so many zeros
-    /// behind it.
-    Edge,
-}
-
-impl Call {
-    /// Returns the call of this name.
-    pub fn from_word(word: &[u8]) -> Option<Call> {
-        if word == b"pieces".as_slice() {
-            Some(Call::Pieces)
-        } else {
-            (word == b"edge".as_slice()).then_some(Call::Edge)
-        }
-    }
-
-    /// Returns whether the pieces are decoded as all of the input, as the answer `alike` says.
-    pub fn is_answered(
-        self,
-        alloc: Global,
-        row: Words<'_>,
-        answer: Words<'_>,
-        buffers: &mut Buffers,
-    ) -> Option<bool> {
-        let mut answer = answer;
-        if !answer.takes(b"alike") || !answer.are_read() {
-            return None;
-        }
-        match self {
-            Call::Pieces => pieces_row(alloc, row, buffers),
-            Call::Edge => edge_row(alloc, row),
-        }
-    }
-}
-
 // Gives its bytes in order, at most so many a read.
 #[derive(Drop)]
 struct Pieces<'a> {
@@ -89,11 +50,18 @@ fn is_served(alloc: Global, word: &str, op: Op, source: &[u8], every: usize) -> 
     Some(is_told && out.as_slice() == whole.as_slice())
 }
 
-fn pieces_row(alloc: Global, row: Words<'_>, buffers: &mut Buffers) -> Option<bool> {
-    let mut row = row;
+// Reads the answer `alike`.
+fn is_alike(answer: Words<'_>) -> bool {
+    let mut answer = answer;
+    answer.takes(b"alike") && answer.are_read()
+}
+
+/// `pieces INPUT EVERY`: each decoding, by reads of so many bytes at most.
+pub fn pieces_row(row: Words<'_>, answer: Words<'_>, buffers: &mut Buffers) -> Option<bool> {
+    let (mut row, alloc) = (row, buffers.alloc);
     row.bytes(&mut buffers.input)?;
     let every = row.number()?;
-    if !row.are_read() {
+    if !row.are_read() || !is_alike(answer) {
         return None;
     }
     let source = buffers.input.as_slice();
@@ -103,13 +71,15 @@ fn pieces_row(alloc: Global, row: Words<'_>, buffers: &mut Buffers) -> Option<bo
     Some(is_lower && is_upper && is_either)
 }
 
-fn edge_row(alloc: Global, row: Words<'_>) -> Option<bool> {
-    let mut row = row;
+/// `edge PLACE BEHIND BYTE EVERY`: a decoding of zeros with a byte at a place and so many zeros
+/// behind it.
+pub fn edge_row(row: Words<'_>, answer: Words<'_>, buffers: &Buffers) -> Option<bool> {
+    let (mut row, alloc) = (row, buffers.alloc);
     let place = row.number()?;
     let behind = row.number()?;
     let byte = row.byte()?;
     let every = row.number()?;
-    if !row.are_read() {
+    if !row.are_read() || !is_alike(answer) {
         return None;
     }
     let len = place.checked_add(behind)?.checked_add(1)?;

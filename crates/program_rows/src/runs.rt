@@ -7,59 +7,13 @@ use hex_program::operation::run_in;
 use hex_program::run;
 use refusing_allocator::Refusing;
 use row_reader::Words;
-use std::alloc::Global;
-
-/// What a row may name here.
-#[derive(Clone, Copy)]
-pub enum Call {
-    /// `run WORD INPUT ROOM`: the answer over a slice of this room, and what was taken.
-    Run,
-    /// `run-in GRANTED WORD INPUT`: how many growths are asked for where so many are granted, the
-    /// answer, and what was taken.
-    RunIn,
-    /// `run-into WORD INPUT WRITER`: the answer over a writer, as `stuck`, and how many bytes it
-    /// took.
-    RunInto,
-}
-
-impl Call {
-    /// Returns the call of this name.
-    pub fn from_word(word: &[u8]) -> Option<Call> {
-        if word == b"run".as_slice() {
-            Some(Call::Run)
-        } else if word == b"run-in".as_slice() {
-            Some(Call::RunIn)
-        } else {
-            (word == b"run-into".as_slice()).then_some(Call::RunInto)
-        }
-    }
-
-    /// Returns whether the run ends so.
-    pub fn is_answered(
-        self,
-        alloc: Global,
-        row: Words<'_>,
-        answer: Words<'_>,
-        buffers: &mut Buffers,
-    ) -> Option<bool> {
-        match self {
-            Call::Run => run_row(alloc, row, answer, buffers),
-            Call::RunIn => run_in_row(alloc, row, answer, buffers),
-            Call::RunInto => run_into_row(alloc, row, answer, buffers),
-        }
-    }
-}
 
 // How many bytes a slice has at most.
 const ROOM: usize = 1_025;
 
-fn run_row(
-    alloc: Global,
-    row: Words<'_>,
-    wanted: Words<'_>,
-    buffers: &mut Buffers,
-) -> Option<bool> {
-    let (mut row, mut wanted) = (row, wanted);
+/// `run WORD INPUT ROOM`: the answer over a slice of this room, and what was taken.
+pub fn run_row(row: Words<'_>, wanted: Words<'_>, buffers: &mut Buffers) -> Option<bool> {
+    let (mut row, mut wanted, alloc) = (row, wanted, buffers.alloc);
     let op = operation(&mut row, &mut buffers.first)?;
     row.bytes(&mut buffers.input)?;
     let room = row.number()?;
@@ -75,13 +29,10 @@ fn run_row(
     Some(got == want && is_taken && sink.failures() == failures(want))
 }
 
-fn run_in_row(
-    alloc: Global,
-    row: Words<'_>,
-    wanted: Words<'_>,
-    buffers: &mut Buffers,
-) -> Option<bool> {
-    let (mut row, mut wanted) = (row, wanted);
+/// `run-in GRANTED WORD INPUT`: how many growths are asked for where so many are granted, the answer,
+/// and what was taken.
+pub fn run_in_row(row: Words<'_>, wanted: Words<'_>, buffers: &mut Buffers) -> Option<bool> {
+    let (mut row, mut wanted, alloc) = (row, wanted, buffers.alloc);
     let refusing = Refusing::new(alloc, u64::try_from(row.number()?).ok()?);
     let op = operation(&mut row, &mut buffers.first)?;
     row.bytes(&mut buffers.input)?;
@@ -98,13 +49,9 @@ fn run_in_row(
     Some(got == want && is_taken && refusing.asked() == asked)
 }
 
-fn run_into_row(
-    alloc: Global,
-    row: Words<'_>,
-    wanted: Words<'_>,
-    buffers: &mut Buffers,
-) -> Option<bool> {
-    let (mut row, mut wanted) = (row, wanted);
+/// `run-into WORD INPUT WRITER`: the answer over a writer, as `stuck`, and how many bytes it took.
+pub fn run_into_row(row: Words<'_>, wanted: Words<'_>, buffers: &mut Buffers) -> Option<bool> {
+    let (mut row, mut wanted, alloc) = (row, wanted, buffers.alloc);
     let op = operation(&mut row, &mut buffers.first)?;
     row.bytes(&mut buffers.input)?;
     let mut sink = WriterSink::new(Narrow::read_from(&mut row)?);

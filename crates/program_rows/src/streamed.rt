@@ -5,7 +5,6 @@ use crate::streams::{Narrow, Repeated};
 use crate::terms::{Buffers, is_message, word};
 use hex_program::serve;
 use row_reader::Words;
-use std::alloc::Global;
 
 // Whether a run ended so.
 fn is_end(status: u8, out: &Narrow, message: &[u8], answer: Words<'_>) -> Option<bool> {
@@ -17,13 +16,8 @@ fn is_end(status: u8, out: &Narrow, message: &[u8], answer: Words<'_>) -> Option
 }
 
 /// Returns whether a run ends as its row says.
-pub fn row(
-    alloc: Global,
-    row: Words<'_>,
-    answer: Words<'_>,
-    buffers: &mut Buffers,
-) -> Option<bool> {
-    let mut row = row;
+pub fn row(row: Words<'_>, answer: Words<'_>, buffers: &mut Buffers) -> Option<bool> {
+    let (mut row, alloc) = (row, buffers.alloc);
     let word = word(&mut row, &mut buffers.first)?;
     let mut input = Repeated::read_from(&mut row)?;
     let out = Narrow::read_from(&mut row)?;

@@ -3,11 +3,15 @@
 use hex_core::Error;
 use hex_format::{SinkFault, WriteFault};
 use hex_program::{Op, RunFault};
-use row_reader::{Bytes, Words};
+use row_reader::Words;
+use row_reader::notation::{self, Bytes};
+use std::alloc::Global;
 
-/// What a row is read into.
+/// What a row is read into, and what takes memory for its run.
 #[derive(Drop)]
 pub struct Buffers {
+    /// The allocator.
+    pub alloc: Global,
     /// The first word of the program.
     pub first: Bytes,
     /// The second one.
@@ -20,8 +24,9 @@ pub struct Buffers {
 
 impl Buffers {
     /// Returns buffers that hold nothing.
-    pub fn new() -> Buffers {
+    pub fn new(alloc: Global) -> Buffers {
         Buffers {
+            alloc,
             first: Bytes::new(),
             second: Bytes::new(),
             input: Bytes::new(),
@@ -41,31 +46,68 @@ pub fn operation(row: &mut Words<'_>, bytes: &mut Bytes) -> Option<Op> {
     Op::from_word(word(row, bytes)?)
 }
 
+/// Returns words of the bytes that the words which are left write together. No buffer is needed for
+/// each of them then, so a row can have many.
+pub fn written<'a>(row: Words<'_>, bytes: &'a mut Bytes) -> Option<Words<'a>> {
+    notation::write(row.rest(), row.turn(), bytes)?;
+    Some(Words::new(bytes.as_slice(), 0))
+}
+
+/// Reads written bytes: `-` is none, and `spaced COUNT` stands before so many that hold a space.
+pub fn field<'a>(fields: &mut Words<'a>) -> Option<&'a [u8]> {
+    if fields.takes(b"-") {
+        return Some(b"");
+    }
+    if !fields.takes(b"spaced") {
+        return Some(fields.next());
+    }
+    let count = fields.number()?;
+    let (bytes, behind) = fields.rest().split_at_checked(count)?;
+    *fields = Words::new(behind.get(1..).unwrap_or_default(), 0);
+    Some(bytes)
+}
+
+/// Reads a word of written bytes that is one byte.
+pub fn byte(fields: &mut Words<'_>) -> Option<u8> {
+    let word = fields.next();
+    if word.len() == 1 {
+        word.first().copied()
+    } else {
+        None
+    }
+}
+
+/// Reads a name.
+pub fn name<'a>(fields: &mut Words<'a>) -> Option<&'a str> {
+    str::from_utf8(fields.next()).ok()
+}
+
 /// Returns whether these are the words that are left and a newline, or nothing where none is left.
 pub fn is_message(message: &[u8], wanted: &[u8]) -> bool {
-    match message.split_last() {
-        Some((last, line)) => *last == b'\n' && !wanted.is_empty() && line == wanted,
-        None => wanted.is_empty(),
+    match message {
+        [line @ .., b'\n'] => !wanted.is_empty() && line == wanted,
+        _ => message.is_empty() && wanted.is_empty(),
     }
 }
 
 /// Reads a status, an output and a message, and returns whether a run ended so.
-pub fn is_end(
-    answer: &mut Words<'_>,
-    bytes: &mut Bytes,
-    status: u8,
-    output: &[u8],
-    message: &[u8],
-) -> Option<bool> {
+pub fn is_end(answer: Words<'_>, bytes: &mut Bytes, ended: (u8, Vec<u8>, Vec<u8>)) -> Option<bool> {
+    let mut answer = answer;
+    let (status, output, message) = ended;
     let is_status = answer.number()? == usize::from(status);
     answer.bytes(bytes)?;
-    Some(is_status && bytes.as_slice() == output && is_message(message, answer.rest()))
+    let is_output = bytes.as_slice() == output.as_slice();
+    Some(is_status && is_output && is_message(message.as_slice(), answer.rest()))
 }
 
-// Reads why an input is refused: `odd-length` or `invalid INDEX BYTE`.
-fn refusal(answer: &mut Words<'_>) -> Option<Error> {
+/// Reads why an input is refused: `odd-length`, `too-small REQUIRED` or `invalid INDEX BYTE`.
+pub fn refusal(answer: &mut Words<'_>) -> Option<Error> {
     if answer.takes(b"odd-length") {
         return Some(Error::OddLength);
+    }
+    if answer.takes(b"too-small") {
+        let required = answer.number()?;
+        return Some(Error::OutputTooSmall { required });
     }
     if !answer.takes(b"invalid") {
         return None;
