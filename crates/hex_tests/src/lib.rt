@@ -11,8 +11,6 @@ mod answers;
 #[cfg(test)]
 mod global_growths;
 #[cfg(test)]
-mod growths;
-#[cfg(test)]
 mod hashes;
 #[cfg(test)]
 mod interrupted;

@@ -111,10 +111,10 @@ fn fixed_row(given: Given<'_>, wanted: Words<'_>, bytes: &mut Bytes) -> Option<b
     }
 }
 
-// Whether a string answers so.
+// Whether a string answers so, in no more room than it needs.
 fn is_string<A: Allocator + Drop>(got: Result<String<A>, Error>, want: Answer<'_>) -> bool {
     match got {
-        Ok(text) => are_answer(text.as_str().as_bytes(), want),
+        Ok(text) => { text.capacity() == text.len() && are_answer(text.as_str().as_bytes(), want) }
         Err(e) => is_answer(e, want),
     }
 }
@@ -199,7 +199,8 @@ impl Append<'_> {
         };
         let is_after = text.as_str().as_bytes() == want.after;
         let asked = refusing.asked().wrapping_sub(before);
-        Some(is_answered && is_after && asked == want.suffix.asked)
+        let is_exact = asked == 0 || want.suffix.answer.is_err() || text.capacity() == text.len();
+        Some(is_answered && is_after && asked == want.suffix.asked && is_exact)
     }
 
     // Whether both calls do so.
