@@ -1,9 +1,12 @@
 #!/bin/sh
-# Runs the examples of the doc comments of the libraries and of callers, and the statements of
-# CALLING.md, as they stand there: each is a test of a crate that this script makes outside the
-# repository, and that `rt try --test` runs and nothing proves. Run it after each change of one.
-# Usage: scripts/examples.sh [--prove]
+# Runs the examples of the doc comments of the libraries, of callers and of refusing_allocator, and
+# the statements of CALLING.md, as they stand there: each is a test of a crate that this script makes
+# outside the repository, and that `rt try --test` runs and nothing proves. Run it after each change
+# of one.
+# Usage: scripts/examples.sh [--prove | --write FOLDER]
 # With --prove, `rt test` proves that crate before it runs, and what below it is not proved yet.
+# With --write it makes that crate, crates/doc_examples, and those below it in an empty folder, and
+# runs nothing.
 # Prints each file with an example that `rt fmt` would lay out otherwise, each function of CALLING.md
 # that does not stand in callers, and each program of README.md that is no program of a crate, by its
 # first line; then what a run says beside the examples that pass, where one fails. The last line is
@@ -17,19 +20,26 @@ set -eu
 LC_ALL=C
 export LC_ALL
 
+prove=
+folder=
 case $#:${1-} in
-0:) prove= ;;
+0:) ;;
 1:--prove) prove=1 ;;
+2:--write) folder=$(cd "$2" && pwd) ;;
 *)
-    echo "usage: scripts/examples.sh [--prove]" >&2
+    echo "usage: scripts/examples.sh [--prove | --write FOLDER]" >&2
     exit 2
     ;;
 esac
 
 cd "$(dirname "$0")/.."
-libraries='hex_core hex_codec hex_format hex_lists hex_json faster_hex hex_program callers'
-made=$(mktemp -d)
-trap 'rm -rf "$made"' EXIT
+libraries='hex_core hex_codec hex_format hex_lists hex_json faster_hex hex_program callers
+    refusing_allocator'
+made=$folder
+if [ -z "$made" ]; then
+    made=$(mktemp -d)
+    trap 'rm -rf "$made"' EXIT
+fi
 own=$made/crates/doc_examples
 mkdir -p "$own/src"
 
@@ -136,7 +146,7 @@ copy_libraries() {
         done
         grep "^$library:" crates.txt
     done >"$made/crates.txt"
-    echo "doc_examples: $libraries serde_json" >>"$made/crates.txt"
+    echo "doc_examples: "$libraries" serde_json" >>"$made/crates.txt"
 }
 
 for library in $libraries; do
@@ -148,6 +158,7 @@ write_page_tests crates/faster_hex/CALLING.md calling
 write_root >"$made/root"
 mv "$made/root" "$own/src/lib.rt"
 copy_libraries
+[ -z "$folder" ] || exit 0
 
 wrong=$(
     (cd "$own" && rt fmt) | sed -n 's/^rt: formatted src./not in the layout of rt fmt: /p'

@@ -1,52 +1,82 @@
 #!/bin/sh
-# Runs the tests of crates/hex_tests with one growth after another refused, and checks which of
-# those of `global_growths` then fail: the root's and each of the six modules' exactly where one of
-# its ten growths is refused, which each of its eight calls tells as want of memory, and that of none
-# never. Then runs `fhex decode` with one growth after another refused, which ends for want of memory
-# or as with ample memory. Prints a line for each that differs, and `N passed, M failed` at the end;
-# its status is then 1 where one failed. It wants `rt`, and takes some minutes.
+# Runs the examples of the doc comments with one growth after another refused, up to a growth that
+# none asks for. An example then passes, or fails and says want of memory, as its error or as what an
+# assertion found in place of something else. Those of the library's root, of each JSON module and
+# of each option module make the four calls that take memory, one growth each: such an example fails
+# exactly where one of the first four is refused, with `Codec(OutOfMemory)` as that call's error. So
+# `null` is written and read without one. Then runs `fhex decode` with one growth after another
+# refused, which ends for want of memory or as with ample memory. Prints a line for each that
+# differs, and `N passed, M failed` at the end; its status is then 1 where one failed. It wants `rt`,
+# and takes some minutes.
 set -eu
 
-cd "$(dirname "$0")/../crates"
-lines=$(mktemp)
-trap 'rm -f "$lines"' EXIT
+cd "$(dirname "$0")/.."
+made=$(mktemp -d)
+trap 'rm -rf "$made"' EXIT
+scripts/examples.sh --write "$made"
+own=$made/crates/doc_examples
+examples=$(cat "$own"/src/*.rt | grep -c '^#\[test\]$')
 passed=0
 failed=0
 
-# count NAME WANTED YES, where the last is 1 for a run that did what is wanted.
-count() {
-    if [ "$3" -eq 1 ]; then
-        passed=$((passed + 1))
-    else
+# judge LINES: prints each example that does otherwise, and at last how many do as they should, how
+# many did it for want of memory, and how many of them are counted to take four growths.
+judge() {
+    awk -v growth="$growth" '
+        function close_test() {
+            if (test == "")
+                return
+            wanted = told
+            if (test ~ counted) {
+                four++
+                wanted = growth <= 4 && is_codec
+                is_ok = growth > 4 && is_ok
+            }
+            # The allocator that refuses growths tells another end of its own examples.
+            if (is_ok || wanted || test ~ /^refusing_allocator/)
+                well++
+            else
+                print "failed: " test " with growth " growth " refused:" said
+            refused += wanted
+            test = ""
+        }
+        BEGIN {
+            counted = "^(faster_hex_lib::lib|hex_json_modules::(with|no)pfx_[a-z]*" \
+                "|hex_json_option_modules::option_(with|no)pfx_[a-z]*)_example$"
+        }
+        /^test .* \.\.\. (ok|FAILED)$/ {
+            close_test()
+            test = $2
+            is_ok = ($NF == "ok")
+            told = is_codec = 0
+            said = ""
+            next
+        }
+        /^test result:/ { close_test() }
+        { said = said " " $0 }
+        /^ *(error|left): .*(OutOfMemory|AllocError|out of memory)/ { told = 1 }
+        /^ *error: Codec\(OutOfMemory\)$/ { is_codec = 1 }
+        # The status of a run that wants memory.
+        test ~ /::serve_example$/ && /^ *left: 3$/ { told = 1 }
+        END { print well + 0, refused + 0, four + 0 }' "$1"
+}
+
+growth=0
+refused=1
+while [ "$refused" -gt 0 ] && [ "$growth" -lt 30 ]; do
+    growth=$((growth + 1))
+    (cd "$own" && rt try --test --fail-alloc "$growth") >"$made/lines" 2>&1 || true
+    judge "$made/lines" >"$made/judged"
+    sed '$d' "$made/judged"
+    read -r well refused four <<SUMS
+$(tail -n 1 "$made/judged")
+SUMS
+    passed=$((passed + well))
+    failed=$((failed + examples - well))
+    if [ "$four" -ne 13 ]; then
         failed=$((failed + 1))
-        echo "failed: $1 with growth $growth refused: wanted $2"
+        echo "failed: $four examples of 13 are counted with growth $growth refused"
     fi
-}
-
-# check TEST ok|FAILED ERROR, after the run with a growth refused; a failed test prints the error.
-check() {
-    yes=0
-    if grep -A1 "^test global_growths::$1 \.\.\. $2\$" "$lines" | grep -q "$3"; then
-        yes=1
-    fi
-    count "$1" "$2" "$yes"
-}
-
-for growth in ${GROWTHS:-1 2 3 4 5 6 7 8 9 10 11}; do
-    (cd hex_tests && rt try --test --fail-alloc "$growth") >"$lines" 2>&1 || true
-    wanted=FAILED
-    error='error: Codec(OutOfMemory)'
-    if [ "$growth" -gt 10 ]; then
-        wanted=ok
-        error=
-    elif [ "$growth" -le 2 ]; then
-        error='error:'
-    fi
-    check none_grows_nothing ok ''
-    for module in root withpfx_ignorecase nopfx_ignorecase withpfx_lowercase nopfx_lowercase \
-        withpfx_uppercase nopfx_uppercase; do
-        check "${module}_grows_once_a_call" "$wanted" "$error"
-    done
 done
 
 # The program can do without its fifth growth, the room for any input, and it asks for seven.
@@ -54,16 +84,18 @@ growth=0
 for wanted in 3 3 3 3 0 3 3 0; do
     growth=$((growth + 1))
     status=0
-    (cd fhex && echo 68656c6c6f | rt try --fail-alloc "$growth" -- decode) >"$lines" 2>&1 || status=$?
+    (cd crates/fhex && echo 68656c6c6f | rt try --fail-alloc "$growth" -- decode) \
+        >"$made/lines" 2>&1 || status=$?
     line='out of memory'
     if [ "$wanted" -eq 0 ]; then
         line=hello
     fi
-    yes=0
-    if [ "$status" -eq "$wanted" ] && grep -q "^$line" "$lines"; then
-        yes=1
+    if [ "$status" -eq "$wanted" ] && grep -q "^$line" "$made/lines"; then
+        passed=$((passed + 1))
+    else
+        failed=$((failed + 1))
+        echo "failed: fhex decode with growth $growth refused: wanted status $wanted"
     fi
-    count 'fhex decode' "status $wanted" "$yes"
 done
 
 echo "$passed passed, $failed failed"

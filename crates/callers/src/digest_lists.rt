@@ -16,7 +16,7 @@ use std::alloc::Global;
 ///
 /// ```rust
 /// let list = b"0000000000000000000000000000000000000000000000000000000000000000  a.txt\n";
-/// let names = names_with_digest(rt.alloc(), list, &[0; 32]).map_err(|_| "no list")?;
+/// let names = names_with_digest(rt.alloc(), list, &[0; 32])?;
 /// assert_eq!(rt; names.first().copied(), Some(b"a.txt".as_slice()));
 /// ```
 pub fn names_with_digest<'a>(

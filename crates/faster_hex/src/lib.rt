@@ -11,6 +11,15 @@
 //! | [`nopfx_lowercase`] | none | lowercase | lowercase |
 //! | [`withpfx_uppercase`] | `0x` | uppercase | uppercase |
 //! | [`nopfx_uppercase`] | none | uppercase | uppercase |
+//!
+//! ```rust
+//! let value = faster_hex::serialize(rt.alloc(), &[0xab, 1])?;
+//! let bytes = faster_hex::deserialize(rt.alloc(), &value)?;
+//! assert_eq!(rt; bytes.as_slice(), [0xab, 1].as_slice());
+//! let value = faster_hex::array::serialize(rt.alloc(), &[0xab, 1])?;
+//! let bounded = faster_hex::deserialize_bounded::<2>(rt.alloc(), &value)?;
+//! assert_eq!(rt; bounded.as_slice(), bytes.as_slice());
+//! ```
 #![tactic(auto)]
 
 pub use hex_codec::{

@@ -96,6 +96,23 @@ pub fn put_all<S: Sink>(sink: &mut S, piece: &[u8]) -> Result<(), WriteFault>
 /// assert_eq!(rt; sink.written(), b"abc".as_slice());
 /// assert_eq!(rt; sink.failures(), 1);
 /// ```
+///
+/// What is put stands behind what was put before:
+///
+/// ```rust
+/// let mut buffer = [0; 1100];
+/// let mut sink = SliceSink::new(&mut buffer);
+/// let mut flags = HexFlags::default();
+/// let bytes = Hex::new(&[0, 0xab, 0xcd]);
+/// assert_eq!(rt; sink.put(b"hash="), Ok(5));
+/// flags.prefix = true;
+/// flags.upper = true;
+/// bytes.write_to(&mut sink, &flags)?;
+/// assert_eq!(rt; sink.put(b", again="), Ok(8));
+/// bytes.write_to(&mut sink, &HexFlags::default())?;
+/// assert_eq!(rt; sink.written(), b"hash=0x00ABCD, again=00abcd".as_slice());
+/// assert_eq!(rt; sink.failures(), 0);
+/// ```
 #[derive(Drop)]
 pub struct SliceSink<'a> {
     buf: &'a mut [u8],
@@ -169,10 +186,11 @@ impl Sink for SliceSink<'_> {
 /// A sink over a writer: each put is one `write`, and no kind of error is tried again.
 ///
 /// ```rust
-/// let mut sink = WriterSink::new(Vec::new(rt.alloc()));
+/// let mut sink = WriterSink::new(Vec::with_capacity(rt.alloc(), 4)?);
 /// assert_eq!(rt; sink.put(b"ab"), Ok(2));
-/// assert!(rt; sink.last_error().is_none());
-/// assert_eq!(rt; sink.into_inner().as_slice(), b"ab".as_slice());
+/// Hex::new(&[0xab]).write_to(&mut sink, &HexFlags::default())?;
+/// assert!(rt; sink.last_error().is_none() && sink.failures() == 0);
+/// assert_eq!(rt; sink.into_inner().as_slice(), b"abab".as_slice());
 /// ```
 #[derive(Drop)]
 pub struct WriterSink<W: Write> {

@@ -16,6 +16,9 @@ use std::alloc::Global;
 /// assert_eq!(rt; value.as_str(), Some("0xab01"));
 /// let bytes = withpfx_ignorecase::deserialize(rt.alloc(), &value)?;
 /// assert_eq!(rt; bytes.as_slice(), [0xab, 1].as_slice());
+/// let bounded = withpfx_ignorecase::deserialize_bounded::<2>(rt.alloc(), &value)?;
+/// assert_eq!(rt; bounded.as_slice(), bytes.as_slice());
+/// let value = withpfx_ignorecase::array::serialize(rt.alloc(), &[0xab, 1])?;
 /// let array = withpfx_ignorecase::array::deserialize(&value)?;
 /// assert_eq!(rt; array, [0xab, 1]);
 /// ```
@@ -138,6 +141,9 @@ pub mod withpfx_ignorecase {
 /// assert_eq!(rt; value.as_str(), Some("ab01"));
 /// let bytes = nopfx_ignorecase::deserialize(rt.alloc(), &value)?;
 /// assert_eq!(rt; bytes.as_slice(), [0xab, 1].as_slice());
+/// let bounded = nopfx_ignorecase::deserialize_bounded::<2>(rt.alloc(), &value)?;
+/// assert_eq!(rt; bounded.as_slice(), bytes.as_slice());
+/// let value = nopfx_ignorecase::array::serialize(rt.alloc(), &[0xab, 1])?;
 /// let array = nopfx_ignorecase::array::deserialize(&value)?;
 /// assert_eq!(rt; array, [0xab, 1]);
 /// ```
@@ -191,6 +197,9 @@ pub mod nopfx_ignorecase {
 /// assert_eq!(rt; value.as_str(), Some("0xab01"));
 /// let bytes = withpfx_lowercase::deserialize(rt.alloc(), &value)?;
 /// assert_eq!(rt; bytes.as_slice(), [0xab, 1].as_slice());
+/// let bounded = withpfx_lowercase::deserialize_bounded::<2>(rt.alloc(), &value)?;
+/// assert_eq!(rt; bounded.as_slice(), bytes.as_slice());
+/// let value = withpfx_lowercase::array::serialize(rt.alloc(), &[0xab, 1])?;
 /// let array = withpfx_lowercase::array::deserialize(&value)?;
 /// assert_eq!(rt; array, [0xab, 1]);
 /// ```
@@ -243,6 +252,9 @@ pub mod withpfx_lowercase {
 /// assert_eq!(rt; value.as_str(), Some("ab01"));
 /// let bytes = nopfx_lowercase::deserialize(rt.alloc(), &value)?;
 /// assert_eq!(rt; bytes.as_slice(), [0xab, 1].as_slice());
+/// let bounded = nopfx_lowercase::deserialize_bounded::<2>(rt.alloc(), &value)?;
+/// assert_eq!(rt; bounded.as_slice(), bytes.as_slice());
+/// let value = nopfx_lowercase::array::serialize(rt.alloc(), &[0xab, 1])?;
 /// let array = nopfx_lowercase::array::deserialize(&value)?;
 /// assert_eq!(rt; array, [0xab, 1]);
 /// ```
@@ -296,6 +308,9 @@ pub mod nopfx_lowercase {
 /// assert_eq!(rt; value.as_str(), Some("0xAB01"));
 /// let bytes = withpfx_uppercase::deserialize(rt.alloc(), &value)?;
 /// assert_eq!(rt; bytes.as_slice(), [0xab, 1].as_slice());
+/// let bounded = withpfx_uppercase::deserialize_bounded::<2>(rt.alloc(), &value)?;
+/// assert_eq!(rt; bounded.as_slice(), bytes.as_slice());
+/// let value = withpfx_uppercase::array::serialize(rt.alloc(), &[0xab, 1])?;
 /// let array = withpfx_uppercase::array::deserialize(&value)?;
 /// assert_eq!(rt; array, [0xab, 1]);
 /// ```
@@ -348,6 +363,9 @@ pub mod withpfx_uppercase {
 /// assert_eq!(rt; value.as_str(), Some("AB01"));
 /// let bytes = nopfx_uppercase::deserialize(rt.alloc(), &value)?;
 /// assert_eq!(rt; bytes.as_slice(), [0xab, 1].as_slice());
+/// let bounded = nopfx_uppercase::deserialize_bounded::<2>(rt.alloc(), &value)?;
+/// assert_eq!(rt; bounded.as_slice(), bytes.as_slice());
+/// let value = nopfx_uppercase::array::serialize(rt.alloc(), &[0xab, 1])?;
 /// let array = nopfx_uppercase::array::deserialize(&value)?;
 /// assert_eq!(rt; array, [0xab, 1]);
 /// ```

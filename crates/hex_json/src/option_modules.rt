@@ -13,9 +13,15 @@ use std::alloc::Global;
 /// ```rust
 /// let value = option_withpfx_ignorecase::serialize(rt.alloc(), Some(&[0xab, 1]))?;
 /// assert_eq!(rt; value.as_str(), Some("0xab01"));
+/// let bytes = option_withpfx_ignorecase::deserialize(rt.alloc(), &value)?;
+/// assert!(rt; bytes.is_some_and(|bytes| bytes.as_slice() == [0xab, 1].as_slice()));
+/// let bounded = option_withpfx_ignorecase::deserialize_bounded::<2>(rt.alloc(), &value)?;
+/// assert!(rt; bounded.is_some());
+/// let value = option_withpfx_ignorecase::array::serialize(rt.alloc(), Some(&[0xab, 1]))?;
 /// let array = option_withpfx_ignorecase::array::deserialize(&value)?;
 /// assert_eq!(rt; array, Some([0xab, 1]));
 /// let none = option_withpfx_ignorecase::serialize(rt.alloc(), None)?;
+/// assert!(rt; none.is_null());
 /// assert!(rt; option_withpfx_ignorecase::deserialize(rt.alloc(), &none)?.is_none());
 /// ```
 pub mod option_withpfx_ignorecase {
@@ -67,9 +73,15 @@ pub mod option_withpfx_ignorecase {
 /// ```rust
 /// let value = option_nopfx_ignorecase::serialize(rt.alloc(), Some(&[0xab, 1]))?;
 /// assert_eq!(rt; value.as_str(), Some("ab01"));
+/// let bytes = option_nopfx_ignorecase::deserialize(rt.alloc(), &value)?;
+/// assert!(rt; bytes.is_some_and(|bytes| bytes.as_slice() == [0xab, 1].as_slice()));
+/// let bounded = option_nopfx_ignorecase::deserialize_bounded::<2>(rt.alloc(), &value)?;
+/// assert!(rt; bounded.is_some());
+/// let value = option_nopfx_ignorecase::array::serialize(rt.alloc(), Some(&[0xab, 1]))?;
 /// let array = option_nopfx_ignorecase::array::deserialize(&value)?;
 /// assert_eq!(rt; array, Some([0xab, 1]));
 /// let none = option_nopfx_ignorecase::serialize(rt.alloc(), None)?;
+/// assert!(rt; none.is_null());
 /// assert!(rt; option_nopfx_ignorecase::deserialize(rt.alloc(), &none)?.is_none());
 /// ```
 pub mod option_nopfx_ignorecase {
@@ -121,9 +133,15 @@ pub mod option_nopfx_ignorecase {
 /// ```rust
 /// let value = option_withpfx_lowercase::serialize(rt.alloc(), Some(&[0xab, 1]))?;
 /// assert_eq!(rt; value.as_str(), Some("0xab01"));
+/// let bytes = option_withpfx_lowercase::deserialize(rt.alloc(), &value)?;
+/// assert!(rt; bytes.is_some_and(|bytes| bytes.as_slice() == [0xab, 1].as_slice()));
+/// let bounded = option_withpfx_lowercase::deserialize_bounded::<2>(rt.alloc(), &value)?;
+/// assert!(rt; bounded.is_some());
+/// let value = option_withpfx_lowercase::array::serialize(rt.alloc(), Some(&[0xab, 1]))?;
 /// let array = option_withpfx_lowercase::array::deserialize(&value)?;
 /// assert_eq!(rt; array, Some([0xab, 1]));
 /// let none = option_withpfx_lowercase::serialize(rt.alloc(), None)?;
+/// assert!(rt; none.is_null());
 /// assert!(rt; option_withpfx_lowercase::deserialize(rt.alloc(), &none)?.is_none());
 /// ```
 pub mod option_withpfx_lowercase {
@@ -175,9 +193,15 @@ pub mod option_withpfx_lowercase {
 /// ```rust
 /// let value = option_nopfx_lowercase::serialize(rt.alloc(), Some(&[0xab, 1]))?;
 /// assert_eq!(rt; value.as_str(), Some("ab01"));
+/// let bytes = option_nopfx_lowercase::deserialize(rt.alloc(), &value)?;
+/// assert!(rt; bytes.is_some_and(|bytes| bytes.as_slice() == [0xab, 1].as_slice()));
+/// let bounded = option_nopfx_lowercase::deserialize_bounded::<2>(rt.alloc(), &value)?;
+/// assert!(rt; bounded.is_some());
+/// let value = option_nopfx_lowercase::array::serialize(rt.alloc(), Some(&[0xab, 1]))?;
 /// let array = option_nopfx_lowercase::array::deserialize(&value)?;
 /// assert_eq!(rt; array, Some([0xab, 1]));
 /// let none = option_nopfx_lowercase::serialize(rt.alloc(), None)?;
+/// assert!(rt; none.is_null());
 /// assert!(rt; option_nopfx_lowercase::deserialize(rt.alloc(), &none)?.is_none());
 /// ```
 pub mod option_nopfx_lowercase {
@@ -229,9 +253,15 @@ pub mod option_nopfx_lowercase {
 /// ```rust
 /// let value = option_withpfx_uppercase::serialize(rt.alloc(), Some(&[0xab, 1]))?;
 /// assert_eq!(rt; value.as_str(), Some("0xAB01"));
+/// let bytes = option_withpfx_uppercase::deserialize(rt.alloc(), &value)?;
+/// assert!(rt; bytes.is_some_and(|bytes| bytes.as_slice() == [0xab, 1].as_slice()));
+/// let bounded = option_withpfx_uppercase::deserialize_bounded::<2>(rt.alloc(), &value)?;
+/// assert!(rt; bounded.is_some());
+/// let value = option_withpfx_uppercase::array::serialize(rt.alloc(), Some(&[0xab, 1]))?;
 /// let array = option_withpfx_uppercase::array::deserialize(&value)?;
 /// assert_eq!(rt; array, Some([0xab, 1]));
 /// let none = option_withpfx_uppercase::serialize(rt.alloc(), None)?;
+/// assert!(rt; none.is_null());
 /// assert!(rt; option_withpfx_uppercase::deserialize(rt.alloc(), &none)?.is_none());
 /// ```
 pub mod option_withpfx_uppercase {
@@ -283,9 +313,15 @@ pub mod option_withpfx_uppercase {
 /// ```rust
 /// let value = option_nopfx_uppercase::serialize(rt.alloc(), Some(&[0xab, 1]))?;
 /// assert_eq!(rt; value.as_str(), Some("AB01"));
+/// let bytes = option_nopfx_uppercase::deserialize(rt.alloc(), &value)?;
+/// assert!(rt; bytes.is_some_and(|bytes| bytes.as_slice() == [0xab, 1].as_slice()));
+/// let bounded = option_nopfx_uppercase::deserialize_bounded::<2>(rt.alloc(), &value)?;
+/// assert!(rt; bounded.is_some());
+/// let value = option_nopfx_uppercase::array::serialize(rt.alloc(), Some(&[0xab, 1]))?;
 /// let array = option_nopfx_uppercase::array::deserialize(&value)?;
 /// assert_eq!(rt; array, Some([0xab, 1]));
 /// let none = option_nopfx_uppercase::serialize(rt.alloc(), None)?;
+/// assert!(rt; none.is_null());
 /// assert!(rt; option_nopfx_uppercase::deserialize(rt.alloc(), &none)?.is_none());
 /// ```
 pub mod option_nopfx_uppercase {

@@ -70,7 +70,7 @@ pub enum ListFault {
 ///
 /// ```rust
 /// let list = b"ab01  a.txt\nCD02 *b\n";
-/// let entries = read::<2>(rt.alloc(), list, CheckCase::None).map_err(|_| "no list")?;
+/// let entries = read::<2>(rt.alloc(), list, CheckCase::None)?;
 /// assert_eq!(rt; entries.len(), 2);
 /// assert_eq!(rt; entries[1].digest, [0xcd, 2]);
 /// assert_eq!(rt; entries[1].name, b"b".as_slice());
@@ -98,7 +98,7 @@ pub fn read<'a, const N: usize>(
 /// Those of [`read`], at the same events.
 ///
 /// ```rust
-/// let entries = read_in::<_, 0>(rt.alloc(), b"  x", CheckCase::None).map_err(|_| "no list")?;
+/// let entries = read_in::<_, 0>(rt.alloc(), b"  x", CheckCase::None)?;
 /// assert_eq!(rt; entries[0].name, b"x".as_slice());
 /// ```
 pub fn read_in<'a, A: Allocator + Drop, const N: usize>(
