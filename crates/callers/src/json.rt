@@ -79,6 +79,14 @@ pub fn read_record(fields: &Value) -> Result<Record, RecordError>
 }
 
 /// Writes a record as a JSON object. It fails where memory is refused.
+///
+/// ```rust
+/// let key = [0, 1, 2, 3, 4, 5, 6, 0xab];
+/// let id = [0xab, 1, 0, 0xff];
+/// let text = write_record(rt.alloc(), Record { id, key })?.to_string(rt.alloc())?;
+/// let wanted = r#"{"id":"0xab0100ff","key":"00010203040506ab"}"#;
+/// assert_eq!(rt; text.as_str(), wanted);
+/// ```
 pub fn write_record(alloc: Global, source: Record) -> Result<Value, AdapterError>
     ensures { IfOk result (λ value. ShowsRecord source (view value)) }
 {

@@ -40,7 +40,7 @@ pub enum ListWriteFault {
 ///   taken a beginning of the list, and has counted one failure more.
 ///
 /// ```rust
-/// use hex_lists::digests::{Entry, write_to};
+/// use hex_lists::digests::{Entry, ListWriteFault, write_to};
 ///
 /// let mut buffer = [0; 8];
 /// let mut sink = SliceSink::new(&mut buffer);
@@ -51,6 +51,19 @@ pub enum ListWriteFault {
 /// };
 /// write_to(&[entry], &mut sink, true)?;
 /// assert_eq!(rt; sink.written(), b"AB01 *b\n".as_slice());
+///
+/// for name in [b"".as_slice(), b"\n", b"a\n", b"a\nb"] {
+///     let bad = Entry { name, ..entry };
+///     let mut room = [0; 40];
+///     let mut sink = SliceSink::new(&mut room);
+///     let first = write_to(&[bad], &mut sink, false);
+///     let second = write_to(&[entry, bad], &mut sink, false);
+///     let third = write_to(&[entry, entry, bad, bad], &mut sink, false);
+///     assert_eq!(rt; first, Err(ListWriteFault::BadName { entry: 0 }));
+///     assert_eq!(rt; second, Err(ListWriteFault::BadName { entry: 1 }));
+///     assert_eq!(rt; third, Err(ListWriteFault::BadName { entry: 2 }));
+///     assert!(rt; sink.written().is_empty() && sink.failures() == 0);
+/// }
 /// ```
 pub fn write_to<S: Sink, const N: usize>(
     entries: &[Entry<'_, N>],

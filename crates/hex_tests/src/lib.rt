@@ -1,6 +1,6 @@
-//! Tests of what no row of `rows`, `json_rows` or `program_rows` can say: writes through an answer,
-//! equal hashes, JSON records, calls on one sink behind one another, a writer that answers by a
-//! script and one that is interrupted.
+//! Tests of what no row of `rows`, `json_rows` or `program_rows` and no example of a doc comment
+//! says: writes through an answer, equal hashes, a writer that answers by a script and one that is
+//! interrupted.
 #![tactic(auto)]
 
 #[cfg(test)]
@@ -9,9 +9,5 @@ mod answers;
 mod hashes;
 #[cfg(test)]
 mod interrupted;
-#[cfg(test)]
-mod records;
-#[cfg(test)]
-mod sinks;
 #[cfg(test)]
 mod writer_rows;

@@ -1,55 +1,67 @@
-//! A writer's sink over a writer that answers by a script.
+//! A writer's sink over a writer that answers by a script. The calls of the script are counted from
+//! 0, and each put is one of them.
 
-use hex_format::{Sink, SinkFault, WriterSink};
+use hex_format::{Hex, HexFlags, Sink, SinkFault, WriteFault, WriterSink};
 use std::io::{self, ErrorKind, Write};
-
-// What a writer answers to a write.
-#[derive(Clone, Copy)]
-enum Told {
-    // This error.
-    Refused(ErrorKind),
-    // That it took so many bytes, or all where there are fewer.
-    Took(usize),
-}
-
-use Told::{Refused, Took};
-
-// A put: its piece and what the writer answers, what the put answers, how many puts have failed by
-// then, and the error that is kept.
-type Put = (
-    &'static [u8],
-    Told,
-    Result<usize, SinkFault>,
-    u64,
-    Option<ErrorKind>,
-);
-
-const FAULT: Result<usize, SinkFault> = Err(SinkFault);
-
-const BUSY: ErrorKind = ErrorKind::WouldBlock;
-
-const BROKEN: ErrorKind = ErrorKind::BrokenPipe;
 
 const AGAIN: ErrorKind = ErrorKind::Interrupted;
 
-static PUTS: [Put; 14] = [
-    (b"", Took(0), Ok(0), 0, None),
-    (b"abc", Took(1), Ok(1), 0, None),
-    (b"bc", Took(0), Ok(0), 1, None),
-    (b"bc", Took(2), Ok(2), 1, None),
-    (b"de", Refused(BUSY), FAULT, 2, Some(BUSY)),
-    (b"", Took(0), Ok(0), 2, Some(BUSY)),
-    (b"de", Took(2), Ok(2), 2, Some(BUSY)),
-    (b"f", Refused(AGAIN), FAULT, 3, Some(AGAIN)),
-    (b"f", Refused(BROKEN), FAULT, 4, Some(BROKEN)),
-    (b"f", Took(0), Ok(0), 5, Some(BROKEN)),
-    (b"f", Took(1), Ok(1), 5, Some(BROKEN)),
-    (b"", Refused(AGAIN), FAULT, 6, Some(AGAIN)),
-    (b"gh", Took(1), Ok(1), 6, Some(AGAIN)),
-    (b"h", Took(1), Ok(1), 6, Some(AGAIN)),
-];
+const BROKEN: ErrorKind = ErrorKind::BrokenPipe;
 
-// A writer that answers its calls in turn as the rows say, and counts them, each flush too.
+const BUSY: ErrorKind = ErrorKind::WouldBlock;
+
+const PUTS: usize = 14;
+
+// The piece that is put.
+fn piece(call: usize) -> &'static [u8] {
+    match call {
+        1 => b"abc",
+        2 | 3 => b"bc",
+        4 | 6 => b"de",
+        7..=10 => b"f",
+        12 => b"gh",
+        13 => b"h",
+        _ => b"",
+    }
+}
+
+// What the writer answers: an error, or how many bytes it took.
+fn told(call: usize) -> Result<usize, ErrorKind> {
+    match call {
+        0 | 2 | 5 | 9 => Ok(0),
+        1 | 10 | 12 | 13 => Ok(1),
+        3 | 6 => Ok(2),
+        4 => Err(BUSY),
+        7 | 11 => Err(AGAIN),
+        8 => Err(BROKEN),
+        _ => Err(ErrorKind::Other),
+    }
+}
+
+// How many puts have failed by then: those with an error, and those of some bytes that took none.
+fn failures(call: usize) -> u64 {
+    match call {
+        0 | 1 => 0,
+        2 | 3 => 1,
+        4..=6 => 2,
+        7 => 3,
+        8 => 4,
+        9 | 10 => 5,
+        _ => 6,
+    }
+}
+
+// The error that is kept by then, the last one.
+fn kept(call: usize) -> Option<ErrorKind> {
+    match call {
+        0..=3 => None,
+        4..=6 => Some(BUSY),
+        8..=10 => Some(BROKEN),
+        _ => Some(AGAIN),
+    }
+}
+
+// A writer that answers its calls in turn, and counts them, each flush too.
 #[derive(Drop)]
 struct Scripted {
     calls: usize,
@@ -58,14 +70,12 @@ struct Scripted {
 
 impl Write for Scripted {
     fn write(&mut self, buf: &[u8]) -> io::Result<usize> {
-        let Some(&(piece, told, ..)) = PUTS.get(self.calls) else {
-            return Err(io::Error::from(ErrorKind::Other));
-        };
-        self.calls = self.calls.saturating_add(1);
-        self.is_given_all = self.is_given_all && buf == piece;
-        match told {
-            Refused(kind) => Err(io::Error::from(kind)),
-            Took(count) => Ok(count.min(buf.len())),
+        let call = self.calls;
+        self.calls = call.saturating_add(1);
+        self.is_given_all = self.is_given_all && buf == piece(call);
+        match told(call) {
+            Ok(count) => Ok(count.min(buf.len())),
+            Err(kind) => Err(io::Error::from(kind)),
         }
     }
 
@@ -83,43 +93,54 @@ fn kept_kind(sink: &WriterSink<Scripted>) -> Option<ErrorKind> {
     }
 }
 
-// Whether a put answers as its row says, and leaves this count of failures and this error.
-fn is_put(sink: &mut WriterSink<Scripted>, row: &Put) -> bool {
-    let (piece, _, answer, failures, kept) = *row;
+// Whether a put answers as the writer did, and leaves this count of failures and this error.
+fn is_put(sink: &mut WriterSink<Scripted>, call: usize) -> bool {
     if sink.failures() == u64::MAX {
         return false;
     }
-    sink.put(piece) == answer && sink.failures() == failures && kept_kind(sink) == kept
+    let answer = sink.put(piece(call));
+    let is_answer = match told(call) {
+        Ok(count) => answer == Ok(count),
+        Err(_) => answer == Err(SinkFault),
+    };
+    is_answer && sink.failures() == failures(call) && kept_kind(sink) == kept(call)
 }
 
-// The first of some puts that does otherwise, and how often the writer was called, if each call was
-// given the whole piece of its put.
-fn put_missed(puts: &[Put]) -> (Option<usize>, Option<usize>) {
+// Whether each of the first puts does, with one call of the writer, which is given the whole piece.
+fn are_put(count: usize) -> bool {
     let mut sink = WriterSink::new(Scripted {
         calls: 0,
         is_given_all: true,
     });
-    let mut missed = None;
-    for (place, row) in puts.iter().enumerate() {
-        if !is_put(&mut sink, row) && missed.is_none() {
-            missed = Some(place);
-        }
+    let mut are_put = true;
+    for call in 0..count {
+        are_put = is_put(&mut sink, call) && are_put;
     }
     let writer = sink.into_inner();
-    (missed, writer.is_given_all.then_some(writer.calls))
-}
-
-// Whether each beginning of the puts does as its rows say, with one call of the writer each.
-fn are_put() -> bool {
-    for count in 0..=PUTS.len() {
-        if put_missed(&PUTS[..count]) != (None, Some(count)) {
-            return false;
-        }
-    }
-    true
+    are_put && writer.is_given_all && writer.calls == count
 }
 
 #[test]
 fn a_put_is_one_write_whatever_the_writer_answered(rt: HostRuntime) {
-    assert!(rt; are_put());
+    for count in 0..=PUTS {
+        assert!(rt; are_put(count));
+    }
+}
+
+// Whether a text whose first byte alone is taken ends with the error behind it, and no third write.
+fn ends_at_the_error() -> bool {
+    let mut sink = WriterSink::new(Scripted {
+        calls: 10,
+        is_given_all: true,
+    });
+    let answer = Hex::new(&[0xab]).write_to(&mut sink, &HexFlags::default());
+    answer == Err(WriteFault::Sink(SinkFault))
+        && sink.failures() == 1
+        && kept_kind(&sink) == Some(AGAIN)
+        && sink.into_inner().calls == 12
+}
+
+#[test]
+fn a_writer_that_fails_is_not_asked_again(rt: HostRuntime) {
+    assert!(rt; ends_at_the_error());
 }
