@@ -3,8 +3,7 @@ use Rattle.std.proofs.Common.{◌≡◌, ℕ, zero, suc, ◌+◌, ◌-◌, ◌<�
 use Rattle.std.specs.Prelude.{option_map, unwrap_or}
 use Rattle.std.proofs.Math.Seq.{take-add}
 use Rattle.std.proofs.lemmas.Bool.{cases_lt}
-use Rattle.std.proofs.lemmas.Grind.{common_steps}
-use Rattle.std.proofs.lemmas.List.{take_rest}
+use Rattle.std.proofs.lemmas.List.{drop-drop, take_rest}
 use Rattle.std.proofs.KnownBytes.{Appends-nil, Appends-trans}
 use Rattle.std.specs.Io.KnownBytes.{Appends}
 use Rattle.hex_format.specs.declared.sink.SinkFault.{SinkFault}
@@ -14,7 +13,7 @@ use Rattle.hex_format.specs.Sink.{AppendsBeginning, FillsBy, Puts, SinkState, St
 
 -- some bytes are gone from the front, and then some more
 pub dropped : (m n : ℕ) (l : List ℕ) → drop n (drop m l) ≡ drop (m + n) l
-dropped m n l = grind (arith, common_steps)
+dropped m n l = drop-drop n m l
 
 freed : (m n : ℕ) (o : Option (List ℕ)) → option_map (drop n) (option_map (drop m) o) ≡ option_map (drop (m + n)) o
 freed m n (Some l) = ap Some (dropped m n l)

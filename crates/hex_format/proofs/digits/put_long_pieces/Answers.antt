@@ -1,10 +1,10 @@
 -- A piece is the next of all pieces; no separator is put before the first one.
-use Rattle.std.proofs.Common.{◌≡◌, ◌-◌, ◌∷◌, ◌++◌, length, refl, ◌∙◌, arith, rules, length-append}
+use Rattle.std.proofs.Common.{◌≡◌, ◌-◌, [], ◌∷◌, ◌++◌, length, refl, ◌∙◌, arith, rules, length-append}
 use Rattle.std.specs.Slice.Iter.{chunks_rest}
 use Rattle.hex_core.specs.Text.{text}
 use Rattle.hex_codec.specs.Grouped.{separated, separator}
 use Rattle.hex_format.proofs.GroupFacts.{due-before, next-piece}
-use Rattle.hex_format.proofs.PutsLemmas.{Puts-err, Stops-stop, Stops-then, Takes-then}
+use Rattle.hex_format.proofs.PutsLemmas.{Puts-err, Stops-stop, Stops-then, Takes-none, Takes-then}
 use Rattle.hex_format.proofs.digits.put_long_pieces.Goals as goal
 
 pub returns-in_err-put_all : goal.returns-in_err-put_all
@@ -48,3 +48,6 @@ loop-piece-preserved g c =
       steps.0 ∙ c.loop-piece.invariant.2,
       (so_far.0 ++ shown, rw next.done_next at taken, rw (behind, c.sep.ensures) refl, next.behind),
     )
+
+pub loop-piece-init : goal.loop-piece-init
+loop-piece-init g c = (search rules, tt, search rules, ([], Takes-none (g.S.Sink.state c.args.sink.now), refl, search rules))

@@ -1,9 +1,9 @@
 -- A chunk's digits are the next of those of all bytes.
-use Rattle.std.proofs.Common.{◌++◌, ◌∙◌, rules, append_assoc}
+use Rattle.std.proofs.Common.{[], ◌++◌, ◌∙◌, rules, append_assoc}
 use Rattle.std.specs.Slice.Iter.{chunks_rest}
 use Rattle.hex_core.specs.Text.{text}
-use Rattle.hex_format.proofs.PutsLemmas.{Puts-err, Stops-stop, Stops-then, Takes-then}
-use Rattle.hex_format.proofs.ChunkFacts.{text-next}
+use Rattle.hex_format.proofs.PutsLemmas.{Puts-err, Stops-stop, Stops-then, Takes-none, Takes-then}
+use Rattle.hex_format.proofs.ChunkFacts.{text-end, text-next}
 use Rattle.hex_format.proofs.digits.put_text.Goals as goal
 
 pub loop-chunk-preserved : goal.loop-chunk-preserved
@@ -33,3 +33,12 @@ returns-in_err-put_all g c =
     let start = st c.args.sink.now in let middle = st c.loop-chunk.sink in let end = st c.put_all-in-loop-chunk.new.sink in
     let failed = Stops-then start middle end _ _ so_far.1 (Stops-stop middle end _ (text upper rest) c.in_err-put_all.ensures) in
     Puts-err start end c.from_residual.result _ c.from_residual.ensures.0 (rw whole at failed)
+
+pub loop-chunk-init : goal.loop-chunk-init
+loop-chunk-init g c = (search rules, tt, search rules, ([], Takes-none (g.S.Sink.state c.args.sink.now), search rules))
+
+pub returns : goal.returns
+returns g c =
+    let so_far = c.loop-chunk.invariant.3 in
+    let all = text-end c.args.upper so_far.0 (text c.args.upper c.args.bytes.now) (chunks_rest c.loop-chunk.chunk-iterator) so_far.2 c.in-None.ensures.steps.1.0 in
+    rw all at so_far.1
