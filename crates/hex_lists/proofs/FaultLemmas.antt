@@ -26,7 +26,7 @@ all-valid c s h =
     unmapped (first_invalid c s) (λ f. InvalidChar f (slice_index s f)) none
 
 -- a space and a mark stand behind the digits
-marked : (N : ℕ) (line : List ℕ) (binary : Bool) → slice_index line (2 * N) ≡ 32 → slice_index line (2 * N + 1) ≡ mark binary → has_mark N line ≡ true
+pub marked : (N : ℕ) (line : List ℕ) (binary : Bool) → slice_index line (2 * N) ≡ 32 → slice_index line (2 * N + 1) ≡ mark binary → has_mark N line ≡ true
 marked N line true space next = rw (space, next) refl
 marked N line false space next = rw (space, next) refl
 

@@ -1,6 +1,8 @@
 -- A written list is read back.
-use Rattle.std.proofs.Common.{◌≡◌, ℕ, suc, ◌*◌, ◌/◌, ◌%◌, ◌<◌, ◌≤◌, Bool, true, false, ◌||◌, if◌then◌else◌, refl, ap, ◌∙◌, arith, List, [], ◌∷◌, length, get_or, append_assoc, nat_lt, Some, None}
+use Rattle.std.proofs.Common.{◌≡◌, ℕ, suc, ◌+◌, ◌*◌, ◌/◌, ◌%◌, ◌<◌, ◌≤◌, Bool, true, false, ◌||◌, if◌then◌else◌, refl, ap, ◌∙◌, arith, List, [], ◌∷◌, length, get_or, append_assoc, nat_lt, Some, None}
+use Rattle.std.specs.Prelude.{◌==◌}
 use Rattle.std.specs.List.{All, AllByRecursion, list_any, position_or_len, slice_split}
+use Rattle.std.proofs.lemmas.Bool.{ne_eqb}
 use Rattle.std.proofs.lemmas.Bool.Decides.{nat_tests}
 use Rattle.std.proofs.lemmas.List.{drop_at, take_at}
 use Rattle.std.proofs.lemmas.List.Elements.{All-append, All-cons, All-nil}
@@ -22,9 +24,15 @@ NoNewline b = newline b ≡ false
 abbrev OneLine : List ℕ → Type 0
 OneLine s = All NoNewline s
 
+digit-over : (low upper : Bool) (n : ℕ) → 10 < (if low then 48 + n else if upper then 55 + n else 87 + n)
+digit-over true upper n = omega arith
+digit-over false true n = omega arith
+digit-over false false n = omega arith
+
 digit-no-newline : (upper : Bool) (n : ℕ) → newline (digit upper n) ≡ false
-digit-no-newline true n = grind (arith, nat_tests)
-digit-no-newline false n = grind (arith, nat_tests)
+digit-no-newline upper n =
+    let over : 10 < digit upper n = digit-over (nat_lt n 10) upper n in
+    ne_eqb (digit upper n) 10 (λ e. omega (arith, over, e))
 
 text-one-line : (upper : Bool) (bytes : List ℕ) → OneLine (text upper bytes)
 text-one-line upper [] = All-nil NoNewline
@@ -43,7 +51,7 @@ any-one-line (b ∷ s) h = let p = or_parts (newline b) (list_any newline s) h i
 -- a name that is not bad
 named : (name : List ℕ) → is_bad_name name ≡ false → (0 < length name) × OneLine name
 named [] h = cc
-named (b ∷ name) h = (omega arith, any-one-line (b ∷ name) (grind (arith, nat_tests, h)))
+named (b ∷ name) h = (omega arith, any-one-line (b ∷ name) (or_parts (length (b ∷ name) == 0) (list_any newline (b ∷ name)) h).1)
 
 mark-no-newline : (binary : Bool) → newline (mark binary) ≡ false
 mark-no-newline true = refl

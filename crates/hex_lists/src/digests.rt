@@ -1,7 +1,7 @@
 //! Digest lists: a line for each entry, of the digits of its digest, its mark and its name.
 
-ghost use Rattle.std.specs.Prelude.{◌≡◌, None, Some, MatchResult};
-ghost use Rattle.hex_lists.specs.Lists.{LineIs, line_fault};
+ghost use Rattle.std.specs.Prelude.{◌≡◌, ◌==◌, ◌&&◌, ◌||◌, false, None, Some, MatchOption, MatchResult};
+ghost use Rattle.hex_lists.specs.Lists.{LineIs, line_fault, mark};
 ghost use Rattle.hex_lists.specs.ListCalls.{ReadsList};
 
 use crate::lines::line_end;
@@ -135,7 +135,7 @@ fn read_line<'a, const N: usize>(line: &'a [u8], case: CheckCase) -> Result<Entr
         (λ why. line_fault case N line.entry.now ≡ Some why) }
 {
     // No product is formed before the line is known to be as long.
-    if line.len() < 3 || (line.len() - 3) / 2 < N {
+    if line.len().saturating_sub(1) / 2 <= N {
         return Err(LineFault::ShortLine);
     }
     let mut digest = [0; N];
@@ -147,14 +147,28 @@ fn read_line<'a, const N: usize>(line: &'a [u8], case: CheckCase) -> Result<Entr
         // The digits are as many as the array takes, so no other error comes.
         Err(_) => return Err(LineFault::ShortLine),
     }
-    let binary = match (line[2 * N], line[2 * N + 1]) {
-        (b' ', b' ') => false,
-        (b' ', b'*') => true,
-        _ => return Err(LineFault::BadMark),
-    };
-    Ok(Entry {
-        digest,
-        binary,
-        name: &line[2 * N + 2..],
-    })
+    match mark_in(line[2 * N], line[2 * N + 1]) {
+        None => Err(LineFault::BadMark),
+        Some(binary) => Ok(Entry {
+            digest,
+            binary,
+            name: &line[2 * N + 2..],
+        }),
+    }
+}
+
+// Whether two bytes behind some digits say that a file is binary, where they are a space and a mark.
+fn mark_in(space: u8, next: u8) -> Option<bool>
+    ensures { MatchOption result
+        ((space == 32 && (next == 32 || next == 42)) ≡ false)
+        (λ binary. (space ≡ 32) × (next ≡ mark binary)) }
+{
+    if space != b' ' {
+        return None;
+    }
+    match next {
+        b' ' => Some(false),
+        b'*' => Some(true),
+        _ => None,
+    }
 }

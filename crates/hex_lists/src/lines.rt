@@ -26,9 +26,8 @@ pub fn line_end(src: &[u8]) -> usize
 
 // A mask whose bit i says whether lane i is a newline.
 #[inline(always)]
-fn newline_bits<const N: usize>(block: Simd<u8, N>) -> u64
-    requires { N ≤ 64 }
-    ensures { result ≡ mask_l (map (λ b. b == 10) block.entry) }
+fn newline_bits(block: u8x32) -> u64
+    ensures { result ≡ mask_l (map (λ b. b == 10) block) }
 {
     block.simd_eq(Simd::splat(b'\n')).to_bitmask()
 }

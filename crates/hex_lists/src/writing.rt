@@ -101,11 +101,11 @@ fn bad_name<const N: usize>(entries: &[Entry<'_, N>]) -> Option<usize>
     None
 }
 
-// The space behind the digits, and the mark.
-fn mark_of(binary: bool) -> &'static [u8]
-    ensures { result.now ≡ 32 ∷ mark binary ∷ [] }
+// The mark of an entry.
+fn mark_of(binary: bool) -> u8
+    ensures { result ≡ mark binary }
 {
-    if binary { b" *" } else { b"  " }
+    if binary { b'*' } else { b' ' }
 }
 
 // Writes the text of a digest, a space and the mark into the front of the buffer, and returns it.
@@ -115,7 +115,7 @@ fn front_text<'b>(digest: &[u8], binary: bool, upper: bool, buffer: &'b mut [u8]
 {
     let end = 2 * digest.len();
     Backend::plain().encode(digest, &mut buffer[..end], upper);
-    buffer[end..end + 2].copy_from_slice(mark_of(binary));
+    buffer[end..end + 2].copy_from_slice(&[b' ', mark_of(binary)]);
     &buffer[..end + 2]
 }
 
@@ -139,7 +139,7 @@ fn put_front<S: Sink>(
         ..HexFlags::default()
     };
     Hex::new(digest).write_to(sink, &flags)?;
-    put_all(sink, mark_of(binary))
+    put_all(sink, &[b' ', mark_of(binary)])
 }
 
 // Puts an entry's line, with its newline.
