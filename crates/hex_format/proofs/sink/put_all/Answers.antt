@@ -1,5 +1,6 @@
 -- A put that took some of the rest goes on, and one that failed ends the call.
 use Rattle.std.proofs.Common.{◌<◌, ◌≤◌, ◌≡◌, ◌+◌, ◌-◌, arith, length, take, drop, length-take, length-drop, refl, Ok, Err}
+use Rattle.std.proofs.lemmas.List.{take_all}
 use Rattle.hex_format.specs.Sink.{faults_of}
 use Rattle.hex_format.proofs.PutsLemmas.{AppendsBeginning-more, AppendsBeginning-take, Appends-more, FillsBy-then, faults_of-none, faults_of-some, no_room, room-left}
 use Rattle.hex_format.proofs.sink.put_all.Goals as goal
@@ -55,3 +56,10 @@ returns-in-Err g c =
       omega (arith, put.1, so_far.counted),
       omega (arith, size, little, left),
     )
+
+pub returns : goal.returns
+returns g c =
+    let so_far = c.loop-at.invariant in
+    let end : c.loop-at.at ≡ length c.args.piece.now = omega arith in
+    let all : take c.loop-at.at c.args.piece.now ≡ c.args.piece.now = take_all c.loop-at.at c.args.piece.now (omega arith) in
+    (rw all at so_far.taken, so_far.counted, rw end at so_far.filled)

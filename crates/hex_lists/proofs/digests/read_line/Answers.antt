@@ -1,8 +1,7 @@
 -- A line has its first fault, or is the entry's that was read.
-use Rattle.std.proofs.Common.{◌≡◌, ◌≤◌, ℕ, ◌+◌, ◌-◌, ◌*◌, ◌/◌, ◌==◌, Bool, true, false, ◌&&◌, ◌||◌, refl, sym, ap, ◌∙◌, arith, rules, List, ◌∷◌, ◌++◌, length, take, drop, get_or, append-nil, length-drop, nat_lt, Some, None}
+use Rattle.std.proofs.Common.{◌≡◌, ◌≤◌, ℕ, ◌+◌, ◌-◌, ◌*◌, Bool, true, false, refl, sym, ap, ◌∙◌, arith, List, ◌∷◌, ◌++◌, length, take, drop, append-nil, length-drop, nat_lt, Some, None}
 use Rattle.std.specs.Prelude.{slice_index}
-use Rattle.std.specs.Borrow.{Bor}
-use Rattle.std.proofs.lemmas.Bool.{le-ltb, lt-ltb}
+use Rattle.std.proofs.lemmas.Bool.{le-ltb}
 use Rattle.std.proofs.lemmas.List.{drop_all, drop_more, get_or-take, length-replicate, length-take-le, take_rest}
 use Rattle.hex_core.specs.declared.digit.CheckCase.{CheckCase}
 use Rattle.hex_core.specs.declared.error.Error.{Error}
@@ -12,8 +11,8 @@ use Rattle.hex_core.specs.Text.{Spells, with_front}
 use Rattle.hex_core.proofs.RefusalLemmas.{decode_names_first}
 use Rattle.hex_core.proofs.Refused.{decodes}
 use Rattle.hex_core.proofs.SearchLemmas.{first_is_first}
-use Rattle.hex_lists.specs.declared.digests.LineFault.TheVariants.{ShortLine, InvalidByte, BadMark}
-use Rattle.hex_lists.specs.Lists.{LineIs, has_mark, line_fault, mark}
+use Rattle.hex_lists.specs.declared.digests.LineFault.TheVariants.{InvalidByte, BadMark}
+use Rattle.hex_lists.specs.Lists.{has_mark, line_fault, mark}
 use Rattle.hex_lists.proofs.FaultLemmas.{marked}
 use Rattle.hex_lists.proofs.digests.read_line.Goals as goal
 

@@ -1,6 +1,7 @@
 -- What fits is copied behind what was taken, and the rest stays free.
-use Rattle.std.proofs.Common.{◌≡◌, ◌+◌, ◌-◌, ◌++◌, length, take, drop, ap, refl, sym, ◌∙◌, arith, Some, Ok, rules, length-drop, length-take}
+use Rattle.std.proofs.Common.{◌≡◌, ◌+◌, ◌-◌, [], ◌++◌, length, take, drop, ap, refl, sym, ◌∙◌, arith, Some, Ok, rules, length-drop, length-take}
 use Rattle.std.proofs.lemmas.Slice.{drop-put_mid, take-put_mid}
+use borrow.Author.Tests.{tests}
 use borrow.Rule.Slice.PartMut.{put_mid}
 use Rattle.hex_format.proofs.PutsLemmas.{dropped}
 use Rattle.hex_format.proofs.sink.SliceSinkSink.put.Goals as goal
@@ -18,3 +19,16 @@ returns-clause-puts c =
       search rules,
       λ some le. ap Ok (omega (arith, simp length-drop at le)),
     )
+
+pub returns-then-not-is_empty-clause-puts : goal.returns-then-not-is_empty-clause-puts
+returns-then-not-is_empty-clause-puts c = (
+  record { front = []; rest = c.args.piece.now; parts = refl; appended = search rules; filled = (refl, refl) },
+  refl,
+  λ some le. absurd (omega (arith, some, simp length-drop at le)),
+)
+
+pub returns-then-not-is_empty-clause-full : goal.returns-then-not-is_empty-clause-full
+returns-then-not-is_empty-clause-full c = let h = c.if-not-is_empty.ensures in search (tests, rules)
+
+pub returns-then-not-is_empty-clause-unchanged : goal.returns-then-not-is_empty-clause-unchanged
+returns-then-not-is_empty-clause-unchanged c = let h = c.if-not-is_empty.ensures in search (tests, rules)
