@@ -66,6 +66,13 @@ impl<'a> Words<'a> {
         self.rest
     }
 
+    /// Takes all words that are left, as they are written.
+    pub fn take_rest(&mut self) -> &'a [u8] {
+        let rest = self.rest;
+        self.rest = &[];
+        rest
+    }
+
     /// Returns whether no word is left.
     pub fn are_read(&self) -> bool {
         self.rest.is_empty()

@@ -2,7 +2,7 @@
 
 ghost use Rattle.std.specs.Prelude.{◌≡◌, ◌+◌, ◌≤◌, None};
 
-use hex_format::{Sink, SinkFault};
+use hex_format::{Sink, SinkFault, WriteFault};
 
 /// How many bytes a [`LimitedSink`] can take at most.
 pub const CAPACITY: usize = 1100;
@@ -20,6 +20,16 @@ pub enum Mode {
     WhatFits,
     /// Nothing: each put is refused, also of an empty piece.
     Nothing,
+}
+
+impl Mode {
+    /// Returns the fault that a put into a sink that fails in this way is told as.
+    pub fn fault(self) -> WriteFault {
+        match self {
+            Mode::OneByte | Mode::WhatFits => WriteFault::TookNothing,
+            Mode::WholePieces | Mode::PartAndRefusal | Mode::Nothing => WriteFault::Sink(SinkFault),
+        }
+    }
 }
 
 /// A sink that takes `limit` bytes, and remembers whether it was put to after a failure.
@@ -55,9 +65,13 @@ impl LimitedSink {
         &self.bytes[..self.used]
     }
 
-    /// Whether a put came after one that failed.
-    pub fn was_put_to_again(&self) -> bool {
-        self.again
+    /// Whether it has taken a beginning of this text, all of it but where it takes whole pieces alone,
+    /// and met one failure and no put behind it.
+    pub fn has_stopped(&self, text: &[u8]) -> bool {
+        text.starts_with(self.taken())
+            && (self.mode == Mode::WholePieces || self.used == text.len())
+            && self.failed == 1
+            && !self.again
     }
 }
 

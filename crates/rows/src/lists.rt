@@ -3,8 +3,7 @@
 ghost use Rattle.std.specs.Prelude.{◌<◌};
 
 use crate::limited_sink::{LimitedSink, Mode};
-use crate::terms::{Buffers, Destination, Given, growths, is_stopped};
-use crate::texts::fault_of;
+use crate::terms::{Buffers, Given, growths, invalid, is_either, is_stopped};
 use hex_codec::Group;
 use hex_codec::grouped::{GroupFault, read, read_into};
 use hex_core::CheckCase;
@@ -13,52 +12,6 @@ use hex_lists::digests::{self, Entry, LineFault, ListFault, ListWriteFault};
 use refusing_allocator::Refusing;
 use row_reader::{Bytes, Words};
 use std::alloc::{Allocator, Global};
-
-/// What a row may name here.
-#[derive(Clone, Copy)]
-pub enum Call {
-    /// `group EVERY BYTE POLICY ROOM TEXT`.
-    Group,
-    /// `list LENGTH POLICY GRANTED LIST`: how many growths it asks for, and the entries.
-    List,
-    /// `relist LENGTH CASE ROOM LIST`: the list as its entries are written.
-    Relist,
-}
-
-impl Call {
-    /// Returns the call of this name.
-    pub fn from_word(word: &[u8]) -> Option<Call> {
-        if word == b"group".as_slice() {
-            Some(Call::Group)
-        } else if word == b"list".as_slice() {
-            Some(Call::List)
-        } else {
-            (word == b"relist".as_slice()).then_some(Call::Relist)
-        }
-    }
-
-    /// Returns whether every call of this kind answers so.
-    pub fn is_answered(
-        self,
-        alloc: Global,
-        row: Words<'_>,
-        answer: Words<'_>,
-        buffers: &mut Buffers,
-    ) -> Option<bool> {
-        match self {
-            Call::Group => group_row(row, answer, buffers),
-            Call::List => list_row(alloc, row, answer, buffers),
-            Call::Relist => relist_row(alloc, row, answer, buffers),
-        }
-    }
-}
-
-// A grouped text and how it is read.
-#[derive(Clone, Copy)]
-struct Grouped<'a> {
-    given: Given<'a>,
-    group: Group,
-}
 
 // What reading a grouped text answers.
 type Reading<'a> = Result<&'a [u8], GroupFault>;
@@ -71,196 +24,169 @@ fn is_refused(fault: GroupFault, want: Reading<'_>) -> bool {
     }
 }
 
-impl Grouped<'_> {
-    // Whether the call that lends what it writes answers so into this room.
-    fn lends(self, to: &mut Destination, want: Reading<'_>) -> bool {
-        let Some(dst) = to.lend(self.given.number) else {
-            return false;
-        };
-        let is_answered = match read(self.given.src, dst, self.group, self.given.case) {
-            Ok(front) => want.is_ok_and(|bytes| *front == *bytes),
-            Err(fault) => is_refused(fault, want),
-        };
-        is_answered && to.holds(want.unwrap_or_default())
-    }
-
-    // The same of the call that counts it.
-    fn counts(self, to: &mut Destination, want: Reading<'_>) -> bool {
-        let Some(dst) = to.lend(self.given.number) else {
-            return false;
-        };
-        let is_answered = match read_into(self.given.src, dst, self.group, self.given.case) {
-            Ok(count) => want.is_ok_and(|bytes| count == bytes.len()),
-            Err(fault) => is_refused(fault, want),
-        };
-        is_answered && to.holds(want.unwrap_or_default())
+// Whether the call that lends what it writes answers so into this room.
+fn lends(given: Given<'_>, group: Group, dst: &mut [u8], want: Reading<'_>) -> bool {
+    match read(given.src, dst, group, given.case) {
+        Ok(front) => want.is_ok_and(|bytes| *front == *bytes),
+        Err(fault) => is_refused(fault, want),
     }
 }
 
-// Reads a refusal: `bad-length`, `too-small 3` or `invalid 4 -`; behind it stands `kept`.
-fn group_fault(answer: &mut Words<'_>) -> Option<GroupFault> {
+// The same of the call that counts it.
+fn counts(given: Given<'_>, group: Group, dst: &mut [u8], want: Reading<'_>) -> bool {
+    match read_into(given.src, dst, group, given.case) {
+        Ok(count) => want.is_ok_and(|bytes| count == bytes.len()),
+        Err(fault) => is_refused(fault, want),
+    }
+}
+
+// Reads the answer: bytes behind `ok`, or a refusal, `bad-length`, `too-small 3` or `invalid 4 -`, and
+// `kept` behind it.
+fn reading<'a>(answer: &mut Words<'_>, bytes: &'a mut Bytes) -> Option<Reading<'a>> {
+    if answer.takes(b"ok") {
+        answer.bytes(bytes)?;
+        return Some(Ok(bytes.as_slice()));
+    }
     let fault = if answer.takes(b"bad-length") {
         GroupFault::BadLength
     } else if answer.takes(b"too-small") {
         let required = answer.number()?;
         GroupFault::OutputTooSmall { required }
-    } else if answer.takes(b"invalid") {
-        let index = answer.number()?;
-        let byte = answer.byte()?;
+    } else {
+        let (index, byte) = invalid(answer)?;
         GroupFault::InvalidByte { index, byte }
-    } else {
-        return None;
     };
-    answer.takes(b"kept").then_some(fault)
+    answer.takes(b"kept").then_some(Err(fault))
 }
 
-fn reading<'a>(answer: &mut Words<'_>, bytes: &'a mut Bytes) -> Option<Reading<'a>> {
-    if answer.takes(b"ok") {
-        answer.bytes(bytes)?;
-        Some(Ok(bytes.as_slice()))
-    } else {
-        Some(Err(group_fault(answer)?))
-    }
-}
-
-fn group_row(row: Words<'_>, answer: Words<'_>, buffers: &mut Buffers) -> Option<bool> {
-    let (mut row, mut answer) = (row, answer);
+/// `group EVERY BYTE POLICY ROOM TEXT`.
+pub fn group_row(
+    row: &mut Words<'_>,
+    answer: &mut Words<'_>,
+    buffers: &mut Buffers,
+) -> Option<bool> {
     let every = row.number()?;
     let group = Group::new(every, row.byte()?)?;
     let given = Given::read(row, &mut buffers.given)?;
-    let want = reading(&mut answer, &mut buffers.wanted)?;
-    let (text, to) = (Grouped { given, group }, &mut buffers.destination);
-    let is_read = text.lends(to, want) && text.counts(to, want);
-    answer.are_read().then_some(is_read)
+    let want = reading(answer, &mut buffers.wanted)?;
+    let front = want.unwrap_or_default();
+    let to = &mut buffers.destination;
+    Some(
+        lends(given, group, to.lend(given.number), want)
+            && to.holds(front)
+            && counts(given, group, to.lend(given.number), want)
+            && to.holds(front),
+    )
 }
 
-// Reads what is wrong with a line: `short`, `mark` or `invalid 2 g`.
-fn line_fault(answer: &mut Words<'_>) -> Option<LineFault> {
-    if answer.takes(b"short") {
-        Some(LineFault::ShortLine)
-    } else if answer.takes(b"mark") {
-        Some(LineFault::BadMark)
-    } else if answer.takes(b"invalid") {
-        let index = answer.number()?;
-        let byte = answer.byte()?;
-        Some(LineFault::InvalidByte { index, byte })
-    } else {
-        None
-    }
-}
-
-// Reads why a list is refused: `no-memory`, or `line 2` and what is wrong with it.
+// Reads why a list is refused: `no-memory`, or `line 2` and what is wrong with it, as `short`, `mark`
+// or `invalid 2 g`.
 fn list_fault(answer: &mut Words<'_>) -> Option<ListFault> {
     if answer.takes(b"no-memory") {
-        Some(ListFault::OutOfMemory)
-    } else if answer.takes(b"line") {
-        let line = answer.number()?;
-        let why = line_fault(answer)?;
-        Some(ListFault::Line { line, why })
-    } else {
-        None
+        return Some(ListFault::OutOfMemory);
     }
-}
-
-// Whether the next word is these bytes.
-fn is_next(answer: &mut Words<'_>, wanted: &[u8]) -> Option<bool> {
-    let mut bytes = Bytes::new();
-    answer.bytes(&mut bytes)?;
-    Some(bytes.as_slice() == wanted)
+    if !answer.takes(b"line") {
+        return None;
+    }
+    let line = answer.number()?;
+    let why = if answer.takes(b"short") {
+        LineFault::ShortLine
+    } else if answer.takes(b"mark") {
+        LineFault::BadMark
+    } else {
+        let (index, byte) = invalid(answer)?;
+        LineFault::InvalidByte { index, byte }
+    };
+    Some(ListFault::Line { line, why })
 }
 
 // Whether the next words are the digest, the mark and the name of an entry.
-fn is_entry<const N: usize>(entry: &Entry<'_, N>, answer: &mut Words<'_>) -> Option<bool>
+fn is_entry<const N: usize>(
+    entry: &Entry<'_, N>,
+    answer: &mut Words<'_>,
+    bytes: &mut Bytes,
+) -> Option<bool>
     requires { N < 10000 }
 {
-    let is_digest = is_next(answer, entry.digest.as_slice())?;
-    let is_binary = answer.takes(b"*");
-    if !is_binary && !answer.takes(b"text") {
-        return None;
-    }
-    let is_name = is_next(answer, entry.name)?;
-    Some(is_digest && is_binary == entry.binary && is_name)
+    answer.bytes(bytes)?;
+    let is_digest = bytes.as_slice() == entry.digest.as_slice();
+    let is_binary = is_either(answer, b"*", b"text")?;
+    answer.bytes(bytes)?;
+    Some(is_digest && is_binary == entry.binary && bytes.as_slice() == entry.name)
 }
 
 // Whether the answer is `ok` and these entries.
-fn are_entries<const N: usize>(entries: &[Entry<'_, N>], answer: Words<'_>) -> Option<bool>
+fn are_entries<const N: usize>(
+    entries: &[Entry<'_, N>],
+    answer: &mut Words<'_>,
+    bytes: &mut Bytes,
+) -> Option<bool>
     requires { N < 10000 }
 {
-    let mut answer = answer;
     if !answer.takes(b"ok") {
         return Some(false);
     }
     for entry in entries {
-        if !is_entry(entry, &mut answer)? {
+        if !is_entry(entry, answer, bytes)? {
             return Some(false);
         }
     }
-    Some(answer.are_read())
+    Some(true)
 }
 
-// Whether a list was read so.
+// Whether a list was read so, where all words of the answer are read by it.
 fn is_list<A: Allocator + Drop, const N: usize>(
     got: Result<Vec<Entry<'_, N>, A>, ListFault>,
-    answer: Words<'_>,
+    answer: &mut Words<'_>,
+    bytes: &mut Bytes,
 ) -> Option<bool>
     requires { N < 10000 }
 {
-    let mut answer = answer;
     match got {
-        Ok(entries) => are_entries(entries.as_slice(), answer),
-        Err(fault) => Some(list_fault(&mut answer) == Some(fault) && answer.are_read()),
+        Ok(entries) => are_entries(entries.as_slice(), answer, bytes),
+        Err(fault) => Some(list_fault(answer)? == fault),
     }
 }
 
-// Whether the call in an allocator reads a list so, by so many growths.
-fn is_read_in<const N: usize>(
-    alloc: Global,
-    given: Given<'_>,
-    asked: u64,
-    answer: Words<'_>,
-) -> Option<bool>
-    requires { N < 10000 }
-{
-    let refusing = Refusing::new(alloc, given.granted());
-    let got = digests::read_in::<_, N>(&refusing, given.src, given.case);
-    let is_read = is_list(got, answer)?;
-    Some(is_read && refusing.asked() == asked)
-}
-
-// Whether both calls do, the other one where memory is not wanted.
+// Whether both calls read a list so, the one in an allocator by so many growths, and the other one
+// where memory is not wanted.
 fn is_read<const N: usize>(
     alloc: Global,
     given: Given<'_>,
-    asked: u64,
-    answer: Words<'_>,
+    answer: &mut Words<'_>,
+    bytes: &mut Bytes,
 ) -> Option<bool>
     requires { N < 10000 }
 {
-    let mut fault = answer;
-    let is_read = is_read_in::<N>(alloc, given, asked, answer)?;
-    if fault.takes(b"no-memory") {
-        return Some(is_read);
-    }
-    let is_ample = is_list(digests::read::<N>(alloc, given.src, given.case), answer)?;
-    Some(is_read && is_ample)
+    let asked = growths(answer)?;
+    let mut again = *answer;
+    let refusing = Refusing::new(alloc, given.granted());
+    let got = digests::read_in::<_, N>(&refusing, given.src, given.case);
+    let is_read = is_list(got, answer, bytes)?;
+    let is_ample = again.takes(b"no-memory")
+        || is_list(
+            digests::read::<N>(alloc, given.src, given.case),
+            &mut again,
+            bytes,
+        )?;
+    Some(is_read && is_ample && refusing.asked() == asked)
 }
 
-fn list_row(
-    alloc: Global,
-    row: Words<'_>,
-    answer: Words<'_>,
+/// `list LENGTH POLICY GRANTED LIST`: how many growths it asks for, and the entries.
+pub fn list_row(
+    row: &mut Words<'_>,
+    answer: &mut Words<'_>,
     buffers: &mut Buffers,
 ) -> Option<bool> {
-    let (mut row, mut answer) = (row, answer);
-    let len = row.number()?;
+    let (len, alloc) = (row.number()?, buffers.alloc);
     let list = Given::read(row, &mut buffers.given)?;
-    let asked = growths(&mut answer)?;
+    let bytes = &mut buffers.wanted;
     match len {
-        0 => is_read::<0>(alloc, list, asked, answer),
-        2 => is_read::<2>(alloc, list, asked, answer),
-        32 => is_read::<32>(alloc, list, asked, answer),
-        64 => is_read::<64>(alloc, list, asked, answer),
-        65 => is_read::<65>(alloc, list, asked, answer),
+        0 => is_read::<0>(alloc, list, answer, bytes),
+        2 => is_read::<2>(alloc, list, answer, bytes),
+        32 => is_read::<32>(alloc, list, answer, bytes),
+        64 => is_read::<64>(alloc, list, answer, bytes),
+        65 => is_read::<65>(alloc, list, answer, bytes),
         _ => None,
     }
 }
@@ -280,88 +206,67 @@ impl Relisted<'_> {
     {
         let mut sink = SliceSink::new(dst);
         let answer = digests::write_to(entries, &mut sink, self.given.is_upper());
-        let (want, failures) = if self.is_stopped {
-            (Err(ListWriteFault::Write(WriteFault::Sink(SinkFault))), 1)
+        let want = if self.is_stopped {
+            Err(ListWriteFault::Write(WriteFault::Sink(SinkFault)))
         } else {
-            (Ok(()), 0)
+            Ok(())
         };
-        answer == want && sink.written() == self.text && sink.failures() == failures
+        answer == want
+            && sink.written() == self.text
+            && sink.failures() == u64::from(self.is_stopped)
     }
 
     // Whether a sink that fails in this way behind as many bytes as the text has takes it, or, where
-    // it takes whole pieces alone, a beginning of it, with one failure and no put behind it.
+    // it takes whole pieces alone, a beginning of it.
     fn stops<const N: usize>(self, entries: &[Entry<'_, N>], mode: Mode) -> bool
         requires { N < 10000 }
     {
         let mut sink = LimitedSink::new(mode, self.text.len());
         let answer = digests::write_to(entries, &mut sink, self.given.is_upper());
-        let taken = sink.taken();
-        answer == Err(ListWriteFault::Write(fault_of(mode)))
-            && self.text.starts_with(taken)
-            && (mode == Mode::WholePieces || taken.len() == self.text.len())
-            && sink.failures() == 1
-            && !sink.was_put_to_again()
+        answer == Err(ListWriteFault::Write(mode.fault())) && sink.has_stopped(self.text)
     }
 
-    // Whether each sink that fails behind the text does.
-    fn all_stop<const N: usize>(self, entries: &[Entry<'_, N>]) -> bool
+    // Whether the entries of the list are written so into as much room as is given, and each sink
+    // that fails behind the text does.
+    fn writes<const N: usize>(self, alloc: Global, dst: &mut [u8]) -> Option<bool>
         requires { N < 10000 }
     {
-        for mode in [
-            Mode::WholePieces,
-            Mode::PartAndRefusal,
-            Mode::WhatFits,
-            Mode::OneByte,
-        ] {
-            if !self.stops(entries, mode) {
-                return false;
-            }
-        }
-        true
-    }
-
-    // Whether these entries are written so into as much room as is given.
-    fn writes<const N: usize>(self, entries: &[Entry<'_, N>], to: &mut Destination) -> bool
-        requires { N < 10000 }
-    {
-        let Some(dst) = to.lend(self.given.number) else {
-            return false;
-        };
-        let is_filled = self.fills(entries, dst) && to.holds(self.text);
-        is_filled && (!self.is_stopped || self.all_stop(entries))
-    }
-
-    // Whether the entries of the list are.
-    fn is_written<const N: usize>(self, alloc: Global, to: &mut Destination) -> Option<bool>
-        requires { N < 10000 }
-    {
-        let entries = digests::read::<N>(alloc, self.given.src, CheckCase::None).ok()?;
-        Some(self.writes(entries.as_slice(), to))
+        let list = digests::read::<N>(alloc, self.given.src, CheckCase::None).ok()?;
+        let entries = list.as_slice();
+        Some(
+            self.fills(entries, dst)
+                && (!self.is_stopped
+                    || (self.stops(entries, Mode::WholePieces)
+                        && self.stops(entries, Mode::PartAndRefusal)
+                        && self.stops(entries, Mode::WhatFits)
+                        && self.stops(entries, Mode::OneByte))),
+        )
     }
 }
 
-fn relist_row(
-    alloc: Global,
-    row: Words<'_>,
-    answer: Words<'_>,
+/// `relist LENGTH CASE ROOM LIST`: the list as its entries are written.
+pub fn relist_row(
+    row: &mut Words<'_>,
+    answer: &mut Words<'_>,
     buffers: &mut Buffers,
 ) -> Option<bool> {
-    let (mut row, mut answer) = (row, answer);
-    let len = row.number()?;
+    let (len, alloc) = (row.number()?, buffers.alloc);
     let given = Given::read(row, &mut buffers.given)?;
-    let is_stopped = is_stopped(&mut answer, &mut buffers.wanted)?;
+    let is_stopped = is_stopped(answer, &mut buffers.wanted)?;
+    let text = buffers.wanted.as_slice();
     let list = Relisted {
         given,
-        text: buffers.wanted.as_slice(),
+        text,
         is_stopped,
     };
-    let to = &mut buffers.destination;
-    match len {
-        0 => list.is_written::<0>(alloc, to),
-        2 => list.is_written::<2>(alloc, to),
-        32 => list.is_written::<32>(alloc, to),
-        64 => list.is_written::<64>(alloc, to),
-        65 => list.is_written::<65>(alloc, to),
+    let dst = buffers.destination.lend(given.number);
+    let is_written = match len {
+        0 => list.writes::<0>(alloc, dst),
+        2 => list.writes::<2>(alloc, dst),
+        32 => list.writes::<32>(alloc, dst),
+        64 => list.writes::<64>(alloc, dst),
+        65 => list.writes::<65>(alloc, dst),
         _ => None,
-    }
+    };
+    Some(is_written? && buffers.destination.holds(text))
 }

@@ -2,49 +2,13 @@
 
 ghost use Rattle.std.specs.Prelude.{◌<◌};
 
-use crate::terms::{Answer, Buffers, Given, Grown, answer, are_answer, grown_answer, is_answer};
+use crate::terms::{Answer, Given, Grown, are_answer, is_answer};
 use hex_codec::{
     hex_decode_array, hex_decode_array_with_case, hex_decode_vec, hex_decode_vec_with_case,
 };
 use hex_core::Error;
 use refusing_allocator::Refusing;
-use row_reader::{Bytes, Words};
 use std::alloc::{Allocator, Global};
-
-/// What a row may name here.
-#[derive(Clone, Copy)]
-pub enum Call {
-    /// `array POLICY LENGTH DIGITS`.
-    Array,
-    /// `vector POLICY GRANTED DIGITS`: how many growths it asks for, and the answer.
-    Vector,
-}
-
-impl Call {
-    /// Returns the call of this name.
-    pub fn from_word(word: &[u8]) -> Option<Call> {
-        if word == b"array".as_slice() {
-            Some(Call::Array)
-        } else {
-            (word == b"vector".as_slice()).then_some(Call::Vector)
-        }
-    }
-
-    /// Returns whether every call of this kind answers so.
-    pub fn is_answered(
-        self,
-        alloc: Global,
-        row: Words<'_>,
-        answer: Words<'_>,
-        buffers: &mut Buffers,
-    ) -> Option<bool> {
-        let given = Given::read(row, &mut buffers.given)?;
-        match self {
-            Call::Array => array_row(given, answer, &mut buffers.wanted),
-            Call::Vector => vector_row(alloc, given, answer, &mut buffers.wanted),
-        }
-    }
-}
 
 // Whether an array answers so.
 fn is_array<const N: usize>(got: Result<[u8; N], Error>, want: Answer<'_>) -> bool
@@ -95,12 +59,8 @@ fn reads_long(given: Given<'_>, want: Answer<'_>) -> Option<bool> {
     }
 }
 
-fn array_row(given: Given<'_>, wanted: Words<'_>, bytes: &mut Bytes) -> Option<bool> {
-    let mut wanted = wanted;
-    let want = answer(&mut wanted, bytes)?;
-    if !wanted.are_read() {
-        return None;
-    }
+/// Returns whether each call of an array of as many bytes as the number says answers so.
+pub fn is_array_read(given: Given<'_>, want: Answer<'_>) -> Option<bool> {
     if given.number < 32 {
         reads_short(given, want)
     } else {
@@ -116,29 +76,15 @@ fn is_vector<A: Allocator + Drop>(got: Result<Vec<u8, A>, Error>, want: Answer<'
     }
 }
 
-// Whether a vector answers so where so many growths are granted.
-fn is_read(alloc: Global, given: Given<'_>, want: Grown<'_>) -> bool {
+/// Returns whether each call of a vector answers so, where so many growths are granted.
+pub fn is_vector_read(alloc: Global, given: Given<'_>, want: Grown<'_>) -> bool {
     let refusing = Refusing::new(alloc, given.granted());
     let got = hex_decode_vec_with_case(&refusing, given.src, given.case);
-    is_vector(got, want.answer) && refusing.asked() == want.asked
-}
-
-// The same of the call that names no policy.
-fn is_read_plainly(alloc: Global, given: Given<'_>, want: Grown<'_>) -> bool {
+    let is_read = is_vector(got, want.answer) && refusing.asked() == want.asked;
+    if !given.is_plain() {
+        return is_read;
+    }
     let refusing = Refusing::new(alloc, given.granted());
-    let got = hex_decode_vec(&refusing, given.src);
-    is_vector(got, want.answer) && refusing.asked() == want.asked
-}
-
-fn vector_row(
-    alloc: Global,
-    given: Given<'_>,
-    wanted: Words<'_>,
-    bytes: &mut Bytes,
-) -> Option<bool> {
-    let mut wanted = wanted;
-    let want = grown_answer(&mut wanted, bytes)?;
-    let is_read = is_read(alloc, given, want)
-        && (!given.is_plain() || is_read_plainly(alloc, given, want));
-    wanted.are_read().then_some(is_read)
+    let is_plain = is_vector(hex_decode_vec(&refusing, given.src), want.answer);
+    is_read && is_plain && refusing.asked() == want.asked
 }

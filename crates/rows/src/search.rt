@@ -1,63 +1,15 @@
 //! Rows of digit values, of the counted search for the first invalid byte, and of the texts that
 //! errors print.
 
-use crate::terms::{Buffers, is_yes, policy, refusal, source};
+use crate::terms::{is_either, policy, refusal};
 use arrayvec::ArrayString;
 use hex_core::{Backend, CheckCase, Probe, SliceProbe, backends, covered, digit_value, locate};
 use row_reader::Words;
 use std::fmt::Write;
 
-/// What a row may name here.
-#[derive(Clone, Copy)]
-pub enum Call {
-    /// `value POLICY BYTE`.
-    Value,
-    /// `find POLICY DIGITS`: the place, the tests and the looks.
-    Find,
-    /// `cover DIGITS`: whether all pass, and the tests.
-    Cover,
-    /// `print REFUSAL`.
-    Print,
-    /// `plans`.
-    Plans,
-}
-
-impl Call {
-    /// Returns the call of this name.
-    pub fn from_word(word: &[u8]) -> Option<Call> {
-        if word == b"find".as_slice() {
-            Some(Call::Find)
-        } else if word == b"cover".as_slice() {
-            Some(Call::Cover)
-        } else if word == b"value".as_slice() {
-            Some(Call::Value)
-        } else if word == b"print".as_slice() {
-            Some(Call::Print)
-        } else {
-            (word == b"plans".as_slice()).then_some(Call::Plans)
-        }
-    }
-
-    /// Returns whether the call answers so.
-    pub fn is_answered(
-        self,
-        row: Words<'_>,
-        answer: Words<'_>,
-        buffers: &mut Buffers,
-    ) -> Option<bool> {
-        match self {
-            Call::Value => value_row(row, answer),
-            Call::Find => find_row(row, answer, buffers),
-            Call::Cover => cover_row(row, answer, buffers),
-            Call::Print => print_row(row, answer),
-            Call::Plans => plans_row(answer),
-        }
-    }
-}
-
-fn value_row(row: Words<'_>, answer: Words<'_>) -> Option<bool> {
-    let (mut row, mut answer) = (row, answer);
-    let case = policy(&mut row)?;
+/// `value POLICY BYTE`.
+pub fn value_row(row: &mut Words<'_>, answer: &mut Words<'_>) -> Option<bool> {
+    let case = policy(row)?;
     let got = digit_value(row.byte()?, case);
     if answer.takes(b"none") {
         return Some(got.is_none());
@@ -66,76 +18,72 @@ fn value_row(row: Words<'_>, answer: Words<'_>) -> Option<bool> {
     Some(got.map(usize::from) == Some(value))
 }
 
-// What a search finds, and the tests and the looks that it takes.
-type Search = (Option<usize>, usize, usize);
-
-// What the search under a plan finds and takes.
-fn located(plan: Backend, src: &[u8], case: CheckCase) -> Search {
+// Whether the search under a plan finds this place, by so many tests and looks.
+fn locates(
+    plan: Backend,
+    src: &[u8],
+    case: CheckCase,
+    place: Option<usize>,
+    (tests, looks): (usize, usize),
+) -> bool {
     let mut probe = SliceProbe::new(plan, src, case);
-    let place = locate(&mut probe);
-    (place, probe.tests(), probe.looks())
+    locate(&mut probe) == place
+        && probe.tests() == tests
+        && probe.looks() == looks
+        && plan.first_invalid(src, case) == place
 }
 
-fn is_located(src: &[u8], case: CheckCase, search: Search) -> bool {
-    for plan in backends() {
-        let is_alike = located(plan, src, case) == search
-            && plan.first_invalid(src, case) == search.0;
-        if !is_alike {
-            return false;
-        }
-    }
-    true
-}
-
-fn find_row(row: Words<'_>, answer: Words<'_>, buffers: &mut Buffers) -> Option<bool> {
-    let (mut row, mut answer) = (row, answer);
-    let case = policy(&mut row)?;
-    let src = source(&mut row, &mut buffers.given)?;
+/// Returns whether each plan finds the place, the tests and the looks of an answer.
+pub fn all_find(src: &[u8], case: CheckCase, answer: &mut Words<'_>) -> Option<bool> {
     let place = if answer.takes(b"none") {
         None
     } else {
         Some(answer.number()?)
     };
-    let search = (place, answer.number()?, answer.number()?);
-    Some(is_located(src, case, search))
-}
-
-// Whether each plan covers a source, or finds that it can't, by so many tests and no look.
-fn is_covered(src: &[u8], is_clear: bool, tests: usize) -> bool {
+    let counts = (answer.number()?, answer.number()?);
     for plan in backends() {
-        let mut probe = SliceProbe::new(plan, src, CheckCase::None);
-        if src.len() < 64 {
-            return false;
-        }
-        let is_covered = covered(&mut probe);
-        if is_covered != is_clear || probe.tests() != tests || probe.looks() != 0 {
-            return false;
+        if !locates(plan, src, case, place, counts) {
+            return Some(false);
         }
     }
-    true
+    Some(true)
 }
 
-fn cover_row(row: Words<'_>, answer: Words<'_>, buffers: &mut Buffers) -> Option<bool> {
-    let (mut row, mut answer) = (row, answer);
-    let src = source(&mut row, &mut buffers.given)?;
-    let is_clear = is_yes(&mut answer)?;
-    Some(is_covered(src, is_clear, answer.number()?))
+// Whether a plan covers a source, or finds that it can't, by so many tests and no look.
+fn covers(plan: Backend, src: &[u8], case: CheckCase, is_clear: bool, tests: usize) -> bool {
+    let mut probe = SliceProbe::new(plan, src, case);
+    src.len() >= 64
+        && covered(&mut probe) == is_clear
+        && probe.tests() == tests
+        && probe.looks() == 0
 }
 
-fn print_row(row: Words<'_>, answer: Words<'_>) -> Option<bool> {
-    let mut row = row;
-    let error = refusal(&mut row)?;
+/// Returns whether each plan covers a source as an answer says: whether all pass, and the tests.
+pub fn all_cover(src: &[u8], case: CheckCase, answer: &mut Words<'_>) -> Option<bool> {
+    let is_clear = is_either(answer, b"yes", b"no")?;
+    let tests = answer.number()?;
+    for plan in backends() {
+        if !covers(plan, src, case, is_clear, tests) {
+            return Some(false);
+        }
+    }
+    Some(true)
+}
+
+/// `print REFUSAL`.
+pub fn print_row(row: &mut Words<'_>, answer: &mut Words<'_>) -> Option<bool> {
+    let error = refusal(row)?;
     let mut text: ArrayString<100> = ArrayString::new();
     write!(text, "{error}").ok()?;
-    Some(text.as_str().as_bytes() == answer.rest())
+    Some(text.as_str().as_bytes() == answer.take_rest())
 }
 
-fn plans_row(answer: Words<'_>) -> Option<bool> {
-    let mut answer = answer;
+/// `plans`.
+pub fn plans_row(answer: &mut Words<'_>) -> Option<bool> {
     for plan in backends() {
         if !answer.takes(plan.name().as_bytes()) {
             return Some(false);
         }
     }
-    Some(answer.are_read())
+    Some(true)
 }

@@ -2,58 +2,13 @@
 
 ghost use Rattle.std.specs.Prelude.{◌<◌};
 
-use crate::terms::{Answer, Buffers, Given, Grown, answer, are_answer, grown_answer, is_answer};
+use crate::terms::{Answer, Given, Grown, are_answer, is_answer};
 use hex_codec::{
     heapless_08, hex_append, hex_append_into, hex_append_upper, hex_string, hex_string_upper,
 };
 use hex_core::Error;
 use refusing_allocator::Refusing;
-use row_reader::{Bytes, Words};
 use std::alloc::{Allocator, Global};
-
-/// What a row may name here.
-#[derive(Clone, Copy)]
-pub enum Call {
-    /// `fixed CASE CAPACITY BYTES`.
-    Fixed,
-    /// `string CASE GRANTED BYTES`: how many growths it asks for, and the answer.
-    String,
-    /// `append CAPACITY TEXT CASE GRANTED BYTES`: how many growths it asks for, the answer, and the
-    /// text afterwards.
-    Append,
-}
-
-impl Call {
-    /// Returns the call of this name.
-    pub fn from_word(word: &[u8]) -> Option<Call> {
-        if word == b"fixed".as_slice() {
-            Some(Call::Fixed)
-        } else if word == b"string".as_slice() {
-            Some(Call::String)
-        } else {
-            (word == b"append".as_slice()).then_some(Call::Append)
-        }
-    }
-
-    /// Returns whether every call of this kind answers so.
-    pub fn is_answered(
-        self,
-        alloc: Global,
-        row: Words<'_>,
-        answer: Words<'_>,
-        buffers: &mut Buffers,
-    ) -> Option<bool> {
-        if matches!(self, Call::Append) {
-            return append_row(alloc, row, answer, buffers);
-        }
-        let given = Given::read(row, &mut buffers.given)?;
-        if matches!(self, Call::Fixed) {
-            fixed_row(given, answer, &mut buffers.wanted)
-        } else {
-            string_row(alloc, given, answer, &mut buffers.wanted)
-        }
-    }
-}
 
 // Whether a text of at most `N` digits answers so.
 fn is_fixed<const N: usize>(given: Given<'_>, want: Answer<'_>) -> bool
@@ -98,12 +53,8 @@ fn is_long(given: Given<'_>, want: Answer<'_>) -> Option<bool> {
     }
 }
 
-fn fixed_row(given: Given<'_>, wanted: Words<'_>, bytes: &mut Bytes) -> Option<bool> {
-    let mut wanted = wanted;
-    let want = answer(&mut wanted, bytes)?;
-    if !wanted.are_read() {
-        return None;
-    }
+/// Returns whether a text of as much capacity as the number says answers so.
+pub fn is_fixed_written(given: Given<'_>, want: Answer<'_>) -> Option<bool> {
     if given.number < 17 {
         is_short(given, want)
     } else {
@@ -119,8 +70,8 @@ fn is_string<A: Allocator + Drop>(got: Result<String<A>, Error>, want: Answer<'_
     }
 }
 
-// Whether a string answers so where so many growths are granted.
-fn is_written(alloc: Global, given: Given<'_>, want: Grown<'_>) -> bool {
+/// Returns whether a string answers so, where so many growths are granted.
+pub fn is_string_written(alloc: Global, given: Given<'_>, want: Grown<'_>) -> bool {
     let refusing = Refusing::new(alloc, given.granted());
     let is_written = if given.is_upper() {
         is_string(hex_string_upper(&refusing, given.src), want.answer)
@@ -130,106 +81,62 @@ fn is_written(alloc: Global, given: Given<'_>, want: Grown<'_>) -> bool {
     is_written && refusing.asked() == want.asked
 }
 
-fn string_row(
-    alloc: Global,
-    given: Given<'_>,
-    wanted: Words<'_>,
-    bytes: &mut Bytes,
-) -> Option<bool> {
-    let mut wanted = wanted;
-    let want = grown_answer(&mut wanted, bytes)?;
-    wanted.are_read().then_some(is_written(alloc, given, want))
+// Whether the call that lends the suffix answers so.
+fn lends(given: Given<'_>, text: &mut String<&Refusing<Global>>, want: Answer<'_>) -> bool {
+    let got = if given.is_upper() {
+        hex_append_upper(given.src, text)
+    } else {
+        hex_append(given.src, text)
+    };
+    match got {
+        Ok(suffix) => are_answer(suffix.as_bytes(), want),
+        Err(e) => is_answer(e, want),
+    }
 }
 
-// An append that a row names, to a string of this capacity that holds a text.
+// Whether the call that answers nothing does so.
+fn appends(given: Given<'_>, text: &mut String<&Refusing<Global>>, want: Answer<'_>) -> bool {
+    match hex_append_into(given.src, text, given.is_upper()) {
+        Ok(()) => want.is_ok(),
+        Err(e) => is_answer(e, want),
+    }
+}
+
+/// A string that is appended to: its capacity, and its text before and after the call.
 #[derive(Clone, Copy)]
-struct Append<'a> {
-    given: Given<'a>,
-    capacity: usize,
-    text: &'a str,
+pub struct Appended<'a> {
+    /// Its capacity before the call.
+    pub capacity: usize,
+    /// Its text before the call.
+    pub before: &'a [u8],
+    /// Its text after the call.
+    pub after: &'a [u8],
 }
 
-// What it is to answer, how many growths it asks for, and what the string holds afterwards.
-#[derive(Clone, Copy)]
-struct Appended<'a> {
-    suffix: Grown<'a>,
-    after: &'a [u8],
-}
-
-impl Append<'_> {
-    // The string before the call.
-    fn text_in<'r>(self, refusing: &'r Refusing<Global>) -> Option<String<&'r Refusing<Global>>> {
-        let mut text = String::with_capacity(refusing, self.capacity).ok()?;
-        text.push_str(self.text).ok()?;
-        Some(text)
-    }
-
-    // Whether the call that lends the suffix answers so.
-    fn lends(self, text: &mut String<&Refusing<Global>>, want: Answer<'_>) -> bool {
-        let got = if self.given.is_upper() {
-            hex_append_upper(self.given.src, text)
-        } else {
-            hex_append(self.given.src, text)
-        };
-        match got {
-            Ok(suffix) => are_answer(suffix.as_bytes(), want),
-            Err(e) => is_answer(e, want),
-        }
-    }
-
-    // Whether the call that answers nothing does so.
-    fn appends(self, text: &mut String<&Refusing<Global>>, want: Answer<'_>) -> bool {
-        match hex_append_into(self.given.src, text, self.given.is_upper()) {
-            Ok(()) => want.is_ok(),
-            Err(e) => is_answer(e, want),
-        }
-    }
-
-    // Whether it does so, as the call that lends the suffix where `lends` is true, and else as the
-    // one that answers nothing.
-    fn does(self, alloc: Global, lends: bool, want: Appended<'_>) -> Option<bool> {
+impl Appended<'_> {
+    /// Returns whether an append answers so and leaves the text afterwards, where so many growths are
+    /// granted: that of the call that lends the suffix where `is_lent` is true, and else that of the
+    /// one that answers nothing.
+    pub fn is_left(
+        self,
+        alloc: Global,
+        given: Given<'_>,
+        want: Grown<'_>,
+        is_lent: bool,
+    ) -> Option<bool> {
         let refusing = Refusing::new(alloc, 1);
-        let mut text = self.text_in(&refusing)?;
+        let mut text = String::with_capacity(&refusing, self.capacity).ok()?;
+        text.push_str(str::from_utf8(self.before).ok()?).ok()?;
         let before = refusing.asked();
-        refusing.set_left(self.given.granted());
-        let is_answered = if lends {
-            self.lends(&mut text, want.suffix.answer)
+        refusing.set_left(given.granted());
+        let is_answered = if is_lent {
+            lends(given, &mut text, want.answer)
         } else {
-            self.appends(&mut text, want.suffix.answer)
+            appends(given, &mut text, want.answer)
         };
-        let is_after = text.as_str().as_bytes() == want.after;
         let asked = refusing.asked().wrapping_sub(before);
-        let is_exact = asked == 0 || want.suffix.answer.is_err() || text.capacity() == text.len();
-        Some(is_answered && is_after && asked == want.suffix.asked && is_exact)
+        let is_after = text.as_str().as_bytes() == self.after;
+        let is_exact = asked == 0 || want.answer.is_err() || text.capacity() == text.len();
+        Some(is_answered && is_after && asked == want.asked && is_exact)
     }
-
-    // Whether both calls do so.
-    fn both_do(self, alloc: Global, want: Appended<'_>) -> Option<bool> {
-        Some(self.does(alloc, true, want)? && self.does(alloc, false, want)?)
-    }
-}
-
-fn append_row(
-    alloc: Global,
-    row: Words<'_>,
-    wanted: Words<'_>,
-    buffers: &mut Buffers,
-) -> Option<bool> {
-    let (mut row, mut wanted) = (row, wanted);
-    let (mut before, mut after) = (Bytes::new(), Bytes::new());
-    let capacity = row.number()?;
-    row.bytes(&mut before)?;
-    let given = Given::read(row, &mut buffers.given)?;
-    let suffix = grown_answer(&mut wanted, &mut buffers.wanted)?;
-    wanted.bytes(&mut after)?;
-    let append = Append {
-        given,
-        capacity,
-        text: str::from_utf8(before.as_slice()).ok()?,
-    };
-    let want = Appended {
-        suffix,
-        after: after.as_slice(),
-    };
-    append.both_do(alloc, want)
 }

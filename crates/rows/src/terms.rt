@@ -2,6 +2,7 @@
 
 use hex_core::{CheckCase, Error};
 use row_reader::{Bytes, Words};
+use std::alloc::Global;
 
 /// What a destination holds before a call, and what stands beside it. No policy reads it.
 pub const FILL: u8 = 0xa5;
@@ -20,38 +21,25 @@ pub type Answer<'a> = Result<&'a [u8], Error>;
 pub struct Destination {
     whole: [u8; WHOLE],
     room: usize,
-    // How many more bytes stand before it.
-    shift: usize,
+    /// How many more bytes stand before it.
+    pub shift: usize,
 }
 
 impl Destination {
-    /// Returns a destination that no call has written to.
-    pub fn new() -> Destination {
-        Destination {
-            whole: [FILL; WHOLE],
-            room: 0,
-            shift: 0,
-        }
-    }
-
-    /// From now on lends bytes that stand `shift` places, below 64, behind the first ones.
-    pub fn set_shift(&mut self, shift: usize) {
-        self.shift = shift;
-    }
-
     // Where the bytes that are lent begin.
     fn start(&self) -> usize {
         self.shift.saturating_add(GUARD)
     }
 
-    /// Fills the buffer, and lends `room` bytes of it.
-    pub fn lend(&mut self, room: usize) -> Option<&mut [u8]> {
+    /// Fills the buffer, and lends `room` bytes of it, or none where it has not so many.
+    pub fn lend(&mut self, room: usize) -> &mut [u8] {
         let start = self.start();
-        let end = start.checked_add(room)?;
+        let end = start.saturating_add(room);
         self.room = room;
-        let whole = self.whole.get_mut(..end.checked_add(GUARD)?)?;
+        let whole = self.whole.get_mut(..end.saturating_add(GUARD));
+        let whole = whole.unwrap_or_default();
         whole.fill(FILL);
-        whole.get_mut(start..end)
+        whole.get_mut(start..end).unwrap_or_default()
     }
 
     /// Returns whether the bytes that were lent begin with `front`, and all else is as it was filled.
@@ -67,30 +55,44 @@ impl Destination {
     }
 }
 
-/// What a row is read into, and where its call writes to.
+/// What a row is read into, where its call writes to, and where it takes memory from.
 #[derive(Drop)]
 pub struct Buffers {
     /// The bytes of the row.
     pub given: Bytes,
     /// The bytes of its answer.
     pub wanted: Bytes,
+    /// A text that its call appends to.
+    pub before: Bytes,
+    /// The same text after the call.
+    pub after: Bytes,
     /// Where its call writes to.
     pub destination: Destination,
+    /// Where it takes memory from.
+    pub alloc: Global,
 }
 
 impl Buffers {
     /// Returns buffers that hold nothing.
-    pub fn new() -> Buffers {
+    pub fn new(alloc: Global) -> Buffers {
+        let destination = Destination {
+            whole: [FILL; WHOLE],
+            room: 0,
+            shift: 0,
+        };
         Buffers {
             given: Bytes::new(),
             wanted: Bytes::new(),
-            destination: Destination::new(),
+            before: Bytes::new(),
+            after: Bytes::new(),
+            destination,
+            alloc,
         }
     }
 }
 
-/// Returns whether each byte is the one that a destination is filled with.
-pub fn is_filled(bytes: &[u8]) -> bool {
+// Whether each byte is the one that a destination is filled with.
+fn is_filled(bytes: &[u8]) -> bool {
     bytes.iter().all(|byte| *byte == FILL)
 }
 
@@ -100,29 +102,15 @@ pub fn policy(row: &mut Words<'_>) -> Option<CheckCase> {
         Some(CheckCase::None)
     } else if row.takes(b"lower") {
         Some(CheckCase::Lower)
-    } else if row.takes(b"upper") {
-        Some(CheckCase::Upper)
     } else {
-        None
+        row.takes(b"upper").then_some(CheckCase::Upper)
     }
 }
 
-/// Reads a letter case, and returns whether it is `upper`.
-pub fn is_upper(row: &mut Words<'_>) -> Option<bool> {
-    if row.takes(b"upper") {
-        Some(true)
-    } else {
-        row.takes(b"lower").then_some(false)
-    }
-}
-
-/// Reads `yes` or `no`.
-pub fn is_yes(answer: &mut Words<'_>) -> Option<bool> {
-    if answer.takes(b"yes") {
-        Some(true)
-    } else {
-        answer.takes(b"no").then_some(false)
-    }
+/// Reads the word `yes`, or else the word `no`.
+pub fn is_either(words: &mut Words<'_>, yes: &[u8], no: &[u8]) -> Option<bool> {
+    let is_yes = words.takes(yes);
+    (is_yes || words.takes(no)).then_some(is_yes)
 }
 
 /// Reads a source, behind which stand bytes that no policy reads.
@@ -146,22 +134,21 @@ pub struct Given<'a> {
 
 impl<'a> Given<'a> {
     /// Reads what is left of a row.
-    pub fn read(row: Words<'_>, bytes: &'a mut Bytes) -> Option<Given<'a>> {
-        let mut row = row;
-        let case = policy(&mut row)?;
+    pub fn read(row: &mut Words<'_>, bytes: &'a mut Bytes) -> Option<Given<'a>> {
+        let case = policy(row)?;
         let number = row.number()?;
-        let src = source(&mut row, bytes)?;
-        row.are_read().then_some(Given { case, number, src })
+        let src = source(row, bytes)?;
+        Some(Given { case, number, src })
     }
 
     /// Returns whether the letter case is `upper`.
     pub fn is_upper(self) -> bool {
-        matches!(self.case, CheckCase::Upper)
+        self.case == CheckCase::Upper
     }
 
     /// Returns whether the calls that name no policy do the same.
     pub fn is_plain(self) -> bool {
-        matches!(self.case, CheckCase::None)
+        self.case == CheckCase::None
     }
 
     /// Returns the number as so many growths.
@@ -170,13 +157,17 @@ impl<'a> Given<'a> {
     }
 }
 
+/// Reads `invalid`, and the place and the byte behind it.
+pub fn invalid(answer: &mut Words<'_>) -> Option<(usize, u8)> {
+    if !answer.takes(b"invalid") {
+        return None;
+    }
+    Some((answer.number()?, answer.byte()?))
+}
+
 // Reads a refusal that names numbers.
 fn counted_refusal(answer: &mut Words<'_>) -> Option<Error> {
-    if answer.takes(b"invalid") {
-        let index = answer.number()?;
-        let byte = answer.byte()?;
-        Some(Error::InvalidChar { index, byte })
-    } else if answer.takes(b"too-small") {
+    if answer.takes(b"too-small") {
         let required = answer.number()?;
         Some(Error::OutputTooSmall { required })
     } else if answer.takes(b"mismatch") {
@@ -184,7 +175,8 @@ fn counted_refusal(answer: &mut Words<'_>) -> Option<Error> {
         let actual = answer.number()?;
         Some(Error::LengthMismatch { expected, actual })
     } else {
-        None
+        let (index, byte) = invalid(answer)?;
+        Some(Error::InvalidChar { index, byte })
     }
 }
 
@@ -212,7 +204,7 @@ pub fn answer<'a>(answer: &mut Words<'_>, bytes: &'a mut Bytes) -> Option<Answer
     }
 }
 
-/// Returns whether these bytes are the answer.
+/// Returns whether the answer is bytes, and these.
 pub fn are_answer(bytes: &[u8], want: Answer<'_>) -> bool {
     match want {
         Ok(want) => bytes == want,
@@ -220,7 +212,7 @@ pub fn are_answer(bytes: &[u8], want: Answer<'_>) -> bool {
     }
 }
 
-/// Returns whether this refusal is the answer.
+/// Returns whether the answer is a refusal, and this one.
 pub fn is_answer(e: Error, want: Answer<'_>) -> bool {
     match want {
         Ok(_) => false,
@@ -242,27 +234,16 @@ pub fn growths(words: &mut Words<'_>) -> Option<u64> {
     u64::try_from(words.number()?).ok()
 }
 
-/// Reads how many growths are asked for, and an answer.
-pub fn grown_answer<'a>(words: &mut Words<'_>, bytes: &'a mut Bytes) -> Option<Grown<'a>> {
-    let asked = growths(words)?;
-    let answer = answer(words, bytes)?;
-    Some(Grown { asked, answer })
-}
-
 /// Reads `ok` or `stopped`, and the bytes that are taken by then. Returns whether it was the latter.
 pub fn is_stopped(answer: &mut Words<'_>, bytes: &mut Bytes) -> Option<bool> {
-    let is_stopped = answer.takes(b"stopped");
-    if !is_stopped && !answer.takes(b"ok") {
-        return None;
-    }
+    let is_stopped = is_either(answer, b"stopped", b"ok")?;
     answer.bytes(bytes)?;
     Some(is_stopped)
 }
 
-/// Reads the answer of a call that writes: behind a refusal stands `kept`, since the destination is
-/// as it was.
+/// Reads an answer, behind which stands `kept` where a call leaves its destination as it was.
 pub fn front<'a>(words: &mut Words<'_>, bytes: &'a mut Bytes) -> Option<Answer<'a>> {
     let front = answer(words, bytes)?;
-    let is_told = front.is_ok() || words.takes(b"kept");
-    (is_told && words.are_read()).then_some(front)
+    let _ = front.is_err() && words.takes(b"kept");
+    Some(front)
 }

@@ -1,121 +1,54 @@
 //! Rows of the plans' calls into exactly as much room as their answer takes, of each byte at each
 //! place of a source, and of each pair of bytes.
 
-use crate::terms::{Buffers, Destination, is_upper, policy, source};
+use crate::terms::{Answer, Buffers, Destination, are_answer, is_answer, is_either, policy};
 use hex_codec::{hex_check_with_case, hex_decode_with_case};
 use hex_core::{Backend, CheckCase, Error, backends};
 use row_reader::{Bytes, Words};
 
-/// What a row may name here.
-#[derive(Clone, Copy)]
-pub enum Call {
-    /// `owned POLICY DIGITS`: the bytes, or `refused` and what each plan has stored by then.
-    Owned,
-    /// `moves CASE BYTES`: the digits. Its turn is a place of the destination.
-    Moves,
-    /// `each-byte POLICY DIGITS`: the bytes, and the values of the digits. Its turn is a place of the
-    /// source and a byte that is put there: 256 times the place, and the byte.
-    EachByte,
-    /// `each-pair POLICY LENGTH`: the values of the digits. Its turn is a pair of bytes, which the
-    /// source repeats.
-    EachPair,
-}
-
-impl Call {
-    /// Returns the call of this name.
-    pub fn from_word(word: &[u8]) -> Option<Call> {
-        if word == b"owned".as_slice() {
-            Some(Call::Owned)
-        } else if word == b"moves".as_slice() {
-            Some(Call::Moves)
-        } else if word == b"each-byte".as_slice() {
-            Some(Call::EachByte)
-        } else {
-            (word == b"each-pair".as_slice()).then_some(Call::EachPair)
-        }
-    }
-
-    /// Returns whether every plan answers so.
-    pub fn is_answered(
-        self,
-        row: Words<'_>,
-        answer: Words<'_>,
-        buffers: &mut Buffers,
-    ) -> Option<bool> {
-        match self {
-            Call::Owned => owned_row(row, answer, buffers),
-            Call::Moves => moves_row(row, answer, buffers),
-            Call::EachByte => each_byte_row(row, answer, buffers),
-            Call::EachPair => each_pair_row(row, answer, buffers),
-        }
-    }
-}
-
-// What a call into room for the whole answer is to leave, and whether it is to accept its source.
-#[derive(Clone, Copy)]
-struct Left<'a> {
-    is_valid: bool,
-    bytes: &'a [u8],
-}
-
-// A source, its policy, and the plan that reads it.
+// A source, its policy, and whether it is to be accepted.
 #[derive(Clone, Copy)]
 struct Read<'a> {
     src: &'a [u8],
     case: CheckCase,
-    plan: Backend,
+    is_valid: bool,
 }
 
 impl Read<'_> {
-    // Whether a source of even length is decoded so.
-    fn decodes(self, to: &mut Destination, left: Left<'_>) -> bool {
-        let Some(dst) = to.lend(self.src.len() / 2) else {
-            return false;
-        };
+    // Whether a plan decodes a source of even length so and leaves these bytes, into a buffer that
+    // is given up on a refusal where `is_owned` is true.
+    fn decodes(self, plan: Backend, is_owned: bool, left: &[u8], to: &mut Destination) -> bool {
+        let dst = to.lend(self.src.len() / 2);
         if self.src.len() % 2 == 1 || dst.len() != self.src.len() / 2 {
             return false;
         }
-        self.plan.decode(self.src, dst, self.case) == left.is_valid && to.holds(left.bytes)
-    }
-
-    // The same of decoding into a buffer that is given up on a refusal.
-    fn owns(self, to: &mut Destination, left: Left<'_>) -> bool {
-        let Some(dst) = to.lend(self.src.len() / 2) else {
-            return false;
-        };
-        if self.src.len() % 2 == 1 || dst.len() != self.src.len() / 2 {
-            return false;
-        }
-        self.plan.decode_owned(self.src, dst, self.case) == left.is_valid && to.holds(left.bytes)
-    }
-
-    // Whether a source is checked so, and decoded so where its length is even; a refused one leaves
-    // these bytes where the buffer is given up, and else none.
-    fn leaves(self, to: &mut Destination, left: Left<'_>) -> bool {
-        let is_checked = self.plan.check(self.src, self.case) == left.is_valid;
-        if self.src.len() % 2 == 1 {
-            return is_checked;
-        }
-        let decoded = if left.is_valid {
-            left
+        let is_decoded = if is_owned {
+            plan.decode_owned(self.src, dst, self.case)
         } else {
-            Left {
-                is_valid: false,
-                bytes: &[],
-            }
+            plan.decode(self.src, dst, self.case)
         };
-        is_checked && self.decodes(to, decoded) && self.owns(to, left)
+        is_decoded == self.is_valid && to.holds(left)
+    }
+
+    // Whether a plan checks a source so, and decodes it so where its length is even; a refused one
+    // leaves these bytes where the buffer is given up, and else none.
+    fn leaves(self, plan: Backend, left: &[u8], to: &mut Destination) -> bool {
+        let decoded = if self.is_valid { left } else { &[] };
+        plan.check(self.src, self.case) == self.is_valid
+            && (self.src.len() % 2 == 1
+                || (self.decodes(plan, false, decoded, to) && self.decodes(plan, true, left, to)))
     }
 }
 
 // Whether each plan accepts a source and decodes one of even length into these bytes.
 fn is_accepted(src: &[u8], case: CheckCase, bytes: &[u8], to: &mut Destination) -> bool {
-    let left = Left {
+    let read = Read {
+        src,
+        case,
         is_valid: true,
-        bytes,
     };
     for plan in backends() {
-        if !(Read { src, case, plan }.leaves(to, left)) {
+        if !read.leaves(plan, bytes, to) {
             return false;
         }
     }
@@ -141,54 +74,46 @@ fn is_refused(
     bytes: &[u8],
     to: &mut Destination,
 ) -> bool {
+    let read = Read {
+        src,
+        case,
+        is_valid: false,
+    };
     for (plan, block) in backends().into_iter().zip(OWNED_BLOCKS) {
-        let stored = bytes.get(..stored_before(place, block));
-        let left = Left {
-            is_valid: false,
-            bytes: stored.unwrap_or_default(),
-        };
-        if !(Read { src, case, plan }.leaves(to, left)) {
+        let stored = bytes.get(..stored_before(place, block)).unwrap_or_default();
+        if !read.leaves(plan, stored, to) {
             return false;
         }
     }
     true
 }
 
-// Whether each plan refuses a source and has stored the bytes of its word of the answer by then.
-fn is_stored(
+/// Returns whether each plan, decoding into a buffer that is given up on a refusal, leaves what an
+/// answer says: the bytes, or `refused` and what each plan has stored by then.
+pub fn all_own(
     src: &[u8],
     case: CheckCase,
-    answer: Words<'_>,
+    answer: &mut Words<'_>,
     wanted: &mut Bytes,
     to: &mut Destination,
 ) -> Option<bool> {
-    let mut answer = answer;
+    let is_valid = is_either(answer, b"ok", b"refused")?;
+    if is_valid {
+        answer.bytes(wanted)?;
+        return Some(is_accepted(src, case, wanted.as_slice(), to));
+    }
+    let read = Read {
+        src,
+        case,
+        is_valid,
+    };
     for plan in backends() {
         answer.bytes(wanted)?;
-        let left = Left {
-            is_valid: false,
-            bytes: wanted.as_slice(),
-        };
-        if !(Read { src, case, plan }.leaves(to, left)) {
+        if !read.leaves(plan, wanted.as_slice(), to) {
             return Some(false);
         }
     }
-    Some(answer.are_read())
-}
-
-fn owned_row(row: Words<'_>, answer: Words<'_>, buffers: &mut Buffers) -> Option<bool> {
-    let (mut row, mut answer) = (row, answer);
-    let case = policy(&mut row)?;
-    let src = source(&mut row, &mut buffers.given)?;
-    let to = &mut buffers.destination;
-    if answer.takes(b"refused") {
-        return is_stored(src, case, answer, &mut buffers.wanted, to);
-    }
-    if !answer.takes(b"ok") {
-        return None;
-    }
-    answer.bytes(&mut buffers.wanted)?;
-    Some(is_accepted(src, case, buffers.wanted.as_slice(), to))
+    Some(true)
 }
 
 // The values that an answer gives to bytes; any other byte has `NONE`.
@@ -241,13 +166,18 @@ fn put_nibble(bytes: &mut [u8], place: usize, nibble: u8) -> Option<()> {
     Some(())
 }
 
-fn each_byte_row(row: Words<'_>, answer: Words<'_>, buffers: &mut Buffers) -> Option<bool> {
-    let (mut row, mut answer) = (row, answer);
-    let (place, byte) = (row.turn() / 256, u8::try_from(row.turn() % 256).ok()?);
-    let case = policy(&mut row)?;
+/// `each-byte POLICY DIGITS`: the bytes, and the values of the digits. Its turn is a place of the
+/// source and a byte that is put there: 256 times the place, and the byte.
+pub fn each_byte_row(
+    row: &mut Words<'_>,
+    answer: &mut Words<'_>,
+    buffers: &mut Buffers,
+) -> Option<bool> {
+    let (place, byte) = (row.turn() / 256, (row.turn() % 256) as u8);
+    let case = policy(row)?;
     row.bytes(&mut buffers.given)?;
     answer.bytes(&mut buffers.wanted)?;
-    let values = Values::read(&mut answer)?;
+    let values = Values::read(answer)?;
     *buffers.given.get_mut(place)? = byte;
     let (src, to) = (buffers.given.as_slice(), &mut buffers.destination);
     if let Some(value) = values.get(byte) {
@@ -274,46 +204,42 @@ fn decodes_pairs(
     case: CheckCase,
     pair: Result<u8, Error>,
     to: &mut Destination,
-) -> Option<bool> {
-    let count = src.len() / 2;
-    let is_checked = hex_check_with_case(src, case) == pair.is_ok();
+) -> bool {
     let bytes = [pair.unwrap_or(0); 64];
-    let dst = to.lend(count.checked_add(1)?)?;
-    let is_decoded = match (hex_decode_with_case(src, dst, case), pair) {
-        (Ok(front), Ok(_)) => Some(&*front) == bytes.get(..count),
-        (Err(e), Err(refusal)) => e == refusal,
-        _ => false,
+    let front = bytes.get(..src.len() / 2).unwrap_or_default();
+    let want: Answer<'_> = pair.map(|_| front);
+    let is_decoded = match hex_decode_with_case(src, to.lend(src.len() / 2 + 1), case) {
+        Ok(front) => are_answer(front, want),
+        Err(e) => is_answer(e, want),
     };
-    let front = match pair {
-        Ok(_) => bytes.get(..count)?,
-        Err(_) => &[],
-    };
-    Some(is_checked && is_decoded && to.holds(front))
+    is_decoded
+        && hex_check_with_case(src, case) == pair.is_ok()
+        && to.holds(want.unwrap_or_default())
 }
 
-fn each_pair_row(row: Words<'_>, answer: Words<'_>, buffers: &mut Buffers) -> Option<bool> {
-    let (mut row, mut answer) = (row, answer);
+/// `each-pair POLICY LENGTH`: the values of the digits. Its turn is a pair of bytes, which the
+/// source repeats.
+pub fn each_pair_row(
+    row: &mut Words<'_>,
+    answer: &mut Words<'_>,
+    buffers: &mut Buffers,
+) -> Option<bool> {
     let turn = row.turn();
-    let pair = [
-        u8::try_from(turn / 256).ok()?,
-        u8::try_from(turn % 256).ok()?,
-    ];
-    let case = policy(&mut row)?;
+    let pair = [(turn / 256 % 256) as u8, (turn % 256) as u8];
+    let case = policy(row)?;
     let count = row.number()? / 2;
-    let values = Values::read(&mut answer)?;
+    let values = Values::read(answer)?;
     buffers.given.clear();
     for _ in 0..count {
         buffers.given.try_extend_from_slice(&pair).ok()?;
     }
     let src = buffers.given.as_slice();
-    decodes_pairs(src, case, spelled(pair, &values), &mut buffers.destination)
+    Some(decodes_pairs(src, case, spelled(pair, &values), &mut buffers.destination))
 }
 
 // Whether a plan writes this text of these bytes into room for it.
 fn writes(plan: Backend, bytes: &[u8], text: &[u8], upper: bool, to: &mut Destination) -> bool {
-    let Some(dst) = to.lend(text.len()) else {
-        return false;
-    };
+    let dst = to.lend(text.len());
     if bytes.len() != dst.len() / 2 || dst.len() % 2 == 1 {
         return false;
     }
@@ -323,35 +249,34 @@ fn writes(plan: Backend, bytes: &[u8], text: &[u8], upper: bool, to: &mut Destin
 
 // Whether each plan writes these digits of some bytes, and reads them back.
 fn all_move(bytes: &[u8], text: &[u8], upper: bool, to: &mut Destination) -> bool {
-    let strict = if upper {
-        CheckCase::Upper
-    } else {
-        CheckCase::Lower
-    };
     for plan in backends() {
         if !writes(plan, bytes, text, upper, to) {
             return false;
         }
     }
+    let strict = if upper {
+        CheckCase::Upper
+    } else {
+        CheckCase::Lower
+    };
     is_accepted(text, strict, bytes, to) && is_accepted(text, CheckCase::None, bytes, to)
 }
 
-fn moves_row(row: Words<'_>, answer: Words<'_>, buffers: &mut Buffers) -> Option<bool> {
-    let (mut row, mut answer) = (row, answer);
-    let turn = row.turn();
-    let upper = is_upper(&mut row)?;
+/// `moves CASE BYTES`: the digits. Its turn is a place of the destination and one of the source.
+pub fn moves_row(
+    row: &mut Words<'_>,
+    answer: &mut Words<'_>,
+    buffers: &mut Buffers,
+) -> Option<bool> {
+    let (turn, to) = (row.turn(), &mut buffers.destination);
+    let upper = is_either(row, b"upper", b"lower")?;
     row.bytes(&mut buffers.given)?;
     answer.bytes(&mut buffers.wanted)?;
-    let bytes = buffers.given.as_slice();
     let from = (turn / 64) % 64;
-    let text = buffers.wanted.as_slice();
-    buffers.destination.set_shift(turn % 64);
-    let is_moved = all_move(
-        bytes.get(from..)?,
-        text.get(from.checked_mul(2)?..)?,
-        upper,
-        &mut buffers.destination,
-    );
-    buffers.destination.set_shift(0);
-    Some(is_moved && answer.are_read())
+    let bytes = buffers.given.as_slice().get(from..)?;
+    let text = buffers.wanted.as_slice().get(2 * from..)?;
+    to.shift = turn % 64;
+    let is_moved = all_move(bytes, text, upper, to);
+    to.shift = 0;
+    Some(is_moved)
 }
