@@ -45,21 +45,19 @@ impl Reading<'_> {
 /// Returns whether `granted-read FORMAT GRANTED MAX JSON` answers so, or `granted-read-option` where
 /// `is_option` is true: how often it asked, and the answer.
 pub fn read_row(
-    alloc: Global,
     is_option: bool,
-    row: Words<'_>,
-    wanted: Words<'_>,
+    row: &mut Words<'_>,
+    wanted: &mut Words<'_>,
     buffers: &mut Buffers,
 ) -> Option<bool> {
-    let (mut row, mut wanted) = (row, wanted);
-    let format = wire_format(&mut row)?;
-    let refusing = Refusing::new(alloc, u64::try_from(row.number()?).ok()?);
-    let max = bound(&mut row)?;
+    let format = wire_format(row)?;
+    let refusing = Refusing::new(buffers.alloc, u64::try_from(row.number()?).ok()?);
+    let max = bound(row)?;
     row.bytes(&mut buffers.given)?;
     let asked = u64::try_from(wanted.number()?).ok()?;
     let found = if is_option { b"some".as_slice() } else { b"ok" };
     let want = answer(wanted, found, &mut buffers.wanted)?;
-    let value = value(alloc, buffers.given.as_slice())?;
+    let value = value(buffers.alloc, buffers.given.as_slice())?;
     let reading = Reading {
         format,
         max,
@@ -71,7 +69,7 @@ pub fn read_row(
     } else {
         reading.is_so(&refusing)
     };
-    row.are_read().then_some(is_so && refusing.asked() == asked)
+    Some(is_so && refusing.asked() == asked)
 }
 
 // Whether a writing gives this text at its exact length, or wants memory where that is none.
@@ -85,21 +83,16 @@ fn is_text<A: Allocator + Drop>(got: Result<String<A>, AdapterError>, want: Opti
 /// Returns whether `granted-text FORMAT GRANTED BYTES` answers so: how often it asked, and the text,
 /// or `no-memory`.
 pub fn text_row(
-    alloc: Global,
-    row: Words<'_>,
-    wanted: Words<'_>,
+    row: &mut Words<'_>,
+    wanted: &mut Words<'_>,
     buffers: &mut Buffers,
 ) -> Option<bool> {
-    let (mut row, mut wanted) = (row, wanted);
-    let format = wire_format(&mut row)?;
-    let refusing = Refusing::new(alloc, u64::try_from(row.number()?).ok()?);
+    let format = wire_format(row)?;
+    let refusing = Refusing::new(buffers.alloc, u64::try_from(row.number()?).ok()?);
     row.bytes(&mut buffers.given)?;
     let asked = u64::try_from(wanted.number()?).ok()?;
-    let is_written = has_bytes(&mut wanted, b"no-memory", &mut buffers.wanted)?;
+    let is_written = has_bytes(wanted, b"no-memory", &mut buffers.wanted)?;
     let want = is_written.then_some(buffers.wanted.as_slice());
-    if !row.are_read() || !wanted.are_read() {
-        return None;
-    }
     let is_so = is_text(text_of(&refusing, format, buffers.given.as_slice()), want);
     Some(is_so && refusing.asked() == asked)
 }

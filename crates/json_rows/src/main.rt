@@ -11,91 +11,52 @@ mod seen;
 mod terms;
 mod writings;
 
+use crate::readings::Reading;
 use crate::terms::{Buffers, refusal};
 use row_reader::{Calls, Words, judge};
-use std::alloc::Global;
 use std::io::{self, BufReader};
 
-// The calls of the adapters, and what rows are read into.
-#[derive(Drop)]
-struct Adapters {
-    alloc: Global,
-    buffers: Buffers,
-}
-
 // `print REFUSAL`: whether it prints the text that the answer is.
-fn print_row(alloc: Global, row: Words<'_>, wanted: Words<'_>) -> Option<bool> {
-    let mut row = row;
-    let error = refusal(&mut row)?;
-    let text = format!(in alloc; "{error}").ok()?;
-    row.are_read()
-        .then_some(text.as_str().as_bytes() == wanted.rest())
+fn print_row(row: &mut Words<'_>, wanted: &mut Words<'_>, buffers: &Buffers) -> Option<bool> {
+    let error = refusal(row)?;
+    let text = format!(in buffers.alloc; "{error}").ok()?;
+    Some(text.as_str().as_bytes() == wanted.take_rest())
 }
 
-impl Adapters {
-    // A row of a reading.
-    fn reading(&mut self, row: Words<'_>, wanted: Words<'_>) -> Option<Option<bool>> {
-        let (alloc, buffers) = (self.alloc, &mut self.buffers);
-        let mut row = row;
-        if row.takes(b"read") {
-            Some(readings::read_row(alloc, row, wanted, buffers))
-        } else if row.takes(b"read-within") {
-            Some(readings::within_row(alloc, row, wanted, buffers))
-        } else if row.takes(b"read-array") {
-            Some(readings::array_row(alloc, row, wanted, buffers))
-        } else {
-            None
-        }
-    }
-
-    // A row of a writing, or of an error's text.
-    fn writing(&mut self, row: Words<'_>, wanted: Words<'_>) -> Option<Option<bool>> {
-        let (alloc, buffers) = (self.alloc, &mut self.buffers);
-        let mut row = row;
-        if row.takes(b"write") {
-            Some(writings::write_row(alloc, false, row, wanted, buffers))
-        } else if row.takes(b"write-array") {
-            Some(writings::write_row(alloc, true, row, wanted, buffers))
-        } else if row.takes(b"print") {
-            Some(print_row(alloc, row, wanted))
-        } else {
-            None
-        }
-    }
-
-    // A row of a call with an allocator that grants so many growths.
-    fn granted(&mut self, row: Words<'_>, wanted: Words<'_>) -> Option<bool> {
-        let (alloc, buffers) = (self.alloc, &mut self.buffers);
-        let mut row = row;
-        if row.takes(b"granted-read") {
-            growths::read_row(alloc, false, row, wanted, buffers)
-        } else if row.takes(b"granted-read-option") {
-            growths::read_row(alloc, true, row, wanted, buffers)
-        } else if row.takes(b"granted-text") {
-            growths::text_row(alloc, row, wanted, buffers)
-        } else {
-            None
-        }
+// A row of any call.
+fn row(row: &mut Words<'_>, wanted: &mut Words<'_>, buffers: &mut Buffers) -> Option<bool> {
+    if row.takes(b"read") {
+        readings::read_row(Reading::Whole, row, wanted, buffers)
+    } else if row.takes(b"read-within") {
+        readings::read_row(Reading::Within, row, wanted, buffers)
+    } else if row.takes(b"read-array") {
+        readings::read_row(Reading::Array, row, wanted, buffers)
+    } else if row.takes(b"write") {
+        writings::write_row(false, row, wanted, buffers)
+    } else if row.takes(b"write-array") {
+        writings::write_row(true, row, wanted, buffers)
+    } else if row.takes(b"print") {
+        print_row(row, wanted, buffers)
+    } else if row.takes(b"granted-read") {
+        growths::read_row(false, row, wanted, buffers)
+    } else if row.takes(b"granted-read-option") {
+        growths::read_row(true, row, wanted, buffers)
+    } else if row.takes(b"granted-text") {
+        growths::text_row(row, wanted, buffers)
+    } else {
+        None
     }
 }
 
-impl Calls for Adapters {
-    fn is_answered(&mut self, row: Words<'_>, answer: Words<'_>) -> Option<bool> {
-        if let Some(is_answered) = self.reading(row, answer) {
-            return is_answered;
-        }
-        match self.writing(row, answer) {
-            Some(is_answered) => is_answered,
-            None => self.granted(row, answer),
-        }
+impl Calls for Buffers {
+    fn is_answered(&mut self, mut call: Words<'_>, mut answer: Words<'_>) -> Option<bool> {
+        let is_answered = row(&mut call, &mut answer, self)?;
+        (call.are_read() && answer.are_read()).then_some(is_answered)
     }
 }
 
 fn main(rt: HostRuntime) -> io::Result<()> {
-    let mut adapters = Adapters {
-        alloc: rt.alloc(),
-        buffers: Buffers::new(),
-    };
+    let mut buffers = Buffers::new(rt.alloc());
     let input = BufReader::new(rt.alloc(), rt.stdin())?;
-    judge(&mut adapters, rt.alloc(), input, &mut rt.stdout())
+    judge(&mut buffers, rt.alloc(), input, &mut rt.stdout())
 }

@@ -8,25 +8,14 @@ use row_reader::Words;
 use serde_json::Value;
 use std::alloc::Global;
 
-/// Returns whether `read PLACE JSON` answers so.
-pub fn read_row(
-    alloc: Global,
-    row: Words<'_>,
-    wanted: Words<'_>,
-    buffers: &mut Buffers,
-) -> Option<bool> {
-    let mut row = row;
-    let place = Place::from_row(&mut row)?;
-    row.bytes(&mut buffers.given)?;
-    let want = answer(wanted, place.found(), &mut buffers.wanted)?;
-    let value = value(alloc, buffers.given.as_slice())?;
-    row.are_read().then_some(place.reads(alloc, &value, want))
-}
-
-// How a row has a value read.
-#[derive(Clone, Copy)]
-enum Reading {
+/// How a row has a value read.
+#[derive(Clone, Copy, PartialEq, Eq)]
+pub enum Reading {
+    /// `read PLACE JSON`.
+    Whole,
+    /// `read-within PLACE MAX JSON`.
     Within,
+    /// `read-array PLACE LENGTH JSON`.
     Array,
 }
 
@@ -35,7 +24,7 @@ enum Reading {
 struct Counted<'a> {
     alloc: Global,
     place: Place,
-    reading: Reading,
+    is_array: bool,
     value: &'a Value,
     want: Answer<'a>,
 }
@@ -45,11 +34,11 @@ impl Counted<'_> {
     fn is_so<const N: usize>(self) -> bool
         requires { N < 600 }
     {
-        match self.reading {
-            Reading::Within => self
-                .place
-                .reads_within::<N>(self.alloc, self.value, self.want),
-            Reading::Array => self.place.reads_array::<N>(self.value, self.want),
+        if self.is_array {
+            self.place.reads_array::<N>(self.value, self.want)
+        } else {
+            self.place
+                .reads_within::<N>(self.alloc, self.value, self.want)
         }
     }
 
@@ -71,52 +60,34 @@ impl Counted<'_> {
     }
 }
 
-// Whether a row behind its first word answers so.
-fn counted_row(
-    alloc: Global,
+/// Returns whether a reading answers so.
+pub fn read_row(
     reading: Reading,
-    row: Words<'_>,
-    wanted: Words<'_>,
+    row: &mut Words<'_>,
+    wanted: &mut Words<'_>,
     buffers: &mut Buffers,
 ) -> Option<bool> {
-    let mut row = row;
-    let place = Place::from_row(&mut row)?;
-    let count = row.number()?;
+    let (place, alloc) = (Place::from_row(row)?, buffers.alloc);
+    let count = if reading == Reading::Whole {
+        0
+    } else {
+        row.number()?
+    };
     row.bytes(&mut buffers.given)?;
     let want = answer(wanted, place.found(), &mut buffers.wanted)?;
     let value = value(alloc, buffers.given.as_slice())?;
-    if !row.are_read() {
-        return None;
+    if reading == Reading::Whole {
+        return Some(place.reads(alloc, &value, want));
     }
-    if count == usize::MAX && matches!(reading, Reading::Within) {
+    if count == usize::MAX && reading == Reading::Within {
         return Some(place.reads_within::<{ usize::MAX }>(alloc, &value, want));
     }
     let counted = Counted {
         alloc,
         place,
-        reading,
+        is_array: reading == Reading::Array,
         value: &value,
         want,
     };
     counted.is_answered(count)
-}
-
-/// Returns whether `read-within PLACE MAX JSON` answers so.
-pub fn within_row(
-    alloc: Global,
-    row: Words<'_>,
-    wanted: Words<'_>,
-    buffers: &mut Buffers,
-) -> Option<bool> {
-    counted_row(alloc, Reading::Within, row, wanted, buffers)
-}
-
-/// Returns whether `read-array PLACE LENGTH JSON` answers so.
-pub fn array_row(
-    alloc: Global,
-    row: Words<'_>,
-    wanted: Words<'_>,
-    buffers: &mut Buffers,
-) -> Option<bool> {
-    counted_row(alloc, Reading::Array, row, wanted, buffers)
 }

@@ -26,29 +26,18 @@ pub enum Format {
 impl Format {
     /// Returns the format of this name.
     pub fn from_word(word: &[u8]) -> Option<Format> {
-        match word.strip_prefix(b"withpfx_") {
-            Some(letters) => Format::with_prefix(letters),
-            None => Format::without_prefix(word.strip_prefix(b"nopfx_")?),
-        }
-    }
-
-    fn with_prefix(letters: &[u8]) -> Option<Format> {
-        if letters == b"ignorecase".as_slice() {
+        if word == b"withpfx_ignorecase".as_slice() {
             Some(Format::WithpfxIgnorecase)
-        } else if letters == b"lowercase".as_slice() {
-            Some(Format::WithpfxLowercase)
-        } else {
-            (letters == b"uppercase".as_slice()).then_some(Format::WithpfxUppercase)
-        }
-    }
-
-    fn without_prefix(letters: &[u8]) -> Option<Format> {
-        if letters == b"ignorecase".as_slice() {
+        } else if word == b"nopfx_ignorecase".as_slice() {
             Some(Format::NopfxIgnorecase)
-        } else if letters == b"lowercase".as_slice() {
+        } else if word == b"withpfx_lowercase".as_slice() {
+            Some(Format::WithpfxLowercase)
+        } else if word == b"nopfx_lowercase".as_slice() {
             Some(Format::NopfxLowercase)
+        } else if word == b"withpfx_uppercase".as_slice() {
+            Some(Format::WithpfxUppercase)
         } else {
-            (letters == b"uppercase".as_slice()).then_some(Format::NopfxUppercase)
+            (word == b"nopfx_uppercase".as_slice()).then_some(Format::NopfxUppercase)
         }
     }
 
@@ -136,8 +125,12 @@ pub fn refusal(answer: &mut Words<'_>) -> Option<AdapterError> {
     }
 }
 
-// Reads what a whole answer says, up to words behind it.
-fn answer_in<'a>(answer: &mut Words<'_>, found: &[u8], bytes: &'a mut Bytes) -> Option<Answer<'a>> {
+/// Reads an answer: bytes behind the word `found`, `none`, or a refusal.
+pub fn answer<'a>(
+    answer: &mut Words<'_>,
+    found: &[u8],
+    bytes: &'a mut Bytes,
+) -> Option<Answer<'a>> {
     if answer.takes(found) {
         answer.bytes(bytes)?;
         Some(Ok(Some(bytes.as_slice())))
@@ -146,13 +139,6 @@ fn answer_in<'a>(answer: &mut Words<'_>, found: &[u8], bytes: &'a mut Bytes) -> 
     } else {
         Some(Err(refusal(answer)?))
     }
-}
-
-/// Reads a whole answer: bytes behind the word `found`, `none`, or a refusal.
-pub fn answer<'a>(answer: Words<'_>, found: &[u8], bytes: &'a mut Bytes) -> Option<Answer<'a>> {
-    let mut words = answer;
-    let want = answer_in(&mut words, found, bytes)?;
-    words.are_read().then_some(want)
 }
 
 /// Reads bytes, or `word` in place of them. Returns whether there are any.
@@ -164,21 +150,24 @@ pub fn has_bytes(words: &mut Words<'_>, word: &[u8], bytes: &mut Bytes) -> Optio
     Some(true)
 }
 
-/// What a row is read into.
+/// What a row is read into, and where its call takes memory from.
 #[derive(Drop)]
 pub struct Buffers {
     /// The bytes of the row.
     pub given: Bytes,
     /// The bytes of its answer.
     pub wanted: Bytes,
+    /// Where its call takes memory from.
+    pub alloc: Global,
 }
 
 impl Buffers {
     /// Returns buffers that hold nothing.
-    pub fn new() -> Buffers {
+    pub fn new(alloc: Global) -> Buffers {
         Buffers {
             given: Bytes::new(),
             wanted: Bytes::new(),
+            alloc,
         }
     }
 }

@@ -21,19 +21,14 @@ fn is_json(alloc: Global, got: Result<Value, AdapterError>, wanted: &Bytes) -> b
 /// Returns whether `write PLACE BYTES` answers so, or `write-array PLACE BYTES`. The bytes may be
 /// `none`.
 pub fn write_row(
-    alloc: Global,
     is_array: bool,
-    row: Words<'_>,
-    wanted: Words<'_>,
+    row: &mut Words<'_>,
+    wanted: &mut Words<'_>,
     buffers: &mut Buffers,
 ) -> Option<bool> {
-    let (mut row, mut wanted) = (row, wanted);
-    let place = Place::from_row(&mut row)?;
-    let is_given = has_bytes(&mut row, b"none", &mut buffers.given)?;
+    let (place, alloc) = (Place::from_row(row)?, buffers.alloc);
+    let is_given = has_bytes(row, b"none", &mut buffers.given)?;
     wanted.bytes(&mut buffers.wanted)?;
-    if !row.are_read() || !wanted.are_read() {
-        return None;
-    }
     let src = is_given.then_some(buffers.given.as_slice());
     let got = if is_array {
         place.write_array(alloc, src)?
