@@ -44,7 +44,7 @@ impl Cursor<'_> {
 
     // The value of the next byte, where that is a digit to this base, at most 16; it is then read.
     fn digit(&mut self, base: usize) -> Option<usize> {
-        let value = usize::try_from(char::from(self.peek()?).to_digit(16)?).ok()?;
+        let value = char::from(self.peek()?).to_digit(16)? as usize;
         if value >= base {
             return None;
         }
@@ -94,7 +94,7 @@ impl Cursor<'_> {
     fn pair(&mut self) -> Option<u8> {
         let high = self.digit(16)?;
         let low = self.digit(16)?;
-        u8::try_from(high.checked_mul(16)?.checked_add(low)?).ok()
+        u8::try_from(high.wrapping_mul(16).wrapping_add(low)).ok()
     }
 
     // The next byte of a part, which is written as digits where `is_hex` is true.
@@ -119,11 +119,6 @@ impl Cursor<'_> {
         !matches!(self.peek(), None | Some(b',' | b'*' | b'^' | b'&' | b'%'))
     }
 
-    // Writes the next byte of a part.
-    fn write_byte(&mut self, is_hex: bool, bytes: &mut Bytes) -> Option<()> {
-        bytes.try_push(self.byte(is_hex)?).ok()
-    }
-
     // Writes the bytes of a part once.
     fn write_once(&mut self, bytes: &mut Bytes) -> Option<()> {
         let is_hex = self.takes(b'#');
@@ -131,7 +126,7 @@ impl Cursor<'_> {
             if !self.is_inside() {
                 break;
             }
-            self.write_byte(is_hex, bytes)?;
+            bytes.try_push(self.byte(is_hex)?).ok()?;
         }
         Some(())
     }
@@ -202,6 +197,15 @@ pub fn number(word: &[u8], turn: usize) -> Option<usize> {
     let mut cursor = Cursor { rest: word, turn };
     let number = cursor.number()?;
     cursor.rest.is_empty().then_some(number)
+}
+
+/// Returns the byte that a word writes for a turn, as itself, its digits or in brackets, or `None`
+/// where it is no such word.
+pub fn byte(word: &[u8], turn: usize) -> Option<u8> {
+    let mut cursor = Cursor { rest: word, turn };
+    let is_hex = cursor.takes(b'#');
+    let byte = cursor.byte(is_hex)?;
+    cursor.rest.is_empty().then_some(byte)
 }
 
 /// Puts the bytes that a word writes for a turn into `bytes`, in place of those that it held.

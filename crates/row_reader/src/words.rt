@@ -36,14 +36,9 @@ impl<'a> Words<'a> {
         notation::write(self.next(), self.turn, bytes)
     }
 
-    /// Takes the next word as one byte, which it writes as two digits or as a letter.
+    /// Takes the next word as one byte. Returns `None` where it is none.
     pub fn byte(&mut self) -> Option<u8> {
-        let mut bytes = Bytes::new();
-        self.bytes(&mut bytes)?;
-        match bytes.as_slice() {
-            [byte] => Some(*byte),
-            _ => None,
-        }
+        notation::byte(self.next(), self.turn)
     }
 
     /// Takes the next word, where it is this one. Returns whether it was.

@@ -20,7 +20,7 @@ use std::io::{self, BufReader};
 
 // Each function below knows the rows of one shape, and answers `None` for any other.
 
-// `each-byte`, `each-pair` and `moves`, which have arguments in their turn, and texts of their own.
+// `each-byte`, `each-pair` and `moves`, which have arguments in their turn, and grouped texts and lists.
 fn turned_row(
     call: &[u8],
     mut row: Words<'_>,

@@ -23,16 +23,15 @@ fn set_flag(flags: &mut HexFlags, letter: u8) {
     }
 }
 
-// Reads the character that a text is filled with.
-fn fill(row: &mut Words<'_>) -> Option<char> {
-    let mut bytes = Bytes::new();
-    row.bytes(&mut bytes)?;
+// Reads the character that a text is filled with, whose bytes `bytes` then holds.
+fn fill(row: &mut Words<'_>, bytes: &mut Bytes) -> Option<char> {
+    row.bytes(bytes)?;
     str::from_utf8(bytes.as_slice()).ok()?.chars().next()
 }
 
 // Reads flags: the letters of a format string (`<` or `^`, `+`, `#`, `0` and `X`, or `-` for none of
 // them), the width, the fill, the bytes of a piece and the separator, each `-` where there is none.
-fn flags(row: &mut Words<'_>) -> Option<HexFlags> {
+fn flags(row: &mut Words<'_>, bytes: &mut Bytes) -> Option<HexFlags> {
     let mut flags = HexFlags::default();
     for letter in row.next() {
         set_flag(&mut flags, *letter);
@@ -40,7 +39,7 @@ fn flags(row: &mut Words<'_>) -> Option<HexFlags> {
     if !row.takes(b"-") {
         flags.width = Some(row.number()?);
     }
-    flags.fill = fill(row)?;
+    flags.fill = fill(row, bytes)?;
     if !row.takes(b"-") {
         let every = row.number()?;
         flags.group = Some(Group::new(every, row.byte()?)?);
@@ -81,7 +80,7 @@ fn takes(bytes: &[u8], flags: &HexFlags, mode: Mode, text: &[u8], is_stopped: bo
 
 /// `pad FLAGS BYTES`: the text.
 pub fn pad_row(row: &mut Words<'_>, answer: &mut Words<'_>, buffers: &mut Buffers) -> Option<bool> {
-    let flags = flags(row)?;
+    let flags = flags(row, &mut buffers.given)?;
     row.bytes(&mut buffers.given)?;
     answer.bytes(&mut buffers.wanted)?;
     let (bytes, text) = (buffers.given.as_slice(), buffers.wanted.as_slice());
@@ -118,7 +117,7 @@ pub fn pad_into_row(
         Some(mode(row)?)
     };
     let room = row.number()?;
-    let flags = flags(row)?;
+    let flags = flags(row, &mut buffers.given)?;
     row.bytes(&mut buffers.given)?;
     let is_stopped = is_stopped(answer, &mut buffers.wanted)?;
     let (bytes, text) = (buffers.given.as_slice(), buffers.wanted.as_slice());
