@@ -20,7 +20,7 @@ use std::io::{self, BufReader};
 
 // Each function below knows the rows of one shape, and answers `None` for any other.
 
-// `each-byte`, `each-pair` and `moves`, which have arguments in their turn, and grouped texts and lists.
+// `each-byte`, `each-pair` and `moves`, which have arguments in their turn, grouped texts, lists.
 fn turned_row(
     call: &[u8],
     mut row: Words<'_>,
@@ -99,8 +99,8 @@ fn fitting_row(
     }
 }
 
-// `vector POLICY GRANTED DIGITS` and `string CASE GRANTED BYTES`: how many growths they ask for, and
-// the answer.
+// `vector POLICY GRANTED DIGITS` and `string CASE GRANTED BYTES`: how many growths they ask for,
+// and the answer.
 fn grown_row(
     call: &[u8],
     mut row: Words<'_>,
