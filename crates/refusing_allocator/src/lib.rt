@@ -128,7 +128,7 @@ impl<B: Allocator> Refusing<B> {
     /// alloc.set_left(1);
     /// bytes.shrink_to_fit();
     /// assert_eq!(rt; (bytes.capacity(), alloc.asked()), (1, 3));
-    /// assert_eq!(rt; (bytes.as_slice(), alloc.left()), ([7].as_slice(), 0));
+    /// assert_eq!(rt; (bytes.len(), alloc.left()), (1, 0));
     /// ```
     pub fn asked(&self) -> u64 {
         self.counts.asked.get()
