@@ -7,6 +7,9 @@ PROGRAM = crates/fhex/out/fhex
 PAGE = docs/fhex.1
 CPU = x86-64-v2
 LIBRARY = crates/faster_hex_c/out
+# How many tasks of the gate run at a time. Each has one job, since a second one reads all libraries
+# once more: a crate over serde_json took 118 seconds of processor by four jobs, and 81 by one.
+JOBS := $(shell n=$$(nproc); echo $$((n < 4 ? n : 4)))
 
 .PHONY: build lib test deep install clean
 
@@ -23,7 +26,7 @@ lib:
 test:
 	scripts/header.sh
 	scripts/examples.sh
-	rt ci
+	RT_JOBS=$(JOBS) rt ci
 
 # Before a release. It stops at the first that fails.
 deep: build
