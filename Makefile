@@ -14,13 +14,11 @@ JOBS := $(shell n=$$(nproc); echo $$((n < 4 ? n : 4)))
 .PHONY: build lib test deep install clean
 
 build:
-	scripts/build.sh $(CPU)
+	scripts/build.sh fhex $(CPU)
 
 # The header stands beside its folder: crates/faster_hex_c/faster_hex.h.
 lib:
-	mkdir -p $(LIBRARY)
-	cd crates/faster_hex_c && if ! rt lib --jobs 2 --cpu=$(CPU) >out/make.log 2>&1; then \
-		tail -n 40 out/make.log >&2; exit 1; fi
+	scripts/build.sh faster_hex_c $(CPU)
 	cp $(LIBRARY)/libfaster_hex_c.a $(LIBRARY)/libfaster_hex.a
 
 test:

@@ -1,75 +1,115 @@
 #!/bin/sh
-# Proves fhex and the libraries below it from nothing, compiles it, and puts it into crates/fhex/out.
-# Where the sources and the program are those of the last time it does nothing. What `rt` says goes to
-# crates/fhex/out/make.log, of which the end is printed where something fails.
-# Usage: scripts/build.sh CPU, where CPU is x86-64-v2, the default processor, or another one.
+# Proves a program or a static library and the libraries below it from nothing, compiles it, and puts
+# it into crates/NAME/out. What the last run proved is not proved again where its files, and those of
+# the crates below, are the same. What is said of each crate goes to crates/NAME/out/build.log, of
+# which the end is printed where something fails.
+# Usage: scripts/build.sh NAME CPU, where CPU is x86-64-v2, the default processor, or another one.
 #
-# For the default processor it works on a copy outside the repository, by `rt ci`, since a crate that
-# is proved over statements alone takes half the time of one that `rt run` proves over its libraries'
-# kept proofs. It takes one job, since a second one reads all libraries once more and the crates stand
-# in a chain: by four the core took 173 seconds on the clock in place of 187. `rt ci` knows the default
-# processor alone.
+# It calls `rattle` and not `rt`, which has no word for this: a library is built as its statements, so
+# that the crate above does not load its proofs, by several jobs.
 set -eu
 LC_ALL=C
 export LC_ALL
 
-if [ $# -ne 1 ]; then
-    echo "usage: scripts/build.sh CPU" >&2
+if [ $# -ne 2 ]; then
+    echo "usage: scripts/build.sh NAME CPU" >&2
     exit 2
 fi
-cpu=$1
+target=$1
+cpu=$2
 cd "$(dirname "$0")/.."
-out=crates/fhex/out
-mkdir -p "$out"
+top=$PWD
+kit=$(dirname "$(rt doc)")
+processors=$(nproc)
 
-# below CRATE: the crates of this repository that it uses, and itself.
+# uses NAME: what crates.txt says that a crate uses.
+uses() {
+    sed -n -E "s/^$1( staticlib)?:(.*)/\2/p" crates.txt
+}
+
+# below NAME: the crates of this repository that a crate uses, lowest first, and itself.
 below() {
-    for name in $(sed -n "s/^$1:\(.*\)/\1/p" crates.txt); do
-        [ ! -d "crates/$name" ] || below "$name"
+    for used in $(uses "$1"); do
+        [ ! -d "crates/$used" ] || below "$used"
     done
     echo "$1"
 }
 
-crates=$(below fhex | sort -u)
-
-# The files that the program is made of, and then what it is.
+# made_of NAME WORD: a sum of the toolchain, the word, the files of a crate, and the sums of what it uses.
 made_of() {
     {
-        echo "$cpu"
         rt version
-        for name in $crates; do
-            find "crates/$name" -path '*/out' -prune -o -type f \
-                ! -path '*/must-fail/*' ! -path '*/wrong-bodies/*' -print
-        done | sort | while read -r file; do cksum "$file"; done
-        cksum "$out/fhex" 2>/dev/null || echo none
+        echo "$2 $(uses "$1")"
+        find "crates/$1/src" "crates/$1/specs" "crates/$1/proofs" -type f 2>/dev/null | sort |
+            tr '\n' '\0' | xargs -0 cksum
+        for used in $(uses "$1"); do
+            [ ! -d "crates/$used" ] || cat "crates/$used/out/rlib/made-of"
+        done
     } | cksum
 }
 
-if [ "$(made_of)" = "$(cat "$out/made-of" 2>/dev/null)" ]; then
-    exit 0
-fi
-rm -f "$out/made-of"
-
-# Copies the crates without their wrong bodies.
-copy() {
-    cp HANDLES "$room"
-    for name in $crates; do
-        sed -n "/^$name:/p" crates.txt >>"$room/crates.txt"
-        mkdir -p "$room/crates/$name"
-        for part in src specs proofs args stdin stdout; do
-            [ ! -e "crates/$name/$part" ] || cp -R "crates/$name/$part" "$room/crates/$name"
-        done
-    done
+# jobs NAME: one for each 500 lines, since each reads all libraries anew; at most four.
+jobs() {
+    lines=$(find "crates/$1/src" -name '*.rt' -exec cat {} + | wc -l)
+    count=$((1 + lines / 500))
+    [ "$count" -lt "$processors" ] || count=$processors
+    echo $((count < 4 ? count : 4))
 }
 
-room=$(mktemp -d)
-trap '[ $? -eq 0 ] || tail -n 40 "$out/make.log" >&3; rm -rf "$room"' EXIT
-exec 3>&2 >"$out/make.log" 2>&1
-if [ "$cpu" = x86-64-v2 ]; then
-    copy
-    (cd "$room" && RT_JOBS=1 rt ci)
-    cp "$room/$out/fhex" "$out/fhex"
-else
-    (cd crates/fhex && rt run --jobs 2 "--cpu=$cpu" -- encode </dev/null)
-fi
-made_of >"$out/made-of"
+# prove NAME ROOT WORD..: has `rattle` prove a crate and build what the words ask for.
+prove() {
+    name=$1
+    root=$2
+    shift 2
+    for used in std $(uses "$name"); do
+        folder=$kit/rlibs
+        [ ! -d "crates/$used" ] || folder=$top/crates/$used/out/rlib
+        set -- "$@" --extern "$used=$folder/$used.rlib"
+    done
+    for used in $(below "$name"); do
+        set -- "$@" -L "dependency=$top/crates/$used/out/rlib"
+    done
+    count=$(jobs "$name")
+    (cd "crates/$name" && rattle build --crate-name "$name" "$root" "$@" -L "dependency=$kit/rlibs" \
+        --antt-project "$kit/rattle/logic/antt-project.json" --logic-built "$kit/logic_built" \
+        --links "$name=" --jobs "$count")
+}
+
+# build NAME: makes what is asked for of a crate, or else the library as its statements.
+build() {
+    if [ "$1" != "$target" ]; then
+        prove "$1" src/lib.rt --statements -o "out/rlib/$1.rlib"
+    elif [ -f "crates/$1/src/main.rt" ]; then
+        prove "$1" src/main.rt --toolchain "$kit/toolchain" --cpu "$cpu" -o "out/$1.o" &&
+            "$kit/bin/rattle-link" --target x86_64-unknown-linux-gnu --toolchain "$kit/toolchain" \
+                -o "crates/$1/out/$1" "crates/$1/out/$1.o" "$kit/c/libos_c.a" "$kit/c/liblibc_c.a"
+    else
+        prove "$1" src/lib.rt --crate-type staticlib --toolchain "$kit/toolchain" --cpu "$cpu" \
+            -o "out/lib$1.a"
+    fi
+}
+
+anew=
+for crate in $(below "$target" | awk '!seen[$0]++'); do
+    out=crates/$crate/out
+    word=statements
+    made=$out/rlib/$crate.rlib/format
+    if [ "$crate" = "$target" ]; then
+        word=$cpu
+        made=$out/$crate
+        [ -f "crates/$crate/src/main.rt" ] || made=$out/lib$crate.a
+    fi
+    now=$(made_of "$crate" "$word")
+    if [ -z "$anew" ] && [ -f "$made" ] && [ "$now" = "$(cat "$out/rlib/made-of" 2>/dev/null)" ]; then
+        continue
+    fi
+    # Statements fit only those that they were built over.
+    anew=1
+    rm -rf "$out/rlib"
+    mkdir -p "$out/rlib"
+    if ! build "$crate" >"$out/build.log" 2>&1; then
+        tail -n 40 "$out/build.log" >&2
+        exit 1
+    fi
+    echo "$now" >"$out/rlib/made-of"
+done
