@@ -10,7 +10,8 @@ use Rattle.hex_codec.specs.GroupedText.{GroupSpells, group_refusal}
 
 -- what is written in groups is read as the same bytes, under the text's own case or either
 abbrev pub ReadingInvertsGrouping : Type 0
-ReadingInvertsGrouping = (group : Group) (upper : Bool) (bytes : List ℕ) → AreBytes bytes
+ReadingInvertsGrouping = (group : Group) (upper : Bool) (bytes : List ℕ)
+    → AreBytes bytes
     → GroupSpells (strict upper) group (grouped group upper bytes) bytes × GroupSpells policy.None group (grouped group upper bytes) bytes
 
 -- a grouped text is read exactly where it spells some list that fits
@@ -20,4 +21,7 @@ ReadsWhatGroupSpells = (c : CheckCase) (group : Group) (s : List ℕ) (room : �
 
 -- a grouped text spells at most one list
 abbrev pub GroupSpellsOneList : Type 0
-GroupSpellsOneList = (c : CheckCase) (group : Group) (s bytes others : List ℕ) → GroupSpells c group s bytes → GroupSpells c group s others → bytes ≡ others
+GroupSpellsOneList = (c : CheckCase) (group : Group) (s bytes others : List ℕ)
+    → GroupSpells c group s bytes
+    → GroupSpells c group s others
+    → bytes ≡ others

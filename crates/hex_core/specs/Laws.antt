@@ -16,7 +16,10 @@ AreBytes bytes = All (λ b. b < 256) bytes
 
 -- a text spells at most one list
 abbrev pub SpellsOneList : Type 0
-SpellsOneList = (c : CheckCase) (s bytes others : List ℕ) → Spells c s bytes → Spells c s others → bytes ≡ others
+SpellsOneList = (c : CheckCase) (s bytes others : List ℕ)
+    → Spells c s bytes
+    → Spells c s others
+    → bytes ≡ others
 
 -- what a text spells is a list of bytes
 abbrev pub SpellsBytes : Type 0
@@ -24,40 +27,51 @@ SpellsBytes = (c : CheckCase) (s bytes : List ℕ) → Spells c s bytes → AreB
 
 -- a source is accepted exactly where it spells some list
 abbrev pub AcceptsWhatSpells : Type 0
-AcceptsWhatSpells = (c : CheckCase) (s : List ℕ) → (source_refusal c s ≡ None) ↔ ((bytes : List ℕ) × Spells c s bytes)
+AcceptsWhatSpells = (c : CheckCase) (s : List ℕ)
+    → (source_refusal c s ≡ None) ↔ ((bytes : List ℕ) × Spells c s bytes)
 
 -- it is accepted for a slice of this room exactly where it spells a list that fits
 abbrev pub AcceptsWhatFits : Type 0
-AcceptsWhatFits = (c : CheckCase) (s : List ℕ) (room : ℕ) → (decode_refusal c s room ≡ None) ↔ ((bytes : List ℕ) × Spells c s bytes × (length bytes ≤ room))
+AcceptsWhatFits = (c : CheckCase) (s : List ℕ) (room : ℕ)
+    → (decode_refusal c s room ≡ None) ↔ ((bytes : List ℕ) × Spells c s bytes × (length bytes ≤ room))
 
 -- and for an array of n bytes exactly where it spells a list of this length
 abbrev pub AcceptsWhatFills : Type 0
-AcceptsWhatFills = (c : CheckCase) (s : List ℕ) (n : ℕ) → (array_refusal c s n ≡ None) ↔ ((bytes : List ℕ) × Spells c s bytes × (length bytes ≡ n))
+AcceptsWhatFills = (c : CheckCase) (s : List ℕ) (n : ℕ)
+    → (array_refusal c s n ≡ None) ↔ ((bytes : List ℕ) × Spells c s bytes × (length bytes ≡ n))
 
 -- decoding inverts encoding, under the strict policy of the text's own case and under either case
 abbrev pub DecodingInvertsEncoding : Type 0
-DecodingInvertsEncoding = (upper : Bool) (bytes : List ℕ) → AreBytes bytes
+DecodingInvertsEncoding = (upper : Bool) (bytes : List ℕ)
+    → AreBytes bytes
     → Spells (strict upper) (text upper bytes) bytes × Spells policy.None (text upper bytes) bytes
 
 -- encoding inverts strict decoding
 abbrev pub EncodingInvertsStrictDecoding : Type 0
-EncodingInvertsStrictDecoding = (upper : Bool) (s bytes : List ℕ) → Spells (strict upper) s bytes → text upper bytes ≡ s
+EncodingInvertsStrictDecoding = (upper : Bool) (s bytes : List ℕ)
+    → Spells (strict upper) s bytes
+    → text upper bytes ≡ s
 
 -- strict decoding accepts exactly the texts of encoding in that case
 abbrev pub StrictAcceptsTexts : Type 0
-StrictAcceptsTexts = (upper : Bool) (s : List ℕ) → (source_refusal (strict upper) s ≡ None) ↔ ((bytes : List ℕ) × AreBytes bytes × (text upper bytes ≡ s))
+StrictAcceptsTexts = (upper : Bool) (s : List ℕ)
+    → (source_refusal (strict upper) s ≡ None) ↔ ((bytes : List ℕ) × AreBytes bytes × (text upper bytes ≡ s))
 
 -- a source is read under either case exactly as its lowercased form is under lowercase
 abbrev pub EitherCaseIsLowercased : Type 0
-EitherCaseIsLowercased = (s bytes : List ℕ) → Spells policy.None s bytes ↔ Spells policy.Lower (str_to_ascii_lowercase s) bytes
+EitherCaseIsLowercased = (s bytes : List ℕ)
+    → Spells policy.None s bytes ↔ Spells policy.Lower (str_to_ascii_lowercase s) bytes
 
 -- encoding what was read under either case gives the source's lowercased form
 abbrev pub EncodingLowercases : Type 0
-EncodingLowercases = (s bytes : List ℕ) → Spells policy.None s bytes → text lowercase bytes ≡ str_to_ascii_lowercase s
+EncodingLowercases = (s bytes : List ℕ)
+    → Spells policy.None s bytes
+    → text lowercase bytes ≡ str_to_ascii_lowercase s
 
 -- the text of a joined list is the two texts joined
 abbrev pub JoinedTexts : Type 0
-JoinedTexts = (upper : Bool) (front back : List ℕ) → text upper (front ++ back) ≡ text upper front ++ text upper back
+JoinedTexts = (upper : Bool) (front back : List ℕ)
+    → text upper (front ++ back) ≡ text upper front ++ text upper back
 
 -- a text has two digits for each byte
 abbrev pub TextsAreTwiceAsLong : Type 0
@@ -65,20 +79,28 @@ TextsAreTwiceAsLong = (upper : Bool) (bytes : List ℕ) → length (text upper b
 
 -- the text of a list of bytes is ASCII, and so it is UTF-8
 abbrev pub TextsAreAscii : Type 0
-TextsAreAscii = (upper : Bool) (bytes : List ℕ) → AreBytes bytes → IsAscii (text upper bytes) × IsUtf8 (text upper bytes)
+TextsAreAscii = (upper : Bool) (bytes : List ℕ)
+    → AreBytes bytes
+    → IsAscii (text upper bytes) × IsUtf8 (text upper bytes)
 
 -- the first invalid byte is in the source, has no value, and all before it have one
 abbrev pub FirstInvalidIsFirst : Type 0
-FirstInvalidIsFirst = (c : CheckCase) (s : List ℕ) (f : ℕ) → first_invalid c s ≡ Some f → (f < length s) × (value c (slice_index s f) ≡ None) × AllValid c s 0 f
+FirstInvalidIsFirst = (c : CheckCase) (s : List ℕ) (f : ℕ)
+    → first_invalid c s ≡ Some f
+    → (f < length s) × (value c (slice_index s f) ≡ None) × AllValid c s 0 f
 
 -- a part has no invalid byte exactly where all bytes of its range are valid
 abbrev pub PartsAreValidWhereTheirRangesAre : Type 0
-PartsAreValidWhereTheirRangesAre = (c : CheckCase) (s : List ℕ) (start end : ℕ) → end ≤ length s → (first_invalid c (slice_range s start end) ≡ None) ↔ AllValid c s start end
+PartsAreValidWhereTheirRangesAre = (c : CheckCase) (s : List ℕ) (start end : ℕ)
+    → end ≤ length s
+    → (first_invalid c (slice_range s start end) ≡ None) ↔ AllValid c s start end
 
 -- where a refusal is an invalid character, it names the first invalid byte of the source: its place,
 -- and the byte there, which has no value
 abbrev pub NamesFirstInvalid : (CheckCase → List ℕ → Option Error) → Type 0
-NamesFirstInvalid refusal = (c : CheckCase) (s : List ℕ) (i b : ℕ) → refusal c s ≡ Some (InvalidChar i b) → (first_invalid c s ≡ Some i) × (b ≡ slice_index s i) × (value c b ≡ None)
+NamesFirstInvalid refusal = (c : CheckCase) (s : List ℕ) (i b : ℕ)
+    → refusal c s ≡ Some (InvalidChar i b)
+    → (first_invalid c s ≡ Some i) × (b ≡ slice_index s i) × (value c b ≡ None)
 
 -- the front of old bytes with a new front is that front
 abbrev pub FrontsAreKept : Type 0

@@ -5,4 +5,8 @@ use Rattle.hex_format.specs.Frame.{digits_of, frame}
 
 -- a padded text without sign, prefix and width is its digits alone
 abbrev pub BareTextsAreDigits : Type 0
-BareTextsAreDigits = (flags : HexFlags) (bytes : List ℕ) → flags.plus ≡ false → flags.prefix ≡ false → flags.width ≡ None → frame flags bytes ≡ digits_of flags bytes
+BareTextsAreDigits = (flags : HexFlags) (bytes : List ℕ)
+    → flags.plus ≡ false
+    → flags.prefix ≡ false
+    → flags.width ≡ None
+    → frame flags bytes ≡ digits_of flags bytes

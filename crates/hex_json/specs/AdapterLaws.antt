@@ -14,44 +14,66 @@ wire_formats = withpfx_ignorecase ∷ nopfx_ignorecase ∷ withpfx_lowercase ∷
 
 -- a value is read as at most one list, whatever the bound
 abbrev pub ReadsOneList : Type 0
-ReadsOneList = (p : WireFormat) (max other : Option ℕ) (d : Data) (bytes others : List ℕ) → Reads p max d bytes → Reads p other d others → bytes ≡ others
+ReadsOneList = (p : WireFormat) (max other : Option ℕ) (d : Data) (bytes others : List ℕ)
+    → Reads p max d bytes
+    → Reads p other d others
+    → bytes ≡ others
 
 -- nothing is refused exactly where a list is read
 abbrev pub ReadsWhatIsNotRefused : Type 0
-ReadsWhatIsNotRefused = (p : WireFormat) (max : Option ℕ) (d : Data) → (read_refusal p max d ≡ None) ↔ ((bytes : List ℕ) × Reads p max d bytes)
+ReadsWhatIsNotRefused = (p : WireFormat) (max : Option ℕ) (d : Data)
+    → (read_refusal p max d ≡ None) ↔ ((bytes : List ℕ) × Reads p max d bytes)
 
 -- into an array, exactly where a list of its length is read
 abbrev pub ReadsArrayOfItsLength : Type 0
-ReadsArrayOfItsLength = (p : WireFormat) (n : ℕ) (d : Data) → (array_read_refusal p n d ≡ None) ↔ ((bytes : List ℕ) × Reads p None d bytes × (length bytes ≡ n))
+ReadsArrayOfItsLength = (p : WireFormat) (n : ℕ) (d : Data)
+    → (array_read_refusal p n d ≡ None) ↔ ((bytes : List ℕ) × Reads p None d bytes × (length bytes ≡ n))
 
 -- a bounded read takes exactly what the unbounded one takes with at most so many bytes
 abbrev pub BoundedReadsWhatFits : Type 0
-BoundedReadsWhatFits = (p : WireFormat) (max : ℕ) (d : Data) (bytes : List ℕ) → Reads p (Some max) d bytes ↔ (Reads p None d bytes × (length bytes ≤ max))
+BoundedReadsWhatFits = (p : WireFormat) (max : ℕ) (d : Data) (bytes : List ℕ)
+    → Reads p (Some max) d bytes ↔ (Reads p None d bytes × (length bytes ≤ max))
 
 -- a read without a bound does not fail for one, and no more does one into an array
 abbrev pub UnboundedHasNoBound : Type 0
-UnboundedHasNoBound = (p : WireFormat) (d : Data) (max actual : ℕ) → ReadFailure p None d (OverBound max actual) → ⊥
+UnboundedHasNoBound = (p : WireFormat) (d : Data) (max actual : ℕ)
+    → ReadFailure p None d (OverBound max actual)
+    → ⊥
 
 abbrev pub ArrayHasNoBound : Type 0
-ArrayHasNoBound = (p : WireFormat) (n : ℕ) (d : Data) (max actual : ℕ) → array_read_refusal p n d ≢ Some (OverBound max actual)
+ArrayHasNoBound = (p : WireFormat) (n : ℕ) (d : Data) (max actual : ℕ)
+    → array_read_refusal p n d ≢ Some (OverBound max actual)
 
 -- what one of the six formats writes, it reads as the same bytes
 abbrev pub ReadingInvertsWriting : Type 0
-ReadingInvertsWriting = (bytes : List ℕ) (d : Data) → AreBytes bytes → All (λ p. Writes p bytes d → Reads p None d bytes) wire_formats
+ReadingInvertsWriting = (bytes : List ℕ) (d : Data)
+    → AreBytes bytes
+    → All (λ p. Writes p bytes d → Reads p None d bytes) wire_formats
 
 -- and none as none
 abbrev pub OptionReadingInvertsWriting : Type 0
-OptionReadingInvertsWriting = (bytes : Option (List ℕ)) (d : Data) → MatchOption bytes ⊤ AreBytes → All (λ p. WritesOption p bytes d → ReadsOption p None d bytes) wire_formats
+OptionReadingInvertsWriting = (bytes : Option (List ℕ)) (d : Data)
+    → MatchOption bytes ⊤ AreBytes
+    → All (λ p. WritesOption p bytes d → ReadsOption p None d bytes) wire_formats
 
 -- no value is written for none and for a list, the empty one too
 abbrev pub WritesNoneApart : Type 0
-WritesNoneApart = (p : WireFormat) (d : Data) (bytes : List ℕ) → WritesOption p None d → WritesOption p (Some bytes) d → ⊥
+WritesNoneApart = (p : WireFormat) (d : Data) (bytes : List ℕ)
+    → WritesOption p None d
+    → WritesOption p (Some bytes) d
+    → ⊥
 
 -- no value is read as none and as a list
 abbrev pub ReadsNoneApart : Type 0
-ReadsNoneApart = (p : WireFormat) (max : Option ℕ) (d : Data) (bytes : List ℕ) → ReadsOption p max d None → ReadsOption p max d (Some bytes) → ⊥
+ReadsNoneApart = (p : WireFormat) (max : Option ℕ) (d : Data) (bytes : List ℕ)
+    → ReadsOption p max d None
+    → ReadsOption p max d (Some bytes)
+    → ⊥
 
 -- by a format that reads the letters alone that it writes, a value that is read as a list is the one
 -- that is written for it
 abbrev pub WritingInvertsStrictReading : Type 0
-WritingInvertsStrictReading = (p : WireFormat) (d : Data) (bytes : List ℕ) → p.case ≡ strict p.upper → Reads p None d bytes → d ≡ string (wire_text p bytes)
+WritingInvertsStrictReading = (p : WireFormat) (d : Data) (bytes : List ℕ)
+    → p.case ≡ strict p.upper
+    → Reads p None d bytes
+    → d ≡ string (wire_text p bytes)

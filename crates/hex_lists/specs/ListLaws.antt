@@ -16,9 +16,14 @@ HasDigest {N} e = (length e.digest ≡ N) × AreBytes e.digest
 -- the list of some entries, none of which has a bad name, is read as the same entries, under the
 -- strict policy of its digits' case and under either case
 abbrev pub ReadingInvertsWriting : Type 0
-ReadingInvertsWriting = (N : ℕ) (upper : Bool) (entries : List (Entry N)) → AllByRecursion HasDigest entries → first_bad_name entries ≡ None
+ReadingInvertsWriting = (N : ℕ) (upper : Bool) (entries : List (Entry N))
+    → AllByRecursion HasDigest entries
+    → first_bad_name entries ≡ None
     → Lists (strict upper) (list_of upper entries) entries × Lists policy.None (list_of upper entries) entries
 
 -- a source that has a line with a fault is no list, whatever the entries
 abbrev pub FaultyListsNothing : Type 0
-FaultyListsNothing = (N : ℕ) (c : CheckCase) (s : List ℕ) (line : ℕ) (why : LineFault) (entries : List (Entry N)) → FirstFault c N s line why → Lists c s entries → ⊥
+FaultyListsNothing = (N : ℕ) (c : CheckCase) (s : List ℕ) (line : ℕ) (why : LineFault) (entries : List (Entry N))
+    → FirstFault c N s line why
+    → Lists c s entries
+    → ⊥
