@@ -76,10 +76,7 @@ pub fn write_to<S: Sink, const N: usize>(
     if let Some(entry) = bad_name(entries) {
         return Err(ListWriteFault::BadName { entry });
     }
-    match put_lines(entries, sink, upper) {
-        Ok(()) => Ok(()),
-        Err(fault) => Err(ListWriteFault::Write(fault)),
-    }
+    put_lines(entries, sink, upper).map_err(ListWriteFault::Write)
 }
 
 // Whether no line of a list can end with a name.
