@@ -46,18 +46,6 @@ strip-more group text new new' front step more before inside room whole separate
       copied = copied ∙ rw (before.copied, all) (sym (joined (take (2 * every)) every done next lines));
     }
 
--- nothing is copied yet
-pub strip-none : (group : Group) (text new : List ℕ) → StripsFront group text new (record { len = 0; digits = 0 })
-strip-none group text new =
-    let none = no_pieces (2 * piece_len group + 1) in
-    record {
-      inside = omega arith;
-      room = omega arith;
-      whole = record { count = 0; lines = omega arith };
-      separated = rw none (λ k d lt. absurd (omega arith));
-      copied = rw none refl;
-    }
-
 -- the digits of one part, and its separator
 pub part-digits : (every : ℕ) (s : List ℕ) → 2 * every < length s → digits_in every (take (2 * every + 1) s) ≡ take (2 * every) s
 part-digits every s long =

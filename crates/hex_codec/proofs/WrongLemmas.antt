@@ -269,6 +269,3 @@ clears-more c group s at n before inside next = record {
   inside = inside;
   rest = before.rest ∙ ap (option_map (λ i. at + i)) next ∙ further at n (first_wrong c group (drop n (drop at s))) ∙ ap (λ l. option_map (λ i. at + n + i) (first_wrong c group l)) (drop-drop n at s);
 }
-
-pub clears-none : (c : CheckCase) (group : Group) (s : List ℕ) → ClearsFront c group s 0
-clears-none c group s = record { inside = omega arith; rest = unmoved (first_wrong c group s) }

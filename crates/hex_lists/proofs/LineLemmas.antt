@@ -1,5 +1,5 @@
 -- The lines of a source, and how far it was read.
-use Rattle.std.proofs.Common.{◌≡◌, inl, inr, ℕ, ◌+◌, ◌-◌, ◌<◌, ◌≤◌, Bool, false, not, refl, sym, ap, ◌∙◌, arith, List, [], ◌∷◌, ◌++◌, length, take, drop, append_assoc, append-nil, length-append, length-drop, None, Some}
+use Rattle.std.proofs.Common.{◌≡◌, inl, inr, ℕ, ◌+◌, ◌-◌, ◌<◌, ◌≤◌, Bool, false, not, refl, sym, ap, ◌∙◌, arith, List, [], ◌∷◌, ◌++◌, length, take, drop, append_assoc, length-append, length-drop, None, Some}
 use Rattle.std.specs.Prelude.{◌==◌}
 use Rattle.std.specs.List.{All, AllByRecursion, AllZip, after_first, before_first, position_or_len, slice_split}
 use Rattle.std.proofs.lemmas.List.{drop-drop, drop_all, take_all, take_rest}
@@ -10,7 +10,7 @@ use Rattle.hex_core.specs.declared.digit.CheckCase.{CheckCase}
 use Rattle.hex_lists.specs.declared.digests.Entry.{Entry}
 use Rattle.hex_lists.specs.declared.digests.LineFault.{LineFault}
 use Rattle.hex_lists.specs.declared.digests.ListFault.TheVariants.{OutOfMemory}
-use Rattle.hex_lists.specs.Lists.{FirstFault, LineIs, Lists, ReadFailure, line_fault, lines_of, without_empty_end}
+use Rattle.hex_lists.specs.Lists.{FirstFault, LineIs, ReadFailure, line_fault, lines_of, without_empty_end}
 
 -- the test of a newline
 abbrev pub newline : ℕ → Bool
@@ -93,11 +93,6 @@ read-more c s rest next line entries here e step none is r = record {
   entries_of = zip-more (LineIs c) r.done entries here e r.entries_of is;
   clear = all-more _ r.done here r.clear none;
 }
-
--- all lines, where nothing is left
-pub read-all : {N : ℕ} (c : CheckCase) (s rest : List ℕ) (line : ℕ) (entries : List (Entry N)) → length rest ≡ 0 → ReadSoFar c s rest line entries → Lists c s entries
-read-all c s [] line entries e r = let all : lines_of s ≡ r.done = r.lines ∙ append-nil r.done in rw all r.entries_of
-read-all c s (b ∷ rest) line entries e r = absurd (omega arith)
 
 -- the next line, where it has a fault, is the first one
 pub fault-here : (N : ℕ) (c : CheckCase) (s rest : List ℕ) (line : ℕ) (entries : List (Entry N)) (here : List ℕ) (after : List (List ℕ)) (why : LineFault)
