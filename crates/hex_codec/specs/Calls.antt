@@ -1,17 +1,16 @@
 -- What a call answers, beside those into a destination: arrays, vectors and texts.
-use Rattle.std.specs.Prelude.{◌≡◌, ℕ, ◌+◌, ◌*◌, ◌^◌, ◌<◌, Bool, List, length, Result, MatchResult, Some, None, vec_items}
+use Rattle.std.specs.Prelude.{◌≡◌, ℕ, ◌+◌, ◌*◌, ◌^◌, ◌<◌, Bool, List, length, Result, MatchResult, vec_items}
 use Rattle.std.specs.declared.vec.Vec.{Vec}
 use Rattle.hex_core.specs.declared.digit.CheckCase.{CheckCase}
 use Rattle.hex_core.specs.declared.error.Error.{Error}
+use Rattle.hex_core.specs.Calls.{Answers}
 use Rattle.hex_core.specs.Refusal.{OwnedFailure, array_refusal, encode_refusal}
 use Rattle.hex_core.specs.Text.{Spells, text}
 use Rattle.hex_codec.specs.Failure.{AppendFailure}
 
 -- decoding into an array of n bytes: what the source spells, or the refusal
 abbrev pub DecodesArray : CheckCase → List ℕ → ℕ → Result (List ℕ) Error → Type 0
-DecodesArray c s n result = MatchResult result
-    (λ bytes. (array_refusal c s n ≡ None) × Spells c s bytes)
-    (λ e. array_refusal c s n ≡ Some e)
+DecodesArray c s n = Answers (array_refusal c s n) (λ bytes. Spells c s bytes)
 
 -- decoding into a new vector: what the source spells, or a failure
 abbrev pub DecodesVec : {A : Type 0} → CheckCase → List ℕ → Result (Vec ℕ A) Error → Type 0
@@ -19,9 +18,7 @@ DecodesVec c s result = MatchResult result (λ bytes. Spells c s (vec_items byte
 
 -- encoding into a text with this much room: the text, or the refusal
 abbrev pub EncodesWithin : {S : Type 0} → (S → List ℕ) → Bool → List ℕ → ℕ → Result S Error → Type 0
-EncodesWithin shown upper bytes room result = MatchResult result
-    (λ string. (encode_refusal bytes room ≡ None) × (shown string ≡ text upper bytes))
-    (λ e. encode_refusal bytes room ≡ Some e)
+EncodesWithin shown upper bytes room = Answers (encode_refusal bytes room) (λ string. shown string ≡ text upper bytes)
 
 -- encoding into new memory behind `had` bytes: the text, whose end is a `usize`, or a failure
 abbrev pub EncodesBehind : {S : Type 0} → (S → List ℕ) → ℕ → Bool → List ℕ → Result S Error → Type 0

@@ -4,6 +4,7 @@ use Rattle.std.specs.Borrow.{LendsIfOk, MutBor, Fml, u8, Array}
 use Rattle.hex_core.specs.declared.digit.CheckCase.{CheckCase}
 use Rattle.hex_core.specs.declared.error.Error.{Error}
 use Rattle.hex_core.specs.declared.error.Error.TheVariants as codec
+use Rattle.hex_core.specs.Calls.{Answers}
 use Rattle.hex_core.specs.Text.{with_front}
 use Rattle.hex_codec.specs.declared.group.Group.{Group}
 use Rattle.hex_codec.specs.declared.grouped.GroupFault.{GroupFault}
@@ -13,9 +14,7 @@ use Rattle.hex_codec.specs.GroupedText.{GroupSpells, byte_count, group_refusal}
 
 -- how many bytes a text that is read has, or the refusal
 abbrev pub Accepts : CheckCase → Group → List ℕ → ℕ → Result ℕ GroupFault → Type 0
-Accepts c group s room result = MatchResult result
-    (λ n. (group_refusal c group s room ≡ None) × (byte_count (piece_len group) (length s) ≡ Some n))
-    (λ e. group_refusal c group s room ≡ Some e)
+Accepts c group s room = Answers (group_refusal c group s room) (λ n. byte_count (piece_len group) (length s) ≡ Some n)
 
 -- reading into the front of a destination: the number of bytes, which are what the text spells and
 -- stand over the old ones; or the refusal, and the destination as it was
@@ -27,9 +26,7 @@ Reads c group s old new result = MatchResult result
 
 -- reading that lends the written front of this much room: what the text spells, or the refusal
 abbrev pub ReadsFront : CheckCase → Group → List ℕ → ℕ → Result (MutBor (List ℕ)) GroupFault → Type 0
-ReadsFront c group s room result = MatchResult result
-    (λ front. (group_refusal c group s room ≡ None) × GroupSpells c group s front.now)
-    (λ e. group_refusal c group s room ≡ Some e)
+ReadsFront c group s room = Answers (group_refusal c group s room) (λ front. GroupSpells c group s front.now)
 
 -- at `Ok` the slice ends as the answer, as it was last written, over the old bytes; at `Err`
 -- it ends as it was

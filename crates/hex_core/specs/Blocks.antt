@@ -1,5 +1,5 @@
 -- What bodies that work block by block keep, place by place.
-use Rattle.std.specs.Prelude.{◌≡◌, ℕ, ◌+◌, ◌*◌, ◌/◌, ◌%◌, ◌<◌, ◌≤◌, ◌==◌, if◌then◌else◌, List, Some, length, slice_index}
+use Rattle.std.specs.Prelude.{◌≡◌, ℕ, ◌+◌, ◌*◌, ◌/◌, ◌%◌, ◌<◌, ◌≤◌, List, Some, length, slice_index}
 use Rattle.hex_core.specs.declared.digit.CheckCase.{CheckCase}
 use Rattle.hex_core.specs.Digit.{value}
 use Rattle.hex_core.specs.Lanes.{IsNibble}
@@ -23,7 +23,3 @@ pub record DecodesRange (c : CheckCase) (s old new : List ℕ) (start end : ℕ)
   pub decoded : SpellsRange c s new start end
   pub before : (k : ℕ) → k < start → slice_index new k ≡ slice_index old k
   pub behind : (k : ℕ) → end ≤ k → slice_index new k ≡ slice_index old k
-
--- how many blocks cover a source: a last one that is not whole counts too
-abbrev pub cover : ℕ → ℕ → ℕ
-cover len block = if len % block == 0 then len / block else len / block + 1

@@ -1,5 +1,5 @@
 -- What a call answers and what it leaves: one word for each kind of call.
-use Rattle.std.specs.Prelude.{◌≡◌, ℕ, ◌*◌, ◌/◌, Bool, List, length, ◌↔◌, IsTrue, Result, MatchResult, Some, None}
+use Rattle.std.specs.Prelude.{◌≡◌, ℕ, ◌*◌, ◌/◌, Bool, List, length, ◌↔◌, IsTrue, Result, MatchResult, Option, Some, None}
 use Rattle.std.specs.Bool.{OnFalse, OnTrue}
 use Rattle.std.specs.Borrow.{MutBor}
 use Rattle.hex_core.specs.declared.digit.CheckCase.{CheckCase}
@@ -8,6 +8,10 @@ use Rattle.hex_core.specs.Plans.{StoresBlocks}
 use Rattle.hex_core.specs.Refusal.{decode_refusal, encode_refusal}
 use Rattle.hex_core.specs.Search.{first_invalid}
 use Rattle.hex_core.specs.Text.{Spells, text, with_front}
+
+-- nothing is refused, and this holds of what is answered; or the answer is the refusal
+abbrev pub Answers : {T E : Type 0} → Option E → (T → Type 0) → Result T E → Type 0
+Answers refusal Holds result = MatchResult result (λ value. (refusal ≡ None) × Holds value) (λ e. refusal ≡ Some e)
 
 -- decoding into the front of a destination: the number of bytes, which are what the source spells
 -- and stand over the old ones; or the refusal, and the destination as it was
@@ -26,15 +30,11 @@ Encodes upper bytes old new result = MatchResult result
 
 -- decoding that lends the written front of this much room: what the source spells, or the refusal
 abbrev pub DecodesFront : CheckCase → List ℕ → ℕ → Result (MutBor (List ℕ)) Error → Type 0
-DecodesFront c s room result = MatchResult result
-    (λ front. (decode_refusal c s room ≡ None) × Spells c s front.now)
-    (λ e. decode_refusal c s room ≡ Some e)
+DecodesFront c s room = Answers (decode_refusal c s room) (λ front. Spells c s front.now)
 
 -- encoding likewise: the text, or the refusal
 abbrev pub EncodesFront : Bool → List ℕ → ℕ → Result (MutBor (List ℕ)) Error → Type 0
-EncodesFront upper bytes room result = MatchResult result
-    (λ front. (encode_refusal bytes room ≡ None) × (front.now ≡ text upper bytes))
-    (λ e. encode_refusal bytes room ≡ Some e)
+EncodesFront upper bytes room = Answers (encode_refusal bytes room) (λ front. front.now ≡ text upper bytes)
 
 -- decoding over a whole destination, by an answer that is true where each byte of the source has a
 -- value: then the destination is what the source spells, and else this holds of it

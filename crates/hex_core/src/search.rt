@@ -1,7 +1,7 @@
 //! Counted sources, and the search for the first invalid byte through their counted calls.
 
 ghost use Rattle.std.specs.Prelude.{◌≡◌, ℕ, None, ◌+◌, ◌*◌, ◌/◌, ◌^◌, ◌<◌, ◌≤◌, ◌↔◌, IsTrue, List, MatchOption, length, min, slice_index};
-ghost use Rattle.hex_core.specs.Blocks.{cover};
+ghost use Rattle.std.specs.Int.{div_ceil};
 ghost use Rattle.hex_core.specs.Search.{AllValid, first_invalid, steps, tested_blocks};
 ghost use Rattle.hex_core.specs.declared.digit.CheckCase.{CheckCase};
 
@@ -207,7 +207,7 @@ pub fn covered<P: Probe>(p: &mut P) -> bool
     requires tests { P.test_count p.old + length (P.source p.old) < 2 ^ 64 }
     ensures valid { IsTrue result ↔ (first_invalid (P.policy p.old) (P.source p.old) ≡ None) }
     ensures few_tests { P.test_count p.new
-        ≤ P.test_count p.old + cover (length (P.source p.old)) (P.widest p.old) }
+        ≤ P.test_count p.old + div_ceil (length (P.source p.old)) (P.widest p.old) }
     ensures no_looks { P.look_count p.new ≡ P.look_count p.old }
     ensures same_source { P.source p.new ≡ P.source p.old }
     ensures same_policy { P.policy p.new ≡ P.policy p.old }

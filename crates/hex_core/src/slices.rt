@@ -4,7 +4,7 @@
 ghost use Rattle.std.specs.Prelude.{◌≡◌, ◌≢◌, ◌/◌, ◌*◌, ◌≤◌, None, Some, Ok, Err, length, MatchResult, IfOk, IfErr, IsOkAnd};
 ghost use Rattle.std.specs.Borrow.{sem};
 ghost use Rattle.hex_core.specs.declared.digit.CheckCase.{CheckCase};
-ghost use Rattle.hex_core.specs.Calls.{Decodes, DecodesFront, Encodes, EncodesFront};
+ghost use Rattle.hex_core.specs.Calls.{Answers, Decodes, DecodesFront, Encodes, EncodesFront};
 ghost use Rattle.hex_core.specs.Loan.{LendsAnswer};
 ghost use Rattle.hex_core.specs.Refusal.{decode_refusal, encode_refusal, first_bad_char};
 ghost use Rattle.hex_core.specs.Search.{first_invalid};
@@ -71,9 +71,7 @@ impl Backend {
     // How many bytes `src` decodes to, or what decoding it into this room refuses.
     #[inline(always)]
     fn accepted(self, src: &[u8], room: usize, case: CheckCase) -> Result<usize, Error>
-        ensures { MatchResult result
-            (λ n. (decode_refusal case src.now room ≡ None) × (n ≡ length src.now / 2))
-            (λ e. decode_refusal case src.now room ≡ Some e) }
+        ensures { Answers (decode_refusal case src.now room) (λ n. n ≡ length src.now / 2) result }
     {
         let required = Backend::decoded_len(src, room)?;
         if !self.check(src, case) {
@@ -85,9 +83,7 @@ impl Backend {
     // How many bytes the text of `src` takes, or what encoding it into this room refuses.
     #[inline(always)]
     fn encoded_len(src: &[u8], room: usize) -> Result<usize, Error>
-        ensures { MatchResult result
-            (λ n. (encode_refusal src.now room ≡ None) × (n ≡ 2 * length src.now))
-            (λ e. encode_refusal src.now room ≡ Some e) }
+        ensures { Answers (encode_refusal src.now room) (λ n. n ≡ 2 * length src.now) result }
     {
         let Some(required) = src.len().checked_mul(2) else {
             return Err(Error::Overflow);

@@ -24,10 +24,9 @@ list_of upper entries = flat_map (λ e. line_of upper e ++ (10 ∷ [])) entries
 
 -- some parts without an empty last one
 abbrev pub without_empty_end : List (List ℕ) → List (List ℕ)
-without_empty_end [] = []
 without_empty_end ([] ∷ []) = []
-without_empty_end ((b ∷ line) ∷ []) = (b ∷ line) ∷ []
-without_empty_end (line ∷ next ∷ lines) = line ∷ without_empty_end (next ∷ lines)
+without_empty_end (line ∷ lines) = line ∷ without_empty_end lines
+without_empty_end [] = []
 
 -- the lines of a source: the parts between its newlines, but for an empty one behind the last
 abbrev pub lines_of : List ℕ → List (List ℕ)

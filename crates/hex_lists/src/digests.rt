@@ -1,6 +1,7 @@
 //! Digest lists: a line for each entry, of the digits of its digest, its mark and its name.
 
 ghost use Rattle.std.specs.Prelude.{◌≡◌, ◌==◌, ◌&&◌, ◌||◌, false, None, Some, MatchOption, MatchResult};
+ghost use Rattle.hex_core.specs.Calls.{Answers};
 ghost use Rattle.hex_lists.specs.Lists.{LineIs, line_fault, mark};
 ghost use Rattle.hex_lists.specs.ListCalls.{ReadsList};
 
@@ -130,9 +131,7 @@ pub fn read_in<'a, A: Allocator + Drop, const N: usize>(
 
 // Reads one line, without its newline.
 fn read_line<'a, const N: usize>(line: &'a [u8], case: CheckCase) -> Result<Entry<'a, N>, LineFault>
-    ensures { MatchResult result
-        (λ e. (line_fault case N line.entry.now ≡ None) × LineIs case line.entry.now e)
-        (λ why. line_fault case N line.entry.now ≡ Some why) }
+    ensures { Answers (line_fault case N line.entry.now) (λ e. LineIs case line.entry.now e) result }
 {
     // No product is formed before the line is known to be as long.
     if line.len().saturating_sub(1) / 2 <= N {

@@ -5,8 +5,8 @@ use Rattle.hex_core.specs.declared.error.Error.{Error}
 use Rattle.hex_core.specs.Refusal.{first_bad_char, source_refusal}
 use Rattle.hex_core.specs.Text.{Spells}
 use Rattle.hex_program.specs.declared.failure.Failure.{Failure}
-use Rattle.hex_program.specs.declared.failure.Failure.TheVariants.{Codec, Usage, ReadFailed, WriteFailed, OutOfMemory, InputTooLong}
-use Rattle.hex_program.specs.Input.{ReadsAll}
+use Rattle.hex_program.specs.declared.failure.Failure.TheVariants.{Codec, ReadFailed, OutOfMemory, InputTooLong}
+use Rattle.hex_program.specs.Input.{ReadsAll, input_limit}
 use Rattle.hex_program.specs.Operations.{without_newline}
 
 -- an input was read whose digits spell these bytes
@@ -17,11 +17,10 @@ ReadsDecoded case left left' bytes = (input : List ℕ) × ReadsAll left left' i
 -- or memory was refused
 abbrev pub DecodingFailure : CheckCase → Option (List ℕ) → Option (List ℕ) → Failure → Type 0
 DecodingFailure case left left' (Codec e) = (input : List ℕ) × ReadsAll left left' input × (source_refusal case (without_newline input) ≡ Some e)
-DecodingFailure case left left' InputTooLong = IfSome left (λ bytes. 16777216 < length bytes)
+DecodingFailure case left left' InputTooLong = IfSome left (λ bytes. input_limit < length bytes)
 DecodingFailure case left left' ReadFailed = ⊤
 DecodingFailure case left left' OutOfMemory = ⊤
-DecodingFailure case left left' Usage = ⊥
-DecodingFailure case left left' WriteFailed = ⊥
+DecodingFailure case left left' _ = ⊥
 
 -- how the decoding of a whole input ends without its bytes: it is refused, or memory was
 abbrev pub EndsRefused : Option Error → Failure → Type 0

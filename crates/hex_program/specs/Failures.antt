@@ -10,10 +10,7 @@ use Rattle.hex_program.specs.declared.failure.Failure.TheVariants.{Codec, Usage,
 abbrev pub status_of : Failure → ℕ
 status_of (Codec e) = 1
 status_of Usage = 2
-status_of ReadFailed = 3
-status_of WriteFailed = 3
-status_of OutOfMemory = 3
-status_of InputTooLong = 3
+status_of _ = 3
 
 -- what a failure prints, byte for byte
 abbrev pub failure_text : Failure → List ℕ

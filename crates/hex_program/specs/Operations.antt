@@ -1,7 +1,8 @@
 -- The operations of `fhex`: their words, their outputs and refusals, and what a run tells.
-use Rattle.std.specs.Prelude.{◌≡◌, ◌<◌, ◌%◌, ℕ, if◌then◌else◌, List, [], ◌∷◌, ◌++◌, length, codes, Option, Some, None, Result, MatchResult}
+use Rattle.std.specs.Prelude.{◌≡◌, ◌<◌, ◌%◌, ℕ, Bool, if◌then◌else◌, List, [], ◌∷◌, ◌++◌, length, codes, Option, Some, None, Result, MatchResult}
 use Rattle.std.specs.Str.{bytes_eq}
 use Rattle.std.specs.Io.BufRead.{strip_last}
+use Rattle.hex_core.specs.declared.digit.CheckCase.{CheckCase}
 use Rattle.hex_core.specs.declared.digit.CheckCase.TheVariants as policy
 use Rattle.hex_core.specs.declared.error.Error.{Error}
 use Rattle.hex_core.specs.Text.{Spells, lowercase, text, uppercase}
@@ -32,21 +33,21 @@ op_of_words (word ∷ another ∷ rest) = None
 abbrev pub without_newline : List ℕ → List ℕ
 without_newline input = strip_last 10 input
 
+-- an operation encodes, in a case, or it decodes, under a policy
+abbrev pub by_op {ℓ} : {T : Type ℓ} → (Bool → T) → (CheckCase → T) → Op → T
+by_op encoding decoding Encode = encoding lowercase
+by_op encoding decoding EncodeUpper = encoding uppercase
+by_op encoding decoding Decode = decoding policy.None
+by_op encoding decoding DecodeLower = decoding policy.Lower
+by_op encoding decoding DecodeUpper = decoding policy.Upper
+
 -- the output of an operation: a text and a newline, or the bytes that the input spells
 abbrev pub IsOutput : Op → List ℕ → List ℕ → Type 0
-IsOutput Encode input output = output ≡ text lowercase input ++ 10 ∷ []
-IsOutput EncodeUpper input output = output ≡ text uppercase input ++ 10 ∷ []
-IsOutput Decode input output = Spells policy.None (without_newline input) output
-IsOutput DecodeLower input output = Spells policy.Lower (without_newline input) output
-IsOutput DecodeUpper input output = Spells policy.Upper (without_newline input) output
+IsOutput = by_op (λ upper input output. output ≡ text upper input ++ 10 ∷ []) (λ case input output. Spells case (without_newline input) output)
 
 -- what an operation refuses
 abbrev pub op_refusal : Op → List ℕ → Option Error
-op_refusal Encode input = None
-op_refusal EncodeUpper input = None
-op_refusal Decode input = source_refusal policy.None (without_newline input)
-op_refusal DecodeLower input = source_refusal policy.Lower (without_newline input)
-op_refusal DecodeUpper input = source_refusal policy.Upper (without_newline input)
+op_refusal = by_op (λ upper input. None) (λ case input. source_refusal case (without_newline input))
 
 -- decoding these digits needs memory: their length is even and above 0
 abbrev pub NeedsMemory : List ℕ → Type 0
@@ -54,11 +55,7 @@ NeedsMemory digits = (length digits % 2 ≡ 0) × (0 < length digits)
 
 -- an operation needs memory: encoding never does
 abbrev pub OpNeedsMemory : Op → List ℕ → Type 0
-OpNeedsMemory Encode input = ⊥
-OpNeedsMemory EncodeUpper input = ⊥
-OpNeedsMemory Decode input = NeedsMemory (without_newline input)
-OpNeedsMemory DecodeLower input = NeedsMemory (without_newline input)
-OpNeedsMemory DecodeUpper input = NeedsMemory (without_newline input)
+OpNeedsMemory = by_op (λ upper input. ⊥) (λ case input. NeedsMemory (without_newline input))
 
 -- what a fault of a run tells, by its outputs, its refusal and whether it needs memory
 abbrev pub FailureBy : (List ℕ → Type 0) → Option Error → Type 0 → SinkState → SinkState → RunFault → Type 0

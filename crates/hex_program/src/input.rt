@@ -2,7 +2,7 @@
 
 ghost use Rattle.std.specs.Prelude.{◌≡◌, ◌<◌, length, IfOk, IfErr, IfSome};
 ghost use Rattle.hex_program.specs.Failures.{status_of};
-ghost use Rattle.hex_program.specs.Input.{ReadsAll};
+ghost use Rattle.hex_program.specs.Input.{ReadsAll, input_limit};
 
 use crate::failure::Failure;
 use std::alloc::Allocator;
@@ -33,7 +33,7 @@ pub fn read_input<A: Allocator + Drop, R: Read>(
 ) -> Result<Vec<u8, A>, Failure>
     ensures ok { IfOk result (λ v. ReadsAll (R.remaining input.old) (R.remaining input.new) v.items) }
     ensures too_long { IfErr result (λ f. f ≡ Failure.InputTooLong
-        → IfSome (R.remaining input.old) (λ bytes. 16777216 < length bytes)) }
+        → IfSome (R.remaining input.old) (λ bytes. input_limit < length bytes)) }
     ensures err { IfErr result (λ f. status_of f ≡ 3) }
 {
     let mut chunk = [0u8; CHUNK];

@@ -1,4 +1,4 @@
-use Rattle.std.proofs.Common.{◌≡◌, ◌+◌, ◌*◌, ◌/◌, length, refl, subst, arith}
+use Rattle.std.proofs.Common.{◌≡◌, ◌+◌, ◌*◌, ◌/◌, length, refl, arith}
 use Rattle.std.proofs.lemmas.Bool.{OnFalse_at, OnTrue_at}
 use Rattle.hex_core.specs.Blocks.{DecodesRange}
 use Rattle.hex_core.proofs.BlockLemmas.{block_inside, blocks_past, blocks_within, decodes_next, decodes_none, valid_over}
