@@ -48,8 +48,8 @@ made_of() {
     } | cksum
 }
 
-# jobs NAME: one for each 500 lines, since each reads all libraries anew; at most four.
-jobs() {
+# jobs_of NAME: one for each 500 lines, since each reads all libraries anew; at most four.
+jobs_of() {
     lines=$(find "crates/$1/src" -name '*.rt' -exec cat {} + | wc -l)
     count=$((1 + lines / 500))
     [ "$count" -lt "$processors" ] || count=$processors
@@ -69,7 +69,7 @@ prove() {
     for used in $(below "$name"); do
         set -- "$@" -L "dependency=$top/crates/$used/out/rlib"
     done
-    count=$(jobs "$name")
+    count=$(jobs_of "$name")
     (cd "crates/$name" && rattle build --crate-name "$name" "$root" "$@" -L "dependency=$kit/rlibs" \
         --antt-project "$kit/rattle/logic/antt-project.json" --logic-built "$kit/logic_built" \
         --links "$name=" --jobs "$count")
