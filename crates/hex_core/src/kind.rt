@@ -41,7 +41,7 @@ impl Kind {
         match self {
             Kind::Scalar => scalar::write_text(src, dst, upper),
             Kind::Sse41 | Kind::Avx2 | Kind::Avx512 | Kind::Neon => {
-                blocks::encode(src, dst, upper)
+                blocks::encode::encode(src, dst, upper)
             }
         }
     }

@@ -6,7 +6,7 @@ ghost use Rattle.hex_core.specs.Plans.{name_of, owned_block, plan_names};
 ghost use Rattle.hex_core.specs.Search.{first_invalid};
 ghost use Rattle.hex_core.specs.Text.{text};
 
-use crate::blocks::{DecodeBlock, OneVector, TwoHashed, decode_blocks};
+use crate::blocks::decode::{DecodeBlock, OneVector, TwoHashed, decode_blocks};
 use crate::digit::CheckCase;
 use crate::kind::Kind;
 pub use crate::search::{Probe, covered, locate};

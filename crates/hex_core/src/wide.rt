@@ -6,9 +6,10 @@ ghost use Rattle.hex_core.specs.Calls.{DecodesWhole};
 ghost use Rattle.hex_core.specs.Search.{first_invalid};
 ghost use Rattle.hex_core.specs.Text.{Spells};
 
-use crate::blocks::{
-    check_four, check_long, check_one, check_two, decode_four, decode_long, decode_one, decode_two,
-    write_blocks, write_four, write_one, write_two,
+use crate::blocks::check::{check_four, check_long, check_one, check_two};
+use crate::blocks::decode::{
+    decode_four, decode_long, decode_one, decode_two, write_blocks, write_four, write_one,
+    write_two,
 };
 use crate::digit::CheckCase;
 use crate::lanes::{NibbleMap, Saturating};

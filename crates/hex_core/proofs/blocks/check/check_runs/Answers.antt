@@ -1,0 +1,23 @@
+use Rattle.std.proofs.Common.{◌+◌, ◌-◌, ◌*◌, ◌/◌, ◌≤◌, length, subst, arith}
+use Rattle.hex_core.specs.Search.{AllValid}
+use Rattle.hex_core.proofs.BlockLemmas.{block_inside, blocks_within, valid_range, rest_valid}
+use Rattle.hex_core.proofs.blocks.check.check_runs.Goals as goal
+
+pub overflow_mul-i : goal.overflow_mul-i
+overflow_mul-i g c = omega (arith, block_inside (length c.args.src.now - g.row.N) (8 * g.row.N) c.turns.i (omega arith) c.turns-test.true)
+
+pub is_run_valid-requires-clause-inside : goal.is_run_valid-requires-clause-inside
+is_run_valid-requires-clause-inside g c = omega (arith, block_inside (length c.args.src.now - g.row.N) (8 * g.row.N) c.turns.i (omega arith) c.turns-test.true)
+
+pub returns-then-not-is_run_valid : goal.returns-then-not-is_run_valid
+returns-then-not-is_run_valid g c =
+    let s = c.args.src.now in let n = g.row.N in let run = 8 * n in let at = c.turns.i * run in
+    let inside : at + run ≤ length s - n = block_inside (length s - n) run c.turns.i (omega arith) c.turns-test.true in
+    (λ h. cc, λ none. let t = c.is_run_valid.ensures.1 (valid_range c.args.case s at (at + run) (omega (arith, inside)) none) in cc)
+
+pub returns : goal.returns
+returns g c =
+    let s = c.args.src.now in let run = 8 * g.row.N in let runs = (length s - g.row.N) / run in
+    let inside : runs * run ≤ length s - g.row.N = blocks_within (length s - g.row.N) run runs (omega arith) (omega arith) in
+    let front : AllValid c.args.case s 0 (runs * run) = subst (λ i. AllValid c.args.case s 0 (i * run)) (omega arith) c.turns.invariant in
+    rest_valid c.args.case s (runs * run) c.check_blocks.result (omega (arith, inside)) front c.check_blocks.ensures

@@ -1,0 +1,159 @@
+//! Checking by blocks.
+
+ghost use Rattle.std.specs.Prelude.{◌≡◌, ◌↔◌, ◌+◌, ◌-◌, ◌*◌, ◌≤◌, IsTrue, None, length};
+ghost use Rattle.hex_core.specs.Arithmetic.{AreLow};
+ghost use Rattle.hex_core.specs.Search.{AllValid, first_invalid};
+
+use crate::digit::CheckCase;
+use crate::lanes::{excess, reach};
+use crate::vector::{either, is_low, is_zero, larger};
+use std::simd::prelude::*;
+
+// Whether each of `N` bytes from `at` on has a value.
+#[inline(always)]
+fn is_valid_at<const N: usize>(src: &[u8], at: usize, case: CheckCase) -> bool
+    requires lanes { N ≤ 64 }
+    requires inside { at + N ≤ length src.now }
+    ensures { IsTrue result ↔ AllValid case src.now at (at + N) }
+{
+    is_zero(excess(Simd::<u8, N>::from_slice(&src[at..]), case))
+}
+
+/// Whether every byte of a source of `N` bytes has a value.
+#[inline(always)]
+pub fn check_one<const N: usize>(src: &[u8], case: CheckCase) -> bool
+    requires lanes { N ≤ 64 }
+    requires whole { length src.now ≡ N }
+    ensures { IsTrue result ↔ (first_invalid case src.now ≡ None) }
+{
+    is_valid_at::<N>(src, 0, case)
+}
+
+/// Whether every byte of a source of `N` to `2 * N` bytes has a value.
+#[inline(always)]
+pub fn check_two<const N: usize>(src: &[u8], case: CheckCase) -> bool
+    requires lanes { N ≤ 64 }
+    requires least { N ≤ length src.now }
+    requires most { length src.now ≤ 2 * N }
+    ensures { IsTrue result ↔ (first_invalid case src.now ≡ None) }
+{
+    let front = excess(Simd::<u8, N>::from_slice(src), case);
+    let back = excess(Simd::<u8, N>::from_slice(&src[src.len() - N..]), case);
+    is_zero(either(front, back))
+}
+
+// What is below 10 in each lane exactly where each of `2 * N` bytes from `at` on has a value.
+#[inline(always)]
+fn reach_of_two<const N: usize>(src: &[u8], at: usize, case: CheckCase) -> Simd<u8, N>
+    requires inside { at + 2 * N ≤ length src.now }
+    ensures { AreLow result ↔ AllValid case src.now at (at + 2 * N) }
+{
+    let first = reach(Simd::<u8, N>::from_slice(&src[at..]), case);
+    let second = reach(Simd::<u8, N>::from_slice(&src[at + N..]), case);
+    larger(first, second)
+}
+
+/// Whether every byte of a source of `2 * N` to `4 * N` bytes has a value.
+#[inline(never)]
+pub fn check_four<const N: usize>(src: &[u8], case: CheckCase) -> bool
+    requires lanes { N ≤ 64 }
+    requires least { 2 * N ≤ length src.now }
+    requires most { length src.now ≤ 4 * N }
+    ensures { IsTrue result ↔ (first_invalid case src.now ≡ None) }
+{
+    let front = reach_of_two::<N>(src, 0, case);
+    let back = reach_of_two::<N>(src, src.len() - 2 * N, case);
+    is_low(larger(front, back))
+}
+
+// The same, of `4 * N` bytes.
+#[inline(always)]
+fn reach_of_four<const N: usize>(src: &[u8], at: usize, case: CheckCase) -> Simd<u8, N>
+    requires inside { at + 4 * N ≤ length src.now }
+    ensures { AreLow result ↔ AllValid case src.now at (at + 4 * N) }
+{
+    let first = reach_of_two::<N>(src, at, case);
+    let second = reach_of_two::<N>(src, at + 2 * N, case);
+    larger(first, second)
+}
+
+// Whether every byte of a source of `4 * N` to `8 * N` bytes has a value.
+#[inline(never)]
+fn check_eight<const N: usize>(src: &[u8], case: CheckCase) -> bool
+    requires lanes { N ≤ 64 }
+    requires least { 4 * N ≤ length src.now }
+    requires most { length src.now ≤ 8 * N }
+    ensures { IsTrue result ↔ (first_invalid case src.now ≡ None) }
+{
+    let front = reach_of_four::<N>(src, 0, case);
+    let back = reach_of_four::<N>(src, src.len() - 4 * N, case);
+    is_low(larger(front, back))
+}
+
+// Whether every byte of a source of `N` bytes or more has a value, block by block.
+#[inline(never)]
+fn check_blocks<const N: usize>(src: &[u8], case: CheckCase) -> bool
+    requires some { 1 ≤ N }
+    requires lanes { N ≤ 64 }
+    requires least { N ≤ length src.now }
+    ensures { IsTrue result ↔ (first_invalid case src.now ≡ None) }
+{
+    'turns: for i in 0..src.len() / N {
+        if !is_valid_at::<N>(src, i * N, case) {
+            return false;
+        }
+    }
+    src.len() % N == 0 || is_valid_at::<N>(src, src.len() - N, case)
+}
+
+// How many blocks one test is for in a long source: with more of them an invalid byte is found later.
+const RUN: usize = 8;
+
+// Whether each byte of a run of blocks from `at` on has a value.
+#[inline(always)]
+fn is_run_valid<const N: usize>(src: &[u8], at: usize, case: CheckCase) -> bool
+    requires lanes { N ≤ 64 }
+    requires inside { at + RUN * N ≤ length src.now }
+    ensures { IsTrue result ↔ AllValid case src.now at (at + RUN * N) }
+{
+    let mut farthest = reach(Simd::<u8, N>::from_slice(&src[at..]), case);
+    'turns: for i in 1..RUN {
+        let block = Simd::<u8, N>::from_slice(&src[at + i * N..]);
+        farthest = larger(farthest, reach(block, case));
+    }
+    is_low(farthest)
+}
+
+// The same as `check_blocks`, by runs as long as there is one.
+#[inline(never)]
+fn check_runs<const N: usize>(src: &[u8], case: CheckCase) -> bool
+    requires some { 1 ≤ N }
+    requires lanes { N ≤ 64 }
+    requires least { N ≤ length src.now }
+    ensures { IsTrue result ↔ (first_invalid case src.now ≡ None) }
+{
+    let runs = (src.len() - N) / (RUN * N);
+    'turns: for i in 0..runs {
+        if !is_run_valid::<N>(src, i * (RUN * N), case) {
+            return false;
+        }
+    }
+    check_blocks::<N>(&src[runs * (RUN * N)..], case)
+}
+
+/// Whether every byte of a source of `N` bytes or more has a value.
+#[inline(always)]
+pub fn check_long<const N: usize>(src: &[u8], case: CheckCase) -> bool
+    requires some { 1 ≤ N }
+    requires lanes { N ≤ 64 }
+    requires least { N ≤ length src.now }
+    ensures { IsTrue result ↔ (first_invalid case src.now ≡ None) }
+{
+    if src.len() < 4 * N {
+        check_blocks::<N>(src, case)
+    } else if src.len() <= RUN * N {
+        check_eight::<N>(src, case)
+    } else {
+        check_runs::<N>(src, case)
+    }
+}

@@ -1,0 +1,350 @@
+//! Decoding by blocks: nibbles in registers, and the stores of their bytes.
+
+ghost use Rattle.std.specs.Bool.{OnFalse, OnTrue};
+ghost use Rattle.std.specs.Prelude.{◌≡◌, ◌↔◌, ℕ, ◌+◌, ◌-◌, ◌*◌, ◌≤◌, IsTrue, None, length};
+ghost use Rattle.std.specs.Simd.Lanes.{put_chunk};
+ghost use Rattle.hex_core.specs.Arithmetic.{packed};
+ghost use Rattle.hex_core.specs.Blocks.{DecodesRange, NibblesFrom};
+ghost use Rattle.hex_core.specs.Calls.{DecodesWhole};
+ghost use Rattle.hex_core.specs.Search.{AllValid, first_invalid};
+ghost use Rattle.hex_core.specs.Lanes.{AreSmall};
+ghost use Rattle.hex_core.specs.Text.{Spells};
+
+use crate::blocks::check::check_long;
+use crate::digit::CheckCase;
+use crate::lanes::{Hashing, NibbleMap, Saturating, valid_nibbles};
+use crate::vector::{Lanes, Pack, either, is_small};
+use std::simd::prelude::*;
+
+// The nibbles of `N` bytes from `at` on.
+#[inline(always)]
+fn nibbles_at<M, const N: usize>(src: &[u8], at: usize, case: CheckCase) -> Simd<u8, N>
+where
+    M: NibbleMap<N>,
+    requires { at + N ≤ length src.now }
+    ensures { NibblesFrom case src.now at N result }
+{
+    M::nibbles(Simd::<u8, N>::from_slice(&src[at..]), case)
+}
+
+// The same, where each of the bytes has a value.
+#[inline(always)]
+fn valid_nibbles_at<const N: usize>(src: &[u8], at: usize, case: CheckCase) -> Simd<u8, N>
+    requires inside { at + N ≤ length src.now }
+    requires valid { AllValid case src.now at (at + N) }
+    ensures nibbles { NibblesFrom case src.now at N result }
+    ensures small { AreSmall result }
+{
+    valid_nibbles(Simd::<u8, N>::from_slice(&src[at..]))
+}
+
+// Writes the bytes of nibbles from `at` on.
+#[inline(always)]
+fn put<const N: usize, const HALF: usize>(nibbles: Simd<u8, N>, dst: &mut [u8], at: usize)
+where
+    Lanes: Pack<N, HALF>,
+    requires small { AreSmall nibbles }
+    requires room { at + HALF ≤ length dst.old }
+    ensures { dst.new ≡ put_chunk at dst.old (packed nibbles.entry) }
+{
+    Lanes::pack(nibbles).copy_to_slice(&mut dst[at..]);
+}
+
+// Writes the bytes from `at` on that `N` valid digits spell.
+#[inline(always)]
+fn write_at<const N: usize, const HALF: usize>(
+    src: &[u8],
+    dst: &mut [u8],
+    at: usize,
+    case: CheckCase,
+)
+where
+    Lanes: Pack<N, HALF>,
+    requires lanes { N ≡ 2 * HALF }
+    requires twice { length src.now ≡ 2 * length dst.old }
+    requires room { at + HALF ≤ length dst.old }
+    requires valid { first_invalid case src.now ≡ None }
+    ensures { DecodesRange case src.now dst.old dst.new at (at + HALF) }
+{
+    put(valid_nibbles_at::<N>(src, 2 * at, case), dst, at);
+}
+
+/// Writes the bytes that a valid source of `N` digits or more spells.
+#[inline(never)]
+pub fn write_blocks<const N: usize, const HALF: usize>(src: &[u8], dst: &mut [u8], case: CheckCase)
+where
+    Lanes: Pack<N, HALF>,
+    requires some { 1 ≤ HALF }
+    requires lanes { N ≡ 2 * HALF }
+    requires twice { length src.now ≡ 2 * length dst.old }
+    requires least { HALF ≤ length dst.old }
+    requires valid { first_invalid case src.now ≡ None }
+    ensures { Spells case src.now dst.new }
+{
+    'turns: for i in 0..dst.len() / HALF {
+        write_at::<N, HALF>(src, dst, i * HALF, case);
+    }
+    if dst.len() % HALF != 0 {
+        let at = dst.len() - HALF;
+        write_at::<N, HALF>(src, dst, at, case);
+    }
+}
+
+// Writes the bytes of two blocks of nibbles, one at each end of a range.
+#[inline(always)]
+fn put_two<const N: usize, const HALF: usize>(
+    front: Simd<u8, N>,
+    back: Simd<u8, N>,
+    dst: &mut [u8],
+    start: usize,
+    end: usize,
+)
+where
+    Lanes: Pack<N, HALF>,
+    requires front { AreSmall front }
+    requires back { AreSmall back }
+    requires least { start + HALF ≤ end }
+    requires inside { end ≤ length dst.old }
+    ensures { dst.new ≡ put_chunk (end - HALF) (put_chunk start dst.old (packed front.entry))
+        (packed back.entry) }
+{
+    put(front, dst, start);
+    put(back, dst, end - HALF);
+}
+
+/// Decodes a source of `N` digits: all of it is tested before the first store.
+#[inline(always)]
+pub fn decode_one<M, const N: usize, const HALF: usize>(
+    src: &[u8],
+    dst: &mut [u8],
+    case: CheckCase,
+) -> bool
+where
+    M: NibbleMap<N>,
+    Lanes: Pack<N, HALF>,
+    requires lanes { N ≤ 64 }
+    requires half { N ≡ 2 * HALF }
+    requires twice { length src.now ≡ 2 * length dst.old }
+    requires whole { length src.now ≡ N }
+    ensures { DecodesWhole case src.now dst.old dst.new result }
+{
+    let nibbles = nibbles_at::<M, N>(src, 0, case);
+    if !is_small(nibbles) {
+        return false;
+    }
+    put(nibbles, dst, 0);
+    true
+}
+
+/// Decodes a source of `N` to `2 * N` digits: all of it is tested before the first store.
+#[inline(always)]
+pub fn decode_two<M, const N: usize, const HALF: usize>(
+    src: &[u8],
+    dst: &mut [u8],
+    case: CheckCase,
+) -> bool
+where
+    M: NibbleMap<N>,
+    Lanes: Pack<N, HALF>,
+    requires lanes { N ≤ 64 }
+    requires half { N ≡ 2 * HALF }
+    requires twice { length src.now ≡ 2 * length dst.old }
+    requires least { N ≤ length src.now }
+    requires most { length src.now ≤ 2 * N }
+    ensures { DecodesWhole case src.now dst.old dst.new result }
+{
+    let front = nibbles_at::<M, N>(src, 0, case);
+    let back = nibbles_at::<M, N>(src, src.len() - N, case);
+    if !is_small(either(front, back)) {
+        return false;
+    }
+    let end = dst.len();
+    put_two(front, back, dst, 0, end);
+    true
+}
+
+/// Decodes a source of `2 * N` to `4 * N` digits: all of it is tested before the first store.
+#[inline(never)]
+pub fn decode_four<M, const N: usize, const HALF: usize>(
+    src: &[u8],
+    dst: &mut [u8],
+    case: CheckCase,
+) -> bool
+where
+    M: NibbleMap<N>,
+    Lanes: Pack<N, HALF>,
+    requires lanes { N ≤ 64 }
+    requires half { N ≡ 2 * HALF }
+    requires twice { length src.now ≡ 2 * length dst.old }
+    requires least { 2 * N ≤ length src.now }
+    requires most { length src.now ≤ 4 * N }
+    ensures { DecodesWhole case src.now dst.old dst.new result }
+{
+    let len = src.len();
+    let first = nibbles_at::<M, N>(src, 0, case);
+    let second = nibbles_at::<M, N>(src, N, case);
+    let third = nibbles_at::<M, N>(src, len - 2 * N, case);
+    let last = nibbles_at::<M, N>(src, len - N, case);
+    if !is_small(either(either(first, second), either(third, last))) {
+        return false;
+    }
+    let end = dst.len();
+    put_two(first, second, dst, 0, N);
+    put_two(third, last, dst, end - N, end);
+    true
+}
+
+/// Decodes a source of `N` digits or more: all of it is tested before the first store.
+#[inline(never)]
+pub fn decode_long<const N: usize, const HALF: usize>(
+    src: &[u8],
+    dst: &mut [u8],
+    case: CheckCase,
+) -> bool
+where
+    Lanes: Pack<N, HALF>,
+    requires some { 1 ≤ HALF }
+    requires lanes { N ≤ 64 }
+    requires half { N ≡ 2 * HALF }
+    requires twice { length src.now ≡ 2 * length dst.old }
+    requires least { N ≤ length src.now }
+    ensures { DecodesWhole case src.now dst.old dst.new result }
+{
+    let valid = check_long::<N>(src, case);
+    if valid {
+        write_blocks::<N, HALF>(src, dst, case);
+    }
+    valid
+}
+
+/// How the digits of one block of `SIZE` bytes are decoded: all of them are tested before the first
+/// store.
+pub trait DecodeBlock<const SIZE: usize> {
+    /// Decodes the block of the bytes from `at` on, and returns whether it is valid.
+    fn decode_at(src: &[u8], dst: &mut [u8], at: usize, case: CheckCase) -> bool
+        requires twice { length src.now ≡ 2 * length dst.old }
+        requires room { at + SIZE ≤ length dst.old }
+        ensures valid { IsTrue result ↔ AllValid case src.now (2 * at) (2 * at + 2 * SIZE) }
+        ensures decoded { OnTrue result (DecodesRange case src.now dst.old dst.new at (at + SIZE)) }
+        ensures kept { OnFalse result (dst.new ≡ dst.old) };
+}
+
+/// A block of 64 digits in one vector.
+pub struct OneVector;
+
+impl DecodeBlock<32> for OneVector {
+    #[inline(always)]
+    fn decode_at(src: &[u8], dst: &mut [u8], at: usize, case: CheckCase) -> bool
+        requires twice { length src.now ≡ 2 * length dst.old }
+        requires room { at + 32 ≤ length dst.old }
+        ensures valid { IsTrue result ↔ AllValid case src.now (2 * at) (2 * at + 2 * 32) }
+        ensures decoded { OnTrue result (DecodesRange case src.now dst.old dst.new at (at + 32)) }
+        ensures kept { OnFalse result (dst.new ≡ dst.old) }
+    {
+        let block = nibbles_at::<Saturating, 64>(src, 2 * at, case);
+        if !is_small(block) {
+            return false;
+        }
+        put::<64, 32>(block, dst, at);
+        true
+    }
+}
+
+/// A block of 128 digits in two vectors, whose nibbles are found by a hash.
+pub struct TwoHashed;
+
+impl DecodeBlock<64> for TwoHashed {
+    #[inline(always)]
+    fn decode_at(src: &[u8], dst: &mut [u8], at: usize, case: CheckCase) -> bool
+        requires twice { length src.now ≡ 2 * length dst.old }
+        requires room { at + 64 ≤ length dst.old }
+        ensures valid { IsTrue result ↔ AllValid case src.now (2 * at) (2 * at + 2 * 64) }
+        ensures decoded { OnTrue result (DecodesRange case src.now dst.old dst.new at (at + 64)) }
+        ensures kept { OnFalse result (dst.new ≡ dst.old) }
+    {
+        let front = nibbles_at::<Hashing, 64>(src, 2 * at, case);
+        let back = nibbles_at::<Hashing, 64>(src, 2 * at + 64, case);
+        if !is_small(either(front, back)) {
+            return false;
+        }
+        put_two::<64, 32>(front, back, dst, at, at + 64);
+        true
+    }
+}
+
+/// Decodes whole blocks of `2 * SIZE` digits in order, each tested before its bytes are stored, up
+/// to one that has an invalid byte, and returns how many bytes it stored.
+#[inline(never)]
+pub fn decode_blocks<B, const SIZE: usize>(src: &[u8], dst: &mut [u8], case: CheckCase) -> usize
+where
+    B: DecodeBlock<SIZE>,
+    requires some { 1 ≤ SIZE }
+    requires twice { length src.now ≡ 2 * length dst.old }
+    ensures inside { result ≤ length dst.old }
+    ensures whole { (i : ℕ) × (result ≡ i * SIZE) }
+    ensures valid { AllValid case src.now 0 (2 * result) }
+    ensures stopped { 2 * result + 2 * SIZE ≤ length src.now
+        → ¬ AllValid case src.now (2 * result) (2 * result + 2 * SIZE) }
+    ensures decoded { DecodesRange case src.now dst.old dst.new 0 result }
+{
+    let blocks = dst.len() / SIZE;
+    'turns: for i in 0..blocks {
+        if !B::decode_at(src, dst, i * SIZE, case) {
+            return i * SIZE;
+        }
+    }
+    blocks * SIZE
+}
+
+/// Writes the bytes that a valid source of `N` digits spells.
+#[inline(always)]
+pub fn write_one<const N: usize, const HALF: usize>(src: &[u8], dst: &mut [u8], case: CheckCase)
+where
+    Lanes: Pack<N, HALF>,
+    requires lanes { N ≡ 2 * HALF }
+    requires twice { length src.now ≡ 2 * length dst.old }
+    requires whole { length src.now ≡ N }
+    requires valid { first_invalid case src.now ≡ None }
+    ensures { Spells case src.now dst.new }
+{
+    write_at::<N, HALF>(src, dst, 0, case);
+}
+
+/// Writes the bytes that a valid source of `N` to `2 * N` digits spells.
+#[inline(always)]
+pub fn write_two<const N: usize, const HALF: usize>(src: &[u8], dst: &mut [u8], case: CheckCase)
+where
+    Lanes: Pack<N, HALF>,
+    requires lanes { N ≡ 2 * HALF }
+    requires twice { length src.now ≡ 2 * length dst.old }
+    requires least { N ≤ length src.now }
+    requires most { length src.now ≤ 2 * N }
+    requires valid { first_invalid case src.now ≡ None }
+    ensures { Spells case src.now dst.new }
+{
+    // Both blocks are read before the first store, so that the compiler joins these reads with
+    // those of a check before.
+    let front = valid_nibbles_at::<N>(src, 0, case);
+    let back = valid_nibbles_at::<N>(src, src.len() - N, case);
+    let end = dst.len();
+    put_two(front, back, dst, 0, end);
+}
+
+/// Writes the bytes that a valid source of `2 * N` to `4 * N` digits spells.
+#[inline(never)]
+pub fn write_four<const N: usize, const HALF: usize>(src: &[u8], dst: &mut [u8], case: CheckCase)
+where
+    Lanes: Pack<N, HALF>,
+    requires lanes { N ≡ 2 * HALF }
+    requires twice { length src.now ≡ 2 * length dst.old }
+    requires least { 2 * N ≤ length src.now }
+    requires most { length src.now ≤ 4 * N }
+    requires valid { first_invalid case src.now ≡ None }
+    ensures { Spells case src.now dst.new }
+{
+    let end = dst.len();
+    write_at::<N, HALF>(src, dst, 0, case);
+    write_at::<N, HALF>(src, dst, HALF, case);
+    write_at::<N, HALF>(src, dst, end - N, case);
+    write_at::<N, HALF>(src, dst, end - HALF, case);
+}

@@ -1,0 +1,72 @@
+//! Encoding by blocks.
+
+ghost use Rattle.std.specs.Prelude.{◌≡◌, ◌+◌, ◌*◌, ◌≤◌, length};
+ghost use Rattle.std.specs.Simd.Lanes.{chunk, put_chunk};
+ghost use Rattle.hex_core.specs.Text.{text};
+
+use crate::lanes::encoded;
+use crate::scalar;
+use crate::vector::{Interleave, Lanes, LookUp};
+use std::simd::prelude::*;
+
+// Writes the text of `N` bytes from `at` on.
+#[inline(always)]
+fn spell_at<const N: usize, const TWICE: usize>(src: &[u8], dst: &mut [u8], at: usize, upper: bool)
+where
+    Lanes: Interleave<N, TWICE> + LookUp<TWICE>,
+    requires lanes { TWICE ≡ 2 * N }
+    requires source { at + N ≤ length src.now }
+    requires room { 2 * at + TWICE ≤ length dst.old }
+    ensures { dst.new ≡ put_chunk (2 * at) dst.old (text upper (chunk at N src.now)) }
+{
+    let text = encoded::<N, TWICE>(Simd::<u8, N>::from_slice(&src[at..]), upper);
+    text.copy_to_slice(&mut dst[2 * at..]);
+}
+
+// Writes the text of `N` to `2 * N` bytes.
+#[inline(always)]
+fn encode_two<const N: usize, const TWICE: usize>(src: &[u8], dst: &mut [u8], upper: bool)
+where
+    Lanes: Interleave<N, TWICE> + LookUp<TWICE>,
+    requires lanes { TWICE ≡ 2 * N }
+    requires twice { length dst.old ≡ 2 * length src.now }
+    requires least { N ≤ length src.now }
+    requires most { length src.now ≤ 2 * N }
+    ensures { dst.new ≡ text upper src.now }
+{
+    spell_at::<N, TWICE>(src, dst, 0, upper);
+    spell_at::<N, TWICE>(src, dst, src.len() - N, upper);
+}
+
+// Writes the text of `N` bytes or more.
+#[inline(never)]
+fn encode_blocks<const N: usize, const TWICE: usize>(src: &[u8], dst: &mut [u8], upper: bool)
+where
+    Lanes: Interleave<N, TWICE> + LookUp<TWICE>,
+    requires some { 1 ≤ N }
+    requires lanes { TWICE ≡ 2 * N }
+    requires twice { length dst.old ≡ 2 * length src.now }
+    requires least { N ≤ length src.now }
+    ensures { dst.new ≡ text upper src.now }
+{
+    'turns: for i in 0..src.len() / N {
+        spell_at::<N, TWICE>(src, dst, i * N, upper);
+    }
+    if src.len() % N != 0 {
+        spell_at::<N, TWICE>(src, dst, src.len() - N, upper);
+    }
+}
+
+/// Writes the text of `src` into the whole of `dst`, for every plan of lanes.
+#[inline(always)]
+pub fn encode(src: &[u8], dst: &mut [u8], upper: bool)
+    requires { length dst.old ≡ 2 * length src.now }
+    ensures { dst.new ≡ text upper src.now }
+{
+    match src.len() {
+        0..8 => scalar::write_text(src, dst, upper),
+        8..=16 => encode_two::<8, 16>(src, dst, upper),
+        17..=32 => encode_two::<16, 32>(src, dst, upper),
+        _ => encode_blocks::<32, 64>(src, dst, upper),
+    }
+}
