@@ -20,15 +20,13 @@ struct TwoParts<'a> {
 }
 
 impl<'a> Probe for TwoParts<'a> {
-    ghost source = { λ p. p.front.now ++ p.back.now };
-
-    ghost policy = { λ p. p.case };
-
-    ghost widest = { λ p. 64 };
-
-    ghost look_count = { λ p. p.looks };
-
-    ghost test_count = { λ p. p.tests };
+    ghost state = { λ p. record {
+      source = p.front.now ++ p.back.now;
+      policy = p.case;
+      block = 64;
+      looks = p.looks;
+      tests = p.tests;
+    } };
 
     fn len(&self) -> usize {
         self.front.len() + self.back.len()

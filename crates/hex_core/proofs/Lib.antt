@@ -11,6 +11,7 @@ pub mod NumberLemmas
 pub mod OwnedLemmas
 pub mod PairLemmas
 pub mod PositionLemmas
+pub mod ProbeLemmas
 pub mod SearchLemmas
 pub mod Lent
 pub mod RefusalLemmas

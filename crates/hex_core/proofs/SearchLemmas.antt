@@ -7,6 +7,7 @@ use Rattle.std.proofs.lemmas.Grind.{common_steps}
 use Rattle.std.proofs.lemmas.List.Quantifiers.{position-Some}
 use Rattle.hex_core.specs.declared.digit.CheckCase.{CheckCase}
 use Rattle.hex_core.specs.Digit.{value}
+use Rattle.hex_core.specs.Probe.{looks_behind}
 use Rattle.hex_core.proofs.PositionLemmas.{before_none, position_is, position_none}
 use Rattle.hex_core.specs.Search.{AllValid, first_invalid, steps_to, tested_blocks}
 
@@ -33,12 +34,7 @@ test_from_none : (o : Option ℕ) → is_some o ≡ false → is_none o ≡ true
 test_from_none (Some x) e = cc
 test_from_none None e = refl
 
--- a range stays valid along equal policies and sources
-pub valid_along : {c d : CheckCase} {s t : List ℕ} (start end : ℕ) → c ≡ d → s ≡ t → AllValid c s start end → AllValid d t start end
-valid_along {c = c} {d = d} {s = s} {t = t} start end p q valid =
-    subst (λ w. AllValid d w start end) q (subst (λ w. AllValid w s start end) p valid)
-
--- and grows by a byte that has a value
+-- a valid range grows by a byte that has a value
 pub valid_more : (c : CheckCase) (s : List ℕ) (i : ℕ) → AllValid c s 0 i → IsSome (value c (slice_index s i)) → AllValid c s 0 (i + 1)
 valid_more c s i valid here k low lt =
     elim (cases_lt k i) [
@@ -124,12 +120,8 @@ first_invalid_block c s f i e valid fails =
       | inr past ↦ absurd (fails (λ k a b. valid_before c s f e k (omega arith) (omega arith)))
     ]
 
--- where the looks begin, in a source of this length with this first invalid byte: at the invalid byte's block, or behind the whole blocks
-abbrev pub BeginsAt : ℕ → Option ℕ → ℕ → Type 0
-BeginsAt len o start = MatchOption o (start ≡ 64 * tested_blocks len) (λ f. start ≡ 64 * min (tested_blocks len) (f / 64))
-
 -- at a block that does not pass, the tests end and the looks begin
-pub stops_at_block : (c : CheckCase) (s : List ℕ) (i whole : ℕ) (o : Option ℕ) → first_invalid c s ≡ o → whole ≡ tested_blocks (length s) → i < whole → AllValid c s 0 (64 * i) → ¬ AllValid c s (64 * i) (64 * i + 64) → BeginsAt (length s) o (64 * i) × ((steps_to (length s) o).tests ≡ i + 1)
+pub stops_at_block : (c : CheckCase) (s : List ℕ) (i whole : ℕ) (o : Option ℕ) → first_invalid c s ≡ o → whole ≡ tested_blocks (length s) → i < whole → AllValid c s 0 (64 * i) → ¬ AllValid c s (64 * i) (64 * i + 64) → (64 * i ≡ looks_behind (length s) o) × ((steps_to (length s) o).tests ≡ i + 1)
 stops_at_block c s i whole (Some f) e all inside valid fails =
     let same = first_invalid_block c s f i e valid fails in
     (omega arith, omega arith)
@@ -137,16 +129,34 @@ stops_at_block c s i whole None e all inside valid fails =
     absurd (fails (λ k low lt. none_valid c s e k (omega arith) (omega (arith, blocks_within (length s)))))
 
 -- behind the whole blocks likewise, where each one passed
-pub stops_at_end : (c : CheckCase) (s : List ℕ) (whole : ℕ) (o : Option ℕ) → first_invalid c s ≡ o → whole ≡ tested_blocks (length s) → AllValid c s 0 (64 * whole) → BeginsAt (length s) o (64 * whole) × ((steps_to (length s) o).tests ≡ whole)
+pub stops_at_end : (c : CheckCase) (s : List ℕ) (whole : ℕ) (o : Option ℕ) → first_invalid c s ≡ o → whole ≡ tested_blocks (length s) → AllValid c s 0 (64 * whole) → (64 * whole ≡ looks_behind (length s) o) × ((steps_to (length s) o).tests ≡ whole)
 stops_at_end c s whole (Some f) e all valid =
     let low = valid_misses c s f 0 (64 * whole) e valid (omega arith) in
     (omega arith, omega arith)
 stops_at_end c s whole None e all valid = (omega arith, sym all)
 
--- behind a valid range, a place inside the source is not past the invalid byte
-pub first_invalid_within : (c : CheckCase) (s : List ℕ) (i end : ℕ) (o : Option ℕ) → first_invalid c s ≡ o → AllValid c s 0 i → i < length s → MatchOption o (length s ≤ end) (λ f. f < end) → i < end
-first_invalid_within c s i end (Some f) e valid inside near = omega (arith, valid_misses c s f 0 i e valid (omega arith))
-first_invalid_within c s i end None e valid inside near = omega arith
+-- the looks begin in the source, at most 64 bytes before the invalid byte or the end
+pub looks_inside : (c : CheckCase) (s : List ℕ) (start : ℕ) (o : Option ℕ) → first_invalid c s ≡ o → start ≡ looks_behind (length s) o → start ≤ length s
+looks_inside c s start (Some f) e from = omega (arith, blocks_within (length s))
+looks_inside c s start None e from = omega (arith, blocks_within (length s))
+
+pub looks_near : (c : CheckCase) (s : List ℕ) (start i : ℕ) (o : Option ℕ) → first_invalid c s ≡ o → start ≡ looks_behind (length s) o → AllValid c s 0 i → i < length s → i < start + 64
+looks_near c s start i (Some f) e from valid inside =
+    let before : i ≤ f = valid_misses c s f 0 i e valid (omega arith) in
+    let there : f < length s = (position-Some (lacks c) s f 0 e).0 in
+    grind (arith, nat_tests)
+looks_near c s start i None e from valid inside = grind (arith, nat_tests)
+
+-- and end behind the one, or at the other
+pub looks_found : (c : CheckCase) (s : List ℕ) (start f : ℕ) (o : Option ℕ) → first_invalid c s ≡ o → o ≡ Some f → start ≡ looks_behind (length s) o → start + (steps_to (length s) o).looks ≡ f + 1
+looks_found c s start f (Some g) e is from =
+    let there : g < length s = (position-Some (lacks c) s g 0 e).0 in
+    grind (arith, nat_tests)
+looks_found c s start f None e is from = cc
+
+pub looks_ended : (s : List ℕ) (start : ℕ) (o : Option ℕ) → o ≡ None → start ≡ looks_behind (length s) o → start + (steps_to (length s) o).looks ≡ length s
+looks_ended s start (Some g) is from = cc
+looks_ended s start None is from = omega (arith, blocks_within (length s))
 
 -- the first invalid byte is in the source, has no value, and all before it have one
 none_from_test : (o : Option ℕ) → is_none o ≡ true → o ≡ None

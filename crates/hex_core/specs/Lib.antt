@@ -4,6 +4,7 @@ pub mod Search
 pub mod Refusal
 pub mod Calls
 pub mod Message
+pub mod Probe
 pub mod Plans
 pub mod Loan
 pub mod Laws

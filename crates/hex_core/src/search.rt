@@ -1,9 +1,9 @@
 //! Counted sources, and the search for the first invalid byte through their counted calls.
 
-ghost use Rattle.std.specs.Prelude.{◌≡◌, ℕ, None, ◌+◌, ◌*◌, ◌/◌, ◌^◌, ◌<◌, ◌≤◌, ◌↔◌, IsTrue, List, MatchOption, length, min, slice_index};
+ghost use Rattle.std.specs.Prelude.{◌≡◌, ℕ, None, ◌+◌, ◌/◌, ◌^◌, ◌<◌, ◌≤◌, ◌↔◌, IsTrue, length, slice_index};
 ghost use Rattle.std.specs.Int.{div_ceil};
-ghost use Rattle.hex_core.specs.Search.{AllValid, first_invalid, steps, tested_blocks};
-ghost use Rattle.hex_core.specs.declared.digit.CheckCase.{CheckCase};
+ghost use Rattle.hex_core.specs.Probe.{Adds, ProbeState, ValidIn, invalid_in, looks_from, steps_in};
+ghost use Rattle.hex_core.specs.Search.{tested_blocks};
 
 use crate::digit::{CheckCase, digit_value};
 
@@ -22,53 +22,38 @@ const BLOCK: usize = 64;
 /// assert_eq!(rt; (probe.looks(), probe.tests()), (1, 1));
 /// ```
 pub trait Probe {
-    // The bytes of the source.
-    ghost source: { Self → List ℕ };
-
-    // The policy under which a byte has a value.
-    ghost policy: { Self → CheckCase };
-
-    // The block: how many bytes the widest test takes.
-    ghost widest: { Self → ℕ };
-
-    // How many looks, and how many tests, were made.
-    ghost look_count: { Self → ℕ };
-
-    ghost test_count: { Self → ℕ };
+    // What the probe shows: source, policy and block, and the counts of looks and of tests.
+    ghost state: { Self → ProbeState };
 
     /// Returns how many bytes the source has.
     fn len(&self) -> usize
-        ensures { result ≡ length (source self.now) };
+        ensures { result ≡ length (state self.now).source };
 
     /// Returns the policy under which a byte has a value.
     fn case(&self) -> CheckCase
-        ensures { result ≡ policy self.now };
+        ensures { result ≡ (state self.now).policy };
 
     /// Returns the block: how many bytes the widest test takes.
     fn block(&self) -> usize
-        ensures { result ≡ widest self.now };
+        ensures { result ≡ (state self.now).block };
 
     /// Returns how many looks were made.
     fn looks(&self) -> usize
-        ensures { result ≡ look_count self.now };
+        ensures { result ≡ (state self.now).looks };
 
     /// Returns how many tests were made.
     fn tests(&self) -> usize
-        ensures { result ≡ test_count self.now };
+        ensures { result ≡ (state self.now).tests };
 
     /// Returns byte `i` of the source and adds one look.
     ///
     /// The place `i`, from 0 and in bytes, is inside the source, and the count of looks is below
     /// `usize::MAX`.
     fn look(&mut self, i: usize) -> u8
-        requires inside { i < length (source self.old) }
-        requires countable { look_count self.old < usize.MAX }
-        ensures byte { result ≡ slice_index (source self.old) i }
-        ensures counted { look_count self.new ≡ look_count self.old + 1 }
-        ensures same_tests { test_count self.new ≡ test_count self.old }
-        ensures same_source { source self.new ≡ source self.old }
-        ensures same_policy { policy self.new ≡ policy self.old }
-        ensures same_block { widest self.new ≡ widest self.old };
+        requires inside { i < length (state self.old).source }
+        requires countable { (state self.old).looks < usize.MAX }
+        ensures byte { result ≡ slice_index (state self.old).source i }
+        ensures counted { Adds 1 0 (state self.old) (state self.new) };
 
     /// Returns whether each byte of `start..start + width` has a value under the policy, and adds
     /// one test.
@@ -76,16 +61,11 @@ pub trait Probe {
     /// The range, in bytes, is inside the source, `width` is at most the block, and the count of
     /// tests is below `usize::MAX`.
     fn test(&mut self, start: usize, width: usize) -> bool
-        requires inside { start + width ≤ length (source self.old) }
-        requires narrow { width ≤ widest self.old }
-        requires countable { test_count self.old < usize.MAX }
-        ensures valid { IsTrue result
-            ↔ AllValid (policy self.old) (source self.old) start (start + width) }
-        ensures counted { test_count self.new ≡ test_count self.old + 1 }
-        ensures same_looks { look_count self.new ≡ look_count self.old }
-        ensures same_source { source self.new ≡ source self.old }
-        ensures same_policy { policy self.new ≡ policy self.old }
-        ensures same_block { widest self.new ≡ widest self.old };
+        requires inside { start + width ≤ length (state self.old).source }
+        requires narrow { width ≤ (state self.old).block }
+        requires countable { (state self.old).tests < usize.MAX }
+        ensures valid { IsTrue result ↔ ValidIn (state self.old) start (start + width) }
+        ensures counted { Adds 0 1 (state self.old) (state self.new) };
 }
 
 // How many whole blocks of a source of `len` bytes are tested. A source of one block is not tested:
@@ -99,18 +79,11 @@ fn block_count(len: usize) -> usize
 // Tests the whole blocks in order, and returns where the looks begin: at the first block that does
 // not pass, or behind the last one.
 fn test_blocks<P: Probe>(p: &mut P) -> usize
-    requires block { P.widest p.old ≡ 64 }
-    requires countable { P.test_count p.old + length (P.source p.old) < 2 ^ 64 }
-    ensures valid { AllValid (P.policy p.old) (P.source p.old) 0 result }
-    ensures start { MatchOption (first_invalid (P.policy p.old) (P.source p.old))
-        (result ≡ 64 * tested_blocks (length (P.source p.old)))
-        (λ f. result ≡ 64 * min (tested_blocks (length (P.source p.old))) (f / 64)) }
-    ensures tests { P.test_count p.new
-        ≡ P.test_count p.old + (steps (P.policy p.old) (P.source p.old)).tests }
-    ensures same_looks { P.look_count p.new ≡ P.look_count p.old }
-    ensures same_source { P.source p.new ≡ P.source p.old }
-    ensures same_policy { P.policy p.new ≡ P.policy p.old }
-    ensures same_block { P.widest p.new ≡ P.widest p.old }
+    requires block { (P.state p.old).block ≡ 64 }
+    requires countable { (P.state p.old).tests + length (P.state p.old).source < 2 ^ 64 }
+    ensures valid { ValidIn (P.state p.old) 0 result }
+    ensures start { result ≡ looks_from (P.state p.old) }
+    ensures counted { Adds 0 (steps_in (P.state p.old)).tests (P.state p.old) (P.state p.new) }
 {
     let whole = block_count(p.len());
     for i in 0..whole {
@@ -124,20 +97,11 @@ fn test_blocks<P: Probe>(p: &mut P) -> usize
 // Looks at byte after byte from `start` on, up to the first one without a value. It makes at most
 // 64 looks, since the first invalid byte is within a block of `start`, or the end is.
 fn look_from<P: Probe>(p: &mut P, start: usize) -> Option<usize>
-    requires valid { AllValid (P.policy p.old) (P.source p.old) 0 start }
-    requires near { MatchOption (first_invalid (P.policy p.old) (P.source p.old))
-        (length (P.source p.old) ≤ start + 64)
-        (λ f. f < start + 64) }
-    requires inside { start ≤ length (P.source p.old) }
-    requires countable { P.look_count p.old + 64 < 2 ^ 64 }
-    ensures place { result ≡ first_invalid (P.policy p.old) (P.source p.old) }
-    ensures looks { MatchOption result
-        (P.look_count p.new + start ≡ P.look_count p.old + length (P.source p.old))
-        (λ f. P.look_count p.new + start ≡ P.look_count p.old + (f + 1)) }
-    ensures same_tests { P.test_count p.new ≡ P.test_count p.old }
-    ensures same_source { P.source p.new ≡ P.source p.old }
-    ensures same_policy { P.policy p.new ≡ P.policy p.old }
-    ensures same_block { P.widest p.new ≡ P.widest p.old }
+    requires valid { ValidIn (P.state p.old) 0 start }
+    requires start { start ≡ looks_from (P.state p.old) }
+    requires countable { (P.state p.old).looks + 64 < 2 ^ 64 }
+    ensures place { result ≡ invalid_in (P.state p.old) }
+    ensures counted { Adds (steps_in (P.state p.old)).looks 0 (P.state p.old) (P.state p.new) }
 {
     let len = p.len();
     let case = p.case();
@@ -167,19 +131,15 @@ fn look_from<P: Probe>(p: &mut P, start: usize) -> Option<usize>
 /// assert_eq!(rt; (probe.tests(), probe.looks()), (0, 6));
 /// ```
 pub fn locate<P: Probe>(p: &mut P) -> Option<usize>
-    requires block { P.widest p.old ≡ 64 }
-    requires tests { P.test_count p.old + length (P.source p.old) < 2 ^ 64 }
-    requires looks { P.look_count p.old + 64 < 2 ^ 64 }
-    ensures place { result ≡ first_invalid (P.policy p.old) (P.source p.old) }
-    ensures tests { P.test_count p.new
-        ≡ P.test_count p.old + (steps (P.policy p.old) (P.source p.old)).tests }
-    ensures looks { P.look_count p.new
-        ≡ P.look_count p.old + (steps (P.policy p.old) (P.source p.old)).looks }
-    ensures few_tests { P.test_count p.new ≤ P.test_count p.old + length (P.source p.old) / 64 }
-    ensures few_looks { P.look_count p.new ≤ P.look_count p.old + 64 }
-    ensures same_source { P.source p.new ≡ P.source p.old }
-    ensures same_policy { P.policy p.new ≡ P.policy p.old }
-    ensures same_block { P.widest p.new ≡ P.widest p.old }
+    requires block { (P.state p.old).block ≡ 64 }
+    requires tests { (P.state p.old).tests + length (P.state p.old).source < 2 ^ 64 }
+    requires looks { (P.state p.old).looks + 64 < 2 ^ 64 }
+    ensures place { result ≡ invalid_in (P.state p.old) }
+    ensures counted { Adds (steps_in (P.state p.old)).looks (steps_in (P.state p.old)).tests
+        (P.state p.old) (P.state p.new) }
+    ensures few_tests { (P.state p.new).tests
+        ≤ (P.state p.old).tests + length (P.state p.old).source / 64 }
+    ensures few_looks { (P.state p.new).looks ≤ (P.state p.old).looks + 64 }
 {
     let start = test_blocks(p);
     look_from(p, start)
@@ -202,16 +162,12 @@ pub fn locate<P: Probe>(p: &mut P) -> Option<usize>
 /// ```
 #[inline(always)]
 pub fn covered<P: Probe>(p: &mut P) -> bool
-    requires some { 1 ≤ P.widest p.old }
-    requires most { P.widest p.old ≤ length (P.source p.old) }
-    requires tests { P.test_count p.old + length (P.source p.old) < 2 ^ 64 }
-    ensures valid { IsTrue result ↔ (first_invalid (P.policy p.old) (P.source p.old) ≡ None) }
-    ensures few_tests { P.test_count p.new
-        ≤ P.test_count p.old + div_ceil (length (P.source p.old)) (P.widest p.old) }
-    ensures no_looks { P.look_count p.new ≡ P.look_count p.old }
-    ensures same_source { P.source p.new ≡ P.source p.old }
-    ensures same_policy { P.policy p.new ≡ P.policy p.old }
-    ensures same_block { P.widest p.new ≡ P.widest p.old }
+    requires some { 1 ≤ (P.state p.old).block }
+    requires most { (P.state p.old).block ≤ length (P.state p.old).source }
+    requires tests { (P.state p.old).tests + length (P.state p.old).source < 2 ^ 64 }
+    ensures valid { IsTrue result ↔ (invalid_in (P.state p.old) ≡ None) }
+    ensures counted { (n : ℕ) × Adds 0 n (P.state p.old) (P.state p.new)
+        × (n ≤ div_ceil (length (P.state p.old).source) (P.state p.old).block) }
 {
     let len = p.len();
     let block = p.block();

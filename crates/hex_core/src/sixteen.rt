@@ -21,15 +21,7 @@ struct BlockProbe<'a> {
 }
 
 impl<'a> Probe for BlockProbe<'a> {
-    ghost source = { λ p. p.src.now };
-
-    ghost policy = { λ p. p.case };
-
-    ghost widest = { λ p. 16 };
-
-    ghost look_count = { λ p. p.looks };
-
-    ghost test_count = { λ p. p.tests };
+    ghost state = { λ p. record { source = p.src.now; policy = p.case; block = 16; looks = p.looks; tests = p.tests } };
 
     fn len(&self) -> usize {
         self.src.len()

@@ -1,6 +1,7 @@
 //! A slice as a counted source.
 
 ghost use Rattle.std.specs.Prelude.{◌≡◌};
+ghost use Rattle.hex_core.specs.Probe.{fresh_probe};
 
 use crate::digit::CheckCase;
 use crate::plan::Backend;
@@ -36,11 +37,7 @@ impl<'a> SliceProbe<'a> {
     /// assert_eq!(rt; locate(&mut probe), Some(5));
     /// ```
     pub fn new(backend: Backend, src: &'a [u8], case: CheckCase) -> Self
-        ensures source { ⟦<SliceProbe<'a> as Probe>⟧.source result ≡ src.now }
-        ensures policy { ⟦<SliceProbe<'a> as Probe>⟧.policy result ≡ case }
-        ensures block { ⟦<SliceProbe<'a> as Probe>⟧.widest result ≡ 64 }
-        ensures looks { ⟦<SliceProbe<'a> as Probe>⟧.look_count result ≡ 0 }
-        ensures tests { ⟦<SliceProbe<'a> as Probe>⟧.test_count result ≡ 0 }
+        ensures { ⟦<SliceProbe<'a> as Probe>⟧.state result ≡ fresh_probe src.now case 64 }
     {
         SliceProbe {
             backend,
@@ -53,15 +50,7 @@ impl<'a> SliceProbe<'a> {
 }
 
 impl<'a> Probe for SliceProbe<'a> {
-    ghost source = { λ p. p.src.now };
-
-    ghost policy = { λ p. p.case };
-
-    ghost widest = { λ p. 64 };
-
-    ghost look_count = { λ p. p.looks };
-
-    ghost test_count = { λ p. p.tests };
+    ghost state = { λ p. record { source = p.src.now; policy = p.case; block = 64; looks = p.looks; tests = p.tests } };
 
     fn len(&self) -> usize {
         self.src.len()

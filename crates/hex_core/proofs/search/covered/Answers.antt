@@ -1,64 +1,65 @@
 use Rattle.std.proofs.Common.{◌≡◌, ◌≤◌, ◌+◌, ◌-◌, ◌*◌, ◌/◌, ◌%◌, length, refl, sym, ap, ◌∙◌, arith}
 use Rattle.std.proofs.lemmas.Bool.Decides.{nat_tests}
-use Rattle.hex_core.specs.Search.{AllValid}
+use Rattle.hex_core.specs.Probe.{ValidIn}
 use Rattle.hex_core.proofs.BlockLemmas.{block_inside, valid_range, last_valid, valid_next, whole_valid}
-use Rattle.hex_core.proofs.SearchLemmas.{valid_along}
+use Rattle.hex_core.proofs.ProbeLemmas.{adds_none, adds_then, valid_same}
 use Rattle.hex_core.proofs.search.covered.Goals as goal
 
-pub returns-then-not-test-clause-valid : goal.returns-then-not-test-clause-valid
-returns-then-not-test-clause-valid g c =
-    let s = g.P.Probe.source c.args.p.now in
-    let policy = g.P.Probe.policy c.args.p.now in
+pub returns-then-not-test : goal.returns-then-not-test
+returns-then-not-test g c =
+    let p = g.P.Probe.state c.args.p.now in
     let start = c.turns.i * c.block-block.result in
-    let kept = c.turns.invariant in
-    let inside : start + c.block-block.result ≤ length s = omega (arith, block_inside c.len-len.result c.block-block.result c.turns.i (omega arith) c.turns-test.true) in
-    let fails : ¬ AllValid policy s start (start + c.block-block.result) = λ valid. let t = c.test.ensures.valid.1 (valid_along _ _ (sym kept.same_policy) (sym kept.same_source) valid) in cc in
-    (λ h. cc, λ none. absurd (fails (valid_range policy s start (start + c.block-block.result) inside none)))
+    let kept = c.turns.invariant.counted in
+    let inside : start + c.block-block.result ≤ length p.source = omega (arith, block_inside c.len-len.result c.block-block.result c.turns.i (omega arith) c.turns-test.true) in
+    let fails : ¬ ValidIn p start (start + c.block-block.result) = λ valid. let t = c.test.ensures.valid.1 ((valid_same p (g.P.Probe.state c.turns.p) start (start + c.block-block.result) kept.2).1 valid) in cc in record {
+      valid = (λ h. cc, λ none. absurd (fails (valid_range p.policy p.source start (start + c.block-block.result) inside none)));
+      counted = (c.turns.i + 1, adds_then p (g.P.Probe.state c.turns.p) (g.P.Probe.state c.test.new.self) 0 c.turns.i 0 1 0 _ refl refl kept c.test.ensures.counted, grind (arith, nat_tests));
+    }
 
-pub returns-then-len-block-eq0-clause-valid : goal.returns-then-len-block-eq0-clause-valid
-returns-then-len-block-eq0-clause-valid g c =
-    let s = g.P.Probe.source c.args.p.now in
-    let policy = g.P.Probe.policy c.args.p.now in
-    let block = g.P.Probe.widest c.args.p.now in
-    let whole : length s % block ≡ 0 = grind (arith, nat_tests) in
-    let front : AllValid policy s 0 (length s / block * block) = λ k low lt. c.turns.invariant.valid k low (grind (arith, nat_tests)) in
-    (λ h. whole_valid policy s block whole front, λ none. rw (c.if-len-block-eq0.true) refl)
+pub returns-then-len-block-eq0 : goal.returns-then-len-block-eq0
+returns-then-len-block-eq0 g c =
+    let p = g.P.Probe.state c.args.p.now in
+    let whole : length p.source % p.block ≡ 0 = grind (arith, nat_tests) in
+    let front : ValidIn p 0 (length p.source / p.block * p.block) = λ k low lt. c.turns.invariant.valid k low (grind (arith, nat_tests)) in record {
+      valid = (λ h. whole_valid p.policy p.source p.block whole front, λ none. rw (c.if-len-block-eq0.true) refl);
+      counted = (c.turns.i, c.turns.invariant.counted, grind (arith, nat_tests));
+    }
 
-pub returns-else-len-block-eq0-clause-valid : goal.returns-else-len-block-eq0-clause-valid
-returns-else-len-block-eq0-clause-valid g c =
-    let s = g.P.Probe.source c.args.p.now in
-    let policy = g.P.Probe.policy c.args.p.now in
-    let block = g.P.Probe.widest c.args.p.now in
+pub returns-else-len-block-eq0 : goal.returns-else-len-block-eq0
+returns-else-len-block-eq0 g c =
+    let p = g.P.Probe.state c.args.p.now in
     let kept = c.turns.invariant in
-    let front : AllValid policy s 0 (length s / block * block) = λ k low lt. kept.valid k low (grind (arith, nat_tests)) in
-    let last = last_valid policy s block c.requires.some c.requires.most front in
-    let from : c.len-len.result - c.block-block.result ≡ length s - block = omega arith in
-    let to : c.len-len.result - c.block-block.result + c.block-block.result ≡ length s = omega arith in (
-      λ passed. last.0 (λ k low lt. valid_along _ _ kept.same_policy kept.same_source (c.test-else-len-block-eq0.ensures.valid.0 passed) k (omega arith) (omega arith)),
-      λ none. c.test-else-len-block-eq0.ensures.valid.1 (valid_along _ _ (sym kept.same_policy) (sym kept.same_source) (λ k low lt. last.1 none k (omega arith) (omega arith))),
-    )
+    let front : ValidIn p 0 (length p.source / p.block * p.block) = λ k low lt. kept.valid k low (grind (arith, nat_tests)) in
+    let last = last_valid p.policy p.source p.block c.requires.some c.requires.most front in
+    let from : c.len-len.result - c.block-block.result ≡ length p.source - p.block = omega arith in
+    let to : c.len-len.result - c.block-block.result + c.block-block.result ≡ length p.source = omega arith in
+    let same = valid_same p (g.P.Probe.state c.turns.p) (c.len-len.result - c.block-block.result) (c.len-len.result - c.block-block.result + c.block-block.result) kept.counted.2 in
+    let test = c.test-else-len-block-eq0.ensures in record {
+      valid = (
+        λ passed. last.0 (λ k low lt. same.0 (test.valid.0 passed) k (omega arith) (omega arith)),
+        λ none. test.valid.1 (same.1 (λ k low lt. last.1 none k (omega arith) (omega arith))),
+      );
+      counted = (c.turns.i + 1, adds_then p (g.P.Probe.state c.turns.p) (g.P.Probe.state c.test-else-len-block-eq0.new.self) 0 c.turns.i 0 1 0 _ refl refl kept.counted test.counted, grind (arith, nat_tests));
+    }
 
 pub turns-init : goal.turns-init
-turns-init g c = record { valid = λ k low lt. absurd (omega arith); counted = omega arith; same_looks = refl; same_source = refl; same_policy = refl; same_block = refl }
+turns-init g c = record { valid = λ k low lt. absurd (omega arith); counted = adds_none _ }
 
 pub overflow_mul-i : goal.overflow_mul-i
 overflow_mul-i g c = omega (arith, block_inside c.len-len.result c.block-block.result c.turns.i (omega arith) c.turns-test.true)
 
 pub test-requires-clause-inside : goal.test-requires-clause-inside
-test-requires-clause-inside g c = omega (arith, ap length c.turns.invariant.same_source, block_inside c.len-len.result c.block-block.result c.turns.i (omega arith) c.turns-test.true)
+test-requires-clause-inside g c = omega (arith, ap length c.turns.invariant.counted.2.0, block_inside c.len-len.result c.block-block.result c.turns.i (omega arith) c.turns-test.true)
 
 pub test-requires-else-len-block-eq0-clause-inside : goal.test-requires-else-len-block-eq0-clause-inside
-test-requires-else-len-block-eq0-clause-inside g c = omega (arith, ap length c.turns.invariant.same_source)
+test-requires-else-len-block-eq0-clause-inside g c = omega (arith, ap length c.turns.invariant.counted.2.0)
 
 pub turns-preserved : goal.turns-preserved
 turns-preserved g c =
+    let p = g.P.Probe.state c.args.p.now in
     let kept = c.turns.invariant in
-    let block : c.block-block.result ≡ g.P.Probe.widest c.args.p.now = omega arith in
+    let block : c.block-block.result ≡ p.block = omega arith in
     record {
-      valid = valid_next (g.P.Probe.policy c.args.p.now) (g.P.Probe.source c.args.p.now) c.turns.i _ kept.valid (valid_along _ _ kept.same_policy kept.same_source (rw block at (c.test.ensures.valid.0 c.if-not-test.false)));
-      counted = omega arith;
-      same_looks = c.test.ensures.same_looks ∙ kept.same_looks;
-      same_source = c.test.ensures.same_source ∙ kept.same_source;
-      same_policy = c.test.ensures.same_policy ∙ kept.same_policy;
-      same_block = c.test.ensures.same_block ∙ kept.same_block;
+      valid = valid_next p.policy p.source c.turns.i _ kept.valid ((valid_same p (g.P.Probe.state c.turns.p) _ _ kept.counted.2).0 (rw block at (c.test.ensures.valid.0 c.if-not-test.false)));
+      counted = adds_then p (g.P.Probe.state c.turns.p) (g.P.Probe.state c.test.new.self) 0 c.turns.i 0 1 0 _ refl refl kept.counted c.test.ensures.counted;
     }

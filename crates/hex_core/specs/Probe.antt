@@ -1,0 +1,45 @@
+-- What a counted source shows, and what its calls change of that.
+use Rattle.std.specs.Prelude.{◌≡◌, ℕ, ◌+◌, ◌*◌, ◌/◌, List, length, min, Option, Some, None}
+use Rattle.hex_core.specs.declared.digit.CheckCase.{CheckCase}
+use Rattle.hex_core.specs.Search.{AllValid, Steps, first_invalid, steps, tested_blocks}
+
+-- what a probe shows: its source, its policy and its block, which is how many bytes the widest test
+-- takes; and how many looks and tests were made
+pub record ProbeState : Type 0 where
+  pub source : List ℕ
+  pub policy : CheckCase
+  pub block : ℕ
+  pub looks : ℕ
+  pub tests : ℕ
+
+-- what it shows before its first call
+abbrev pub fresh_probe : List ℕ → CheckCase → ℕ → ProbeState
+fresh_probe s c block = record { source = s; policy = c; block = block; looks = 0; tests = 0 }
+
+-- source, policy and block stay
+abbrev pub SameSource : ProbeState → ProbeState → Type 0
+SameSource old new = (new.source ≡ old.source) × (new.policy ≡ old.policy) × (new.block ≡ old.block)
+
+-- so many looks and tests more, and nothing else
+abbrev pub Adds : ℕ → ℕ → ProbeState → ProbeState → Type 0
+Adds looks tests old new = (new.looks ≡ old.looks + looks) × (new.tests ≡ old.tests + tests) × SameSource old new
+
+-- all bytes of a range of its source have a value
+abbrev pub ValidIn : ProbeState → ℕ → ℕ → Type 0
+ValidIn p start end = AllValid p.policy p.source start end
+
+-- the first invalid byte of its source, and what it takes to find it
+abbrev pub invalid_in : ProbeState → Option ℕ
+invalid_in p = first_invalid p.policy p.source
+
+abbrev pub steps_in : ProbeState → Steps
+steps_in p = steps p.policy p.source
+
+-- where the looks begin, in a source of this length with this first invalid byte: at the block of
+-- that byte, or behind the whole blocks
+abbrev pub looks_behind : ℕ → Option ℕ → ℕ
+looks_behind len (Some f) = 64 * min (tested_blocks len) (f / 64)
+looks_behind len None = 64 * tested_blocks len
+
+abbrev pub looks_from : ProbeState → ℕ
+looks_from p = looks_behind (length p.source) (invalid_in p)
