@@ -1,7 +1,7 @@
 -- Blocks of a source, and what decoding them makes of a destination.
 use Rattle.std.proofs.Common.{◌≡◌, ℕ, suc, ◌+◌, ◌-◌, ◌*◌, ◌/◌, ◌%◌, ◌<◌, ◌≤◌, ◌↔◌, Bool, List, length, map, get_or, inl, inr, refl, sym, ap, subst, ◌∙◌, Option, Some, None, Fits, w8, arith}
 use Rattle.std.specs.Prelude.{IsSome, IsTrue, slice_index, slice_range}
-use Rattle.std.proofs.Math.Nat.{le-div_iff_mul-le, lt-div-mul-add, mod-add-div, mul_comm}
+use Rattle.std.proofs.Math.Nat.{le-div_iff_mul-le, lt-div-mul-add, mod-add-div, mul_comm, mul-le-mul_right}
 use Rattle.std.proofs.lemmas.Bool.{cases_lt}
 use Rattle.std.proofs.lemmas.List.{length-map}
 use Rattle.std.proofs.lemmas.Simd.{get_or-chunk, get_or-put_chunk_above, get_or-put_chunk_at, get_or-put_chunk_below, length-chunk, length-put_chunk}
@@ -24,6 +24,12 @@ use Rattle.hex_core.proofs.SearchLemmas.{none_valid, valid_part, first_invalid_n
 pub block_inside : (len block i : ℕ) → 0 < block → i < len / block → i * block + block ≤ len
 block_inside len block i some lt =
     let product : suc i * block ≤ len = (le-div_iff_mul-le some).0 (omega arith) in
+    omega (arith, product)
+
+-- a block before the last of k
+pub block_among : (k block i : ℕ) → i < k → i * block + block ≤ k * block
+block_among k block i lt =
+    let product : suc i * block ≤ k * block = mul-le-mul_right block (omega arith) in
     omega (arith, product)
 
 -- where the whole blocks end: with the source, or less than a block before its end

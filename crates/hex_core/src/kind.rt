@@ -1,13 +1,17 @@
 //! The choice of a body: one `match` for each thing that a plan does.
 
 ghost use Rattle.std.specs.Prelude.{◌≡◌, ◌*◌, ◌↔◌, IsTrue, None, length};
-ghost use Rattle.hex_core.specs.Calls.{DecodesWhole};
+ghost use Rattle.hex_core.specs.Calls.{DecodesOwned, DecodesWhole};
+ghost use Rattle.hex_core.specs.Plans.{kind_name, owned_block};
 ghost use Rattle.hex_core.specs.Search.{first_invalid};
 ghost use Rattle.hex_core.specs.Text.{Spells, text};
 
+use crate::blocks::decode::{OneVector, TwoHashed};
+use crate::blocks::encode;
 use crate::digit::CheckCase;
 use crate::lanes::{Hashing, Saturating};
-use crate::{blocks, scalar, sixteen, wide};
+use crate::owned::decode_by_blocks;
+use crate::{by_length, scalar, sixteen};
 
 /// What a plan is called, and what its bodies are chosen by.
 #[derive(Clone, Copy)]
@@ -28,7 +32,7 @@ impl Kind {
         match self {
             Kind::Scalar => scalar::check(src, case),
             Kind::Sse41 | Kind::Neon => sixteen::check(src, case),
-            Kind::Avx2 | Kind::Avx512 => wide::check(src, case),
+            Kind::Avx2 | Kind::Avx512 => by_length::check(src, case),
         }
     }
 
@@ -41,7 +45,7 @@ impl Kind {
         match self {
             Kind::Scalar => scalar::write_text(src, dst, upper),
             Kind::Sse41 | Kind::Avx2 | Kind::Avx512 | Kind::Neon => {
-                blocks::encode::encode(src, dst, upper)
+                encode::encode(src, dst, upper)
             }
         }
     }
@@ -56,7 +60,7 @@ impl Kind {
         match self {
             Kind::Scalar => scalar::write_bytes(src, dst, case),
             Kind::Sse41 | Kind::Avx2 | Kind::Avx512 | Kind::Neon => {
-                wide::write_bytes(src, dst, case)
+                by_length::write_bytes(src, dst, case)
             }
         }
     }
@@ -70,8 +74,35 @@ impl Kind {
     {
         match self {
             Kind::Scalar => scalar::decode(src, dst, case),
-            Kind::Sse41 | Kind::Avx2 | Kind::Neon => wide::decode::<Saturating>(src, dst, case),
-            Kind::Avx512 => wide::decode::<Hashing>(src, dst, case),
+            Kind::Sse41 | Kind::Avx2 | Kind::Neon => {
+                by_length::decode::<Saturating>(src, dst, case)
+            }
+            Kind::Avx512 => by_length::decode::<Hashing>(src, dst, case),
         }
+    }
+
+    /// Decodes likewise, into a buffer that is given up where this returns false: then the blocks
+    /// before the first invalid byte may have been stored.
+    #[inline(always)]
+    pub fn decode_owned(self, src: &[u8], dst: &mut [u8], case: CheckCase) -> bool
+        requires { length src.now ≡ 2 * length dst.old }
+        ensures { DecodesOwned (owned_block (kind_name self)) case src.now dst.old dst.new result }
+    {
+        match self {
+            Kind::Scalar | Kind::Sse41 => self.decode_at_once(src, dst, case),
+            Kind::Avx2 | Kind::Neon => {
+                decode_by_blocks::<OneVector, Saturating, 32>(src, dst, case)
+            }
+            Kind::Avx512 => decode_by_blocks::<TwoHashed, Hashing, 64>(src, dst, case),
+        }
+    }
+
+    // [`Kind::decode`], which stores no block before a refusal.
+    #[inline(always)]
+    fn decode_at_once(self, src: &[u8], dst: &mut [u8], case: CheckCase) -> bool
+        requires { length src.now ≡ 2 * length dst.old }
+        ensures { DecodesOwned 0 case src.now dst.old dst.new result }
+    {
+        self.decode(src, dst, case)
     }
 }

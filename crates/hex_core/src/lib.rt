@@ -2,26 +2,26 @@
 #![tactic(auto)]
 
 mod blocks;
+mod by_length;
 pub mod digit;
 pub mod error;
 mod kind;
 pub mod lanes;
 pub mod laws;
 pub mod lend;
+mod owned;
 pub mod plan;
 mod scalar;
 mod search;
 mod sixteen;
-mod slice_probe;
 mod slices;
 mod tables;
 mod vector;
-mod wide;
 
 /// Counted sources, and what is found through their counted calls.
 pub mod probe {
+    pub use crate::plan::SliceProbe;
     pub use crate::search::{Probe, covered, locate};
-    pub use crate::slice_probe::SliceProbe;
 }
 
 pub use crate::digit::{CheckCase, digit_value};

@@ -1,16 +1,18 @@
 //! Plans by name, and the calls whose caller shows the ratio of the lengths.
 
-ghost use Rattle.std.specs.Prelude.{◌≡◌, ◌*◌, ◌≤◌, ◌↔◌, IsTrue, None, length, map};
+ghost use Rattle.std.specs.Prelude.{◌≡◌, ◌*◌, ◌↔◌, IsTrue, None, length, map};
 ghost use Rattle.hex_core.specs.Calls.{DecodesOwned, DecodesWhole};
 ghost use Rattle.hex_core.specs.Plans.{name_of, owned_block, plan_names};
 ghost use Rattle.hex_core.specs.Search.{first_invalid};
 ghost use Rattle.hex_core.specs.Text.{text};
 
-use crate::blocks::decode::{DecodeBlock, OneVector, TwoHashed, decode_blocks};
 use crate::digit::CheckCase;
 use crate::kind::Kind;
 pub use crate::search::{Probe, covered, locate};
-pub use crate::slice_probe::SliceProbe;
+
+mod slice_probe;
+
+pub use self::slice_probe::SliceProbe;
 
 /// A plan: one way to check, encode and decode.
 ///
@@ -141,65 +143,6 @@ impl Backend {
         requires { length src.now ≡ 2 * length dst.old }
         ensures { DecodesOwned (owned_block (name_of self)) case src.now dst.old dst.new result }
     {
-        match self.0 {
-            Kind::Scalar | Kind::Sse41 => self.decode_at_once(src, dst, case),
-            Kind::Avx2 | Kind::Neon => self.decode_by_blocks::<OneVector, 32>(src, dst, case),
-            Kind::Avx512 => self.decode_by_blocks::<TwoHashed, 64>(src, dst, case),
-        }
-    }
-
-    // [`Backend::decode`], which stores no block before a refusal.
-    #[inline(always)]
-    fn decode_at_once(self, src: &[u8], dst: &mut [u8], case: CheckCase) -> bool
-        requires { length src.now ≡ 2 * length dst.old }
-        ensures { DecodesOwned 0 case src.now dst.old dst.new result }
-    {
-        self.decode(src, dst, case)
-    }
-
-    // Decodes at once what [`Backend::decode`] holds in registers: the blocks before a refusal are
-    // stored behind it alone.
-    #[inline(always)]
-    fn decode_by_blocks<B, const SIZE: usize>(
-        self,
-        src: &[u8],
-        dst: &mut [u8],
-        case: CheckCase,
-    ) -> bool
-    where
-        B: DecodeBlock<SIZE>,
-        requires some { 1 ≤ SIZE }
-        requires twice { length src.now ≡ 2 * length dst.old }
-        ensures { DecodesOwned (2 * SIZE) case src.now dst.old dst.new result }
-    {
-        if src.len() > 256 {
-            return self.decode_in_turn::<B, SIZE>(src, dst, case);
-        }
-        if self.decode(src, dst, case) {
-            return true;
-        }
-        self.decode_in_turn::<B, SIZE>(src, dst, case)
-    }
-
-    // Decodes block by block, and what is behind the whole blocks as [`Backend::decode`] does.
-    #[inline(always)]
-    fn decode_in_turn<B, const SIZE: usize>(
-        self,
-        src: &[u8],
-        dst: &mut [u8],
-        case: CheckCase,
-    ) -> bool
-    where
-        B: DecodeBlock<SIZE>,
-        requires some { 1 ≤ SIZE }
-        requires twice { length src.now ≡ 2 * length dst.old }
-        ensures { DecodesOwned (2 * SIZE) case src.now dst.old dst.new result }
-    {
-        let done = decode_blocks::<B, SIZE>(src, dst, case);
-        // The blocks end before the last whole one where the next has an invalid byte.
-        if dst.len() - done >= SIZE {
-            return false;
-        }
-        self.decode(&src[2 * done..], &mut dst[done..], case)
+        self.0.decode_owned(src, dst, case)
     }
 }

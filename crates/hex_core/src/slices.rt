@@ -13,9 +13,8 @@ ghost use Rattle.hex_core.specs.Text.{Spells, text};
 use crate::digit::CheckCase;
 use crate::error::Error;
 use crate::lend::lend_accepted;
-use crate::plan::Backend;
+use crate::plan::{Backend, SliceProbe};
 use crate::search::locate;
-use crate::slice_probe::SliceProbe;
 
 impl Backend {
     /// Returns the first place of `src` whose byte has no value under `case`, from 0 and in bytes,

@@ -42,51 +42,32 @@ pub fn check_two<const N: usize>(src: &[u8], case: CheckCase) -> bool
     is_zero(either(front, back))
 }
 
-// What is below 10 in each lane exactly where each of `2 * N` bytes from `at` on has a value.
+// What is below 10 in each lane exactly where each byte of `K` blocks from `at` on has a value.
 #[inline(always)]
-fn reach_of_two<const N: usize>(src: &[u8], at: usize, case: CheckCase) -> Simd<u8, N>
-    requires inside { at + 2 * N ≤ length src.now }
-    ensures { AreLow result ↔ AllValid case src.now at (at + 2 * N) }
+fn reach_of<const N: usize, const K: usize>(src: &[u8], at: usize, case: CheckCase) -> Simd<u8, N>
+    requires some { 1 ≤ K }
+    requires inside { at + K * N ≤ length src.now }
+    ensures { AreLow result ↔ AllValid case src.now at (at + K * N) }
 {
-    let first = reach(Simd::<u8, N>::from_slice(&src[at..]), case);
-    let second = reach(Simd::<u8, N>::from_slice(&src[at + N..]), case);
-    larger(first, second)
+    let mut farthest = reach(Simd::<u8, N>::from_slice(&src[at..]), case);
+    'turns: for i in 1..K {
+        let block = Simd::<u8, N>::from_slice(&src[at + i * N..]);
+        farthest = larger(farthest, reach(block, case));
+    }
+    farthest
 }
 
-/// Whether every byte of a source of `2 * N` to `4 * N` bytes has a value.
+/// Whether every byte of a source of `K` to `2 * K` blocks has a value, by one test.
 #[inline(never)]
-pub fn check_four<const N: usize>(src: &[u8], case: CheckCase) -> bool
+pub fn check_ends<const N: usize, const K: usize>(src: &[u8], case: CheckCase) -> bool
     requires lanes { N ≤ 64 }
-    requires least { 2 * N ≤ length src.now }
-    requires most { length src.now ≤ 4 * N }
+    requires some { 1 ≤ K }
+    requires least { K * N ≤ length src.now }
+    requires most { length src.now ≤ 2 * (K * N) }
     ensures { IsTrue result ↔ (first_invalid case src.now ≡ None) }
 {
-    let front = reach_of_two::<N>(src, 0, case);
-    let back = reach_of_two::<N>(src, src.len() - 2 * N, case);
-    is_low(larger(front, back))
-}
-
-// The same, of `4 * N` bytes.
-#[inline(always)]
-fn reach_of_four<const N: usize>(src: &[u8], at: usize, case: CheckCase) -> Simd<u8, N>
-    requires inside { at + 4 * N ≤ length src.now }
-    ensures { AreLow result ↔ AllValid case src.now at (at + 4 * N) }
-{
-    let first = reach_of_two::<N>(src, at, case);
-    let second = reach_of_two::<N>(src, at + 2 * N, case);
-    larger(first, second)
-}
-
-// Whether every byte of a source of `4 * N` to `8 * N` bytes has a value.
-#[inline(never)]
-fn check_eight<const N: usize>(src: &[u8], case: CheckCase) -> bool
-    requires lanes { N ≤ 64 }
-    requires least { 4 * N ≤ length src.now }
-    requires most { length src.now ≤ 8 * N }
-    ensures { IsTrue result ↔ (first_invalid case src.now ≡ None) }
-{
-    let front = reach_of_four::<N>(src, 0, case);
-    let back = reach_of_four::<N>(src, src.len() - 4 * N, case);
+    let front = reach_of::<N, K>(src, 0, case);
+    let back = reach_of::<N, K>(src, src.len() - K * N, case);
     is_low(larger(front, back))
 }
 
@@ -109,21 +90,6 @@ fn check_blocks<const N: usize>(src: &[u8], case: CheckCase) -> bool
 // How many blocks one test is for in a long source: with more of them an invalid byte is found later.
 const RUN: usize = 8;
 
-// Whether each byte of a run of blocks from `at` on has a value.
-#[inline(always)]
-fn is_run_valid<const N: usize>(src: &[u8], at: usize, case: CheckCase) -> bool
-    requires lanes { N ≤ 64 }
-    requires inside { at + RUN * N ≤ length src.now }
-    ensures { IsTrue result ↔ AllValid case src.now at (at + RUN * N) }
-{
-    let mut farthest = reach(Simd::<u8, N>::from_slice(&src[at..]), case);
-    'turns: for i in 1..RUN {
-        let block = Simd::<u8, N>::from_slice(&src[at + i * N..]);
-        farthest = larger(farthest, reach(block, case));
-    }
-    is_low(farthest)
-}
-
 // The same as `check_blocks`, by runs as long as there is one.
 #[inline(never)]
 fn check_runs<const N: usize>(src: &[u8], case: CheckCase) -> bool
@@ -134,7 +100,7 @@ fn check_runs<const N: usize>(src: &[u8], case: CheckCase) -> bool
 {
     let runs = (src.len() - N) / (RUN * N);
     'turns: for i in 0..runs {
-        if !is_run_valid::<N>(src, i * (RUN * N), case) {
+        if !is_low(reach_of::<N, RUN>(src, i * (RUN * N), case)) {
             return false;
         }
     }
@@ -152,7 +118,7 @@ pub fn check_long<const N: usize>(src: &[u8], case: CheckCase) -> bool
     if src.len() < 4 * N {
         check_blocks::<N>(src, case)
     } else if src.len() <= RUN * N {
-        check_eight::<N>(src, case)
+        check_ends::<N, 4>(src, case)
     } else {
         check_runs::<N>(src, case)
     }

@@ -1,4 +1,4 @@
-use Rattle.std.proofs.Common.{◌≡◌, ◌+◌, ◌<◌, Some, is_some, length, refl, sym, ◌∙◌, ap, arith}
+use Rattle.std.proofs.Common.{◌≡◌, ◌<◌, Some, is_some, length, refl, sym, ◌∙◌, ap, arith}
 use Rattle.hex_core.specs.Probe.{invalid_in}
 use Rattle.hex_core.proofs.ProbeLemmas.{same_then}
 use Rattle.hex_core.proofs.SearchLemmas.{valid_more, first_invalid_is, first_invalid_none, looks_ended, looks_found, looks_inside, looks_near, read_along}

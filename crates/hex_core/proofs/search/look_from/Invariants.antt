@@ -1,4 +1,4 @@
-use Rattle.std.proofs.Common.{◌≡◌, ◌+◌, ◌≤◌}
+use Rattle.std.proofs.Common.{◌≡◌, ◌+◌}
 use Rattle.hex_core.specs.Probe.{SameSource, ValidIn}
 use Rattle.hex_core.proofs.search.look_from.Given as goal
 

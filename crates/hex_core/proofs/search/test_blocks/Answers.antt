@@ -1,4 +1,4 @@
-use Rattle.std.proofs.Common.{◌≡◌, ◌+◌, ◌*◌, length, refl, sym, ◌∙◌, ap, arith}
+use Rattle.std.proofs.Common.{◌≡◌, ◌+◌, ◌*◌, refl, ◌∙◌, ap, arith}
 use Rattle.hex_core.specs.Probe.{ValidIn, looks_from, steps_in}
 use Rattle.hex_core.specs.Search.{tested_blocks}
 use Rattle.hex_core.proofs.BlockLemmas.{valid_over}

@@ -1,4 +1,4 @@
-use Rattle.std.proofs.Common.{◌≡◌, ◌+◌, ◌*◌}
+use Rattle.std.proofs.Common.{◌*◌}
 use Rattle.hex_core.specs.Probe.{Adds, ValidIn}
 use Rattle.hex_core.proofs.search.test_blocks.Given as goal
 

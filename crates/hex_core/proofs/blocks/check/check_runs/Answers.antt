@@ -6,14 +6,14 @@ use Rattle.hex_core.proofs.blocks.check.check_runs.Goals as goal
 pub overflow_mul-i : goal.overflow_mul-i
 overflow_mul-i g c = omega (arith, block_inside (length c.args.src.now - g.row.N) (8 * g.row.N) c.turns.i (omega arith) c.turns-test.true)
 
-pub is_run_valid-requires-clause-inside : goal.is_run_valid-requires-clause-inside
-is_run_valid-requires-clause-inside g c = omega (arith, block_inside (length c.args.src.now - g.row.N) (8 * g.row.N) c.turns.i (omega arith) c.turns-test.true)
+pub reach_of-requires : goal.reach_of-requires
+reach_of-requires g c = omega (arith, block_inside (length c.args.src.now - g.row.N) (8 * g.row.N) c.turns.i (omega arith) c.turns-test.true)
 
-pub returns-then-not-is_run_valid : goal.returns-then-not-is_run_valid
-returns-then-not-is_run_valid g c =
+pub returns-then-not-is_low : goal.returns-then-not-is_low
+returns-then-not-is_low g c =
     let s = c.args.src.now in let n = g.row.N in let run = 8 * n in let at = c.turns.i * run in
     let inside : at + run ≤ length s - n = block_inside (length s - n) run c.turns.i (omega arith) c.turns-test.true in
-    (λ h. cc, λ none. let t = c.is_run_valid.ensures.1 (valid_range c.args.case s at (at + run) (omega (arith, inside)) none) in cc)
+    (λ h. cc, λ none. let t = c.is_low.ensures.1 (c.reach_of.ensures.1 (valid_range c.args.case s at (at + run) (omega (arith, inside)) none)) in cc)
 
 pub returns : goal.returns
 returns g c =

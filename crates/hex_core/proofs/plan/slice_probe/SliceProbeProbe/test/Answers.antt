@@ -1,6 +1,6 @@
 use Rattle.std.proofs.Common.{◌+◌}
 use Rattle.hex_core.proofs.SearchLemmas.{valid_part, part_valid}
-use Rattle.hex_core.proofs.slice_probe.SliceProbeProbe.test.Goals as goal
+use Rattle.hex_core.proofs.plan.slice_probe.SliceProbeProbe.test.Goals as goal
 
 pub returns-clause-valid : goal.returns-clause-valid
 returns-clause-valid c =

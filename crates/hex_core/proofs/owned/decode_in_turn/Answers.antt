@@ -3,7 +3,7 @@ use Rattle.std.proofs.lemmas.Bool.{OnFalse_at, OnFalse_from, OnTrue_at, OnTrue_f
 use Rattle.hex_core.specs.Search.{first_invalid}
 use Rattle.hex_core.proofs.BlockLemmas.{valid_range, decodes_over, decodes_whole, rest_valid}
 use Rattle.hex_core.proofs.OwnedLemmas.{blocks_stored, part_decoded, part_same}
-use Rattle.hex_core.proofs.plan.Backend.decode_in_turn.Goals as goal
+use Rattle.hex_core.proofs.owned.decode_in_turn.Goals as goal
 
 pub returns-then-dst-done : goal.returns-then-dst-done
 returns-then-dst-done g c =

@@ -1,7 +1,7 @@
 use Rattle.std.proofs.Common.{◌+◌, ◌*◌, ◌↔◌}
 use Rattle.hex_core.specs.Arithmetic.{AreLow}
 use Rattle.hex_core.specs.Search.{AllValid}
-use Rattle.hex_core.proofs.blocks.check.is_run_valid.Given as goal
+use Rattle.hex_core.proofs.blocks.check.reach_of.Given as goal
 
 -- the lanes so far are below 10 exactly where the blocks so far are valid
 abbrev pub invariant-turns : goal.invariant-turns

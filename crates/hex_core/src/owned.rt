@@ -1,0 +1,55 @@
+//! Decoding into a buffer that is given up on a refusal: block by block, each stored once its own
+//! digits are tested.
+
+ghost use Rattle.std.specs.Prelude.{◌≡◌, ◌*◌, ◌≤◌, length};
+ghost use Rattle.hex_core.specs.Calls.{DecodesOwned};
+
+use crate::blocks::decode::{DecodeBlock, decode_blocks};
+use crate::by_length;
+use crate::digit::CheckCase;
+use crate::lanes::NibbleMap;
+
+/// Writes the bytes that `src` spells into the whole of `dst`, or returns false and has stored the
+/// whole blocks before the first invalid byte.
+///
+/// Up to 256 digits are decoded at once, in registers: the blocks before a refusal are stored behind
+/// it alone. `M` finds the nibbles of 64 digits.
+#[inline(always)]
+pub fn decode_by_blocks<B, M, const SIZE: usize>(
+    src: &[u8],
+    dst: &mut [u8],
+    case: CheckCase,
+) -> bool
+where
+    B: DecodeBlock<SIZE>,
+    M: NibbleMap<64>,
+    requires some { 1 ≤ SIZE }
+    requires twice { length src.now ≡ 2 * length dst.old }
+    ensures { DecodesOwned (2 * SIZE) case src.now dst.old dst.new result }
+{
+    if src.len() > 256 {
+        return decode_in_turn::<B, M, SIZE>(src, dst, case);
+    }
+    if by_length::decode::<M>(src, dst, case) {
+        return true;
+    }
+    decode_in_turn::<B, M, SIZE>(src, dst, case)
+}
+
+// Decodes block by block, and what is behind the whole blocks at once.
+#[inline(always)]
+fn decode_in_turn<B, M, const SIZE: usize>(src: &[u8], dst: &mut [u8], case: CheckCase) -> bool
+where
+    B: DecodeBlock<SIZE>,
+    M: NibbleMap<64>,
+    requires some { 1 ≤ SIZE }
+    requires twice { length src.now ≡ 2 * length dst.old }
+    ensures { DecodesOwned (2 * SIZE) case src.now dst.old dst.new result }
+{
+    let done = decode_blocks::<B, SIZE>(src, dst, case);
+    // The blocks end before the last whole one where the next has an invalid byte.
+    if dst.len() - done >= SIZE {
+        return false;
+    }
+    by_length::decode::<M>(&src[2 * done..], &mut dst[done..], case)
+}
