@@ -10,7 +10,7 @@ use Rattle.std.proofs.lemmas.Simd.{bit_mask_l, mask_l-lt}
 use lib.Lanes.{Each1, mask_l}
 use Rattle.hex_core.specs.declared.digit.CheckCase.{CheckCase}
 use Rattle.hex_core.specs.declared.digit.CheckCase.TheVariants as policy
-use Rattle.hex_core.specs.Arithmetic.{AreLow, AreZero, excess, first_letter, fold_of, interleaved, reach, saturated, saturating_add, valid_nibble, wrapping_sub}
+use Rattle.hex_core.specs.Arithmetic.{AreLow, AreZero, excess, interleaved, letter, reach, saturating_add, valid_nibble, wrapping_sub}
 use Rattle.hex_core.specs.Digit.{digit, value}
 use Rattle.hex_core.specs.Search.{AllValid}
 use Rattle.hex_core.specs.Lanes.{Admits, AreNibbles, IsNibble}
@@ -44,13 +44,6 @@ reach_valid c v r n fits is =
     let all = passes_where (reach c) (λ x. x < 10) (λ b. IsSome (value c b)) (reach_is_low c) v fits.1 is in
     (λ low k least lt. all.0 low k (omega (arith, fits.0)), λ valid. all.1 (λ k h. valid k (omega arith) (omega (arith, fits.0))))
 
--- the test, with the policy's bit and letter at hand
-pub reach_with : (c : CheckCase) (v : List ℕ) {r : List ℕ} (fold first : ℕ) → fold ≡ fold_of c → first ≡ first_letter c
-    → r ≡ map (λ b. min (wrapping_sub b 48) (saturating_add (wrapping_sub (bit_or b fold) first) 4)) v → r ≡ map (reach c) v
-reach_with c v {r} fold first p q e =
-    subst (λ f. r ≡ map (λ b. min (wrapping_sub b 48) (saturating_add (wrapping_sub (bit_or b f) (first_letter c)) 4)) v) p
-    (subst (λ f. r ≡ map (λ b. min (wrapping_sub b 48) (saturating_add (wrapping_sub (bit_or b fold) f) 4)) v) q e)
-
 -- the mask of the bytes that have a value, and its bits
 excess_zeros : (c : CheckCase) → agree_below (λ b. eqb (excess c b) 0) (has c) 256 ≡ true
 excess_zeros policy.None = refl
@@ -68,12 +61,6 @@ pub excess_valid : (c : CheckCase) (v r : List ℕ) (n : ℕ) → (length v ≡ 
 excess_valid c v r n fits is =
     let all = zero_where (excess c) (λ b. IsSome (value c b)) (excess_is_zero c) v fits.1 is in
     (λ zero k low lt. all.0 zero k (omega (arith, fits.0)), λ valid. all.1 (λ k h. valid k (omega arith) (omega (arith, fits.0))))
-
-pub excess_with : (c : CheckCase) (v : List ℕ) {r : List ℕ} (fold first : ℕ) → fold ≡ fold_of c → first ≡ first_letter c
-    → r ≡ map (λ b. min (wrapping_sub b 48 - 9) (wrapping_sub (bit_or b fold) first - 5)) v → r ≡ map (excess c) v
-excess_with c v {r} fold first p q e =
-    subst (λ f. r ≡ map (λ b. min (wrapping_sub b 48 - 9) (wrapping_sub (bit_or b f) (first_letter c) - 5)) v) p
-    (subst (λ f. r ≡ map (λ b. min (wrapping_sub b 48 - 9) (wrapping_sub (bit_or b fold) f - 5)) v) q e)
 
 pub admitted_mask : (c : CheckCase) (v e : List ℕ) (m : ℕ) → Each1 (Fits w8) v → e ≡ map (excess c) v → m ≡ mask_l (map (λ x. eqb x 0) e) → m ≡ mask_l (map (has c) v)
 admitted_mask c v e m fits lanes is =
@@ -107,6 +94,10 @@ full_16 c v m long small admits = (
 
 -- ---- the saturating map
 
+-- a byte's value, or at least 16: for a byte that is no digit (no letter) the first (second) number is large
+abbrev pub saturated : CheckCase → ℕ → ℕ
+saturated c b = min (wrapping_sub (wrapping_sub b 58 - 6) 240) (saturating_add (letter c b) 10)
+
 abbrev pub nibble_test : Option ℕ → ℕ → Bool
 nibble_test (Some v) n = eqb n v
 nibble_test None n = leb 16 n
@@ -125,12 +116,6 @@ saturated_nibbles c v r fits is i h =
     let b = get_or v i 0 in
     let right = nibble_by (value c b) (saturated c b) (agree_below_at (λ x. nibble_test (value c x) (saturated c x)) always 256 b (saturates c) (lane_below v fits i)) in
     rw (mapped_at (saturated c) v i is h) right
-
-pub saturated_with : (c : CheckCase) (v : List ℕ) {r : List ℕ} (fold first : ℕ) → fold ≡ fold_of c → first ≡ first_letter c
-    → r ≡ map (λ b. min (wrapping_sub (wrapping_sub b 58 - 6) 240) (saturating_add (wrapping_sub (bit_or b fold) first) 10)) v → r ≡ map (saturated c) v
-saturated_with c v {r} fold first p q e =
-    subst (λ f. r ≡ map (λ b. min (wrapping_sub (wrapping_sub b 58 - 6) 240) (saturating_add (wrapping_sub (bit_or b f) (first_letter c)) 10)) v) p
-    (subst (λ f. r ≡ map (λ b. min (wrapping_sub (wrapping_sub b 58 - 6) 240) (saturating_add (wrapping_sub (bit_or b fold) f) 10)) v) q e)
 
 -- ---- the value of a byte that has one
 

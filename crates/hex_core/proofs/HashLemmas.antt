@@ -1,20 +1,18 @@
 -- The hash map at each byte beside each neighbour.
-use Rattle.std.proofs.Common.{◌≡◌, ℕ, ◌-◌, ◌<◌, ◌↔◌, Bool, true, false, ◌&&◌, eqb, ltb, List, map, length, get_or, bit_and, bit_or, bit_xor, Option, Some, None, refl, sym, ap, ◌∙◌, eqb-true, ltb-true, lt-ltb, arith}
-use Rattle.std.specs.Prelude.{IfSome, IsSome}
+use Rattle.std.proofs.Common.{◌≡◌, ℕ, ◌-◌, ◌<◌, ◌↔◌, Bool, true, false, ◌&&◌, eqb, ltb, List, [], ◌∷◌, map, length, get_or, bit_and, bit_or, bit_xor, Option, Some, None, refl, sym, ap, ap₂, ◌∙◌, eqb-true, ltb-true, lt-ltb, arith}
+use Rattle.std.specs.Prelude.{EachIndex, IfSome, IsSome}
 use Rattle.std.proofs.lemmas.Bool.{agree_below, agree_below_at, and_parts}
 use Rattle.std.proofs.lemmas.Bool.Decides.{nat_tests}
-use Rattle.std.proofs.lemmas.List.{length-map}
-use Rattle.std.proofs.lemmas.Simd.{length-zip2}
 use lib.Lanes.{zip2}
 use mathlib.Core.Bool.{beq}
 use Rattle.hex_core.specs.declared.digit.CheckCase.{CheckCase}
 use Rattle.hex_core.specs.declared.digit.CheckCase.TheVariants as policy
 use Rattle.hex_core.specs.Digit.{value}
-use Rattle.hex_core.specs.Hash.{Hashed, hash, hashed_check, hashed_value, neighbour_bits}
-use Rattle.hex_core.specs.Lanes.{IsNibble}
+use Rattle.hex_core.specs.Hash.{Hashed, check_row, hash, hashed_check, hashed_value, neighbour_bits}
+use Rattle.hex_core.specs.Lanes.{AreChecked, AreValues, IsNibble}
 use Rattle.hex_core.specs.Lookup.{entry}
 use Rattle.hex_core.proofs.ByteLemmas.{always, has, nibble_by, nibble_test}
-use Rattle.hex_core.proofs.LaneLemmas.{mapped_at, zipped_at}
+use Rattle.hex_core.proofs.LaneLemmas.{zipped_at}
 
 -- ---- one byte
 
@@ -73,24 +71,20 @@ nibble_is_right c b slot r v check B s p q e =
 pub neighbour_small : (v : List ℕ) (i : ℕ) → neighbour_bits v i < 8
 neighbour_small v i = grind (arith, nat_tests)
 
-pub value_len : (v slots row t r : List ℕ) (f : ℕ → ℕ → ℕ) (n : ℕ) → length v ≡ n → length slots ≡ n → t ≡ map (entry row) slots → r ≡ zip2 f v t → length r ≡ n
-value_len v slots row t r f n long many is e = ap length e ∙ length-zip2 f v t (long ∙ sym (ap length is ∙ length-map slots (entry row) ∙ many)) ∙ long
-
-pub value_lane : (v slots row t r : List ℕ) (f : ℕ → ℕ → ℕ) (n : ℕ) → length v ≡ n → length slots ≡ n → t ≡ map (entry row) slots → r ≡ zip2 f v t
-    → (i : ℕ) → i < n → get_or r i 0 ≡ f (get_or v i 0) (entry row (get_or slots i 0))
-value_lane v slots row t r f n long many is e i h =
-    let wide : length t ≡ n = ap length is ∙ length-map slots (entry row) ∙ many in
-    zipped_at f v t i e (omega arith) (omega arith) ∙ ap (f (get_or v i 0)) (mapped_at (entry row) slots i is (omega arith))
-
 -- the difference between two turns of the sign
-pub check_len : (v slots row f t d r : List ℕ) (n : ℕ) → length v ≡ n → length slots ≡ n → f ≡ map (λ x. bit_xor x 128) v → t ≡ map (entry row) slots → d ≡ zip2 (λ x y. x - y) f t → r ≡ map (λ x. bit_xor x 128) d → length r ≡ n
-check_len v slots row f t d r n long many turn is low back =
-    ap length back ∙ length-map d (λ x. bit_xor x 128) ∙ value_len f slots row t d (λ x y. x - y) n (ap length turn ∙ length-map v (λ x. bit_xor x 128) ∙ long) many is low
+pub checks_are : (c : CheckCase) (v slots f t d r : List ℕ) → f ≡ map (λ x. bit_xor x 128) v → t ≡ map (entry (check_row c)) slots → d ≡ zip2 (λ x y. x - y) f t → r ≡ map (λ x. bit_xor x 128) d → r ≡ zip2 (hashed_check c) v slots
+checks_are c v slots f t d r turn is low back = back ∙ ap (map (λ x. bit_xor x 128)) (low ∙ ap₂ (zip2 (λ x y. x - y)) turn is) ∙ go v slots
+  where
+    go : (v w : List ℕ) → map (λ x. bit_xor x 128) (zip2 (λ x y. x - y) (map (λ x. bit_xor x 128) v) (map (entry (check_row c)) w)) ≡ zip2 (hashed_check c) v w
+    go [] w = refl
+    go (x ∷ v) [] = refl
+    go (x ∷ v) (y ∷ w) = ap (λ l. hashed_check c x y ∷ l) (go v w)
 
-pub check_lane : (v slots row f t d r : List ℕ) (n : ℕ) → length v ≡ n → length slots ≡ n → f ≡ map (λ x. bit_xor x 128) v → t ≡ map (entry row) slots → d ≡ zip2 (λ x y. x - y) f t → r ≡ map (λ x. bit_xor x 128) d
-    → (i : ℕ) → i < n → get_or r i 0 ≡ bit_xor (bit_xor (get_or v i 0) 128 - entry row (get_or slots i 0)) 128
-check_lane v slots row f t d r n long many turn is low back i h =
-    let wide : length f ≡ n = ap length turn ∙ length-map v (λ x. bit_xor x 128) ∙ long in
-    let all : length d ≡ n = value_len f slots row t d (λ x y. x - y) n wide many is low in
-    mapped_at (λ x. bit_xor x 128) d i back (omega arith)
-    ∙ ap (λ x. bit_xor x 128) (value_lane f slots row t d (λ x y. x - y) n wide many is low i h ∙ ap (λ x. x - entry row (get_or slots i 0)) (mapped_at (λ x. bit_xor x 128) v i turn (omega arith)))
+-- the values, and the checks, of the bytes of a block
+pub values_right : (c : CheckCase) (v slots : List ℕ) {r : List ℕ} → ((i : ℕ) → get_or v i 0 < 256) → length slots ≡ length v → EachIndex v (λ i. Hashed (get_or v i 0) (get_or slots i 0)) → r ≡ zip2 hashed_value v slots → AreValues c v r
+values_right c v slots small same hashed is i h =
+    value_is_right c (get_or v i 0) _ _ (small i) (hashed i h) (zipped_at hashed_value v slots i is h (omega arith))
+
+pub checks_right : (c : CheckCase) (v slots : List ℕ) {r : List ℕ} → ((i : ℕ) → get_or v i 0 < 256) → length slots ≡ length v → EachIndex v (λ i. Hashed (get_or v i 0) (get_or slots i 0)) → r ≡ zip2 (hashed_check c) v slots → AreChecked c v r
+checks_right c v slots small same hashed is i h =
+    check_is_right c (get_or v i 0) _ _ (small i) (hashed i h) (zipped_at (hashed_check c) v slots i is h (omega arith))

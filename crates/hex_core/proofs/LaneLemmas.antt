@@ -42,6 +42,15 @@ pub map_id : (v : List ℕ) → map (λ x. x) v ≡ v
 map_id [] = refl
 map_id (x ∷ xs) = ap (λ r. x ∷ r) (map_id xs)
 
+-- each two lanes, the second of them mapped
+pub zipped_map : (f : ℕ → ℕ → ℕ) (g : ℕ → ℕ) (v w : List ℕ) {r : List ℕ} → r ≡ map g w → zip2 f v r ≡ zip2 (λ x y. f x (g y)) v w
+zipped_map f g v w is = ap (zip2 f v) is ∙ go v w
+  where
+    go : (v w : List ℕ) → zip2 f v (map g w) ≡ zip2 (λ x y. f x (g y)) v w
+    go [] w = refl
+    go (x ∷ v) [] = refl
+    go (x ∷ v) (y ∷ w) = ap (λ l. f x (g y) ∷ l) (go v w)
+
 -- two operations with a number each
 pub splat_twice : (f g : ℕ → ℕ → ℕ) (v : List ℕ) (n a b : ℕ) → length v ≡ n → zip2 g (zip2 f v (replicate n a)) (replicate n b) ≡ map (λ x. g (f x a) b) v
 splat_twice f g v n a b e =

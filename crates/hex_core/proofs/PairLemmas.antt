@@ -2,8 +2,14 @@
 use Rattle.std.proofs.Common.{◌≡◌, ℕ, zero, suc, ◌+◌, ◌*◌, ◌<◌, List, [], ◌∷◌, ◌++◌, map, length, get_or, drop, Fits, w8, refl, sym, ap, ap₂, ◌∙◌, arith}
 use Rattle.std.proofs.lemmas.List.{drop_all, get_or_append_left, get_or-append_right}
 use lib.Lanes.{Each1, number_l, digits_l, pick_l}
-use Rattle.hex_core.specs.Arithmetic.{interleaved, packed, pair_byte, words}
+use Rattle.hex_core.specs.Arithmetic.{interleaved, packed, pair_byte}
 use Rattle.hex_core.specs.Lanes.{ArePacked, AreSmall}
+
+-- neighbours as one word, the first in its low byte
+abbrev words : List ℕ → List ℕ
+words [] = []
+words (a ∷ []) = []
+words (a ∷ b ∷ rest) = (a + 256 * b) ∷ words rest
 
 -- the words of a vector's bytes, as std reads them out of one number
 words_of : (n : ℕ) (v : List ℕ) → length v ≡ 2 * n → Each1 (Fits w8) v → digits_l 65536 n (number_l 256 v) ≡ words v

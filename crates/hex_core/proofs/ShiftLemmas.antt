@@ -1,5 +1,6 @@
 -- A shift of words of four bytes by three bits, seen in the bytes.
 use Rattle.std.proofs.Common.{◌≡◌, ℕ, zero, suc, ◌+◌, ◌*◌, ◌/◌, ◌%◌, ◌^◌, ◌<◌, ◌≤◌, List, [], ◌∷◌, map, length, get_or, refl, sym, ap, ◌∙◌, inl, inr, Fits, w8, w32, arith}
+use Rattle.std.specs.Prelude.{EachIndex}
 use Rattle.std.proofs.lemmas.Bool.{cases_lt}
 use Rattle.std.proofs.lemmas.Simd.{below_from_Fits, get_or_narrower, get_or_wider}
 use Rattle.std.proofs.lemmas.Bool.Decides.{nat_tests}
@@ -62,12 +63,12 @@ last v i at p h =
 
 -- the bytes of v are read as words, and the bytes of their eighths e are written
 pub shifted_lane : (v e : List ℕ) (n : ℕ) → (length v ≡ 4 * n) × Each1 (Fits w8) v → e ≡ map (λ x. x / 8) (digits_l 4294967296 n (number_l 256 v)) → Each1 (λ x. x < 2 ^ 32) e
-    → (i : ℕ) → i < 4 * n → get_or (digits_l 256 (4 * n) (number_l 4294967296 e)) i 0 ≡ shifted v i
+    → EachIndex v (λ i. get_or (digits_l 256 (4 * n) (number_l 4294967296 e)) i 0 ≡ shifted v i)
 shifted_lane v e n fits is below i h =
     let words = digits_l 4294967296 n (number_l 256 v) in
     let bytes = digits_l 256 (4 * n) (number_l 4294967296 e) in
     let j = i / 4 in
-    let lt : j < n = omega arith in
+    let lt : j < n = omega (arith, h, fits.0) in
     let a = 4 * j in
     let small = lane_below v fits.1 in
     let word : get_or words j 0 ≡ number_l 256 (chunk (4 * j) 4 v) = get_or_wider 256 4 4294967296 n v j refl (below_from_Fits w8 v fits.1) lt in

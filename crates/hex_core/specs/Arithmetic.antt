@@ -31,27 +31,21 @@ first_letter policy.None = 97
 first_letter policy.Lower = 97
 first_letter policy.Upper = 65
 
+-- how far a byte is past the first letter that is read, once folded
+abbrev pub letter : CheckCase → ℕ → ℕ
+letter c b = wrapping_sub (bit_or b (fold_of c)) (first_letter c)
+
 -- how far a byte is past the ten digits and past the six letters: 0 exactly where it has a value
 abbrev pub excess : CheckCase → ℕ → ℕ
-excess c b = min (wrapping_sub b 48 - 9) (wrapping_sub (bit_or b (fold_of c)) (first_letter c) - 5)
+excess c b = min (wrapping_sub b 48 - 9) (letter c b - 5)
 
 -- how far a byte reaches past the first of ten digits, or past the first of six letters and four more: below 10 exactly where it has a value
 abbrev pub reach : CheckCase → ℕ → ℕ
-reach c b = min (wrapping_sub b 48) (saturating_add (wrapping_sub (bit_or b (fold_of c)) (first_letter c)) 4)
-
--- a byte's value, or at least 16: for a byte that is no digit (no letter) the first (second) number is large
-abbrev pub saturated : CheckCase → ℕ → ℕ
-saturated c b = min (wrapping_sub (wrapping_sub b 58 - 6) 240) (saturating_add (wrapping_sub (bit_or b (fold_of c)) (first_letter c)) 10)
+reach c b = min (wrapping_sub b 48) (saturating_add (letter c b) 4)
 
 -- the value of a byte that has one, which is the same under every policy that reads it
 abbrev pub valid_nibble : ℕ → ℕ
 valid_nibble b = min (wrapping_sub b 48) (wrapping_sub (bit_or b 0x20) 87)
-
--- neighbours as one word, the first in its low byte
-abbrev pub words : List ℕ → List ℕ
-words [] = []
-words (a ∷ []) = []
-words (a ∷ b ∷ rest) = (a + 256 * b) ∷ words rest
 
 -- the byte of a word of two nibbles: 4097 is 2 ^ 12 + 1, so bits 8 to 15 become those of the first nibble over those of the second
 abbrev pub pair_byte : ℕ → ℕ

@@ -10,6 +10,7 @@ pub mod Loan
 pub mod Laws
 pub mod Lanes
 pub mod Blocks
+pub mod Shapes
 pub mod Arithmetic
 pub mod Lookup
 pub mod Hash

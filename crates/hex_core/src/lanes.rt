@@ -2,9 +2,9 @@
 //!
 //! The functions over arrays are the public ones. Below them are the kernels, over vectors.
 
-ghost use Rattle.std.specs.Prelude.{◌≡◌, ◌↔◌, ℕ, ◌≤◌, ◌<◌, length, is_some, map, slice_index};
-ghost use Rattle.std.specs.Simd.Lanes.{mask_l};
-ghost use Rattle.hex_core.specs.Arithmetic.{AreLow, AreZero, excess, first_letter, fold_of, reach, valid_nibble};
+ghost use Rattle.std.specs.Prelude.{◌≡◌, ◌↔◌, ℕ, ◌≤◌, ◌<◌, EachIndex, is_some, map, slice_index};
+ghost use Rattle.std.specs.Simd.Lanes.{mask_l, zip2};
+ghost use Rattle.hex_core.specs.Arithmetic.{AreLow, AreZero, excess, first_letter, fold_of, letter, reach, valid_nibble};
 ghost use Rattle.hex_core.specs.Digit.{digit, value};
 ghost use Rattle.hex_core.specs.Search.{AllValid};
 ghost use Rattle.hex_core.specs.Hash.{Hashed, check_row, hashed_check, hashed_value};
@@ -222,6 +222,14 @@ fn first_letter(case: CheckCase) -> u8
     FIRST_LETTERS[case as u8 as usize]
 }
 
+// How far each lane is past the first letter that the policy reads, once folded.
+#[inline(always)]
+fn letters<const N: usize>(v: Simd<u8, N>, case: CheckCase) -> Simd<u8, N>
+    ensures { result ≡ map (letter case) v.entry }
+{
+    wrapping_sub(with_bits(v, fold_of(case)), first_letter(case))
+}
+
 /// How far each lane reaches past the first digit, or past the first letter and four more: below 10
 /// exactly where it has a value. One bound for both leaves the comparison to the end of a test of
 /// many blocks; for one or two of them the excess takes an instruction less.
@@ -230,8 +238,7 @@ pub(crate) fn reach<const N: usize>(v: Simd<u8, N>, case: CheckCase) -> Simd<u8,
     ensures lanes { result ≡ map (reach case) v.entry }
     ensures low { AreLow result ↔ AllValid case v.entry 0 N }
 {
-    let letters = wrapping_sub(with_bits(v, fold_of(case)), first_letter(case));
-    smaller(wrapping_sub(v, b'0'), saturating_add(letters, 4))
+    smaller(wrapping_sub(v, b'0'), saturating_add(letters(v, case), 4))
 }
 
 /// How far each lane is past the digits and letters: 0 exactly where it has a value.
@@ -241,8 +248,7 @@ pub(crate) fn excess<const N: usize>(v: Simd<u8, N>, case: CheckCase) -> Simd<u8
     ensures zero { AreZero result ↔ AllValid case v.entry 0 N }
 {
     let digits = saturating_sub(wrapping_sub(v, b'0'), 9);
-    let letters = wrapping_sub(with_bits(v, fold_of(case)), first_letter(case));
-    smaller(digits, saturating_sub(letters, 5))
+    smaller(digits, saturating_sub(letters(v, case), 5))
 }
 
 // A mask whose bit i says whether lane i has a value.
@@ -257,14 +263,12 @@ fn admitted<const N: usize>(v: Simd<u8, N>, case: CheckCase) -> u64
 // The value of each lane, or at least 16.
 #[inline(always)]
 fn saturated<const N: usize>(v: Simd<u8, N>, case: CheckCase) -> Simd<u8, N>
-    ensures len { length result ≡ N }
-    ensures nibbles { AreNibbles case v.entry result }
+    ensures { AreNibbles case v.entry result }
 {
     // Less 58, the byte behind `9`, the digits are the ten greatest bytes, 246 to 255. A step down
     // by 6 that stays at 0 leaves of them 240 to 249, the ten that wrap to 0 to 9.
     let digits = wrapping_sub(saturating_sub(wrapping_sub(v, b'9' + 1), 6), 240);
-    let letters = wrapping_sub(with_bits(v, fold_of(case)), first_letter(case));
-    smaller(digits, saturating_add(letters, 10))
+    smaller(digits, saturating_add(letters(v, case), 10))
 }
 
 // The row of each table is for slots 0 to 15. An offset is stored as what is taken away.
@@ -300,7 +304,7 @@ fn check_row(case: CheckCase) -> u8x16
 fn hashes<const N: usize>(v: Simd<u8, N>) -> Simd<u8, N>
 where
     Lanes: LookUp<N> + Shift<N>,
-    ensures { (i : ℕ) → i < N → Hashed (slice_index v.entry i) (slice_index result i) }
+    ensures { EachIndex v.entry (λ i. Hashed (slice_index v.entry i) (slice_index result i)) }
 {
     averages(
         Lanes::shift(v),
@@ -312,9 +316,7 @@ where
 fn hashed_values<const N: usize>(v: Simd<u8, N>, slots: Simd<u8, N>) -> Simd<u8, N>
 where
     Lanes: LookUp<N>,
-    ensures len { length result ≡ N }
-    ensures lanes { (i : ℕ) → i < N → slice_index result i
-        ≡ hashed_value (slice_index v.entry i) (slice_index slots.entry i) }
+    ensures { result ≡ zip2 hashed_value v.entry slots.entry }
 {
     wrapping_differences(v, Lanes::look_up(u8x16::from_array(VALUE_ROW), slots))
 }
@@ -323,9 +325,7 @@ where
 fn hashed_checks<const N: usize>(v: Simd<u8, N>, slots: Simd<u8, N>, case: CheckCase) -> Simd<u8, N>
 where
     Lanes: LookUp<N>,
-    ensures len { length result ≡ N }
-    ensures lanes { (i : ℕ) → i < N → slice_index result i
-        ≡ hashed_check case (slice_index v.entry i) (slice_index slots.entry i) }
+    ensures { result ≡ zip2 (hashed_check case) v.entry slots.entry }
 {
     let offsets = Lanes::look_up(check_row(case), slots);
     sign_flipped(saturating_differences(sign_flipped(v), offsets))
@@ -334,8 +334,7 @@ where
 /// How the nibbles of a vector are found: the value of each lane, or at least 16.
 pub(crate) trait NibbleMap<const N: usize> {
     fn nibbles(v: Simd<u8, N>, case: CheckCase) -> Simd<u8, N>
-        ensures len { length result ≡ N }
-        ensures nibbles { AreNibbles case v.entry result };
+        ensures { AreNibbles case v.entry result };
 }
 
 /// Nibbles by saturating sums and differences.
@@ -344,8 +343,7 @@ pub(crate) struct Saturating;
 impl<const N: usize> NibbleMap<N> for Saturating {
     #[inline(always)]
     fn nibbles(v: Simd<u8, N>, case: CheckCase) -> Simd<u8, N>
-        ensures len { length result ≡ N }
-        ensures nibbles { AreNibbles case v.entry result }
+        ensures { AreNibbles case v.entry result }
     {
         saturated(v, case)
     }
@@ -357,8 +355,7 @@ pub(crate) struct Hashing;
 impl NibbleMap<64> for Hashing {
     #[inline(always)]
     fn nibbles(v: u8x64, case: CheckCase) -> u8x64
-        ensures len { length result ≡ 64 }
-        ensures nibbles { AreNibbles case v result }
+        ensures { AreNibbles case v result }
     {
         let slots = hashes(v);
         // The sign of a failed check makes its nibble large.

@@ -1,6 +1,6 @@
 //! Vectors: one operation a function, and what it makes of the lanes.
 
-ghost use Rattle.std.specs.Prelude.{◌≡◌, ◌↔◌, ℕ, ◌-◌, ◌/◌, ◌^◌, ◌≤◌, ◌<◌, ◌==◌, IsTrue, length, max, min, map, slice_index, bit_and, bit_or, bit_xor};
+ghost use Rattle.std.specs.Prelude.{◌≡◌, ◌↔◌, ℕ, ◌-◌, ◌/◌, ◌^◌, ◌≤◌, ◌<◌, ◌==◌, EachIndex, IsTrue, max, min, map, slice_index, bit_and, bit_or, bit_xor};
 ghost use Rattle.std.specs.Simd.Lanes.{Each1, mask_l, zip2};
 ghost use Rattle.hex_core.specs.Arithmetic.{AreLow, AreZero, interleaved, packed, pair_byte, saturating_add, wrapping_sub};
 ghost use Rattle.hex_core.specs.Hash.{average, shifted};
@@ -308,15 +308,13 @@ impl LookUp<64> for Lanes {
 /// in above its own.
 pub trait Shift<const N: usize> {
     fn shift(v: Simd<u8, N>) -> Simd<u8, N>
-        ensures len { length result ≡ N }
-        ensures lanes { (i : ℕ) → i < N → slice_index result i ≡ shifted v.entry i };
+        ensures { EachIndex v.entry (λ i. slice_index result i ≡ shifted v.entry i) };
 }
 
 impl Shift<32> for Lanes {
     #[inline(always)]
     fn shift(v: u8x32) -> u8x32
-        ensures len { length result ≡ 32 }
-        ensures lanes { (i : ℕ) → i < 32 → slice_index result i ≡ shifted v i }
+        ensures { EachIndex v (λ i. slice_index result i ≡ shifted v i) }
     {
         eighths(u32x8::from_le_bytes(v)).to_le_bytes()
     }
@@ -325,8 +323,7 @@ impl Shift<32> for Lanes {
 impl Shift<64> for Lanes {
     #[inline(always)]
     fn shift(v: u8x64) -> u8x64
-        ensures len { length result ≡ 64 }
-        ensures lanes { (i : ℕ) → i < 64 → slice_index result i ≡ shifted v i }
+        ensures { EachIndex v (λ i. slice_index result i ≡ shifted v i) }
     {
         eighths(u32x16::from_le_bytes(v)).to_le_bytes()
     }

@@ -3,6 +3,7 @@
 ghost use Rattle.std.specs.Prelude.{◌≡◌, ◌↔◌, ◌+◌, ◌-◌, ◌*◌, ◌≤◌, IsTrue, None, length};
 ghost use Rattle.hex_core.specs.Arithmetic.{AreLow};
 ghost use Rattle.hex_core.specs.Search.{AllValid, first_invalid};
+ghost use Rattle.hex_core.specs.Shapes.{EndsCover, HasBlock};
 
 use crate::digit::CheckCase;
 use crate::lanes::{excess, reach};
@@ -33,8 +34,7 @@ pub fn check_one<const N: usize>(src: &[u8], case: CheckCase) -> bool
 #[inline(always)]
 pub fn check_two<const N: usize>(src: &[u8], case: CheckCase) -> bool
     requires lanes { N ≤ 64 }
-    requires least { N ≤ length src.now }
-    requires most { length src.now ≤ 2 * N }
+    requires covered { EndsCover N src.now }
     ensures { IsTrue result ↔ (first_invalid case src.now ≡ None) }
 {
     let front = excess(Simd::<u8, N>::from_slice(src), case);
@@ -62,8 +62,7 @@ fn reach_of<const N: usize, const K: usize>(src: &[u8], at: usize, case: CheckCa
 pub fn check_ends<const N: usize, const K: usize>(src: &[u8], case: CheckCase) -> bool
     requires lanes { N ≤ 64 }
     requires some { 1 ≤ K }
-    requires least { K * N ≤ length src.now }
-    requires most { length src.now ≤ 2 * (K * N) }
+    requires covered { EndsCover (K * N) src.now }
     ensures { IsTrue result ↔ (first_invalid case src.now ≡ None) }
 {
     let front = reach_of::<N, K>(src, 0, case);
@@ -74,9 +73,7 @@ pub fn check_ends<const N: usize, const K: usize>(src: &[u8], case: CheckCase) -
 // Whether every byte of a source of `N` bytes or more has a value, block by block.
 #[inline(never)]
 fn check_blocks<const N: usize>(src: &[u8], case: CheckCase) -> bool
-    requires some { 1 ≤ N }
-    requires lanes { N ≤ 64 }
-    requires least { N ≤ length src.now }
+    requires { HasBlock N src.now }
     ensures { IsTrue result ↔ (first_invalid case src.now ≡ None) }
 {
     'turns: for i in 0..src.len() / N {
@@ -93,9 +90,7 @@ const RUN: usize = 8;
 // The same as `check_blocks`, by runs as long as there is one.
 #[inline(never)]
 fn check_runs<const N: usize>(src: &[u8], case: CheckCase) -> bool
-    requires some { 1 ≤ N }
-    requires lanes { N ≤ 64 }
-    requires least { N ≤ length src.now }
+    requires { HasBlock N src.now }
     ensures { IsTrue result ↔ (first_invalid case src.now ≡ None) }
 {
     let runs = (src.len() - N) / (RUN * N);
@@ -110,9 +105,7 @@ fn check_runs<const N: usize>(src: &[u8], case: CheckCase) -> bool
 /// Whether every byte of a source of `N` bytes or more has a value.
 #[inline(always)]
 pub fn check_long<const N: usize>(src: &[u8], case: CheckCase) -> bool
-    requires some { 1 ≤ N }
-    requires lanes { N ≤ 64 }
-    requires least { N ≤ length src.now }
+    requires { HasBlock N src.now }
     ensures { IsTrue result ↔ (first_invalid case src.now ≡ None) }
 {
     if src.len() < 4 * N {

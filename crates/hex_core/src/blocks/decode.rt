@@ -1,13 +1,13 @@
 //! Decoding by blocks: nibbles in registers, and the stores of their bytes.
 
-ghost use Rattle.std.specs.Bool.{OnFalse, OnTrue};
-ghost use Rattle.std.specs.Prelude.{◌≡◌, ◌↔◌, ℕ, ◌+◌, ◌-◌, ◌*◌, ◌≤◌, IsTrue, None, length};
+ghost use Rattle.std.specs.Prelude.{◌≡◌, ◌+◌, ◌-◌, ◌*◌, ◌≤◌, None, length};
 ghost use Rattle.std.specs.Simd.Lanes.{put_chunk};
 ghost use Rattle.hex_core.specs.Arithmetic.{packed};
 ghost use Rattle.hex_core.specs.Blocks.{DecodesRange, NibblesFrom};
 ghost use Rattle.hex_core.specs.Calls.{DecodesWhole};
 ghost use Rattle.hex_core.specs.Search.{AllValid, first_invalid};
 ghost use Rattle.hex_core.specs.Lanes.{AreSmall};
+ghost use Rattle.hex_core.specs.Shapes.{DecodesAt, DecodesBlocks, EndsCover, Halves, HasBlock, HasRoom};
 ghost use Rattle.hex_core.specs.Text.{Spells};
 
 use crate::blocks::check::check_long;
@@ -60,9 +60,8 @@ fn write_at<const N: usize, const HALF: usize>(
 )
 where
     Lanes: Pack<N, HALF>,
-    requires lanes { N ≡ 2 * HALF }
-    requires twice { length src.now ≡ 2 * length dst.old }
-    requires room { at + HALF ≤ length dst.old }
+    requires half { N ≡ 2 * HALF }
+    requires room { HasRoom at HALF src.now dst.old }
     requires valid { first_invalid case src.now ≡ None }
     ensures { DecodesRange case src.now dst.old dst.new at (at + HALF) }
 {
@@ -74,10 +73,9 @@ where
 pub fn write_blocks<const N: usize, const HALF: usize>(src: &[u8], dst: &mut [u8], case: CheckCase)
 where
     Lanes: Pack<N, HALF>,
-    requires some { 1 ≤ HALF }
-    requires lanes { N ≡ 2 * HALF }
+    requires block { HasBlock N src.now }
+    requires half { N ≡ 2 * HALF }
     requires twice { length src.now ≡ 2 * length dst.old }
-    requires least { HALF ≤ length dst.old }
     requires valid { first_invalid case src.now ≡ None }
     ensures { Spells case src.now dst.new }
 {
@@ -122,8 +120,7 @@ pub fn decode_one<M, const N: usize, const HALF: usize>(
 where
     M: NibbleMap<N>,
     Lanes: Pack<N, HALF>,
-    requires lanes { N ≤ 64 }
-    requires half { N ≡ 2 * HALF }
+    requires sizes { Halves N HALF }
     requires twice { length src.now ≡ 2 * length dst.old }
     requires whole { length src.now ≡ N }
     ensures { DecodesWhole case src.now dst.old dst.new result }
@@ -146,11 +143,9 @@ pub fn decode_two<M, const N: usize, const HALF: usize>(
 where
     M: NibbleMap<N>,
     Lanes: Pack<N, HALF>,
-    requires lanes { N ≤ 64 }
-    requires half { N ≡ 2 * HALF }
+    requires sizes { Halves N HALF }
     requires twice { length src.now ≡ 2 * length dst.old }
-    requires least { N ≤ length src.now }
-    requires most { length src.now ≤ 2 * N }
+    requires covered { EndsCover N src.now }
     ensures { DecodesWhole case src.now dst.old dst.new result }
 {
     let front = nibbles_at::<M, N>(src, 0, case);
@@ -173,11 +168,9 @@ pub fn decode_four<M, const N: usize, const HALF: usize>(
 where
     M: NibbleMap<N>,
     Lanes: Pack<N, HALF>,
-    requires lanes { N ≤ 64 }
-    requires half { N ≡ 2 * HALF }
+    requires sizes { Halves N HALF }
     requires twice { length src.now ≡ 2 * length dst.old }
-    requires least { 2 * N ≤ length src.now }
-    requires most { length src.now ≤ 4 * N }
+    requires covered { EndsCover (2 * N) src.now }
     ensures { DecodesWhole case src.now dst.old dst.new result }
 {
     let len = src.len();
@@ -203,11 +196,9 @@ pub fn decode_long<const N: usize, const HALF: usize>(
 ) -> bool
 where
     Lanes: Pack<N, HALF>,
-    requires some { 1 ≤ HALF }
-    requires lanes { N ≤ 64 }
+    requires block { HasBlock N src.now }
     requires half { N ≡ 2 * HALF }
     requires twice { length src.now ≡ 2 * length dst.old }
-    requires least { N ≤ length src.now }
     ensures { DecodesWhole case src.now dst.old dst.new result }
 {
     let valid = check_long::<N>(src, case);
@@ -222,11 +213,8 @@ where
 pub trait DecodeBlock<const SIZE: usize> {
     /// Decodes the block of the bytes from `at` on, and returns whether it is valid.
     fn decode_at(src: &[u8], dst: &mut [u8], at: usize, case: CheckCase) -> bool
-        requires twice { length src.now ≡ 2 * length dst.old }
-        requires room { at + SIZE ≤ length dst.old }
-        ensures valid { IsTrue result ↔ AllValid case src.now (2 * at) (2 * at + 2 * SIZE) }
-        ensures decoded { OnTrue result (DecodesRange case src.now dst.old dst.new at (at + SIZE)) }
-        ensures kept { OnFalse result (dst.new ≡ dst.old) };
+        requires { HasRoom at SIZE src.now dst.old }
+        ensures { DecodesAt case src.now dst.old dst.new at SIZE result };
 }
 
 /// A block of 64 digits in one vector.
@@ -235,11 +223,8 @@ pub struct OneVector;
 impl DecodeBlock<32> for OneVector {
     #[inline(always)]
     fn decode_at(src: &[u8], dst: &mut [u8], at: usize, case: CheckCase) -> bool
-        requires twice { length src.now ≡ 2 * length dst.old }
-        requires room { at + 32 ≤ length dst.old }
-        ensures valid { IsTrue result ↔ AllValid case src.now (2 * at) (2 * at + 2 * 32) }
-        ensures decoded { OnTrue result (DecodesRange case src.now dst.old dst.new at (at + 32)) }
-        ensures kept { OnFalse result (dst.new ≡ dst.old) }
+        requires { HasRoom at 32 src.now dst.old }
+        ensures { DecodesAt case src.now dst.old dst.new at 32 result }
     {
         let block = nibbles_at::<Saturating, 64>(src, 2 * at, case);
         if !is_small(block) {
@@ -256,11 +241,8 @@ pub struct TwoHashed;
 impl DecodeBlock<64> for TwoHashed {
     #[inline(always)]
     fn decode_at(src: &[u8], dst: &mut [u8], at: usize, case: CheckCase) -> bool
-        requires twice { length src.now ≡ 2 * length dst.old }
-        requires room { at + 64 ≤ length dst.old }
-        ensures valid { IsTrue result ↔ AllValid case src.now (2 * at) (2 * at + 2 * 64) }
-        ensures decoded { OnTrue result (DecodesRange case src.now dst.old dst.new at (at + 64)) }
-        ensures kept { OnFalse result (dst.new ≡ dst.old) }
+        requires { HasRoom at 64 src.now dst.old }
+        ensures { DecodesAt case src.now dst.old dst.new at 64 result }
     {
         let front = nibbles_at::<Hashing, 64>(src, 2 * at, case);
         let back = nibbles_at::<Hashing, 64>(src, 2 * at + 64, case);
@@ -280,12 +262,7 @@ where
     B: DecodeBlock<SIZE>,
     requires some { 1 ≤ SIZE }
     requires twice { length src.now ≡ 2 * length dst.old }
-    ensures inside { result ≤ length dst.old }
-    ensures whole { (i : ℕ) × (result ≡ i * SIZE) }
-    ensures valid { AllValid case src.now 0 (2 * result) }
-    ensures stopped { 2 * result + 2 * SIZE ≤ length src.now
-        → ¬ AllValid case src.now (2 * result) (2 * result + 2 * SIZE) }
-    ensures decoded { DecodesRange case src.now dst.old dst.new 0 result }
+    ensures { DecodesBlocks case SIZE src.now dst.old dst.new result }
 {
     let blocks = dst.len() / SIZE;
     'turns: for i in 0..blocks {

@@ -2,6 +2,7 @@
 
 ghost use Rattle.std.specs.Prelude.{◌≡◌, ◌+◌, ◌*◌, ◌≤◌, length};
 ghost use Rattle.std.specs.Simd.Lanes.{chunk, put_chunk};
+ghost use Rattle.hex_core.specs.Shapes.{EndsCover};
 ghost use Rattle.hex_core.specs.Text.{text};
 
 use crate::lanes::encoded;
@@ -30,8 +31,7 @@ where
     Lanes: Interleave<N, TWICE> + LookUp<TWICE>,
     requires lanes { TWICE ≡ 2 * N }
     requires twice { length dst.old ≡ 2 * length src.now }
-    requires least { N ≤ length src.now }
-    requires most { length src.now ≤ 2 * N }
+    requires covered { EndsCover N src.now }
     ensures { dst.new ≡ text upper src.now }
 {
     spell_at::<N, TWICE>(src, dst, 0, upper);

@@ -26,6 +26,6 @@ pub returns-else-src-eq0 : goal.returns-else-src-eq0
 returns-else-src-eq0 g c =
     let s = c.args.src.now in let n = g.row.N in let test = c.is_valid_at-else-src-eq0.ensures in
     let front : AllValid c.args.case s 0 (length s / n * n) = λ k low lt. c.turns.invariant k low (grind (arith, nat_tests)) in
-    let last = last_valid c.args.case s n c.requires.some c.requires.least front in
+    let last = last_valid c.args.case s n c.requires.0 c.requires.2 front in
     let end : length s - n + n ≡ length s = omega arith in
     (λ t. last.0 (λ k low lt. test.0 t k low (omega arith)), λ none. test.1 (λ k low lt. last.1 none k low (omega arith)))

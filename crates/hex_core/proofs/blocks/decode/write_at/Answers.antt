@@ -7,4 +7,4 @@ valid_nibbles_at-requires g c = (omega arith, (omega arith, valid_range c.args.c
 
 pub returns : goal.returns
 returns g c =
-    decodes c.args.case c.args.src.now c.args.dst.now _ c.valid_nibbles_at.result c.args.at (2 * c.args.at) g.row.HALF g.row.N refl c.requires.lanes c.requires.room c.valid_nibbles_at.ensures.nibbles c.valid_nibbles_at.ensures.small c.put.ensures
+    decodes c.args.case c.args.src.now c.args.dst.now _ c.valid_nibbles_at.result c.args.at (2 * c.args.at) g.row.HALF g.row.N refl c.requires.half c.requires.room.1 c.valid_nibbles_at.ensures.nibbles c.valid_nibbles_at.ensures.small c.put.ensures

@@ -10,7 +10,7 @@ pub overflow_mul-i : goal.overflow_mul-i
 overflow_mul-i g c = omega (arith, block_inside (length c.args.dst.now) g.row.HALF c.turns.i (omega arith) (omega arith))
 
 pub write_at-requires-clause-room : goal.write_at-requires-clause-room
-write_at-requires-clause-room g c = omega (arith, block_inside (length c.args.dst.now) g.row.HALF c.turns.i (omega arith) (omega arith))
+write_at-requires-clause-room g c = (omega arith, omega (arith, block_inside (length c.args.dst.now) g.row.HALF c.turns.i (omega arith) (omega arith)))
 
 pub turns-preserved : goal.turns-preserved
 turns-preserved g c = decodes_next c.args.case c.args.src.now c.args.dst.now c.turns.dst c.write_at.new.dst c.turns.i g.row.HALF c.turns.invariant c.write_at.ensures
@@ -18,7 +18,7 @@ turns-preserved g c = decodes_next c.args.case c.args.src.now c.args.dst.now c.t
 pub returns-then-dst-ne0 : goal.returns-then-dst-ne0
 returns-then-dst-ne0 g c =
     let n = length c.args.dst.now in let new = c.write_at-then-dst-ne0.new.dst in
-    last_spells c.args.case c.args.src.now c.args.dst.now c.turns.dst new c.turns.i g.row.HALF _ n (omega arith) (omega arith) c.requires.some (omega arith) (omega arith) c.turns.invariant c.write_at-then-dst-ne0.ensures
+    last_spells c.args.case c.args.src.now c.args.dst.now c.turns.dst new c.turns.i g.row.HALF _ n (omega arith) (omega arith) (omega arith) (omega arith) (omega arith) c.turns.invariant c.write_at-then-dst-ne0.ensures
 
 pub returns-else-dst-ne0 : goal.returns-else-dst-ne0
 returns-else-dst-ne0 g c =

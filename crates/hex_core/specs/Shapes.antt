@@ -1,0 +1,36 @@
+-- The sizes that bodies over blocks take, and what decoding block by block has done.
+use Rattle.std.specs.Prelude.{◌≡◌, ◌↔◌, ℕ, ◌+◌, ◌*◌, ◌≤◌, Bool, IsTrue, List, length}
+use Rattle.std.specs.Bool.{OnFalse, OnTrue}
+use Rattle.hex_core.specs.declared.digit.CheckCase.{CheckCase}
+use Rattle.hex_core.specs.Blocks.{DecodesRange}
+use Rattle.hex_core.specs.Search.{AllValid}
+
+-- blocks of n lanes, of which a source has one at least
+abbrev pub HasBlock : ℕ → List ℕ → Type 0
+HasBlock n s = (1 ≤ n) × (n ≤ 64) × (n ≤ length s)
+
+-- n bytes at each end are all of a source
+abbrev pub EndsCover : ℕ → List ℕ → Type 0
+EndsCover n s = (n ≤ length s) × (length s ≤ 2 * n)
+
+-- n digits in a vector spell half as many bytes
+abbrev pub Halves : ℕ → ℕ → Type 0
+Halves n half = (n ≤ 64) × (n ≡ 2 * half)
+
+-- a destination of what a source spells has so many bytes from a place on
+abbrev pub HasRoom : ℕ → ℕ → List ℕ → List ℕ → Type 0
+HasRoom at size s dst = (length s ≡ 2 * length dst) × (at + size ≤ length dst)
+
+-- the digits of these bytes are valid, and the bytes were decoded; or nothing was stored
+abbrev pub DecodesAt : CheckCase → List ℕ → List ℕ → List ℕ → ℕ → ℕ → Bool → Type 0
+DecodesAt c s old new at size done =
+    (IsTrue done ↔ AllValid c s (2 * at) (2 * at + 2 * size))
+    × OnTrue done (DecodesRange c s old new at (at + size)) × OnFalse done (new ≡ old)
+
+-- so many bytes were decoded, in whole blocks, up to one whose digits are not valid
+pub record DecodesBlocks (c : CheckCase) (size : ℕ) (s old new : List ℕ) (done : ℕ) : Type 0 where
+  pub inside : done ≤ length old
+  pub whole : (i : ℕ) × (done ≡ i * size)
+  pub valid : AllValid c s 0 (2 * done)
+  pub stopped : 2 * done + 2 * size ≤ length s → ¬ AllValid c s (2 * done) (2 * done + 2 * size)
+  pub decoded : DecodesRange c s old new 0 done
