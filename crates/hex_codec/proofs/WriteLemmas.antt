@@ -15,7 +15,8 @@ use Rattle.hex_core.specs.Calls.{Decodes}
 use Rattle.hex_core.specs.Digit.{value}
 use Rattle.hex_core.specs.Refusal.{decode_refusal}
 use Rattle.hex_core.specs.Search.{first_invalid}
-use Rattle.hex_core.specs.Text.{Spells}
+use Rattle.hex_core.specs.Text.{Spells, SpellsAt}
+use Rattle.hex_core.proofs.SpellsLemmas.{spelled_along}
 use Rattle.hex_codec.specs.declared.group.Group.{Group}
 use Rattle.hex_codec.specs.declared.strip.Front.{Front}
 use Rattle.hex_codec.specs.Grouped.{piece_len}
@@ -29,21 +30,16 @@ use Rattle.hex_codec.proofs.WrongLemmas.{any-none, both, none-any}
 pub spells-joined : (c : CheckCase) (a b x y : List ℕ) → Spells c a x → Spells c b y → Spells c (a ++ b) (x ++ y)
 spells-joined c a b x y h k = record {
   twice = omega (arith, length-append a b, length-append x y, h.twice, k.twice);
-  high = λ i lt. high i (omega (arith, lt, length-append x y)) (cases_lt i (length x));
-  low = λ i lt. low i (omega (arith, lt, length-append x y)) (cases_lt i (length x));
+  each = λ i lt. each i (omega (arith, lt, length-append x y)) (cases_lt i (length x));
 }
   where
-    high : (i : ℕ) → i < length x + length y → (i < length x) ⊎ (length x ≤ i) → value c (get_or (a ++ b) (2 * i) 0) ≡ Some (get_or (x ++ y) i 0 / 16)
-    high i lt (inl l) = rw (get_or_append_left a b 0 (2 * i) (omega (arith, h.twice)), get_or_append_left x y 0 i l) (h.high i l)
-    high i lt (inr r) =
-        let place : 2 * i - length a ≡ 2 * (i - length x) = omega (arith, h.twice) in
-        rw (get_or-append_right a b (length a) (2 * i) 0 refl (omega (arith, h.twice)), get_or-append_right x y (length x) i 0 refl r, place) (k.high (i - length x) (omega arith))
-
-    low : (i : ℕ) → i < length x + length y → (i < length x) ⊎ (length x ≤ i) → value c (get_or (a ++ b) (2 * i + 1) 0) ≡ Some (get_or (x ++ y) i 0 % 16)
-    low i lt (inl l) = rw (get_or_append_left a b 0 (2 * i + 1) (omega (arith, h.twice)), get_or_append_left x y 0 i l) (h.low i l)
-    low i lt (inr r) =
-        let place : 2 * i + 1 - length a ≡ 2 * (i - length x) + 1 = omega (arith, h.twice) in
-        rw (get_or-append_right a b (length a) (2 * i + 1) 0 refl (omega (arith, h.twice)), get_or-append_right x y (length x) i 0 refl r, place) (k.low (i - length x) (omega arith))
+    each : (i : ℕ) → i < length x + length y → (i < length x) ⊎ (length x ≤ i) → SpellsAt c (a ++ b) (x ++ y) i
+    each i lt (inl l) =
+        spelled_along c a (a ++ b) x (x ++ y) i i (get_or_append_left a b 0 (2 * i) (omega (arith, h.twice))) (get_or_append_left a b 0 (2 * i + 1) (omega (arith, h.twice))) (get_or_append_left x y 0 i l) (h.each i l)
+    each i lt (inr r) =
+        let j = i - length x in
+        let digit : (m n : ℕ) → length a + m ≡ n → get_or (a ++ b) n 0 ≡ get_or b m 0 = λ m n e. get_or-append_right a b (length a) n 0 refl (omega arith) ∙ ap (λ p. get_or b p 0) (omega arith) in
+        spelled_along c b (a ++ b) y (x ++ y) j i (digit (2 * j) (2 * i) (omega (arith, h.twice))) (digit (2 * j + 1) (2 * i + 1) (omega (arith, h.twice))) (get_or-append_right x y (length x) i 0 refl r) (k.each j (omega arith))
 
 -- where two lists have no invalid byte joined, neither has one
 pub valid-parts : (c : CheckCase) (a b : List ℕ) → first_invalid c (a ++ b) ≡ None → (first_invalid c a ≡ None) × (first_invalid c b ≡ None)

@@ -1,6 +1,6 @@
 //! Decoding hex digits.
 
-ghost use Rattle.std.specs.Prelude.{◌≡◌, ◌≢◌, ◌*◌, ◌↔◌, IsTrue, None, Some, length, MatchResult};
+ghost use Rattle.std.specs.Prelude.{◌≡◌, ◌*◌, ◌↔◌, IsTrue, None, Some, length, MatchResult};
 ghost use Rattle.std.specs.Borrow.{sem};
 ghost use Rattle.hex_core.specs.declared.digit.CheckCase.TheVariants as policy;
 ghost use Rattle.hex_core.specs.Calls.{Decodes, DecodesFront};
@@ -265,22 +265,7 @@ fn decode_whole(src: &[u8], dst: &mut [u8], case: CheckCase) -> Result<(), Error
         Backend::plain().decode(src, dst, case)
     };
     if !decoded {
-        return Err(first_error(src, case));
+        return Err(Backend::plain().first_error(src, case));
     }
     Ok(())
-}
-
-// The first invalid byte of a source that has one.
-#[cold]
-fn first_error(src: &[u8], case: CheckCase) -> Error
-    requires { first_invalid case src.now ≢ None }
-    ensures { first_bad_char case src.now ≡ Some result }
-{
-    let Some(index) = Backend::plain().first_invalid(src, case) else {
-        unreachable!();
-    };
-    Error::InvalidChar {
-        index,
-        byte: src[index],
-    }
 }

@@ -8,15 +8,16 @@ use Rattle.std.proofs.lemmas.Simd.{get_or-chunk, get_or-put_chunk_above, get_or-
 use lib.Lanes.{chunk, put_chunk}
 use Rattle.hex_core.specs.declared.digit.CheckCase.{CheckCase}
 use Rattle.hex_core.specs.Arithmetic.{packed, valid_nibble}
-use Rattle.hex_core.specs.Blocks.{DecodesRange, NibblesFrom, SpellsAt}
+use Rattle.hex_core.specs.Blocks.{DecodesRange, NibblesFrom}
 use Rattle.hex_core.specs.Digit.{value}
 use Rattle.hex_core.specs.Search.{AllValid, first_invalid}
 use Rattle.hex_core.specs.Lanes.{AreNibbles, AreSmall, IsNibble}
-use Rattle.hex_core.specs.Text.{Spells}
+use Rattle.hex_core.specs.Text.{Spells, SpellsAt}
 use Rattle.hex_core.proofs.ByteLemmas.{valid_value, value_small}
 use Rattle.hex_core.proofs.LaneLemmas.{mapped_at}
 use Rattle.hex_core.proofs.PairLemmas.{length-packed, packed_at}
 use Rattle.hex_core.proofs.SearchLemmas.{none_valid, valid_part, first_invalid_none, part_valid}
+use Rattle.hex_core.proofs.SpellsLemmas.{spelled_along}
 
 -- ---- places of blocks of any width
 
@@ -192,15 +193,12 @@ decodes c s old new v at from w n twice even room are small is =
 
 -- ---- ranges that are decoded one after the other
 
-spelled_along : (c : CheckCase) (s old new : List ℕ) (k : ℕ) → get_or new k 0 ≡ get_or old k 0 → SpellsAt c s old k → SpellsAt c s new k
-spelled_along c s old new k e at = record { high = rw e at.high; low = rw e at.low }
-
 -- a range, and one that begins inside it or at its end
 pub decodes_over : (c : CheckCase) (s old mid new : List ℕ) (first middle start end : ℕ) → first ≤ start → start ≤ middle → middle ≤ end → DecodesRange c s old mid first middle → DecodesRange c s mid new start end → DecodesRange c s old new first end
 decodes_over c s old mid new first middle start end from le to one two = record {
   decoded = λ k low lt.
       elim (cases_lt k start) [
-        | inl before ↦ spelled_along c s mid new k (two.before k before) (one.decoded k low (omega arith))
+        | inl before ↦ spelled_along c s s mid new k k refl refl (two.before k before) (one.decoded k low (omega arith))
         | inr past ↦ two.decoded k past lt
       ];
   before = λ k lt. two.before k (omega arith) ∙ one.before k lt;
@@ -209,11 +207,7 @@ decodes_over c s old mid new first middle start end from le to one two = record 
 
 -- the whole of a destination
 pub decodes_whole : (c : CheckCase) (s old new : List ℕ) (n : ℕ) → n ≡ length new → length s ≡ 2 * length new → DecodesRange c s old new 0 n → Spells c s new
-decodes_whole c s old new n is twice all = record {
-  twice = twice;
-  high = λ i h. (all.decoded i (omega arith) (omega arith)).high;
-  low = λ i h. (all.decoded i (omega arith) (omega arith)).low;
-}
+decodes_whole c s old new n is twice all = record { twice = twice; each = λ i h. all.decoded i (omega arith) (omega arith) }
 
 -- nothing yet
 pub decodes_none : (c : CheckCase) (s old : List ℕ) (n : ℕ) → n ≡ 0 → DecodesRange c s old old 0 n

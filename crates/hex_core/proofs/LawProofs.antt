@@ -51,7 +51,7 @@ value-lowercased b = grind (arith, nat_tests)
 -- a byte is what its quotient and remainder make
 pub spells-bytes : (c : CheckCase) (s bytes : List ℕ) → Spells c s bytes → AreBytes bytes
 spells-bytes c s bytes h = All-from_get_or (λ b. b < 256) bytes 0 (λ i lt.
-    let small : get_or bytes i 0 / 16 < 16 = value-below c (get_or s (2 * i) 0) (get_or bytes i 0 / 16) (h.high i lt) in omega arith)
+    let small : get_or bytes i 0 / 16 < 16 = value-below c (get_or s (2 * i) 0) (get_or bytes i 0 / 16) (h.each i lt).high in omega arith)
 
 -- the list that the pairs of digits of a source make
 pairs : CheckCase → List ℕ → ℕ → ℕ
@@ -71,8 +71,9 @@ spelled c s even none =
       bytes,
       record {
         twice = omega (arith, size);
-        high = λ i lt. (high i lt).0 ∙ ap (λ (k : ℕ). Some k) (let e : unwrap_or (value c (get_or s (2 * i) 0)) 255 ≡ get_or bytes i 0 / 16 = omega (arith, at i lt, (high i lt).1, (low i lt).1) in e);
-        low = λ i lt. (low i lt).0 ∙ ap (λ (k : ℕ). Some k) (let e : unwrap_or (value c (get_or s (2 * i + 1) 0)) 255 ≡ get_or bytes i 0 % 16 = omega (arith, at i lt, (high i lt).1, (low i lt).1) in e);
+        each = λ i lt.
+            let h = high i lt in let l = low i lt in
+            record { high = h.0 ∙ ap Some (omega (arith, at i lt, h.1, l.1)); low = l.0 ∙ ap Some (omega (arith, at i lt, h.1, l.1)) };
       },
     )
 
@@ -86,8 +87,8 @@ valid-spelled c s bytes h = position_none (lacks c) s (λ k lt.
     let i = k / 2 in
     let small : i < length bytes = omega arith in
     elim (cases_lt (k % 2) 1) [
-      | inl even ↦ (let e : 2 * i ≡ k = omega arith in let f : lacks c (get_or s (2 * i) 0) ≡ false = valued c (get_or s (2 * i) 0) (get_or bytes i 0 / 16) (h.high i small) in rw e at f)
-      | inr odd ↦ (let e : 2 * i + 1 ≡ k = omega arith in let f : lacks c (get_or s (2 * i + 1) 0) ≡ false = valued c (get_or s (2 * i + 1) 0) (get_or bytes i 0 % 16) (h.low i small) in rw e at f)
+      | inl even ↦ (let e : 2 * i ≡ k = omega arith in let f : lacks c (get_or s (2 * i) 0) ≡ false = valued c (get_or s (2 * i) 0) (get_or bytes i 0 / 16) (h.each i small).high in rw e at f)
+      | inr odd ↦ (let e : 2 * i + 1 ≡ k = omega arith in let f : lacks c (get_or s (2 * i + 1) 0) ≡ false = valued c (get_or s (2 * i + 1) 0) (get_or bytes i 0 % 16) (h.each i small).low in rw e at f)
     ])
 
 nothing-refused : (odd : Bool) (f : Option ℕ) (name : ℕ → Error) → (if odd then Some OddLength else option_map name f) ≡ None → (odd ≡ false) × (f ≡ None)
@@ -114,8 +115,9 @@ accepts_what_spells c s = (
 text-spells : (c : CheckCase) (upper : Bool) (bytes : List ℕ) → ((n : ℕ) → n < 16 → value c (digit upper n) ≡ Some n) → AreBytes bytes → Spells c (text upper bytes) bytes
 text-spells c upper bytes reads all = record {
   twice = length-text upper bytes;
-  high = λ i lt. let small : get_or bytes i 0 < 256 = All-get_or (λ b. b < 256) bytes i 0 lt all in rw (high-text upper bytes i lt) (reads _ (omega arith));
-  low = λ i lt. rw (low-text upper bytes i lt) (reads _ (omega arith));
+  each = λ i lt.
+      let small : get_or bytes i 0 < 256 = All-get_or (λ b. b < 256) bytes i 0 lt all in
+      record { high = rw (high-text upper bytes i lt) (reads _ (omega arith)); low = rw (low-text upper bytes i lt) (reads _ (omega arith)) };
 }
 
 pub decoding-inverts : (upper : Bool) (bytes : List ℕ) → AreBytes bytes → Spells (strict upper) (text upper bytes) bytes × Spells policy.None (text upper bytes) bytes
@@ -128,8 +130,8 @@ encoding-inverts upper s bytes h =
     let i = k / 2 in
     let small : i < length bytes = omega arith in
     elim (cases_lt (k % 2) 1) [
-      | inl even ↦ (let e : 2 * i ≡ k = omega arith in let f : get_or (text upper bytes) (2 * i) 0 ≡ get_or s (2 * i) 0 = high-text upper bytes i small ∙ digit-value upper (get_or s (2 * i) 0) (get_or bytes i 0 / 16) (h.high i small) in rw e at f)
-      | inr odd ↦ (let e : 2 * i + 1 ≡ k = omega arith in let f : get_or (text upper bytes) (2 * i + 1) 0 ≡ get_or s (2 * i + 1) 0 = low-text upper bytes i small ∙ digit-value upper (get_or s (2 * i + 1) 0) (get_or bytes i 0 % 16) (h.low i small) in rw e at f)
+      | inl even ↦ (let e : 2 * i ≡ k = omega arith in let f : get_or (text upper bytes) (2 * i) 0 ≡ get_or s (2 * i) 0 = high-text upper bytes i small ∙ digit-value upper (get_or s (2 * i) 0) (get_or bytes i 0 / 16) (h.each i small).high in rw e at f)
+      | inr odd ↦ (let e : 2 * i + 1 ≡ k = omega arith in let f : get_or (text upper bytes) (2 * i + 1) 0 ≡ get_or s (2 * i + 1) 0 = low-text upper bytes i small ∙ digit-value upper (get_or s (2 * i + 1) 0) (get_or bytes i 0 % 16) (h.each i small).low in rw e at f)
     ])
 
 pub strict-accepts : (upper : Bool) (s : List ℕ) → (source_refusal (strict upper) s ≡ None) ↔ ((bytes : List ℕ) × AreBytes bytes × (text upper bytes ≡ s))
@@ -147,13 +149,11 @@ either-lowercased s bytes =
     let size : length (str_to_ascii_lowercase s) ≡ length s = length-map s to_ascii_lowercase in (
       λ h. let twice = h.twice in record {
         twice = omega (arith, size);
-        high = λ i lt. lowercased-at s (2 * i) (omega arith) ∙ h.high i lt;
-        low = λ i lt. lowercased-at s (2 * i + 1) (omega arith) ∙ h.low i lt;
+        each = λ i lt. record { high = lowercased-at s (2 * i) (omega arith) ∙ (h.each i lt).high; low = lowercased-at s (2 * i + 1) (omega arith) ∙ (h.each i lt).low };
       },
       λ h. let twice = h.twice in let same : length s ≡ 2 * length bytes = omega (arith, size) in record {
         twice = same;
-        high = λ i lt. sym (lowercased-at s (2 * i) (omega arith)) ∙ h.high i lt;
-        low = λ i lt. sym (lowercased-at s (2 * i + 1) (omega arith)) ∙ h.low i lt;
+        each = λ i lt. record { high = sym (lowercased-at s (2 * i) (omega arith)) ∙ (h.each i lt).high; low = sym (lowercased-at s (2 * i + 1) (omega arith)) ∙ (h.each i lt).low };
       },
     )
 

@@ -5,11 +5,12 @@ use Rattle.std.specs.Prelude.{IsSome}
 use Rattle.std.proofs.lemmas.Bool.{agree_below, agree_below_at, cases_lt}
 use Rattle.std.proofs.lemmas.List.{get_or-set_other, get_or-set_same}
 use Rattle.hex_core.specs.declared.digit.CheckCase.{CheckCase}
-use Rattle.hex_core.specs.Blocks.{SpellsAt, SpellsRange}
+use Rattle.hex_core.specs.Blocks.{SpellsRange}
 use Rattle.hex_core.specs.Digit.{value}
 use Rattle.hex_core.specs.Search.{AllValid}
-use Rattle.hex_core.specs.Text.{value_table}
+use Rattle.hex_core.specs.Text.{SpellsAt, value_table}
 use Rattle.hex_core.proofs.ByteLemmas.{always, value_small}
+use Rattle.hex_core.proofs.SpellsLemmas.{spelled_along}
 use Rattle.hex_core.proofs.TableLemmas.{admitted-entry, value-entry}
 
 -- the byte of a pair
@@ -103,8 +104,7 @@ byte_more c s dst n at left word is le long twice valid e range =
           elim (cases_lt k left) [
             | inl top ↦ subst (SpellsAt c s (set dst at (word % 256))) (omega arith) here
             | inr past ↦
-                let same : get_or (set dst at (word % 256)) k 0 ≡ get_or dst k 0 = get_or-set_other dst at k (word % 256) 0 (λ x. absurd (omega arith)) in
-                record { high = rw same (range k past lt).high; low = rw same (range k past lt).low }
+                spelled_along c s s dst (set dst at (word % 256)) k k refl refl (get_or-set_other dst at k (word % 256) 0 (λ x. absurd (omega arith))) (range k past lt)
           ],
     )
   where

@@ -8,11 +8,11 @@ use Rattle.std.proofs.lemmas.List.{ext_get_or, length-take, take-append-drop}
 use borrow.Rule.Slice.PartMut.{put_mid}
 use Rattle.hex_core.specs.declared.digit.CheckCase.{CheckCase}
 use Rattle.hex_core.specs.Blocks.{DecodesRange, SpellsRange}
-use Rattle.hex_core.specs.Digit.{value}
 use Rattle.hex_core.specs.Search.{AllValid, first_invalid}
 use Rattle.hex_core.specs.Plans.{StoresBlocks, digits_before}
 use Rattle.hex_core.specs.Text.{Spells, with_front}
 use Rattle.hex_core.proofs.SearchLemmas.{valid_before, valid_misses}
+use Rattle.hex_core.proofs.SpellsLemmas.{spelled_along}
 
 -- ---- a part that is decoded, seen in the whole
 
@@ -33,16 +33,14 @@ pub part_decoded : (c : CheckCase) (s old part : List ℕ) (from : ℕ) → leng
     → DecodesRange c s old (put_mid from (length old - from) old part) from (length old)
 part_decoded c s old part from twice inside long spells =
     let new = put_mid from (length old - from) old part in
-    let digit : (j k : ℕ) → 2 * from + j ≡ k → j < length s - 2 * from → get_or (slice_range s (2 * from) (length s)) j 0 ≡ get_or s k 0 =
-    λ j k e h. part_byte s (2 * from) (length s) j (omega arith) h ∙ ap (λ i. get_or s i 0) e in
+    let rest = slice_range s (2 * from) (length s) in
+    let digit : (j k : ℕ) → 2 * from + j ≡ k → j < length s - 2 * from → get_or s k 0 ≡ get_or rest j 0 =
+    λ j k e h. sym (part_byte s (2 * from) (length s) j (omega arith) h ∙ ap (λ i. get_or s i 0) e) in
     record {
       decoded = λ k low lt.
           let j = k - from in
-          let byte : get_or new k 0 ≡ get_or part j 0 = put_part old part from (length old - from) k low (omega arith) inside in
-          record {
-            high = ap (value c) (sym (digit (2 * j) (2 * k) (omega arith) (omega arith))) ∙ spells.high j (omega arith) ∙ ap (λ b. Some (b / 16)) (sym byte);
-            low = ap (value c) (sym (digit (2 * j + 1) (2 * k + 1) (omega arith) (omega arith))) ∙ spells.low j (omega arith) ∙ ap (λ b. Some (b % 16)) (sym byte);
-          };
+          spelled_along c rest s part new j k (digit (2 * j) (2 * k) (omega arith) (omega arith)) (digit (2 * j + 1) (2 * k + 1) (omega arith) (omega arith))
+          (put_part old part from (length old - from) k low (omega arith) inside) (spells.each j (omega arith));
       before = λ k lt. put_before old part from (length old - from) k lt inside;
       behind = λ k h. grind (arith, common_steps);
     }
@@ -90,8 +88,7 @@ front_spelled c s mid from twice inside range =
     let digit : (i : ℕ) → i < 2 * from → get_or (take (2 * from) s) i 0 ≡ get_or s i 0 = λ i h. grind (arith, common_steps) in
     record {
       twice = omega arith;
-      high = λ i h. ap (value c) (digit (2 * i) (omega arith)) ∙ (range i (omega arith) (omega arith)).high ∙ ap (λ b. Some (b / 16)) (sym (byte i (omega arith)));
-      low = λ i h. ap (value c) (digit (2 * i + 1) (omega arith)) ∙ (range i (omega arith) (omega arith)).low ∙ ap (λ b. Some (b % 16)) (sym (byte i (omega arith)));
+      each = λ i h. spelled_along c s (take (2 * from) s) mid (take from mid) i i (digit (2 * i) (omega arith)) (digit (2 * i + 1) (omega arith)) (byte i (omega arith)) (range i (omega arith) (omega arith));
     }
 
 front_kept : (old mid : List ℕ) (from : ℕ) → length mid ≡ length old → from ≤ length mid → ((k : ℕ) → from ≤ k → get_or mid k 0 ≡ get_or old k 0) → mid ≡ with_front old (take from mid)

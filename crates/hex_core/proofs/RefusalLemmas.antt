@@ -24,18 +24,12 @@ bad_char_names_first c s i b h = bad_char_is_first c s (first_invalid c s) refl 
 pub decode_bad_char : (c : CheckCase) (s : List ℕ) (room i b : ℕ) → decode_refusal c s room ≡ Some (InvalidChar i b) → first_bad_char c s ≡ Some (InvalidChar i b)
 decode_bad_char c s room i b h = grind (arith, nat_tests, h)
 
-array_bad_char : (c : CheckCase) (s : List ℕ) (n i b : ℕ) → array_refusal c s n ≡ Some (InvalidChar i b) → first_bad_char c s ≡ Some (InvalidChar i b)
-array_bad_char c s n i b h = grind (arith, nat_tests, h)
-
-source_bad_char : (c : CheckCase) (s : List ℕ) (i b : ℕ) → source_refusal c s ≡ Some (InvalidChar i b) → first_bad_char c s ≡ Some (InvalidChar i b)
-source_bad_char c s i b h = grind (arith, nat_tests, h)
-
 -- and so it names the first invalid byte
 pub decode_names_first : (room : ℕ) → NamesFirstInvalid (λ c s. decode_refusal c s room)
 decode_names_first room c s i b h = bad_char_names_first c s i b (decode_bad_char c s room i b h)
 
 pub array_names_first : (n : ℕ) → NamesFirstInvalid (λ c s. array_refusal c s n)
-array_names_first n c s i b h = bad_char_names_first c s i b (array_bad_char c s n i b h)
+array_names_first n c s i b h = bad_char_names_first c s i b (grind (arith, nat_tests, h))
 
 pub source_names_first : NamesFirstInvalid source_refusal
-source_names_first c s i b h = bad_char_names_first c s i b (source_bad_char c s i b h)
+source_names_first c s i b h = bad_char_names_first c s i b (grind (arith, nat_tests, h))

@@ -1,22 +1,22 @@
 -- Steps of a list that a text spells.
-use Rattle.std.proofs.Common.{◌≡◌, ℕ, List, None, ◌+◌, ◌*◌, ◌/◌, ◌%◌, ◌<◌, length, get_or, arith}
+use Rattle.std.proofs.Common.{◌≡◌, ℕ, List, None, ◌+◌, ◌*◌, ◌/◌, ◌%◌, ◌<◌, length, get_or, refl, arith}
 use Rattle.std.proofs.Math.ListN.{set}
 use Rattle.std.proofs.lemmas.List.{get_or-set_same, get_or-set_other}
 use borrow.Author.Count.{below_more}
 use Rattle.hex_core.proofs.SearchLemmas.{has_value}
 use Rattle.hex_core.proofs.TableLemmas.{value-entry}
 use Rattle.hex_core.specs.Search.{first_invalid}
-use Rattle.hex_core.specs.Blocks.{SpellsAt}
 use Rattle.hex_core.specs.declared.digit.CheckCase.{CheckCase}
-use Rattle.hex_core.specs.Text.{Spells, value_table}
+use Rattle.hex_core.specs.Text.{SpellsAt, value_table}
 
 -- the bytes below a place are those that their pairs of digits spell
 abbrev pub SpellsBelow : CheckCase → List ℕ → List ℕ → ℕ → Type 0
 SpellsBelow c s bytes n = (k : ℕ) → k < n → SpellsAt c s bytes k
 
--- where every place is spelled, the list is
-pub Spells-all : (c : CheckCase) (s bytes : List ℕ) (n : ℕ) → n ≡ length bytes → length s ≡ 2 * length bytes → SpellsBelow c s bytes n → Spells c s bytes
-Spells-all c s bytes n is twice all = record { twice = twice; high = λ i h. (all i (omega arith)).high; low = λ i h. (all i (omega arith)).low }
+-- a pair of digits spells a byte wherever both stand
+pub spelled_along : (c : CheckCase) (s t old new : List ℕ) (i k : ℕ) → get_or t (2 * k) 0 ≡ get_or s (2 * i) 0 → get_or t (2 * k + 1) 0 ≡ get_or s (2 * i + 1) 0 → get_or new k 0 ≡ get_or old i 0
+    → SpellsAt c s old i → SpellsAt c t new k
+spelled_along c s t old new i k high low byte is = record { high = rw (high, byte) is.high; low = rw (low, byte) is.low }
 
 -- the next byte is packed from the entries of its pair
 pub Spells-more : (c : CheckCase) (table s bytes : List ℕ) (i v : ℕ) → table ≡ value_table c → ((k : ℕ) → get_or s k 0 < 256) → first_invalid c s ≡ None → length s ≡ 2 * length bytes → i < length bytes
@@ -28,7 +28,6 @@ Spells-more c table s bytes i v is byte none twice h packed below =
     let quotient : v / 16 ≡ get_or table (get_or s (2 * i) 0) 0 = omega (arith, high.1, low.1) in
     let remainder : v % 16 ≡ get_or table (get_or s (2 * i + 1) 0) 0 = omega (arith, high.1, low.1) in
     below_more (λ (k : ℕ). SpellsAt c s (set bytes i v) k) i
-    (λ k lt. let e : get_or (set bytes i v) k 0 ≡ get_or bytes k 0 = get_or-set_other bytes i k v 0 (λ x. absurd (omega arith)) in
-    record { high = rw e (below k lt).high; low = rw e (below k lt).low })
+    (λ k lt. spelled_along c s s bytes (set bytes i v) k k refl refl (get_or-set_other bytes i k v 0 (λ x. absurd (omega arith))) (below k lt))
     (let e : get_or (set bytes i v) i 0 ≡ v = get_or-set_same bytes i v 0 h in
     record { high = rw (e, quotient) high.0; low = rw (e, remainder) low.0 })

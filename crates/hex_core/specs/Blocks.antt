@@ -1,20 +1,16 @@
 -- What bodies that work block by block keep, place by place.
-use Rattle.std.specs.Prelude.{◌≡◌, ℕ, ◌+◌, ◌*◌, ◌/◌, ◌%◌, ◌<◌, ◌≤◌, List, Some, length, slice_index}
+use Rattle.std.specs.Prelude.{◌≡◌, ℕ, ◌+◌, ◌<◌, ◌≤◌, List, length, slice_index}
 use Rattle.hex_core.specs.declared.digit.CheckCase.{CheckCase}
 use Rattle.hex_core.specs.Digit.{value}
 use Rattle.hex_core.specs.Lanes.{IsNibble}
+use Rattle.hex_core.specs.Text.{SpellsAt}
 
 -- n lanes that stand for the values of the bytes from a place on
 pub record NibblesFrom (c : CheckCase) (s : List ℕ) (at n : ℕ) (lanes : List ℕ) : Type 0 where
   pub long : length lanes ≡ n
   pub each : (k : ℕ) → k < n → IsNibble (value c (slice_index s (at + k))) (slice_index lanes k)
 
--- the byte at a place is what its pair of digits spells
-pub record SpellsAt (c : CheckCase) (s bytes : List ℕ) (i : ℕ) : Type 0 where
-  pub high : value c (slice_index s (2 * i)) ≡ Some (slice_index bytes i / 16)
-  pub low : value c (slice_index s (2 * i + 1)) ≡ Some (slice_index bytes i % 16)
-
--- so are the bytes of a range
+-- the bytes of a range are what their pairs of digits spell
 abbrev pub SpellsRange : CheckCase → List ℕ → List ℕ → ℕ → ℕ → Type 0
 SpellsRange c s bytes start end = (k : ℕ) → start ≤ k → k < end → SpellsAt c s bytes k
 

@@ -1,6 +1,6 @@
 -- What a call answers and what it leaves: one word for each kind of call.
-use Rattle.std.specs.Prelude.{◌≡◌, ℕ, ◌*◌, ◌/◌, Bool, List, length, ◌↔◌, IsTrue, Result, MatchResult, Option, Some, None}
-use Rattle.std.specs.Bool.{OnFalse, OnTrue}
+use Rattle.std.specs.Prelude.{◌≡◌, ◌≢◌, ℕ, ◌*◌, ◌/◌, Bool, List, length, Result, MatchResult, Option, Some, None}
+use Rattle.std.specs.Bool.{MatchBool}
 use Rattle.std.specs.Borrow.{MutBor}
 use Rattle.hex_core.specs.declared.digit.CheckCase.{CheckCase}
 use Rattle.hex_core.specs.declared.error.Error.{Error}
@@ -36,16 +36,16 @@ DecodesFront c s room = Answers (decode_refusal c s room) (λ front. Spells c s 
 abbrev pub EncodesFront : Bool → List ℕ → ℕ → Result (MutBor (List ℕ)) Error → Type 0
 EncodesFront upper bytes room = Answers (encode_refusal bytes room) (λ front. front.now ≡ text upper bytes)
 
--- decoding over a whole destination, by an answer that is true where each byte of the source has a
--- value: then the destination is what the source spells, and else this holds of it
-abbrev pub DecodesElse : Type 0 → CheckCase → List ℕ → List ℕ → Bool → Type 0
-DecodesElse otherwise c s new done =
-    (IsTrue done ↔ (first_invalid c s ≡ None)) × OnTrue done (Spells c s new) × OnFalse done otherwise
-
--- else it is as it was
+-- decoding over a whole destination: it is what the source spells, or there is an invalid byte and
+-- it is as it was
 abbrev pub DecodesWhole : CheckCase → List ℕ → List ℕ → List ℕ → Bool → Type 0
-DecodesWhole c s old new done = DecodesElse (new ≡ old) c s new done
+DecodesWhole c s old new done = MatchBool done
+    ((first_invalid c s ≡ None) × Spells c s new)
+    ((first_invalid c s ≢ None) × (new ≡ old))
 
--- or, where it is given up then, the blocks before the first invalid byte were stored
+-- decoding over a destination that is given up on a refusal: then the blocks before the first
+-- invalid byte were stored
 abbrev pub DecodesOwned : ℕ → CheckCase → List ℕ → List ℕ → List ℕ → Bool → Type 0
-DecodesOwned block c s old new done = DecodesElse (StoresBlocks block c s old new) c s new done
+DecodesOwned block c s old new done = MatchBool done
+    ((first_invalid c s ≡ None) × Spells c s new)
+    ((first_invalid c s ≢ None) × StoresBlocks block c s old new)

@@ -19,12 +19,15 @@ digits upper byte = digit upper (byte / 16) ∷ digit upper (byte % 16) ∷ []
 abbrev pub text : Bool → List ℕ → List ℕ
 text upper bytes = flat_map (digits upper) bytes
 
--- a text spells a list: it has two digits for each byte, and they are the byte's quotient and
--- remainder by 16
+-- a pair of digits spells the byte at a place: they are its quotient and its remainder by 16
+pub record SpellsAt (c : CheckCase) (s bytes : List ℕ) (i : ℕ) : Type 0 where
+  pub high : value c (slice_index s (2 * i)) ≡ Some (slice_index bytes i / 16)
+  pub low : value c (slice_index s (2 * i + 1)) ≡ Some (slice_index bytes i % 16)
+
+-- a text spells a list: it has two digits for each byte, and they spell it
 pub record Spells (c : CheckCase) (s bytes : List ℕ) : Type 0 where
   pub twice : length s ≡ 2 * length bytes
-  pub high : EachIndex bytes (λ i. value c (slice_index s (2 * i)) ≡ Some (slice_index bytes i / 16))
-  pub low : EachIndex bytes (λ i. value c (slice_index s (2 * i + 1)) ≡ Some (slice_index bytes i % 16))
+  pub each : EachIndex bytes (SpellsAt c s bytes)
 
 -- old bytes with a new front: the list, and what was behind its length
 abbrev pub with_front : List ℕ → List ℕ → List ℕ

@@ -51,10 +51,18 @@ impl Backend {
         Ok(required)
     }
 
-    // The first invalid byte of a source that has one.
+    /// Returns the first byte of `src` that has no value under `case`, as an
+    /// [`Error::InvalidChar`] with its place in bytes.
+    ///
+    /// The caller shows that there is one: a check or a decoding answered false.
+    ///
+    /// ```rust
+    /// let error = Backend::plain().first_error(b"00fg", CheckCase::None);
+    /// assert_eq!(rt; error, Error::InvalidChar { index: 3, byte: b'g' });
+    /// ```
     #[cold]
     #[inline(never)]
-    fn first_error(self, src: &[u8], case: CheckCase) -> Error
+    pub fn first_error(self, src: &[u8], case: CheckCase) -> Error
         requires { first_invalid case src.now ≢ None }
         ensures { first_bad_char case src.now ≡ Some result }
     {

@@ -13,14 +13,10 @@ pub returns-then-high : goal.returns-then-high
 returns-then-high c =
     let s = c.args.src.now in
     let entry : first_invalid c.args.case s ≡ None → (k : ℕ) → k < length s → get_or c.values_of-values.result.now (get_or s k 0) 0 < 16 = λ none k inside. (value-entry c.args.case _ (get_or s k 0) c.values_of-values.ensures (c.type_inv.src k).fits (has_value c.args.case s k none inside)).1 in (
-      (
-        λ h. cc,
-        λ none. elim c.then-high.branch [
-          | then-high-via-then-high w ↦ absurd (omega (arith, w.if-high.true, entry none (2 * c.pairs.i) (omega arith)))
-          | then-high-via-else-high+then-low w ↦ absurd (omega (arith, w.if-low.true, entry none (2 * c.pairs.i + 1) (omega arith)))
-        ],
-      ),
-      tt,
+      λ none. elim c.then-high.branch [
+        | then-high-via-then-high w ↦ absurd (omega (arith, w.if-high.true, entry none (2 * c.pairs.i) (omega arith)))
+        | then-high-via-else-high+then-low w ↦ absurd (omega (arith, w.if-low.true, entry none (2 * c.pairs.i + 1) (omega arith)))
+      ],
       refl,
     )
 
@@ -57,7 +53,6 @@ bytes-preserved c =
 pub returns : goal.returns
 returns c =
     let spelled : Spells c.args.case c.args.src.now c.bytes.dst = search rules in (
-      (λ h. first_invalid_none c.args.case c.args.src.now (λ k low lt. c.pairs.invariant.valid k low (omega arith)), λ none. refl),
+      first_invalid_none c.args.case c.args.src.now (λ k low lt. c.pairs.invariant.valid k low (omega arith)),
       spelled,
-      tt,
     )

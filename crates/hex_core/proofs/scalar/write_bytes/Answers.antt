@@ -1,7 +1,7 @@
 -- Each turn packs one more pair of digits, which both have values.
 use Rattle.std.proofs.Common.{arith, ◌+◌, ◌*◌}
 use Rattle.hex_core.proofs.SearchLemmas.{has_value}
-use Rattle.hex_core.proofs.SpellsLemmas.{Spells-all, Spells-more}
+use Rattle.hex_core.proofs.SpellsLemmas.{Spells-more}
 use Rattle.hex_core.proofs.TableLemmas.{value-entry}
 use Rattle.hex_core.proofs.scalar.write_bytes.Goals as goal
 
@@ -15,4 +15,4 @@ pub bytes-preserved : goal.bytes-preserved
 bytes-preserved c = Spells-more c.args.case _ c.args.src.now c.bytes.dst c.bytes.i c.packed.result c.values_of-values.ensures (λ k. (c.type_inv.src k).fits) c.requires.valid (omega arith) (omega arith) c.packed.ensures c.bytes.invariant
 
 pub returns : goal.returns
-returns c = Spells-all c.args.case c.args.src.now c.bytes.dst c.bytes.i (omega arith) (omega arith) c.bytes.invariant
+returns c = record { twice = omega arith; each = λ k lt. c.bytes.invariant k (omega arith) }
