@@ -1,19 +1,15 @@
 -- Bytes that are written behind others.
-use Rattle.std.proofs.Common.{◌≡◌, ◌⊎◌, inl, inr, ℕ, zero, suc, min, ◌+◌, ◌-◌, ◌*◌, ◌/◌, ◌%◌, ◌<◌, ◌≤◌, Bool, refl, sym, ap, ◌∙◌, arith, Result, Ok, Err, Some, None, is_none, List, [], ◌∷◌, ◌++◌, length, take, drop, get_or, append-nil, append_assoc, length-append, length-take, length-drop, take-append-drop}
+use Rattle.std.proofs.Common.{◌≡◌, ◌⊎◌, inl, inr, ℕ, zero, suc, min, ◌+◌, ◌-◌, ◌*◌, ◌/◌, ◌%◌, ◌<◌, ◌≤◌, Bool, true, false, refl, sym, ap, ◌∙◌, arith, Some, None, is_none, List, [], ◌∷◌, ◌++◌, length, take, drop, get_or, append-nil, append_assoc, length-append, length-take, length-drop, take-append-drop}
 use Rattle.std.proofs.Math.Seq.{take-add}
 use Rattle.std.proofs.lemmas.Bool.{cases_lt}
-use Rattle.std.proofs.lemmas.Bool.Decides.{nat_tests}
-use Rattle.std.proofs.lemmas.Option.{none-some}
 use Rattle.std.proofs.lemmas.List.{drop-drop, drop_all, get_or_append_left, get_or-append_right, length-take-le, take-take, take_all, take_rest}
 use Rattle.std.proofs.lemmas.List.Folds.{list_any-append}
 use Rattle.std.proofs.lemmas.Slice.{take-put_mid}
 use Rattle.std.specs.List.{flat_map, list_any}
 use borrow.Rule.Slice.PartMut.{put_mid}
 use Rattle.hex_core.specs.declared.digit.CheckCase.{CheckCase}
-use Rattle.hex_core.specs.declared.error.Error.{Error}
-use Rattle.hex_core.specs.Calls.{Decodes}
+use Rattle.hex_core.specs.Calls.{DecodesWhole}
 use Rattle.hex_core.specs.Digit.{value}
-use Rattle.hex_core.specs.Refusal.{decode_refusal}
 use Rattle.hex_core.specs.Search.{first_invalid}
 use Rattle.hex_core.specs.Text.{Spells, SpellsAt}
 use Rattle.hex_core.proofs.SpellsLemmas.{spelled_along}
@@ -60,19 +56,10 @@ even-digits every (suc count) s whole =
     ap (λ ps. length (flat_map (take (2 * every)) ps)) (pieces-next line s (omega arith) (omega (arith, size)))
     ∙ omega (arith, length-append (take (2 * every) (take line s)) (digits_in every (drop line s)), rest, length-take (2 * every) (take line s), first)
 
--- decoding valid digits over a destination for as many bytes leaves what they spell
-pub decoded : (c : CheckCase) (s old new : List ℕ) (result : Result ℕ Error) → length s ≡ 2 * length old → first_invalid c s ≡ None → Decodes c s old new result → Spells c s new
-decoded c s old new result twice valid answer = from_result result answer
-  where
-    accepted : decode_refusal c s (length old) ≡ None
-    accepted = let even : length s % 2 ≡ 0 = omega (arith, twice) in let half : length s / 2 ≡ length old = omega (arith, twice) in grind (arith, nat_tests, even, half, valid)
-
-    from_result : (r : Result ℕ Error) → Decodes c s old new r → Spells c s new
-    from_result (Ok n) (_, _, w) =
-        let all : length w.0 ≡ length old = omega (arith, w.1.twice, twice) in
-        let e : new ≡ w.0 = w.2 ∙ ap (λ l. w.0 ++ l) (drop_all (length w.0) old (omega arith)) ∙ append-nil w.0 in
-        rw e w.1
-    from_result (Err e) (refused, _) = absurd (none-some e (sym accepted ∙ refused))
+-- decoding valid digits leaves what they spell
+pub decoded : (c : CheckCase) (s old new : List ℕ) (done : Bool) → first_invalid c s ≡ None → DecodesWhole c s old new done → Spells c s new
+decoded c s old new true valid answer = answer.1
+decoded c s old new false valid answer = absurd (answer.0 valid)
 
 -- the digits of a text are those of a front of whole parts, of those behind it, and of the rest
 pub record Cut (every : ℕ) (s : List ℕ) (len next : ℕ) : Type 0 where

@@ -12,7 +12,6 @@ ghost use Rattle.hex_codec.specs.GroupedText.{byte_count, digits_in, first_wrong
 ghost use Rattle.hex_codec.specs.GroupCalls.{Accepts, LendsRead, Reads, ReadsFront, fault_of};
 ghost use Rattle.hex_codec.specs.Strip.{ClearsFront, WritesFront};
 
-use crate::decode::hex_decode_into;
 pub use crate::group::Group;
 use crate::strip::{Front, SHORT, strip};
 use hex_core::lend::lend_accepted;
@@ -168,7 +167,7 @@ fn write_front_with<const N: usize>(
             return done;
         }
         let end = done.digits + front.digits;
-        let _ = hex_decode_into(
+        Backend::plain().decode(
             &buffer[..front.digits],
             &mut dst[done.digits / 2..end / 2],
             case,
@@ -188,7 +187,7 @@ fn write_parts(src: &[u8], dst: &mut [u8], group: Group, case: CheckCase)
     let mut done = 0;
     while done < dst.len() {
         let count = group.every().min(dst.len() - done);
-        let _ = hex_decode_into(&src[at..at + 2 * count], &mut dst[done..done + count], case);
+        Backend::plain().decode(&src[at..at + 2 * count], &mut dst[done..done + count], case);
         done += count;
         at += 2 * count + 1;
     }

@@ -4,7 +4,7 @@ ghost use Rattle.std.specs.Prelude.{◌≡◌, ◌*◌, ◌≤◌, length};
 ghost use Rattle.std.specs.Str.{IsAscii};
 ghost use Rattle.hex_core.specs.Text.{text};
 
-use crate::encode::hex_encode_into;
+use hex_core::Backend;
 use std::str;
 
 /// A string that is lent hands out no room to write into, so its text grows by pieces of so many
@@ -28,10 +28,9 @@ pub fn encoded<'b>(bytes: &[u8], upper: bool, buffer: &'b mut [u8]) -> &'b [u8]
     ensures text { result.now ≡ text upper bytes.now }
     ensures ascii { IsAscii result.now }
 {
-    let Ok(len) = hex_encode_into(bytes, buffer, upper) else {
-        unreachable!();
-    };
-    &buffer[..len]
+    let text = &mut buffer[..2 * bytes.len()];
+    Backend::plain().encode(bytes, text, upper);
+    text
 }
 
 /// Returns the digits of a piece of at most [`PIECE`] bytes, written into the front of `buffer`.

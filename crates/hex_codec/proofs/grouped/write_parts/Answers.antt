@@ -15,8 +15,8 @@ overflow_add-at c =
     (omega (arith, c.requires.twice, c.loop-done.auto.dst, front.2.twice, written, c.loop-done.invariant.within)) c.requires.valid in
     search (arith, rules, known.inside, c.min-count.ensures, c.every.ensures)
 
-pub slice_bounds-hex_decode_into-end : goal.slice_bounds-hex_decode_into-end
-slice_bounds-hex_decode_into-end c =
+pub slice_bounds-decode-end : goal.slice_bounds-decode-end
+slice_bounds-decode-end c =
     let front = c.loop-done.invariant.before in let dst = c.loop-done.dst in
     let written = length-take-le c.loop-done.done dst c.loop-done.invariant.within in
     let known = part c.args.case (piece_len c.args.group) c.args.src.now front.0 c.loop-done.at (length dst - c.loop-done.done) c.args.group.is_group.0 (omega (arith, c.loop-done-test.true)) front.1
@@ -26,7 +26,7 @@ slice_bounds-hex_decode_into-end c =
 pub loop-done-preserved : goal.loop-done-preserved
 loop-done-preserved c =
     let front = c.loop-done.invariant.before in let dst = c.loop-done.dst in let src = c.args.src.now in let at = c.loop-done.at in let done = c.loop-done.done in
-    let every = piece_len c.args.group in let count = c.min-count.result in let new = c.hex_decode_into.new.dst in
+    let every = piece_len c.args.group in let count = c.min-count.result in let new = c.decode.new.dst in
     let written = length-take-le done dst c.loop-done.invariant.within in
     let known = part c.args.case every src front.0 at (length dst - done) c.args.group.is_group.0 (omega (arith, c.loop-done-test.true)) front.1
     (omega (arith, c.requires.twice, c.loop-done.auto.dst, front.2.twice, written, c.loop-done.invariant.within)) c.requires.valid in
@@ -38,8 +38,7 @@ loop-done-preserved c =
     let digits = take (2 * count) (drop at src) in
     let long : length digits ≡ 2 * count = length-take-le (2 * count) (drop at src) (omega (arith, length-drop at src, inside)) in
     let old = take count (drop done dst) in
-    let room : length old ≡ count = length-take-le count (drop done dst) (omega (arith, length-drop done dst, is, c.loop-done-test.true)) in
-    let spelled = decoded c.args.case digits old new c.hex_decode_into.result (omega (arith, long, room)) (rw is at known.valid) (rw (n, k) at c.hex_decode_into.ensures) in
+    let spelled = decoded c.args.case digits old new c.decode.result (rw is at known.valid) (rw (n, k) at c.decode.ensures) in
     let part_len : length new ≡ count = omega (arith, spelled.twice, long) in
     let same : length (put_mid done (done + count - done) dst new) ≡ length dst = search (rules, places, part_len) in
     let put = take-put_mid done (done + count - done) dst new (done + count) (omega (arith, part_len)) c.loop-done.invariant.within in
