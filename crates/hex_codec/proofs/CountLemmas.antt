@@ -12,15 +12,15 @@ use Rattle.std.proofs.Math.Nat.{div-mul-le_self, zero-div, zero-mod}
 use Rattle.hex_core.specs.declared.digit.CheckCase.{CheckCase}
 use Rattle.hex_core.specs.Text.{Spells}
 use Rattle.hex_core.specs.Search.{first_invalid}
-use Rattle.hex_core.proofs.PositionLemmas.{position_is, position_none}
+use Rattle.hex_core.proofs.PositionLemmas.{least_is, least_none, least_told}
 use Rattle.hex_codec.specs.declared.group.Group.{Group}
 use Rattle.hex_codec.specs.declared.grouped.GroupFault.{GroupFault}
 use Rattle.hex_codec.specs.declared.grouped.GroupFault.TheVariants.{InvalidByte}
 use Rattle.hex_codec.specs.Grouped.{piece_count, piece_len, separator}
 use Rattle.hex_codec.specs.GroupedText.{GroupSpells, byte_count, digits_in, first_wrong, group_refusal, grouped_len, refusal_of_count, separators_in}
-use Rattle.hex_codec.proofs.GroupLemmas.{count-next, no_pieces, pieces-next}
-use Rattle.hex_codec.proofs.StripLemmas.{one_part}
-use Rattle.hex_codec.proofs.WrongLemmas.{wrong-none}
+use Rattle.hex_codec.proofs.GroupLemmas.{count-next, no_pieces}
+use Rattle.hex_codec.proofs.StripLemmas.{parted, unparted}
+use Rattle.hex_codec.proofs.WrongLemmas.{Right, wrong-none}
 
 -- ---- lengths
 
@@ -77,32 +77,19 @@ rising every k n pos h =
     let more : (k - 1) / every ≤ (n - 1) / every = le-div ((k - 1) / every) (n - 1) every pos (omega (arith, div-mul-le_self (k - 1) every)) in
     omega (arith, len-closed every k pos, len-closed every n pos)
 
-at-place : (len k : ℕ) → k < len + 1 → slice_index (range_with_len 0 (len + 1)) k ≡ k
-at-place len k lt = get_or-range_with_len 0 (len + 1) k 0 lt ∙ omega arith
-
 -- the number of bytes whose text has this length
 pub count-is : (every len n : ℕ) → 0 < every → grouped_len every n ≡ len → byte_count every len ≡ Some n
 count-is every len n pos is =
-    let small : n < len + 1 = omega (arith, len-closed every n pos) in
-    position_is (λ k. grouped_len every k == len) (range_with_len 0 (len + 1)) n (omega (arith, length-range_with_len 0 (len + 1)))
-    (λ k lt. rw (at-place len k (omega arith)) (ne_eqb (grouped_len every k) len (λ e. absurd (omega (arith, rising every k n pos lt)))))
-    (rw (at-place len n small) (eq-eqb (grouped_len every n) len is))
+    least_is (λ k. grouped_len every k == len) (len + 1) n (omega (arith, len-closed every n pos))
+    (λ k lt. ne_eqb (grouped_len every k) len (λ e. absurd (omega (arith, rising every k n pos lt)))) (eq-eqb (grouped_len every n) len is)
 
 pub count-none : (every len : ℕ) → ((n : ℕ) → grouped_len every n ≡ len → ⊥) → byte_count every len ≡ None
 count-none every len never =
-    position_none (λ k. grouped_len every k == len) (range_with_len 0 (len + 1))
-    (λ k lt. rw (at-place len k (omega (arith, lt, length-range_with_len 0 (len + 1)))) (ne_eqb (grouped_len every k) len (never k)))
+    least_none (λ k. grouped_len every k == len) (len + 1) (λ k lt. ne_eqb (grouped_len every k) len (never k))
 
 -- what a number of bytes tells of the length
 pub count-told : (every len n : ℕ) → byte_count every len ≡ Some n → grouped_len every n ≡ len
-count-told every len n e =
-    let test : ℕ → Bool = λ k. grouped_len every k == len in
-    let places = range_with_len 0 (len + 1) in
-    let at : position_or_len test places ≡ n = grind (arith, common_steps, e) in
-    let inside : position_or_len test places < length places = grind (arith, common_steps, e) in
-    let here = passes_at_first test places 0 inside in
-    let place : get_or places (position_or_len test places) 0 ≡ n = ap (λ k. get_or places k 0) at ∙ at-place len n (omega (arith, at, inside, length-range_with_len 0 (len + 1))) in
-    eqb-true (grouped_len every n) len (rw place at here)
+count-told every len n e = eqb-true (grouped_len every n) len (least_told (λ k. grouped_len every k == len) (len + 1) n e).here
 
 -- ---- digits
 
@@ -124,16 +111,12 @@ digits-fuel every (suc fuel) (suc n) s pos fits long =
         let again = count-next every (suc n - every) pos (omega arith) in
         let size : length s ≡ line + grouped_len every (suc n - every) = omega (arith, long, count, again) in
         let behind = rest (omega (arith, length-drop line s, size)) in
-        let first : take (2 * every) (take line s) ≡ take (2 * every) s = take-take (2 * every) line s (omega arith) in
-        let parts_of : digits_in every s ≡ take (2 * every) s ++ digits_in every (drop line s) =
-        ap (flat_map (take (2 * every))) (pieces-next line s (omega arith) (omega (arith, size))) ∙ ap (λ l. l ++ digits_in every (drop line s)) first in
-        ap length parts_of ∙ omega (arith, length-append (take (2 * every) s) (digits_in every (drop line s)), length-take-le (2 * every) s (omega (arith, size)), behind)
+        ap length (parted every s (omega (arith, size))).digits ∙ omega (arith, length-append (take (2 * every) s) (digits_in every (drop line s)), length-take-le (2 * every) s (omega (arith, size)), behind)
     from_cases rest (inr one) =
         let none : suc n - every ≡ 0 = omega arith in
         let zero_count : piece_count every (suc n - every) ≡ 0 = rw (none, zero-div every, zero-mod every) refl in
         let size : length s ≡ 2 * suc n = omega (arith, long, count, zero_count) in
-        let all : digits_in every s ≡ s = ap (flat_map (take (2 * every))) (one_part every s (omega (arith, size)) (omega (arith, size))) ∙ append-nil (take (2 * every) s) ∙ take_all (2 * every) s (omega (arith, size)) in
-        ap length all ∙ size
+        ap length (unparted every s (omega (arith, size))).0 ∙ size
 
 pub length-digits : (every n : ℕ) (s : List ℕ) → 0 < every → length s ≡ grouped_len every n → length (digits_in every s) ≡ 2 * n
 length-digits every n s pos long = digits-fuel every n n s pos (omega arith) long
@@ -158,13 +141,13 @@ accepted c group s room n h is =
     let fault = option_map (λ i. InvalidByte i (slice_index s i)) (first_wrong c group s) in
     let none : refusal_of_count (Some n) fault room ≡ None = rw is at h in
     let long : length s ≡ grouped_len every n = sym (count-told every (length s) n is) in
-    let right = wrong-none c group s (unmapped (first_wrong c group s) (λ i. InvalidByte i (slice_index s i)) (grind (arith, nat_tests, none))) in
+    let right : Right c group s = wrong-none c group s (unmapped (first_wrong c group s) (λ i. InvalidByte i (slice_index s i)) (grind (arith, nat_tests, none))) in
     record {
       fits = grind (arith, nat_tests, none);
       long = long;
       twice = length-digits every n s group.is_group.0 long;
-      valid = right.0;
-      separated = right.1;
+      valid = right.valid;
+      separated = right.separated;
     }
 
 -- what is spelled by its digits is spelled by the text

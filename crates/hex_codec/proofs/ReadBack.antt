@@ -4,8 +4,8 @@ use Rattle.std.specs.List.{flat_map}
 use Rattle.std.proofs.Math.Seq.{drop-append_seam, take-append_seam}
 use Rattle.std.proofs.lemmas.Bool.{cases_lt, le-ltb}
 use Rattle.std.proofs.lemmas.Bool.Decides.{nat_tests}
-use Rattle.std.proofs.lemmas.List.{drop_all, length-take-le, take_all}
-use Rattle.std.proofs.lemmas.List.Elements.{All-append}
+use Rattle.std.proofs.lemmas.List.{drop-drop, drop-take, drop_all, length-take-le, take_all}
+use Rattle.std.proofs.lemmas.List.Elements.{All-append, All-nil}
 use Rattle.hex_core.specs.declared.digit.CheckCase.{CheckCase}
 use Rattle.hex_core.specs.Refusal.{source_refusal}
 use Rattle.hex_core.specs.Search.{first_invalid}
@@ -15,10 +15,9 @@ use Rattle.hex_codec.specs.declared.group.Group.{Group}
 use Rattle.hex_codec.specs.declared.grouped.GroupFault.{GroupFault}
 use Rattle.hex_codec.specs.Grouped.{grouped, piece_len, separated, separator}
 use Rattle.hex_codec.specs.GroupedText.{GroupSpells, byte_count, digits_in, group_refusal, refusal_of_count, separators_in}
-use Rattle.hex_codec.specs.Strip.{IsWhole}
 use Rattle.hex_codec.proofs.CountLemmas.{accepted, count-is, group-spells}
 use Rattle.hex_codec.proofs.GroupLemmas.{grouped-separated, length-grouped, no_pieces, separated-next, separated-none}
-use Rattle.hex_codec.proofs.StripLemmas.{joined, one_part}
+use Rattle.hex_codec.proofs.StripLemmas.{parted, unparted}
 use Rattle.hex_codec.proofs.WrongLemmas.{none-wrong}
 
 -- ---- written, and read back
@@ -43,13 +42,8 @@ back-last group upper bytes some fits =
     let size : length all ≡ 2 * length bytes = length-text upper bytes in
     let is : grouped group upper bytes ≡ all =
     grouped-next group upper bytes some ∙ rw (take_all every bytes fits, drop_all every bytes fits, separated-none group upper) (append-nil all) in
-    let one = one_part every all (omega (arith, size)) (omega (arith, size)) in
-    record {
-      digits = rw is (ap (flat_map (take (2 * every))) one ∙ append-nil (take (2 * every) all) ∙ take_all (2 * every) all (omega (arith, size)));
-      separated =
-          let none : separators_in every all ≡ [] = ap (flat_map (drop (2 * every))) one ∙ append-nil (drop (2 * every) all) ∙ drop_all (2 * every) all (omega (arith, size)) in
-          rw (is, none) (λ k d lt. absurd (omega arith));
-    }
+    let whole = unparted every all (omega (arith, size)) in
+    record { digits = rw is whole.0; separated = rw (is, whole.1) (All-nil _) }
 
 -- a piece, its separator, and what is behind them
 back-more : (group : Group) (upper : Bool) (bytes : List ℕ) → piece_len group < length bytes → Back group upper (drop (piece_len group) bytes) → Back group upper bytes
@@ -58,20 +52,18 @@ back-more group upper bytes long rest =
     let sep = separator group in
     let first = text upper (take every bytes) in
     let behind = grouped group upper (drop every bytes) in
-    let part = first ++ (sep ∷ []) in
     let size : length first ≡ 2 * every = length-text upper (take every bytes) ∙ ap (λ n. 2 * n) (length-take-le every bytes (omega arith)) in
-    let is : grouped group upper bytes ≡ part ++ behind =
-    grouped-next group upper bytes (omega arith) ∙ ap (λ l. first ++ l) (separated-cons group upper (drop every bytes) (omega (arith, length-drop every bytes)))
-    ∙ sym (append_assoc first (sep ∷ []) behind) in
-    let line : length part ≡ 2 * every + 1 = omega (arith, length-append first (sep ∷ []), size) in
-    let whole : IsWhole every (length part) = record { count = 1; lines = omega (arith, line) } in
-    let one = one_part every part (omega (arith, line)) (omega (arith, line)) in
-    let digits : digits_in every part ≡ first = ap (flat_map (take (2 * every))) one ∙ append-nil (take (2 * every) part) ∙ rw (← size) (take-append_seam first (sep ∷ [])) in
-    let separators : separators_in every part ≡ sep ∷ [] = ap (flat_map (drop (2 * every))) one ∙ append-nil (drop (2 * every) part) ∙ rw (← size) (drop-append_seam first (sep ∷ [])) in
+    let all = first ++ (sep ∷ behind) in
+    let is : grouped group upper bytes ≡ all = grouped-next group upper bytes (omega arith) ∙ ap (λ l. first ++ l) (separated-cons group upper (drop every bytes) (omega (arith, length-drop every bytes))) in
+    let part = parted every all (omega (arith, length-append first (sep ∷ behind))) in
+    let digits : take (2 * every) all ≡ first = rw (← size) (take-append_seam first (sep ∷ behind)) in
+    let line : drop (2 * every) all ≡ sep ∷ behind = rw (← size) (drop-append_seam first (sep ∷ behind)) in
+    let separators : drop (2 * every) (take (2 * every + 1) all) ≡ sep ∷ [] = drop-take (2 * every) 1 all ∙ ap (take 1) line in
+    let left : drop (2 * every + 1) all ≡ behind = sym (drop-drop 1 (2 * every) all) ∙ ap (drop 1) line in
+    let both : separators_in every all ≡ (sep ∷ []) ++ separators_in every behind = part.separators ∙ ap (λ l. l ++ separators_in every (drop (2 * every + 1) all)) separators ∙ ap (λ l. (sep ∷ []) ++ separators_in every l) left in
     record {
-      digits = ap (digits_in every) is ∙ joined (take (2 * every)) every part behind whole ∙ ap (λ l. l ++ digits_in every behind) digits ∙ ap (λ l. first ++ l) rest.digits
-          ∙ sym (text-append upper (take every bytes) (drop every bytes)) ∙ ap (text upper) (take-append-drop every bytes);
-      separated = rw (is, joined (drop (2 * every)) every part behind whole, separators) (All-append (λ b. b ≡ sep) (sep ∷ []) (separators_in every behind) (only sep) rest.separated);
+      digits = rw is (part.digits ∙ rw (digits, left, rest.digits) (sym (text-append upper (take every bytes) (drop every bytes)) ∙ ap (text upper) (take-append-drop every bytes)));
+      separated = rw (is, both) (All-append (λ b. b ≡ sep) (sep ∷ []) (separators_in every behind) (only sep) rest.separated);
     }
   where
     only : (sep : ℕ) → All (λ b. b ≡ sep) (sep ∷ [])
@@ -119,7 +111,7 @@ spells-read c group s bytes room h fits accepts =
     let count = count-is (piece_len group) (length s) (length bytes) group.is_group.0 (sym h.long) in
     let even : length (digits_in (piece_len group) s) % 2 ≡ 0 = omega (arith, h.spelled.twice) in
     let valid : first_invalid c (digits_in (piece_len group) s) ≡ None = unrefused c (digits_in (piece_len group) s) (first_invalid c (digits_in (piece_len group) s)) refl even accepts in
-    let none = none-wrong c group s valid h.separated in
+    let none = none-wrong c group s (record { valid = valid; separated = h.separated }) in
     let enough : nat_lt room (length bytes) ≡ false = le-ltb room (length bytes) fits in
     rw (count, enough, none) refl
   where

@@ -22,6 +22,28 @@ pub one_part : (every : ℕ) (s : List ℕ) → 0 < length s → length s ≤ 2 
 one_part every s some fits =
     pieces-next (2 * every + 1) s (omega arith) some ∙ rw (take_all (2 * every + 1) s fits, drop_all (2 * every + 1) s fits, no_pieces (2 * every + 1)) refl
 
+-- the first part of a text, and those behind it
+pub record Parted (every : ℕ) (s : List ℕ) : Type 0 where
+  pub digits : digits_in every s ≡ take (2 * every) s ++ digits_in every (drop (2 * every + 1) s)
+  pub separators : separators_in every s ≡ drop (2 * every) (take (2 * every + 1) s) ++ separators_in every (drop (2 * every + 1) s)
+
+pub parted : (every : ℕ) (s : List ℕ) → 0 < length s → Parted every s
+parted every s some =
+    let line = 2 * every + 1 in
+    let next = pieces-next line s (omega arith) some in
+    record {
+      digits = ap (flat_map (take (2 * every))) next ∙ ap (λ l. l ++ digits_in every (drop line s)) (take-take (2 * every) line s (omega arith));
+      separators = ap (flat_map (drop (2 * every))) next;
+    }
+
+-- a text without a separator is its digits
+pub unparted : (every : ℕ) (s : List ℕ) → length s ≤ 2 * every → (digits_in every s ≡ s) × (separators_in every s ≡ [])
+unparted every [] fits = let none = no_pieces (2 * every + 1) in (rw none refl, rw none refl)
+unparted every (b ∷ s) fits =
+    let all = b ∷ s in
+    let one = one_part every all (omega arith) (omega arith) in
+    (ap (flat_map (take (2 * every))) one ∙ append-nil (take (2 * every) all) ∙ take_all (2 * every) all fits, ap (flat_map (drop (2 * every))) one ∙ append-nil (drop (2 * every) all) ∙ drop_all (2 * every) all fits)
+
 -- whole parts, and those behind them
 pub whole-more : (every len step : ℕ) → IsWhole every len → IsWhole every step → IsWhole every (len + step)
 whole-more every len step a b = record { count = a.count + b.count; lines = grind (arith, a.lines, b.lines) }

@@ -3,15 +3,16 @@ use Rattle.std.proofs.Common.{◌≡◌, ◌⊎◌, inl, inr, ℕ, zero, suc, mi
 use Rattle.std.proofs.Math.Seq.{take-add}
 use Rattle.std.proofs.lemmas.Bool.{cases_lt}
 use Rattle.std.proofs.lemmas.List.{drop-drop, drop_all, get_or_append_left, get_or-append_right, length-take-le, take-take, take_all, take_rest}
-use Rattle.std.proofs.lemmas.List.Folds.{list_any-append}
 use Rattle.std.proofs.lemmas.Slice.{take-put_mid}
-use Rattle.std.specs.List.{flat_map, list_any}
+use Rattle.std.specs.List.{flat_map}
 use borrow.Rule.Slice.PartMut.{put_mid}
 use Rattle.hex_core.specs.declared.digit.CheckCase.{CheckCase}
 use Rattle.hex_core.specs.Calls.{DecodesWhole}
 use Rattle.hex_core.specs.Digit.{value}
 use Rattle.hex_core.specs.Search.{first_invalid}
 use Rattle.hex_core.specs.Text.{Spells, SpellsAt}
+use Rattle.hex_core.proofs.PositionLemmas.{none_joined}
+use Rattle.hex_core.proofs.SearchLemmas.{lacks}
 use Rattle.hex_core.proofs.SpellsLemmas.{spelled_along}
 use Rattle.hex_codec.specs.declared.group.Group.{Group}
 use Rattle.hex_codec.specs.declared.strip.Front.{Front}
@@ -19,8 +20,7 @@ use Rattle.hex_codec.specs.Grouped.{piece_len}
 use Rattle.hex_codec.specs.GroupedText.{digits_in}
 use Rattle.hex_codec.specs.Strip.{IsWhole, StripsFront, WritesFront}
 use Rattle.hex_codec.proofs.GroupLemmas.{no_pieces, pieces-next}
-use Rattle.hex_codec.proofs.StripLemmas.{joined, one_part, whole-more}
-use Rattle.hex_codec.proofs.WrongLemmas.{any-none, both, none-any}
+use Rattle.hex_codec.proofs.StripLemmas.{joined, parted, unparted, whole-more}
 
 -- what two texts spell, they spell joined
 pub spells-joined : (c : CheckCase) (a b x y : List ℕ) → Spells c a x → Spells c b y → Spells c (a ++ b) (x ++ y)
@@ -39,10 +39,7 @@ spells-joined c a b x y h k = record {
 
 -- where two lists have no invalid byte joined, neither has one
 pub valid-parts : (c : CheckCase) (a b : List ℕ) → first_invalid c (a ++ b) ≡ None → (first_invalid c a ≡ None) × (first_invalid c b ≡ None)
-valid-parts c a b none =
-    let bad : ℕ → Bool = λ x. is_none (value c x) in
-    let sides = both (list_any bad a) (list_any bad b) (sym (list_any-append bad a b) ∙ none-any bad (a ++ b) none) in
-    (any-none bad a sides.0, any-none bad b sides.1)
+valid-parts c a b = (none_joined (lacks c) a b).0
 
 -- whole parts have two digits for each byte of their pieces
 pub even-digits : (every count : ℕ) (s : List ℕ) → length s ≡ count * (2 * every + 1) → length (digits_in every s) ≡ 2 * (count * every)
@@ -151,24 +148,17 @@ next every n s pos some size = from_cases (cases_lt (2 * every) (length s))
 
     from_cases : (2 * every < length s) ⊎ (length s ≤ 2 * every) → Next every n s
     from_cases (inl long) =
-        let line = 2 * every + 1 in
-        let parts_of : digits_in every s ≡ take (2 * every) s ++ digits_in every (drop line s) =
-        ap (flat_map (take (2 * every))) (pieces-next line s (omega arith) (omega arith)) ∙ ap (λ l. l ++ digits_in every (drop line s)) (take-take (2 * every) line s (omega arith)) in
-        let lengths = ap length parts_of ∙ length-append (take (2 * every) s) (digits_in every (drop line s)) in
+        let parts_of = (parted every s (omega arith)).digits in
+        let lengths = ap length parts_of ∙ length-append (take (2 * every) s) (digits_in every (drop (2 * every + 1) s)) in
         let first = length-take-le (2 * every) s (omega arith) in
         let count : min every n ≡ every = omega (arith, lengths, first, size) in
         record { inside = omega (arith, count); digits = rw count parts_of }
     from_cases (inr short) =
-        let filled : 0 < length s = from_empty s size in
-        let one : digits_in every s ≡ s = ap (flat_map (take (2 * every))) (one_part every s filled (omega arith)) ∙ append-nil (take (2 * every) s) ∙ take_all (2 * every) s short in
+        let one = (unparted every s short).0 in
         let whole : length s ≡ 2 * n = sym (ap length one) ∙ size in
         let count : min every n ≡ n = omega (arith, whole, short) in
         let rest : drop (2 * n + 1) s ≡ [] = drop_all (2 * n + 1) s (omega arith) in
         record { inside = omega (arith, count, whole); digits = rw count (one ∙ sym (rw (rest, none) (append-nil (take (2 * n) s) ∙ take_all (2 * n) s (omega arith)))) }
-      where
-        from_empty : (l : List ℕ) → length (digits_in every l) ≡ 2 * n → 0 < length l
-        from_empty [] e = absurd (omega (arith, ap length none, e))
-        from_empty (b ∷ l) e = omega arith
 
 -- the digits of the next part, behind those that were decoded
 pub record Part (c : CheckCase) (every : ℕ) (s front : List ℕ) (at n : ℕ) : Type 0 where

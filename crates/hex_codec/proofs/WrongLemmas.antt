@@ -1,261 +1,190 @@
--- The first wrong byte of a text, a part at a time.
-use Rattle.std.proofs.Common.{◌≡◌, ◌⊎◌, inl, inr, ℕ, zero, suc, ◌+◌, ◌*◌, ◌<◌, ◌≤◌, Bool, true, false, not, ◌||◌, ◌==◌, refl, sym, ap, ◌∙◌, arith, Option, Some, None, is_none, List, [], ◌∷◌, ◌++◌, length, take, drop, map, get_or, All, append-nil, length-append, length-take, length-drop, option_map, take-append-drop}
+-- The wrong bytes of a text, place by place.
+use Rattle.std.proofs.Common.{◌≡◌, ℕ, zero, suc, ◌+◌, ◌-◌, ◌*◌, ◌%◌, ◌<◌, ◌≤◌, false, not, ◌==◌, inl, inr, refl, sym, ap, ◌∙◌, arith, Option, Some, None, List, [], ◌∷◌, ◌++◌, length, take, drop, get_or, All, length-append, length-take, length-drop, option_map}
 use Rattle.std.specs.Prelude.{position}
-use Rattle.std.specs.List.{flat_map, list_any, position_or_len}
-use Rattle.std.proofs.lemmas.Bool.{cases_Bool, cases_lt, both_ways, eq-eqb, eqb-true, ne_eqb}
+use Rattle.std.specs.List.{range_with_len}
+use Rattle.std.proofs.Math.Nat.{mod-eq_of_lt, mul-add-mod_self_right}
+use Rattle.std.proofs.lemmas.Bool.{cases_lt, eq-eqb, ne_eqb}
 use Rattle.std.proofs.lemmas.Bool.Decides.{nat_tests}
-use Rattle.std.proofs.lemmas.Grind.{common_steps, flat_map-append}
-use Rattle.std.proofs.lemmas.List.{drop_all, drop-drop, drop-take, get_or-drop, length-map, length-take-le, take-take}
-use Rattle.std.proofs.lemmas.List.Folds.{list_any-append}
+use Rattle.std.proofs.lemmas.List.{drop-drop, get_or-append-add, get_or-drop, get_or-take, get_or_append_left, length-take-le, take_all}
+use Rattle.std.proofs.lemmas.List.Elements.{All-append, All-from_get_or, All-get_or, All-nil}
+use Rattle.std.proofs.lemmas.List.Quantifiers.{position-Some}
 use Rattle.hex_core.specs.declared.digit.CheckCase.{CheckCase}
-use Rattle.hex_core.specs.Digit.{value}
 use Rattle.hex_core.specs.Search.{first_invalid}
+use Rattle.hex_core.proofs.PositionLemmas.{before_none, least_behind, least_is, least_none, least_told, none_joined, none_told, position_none}
+use Rattle.hex_core.proofs.SearchLemmas.{lacks}
 use Rattle.hex_codec.specs.declared.group.Group.{Group}
 use Rattle.hex_codec.specs.Grouped.{piece_len, separator}
-use Rattle.hex_codec.specs.GroupedText.{digits_in, first_wrong, parts, separators_in, wrong_in}
+use Rattle.hex_codec.specs.GroupedText.{digits_in, first_wrong, is_wrong, separators_in}
 use Rattle.hex_codec.specs.Strip.{ClearsFront, IsWhole}
-use Rattle.hex_codec.proofs.GroupLemmas.{no_pieces, pieces-append, pieces-next}
-use Rattle.hex_codec.proofs.StripLemmas.{one_part, part-digits, part-separator}
+use Rattle.hex_codec.proofs.GroupLemmas.{no_pieces}
+use Rattle.hex_codec.proofs.StripLemmas.{part-digits, part-separator, parted, unparted}
 
--- ---- the first place of a list that passes a test
+-- ---- one place
 
-position-here : {X : Type 0} (p : X → Bool) (x : X) (xs : List X) → p x ≡ true → position p (x ∷ xs) ≡ Some 0
-position-here p x xs e = grind (arith, nat_tests, e)
+pub same-byte : (x y : ℕ) → not (x == y) ≡ false → x ≡ y
+same-byte x y e = grind (arith, nat_tests, e)
 
-position-later : {X : Type 0} (p : X → Bool) (x : X) (xs : List X) → p x ≡ false → position p (x ∷ xs) ≡ option_map suc (position p xs)
-position-later p x xs e = from_cases (cases_lt (position_or_len p xs) (length xs))
-  where
-    from_cases : (position_or_len p xs < length xs) ⊎ (length xs ≤ position_or_len p xs) → position p (x ∷ xs) ≡ option_map suc (position p xs)
-    from_cases (inl h) = grind (arith, nat_tests, e, h)
-    from_cases (inr h) = grind (arith, nat_tests, e, h)
-
-moved : (n : ℕ) (o : Option ℕ) → option_map suc (option_map (λ i. n + i) o) ≡ option_map (λ i. suc n + i) o
-moved n None = refl
-moved n (Some i) = ap Some (omega arith)
-
-unmoved : (o : Option ℕ) → o ≡ option_map (λ i. 0 + i) o
-unmoved None = refl
-unmoved (Some i) = ap Some (omega arith)
-
-none-later : (o : Option ℕ) → option_map suc o ≡ None → o ≡ None
-none-later None e = refl
-none-later (Some i) e = cc
-
--- behind a list with no such place it is that of the rest
-pub position-behind : {X : Type 0} (p : X → Bool) (a b : List X) → position p a ≡ None → position p (a ++ b) ≡ option_map (λ i. length a + i) (position p b)
-position-behind p [] b none = unmoved (position p b)
-position-behind p (x ∷ a) b none = from_cases (position-behind p a b) (cases_Bool (p x))
-  where
-    from_cases : (position p a ≡ None → position p (a ++ b) ≡ option_map (λ i. length a + i) (position p b)) → (p x ≡ true) ⊎ (p x ≡ false) → position p (x ∷ (a ++ b)) ≡ option_map (λ i. suc (length a) + i) (position p b)
-    from_cases rest (inl h) = let e = sym (position-here p x a h) ∙ none in cc
-    from_cases rest (inr h) =
-        let behind = rest (none-later (position p a) (sym (position-later p x a h) ∙ none)) in
-        position-later p x (a ++ b) h ∙ ap (option_map suc) behind ∙ moved (length a) (position p b)
-
--- in front of a list it stays the first
-pub position-before : {X : Type 0} (p : X → Bool) (a b : List X) (i : ℕ) → position p a ≡ Some i → position p (a ++ b) ≡ Some i
-position-before p [] b i some = cc
-position-before p (x ∷ a) b i some = from_cases (λ k. position-before p a b k) (cases_Bool (p x))
-  where
-    more : (o : Option ℕ) → option_map suc o ≡ Some i → ((k : ℕ) → o ≡ Some k → position p (a ++ b) ≡ Some k) → option_map suc (position p (a ++ b)) ≡ Some i
-    more None e next = cc
-    more (Some k) e next = ap (option_map suc) (next k refl) ∙ e
-
-    from_cases : ((k : ℕ) → position p a ≡ Some k → position p (a ++ b) ≡ Some k) → (p x ≡ true) ⊎ (p x ≡ false) → position p (x ∷ (a ++ b)) ≡ Some i
-    from_cases rest (inl h) = position-here p x (a ++ b) h ∙ (sym (position-here p x a h) ∙ some)
-    from_cases rest (inr h) = position-later p x (a ++ b) h ∙ more (position p a) (sym (position-later p x a h) ∙ some) rest
-
-position-map : {X : Type 0} (p : X → Bool) (xs : List X) → position (λ w. w) (map p xs) ≡ position p xs
-position-map p [] = refl
-position-map p (x ∷ xs) = from_cases (position-map p xs) (cases_Bool (p x))
-  where
-    from_cases : position (λ w. w) (map p xs) ≡ position p xs → (p x ≡ true) ⊎ (p x ≡ false) → position (λ w. w) (p x ∷ map p xs) ≡ position p (x ∷ xs)
-    from_cases rest (inl h) = position-here (λ w. w) (p x) (map p xs) h ∙ sym (position-here p x xs h)
-    from_cases rest (inr h) = position-later (λ w. w) (p x) (map p xs) h ∙ (ap (option_map suc) rest ∙ sym (position-later p x xs h))
-
--- there is none exactly where no element passes
-pub none-any : {X : Type 0} (p : X → Bool) (xs : List X) → position p xs ≡ None → list_any p xs ≡ false
-none-any p [] none = refl
-none-any p (x ∷ xs) none = from_cases (none-any p xs) (cases_Bool (p x))
-  where
-    from_cases : (position p xs ≡ None → list_any p xs ≡ false) → (p x ≡ true) ⊎ (p x ≡ false) → list_any p (x ∷ xs) ≡ false
-    from_cases rest (inl h) = let e = sym (position-here p x xs h) ∙ none in cc
-    from_cases rest (inr h) = rw h (rest (none-later (position p xs) (sym (position-later p x xs h) ∙ none)))
-
-pub any-none : {X : Type 0} (p : X → Bool) (xs : List X) → list_any p xs ≡ false → position p xs ≡ None
-any-none p [] none = refl
-any-none p (x ∷ xs) none = from_cases (any-none p xs) (cases_Bool (p x))
-  where
-    from_cases : (list_any p xs ≡ false → position p xs ≡ None) → (p x ≡ true) ⊎ (p x ≡ false) → position p (x ∷ xs) ≡ None
-    from_cases rest (inl h) = absurd (both_ways (list_any p (x ∷ xs)) none (rw h refl))
-    from_cases rest (inr h) = position-later p x xs h ∙ ap (option_map suc) (rest (rw h at none))
-
--- ---- wrong bytes
-
-any-map : {X : Type 0} (p : X → Bool) (xs : List X) → list_any (λ w. w) (map p xs) ≡ list_any p xs
-any-map p [] = refl
-any-map p (x ∷ xs) = ap (λ b. p x || b) (any-map p xs)
-
-in_turn : (a b c d : Bool) → ((a || b) || (c || d)) ≡ ((a || c) || (b || d))
-in_turn true b c d = refl
-in_turn false true true d = refl
-in_turn false true false d = refl
-in_turn false false c d = refl
-
--- a byte of some parts is wrong where a digit or a separator is
-wrong-any : (c : CheckCase) (group : Group) (ps : List (List ℕ))
-    → list_any (λ w. w) (flat_map (wrong_in c group) ps) ≡ (list_any (λ b. is_none (value c b)) (flat_map (take (2 * piece_len group)) ps) || list_any (λ b. not (b == separator group)) (flat_map (drop (2 * piece_len group)) ps))
-wrong-any c group [] = refl
-wrong-any c group (part ∷ ps) =
-    let d : ℕ → Bool = λ b. is_none (value c b) in
-    let s : ℕ → Bool = λ b. not (b == separator group) in
-    let front = take (2 * piece_len group) part in
-    let back = drop (2 * piece_len group) part in
-    list_any-append (λ w. w) (wrong_in c group part) (flat_map (wrong_in c group) ps)
-    ∙ rw (
-      list_any-append (λ w. w) (map d front) (map s back),
-      any-map d front,
-      any-map s back,
-      wrong-any c group ps,
-      list_any-append d front (flat_map (take (2 * piece_len group)) ps),
-      list_any-append s back (flat_map (drop (2 * piece_len group)) ps),
-    )
-    (in_turn (list_any d front) (list_any s back) (list_any d (flat_map (take (2 * piece_len group)) ps)) (list_any s (flat_map (drop (2 * piece_len group)) ps)))
-
--- what both sides of a disjunction are that is false
-pub both : (a b : Bool) → (a || b) ≡ false → (a ≡ false) × (b ≡ false)
-both true b e = cc
-both false b e = (refl, e)
-
-same-byte : (x y : ℕ) → not (x == y) ≡ false → x ≡ y
-same-byte x y e = from_cases (cases_Bool (x == y))
-  where
-    from_cases : ((x == y) ≡ true) ⊎ ((x == y) ≡ false) → x ≡ y
-    from_cases (inl h) = eqb-true x y h
-    from_cases (inr h) = absurd (both_ways (not (x == y)) e (ap not h))
-
-none-other : (sep : ℕ) (s : List ℕ) → list_any (λ b. not (b == sep)) s ≡ false → All (λ b. b ≡ sep) s
-none-other sep [] none k d lt = absurd (omega arith)
-none-other sep (b ∷ s) none zero d lt = same-byte b sep (both (not (b == sep)) (list_any (λ x. not (x == sep)) s) none).0
-none-other sep (b ∷ s) none (suc k) d lt = none-other sep s (both (not (b == sep)) (list_any (λ x. not (x == sep)) s) none).1 k d (omega arith)
-
-other-none : (sep : ℕ) (s : List ℕ) → All (λ b. b ≡ sep) s → list_any (λ b. not (b == sep)) s ≡ false
-other-none sep [] all = refl
-other-none sep (b ∷ s) all =
-    let here : (b == sep) ≡ true = eq-eqb b sep (all 0 0 (omega arith)) in
-    rw here (other-none sep s (λ k d lt. all (suc k) d (omega arith)))
-
--- a text has no wrong byte exactly where its digits have values and its separators are the group's
-pub wrong-none : (c : CheckCase) (group : Group) (s : List ℕ) → first_wrong c group s ≡ None
-    → (first_invalid c (digits_in (piece_len group) s) ≡ None) × All (λ b. b ≡ separator group) (separators_in (piece_len group) s)
-wrong-none c group s none =
-    let ps = parts (piece_len group) s in
-    let sides = both _ _ (sym (wrong-any c group ps) ∙ none-any (λ w. w) (flat_map (wrong_in c group) ps) none) in
-    (any-none (λ b. is_none (value c b)) (digits_in (piece_len group) s) sides.0, none-other (separator group) (separators_in (piece_len group) s) sides.1)
-
-pub none-wrong : (c : CheckCase) (group : Group) (s : List ℕ) → first_invalid c (digits_in (piece_len group) s) ≡ None → All (λ b. b ≡ separator group) (separators_in (piece_len group) s)
-    → first_wrong c group s ≡ None
-none-wrong c group s valid all =
-    let ps = parts (piece_len group) s in
-    let digits = none-any (λ b. is_none (value c b)) (digits_in (piece_len group) s) valid in
-    let separators = other-none (separator group) (separators_in (piece_len group) s) all in
-    any-none (λ w. w) (flat_map (wrong_in c group) ps) (wrong-any c group ps ∙ rw (digits, separators) refl)
-
--- ---- behind a front
-
-length-wrong_in : (c : CheckCase) (group : Group) (part : List ℕ) → length (wrong_in c group part) ≡ length part
-length-wrong_in c group part =
+at-digit : (c : CheckCase) (group : Group) (s : List ℕ) (k : ℕ) → k < 2 * piece_len group → is_wrong c group s k ≡ lacks c (get_or s k 0)
+at-digit c group s k lt =
     let n = 2 * piece_len group in
-    let d : ℕ → Bool = λ b. is_none (value c b) in
-    let s : ℕ → Bool = λ b. not (b == separator group) in
-    omega (arith, length-append (map d (take n part)) (map s (drop n part)), length-map (take n part) d, length-map (drop n part) s, length-take n part, length-drop n part)
+    rw (ne_eqb (k % (n + 1)) n (λ e. absurd (omega (arith, e, mod-eq_of_lt {n = k} {m = n + 1} (omega arith), lt)))) refl
 
--- each byte of a text is one that is wrong or not
-length-wrong : (c : CheckCase) (group : Group) (fuel : ℕ) (s : List ℕ) → length s ≤ fuel → length (flat_map (wrong_in c group) (parts (piece_len group) s)) ≡ length s
-length-wrong c group fuel [] fits = rw (no_pieces (2 * piece_len group + 1)) refl
-length-wrong c group zero (b ∷ s) fits = absurd (omega arith)
-length-wrong c group (suc fuel) (b ∷ s) fits =
+at-separator : (c : CheckCase) (group : Group) (s : List ℕ) → is_wrong c group s (2 * piece_len group) ≡ not (get_or s (2 * piece_len group) 0 == separator group)
+at-separator c group s =
+    let n = 2 * piece_len group in
+    rw (eq-eqb (n % (n + 1)) n (mod-eq_of_lt {n = n} {m = n + 1} (omega arith))) refl
+
+-- behind whole parts a byte is wrong where it is in the rest
+wrong-behind : (c : CheckCase) (group : Group) (s : List ℕ) (at k : ℕ) → IsWhole (piece_len group) at → is_wrong c group (drop at s) k ≡ is_wrong c group s (at + k)
+wrong-behind c group s at k whole =
     let line = 2 * piece_len group + 1 in
+    let place : (at + k) % line ≡ k % line = ap (λ n. (n + k) % line) whole.lines ∙ mul-add-mod_self_right whole.count line k in
+    rw (place, get_or-drop at s k 0) refl
+
+wrong-taken : (c : CheckCase) (group : Group) (s : List ℕ) (n k : ℕ) → k < n → is_wrong c group (take n s) k ≡ is_wrong c group s k
+wrong-taken c group s n k lt = rw (get_or-take n s k 0 lt) refl
+
+-- ---- all places
+
+-- no byte of a text is wrong
+abbrev pub Clear : CheckCase → Group → List ℕ → Type 0
+Clear c group s = (k : ℕ) → k < length s → is_wrong c group s k ≡ false
+
+-- the digits of a text have values, and its separators are the group's
+pub record Right (c : CheckCase) (group : Group) (s : List ℕ) : Type 0 where
+  pub valid : first_invalid c (digits_in (piece_len group) s) ≡ None
+  pub separated : All (λ b. b ≡ separator group) (separators_in (piece_len group) s)
+
+one : (every : ℕ) → IsWhole every (2 * every + 1)
+one every = record { count = 1; lines = omega arith }
+
+-- so are those of the first part
+first-right : (c : CheckCase) (group : Group) (s : List ℕ) → Clear c group s
+    → (first_invalid c (take (2 * piece_len group) s) ≡ None) × All (λ b. b ≡ separator group) (drop (2 * piece_len group) (take (2 * piece_len group + 1) s))
+first-right c group s clear =
+    let n = 2 * piece_len group in
+    let part = take (n + 1) s in
+    let size = length-take n s in
+    let all = length-take (n + 1) s in (
+      position_none (lacks c) (take n s) (λ k lt.
+          let low : k < n = omega (arith, lt, size) in
+          rw (get_or-take n s k 0 low) (sym (at-digit c group s k low) ∙ clear k (omega (arith, lt, size)))),
+      All-from_get_or (λ b. b ≡ separator group) (drop n part) 0 (λ i lt.
+          let left = length-drop n part in
+          let place : n + i ≡ n = omega (arith, lt, left, all) in
+          let here = same-byte (get_or s n 0) (separator group) (sym (at-separator c group s) ∙ clear n (omega (arith, lt, left, all))) in
+          get_or-drop n part i 0 ∙ rw place (get_or-take (n + 1) s n 0 (omega arith) ∙ here)),
+    )
+
+right-first : (c : CheckCase) (group : Group) (s : List ℕ) (k : ℕ) → first_invalid c (take (2 * piece_len group) s) ≡ None
+    → All (λ b. b ≡ separator group) (drop (2 * piece_len group) (take (2 * piece_len group + 1) s)) → k < length s → k < 2 * piece_len group + 1 → is_wrong c group s k ≡ false
+right-first c group s k valid all inside lt =
+    let n = 2 * piece_len group in
+    let part = take (n + 1) s in
+    elim (cases_lt k n) [
+      | inl digit ↦ at-digit c group s k digit ∙ (rw (get_or-take n s k 0 digit) at (before_none (lacks c) (take n s) valid k (omega (arith, length-take n s))))
+      | inr past ↦
+          let is : k ≡ n = omega arith in
+          let start : n + 0 ≡ n = omega arith in
+          let single = All-get_or (λ b. b ≡ separator group) (drop n part) 0 0 (omega (arith, length-drop n part, length-take (n + 1) s, inside, is)) all in
+          let here : get_or s n 0 ≡ separator group = sym (get_or-drop n part 0 0 ∙ rw start (get_or-take (n + 1) s n 0 (omega arith))) ∙ single in
+          rw is (at-separator c group s ∙ ap not (eq-eqb (get_or s n 0) (separator group) here))
+    ]
+
+pub clear-right : (c : CheckCase) (group : Group) (fuel : ℕ) (s : List ℕ) → length s ≤ fuel → Clear c group s → Right c group s
+clear-right c group fuel [] fits clear = let none = no_pieces (2 * piece_len group + 1) in record { valid = rw none refl; separated = rw none (All-nil _) }
+clear-right c group zero (b ∷ s) fits clear = absurd (omega arith)
+clear-right c group (suc fuel) (b ∷ s) fits clear =
+    let every = piece_len group in
+    let line = 2 * every + 1 in
     let all = b ∷ s in
-    let rest = length-wrong c group fuel (drop line all) (omega (arith, length-drop line all)) in
-    ap (λ ps. length (flat_map (wrong_in c group) ps)) (pieces-next line all (omega arith) (omega arith))
-    ∙ omega (arith, length-append (wrong_in c group (take line all)) (flat_map (wrong_in c group) (parts (piece_len group) (drop line all))), length-wrong_in c group (take line all), rest, length-take line all, length-drop line all)
+    let part = parted every all (omega arith) in
+    let first = first-right c group all clear in
+    let left = length-drop line all in
+    let rest = clear-right c group fuel (drop line all) (omega (arith, left)) (λ k lt. wrong-behind c group all line k (one every) ∙ clear (line + k) (omega (arith, lt, left))) in
+    record {
+      valid = rw part.digits ((none_joined (lacks c) (take (2 * every) all) (digits_in every (drop line all))).1 (first.0, rest.valid));
+      separated = rw part.separators (All-append (λ b. b ≡ separator group) (drop (2 * every) (take line all)) (separators_in every (drop line all)) first.1 rest.separated);
+    }
+
+pub right-clear : (c : CheckCase) (group : Group) (fuel : ℕ) (s : List ℕ) → length s ≤ fuel → Right c group s → Clear c group s
+right-clear c group fuel [] fits right k lt = absurd (omega arith)
+right-clear c group zero (b ∷ s) fits right k lt = absurd (omega arith)
+right-clear c group (suc fuel) (b ∷ s) fits right k lt =
+    let every = piece_len group in
+    let line = 2 * every + 1 in
+    let all = b ∷ s in
+    let part = parted every all (omega arith) in
+    let left = length-drop line all in
+    let front = drop (2 * every) (take line all) in
+    let behind = separators_in every (drop line all) in
+    let valid = (none_joined (lacks c) (take (2 * every) all) (digits_in every (drop line all))).0 (rw part.digits at right.valid) in
+    let separated : All (λ b. b ≡ separator group) (front ++ behind) = rw part.separators at right.separated in
+    let size = length-append front behind in
+    let first = All-from_get_or (λ b. b ≡ separator group) front 0 (λ i h. rw (get_or_append_left front behind 0 i h) at (All-get_or (λ b. b ≡ separator group) (front ++ behind) i 0 (omega (arith, h, size)) separated)) in
+    let second = All-from_get_or (λ b. b ≡ separator group) behind 0 (λ i h. rw (get_or-append-add front behind i 0) at (All-get_or (λ b. b ≡ separator group) (front ++ behind) (length front + i) 0 (omega (arith, h, size)) separated)) in
+    elim (cases_lt k line) [
+      | inl low ↦ right-first c group all k valid.0 first lt low
+      | inr high ↦
+          let place : line + (k - line) ≡ k = omega arith in
+          rw place at (sym (wrong-behind c group all line (k - line) (one every)) ∙ right-clear c group fuel (drop line all) (omega (arith, left)) (record { valid = valid.1; separated = second }) (k - line) (omega (arith, left)))
+    ]
+
+-- ---- the first wrong byte
+
+-- a text has none exactly where its digits have values and its separators are the group's
+pub wrong-none : (c : CheckCase) (group : Group) (s : List ℕ) → first_wrong c group s ≡ None → Right c group s
+wrong-none c group s none = clear-right c group (length s) s (omega arith) (none_told (is_wrong c group s) (length s) none)
+
+pub none-wrong : (c : CheckCase) (group : Group) (s : List ℕ) → Right c group s → first_wrong c group s ≡ None
+none-wrong c group s right = least_none (is_wrong c group s) (length s) (right-clear c group (length s) s (omega arith) right)
+
+-- it is inside the text
+pub wrong-inside : (c : CheckCase) (group : Group) (s : List ℕ) (i : ℕ) → first_wrong c group s ≡ Some i → i < length s
+wrong-inside c group s i e = (least_told (is_wrong c group s) (length s) i e).inside
 
 -- behind whole parts without a wrong byte stands the first one
-pub whole-clear : (c : CheckCase) (group : Group) (s : List ℕ) (len : ℕ) → len ≤ length s → IsWhole (piece_len group) len
-    → first_invalid c (digits_in (piece_len group) (take len s)) ≡ None → All (λ b. b ≡ separator group) (separators_in (piece_len group) (take len s))
+pub whole-clear : (c : CheckCase) (group : Group) (s : List ℕ) (len : ℕ) → len ≤ length s → IsWhole (piece_len group) len → Right c group (take len s)
     → first_wrong c group s ≡ option_map (λ i. len + i) (first_wrong c group (drop len s))
-whole-clear c group s len inside whole valid all =
-    let every = piece_len group in
-    let front = take len s in
-    let back = drop len s in
-    let size : length front ≡ len = length-take-le len s inside in
-    let flags = flat_map (wrong_in c group) in
-    let cut : parts every s ≡ parts every front ++ parts every back = ap (parts every) (sym (take-append-drop len s)) ∙ pieces-append (2 * every + 1) whole.count front back (omega arith) (size ∙ whole.lines) in
-    let long : length (flags (parts every front)) ≡ len = length-wrong c group (length front) front (omega arith) ∙ size in
-    ap (λ ps. position (λ w. w) (flags ps)) cut ∙ ap (position (λ w. w)) (flat_map-append (wrong_in c group) (parts every front) (parts every back))
-    ∙ position-behind (λ w. w) (flags (parts every front)) (flags (parts every back)) (none-wrong c group front valid all)
-    ∙ rw long refl
-
-position-inside : {X : Type 0} (p : X → Bool) (xs : List X) (i : ℕ) → position p xs ≡ Some i → i < length xs
-position-inside p xs i e = grind (arith, common_steps, e)
-
--- the first wrong byte is inside the text
-pub wrong-inside : (c : CheckCase) (group : Group) (s : List ℕ) (i : ℕ) → first_wrong c group s ≡ Some i → i < length s
-wrong-inside c group s i e = omega (arith, position-inside (λ w. w) (flat_map (wrong_in c group) (parts (piece_len group) s)) i e, length-wrong c group (length s) s (omega arith))
+whole-clear c group s len inside whole right =
+    let size : length (take len s) ≡ len = length-take-le len s inside in
+    let all : length s ≡ len + length (drop len s) = omega (arith, length-drop len s) in
+    let clear = right-clear c group len (take len s) (omega (arith, size)) right in
+    ap (λ n. position (is_wrong c group s) (range_with_len 0 n)) all
+    ∙ least_behind (is_wrong c group s) (is_wrong c group (drop len s)) len (length (drop len s)) (λ k lt. sym (wrong-taken c group s len k lt) ∙ clear k (omega (arith, lt, size))) (λ k. wrong-behind c group s len k whole)
 
 -- ---- one part
 
 -- an invalid digit of the first part
-pub digit-wrong : (c : CheckCase) (group : Group) (s : List ℕ) (i : ℕ) → 0 < length s → first_invalid c (take (2 * piece_len group) s) ≡ Some i → first_wrong c group s ≡ Some i
-digit-wrong c group s i some first =
+pub digit-wrong : (c : CheckCase) (group : Group) (s : List ℕ) (i : ℕ) → first_invalid c (take (2 * piece_len group) s) ≡ Some i → first_wrong c group s ≡ Some i
+digit-wrong c group s i first =
     let n = 2 * piece_len group in
-    let line = n + 1 in
-    let d : ℕ → Bool = λ b. is_none (value c b) in
-    let here : take n (take line s) ≡ take n s = take-take n line s (omega arith) in
-    let digits : position (λ w. w) (map d (take n (take line s))) ≡ Some i = position-map d (take n (take line s)) ∙ (rw here first) in
-    ap (λ ps. position (λ w. w) (flat_map (wrong_in c group) ps)) (pieces-next line s (omega arith) some)
-    ∙ position-before (λ w. w) (wrong_in c group (take line s)) (flat_map (wrong_in c group) (parts (piece_len group) (drop line s))) i
-    (position-before (λ w. w) (map d (take n (take line s))) (map (λ b. not (b == separator group)) (drop n (take line s))) i digits)
+    let told = position-Some (lacks c) (take n s) i 0 first in
+    let low : i < n = omega (arith, told.0, length-take n s) in
+    let digit : (k : ℕ) → k ≤ i → is_wrong c group s k ≡ lacks c (get_or (take n s) k 0) = λ k h. at-digit c group s k (omega arith) ∙ ap (lacks c) (sym (get_or-take n s k 0 (omega arith))) in
+    least_is (is_wrong c group s) (length s) i (omega (arith, told.0, length-take n s)) (λ k lt. digit k (omega arith) ∙ told.2 k lt) (digit i (omega arith) ∙ told.1)
 
 -- a part without a separator
-pub last-clear : (c : CheckCase) (group : Group) (s : List ℕ) → 0 < length s → length s ≤ 2 * piece_len group → first_invalid c (take (2 * piece_len group) s) ≡ None → first_wrong c group s ≡ None
-last-clear c group s some fits valid =
-    let every = piece_len group in
-    let one = one_part every s some (omega arith) in
-    let digits : digits_in every s ≡ take (2 * every) s = ap (flat_map (take (2 * every))) one ∙ append-nil (take (2 * every) s) in
-    let none : separators_in every s ≡ [] = ap (flat_map (drop (2 * every))) one ∙ append-nil (drop (2 * every) s) ∙ drop_all (2 * every) s fits in
-    none-wrong c group s (rw digits valid) (rw none (λ k d lt. absurd (omega arith)))
-
-one-taken : (s : List ℕ) → 0 < length s → take 1 s ≡ get_or s 0 0 ∷ []
-one-taken [] some = absurd (omega arith)
-one-taken (b ∷ s) some = refl
+pub last-clear : (c : CheckCase) (group : Group) (s : List ℕ) → length s ≤ 2 * piece_len group → first_invalid c (take (2 * piece_len group) s) ≡ None → first_wrong c group s ≡ None
+last-clear c group s fits valid =
+    let is = unparted (piece_len group) s fits in
+    none-wrong c group s (record { valid = rw (is.0, ← take_all (2 * piece_len group) s fits) valid; separated = rw is.1 (All-nil _) })
 
 -- the digits of the first part are valid, and its separator is another byte
 pub separator-wrong : (c : CheckCase) (group : Group) (s : List ℕ) → 2 * piece_len group < length s → first_invalid c (take (2 * piece_len group) s) ≡ None → (get_or s (2 * piece_len group) 0 ≡ separator group → ⊥)
     → first_wrong c group s ≡ Some (2 * piece_len group)
 separator-wrong c group s long valid differs =
     let n = 2 * piece_len group in
-    let line = n + 1 in
-    let d : ℕ → Bool = λ b. is_none (value c b) in
-    let o : ℕ → Bool = λ b. not (b == separator group) in
-    let here : take n (take line s) ≡ take n s = take-take n line s (omega arith) in
-    let none : position (λ w. w) (map d (take n (take line s))) ≡ None = position-map d (take n (take line s)) ∙ (rw here valid) in
-    let start : n + 0 ≡ n = omega arith in
-    let single : drop n (take line s) ≡ get_or s n 0 ∷ [] = drop-take n 1 s ∙ one-taken (drop n s) (omega (arith, length-drop n s)) ∙ ap (λ b. b ∷ []) (get_or-drop n s 0 0 ∙ ap (λ k. get_or s k 0) start) in
-    let bad : o (get_or s n 0) ≡ true = rw (ne_eqb (get_or s n 0) (separator group) differs) refl in
-    let mark : position (λ w. w) (map o (drop n (take line s))) ≡ Some 0 = rw (single, bad) refl in
-    let size : length (map d (take n (take line s))) ≡ n = length-map (take n (take line s)) d ∙ ap length here ∙ length-take-le n s (omega arith) in
-    let first : position (λ w. w) (wrong_in c group (take line s)) ≡ Some n = position-behind (λ w. w) (map d (take n (take line s))) (map o (drop n (take line s))) none ∙ rw (mark, size) (ap Some start) in
-    ap (λ ps. position (λ w. w) (flat_map (wrong_in c group) ps)) (pieces-next line s (omega arith) (omega arith))
-    ∙ position-before (λ w. w) (wrong_in c group (take line s)) (flat_map (wrong_in c group) (parts (piece_len group) (drop line s))) n first
+    least_is (is_wrong c group s) (length s) n long
+    (λ k lt. at-digit c group s k lt ∙ (rw (get_or-take n s k 0 lt) at (before_none (lacks c) (take n s) valid k (omega (arith, lt, length-take n s)))))
+    (at-separator c group s ∙ ap not (ne_eqb (get_or s n 0) (separator group) differs))
 
 -- the first part has no wrong byte
 pub part-clear : (c : CheckCase) (group : Group) (s : List ℕ) → 2 * piece_len group < length s → first_invalid c (take (2 * piece_len group) s) ≡ None → get_or s (2 * piece_len group) 0 ≡ separator group
     → first_wrong c group s ≡ option_map (λ i. 2 * piece_len group + 1 + i) (first_wrong c group (drop (2 * piece_len group + 1) s))
 part-clear c group s long valid is =
     let every = piece_len group in
-    whole-clear c group s (2 * every + 1) (omega arith) (record { count = 1; lines = omega arith }) (rw (part-digits every s long) valid) (part-separator every (separator group) s long is)
+    whole-clear c group s (2 * every + 1) (omega arith) (one every) (record { valid = rw (part-digits every s long) valid; separated = part-separator every (separator group) s long is })
 
 -- ---- fronts
 

@@ -1,5 +1,5 @@
 -- What a grouped text spells, and what reading it refuses.
-use Rattle.std.specs.Prelude.{◌≡◌, ℕ, ◌+◌, ◌-◌, ◌*◌, ◌==◌, nat_lt, Bool, not, if◌then◌else◌, List, ◌++◌, length, take, drop, map, position, slice_index, is_none, All, Option, Some, None, option_map}
+use Rattle.std.specs.Prelude.{◌≡◌, ℕ, ◌+◌, ◌-◌, ◌*◌, ◌%◌, ◌==◌, nat_lt, Bool, not, if◌then◌else◌, List, length, take, drop, position, slice_index, is_none, All, Option, Some, None, option_map}
 use Rattle.std.specs.List.{flat_map, range_with_len}
 use Rattle.hex_core.specs.declared.digit.CheckCase.{CheckCase}
 use Rattle.hex_core.specs.Digit.{value}
@@ -35,14 +35,15 @@ pub record GroupSpells (c : CheckCase) (group : Group) (s bytes : List ℕ) : Ty
   pub separated : All (λ b. b ≡ separator group) (separators_in (piece_len group) s)
   pub spelled : Spells c (digits_in (piece_len group) s) bytes
 
--- of each byte of a part, whether it is wrong: a digit without a value, or another separator
-abbrev pub wrong_in : CheckCase → Group → List ℕ → List Bool
-wrong_in c group part =
-    map (λ b. is_none (value c b)) (take (2 * piece_len group) part) ++ map (λ b. not (b == separator group)) (drop (2 * piece_len group) part)
+-- whether the byte at a place is wrong: another one at a separator's place, or a digit without a value
+abbrev pub is_wrong : CheckCase → Group → List ℕ → ℕ → Bool
+is_wrong c group s i =
+    if i % (2 * piece_len group + 1) == 2 * piece_len group then not (slice_index s i == separator group)
+    else is_none (value c (slice_index s i))
 
--- the first wrong byte of a text, by its index
+-- the first wrong byte of a text: the least place of one
 abbrev pub first_wrong : CheckCase → Group → List ℕ → Option ℕ
-first_wrong c group s = position (λ wrong. wrong) (flat_map (wrong_in c group) (parts (piece_len group) s))
+first_wrong c group s = position (is_wrong c group s) (range_with_len 0 (length s))
 
 -- what reading into this room refuses: a length of no grouped text, then too little room, then the
 -- first wrong byte

@@ -15,4 +15,4 @@ fronts-preserved g c =
     let strips : StripsFront group rest c.strip-front.new.digits front = rw (take_rest src at) at c.strip-front.ensures in
     let valid : first_invalid c.args.case (digits_in (piece_len group) (take front.len rest)) ≡ None = rw strips.copied at (c.if-not-check.ensures.0 refl) in
     clears-more c.args.case group src at front.len c.fronts.invariant (omega (arith, strips.inside, length-drop at src, c.fronts.invariant.inside))
-    (whole-clear c.args.case group rest front.len strips.inside strips.whole valid strips.separated)
+    (whole-clear c.args.case group rest front.len strips.inside strips.whole (record { valid = valid; separated = strips.separated }))

@@ -20,7 +20,7 @@ returns-in-Some c =
     let group = c.args.group in let at = c.loop-at.at in let rest = drop at c.args.src.now in
     let digits = part at c.run_len.result (piece_len group) c.args.src.now (rw c.every.ensures at c.run_len.ensures) in
     let first : first_invalid c.args.case (take (2 * piece_len group) rest) ≡ Some c.in-Some.index = ap (first_invalid c.args.case) (sym digits) ∙ (sym c.invalid_digit.ensures ∙ c.in-Some.is) in
-    let wrong = digit-wrong c.args.case group rest c.in-Some.index (omega (arith, length-drop at c.args.src.now, c.loop-at-test.true)) first in
+    let wrong = digit-wrong c.args.case group rest c.in-Some.index first in
     sym (c.loop-at.invariant.rest ∙ ap (option_map (λ i. at + i)) wrong)
 
 pub returns-then-end-src : goal.returns-then-end-src
@@ -30,7 +30,7 @@ returns-then-end-src c =
     let digits = part at c.run_len.result (piece_len group) c.args.src.now run in
     let valid : first_invalid c.args.case (take (2 * piece_len group) rest) ≡ None = ap (first_invalid c.args.case) (sym digits) ∙ (sym c.invalid_digit.ensures ∙ c.in_default.is) in
     let left = length-drop at c.args.src.now in
-    let none = last-clear c.args.case group rest (omega (arith, left, c.loop-at-test.true)) (omega (arith, left, run, c.if-end-src.true)) valid in
+    let none = last-clear c.args.case group rest (omega (arith, left, run, c.if-end-src.true)) valid in
     sym (c.loop-at.invariant.rest ∙ ap (option_map (λ i. at + i)) none)
 
 -- another place than the end is that of a separator

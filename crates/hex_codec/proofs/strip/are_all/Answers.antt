@@ -1,18 +1,12 @@
 -- No bit of the mask is set, so no lane is another byte.
-use Rattle.std.proofs.Common.{All, ◌≡◌, ◌⊎◌, inl, inr, ℕ, Bool, true, false, not, eqb, map, take, refl, sym, ap, ◌∙◌, arith, w8}
-use Rattle.std.proofs.lemmas.Bool.{cases_Bool, eqb-true, both_ways}
+use Rattle.std.proofs.Common.{All, ◌≡◌, ℕ, Bool, true, false, not, eqb, map, take, refl, sym, ap, ◌∙◌, arith, w8}
+use Rattle.std.proofs.lemmas.Bool.{eqb-true}
 use Rattle.std.proofs.lemmas.Simd.{bitmask_splat, none_from_empty_mask}
 use Rattle.std.proofs.lemmas.List.{take_all}
 use Rattle.std.specs.Bool.{OnTrue}
 use Rattle.std.specs.Simd.Lanes.{mask_l}
+use Rattle.hex_codec.proofs.WrongLemmas.{same-byte}
 use Rattle.hex_codec.proofs.strip.are_all.Goals as goal
-
-unequal : (x y : ℕ) → not (eqb x y) ≡ false → x ≡ y
-unequal x y e = from_cases (cases_Bool (eqb x y))
-  where
-    from_cases : (eqb x y ≡ true) ⊎ (eqb x y ≡ false) → x ≡ y
-    from_cases (inl h) = eqb-true x y h
-    from_cases (inr h) = absurd (both_ways (not (eqb x y)) e (ap not h))
 
 on-true : (b : Bool) (P : Type 0) → (b ≡ true → P) → OnTrue b P
 on-true true P p = p refl
@@ -26,4 +20,4 @@ returns c =
     let whole : take 16 v ≡ v = take_all 16 v (omega (arith, c.fits-lanes.0)) in
     on-true _ (All (λ b. b ≡ byte) v) (λ t k d lt.
     let none : mask_l (map other v) ≡ 0 = sym mask ∙ eqb-true _ 0 t in
-    unequal _ byte (none_from_empty_mask other v 0 16 d (omega (arith, c.fits-lanes.0)) (ap (λ l. mask_l (map other l)) whole ∙ none) k (omega arith) (omega (arith, c.fits-lanes.0))))
+    same-byte _ byte (none_from_empty_mask other v 0 16 d (omega (arith, c.fits-lanes.0)) (ap (λ l. mask_l (map other l)) whole ∙ none) k (omega arith) (omega (arith, c.fits-lanes.0))))
