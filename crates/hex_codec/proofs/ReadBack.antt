@@ -1,6 +1,5 @@
 -- A text that was written in groups is read back, and one that is read spells a list.
-use Rattle.std.proofs.Common.{◌≡◌, ◌⊎◌, inl, inr, Bool, ℕ, zero, suc, false, ◌+◌, ◌*◌, ◌%◌, ◌<◌, ◌≤◌, nat_lt, refl, sym, ap, ◌∙◌, arith, Option, Some, None, List, [], ◌∷◌, ◌++◌, length, take, drop, All, append-nil, append_assoc, length-append, length-drop, take-append-drop}
-use Rattle.std.specs.List.{flat_map}
+use Rattle.std.proofs.Common.{◌≡◌, ◌⊎◌, inl, inr, Bool, ℕ, zero, suc, false, ◌+◌, ◌*◌, ◌%◌, ◌<◌, ◌≤◌, nat_lt, refl, sym, ap, ◌∙◌, arith, Option, Some, None, List, [], ◌∷◌, ◌++◌, length, take, drop, All, append-nil, length-append, length-drop, take-append-drop}
 use Rattle.std.proofs.Math.Seq.{drop-append_seam, take-append_seam}
 use Rattle.std.proofs.lemmas.Bool.{cases_lt, le-ltb}
 use Rattle.std.proofs.lemmas.Bool.Decides.{nat_tests}

@@ -1,5 +1,5 @@
 -- The digits that were copied are decoded behind those before them.
-use Rattle.std.proofs.Common.{rules, ◌≡◌, ◌+◌, ◌-◌, ◌*◌, ◌/◌, length, take, drop, arith, length-drop, length-take}
+use Rattle.std.proofs.Common.{rules, ◌≡◌, ◌+◌, ◌-◌, ◌/◌, length, take, drop, arith, length-drop, length-take}
 use Rattle.std.proofs.lemmas.List.{length-take-le, places}
 use borrow.Rule.Slice.PartMut.{put_mid}
 use Rattle.hex_codec.specs.Grouped.{piece_len}
