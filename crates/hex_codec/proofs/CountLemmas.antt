@@ -14,6 +14,7 @@ use Rattle.hex_codec.specs.declared.grouped.GroupFault.{GroupFault}
 use Rattle.hex_codec.specs.declared.grouped.GroupFault.TheVariants.{InvalidByte}
 use Rattle.hex_codec.specs.Grouped.{piece_count, piece_len, separator}
 use Rattle.hex_codec.specs.GroupedText.{GroupSpells, byte_count, digits_in, first_wrong, group_refusal, grouped_len, refusal_of_count, separators_in}
+use Rattle.hex_codec.specs.Strip.{ValidDigits}
 use Rattle.hex_codec.proofs.GroupLemmas.{count-next, no_pieces}
 use Rattle.hex_codec.proofs.StripLemmas.{parted, unparted}
 use Rattle.hex_codec.proofs.WrongLemmas.{Right, wrong-none}
@@ -123,8 +124,7 @@ length-digits every n s pos long = digits-fuel every n n s pos (omega arith) lon
 pub record Accepted (c : CheckCase) (group : Group) (s : List ℕ) (room n : ℕ) : Type 0 where
   pub fits : n ≤ room
   pub long : length s ≡ grouped_len (piece_len group) n
-  pub twice : length (digits_in (piece_len group) s) ≡ 2 * n
-  pub valid : first_invalid c (digits_in (piece_len group) s) ≡ None
+  pub digits : ValidDigits c group s n
   pub separated : All (λ b. b ≡ separator group) (separators_in (piece_len group) s)
 
 unmapped : (f : Option ℕ) (to : ℕ → GroupFault) → option_map to f ≡ None → f ≡ None
@@ -141,13 +141,12 @@ accepted c group s room n h is =
     record {
       fits = grind (arith, nat_tests, none);
       long = long;
-      twice = length-digits every n s group.is_group.0 long;
-      valid = right.valid;
+      digits = (length-digits every n s group.is_group.0 long, right.valid);
       separated = right.separated;
     }
 
 -- what is spelled by its digits is spelled by the text
 pub group-spells : (c : CheckCase) (group : Group) (s bytes : List ℕ) (room n : ℕ) → Accepted c group s room n → Spells c (digits_in (piece_len group) s) bytes → GroupSpells c group s bytes × (length bytes ≡ n)
 group-spells c group s bytes room n is spelled =
-    let count : length bytes ≡ n = omega (arith, spelled.twice, is.twice) in
+    let count : length bytes ≡ n = omega (arith, spelled.twice, is.digits.0) in
     (record { long = is.long ∙ ap (grouped_len (piece_len group)) (sym count); separated = is.separated; spelled = spelled }, count)

@@ -99,8 +99,8 @@ read-spells c group s room some h =
     let n = has-count (byte_count (piece_len group) (length s)) _ room h in
     let is = accepted c group s room n.0 h n.1 in
     let digits = digits_in (piece_len group) s in
-    let even : length digits % 2 ≡ 0 = omega (arith, is.twice) in
-    let none : first_invalid c digits ≡ None = is.valid in
+    let even : length digits % 2 ≡ 0 = omega (arith, is.digits.0) in
+    let none : first_invalid c digits ≡ None = is.digits.1 in
     let w = some (grind (arith, nat_tests, even, none)) in
     let spells = group-spells c group s w.0 room n.0 is w.1 in
     (w.0, spells.0, omega (arith, spells.1, is.fits))

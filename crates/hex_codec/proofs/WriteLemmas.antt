@@ -17,7 +17,7 @@ use Rattle.hex_codec.specs.declared.group.Group.{Group}
 use Rattle.hex_codec.specs.declared.strip.Front.{Front}
 use Rattle.hex_codec.specs.Grouped.{piece_len}
 use Rattle.hex_codec.specs.GroupedText.{digits_in}
-use Rattle.hex_codec.specs.Strip.{IsWhole, StripsFront, WritesFront}
+use Rattle.hex_codec.specs.Strip.{IsWhole, StripsFront, ValidDigits, WritesFront}
 use Rattle.hex_codec.proofs.GroupLemmas.{no_pieces, pieces-next}
 use Rattle.hex_codec.proofs.StripLemmas.{joined, parted, unparted, whole-more}
 
@@ -36,10 +36,6 @@ spells-joined c a b x y h k = record {
         let digit : (m n : ℕ) → length a + m ≡ n → get_or (a ++ b) n 0 ≡ get_or b m 0 = λ m n e. get_or-append_right a b (length a) n 0 refl (omega arith) ∙ ap (λ p. get_or b p 0) (omega arith) in
         spelled_along c b (a ++ b) y (x ++ y) j i (digit (2 * j) (2 * i) (omega (arith, h.twice))) (digit (2 * j + 1) (2 * i + 1) (omega (arith, h.twice))) (get_or-append_right x y (length x) i 0 refl r) (k.each j (omega arith))
 
--- where two lists have no invalid byte joined, neither has one
-pub valid-parts : (c : CheckCase) (a b : List ℕ) → first_invalid c (a ++ b) ≡ None → (first_invalid c a ≡ None) × (first_invalid c b ≡ None)
-valid-parts c a b = (none_joined (lacks c) a b).0
-
 -- whole parts have two digits for each byte of their pieces
 pub even-digits : (every count : ℕ) (s : List ℕ) → length s ≡ count * (2 * every + 1) → length (digits_in every s) ≡ 2 * (count * every)
 even-digits every zero [] whole = rw (no_pieces (2 * every + 1)) (omega arith)
@@ -57,82 +53,81 @@ pub decoded : (c : CheckCase) (s old new : List ℕ) (done : Bool) → first_inv
 decoded c s old new true valid answer = answer.1
 decoded c s old new false valid answer = absurd (answer.0 valid)
 
--- the digits of a text are those of a front of whole parts, of those behind it, and of the rest
-pub record Cut (every : ℕ) (s : List ℕ) (len next : ℕ) : Type 0 where
-  pub all : digits_in every s ≡ digits_in every (take (len + next) s) ++ digits_in every (drop (len + next) s)
-  pub front : digits_in every (take (len + next) s) ≡ digits_in every (take len s) ++ digits_in every (take next (drop len s))
+-- ---- behind a front
 
-pub cut : (every : ℕ) (s : List ℕ) (len next : ℕ) → IsWhole every len → IsWhole every next → len + next ≤ length s → Cut every s len next
-cut every s len next whole more inside =
-    let size : length (take (len + next) s) ≡ len + next = length-take-le (len + next) s inside in
-    let first : length (take len s) ≡ len = length-take-le len s (omega arith) in
-    let lines : IsWhole every (length (take (len + next) s)) = rw size (whole-more every len next whole more) in
-    let before : IsWhole every (length (take len s)) = rw first whole in
+-- nothing yet
+pub writes-none : (c : CheckCase) (group : Group) (s dst : List ℕ) → WritesFront c group s dst 0 0
+writes-none c group s dst = record { before = []; digits = refl; count = refl; spelled = record { twice = refl; each = λ i lt. absurd (omega arith) } }
+
+-- so many digits are left
+pub left : (c : CheckCase) (group : Group) (s dst : List ℕ) (at done all : ℕ) → WritesFront c group s dst at done → length (digits_in (piece_len group) s) ≡ 2 * all
+    → length (digits_in (piece_len group) (drop at s)) ≡ 2 * (all - done)
+left c group s dst at done all so_far twice = omega (arith, ap length so_far.digits ∙ length-append so_far.before (digits_in (piece_len group) (drop at s)), so_far.count, twice)
+
+-- the next digits are valid, and there is room for their bytes
+pub ahead : (c : CheckCase) (group : Group) (s dst next rest : List ℕ) (at done all : ℕ) → WritesFront c group s dst at done → digits_in (piece_len group) (drop at s) ≡ next ++ rest → ValidDigits c group s all
+    → (first_invalid c next ≡ None) × (2 * done + length next ≤ 2 * all)
+ahead c group s dst next rest at done all so_far cut (twice, valid) =
+    let behind = digits_in (piece_len group) (drop at s) in
+    let lengths = ap length so_far.digits ∙ length-append so_far.before behind in
+    let none = ((none_joined (lacks c) so_far.before behind).0 (rw so_far.digits at valid)).1 in
+    (((none_joined (lacks c) next rest).0 (rw cut at none)).0, omega (arith, lengths, ap length cut ∙ length-append next rest, so_far.count, twice))
+
+-- their bytes are written behind those before them
+pub writes-more : (c : CheckCase) (group : Group) (s old next part : List ℕ) (at done more k : ℕ) → WritesFront c group s old at done → digits_in (piece_len group) (drop at s) ≡ next ++ digits_in (piece_len group) (drop more (drop at s))
+    → done ≤ length old → Spells c next part → WritesFront c group s (put_mid done k old part) (at + more) (done + length part)
+writes-more c group s old next part at done more k so_far cut inside spelled =
+    let rest = digits_in (piece_len group) (drop more (drop at s)) in
+    let front = so_far.before ++ next in
     record {
-      all = ap (digits_in every) (sym (take-append-drop (len + next) s)) ∙ joined (take (2 * every)) every (take (len + next) s) (drop (len + next) s) lines;
-      front = ap (digits_in every) (take-add len next s) ∙ joined (take (2 * every)) every (take len s) (take next (drop len s)) before;
+      before = front;
+      digits = so_far.digits ∙ ap (λ l. so_far.before ++ l) cut ∙ sym (append_assoc so_far.before next rest) ∙ ap (λ l. front ++ digits_in (piece_len group) l) (drop-drop more at s);
+      count = length-append so_far.before next ∙ omega (arith, so_far.count, spelled.twice);
+      spelled = rw (take-put_mid done k old part (done + length part) refl inside) (spells-joined c so_far.before next (take done old) part so_far.spelled spelled);
     }
 
--- digits that were copied: they are valid, and there is room for their bytes
-pub record Fitting (c : CheckCase) (digits : List ℕ) (done all : ℕ) : Type 0 where
-  pub valid : first_invalid c digits ≡ None
-  pub even : length digits % 2 ≡ 0
-  pub room : done + length digits ≤ 2 * all
+-- and at last those of all
+pub writes-all : (c : CheckCase) (group : Group) (s dst : List ℕ) (at done : ℕ) → WritesFront c group s dst at done → length dst ≤ done → length (digits_in (piece_len group) s) ≡ 2 * length dst → Spells c (digits_in (piece_len group) s) dst
+writes-all c group s dst at done so_far end twice =
+    let rest = digits_in (piece_len group) (drop at s) in
+    let none : rest ≡ [] = drop_all 0 rest (omega (arith, left c group s dst at done (length dst) so_far twice)) in
+    let all : digits_in (piece_len group) s ≡ so_far.before = so_far.digits ∙ ap (λ l. so_far.before ++ l) none ∙ append-nil so_far.before in
+    rw all (rw (take_all done dst end) at so_far.spelled)
 
-pub fitting : (c : CheckCase) (every : ℕ) (s dst : List ℕ) (done : Front) (next : ℕ) → WritesFront c every s dst done → IsWhole every next → done.len + next ≤ length s
-    → length (digits_in every s) ≡ 2 * length dst → first_invalid c (digits_in every s) ≡ None → Fitting c (digits_in every (take next (drop done.len s))) done.digits (length dst)
-fitting c every s dst done next so_far more inside twice valid =
-    let parts_of = cut every s done.len next so_far.whole more inside in
-    let digits = digits_in every (take next (drop done.len s)) in
-    let before = digits_in every (take done.len s) in
-    let size : length (take next (drop done.len s)) ≡ next = length-take-le next (drop done.len s) (omega (arith, length-drop done.len s)) in
-    let first = valid-parts c (digits_in every (take (done.len + next) s)) (digits_in every (drop (done.len + next) s)) (rw parts_of.all at valid) in
-    let second = valid-parts c before digits (rw parts_of.front at first.0) in
-    let lengths = ap length parts_of.all ∙ length-append (digits_in every (take (done.len + next) s)) (digits_in every (drop (done.len + next) s)) in
-    let fronts = ap length parts_of.front ∙ length-append before digits in
-    let written = length-take-le (done.digits / 2) dst (omega (arith, so_far.room)) in
-    let twice_more = even-digits every more.count (take next (drop done.len s)) (size ∙ more.lines) in
-    record {
-      valid = second.1;
-      even = omega (arith, twice_more);
-      room = omega (arith, lengths, fronts, written, so_far.spelled.twice, so_far.even, twice);
-    }
-
--- the bytes of more digits are written behind those before them
-pub writes-more : (c : CheckCase) (every : ℕ) (s old part : List ℕ) (done : Front) (next more k : ℕ) → WritesFront c every s old done → IsWhole every next → done.len + next ≤ length s
-    → Fitting c (digits_in every (take next (drop done.len s))) done.digits (length old) → more ≡ length (digits_in every (take next (drop done.len s))) → length (put_mid (done.digits / 2) k old part) ≡ length old
-    → Spells c (digits_in every (take next (drop done.len s))) part
-    → WritesFront c every s (put_mid (done.digits / 2) k old part) (record { len = done.len + next; digits = done.digits + more })
-writes-more c every s old part done next more k so_far whole inside fits is same spelled =
-    let parts_of = cut every s done.len next so_far.whole whole inside in
-    let end : (done.digits + more) / 2 ≡ done.digits / 2 + length part = omega (arith, is, spelled.twice, so_far.even) in
-    let put = take-put_mid (done.digits / 2) k old part ((done.digits + more) / 2) end (omega (arith, so_far.room)) in
-    record {
-      inside = inside;
-      whole = whole-more every done.len next so_far.whole whole;
-      even = omega (arith, so_far.even, fits.even, is);
-      room = omega (arith, same, fits.room, is);
-      spelled = rw (put, parts_of.front) (spells-joined c (digits_in every (take done.len s)) (digits_in every (take next (drop done.len s))) (take (done.digits / 2) old) part so_far.spelled spelled);
-    }
+-- ---- whole parts
 
 -- what is known of digits that were copied from behind those that were decoded
-pub record Copied (c : CheckCase) (group : Group) (s dst new : List ℕ) (done front : Front) : Type 0 where
-  pub strips : StripsFront group (drop done.len s) new front
-  pub inside : done.len + front.len ≤ length s
-  pub fits : Fitting c (digits_in (piece_len group) (take front.len (drop done.len s))) done.digits (length dst)
-  pub size : front.digits ≡ length (digits_in (piece_len group) (take front.len (drop done.len s)))
+pub record Copied (c : CheckCase) (group : Group) (s new : List ℕ) (at done all : ℕ) (front : Front) : Type 0 where
+  pub strips : StripsFront group (drop at s) new front
+  pub inside : at + front.len ≤ length s
+  pub cut : digits_in (piece_len group) (drop at s) ≡ take front.digits new ++ digits_in (piece_len group) (drop front.len (drop at s))
+  pub valid : first_invalid c (take front.digits new) ≡ None
+  pub size : length (take front.digits new) ≡ front.digits
+  pub even : front.digits % 2 ≡ 0
+  pub room : 2 * done + front.digits ≤ 2 * all
 
-pub copied : (c : CheckCase) (group : Group) (s dst new : List ℕ) (done front : Front) (all : ℕ) → WritesFront c (piece_len group) s dst done → StripsFront group (take (length s - done.len) (drop done.len s)) new front
-    → length (digits_in (piece_len group) s) ≡ 2 * all → length dst ≡ all → first_invalid c (digits_in (piece_len group) s) ≡ None → Copied c group s dst new done front
-copied c group s dst new done front all so_far strips twice same valid =
-    let behind : StripsFront group (drop done.len s) new front = rw (take_rest s done.len) at strips in
-    let inside : done.len + front.len ≤ length s = omega (arith, behind.inside, length-drop done.len s, so_far.inside) in
+pub copied : (c : CheckCase) (group : Group) (s dst new : List ℕ) (at done all : ℕ) (front : Front) → WritesFront c group s dst at done → at ≤ length s → StripsFront group (take (length s - at) (drop at s)) new front
+    → ValidDigits c group s all → Copied c group s new at done all front
+copied c group s dst new at done all front so_far reached strips digits =
+    let every = piece_len group in
+    let rest = drop at s in
+    let behind : StripsFront group rest new front = rw (take_rest s at) at strips in
+    let long : length (take front.len rest) ≡ front.len = length-take-le front.len rest behind.inside in
+    let whole : IsWhole every (length (take front.len rest)) = rw long behind.whole in
+    let cut = ap (digits_in every) (sym (take-append-drop front.len rest)) ∙ joined (take (2 * every)) every (take front.len rest) (drop front.len rest) whole ∙ ap (λ l. l ++ digits_in every (drop front.len rest)) (sym behind.copied) in
+    let size = length-take-le front.digits new behind.room in
+    let known = ahead c group s dst (take front.digits new) (digits_in every (drop front.len rest)) at done all so_far cut digits in
     record {
       strips = behind;
-      inside = inside;
-      fits = fitting c (piece_len group) s dst done front.len so_far behind.whole inside (omega (arith, twice, same)) valid;
-      size = sym (length-take-le front.digits new behind.room) ∙ ap length behind.copied;
+      inside = omega (arith, behind.inside, length-drop at s, reached);
+      cut = cut;
+      valid = known.0;
+      size = size;
+      even = omega (arith, ap length behind.copied, size, even-digits every behind.whole.count (take front.len rest) (long ∙ behind.whole.lines));
+      room = omega (arith, known.1, size);
     }
+
+-- ---- one part
 
 -- the digits of the next part, where so many bytes are left
 pub record Next (every n : ℕ) (s : List ℕ) : Type 0 where
@@ -160,42 +155,22 @@ next every n s pos some size = from_cases (cases_lt (2 * every) (length s))
         record { inside = omega (arith, count, whole); digits = rw count (one ∙ sym (rw (rest, none) (append-nil (take (2 * n) s) ∙ take_all (2 * n) s (omega arith)))) }
 
 -- the digits of the next part, behind those that were decoded
-pub record Part (c : CheckCase) (every : ℕ) (s front : List ℕ) (at n : ℕ) : Type 0 where
-  pub inside : at + 2 * min every n ≤ length s
-  pub valid : first_invalid c (take (2 * min every n) (drop at s)) ≡ None
-  pub digits : digits_in every s ≡ (front ++ take (2 * min every n) (drop at s)) ++ digits_in every (drop (at + (2 * min every n + 1)) s)
+pub record Part (c : CheckCase) (group : Group) (s : List ℕ) (at count : ℕ) : Type 0 where
+  pub inside : at + 2 * count ≤ length s
+  pub valid : first_invalid c (take (2 * count) (drop at s)) ≡ None
+  pub size : length (take (2 * count) (drop at s)) ≡ 2 * count
+  pub cut : digits_in (piece_len group) (drop at s) ≡ take (2 * count) (drop at s) ++ digits_in (piece_len group) (drop (2 * count + 1) (drop at s))
 
-pub part : (c : CheckCase) (every : ℕ) (s front : List ℕ) (at n : ℕ) → 0 < every → 0 < n → digits_in every s ≡ front ++ digits_in every (drop at s) → length (digits_in every s) ≡ length front + 2 * n
-    → first_invalid c (digits_in every s) ≡ None → Part c every s front at n
-part c every s front at n pos some is size valid =
+pub part : (c : CheckCase) (group : Group) (s dst : List ℕ) (at done all count : ℕ) → WritesFront c group s dst at done → done < all → min (piece_len group) (all - done) ≡ count → ValidDigits c group s all → Part c group s at count
+part c group s dst at done all count so_far some is digits =
+    let every = piece_len group in
     let rest = drop at s in
-    let lengths = ap length is ∙ length-append front (digits_in every rest) in
-    let ahead = next every n rest pos some (omega (arith, lengths, size)) in
-    let behind = (valid-parts c front (digits_in every rest) (rw is at valid)).1 in
+    let found : Next every (all - done) rest = next every (all - done) rest group.is_group.0 (omega arith) (left c group s dst at done all so_far digits.0) in
+    let cut = rw is at found.digits in
+    let inside = rw is at found.inside in
     record {
-      inside = omega (arith, ahead.inside, length-drop at s, pos, some);
-      valid = (valid-parts c (take (2 * min every n) rest) (digits_in every (drop (2 * min every n + 1) rest)) (rw ahead.digits at behind)).0;
-      digits = is ∙ ap (λ l. front ++ l) ahead.digits ∙ sym (append_assoc front (take (2 * min every n) rest) (digits_in every (drop (2 * min every n + 1) rest)))
-          ∙ ap (λ l. (front ++ take (2 * min every n) rest) ++ digits_in every l) (drop-drop (2 * min every n + 1) at s);
-    }
-
--- the digits behind a front that was decoded
-pub record Behind (c : CheckCase) (every : ℕ) (s dst : List ℕ) (front : Front) : Type 0 where
-  pub digits : digits_in every s ≡ digits_in every (take front.len s) ++ digits_in every (drop front.len s)
-  pub twice : length (digits_in every (drop front.len s)) ≡ 2 * (length dst - front.digits / 2)
-  pub valid : first_invalid c (digits_in every (drop front.len s)) ≡ None
-
-pub behind : (c : CheckCase) (every : ℕ) (s dst : List ℕ) (front : Front) → WritesFront c every s dst front → length (digits_in every s) ≡ 2 * length dst → first_invalid c (digits_in every s) ≡ None
-    → Behind c every s dst front
-behind c every s dst front so_far twice valid =
-    let size : length (take front.len s) ≡ front.len = length-take-le front.len s so_far.inside in
-    let lines : IsWhole every (length (take front.len s)) = rw size so_far.whole in
-    let digits : digits_in every s ≡ digits_in every (take front.len s) ++ digits_in every (drop front.len s) =
-    ap (digits_in every) (sym (take-append-drop front.len s)) ∙ joined (take (2 * every)) every (take front.len s) (drop front.len s) lines in
-    let lengths = ap length digits ∙ length-append (digits_in every (take front.len s)) (digits_in every (drop front.len s)) in
-    let written = length-take-le (front.digits / 2) dst (omega (arith, so_far.room)) in
-    record {
-      digits = digits;
-      twice = omega (arith, lengths, so_far.spelled.twice, written, twice, so_far.room);
-      valid = (valid-parts c (digits_in every (take front.len s)) (digits_in every (drop front.len s)) (rw digits at valid)).1;
+      inside = omega (arith, inside, length-drop at s, is, some, group.is_group.0);
+      valid = (ahead c group s dst (take (2 * count) rest) (digits_in every (drop (2 * count + 1) rest)) at done all so_far cut digits).0;
+      size = length-take-le (2 * count) rest inside;
+      cut = cut;
     }

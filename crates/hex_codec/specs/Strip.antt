@@ -1,6 +1,7 @@
 -- Fronts of grouped texts that are whole parts: copied, tested and written.
-use Rattle.std.specs.Prelude.{◌≡◌, ℕ, ◌*◌, ◌/◌, ◌%◌, ◌+◌, ◌≤◌, List, length, take, drop, All, option_map}
+use Rattle.std.specs.Prelude.{◌≡◌, ℕ, ◌*◌, ◌+◌, ◌≤◌, List, ◌++◌, length, take, drop, All, None, option_map}
 use Rattle.hex_core.specs.declared.digit.CheckCase.{CheckCase}
+use Rattle.hex_core.specs.Search.{first_invalid}
 use Rattle.hex_core.specs.Text.{Spells}
 use Rattle.hex_codec.specs.declared.group.Group.{Group}
 use Rattle.hex_codec.specs.declared.strip.Front.{Front}
@@ -25,10 +26,13 @@ pub record ClearsFront (c : CheckCase) (group : Group) (text : List ℕ) (len : 
   pub inside : len ≤ length text
   pub rest : first_wrong c group text ≡ option_map (λ i. len + i) (first_wrong c group (drop len text))
 
--- the bytes of the front's digits were written
-pub record WritesFront (c : CheckCase) (every : ℕ) (text new : List ℕ) (front : Front) : Type 0 where
-  pub inside : front.len ≤ length text
-  pub whole : IsWhole every front.len
-  pub even : front.digits % 2 ≡ 0
-  pub room : front.digits ≤ 2 * length new
-  pub spelled : Spells c (digits_in every (take front.len text)) (take (front.digits / 2) new)
+-- the digits of a text are valid, and two for each of n bytes
+abbrev pub ValidDigits : CheckCase → Group → List ℕ → ℕ → Type 0
+ValidDigits c group text n = (length (digits_in (piece_len group) text) ≡ 2 * n) × (first_invalid c (digits_in (piece_len group) text) ≡ None)
+
+-- the first bytes were written, which are those of the digits before a place
+pub record WritesFront (c : CheckCase) (group : Group) (text new : List ℕ) (at done : ℕ) : Type 0 where
+  pub before : List ℕ
+  pub digits : digits_in (piece_len group) text ≡ before ++ digits_in (piece_len group) (drop at text)
+  pub count : length before ≡ 2 * done
+  pub spelled : Spells c before (take done new)

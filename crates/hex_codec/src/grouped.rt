@@ -3,14 +3,14 @@
 //! All of a text is tested before the first store. Pieces of up to 16 bytes are stripped of their
 //! separators into a buffer, many at a time, and tested and decoded there.
 
-ghost use Rattle.std.specs.Prelude.{◌≡◌, ◌*◌, ◌≤◌, ◌<◌, None, Some, Err, IfOk, IfErr, IsOkAnd, MatchResult, length, min};
+ghost use Rattle.std.specs.Prelude.{◌≡◌, ◌*◌, ◌/◌, ◌≤◌, ◌<◌, None, Some, Err, IfOk, IfErr, IsOkAnd, MatchResult, length, min};
 ghost use Rattle.std.specs.Borrow.{sem};
 ghost use Rattle.hex_core.specs.Search.{first_invalid};
 ghost use Rattle.hex_core.specs.Text.{Spells};
 ghost use Rattle.hex_codec.specs.Grouped.{piece_len};
 ghost use Rattle.hex_codec.specs.GroupedText.{byte_count, digits_in, first_wrong, group_refusal};
 ghost use Rattle.hex_codec.specs.GroupCalls.{Accepts, LendsRead, Reads, ReadsFront, fault_of};
-ghost use Rattle.hex_codec.specs.Strip.{ClearsFront, WritesFront};
+ghost use Rattle.hex_codec.specs.Strip.{ClearsFront, ValidDigits, WritesFront};
 
 pub use crate::group::Group;
 use crate::strip::{Front, SHORT, strip};
@@ -85,11 +85,12 @@ fn invalid_digit(digits: &[u8], case: CheckCase) -> Option<usize>
     Backend::plain().first_invalid(digits, case)
 }
 
-// The first wrong byte, a part at a time.
-fn first_wrong_part(src: &[u8], group: Group, case: CheckCase) -> Option<usize>
+// The first wrong byte behind a front that has none, a part at a time.
+fn first_wrong_behind(src: &[u8], front: usize, group: Group, case: CheckCase) -> Option<usize>
+    requires { ClearsFront case group src.now front }
     ensures { result ≡ first_wrong case group src.now }
 {
-    let mut at = 0;
+    let mut at = front;
     while at < src.len() {
         let end = at + run_len(src.len() - at, group.every());
         if let Some(index) = invalid_digit(&src[at..end], case) {
@@ -139,11 +140,7 @@ fn clear_front(src: &[u8], group: Group, case: CheckCase) -> usize
 fn first_wrong(src: &[u8], group: Group, case: CheckCase) -> Option<usize>
     ensures { result ≡ first_wrong case group src.now }
 {
-    let clear = clear_front(src, group, case);
-    match first_wrong_part(&src[clear..], group, case) {
-        Some(index) => Some(clear + index),
-        None => None,
-    }
+    first_wrong_behind(src, clear_front(src, group, case), group, case)
 }
 
 // Writes the bytes of the digits of whole parts, by so many at a time, and returns the front that has
@@ -154,10 +151,9 @@ fn write_front_with<const N: usize>(
     group: Group,
     case: CheckCase,
 ) -> Front
-    requires twice { length (digits_in (piece_len group) src.now) ≡ 2 * length dst.old }
-    requires valid { first_invalid case (digits_in (piece_len group) src.now) ≡ None }
+    requires digits { ValidDigits case group src.now (length dst.old) }
     requires size { N ≤ LARGE }
-    ensures { WritesFront case (piece_len group) src.now dst.new result }
+    ensures { WritesFront case group src.now dst.new result.len (result.digits / 2) }
 {
     let mut buffer = [0; N];
     let mut done = Front { len: 0, digits: 0 };
@@ -177,14 +173,14 @@ fn write_front_with<const N: usize>(
     }
 }
 
-// Writes the bytes of the digits of a text, a part at a time.
-fn write_parts(src: &[u8], dst: &mut [u8], group: Group, case: CheckCase)
-    requires twice { length (digits_in (piece_len group) src.now) ≡ 2 * length dst.old }
-    requires valid { first_invalid case (digits_in (piece_len group) src.now) ≡ None }
+// Writes the bytes of the digits behind a front whose bytes are written, a part at a time.
+fn write_behind(src: &[u8], dst: &mut [u8], front: Front, group: Group, case: CheckCase)
+    requires digits { ValidDigits case group src.now (length dst.old) }
+    requires front { WritesFront case group src.now dst.old front.len (front.digits / 2) }
     ensures { Spells case (digits_in (piece_len group) src.now) dst.new }
 {
-    let mut at = 0;
-    let mut done = 0;
+    let mut at = front.len;
+    let mut done = front.digits / 2;
     while done < dst.len() {
         let count = group.every().min(dst.len() - done);
         Backend::plain().decode(&src[at..at + 2 * count], &mut dst[done..done + count], case);
@@ -195,9 +191,8 @@ fn write_parts(src: &[u8], dst: &mut [u8], group: Group, case: CheckCase)
 
 // The same, where pieces are short.
 fn write_front(src: &[u8], dst: &mut [u8], group: Group, case: CheckCase) -> Front
-    requires twice { length (digits_in (piece_len group) src.now) ≡ 2 * length dst.old }
-    requires valid { first_invalid case (digits_in (piece_len group) src.now) ≡ None }
-    ensures { WritesFront case (piece_len group) src.now dst.new result }
+    requires { ValidDigits case group src.now (length dst.old) }
+    ensures { WritesFront case group src.now dst.new result.len (result.digits / 2) }
 {
     if group.every() > SHORT {
         Front { len: 0, digits: 0 }
@@ -210,12 +205,11 @@ fn write_front(src: &[u8], dst: &mut [u8], group: Group, case: CheckCase) -> Fro
 
 // Writes the bytes of the digits of a text.
 fn write_bytes(src: &[u8], dst: &mut [u8], group: Group, case: CheckCase)
-    requires twice { length (digits_in (piece_len group) src.now) ≡ 2 * length dst.old }
-    requires valid { first_invalid case (digits_in (piece_len group) src.now) ≡ None }
+    requires { ValidDigits case group src.now (length dst.old) }
     ensures { Spells case (digits_in (piece_len group) src.now) dst.new }
 {
     let front = write_front(src, dst, group, case);
-    write_parts(&src[front.len..], &mut dst[front.digits / 2..], group, case);
+    write_behind(src, dst, front, group, case);
 }
 
 // How many bytes a text spells, or what reading it into this room refuses.
@@ -317,8 +311,7 @@ fn written<'a>(
     group: Group,
     case: CheckCase,
 ) -> Result<&'a mut [u8], GroupFault>
-    requires { IfOk lent (λ front. (length (digits_in (piece_len group) src.now) ≡ 2 * length front.now)
-        × (first_invalid case (digits_in (piece_len group) src.now) ≡ None)) }
+    requires { IfOk lent (λ front. ValidDigits case group src.now (length front.now)) }
     ensures ok { IfOk lent.entry (λ front. IsOkAnd result (λ written. (written.ghost_name ≡ front.ghost_name)
         × Spells case (digits_in (piece_len group) src.now) written.now)) }
     ensures err { IfErr lent.entry (λ e. result ≡ Err (fault_of e)) }

@@ -89,7 +89,7 @@ ready : (case : Policy.Denot) (group : Grouping.Denot) (s xs : List ℕ) (u : Co
 ready case group s xs (Ok n) (Ok p) h ok err =
     let is = accepted case group s (length xs) n h.0 h.1 in
     let count : length p.now ≡ n = ap length ok ∙ length-take-le n xs is.fits in
-    (is.twice ∙ ap (λ k. 2 * k) (sym count), is.valid)
+    (is.digits.0 ∙ ap (λ k. 2 * k) (sym count), is.digits.1)
 ready case group s xs (Ok n) (Err e) h ok err = tt
 ready case group s xs (Err e) r h ok err = rw err tt
 

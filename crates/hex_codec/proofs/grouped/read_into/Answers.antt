@@ -1,16 +1,13 @@
 -- The front is as long as the number of bytes.
-use Rattle.std.proofs.Common.{◌*◌, ◌++◌, sym, ap, ◌∙◌, length, drop}
+use Rattle.std.proofs.Common.{◌++◌, sym, ap, length, drop}
 use Rattle.std.proofs.lemmas.List.{length-take-le}
 use Rattle.hex_codec.proofs.CountLemmas.{accepted, group-spells}
 use Rattle.hex_codec.proofs.grouped.read_into.Goals as goal
 
-pub write_bytes-requires-clause-twice : goal.write_bytes-requires-clause-twice
-write_bytes-requires-clause-twice c =
+pub write_bytes-requires : goal.write_bytes-requires
+write_bytes-requires c =
     let is = accepted c.args.case c.args.group c.args.src.now (length c.args.dst.now) c.in_ok-count.count c.in_ok-count.ensures.0 c.in_ok-count.ensures.1 in
-    is.twice ∙ ap (λ n. 2 * n) (sym (length-take-le c.in_ok-count.count c.args.dst.now is.fits))
-
-pub write_bytes-requires-clause-valid : goal.write_bytes-requires-clause-valid
-write_bytes-requires-clause-valid c = (accepted c.args.case c.args.group c.args.src.now (length c.args.dst.now) c.in_ok-count.count c.in_ok-count.ensures.0 c.in_ok-count.ensures.1).valid
+    rw (length-take-le c.in_ok-count.count c.args.dst.now is.fits) is.digits
 
 pub returns : goal.returns
 returns c =

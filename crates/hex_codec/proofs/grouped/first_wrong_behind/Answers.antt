@@ -5,7 +5,7 @@ use Rattle.std.proofs.lemmas.List.{get_or-drop, take_all}
 use Rattle.hex_core.specs.Search.{first_invalid}
 use Rattle.hex_codec.specs.Grouped.{piece_len, separator}
 use Rattle.hex_codec.proofs.WrongLemmas.{clears-more, digit-wrong, last-clear, part-clear, separator-wrong}
-use Rattle.hex_codec.proofs.grouped.first_wrong_part.Goals as goal
+use Rattle.hex_codec.proofs.grouped.first_wrong_behind.Goals as goal
 
 -- the digits of the next part
 part : (at run every : ℕ) (s : List ℕ) → run ≡ min (length s - at) (2 * every) → take (at + run - at) (drop at s) ≡ take (2 * every) (drop at s)
