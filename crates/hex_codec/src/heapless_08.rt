@@ -5,7 +5,7 @@
 ghost use Rattle.hex_core.specs.Text.{lowercase, uppercase};
 ghost use Rattle.hex_codec.specs.Calls.{EncodesWithin};
 
-use crate::pieces::{PIECE, PIECE_DIGITS, piece_text};
+use crate::chunks::{CHUNK, CHUNK_DIGITS, chunk_text};
 use arrayvec::ArrayString;
 use hex_core::Error;
 
@@ -62,9 +62,9 @@ fn string_of<const N: usize>(src: &[u8], upper: bool) -> Result<ArrayString<N>, 
         return Err(Error::OutputTooSmall { required });
     }
     let mut string = ArrayString::new();
-    let mut buffer = [0; PIECE_DIGITS];
-    'pieces: for piece in src.chunks(PIECE) {
-        string.push_str(piece_text(&mut buffer, piece, upper));
+    let mut buffer = [0; CHUNK_DIGITS];
+    'chunks: for chunk in src.chunks(CHUNK) {
+        string.push_str(chunk_text(&mut buffer, chunk, upper));
     }
     Ok(string)
 }

@@ -1,13 +1,13 @@
 //! Encoding and decoding hex digits: slices, arrays, vectors, strings and texts of a fixed capacity.
 #![tactic(auto)]
 
+pub mod chunks;
 pub mod decode;
 pub mod encode;
 mod group;
 pub mod grouped;
 pub mod heapless_08;
 pub mod laws;
-pub mod pieces;
 pub mod strings;
 mod strip;
 

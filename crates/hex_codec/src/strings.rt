@@ -10,7 +10,7 @@ ghost use Rattle.hex_codec.specs.Append.{AnswersSuffix, AppendsDigits, SucceedsI
 ghost use Rattle.hex_codec.specs.Calls.{EncodesBehind};
 ghost use Rattle.hex_codec.specs.Failure.{AppendFailure, GrowthFailure};
 
-use crate::pieces::{PIECE, PIECE_DIGITS, piece_text};
+use crate::chunks::{CHUNK, CHUNK_DIGITS, chunk_text};
 use hex_core::{Backend, Error};
 use std::alloc::Allocator;
 use std::str;
@@ -233,8 +233,8 @@ fn append_reserved<A: Allocator>(dst: &mut String<A>, src: &[u8], upper: bool)
     ensures len { string_len dst.new ≡ string_len dst.old + 2 * length src.now }
     ensures room { string_capacity dst.old ≤ string_capacity dst.new }
 {
-    let mut buffer = [0; PIECE_DIGITS];
-    'pieces: for piece in src.chunks(PIECE) {
-        dst.push_str(piece_text(&mut buffer, piece, upper)).unwrap();
+    let mut buffer = [0; CHUNK_DIGITS];
+    'chunks: for chunk in src.chunks(CHUNK) {
+        dst.push_str(chunk_text(&mut buffer, chunk, upper)).unwrap();
     }
 }

@@ -9,7 +9,7 @@ ghost use Rattle.hex_format.specs.Sink.{Puts};
 use crate::sink::{Sink, WriteFault, put_all};
 use crate::spread::separated_text;
 use hex_codec::Group;
-use hex_codec::pieces::encoded;
+use hex_codec::chunks::encoded;
 
 /// How many source bytes are encoded at a time.
 pub const CHUNK: usize = 512;

@@ -11,7 +11,7 @@ ghost use Rattle.hex_format.specs.Sink.{Puts};
 use crate::digits::{CHUNK, SHORT, put_digits};
 pub use crate::sink::{Sink, SinkFault, SliceSink, WriteFault, WriterSink, put_all};
 use hex_codec::Group;
-use hex_codec::pieces::encoded;
+use hex_codec::chunks::encoded;
 use std::{fmt, str};
 
 // How many copies of a padding character are put at a time, and how long one is at most.

@@ -1,4 +1,4 @@
-//! The digits of a piece, in a buffer on the stack.
+//! The digits of a chunk, in a buffer on the stack.
 
 ghost use Rattle.std.specs.Prelude.{◌≡◌, ◌*◌, ◌≤◌, length};
 ghost use Rattle.std.specs.Str.{IsAscii};
@@ -7,12 +7,12 @@ ghost use Rattle.hex_core.specs.Text.{text};
 use hex_core::Backend;
 use std::str;
 
-/// A string that is lent hands out no room to write into, so its text grows by pieces of so many
+/// A string that is lent hands out no room to write into, so its text grows by chunks of so many
 /// bytes, encoded into a buffer on the stack and copied once.
-pub const PIECE: usize = 256;
+pub const CHUNK: usize = 256;
 
-/// How many digits a whole piece has.
-pub const PIECE_DIGITS: usize = 512;
+/// How many digits a whole chunk has.
+pub const CHUNK_DIGITS: usize = 512;
 
 /// Returns the text of some bytes, written into the front of the buffer.
 ///
@@ -33,16 +33,16 @@ pub fn encoded<'b>(bytes: &[u8], upper: bool, buffer: &'b mut [u8]) -> &'b [u8]
     text
 }
 
-/// Returns the digits of a piece of at most [`PIECE`] bytes, written into the front of `buffer`.
+/// Returns the digits of a chunk of at most [`CHUNK`] bytes, written into the front of `buffer`.
 ///
 /// ```rust
-/// let mut buffer = [0; PIECE_DIGITS];
-/// assert_eq!(rt; piece_text(&mut buffer, &[0xab, 1], false), "ab01");
+/// let mut buffer = [0; CHUNK_DIGITS];
+/// assert_eq!(rt; chunk_text(&mut buffer, &[0xab, 1], false), "ab01");
 /// ```
-pub fn piece_text<'a>(buffer: &'a mut [u8; PIECE_DIGITS], piece: &[u8], upper: bool) -> &'a str
-    requires { 2 * length piece.now ≤ PIECE_DIGITS }
-    ensures text { result.now ≡ text upper piece.now }
-    ensures len { length result.now ≡ 2 * length piece.now }
+pub fn chunk_text<'a>(buffer: &'a mut [u8; CHUNK_DIGITS], chunk: &[u8], upper: bool) -> &'a str
+    requires { 2 * length chunk.now ≤ CHUNK_DIGITS }
+    ensures text { result.now ≡ text upper chunk.now }
+    ensures len { length result.now ≡ 2 * length chunk.now }
 {
-    unsafe { str::from_utf8_unchecked(encoded(piece, upper, buffer)) }
+    unsafe { str::from_utf8_unchecked(encoded(chunk, upper, buffer)) }
 }
