@@ -1,14 +1,14 @@
 //! Digest lists: a line for each entry, of the digits of its digest, its mark and its name.
 
-ghost use Rattle.std.specs.Prelude.{◌≡◌, ◌==◌, ◌&&◌, ◌||◌, false, None, Some, MatchOption, MatchResult};
+ghost use Rattle.std.specs.Prelude.{◌≡◌, ◌≢◌, ◌≤◌, ◌*◌, ◌==◌, ◌&&◌, ◌||◌, false, None, Some, MatchOption, length, take};
 ghost use Rattle.hex_core.specs.Calls.{Answers};
-ghost use Rattle.hex_lists.specs.Lists.{LineIs, line_fault, mark};
+ghost use Rattle.hex_core.specs.Search.{first_invalid};
+ghost use Rattle.hex_lists.specs.Lists.{LineIs, fault_in, line_fault, mark};
 ghost use Rattle.hex_lists.specs.ListCalls.{ReadsList};
 
 use crate::lines::line_end;
 pub use crate::writing::{ListWriteFault, write_to};
-use hex_codec::hex_decode_into;
-use hex_core::{CheckCase, Error};
+use hex_core::{Backend, CheckCase};
 use std::alloc::{Allocator, Global};
 
 /// One line of a list.
@@ -138,13 +138,8 @@ fn read_line<'a, const N: usize>(line: &'a [u8], case: CheckCase) -> Result<Entr
         return Err(LineFault::ShortLine);
     }
     let mut digest = [0; N];
-    match hex_decode_into(&line[..2 * N], &mut digest, case) {
-        Ok(_) => {}
-        Err(Error::InvalidChar { index, byte }) => {
-            return Err(LineFault::InvalidByte { index, byte });
-        }
-        // The digits are as many as the array takes, so no other error comes.
-        Err(_) => return Err(LineFault::ShortLine),
+    if !Backend::plain().decode(&line[..2 * N], &mut digest, case) {
+        return Err(invalid_digit::<N>(line, case));
     }
     match mark_in(line[2 * N], line[2 * N + 1]) {
         None => Err(LineFault::BadMark),
@@ -153,6 +148,22 @@ fn read_line<'a, const N: usize>(line: &'a [u8], case: CheckCase) -> Result<Entr
             binary,
             name: &line[2 * N + 2..],
         }),
+    }
+}
+
+// The first invalid byte among a line's digits, of which one is invalid.
+#[cold]
+fn invalid_digit<const N: usize>(line: &[u8], case: CheckCase) -> LineFault
+    requires long { 2 * N ≤ length line.now }
+    requires some { first_invalid case (take (2 * N) line.now) ≢ None }
+    ensures { fault_in N line.now (first_invalid case (take (2 * N) line.now)) ≡ Some result }
+{
+    let index = Backend::plain()
+        .first_invalid(&line[..2 * N], case)
+        .unwrap();
+    LineFault::InvalidByte {
+        index,
+        byte: line[index],
     }
 }
 
