@@ -7,7 +7,6 @@ use borrow.Rule.Slice.PartMut.{post_of, put_mid}
 use lib.Seq.{take-add, take-append-add}
 use Rattle.std.proofs.lemmas.Bool.{cases_lt}
 use Rattle.std.proofs.lemmas.Bool.Decides.{nat_tests}
-use Rattle.std.proofs.lemmas.Grind.{common_steps}
 use Rattle.std.proofs.lemmas.List.{get_or_append_left, get_or-append_right, length-take-le, take-append-le}
 use Rattle.std.proofs.lemmas.Slice.{overwrites}
 use Rattle.hex_core.specs.declared.digit.CheckCase.{CheckCase}
@@ -16,14 +15,14 @@ use Rattle.hex_core.specs.declared.error.Error.TheVariants.{InvalidChar}
 use Rattle.hex_core.specs.Digit.{value}
 use Rattle.hex_core.specs.Refusal.{first_bad_char, source_refusal}
 use Rattle.hex_core.specs.Search.{first_invalid}
-use Rattle.hex_core.specs.Text.{Spells, with_front}
+use Rattle.hex_core.specs.Text.{Spells}
 use Rattle.hex_core.proofs.LawProofs.{valid-spelled}
 use Rattle.hex_core.proofs.SearchLemmas.{first_invalid_is, first_is_first, none_valid}
 use Rattle.hex_codec.proofs.WriteLemmas.{spells-joined}
 use Rattle.hex_program.specs.declared.failure.Failure.{Failure}
 use Rattle.hex_program.specs.declared.failure.Failure.TheVariants.{Codec, Usage, ReadFailed, WriteFailed, OutOfMemory, InputTooLong}
 use Rattle.hex_program.specs.Decoding.{DecodingFailure, EndsRefused, Kept}
-use Rattle.hex_program.specs.Input.{ReadsAll}
+use Rattle.hex_program.specs.Input.{ReadsAll, input_limit}
 use Rattle.hex_program.specs.Operations.{without_newline}
 
 -- a byte of the first of two pieces, and one of the second
@@ -78,10 +77,6 @@ bad-behind c a b i byte none is = by_first (first_invalid c b) refl is
         let read : slice_index b f ≡ byte = cc named in
         rw (invalid-behind c a b f none at, behind a b f, read, index) refl
     by_first None at named = absurd (cc named)
-
--- what stands in front of a destination once bytes were written there
-pub front_taken : (old bytes : List ℕ) (n : ℕ) → n ≡ length bytes → take n (with_front old bytes) ≡ bytes
-front_taken old bytes n is = grind (arith, common_steps)
 
 -- valid digits more
 pub kept-decoded : (c : CheckCase) (before digits bytes more : List ℕ) (o : Option Error) (count : ℕ) → is_some o ≡ false → length digits % 2 ≡ 0 → Spells c digits more
@@ -160,7 +155,7 @@ refused-all c left left' input Usage all refused = absurd refused
 refused-all c left left' input WriteFailed all refused = absurd refused
 
 -- an input that begins with more bytes than the limit is longer
-pub longer : (left left' : Option (List ℕ)) (read : List ℕ) → Consumes left left' read → 16777216 < length read → IfSome left (λ bytes. 16777216 < length bytes)
+pub longer : (left left' : Option (List ℕ)) (read : List ℕ) → Consumes left left' read → input_limit < length read → IfSome left (λ bytes. input_limit < length bytes)
 longer None left' read consumed long = tt
 longer (Some xs) None read consumed long = absurd consumed
 longer (Some xs) (Some ys) read consumed long = omega (arith, long, ap length consumed, length-append read ys)

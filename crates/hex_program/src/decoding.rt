@@ -9,8 +9,7 @@ ghost use Rattle.hex_program.specs.Operations.{without_newline};
 use crate::failure::Failure;
 use crate::input::{CHUNK, INPUT_LIMIT};
 use crate::operation::digits_in;
-use hex_codec::hex_decode_into;
-use hex_core::{CheckCase, Error};
+use hex_core::{Backend, CheckCase, Error};
 use std::alloc::Allocator;
 use std::io::Read;
 
@@ -41,17 +40,15 @@ impl<A: Allocator + Drop> Decoding<A> {
         ensures err { IfErr result (λ f. f ≡ Failure.OutOfMemory) }
     {
         if self.refusal.is_none() {
-            match hex_decode_into(digits, room, case) {
-                Ok(n) => {
-                    if self.bytes.extend_from_slice(&room[..n]).is_err() {
-                        return Err(Failure::OutOfMemory);
-                    }
-                }
-                Err(Error::InvalidChar { index, byte }) => {
-                    let index = self.count + index;
-                    self.refusal = Some(Error::InvalidChar { index, byte });
-                }
-                Err(_) => unreachable!(),
+            let bytes = &mut room[..digits.len() / 2];
+            if !Backend::plain().decode(digits, bytes, case) {
+                let at = Backend::plain().first_invalid(digits, case).unwrap();
+                self.refusal = Some(Error::InvalidChar {
+                    index: self.count + at,
+                    byte: digits[at],
+                });
+            } else if self.bytes.extend_from_slice(bytes).is_err() {
+                return Err(Failure::OutOfMemory);
             }
         }
         self.count += digits.len();

@@ -1,17 +1,22 @@
-use Rattle.std.proofs.Common.{rules, arith, ◌≡◌, ◌++◌, length, take}
-use Rattle.hex_core.proofs.RefusalLemmas.{decode_bad_char}
-use Rattle.hex_program.proofs.DecodingLemmas.{front_taken, kept-counted, kept-decoded, kept-refused}
+-- Digits more are decoded, the first invalid one is kept, or they are counted.
+use Rattle.std.proofs.Common.{rules, ◌≡◌, ◌++◌, refl, sym}
+use Rattle.hex_core.specs.Text.{Spells}
+use Rattle.hex_program.proofs.DecodingLemmas.{kept-counted, kept-decoded, kept-refused}
 use Rattle.hex_program.proofs.decoding.Decoding.take.Goals as goal
-use Rattle.hex_program.proofs.decoding.Decoding.take.Goals.{then-is_none+in-Ok+else-is_err, then-is_none+in-Err-InvalidChar, else-is_none}
+use Rattle.hex_program.proofs.decoding.Decoding.take.Goals.{then-is_none+then-not-decode, then-is_none+else-not-decode+else-is_err, else-is_none}
 
 pub returns-clause-ok : goal.returns-clause-ok
-returns-clause-ok g c = λ before kept. elim c.if-is_none.branch [
-  | then-is_none+in-Ok+else-is_err w ↦
-      let answer = w.in-Ok.ensures in
-      let more = answer.2.0 in
-      let items : w.extend_from_slice.new.self.items ≡ c.args.self.now.bytes.items ++ take w.in-Ok.n w.hex_decode_into.new.dst = search rules in
-      let same : take w.in-Ok.n w.hex_decode_into.new.dst ≡ more = rw (answer.2.2) (front_taken c.args.room.now more w.in-Ok.n (omega (arith, answer.1, answer.2.1.twice))) in
-      rw (w.self-is, items, same) (kept-decoded c.args.case before c.args.digits.now c.args.self.now.bytes.items more c.args.self.now.refusal c.args.self.now.count w.if-is_none.ensures c.requires.even answer.2.1 kept)
-  | then-is_none+in-Err-InvalidChar w ↦ rw w.self-is (kept-refused c.args.case before c.args.digits.now c.args.self.now.bytes.items c.args.self.now.refusal c.args.self.now.count w.in-Err-InvalidChar.index w.in-Err-InvalidChar.byte w.if-is_none.ensures c.requires.even (decode_bad_char c.args.case c.args.digits.now (length c.args.room.now) w.in-Err-InvalidChar.index w.in-Err-InvalidChar.byte (rw w.in-Err-InvalidChar.field-0-is at w.in-Err-InvalidChar.ensures.0)) kept)
-  | else-is_none w ↦ rw w.self-is (kept-counted c.args.case before c.args.digits.now c.args.self.now.bytes.items c.args.self.now.refusal c.args.self.now.count w.if-is_none.ensures c.requires.even kept)
-]
+returns-clause-ok g c = λ before kept.
+    let case = c.args.case in
+    let digits = c.args.digits.now in
+    let old = c.args.self.now in
+    elim c.if-is_none.branch [
+      | then-is_none+then-not-decode w ↦
+          rw w.self-is (kept-refused case before digits old.bytes.items old.refusal old.count _ _ w.if-is_none.ensures c.requires.even (rw (sym w.first_invalid.ensures, w.unwrap-at.ensures) refl) kept)
+      | then-is_none+else-not-decode+else-is_err w ↦
+          let items : w.extend_from_slice.new.self.items ≡ old.bytes.items ++ w.decode.new.dst = search rules in
+          let spelled : Spells case digits w.decode.new.dst = search rules in
+          rw (w.self-is, items) (kept-decoded case before digits old.bytes.items w.decode.new.dst old.refusal old.count w.if-is_none.ensures c.requires.even spelled kept)
+      | else-is_none w ↦
+          rw w.self-is (kept-counted case before digits old.bytes.items old.refusal old.count w.if-is_none.ensures c.requires.even kept)
+    ]
