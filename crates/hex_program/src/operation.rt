@@ -3,6 +3,7 @@
 ghost use Rattle.std.specs.Prelude.{◌≡◌, ◌++◌, ◌∷◌, [], ◌<◌, ◌-◌, ◌^◌, map};
 ghost use Rattle.hex_core.specs.Text.{Spells, text};
 ghost use Rattle.hex_core.specs.Refusal.{source_refusal};
+ghost use Rattle.hex_format.specs.Sink.{Puts};
 ghost use Rattle.hex_program.specs.Operations.{NeedsMemory, Runs, RunsBy, op_of_word, op_of_words, without_newline};
 
 use hex_codec::hex_decode_vec_with_case;
@@ -82,23 +83,26 @@ pub(crate) fn digits_in(input: &[u8]) -> &[u8]
     }
 }
 
-// Puts the text of the input, and a newline. No memory is taken.
-fn encode<S: Sink>(input: &[u8], upper: bool, sink: &mut S) -> Result<(), RunFault>
+// Puts the text of some bytes, and a newline.
+fn put_text<S: Sink>(bytes: &[u8], upper: bool, sink: &mut S) -> Result<(), WriteFault>
     requires { (S.state sink.old).failures < 2 ^ 64 - 1 }
-    ensures { RunsBy (λ output. output ≡ text upper input.now ++ 10 ∷ []) None ⊥
-        (S.state sink.old) (S.state sink.new) result }
+    ensures { Puts (S.state sink.old) (S.state sink.new) result (text upper bytes.now ++ 10 ∷ []) }
 {
     let flags = HexFlags {
         upper,
         ..HexFlags::default()
     };
-    if let Err(why) = Hex::new(input).write_to(sink, &flags) {
-        return Err(RunFault::Write(why));
-    }
-    match put_all(sink, b"\n") {
-        Ok(()) => Ok(()),
-        Err(why) => Err(RunFault::Write(why)),
-    }
+    Hex::new(bytes).write_to(sink, &flags)?;
+    put_all(sink, b"\n")
+}
+
+// Encodes the input. No memory is taken.
+fn encode<S: Sink>(input: &[u8], upper: bool, sink: &mut S) -> Result<(), RunFault>
+    requires { (S.state sink.old).failures < 2 ^ 64 - 1 }
+    ensures { RunsBy (λ output. output ≡ text upper input.now ++ 10 ∷ []) None ⊥
+        (S.state sink.old) (S.state sink.new) result }
+{
+    put_text(input, upper, sink).map_err(RunFault::Write)
 }
 
 // Puts the bytes that the input spells, or refuses it. All are collected before the first put.
@@ -114,10 +118,7 @@ fn decode<A: Allocator + Drop, S: Sink>(
         (S.state sink.old) (S.state sink.new) result }
 {
     match hex_decode_vec_with_case(alloc, digits_in(input), case) {
-        Ok(bytes) => match put_all(sink, bytes.as_slice()) {
-            Ok(()) => Ok(()),
-            Err(why) => Err(RunFault::Write(why)),
-        },
+        Ok(bytes) => put_all(sink, bytes.as_slice()).map_err(RunFault::Write),
         Err(Error::OutOfMemory) => Err(RunFault::OutOfMemory),
         Err(e) => Err(RunFault::Codec(e)),
     }

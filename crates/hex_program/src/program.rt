@@ -27,13 +27,8 @@ fn finish<W: Write>(out: &mut W, ran: Result<(), RunFault>) -> Result<(), Failur
     ensures ended { EndsRun ran result }
     ensures kept { Keeps (W.contents out.old) (W.contents out.new) }
 {
-    if let Err(fault) = ran {
-        return Err(Failure::of_run(fault));
-    }
-    match out.flush() {
-        Ok(()) => Ok(()),
-        Err(_) => Err(Failure::WriteFailed),
-    }
+    ran.map_err(Failure::of_run)?;
+    out.flush().map_err(|_| Failure::WriteFailed)
 }
 
 /// Writes the line of a failure to `err` and returns the failure's status. A fault of `err` does

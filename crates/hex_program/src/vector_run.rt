@@ -309,14 +309,9 @@ pub fn run_vectors<A: Allocator, S: Sink>(
     ensures counted { OnOk result ((S.state sink.new).failures ≡ (S.state sink.old).failures) }
 {
     let plans = backends();
-    let of_plans = match run_codecs(&plans, table, sink) {
-        Ok(failed) => failed,
-        Err(fault) => return Err(VectorFault::Write(fault)),
-    };
+    let of_plans = run_codecs(&plans, table, sink).map_err(VectorFault::Write)?;
     let failed = of_plans + run_plain(alloc, plain, sink)?;
     let total = plans.len() * table.len() + plain.len();
-    match put_totals(sink, total, total - failed, failed) {
-        Ok(()) => Ok(failed),
-        Err(fault) => Err(VectorFault::Write(fault)),
-    }
+    put_totals(sink, total, total - failed, failed).map_err(VectorFault::Write)?;
+    Ok(failed)
 }
