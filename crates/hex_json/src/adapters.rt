@@ -300,6 +300,7 @@ pub fn read_option_array<const N: usize>(
 /// let text = text_of(rt.alloc(), WireFormat::WITHPFX_UPPERCASE, &[0xab, 1])?;
 /// assert_eq!(rt; text.as_str(), "0xAB01");
 /// ```
+#[tactic(auto, using(crate::proofs::AdapterLemmas::wire_length))]
 pub fn text_of<A: Allocator + Drop>(
     alloc: A,
     format: WireFormat,
@@ -310,10 +311,7 @@ pub fn text_of<A: Allocator + Drop>(
         × (string_bytes string ≡ wire_text format src.now))
         (λ e. WriteFailure format src.now e) }
 {
-    match prefixed_string(alloc, format.prefix(), src, format.upper) {
-        Ok(string) => Ok(string),
-        Err(e) => Err(AdapterError::Codec(e)),
-    }
+    prefixed_string(alloc, format.prefix(), src, format.upper).map_err(AdapterError::Codec)
 }
 
 /// Returns bytes as the JSON text that a format writes.
