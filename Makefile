@@ -1,25 +1,32 @@
 # `make` builds fhex, `make lib` libfaster_hex.a, each for the processors that CPU names, as in
-# `make CPU=x86-64-v3`. `make test` runs the examples and the gate, `make deep` what a release takes
-# beside it. `make install PREFIX=DIR` puts fhex into PREFIX/bin and its manual page into
-# PREFIX/share/man/man1. `make -s` prints nothing where all goes well.
+# `make CPU=x86-64-v3`, which stand in a folder of their own. `make test` runs the examples and the
+# gate, `make deep` what a release takes beside it.
+# `make install PREFIX=DIR` puts into DIR the program with its page, and the library with its header,
+# its file for pkg-config and the crate for Rust; with DESTDIR below that folder, as a package wants
+# it. `make uninstall` takes the same files away. `make -s` prints nothing where all goes well.
+VERSION = 1.0.0
 PREFIX ?= /usr/local
-PROGRAM = crates/fhex/out/fhex
-PAGE = docs/fhex.1
 CPU = x86-64-v2
-LIBRARY = crates/faster_hex_c/out
+OUT = out$(patsubst %,/%,$(filter-out x86-64-v2,$(CPU)))
+PROGRAM = crates/fhex/$(OUT)/fhex
+PAGE = docs/fhex.1
+LIBRARY = crates/faster_hex_c/$(OUT)/libfaster_hex.a
+HEADER = crates/faster_hex_c/faster_hex.h
+BINDINGS = bindings/rust
+TO = $(DESTDIR)$(PREFIX)
 # How many tasks of the gate run at a time. Each has one job, since a second one reads all libraries
 # once more: a crate over serde_json took 118 seconds of processor by four jobs, and 81 by one.
 JOBS := $(shell n=$$(nproc); echo $$((n < 4 ? n : 4)))
 
-.PHONY: build lib test deep install clean
+.PHONY: build lib test deep install uninstall clean
 
 build:
 	scripts/build.sh fhex $(CPU)
 
-# The header stands beside its folder: crates/faster_hex_c/faster_hex.h.
+# The header stands in crates/faster_hex_c.
 lib:
 	scripts/build.sh faster_hex_c $(CPU)
-	cp $(LIBRARY)/libfaster_hex_c.a $(LIBRARY)/libfaster_hex.a
+	cp $(dir $(LIBRARY))libfaster_hex_c.a $(LIBRARY)
 
 test:
 	scripts/header.sh
@@ -27,7 +34,7 @@ test:
 	RT_JOBS=$(JOBS) rt ci
 
 # Before a release. It stops at the first that fails.
-deep: build
+deep: build lib
 	scripts/wrong-bodies
 	scripts/test-wrong-bodies
 	scripts/test-rows
@@ -38,10 +45,24 @@ deep: build
 	scripts/link.sh
 	scripts/random-rows
 
-install: build
-	install -d $(DESTDIR)$(PREFIX)/bin $(DESTDIR)$(PREFIX)/share/man/man1
-	install -m 755 $(PROGRAM) $(DESTDIR)$(PREFIX)/bin/fhex
-	install -m 644 $(PAGE) $(DESTDIR)$(PREFIX)/share/man/man1/fhex.1
+install: build lib
+	install -d $(TO)/bin $(TO)/include $(TO)/lib/pkgconfig $(TO)/share/man/man1 \
+		$(TO)/share/faster_hex/rust/src
+	install -m 755 $(PROGRAM) $(TO)/bin/fhex
+	install -m 644 $(PAGE) $(TO)/share/man/man1/fhex.1
+	install -m 644 $(LIBRARY) $(TO)/lib/libfaster_hex.a
+	install -m 644 $(HEADER) $(TO)/include/faster_hex.h
+	sed 's|@PREFIX@|$(abspath $(PREFIX))|; s|@VERSION@|$(VERSION)|' bindings/faster_hex.pc.in \
+		>$(TO)/lib/pkgconfig/faster_hex.pc
+	chmod 644 $(TO)/lib/pkgconfig/faster_hex.pc
+	install -m 644 $(BINDINGS)/Cargo.toml $(BINDINGS)/build.rs $(BINDINGS)/README.md \
+		$(TO)/share/faster_hex/rust
+	install -m 644 $(BINDINGS)/src/*.rs $(TO)/share/faster_hex/rust/src
+
+uninstall:
+	rm -f $(TO)/bin/fhex $(TO)/share/man/man1/fhex.1 $(TO)/lib/libfaster_hex.a \
+		$(TO)/include/faster_hex.h $(TO)/lib/pkgconfig/faster_hex.pc
+	rm -rf $(TO)/share/faster_hex
 
 clean:
 	rm -rf crates/*/out

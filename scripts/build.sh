@@ -1,7 +1,8 @@
 #!/bin/sh
 # Proves a program or a static library and the libraries below it from nothing, compiles it, and puts
-# it into crates/NAME/out. What the last run proved is not proved again where its files, and those of
-# the crates below, are the same. What is said of each crate goes to crates/NAME/out/build.log, of
+# it into crates/NAME/out, or for another processor than the default one into a folder there, named as
+# the processor is. What the last run proved is not proved again where its files, and those of the
+# crates below, are the same. What is said of each crate goes to build.log beside what is made, of
 # which the end is printed where something fails.
 # Usage: scripts/build.sh NAME CPU, where CPU is x86-64-v2, the default processor, or another one.
 #
@@ -21,6 +22,8 @@ cd "$(dirname "$0")/.."
 top=$PWD
 kit=$(dirname "$(rt doc)")
 processors=$(nproc)
+into=out
+[ "$cpu" = x86-64-v2 ] || into=out/$cpu
 
 # uses NAME: what crates.txt says that a crate uses.
 uses() {
@@ -80,36 +83,37 @@ build() {
     if [ "$1" != "$target" ]; then
         prove "$1" src/lib.rt --statements -o "out/rlib/$1.rlib"
     elif [ -f "crates/$1/src/main.rt" ]; then
-        prove "$1" src/main.rt --toolchain "$kit/toolchain" --cpu "$cpu" -o "out/$1.o" &&
+        prove "$1" src/main.rt --toolchain "$kit/toolchain" --cpu "$cpu" -o "$into/$1.o" &&
             "$kit/bin/rattle-link" --target x86_64-unknown-linux-gnu --toolchain "$kit/toolchain" \
-                -o "crates/$1/out/$1" "crates/$1/out/$1.o" "$kit/c/libos_c.a" "$kit/c/liblibc_c.a"
+                -o "crates/$1/$into/$1" "crates/$1/$into/$1.o" "$kit/c/libos_c.a" "$kit/c/liblibc_c.a"
     else
         prove "$1" src/lib.rt --crate-type staticlib --toolchain "$kit/toolchain" --cpu "$cpu" \
-            -o "out/lib$1.a"
+            -o "$into/lib$1.a"
     fi
 }
 
 anew=
 for crate in $(below "$target" | awk '!seen[$0]++'); do
-    out=crates/$crate/out
     word=statements
-    made=$out/rlib/$crate.rlib/format
+    out=crates/$crate/out/rlib
+    made=$out/$crate.rlib/format
     if [ "$crate" = "$target" ]; then
         word=$cpu
+        out=crates/$crate/$into
         made=$out/$crate
         [ -f "crates/$crate/src/main.rt" ] || made=$out/lib$crate.a
     fi
     now=$(made_of "$crate" "$word")
-    if [ -z "$anew" ] && [ -f "$made" ] && [ "$now" = "$(cat "$out/rlib/made-of" 2>/dev/null)" ]; then
+    if [ -z "$anew" ] && [ -f "$made" ] && [ "$now" = "$(cat "$out/made-of" 2>/dev/null)" ]; then
         continue
     fi
     # Statements fit only those that they were built over.
     anew=1
-    rm -rf "$out/rlib"
-    mkdir -p "$out/rlib"
+    rm -rf "crates/$crate/out/rlib" "$made"
+    mkdir -p "$out"
     if ! build "$crate" >"$out/build.log" 2>&1; then
         tail -n 40 "$out/build.log" >&2
         exit 1
     fi
-    echo "$now" >"$out/rlib/made-of"
+    echo "$now" >"$out/made-of"
 done

@@ -1,7 +1,8 @@
 #!/bin/sh
 # Compares faster_hex.h with the exported functions: the fields of the answer, of the same types in the
-# same order, which no proof sees, and of each function its name, its result and its parameters. A
-# slice is a pointer and a length. Prints what differs; its status is then 1.
+# same order, which no proof sees; of each function its name, its result and its parameters, where a
+# slice is a pointer and a length; and the numbers of the statuses. Then its version, and that of the
+# crate for Rust, with VERSION of the Makefile. Prints what differs; its status is then 1.
 set -eu
 
 cd "$(dirname "$0")/../crates/faster_hex_c"
@@ -9,9 +10,9 @@ made=$(mktemp -d)
 trap 'rm -rf "$made"' EXIT
 
 # The header without its comments, a declaration a line, and its types by their names in Rust.
-tr '\n' ' ' <faster_hex.h | sed 's|/\*[^*]*\*\([^*/][^*]*\*\)*/||g' | tr ';{' '\n\n' | sed '
-    s/const uint8_t \*[a-z]*, size_t [a-z]*/\&[u8]/g
-    s/uint8_t \*[a-z]*, size_t [a-z]*/\&mut [u8]/g
+sed '/^#/d; s/.*\\$//' faster_hex.h | tr '\n' ' ' | sed 's|/\*[^*]*\*\([^*/][^*]*\*\)*/||g' | tr ';{' '\n\n' | sed '
+    s/const void \*[a-z]*, size_t [a-z]*/\&[u8]/g
+    s/void \*[a-z]*, size_t [a-z]*/\&mut [u8]/g
     s/struct faster_hex_answer \(faster\)/Answer \1/
     s/size_t/usize/g
     s/uint8_t/u8/g
@@ -20,7 +21,8 @@ tr '\n' ' ' <faster_hex.h | sed 's|/\*[^*]*\*\([^*/][^*]*\*\)*/||g' | tr ';{' '\
 {
     sed -n 's/^\(usize\|u8\) \([a-z_]*\)$/\2: \1/p' "$made/header"
     sed -n 's/^\(bool\|Answer\) \(faster_hex_[a-z_]*\)(\(.*\))$/\2(\3) -> \1/p' "$made/header" |
-        sed 's/\(u8\|bool\) [a-z]*\([,)]\)/\1\2/g'
+        sed 's/\(u8\|usize\|bool\) [a-z]*\([,)]\)/\1\2/g'
+    sed -n 's/^ *FASTER_HEX_\([A-Z_]*\) = \([0-9]*\).*/\1 \2/p' faster_hex.h | sed '/CASE /d'
 } >"$made/declared"
 
 {
@@ -28,7 +30,24 @@ tr '\n' ' ' <faster_hex.h | sed 's|/\*[^*]*\*\([^*/][^*]*\*\)*/||g' | tr ';{' '\
     { tr '\n' ' ' <src/lib.rt; echo; } | sed 's/pub extern "C" fn /\n/g' |
         sed -n 's/^\(faster_hex_[a-z_]*\)( *\([^)]*[^ ,]\),\{0,1\} *) -> \([A-Za-z]*\) .*/\1(\2) -> \3/p' |
         sed 's/[a-z]*: //g; s/, */, /g; s/  */ /g'
+    sed -n 's/^const \([A-Z_]*\): u8 = \([0-9]*\);$/\1 \2/p' src/lib.rt
 } >"$made/exported"
 
+# versions: each place that names the version, by its name.
+versions() {
+    sed -n 's/^#define FASTER_HEX_VERSION "\(.*\)"$/faster_hex.h \1/p' faster_hex.h
+    echo "its-numbers $(sed -n 's/^#define FASTER_HEX_VERSION_[A-Z]* \([0-9]*\)$/\1/p' faster_hex.h |
+        tr '\n' . | sed 's/\.$//')"
+    sed -n 's/^version = "\(.*\)"$/bindings \1/p' ../../bindings/rust/Cargo.toml
+}
+
+status=0
 [ -s "$made/declared" ] || echo 'nothing is declared'
-diff "$made/declared" "$made/exported"
+diff "$made/declared" "$made/exported" || status=1
+wanted=$(sed -n 's/^VERSION = //p' ../../Makefile)
+versions | while read -r place version; do
+    [ "$version" = "$wanted" ] || echo "$place: version $version, and not $wanted as in the Makefile"
+done >"$made/versions"
+cat "$made/versions"
+[ ! -s "$made/versions" ] || status=1
+exit "$status"

@@ -1,16 +1,18 @@
 #!/bin/sh
-# Builds libfaster_hex.a, and the examples in C and Rust that link it, and compares what they print.
-# On a processor with AVX2 once more in the build for x86-64-v3. Prints a line for each thing that
-# differs, and `N passed, M failed` at the end; its status is then 1 where one failed.
-# Usage: scripts/link.sh. It wants `rt`, a C compiler and `cargo`; CC and CARGO name others.
-# LINK_BUILD names another folder than the user's cache to build in.
+# Builds libfaster_hex.a, and the examples in C, C++ and Rust that link it, and compares what they
+# print, and the archive's symbols with those of the header. On a processor with AVX2 once more in the
+# build for x86-64-v3. Prints a line for each thing that differs, and `N passed, M failed` at the end;
+# its status is then 1 where one failed.
+# Usage: scripts/link.sh. It wants `rt`, compilers for C and C++ and `cargo`; CC, CXX and CARGO name
+# others. LINK_BUILD names another folder than the user's cache to build in.
 set -eu
 
 top=$(cd "$(dirname "$0")/.." && pwd)
 build=${LINK_BUILD:-${XDG_CACHE_HOME:-$HOME/.cache}}/hex_link
 cc=${CC:-cc}
+cxx=${CXX:-c++}
 cargo=${CARGO:-cargo}
-crate=$top/crates/faster_hex_c
+header=$top/crates/faster_hex_c
 mkdir -p "$build"
 passed=0
 failed=0
@@ -31,27 +33,59 @@ prints() {
     "$2" >"$build/printed" || status=$?
     count "$1 ends with status 0" "$status"
     status=0
-    printf '%s\n' 68656c6c6f hello 'invalid hex byte 0x46 at index 2' \
-        | cmp -s - "$build/printed" || status=$?
+    printf '%s\n' 68656c6c6f hello 'invalid hex byte 0x46 at index 2' 'digits up to index 4' \
+        00:1B:21:AB '4 bytes, the last 0xab' | cmp -s - "$build/printed" || status=$?
     count "what $1 prints" "$status"
 }
 
-# links CPU: builds the library for it, and the examples over it.
+# exports ARCHIVE: whether it has the header's calls and no other name, and asks for none but three of
+# the C library's memory functions, which compilers ask for too.
+exports() {
+    sed -n 's/^[^*].* \(faster_hex_[a-z_]*\)(.*/\1/p' "$header/faster_hex.h" | sort >"$build/declared"
+    nm -g "$1" 2>/dev/null | sed -n 's/^[0-9a-f]* T //p' | sort >"$build/exported"
+    status=0
+    diff "$build/declared" "$build/exported" || status=$?
+    count "the symbols of $1" "$status"
+    status=0
+    nm -u "$1" | sed -n 's/^ *U //p' | grep -vx 'memcpy\|memmove\|memset' && status=1
+    count "what $1 asks for" "$status"
+}
+
+# links CPU FOLDER: builds the library for it, and the examples over it.
 links() {
     make -s -C "$top" lib CPU="$1"
-    "$cc" -std=c99 -Wall -Wextra -Werror -O2 -I"$crate" -o "$build/digits_c" \
-        "$top/examples/c/digits.c" "$crate/out/libfaster_hex.a"
+    exports "$2/libfaster_hex.a"
+    "$cc" -std=c99 -Wall -Wextra -Wconversion -Werror -O2 -I"$header" -o "$build/digits_c" \
+        "$top/examples/c/digits.c" "$2/libfaster_hex.a"
     prints "the example in C, $1" "$build/digits_c"
-    # The library's change is no change that cargo sees.
-    rm -rf "$build/cargo"
-    FASTER_HEX_LIB=$crate/out "$cargo" build -q --release --offline \
+    "$cxx" -std=c++11 -Wall -Wextra -Wconversion -Werror -O2 -I"$header" -o "$build/digits_cpp" \
+        "$top/examples/cpp/digits.cpp" "$2/libfaster_hex.a"
+    prints "the example in C++, $1" "$build/digits_cpp"
+    FASTER_HEX_LIB=$2 "$cargo" build -q --release --offline \
         --manifest-path "$top/examples/rust/Cargo.toml" --target-dir "$build/cargo"
     prints "the example in Rust, $1" "$build/cargo/release/digits"
 }
 
-links x86-64-v2
+# What each standard from C90 and C++98 on says of the header, as a program that uses its macros.
+standards() {
+    for standard in c90 c99 c11 c17; do
+        status=0
+        "$cc" -std="$standard" -Wall -Wextra -Wpedantic -Werror -fsyntax-only -I"$header" \
+            "$top/examples/c/digits.c" || status=$?
+        count "the header under $standard" "$status"
+    done
+    for standard in c++98 c++11 c++17; do
+        status=0
+        "$cxx" -std="$standard" -x c++ -Wall -Wextra -Wpedantic -Werror -fsyntax-only -I"$header" \
+            "$top/examples/c/digits.c" || status=$?
+        count "the header under $standard" "$status"
+    done
+}
+
+standards
+links x86-64-v2 "$header/out"
 if grep -q avx2 /proc/cpuinfo; then
-    links x86-64-v3
+    links x86-64-v3 "$header/out/x86-64-v3"
 fi
 
 echo "$passed passed, $failed failed"

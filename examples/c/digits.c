@@ -1,32 +1,53 @@
-/* Writes its argument's digits, and reads them back; then reads digits with a bad byte.
+/* Writes its argument's digits, and reads them back; then tests digits, and writes and reads groups.
  * scripts/link.sh builds and runs it. */
+#include <stddef.h>
 #include <stdio.h>
 #include <string.h>
 
 #include "faster_hex.h"
 
+/* The answer is what the library was compiled for: two words, as two registers hold them. */
+#define ASSERT(name, holds) typedef char name[(holds) ? 1 : -1]
+ASSERT(number_is_first, offsetof(struct faster_hex_answer, number) == 0);
+ASSERT(status_is_behind, offsetof(struct faster_hex_answer, status) == sizeof(size_t));
+ASSERT(byte_is_behind, offsetof(struct faster_hex_answer, byte) == sizeof(size_t) + 1);
+ASSERT(answer_is_two_words, sizeof(struct faster_hex_answer) == 2 * sizeof(size_t));
+
+enum { LONGEST = 64 };
+
+static void show(const char *text, size_t len) {
+    printf("%.*s\n", (int)len, text);
+}
+
 int main(int count, char **words) {
     const char *word = count > 1 ? words[1] : "hello";
-    uint8_t digits[256], bytes[128];
+    char digits[FASTER_HEX_ENCODED_LEN(LONGEST)], bytes[LONGEST];
+    char groups[FASTER_HEX_GROUPED_LEN(LONGEST, 1)];
+    struct faster_hex_answer told;
 
-    struct faster_hex_answer written =
-        faster_hex_encode((const uint8_t *)word, strlen(word), digits, sizeof digits, false);
-    if (written.status != FASTER_HEX_DONE) {
-        fprintf(stderr, "that takes %zu bytes of room\n", written.number);
+    told = faster_hex_encode(word, strlen(word), digits, sizeof digits, false);
+    if (told.status == FASTER_HEX_OUTPUT_TOO_SMALL) {
+        fprintf(stderr, "that takes %lu bytes of room\n", (unsigned long)told.number);
         return 1;
     }
-    printf("%.*s\n", (int)written.number, (const char *)digits);
+    show(digits, told.number);
+    told = faster_hex_decode(digits, told.number, bytes, sizeof bytes);
+    show(bytes, told.number);
 
-    struct faster_hex_answer read =
-        faster_hex_decode(digits, written.number, bytes, sizeof bytes);
-    printf("%.*s\n", (int)read.number, (const char *)bytes);
-
-    struct faster_hex_answer refused =
-        faster_hex_decode_with_case((const uint8_t *)"00Ff", 4, bytes, sizeof bytes,
-                                    FASTER_HEX_LOWERCASE);
-    if (refused.status == FASTER_HEX_INVALID_CHAR) {
-        printf("invalid hex byte 0x%02x at index %zu\n", refused.byte, refused.number);
+    told = faster_hex_decode_with_case("00Ff", 4, bytes, sizeof bytes, FASTER_HEX_LOWERCASE);
+    if (told.status == FASTER_HEX_INVALID_CHAR) {
+        printf("invalid hex byte 0x%02x at index %lu\n", told.byte, (unsigned long)told.number);
     }
+    told = faster_hex_first_invalid("00Ffg", 5, FASTER_HEX_EITHER_CASE);
+    printf("%s up to index %lu\n", faster_hex_check("00Ff", 4) ? "digits" : "no digits",
+           (unsigned long)told.number);
+
+    told = faster_hex_encode_grouped("\0\x1b\x21\xab", 4, groups, sizeof groups, true, 1, ':');
+    show(groups, told.number);
+    told = faster_hex_decode_grouped(groups, told.number, bytes, sizeof bytes,
+                                     FASTER_HEX_UPPERCASE, 1, ':');
+    printf("%lu bytes, the last 0x%02x\n", (unsigned long)told.number,
+           (unsigned char)bytes[told.number - 1]);
 
     /* Nothing is read or written where a length is 0. */
     return faster_hex_decode(NULL, 0, NULL, 0).status;

@@ -1,11 +1,19 @@
 -- What the exported calls answer.
-use Rattle.std.specs.Prelude.{◌≡◌, ℕ, ◌==◌, if◌then◌else◌, Bool, List, slice_index, Option, Some, None, MatchOption, Result, Ok, Err}
+use Rattle.std.specs.Prelude.{◌≡◌, ℕ, ◌^◌, ◌==◌, nat_le, nat_lt, if◌then◌else◌, Bool, List, length, slice_index, Option, Some, None, MatchOption, Result, Ok, Err, MatchResult}
 use Rattle.hex_core.specs.declared.digit.CheckCase.{CheckCase}
 use Rattle.hex_core.specs.declared.digit.CheckCase.TheVariants as policy
 use Rattle.hex_core.specs.declared.error.Error.{Error}
-use Rattle.hex_core.specs.declared.error.Error.TheVariants.{InvalidChar, OutputTooSmall, OddLength}
+use Rattle.hex_core.specs.declared.error.Error.TheVariants.{InvalidChar, OutputTooSmall, OddLength, Overflow}
 use Rattle.hex_core.specs.Calls.{Decodes, Encodes}
 use Rattle.hex_core.specs.Search.{first_invalid}
+use Rattle.hex_core.specs.Text.{with_front}
+use Rattle.hex_codec.specs.declared.group.Group.{Group}
+use Rattle.hex_codec.specs.declared.grouped.GroupFault.{GroupFault}
+use Rattle.hex_codec.specs.declared.grouped.GroupFault.TheVariants as fault
+use Rattle.hex_codec.specs.GroupCalls.{Reads}
+use Rattle.hex_codec.specs.Grouped.{grouped, piece_len, separator}
+use Rattle.hex_codec.specs.GroupedText.{grouped_len}
+use Rattle.hex_codec.specs.Groups.{IsGroup}
 use Rattle.faster_hex_c.specs.declared.Answer.{Answer}
 
 -- the policy that a number names
@@ -48,3 +56,48 @@ DecodesBy n s old new answer = MatchOption (policy_of n) ((answer ≡ no_policy)
 -- the first invalid byte by the policy that a number names
 abbrev pub FindsInvalid : ℕ → List ℕ → Answer → Type 0
 FindsInvalid n s answer = MatchOption (policy_of n) (answer ≡ no_policy) (λ c. answer ≡ answer_for s (first_invalid c s))
+
+-- the group that two numbers make, where they make one
+abbrev pub MadeOf : ℕ → ℕ → Option Group → Type 0
+MadeOf every sep made = MatchOption made (IsGroup every sep → ⊥) (λ group. IsGroup every sep × (piece_len group ≡ every) × (separator group ≡ sep))
+
+-- the answer for numbers that make none
+abbrev pub no_group : Answer
+no_group = record { number = 0; status = 6; byte = 0 }
+
+-- the answer that tells how a grouped text was read
+abbrev pub group_answer_of : Result ℕ GroupFault → Answer
+group_answer_of (Ok written) = record { number = written; status = 0; byte = 0 }
+group_answer_of (Err (fault.OutputTooSmall required)) = record { number = required; status = 2; byte = 0 }
+group_answer_of (Err (fault.InvalidByte index byte)) = record { number = index; status = 3; byte = byte }
+group_answer_of (Err fault.BadLength) = record { number = 0; status = 7; byte = 0 }
+
+-- what writing so many bytes into this room refuses: a length that is no `usize`, then too little room
+abbrev pub room_refusal : ℕ → ℕ → Option Error
+room_refusal len room =
+    if nat_le (2 ^ 64) len then Some Overflow
+    else if nat_lt room len then Some (OutputTooSmall len)
+    else None
+
+-- grouped writing into the front of a destination: the length of the text, which stands over the old
+-- bytes; or the refusal, and the destination as it was
+abbrev pub WritesGrouped : Group → Bool → List ℕ → List ℕ → List ℕ → Result ℕ Error → Type 0
+WritesGrouped group upper bytes old new result = MatchResult result
+    (λ n. (room_refusal (grouped_len (piece_len group) (length bytes)) (length old) ≡ None)
+    × (n ≡ grouped_len (piece_len group) (length bytes)) × (new ≡ with_front old (grouped group upper bytes)))
+    (λ e. (room_refusal (grouped_len (piece_len group) (length bytes)) (length old) ≡ Some e) × (new ≡ old))
+
+-- by the group that two numbers make; where they make none the destination is as it was
+abbrev pub ByGroup : ℕ → ℕ → List ℕ → List ℕ → Answer → (Group → Type 0) → Type 0
+ByGroup every sep old new answer Holds =
+    (made : Option Group) × MadeOf every sep made × MatchOption made ((answer ≡ no_group) × (new ≡ old)) Holds
+
+-- grouped writing by such a group, and its answer
+abbrev pub EncodesGrouped : ℕ → ℕ → Bool → List ℕ → List ℕ → List ℕ → Answer → Type 0
+EncodesGrouped every sep upper bytes old new answer = ByGroup every sep old new answer
+    (λ group. (result : Result ℕ Error) × WritesGrouped group upper bytes old new result × (answer ≡ answer_of result))
+
+-- grouped reading by such a group and by the policy that a number names, which is looked at first
+abbrev pub DecodesGrouped : ℕ → ℕ → ℕ → List ℕ → List ℕ → List ℕ → Answer → Type 0
+DecodesGrouped n every sep s old new answer = MatchOption (policy_of n) ((answer ≡ no_policy) × (new ≡ old)) (λ c. ByGroup every sep old new answer
+    (λ group. (result : Result ℕ GroupFault) × Reads c group s old new result × (answer ≡ group_answer_of result)))

@@ -3,12 +3,16 @@
 //! a pointer is good.
 #![tactic(auto)]
 
-ghost use Rattle.std.specs.Prelude.{◌≡◌, ◌↔◌, IsTrue, None};
+ghost use Rattle.std.specs.Prelude.{◌≡◌, ◌↔◌, ◌≤◌, ◌<◌, ◌^◌, IsTrue, IsOk, None, MatchOption, OnOk, length};
 ghost use Rattle.hex_core.specs.declared.digit.CheckCase.TheVariants as policy;
 ghost use Rattle.hex_core.specs.Search.{first_invalid};
-ghost use Rattle.faster_hex_c.specs.Answers.{DecodesBy, DecodesTo, EncodesTo, FindsInvalid, answer_of, policy_of};
+ghost use Rattle.faster_hex_c.specs.Answers.{DecodesBy, DecodesGrouped, DecodesTo, EncodesGrouped, EncodesTo, FindsInvalid, answer_of, group_answer_of, policy_of};
 
-use hex_codec::{hex_check, hex_decode_into, hex_encode_into};
+mod groups;
+
+use crate::groups::encode_grouped;
+use hex_codec::grouped::read_into;
+use hex_codec::{Group, GroupFault, hex_check, hex_decode_into, hex_encode_into};
 use hex_core::{Backend, CheckCase, Error};
 
 // The statuses, by the names of `faster_hex.h`.
@@ -24,6 +28,10 @@ const OVERFLOW: u8 = 4;
 
 const UNKNOWN_POLICY: u8 = 5;
 
+const NOT_A_GROUP: u8 = 6;
+
+const BAD_LENGTH: u8 = 7;
+
 /// What a call answers.
 #[repr(C)]
 #[derive(Clone, Copy, Debug, PartialEq, Eq)]
@@ -32,7 +40,8 @@ pub struct Answer {
     /// takes, with status 3 the place of the first invalid byte, from 0, and else 0.
     pub number: usize,
     /// 0 where nothing is refused; 1 for an odd length, 2 for too little room, 3 for an invalid
-    /// byte, 4 for a text whose length is no `usize`, 5 for a number that names no policy.
+    /// byte, 4 for a text whose length is no `usize`, 5 for a number that names no policy, 6 for
+    /// numbers that make no group, and 7 for a length that no grouped text has.
     pub status: u8,
     /// With status 3 the first invalid byte, and else 0.
     pub byte: u8,
@@ -68,6 +77,30 @@ fn answer_of(outcome: Result<usize, Error>) -> Answer
         Err(Error::InvalidChar { index, byte }) => (index, INVALID_CHAR, byte),
         // The calls here answer no other error than that of a text's length.
         Err(_) => (0, OVERFLOW, 0),
+    };
+    Answer {
+        number,
+        status,
+        byte,
+    }
+}
+
+// The answer for numbers that make no group.
+const NO_GROUP: Answer = Answer {
+    number: 0,
+    status: NOT_A_GROUP,
+    byte: 0,
+};
+
+// The answer that tells how a grouped text was read.
+fn group_answer_of(outcome: Result<usize, GroupFault>) -> Answer
+    ensures { result ≡ group_answer_of outcome }
+{
+    let (number, status, byte) = match outcome {
+        Ok(written) => (written, DONE, 0),
+        Err(GroupFault::OutputTooSmall { required }) => (required, OUTPUT_TOO_SMALL, 0),
+        Err(GroupFault::InvalidByte { index, byte }) => (index, INVALID_CHAR, byte),
+        Err(GroupFault::BadLength) => (0, BAD_LENGTH, 0),
     };
     Answer {
         number,
@@ -125,6 +158,45 @@ pub extern "C" fn faster_hex_decode_with_case(src: &[u8], dst: &mut [u8], case: 
     match policy(case) {
         Some(case) => answer_of(hex_decode_into(src, dst, case)),
         None => NO_POLICY,
+    }
+}
+
+/// Writes the digits of some bytes in groups of `every` bytes, with `sep` between two, into the
+/// front of a destination.
+#[unsafe(no_mangle)]
+pub extern "C" fn faster_hex_encode_grouped(
+    src: &[u8],
+    dst: &mut [u8],
+    upper: bool,
+    every: usize,
+    sep: u8,
+) -> Answer
+    ensures { EncodesGrouped every sep upper src.now dst.old dst.new result }
+{
+    match Group::new(every, sep) {
+        Some(group) => answer_of(encode_grouped(src, dst, upper, group)),
+        None => NO_GROUP,
+    }
+}
+
+/// Reads a text of such groups, of which it writes the bytes into the front of a destination, by a
+/// policy: 0 reads either case, 1 lowercase and 2 uppercase.
+#[unsafe(no_mangle)]
+pub extern "C" fn faster_hex_decode_grouped(
+    src: &[u8],
+    dst: &mut [u8],
+    case: u8,
+    every: usize,
+    sep: u8,
+) -> Answer
+    ensures { DecodesGrouped case every sep src.now dst.old dst.new result }
+{
+    let Some(case) = policy(case) else {
+        return NO_POLICY;
+    };
+    match Group::new(every, sep) {
+        Some(group) => group_answer_of(read_into(src, dst, group, case)),
+        None => NO_GROUP,
     }
 }
 

@@ -1,7 +1,8 @@
 //! Each status once, and that a refusal leaves the destination as it was.
 
 use crate::{
-    Answer, faster_hex_check, faster_hex_decode, faster_hex_decode_with_case, faster_hex_encode,
+    Answer, faster_hex_check, faster_hex_decode, faster_hex_decode_grouped,
+    faster_hex_decode_with_case, faster_hex_encode, faster_hex_encode_grouped,
     faster_hex_first_invalid,
 };
 
@@ -60,5 +61,42 @@ fn statuses_of_encoding_and_of_a_search(rt: HostRuntime) {
         && finds(b"g", 7, (0, 5, 0))
         && faster_hex_check(b"00aB0")
         && !faster_hex_check(b"00ag");
+    assert!(rt; holds);
+}
+
+// Whether a destination of 0xa5 ends so once some bytes are written into it in groups.
+fn groups(src: &[u8], every: usize, sep: u8, wanted: Wanted, ends: &[u8; 6]) -> bool {
+    let mut buffer = [0xa5; 6];
+    let told = faster_hex_encode_grouped(src, &mut buffer, true, every, sep);
+    is(told, wanted) && buffer == *ends
+}
+
+// Whether this is answered where a text of groups of one byte is read, and a destination ends so.
+fn reads(src: &[u8], room: usize, case: u8, sep: u8, wanted: Wanted, ends: &[u8; 4]) -> bool {
+    let mut buffer = OLD;
+    let told = faster_hex_decode_grouped(src, &mut buffer[..room.min(4)], case, 1, sep);
+    is(told, wanted) && buffer == *ends
+}
+
+#[test]
+fn statuses_of_groups(rt: HostRuntime) {
+    let old = [0xa5; 6];
+    let holds = groups(
+        &[0, 0xab],
+        1,
+        b':',
+        (5, 0, 0),
+        &[b'0', b'0', b':', b'A', b'B', 0xa5],
+    ) && groups(&[0, 0xab, 1], 2, b':', (7, 2, 0), &old)
+        && groups(&[], 2, b' ', (0, 0, 0), &old)
+        && groups(&[0], 0, b':', (0, 6, 0), &old)
+        && groups(&[0], 1, b'f', (0, 6, 0), &old)
+        && reads(b"00:aB", 4, 0, b':', (2, 0, 0), &[0, 0xab, 0xa5, 0xa5])
+        && reads(b"00:aB", 4, 1, b':', (4, 3, b'B'), &OLD)
+        && reads(b"00-ab", 4, 0, b':', (2, 3, b'-'), &OLD)
+        && reads(b"00:a", 4, 0, b':', (0, 7, 0), &OLD)
+        && reads(b"00:ab", 1, 0, b':', (2, 2, 0), &OLD)
+        && reads(b"00:ab", 4, 3, b'0', (0, 5, 0), &OLD)
+        && reads(b"00:ab", 4, 2, b'0', (0, 6, 0), &OLD);
     assert!(rt; holds);
 }

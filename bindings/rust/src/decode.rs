@@ -1,0 +1,172 @@
+//! Testing digits, and decoding them.
+
+#[cfg(feature = "alloc")]
+use alloc::{vec, vec::Vec};
+
+use crate::{library, Error};
+
+/// Which letters are digits.
+///
+/// ```
+/// use faster_hex::{hex_check_with_case, CheckCase};
+///
+/// assert!(hex_check_with_case(b"0aF", CheckCase::None));
+/// assert!(!hex_check_with_case(b"0aF", CheckCase::Lower));
+/// assert_eq!(CheckCase::default(), CheckCase::None);
+/// ```
+#[derive(Clone, Copy, Debug, Default, PartialEq, Eq, Hash)]
+pub enum CheckCase {
+    /// `a` to `f` and `A` to `F`, mixed too.
+    #[default]
+    None,
+    /// `a` to `f` alone.
+    Lower,
+    /// `A` to `F` alone.
+    Upper,
+}
+
+/// Whether every byte is a digit of either case, whatever the length.
+///
+/// ```
+/// assert!(faster_hex::hex_check(b"00aBc"));
+/// assert!(!faster_hex::hex_check(b"0x01"));
+/// ```
+#[inline]
+pub fn hex_check(src: &[u8]) -> bool {
+    hex_check_with_case(src, CheckCase::None)
+}
+
+/// Whether every byte is a digit by a policy, whatever the length.
+///
+/// ```
+/// use faster_hex::{hex_check_with_case, CheckCase};
+///
+/// assert!(hex_check_with_case(b"AB0", CheckCase::Upper));
+/// assert!(!hex_check_with_case(b"AB0", CheckCase::Lower));
+/// ```
+#[inline]
+pub fn hex_check_with_case(src: &[u8], check_case: CheckCase) -> bool {
+    library::check(src, check_case)
+}
+
+/// Writes the bytes that digits of either case spell to the front of `dst`, and returns that front.
+///
+/// # Errors
+///
+/// In this order, each of which leaves all of `dst` as it was: [`Error::OddLength`],
+/// [`Error::OutputTooSmall`], [`Error::InvalidChar`].
+///
+/// ```
+/// let mut bytes = [0xa5; 4];
+/// assert_eq!(faster_hex::hex_decode(b"00aBcD", &mut bytes)?, [0, 0xab, 0xcd]);
+/// assert_eq!(bytes, [0, 0xab, 0xcd, 0xa5]);
+/// # Ok::<(), faster_hex::Error>(())
+/// ```
+#[inline]
+pub fn hex_decode<'a>(src: &[u8], dst: &'a mut [u8]) -> Result<&'a mut [u8], Error> {
+    hex_decode_with_case(src, dst, CheckCase::None)
+}
+
+/// The same by a policy.
+///
+/// # Errors
+///
+/// Those of [`hex_decode`], in its order.
+///
+/// ```
+/// use faster_hex::{hex_decode_with_case, CheckCase};
+///
+/// let mut bytes = [0; 2];
+/// assert_eq!(hex_decode_with_case(b"AB01", &mut bytes, CheckCase::Upper)?, [0xab, 1]);
+/// assert!(hex_decode_with_case(b"AB01", &mut bytes, CheckCase::Lower).is_err());
+/// # Ok::<(), faster_hex::Error>(())
+/// ```
+#[inline]
+pub fn hex_decode_with_case<'a>(
+    src: &[u8],
+    dst: &'a mut [u8],
+    check_case: CheckCase,
+) -> Result<&'a mut [u8], Error> {
+    let written = library::decode(src, dst, check_case)?;
+    Ok(&mut dst[..written])
+}
+
+/// The `N` bytes that digits of either case spell.
+///
+/// # Errors
+///
+/// In this order: [`Error::OddLength`], [`Error::LengthMismatch`], [`Error::InvalidChar`].
+///
+/// ```
+/// assert_eq!(faster_hex::hex_decode_array::<3>(b"00aBcD")?, [0, 0xab, 0xcd]);
+/// assert!(faster_hex::hex_decode_array::<4>(b"00aBcD").is_err());
+/// # Ok::<(), faster_hex::Error>(())
+/// ```
+#[inline]
+pub fn hex_decode_array<const N: usize>(src: &[u8]) -> Result<[u8; N], Error> {
+    hex_decode_array_with_case(src, CheckCase::None)
+}
+
+/// The same by a policy.
+///
+/// # Errors
+///
+/// Those of [`hex_decode_array`], in its order.
+///
+/// ```
+/// use faster_hex::{hex_decode_array_with_case, CheckCase};
+///
+/// assert_eq!(hex_decode_array_with_case::<2>(b"AB01", CheckCase::Upper)?, [0xab, 1]);
+/// # Ok::<(), faster_hex::Error>(())
+/// ```
+#[inline]
+pub fn hex_decode_array_with_case<const N: usize>(
+    src: &[u8],
+    check_case: CheckCase,
+) -> Result<[u8; N], Error> {
+    if src.len() % 2 == 0 && src.len() / 2 != N {
+        return Err(Error::LengthMismatch { expected: N, actual: src.len() / 2 });
+    }
+    let mut bytes = [0; N];
+    library::decode(src, &mut bytes, check_case)?;
+    Ok(bytes)
+}
+
+/// The bytes that digits of either case spell, in a new vector. Wants the feature `alloc`.
+///
+/// # Errors
+///
+/// In this order: [`Error::OddLength`], before memory is asked for, and [`Error::InvalidChar`].
+///
+/// ```
+/// assert_eq!(faster_hex::hex_decode_vec(b"00aBff")?, [0, 0xab, 0xff]);
+/// # Ok::<(), faster_hex::Error>(())
+/// ```
+#[cfg(feature = "alloc")]
+#[inline]
+pub fn hex_decode_vec(src: &[u8]) -> Result<Vec<u8>, Error> {
+    hex_decode_vec_with_case(src, CheckCase::None)
+}
+
+/// The same by a policy. Wants the feature `alloc`.
+///
+/// # Errors
+///
+/// Those of [`hex_decode_vec`], in its order.
+///
+/// ```
+/// use faster_hex::{hex_decode_vec_with_case, CheckCase};
+///
+/// assert_eq!(hex_decode_vec_with_case(b"AB01", CheckCase::Upper)?, [0xab, 1]);
+/// # Ok::<(), faster_hex::Error>(())
+/// ```
+#[cfg(feature = "alloc")]
+#[inline]
+pub fn hex_decode_vec_with_case(src: &[u8], check_case: CheckCase) -> Result<Vec<u8>, Error> {
+    if src.len() % 2 == 1 {
+        return Err(Error::OddLength);
+    }
+    let mut bytes = vec![0; src.len() / 2];
+    library::decode(src, &mut bytes, check_case)?;
+    Ok(bytes)
+}

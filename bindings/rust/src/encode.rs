@@ -1,0 +1,134 @@
+//! Encoding bytes as digits.
+
+#[cfg(feature = "alloc")]
+use alloc::string::String;
+use core::str;
+
+use crate::{library, Error};
+
+/// Writes the digits of `src` to the front of `dst` and returns them, for the calls of this crate.
+#[inline]
+pub(crate) fn encode<'a>(
+    src: &[u8],
+    dst: &'a mut [u8],
+    upper: bool,
+) -> Result<&'a mut str, Error> {
+    let written = library::encode(src, dst, upper)?;
+    // SAFETY: what was written is ASCII.
+    Ok(unsafe { str::from_utf8_unchecked_mut(&mut dst[..written]) })
+}
+
+/// Writes the lowercase digits of `src` to the front of `dst`, and returns that front.
+///
+/// # Errors
+///
+/// In this order, each of which leaves all of `dst` as it was: [`Error::Overflow`],
+/// [`Error::OutputTooSmall`].
+///
+/// ```
+/// let mut digits = [b'-'; 7];
+/// assert_eq!(faster_hex::hex_encode(&[0, 0xab, 0xff], &mut digits)?, "00abff");
+/// assert_eq!(&digits, b"00abff-");
+/// # Ok::<(), faster_hex::Error>(())
+/// ```
+#[inline]
+pub fn hex_encode<'a>(src: &[u8], dst: &'a mut [u8]) -> Result<&'a mut str, Error> {
+    encode(src, dst, false)
+}
+
+/// Writes the uppercase digits of `src` to the front of `dst`, and returns that front.
+///
+/// # Errors
+///
+/// Those of [`hex_encode`], in its order.
+///
+/// ```
+/// let mut digits = [0; 6];
+/// assert_eq!(faster_hex::hex_encode_upper(&[0, 0xab, 0xff], &mut digits)?, "00ABFF");
+/// # Ok::<(), faster_hex::Error>(())
+/// ```
+#[inline]
+pub fn hex_encode_upper<'a>(src: &[u8], dst: &'a mut [u8]) -> Result<&'a mut str, Error> {
+    encode(src, dst, true)
+}
+
+#[cfg(feature = "alloc")]
+const OVERFLOW: &str = "encoded length overflow";
+
+/// The lowercase digits of `src` in a new string. Wants the feature `alloc`.
+///
+/// # Panics
+///
+/// Where the string would be longer than `isize::MAX` bytes.
+///
+/// ```
+/// assert_eq!(faster_hex::hex_string(&[0, 0xab, 0xff]), "00abff");
+/// ```
+#[cfg(feature = "alloc")]
+#[inline]
+pub fn hex_string(src: &[u8]) -> String {
+    new_string(src, false)
+}
+
+/// The uppercase digits of `src` in a new string. Wants the feature `alloc`.
+///
+/// # Panics
+///
+/// As [`hex_string`] does.
+///
+/// ```
+/// assert_eq!(faster_hex::hex_string_upper(&[0, 0xab, 0xff]), "00ABFF");
+/// ```
+#[cfg(feature = "alloc")]
+#[inline]
+pub fn hex_string_upper(src: &[u8]) -> String {
+    new_string(src, true)
+}
+
+/// Appends the lowercase digits of `src` to `dst`, and returns them. Wants the feature `alloc`.
+///
+/// # Panics
+///
+/// Where the string would become longer than `isize::MAX` bytes.
+///
+/// ```
+/// let mut text = String::from("id: ");
+/// assert_eq!(faster_hex::hex_append(&[0xab, 0xcd], &mut text), "abcd");
+/// assert_eq!(text, "id: abcd");
+/// ```
+#[cfg(feature = "alloc")]
+pub fn hex_append<'a>(src: &[u8], dst: &'a mut String) -> &'a mut str {
+    append(src, dst, false)
+}
+
+/// Appends the uppercase digits of `src` to `dst`, and returns them. Wants the feature `alloc`.
+///
+/// # Panics
+///
+/// As [`hex_append`] does.
+///
+/// ```
+/// let mut text = String::from("id: ");
+/// assert_eq!(faster_hex::hex_append_upper(&[0xab, 0xcd], &mut text), "ABCD");
+/// ```
+#[cfg(feature = "alloc")]
+pub fn hex_append_upper<'a>(src: &[u8], dst: &'a mut String) -> &'a mut str {
+    append(src, dst, true)
+}
+
+#[cfg(feature = "alloc")]
+fn new_string(src: &[u8], upper: bool) -> String {
+    let mut text = String::with_capacity(src.len().checked_mul(2).expect(OVERFLOW));
+    append(src, &mut text, upper);
+    text
+}
+
+#[cfg(feature = "alloc")]
+fn append<'a>(src: &[u8], dst: &'a mut String, upper: bool) -> &'a mut str {
+    let start = dst.len();
+    let end = src.len().checked_mul(2).and_then(|len| start.checked_add(len)).expect(OVERFLOW);
+    // SAFETY: what is put behind the text is ASCII at every moment, first zeros and then digits.
+    let bytes = unsafe { dst.as_mut_vec() };
+    bytes.resize(end, b'0');
+    encode(src, &mut bytes[start..], upper).expect(OVERFLOW)
+}
