@@ -1,12 +1,14 @@
 # `make` builds fhex, `make lib` libfaster_hex.a, each for the processors that CPU names, as in
 # `make CPU=x86-64-v3`, which stand in a folder of their own. `make test` runs the examples and the
-# gate, `make deep` what a release takes beside it.
+# gate, `make check` all that the gate can't, `make deep` what a release takes beside it.
 # `make install PREFIX=DIR` puts into DIR the program with its page, and the library with its header,
 # its file for pkg-config and the crate for Rust; with DESTDIR below that folder, as a package wants
 # it. `make uninstall` takes the same files away. `make -s` prints nothing where all goes well.
 VERSION = 1.0.0
 PREFIX ?= /usr/local
 CPU = x86-64-v2
+# RUST is a checkout of the Rust crate faster-hex 1.0.0, beside which `make check` tries the bindings.
+RUST =
 OUT = out$(patsubst %,/%,$(filter-out x86-64-v2,$(CPU)))
 PROGRAM = crates/fhex/$(OUT)/fhex
 PAGE = docs/fhex.1
@@ -18,7 +20,7 @@ TO = $(DESTDIR)$(PREFIX)
 # once more: a crate over serde_json took 118 seconds of processor by four jobs, and 81 by one.
 JOBS := $(shell n=$$(nproc); echo $$((n < 4 ? n : 4)))
 
-.PHONY: build lib test deep install uninstall clean
+.PHONY: build lib test check deep install uninstall clean
 
 build:
 	scripts/build.sh fhex $(CPU)
@@ -33,16 +35,16 @@ test:
 	scripts/examples.sh
 	RT_JOBS=$(JOBS) rt ci
 
+check: build lib
+	scripts/check.sh $(if $(RUST),--rust $(RUST))
+
 # Before a release. It stops at the first that fails.
 deep: build lib
 	scripts/wrong-bodies
 	scripts/test-wrong-bodies
 	scripts/test-rows
 	scripts/examples.sh --prove
-	scripts/growths.sh
-	scripts/statuses.sh
-	scripts/digests.sh
-	scripts/link.sh
+	scripts/check.sh $(if $(RUST),--rust $(RUST))
 	scripts/random-rows
 
 install: build lib

@@ -1,0 +1,360 @@
+/* Tries the calls of faster_hex.h beside models of a few lines: between guarded pages at all lengths
+ * from 0 to 300, with NULL, with source and destination that touch, at all alignments, and in threads.
+ * scripts/library.sh builds and runs it. Prints a line for each thing that failed, and
+ * `N passed, M failed` at the end.
+ * Usage: library [threads] */
+#include <pthread.h>
+#include <stdio.h>
+#include <stdlib.h>
+#include <string.h>
+#include <sys/mman.h>
+#include <unistd.h>
+
+#include "faster_hex.h"
+
+enum { LONGEST = 300, OLD = 0xa5, THREADS = 8, TURNS = 200 };
+
+static const char *const NAMES[] = {
+    "check", "first_invalid", "encode", "decode", "decode_with_case", "encode_grouped", "decode_grouped",
+};
+enum call { CHECK, FIRST_INVALID, ENCODE, DECODE, DECODE_WITH_CASE, ENCODE_GROUPED, DECODE_GROUPED, CALLS };
+
+struct job {
+    enum call call;
+    const uint8_t *src;
+    size_t len;
+    uint8_t *dst;
+    size_t room;
+    bool upper;
+    uint8_t policy;
+    size_t every;
+    uint8_t sep;
+};
+
+static struct faster_hex_answer told(size_t number, uint8_t status, uint8_t byte) {
+    struct faster_hex_answer answer = { number, status, byte };
+    return answer;
+}
+
+static struct faster_hex_answer run(const struct job *it) {
+    switch (it->call) {
+    case CHECK: return told(faster_hex_check(it->src, it->len), 0, 0);
+    case FIRST_INVALID: return faster_hex_first_invalid(it->src, it->len, it->policy);
+    case ENCODE: return faster_hex_encode(it->src, it->len, it->dst, it->room, it->upper);
+    case DECODE: return faster_hex_decode(it->src, it->len, it->dst, it->room);
+    case DECODE_WITH_CASE:
+        return faster_hex_decode_with_case(it->src, it->len, it->dst, it->room, it->policy);
+    case ENCODE_GROUPED:
+        return faster_hex_encode_grouped(it->src, it->len, it->dst, it->room, it->upper, it->every, it->sep);
+    default:
+        return faster_hex_decode_grouped(it->src, it->len, it->dst, it->room, it->policy, it->every, it->sep);
+    }
+}
+
+/* The value of a digit, or -1. */
+static int value(uint8_t policy, uint8_t byte) {
+    if (byte >= '0' && byte <= '9') return byte - '0';
+    if (byte >= 'a' && byte <= 'f' && policy != FASTER_HEX_UPPERCASE) return byte - 'a' + 10;
+    if (byte >= 'A' && byte <= 'F' && policy != FASTER_HEX_LOWERCASE) return byte - 'A' + 10;
+    return -1;
+}
+
+static bool is_group(size_t every, uint8_t sep) {
+    return every != 0 && sep < 0x80 && value(FASTER_HEX_EITHER_CASE, sep) < 0;
+}
+
+/* The models write behind no text whose length is a size_t: the tests' lengths are short. */
+static struct faster_hex_answer model_encode(const struct job *it, size_t every) {
+    const char *digits = it->upper ? "0123456789ABCDEF" : "0123456789abcdef";
+    size_t required = 2 * it->len + (it->len == 0 ? 0 : (it->len - 1) / every), at = 0, i;
+    if (it->room < required) return told(required, FASTER_HEX_OUTPUT_TOO_SMALL, 0);
+    for (i = 0; i < it->len; i++) {
+        if (i > 0 && i % every == 0) it->dst[at++] = it->sep;
+        it->dst[at++] = (uint8_t)digits[it->src[i] / 16];
+        it->dst[at++] = (uint8_t)digits[it->src[i] % 16];
+    }
+    return told(required, FASTER_HEX_DONE, 0);
+}
+
+/* Whether a place of a text of pieces of 2 * every digits is that of a separator. */
+static bool separates(size_t at, size_t every) {
+    return at % (2 * every + 1) == 2 * every;
+}
+
+static struct faster_hex_answer model_search(const struct job *it, uint8_t policy, size_t every) {
+    size_t i;
+    for (i = 0; i < it->len; i++) {
+        bool wrong = separates(i, every) ? it->src[i] != it->sep : value(policy, it->src[i]) < 0;
+        if (wrong) return told(i, FASTER_HEX_INVALID_CHAR, it->src[i]);
+    }
+    return told(0, FASTER_HEX_DONE, 0);
+}
+
+static struct faster_hex_answer model_decode(const struct job *it, uint8_t policy, size_t every,
+                                             uint8_t bad_length) {
+    size_t required = 0, digits = 0, i;
+    struct faster_hex_answer answer;
+    for (i = 0; i < it->len; i++) digits += !separates(i, every);
+    if (digits % 2 == 1 || (it->len > 0 && separates(it->len - 1, every))) return told(0, bad_length, 0);
+    required = digits / 2;
+    if (it->room < required) return told(required, FASTER_HEX_OUTPUT_TOO_SMALL, 0);
+    answer = model_search(it, policy, every);
+    if (answer.status != FASTER_HEX_DONE) return answer;
+    for (i = 0, digits = 0; i < it->len; i++) {
+        int digit = value(policy, it->src[i]);
+        if (separates(i, every)) continue;
+        it->dst[digits / 2] = (uint8_t)(digits % 2 ? it->dst[digits / 2] * 16 + digit : digit);
+        digits++;
+    }
+    return told(required, FASTER_HEX_DONE, 0);
+}
+
+static struct faster_hex_answer model(const struct job *it) {
+    const size_t whole = 1 << 20; /* longer than any text here, so without a separator */
+    switch (it->call) {
+    case CHECK: return told(model_search(it, FASTER_HEX_EITHER_CASE, whole).status == FASTER_HEX_DONE, 0, 0);
+    case ENCODE: return model_encode(it, whole);
+    case DECODE: return model_decode(it, FASTER_HEX_EITHER_CASE, whole, FASTER_HEX_ODD_LENGTH);
+    case ENCODE_GROUPED:
+        if (!is_group(it->every, it->sep)) return told(0, FASTER_HEX_NOT_A_GROUP, 0);
+        return model_encode(it, it->every);
+    default: break;
+    }
+    if (it->policy > FASTER_HEX_UPPERCASE) return told(0, FASTER_HEX_UNKNOWN_POLICY, 0);
+    if (it->call == FIRST_INVALID) return model_search(it, it->policy, whole);
+    if (it->call == DECODE_WITH_CASE) return model_decode(it, it->policy, whole, FASTER_HEX_ODD_LENGTH);
+    if (!is_group(it->every, it->sep)) return told(0, FASTER_HEX_NOT_A_GROUP, 0);
+    return model_decode(it, it->policy, it->every, FASTER_HEX_BAD_LENGTH);
+}
+
+/* Some memory, of which a copy is kept. */
+struct memory {
+    uint8_t *start;
+    size_t size;
+    uint8_t *kept;
+};
+
+/* Whether the call answers what its model does, and leaves the memory that has its destination, and
+ * maybe its source, as the model leaves it. */
+static bool agrees(const struct job *it, struct memory around) {
+    struct faster_hex_answer answer, wanted;
+    bool same;
+    uint8_t *before = around.kept, *after = around.kept + around.size;
+    memcpy(before, around.start, around.size);
+    answer = run(it);
+    memcpy(after, around.start, around.size);
+    memcpy(around.start, before, around.size);
+    wanted = model(it);
+    same = answer.number == wanted.number && answer.status == wanted.status && answer.byte == wanted.byte &&
+           memcmp(around.start, after, around.size) == 0;
+    memcpy(around.start, before, around.size);
+    if (!same) {
+        printf("failed: %s of %lu bytes into %lu: status %u, number %lu, and not %u, %lu\n", NAMES[it->call],
+               (unsigned long)it->len, (unsigned long)it->room, answer.status, (unsigned long)answer.number,
+               wanted.status, (unsigned long)wanted.number);
+    }
+    return same;
+}
+
+static unsigned long passed, failed;
+
+static void count(bool holds) {
+    if (holds) passed++;
+    else failed++;
+}
+
+/* A text that a call reads: bytes, or digits, in groups where the call reads groups, with a byte in
+ * four that is none. `turn` tells the texts of a length apart. */
+static void fill(const struct job *it, uint8_t *text, unsigned turn) {
+    static const char *const letters[] = { "0123456789aBcDeF", "0123456789abcdef", "0123456789ABCDEF" };
+    size_t i;
+    for (i = 0; i < it->len; i++) {
+        unsigned mixed = (unsigned)(i * 73 + i / 7 + turn * 31);
+        if (it->call == ENCODE || it->call == ENCODE_GROUPED) text[i] = (uint8_t)mixed;
+        else if (it->call == DECODE_GROUPED && it->every != 0 && separates(i, it->every)) text[i] = it->sep;
+        else text[i] = (uint8_t)letters[turn % 3][mixed % 16];
+    }
+    if (it->len > 0 && turn % 4 == 3) text[(turn * 7919u) % it->len] = (uint8_t)(turn * 37);
+}
+
+/* How much room a call takes. */
+static size_t takes(const struct job *it) {
+    if (it->call == ENCODE) return FASTER_HEX_ENCODED_LEN(it->len);
+    if (it->call == ENCODE_GROUPED && it->every != 0) return FASTER_HEX_GROUPED_LEN(it->len, it->every);
+    return FASTER_HEX_DECODED_LEN(it->len);
+}
+
+/* The parameters of a turn: every policy, every room beside the right one, groups and what is none. */
+static struct job job_of(enum call call, size_t len, unsigned turn) {
+    static const size_t pieces[] = { 1, 2, 3, 4, 16, 17, LONGEST, 0 };
+    static const char separators[] = { ':', '-', ' ', '\n', ':', 'a', '.' };
+    struct job it = { call, NULL, len, NULL, 0, turn % 2 == 1, (uint8_t)(turn % 7 == 6 ? 3 : turn % 3), 0, 0 };
+    it.every = pieces[turn % 8];
+    it.sep = turn % 29 == 28 ? 0x80 : (uint8_t)separators[turn % 7];
+    it.room = takes(&it);
+    if (turn % 5 == 3) it.room += 7;
+    if (turn % 5 == 4 && it.room > 0) it.room--;
+    return it;
+}
+
+/* Pages between two that nobody may touch. */
+static struct memory guarded(void) {
+    size_t page = (size_t)sysconf(_SC_PAGESIZE);
+    uint8_t *all = mmap(NULL, 3 * page, PROT_NONE, MAP_PRIVATE | MAP_ANONYMOUS, -1, 0);
+    struct memory memory = { all + page, page, malloc(2 * page) };
+    if (all == MAP_FAILED || memory.kept == NULL || mprotect(memory.start, page, PROT_READ | PROT_WRITE) != 0) {
+        perror("no guarded pages");
+        exit(2);
+    }
+    memset(memory.start, OLD, page);
+    return memory;
+}
+
+/* Source and destination each at the front or at the end of guarded pages; the source's can't be
+ * written while the call runs. */
+static void between_guards(struct memory from, struct memory to) {
+    size_t len;
+    for (len = 0; len <= LONGEST; len++) {
+        bool holds = true;
+        unsigned turn, call;
+        for (call = 0; call < CALLS; call++) {
+            for (turn = 0; turn < 60; turn++) {
+                struct job it = job_of((enum call)call, len, turn);
+                uint8_t *src = turn & 1 ? from.start + from.size - len : from.start;
+                it.src = src;
+                it.dst = turn & 2 ? to.start + to.size - it.room : to.start;
+                fill(&it, src, turn);
+                mprotect(from.start, from.size, PROT_READ);
+                holds = agrees(&it, to) && holds;
+                mprotect(from.start, from.size, PROT_READ | PROT_WRITE);
+            }
+        }
+        count(holds);
+    }
+}
+
+/* NULL where a length is 0: as the source, as the destination, as both. */
+static void with_null(struct memory to) {
+    unsigned call, turn;
+    for (call = 0; call < CALLS; call++) {
+        bool holds = true;
+        for (turn = 0; turn < 60; turn++) {
+            struct job it = job_of((enum call)call, 0, turn);
+            it.dst = turn % 2 ? to.start : NULL;
+            it.room = turn % 2 ? 5 : 0;
+            holds = agrees(&it, to) && holds;
+            it.src = (const uint8_t *)"00";
+            it.len = 2;
+            it.dst = NULL;
+            it.room = 0;
+            holds = agrees(&it, to) && holds;
+        }
+        count(holds);
+    }
+}
+
+/* Source and destination that touch, in either order, in one piece of memory. */
+static void touching(struct memory both) {
+    unsigned call, turn;
+    for (call = ENCODE; call < CALLS; call++) {
+        bool holds = true;
+        size_t len;
+        for (len = 0; len <= LONGEST; len++) {
+            for (turn = 0; turn < 16; turn++) {
+                struct job it = job_of((enum call)call, len, turn);
+                uint8_t *src = both.start + (turn & 1 ? it.room : 0);
+                it.src = src;
+                it.dst = both.start + (turn & 1 ? 0 : len);
+                fill(&it, src, turn);
+                holds = agrees(&it, both) && holds;
+            }
+        }
+        count(holds);
+    }
+}
+
+/* Each place of source and destination beside a multiple of 64. */
+static void aligned(struct memory from, struct memory to) {
+    size_t source, destination;
+    for (source = 0; source < 64; source++) {
+        bool holds = true;
+        for (destination = 0; destination < 64; destination++) {
+            unsigned call;
+            for (call = 0; call < CALLS; call++) {
+                unsigned turn = (unsigned)(source + destination);
+                struct job it = job_of((enum call)call, 130 + turn % 3, turn);
+                it.src = from.start + source;
+                it.dst = to.start + destination;
+                fill(&it, from.start + source, turn);
+                holds = agrees(&it, to) && holds;
+            }
+        }
+        count(holds);
+    }
+}
+
+/* A thread's destination, and whether all went well; the sources are those of all threads. */
+struct worker {
+    struct memory to;
+    bool holds;
+};
+static uint8_t shared[CALLS][12][LONGEST];
+static pthread_barrier_t barrier;
+
+static void *works(void *given) {
+    struct worker *worker = given;
+    unsigned turn, call;
+    pthread_barrier_wait(&barrier);
+    for (turn = 0; turn < TURNS; turn++) {
+        for (call = 0; call < CALLS; call++) {
+            struct job it = job_of((enum call)call, LONGEST, turn % 12);
+            it.src = shared[call][turn % 12];
+            it.dst = worker->to.start;
+            worker->holds = agrees(&it, worker->to) && worker->holds;
+        }
+    }
+    return NULL;
+}
+
+/* Threads that begin at once, read one source and write into memory that lies side by side. */
+static void in_threads(void) {
+    static uint8_t room[THREADS][2 * LONGEST + LONGEST + 8];
+    struct worker workers[THREADS];
+    pthread_t threads[THREADS];
+    unsigned i, call, turn;
+    for (call = 0; call < CALLS; call++) {
+        for (turn = 0; turn < 12; turn++) {
+            struct job it = job_of((enum call)call, LONGEST, turn);
+            fill(&it, shared[call][turn], turn);
+        }
+    }
+    pthread_barrier_init(&barrier, NULL, THREADS);
+    for (i = 0; i < THREADS; i++) {
+        workers[i].to.start = room[i];
+        workers[i].to.size = sizeof room[i];
+        workers[i].to.kept = malloc(2 * sizeof room[i]);
+        workers[i].holds = workers[i].to.kept != NULL;
+        if (pthread_create(&threads[i], NULL, works, &workers[i]) != 0) exit(2);
+    }
+    for (i = 0; i < THREADS; i++) {
+        pthread_join(threads[i], NULL);
+        count(workers[i].holds);
+        free(workers[i].to.kept);
+    }
+}
+
+int main(int words, char **word) {
+    if (words > 1 && strcmp(word[1], "threads") == 0) {
+        in_threads();
+    } else {
+        struct memory from = guarded(), to = guarded();
+        between_guards(from, to);
+        with_null(to);
+        touching(to);
+        aligned(from, to);
+        free(from.kept);
+        free(to.kept);
+    }
+    printf("%lu passed, %lu failed\n", passed, failed);
+    return failed != 0;
+}
