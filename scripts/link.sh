@@ -1,7 +1,7 @@
 #!/bin/sh
 # Builds libfaster_hex.a, and the examples in C, C++ and Rust that link it, and compares what they
-# print, and the archive's symbols with those of the header. On a processor with AVX2 once more in the
-# build for x86-64-v3. Prints a line for each thing that differs, and `N passed, M failed` at the end;
+# print, and the archive's symbols with those of the header; and runs the examples of bindings/rust. On
+# a processor with AVX2 once more in the build for x86-64-v3. Prints a line for each thing that differs, and `N passed, M failed` at the end;
 # its status is then 1 where one failed.
 # Usage: scripts/link.sh. It wants `rt`, compilers for C and C++ and `cargo`; CC, CXX and CARGO name
 # others. LINK_BUILD names another folder than the user's cache to build in.
@@ -49,6 +49,9 @@ exports() {
     status=0
     nm -u "$1" | sed -n 's/^ *U //p' | grep -vx 'memcpy\|memmove\|memset' && status=1
     count "what $1 asks for" "$status"
+    status=0
+    "$cc" -shared -o "$build/shared.so" -Wl,--whole-archive "$1" -Wl,--no-whole-archive || status=$?
+    count "a shared library of $1" "$status"
 }
 
 # links CPU FOLDER: builds the library for it, and the examples over it.
@@ -82,8 +85,21 @@ standards() {
     done
 }
 
+# The examples of the bindings, by each of their features.
+bindings() {
+    for features in '' alloc std; do
+        status=0
+        FASTER_HEX_LIB=$1 "$cargo" test -q --offline --no-default-features --features "$features" \
+            --manifest-path "$top/bindings/rust/Cargo.toml" --target-dir "$build/cargo" \
+            >"$build/said" 2>&1 || status=$?
+        [ "$status" -eq 0 ] || tail -n 20 "$build/said"
+        count "the examples of the bindings, features '$features'" "$status"
+    done
+}
+
 standards
 links x86-64-v2 "$header/out"
+bindings "$header/out"
 if grep -q avx2 /proc/cpuinfo; then
     links x86-64-v3 "$header/out/x86-64-v3"
 fi

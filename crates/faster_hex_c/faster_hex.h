@@ -9,6 +9,7 @@
  * - Both may begin at any address: no alignment is asked for.
  * - Calls may run in many threads at once, over one source too, where no destination overlaps what
  *   another call reads or writes. No call keeps a pointer, takes memory or has a state.
+ * - The library asks for no symbol but memcpy, memmove and memset, and may be part of a shared one.
  * - The answer says all that can go wrong. After a refusal the destination is as it was, and else
  *   what stands behind the written bytes is.
  */
