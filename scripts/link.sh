@@ -38,8 +38,8 @@ prints() {
     count "what $1 prints" "$status"
 }
 
-# exports ARCHIVE: whether it has the header's calls and no other name, and asks for none but three of
-# the C library's memory functions, which compilers ask for too.
+# exports ARCHIVE: whether it has the header's calls and no other name, asks for none but three of the
+# C library's memory functions, which compilers ask for too, has no state, and goes into a shared library.
 exports() {
     sed -n 's/^[^*].* \(faster_hex_[a-z_]*\)(.*/\1/p' "$header/faster_hex.h" | sort >"$build/declared"
     nm -g "$1" 2>/dev/null | sed -n 's/^[0-9a-f]* T //p' | sort >"$build/exported"
@@ -49,6 +49,9 @@ exports() {
     status=0
     nm -u "$1" | sed -n 's/^ *U //p' | grep -vx 'memcpy\|memmove\|memset' && status=1
     count "what $1 asks for" "$status"
+    status=0
+    nm "$1" | grep ' [BbCDd] ' && status=1
+    count "$1 has no state" "$status"
     status=0
     "$cc" -shared -o "$build/shared.so" -Wl,--whole-archive "$1" -Wl,--no-whole-archive || status=$?
     count "a shared library of $1" "$status"
