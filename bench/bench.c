@@ -87,8 +87,19 @@ struct task {
     X(WRITES, own, by_16, read, GROUPED) \
     X(WRITES, own, by_1000, read, GROUPED)
 
+// The calls of the crate for Rust over the library for C, which are the plain ones.
+#ifdef BINDINGS
+#define BINDINGS_CALLS(X) \
+    X(READS, own, bindings, check, CHECK) \
+    X(WRITES, own, bindings, encode_slice, ENCODE) \
+    X(WRITES, own, bindings, decode_slice, DECODE) \
+    X(READS, own, bindings, decode_vec, DECODE_VEC)
+#else
+#define BINDINGS_CALLS(X)
+#endif
+
 #define OWN_CALLS(X) \
-    PIECES(X) READS_OF(X) PLAIN(X) PLAN(X, scalar) PLAN(X, sse41) PLAN(X, avx2) PLAN(X, avx512) PLAN(X, neon)
+    PIECES(X) READS_OF(X) BINDINGS_CALLS(X) PLAIN(X) PLAN(X, scalar) PLAN(X, sse41) PLAN(X, avx2) PLAN(X, avx512) PLAN(X, neon)
 
 #ifdef RUST
 #define RUST_CALLS(X) PUBLIC(X) KERNEL(X, scalar) KERNEL(X, sse41) KERNEL(X, avx2) KERNEL(X, avx512)
@@ -171,7 +182,11 @@ static const struct table tables[] = {
 #define TABLES (sizeof tables / sizeof *tables)
 
 // The first of the one stand beside the first of the other.
-static const char *const own_plans[] = {"plain", "scalar", "sse41", "avx2", "avx512", "neon"};
+static const char *const own_plans[] = {"plain", "scalar", "sse41", "avx2", "avx512", "neon",
+#ifdef BINDINGS
+    "bindings",
+#endif
+};
 static const char *const rust_plans[] = {"public", "scalar", "sse41", "avx2", "avx512"};
 #define OWN_PLANS (sizeof own_plans / sizeof *own_plans)
 #define RUST_PLANS (sizeof rust_plans / sizeof *rust_plans)
@@ -415,6 +430,32 @@ static void print_forms(const char *title, const char *name, enum kind kind) {
     }
 }
 
+#ifdef BINDINGS
+// What the border between the languages costs: the bindings over the plain call of the same name.
+static void print_border(void) {
+    const struct table *shown[TABLES];
+    size_t count = 0;
+    printf("\nthe bindings: time over the plain call\n   bytes");
+    for (size_t at = 0; at < TABLES; at++) {
+        if (time_of(SIZES - 1, false, "bindings", tables[at].name, tables[at].kind) > 0) {
+            shown[count++] = &tables[at];
+            printf(" %14s", tables[at].plain);
+        }
+    }
+    printf("\n");
+    for (size_t at_size = 0; at_size < SIZES; at_size++) {
+        printf("%8zu", sizes[at_size]);
+        for (size_t at = 0; at < count; at++) {
+            double plain = time_of(at_size, false, "plain", shown[at]->name, shown[at]->kind);
+            double bound = time_of(at_size, false, "bindings", shown[at]->name, shown[at]->kind);
+            printf("      ");
+            cell(" %8.2f", plain > 0 ? bound / plain : 0);
+        }
+        printf("\n");
+    }
+}
+#endif
+
 static void print_times(const struct table *table) {
     printf("\n%s%s%s: ns\n   bytes", table->name, table->plain ? ", plain: " : "",
         table->plain ? table->plain : "");
@@ -542,6 +583,9 @@ int main(void) {
         print_ratios(&tables[at]);
 #endif
     }
+#ifdef BINDINGS
+    print_border();
+#endif
     print_forms("Hex::write_to into a slice", "write_to", PADDED);
     print_forms("grouped::read, ungrouped: hex_decode", "read", GROUPED);
     return 0;

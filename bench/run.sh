@@ -75,14 +75,46 @@ if ! (cd "$own" && "$rt" lib $cpu) >"$build/log" 2>&1; then
     exit 1
 fi
 
+# compiles NAME TYPE OUTPUT ROOT WORD..: a crate of Rust, as both of them are compiled.
+compiles() {
+    name=$1
+    type=$2
+    output=$3
+    shift 3
+    "$rustc" --edition 2021 --crate-name "$name" --crate-type "$type" --cap-lints allow \
+        --cfg 'feature="std"' --cfg 'feature="alloc"' -C opt-level=3 -C codegen-units=1 \
+        -C panic=abort -o "$output" "$@"
+}
+
+# The calls of the bindings, over the library for C of this build.
+set -- "$own/out/libhex_bench.a"
+bindings=
+folder=$top/crates/faster_hex_c/out
+[ -z "$cpu" ] || folder=$folder/${cpu#--cpu=}
+if command -v "$rustc" >/dev/null; then
+    # shellcheck disable=SC2086
+    make -s -C "$top" lib ${cpu:+CPU=${cpu#--cpu=}}
+    compiles bindings rlib "$build/rust/libbindings.rlib" "$top/bindings/rust/src/lib.rs"
+    bindings="--extern bindings=$build/rust/libbindings.rlib -L native=$folder -l static=faster_hex"
+    flags="$flags -DBINDINGS"
+else
+    echo "Left out, since there is no $rustc: the bindings for Rust."
+fi
+
 # The exported functions go behind the Rust crate's own adapters to its kernels, whose private names
 # they use. It is built for the default processor in any case: it asks the machine when it runs.
-set -- "$own/out/libhex_bench.a"
+if [ -z "$rust" ] && [ -n "$bindings" ]; then
+    cp "$here/rust/bindings.rs.in" "$build/rust/bindings.rs"
+    # shellcheck disable=SC2086
+    compiles calls staticlib "$build/rust/libcalls.a" "$build/rust/bindings.rs" -C lto=fat $bindings
+    set -- "$@" "$build/rust/libcalls.a"
+fi
 if [ -n "$rust" ]; then
     rm -rf "$build/rust/src"
     cp -R "$rust/src" "$build/rust/src"
     chmod -R u+w "$build/rust/src"
     cat "$here/rust/calls.rs.in" >>"$build/rust/src/fuzzing.rs"
+    [ -z "$bindings" ] || cat "$here/rust/bindings.rs.in" >>"$build/rust/src/fuzzing.rs"
     for plan in scalar:Scalar sse41:Sse41 avx2:Avx2 avx512:Avx512; do
         sed "s/PLAN/${plan%:*}/g; s/KIND/${plan#*:}/g" "$here/rust/plan.rs.in" \
             >>"$build/rust/src/fuzzing.rs"
@@ -90,11 +122,10 @@ if [ -n "$rust" ]; then
     if ! grep -q 'mod fuzzing;' "$build/rust/src/lib.rs"; then
         echo 'mod fuzzing;' >>"$build/rust/src/lib.rs"
     fi
-    "$rustc" --edition 2021 --crate-name faster_hex --crate-type staticlib --cap-lints allow \
-        --cfg fuzzing --cfg 'feature="std"' --cfg 'feature="alloc"' \
-        -C opt-level=3 -C codegen-units=1 -C lto=fat -C panic=abort \
-        -o "$build/rust/libfaster_hex.a" "$build/rust/src/lib.rs"
-    set -- "$@" "$build/rust/libfaster_hex.a"
+    # shellcheck disable=SC2086
+    compiles faster_hex staticlib "$build/rust/libcalls.a" "$build/rust/src/lib.rs" --cfg fuzzing \
+        -C lto=fat $bindings
+    set -- "$@" "$build/rust/libcalls.a"
     case $cpu in
     *v3) flags="$flags -DRUST -DSAME_WIDTH=avx2" ;;
     *) flags="$flags -DRUST -DSAME_WIDTH=sse41" ;;
