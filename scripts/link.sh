@@ -4,7 +4,8 @@
 # a processor with AVX2 once more in the build for x86-64-v3. Prints a line for each thing that differs, and `N passed, M failed` at the end;
 # its status is then 1 where one failed.
 # Usage: scripts/link.sh. It wants `rt`, compilers for C and C++ and `cargo`; CC, CXX and CARGO name
-# others. LINK_BUILD names another folder than the user's cache to build in.
+# others, and what is Rust is left out, and said, where there is no cargo. LINK_BUILD names another
+# folder than the user's cache to build in.
 set -eu
 
 top=$(cd "$(dirname "$0")/.." && pwd)
@@ -25,6 +26,10 @@ count() {
         failed=$((failed + 1))
         echo "failed: $1"
     fi
+}
+
+has_cargo() {
+    command -v "$cargo" >/dev/null
 }
 
 # prints NAME PROGRAM: whether it prints what it should.
@@ -67,6 +72,7 @@ links() {
     "$cxx" -std=c++11 -Wall -Wextra -Wconversion -Werror -O2 -I"$header" -o "$build/digits_cpp" \
         "$top/examples/cpp/digits.cpp" "$2/libfaster_hex.a"
     prints "the example in C++, $1" "$build/digits_cpp"
+    has_cargo || return 0
     FASTER_HEX_LIB=$2 "$cargo" build -q --release --offline \
         --manifest-path "$top/examples/rust/Cargo.toml" --target-dir "$build/cargo"
     prints "the example in Rust, $1" "$build/cargo/release/digits"
@@ -90,6 +96,10 @@ standards() {
 
 # The examples of the bindings, by each of their features.
 bindings() {
+    if ! has_cargo; then
+        echo "left out: the example in Rust and those of the bindings, since there is no $cargo"
+        return
+    fi
     for features in '' alloc std; do
         status=0
         FASTER_HEX_LIB=$1 "$cargo" test -q --offline --no-default-features --features "$features" \
