@@ -1,5 +1,6 @@
 -- What the exported calls answer.
-use Rattle.std.specs.Prelude.{◌≡◌, ℕ, ◌^◌, ◌==◌, nat_le, nat_lt, if◌then◌else◌, Bool, List, length, slice_index, Option, Some, None, MatchOption, Result, Ok, Err, MatchResult}
+use Rattle.std.specs.Prelude.{◌≡◌, ℕ, ◌^◌, ◌==◌, nat_le, nat_lt, if◌then◌else◌, Bool, List, length, slice_index}
+use Rattle.std.specs.Prelude.{Option, Some, None, MatchOption, Result, Ok, Err, MatchResult}
 use Rattle.hex_core.specs.declared.digit.CheckCase.{CheckCase}
 use Rattle.hex_core.specs.declared.digit.CheckCase.TheVariants as policy
 use Rattle.hex_core.specs.declared.error.Error.{Error}
@@ -59,7 +60,8 @@ FindsInvalid n s answer = MatchOption (policy_of n) (answer ≡ no_policy) (λ c
 
 -- the group that two numbers make, where they make one
 abbrev pub MadeOf : ℕ → ℕ → Option Group → Type 0
-MadeOf every sep made = MatchOption made (IsGroup every sep → ⊥) (λ group. IsGroup every sep × (piece_len group ≡ every) × (separator group ≡ sep))
+MadeOf every sep made = MatchOption made (IsGroup every sep → ⊥)
+    (λ group. IsGroup every sep × (piece_len group ≡ every) × (separator group ≡ sep))
 
 -- the answer for numbers that make none
 abbrev pub no_group : Answer

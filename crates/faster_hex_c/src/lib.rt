@@ -6,7 +6,8 @@
 ghost use Rattle.std.specs.Prelude.{◌≡◌, ◌↔◌, ◌≤◌, ◌<◌, ◌^◌, IsTrue, IsOk, None, MatchOption, OnOk, length};
 ghost use Rattle.hex_core.specs.declared.digit.CheckCase.TheVariants as policy;
 ghost use Rattle.hex_core.specs.Search.{first_invalid};
-ghost use Rattle.faster_hex_c.specs.Answers.{DecodesBy, DecodesGrouped, DecodesTo, EncodesGrouped, EncodesTo, FindsInvalid, answer_of, group_answer_of, policy_of};
+ghost use Rattle.faster_hex_c.specs.Answers.{DecodesBy, DecodesTo, EncodesTo, FindsInvalid, answer_of, policy_of};
+ghost use Rattle.faster_hex_c.specs.Answers.{DecodesGrouped, EncodesGrouped, group_answer_of};
 
 mod groups;
 
