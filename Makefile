@@ -16,6 +16,8 @@ LIBRARY = crates/faster_hex_c/$(OUT)/libfaster_hex.a
 HEADER = crates/faster_hex_c/faster_hex.h
 BINDINGS = bindings/rust
 TO = $(DESTDIR)$(PREFIX)
+CHECK = FHEX=$(abspath $(PROGRAM)) FASTER_HEX_LIB=$(abspath $(dir $(LIBRARY))) \
+	scripts/check.sh $(if $(RUST),--rust $(RUST))
 # How many tasks of the gate run at a time. Each has one job, since a second one reads all libraries
 # once more: a crate over serde_json took 118 seconds of processor by four jobs, and 81 by one.
 JOBS := $(shell n=$$(nproc); echo $$((n < 4 ? n : 4)))
@@ -36,7 +38,7 @@ test:
 	RT_JOBS=$(JOBS) rt ci
 
 check: build lib
-	scripts/check.sh $(if $(RUST),--rust $(RUST))
+	$(CHECK)
 
 # Before a release. It stops at the first that fails.
 deep: build lib
@@ -44,7 +46,7 @@ deep: build lib
 	scripts/test-wrong-bodies
 	scripts/test-rows
 	scripts/examples.sh --prove
-	scripts/check.sh $(if $(RUST),--rust $(RUST))
+	$(CHECK)
 	scripts/random-rows
 
 install: build lib

@@ -48,14 +48,15 @@ built() {
     cat >"$folder/$3"
     line=$(grep "^$2" "$top/README.md") || line='echo README.md has no such line'
     status=0
-    (cd "$folder" && CARGO_NET_OFFLINE=true PKG_CONFIG_PATH=$made/there/lib/pkgconfig sh -c "$line") \
+    (cd "$folder" && env -u FASTER_HEX_LIB CARGO_NET_OFFLINE=true \
+        PKG_CONFIG_PATH="$made/there/lib/pkgconfig" sh -c "$line") \
         >"$made/printed" 2>"$made/said" || status=$?
     echo 68656c6c6f | cmp -s - "$made/printed" || status=1
     [ "$status" -eq 0 ] || cat "$made/said" "$made/printed"
     count "the program in $1" "$status"
 }
 
-make -s -C "$top" install PREFIX="$made/there"
+make -s -C "$top" install PREFIX="$made/there" DESTDIR=
 holds 'the installed files' "$made/there"
 make -s -C "$top" install PREFIX=/usr DESTDIR="$made/below"
 holds 'the files below DESTDIR' "$made/below/usr"
@@ -109,7 +110,7 @@ fn main() -> Result<(), Error> {
 }
 END
 
-make -s -C "$top" uninstall PREFIX="$made/there"
+make -s -C "$top" uninstall PREFIX="$made/there" DESTDIR=
 status=0
 [ -z "$(find "$made/there" -type f)" ] || status=$?
 count 'nothing is left of an uninstalled copy' "$status"

@@ -3,15 +3,16 @@
 # undefined behaviour, and with its threads under that of threads. Where valgrind is there, all once
 # more under it, which sees what the library reads too. Prints a line for each thing that failed, and
 # `N passed, M failed` at the end; its status is then 1 where one failed.
-# Usage: scripts/library.sh, after `make lib`. CC names another C compiler, LIBRARY another archive.
+# Usage: scripts/library.sh, after `make lib`. CC names another C compiler, FASTER_HEX_LIB another folder
+# of the library.
 set -eu
 
 here=$(cd "$(dirname "$0")" && pwd)
 crate=$here/../crates/faster_hex_c
-library=${LIBRARY:-$crate/out/libfaster_hex.a}
+library=${FASTER_HEX_LIB:-$crate/out}/libfaster_hex.a
 cc=${CC:-cc}
 if [ ! -f "$library" ]; then
-    echo "$0: no library $library: run make lib, or name one by LIBRARY" >&2
+    echo "$0: no library $library: run make lib, or name its folder by FASTER_HEX_LIB" >&2
     exit 2
 fi
 made=$(mktemp -d)
