@@ -4,6 +4,7 @@ pub mod ByteLemmas
 pub mod Facts
 pub mod Fronts
 pub mod HashLemmas
+pub mod JoinLemmas
 pub mod LaneLemmas
 pub mod LawProofs
 pub mod LookupLemmas

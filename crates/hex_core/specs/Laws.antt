@@ -1,5 +1,6 @@
 -- Facts that the definitions alone imply.
-use Rattle.std.specs.Prelude.{◌≡◌, ◌<◌, ◌≤◌, ◌↔◌, ◌*◌, ℕ, Bool, List, ◌++◌, length, take, slice_index, slice_range, All, Option, None, Some}
+use Rattle.std.specs.Prelude.{◌≡◌, ◌<◌, ◌≤◌, ◌↔◌, ◌+◌, ◌*◌, ◌/◌, ◌%◌, ℕ, Bool, List, ◌++◌, length, take, drop, slice_index, slice_range, All, Option, None, Some, option_map}
+use Rattle.std.specs.Option.{option_or}
 use Rattle.std.specs.Str.{IsAscii, IsUtf8, str_to_ascii_lowercase}
 use Rattle.hex_core.specs.declared.digit.CheckCase.{CheckCase}
 use Rattle.hex_core.specs.declared.digit.CheckCase.TheVariants as policy
@@ -105,3 +106,23 @@ NamesFirstInvalid refusal = (c : CheckCase) (s : List ℕ) (i b : ℕ)
 -- the front of old bytes with a new front is that front
 abbrev pub FrontsAreKept : Type 0
 FrontsAreKept = (old bytes : List ℕ) → take (length bytes) (with_front old bytes) ≡ bytes
+
+-- what two sources spell, the joined source spells joined
+abbrev pub JoinedSourcesSpellJoined : Type 0
+JoinedSourcesSpellJoined = (c : CheckCase) (front back xs ys : List ℕ)
+    → Spells c front xs
+    → Spells c back ys
+    → Spells c (front ++ back) (xs ++ ys)
+
+-- what a joined source spells, its parts spell in parts, where it is cut behind a whole pair
+abbrev pub PartsSpellParts : Type 0
+PartsSpellParts = (c : CheckCase) (front back bytes : List ℕ)
+    → length front % 2 ≡ 0
+    → Spells c (front ++ back) bytes
+    → Spells c front (take (length front / 2) bytes) × Spells c back (drop (length front / 2) bytes)
+
+-- the first invalid byte of a joined source is that of the first part, or else that of the second,
+-- behind the first's length
+abbrev pub FirstInvalidOfJoined : Type 0
+FirstInvalidOfJoined = (c : CheckCase) (front back : List ℕ)
+    → first_invalid c (front ++ back) ≡ option_or (first_invalid c front) (option_map (λ i. length front + i) (first_invalid c back))

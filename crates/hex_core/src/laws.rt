@@ -2,7 +2,7 @@
 //! needs one in a proof calls it.
 
 ghost use Rattle.std.specs.Prelude.{ℕ};
-ghost use Rattle.hex_core.specs.Laws.{AcceptsWhatFills, AcceptsWhatFits, AcceptsWhatSpells, AreBytes, DecodingInvertsEncoding, EitherCaseIsLowercased, EncodingInvertsStrictDecoding, EncodingLowercases, FirstInvalidIsFirst, FrontsAreKept, JoinedTexts, NamesFirstInvalid, PartsAreValidWhereTheirRangesAre, SpellsBytes, SpellsOneList, StrictAcceptsTexts, TextsAreAscii, TextsAreTwiceAsLong};
+ghost use Rattle.hex_core.specs.Laws.{AcceptsWhatFills, AcceptsWhatFits, AcceptsWhatSpells, AreBytes, DecodingInvertsEncoding, EitherCaseIsLowercased, EncodingInvertsStrictDecoding, EncodingLowercases, FirstInvalidIsFirst, FirstInvalidOfJoined, FrontsAreKept, JoinedSourcesSpellJoined, JoinedTexts, NamesFirstInvalid, PartsAreValidWhereTheirRangesAre, PartsSpellParts, SpellsBytes, SpellsOneList, StrictAcceptsTexts, TextsAreAscii, TextsAreTwiceAsLong};
 ghost use Rattle.hex_core.specs.Refusal.{array_refusal, decode_refusal, source_refusal};
 
 /// What a slice holds are bytes, as a law asks that is for bytes alone.
@@ -80,4 +80,17 @@ pub fn an_invalid_char_is_the_first_invalid_byte()
 /// The front of old bytes with a new front is that front.
 pub fn a_new_front_is_the_front()
     ensures { FrontsAreKept }
+{}
+
+/// What two sources spell, the joined source spells joined; and what a joined source spells, its
+/// parts spell in parts, where it is cut behind a whole pair.
+pub fn a_joined_source_spells_the_joined_list()
+    ensures joined { JoinedSourcesSpellJoined }
+    ensures parts { PartsSpellParts }
+{}
+
+/// The first invalid byte of a joined source is that of its first part, or else that of the second,
+/// behind the first's length.
+pub fn the_first_invalid_byte_of_a_joined_source()
+    ensures { FirstInvalidOfJoined }
 {}
