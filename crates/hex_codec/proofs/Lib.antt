@@ -3,6 +3,7 @@ mod CountLemmas
 pub mod GroupLemmas
 pub mod ListLemmas
 mod ReadBack
+pub mod StreamLemmas
 mod StripLemmas
 pub mod WriteLemmas
 mod WrongLemmas

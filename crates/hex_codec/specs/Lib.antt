@@ -6,4 +6,5 @@ pub mod GroupLaws
 pub mod Grouped
 pub mod GroupedText
 pub mod Groups
+pub mod Stream
 pub mod Strip

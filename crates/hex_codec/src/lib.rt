@@ -8,6 +8,7 @@ mod group;
 pub mod grouped;
 pub mod heapless_08;
 pub mod laws;
+pub mod stream;
 pub mod strings;
 mod strip;
 

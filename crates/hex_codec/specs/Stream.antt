@@ -1,0 +1,63 @@
+-- Decoding digits that come in chunks.
+use Rattle.std.specs.Prelude.{◌≡◌, ℕ, ◌+◌, ◌-◌, ◌/◌, ◌^◌, nat_le, nat_lt, if◌then◌else◌, List, ◌++◌, length, slice_index, Option, Some, None, option_map, Result, MatchResult}
+use Rattle.std.specs.Option.{option_to_list}
+use Rattle.hex_core.specs.declared.digit.CheckCase.{CheckCase}
+use Rattle.hex_core.specs.declared.error.Error.{Error}
+use Rattle.hex_core.specs.declared.error.Error.TheVariants.{InvalidChar, Overflow, OutputTooSmall}
+use Rattle.hex_core.specs.Refusal.{first_bad_char}
+use Rattle.hex_core.specs.Search.{first_invalid}
+use Rattle.hex_core.specs.Text.{Spells, with_front}
+use Rattle.hex_codec.specs.declared.stream.Decoder.{Decoder}
+
+-- a decoder's policy, how many digits it has been fed, and the digit that waits, if one does
+abbrev pub policy_of : Decoder → CheckCase
+policy_of decoder = decoder.case
+
+abbrev pub position_of : Decoder → ℕ
+position_of decoder = decoder.position
+
+abbrev pub waiting_in : Decoder → List ℕ
+waiting_in decoder = option_to_list decoder.waiting
+
+-- digits spell a list but for those that wait behind them: all are valid, and the others spell it
+pub record SpellsBut (c : CheckCase) (digits bytes waiting : List ℕ) : Type 0 where
+  pub valid : first_invalid c digits ≡ None
+  pub pairs : List ℕ
+  pub parts : digits ≡ pairs ++ waiting
+  pub spelled : Spells c pairs bytes
+
+-- a decoder has been fed these digits, and has written what they spell, but for the one that waits
+abbrev pub HasFed : Decoder → List ℕ → List ℕ → Type 0
+HasFed decoder fed written = (position_of decoder ≡ length fed) × SpellsBut (policy_of decoder) fed written (waiting_in decoder)
+
+-- how many more pairs are whole, once n digits follow `had` ones
+abbrev pub pairs_more : ℕ → ℕ → ℕ
+pairs_more had n = (had + n) / 2 - had / 2
+
+-- what a feed refuses: more digits than a `usize` counts, then too little room, then the first invalid
+-- byte of all that was fed
+abbrev pub feed_refusal : CheckCase → List ℕ → List ℕ → ℕ → Option Error
+feed_refusal c fed src room =
+    if nat_le (2 ^ 64) (length fed + length src) then Some Overflow
+    else if nat_lt room (pairs_more (length fed) (length src)) then Some (OutputTooSmall (pairs_more (length fed) (length src)))
+    else first_bad_char c (fed ++ src)
+
+-- a feed: the number of bytes, which stand over the old ones and with which all that was fed is
+-- written; or the refusal
+abbrev pub Feeds : Decoder → Decoder → List ℕ → List ℕ → List ℕ → Result ℕ Error → Type 0
+Feeds decoder decoder' src old new result = (fed written : List ℕ) → HasFed decoder fed written
+    → MatchResult result
+    (λ n. (feed_refusal (policy_of decoder) fed src (length old) ≡ None)
+    × ((bytes : List ℕ) × (n ≡ length bytes) × (new ≡ with_front old bytes) × HasFed decoder' (fed ++ src) (written ++ bytes)))
+    (λ e. feed_refusal (policy_of decoder) fed src (length old) ≡ Some e)
+
+-- the first invalid byte of a source that follows `had` digits
+abbrev pub bad_char_behind : CheckCase → ℕ → List ℕ → Option Error
+bad_char_behind c had src = option_map (λ f. InvalidChar (had + f) (slice_index src f)) (first_invalid c src)
+
+-- decoding the pairs of some digits: what they spell stands over the old bytes, and the digit behind
+-- them waits; or the first invalid byte of the source, and the destination as it was
+abbrev pub DecodesPairs : CheckCase → ℕ → List ℕ → List ℕ → List ℕ → List ℕ → Result (Option ℕ) Error → Type 0
+DecodesPairs c had src digits old new result = MatchResult result
+    (λ waiting. (bytes : List ℕ) × SpellsBut c digits bytes (option_to_list waiting) × (new ≡ with_front old bytes))
+    (λ e. (bad_char_behind c had src ≡ Some e) × (new ≡ old))

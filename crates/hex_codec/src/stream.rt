@@ -1,0 +1,244 @@
+//! Decoding digits that come in chunks of any length, as from a file or a socket.
+//!
+//! Encoding by chunks keeps nothing: the text of a joined list is the texts joined.
+//!
+//! ```rust
+//! let mut text = [0; 6];
+//! let front = hex_encode_into(&[0, 0xab], &mut text, false)?;
+//! hex_encode_into(&[0xcd], &mut text[front..], false)?;
+//! assert_eq!(rt; text.as_slice(), b"00abcd".as_slice());
+//! ```
+
+ghost use Rattle.std.specs.Prelude.{◌≡◌, ◌≢◌, ◌↔◌, ◌+◌, ◌-◌, ◌/◌, ◌^◌, ◌<◌, ◌≤◌, ◌++◌, ◌∷◌, [], None, Some, List, ℕ, drop, length, IsSome, IsTrue, MatchOption, OnErr};
+ghost use Rattle.std.specs.Option.{ForSome, option_to_list};
+ghost use Rattle.hex_core.specs.Digit.{value};
+ghost use Rattle.hex_core.specs.Search.{first_invalid};
+ghost use Rattle.hex_core.specs.Text.{Spells};
+
+use crate::decode::hex_decode_into;
+use hex_core::{Backend, CheckCase, Error, digit_value};
+
+/// Decodes digits that are fed to it in chunks, each of which may end within a pair.
+///
+/// It keeps its policy, how many digits it has been fed, and the digit that waits for its partner.
+/// What it writes, joined, is what all that it was fed spells, but for a digit that waits: the
+/// answer of any cutting into chunks is that of one call over the whole. No memory is taken.
+///
+/// ```rust
+/// let mut decoder = Decoder::new(CheckCase::None);
+/// let mut bytes = [0; 3];
+/// assert_eq!(rt; decoder.feed(b"00a", &mut bytes)?, 1);
+/// assert_eq!(rt; decoder.feed(b"BcD", &mut bytes[1..])?, 2);
+/// decoder.finish()?;
+/// assert_eq!(rt; bytes, [0, 0xab, 0xcd]);
+/// ```
+#[derive(Clone, Copy, Debug, PartialEq, Eq)]
+pub struct Decoder {
+    case: CheckCase,
+    position: usize,
+    waiting: Option<u8>,
+    // The digit that waits was tested as it came.
+    ghost tested: { ForSome waiting (λ digit. IsSome (value case digit)) },
+}
+
+impl Decoder {
+    ghost use Rattle.hex_core.specs.Calls.{Answers};
+    ghost use Rattle.hex_core.specs.Refusal.{source_refusal};
+    ghost use Rattle.hex_codec.specs.Stream.{DecodesPairs, Feeds, HasFed, bad_char_behind, policy_of, position_of, waiting_in};
+
+    /// A decoder that has been fed nothing, and reads the letters that `case` admits.
+    pub fn new(case: CheckCase) -> Decoder
+        ensures policy { policy_of result ≡ case }
+        ensures fresh { HasFed result [] [] }
+    {
+        Decoder {
+            case,
+            position: 0,
+            waiting: None,
+        }
+    }
+
+    /// Returns how many digits it has been fed, and so the place of the next one.
+    ///
+    /// ```rust
+    /// let mut decoder = Decoder::new(CheckCase::None);
+    /// decoder.feed(b"00a", &mut [0; 1])?;
+    /// assert_eq!(rt; decoder.position(), 3);
+    /// ```
+    pub fn position(&self) -> usize
+        ensures { result ≡ position_of self.now }
+    {
+        self.position
+    }
+
+    /// Takes more digits, writes the bytes of all pairs that are whole now to the front of `dst`,
+    /// and returns how many bytes that are. What stands behind them stays.
+    ///
+    /// # Errors
+    ///
+    /// In this order, each of which leaves `dst` and the decoder as they were, so that it may be fed
+    /// again:
+    ///
+    /// 1. [`Error::Overflow`] where all digits together are more than a `usize` counts;
+    /// 2. [`Error::OutputTooSmall`] with the room that this feed takes;
+    /// 3. [`Error::InvalidChar`] with the first byte that is no digit, and its place in all that was
+    ///    fed, also where it would wait for a partner.
+    ///
+    /// ```rust
+    /// let mut decoder = Decoder::new(CheckCase::None);
+    /// let mut bytes = [0xa5; 2];
+    /// assert_eq!(rt; decoder.feed(b"00a", &mut bytes)?, 1);
+    /// let refused = decoder.feed(b"bg", &mut bytes);
+    /// assert_eq!(rt; refused, Err(Error::InvalidChar { index: 4, byte: b'g' }));
+    /// assert_eq!(rt; decoder.feed(b"bcd", &mut bytes[1..]), Err(Error::OutputTooSmall { required: 2 }));
+    /// assert_eq!(rt; (bytes, decoder.position()), ([0, 0xa5], 3));
+    /// ```
+    pub fn feed(&mut self, src: &[u8], dst: &mut [u8]) -> Result<usize, Error>
+        ensures feeds { Feeds self.old self.new src.now dst.old dst.new result }
+        ensures policy { policy_of self.new ≡ policy_of self.old }
+        ensures unchanged { OnErr result ((self.new ≡ self.old) × (dst.new ≡ dst.old)) }
+    {
+        let Some(position) = self.position.checked_add(src.len()) else {
+            return Err(Error::Overflow);
+        };
+        let required = self.whole_pairs(src.len());
+        if dst.len() < required {
+            return Err(Error::OutputTooSmall { required });
+        }
+        let waiting = self.decode_pairs(src, dst)?;
+        *self = Decoder {
+            case: self.case,
+            position,
+            waiting,
+        };
+        Ok(required)
+    }
+
+    /// Ends the decoding: all that was fed has to be whole pairs.
+    ///
+    /// # Errors
+    ///
+    /// [`Error::OddLength`] where a digit waits for its partner. It is the last one that was fed, at
+    /// `position() - 1`.
+    ///
+    /// ```rust
+    /// let mut decoder = Decoder::new(CheckCase::None);
+    /// decoder.feed(b"00a", &mut [0; 1])?;
+    /// assert_eq!(rt; decoder.finish(), Err(Error::OddLength));
+    /// ```
+    pub fn finish(self) -> Result<(), Error>
+        ensures { (fed written : List ℕ) → HasFed self fed written
+            → Answers (source_refusal (policy_of self) fed) (λ _. Spells (policy_of self) fed written) result }
+    {
+        if self.waiting.is_some() {
+            return Err(Error::OddLength);
+        }
+        Ok(())
+    }
+
+    // How many pairs so many more digits make whole.
+    fn whole_pairs(&self, digits: usize) -> usize
+        ensures { result ≡ (length (waiting_in self.now) + digits) / 2 }
+    {
+        if self.waiting.is_some() {
+            digits / 2 + digits % 2
+        } else {
+            digits / 2
+        }
+    }
+
+    // Decodes the pairs that are whole with more digits, and returns the digit that waits then.
+    #[inline(always)]
+    fn decode_pairs(&self, src: &[u8], dst: &mut [u8]) -> Result<Option<u8>, Error>
+        requires counted { position_of self.now + length src.now < 2 ^ 64 }
+        requires room { (length (waiting_in self.now) + length src.now) / 2 ≤ length dst.old }
+        ensures { DecodesPairs (policy_of self.now) (position_of self.now) src.now
+            (waiting_in self.now ++ src.now) dst.old dst.new result }
+    {
+        let Some(high) = self.waiting else {
+            return self.decode_from(src, 0, dst);
+        };
+        if src.is_empty() {
+            return Ok(Some(high));
+        }
+        let Some(byte) = pair_byte(high, src[0], self.case) else {
+            return Err(self.error_in(src));
+        };
+        let waiting = self.decode_from(src, 1, &mut dst[1..])?;
+        dst[0] = byte;
+        Ok(waiting)
+    }
+
+    // Decodes the pairs that are whole from a place on, and returns the digit behind them.
+    #[inline(always)]
+    fn decode_from(&self, src: &[u8], start: usize, dst: &mut [u8]) -> Result<Option<u8>, Error>
+        requires inside { start ≤ length src.now }
+        requires counted { position_of self.now + length src.now < 2 ^ 64 }
+        requires room { (length src.now - start) / 2 ≤ length dst.old }
+        ensures { DecodesPairs (policy_of self.now) (position_of self.now) src.now
+            (drop start src.now) dst.old dst.new result }
+    {
+        let end = src.len() - (src.len() - start) % 2;
+        let waiting = digit_behind(src, end);
+        if !is_read(waiting, self.case) {
+            return Err(self.error_in(src));
+        }
+        match hex_decode_into(&src[start..end], dst, self.case) {
+            Ok(_) => Ok(waiting),
+            Err(_) => Err(self.error_in(src)),
+        }
+    }
+
+    // The first invalid byte of a chunk that has one, by its place in all that was fed.
+    #[cold]
+    fn error_in(&self, src: &[u8]) -> Error
+        requires invalid { first_invalid (policy_of self.now) src.now ≢ None }
+        requires counted { position_of self.now + length src.now < 2 ^ 64 }
+        ensures { bad_char_behind (policy_of self.now) (position_of self.now) src.now ≡ Some result }
+    {
+        let Some(index) = Backend::plain().first_invalid(src, self.case) else {
+            unreachable!();
+        };
+        Error::InvalidChar {
+            index: self.position + index,
+            byte: src[index],
+        }
+    }
+}
+
+// The digit behind the whole pairs of a source, where it has one.
+#[inline(always)]
+fn digit_behind(src: &[u8], end: usize) -> Option<u8>
+    requires inside { end ≤ length src.now }
+    requires last { length src.now ≤ end + 1 }
+    ensures { option_to_list result ≡ drop end src.now }
+{
+    if end < src.len() {
+        Some(src[end])
+    } else {
+        None
+    }
+}
+
+// Whether a digit that is to wait has a value, where there is one.
+#[inline(always)]
+fn is_read(waiting: Option<u8>, case: CheckCase) -> bool
+    ensures { IsTrue result ↔ ForSome waiting (λ digit. IsSome (value case digit)) }
+{
+    match waiting {
+        Some(digit) => digit_value(digit, case).is_some(),
+        None => true,
+    }
+}
+
+// The byte that two digits spell, of which the first has a value.
+#[inline(always)]
+fn pair_byte(high: u8, low: u8, case: CheckCase) -> Option<u8>
+    requires { IsSome (value case high) }
+    ensures { MatchOption result (value case low ≡ None)
+        (λ byte. Spells case (high ∷ low ∷ []) (byte ∷ [])) }
+{
+    let high = digit_value(high, case).unwrap();
+    let low = digit_value(low, case)?;
+    Some(16 * high + low)
+}
