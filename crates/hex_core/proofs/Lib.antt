@@ -2,6 +2,7 @@ pub mod AsciiLemmas
 pub mod BlockLemmas
 pub mod ByteLemmas
 pub mod Facts
+pub mod FrontLemmas
 pub mod Fronts
 pub mod HashLemmas
 pub mod JoinLemmas
@@ -10,6 +11,7 @@ pub mod LawProofs
 pub mod LookupLemmas
 pub mod NumberLemmas
 pub mod OwnedLemmas
+pub mod OrderLemmas
 pub mod PairLemmas
 pub mod PositionLemmas
 pub mod ProbeLemmas

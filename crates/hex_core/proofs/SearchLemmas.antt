@@ -158,15 +158,26 @@ pub looks_ended : (s : List ℕ) (start : ℕ) (o : Option ℕ) → o ≡ None �
 looks_ended s start (Some g) is from = cc
 looks_ended s start None is from = omega (arith, blocks_within (length s))
 
--- the first invalid byte is in the source, has no value, and all before it have one
+-- a place is the first invalid byte exactly where it is in the source, has no value, and all before
+-- it have one
 none_from_test : (o : Option ℕ) → is_none o ≡ true → o ≡ None
 none_from_test (Some x) e = cc
 none_from_test None e = refl
+
+test_from_lack : (o : Option ℕ) → o ≡ None → is_some o ≡ false
+test_from_lack o e = rw e refl
 
 pub first_is_first : (c : CheckCase) (s : List ℕ) (f : ℕ) → first_invalid c s ≡ Some f → (f < length s) × (value c (slice_index s f) ≡ None) × AllValid c s 0 f
 first_is_first c s f e =
     let found = position-Some (lacks c) s f 0 e in
     (found.0, none_from_test (value c (slice_index s f)) found.1, valid_before c s f e)
+
+pub exactly_first : (c : CheckCase) (s : List ℕ) (f : ℕ) → (first_invalid c s ≡ Some f) ↔ ((f < length s) × (value c (slice_index s f) ≡ None) × AllValid c s 0 f)
+exactly_first c s f = (first_is_first c s f, λ (inside, here, before). first_invalid_is c s f inside before (test_from_lack (value c (slice_index s f)) here))
+
+-- there is none exactly where the whole source is valid
+pub none_is_all_valid : (c : CheckCase) (s : List ℕ) → (first_invalid c s ≡ None) ↔ AllValid c s 0 (length s)
+none_is_all_valid c s = (none_valid c s, first_invalid_none c s)
 
 -- a part has no invalid byte exactly where all bytes of its range are valid
 pub part_is_valid : (c : CheckCase) (s : List ℕ) (start end : ℕ) → end ≤ length s → (first_invalid c (slice_range s start end) ≡ None) ↔ AllValid c s start end

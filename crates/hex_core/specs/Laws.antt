@@ -1,12 +1,15 @@
 -- Facts that the definitions alone imply.
 use Rattle.std.specs.Prelude.{◌≡◌, ◌<◌, ◌≤◌, ◌↔◌, ◌+◌, ◌*◌, ◌/◌, ◌%◌, ℕ, Bool, List, ◌++◌, length, take, drop, slice_index, slice_range, All, Option, None, Some, option_map}
 use Rattle.std.specs.Option.{option_or}
+use Rattle.std.specs.Cmp.Lexicographic.{slice_cmp}
+use Rattle.std.specs.Ordering.{nat_cmp}
 use Rattle.std.specs.Str.{IsAscii, IsUtf8, str_to_ascii_lowercase}
 use Rattle.hex_core.specs.declared.digit.CheckCase.{CheckCase}
 use Rattle.hex_core.specs.declared.digit.CheckCase.TheVariants as policy
 use Rattle.hex_core.specs.declared.error.Error.{Error}
 use Rattle.hex_core.specs.declared.error.Error.TheVariants.{InvalidChar}
 use Rattle.hex_core.specs.Digit.{strict, value}
+use Rattle.hex_core.specs.Plans.{StoresBlocks, digits_before}
 use Rattle.hex_core.specs.Search.{AllValid, first_invalid}
 use Rattle.hex_core.specs.Text.{Spells, lowercase, text, with_front}
 use Rattle.hex_core.specs.Refusal.{array_refusal, decode_refusal, source_refusal}
@@ -84,11 +87,16 @@ TextsAreAscii = (upper : Bool) (bytes : List ℕ)
     → AreBytes bytes
     → IsAscii (text upper bytes) × IsUtf8 (text upper bytes)
 
--- the first invalid byte is in the source, has no value, and all before it have one
+-- a place is the first invalid byte exactly where it is in the source, its byte has no value, and all
+-- before it have one
 abbrev pub FirstInvalidIsFirst : Type 0
 FirstInvalidIsFirst = (c : CheckCase) (s : List ℕ) (f : ℕ)
-    → first_invalid c s ≡ Some f
-    → (f < length s) × (value c (slice_index s f) ≡ None) × AllValid c s 0 f
+    → (first_invalid c s ≡ Some f) ↔ ((f < length s) × (value c (slice_index s f) ≡ None) × AllValid c s 0 f)
+
+-- there is none exactly where all bytes have a value
+abbrev pub NoneIsInvalidWhereAllAreValid : Type 0
+NoneIsInvalidWhereAllAreValid = (c : CheckCase) (s : List ℕ)
+    → (first_invalid c s ≡ None) ↔ AllValid c s 0 (length s)
 
 -- a part has no invalid byte exactly where all bytes of its range are valid
 abbrev pub PartsAreValidWhereTheirRangesAre : Type 0
@@ -126,3 +134,33 @@ PartsSpellParts = (c : CheckCase) (front back bytes : List ℕ)
 abbrev pub FirstInvalidOfJoined : Type 0
 FirstInvalidOfJoined = (c : CheckCase) (front back : List ℕ)
     → first_invalid c (front ++ back) ≡ option_or (first_invalid c front) (option_map (λ i. length front + i) (first_invalid c back))
+
+-- a front as long as what it lies over is all of it
+abbrev pub WholeFrontsAreAll : Type 0
+WholeFrontsAreAll = (old bytes : List ℕ) → length bytes ≡ length old → with_front old bytes ≡ bytes
+
+-- a front of a front is a front of the whole
+abbrev pub FrontsNest : Type 0
+FrontsNest = (old bytes front : List ℕ)
+    → length front ≤ length bytes
+    → with_front (with_front old bytes) front ≡ with_front old (with_front bytes front)
+
+-- what lies behind a front stays
+abbrev pub BytesBehindAFrontStay : Type 0
+BytesBehindAFrontStay = (old bytes : List ℕ) (i : ℕ)
+    → length bytes ≤ i
+    → slice_index (with_front old bytes) i ≡ slice_index old i
+
+-- so does what lies behind the blocks of a decoding that was given up
+abbrev pub BytesBehindBlocksStay : Type 0
+BytesBehindBlocksStay = (block : ℕ) (c : CheckCase) (s old new : List ℕ) (i : ℕ)
+    → StoresBlocks block c s old new
+    → digits_before block c s / 2 ≤ i
+    → slice_index new i ≡ slice_index old i
+
+-- two texts in one case compare as their lists do
+abbrev pub TextsCompareAsLists : Type 0
+TextsCompareAsLists = (upper : Bool) (bytes others : List ℕ)
+    → AreBytes bytes
+    → AreBytes others
+    → slice_cmp nat_cmp (text upper bytes) (text upper others) ≡ slice_cmp nat_cmp bytes others

@@ -2,7 +2,7 @@
 //! needs one in a proof calls it.
 
 ghost use Rattle.std.specs.Prelude.{ℕ};
-ghost use Rattle.hex_core.specs.Laws.{AcceptsWhatFills, AcceptsWhatFits, AcceptsWhatSpells, AreBytes, DecodingInvertsEncoding, EitherCaseIsLowercased, EncodingInvertsStrictDecoding, EncodingLowercases, FirstInvalidIsFirst, FirstInvalidOfJoined, FrontsAreKept, JoinedSourcesSpellJoined, JoinedTexts, NamesFirstInvalid, PartsAreValidWhereTheirRangesAre, PartsSpellParts, SpellsBytes, SpellsOneList, StrictAcceptsTexts, TextsAreAscii, TextsAreTwiceAsLong};
+ghost use Rattle.hex_core.specs.Laws.{AcceptsWhatFills, AcceptsWhatFits, AcceptsWhatSpells, AreBytes, DecodingInvertsEncoding, EitherCaseIsLowercased, EncodingInvertsStrictDecoding, EncodingLowercases, FirstInvalidIsFirst, FirstInvalidOfJoined, FrontsAreKept, JoinedSourcesSpellJoined, JoinedTexts, NamesFirstInvalid, PartsAreValidWhereTheirRangesAre, PartsSpellParts, SpellsBytes, SpellsOneList, StrictAcceptsTexts, TextsAreAscii, TextsAreTwiceAsLong, BytesBehindAFrontStay, BytesBehindBlocksStay, FrontsNest, NoneIsInvalidWhereAllAreValid, TextsCompareAsLists, WholeFrontsAreAll};
 ghost use Rattle.hex_core.specs.Refusal.{array_refusal, decode_refusal, source_refusal};
 
 /// What a slice holds are bytes, as a law asks that is for bytes alone.
@@ -62,10 +62,12 @@ pub fn a_text_is_ascii_and_twice_as_long()
     ensures ascii { TextsAreAscii }
 {}
 
-/// The first invalid byte is in the source and has no value, and all before it have one; a part has
-/// none exactly where each byte of its range has a value.
+/// A place is the first invalid byte exactly where it is in the source, its byte has no value, and
+/// all before it have one. There is none exactly where all have one; and a part has none exactly
+/// where each byte of its range has one.
 pub fn the_first_invalid_byte_is_the_first()
     ensures first { FirstInvalidIsFirst }
+    ensures none { NoneIsInvalidWhereAllAreValid }
     ensures parts { PartsAreValidWhereTheirRangesAre }
 {}
 
@@ -77,9 +79,23 @@ pub fn an_invalid_char_is_the_first_invalid_byte()
     ensures source { NamesFirstInvalid source_refusal }
 {}
 
-/// The front of old bytes with a new front is that front.
+/// The front of old bytes with a new front is that front, and all of them where it is as long; a
+/// front of it is a front of the whole; and what lies behind it stays.
 pub fn a_new_front_is_the_front()
-    ensures { FrontsAreKept }
+    ensures kept { FrontsAreKept }
+    ensures whole { WholeFrontsAreAll }
+    ensures nested { FrontsNest }
+    ensures behind { BytesBehindAFrontStay }
+{}
+
+/// A decoding that was given up leaves what lies behind its blocks.
+pub fn what_lies_behind_the_blocks_stays()
+    ensures { BytesBehindBlocksStay }
+{}
+
+/// Two texts in one case compare, digit by digit, as their lists do, byte by byte.
+pub fn texts_compare_as_their_lists()
+    ensures { TextsCompareAsLists }
 {}
 
 /// What two sources spell, the joined source spells joined; and what a joined source spells, its
