@@ -1,6 +1,7 @@
 //! Hex digits: what a byte's value is under a policy.
 
 ghost use Rattle.std.specs.Prelude.{◌≡◌};
+ghost use Rattle.hex_core.specs.declared.digit.CheckCase.TheVariants as policy;
 ghost use Rattle.hex_core.specs.Digit.{value};
 
 /// Which letter cases are read when digits are checked or decoded.
@@ -12,15 +13,23 @@ ghost use Rattle.hex_core.specs.Digit.{value};
 /// assert_eq!(rt; digit_value(b'b', CheckCase::Lower), Some(11));
 /// assert_eq!(rt; digit_value(b'B', CheckCase::Lower), None);
 /// ```
-#[derive(Clone, Copy, Debug, Default, PartialEq, Eq, Hash)]
+#[derive(Clone, Copy, Debug, PartialEq, Eq, Hash)]
 pub enum CheckCase {
     /// Reads `a` to `f` and `A` to `F`.
-    #[default]
     None,
     /// Reads `a` to `f` alone.
     Lower,
     /// Reads `A` to `F` alone.
     Upper,
+}
+
+impl Default for CheckCase {
+    ghost is_default = { λ case. case ≡ policy.None };
+
+    /// Returns the policy that reads both cases, `None`.
+    fn default() -> CheckCase {
+        CheckCase::None
+    }
 }
 
 /// Returns the value of `byte` as a digit under `case`, from 0 to 15, or `None` where the policy

@@ -1,3 +1,4 @@
+pub mod EntryLemmas
 mod FaultLemmas
 mod LineLemmas
 mod ReadBack

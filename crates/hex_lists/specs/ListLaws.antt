@@ -1,13 +1,13 @@
 -- Facts on digest lists that the definitions imply.
 use Rattle.std.specs.Prelude.{◌≡◌, ℕ, Bool, List, length, None}
-use Rattle.std.specs.List.{AllByRecursion}
+use Rattle.std.specs.List.{AllByRecursion, AllZip}
 use Rattle.hex_core.specs.declared.digit.CheckCase.{CheckCase}
 use Rattle.hex_core.specs.declared.digit.CheckCase.TheVariants as policy
 use Rattle.hex_core.specs.Digit.{strict}
 use Rattle.hex_core.specs.Laws.{AreBytes}
 use Rattle.hex_lists.specs.declared.digests.Entry.{Entry}
 use Rattle.hex_lists.specs.declared.digests.LineFault.{LineFault}
-use Rattle.hex_lists.specs.Lists.{FirstFault, Lists, first_bad_name, list_of}
+use Rattle.hex_lists.specs.Lists.{FirstFault, Lists, first_bad_name, list_of, with_last_newline}
 
 -- an entry's digest is one of N bytes, as that of each entry in a program is
 abbrev pub HasDigest : {N : ℕ} → Entry N → Type 0
@@ -27,3 +27,22 @@ FaultyListsNothing = (N : ℕ) (c : CheckCase) (s : List ℕ) (line : ℕ) (why 
     → FirstFault c N s line why
     → Lists c s entries
     → ⊥
+
+-- two entries have one digest, one mark and one name
+pub record SameEntry {N : ℕ} (e other : Entry N) : Type 0 where
+  pub digest : e.digest ≡ other.digest
+  pub binary : e.binary ≡ other.binary
+  pub name : e.name.now ≡ other.name.now
+
+-- a source is the list of one list of entries at most: two are as long, and the same entry by entry
+abbrev pub ListsOneList : Type 0
+ListsOneList = (N : ℕ) (c : CheckCase) (s : List ℕ) (entries others : List (Entry N))
+    → Lists c s entries
+    → Lists c s others
+    → AllZip SameEntry entries others
+
+-- what a strict policy reads is written as its source, with a newline behind the last line
+abbrev pub WritingInvertsStrictReading : Type 0
+WritingInvertsStrictReading = (N : ℕ) (upper : Bool) (s : List ℕ) (entries : List (Entry N))
+    → Lists (strict upper) s entries
+    → list_of upper entries ≡ with_last_newline s

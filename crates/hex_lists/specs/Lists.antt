@@ -1,5 +1,5 @@
 -- Digest lists: a line for each entry, of the digits of its digest, its mark and its name.
-use Rattle.std.specs.Prelude.{◌≡◌, ◌<◌, ℕ, ◌+◌, ◌*◌, ◌==◌, nat_lt, Bool, ◌&&◌, ◌||◌, if◌then◌else◌, List, [], ◌∷◌, ◌++◌, length, take, drop, slice_index, position, Option, Some, None}
+use Rattle.std.specs.Prelude.{◌≡◌, ◌<◌, ℕ, ◌+◌, ◌-◌, ◌*◌, ◌==◌, nat_lt, Bool, ◌&&◌, ◌||◌, if◌then◌else◌, List, [], ◌∷◌, ◌++◌, length, take, drop, slice_index, position, Option, Some, None}
 use Rattle.std.specs.List.{AllByRecursion, AllZip, flat_map, list_any, slice_split}
 use Rattle.hex_core.specs.declared.digit.CheckCase.{CheckCase}
 use Rattle.hex_core.specs.Search.{first_invalid}
@@ -80,3 +80,7 @@ is_bad_name name = length name == 0 || list_any (λ b. b == 10) name
 -- the first entry with such a name, counted from 0, or none
 abbrev pub first_bad_name : {N : ℕ} → List (Entry N) → Option ℕ
 first_bad_name entries = position (λ e. is_bad_name e.name.now) entries
+
+-- a source with a newline behind its last line, which may lack it
+abbrev pub with_last_newline : List ℕ → List ℕ
+with_last_newline s = if length s == 0 || slice_index s (length s - 1) == 10 then s else s ++ (10 ∷ [])

@@ -1,9 +1,12 @@
 //! Laws of digest lists, each as the contract of a function that does nothing: a caller that needs
 //! one in a proof calls it.
 
-ghost use Rattle.hex_lists.specs.ListLaws.{FaultyListsNothing, ReadingInvertsWriting};
+ghost use Rattle.hex_lists.specs.ListLaws.{FaultyListsNothing, ListsOneList, ReadingInvertsWriting, WritingInvertsStrictReading};
 
-use hex_core::laws::{a_source_is_accepted_where_it_spells_a_list, decoding_inverts_encoding};
+use hex_core::laws::{
+    a_source_is_accepted_where_it_spells_a_list, a_text_spells_one_list, decoding_inverts_encoding,
+    encoding_inverts_strict_decoding,
+};
 
 /// What is written as a list is read as the same entries, under the digits' own case or either.
 pub fn reading_inverts_writing()
@@ -18,4 +21,20 @@ pub fn a_faulty_source_is_no_list()
     ensures { FaultyListsNothing }
 {
     a_source_is_accepted_where_it_spells_a_list();
+}
+
+/// A source is the list of one list of entries at most: any two are as long, and entry by entry have
+/// the same digest, mark and name.
+pub fn a_source_lists_one_list()
+    ensures { ListsOneList }
+{
+    a_text_spells_one_list();
+}
+
+/// What a strict policy reads is written in its case as the source, with a newline behind the last
+/// line where it lacked one.
+pub fn writing_inverts_strict_reading()
+    ensures { WritingInvertsStrictReading }
+{
+    encoding_inverts_strict_decoding();
 }

@@ -1,0 +1,66 @@
+-- The entries of a source, and the source of some entries.
+use Rattle.std.proofs.Common.{◌≡◌, inl, inr, ℕ, suc, ◌+◌, ◌*◌, ◌<◌, ◌≤◌, Bool, true, false, refl, sym, ap, ◌∙◌, arith, List, [], ◌∷◌, ◌++◌, length, take, drop, get_or, append_assoc, length-drop}
+use Rattle.std.specs.List.{AllZip, flat_map, position_or_len}
+use Rattle.std.proofs.lemmas.Bool.{cases_lt}
+use Rattle.std.proofs.lemmas.Bool.Decides.{nat_tests}
+use Rattle.std.proofs.lemmas.Grind.{common_steps}
+use Rattle.std.proofs.lemmas.List.{drop_all, take-append-drop}
+use Rattle.std.proofs.lemmas.List.Sums.{passes_at_first, prefix_len-le-length}
+use Rattle.hex_core.specs.declared.digit.CheckCase.{CheckCase}
+use Rattle.hex_core.specs.Digit.{strict}
+use Rattle.hex_core.specs.Laws.{EncodingInvertsStrictDecoding, SpellsOneList}
+use Rattle.hex_lists.specs.declared.digests.Entry.{Entry}
+use Rattle.hex_lists.specs.ListLaws.{SameEntry}
+use Rattle.hex_lists.specs.Lists.{LineIs, line_of, lines_of, list_of, mark, with_last_newline}
+use Rattle.hex_lists.proofs.LineLemmas.{newline, next-line}
+
+-- ---- one list
+
+mark-one : (a b : Bool) → mark a ≡ mark b → a ≡ b
+mark-one true true e = refl
+mark-one true false e = absurd (omega (arith, e))
+mark-one false true e = absurd (omega (arith, e))
+mark-one false false e = refl
+
+same-entry : {N : ℕ} (c : CheckCase) (line : List ℕ) (e other : Entry N) → SpellsOneList → LineIs c line e → LineIs c line other → SameEntry e other
+same-entry {N} c line e other one a b =
+    let tail = sym a.behind ∙ b.behind in
+    record {
+      digest = one c (take (2 * N) line) e.digest other.digest a.spelled b.spelled;
+      binary = mark-one e.binary other.binary (ap (λ l. get_or l 1 0) tail);
+      name = ap (λ l. drop 2 l) tail;
+    }
+
+pub same-entries : {N : ℕ} (c : CheckCase) (lines : List (List ℕ)) (entries others : List (Entry N)) → SpellsOneList → AllZip (LineIs c) lines entries → AllZip (LineIs c) lines others → AllZip SameEntry entries others
+same-entries c [] [] [] one a b = tt
+same-entries c [] [] (f ∷ others) one a b = absurd b
+same-entries c [] (e ∷ entries) others one a b = absurd a
+same-entries c (line ∷ lines) [] others one a b = absurd a
+same-entries c (line ∷ lines) (e ∷ entries) [] one a b = absurd b
+same-entries c (line ∷ lines) (e ∷ entries) (f ∷ others) one a b = (same-entry c line e f one a.0 b.0, same-entries c lines entries others one a.1 b.1)
+
+-- ---- one source
+
+-- lines, each with a newline
+abbrev joined : List (List ℕ) → List ℕ
+joined lines = flat_map (λ line. line ++ (10 ∷ [])) lines
+
+line-back : {N : ℕ} (upper : Bool) (line : List ℕ) (e : Entry N) → EncodingInvertsStrictDecoding → LineIs (strict upper) line e → line_of upper e ≡ line
+line-back {N} upper line e back is = rw (back upper (take (2 * N) line) e.digest is.spelled, ← is.behind) (take-append-drop (2 * N) line)
+
+lines-back : {N : ℕ} (upper : Bool) (lines : List (List ℕ)) (entries : List (Entry N)) → EncodingInvertsStrictDecoding → AllZip (LineIs (strict upper)) lines entries → list_of upper entries ≡ joined lines
+lines-back upper [] [] back all = refl
+lines-back upper [] (e ∷ entries) back all = absurd all
+lines-back upper (line ∷ lines) [] back all = absurd all
+lines-back upper (line ∷ lines) (e ∷ entries) back all = rw (line-back upper line e back all.0, lines-back upper lines entries back all.1) refl
+
+-- the last byte of what follows is the last of all
+last-behind : (front rest : List ℕ) → 0 < length rest → with_last_newline (front ++ rest) ≡ front ++ with_last_newline rest
+last-behind front rest some = grind (arith, common_steps, nat_tests)
+
+-- a source up to its first newline, and what follows
+cut-at : (s : List ℕ) (end : ℕ) → end < length s → get_or s end 0 ≡ 10 → s ≡ (take end s ++ (10 ∷ [])) ++ drop (end + 1) s
+cut-at s end inside here = grind (arith, common_steps)
+
+ends-here : (front rest : List ℕ) → rest ≡ [] → with_last_newline ((front ++ (10 ∷ [])) ++ rest) ≡ (front ++ (10 ∷ [])) ++ with_last_newline rest
+ends-here front rest none = grind (arith, common_steps, nat_tests)
