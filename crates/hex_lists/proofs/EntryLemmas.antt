@@ -1,11 +1,12 @@
 -- The entries of a source, and the source of some entries.
-use Rattle.std.proofs.Common.{◌≡◌, inl, inr, ℕ, suc, ◌+◌, ◌*◌, ◌<◌, ◌≤◌, Bool, true, false, refl, sym, ap, ◌∙◌, arith, List, [], ◌∷◌, ◌++◌, length, take, drop, get_or, append_assoc, length-drop}
+use Rattle.std.proofs.Common.{◌≡◌, inl, inr, ℕ, zero, suc, ◌+◌, ◌-◌, ◌*◌, ◌<◌, ◌≤◌, Bool, true, false, not, refl, sym, ap, ◌∙◌, arith, List, [], ◌∷◌, ◌++◌, length, take, drop, get_or, length-drop}
+use Rattle.std.specs.Prelude.{◌==◌}
 use Rattle.std.specs.List.{AllZip, flat_map, position_or_len}
 use Rattle.std.proofs.lemmas.Bool.{cases_lt}
 use Rattle.std.proofs.lemmas.Bool.Decides.{nat_tests}
 use Rattle.std.proofs.lemmas.Grind.{common_steps}
-use Rattle.std.proofs.lemmas.List.{drop_all, take-append-drop}
-use Rattle.std.proofs.lemmas.List.Sums.{passes_at_first, prefix_len-le-length}
+use Rattle.std.proofs.lemmas.List.{append-nil, drop_all, take-append-drop, take_all}
+use Rattle.std.proofs.lemmas.List.Sums.{fails_before_first, passes_at_first, prefix_len-le-length}
 use Rattle.hex_core.specs.declared.digit.CheckCase.{CheckCase}
 use Rattle.hex_core.specs.Digit.{strict}
 use Rattle.hex_core.specs.Laws.{EncodingInvertsStrictDecoding, SpellsOneList}
@@ -62,5 +63,35 @@ last-behind front rest some = grind (arith, common_steps, nat_tests)
 cut-at : (s : List ℕ) (end : ℕ) → end < length s → get_or s end 0 ≡ 10 → s ≡ (take end s ++ (10 ∷ [])) ++ drop (end + 1) s
 cut-at s end inside here = grind (arith, common_steps)
 
-ends-here : (front rest : List ℕ) → rest ≡ [] → with_last_newline ((front ++ (10 ∷ [])) ++ rest) ≡ (front ++ (10 ∷ [])) ++ with_last_newline rest
-ends-here front rest none = grind (arith, common_steps, nat_tests)
+over : (front rest : List ℕ) → with_last_newline ((front ++ (10 ∷ [])) ++ rest) ≡ (front ++ (10 ∷ [])) ++ with_last_newline rest
+over front [] = grind (arith, common_steps, nat_tests)
+over front (b ∷ rest) = last-behind (front ++ (10 ∷ [])) (b ∷ rest) (omega arith)
+
+-- a source that ends otherwise
+open-end : (s : List ℕ) → 0 < length s → newline (get_or s (length s - 1) 0) ≡ false → with_last_newline s ≡ s ++ (10 ∷ [])
+open-end s some last = let full : (length s == 0) ≡ false = grind (arith, nat_tests) in rw (full, last) refl
+
+first-back : (s : List ℕ) → 0 < length s → (take (position_or_len newline s) s ++ (10 ∷ [])) ++ with_last_newline (drop (position_or_len newline s + 1) s) ≡ with_last_newline s
+first-back s some =
+    let end = position_or_len newline s in
+    elim (cases_lt end (length s)) [
+      | inl inside ↦
+          let here : get_or s end 0 ≡ 10 = grind (arith, nat_tests, passes_at_first newline s 0 inside) in
+          sym (ap with_last_newline (cut-at s end inside here) ∙ over (take end s) (drop (end + 1) s))
+      | inr past ↦
+          let most : end ≤ length s = prefix_len-le-length (λ b. not (newline b)) s in
+          let at : end ≡ length s = omega (arith, most, past) in
+          let last = fails_before_first newline s (length s - 1) 0 (omega (arith, at, some)) in
+          rw (at, drop_all (length s + 1) s (omega arith), take_all (length s) s (omega arith), open-end s some last) (append-nil (s ++ (10 ∷ [])))
+    ]
+
+joined-lines : (n : ℕ) (s : List ℕ) → length s ≤ n → joined (lines_of s) ≡ with_last_newline s
+joined-lines n [] short = refl
+joined-lines zero (b ∷ s) short = absurd (omega arith)
+joined-lines (suc n) (b ∷ s) short =
+    let rest = drop (position_or_len newline (b ∷ s) + 1) (b ∷ s) in
+    let fewer : length rest ≤ n = omega (arith, length-drop (position_or_len newline (b ∷ s) + 1) (b ∷ s)) in
+    rw (next-line (b ∷ s) (omega arith), joined-lines n rest fewer) (first-back (b ∷ s) (omega arith))
+
+pub source-back : {N : ℕ} (upper : Bool) (s : List ℕ) (entries : List (Entry N)) → EncodingInvertsStrictDecoding → AllZip (LineIs (strict upper)) (lines_of s) entries → list_of upper entries ≡ with_last_newline s
+source-back upper s entries back all = lines-back upper (lines_of s) entries back all ∙ joined-lines (length s) s (omega arith)

@@ -39,7 +39,7 @@ only-line s some e =
     ap without_empty_end (slice_split_none newline s none) ∙ (one-part s some ∙ ap (λ l. l ∷ []) (sym (take_all (length s) s (omega arith))))
 
 -- the first line of a source that has some, and those behind it
-next-line : (s : List ℕ) → 0 < length s → lines_of s ≡ take (position_or_len newline s) s ∷ lines_of (drop (position_or_len newline s + 1) s)
+pub next-line : (s : List ℕ) → 0 < length s → lines_of s ≡ take (position_or_len newline s) s ∷ lines_of (drop (position_or_len newline s + 1) s)
 next-line s some =
     elim (cases_lt (position_or_len newline s) (length s)) [
       | inl h ↦ first-line s h

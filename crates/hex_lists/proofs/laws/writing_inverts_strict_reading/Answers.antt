@@ -1,0 +1,5 @@
+use Rattle.hex_lists.proofs.EntryLemmas.{source-back}
+use Rattle.hex_lists.proofs.laws.writing_inverts_strict_reading.Goals as goal
+
+pub returns : goal.returns
+returns c n upper s entries all = source-back upper s entries c.encoding_inverts_strict_decoding.ensures all
