@@ -2,3 +2,4 @@ pub mod Records
 pub mod DigestLists
 pub mod Streams
 pub mod Dump
+pub mod Updates

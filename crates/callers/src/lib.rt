@@ -22,10 +22,12 @@ pub mod digest;
 pub mod digest_lists;
 pub mod dump;
 pub mod dumps;
+pub mod identifier;
 pub mod json;
 pub mod probes;
 pub mod streams;
 pub mod texts;
+pub mod updates;
 
 /// Decodes into a buffer and marks it as read by setting its first byte to 0xff.
 ///

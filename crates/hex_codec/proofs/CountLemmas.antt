@@ -69,7 +69,7 @@ len-closed every n pos = from_cases (cases_lt 0 n)
         rw (none, zero-div every, zero-mod every) (omega arith)
 
 -- more bytes have a longer text
-rising : (every k n : ℕ) → 0 < every → k < n → grouped_len every k < grouped_len every n
+pub rising : (every k n : ℕ) → 0 < every → k < n → grouped_len every k < grouped_len every n
 rising every k n pos h =
     let more : (k - 1) / every ≤ (n - 1) / every = le-div ((k - 1) / every) (n - 1) every pos (omega (arith, div-mul-le_self (k - 1) every)) in
     omega (arith, len-closed every k pos, len-closed every n pos)

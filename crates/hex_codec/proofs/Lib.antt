@@ -1,6 +1,7 @@
 mod AppendWalk
 mod CountLemmas
 pub mod GroupLemmas
+mod GroupTextLemmas
 pub mod ListLemmas
 mod ReadBack
 pub mod StreamLemmas

@@ -25,7 +25,7 @@ use Rattle.hex_codec.proofs.WrongLemmas.{none-wrong}
 grouped-next : (group : Group) (upper : Bool) (bytes : List ℕ) → 0 < length bytes → grouped group upper bytes ≡ text upper (take (piece_len group) bytes) ++ separated group upper (drop (piece_len group) bytes)
 grouped-next group upper bytes some = grouped-separated group upper bytes ∙ ap (drop 1) (separated-next group upper bytes some)
 
-separated-cons : (group : Group) (upper : Bool) (bytes : List ℕ) → 0 < length bytes → separated group upper bytes ≡ separator group ∷ grouped group upper bytes
+pub separated-cons : (group : Group) (upper : Bool) (bytes : List ℕ) → 0 < length bytes → separated group upper bytes ≡ separator group ∷ grouped group upper bytes
 separated-cons group upper bytes some = separated-next group upper bytes some ∙ ap (λ l. separator group ∷ l) (sym (grouped-next group upper bytes some))
 
 -- the digits of a grouped text are those of the list, and its separators the group's

@@ -1,12 +1,12 @@
 -- Facts on grouped texts that the definitions imply.
-use Rattle.std.specs.Prelude.{◌≡◌, ◌≤◌, ◌↔◌, ℕ, Bool, List, length, None}
+use Rattle.std.specs.Prelude.{◌≡◌, ◌<◌, ◌≤◌, ◌%◌, ◌↔◌, ◌⊎◌, ℕ, Bool, List, ◌∷◌, ◌++◌, length, All, IsSome, None}
 use Rattle.hex_core.specs.declared.digit.CheckCase.{CheckCase}
 use Rattle.hex_core.specs.declared.digit.CheckCase.TheVariants as policy
-use Rattle.hex_core.specs.Digit.{strict}
+use Rattle.hex_core.specs.Digit.{strict, value}
 use Rattle.hex_core.specs.Laws.{AreBytes}
 use Rattle.hex_codec.specs.declared.group.Group.{Group}
-use Rattle.hex_codec.specs.Grouped.{grouped}
-use Rattle.hex_codec.specs.GroupedText.{GroupSpells, group_refusal}
+use Rattle.hex_codec.specs.Grouped.{grouped, piece_len, separator}
+use Rattle.hex_codec.specs.GroupedText.{GroupSpells, group_refusal, grouped_len}
 
 -- what is written in groups is read as the same bytes, under the text's own case or either
 abbrev pub ReadingInvertsGrouping : Type 0
@@ -25,3 +25,28 @@ GroupSpellsOneList = (c : CheckCase) (group : Group) (s bytes others : List ℕ)
     → GroupSpells c group s bytes
     → GroupSpells c group s others
     → bytes ≡ others
+
+-- how long a grouped text is, by the number of its bytes
+abbrev pub GroupedTextsAreLong : Type 0
+GroupedTextsAreLong = (group : Group) (upper : Bool) (bytes : List ℕ)
+    → length (grouped group upper bytes) ≡ grouped_len (piece_len group) (length bytes)
+
+-- no two numbers of bytes have texts of one length
+abbrev pub LengthsTellCounts : Type 0
+LengthsTellCounts = (group : Group) (m n : ℕ)
+    → grouped_len (piece_len group) m ≡ grouped_len (piece_len group) n
+    → m ≡ n
+
+-- each byte of a grouped text is a digit of its case or the separator
+abbrev pub GroupedTextsAreDigitsAndSeparators : Type 0
+GroupedTextsAreDigitsAndSeparators = (group : Group) (upper : Bool) (bytes : List ℕ)
+    → AreBytes bytes
+    → All (λ b. IsSome (value (strict upper) b) ⊎ (b ≡ separator group)) (grouped group upper bytes)
+
+-- the text of whole pieces joined to more is the two texts, joined by the separator
+abbrev pub WholePiecesJoin : Type 0
+WholePiecesJoin = (group : Group) (upper : Bool) (front back : List ℕ)
+    → length front % piece_len group ≡ 0
+    → 0 < length front
+    → 0 < length back
+    → grouped group upper (front ++ back) ≡ grouped group upper front ++ (separator group ∷ grouped group upper back)

@@ -1,7 +1,7 @@
 //! Laws of grouped texts, each as the contract of a function that does nothing: a caller that needs
 //! one in a proof calls it.
 
-ghost use Rattle.hex_codec.specs.GroupLaws.{GroupSpellsOneList, ReadingInvertsGrouping, ReadsWhatGroupSpells};
+ghost use Rattle.hex_codec.specs.GroupLaws.{GroupSpellsOneList, GroupedTextsAreDigitsAndSeparators, GroupedTextsAreLong, LengthsTellCounts, ReadingInvertsGrouping, ReadsWhatGroupSpells, WholePiecesJoin};
 
 use hex_core::laws::{
     a_source_is_accepted_where_it_spells_a_list, a_text_spells_one_list, decoding_inverts_encoding,
@@ -23,3 +23,16 @@ pub fn a_grouped_text_is_read_where_it_spells_a_list()
     a_source_is_accepted_where_it_spells_a_list();
     a_text_spells_one_list();
 }
+
+/// A grouped text has two digits for each byte and a separator between two pieces, so no two numbers
+/// of bytes have texts of one length; and each of its bytes is a digit or the separator.
+pub fn a_grouped_text_is_digits_and_separators()
+    ensures long { GroupedTextsAreLong }
+    ensures count { LengthsTellCounts }
+    ensures bytes { GroupedTextsAreDigitsAndSeparators }
+{}
+
+/// The text of whole pieces joined to more is the two texts, joined by the separator.
+pub fn whole_pieces_are_joined_by_the_separator()
+    ensures { WholePiecesJoin }
+{}

@@ -1,11 +1,12 @@
 -- The entries of a source, and the source of some entries.
-use Rattle.std.proofs.Common.{◌≡◌, inl, inr, ℕ, zero, suc, ◌+◌, ◌-◌, ◌*◌, ◌<◌, ◌≤◌, Bool, true, false, not, refl, sym, ap, ◌∙◌, arith, List, [], ◌∷◌, ◌++◌, length, take, drop, get_or, length-drop}
+use Rattle.std.proofs.Common.{◌≡◌, inl, inr, ℕ, zero, suc, ◌+◌, ◌-◌, ◌*◌, ◌<◌, ◌≤◌, Bool, true, false, not, refl, sym, ap, ◌∙◌, arith, List, [], ◌∷◌, ◌++◌, length, map, take, drop, get_or, length-drop}
 use Rattle.std.specs.Prelude.{◌==◌}
 use Rattle.std.specs.List.{AllZip, flat_map, position_or_len}
 use Rattle.std.proofs.lemmas.Bool.{cases_lt}
 use Rattle.std.proofs.lemmas.Bool.Decides.{nat_tests}
 use Rattle.std.proofs.lemmas.Grind.{common_steps}
 use Rattle.std.proofs.lemmas.List.{append-nil, drop_all, take-append-drop, take_all}
+use Rattle.std.proofs.lemmas.List.Folds.{flat_map-map}
 use Rattle.std.proofs.lemmas.List.Sums.{fails_before_first, passes_at_first, prefix_len-le-length}
 use Rattle.hex_core.specs.declared.digit.CheckCase.{CheckCase}
 use Rattle.hex_core.specs.Digit.{strict}
@@ -49,11 +50,11 @@ joined lines = flat_map (λ line. line ++ (10 ∷ [])) lines
 line-back : {N : ℕ} (upper : Bool) (line : List ℕ) (e : Entry N) → EncodingInvertsStrictDecoding → LineIs (strict upper) line e → line_of upper e ≡ line
 line-back {N} upper line e back is = rw (back upper (take (2 * N) line) e.digest is.spelled, ← is.behind) (take-append-drop (2 * N) line)
 
-lines-back : {N : ℕ} (upper : Bool) (lines : List (List ℕ)) (entries : List (Entry N)) → EncodingInvertsStrictDecoding → AllZip (LineIs (strict upper)) lines entries → list_of upper entries ≡ joined lines
-lines-back upper [] [] back all = refl
-lines-back upper [] (e ∷ entries) back all = absurd all
-lines-back upper (line ∷ lines) [] back all = absurd all
-lines-back upper (line ∷ lines) (e ∷ entries) back all = rw (line-back upper line e back all.0, lines-back upper lines entries back all.1) refl
+pub written-lines : {N : ℕ} (upper : Bool) (lines : List (List ℕ)) (entries : List (Entry N)) → EncodingInvertsStrictDecoding → AllZip (LineIs (strict upper)) lines entries → map (line_of upper) entries ≡ lines
+written-lines upper [] [] back all = refl
+written-lines upper [] (e ∷ entries) back all = absurd all
+written-lines upper (line ∷ lines) [] back all = absurd all
+written-lines upper (line ∷ lines) (e ∷ entries) back all = rw (line-back upper line e back all.0, written-lines upper lines entries back all.1) refl
 
 -- the last byte of what follows is the last of all
 last-behind : (front rest : List ℕ) → 0 < length rest → with_last_newline (front ++ rest) ≡ front ++ with_last_newline rest
@@ -94,4 +95,6 @@ joined-lines (suc n) (b ∷ s) short =
     rw (next-line (b ∷ s) (omega arith), joined-lines n rest fewer) (first-back (b ∷ s) (omega arith))
 
 pub source-back : {N : ℕ} (upper : Bool) (s : List ℕ) (entries : List (Entry N)) → EncodingInvertsStrictDecoding → AllZip (LineIs (strict upper)) (lines_of s) entries → list_of upper entries ≡ with_last_newline s
-source-back upper s entries back all = lines-back upper (lines_of s) entries back all ∙ joined-lines (length s) s (omega arith)
+source-back upper s entries back all =
+    sym (flat_map-map (λ line. line ++ (10 ∷ [])) (line_of upper) entries)
+    ∙ ap joined (written-lines upper (lines_of s) entries back all) ∙ joined-lines (length s) s (omega arith)

@@ -1,4 +1,5 @@
-pub mod EntryLemmas
+mod EntryLemmas
 mod FaultLemmas
 mod LineLemmas
+mod NameLemmas
 mod ReadBack

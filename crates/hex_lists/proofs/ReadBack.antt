@@ -40,7 +40,7 @@ text-one-line upper (b ∷ bytes) =
     All-cons NoNewline (digit upper (b / 16)) (digit upper (b % 16) ∷ text upper bytes) (digit-no-newline upper (b / 16))
     (All-cons NoNewline (digit upper (b % 16)) (text upper bytes) (digit-no-newline upper (b % 16)) (text-one-line upper bytes))
 
-or_parts : (x y : Bool) → (x || y) ≡ false → (x ≡ false) × (y ≡ false)
+pub or_parts : (x y : Bool) → (x || y) ≡ false → (x ≡ false) × (y ≡ false)
 or_parts true y e = cc
 or_parts false y e = (refl, e)
 
@@ -84,7 +84,7 @@ first upper e es good =
 abbrev pub Good : {N : ℕ} → Entry N → Type 0
 Good e = is_bad_name e.name.now ≡ false
 
-abbrev bad : {N : ℕ} → Entry N → Bool
+abbrev pub bad : {N : ℕ} → Entry N → Bool
 bad e = is_bad_name e.name.now
 
 each-good : {N : ℕ} (es : List (Entry N)) → ((k : ℕ) (d : Entry N) → k < length es → bad (get_or es k d) ≡ false) → AllByRecursion Good es

@@ -1,7 +1,7 @@
 //! Laws of digest lists, each as the contract of a function that does nothing: a caller that needs
 //! one in a proof calls it.
 
-ghost use Rattle.hex_lists.specs.ListLaws.{FaultyListsNothing, ListsOneList, ReadingInvertsWriting, WritingInvertsStrictReading};
+ghost use Rattle.hex_lists.specs.ListLaws.{FaultyListsNothing, ListsOneList, ReadNamesAreGood, ReadingInvertsWriting, StrictLinesAreWritten, WritingInvertsStrictReading};
 
 use hex_core::laws::{
     a_source_is_accepted_where_it_spells_a_list, a_text_spells_one_list, decoding_inverts_encoding,
@@ -31,10 +31,16 @@ pub fn a_source_lists_one_list()
     a_text_spells_one_list();
 }
 
-/// What a strict policy reads is written in its case as the source, with a newline behind the last
-/// line where it lacked one.
+/// What a strict policy reads is written in its case as the source, line for line, with a newline
+/// behind the last one where it lacked it.
 pub fn writing_inverts_strict_reading()
-    ensures { WritingInvertsStrictReading }
+    ensures source { WritingInvertsStrictReading }
+    ensures lines { StrictLinesAreWritten }
 {
     encoding_inverts_strict_decoding();
 }
+
+/// What was read has no name that writing refuses.
+pub fn what_was_read_can_be_written()
+    ensures { ReadNamesAreGood }
+{}
