@@ -15,11 +15,10 @@ use Rattle.hex_core.specs.Search.{first_invalid}
 use Rattle.hex_core.specs.Text.{Spells, with_front}
 use Rattle.hex_core.proofs.BlockLemmas.{valid_range}
 use Rattle.hex_core.proofs.ByteLemmas.{value_small}
-use Rattle.hex_core.proofs.JoinLemmas.{bad-behind, spells-joined, spells-pairs, valid-both}
+use Rattle.hex_core.proofs.JoinLemmas.{PairAt, bad-behind, spells-joined, spells-pairs, valid-both, valid-parts}
 use Rattle.hex_core.proofs.LawProofs.{valid-spelled}
 use Rattle.hex_core.proofs.SearchLemmas.{first_invalid_none, none_valid, part_is_valid}
 use Rattle.hex_codec.proofs.ListLemmas.{put-behind}
-use Rattle.hex_codec.proofs.WriteLemmas.{valid-parts}
 use Rattle.hex_codec.specs.Stream.{SpellsBut, bad_char_behind, feed_refusal, pairs_more}
 
 -- ---- single digits
@@ -35,11 +34,10 @@ pair-spelled c high low h l first second =
     let below = value_small c low l second in
     let quotient : h ≡ (16 * h + l) / 16 = omega (arith, above, below) in
     let remainder : l ≡ (16 * h + l) % 16 = omega (arith, above, below) in
-    record {
-      twice = refl;
-      high = λ i lt. let at : 0 ≡ i = omega (arith, lt) in subst (λ k. value c (slice_index (high ∷ low ∷ []) (2 * k)) ≡ Some (slice_index ((16 * h + l) ∷ []) k / 16)) at (first ∙ ap (λ n. Some n) quotient);
-      low = λ i lt. let at : 0 ≡ i = omega (arith, lt) in subst (λ k. value c (slice_index (high ∷ low ∷ []) (2 * k + 1)) ≡ Some (slice_index ((16 * h + l) ∷ []) k % 16)) at (second ∙ ap (λ n. Some n) remainder);
-    }
+    spells-pairs c (high ∷ low ∷ []) ((16 * h + l) ∷ []) refl (λ i lt.
+    let at : 0 ≡ i = omega (arith, lt) in
+    let pair : PairAt c (high ∷ low ∷ []) 0 (16 * h + l) = record { high = first ∙ ap (λ n. Some n) quotient; low = second ∙ ap (λ n. Some n) remainder } in
+    subst (λ k. PairAt c (high ∷ low ∷ []) (2 * k) (slice_index ((16 * h + l) ∷ []) k)) at pair)
 
 -- a source is not valid where one of its bytes has no value
 pub invalid-at : (c : CheckCase) (s : List ℕ) (k : ℕ) → k < length s → value c (slice_index s k) ≡ None → first_invalid c s ≢ None

@@ -31,10 +31,10 @@ pub record PairAt (c : CheckCase) (s : List ℕ) (at byte : ℕ) : Type 0 where
 
 -- a source spells a list exactly where it has the pair of each byte in its place
 pub pair-of : (c : CheckCase) (s bytes : List ℕ) (i : ℕ) → Spells c s bytes → i < length bytes → PairAt c s (2 * i) (get_or bytes i 0)
-pair-of c s bytes i spells lt = record { high = spells.high i lt; low = spells.low i lt }
+pair-of c s bytes i spells lt = record { high = (spells.each i lt).high; low = (spells.each i lt).low }
 
 pub spells-pairs : (c : CheckCase) (s bytes : List ℕ) → length s ≡ 2 * length bytes → ((i : ℕ) → i < length bytes → PairAt c s (2 * i) (get_or bytes i 0)) → Spells c s bytes
-spells-pairs c s bytes twice pairs = record { twice = twice; high = λ i lt. (pairs i lt).high; low = λ i lt. (pairs i lt).low }
+spells-pairs c s bytes twice pairs = record { twice = twice; each = λ i lt. record { high = (pairs i lt).high; low = (pairs i lt).low } }
 
 -- a pair of the first of two sources, and one of the second
 pair-front : (c : CheckCase) (a b : List ℕ) (at byte : ℕ) → at + 1 < length a → PairAt c a at byte → PairAt c (a ++ b) at byte
@@ -138,6 +138,15 @@ invalid-joined c a b = by_parts (first_invalid c a) refl (first_invalid c b) ref
     by_parts (Some f) first p second = invalid-front c a b f first
     by_parts None first (Some g) second = invalid-behind c a b g first second
     by_parts None first None second = valid-both c a b first second
+
+-- where two lists have no invalid byte joined, neither has one
+neither : (o p : Option ℕ) (n : ℕ) → option_or o (option_map (λ i. n + i) p) ≡ None → (o ≡ None) × (p ≡ None)
+neither (Some i) p n e = cc
+neither None (Some i) n e = cc
+neither None None n e = (refl, refl)
+
+pub valid-parts : (c : CheckCase) (a b : List ℕ) → first_invalid c (a ++ b) ≡ None → (first_invalid c a ≡ None) × (first_invalid c b ≡ None)
+valid-parts c a b none = neither (first_invalid c a) (first_invalid c b) (length a) (sym (invalid-joined c a b) ∙ none)
 
 -- the first bad character stays where digits follow it
 pub bad-front : (c : CheckCase) (a b : List ℕ) (e : Error) → first_bad_char c a ≡ Some e → first_bad_char c (a ++ b) ≡ Some e
