@@ -1,6 +1,7 @@
 mod AppendWalk
 mod CountLemmas
 pub mod GroupLemmas
+pub mod GroupLoan
 mod GroupTextLemmas
 pub mod ListLemmas
 mod ReadBack

@@ -1,14 +1,11 @@
 -- What reading a grouped text answers and leaves.
 use Rattle.std.specs.Prelude.{◌≡◌, ℕ, List, length, Result, MatchResult, Some, None}
-use Rattle.std.specs.Borrow.{LendsIfOk, MutBor, Fml, u8, Array}
+use Rattle.std.specs.Borrow.{MutBor}
 use Rattle.hex_core.specs.declared.digit.CheckCase.{CheckCase}
-use Rattle.hex_core.specs.declared.error.Error.{Error}
-use Rattle.hex_core.specs.declared.error.Error.TheVariants as codec
 use Rattle.hex_core.specs.Calls.{Answers}
 use Rattle.hex_core.specs.Text.{with_front}
 use Rattle.hex_codec.specs.declared.group.Group.{Group}
 use Rattle.hex_codec.specs.declared.grouped.GroupFault.{GroupFault}
-use Rattle.hex_codec.specs.declared.grouped.GroupFault.TheVariants.{BadLength, OutputTooSmall, InvalidByte}
 use Rattle.hex_codec.specs.Grouped.{piece_len}
 use Rattle.hex_codec.specs.GroupedText.{GroupSpells, byte_count, group_refusal}
 
@@ -27,14 +24,3 @@ Reads c group s old new result = MatchResult result
 -- reading that lends the written front of this much room: what the text spells, or the refusal
 abbrev pub ReadsFront : CheckCase → Group → List ℕ → ℕ → Result (MutBor (List ℕ)) GroupFault → Type 0
 ReadsFront c group s room = Answers (group_refusal c group s room) (λ front. GroupSpells c group s front.now)
-
--- at `Ok` the slice ends as the answer, as it was last written, over the old bytes; at `Err`
--- it ends as it was
-abbrev pub LendsRead : MutBor (List ℕ) → Result (MutBor (List ℕ)) GroupFault → Fml
-LendsRead s r = LendsIfOk (Array u8 0) (Array u8 0) s r (with_front s.now) s.now
-
--- the fault that an error of the codec stands for
-abbrev pub fault_of : Error → GroupFault
-fault_of (codec.OutputTooSmall required) = OutputTooSmall required
-fault_of (codec.InvalidChar index byte) = InvalidByte index byte
-fault_of _ = BadLength

@@ -3,19 +3,20 @@
 //! All of a text is tested before the first store. Pieces of up to 16 bytes are stripped of their
 //! separators into a buffer, many at a time, and tested and decoded there.
 
-ghost use Rattle.std.specs.Prelude.{◌≡◌, ◌*◌, ◌/◌, ◌≤◌, ◌<◌, None, Some, Err, IfOk, IfErr, IsOkAnd, MatchResult, length, min};
+ghost use Rattle.std.specs.Prelude.{◌≡◌, ◌*◌, ◌/◌, ◌≤◌, ◌<◌, None, length, min};
 ghost use Rattle.std.specs.Borrow.{sem};
+ghost use Rattle.hex_core.specs.Loan.{LendsAnswer};
 ghost use Rattle.hex_core.specs.Search.{first_invalid};
 ghost use Rattle.hex_core.specs.Text.{Spells};
 ghost use Rattle.hex_codec.specs.Grouped.{piece_len};
-ghost use Rattle.hex_codec.specs.GroupedText.{byte_count, digits_in, first_wrong, group_refusal};
-ghost use Rattle.hex_codec.specs.GroupCalls.{Accepts, LendsRead, Reads, ReadsFront, fault_of};
+ghost use Rattle.hex_codec.specs.GroupedText.{byte_count, digits_in, first_wrong};
+ghost use Rattle.hex_codec.specs.GroupCalls.{Accepts, Reads, ReadsFront};
 ghost use Rattle.hex_codec.specs.Strip.{ClearsFront, ValidDigits, WritesFront};
 
 pub use crate::group::Group;
 use crate::strip::{Front, SHORT, strip};
 use hex_core::lend::lend_accepted;
-use hex_core::{Backend, CheckCase, Error};
+use hex_core::{Backend, CheckCase};
 
 /// Why a grouped text was not read.
 ///
@@ -270,61 +271,6 @@ pub fn read_into(
     Ok(count)
 }
 
-// The codec's error that stands for a fault while the destination is lent.
-fn error_of(fault: GroupFault) -> Error
-    ensures { fault_of result ≡ fault }
-{
-    match fault {
-        GroupFault::BadLength => Error::OddLength,
-        GroupFault::OutputTooSmall { required } => Error::OutputTooSmall { required },
-        GroupFault::InvalidByte { index, byte } => Error::InvalidChar { index, byte },
-    }
-}
-
-// The fault that an error of the codec stands for.
-fn fault_of(error: Error) -> GroupFault
-    ensures { result ≡ fault_of error }
-{
-    match error {
-        Error::OutputTooSmall { required } => GroupFault::OutputTooSmall { required },
-        Error::InvalidChar { index, byte } => GroupFault::InvalidByte { index, byte },
-        _ => GroupFault::BadLength,
-    }
-}
-
-// How many bytes are read, or the error that stands for the refusal.
-fn judged(src: &[u8], room: usize, group: Group, case: CheckCase) -> Result<usize, Error>
-    ensures { MatchResult result
-        (λ n. (group_refusal case group src.now room ≡ None) × (byte_count (piece_len group) (length src.now) ≡ Some n))
-        (λ e. group_refusal case group src.now room ≡ Some (fault_of e)) }
-{
-    match accepted(src, room, group, case) {
-        Ok(count) => Ok(count),
-        Err(fault) => Err(error_of(fault)),
-    }
-}
-
-// Writes the bytes behind a reference that was lent for them, or hands on the refusal.
-fn written<'a>(
-    src: &[u8],
-    lent: Result<&'a mut [u8], Error>,
-    group: Group,
-    case: CheckCase,
-) -> Result<&'a mut [u8], GroupFault>
-    requires { IfOk lent (λ front. ValidDigits case group src.now (length front.now)) }
-    ensures ok { IfOk lent.entry (λ front. IsOkAnd result (λ written. (written.ghost_name ≡ front.ghost_name)
-        × Spells case (digits_in (piece_len group) src.now) written.now)) }
-    ensures err { IfErr lent.entry (λ e. result ≡ Err (fault_of e)) }
-{
-    match lent {
-        Ok(front) => {
-            write_bytes(src, front, group, case);
-            Ok(front)
-        }
-        Err(e) => Err(fault_of(e)),
-    }
-}
-
 /// Reads all of a grouped text into the front of `dst`, by an explicit letter-case policy, and
 /// returns that front, which borrows `dst` alone.
 ///
@@ -347,10 +293,9 @@ pub fn read<'a>(
     group: Group,
     case: CheckCase,
 ) -> Result<&'a mut [u8], GroupFault>
-    ensures* lends { sem 𝓛 (LendsRead dst.entry result) }
+    ensures* lends { sem 𝓛 (LendsAnswer dst.entry result) }
     ensures answer { ReadsFront case group src.now (length dst.old) result }
 {
-    let answer = judged(src, dst.len(), group, case);
-    let lent = lend_accepted(dst, answer);
-    written(src, lent, group, case)
+    let answer = read_into(src, dst, group, case);
+    lend_accepted(dst, answer)
 }

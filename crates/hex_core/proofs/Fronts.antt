@@ -36,7 +36,7 @@ module _ {M : Type 1} {𝓤 : Ura M} (𝓛 : Logic 𝓤) (R : RattleType) (ℓ :
   Others = sem 𝓛 (cells (mem R) back b (at o (mem R).size (length front)))
 
   abbrev after : List R.Denot → List R.Denot
-  after ws = ws ++ drop_list (length ws) xs
+  after ws = ws ++ drop_list (length front) xs
 
   -- the front under a new name, the token, and what the slice ends as
   abbrev pub front_lent : ℕ → GName → Item 𝓤
@@ -52,7 +52,7 @@ module _ {M : Type 1} {𝓤 : Ura M} (𝓛 : Logic 𝓤) (R : RattleType) (ℓ :
       let both : length (ws ++ back) ≡ length ws + length back = length-append ws back in
       qed 𝓛 (‵ ((Arr (mem R) (length front)).own_at ws b o) ∷ ‵ (cells (mem R) back b (at o (mem R).size (length front))) ∷ []) ∵
       fsplit ! $ feq_l ! (λ e. move ! (1 ∷ []) $
-      let same : ws ++ back ≡ after ws = ap (λ (k : ℕ). ws ++ drop_list k xs) (sym (e ∙ count)) in
+      let same : ws ++ back ≡ after ws = ap (λ (k : ℕ). ws ++ drop_list k xs) (sym count) in
       rewrite ! 0 (λ (k : ℕ). ‵ (cells (mem R) back b (at o (mem R).size k))) (sym e) refl $ move ! (1 ∷ 0 ∷ []) $
       use2 𝓛 (‵ (cells (mem R) (ws ++ back) b o)) (join_app 𝓛 (mem R) ws back b o) $
       rewrite ! 0 (λ (l : List R.Denot). ‵ (cells (mem R) l b o)) same refl $

@@ -1,12 +1,20 @@
 -- The types that the slice calls pass, with their laws, and how a loan is handed on.
-use Rattle.hex_core.proofs.WalkKit.{◌≡◌, refl, ap, sym, List, ℕ, take, Ura, Val, Lifetime, Lft, GName, Logic, RattleType, MutBor, MutSlice, Is, u8, usize, Result, Ok, Err, IfOk, IfErr, IsOkAnd}
+use Rattle.hex_core.proofs.WalkKit.{◌≡◌, refl, ap, List, [], ◌∷◌, ℕ, ◌^◌, ◌<◌, take, Ura, w64, Val, vint, Lifetime, Lft, Logic, RattleType, MutBor, MutSlice, Is, u8, usize, Result, Ok, Err, IfOk, IsOkAnd}
+use mathlib.Core.Path.{◌∙◌}
+use mathlib.Core.List.{◌++◌}
+use mir.Val.{of_list}
+use types.Match.{live}
 use denote.Enum.Laws as enum_laws
 use denote.Laws.{Tells, Makes, Lawful}
+use denote.Exit.{no}
+use denote.Param.{layout, param, arg}
+use mir.Raw.{raw}
 use denote.Param.Laws as param_laws
 use denote.Param.Shared.{copy_shared, mut_slice_shared}
 use denote.Ref.{NamedLft}
 use denote.Struct.Field.{u8-field, u64-field, mut_slice_field}
 use denote.Struct.Laws as struct_laws
+use denote.Struct.Members.{Lone}
 use Rattle.std.specs.contracts.result.Result as RS
 use Rattle.std.proofs.result.Result.TheLaws as RL
 use Rattle.hex_core.specs.contracts.digit.CheckCase as CC
@@ -17,7 +25,6 @@ use Rattle.hex_core.specs.contracts.plan.Backend as BA
 use Rattle.hex_core.proofs.plan.Backend.TheLaws as BL
 use Rattle.hex_core.specs.declared.digit.CheckCase.TheVariants as policy
 use Rattle.hex_core.specs.declared.error.Error.{Error}
-use Rattle.hex_core.specs.Loan.{LendsAnswer}
 
 -- a plan
 abbrev pub Plan : RattleType
@@ -56,40 +63,80 @@ policy_is policy.None = enum_laws.owes CC.the_type CL.the_laws policy.None tt
 policy_is policy.Lower = enum_laws.owes CC.the_type CL.the_laws policy.Lower tt
 policy_is policy.Upper = enum_laws.owes CC.the_type CL.the_laws policy.Upper tt
 
--- how many bytes are accepted, or the refusal
+-- how many bytes were written, or the refusal, and the lent front, or the refusal
+module _ (E : RattleType) (laws : param_laws.Laws E) (told : param_laws.Told E) where
+  abbrev pub CountedBy : RattleType
+  CountedBy = RS.the_row usize E
+
+  pub counted_lawful_by : {M : Type 1} {𝓤 : Ura M} (𝓛 : Logic 𝓤) → Lawful 𝓛 CountedBy
+  counted_lawful_by 𝓛 = enum_laws.lawful (RS.the_type usize E)
+      (RL.the_laws usize E (param_laws.of_field u64-field struct_laws.u64-laws refl (copy_shared u64-field struct_laws.u64-copy)) laws (param_laws.field_told u64-field struct_laws.u64-laws) told) 𝓛 tt
+
+  abbrev pub LentBy : Lifetime → Lft → RattleType
+  LentBy ℓ κ = RS.the_row (MutSlice ℓ κ u8) E
+
+  abbrev slot : Lifetime → Lft → NamedLft
+  slot ℓ κ = record { mir = ℓ; lft = κ }
+
+  pub lent_lawful_by : {M : Type 1} {𝓤 : Ura M} (𝓛 : Logic 𝓤) (ℓ : Lifetime) (κ : Lft) → Lawful 𝓛 (LentBy ℓ κ)
+  lent_lawful_by 𝓛 ℓ κ = enum_laws.lawful (RS.the_type (MutSlice ℓ κ u8) E)
+      (RL.the_laws (MutSlice ℓ κ u8) E
+      (param_laws.of_field (mut_slice_field (slot ℓ κ) u8 tt) (struct_laws.mut_slice_laws (slot ℓ κ) u8 tt) refl (mut_slice_shared (slot ℓ κ) u8 tt (copy_shared u8-field struct_laws.u8-copy))) laws
+      (param_laws.field_told (mut_slice_field (slot ℓ κ) u8 tt) (struct_laws.mut_slice_laws (slot ℓ κ) u8 tt)) told) 𝓛 tt
+
+-- the same two of the codec's errors
 abbrev pub Counted : RattleType
 Counted = RS.the_row usize ER.the_row
 
-abbrev pub counted_laws : enum_laws.Laws (RS.the_type usize ER.the_row)
-counted_laws = RL.the_laws usize ER.the_row (param_laws.of_field u64-field struct_laws.u64-laws refl (copy_shared u64-field struct_laws.u64-copy)) EL.the_row_laws (param_laws.field_told u64-field struct_laws.u64-laws) EL.the_told
-
 pub counted_lawful : {M : Type 1} {𝓤 : Ura M} (𝓛 : Logic 𝓤) → Lawful 𝓛 Counted
-counted_lawful 𝓛 = enum_laws.lawful (RS.the_type usize ER.the_row) counted_laws 𝓛 tt
+counted_lawful = counted_lawful_by ER.the_row EL.the_row_laws EL.the_told
 
--- the lent front, or the refusal
 abbrev pub Lent : Lifetime → Lft → RattleType
 Lent ℓ κ = RS.the_row (MutSlice ℓ κ u8) ER.the_row
+
+pub lent_lawful : {M : Type 1} {𝓤 : Ura M} (𝓛 : Logic 𝓤) (ℓ : Lifetime) (κ : Lft) → Lawful 𝓛 (Lent ℓ κ)
+lent_lawful = lent_lawful_by ER.the_row EL.the_row_laws EL.the_told
 
 abbrev pub Answer : Type 0
 Answer = Result (MutBor (List ℕ)) Error
 
-abbrev slot : Lifetime → Lft → NamedLft
-slot ℓ κ = record { mir = ℓ; lft = κ }
-
-abbrev lent_laws : (ℓ : Lifetime) (κ : Lft) → enum_laws.Laws (RS.the_type (MutSlice ℓ κ u8) ER.the_row)
-lent_laws ℓ κ = RL.the_laws (MutSlice ℓ κ u8) ER.the_row
-    (param_laws.of_field (mut_slice_field (slot ℓ κ) u8 tt) (struct_laws.mut_slice_laws (slot ℓ κ) u8 tt) refl (mut_slice_shared (slot ℓ κ) u8 tt (copy_shared u8-field struct_laws.u8-copy))) EL.the_row_laws
-    (param_laws.field_told (mut_slice_field (slot ℓ κ) u8 tt) (struct_laws.mut_slice_laws (slot ℓ κ) u8 tt)) EL.the_told
-
-pub lent_lawful : {M : Type 1} {𝓤 : Ura M} (𝓛 : Logic 𝓤) (ℓ : Lifetime) (κ : Lft) → Lawful 𝓛 (Lent ℓ κ)
-lent_lawful 𝓛 ℓ κ = enum_laws.lawful (RS.the_type (MutSlice ℓ κ u8) ER.the_row) (lent_laws ℓ κ) 𝓛 tt
-
 -- where a number was accepted, what is lent is that many bytes of the list
-abbrev pub LendsFront : List ℕ → Counted.Denot → Answer → Type 0
+abbrev pub LendsFront : {E : Type 0} → List ℕ → Result ℕ E → Result (MutBor (List ℕ)) E → Type 0
 LendsFront xs u r = IfOk u (λ n. IsOkAnd r (λ p. p.now ≡ take n xs))
 
--- a slice follows the reference that was lent, and so the same reference behind a write
-pub same_loan : (s : MutBor (List ℕ)) (r t : Answer) (W : MutBor (List ℕ) → Type 0) → IfOk r (λ p. IsOkAnd t (λ w. (w.ghost_name ≡ p.ghost_name) × W w)) → IfErr r (λ e. t ≡ Err e) → LendsAnswer s r ≡ LendsAnswer s t
-same_loan s (Ok p) (Ok w) W ok err = ap (λ (γ : GName). LendsAnswer s (Ok (record w { ghost_name = γ }))) (sym ok.0)
-same_loan s (Ok p) (Err e) W ok err = absurd ok
-same_loan s (Err e) t W ok err = ap (λ (u : Answer). LendsAnswer s u) (sym err)
+-- the same two under any type of errors
+abbrev pub CountedIn : RattleType → RattleType
+CountedIn E = RS.the_row usize (param 0 E)
+
+abbrev pub LentIn : RattleType → Lifetime → Lft → RattleType
+LentIn E ℓ κ = RS.the_row (MutSlice ℓ κ u8) (param 0 E)
+
+-- a type of errors as a call passes it
+abbrev pub Passed : RattleType → RattleType
+Passed E = arg (raw (layout E)) no E
+
+abbrev pub passed_laws : (E : RattleType) → param_laws.Laws E → raw (raw (layout E)) ≡ raw (layout E) → param_laws.Laws (Passed E)
+passed_laws E laws = param_laws.arg_laws (raw (layout E)) no E laws
+
+abbrev pub ok_val : Val → Val
+ok_val v = live 0 (of_list (v ∷ []))
+
+abbrev pub err_val : Val → Val
+err_val v = live 1 (of_list (v ∷ []))
+
+one_value : (P : List Val → Type 0) (vs : List Val) → Lone vs → P vs → (v : Val) × P (v ∷ [])
+one_value P [] lone p = absurd lone
+one_value P (v ∷ []) lone p = (v, p)
+one_value P (v ∷ u ∷ us) lone p = absurd lone
+
+-- the machine value of a number, and of a refusal
+pub counted_ok : (E : RattleType) (n : ℕ) (vs : List Val) → Is (CountedIn E) (Ok n) vs → (vs ≡ ok_val (vint w64 n) ∷ []) × (n < 2 ^ 64)
+counted_ok E n vs p =
+    let number = p.1.1.1.1.0 in
+    (p.1.0 ∙ ap (λ (us : List Val). live 0 (of_list us) ∷ []) (p.1.1.1.0 ∙ ap (λ (us : List Val). us ++ []) number.0), number.1)
+
+pub counted_err : (E : RattleType) → param_laws.Laws E → (e : E.Denot) (vs : List Val) → Is (CountedIn E) (Err e) vs → (v : Val) × ((vs ≡ err_val v ∷ []) × Is E e (v ∷ []))
+counted_err E laws e vs p =
+    let is = p.1.1.1.1.0 in
+    let one = one_value (λ us. (p.0 ≡ us ++ []) × Is E e us) p.1.1.0.0 (laws.single e p.1.1.0.0 is) (p.1.1.1.0, is) in
+    (one.0, (p.1.0 ∙ ap (λ (us : List Val). live 1 (of_list us) ∷ []) one.1.0, one.1.1))

@@ -1,7 +1,6 @@
 pub mod AsciiLemmas
 pub mod BlockLemmas
 pub mod ByteLemmas
-pub mod Facts
 pub mod FrontLemmas
 pub mod Fronts
 pub mod HashLemmas
@@ -17,10 +16,11 @@ pub mod PositionLemmas
 pub mod ProbeLemmas
 pub mod SearchLemmas
 pub mod Lent
+pub mod LentAgain
 pub mod RefusalLemmas
 pub mod Refused
-pub mod Results
 pub mod ShiftLemmas
+pub mod SliceWalk
 pub mod SpellsLemmas
 pub mod TableLemmas
 pub mod TextBlockLemmas

@@ -4,11 +4,9 @@ ghost use Rattle.std.specs.Prelude.{◌≡◌, ◌≤◌, Ok, Err, length, take,
 ghost use Rattle.std.specs.Borrow.{sem};
 ghost use Rattle.hex_core.specs.Loan.{LendsAnswer};
 
-use crate::error::Error;
-
-/// Lends the accepted front of `dst`, or hands on the refusal.
+/// Lends the front of `dst` of the answered length, or hands on the refusal.
 #[inline(always)]
-pub fn lend_accepted(dst: &mut [u8], answer: Result<usize, Error>) -> Result<&mut [u8], Error>
+pub fn lend_accepted<E>(dst: &mut [u8], answer: Result<usize, E>) -> Result<&mut [u8], E>
     requires { IfOk answer (λ n. n ≤ length dst.old) }
     ensures* lends { sem 𝓛 (LendsAnswer dst.entry result) }
     ensures ok { IfOk answer (λ n. IsOkAnd result (λ r. r.now ≡ take n dst.old)) }

@@ -1,14 +1,14 @@
 //! The slice calls under a plan: decoding and encoding into the front of a destination, of any
 //! length, and the loan of that front.
 
-ghost use Rattle.std.specs.Prelude.{◌≡◌, ◌≢◌, ◌/◌, ◌*◌, ◌≤◌, None, Some, Ok, Err, length, MatchResult, IfOk, IfErr, IsOkAnd};
+ghost use Rattle.std.specs.Prelude.{◌≡◌, ◌≢◌, ◌*◌, ◌≤◌, None, Some, length, MatchResult};
 ghost use Rattle.std.specs.Borrow.{sem};
 ghost use Rattle.hex_core.specs.declared.digit.CheckCase.{CheckCase};
 ghost use Rattle.hex_core.specs.Calls.{Answers, Decodes, DecodesFront, Encodes, EncodesFront};
 ghost use Rattle.hex_core.specs.Loan.{LendsAnswer};
 ghost use Rattle.hex_core.specs.Refusal.{decode_refusal, encode_refusal, first_bad_char};
 ghost use Rattle.hex_core.specs.Search.{first_invalid};
-ghost use Rattle.hex_core.specs.Text.{Spells, text};
+ghost use Rattle.hex_core.specs.Text.{text};
 
 use crate::digit::CheckCase;
 use crate::error::Error;
@@ -75,18 +75,6 @@ impl Backend {
         }
     }
 
-    // How many bytes `src` decodes to, or what decoding it into this room refuses.
-    #[inline(always)]
-    fn accepted(self, src: &[u8], room: usize, case: CheckCase) -> Result<usize, Error>
-        ensures { Answers (decode_refusal case src.now room) (λ n. n ≡ length src.now / 2) result }
-    {
-        let required = Backend::decoded_len(src, room)?;
-        if !self.check(src, case) {
-            return Err(self.first_error(src, case));
-        }
-        Ok(required)
-    }
-
     // How many bytes the text of `src` takes, or what encoding it into this room refuses.
     #[inline(always)]
     fn encoded_len(src: &[u8], room: usize) -> Result<usize, Error>
@@ -99,51 +87,6 @@ impl Backend {
             return Err(Error::OutputTooSmall { required });
         }
         Ok(required)
-    }
-
-    // Writes the bytes behind a reference that was lent for them, or hands on the refusal.
-    #[inline(always)]
-    fn decoded<'a>(
-        self,
-        src: &[u8],
-        lent: Result<&'a mut [u8], Error>,
-        case: CheckCase,
-    ) -> Result<&'a mut [u8], Error>
-        requires { IfOk lent (λ r. (length src.now ≡ 2 * length r.now)
-            × (first_invalid case src.now ≡ None)) }
-        ensures ok { IfOk lent.entry (λ r. IsOkAnd result (λ s. (s.ghost_name ≡ r.ghost_name)
-            × Spells case src.now s.now)) }
-        ensures err { IfErr lent.entry (λ e. result ≡ Err e) }
-    {
-        match lent {
-            Ok(front) => {
-                self.0.write_bytes(src, front, case);
-                Ok(front)
-            }
-            Err(e) => Err(e),
-        }
-    }
-
-    // Writes the text behind a reference that was lent for it, or hands on the refusal.
-    #[inline(always)]
-    fn encoded<'a>(
-        self,
-        src: &[u8],
-        lent: Result<&'a mut [u8], Error>,
-        upper: bool,
-    ) -> Result<&'a mut [u8], Error>
-        requires { IfOk lent (λ r. length r.now ≡ 2 * length src.now) }
-        ensures ok { IfOk lent.entry (λ r. IsOkAnd result (λ s. (s.ghost_name ≡ r.ghost_name)
-            × (s.now ≡ text upper src.now))) }
-        ensures err { IfErr lent.entry (λ e. result ≡ Err e) }
-    {
-        match lent {
-            Ok(front) => {
-                self.encode(src, front, upper);
-                Ok(front)
-            }
-            Err(e) => Err(e),
-        }
     }
 
     /// Decodes all of `src` into the front of `dst` and returns how many bytes it wrote,
@@ -229,9 +172,8 @@ impl Backend {
         ensures* lends { sem 𝓛 (LendsAnswer dst.entry result) }
         ensures answer { DecodesFront case src.now (length dst.old) result }
     {
-        let answer = self.accepted(src, dst.len(), case);
-        let lent = lend_accepted(dst, answer);
-        self.decoded(src, lent, case)
+        let answer = self.decode_into(src, dst, case);
+        lend_accepted(dst, answer)
     }
 
     /// Encodes all of `src` into the front of `dst`, in uppercase where `upper` is true, and
@@ -261,8 +203,7 @@ impl Backend {
         ensures* lends { sem 𝓛 (LendsAnswer dst.entry result) }
         ensures answer { EncodesFront upper src.now (length dst.old) result }
     {
-        let answer = Backend::encoded_len(src, dst.len());
-        let lent = lend_accepted(dst, answer);
-        self.encoded(src, lent, upper)
+        let answer = self.encode_into(src, dst, upper);
+        lend_accepted(dst, answer)
     }
 }
