@@ -16,7 +16,7 @@ use Rattle.hex_core.specs.Text.{Spells, SpellsAt}
 use Rattle.hex_core.proofs.ByteLemmas.{valid_value, value_small}
 use Rattle.hex_core.proofs.LaneLemmas.{mapped_at}
 use Rattle.hex_core.proofs.PairLemmas.{length-packed, packed_at}
-use Rattle.hex_core.proofs.SearchLemmas.{none_valid, valid_part, first_invalid_none, part_valid}
+use Rattle.hex_core.proofs.SearchLemmas.{none_valid, first_invalid_none, part_tested}
 use Rattle.hex_core.proofs.SpellsLemmas.{spelled_along}
 
 -- ---- places of blocks of any width
@@ -78,10 +78,11 @@ last_valid c s block some inside front =
 
 -- what is behind a valid front
 pub rest_valid : (c : CheckCase) (s : List ℕ) (done : ℕ) (t : Bool) → done ≤ length s → AllValid c s 0 done → IsTrue t ↔ (first_invalid c (slice_range s done (length s)) ≡ None) → IsTrue t ↔ (first_invalid c s ≡ None)
-rest_valid c s done t inside front rest = (
-  λ x. first_invalid_none c s (valid_over c s 0 done done (length s) (omega arith) front (valid_part c s done (length s) (omega arith) (rest.0 x))),
-  λ none. rest.1 (part_valid c s done (length s) (omega arith) (valid_range c s done (length s) (omega arith) none)),
-)
+rest_valid c s done t inside front rest =
+    let back = part_tested c s done (length s) t (omega arith) rest in (
+      λ x. first_invalid_none c s (valid_over c s 0 done done (length s) (omega arith) front (back.0 x)),
+      λ none. back.1 (valid_range c s done (length s) (omega arith) none),
+    )
 
 -- ---- the lanes of a block
 

@@ -1,6 +1,6 @@
 -- What the arithmetic of the lanes makes of a byte, computed at all of them.
-use Rattle.std.proofs.Common.{◌≡◌, ℕ, zero, suc, ◌+◌, ◌-◌, ◌/◌, ◌%◌, ◌^◌, ◌<◌, ◌↔◌, Bool, true, false, ◌&&◌, cond, List, [], ◌∷◌, map, length, get_or, Option, Some, None, is_some, bit_and, bit_or, refl, sym, ap, ap₂, subst, ◌∙◌, Fits, w8, eqb, leb, ltb, eqb-true, leb-true, ltb-true, lt-ltb, arith}
-use Rattle.std.specs.Prelude.{IsSome, min}
+use Rattle.std.proofs.Common.{◌≡◌, ℕ, zero, suc, ◌+◌, ◌-◌, ◌/◌, ◌%◌, ◌^◌, ◌<◌, ◌↔◌, Bool, true, false, ◌&&◌, cond, List, [], ◌∷◌, map, length, get_or, Option, Some, None, is_some, bit_and, refl, sym, ap, ap₂, ◌∙◌, Fits, w8, eqb, leb, ltb, eqb-true, leb-true, ltb-true, lt-ltb, arith}
+use Rattle.std.specs.Prelude.{EachIndex, IsSome, min}
 use Rattle.std.specs.Int.{bit_at}
 use Rattle.std.proofs.lemmas.Bool.{agree_below, agree_below_at, and_parts}
 use Rattle.std.proofs.lemmas.Bool.Decides.{nat_tests}
@@ -16,7 +16,7 @@ use Rattle.hex_core.specs.Search.{AllValid}
 use Rattle.hex_core.specs.Lanes.{Admits, AreNibbles, IsNibble}
 use Rattle.hex_core.specs.Lookup.{entry}
 use Rattle.hex_core.specs.Text.{text}
-use Rattle.hex_core.proofs.LaneLemmas.{lane_below, mapped, mapped_at, maps_agree, passes_where, zero_where}
+use Rattle.hex_core.proofs.LaneLemmas.{lane_below, mapped, mapped_at, maps_agree, passes_where}
 
 -- whether a byte has a value
 abbrev pub has : CheckCase → ℕ → Bool
@@ -25,26 +25,30 @@ has c b = is_some (value c b)
 abbrev pub always : ℕ → Bool
 always _ = true
 
--- ---- the range test
+-- ---- the range tests
 
+-- where a byte's number passes exactly where the byte has a value, all lanes pass exactly where each byte has one
+valid_where : (f : CheckCase → ℕ → ℕ) (Q : ℕ → Type 0) (c : CheckCase) → ((b : ℕ) → b < 256 → Q (f c b) ↔ IsSome (value c b)) → (v r : List ℕ) (n : ℕ) → (length v ≡ n) × Each1 (Fits w8) v → r ≡ map (f c) v
+    → EachIndex r (λ i. Q (get_or r i 0)) ↔ AllValid c v 0 n
+valid_where f Q c test v r n fits is =
+    let all = passes_where (f c) Q (λ b. IsSome (value c b)) test v fits.1 is in
+    (λ passes k low lt. all.0 passes k (omega (arith, fits.0)), λ valid. all.1 (λ k h. valid k (omega arith) (omega (arith, fits.0))))
+
+-- the reach is below 10 there
 reaches : (c : CheckCase) → agree_below (λ b. ltb (reach c b) 10) (has c) 256 ≡ true
 reaches policy.None = refl
 reaches policy.Lower = refl
 reaches policy.Upper = refl
 
-reach_low : (c : CheckCase) (b : ℕ) → b < 256 → ltb (reach c b) 10 ≡ has c b
-reach_low c b h = agree_below_at (λ x. ltb (reach c x) 10) (has c) 256 b (reaches c) h
-
 reach_is_low : (c : CheckCase) (b : ℕ) → b < 256 → (reach c b < 10) ↔ IsSome (value c b)
-reach_is_low c b h = (λ lt. sym (reach_low c b h) ∙ lt-ltb (reach c b) 10 lt, λ s. ltb-true (reach c b) 10 (reach_low c b h ∙ s))
+reach_is_low c b h =
+    let same = agree_below_at (λ x. ltb (reach c x) 10) (has c) 256 b (reaches c) h in
+    (λ lt. sym same ∙ lt-ltb (reach c b) 10 lt, λ s. ltb-true (reach c b) 10 (same ∙ s))
 
--- all lanes are below 10 exactly where each byte has a value
 pub reach_valid : (c : CheckCase) (v r : List ℕ) (n : ℕ) → (length v ≡ n) × Each1 (Fits w8) v → r ≡ map (reach c) v → AreLow r ↔ AllValid c v 0 n
-reach_valid c v r n fits is =
-    let all = passes_where (reach c) (λ x. x < 10) (λ b. IsSome (value c b)) (reach_is_low c) v fits.1 is in
-    (λ low k least lt. all.0 low k (omega (arith, fits.0)), λ valid. all.1 (λ k h. valid k (omega arith) (omega (arith, fits.0))))
+reach_valid c = valid_where reach (λ x. x < 10) c (reach_is_low c)
 
--- the mask of the bytes that have a value, and its bits
+-- the excess is 0 there
 excess_zeros : (c : CheckCase) → agree_below (λ b. eqb (excess c b) 0) (has c) 256 ≡ true
 excess_zeros policy.None = refl
 excess_zeros policy.Lower = refl
@@ -53,15 +57,10 @@ excess_zeros policy.Upper = refl
 excess_zero : (c : CheckCase) (b : ℕ) → b < 256 → eqb (excess c b) 0 ≡ has c b
 excess_zero c b h = agree_below_at (λ x. eqb (excess c x) 0) (has c) 256 b (excess_zeros c) h
 
-excess_is_zero : (c : CheckCase) (b : ℕ) → b < 256 → (excess c b ≡ 0) ↔ IsSome (value c b)
-excess_is_zero c b h = (λ z. sym (excess_zero c b h) ∙ rw z refl, λ s. eqb-true _ _ (excess_zero c b h ∙ s))
-
--- all lanes are 0 exactly where each byte has a value
 pub excess_valid : (c : CheckCase) (v r : List ℕ) (n : ℕ) → (length v ≡ n) × Each1 (Fits w8) v → r ≡ map (excess c) v → AreZero r ↔ AllValid c v 0 n
-excess_valid c v r n fits is =
-    let all = zero_where (excess c) (λ b. IsSome (value c b)) (excess_is_zero c) v fits.1 is in
-    (λ zero k low lt. all.0 zero k (omega (arith, fits.0)), λ valid. all.1 (λ k h. valid k (omega arith) (omega (arith, fits.0))))
+excess_valid c = valid_where excess (λ x. x ≡ 0) c (λ b h. (λ z. sym (excess_zero c b h) ∙ rw z refl, λ s. eqb-true _ _ (excess_zero c b h ∙ s)))
 
+-- the mask of the bytes that have a value, and its bits
 pub admitted_mask : (c : CheckCase) (v e : List ℕ) (m : ℕ) → Each1 (Fits w8) v → e ≡ map (excess c) v → m ≡ mask_l (map (λ x. eqb x 0) e) → m ≡ mask_l (map (has c) v)
 admitted_mask c v e m fits lanes is =
     is ∙ ap mask_l (mapped (λ x. eqb x 0) (excess c) v lanes ∙ maps_agree (λ b. eqb (excess c b) 0) (has c) (excess_zero c) v fits)

@@ -9,32 +9,32 @@ use Rattle.hex_core.specs.Lookup.{entry}
 use Rattle.hex_core.proofs.LaneLemmas.{lane_below, mapped_at}
 
 -- the position that a look-up by the low four bits is given: 0x8f keeps the sign bit, at which it gives 0
-abbrev pub position : ℕ → ℕ
-position a = bit_and a 143
+abbrev pub slot : ℕ → ℕ
+slot a = bit_and a 143
 
 abbrev always : ℕ → Bool
 always _ = true
 
-positions : agree_below (λ a. eqb (position a) (cond (leb 128 a) (128 + a % 16) (a % 16))) always 256 ≡ true
-positions = refl
+slots : agree_below (λ a. eqb (slot a) (cond (leb 128 a) (128 + a % 16) (a % 16))) always 256 ≡ true
+slots = refl
 
-position_is : (a : ℕ) → a < 256 → position a ≡ cond (leb 128 a) (128 + a % 16) (a % 16)
-position_is a h = eqb-true _ _ (agree_below_at (λ x. eqb (position x) (cond (leb 128 x) (128 + x % 16) (x % 16))) always 256 a positions h)
+slot_is : (a : ℕ) → a < 256 → slot a ≡ cond (leb 128 a) (128 + a % 16) (a % 16)
+slot_is a h = eqb-true _ _ (agree_below_at (λ x. eqb (slot x) (cond (leb 128 x) (128 + x % 16) (x % 16))) always 256 a slots h)
 
-in_row : agree_below (λ a. zeroes 16 w8 (position a) || ltb (position a) 16) always 256 ≡ true
+in_row : agree_below (λ a. zeroes 16 w8 (slot a) || ltb (slot a) 16) always 256 ≡ true
 in_row = refl
 
-gives_zero : agree_below (λ a. zeroes 16 w8 (position a)) (λ a. leb 128 a) 256 ≡ true
+gives_zero : agree_below (λ a. zeroes 16 w8 (slot a)) (λ a. leb 128 a) 256 ≡ true
 gives_zero = refl
 
-all_in_row : (v : List ℕ) → Each1 (Fits w8) v → Each1 (λ j. T (zeroes 16 w8 j || ltb j 16)) (map position v)
+all_in_row : (v : List ℕ) → Each1 (Fits w8) v → Each1 (λ j. T (zeroes 16 w8 j || ltb j 16)) (map slot v)
 all_in_row [] f = tt
-all_in_row (x ∷ xs) f = (subst T (sym (agree_below_at (λ a. zeroes 16 w8 (position a) || ltb (position a) 16) always 256 x in_row f.0.fits)) tt, all_in_row xs f.1)
+all_in_row (x ∷ xs) f = (subst T (sym (agree_below_at (λ a. zeroes 16 w8 (slot a) || ltb (slot a) 16) always 256 x in_row f.0.fits)) tt, all_in_row xs f.1)
 
 -- the positions are those that std's look-up takes, in a vector of b times sixteen lanes
-pub look_up_ok : (b n : ℕ) (v js : List ℕ) → (length v ≡ n) × Each1 (Fits w8) v → js ≡ map position v → n ≡ b * 16 → SwzOk w8 16 n 0 js
+pub look_up_ok : (b n : ℕ) (v js : List ℕ) → (length v ≡ n) × Each1 (Fits w8) v → js ≡ map slot v → n ≡ b * 16 → SwzOk w8 16 n 0 js
 look_up_ok b n v js f is e =
-    subst (SwzOk w8 16 n 0) (sym is) (SwzOk-from_Each1 w8 16 b n 0 (map position v) e (omega (arith, length-map v position, f.0)) (all_in_row v f.1))
+    subst (SwzOk w8 16 n 0) (sym is) (SwzOk-from_Each1 w8 16 b n 0 (map slot v) e (omega (arith, length-map v slot, f.0)) (all_in_row v f.1))
 
 -- the row stands in each sixteen lanes of t
 abbrev pub Repeats : List ℕ → List ℕ → ℕ → Type 0
@@ -48,17 +48,17 @@ entry_of row t n i a j b false e is h whole rows =
     rows (16 * ((0 + i) / 16) + j) at ∙ ap (λ k. get_or row k 0) (omega arith)
 
 -- what the look-up finds
-pub look_up_is : (b n : ℕ) (row t v js : List ℕ) → (length v ≡ n) × Each1 (Fits w8) v → js ≡ map position v → n ≡ b * 16 → Repeats row t n → swz_l w8 16 t 0 js ≡ map (entry row) v
+pub look_up_is : (b n : ℕ) (row t v js : List ℕ) → (length v ≡ n) × Each1 (Fits w8) v → js ≡ map slot v → n ≡ b * 16 → Repeats row t n → swz_l w8 16 t 0 js ≡ map (entry row) v
 look_up_is b n row t v js f is e rows =
-    let long : length js ≡ n = ap length is ∙ length-map v position ∙ f.0 in
+    let long : length js ≡ n = ap length is ∙ length-map v slot ∙ f.0 in
     ext_get_or 0 _ _ (length-swz_l w8 16 t 0 js ∙ long ∙ sym (length-map v (entry row) ∙ f.0)) (λ i h.
     let lt : i < n = omega (arith, length-swz_l w8 16 t 0 js) in
     let a = get_or v i 0 in
     let A : a < 256 = lane_below v f.1 i in
-    let at : get_or js i 0 ≡ position a = mapped_at position v i is (omega (arith, f.0)) in
-    let none : zeroes 16 w8 (get_or js i 0) ≡ leb 128 a = ap (zeroes 16 w8) at ∙ agree_below_at (λ x. zeroes 16 w8 (position x)) (λ x. leb 128 x) 256 a gives_zero A in
+    let at : get_or js i 0 ≡ slot a = mapped_at slot v i is (omega (arith, f.0)) in
+    let none : zeroes 16 w8 (get_or js i 0) ≡ leb 128 a = ap (zeroes 16 w8) at ∙ agree_below_at (λ x. zeroes 16 w8 (slot x)) (λ x. leb 128 x) 256 a gives_zero A in
     get_or-swz_l w8 16 t 0 js i (omega arith) ∙ ap (λ z. cond z 0 (get_or t (16 * ((0 + i) / 16) + get_or js i 0) 0)) none
-    ∙ entry_of row t n i a (get_or js i 0) b (leb 128 a) refl (at ∙ position_is a A) lt e rows ∙ sym (get_or-map (entry row) v i 0 0 (omega (arith, f.0))))
+    ∙ entry_of row t n i a (get_or js i 0) b (leb 128 a) refl (at ∙ slot_is a A) lt e rows ∙ sym (get_or-map (entry row) v i 0 0 (omega (arith, f.0))))
 
 -- the places of a row, over and over
 abbrev pub over : ℕ → ℕ → List ℕ
@@ -72,6 +72,6 @@ repeats entries ks n long many all i h =
     get_or-map (λ k. get_or (entries ++ entries) k 0) ks i 0 0 (omega arith) ∙ ap (λ k. get_or (entries ++ entries) k 0) at ∙ get_or_append_left entries entries 0 (i % 16) (omega arith)
 
 -- so it is looked up as the row itself
-pub look_up_repeated : (b n : ℕ) (row ks v js : List ℕ) → (length v ≡ n) × Each1 (Fits w8) v → js ≡ map position v → n ≡ b * 16 → length row ≡ 16 → length ks ≡ n
+pub look_up_repeated : (b n : ℕ) (row ks v js : List ℕ) → (length v ≡ n) × Each1 (Fits w8) v → js ≡ map slot v → n ≡ b * 16 → length row ≡ 16 → length ks ≡ n
     → agree_below (λ i. eqb (get_or ks i 0) (i % 16)) always n ≡ true → swz_l w8 16 (pick_l 0 (row ++ row) ks) 0 js ≡ map (entry row) v
 look_up_repeated b n row ks v js f is e long many all = look_up_is b n row (pick_l 0 (row ++ row) ks) v js f is e (repeats row ks n long many all)

@@ -1,6 +1,6 @@
 -- The first invalid byte, by ranges of which all bytes are valid.
 use Rattle.std.proofs.Common.{◌≡◌, ℕ, ◌+◌, ◌-◌, ◌*◌, ◌/◌, ◌<◌, ◌≤◌, Bool, true, false, inl, inr, List, length, slice_index, Option, Some, None, is_none, is_some, refl, sym, ◌∙◌, ap, subst, arith}
-use Rattle.std.specs.Prelude.{IsSome, slice_range, ◌↔◌}
+use Rattle.std.specs.Prelude.{IsSome, IsTrue, slice_range, ◌↔◌}
 use Rattle.std.proofs.lemmas.Bool.{cases_lt}
 use Rattle.std.proofs.lemmas.Bool.Decides.{nat_tests}
 use Rattle.std.proofs.lemmas.Grind.{common_steps}
@@ -99,17 +99,9 @@ valid_part c s start end inside e k low lt =
     let read = none_valid c (slice_range s start end) e (k - start) (omega arith) long in
     subst P (part_at s start end (k - start) inside (omega arith) ∙ ap (slice_index s) place) read
 
--- two ranges in a row are one
-pub valid_joined : (c : CheckCase) (s : List ℕ) (middle end : ℕ) → AllValid c s 0 middle → AllValid c s middle end → AllValid c s 0 end
-valid_joined c s middle end front back k low lt =
-    elim (cases_lt k middle) [
-      | inl before ↦ front k low before
-      | inr behind ↦ back k behind lt
-    ]
-
--- the whole blocks are within the source
-blocks_within : (len : ℕ) → 64 * tested_blocks len ≤ len
-blocks_within len = grind (arith, nat_tests)
+-- the tested blocks are within the source
+tests_within : (len : ℕ) → 64 * tested_blocks len ≤ len
+tests_within len = grind (arith, nat_tests)
 
 -- a block behind a valid range that does not pass is the invalid byte's
 first_invalid_block : (c : CheckCase) (s : List ℕ) (f i : ℕ) → first_invalid c s ≡ Some f → AllValid c s 0 (64 * i) → ¬ AllValid c s (64 * i) (64 * i + 64) → f / 64 ≡ i
@@ -126,7 +118,7 @@ stops_at_block c s i whole (Some f) e all inside valid fails =
     let same = first_invalid_block c s f i e valid fails in
     (omega arith, omega arith)
 stops_at_block c s i whole None e all inside valid fails =
-    absurd (fails (λ k low lt. none_valid c s e k (omega arith) (omega (arith, blocks_within (length s)))))
+    absurd (fails (λ k low lt. none_valid c s e k (omega arith) (omega (arith, tests_within (length s)))))
 
 -- behind the whole blocks likewise, where each one passed
 pub stops_at_end : (c : CheckCase) (s : List ℕ) (whole : ℕ) (o : Option ℕ) → first_invalid c s ≡ o → whole ≡ tested_blocks (length s) → AllValid c s 0 (64 * whole) → (64 * whole ≡ looks_behind (length s) o) × ((steps_to (length s) o).tests ≡ whole)
@@ -137,8 +129,8 @@ stops_at_end c s whole None e all valid = (omega arith, sym all)
 
 -- the looks begin in the source, at most 64 bytes before the invalid byte or the end
 pub looks_inside : (c : CheckCase) (s : List ℕ) (start : ℕ) (o : Option ℕ) → first_invalid c s ≡ o → start ≡ looks_behind (length s) o → start ≤ length s
-looks_inside c s start (Some f) e from = omega (arith, blocks_within (length s))
-looks_inside c s start None e from = omega (arith, blocks_within (length s))
+looks_inside c s start (Some f) e from = omega (arith, tests_within (length s))
+looks_inside c s start None e from = omega (arith, tests_within (length s))
 
 pub looks_near : (c : CheckCase) (s : List ℕ) (start i : ℕ) (o : Option ℕ) → first_invalid c s ≡ o → start ≡ looks_behind (length s) o → AllValid c s 0 i → i < length s → i < start + 64
 looks_near c s start i (Some f) e from valid inside =
@@ -156,7 +148,7 @@ looks_found c s start f None e is from = cc
 
 pub looks_ended : (s : List ℕ) (start : ℕ) (o : Option ℕ) → o ≡ None → start ≡ looks_behind (length s) o → start + (steps_to (length s) o).looks ≡ length s
 looks_ended s start (Some g) is from = cc
-looks_ended s start None is from = omega (arith, blocks_within (length s))
+looks_ended s start None is from = omega (arith, tests_within (length s))
 
 -- a place is the first invalid byte exactly where it is in the source, has no value, and all before
 -- it have one
@@ -182,3 +174,10 @@ none_is_all_valid c s = (none_valid c s, first_invalid_none c s)
 -- a part has no invalid byte exactly where all bytes of its range are valid
 pub part_is_valid : (c : CheckCase) (s : List ℕ) (start end : ℕ) → end ≤ length s → (first_invalid c (slice_range s start end) ≡ None) ↔ AllValid c s start end
 part_is_valid c s start end inside = (valid_part c s start end inside, part_valid c s start end inside)
+
+-- and so is a test of the one one of the other
+pub part_tested : (c : CheckCase) (s : List ℕ) (start end : ℕ) (t : Bool) → end ≤ length s → IsTrue t ↔ (first_invalid c (slice_range s start end) ≡ None) → IsTrue t ↔ AllValid c s start end
+part_tested c s start end t inside test = (
+  λ passed. valid_part c s start end inside (test.0 passed),
+  λ valid. test.1 (part_valid c s start end inside valid),
+)

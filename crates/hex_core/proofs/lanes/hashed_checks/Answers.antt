@@ -1,4 +1,4 @@
-use Rattle.std.proofs.Common.{◌-◌, map, ap, ◌∙◌, bit_xor}
+use Rattle.std.proofs.Common.{map, ap, ◌∙◌}
 use Rattle.hex_core.specs.Lookup.{entry}
 use Rattle.hex_core.proofs.HashLemmas.{checks_are}
 use Rattle.hex_core.proofs.lanes.hashed_checks.Goals as goal

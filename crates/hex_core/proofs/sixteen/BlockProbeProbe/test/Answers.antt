@@ -1,11 +1,8 @@
 use Rattle.std.proofs.Common.{◌+◌}
-use Rattle.hex_core.proofs.SearchLemmas.{valid_part, part_valid}
+use Rattle.hex_core.proofs.SearchLemmas.{part_tested}
 use Rattle.hex_core.proofs.sixteen.BlockProbeProbe.test.Goals as goal
 
 pub returns-clause-valid : goal.returns-clause-valid
 returns-clause-valid c =
     let p = c.args.self.now in
-    let end = c.args.start + c.args.width in (
-      λ passed. valid_part p.case p.src.now c.args.start end c.requires.inside (c.passes.ensures.0 passed),
-      λ valid. c.passes.ensures.1 (part_valid p.case p.src.now c.args.start end c.requires.inside valid),
-    )
+    part_tested p.case p.src.now c.args.start (c.args.start + c.args.width) c.passes.result c.requires.inside c.passes.ensures
