@@ -1,19 +1,16 @@
 -- The laws of digits, texts and what they spell.
-use Rattle.std.proofs.Common.{◌≡◌, ℕ, List, ◌+◌, ◌*◌, ◌/◌, ◌%◌, ◌<◌, ◌↔◌, ◌==◌, if◌then◌else◌, length, map, get_or, Bool, true, false, Option, None, Some, unwrap_or, refl, sym, ◌∙◌, ap, arith, zero-add, inl, inr}
+use Rattle.std.proofs.Common.{◌≡◌, ℕ, List, ◌+◌, ◌*◌, ◌/◌, ◌%◌, ◌<◌, ◌↔◌, ◌==◌, length, map, get_or, Bool, true, false, None, Some, unwrap_or, refl, sym, subst, ◌∙◌, ap, arith, zero-add, inl, inr}
 use Rattle.std.proofs.lemmas.Bool.{cases_lt}
 use Rattle.std.proofs.lemmas.Bool.Decides.{nat_tests}
 use Rattle.std.proofs.lemmas.Grind.{same_number_lists}
 use Rattle.std.proofs.lemmas.List.{get_or-map, length-map}
 use Rattle.std.proofs.lemmas.List.Elements.{All-get_or, All-from_get_or}
 use Rattle.std.proofs.lemmas.List.FromFn.{get_or-map-range_with_len, length-map-range_with_len}
-use Rattle.std.specs.Prelude.{option_map}
 use Rattle.std.specs.List.{range_with_len}
 use Rattle.std.specs.Char.{to_ascii_lowercase}
 use Rattle.std.specs.Str.{str_to_ascii_lowercase}
 use Rattle.hex_core.specs.declared.digit.CheckCase.{CheckCase}
 use Rattle.hex_core.specs.declared.digit.CheckCase.TheVariants as policy
-use Rattle.hex_core.specs.declared.error.Error.{Error}
-use Rattle.hex_core.specs.declared.error.Error.TheVariants.{InvalidChar, OddLength}
 use Rattle.hex_core.specs.Digit.{value, digit, strict}
 use Rattle.hex_core.specs.Text.{Spells, lowercase, text}
 use Rattle.hex_core.specs.Search.{first_invalid}
@@ -22,7 +19,7 @@ use Rattle.hex_core.specs.Laws.{AreBytes}
 use Rattle.hex_core.proofs.PositionLemmas.{position_none}
 use Rattle.hex_core.proofs.SearchLemmas.{has_value, lacks}
 use Rattle.hex_core.proofs.TableLemmas.{value_at}
-use Rattle.hex_core.proofs.TextLemmas.{length-text, high-text, low-text}
+use Rattle.hex_core.proofs.TextLemmas.{digits-at, length-text}
 
 -- a value is below 16
 value-below : (c : CheckCase) (b n : ℕ) → value c b ≡ Some n → n < 16
@@ -81,26 +78,23 @@ spelled c s even none =
 valued : (c : CheckCase) (b n : ℕ) → value c b ≡ Some n → lacks c b ≡ false
 valued c b n e = rw e refl
 
+-- what holds at both places of each pair holds at every place
+by_pairs : (P : ℕ → Type 0) (n : ℕ) → ((i : ℕ) → i < n → P (2 * i) × P (2 * i + 1)) → (k : ℕ) → k < 2 * n → P k
+by_pairs P n pairs k lt =
+    let both = pairs (k / 2) (omega arith) in
+    elim (cases_lt (k % 2) 1) [
+      | inl even ↦ (let e : 2 * (k / 2) ≡ k = omega arith in subst P e both.0)
+      | inr odd ↦ (let e : 2 * (k / 2) + 1 ≡ k = omega arith in subst P e both.1)
+    ]
+
 pub valid-spelled : (c : CheckCase) (s bytes : List ℕ) → Spells c s bytes → first_invalid c s ≡ None
 valid-spelled c s bytes h = position_none (lacks c) s (λ k lt.
-    let twice = h.twice in
-    let i = k / 2 in
-    let small : i < length bytes = omega arith in
-    elim (cases_lt (k % 2) 1) [
-      | inl even ↦ (let e : 2 * i ≡ k = omega arith in let f : lacks c (get_or s (2 * i) 0) ≡ false = valued c (get_or s (2 * i) 0) (get_or bytes i 0 / 16) (h.each i small).high in rw e at f)
-      | inr odd ↦ (let e : 2 * i + 1 ≡ k = omega arith in let f : lacks c (get_or s (2 * i + 1) 0) ≡ false = valued c (get_or s (2 * i + 1) 0) (get_or bytes i 0 % 16) (h.each i small).low in rw e at f)
-    ])
-
-nothing-refused : (odd : Bool) (f : Option ℕ) (name : ℕ → Error) → (if odd then Some OddLength else option_map name f) ≡ None → (odd ≡ false) × (f ≡ None)
-nothing-refused true f name h = cc
-nothing-refused false (Some x) name h = cc
-nothing-refused false None name h = (refl, refl)
+    by_pairs (λ n. lacks c (get_or s n 0) ≡ false) (length bytes) (λ i small. let is = h.each i small in (valued c (get_or s (2 * i) 0) (get_or bytes i 0 / 16) is.high, valued c (get_or s (2 * i + 1) 0) (get_or bytes i 0 % 16) is.low))
+    k (omega (arith, lt, h.twice)))
 
 -- where nothing is refused the length is even and there is no invalid byte, and the other way round
 accepted-parts : (c : CheckCase) (s : List ℕ) → source_refusal c s ≡ None → (length s % 2 ≡ 0) × (first_invalid c s ≡ None)
-accepted-parts c s h =
-    let parts = nothing-refused (length s % 2 == 1) (first_invalid c s) (λ f. InvalidChar f (get_or s f 0)) h in
-    let odd = parts.0 in (grind (arith, nat_tests, odd), parts.1)
+accepted-parts c s h = (grind (arith, nat_tests, h), grind (arith, nat_tests, h))
 
 accepted-whole : (c : CheckCase) (s : List ℕ) → length s % 2 ≡ 0 → first_invalid c s ≡ None → source_refusal c s ≡ None
 accepted-whole c s even none = let test : (length s % 2 == 1) ≡ false = grind (arith, nat_tests) in rw (test, none) refl
@@ -117,7 +111,8 @@ text-spells c upper bytes reads all = record {
   twice = length-text upper bytes;
   each = λ i lt.
       let small : get_or bytes i 0 < 256 = All-get_or (λ b. b < 256) bytes i 0 lt all in
-      record { high = rw (high-text upper bytes i lt) (reads _ (omega arith)); low = rw (low-text upper bytes i lt) (reads _ (omega arith)) };
+      let at = digits-at upper bytes i lt in
+      record { high = rw at.0 (reads _ (omega arith)); low = rw at.1 (reads _ (omega arith)) };
 }
 
 pub decoding-inverts : (upper : Bool) (bytes : List ℕ) → AreBytes bytes → Spells (strict upper) (text upper bytes) bytes × Spells policy.None (text upper bytes) bytes
@@ -125,14 +120,11 @@ decoding-inverts upper bytes all = (text-spells (strict upper) upper bytes (valu
 
 pub encoding-inverts : (upper : Bool) (s bytes : List ℕ) → Spells (strict upper) s bytes → text upper bytes ≡ s
 encoding-inverts upper s bytes h =
-    let twice = h.twice in let size = length-text upper bytes in
-    same_number_lists (text upper bytes) s (omega arith) (λ k lt.
-    let i = k / 2 in
-    let small : i < length bytes = omega arith in
-    elim (cases_lt (k % 2) 1) [
-      | inl even ↦ (let e : 2 * i ≡ k = omega arith in let f : get_or (text upper bytes) (2 * i) 0 ≡ get_or s (2 * i) 0 = high-text upper bytes i small ∙ digit-value upper (get_or s (2 * i) 0) (get_or bytes i 0 / 16) (h.each i small).high in rw e at f)
-      | inr odd ↦ (let e : 2 * i + 1 ≡ k = omega arith in let f : get_or (text upper bytes) (2 * i + 1) 0 ≡ get_or s (2 * i + 1) 0 = low-text upper bytes i small ∙ digit-value upper (get_or s (2 * i + 1) 0) (get_or bytes i 0 % 16) (h.each i small).low in rw e at f)
-    ])
+    let size = length-text upper bytes in
+    same_number_lists (text upper bytes) s (omega (arith, size, h.twice)) (λ k lt.
+    by_pairs (λ n. get_or (text upper bytes) n 0 ≡ get_or s n 0) (length bytes)
+    (λ i small. let at = digits-at upper bytes i small in let is = h.each i small in (at.0 ∙ digit-value upper (get_or s (2 * i) 0) (get_or bytes i 0 / 16) is.high, at.1 ∙ digit-value upper (get_or s (2 * i + 1) 0) (get_or bytes i 0 % 16) is.low))
+    k (omega (arith, lt, size)))
 
 pub strict-accepts : (upper : Bool) (s : List ℕ) → (source_refusal (strict upper) s ≡ None) ↔ ((bytes : List ℕ) × AreBytes bytes × (text upper bytes ≡ s))
 strict-accepts upper s = (

@@ -1,5 +1,5 @@
 -- What decoding block by block leaves: whole blocks in order, and then a rest.
-use Rattle.std.proofs.Common.{◌≡◌, ℕ, suc, ◌+◌, ◌-◌, ◌*◌, ◌/◌, ◌%◌, ◌<◌, ◌≤◌, List, ◌++◌, length, take, drop, get_or, inl, inr, refl, sym, ap, ◌∙◌, Option, Some, None, arith}
+use Rattle.std.proofs.Common.{◌≡◌, ℕ, suc, ◌+◌, ◌-◌, ◌*◌, ◌/◌, ◌<◌, ◌≤◌, List, ◌++◌, length, take, drop, get_or, inl, inr, refl, sym, ap, ◌∙◌, Option, Some, None, arith}
 use Rattle.std.specs.Prelude.{slice_range, unwrap_or, option_map}
 use Rattle.std.proofs.Math.Nat.{le-div_iff_mul-le}
 use Rattle.std.proofs.lemmas.Bool.{cases_lt}
@@ -11,13 +11,10 @@ use Rattle.hex_core.specs.Blocks.{DecodesRange, SpellsRange}
 use Rattle.hex_core.specs.Search.{AllValid, first_invalid}
 use Rattle.hex_core.specs.Plans.{StoresBlocks, digits_before}
 use Rattle.hex_core.specs.Text.{Spells, with_front}
-use Rattle.hex_core.proofs.SearchLemmas.{valid_before, valid_misses}
+use Rattle.hex_core.proofs.SearchLemmas.{part_at, valid_before, valid_misses}
 use Rattle.hex_core.proofs.SpellsLemmas.{spelled_along}
 
 -- ---- a part that is decoded, seen in the whole
-
-part_byte : (s : List ℕ) (start end k : ℕ) → end ≤ length s → k < end - start → get_or (slice_range s start end) k 0 ≡ get_or s (start + k) 0
-part_byte s start end k inside lt = grind (arith, common_steps)
 
 put_before : (old part : List ℕ) (from n i : ℕ) → i < from → from ≤ length old → get_or (put_mid from n old part) i 0 ≡ get_or old i 0
 put_before old part from n i h inside = grind (arith, common_steps)
@@ -35,7 +32,7 @@ part_decoded c s old part from twice inside long spells =
     let new = put_mid from (length old - from) old part in
     let rest = slice_range s (2 * from) (length s) in
     let digit : (j k : ℕ) → 2 * from + j ≡ k → j < length s - 2 * from → get_or s k 0 ≡ get_or rest j 0 =
-    λ j k e h. sym (part_byte s (2 * from) (length s) j (omega arith) h ∙ ap (λ i. get_or s i 0) e) in
+    λ j k e h. sym (part_at s (2 * from) (length s) j (omega arith) h ∙ ap (λ i. get_or s i 0) e) in
     record {
       decoded = λ k low lt.
           let j = k - from in

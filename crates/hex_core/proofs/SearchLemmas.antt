@@ -80,7 +80,7 @@ valid_misses c s f start end e valid low =
     ]
 
 -- a byte of a part, by its place in the whole
-part_at : (s : List ℕ) (start end k : ℕ) → end ≤ length s → k < end - start → slice_index (slice_range s start end) k ≡ slice_index s (start + k)
+pub part_at : (s : List ℕ) (start end k : ℕ) → end ≤ length s → k < end - start → slice_index (slice_range s start end) k ≡ slice_index s (start + k)
 part_at s start end k inside lt = grind (arith, common_steps)
 
 -- a part has no invalid byte where its range is valid

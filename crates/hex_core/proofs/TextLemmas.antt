@@ -19,26 +19,20 @@ pub text-append : (upper : Bool) (front back : List ℕ) → text upper (front +
 text-append upper front back = flat_map-append (digits upper) front back
 
 -- the digits of the byte at a place
-pub high-text : (upper : Bool) (bytes : List ℕ) (i : ℕ) → i < length bytes → get_or (text upper bytes) (2 * i) 0 ≡ digit upper (get_or bytes i 0 / 16)
-high-text upper bytes i h =
-    let at : length (text upper (take i bytes)) + 0 ≡ 2 * i = omega (arith, length-text upper (take i bytes), length-take i bytes) in
-    let e = get_or-flat_map (digits upper) bytes i 0 0 0 h (omega arith) in
-    rw at at e
-
-pub low-text : (upper : Bool) (bytes : List ℕ) (i : ℕ) → i < length bytes → get_or (text upper bytes) (2 * i + 1) 0 ≡ digit upper (get_or bytes i 0 % 16)
-low-text upper bytes i h =
-    let at : length (text upper (take i bytes)) + 1 ≡ 2 * i + 1 = omega (arith, length-text upper (take i bytes), length-take i bytes) in
-    let e = get_or-flat_map (digits upper) bytes i 1 0 0 h (omega arith) in
-    rw at at e
+pub digits-at : (upper : Bool) (bytes : List ℕ) (i : ℕ) → i < length bytes
+    → (get_or (text upper bytes) (2 * i) 0 ≡ digit upper (get_or bytes i 0 / 16)) × (get_or (text upper bytes) (2 * i + 1) 0 ≡ digit upper (get_or bytes i 0 % 16))
+digits-at upper bytes i h =
+    let size : length (text upper (take i bytes)) ≡ 2 * i = omega (arith, length-text upper (take i bytes), length-take i bytes) in
+    let start : length (text upper (take i bytes)) + 0 ≡ 2 * i = omega (arith, size) in
+    (rw start at (get_or-flat_map (digits upper) bytes i 0 0 0 h (omega arith)), rw size at (get_or-flat_map (digits upper) bytes i 1 0 0 h (omega arith)))
 
 -- the entries of a byte in the table of all digits
-pub high-entry : (upper : Bool) (b : ℕ) → b < 256 → get_or (digits_table upper) (2 * b) 0 ≡ digit upper (b / 16)
+pub digits-entry : (upper : Bool) (b : ℕ) → b < 256 → (get_or (digits_table upper) (2 * b) 0 ≡ digit upper (b / 16)) × (get_or (digits_table upper) (2 * b + 1) 0 ≡ digit upper (b % 16))
 unfolding digits_table
-high-entry upper b h = rw (get_or-range_with_len 0 256 b 0 h, zero-add b) at (high-text upper (range_with_len 0 256) b h)
-
-pub low-entry : (upper : Bool) (b : ℕ) → b < 256 → get_or (digits_table upper) (2 * b + 1) 0 ≡ digit upper (b % 16)
-unfolding digits_table
-low-entry upper b h = rw (get_or-range_with_len 0 256 b 0 h, zero-add b) at (low-text upper (range_with_len 0 256) b h)
+digits-entry upper b h =
+    let found = digits-at upper (range_with_len 0 256) b h in
+    let is = get_or-range_with_len 0 256 b 0 h in
+    (rw (is, zero-add b) at found.0, rw (is, zero-add b) at found.1)
 
 -- two writes in a row
 take-two-set : (xs : List ℕ) (n a b : ℕ) → n + 1 < length xs → take (n + 2) (set (set xs n a) (n + 1) b) ≡ take n xs ++ a ∷ b ∷ []
@@ -51,4 +45,4 @@ pub text-more : (upper : Bool) (table src dst : List ℕ) (i : ℕ) → table �
 text-more upper table src dst i is byte h len front =
     let b = get_or src i 0 in
     let two : 2 * (i + 1) ≡ 2 * i + 2 = omega arith in
-    rw (two, is, high-entry upper b byte, low-entry upper b byte, take-two-set dst (2 * i) (digit upper (b / 16)) (digit upper (b % 16)) (omega arith), front, take_more src i 0 h, text-append upper (take i src) (b ∷ [])) refl
+    rw (two, is, (digits-entry upper b byte).0, (digits-entry upper b byte).1, take-two-set dst (2 * i) (digit upper (b / 16)) (digit upper (b % 16)) (omega arith), front, take_more src i 0 h, text-append upper (take i src) (b ∷ [])) refl

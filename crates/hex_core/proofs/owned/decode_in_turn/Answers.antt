@@ -20,8 +20,10 @@ returns g c =
       | inl t ↦
           let whole = MatchBool-at_true _ _ t c.decode.ensures in
           let rest = part_decoded case s mid c.decode.new.dst done (omega arith) (omega arith) (omega arith) whole.1 in
-          rw t ((rest_valid case s (2 * done) true (omega arith) blocks.ensures.valid (λ h. whole.0, λ none. refl)).0 refl,
-          decodes_whole case s old _ (length mid) (omega arith) (omega arith) (decodes_over case s old mid _ 0 done done (length mid) (omega arith) (omega arith) (omega arith) blocks.ensures.decoded rest))
+          rw t (
+            (rest_valid case s (2 * done) true (omega arith) blocks.ensures.valid (λ h. whole.0, λ none. refl)).0 refl,
+            decodes_whole case s old _ (length mid) (omega arith) (omega arith) (decodes_over case s old mid _ 0 done done (length mid) (omega arith) (omega arith) (omega arith) blocks.ensures.decoded rest),
+          )
       | inr f ↦
           let kept = MatchBool-at_false _ _ f c.decode.ensures in
           let bad : ¬ (first_invalid case s ≡ None) = λ none. let t = (rest_valid case s (2 * done) false (omega arith) blocks.ensures.valid (λ h. cc, λ valid. absurd (kept.0 valid))).1 none in cc in
