@@ -4,7 +4,7 @@ use Rattle.std.proofs.lemmas.Bool.{cases_lt, eq-eqb, eqb-true, ne_eqb}
 use Rattle.std.proofs.lemmas.Bool.Decides.{nat_tests}
 use Rattle.std.proofs.lemmas.List.{length-take-le}
 use Rattle.std.proofs.lemmas.Nat.{div-add-mod', div-mul-add, le-div, mod-mul-add, mod_below}
-use Rattle.std.proofs.Math.Nat.{div-mul-le_self, zero-div, zero-mod}
+use Rattle.std.proofs.Math.Nat.{add-div_left, div-eq_of_lt, div-mul-le_self, zero-div, zero-mod}
 use Rattle.hex_core.specs.declared.digit.CheckCase.{CheckCase}
 use Rattle.hex_core.specs.Text.{Spells}
 use Rattle.hex_core.specs.Search.{first_invalid}
@@ -90,33 +90,40 @@ count-told every len n e = eqb-true (grouped_len every n) len (least_told (λ k.
 
 -- ---- digits
 
--- two digits for each byte
-digits-fuel : (every fuel n : ℕ) (s : List ℕ) → 0 < every → n ≤ fuel → length s ≡ grouped_len every n → length (digits_in every s) ≡ 2 * n
-digits-fuel every fuel zero [] pos fits long = rw (no_pieces (2 * every + 1)) (omega arith)
-digits-fuel every fuel zero (b ∷ s) pos fits long = absurd (omega (arith, long, len-closed every 0 pos, zero-div every))
-digits-fuel every zero (suc n) s pos fits long = absurd (omega arith)
-digits-fuel every (suc fuel) (suc n) s pos fits long =
-    from_cases (digits-fuel every fuel (suc n - every) (drop (2 * every + 1) s) pos (omega arith)) (cases_lt every (suc n))
+-- each byte of a text is a digit, but one of each whole part
+digits-fuel : (every fuel : ℕ) (s : List ℕ) → length s ≤ fuel → length (digits_in every s) + length s / (2 * every + 1) ≡ length s
+digits-fuel every zero [] fits = rw (no_pieces (2 * every + 1), zero-div (2 * every + 1)) refl
+digits-fuel every zero (b ∷ s) fits = absurd (omega arith)
+digits-fuel every (suc fuel) s fits = from_cases (digits-fuel every fuel (drop (2 * every + 1) s)) (cases_lt (length s) (2 * every + 1))
   where
-    count : piece_count every (suc n) ≡ suc (piece_count every (suc n - every))
-    count = count-next every (suc n) pos (omega arith)
-
-    from_cases : (length (drop (2 * every + 1) s) ≡ grouped_len every (suc n - every) → length (digits_in every (drop (2 * every + 1) s)) ≡ 2 * (suc n - every)) → (every < suc n) ⊎ (suc n ≤ every)
-        → length (digits_in every s) ≡ 2 * suc n
-    from_cases rest (inl more) =
+    from_cases : (length (drop (2 * every + 1) s) ≤ fuel → length (digits_in every (drop (2 * every + 1) s)) + length (drop (2 * every + 1) s) / (2 * every + 1) ≡ length (drop (2 * every + 1) s))
+        → (length s < 2 * every + 1) ⊎ (2 * every + 1 ≤ length s) → length (digits_in every s) + length s / (2 * every + 1) ≡ length s
+    from_cases rest (inl short) = omega (arith, ap length (unparted every s (omega arith)).0, div-eq_of_lt short)
+    from_cases rest (inr long) =
         let line = 2 * every + 1 in
-        let again = count-next every (suc n - every) pos (omega arith) in
-        let size : length s ≡ line + grouped_len every (suc n - every) = omega (arith, long, count, again) in
-        let behind = rest (omega (arith, length-drop line s, size)) in
-        ap length (parted every s (omega (arith, size))).digits ∙ omega (arith, length-append (take (2 * every) s) (digits_in every (drop line s)), length-take-le (2 * every) s (omega (arith, size)), behind)
-    from_cases rest (inr one) =
-        let none : suc n - every ≡ 0 = omega arith in
-        let zero_count : piece_count every (suc n - every) ≡ 0 = rw (none, zero-div every, zero-mod every) refl in
-        let size : length s ≡ 2 * suc n = omega (arith, long, count, zero_count) in
-        ap length (unparted every s (omega (arith, size))).0 ∙ size
+        let left = length-drop line s in
+        let cut = ap length (parted every s (omega arith)).digits ∙ length-append (take (2 * every) s) (digits_in every (drop line s)) in
+        let sum : length s ≡ line + length (drop line s) = omega (arith, left) in
+        let count : length s / line ≡ length (drop line s) / line + 1 = ap (λ n. n / line) sum ∙ add-div_left (length (drop line s)) {k = line} (omega arith) in
+        omega (arith, cut, length-take-le (2 * every) s (omega arith), rest (omega (arith, left)), left, count)
 
+-- two for each byte
 pub length-digits : (every n : ℕ) (s : List ℕ) → 0 < every → length s ≡ grouped_len every n → length (digits_in every s) ≡ 2 * n
-length-digits every n s pos long = digits-fuel every n n s pos (omega arith) long
+length-digits every n s pos long = from_cases (cases_lt 0 n)
+  where
+    from_cases : (0 < n) ⊎ (n ≤ 0) → length (digits_in every s) ≡ 2 * n
+    from_cases (inl some) =
+        let c = cut every n pos some in
+        let size = long ∙ len-cut every n c in
+        let count : length s / (2 * every + 1) ≡ c.whole = ap (λ k. k / (2 * every + 1)) size ∙ div-mul-add c.whole (2 * every + 1) (2 * c.last) (omega (arith, c.fits)) in
+        omega (arith, digits-fuel every (length s) s (omega arith), size, count, lines c.whole every, c.sum)
+    from_cases (inr none) = omega (arith, digits-fuel every (length s) s (omega arith), long, len-closed every n pos, div-eq_of_lt {n = n - 1} {m = every} (omega arith))
+
+-- and those of whole parts
+pub even-digits : (every count : ℕ) (s : List ℕ) → length s ≡ count * (2 * every + 1) → length (digits_in every s) ≡ 2 * (count * every)
+even-digits every count s whole =
+    let size : length s / (2 * every + 1) ≡ count = ap (λ k. k / (2 * every + 1)) (omega (arith, whole)) ∙ div-mul-add count (2 * every + 1) 0 (omega arith) in
+    omega (arith, digits-fuel every (length s) s (omega arith), whole, size, lines count every)
 
 -- ---- texts that are read
 
@@ -127,17 +134,13 @@ pub record Accepted (c : CheckCase) (group : Group) (s : List ℕ) (room n : ℕ
   pub digits : ValidDigits c group s n
   pub separated : All (λ b. b ≡ separator group) (separators_in (piece_len group) s)
 
-unmapped : (f : Option ℕ) (to : ℕ → GroupFault) → option_map to f ≡ None → f ≡ None
-unmapped None to e = refl
-unmapped (Some i) to e = cc
-
 pub accepted : (c : CheckCase) (group : Group) (s : List ℕ) (room n : ℕ) → group_refusal c group s room ≡ None → byte_count (piece_len group) (length s) ≡ Some n → Accepted c group s room n
 accepted c group s room n h is =
     let every = piece_len group in
     let fault = option_map (λ i. InvalidByte i (slice_index s i)) (first_wrong c group s) in
     let none : refusal_of_count (Some n) fault room ≡ None = rw is at h in
     let long : length s ≡ grouped_len every n = sym (count-told every (length s) n is) in
-    let right : Right c group s = wrong-none c group s (unmapped (first_wrong c group s) (λ i. InvalidByte i (slice_index s i)) (grind (arith, nat_tests, none))) in
+    let right : Right c group s = wrong-none c group s (grind (arith, nat_tests, none)) in
     record {
       fits = grind (arith, nat_tests, none);
       long = long;

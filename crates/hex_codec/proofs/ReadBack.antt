@@ -109,11 +109,7 @@ pub spells-read : (c : CheckCase) (group : Group) (s bytes : List ℕ) (room : �
 spells-read c group s bytes room h fits accepts =
     let count = count-is (piece_len group) (length s) (length bytes) group.is_group.0 (sym h.long) in
     let even : length (digits_in (piece_len group) s) % 2 ≡ 0 = omega (arith, h.spelled.twice) in
-    let valid : first_invalid c (digits_in (piece_len group) s) ≡ None = unrefused c (digits_in (piece_len group) s) (first_invalid c (digits_in (piece_len group) s)) refl even accepts in
+    let valid : first_invalid c (digits_in (piece_len group) s) ≡ None = grind (arith, nat_tests, even, accepts) in
     let none = none-wrong c group s (record { valid = valid; separated = h.separated }) in
     let enough : nat_lt room (length bytes) ≡ false = le-ltb room (length bytes) fits in
     rw (count, enough, none) refl
-  where
-    unrefused : (c : CheckCase) (s : List ℕ) (f : Option ℕ) → first_invalid c s ≡ f → length s % 2 ≡ 0 → source_refusal c s ≡ None → f ≡ None
-    unrefused c s None is even h = refl
-    unrefused c s (Some i) is even h = grind (arith, nat_tests, even, is, h)

@@ -18,6 +18,7 @@ use Rattle.hex_codec.specs.declared.strip.Front.{Front}
 use Rattle.hex_codec.specs.Grouped.{piece_len}
 use Rattle.hex_codec.specs.GroupedText.{digits_in}
 use Rattle.hex_codec.specs.Strip.{IsWhole, StripsFront, ValidDigits, WritesFront}
+use Rattle.hex_codec.proofs.CountLemmas.{even-digits}
 use Rattle.hex_codec.proofs.GroupLemmas.{no_pieces, pieces-next}
 use Rattle.hex_codec.proofs.StripLemmas.{joined, parted, unparted, whole-more}
 
@@ -35,18 +36,6 @@ spells-joined c a b x y h k = record {
         let j = i - length x in
         let digit : (m n : ℕ) → length a + m ≡ n → get_or (a ++ b) n 0 ≡ get_or b m 0 = λ m n e. get_or-append_right a b (length a) n 0 refl (omega arith) ∙ ap (λ p. get_or b p 0) (omega arith) in
         spelled_along c b (a ++ b) y (x ++ y) j i (digit (2 * j) (2 * i) (omega (arith, h.twice))) (digit (2 * j + 1) (2 * i + 1) (omega (arith, h.twice))) (get_or-append_right x y (length x) i 0 refl r) (k.each j (omega arith))
-
--- whole parts have two digits for each byte of their pieces
-pub even-digits : (every count : ℕ) (s : List ℕ) → length s ≡ count * (2 * every + 1) → length (digits_in every s) ≡ 2 * (count * every)
-even-digits every zero [] whole = rw (no_pieces (2 * every + 1)) (omega arith)
-even-digits every zero (b ∷ s) whole = absurd (omega arith)
-even-digits every (suc count) s whole =
-    let line = 2 * every + 1 in
-    let size : length s ≡ line + count * line = omega (arith, whole) in
-    let rest = even-digits every count (drop line s) (omega (arith, length-drop line s, size)) in
-    let first = length-take-le line s (omega (arith, size)) in
-    ap (λ ps. length (flat_map (take (2 * every)) ps)) (pieces-next line s (omega arith) (omega (arith, size)))
-    ∙ omega (arith, length-append (take (2 * every) (take line s)) (digits_in every (drop line s)), rest, length-take (2 * every) (take line s), first)
 
 -- decoding valid digits leaves what they spell
 pub decoded : (c : CheckCase) (s old new : List ℕ) (done : Bool) → first_invalid c s ≡ None → DecodesWhole c s old new done → Spells c s new

@@ -3,7 +3,7 @@
 //! All of a text is tested before the first store. Pieces of up to 16 bytes are stripped of their
 //! separators into a buffer, many at a time, and tested and decoded there.
 
-ghost use Rattle.std.specs.Prelude.{◌≡◌, ◌*◌, ◌/◌, ◌≤◌, ◌<◌, None, length, min};
+ghost use Rattle.std.specs.Prelude.{◌≡◌, ◌*◌, ◌/◌, ◌≤◌, ◌<◌, None, length, take};
 ghost use Rattle.std.specs.Borrow.{sem};
 ghost use Rattle.hex_core.specs.Loan.{LendsAnswer};
 ghost use Rattle.hex_core.specs.Search.{first_invalid};
@@ -69,11 +69,15 @@ fn byte_count(len: usize, every: usize) -> Option<usize>
     Some(len / part * every + last / 2)
 }
 
-// How many digits stand before a separator or the end.
-fn run_len(left: usize, every: usize) -> usize
-    ensures { result ≡ min left (2 * every) }
+// The digits before the first separator, or all bytes where there is none.
+fn first_digits(src: &[u8], every: usize) -> &[u8]
+    ensures { result.now ≡ take (2 * every) src.now }
 {
-    if every > left / 2 { left } else { 2 * every }
+    if every > src.len() / 2 {
+        src
+    } else {
+        &src[..2 * every]
+    }
 }
 
 // The first invalid digit.
@@ -93,10 +97,11 @@ fn first_wrong_behind(src: &[u8], front: usize, group: Group, case: CheckCase) -
 {
     let mut at = front;
     while at < src.len() {
-        let end = at + run_len(src.len() - at, group.every());
-        if let Some(index) = invalid_digit(&src[at..end], case) {
+        let digits = first_digits(&src[at..], group.every());
+        if let Some(index) = invalid_digit(digits, case) {
             return Some(at + index);
         }
+        let end = at + digits.len();
         if end == src.len() {
             return None;
         }

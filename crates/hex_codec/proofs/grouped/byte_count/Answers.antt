@@ -1,6 +1,6 @@
 -- A length is that of some whole parts and a last piece.
 use Rattle.std.proofs.Common.{◌≡◌, ◌⊎◌, inl, inr, sym, refl, ◌∙◌, ℕ, ◌+◌, ◌-◌, ◌*◌, ◌/◌, ◌%◌, ◌<◌, ◌≤◌, arith}
-use Rattle.std.proofs.Math.Nat.{div-eq_of_lt}
+use Rattle.std.proofs.Math.Nat.{div-eq_of_lt, mod-eq_of_lt}
 use Rattle.std.proofs.lemmas.Nat.{div-add-mod', mod-mul-add, mod_below}
 use Rattle.std.proofs.lemmas.Bool.{cases_lt}
 use Rattle.hex_codec.specs.GroupedText.{grouped_len}
@@ -12,14 +12,9 @@ use Rattle.hex_codec.proofs.grouped.byte_count.Goals.{then-last-eq0-via-then-las
 one : (every n : ℕ) → 0 < every → n ≤ every → grouped_len every n ≡ 2 * n
 one every n pos h = let q : (n - 1) / every ≡ 0 = div-eq_of_lt {n = n - 1} {m = every} (omega arith) in omega (arith, len-closed every n pos)
 
--- no text of one piece has an odd length, and those of two are longer
-odd : (every len n : ℕ) → 0 < every → len / 2 < every → len % 2 ≡ 1 → (every < n) ⊎ (n ≤ every) → grouped_len every n ≡ len → ⊥
-odd every len n pos short is (inl h) e = absurd (omega (arith, len-closed every n pos))
-odd every len n pos short is (inr h) e = absurd (omega (arith, one every n pos h))
-
 -- where nothing is behind the whole parts, or an odd number of bytes, no text has the length
-none : (every len n : ℕ) → 0 < every → every ≤ len / 2 → (len % (2 * every + 1) ≡ 0) ⊎ (len % (2 * every + 1) % 2 ≡ 1) → (0 < n) ⊎ (n ≤ 0) → grouped_len every n ≡ len → ⊥
-none every len n pos long last (inr h) e = absurd (omega (arith, len-closed every n pos))
+none : (every len n : ℕ) → 0 < every → 0 < len → (len % (2 * every + 1) ≡ 0) ⊎ (len % (2 * every + 1) % 2 ≡ 1) → (0 < n) ⊎ (n ≤ 0) → grouped_len every n ≡ len → ⊥
+none every len n pos long last (inr h) e = absurd (omega (arith, one every n pos (omega arith)))
 none every len n pos long last (inl h) e =
     let c = cut every n pos h in
     let r : (c.whole * (2 * every + 1) + 2 * c.last) % (2 * every + 1) ≡ 2 * c.last = mod-mul-add c.whole (2 * every + 1) (2 * c.last) (omega (arith, c.fits)) in
@@ -34,10 +29,10 @@ pub returns-then-len-eq0 : goal.returns-then-len-eq0
 returns-then-len-eq0 c = sym (count-is c.args.every c.args.len (c.args.len / 2) c.requires (omega (arith, one c.args.every (c.args.len / 2) c.requires (omega (arith, c.if-every-len.true)), c.if-len-eq0.true)))
 
 pub returns-else-len-eq0 : goal.returns-else-len-eq0
-returns-else-len-eq0 c = sym (count-none c.args.every c.args.len (λ n. odd c.args.every c.args.len n c.requires c.if-every-len.true (omega (arith, c.if-len-eq0.false)) (cases_lt c.args.every n)))
+returns-else-len-eq0 c = sym (count-none c.args.every c.args.len (λ n. none c.args.every c.args.len n c.requires (omega (arith, c.if-len-eq0.false)) (inr (omega (arith, c.if-len-eq0.false, mod-eq_of_lt {n = c.args.len} {m = 2 * c.args.every + 1} (omega (arith, c.if-every-len.true))))) (cases_lt 0 n)))
 
 pub returns-then-last-eq0 : goal.returns-then-last-eq0
-returns-then-last-eq0 c = sym (count-none c.args.every c.args.len (λ n. none c.args.every c.args.len n c.requires c.if-every-len.false (elim c.then-last-eq0.branch [ then-last-eq0-via-then-last-eq0 w ↦ inl w.if-last-eq0.true | then-last-eq0-via-else-last-eq0+then-last-eq1 w ↦ inr w.if-last-eq1.true ]) (cases_lt 0 n)))
+returns-then-last-eq0 c = sym (count-none c.args.every c.args.len (λ n. none c.args.every c.args.len n c.requires (omega (arith, c.requires, c.if-every-len.false)) (elim c.then-last-eq0.branch [ then-last-eq0-via-then-last-eq0 w ↦ inl w.if-last-eq0.true | then-last-eq0-via-else-last-eq0+then-last-eq1 w ↦ inr w.if-last-eq1.true ]) (cases_lt 0 n)))
 
 pub returns : goal.returns
 returns c =
