@@ -21,8 +21,12 @@ take-text upper n bytes inside =
 abbrev pub listed : List ℕ → List ℕ
 listed bytes = map (λ i. get_or bytes i 0) (range_with_len 0 16)
 
--- so do their pieces where a piece's length is known
+-- so do their digits, and their pieces where a piece's length is known
+pub digits-listed : (upper : Bool) (bytes digits : List ℕ) → length bytes ≡ 16 → digits ≡ text upper bytes → digits ≡ text upper (listed bytes)
+digits-listed upper bytes digits long is = is ∙ ap (text upper) (entries bytes 16 long)
+
 pub separated-listed : (group : Group) (upper : Bool) (bytes : List ℕ) (every : ℕ) → length bytes ≡ 16 → piece_len group ≡ every
     → flat_map (λ piece. separator group ∷ text upper piece) (pieces every (listed bytes)) ≡ separated group upper bytes
 separated-listed group upper bytes every long is =
-    ap (λ n. flat_map (λ piece. separator group ∷ text upper piece) (pieces n (listed bytes))) (sym is) ∙ ap (separated group upper) (sym (entries bytes 16 long))
+    ap (λ n. flat_map (λ piece. separator group ∷ text upper piece) (pieces n (listed bytes))) (sym is)
+    ∙ ap (separated group upper) (sym (entries bytes 16 long))

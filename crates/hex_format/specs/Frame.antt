@@ -1,5 +1,5 @@
 -- The padded text of a list of bytes.
-use Rattle.std.specs.Prelude.{ℕ, ◌-◌, ◌/◌, Bool, false, List, [], ◌++◌, length, codes, encode_utf8, Option, Some, None, if◌then◌else◌}
+use Rattle.std.specs.Prelude.{◌≡◌, ◌≤◌, ℕ, ◌-◌, ◌/◌, Bool, false, List, [], ◌++◌, length, take, codes, encode_utf8, Option, Some, None, if◌then◌else◌}
 use Rattle.std.specs.List.{repeat}
 use Rattle.hex_core.specs.Text.{text}
 use Rattle.hex_codec.specs.declared.group.Group.{Group}
@@ -49,6 +49,10 @@ abbrev pub left_padding : Align → ℕ → ℕ
 left_padding Left padding = 0
 left_padding Right padding = padding
 left_padding Center padding = padding / 2
+
+-- a buffer begins with n bytes that are these
+abbrev pub BeginsWith : ℕ → List ℕ → List ℕ → Type 0
+BeginsWith n buffer bytes = (n ≤ length buffer) × (take n buffer ≡ bytes)
 
 -- this many fill characters, in UTF-8
 abbrev pub fills : HexFlags → ℕ → List ℕ

@@ -1,7 +1,9 @@
 -- What the sinks of this crate show.
-use Rattle.std.specs.Prelude.{ℕ, ◌-◌, List, [], length, take, drop, Option, Some, None}
+use Rattle.std.specs.Prelude.{◌≡◌, ◌<◌, ℕ, ◌-◌, min, List, [], length, take, drop, Option, Some, None, IsSome, Result, MatchResult}
 use Rattle.std.specs.Borrow.{MutBor}
+use Rattle.std.specs.Io.KnownBytes.{Keeps}
 use Rattle.std.specs.declared.io.Error.{Error}
+use Rattle.hex_format.specs.declared.sink.SinkFault.{SinkFault}
 use Rattle.hex_format.specs.declared.sink.SliceSink.{SliceSink}
 use Rattle.hex_format.specs.declared.sink.WriterSink.{WriterSink}
 use Rattle.hex_format.specs.Sink.{SinkState}
@@ -42,3 +44,21 @@ writer_state contents sink = record { taken = contents sink.writer; failures = s
 -- what a new slice's sink shows: it has taken nothing, and all of the buffer that it is lent is free
 abbrev pub fresh_state : MutBor (List ℕ) → SinkState
 fresh_state buf = record { taken = Some []; failures = 0; free = Some buf.now; loan = Some buf.ghost_name }
+
+-- a slice's sink has taken nothing, and all of this buffer, which it is lent, is free
+abbrev pub IsFresh : SliceSink → MutBor (List ℕ) → Type 0
+IsFresh sink buf = (written_bytes sink ≡ []) × (free_len sink ≡ length buf.now) × (buffer_bytes sink ≡ buf.now) × (slice_state sink ≡ fresh_state buf)
+
+-- a put into a slice's sink takes what fits; it is refused exactly where nothing is free and the piece
+-- has some bytes, and takes nothing then
+abbrev pub TakesWhatFits : SliceSink → SliceSink → Result ℕ SinkFault → List ℕ → Type 0
+TakesWhatFits old new result piece = MatchResult result
+    (λ n. (n ≡ min (length piece) (free_len old)) × (free_len new ≡ free_len old - n) × (0 < length piece → 0 < free_len old))
+    (λ _. (0 < length piece) × (free_len old ≡ 0) × (written_bytes new ≡ written_bytes old) × (free_len new ≡ 0))
+
+-- a put into a writer's sink keeps the error of its writer where it is refused, and then the writer
+-- has taken nothing; else the error is that of before
+abbrev pub KeepsError : {W : Type 0} → (W → Option (List ℕ)) → WriterSink W → WriterSink W → Result ℕ SinkFault → Type 0
+KeepsError contents old new result = MatchResult result
+    (λ _. kept_error new ≡ kept_error old)
+    (λ _. Keeps (contents (writer_of old)) (contents (writer_of new)) × IsSome (kept_error new))

@@ -1,7 +1,6 @@
 //! Sinks, which take bytes a piece at a time, and two of them: over a slice and over a writer.
 
-ghost use Rattle.std.specs.Prelude.{◌≡◌, ◌↔◌, ◌+◌, ◌-◌, ◌^◌, ◌<◌, ◌≤◌, ℕ, min, List, [], Option, Some, length, take, IsSome, IsErr, IfOk, OnOk, OnErr};
-ghost use Rattle.std.specs.Io.KnownBytes.{Keeps};
+ghost use Rattle.std.specs.Prelude.{◌≡◌, ◌-◌, ◌^◌, ◌<◌, ◌≤◌, None, length};
 ghost use Rattle.std.specs.Option.{option_copied};
 ghost use Rattle.hex_format.specs.Sink.{Puts, PutsPiece, SinkState};
 
@@ -122,14 +121,11 @@ pub struct SliceSink<'a> {
 }
 
 impl<'a> SliceSink<'a> {
-    ghost use Rattle.hex_format.specs.Sinks.{buffer_bytes, free_len, fresh_state, slice_state, written_bytes};
+    ghost use Rattle.hex_format.specs.Sinks.{IsFresh, written_bytes};
 
     /// A sink that has taken nothing, has all of `buf` free and counts no failure.
     pub fn new(buf: &'a mut [u8]) -> SliceSink<'a>
-        ensures written { written_bytes result ≡ [] }
-        ensures free { free_len result ≡ length buf.entry.now }
-        ensures buffer { buffer_bytes result ≡ buf.entry.now }
-        ensures shown { slice_state result ≡ fresh_state buf.entry }
+        ensures { IsFresh result buf.entry }
     {
         SliceSink {
             buf,
@@ -147,7 +143,7 @@ impl<'a> SliceSink<'a> {
 }
 
 impl Sink for SliceSink<'_> {
-    ghost use Rattle.hex_format.specs.Sinks.{buffer_bytes, free_len, fresh_state, slice_state, written_bytes};
+    ghost use Rattle.hex_format.specs.Sinks.{TakesWhatFits, slice_state};
 
     ghost state = { slice_state };
 
@@ -163,13 +159,8 @@ impl Sink for SliceSink<'_> {
     fn put(&mut self, piece: &[u8]) -> Result<usize, SinkFault>
         requires { (slice_state self.old).failures < 2 ^ 64 - 1 }
         ensures puts { PutsPiece (slice_state self.old) (slice_state self.new) result piece.now }
-        // All that fits is taken, and the rest stays free.
-        ensures fits { IfOk result (λ n. n ≡ min (length piece.now) (free_len self.old)) }
-        ensures room { IfOk result (λ n. free_len self.new ≡ free_len self.old - n) }
-        // A refusal takes nothing.
-        ensures full { IsErr result ↔ ((0 < length piece.now) × (free_len self.old ≡ 0)) }
-        ensures unchanged { OnErr result ((written_bytes self.new ≡ written_bytes self.old)
-            × (free_len self.new ≡ 0)) }
+        // All that fits is taken. A refusal takes nothing.
+        ensures fits { TakesWhatFits self.old self.new result piece.now }
     {
         let free = self.buf.len() - self.used;
         if free == 0 && !piece.is_empty() {
@@ -232,7 +223,7 @@ impl<W: Write> WriterSink<W> {
 }
 
 impl<W: Write> Sink for WriterSink<W> {
-    ghost use Rattle.hex_format.specs.Sinks.{writer_of, kept_error, writer_state};
+    ghost use Rattle.hex_format.specs.Sinks.{KeepsError, writer_state};
 
     ghost state = { writer_state W.contents };
 
@@ -250,10 +241,7 @@ impl<W: Write> Sink for WriterSink<W> {
         ensures puts { PutsPiece (writer_state W.contents self.old)
             (writer_state W.contents self.new) result piece.now }
         // A refusal takes nothing and keeps the writer's error.
-        ensures unchanged { OnErr result (Keeps (W.contents (writer_of self.old))
-            (W.contents (writer_of self.new))) }
-        ensures error { OnErr result (IsSome (kept_error self.new)) }
-        ensures no_error { OnOk result (kept_error self.new ≡ kept_error self.old) }
+        ensures error { KeepsError W.contents self.old self.new result }
     {
         match self.writer.write(piece) {
             Ok(count) => {

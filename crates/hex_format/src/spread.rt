@@ -1,7 +1,8 @@
 //! Texts of pieces, each behind a separator.
 
-ghost use Rattle.std.specs.Prelude.{◌≡◌, ◌++◌, ◌-◌, ℕ, ◌*◌, ◌≤◌, length, take};
+ghost use Rattle.std.specs.Prelude.{◌≡◌, ◌++◌, ◌-◌, ◌*◌, ◌%◌, ◌≤◌, length, take};
 ghost use Rattle.hex_codec.specs.Grouped.{piece_len, separated};
+ghost use Rattle.hex_format.specs.Frame.{BeginsWith};
 
 use hex_codec::Group;
 use hex_core::Backend;
@@ -34,8 +35,7 @@ pub fn separated_text<'b>(bytes: &[u8], upper: bool, group: Group, buffer: &'b m
 // Writes the text of each piece behind a separator, and returns how many bytes that is.
 fn write_separated(bytes: &[u8], upper: bool, group: Group, out: &mut [u8]) -> usize
     requires { 3 * length bytes.now ≤ length out.old }
-    ensures inside { result ≤ length out.new }
-    ensures written { take result out.new ≡ separated group upper bytes.now }
+    ensures { BeginsWith result out.new (separated group upper bytes.now) }
 {
     let mut to = 0;
     for piece in bytes.chunks(group.every()) {
@@ -52,8 +52,7 @@ fn write_separated(bytes: &[u8], upper: bool, group: Group, out: &mut [u8]) -> u
 fn write_short(bytes: &[u8], upper: bool, group: Group, out: &mut [u8]) -> usize
     requires short { piece_len group ≤ 8 }
     requires room { 3 * length bytes.now ≤ length out.old }
-    ensures inside { result ≤ length out.new }
-    ensures written { take result out.new ≡ separated group upper bytes.now }
+    ensures { BeginsWith result out.new (separated group upper bytes.now) }
 {
     let every = group.every();
     let mut at = 0;
@@ -74,8 +73,7 @@ trait SpreadBlock<const EVERY: usize, const OUT: usize> {
     fn spread(bytes: &[u8; BLOCK], upper: bool, group: Group, out: &mut [u8])
         requires every { piece_len group ≡ EVERY }
         requires long { length out.old ≡ OUT }
-        ensures whole { (pieces : ℕ) × (BLOCK ≡ pieces * EVERY) }
-        ensures text { out.new ≡ separated group upper bytes.now };
+        ensures { out.new ≡ separated group upper bytes.now };
 }
 
 // Each vector of what is written takes its lanes from 16 of the digits: a shuffle of more lanes is done
@@ -84,12 +82,7 @@ struct Spread;
 
 impl SpreadBlock<1, 48> for Spread {
     #[inline(always)]
-    fn spread(bytes: &[u8; BLOCK], upper: bool, group: Group, out: &mut [u8])
-        requires every { piece_len group ≡ 1 }
-        requires long { length out.old ≡ 48 }
-        ensures whole { (pieces : ℕ) × (BLOCK ≡ pieces * 1) }
-        ensures text { out.new ≡ separated group upper bytes.now }
-    {
+    fn spread(bytes: &[u8; BLOCK], upper: bool, group: Group, out: &mut [u8]) {
         let digits = encode_16(bytes, upper);
         let first = u8x16::from_slice(&digits);
         let last = u8x16::from_slice(&digits[BLOCK..]);
@@ -112,12 +105,7 @@ impl SpreadBlock<1, 48> for Spread {
 
 impl SpreadBlock<2, 40> for Spread {
     #[inline(always)]
-    fn spread(bytes: &[u8; BLOCK], upper: bool, group: Group, out: &mut [u8])
-        requires every { piece_len group ≡ 2 }
-        requires long { length out.old ≡ 40 }
-        ensures whole { (pieces : ℕ) × (BLOCK ≡ pieces * 2) }
-        ensures text { out.new ≡ separated group upper bytes.now }
-    {
+    fn spread(bytes: &[u8; BLOCK], upper: bool, group: Group, out: &mut [u8]) {
         let digits = encode_16(bytes, upper);
         let first = u8x16::from_slice(&digits);
         let last = u8x16::from_slice(&digits[BLOCK..]);
@@ -140,12 +128,7 @@ impl SpreadBlock<2, 40> for Spread {
 
 impl SpreadBlock<4, 36> for Spread {
     #[inline(always)]
-    fn spread(bytes: &[u8; BLOCK], upper: bool, group: Group, out: &mut [u8])
-        requires every { piece_len group ≡ 4 }
-        requires long { length out.old ≡ 36 }
-        ensures whole { (pieces : ℕ) × (BLOCK ≡ pieces * 4) }
-        ensures text { out.new ≡ separated group upper bytes.now }
-    {
+    fn spread(bytes: &[u8; BLOCK], upper: bool, group: Group, out: &mut [u8]) {
         let digits = encode_16(bytes, upper);
         let first = u8x16::from_slice(&digits);
         let last = u8x16::from_slice(&digits[BLOCK..]);
@@ -189,10 +172,10 @@ fn write_blocks<S, const EVERY: usize, const OUT: usize>(
 where
     S: SpreadBlock<EVERY, OUT>,
     requires every { piece_len group ≡ EVERY }
+    requires whole { BLOCK % EVERY ≡ 0 }
     requires thrice { OUT ≤ 3 * BLOCK }
     requires room { 3 * length bytes.now ≤ length out.old }
-    ensures inside { result ≤ length out.new }
-    ensures written { take result out.new ≡ separated group upper bytes.now }
+    ensures { BeginsWith result out.new (separated group upper bytes.now) }
 {
     let whole = bytes.len() / BLOCK;
     let mut to = 0;

@@ -1,5 +1,5 @@
 -- A piece is written behind those before it, and what is left a piece at a time.
-use Rattle.std.proofs.Common.{◌≡◌, ◌+◌, ◌-◌, ◌*◌, ◌≤◌, [], ◌∷◌, length, take, drop, ap, ◌∙◌, arith, append_assoc, length-drop}
+use Rattle.std.proofs.Common.{rules, ◌≡◌, ◌+◌, ◌-◌, ◌*◌, ◌≤◌, [], ◌∷◌, length, take, drop, ap, ◌∙◌, arith, append_assoc, length-drop}
 use Rattle.std.proofs.Math.ListN.{length-set, set}
 use Rattle.std.proofs.lemmas.List.{length-take-le, take-take, take_more_set, take_rest}
 use Rattle.hex_core.specs.Text.{text}
@@ -34,10 +34,10 @@ loop-at-preserved c =
       written = rw place (put ∙ rw (mark, so_far.written, digits, c.sep.ensures) (append_assoc (separated group upper (take at bytes)) (separator group ∷ []) (text upper (take every (drop at bytes))) ∙ next));
     })
 
-pub returns-clause-written : goal.returns-clause-written
-returns-clause-written c =
+pub returns : goal.returns
+returns c =
     let group = c.args.group in let upper = c.args.upper in let bytes = c.args.bytes.now in
     let at = c.loop-at.at in let to = c.loop-at.to in let so_far = c.loop-at.invariant in
-    let back = rw (take_rest bytes at) at c.write_separated.ensures.written in
-    take-front_put to (length c.loop-at.out - to) c.write_separated.result c.loop-at.out c.write_separated.new.out (omega (arith, so_far.room, so_far.within, c.requires.room, c.loop-at.auto.out)) c.write_separated.ensures.inside
-    ∙ rw (so_far.written, back) (behind-whole group upper so_far.whole.0 at bytes so_far.whole.1 so_far.within)
+    let back = rw (take_rest bytes at) at c.write_separated.ensures.1 in
+    let put = take-front_put to (length c.loop-at.out - to) c.write_separated.result c.loop-at.out c.write_separated.new.out (omega (arith, so_far.room, so_far.within, c.requires.room, c.loop-at.auto.out)) c.write_separated.ensures.0 in
+    (let inside = c.write_separated.ensures.0 in search rules, put ∙ rw (so_far.written, back) (behind-whole group upper so_far.whole.0 at bytes so_far.whole.1 so_far.within))

@@ -27,8 +27,5 @@ returns-then-not-is_empty-clause-puts c = (
   λ some le. absurd (omega (arith, some, simp length-drop at le)),
 )
 
-pub returns-then-not-is_empty-clause-full : goal.returns-then-not-is_empty-clause-full
-returns-then-not-is_empty-clause-full c = let h = c.if-not-is_empty.ensures in search (tests, rules)
-
-pub returns-then-not-is_empty-clause-unchanged : goal.returns-then-not-is_empty-clause-unchanged
-returns-then-not-is_empty-clause-unchanged c = let h = c.if-not-is_empty.ensures in search (tests, rules)
+pub returns-then-not-is_empty-clause-fits : goal.returns-then-not-is_empty-clause-fits
+returns-then-not-is_empty-clause-fits c = let h = c.if-not-is_empty.ensures in search (tests, rules)
