@@ -6,11 +6,11 @@ use Rattle.std.proofs.lemmas.List.{drop-drop, drop_all, take_all, take_rest}
 use Rattle.std.proofs.lemmas.Bool.{cases_lt}
 use Rattle.std.proofs.lemmas.List.Splits.{length-slice_split, slice_split_first, slice_split_none}
 use Rattle.std.proofs.lemmas.List.Sums.{fails_before_first, prefix_len-le-length}
+use Rattle.std.proofs.lemmas.Slice.Zip.{AllZip-long}
 use Rattle.hex_core.specs.declared.digit.CheckCase.{CheckCase}
 use Rattle.hex_lists.specs.declared.digests.Entry.{Entry}
 use Rattle.hex_lists.specs.declared.digests.LineFault.{LineFault}
-use Rattle.hex_lists.specs.declared.digests.ListFault.TheVariants.{OutOfMemory}
-use Rattle.hex_lists.specs.Lists.{FirstFault, LineIs, ReadFailure, line_fault, lines_of, without_empty_end}
+use Rattle.hex_lists.specs.Lists.{ClearLines, FirstFault, LineIs, line_fault, lines_of, without_empty_end}
 
 -- the test of a newline
 abbrev pub newline : ℕ → Bool
@@ -107,11 +107,13 @@ fault-here N c s rest line entries here after why step some r = record {
   fault = some;
 }
 
--- where the next line has no fault, the first one has none
-pub first-clear : (N : ℕ) (c : CheckCase) (s rest : List ℕ) (line : ℕ) (entries : List (Entry N)) (here : List ℕ) (after : List (List ℕ))
-    → lines_of rest ≡ here ∷ after → line_fault c N here ≡ None → ReadSoFar c s rest line entries → ReadFailure c N s OutOfMemory
-first-clear N c s rest line entries here after step none r = from_done r.done r.lines r.clear
-  where
-    from_done : (done : List (List ℕ)) → lines_of s ≡ done ++ lines_of rest → AllByRecursion (λ l. line_fault c N l ≡ None) done → ReadFailure c N s OutOfMemory
-    from_done [] e all = (here, after, e ∙ step, none)
-    from_done (first ∷ done) e all = (first, done ++ lines_of rest, e, all.0)
+-- the next line, where it has no fault, is one more such line
+pub clear-here : (N : ℕ) (c : CheckCase) (s rest : List ℕ) (line : ℕ) (entries : List (Entry N)) (here : List ℕ) (after : List (List ℕ))
+    → lines_of rest ≡ here ∷ after → line_fault c N here ≡ None → ReadSoFar c s rest line entries → ClearLines c N s (length entries + 1)
+clear-here N c s rest line entries here after step none r = record {
+  done = r.done ++ here ∷ [];
+  rest = after;
+  lines = r.lines ∙ ap (λ l. r.done ++ l) step ∙ sym (append_assoc r.done (here ∷ []) after);
+  long = simp length-append (omega (arith, AllZip-long (LineIs c) r.done entries r.entries_of));
+  clear = all-more _ r.done here r.clear none;
+}

@@ -67,11 +67,23 @@ pub record FirstFault (c : CheckCase) (n : ℕ) (s : List ℕ) (line : ℕ) (why
   pub clear : AllByRecursion (λ l. line_fault c n l ≡ None) before
   pub fault : line_fault c n here ≡ Some why
 
--- why a source is not read: for its first line with a fault, or for want of memory, which only a
--- source meets whose first line has none
+-- a source has so many lines or more, and these first ones have no fault
+pub record ClearLines (c : CheckCase) (n : ℕ) (s : List ℕ) (count : ℕ) : Type 0 where
+  pub done : List (List ℕ)
+  pub rest : List (List ℕ)
+  pub lines : lines_of s ≡ done ++ rest
+  pub long : length done ≡ count
+  pub clear : AllByRecursion (λ l. line_fault c n l ≡ None) done
+
+-- why a source is not read behind so many entries: for its first line with a fault, or for want of
+-- memory, which is asked for once the next line, too, is known to have none
+abbrev pub ReadFailureAt : CheckCase → ℕ → List ℕ → ℕ → ListFault → Type 0
+ReadFailureAt c n s count (Line line why) = FirstFault c n s line why
+ReadFailureAt c n s count OutOfMemory = ClearLines c n s (count + 1)
+
+-- why a source is not read, behind some number of entries
 abbrev pub ReadFailure : CheckCase → ℕ → List ℕ → ListFault → Type 0
-ReadFailure c n s (Line line why) = FirstFault c n s line why
-ReadFailure c n s OutOfMemory = (first : List ℕ) × (rest : List (List ℕ)) × (lines_of s ≡ first ∷ rest) × (line_fault c n first ≡ None)
+ReadFailure c n s e = (count : ℕ) × ReadFailureAt c n s count e
 
 -- whether no line can end with a name: it is empty, or holds a newline
 abbrev pub is_bad_name : List ℕ → Bool

@@ -1,9 +1,9 @@
 //! Digest lists: a line for each entry, of the digits of its digest, its mark and its name.
 
-ghost use Rattle.std.specs.Prelude.{◌≡◌, ◌≢◌, ◌≤◌, ◌*◌, ◌==◌, ◌&&◌, ◌||◌, false, None, Some, MatchOption, length, take};
+ghost use Rattle.std.specs.Prelude.{◌≡◌, ◌≢◌, ◌≤◌, ◌*◌, ◌==◌, ◌&&◌, ◌||◌, false, [], None, Some, MatchOption, MatchResult, length, take};
 ghost use Rattle.hex_core.specs.Calls.{Answers};
 ghost use Rattle.hex_core.specs.Search.{first_invalid};
-ghost use Rattle.hex_lists.specs.Lists.{LineIs, fault_in, line_fault, mark};
+ghost use Rattle.hex_lists.specs.Lists.{LineIs, Lists, ReadFailureAt, fault_in, line_fault, mark};
 ghost use Rattle.hex_lists.specs.ListCalls.{ReadsList};
 
 use crate::lines::line_end;
@@ -110,6 +110,21 @@ pub fn read_in<'a, A: Allocator + Drop, const N: usize>(
     ensures { ReadsList case N src.entry.now result }
 {
     let mut entries = Vec::new(alloc);
+    read_lines(&mut entries, src, case)?;
+    Ok(entries)
+}
+
+// Reads the lines of a source. Those that were read before an error stay.
+fn read_lines<'a, A: Allocator, const N: usize>(
+    entries: &mut Vec<Entry<'a, N>, A>,
+    src: &'a [u8],
+    case: CheckCase,
+) -> Result<(), ListFault>
+    requires { entries.old.items ≡ [] }
+    ensures { MatchResult result
+        (λ _. Lists case src.entry.now entries.new.items)
+        (λ e. ReadFailureAt case N src.entry.now (length entries.new.items) e) }
+{
     let mut at = 0;
     let mut line = 1;
     while at < src.len() {
@@ -126,7 +141,7 @@ pub fn read_in<'a, A: Allocator + Drop, const N: usize>(
         line += 1;
         at += end + 1;
     }
-    Ok(entries)
+    Ok(())
 }
 
 // Reads one line, without its newline.

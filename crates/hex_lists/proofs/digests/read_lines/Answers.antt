@@ -1,15 +1,16 @@
 -- The next line is read, or is the first one with a fault.
-use Rattle.std.proofs.Common.{◌≡◌, [], ◌∷◌, ◌++◌, ◌+◌, ◌-◌, drop, length, length-drop, sym, take, arith}
+use Rattle.std.proofs.Common.{rules, ◌≡◌, [], ◌∷◌, ◌++◌, ◌+◌, ◌-◌, drop, length, length-drop, sym, take, arith}
 use Rattle.std.proofs.lemmas.List.{length-take-le}
-use Rattle.hex_lists.proofs.LineLemmas.{fault-here, first-clear, line-at, line-inside, read-more}
-use Rattle.hex_lists.proofs.digests.read_in.Goals as goal
+use Rattle.hex_lists.proofs.LineLemmas.{clear-here, fault-here, line-at, line-inside, read-more}
+use Rattle.hex_lists.proofs.digests.read_lines.Goals as goal
 
 pub returns-then-is_err : goal.returns-then-is_err
 returns-then-is_err g c =
     let s = c.args.src.now in
     let at = c.loop-at.at in
     let step = line-at s at c.line_end-end.result c.loop-at-test.true c.line_end-end.ensures in
-    first-clear g.row.N c.args.case s (drop at s) c.loop-at.line c.loop-at.entries.items _ _ step c.in-Ok.ensures.0 c.loop-at.invariant.so_far
+    let items : c.push.new.self.items ≡ c.loop-at.entries.items = search rules in
+    rw items (clear-here g.row.N c.args.case s (drop at s) c.loop-at.line c.loop-at.entries.items _ _ step c.in-Ok.ensures.0 c.loop-at.invariant.so_far)
 
 pub returns-in-Err : goal.returns-in-Err
 returns-in-Err g c =
