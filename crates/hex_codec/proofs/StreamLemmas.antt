@@ -3,6 +3,7 @@ use Rattle.std.proofs.Common.{◌≡◌, ◌≢◌, ◌∙◌, ℕ, suc, ◌+◌
 use Rattle.std.specs.Prelude.{option_map, slice_range, IsSome}
 use Rattle.std.specs.Option.{ForSome, option_to_list}
 use Rattle.std.proofs.Math.ListN.{set}
+use Rattle.std.proofs.Math.Seq.{drop-append_seam, take-append_seam}
 use Rattle.std.proofs.lemmas.Bool.Decides.{nat_tests}
 use Rattle.std.proofs.lemmas.List.{drop-drop, length-take-le, take_all}
 use borrow.Rule.Slice.PartMut.{put_mid}
@@ -179,3 +180,15 @@ finished-even c fed written None but none =
       grind (arith, nat_tests, even, valid),
       subst (λ s. Spells c s written) (sym (but.parts ∙ append-nil but.pairs)) but.spelled,
     )
+
+-- ---- all feeds are one
+
+pub whole-pairs : (c : CheckCase) (fed written : List ℕ) (o : Option ℕ) → SpellsBut c fed written (option_to_list o)
+    → Spells c (take (2 * (length fed / 2)) fed) written × (option_to_list o ≡ drop (2 * (length fed / 2)) fed)
+whole-pairs c fed written o but =
+    let end : length but.pairs ≡ 2 * (length fed / 2) = omega (arith, count-but c fed written o but, but.spelled.twice) in
+    let whole : take (2 * (length fed / 2)) fed ≡ but.pairs =
+    ap (λ n. take n fed) (sym end) ∙ ap (take (length but.pairs)) but.parts ∙ take-append_seam but.pairs (option_to_list o) in
+    let rest : drop (2 * (length fed / 2)) fed ≡ option_to_list o =
+    ap (λ n. drop n fed) (sym end) ∙ ap (drop (length but.pairs)) but.parts ∙ drop-append_seam but.pairs (option_to_list o) in
+    (subst (λ s. Spells c s written) (sym whole) but.spelled, sym rest)

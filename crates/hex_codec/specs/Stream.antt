@@ -1,5 +1,5 @@
 -- Decoding digits that come in chunks.
-use Rattle.std.specs.Prelude.{◌≡◌, ℕ, ◌+◌, ◌-◌, ◌/◌, ◌^◌, nat_le, nat_lt, if◌then◌else◌, List, ◌++◌, length, slice_index, Option, Some, None, option_map, Result, MatchResult}
+use Rattle.std.specs.Prelude.{◌≡◌, ℕ, ◌+◌, ◌-◌, ◌*◌, ◌/◌, ◌^◌, nat_le, nat_lt, if◌then◌else◌, List, ◌++◌, length, take, drop, slice_index, Option, Some, None, option_map, Result, MatchResult}
 use Rattle.std.specs.Option.{option_to_list}
 use Rattle.hex_core.specs.declared.digit.CheckCase.{CheckCase}
 use Rattle.hex_core.specs.declared.error.Error.{Error}
@@ -50,6 +50,22 @@ Feeds decoder decoder' src old new result = (fed written : List ℕ) → HasFed 
     (λ n. (feed_refusal (policy_of decoder) fed src (length old) ≡ None)
     × ((bytes : List ℕ) × (n ≡ length bytes) × (new ≡ with_front old bytes) × HasFed decoder' (fed ++ src) (written ++ bytes)))
     (λ e. feed_refusal (policy_of decoder) fed src (length old) ≡ Some e)
+
+-- what a decoder has written is what the whole pairs of all that it was fed spell, and a last digit
+-- behind them waits
+abbrev pub WritesAsOneCall : Type 0
+WritesAsOneCall = (decoder : Decoder) (fed written : List ℕ)
+    → HasFed decoder fed written
+    → Spells (policy_of decoder) (take (2 * (length fed / 2)) fed) written × (waiting_in decoder ≡ drop (2 * (length fed / 2)) fed)
+
+-- decoders of one policy that were fed the same digits, in whatever chunks, have written the same, and
+-- the same digit waits
+abbrev pub CuttingsAgree : Type 0
+CuttingsAgree = (decoder other : Decoder) (fed xs ys : List ℕ)
+    → policy_of decoder ≡ policy_of other
+    → HasFed decoder fed xs
+    → HasFed other fed ys
+    → (xs ≡ ys) × (waiting_in decoder ≡ waiting_in other)
 
 -- the first invalid byte of a source that follows `had` digits
 abbrev pub bad_char_behind : CheckCase → ℕ → List ℕ → Option Error

@@ -1,7 +1,8 @@
-//! Laws of grouped texts, each as the contract of a function that does nothing: a caller that needs
-//! one in a proof calls it.
+//! Laws of grouped texts and of digits in chunks, each as the contract of a function that does
+//! nothing: a caller that needs one in a proof calls it.
 
 ghost use Rattle.hex_codec.specs.GroupLaws.{GroupSpellsOneList, GroupedTextsAreDigitsAndSeparators, GroupedTextsAreLong, LengthsTellCounts, ReadingInvertsGrouping, ReadsWhatGroupSpells, WholePiecesJoin};
+ghost use Rattle.hex_codec.specs.Stream.{CuttingsAgree, WritesAsOneCall};
 
 use hex_core::laws::{
     a_source_is_accepted_where_it_spells_a_list, a_text_spells_one_list, decoding_inverts_encoding,
@@ -36,3 +37,12 @@ pub fn a_grouped_text_is_digits_and_separators()
 pub fn whole_pieces_are_joined_by_the_separator()
     ensures { WholePiecesJoin }
 {}
+
+/// What a decoder has written is what one call over all that it was fed writes, whatever the chunks
+/// were, but for a last digit that waits.
+pub fn any_cutting_is_decoded_as_one_call()
+    ensures one { WritesAsOneCall }
+    ensures same { CuttingsAgree }
+{
+    a_text_spells_one_list();
+}
