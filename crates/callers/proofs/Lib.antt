@@ -1,1 +1,2 @@
 mod PutLemmas
+mod UpdateLemmas

@@ -17,7 +17,7 @@ pub none-taken : (start : SinkState) → Takes start start []
 none-taken start = (Appends-nil start.taken, refl, (all_left start.free, refl))
 
 -- a failed put, handed on as an error
-handed_on : {E : Type 0} (old new : SinkState) (result : Result (Unit {0}) E) (bs : List ℕ) → IsErr result → Stops old new bs → Puts old new result bs
+pub handed_on : {E : Type 0} (old new : SinkState) (result : Result (Unit {0}) E) (bs : List ℕ) → IsErr result → Stops old new bs → Puts old new result bs
 handed_on old new (Ok _) bs err stops = cc
 handed_on old new (Err _) bs err stops = stops
 
@@ -38,3 +38,8 @@ pub stopped-in-one : {E : Type 0} → StopsInARow → StopsEarlier → (f : List
 stopped-in-one stopped unput f items i start middle end result inside taken stops err =
     let here : Stops start end (flat_map f (take (i + 1) items)) = subst (Stops start end) (next_item f items i inside) (stopped start middle end _ _ taken stops) in
     handed_on start end result _ err (subst (Stops start end) (all_items f items (i + 1)) (unput start end _ _ here))
+
+-- a put that follows
+pub then-puts : {E : Type 0} → TakesInARow → StopsInARow → (start middle end : SinkState) (result : Result (Unit {0}) E) (front back : List ℕ) → Takes start middle front → Puts middle end result back → Puts start end result (front ++ back)
+then-puts taken stopped start middle end (Ok x) front back first second = taken start middle end front back first second
+then-puts taken stopped start middle end (Err x) front back first second = stopped start middle end front back first second

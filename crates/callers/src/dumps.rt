@@ -1,19 +1,23 @@
 //! Callers that write padded texts, each proved.
 
-ghost use Rattle.std.specs.Prelude.{◌≡◌, ◌↔◌, ◌≤◌, ◌<◌, ◌-◌, ◌^◌, ℕ, List, None, length, IsOk, IsTrue, OnOk};
+ghost use Rattle.std.specs.Prelude.{◌≡◌, ◌↔◌, ◌≤◌, ◌<◌, ◌-◌, ◌%◌, ◌^◌, ◌++◌, ◌∷◌, [], ℕ, List, None, length, IsOk, IsSome, IsTrue, OnOk};
 ghost use Rattle.std.specs.Bool.{OnFalse, OnTrue};
 ghost use Rattle.std.specs.List.{flat_map};
 ghost use Rattle.hex_core.specs.declared.digit.CheckCase.TheVariants as policy;
 ghost use Rattle.hex_core.specs.Text.{lowercase, with_front};
-ghost use Rattle.hex_codec.specs.Grouped.{grouped};
-ghost use Rattle.hex_codec.specs.GroupedText.{GroupSpells, group_refusal};
+ghost use Rattle.hex_codec.specs.Grouped.{grouped, piece_len, separator};
+ghost use Rattle.hex_codec.specs.GroupedText.{GroupSpells, group_refusal, grouped_len};
 ghost use Rattle.hex_format.specs.Frame.{frame};
 ghost use Rattle.hex_format.specs.Sink.{Puts};
 
 use faster_hex::grouped::read_into;
 use faster_hex::{CheckCase, Group, Hex, HexFlags, Sink, SliceSink, WriteFault};
-use hex_codec::laws::reading_inverts_grouping;
+use hex_codec::laws::{
+    a_grouped_text_is_digits_and_separators, a_grouped_text_is_read_where_it_spells_a_list,
+    reading_inverts_grouping, whole_pieces_are_joined_by_the_separator,
+};
 use hex_core::laws::a_text_spells_one_list;
+use faster_hex::format::put_all;
 use hex_format::laws::{a_bare_text_is_its_digits, puts_in_a_row_are_one};
 
 /// Writes the padded text of some bytes into the front of a line, where it fits.
@@ -87,4 +91,88 @@ pub fn lowercase_line(line: &mut [u8], group: Group) -> bool
         ..HexFlags::default()
     };
     write_line(&bytes[..count], &flags, line).is_ok()
+}
+
+/// Writes the grouped text of some bytes into the front of a line, where it fits: its length is known
+/// before it is written.
+///
+/// ```rust
+/// let mut line = [b' '; 10];
+/// assert!(rt; write_group(&[1, 2, 0xab], Group::new(1, b':').unwrap(), &mut line));
+/// assert_eq!(rt; &line, b"01:02:ab  ");
+/// ```
+pub fn write_group(bytes: &[u8], group: Group, line: &mut [u8]) -> bool
+    ensures fits { grouped_len (piece_len group) (length bytes.now) ≤ length line.old → IsTrue result }
+    ensures written { OnTrue result
+        (line.new ≡ with_front line.old (grouped group lowercase bytes.now)) }
+{
+    a_bare_text_is_its_digits();
+    a_grouped_text_is_digits_and_separators();
+    let flags = HexFlags {
+        group: Some(group),
+        ..HexFlags::default()
+    };
+    write_line(bytes, &flags, line).is_ok()
+}
+
+/// A hardware address of six bytes in groups, as `00:00:5E:00:53:AF` is one in groups of one byte.
+///
+/// ```rust
+/// let address = read_address(b"00:00:5E:00:53:AF", Group::new(1, b':').unwrap());
+/// assert_eq!(rt; address, Some([0, 0, 0x5e, 0, 0x53, 0xaf]));
+/// ```
+pub fn read_address(text: &[u8], group: Group) -> Option<[u8; 6]>
+    ensures { IsSome result ↔ ((bytes : List ℕ) × GroupSpells policy.None group text.now bytes
+        × (length bytes ≡ 6)) }
+{
+    a_grouped_text_is_read_where_it_spells_a_list();
+    let mut address = [0; 6];
+    match read_into(text, &mut address, group, CheckCase::None) {
+        Ok(6) => Some(address),
+        _ => None,
+    }
+}
+
+/// Writes the grouped text of two parts, of which the first is whole pieces, into any sink.
+pub fn write_two_parts<S: Sink>(
+    front: &[u8],
+    back: &[u8],
+    group: Group,
+    sink: &mut S,
+) -> Result<(), WriteFault>
+    requires counts { (S.state sink.old).failures < 2 ^ 64 - 1 }
+    requires whole { length front.now % piece_len group ≡ 0 }
+    requires both { (0 < length front.now) × (0 < length back.now) }
+    ensures { Puts (S.state sink.old) (S.state sink.new) result
+        (grouped group lowercase (front.now ++ back.now)) }
+{
+    puts_in_a_row_are_one();
+    whole_pieces_are_joined_by_the_separator();
+    put_first_part(front, group, sink)?;
+    put_grouped(back, group, sink)
+}
+
+// Puts the grouped text of a part, and the separator behind it.
+fn put_first_part<S: Sink>(part: &[u8], group: Group, sink: &mut S) -> Result<(), WriteFault>
+    requires { (S.state sink.old).failures < 2 ^ 64 - 1 }
+    ensures { Puts (S.state sink.old) (S.state sink.new) result
+        (grouped group lowercase part.now ++ (separator group ∷ [])) }
+{
+    puts_in_a_row_are_one();
+    put_grouped(part, group, sink)?;
+    put_all(sink, &[group.sep()])
+}
+
+// Puts the grouped text of some bytes.
+fn put_grouped<S: Sink>(bytes: &[u8], group: Group, sink: &mut S) -> Result<(), WriteFault>
+    requires { (S.state sink.old).failures < 2 ^ 64 - 1 }
+    ensures { Puts (S.state sink.old) (S.state sink.new) result
+        (grouped group lowercase bytes.now) }
+{
+    a_bare_text_is_its_digits();
+    let flags = HexFlags {
+        group: Some(group),
+        ..HexFlags::default()
+    };
+    Hex::new(bytes).write_to(sink, &flags)
 }

@@ -1,17 +1,19 @@
 //! Callers of the JSON adapters as a user writes them, each proved.
 
-ghost use Rattle.std.specs.Prelude.{◌≡◌, None, Some, IfOk, codes, MatchResult};
+ghost use Rattle.std.specs.Prelude.{◌≡◌, ◌≤◌, None, Some, IfOk, IsFalse, codes, length, MatchResult};
 ghost use Rattle.serde_json.specs.Data.{Data};
 ghost use Rattle.serde_json.specs.Find.{get};
 ghost use Rattle.serde_json.specs.View.{view};
-ghost use Rattle.hex_json.specs.Adapters.{Reads, WriteFailure};
+ghost use Rattle.hex_json.specs.Adapters.{Reads, WriteFailure, WritesOption};
 ghost use Rattle.hex_json.specs.WireFormats as wire;
 ghost use Rattle.callers.specs.Records.{ReadsRecord, ShowsRecord, id_refusal};
 
 use faster_hex::laws::{
-    a_value_is_read_as_one_list, a_value_is_read_where_nothing_is_refused, reading_inverts_writing,
+    a_bound_refuses_what_is_longer_alone, a_value_is_read_as_one_list,
+    a_value_is_read_where_nothing_is_refused, none_and_an_empty_list_stay_apart,
+    reading_inverts_writing, strict_writing_inverts_reading,
 };
-use faster_hex::{AdapterError, Error, array, nopfx_lowercase};
+use faster_hex::{AdapterError, Error, array, nopfx_ignorecase, nopfx_lowercase};
 use hex_core::laws::a_slice_holds_bytes;
 use serde_json::{Value, json};
 use std::alloc::Global;
@@ -122,4 +124,32 @@ pub fn copied(alloc: Global, bytes: &[u8]) -> Result<Vec<u8>, AdapterError>
     a_value_is_read_where_nothing_is_refused();
     let value = nopfx_lowercase::serialize(alloc, bytes)?;
     nopfx_lowercase::deserialize(alloc, &value)
+}
+
+/// A signature of at most 64 bytes, which reading without a bound would be as well.
+pub fn read_signature(alloc: Global, value: &Value) -> Result<Vec<u8>, AdapterError>
+    ensures { IfOk result (λ bytes. Reads wire.nopfx_ignorecase None (view value.now) bytes.items
+        × (length bytes.items ≤ 64)) }
+{
+    a_bound_refuses_what_is_longer_alone();
+    nopfx_ignorecase::deserialize_bounded::<64>(alloc, value)
+}
+
+/// Whether two optional values of a record, one `None` and one there, may be told apart as they are
+/// written: they always may.
+pub fn is_none_written(value: &Value, bytes: &[u8]) -> bool
+    ensures { WritesOption wire.nopfx_ignorecase (Some bytes.now) (view value.now)
+        → IsFalse result }
+{
+    none_and_an_empty_list_stay_apart();
+    value.is_null()
+}
+
+/// Reads a value that is in lowercase and writes it again: it is the same.
+pub fn written_again(alloc: Global, value: &Value) -> Result<Value, AdapterError>
+    ensures { IfOk result (λ again. view again ≡ view value.now) }
+{
+    strict_writing_inverts_reading();
+    let bytes = nopfx_lowercase::deserialize(alloc, value)?;
+    nopfx_lowercase::serialize(alloc, &bytes)
 }

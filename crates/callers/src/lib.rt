@@ -24,6 +24,7 @@ pub mod dump;
 pub mod dumps;
 pub mod identifier;
 pub mod json;
+pub mod judged;
 pub mod probes;
 pub mod streams;
 pub mod texts;

@@ -44,11 +44,16 @@ pub fn replace_digest<S: Sink>(
 {
     writing_inverts_strict_reading();
     what_was_read_can_be_written();
-    let mut entries =
-        digests::read::<32>(alloc, list, CheckCase::Lower).map_err(UpdateFault::Read)?;
+    let mut entries = match digests::read::<32>(alloc, list, CheckCase::Lower) {
+        Ok(entries) => entries,
+        Err(fault) => return Err(UpdateFault::Read(fault)),
+    };
     let Some(entry) = entries.get_mut(line) else {
         return Err(UpdateFault::NoLine);
     };
     entry.digest = *digest;
-    digests::write_to(&entries, sink, false).map_err(UpdateFault::Write)
+    match digests::write_to(&entries, sink, false) {
+        Ok(()) => Ok(()),
+        Err(fault) => Err(UpdateFault::Write(fault)),
+    }
 }
