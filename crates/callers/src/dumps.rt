@@ -14,9 +14,9 @@ use faster_hex::grouped::read_into;
 use faster_hex::{CheckCase, Group, Hex, HexFlags, Sink, SliceSink, WriteFault};
 use hex_codec::laws::{
     a_grouped_text_is_digits_and_separators, a_grouped_text_is_read_where_it_spells_a_list,
-    reading_inverts_grouping, whole_pieces_are_joined_by_the_separator,
+    grouping_inverts_strict_reading, reading_inverts_grouping, whole_pieces_are_joined_by_the_separator,
 };
-use hex_core::laws::a_text_spells_one_list;
+use hex_core::laws::{a_new_front_is_the_front, a_text_spells_one_list};
 use faster_hex::format::put_all;
 use hex_format::laws::{a_bare_text_is_its_digits, puts_in_a_row_are_one};
 
@@ -113,6 +113,26 @@ pub fn write_group(bytes: &[u8], group: Group, line: &mut [u8]) -> bool
         ..HexFlags::default()
     };
     write_line(bytes, &flags, line).is_ok()
+}
+
+/// Copies a line of a dump of at most 16 bytes in lowercase into the front of another, by way of its
+/// bytes, and returns whether it is such a line and fits: it is copied as it is.
+///
+/// ```rust
+/// let mut line = [b' '; 6];
+/// assert!(rt; copy_line(b"0a:0b", Group::new(1, b':').unwrap(), &mut line));
+/// assert_eq!(rt; &line, b"0a:0b ");
+/// ```
+pub fn copy_line(from: &[u8], group: Group, to: &mut [u8]) -> bool
+    ensures { OnTrue result (to.new ≡ with_front to.old from.now) }
+{
+    a_new_front_is_the_front();
+    grouping_inverts_strict_reading();
+    let mut bytes = [0; 16];
+    let Ok(count) = read_into(from, &mut bytes, group, CheckCase::Lower) else {
+        return false;
+    };
+    write_group(&bytes[..count], group, to)
 }
 
 /// A hardware address of six bytes in groups, as `00:00:5E:00:53:AF` is one in groups of one byte.

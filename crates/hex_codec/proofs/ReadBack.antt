@@ -69,7 +69,7 @@ back-more group upper bytes long rest =
     only sep zero d lt = refl
     only sep (suc k) d lt = absurd (omega arith)
 
-back : (group : Group) (upper : Bool) (fuel : ℕ) (bytes : List ℕ) → length bytes ≤ fuel → Back group upper bytes
+pub back : (group : Group) (upper : Bool) (fuel : ℕ) (bytes : List ℕ) → length bytes ≤ fuel → Back group upper bytes
 back group upper fuel [] fits =
     let none : grouped group upper [] ≡ [] = grouped-separated group upper [] ∙ ap (drop 1) (separated-none group upper) in
     let empty = no_pieces (2 * piece_len group + 1) in

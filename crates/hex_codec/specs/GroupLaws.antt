@@ -14,6 +14,12 @@ ReadingInvertsGrouping = (group : Group) (upper : Bool) (bytes : List ℕ)
     → AreBytes bytes
     → GroupSpells (strict upper) group (grouped group upper bytes) bytes × GroupSpells policy.None group (grouped group upper bytes) bytes
 
+-- and what is read under a strict policy is written in groups as the text that was read
+abbrev pub GroupingInvertsStrictReading : Type 0
+GroupingInvertsStrictReading = (group : Group) (upper : Bool) (s bytes : List ℕ)
+    → GroupSpells (strict upper) group s bytes
+    → grouped group upper bytes ≡ s
+
 -- a grouped text is read exactly where it spells some list that fits
 abbrev pub ReadsWhatGroupSpells : Type 0
 ReadsWhatGroupSpells = (c : CheckCase) (group : Group) (s : List ℕ) (room : ℕ)

@@ -1,11 +1,12 @@
 //! Laws of grouped texts and of digits in chunks, each as the contract of a function that does
 //! nothing: a caller that needs one in a proof calls it.
 
-ghost use Rattle.hex_codec.specs.GroupLaws.{GroupSpellsOneList, GroupedTextsAreDigitsAndSeparators, GroupedTextsAreLong, LengthsTellCounts, ReadingInvertsGrouping, ReadsWhatGroupSpells, WholePiecesJoin};
+ghost use Rattle.hex_codec.specs.GroupLaws.{GroupSpellsOneList, GroupedTextsAreDigitsAndSeparators, GroupedTextsAreLong, GroupingInvertsStrictReading, LengthsTellCounts, ReadingInvertsGrouping, ReadsWhatGroupSpells, WholePiecesJoin};
 ghost use Rattle.hex_codec.specs.Stream.{CuttingsAgree, WritesAsOneCall};
 
 use hex_core::laws::{
     a_source_is_accepted_where_it_spells_a_list, a_text_spells_one_list, decoding_inverts_encoding,
+    encoding_inverts_strict_decoding,
 };
 
 /// What is written in groups is read by the same group as the same bytes, under the text's own case
@@ -14,6 +15,13 @@ pub fn reading_inverts_grouping()
     ensures { ReadingInvertsGrouping }
 {
     decoding_inverts_encoding();
+}
+
+/// What a group reads under a strict policy it writes in that case as the text that was read.
+pub fn grouping_inverts_strict_reading()
+    ensures { GroupingInvertsStrictReading }
+{
+    encoding_inverts_strict_decoding();
 }
 
 /// A grouped text is read exactly where it spells some list that fits, and it spells at most one.
