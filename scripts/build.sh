@@ -7,7 +7,8 @@
 # Usage: scripts/build.sh NAME CPU, where CPU is x86-64-v2, the default processor, or another one.
 #
 # It calls `rattle` and not `rt`, which has no word for this: a library is built as its statements, so
-# that the crate above does not load its proofs, by several jobs.
+# that the crate above does not load its proofs, by several jobs. They stand in out/statements, since
+# `rt` writes over what it finds in out/rlib.
 set -eu
 LC_ALL=C
 export LC_ALL
@@ -46,7 +47,7 @@ made_of() {
         find "crates/$1/src" "crates/$1/specs" "crates/$1/proofs" -type f 2>/dev/null | sort |
             tr '\n' '\0' | xargs -0 cksum
         for used in $(uses "$1"); do
-            [ ! -d "crates/$used" ] || cat "crates/$used/out/rlib/made-of"
+            [ ! -d "crates/$used" ] || cat "crates/$used/out/statements/made-of"
         done
     } | cksum
 }
@@ -66,11 +67,11 @@ prove() {
     shift 2
     for used in std $(uses "$name"); do
         folder=$kit/rlibs
-        [ ! -d "crates/$used" ] || folder=$top/crates/$used/out/rlib
+        [ ! -d "crates/$used" ] || folder=$top/crates/$used/out/statements
         set -- "$@" --extern "$used=$folder/$used.rlib"
     done
     for used in $(below "$name"); do
-        set -- "$@" -L "dependency=$top/crates/$used/out/rlib"
+        set -- "$@" -L "dependency=$top/crates/$used/out/statements"
     done
     count=$(jobs_of "$name")
     (cd "crates/$name" && rattle build --crate-name "$name" "$root" "$@" -L "dependency=$kit/rlibs" \
@@ -81,7 +82,7 @@ prove() {
 # build NAME: makes what is asked for of a crate, or else the library as its statements.
 build() {
     if [ "$1" != "$target" ]; then
-        prove "$1" src/lib.rt --statements -o "out/rlib/$1.rlib"
+        prove "$1" src/lib.rt --statements -o "out/statements/$1.rlib"
     elif [ -f "crates/$1/src/main.rt" ]; then
         prove "$1" src/main.rt --toolchain "$kit/toolchain" --cpu "$cpu" -o "$into/$1.o" &&
             "$kit/bin/rattle-link" --target x86_64-unknown-linux-gnu --toolchain "$kit/toolchain" \
@@ -95,7 +96,7 @@ build() {
 anew=
 for crate in $(below "$target" | awk '!seen[$0]++'); do
     word=statements
-    out=crates/$crate/out/rlib
+    out=crates/$crate/out/statements
     made=$out/$crate.rlib/format
     if [ "$crate" = "$target" ]; then
         word=$cpu
@@ -109,7 +110,7 @@ for crate in $(below "$target" | awk '!seen[$0]++'); do
     fi
     # Statements fit only those that they were built over.
     anew=1
-    rm -rf "crates/$crate/out/rlib" "$made"
+    rm -rf "crates/$crate/out/statements" "$made"
     mkdir -p "$out"
     if ! build "$crate" >"$out/build.log" 2>&1; then
         tail -n 40 "$out/build.log" >&2
