@@ -17,8 +17,9 @@ failed=0
 # part SCRIPT WORD..: runs it, and adds what its last line says to the sums.
 part() {
     name=$1
+    shift
     status=0
-    "scripts/$@" >"$made/said" 2>&1 || status=$?
+    "scripts/$name" "$@" >"$made/said" 2>&1 || status=$?
     sums=$(sed -n '$s/^\([0-9]*\) passed, \([0-9]*\) failed$/\1 \2/p' "$made/said")
     if [ -z "$sums" ]; then
         tail -n 40 "$made/said"

@@ -112,7 +112,7 @@ END
 
 make -s -C "$top" uninstall PREFIX="$made/there" DESTDIR=
 status=0
-[ -z "$(find "$made/there" -type f)" ] || status=$?
+[ -z "$(find "$made/there" -type f)" ] || status=1
 count 'nothing is left of an uninstalled copy' "$status"
 
 echo "$passed passed, $failed failed"
