@@ -169,8 +169,8 @@ digit_of c b n are small = go (value c b) are
 halves_of : (h l b : ℕ) → h < 16 → l < 16 → b ≡ 16 * h + l → (h ≡ b / 16) × (l ≡ b % 16)
 halves_of h l b H L e = (omega arith, omega arith)
 
-pub decodes : (c : CheckCase) (s old new v : List ℕ) (at from w n : ℕ) → from ≡ 2 * at → n ≡ 2 * w → at + w ≤ length old → NibblesFrom c s from n v → AreSmall v → new ≡ put_chunk at old (packed v) → DecodesRange c s old new at (at + w)
-decodes c s old new v at from w n twice even room are small is =
+pub block_decodes : (c : CheckCase) (s old new v : List ℕ) (at from w n : ℕ) → from ≡ 2 * at → n ≡ 2 * w → at + w ≤ length old → NibblesFrom c s from n v → AreSmall v → new ≡ put_chunk at old (packed v) → DecodesRange c s old new at (at + w)
+block_decodes c s old new v at from w n twice even room are small is =
     let long : length v ≡ n = are.long in
     let all : length (packed v) ≡ w = length-packed w v (omega arith) in
     let spelled : (j : ℕ) → j < w → SpellsAt c s new (at + j) = λ j h.
@@ -237,6 +237,6 @@ pub pair_decodes : (c : CheckCase) (s old new f b : List ℕ) (start at end from
 pair_decodes c s old new f b start at end from n w even whole twice low le room front back p q is =
     let mid = put_chunk start old (packed f) in
     let same : length mid ≡ length old = length-put_chunk start old (packed f) in
-    let one = decodes c s old mid f start (2 * start) w n refl even (omega arith) front p refl in
-    let two = decodes c s mid new b at from w n twice even (omega arith) back q is in
+    let one = block_decodes c s old mid f start (2 * start) w n refl even (omega arith) front p refl in
+    let two = block_decodes c s mid new b at from w n twice even (omega arith) back q is in
     subst (DecodesRange c s old new start) (sym whole) (decodes_over c s old mid new start (start + w) at (at + w) low le (omega arith) one two)

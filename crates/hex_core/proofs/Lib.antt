@@ -8,7 +8,6 @@ pub mod JoinLemmas
 pub mod LaneLemmas
 pub mod LawProofs
 pub mod LookupLemmas
-pub mod NumberLemmas
 pub mod OwnedLemmas
 pub mod OrderLemmas
 pub mod PairLemmas

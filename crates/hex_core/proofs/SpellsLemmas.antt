@@ -1,13 +1,15 @@
 -- Steps of a list that a text spells.
-use Rattle.std.proofs.Common.{◌≡◌, ℕ, List, None, ◌+◌, ◌*◌, ◌/◌, ◌%◌, ◌<◌, length, get_or, refl, arith}
+use Rattle.std.proofs.Common.{◌≡◌, ℕ, List, None, ◌+◌, ◌*◌, ◌/◌, ◌%◌, ◌<◌, ◌≤◌, Some, length, get_or, take, refl, arith}
 use Rattle.std.proofs.Math.ListN.{set}
-use Rattle.std.proofs.lemmas.List.{get_or-set_same, get_or-set_other}
+use Rattle.std.proofs.lemmas.Grind.{common_steps}
+use Rattle.std.proofs.lemmas.List.{get_or-set_same, get_or-set_other, length-take}
 use borrow.Author.Count.{below_more}
 use Rattle.hex_core.proofs.SearchLemmas.{has_value}
 use Rattle.hex_core.proofs.TableLemmas.{value-entry}
 use Rattle.hex_core.specs.Search.{first_invalid}
 use Rattle.hex_core.specs.declared.digit.CheckCase.{CheckCase}
-use Rattle.hex_core.specs.Text.{SpellsAt, value_table}
+use Rattle.hex_core.specs.Digit.{value}
+use Rattle.hex_core.specs.Text.{Spells, SpellsAt, value_table}
 
 -- the bytes below a place are those that their pairs of digits spell
 abbrev pub SpellsBelow : CheckCase → List ℕ → List ℕ → ℕ → Type 0
@@ -18,16 +20,31 @@ pub spelled_along : (c : CheckCase) (s t old new : List ℕ) (i k : ℕ) → get
     → SpellsAt c s old i → SpellsAt c t new k
 spelled_along c s t old new i k high low byte is = record { high = rw (high, byte) is.high; low = rw (low, byte) is.low }
 
--- the next byte is packed from the entries of its pair
+-- the next byte is packed from the values of its pair
+pub Spells-pair : (c : CheckCase) (s bytes : List ℕ) (i v high low : ℕ) → (value c (get_or s (2 * i) 0) ≡ Some high) × (high < 16) → (value c (get_or s (2 * i + 1) 0) ≡ Some low) × (low < 16) → i < length bytes → v ≡ 16 * high + low
+    → SpellsBelow c s bytes i → SpellsBelow c s (set bytes i v) (i + 1)
+Spells-pair c s bytes i v high low first second h packed below =
+    let quotient : v / 16 ≡ high = omega (arith, first.1, second.1) in
+    let remainder : v % 16 ≡ low = omega (arith, first.1, second.1) in
+    let e : get_or (set bytes i v) i 0 ≡ v = get_or-set_same bytes i v 0 h in
+    below_more (λ (k : ℕ). SpellsAt c s (set bytes i v) k) i
+    (λ k lt. spelled_along c s s bytes (set bytes i v) k k refl refl (get_or-set_other bytes i k v 0 (λ x. absurd (omega arith))) (below k lt))
+    (record { high = rw (e, quotient) first.0; low = rw (e, remainder) second.0 })
+
+-- or from their entries, where each byte of the source has a value
 pub Spells-more : (c : CheckCase) (table s bytes : List ℕ) (i v : ℕ) → table ≡ value_table c → ((k : ℕ) → get_or s k 0 < 256) → first_invalid c s ≡ None → length s ≡ 2 * length bytes → i < length bytes
     → v ≡ 16 * get_or table (get_or s (2 * i) 0) 0 + get_or table (get_or s (2 * i + 1) 0) 0
     → SpellsBelow c s bytes i → SpellsBelow c s (set bytes i v) (i + 1)
 Spells-more c table s bytes i v is byte none twice h packed below =
     let high = value-entry c table (get_or s (2 * i) 0) is (byte (2 * i)) (has_value c s (2 * i) none (omega arith)) in
     let low = value-entry c table (get_or s (2 * i + 1) 0) is (byte (2 * i + 1)) (has_value c s (2 * i + 1) none (omega arith)) in
-    let quotient : v / 16 ≡ get_or table (get_or s (2 * i) 0) 0 = omega (arith, high.1, low.1) in
-    let remainder : v % 16 ≡ get_or table (get_or s (2 * i + 1) 0) 0 = omega (arith, high.1, low.1) in
-    below_more (λ (k : ℕ). SpellsAt c s (set bytes i v) k) i
-    (λ k lt. spelled_along c s s bytes (set bytes i v) k k refl refl (get_or-set_other bytes i k v 0 (λ x. absurd (omega arith))) (below k lt))
-    (let e : get_or (set bytes i v) i 0 ≡ v = get_or-set_same bytes i v 0 h in
-    record { high = rw (e, quotient) high.0; low = rw (e, remainder) low.0 })
+    Spells-pair c s bytes i v (get_or table (get_or s (2 * i) 0) 0) (get_or table (get_or s (2 * i + 1) 0) 0) high low h packed below
+
+-- the front of a list whose first bytes are spelled
+pub Spells-front : (c : CheckCase) (s kept : List ℕ) (n : ℕ) → length s ≡ 2 * n → n ≤ length kept → SpellsBelow c s kept n → Spells c s (take n kept)
+Spells-front c s kept n twice inside below =
+    let long : length (take n kept) ≡ n = omega (arith, length-take n kept) in
+    record {
+      twice = omega arith;
+      each = λ i h. spelled_along c s s kept (take n kept) i i refl refl (grind (arith, common_steps)) (below i (omega arith));
+    }

@@ -1,5 +1,5 @@
 -- What the entries of the value tables say of a byte.
-use Rattle.std.proofs.Common.{refl, Bool, ◌≡◌, ◌≢◌, ℕ, List, ◌<◌, get_or, true, false, Some, is_none, unwrap_or, ◌∙◌, arith}
+use Rattle.std.proofs.Common.{refl, Bool, ◌≡◌, ◌≢◌, ℕ, List, ◌+◌, ◌*◌, ◌<◌, get_or, true, false, Some, is_none, unwrap_or, ◌∙◌, arith}
 use Rattle.std.specs.Prelude.{IsTrue, ◌&&◌, not, ◌==◌}
 use Rattle.std.proofs.lemmas.Bool.Decides.{nat_tests}
 use Rattle.std.proofs.lemmas.List.FromFn.{get_or-map-range_with_len}
@@ -32,6 +32,15 @@ admitted-entry c table b is h e = some_at c b (λ x. e (rw is (get_or-value_tabl
 -- the entry of a byte that has a value is that value, and is below 16
 pub value-entry : (c : CheckCase) (table : List ℕ) (b : ℕ) → table ≡ value_table c → b < 256 → is_none (value c b) ≡ false → (value c b ≡ Some (get_or table b 0)) × (get_or table b 0 < 16)
 value-entry c table b is h e = rw is (rw (get_or-value_table c b 0 h) (value_at c b e))
+
+-- the entries of a pair, neither of which is 255
+pub pair_entries : (c : CheckCase) (table s : List ℕ) (i : ℕ) → table ≡ value_table c → ((k : ℕ) → get_or s k 0 < 256) → get_or table (get_or s (2 * i) 0) 0 ≢ 255 → get_or table (get_or s (2 * i + 1) 0) 0 ≢ 255
+    → ((value c (get_or s (2 * i) 0) ≡ Some (get_or table (get_or s (2 * i) 0) 0)) × (get_or table (get_or s (2 * i) 0) 0 < 16))
+    × ((value c (get_or s (2 * i + 1) 0) ≡ Some (get_or table (get_or s (2 * i + 1) 0) 0)) × (get_or table (get_or s (2 * i + 1) 0) 0 < 16))
+pair_entries c table s i is byte high low =
+    let entry : (k : ℕ) → get_or table (get_or s k 0) 0 ≢ 255 → (value c (get_or s k 0) ≡ Some (get_or table (get_or s k 0) 0)) × (get_or table (get_or s k 0) 0 < 16) =
+    λ k there. value-entry c table (get_or s k 0) is (byte k) (admitted-entry c table (get_or s k 0) is (byte k) there) in
+    (entry (2 * i) high, entry (2 * i + 1) low)
 
 -- one more entry that is looked up
 pub valid-more : (valid : Bool) (entry : ℕ) → IsTrue (valid && not (entry == 255)) → IsTrue valid × (entry ≢ 255)

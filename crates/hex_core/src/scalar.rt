@@ -72,8 +72,8 @@ pub fn decode(src: &[u8], dst: &mut [u8], case: CheckCase) -> bool
     true
 }
 
-/// The same of fewer than 16 digits, in one pass: the bytes are kept in one number until every
-/// pair was looked up.
+/// The same of fewer than 16 digits, in one pass: the bytes are kept aside until every pair was
+/// looked up.
 #[inline(never)]
 pub fn decode_short(src: &[u8], dst: &mut [u8], case: CheckCase) -> bool
     requires twice { length src.now ≡ 2 * length dst.old }
@@ -81,20 +81,16 @@ pub fn decode_short(src: &[u8], dst: &mut [u8], case: CheckCase) -> bool
     ensures { DecodesWhole case src.now dst.old dst.new result }
 {
     let values = values_of(case);
-    let mut kept = 0u64;
+    let mut kept = [0u8; 7];
     'pairs: for i in 0..dst.len() {
         let high = values[src[2 * i] as usize];
         let low = values[src[2 * i + 1] as usize];
         if high == NIL || low == NIL {
             return false;
         }
-        kept = 256 * kept + packed(high, low) as u64;
+        kept[i] = packed(high, low);
     }
-    'bytes: for i in 0..dst.len() {
-        let at = dst.len() - 1 - i;
-        dst[at] = (kept % 256) as u8;
-        kept /= 256;
-    }
+    dst.copy_from_slice(&kept[..dst.len()]);
     true
 }
 

@@ -1,11 +1,12 @@
--- Each turn keeps one more byte in the number, and then each takes one out of it.
-use Rattle.std.proofs.Math.ListN.{length-set, set}
-use Rattle.std.proofs.Common.{◌≡◌, ℕ, ◌%◌, ◌<◌, ◌+◌, ◌-◌, ◌*◌, length, get_or, None, refl, sym, ap, ◌∙◌, arith, rules}
-use Rattle.hex_core.specs.Search.{AllValid, first_invalid}
+-- Each turn keeps one more byte, and then all are copied.
+use Rattle.std.proofs.Math.ListN.{length-set}
+use Rattle.std.proofs.Common.{◌≡◌, ℕ, ◌<◌, ◌+◌, ◌*◌, length, get_or, take, None, refl, ◌∙◌, arith}
+use Rattle.hex_core.specs.Search.{first_invalid}
 use Rattle.hex_core.specs.Text.{Spells}
-use Rattle.hex_core.proofs.NumberLemmas.{byte_more, limit_small, number, number_more, number_small, pair_entries}
-use Rattle.hex_core.proofs.SearchLemmas.{first_invalid_none, has_value}
-use Rattle.hex_core.proofs.TableLemmas.{value-entry}
+use Rattle.hex_core.proofs.LawProofs.{valid-spelled}
+use Rattle.hex_core.proofs.SearchLemmas.{has_value}
+use Rattle.hex_core.proofs.SpellsLemmas.{Spells-front, Spells-pair}
+use Rattle.hex_core.proofs.TableLemmas.{pair_entries, value-entry}
 use Rattle.hex_core.proofs.scalar.decode_short.Goals as goal
 use Rattle.hex_core.proofs.scalar.decode_short.Goals.{then-high-via-then-high, then-high-via-else-high+then-low}
 
@@ -26,33 +27,17 @@ packed-requires-clause-high c = (pair_entries c.args.case _ c.args.src.now c.pai
 pub packed-requires-clause-low : goal.packed-requires-clause-low
 packed-requires-clause-low c = (pair_entries c.args.case _ c.args.src.now c.pairs.i c.values_of-values.ensures (λ k. (c.type_inv.src k).fits) c.if-high.false c.if-low.false).1.1
 
-pub overflow_mul-kept : goal.overflow_mul-kept
-overflow_mul-kept c =
-    record { fits = omega (arith, c.pairs.invariant.kept, number_small c.args.case c.args.src.now c.pairs.i c.pairs.invariant.valid, limit_small c.pairs.i (omega arith)) }
-
-pub overflow_add-kept : goal.overflow_add-kept
-overflow_add-kept c =
-    record { fits = omega (arith, c.packed.ensures, c.packed.type_inv, c.pairs.invariant.kept, number_small c.args.case c.args.src.now c.pairs.i c.pairs.invariant.valid, limit_small c.pairs.i (omega arith)) }
-
 pub pairs-preserved : goal.pairs-preserved
 pairs-preserved c =
     let both = pair_entries c.args.case _ c.args.src.now c.pairs.i c.values_of-values.ensures (λ k. (c.type_inv.src k).fits) c.if-high.false c.if-low.false in
-    let more = number_more c.args.case c.args.src.now c.pairs.i c.pairs.kept _ _ c.packed.result c.pairs.invariant.kept c.pairs.invariant.valid both.0.0 both.1.0 c.packed.ensures in
-    record { kept = more.0; valid = more.1 }
-
-pub bytes-preserved : goal.bytes-preserved
-bytes-preserved c =
-    let n = length c.bytes.dst in
-    let at = n - 1 - c.bytes.i in
-    let valid : AllValid c.args.case c.args.src.now 0 (2 * n) = λ k low lt. c.pairs.invariant.valid k low (omega arith) in
-    let more = byte_more c.args.case c.args.src.now c.bytes.dst n at (n - c.bytes.i) c.bytes.kept (omega arith) (omega arith) refl (omega arith) valid c.bytes.invariant.kept c.bytes.invariant.written in
-    let long : length (set c.bytes.dst at (c.bytes.kept % 256)) ≡ n = length-set c.bytes.dst at (c.bytes.kept % 256) in
-    let place : length (set c.bytes.dst at (c.bytes.kept % 256)) - (c.bytes.i + 1) ≡ at = omega arith in
-    record { kept = more.0 ∙ ap (number c.args.case c.args.src.now) (sym place); written = λ k low lt. more.1 k (omega arith) (omega arith) }
+    let kept = c.pairs.invariant in
+    record {
+      size = length-set c.pairs.kept c.pairs.i c.packed.result ∙ kept.size;
+      spelled = Spells-pair c.args.case c.args.src.now c.pairs.kept c.pairs.i c.packed.result _ _ both.0 both.1 (omega (arith, kept.size)) c.packed.ensures kept.spelled;
+    }
 
 pub returns : goal.returns
 returns c =
-    let spelled : Spells c.args.case c.args.src.now c.bytes.dst = search rules in (
-      first_invalid_none c.args.case c.args.src.now (λ k low lt. c.pairs.invariant.valid k low (omega arith)),
-      spelled,
-    )
+    let n = length c.args.dst.now in
+    let spells : Spells c.args.case c.args.src.now (take n c.pairs.kept) = Spells-front c.args.case c.args.src.now c.pairs.kept n (omega arith) (omega (arith, c.pairs.invariant.size)) (λ k lt. c.pairs.invariant.spelled k (omega arith)) in
+    (valid-spelled c.args.case c.args.src.now (take n c.pairs.kept) spells, rw c.copy_from_slice.ensures.after spells)

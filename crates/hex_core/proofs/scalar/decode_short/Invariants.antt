@@ -1,19 +1,10 @@
-use Rattle.std.proofs.Common.{◌≡◌, ◌-◌, ◌*◌, length}
-use Rattle.hex_core.specs.Blocks.{SpellsRange}
-use Rattle.hex_core.specs.Search.{AllValid}
-use Rattle.hex_core.proofs.NumberLemmas.{number}
+use Rattle.std.proofs.Common.{◌≡◌, length}
+use Rattle.hex_core.proofs.SpellsLemmas.{SpellsBelow}
 use Rattle.hex_core.proofs.scalar.decode_short.Given as goal
 
--- the pairs so far are valid, and kept in one number
+-- the bytes kept so far are those that their pairs of digits spell
 abbrev pub invariant-pairs : goal.invariant-pairs
 invariant-pairs l = record {
-  kept : l.kept ≡ number l.fn.case l.src l.i;
-  valid : AllValid l.fn.case l.src 0 (2 * l.i);
-}
-
--- the last bytes are written, and the others still kept
-abbrev pub invariant-bytes : goal.invariant-bytes
-invariant-bytes l = record {
-  kept : l.kept ≡ number l.fn.case l.src (length l.dst - l.i);
-  written : SpellsRange l.fn.case l.src l.dst (length l.dst - l.i) (length l.dst);
+  size : length l.kept ≡ 7;
+  spelled : SpellsBelow l.fn.case l.src l.kept l.i;
 }

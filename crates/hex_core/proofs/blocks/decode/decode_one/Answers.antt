@@ -1,5 +1,5 @@
 use Rattle.std.proofs.Common.{◌+◌, refl, arith}
-use Rattle.hex_core.proofs.BlockLemmas.{decodes, decodes_whole, small_valid, valid_range}
+use Rattle.hex_core.proofs.BlockLemmas.{block_decodes, decodes_whole, small_valid, valid_range}
 use Rattle.hex_core.proofs.SearchLemmas.{first_invalid_none}
 use Rattle.hex_core.proofs.blocks.decode.decode_one.Goals as goal
 
@@ -15,5 +15,5 @@ returns g c =
     let low = c.is_small.ensures.0 c.if-not-is_small.false in
     let valid = (small_valid case s c.nibbles_at-nibbles.result 0 n c.nibbles_at-nibbles.ensures).0 low in (
       first_invalid_none case s (λ k least lt. valid k least (omega arith)),
-      decodes_whole case s old _ (0 + w) (omega arith) (omega arith) (decodes case s old _ c.nibbles_at-nibbles.result 0 0 w n refl (omega arith) (omega arith) c.nibbles_at-nibbles.ensures low c.put.ensures),
+      decodes_whole case s old _ (0 + w) (omega arith) (omega arith) (block_decodes case s old _ c.nibbles_at-nibbles.result 0 0 w n refl (omega arith) (omega arith) c.nibbles_at-nibbles.ensures low c.put.ensures),
     )

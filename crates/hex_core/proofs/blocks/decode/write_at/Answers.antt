@@ -1,5 +1,5 @@
 use Rattle.std.proofs.Common.{◌*◌, ◌+◌, refl, arith}
-use Rattle.hex_core.proofs.BlockLemmas.{valid_range, decodes}
+use Rattle.hex_core.proofs.BlockLemmas.{valid_range, block_decodes}
 use Rattle.hex_core.proofs.blocks.decode.write_at.Goals as goal
 
 pub valid_nibbles_at-requires : goal.valid_nibbles_at-requires
@@ -7,4 +7,4 @@ valid_nibbles_at-requires g c = (omega arith, (omega arith, valid_range c.args.c
 
 pub returns : goal.returns
 returns g c =
-    decodes c.args.case c.args.src.now c.args.dst.now _ c.valid_nibbles_at.result c.args.at (2 * c.args.at) g.row.HALF g.row.N refl c.requires.half c.requires.room.1 c.valid_nibbles_at.ensures.nibbles c.valid_nibbles_at.ensures.small c.put.ensures
+    block_decodes c.args.case c.args.src.now c.args.dst.now _ c.valid_nibbles_at.result c.args.at (2 * c.args.at) g.row.HALF g.row.N refl c.requires.half c.requires.room.1 c.valid_nibbles_at.ensures.nibbles c.valid_nibbles_at.ensures.small c.put.ensures

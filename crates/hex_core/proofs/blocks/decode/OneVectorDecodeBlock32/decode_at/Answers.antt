@@ -1,5 +1,5 @@
 use Rattle.std.proofs.Common.{◌*◌, refl, arith}
-use Rattle.hex_core.proofs.BlockLemmas.{decodes, small_valid}
+use Rattle.hex_core.proofs.BlockLemmas.{block_decodes, small_valid}
 use Rattle.hex_core.proofs.blocks.decode.OneVectorDecodeBlock32.decode_at.Goals as goal
 
 pub returns-then-not-is_small : goal.returns-then-not-is_small
@@ -11,6 +11,6 @@ pub returns : goal.returns
 returns c =
     let block = c.nibbles_at-block in let low = c.is_small.ensures.0 c.if-not-is_small.false in (
       (λ h. (small_valid c.args.case c.args.src.now block.result (2 * c.args.at) 64 block.ensures).0 low, λ valid. refl),
-      decodes c.args.case c.args.src.now c.args.dst.now _ block.result c.args.at (2 * c.args.at) 32 64 refl refl (omega arith) block.ensures low c.put.ensures,
+      block_decodes c.args.case c.args.src.now c.args.dst.now _ block.result c.args.at (2 * c.args.at) 32 64 refl refl (omega arith) block.ensures low c.put.ensures,
       tt,
     )
