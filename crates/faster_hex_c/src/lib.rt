@@ -98,7 +98,7 @@ fn group_answer_of(outcome: Result<usize, GroupFault>) -> Answer
     ensures { result ≡ group_answer_of outcome }
 {
     let (number, status, byte) = match outcome {
-        Ok(written) => (written, DONE, 0),
+        Ok(read) => (read, DONE, 0),
         Err(GroupFault::OutputTooSmall { required }) => (required, OUTPUT_TOO_SMALL, 0),
         Err(GroupFault::InvalidByte { index, byte }) => (index, INVALID_CHAR, byte),
         Err(GroupFault::BadLength) => (0, BAD_LENGTH, 0),
