@@ -4,3 +4,4 @@ mod GroupFacts
 pub mod PutsLemmas
 mod Repeats
 mod SpreadLemmas
+mod StreamLemmas

@@ -3,3 +3,4 @@ pub mod Sink
 pub mod Sinks
 pub mod SinkLaws
 pub mod FrameLaws
+pub mod Streams

@@ -6,6 +6,7 @@ pub mod format;
 pub mod laws;
 pub mod sink;
 mod spread;
+pub mod streams;
 
 pub use crate::format::{Align, Hex, HexFlags};
 pub use crate::sink::{Sink, SinkFault, SliceSink, WriteFault, WriterSink, put_all};
