@@ -41,3 +41,18 @@ pub use hex_json::{
     option_withpfx_uppercase, serialize, withpfx_ignorecase, withpfx_lowercase, withpfx_uppercase,
 };
 pub use hex_lists::digests;
+
+/// Digits that are larger than memory: a decoder that is fed chunks of any length, and readers that
+/// are decoded and encoded into sinks.
+///
+/// ```rust
+/// let mut input: &[u8] = b"68656c6C6F";
+/// let mut buffer = [0; 5];
+/// let mut sink = SliceSink::new(&mut buffer);
+/// assert_eq!(rt; stream::decode_stream(&mut input, &mut sink, CheckCase::None), Ok(5));
+/// assert_eq!(rt; sink.written(), b"hello".as_slice());
+/// ```
+pub mod stream {
+    pub use hex_codec::stream::Decoder;
+    pub use hex_format::streams::{StreamFault, decode_stream, encode_stream};
+}
