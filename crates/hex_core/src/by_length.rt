@@ -4,13 +4,9 @@
 ghost use Rattle.std.specs.Prelude.{◌≡◌, ◌↔◌, ◌*◌, IsTrue, None, length};
 ghost use Rattle.hex_core.specs.Calls.{DecodesWhole};
 ghost use Rattle.hex_core.specs.Search.{first_invalid};
-ghost use Rattle.hex_core.specs.Text.{Spells};
 
 use crate::blocks::check::{check_ends, check_long, check_one, check_two};
-use crate::blocks::decode::{
-    decode_four, decode_long, decode_one, decode_two, write_blocks, write_four, write_one,
-    write_two,
-};
+use crate::blocks::decode::{decode_four, decode_long, decode_one, decode_two};
 use crate::digit::CheckCase;
 use crate::lanes::{NibbleMap, Saturating};
 use crate::scalar;
@@ -28,24 +24,6 @@ pub fn check(src: &[u8], case: CheckCase) -> bool
         65..=128 => check_two::<64>(src, case),
         129..=256 => check_ends::<64, 2>(src, case),
         _ => check_long::<64>(src, case),
-    }
-}
-
-/// Writes the bytes that a valid source spells into the whole of `dst`.
-#[inline(always)]
-pub fn write_bytes(src: &[u8], dst: &mut [u8], case: CheckCase)
-    requires twice { length src.now ≡ 2 * length dst.old }
-    requires valid { first_invalid case src.now ≡ None }
-    ensures { Spells case src.now dst.new }
-{
-    match src.len() {
-        0..16 => scalar::write_bytes(src, dst, case),
-        16 => write_one::<16, 8>(src, dst, case),
-        17..=32 => write_two::<16, 8>(src, dst, case),
-        33..=64 => write_two::<32, 16>(src, dst, case),
-        65..=128 => write_two::<64, 32>(src, dst, case),
-        129..=256 => write_four::<64, 32>(src, dst, case),
-        _ => write_blocks::<64, 32>(src, dst, case),
     }
 }
 

@@ -4,7 +4,7 @@ ghost use Rattle.std.specs.Prelude.{◌≡◌, ◌*◌, ◌↔◌, IsTrue, None,
 ghost use Rattle.hex_core.specs.Calls.{DecodesOwned, DecodesWhole};
 ghost use Rattle.hex_core.specs.Plans.{kind_name, owned_block};
 ghost use Rattle.hex_core.specs.Search.{first_invalid};
-ghost use Rattle.hex_core.specs.Text.{Spells, text};
+ghost use Rattle.hex_core.specs.Text.{text};
 
 use crate::blocks::decode::{OneVector, TwoHashed};
 use crate::blocks::encode;
@@ -46,21 +46,6 @@ impl Kind {
             Kind::Scalar => scalar::write_text(src, dst, upper),
             Kind::Sse41 | Kind::Avx2 | Kind::Avx512 | Kind::Neon => {
                 encode::encode(src, dst, upper)
-            }
-        }
-    }
-
-    /// Writes the bytes that a valid source spells over the whole of `dst`.
-    #[inline(always)]
-    pub fn write_bytes(self, src: &[u8], dst: &mut [u8], case: CheckCase)
-        requires twice { length src.now ≡ 2 * length dst.old }
-        requires valid { first_invalid case src.now ≡ None }
-        ensures { Spells case src.now dst.new }
-    {
-        match self {
-            Kind::Scalar => scalar::write_bytes(src, dst, case),
-            Kind::Sse41 | Kind::Avx2 | Kind::Avx512 | Kind::Neon => {
-                by_length::write_bytes(src, dst, case)
             }
         }
     }

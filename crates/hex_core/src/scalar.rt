@@ -46,9 +46,9 @@ fn packed(high: u8, low: u8) -> u8
     16 * high + low
 }
 
-/// Writes the bytes that `src` spells into the whole of `dst`.
+// Writes the bytes that a valid source spells into the whole of `dst`.
 #[inline(never)]
-pub fn write_bytes(src: &[u8], dst: &mut [u8], case: CheckCase)
+fn write_bytes(src: &[u8], dst: &mut [u8], case: CheckCase)
     requires twice { length src.now ≡ 2 * length dst.old }
     requires valid { first_invalid case src.now ≡ None }
     ensures { Spells case src.now dst.new }
