@@ -14,9 +14,9 @@ use Rattle.hex_codec.specs.declared.grouped.GroupFault.{GroupFault}
 use Rattle.hex_codec.specs.declared.grouped.GroupFault.TheVariants.{InvalidByte}
 use Rattle.hex_codec.specs.Grouped.{piece_count, piece_len, separator}
 use Rattle.hex_codec.specs.GroupedText.{GroupSpells, byte_count, digits_in, first_wrong, group_refusal, grouped_len, refusal_of_count, separators_in}
-use Rattle.hex_codec.specs.Strip.{ValidDigits}
+use Rattle.hex_codec.specs.Unseparate.{ValidDigits}
 use Rattle.hex_codec.proofs.GroupLemmas.{count-next, no_pieces}
-use Rattle.hex_codec.proofs.StripLemmas.{parted, unparted}
+use Rattle.hex_codec.proofs.PartLemmas.{parted, unparted}
 use Rattle.hex_codec.proofs.WrongLemmas.{Right, wrong-none}
 
 -- ---- lengths

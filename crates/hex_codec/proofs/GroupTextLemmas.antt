@@ -18,7 +18,7 @@ use Rattle.hex_codec.specs.GroupedText.{GroupSpells, digits_in, grouped_len, sep
 use Rattle.hex_codec.proofs.CountLemmas.{rising}
 use Rattle.hex_codec.proofs.GroupLemmas.{grouped-separated, length-grouped, separated-append, separated-next, separated-none}
 use Rattle.hex_codec.proofs.ReadBack.{back, separated-cons}
-use Rattle.hex_codec.proofs.StripLemmas.{parted}
+use Rattle.hex_codec.proofs.PartLemmas.{parted}
 
 pub one-count : (group : Group) (m n : ℕ) → grouped_len (piece_len group) m ≡ grouped_len (piece_len group) n → m ≡ n
 one-count group m n same =

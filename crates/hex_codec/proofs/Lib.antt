@@ -6,6 +6,6 @@ mod GroupTextLemmas
 pub mod ListLemmas
 mod ReadBack
 pub mod StreamLemmas
-mod StripLemmas
+mod PartLemmas
 pub mod WriteLemmas
 mod WrongLemmas

@@ -16,24 +16,14 @@ entries xs n is =
     let here = λ (i : ℕ). get_or xs i 0 in
     same_number_lists xs (map here (range_with_len 0 n)) (is ∙ sym (length-map-range_with_len here 0 n)) (λ k lt. sym (get_or-map-range_with_len here 0 n k k 0 (omega arith) (omega arith)))
 
--- the front of a list whose middle was written
-pub take-front_put : (a k r : ℕ) (xs ys : List ℕ) → a ≤ length xs → r ≤ length ys → take (a + r) (put_mid a k xs ys) ≡ take a xs ++ take r ys
-take-front_put a k r xs ys inside fits =
-    let whole = take-put_mid a k xs ys (a + length ys) refl inside in
+-- the front of a list that was written behind another front
+written-front : (a r : ℕ) (xs ys zs : List ℕ) → a ≤ length xs → r ≤ length ys → take (a + length ys) zs ≡ take a xs ++ ys → take (a + r) zs ≡ take a xs ++ take r ys
+written-front a r xs ys zs inside fits whole =
     let front : length (take a xs) + r ≡ a + r = omega (arith, length-take-le a xs inside) in
-    sym (take-take (a + r) (a + length ys) (put_mid a k xs ys) (omega arith)) ∙ ap (take (a + r)) whole
-    ∙ rw front at (take-append-add (take a xs) ys r)
+    sym (take-take (a + r) (a + length ys) zs (omega arith)) ∙ ap (take (a + r)) whole ∙ rw front at (take-append-add (take a xs) ys r)
+
+pub take-front_put : (a k r : ℕ) (xs ys : List ℕ) → a ≤ length xs → r ≤ length ys → take (a + r) (put_mid a k xs ys) ≡ take a xs ++ take r ys
+take-front_put a k r xs ys inside fits = written-front a r xs ys (put_mid a k xs ys) inside fits (take-put_mid a k xs ys (a + length ys) refl inside)
 
 pub take-front_chunk : (a r : ℕ) (xs ys : List ℕ) → a + length ys ≤ length xs → r ≤ length ys → take (a + r) (put_chunk a xs ys) ≡ take a xs ++ take r ys
-take-front_chunk a r xs ys inside fits =
-    let whole = take_more_put_chunk a xs ys (a + length ys) (omega arith) inside in
-    let front : length (take a xs) + r ≡ a + r = omega (arith, length-take-le a xs (omega arith)) in
-    sym (take-take (a + r) (a + length ys) (put_chunk a xs ys) (omega arith)) ∙ ap (take (a + r)) whole
-    ∙ rw front at (take-append-add (take a xs) ys r)
-
--- a list whose end was written
-pub put-behind : (a : ℕ) (xs ys : List ℕ) → a ≤ length xs → length ys ≡ length xs - a → put_mid a (length xs - a) xs ys ≡ take a xs ++ ys
-put-behind a xs ys inside size =
-    let whole = take-put_mid a (length xs - a) xs ys (a + length ys) refl inside in
-    let all : length (put_mid a (length xs - a) xs ys) ≡ length xs = search (rules, places, size, inside) in
-    sym (take_all (a + length ys) (put_mid a (length xs - a) xs ys) (omega (arith, all))) ∙ whole
+take-front_chunk a r xs ys inside fits = written-front a r xs ys (put_chunk a xs ys) (omega arith) fits (take_more_put_chunk a xs ys (a + length ys) (omega arith) inside)

@@ -16,7 +16,7 @@ use Rattle.hex_codec.specs.Grouped.{grouped, piece_len, separated, separator}
 use Rattle.hex_codec.specs.GroupedText.{GroupSpells, byte_count, digits_in, group_refusal, refusal_of_count, separators_in}
 use Rattle.hex_codec.proofs.CountLemmas.{accepted, count-is, group-spells}
 use Rattle.hex_codec.proofs.GroupLemmas.{grouped-separated, length-grouped, no_pieces, separated-next, separated-none}
-use Rattle.hex_codec.proofs.StripLemmas.{parted, unparted}
+use Rattle.hex_codec.proofs.PartLemmas.{parted, unparted}
 use Rattle.hex_codec.proofs.WrongLemmas.{none-wrong}
 
 -- ---- written, and read back

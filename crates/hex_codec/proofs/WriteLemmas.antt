@@ -14,13 +14,13 @@ use Rattle.hex_core.proofs.PositionLemmas.{none_joined}
 use Rattle.hex_core.proofs.SearchLemmas.{lacks}
 use Rattle.hex_core.proofs.SpellsLemmas.{spelled_along}
 use Rattle.hex_codec.specs.declared.group.Group.{Group}
-use Rattle.hex_codec.specs.declared.strip.Front.{Front}
+use Rattle.hex_codec.specs.declared.unseparate.Front.{Front}
 use Rattle.hex_codec.specs.Grouped.{piece_len}
 use Rattle.hex_codec.specs.GroupedText.{digits_in}
-use Rattle.hex_codec.specs.Strip.{IsWhole, StripsFront, ValidDigits, WritesFront}
+use Rattle.hex_codec.specs.Unseparate.{IsWhole, UnseparatesFront, ValidDigits, WritesFront}
 use Rattle.hex_codec.proofs.CountLemmas.{even-digits}
 use Rattle.hex_codec.proofs.GroupLemmas.{no_pieces, pieces-next}
-use Rattle.hex_codec.proofs.StripLemmas.{joined, parted, unparted, whole-more}
+use Rattle.hex_codec.proofs.PartLemmas.{joined, parted, unparted, whole-more}
 
 -- what two texts spell, they spell joined
 pub spells-joined : (c : CheckCase) (a b x y : List ℕ) → Spells c a x → Spells c b y → Spells c (a ++ b) (x ++ y)
@@ -87,7 +87,7 @@ writes-all c group s dst at done so_far end twice =
 
 -- what is known of digits that were copied from behind those that were decoded
 pub record Copied (c : CheckCase) (group : Group) (s new : List ℕ) (at done all : ℕ) (front : Front) : Type 0 where
-  pub strips : StripsFront group (drop at s) new front
+  pub bare : UnseparatesFront group (drop at s) new front
   pub inside : at + front.len ≤ length s
   pub cut : digits_in (piece_len group) (drop at s) ≡ take front.digits new ++ digits_in (piece_len group) (drop front.len (drop at s))
   pub valid : first_invalid c (take front.digits new) ≡ None
@@ -95,19 +95,19 @@ pub record Copied (c : CheckCase) (group : Group) (s new : List ℕ) (at done al
   pub even : front.digits % 2 ≡ 0
   pub room : 2 * done + front.digits ≤ 2 * all
 
-pub copied : (c : CheckCase) (group : Group) (s dst new : List ℕ) (at done all : ℕ) (front : Front) → WritesFront c group s dst at done → at ≤ length s → StripsFront group (take (length s - at) (drop at s)) new front
+pub copied : (c : CheckCase) (group : Group) (s dst new : List ℕ) (at done all : ℕ) (front : Front) → WritesFront c group s dst at done → at ≤ length s → UnseparatesFront group (take (length s - at) (drop at s)) new front
     → ValidDigits c group s all → Copied c group s new at done all front
-copied c group s dst new at done all front so_far reached strips digits =
+copied c group s dst new at done all front so_far reached bare digits =
     let every = piece_len group in
     let rest = drop at s in
-    let behind : StripsFront group rest new front = rw (take_rest s at) at strips in
+    let behind : UnseparatesFront group rest new front = rw (take_rest s at) at bare in
     let long : length (take front.len rest) ≡ front.len = length-take-le front.len rest behind.inside in
     let whole : IsWhole every (length (take front.len rest)) = rw long behind.whole in
     let cut = ap (digits_in every) (sym (take-append-drop front.len rest)) ∙ joined (take (2 * every)) every (take front.len rest) (drop front.len rest) whole ∙ ap (λ l. l ++ digits_in every (drop front.len rest)) (sym behind.copied) in
     let size = length-take-le front.digits new behind.room in
     let known = ahead c group s dst (take front.digits new) (digits_in every (drop front.len rest)) at done all so_far cut digits in
     record {
-      strips = behind;
+      bare = behind;
       inside = omega (arith, behind.inside, length-drop at s, reached);
       cut = cut;
       valid = known.0;
@@ -126,9 +126,6 @@ pub record Next (every n : ℕ) (s : List ℕ) : Type 0 where
 pub next : (every n : ℕ) (s : List ℕ) → 0 < every → 0 < n → length (digits_in every s) ≡ 2 * n → Next every n s
 next every n s pos some size = from_cases (cases_lt (2 * every) (length s))
   where
-    none : digits_in every [] ≡ []
-    none = ap (flat_map (take (2 * every))) (no_pieces (2 * every + 1))
-
     from_cases : (2 * every < length s) ⊎ (length s ≤ 2 * every) → Next every n s
     from_cases (inl long) =
         let parts_of = (parted every s (omega arith)).digits in
@@ -141,7 +138,7 @@ next every n s pos some size = from_cases (cases_lt (2 * every) (length s))
         let whole : length s ≡ 2 * n = sym (ap length one) ∙ size in
         let count : min every n ≡ n = omega (arith, whole, short) in
         let rest : drop (2 * n + 1) s ≡ [] = drop_all (2 * n + 1) s (omega arith) in
-        record { inside = omega (arith, count, whole); digits = rw count (one ∙ sym (rw (rest, none) (append-nil (take (2 * n) s) ∙ take_all (2 * n) s (omega arith)))) }
+        record { inside = omega (arith, count, whole); digits = rw count (one ∙ sym (rw (rest, (unparted every [] (omega arith)).0) (append-nil (take (2 * n) s) ∙ take_all (2 * n) s (omega arith)))) }
 
 -- the digits of the next part, behind those that were decoded
 pub record Part (c : CheckCase) (group : Group) (s : List ℕ) (at count : ℕ) : Type 0 where

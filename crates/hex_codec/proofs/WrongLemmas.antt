@@ -15,9 +15,9 @@ use Rattle.hex_core.proofs.SearchLemmas.{lacks}
 use Rattle.hex_codec.specs.declared.group.Group.{Group}
 use Rattle.hex_codec.specs.Grouped.{piece_len, separator}
 use Rattle.hex_codec.specs.GroupedText.{digits_in, first_wrong, is_wrong, separators_in}
-use Rattle.hex_codec.specs.Strip.{ClearsFront, IsWhole}
+use Rattle.hex_codec.specs.Unseparate.{ClearsFront, IsWhole}
 use Rattle.hex_codec.proofs.GroupLemmas.{no_pieces}
-use Rattle.hex_codec.proofs.StripLemmas.{part-digits, part-separator, parted, unparted}
+use Rattle.hex_codec.proofs.PartLemmas.{part-digits, part-separator, parted, unparted}
 
 -- ---- one place
 

@@ -7,4 +7,4 @@ pub mod Grouped
 pub mod GroupedText
 pub mod Groups
 pub mod Stream
-pub mod Strip
+pub mod Unseparate

@@ -11,10 +11,10 @@ ghost use Rattle.hex_core.specs.Text.{Spells};
 ghost use Rattle.hex_codec.specs.Grouped.{piece_len};
 ghost use Rattle.hex_codec.specs.GroupedText.{byte_count, digits_in, first_wrong};
 ghost use Rattle.hex_codec.specs.GroupCalls.{Accepts, Reads, ReadsFront};
-ghost use Rattle.hex_codec.specs.Strip.{ClearsFront, ValidDigits, WritesFront};
+ghost use Rattle.hex_codec.specs.Unseparate.{ClearsFront, ValidDigits, WritesFront};
 
 pub use crate::group::Group;
-use crate::strip::{Front, SHORT, strip};
+use crate::unseparate::{Front, SHORT, unseparate};
 use hex_core::lend::lend_accepted;
 use hex_core::{Backend, CheckCase};
 
@@ -121,7 +121,7 @@ fn clear_front_with<const N: usize>(src: &[u8], group: Group, case: CheckCase) -
     let mut buffer = [0; N];
     let mut at = 0;
     'fronts: loop {
-        let front = strip(&src[at..], group, &mut buffer);
+        let front = unseparate(&src[at..], group, &mut buffer);
         if front.len == 0 || !Backend::plain().check(&buffer[..front.digits], case) {
             return at;
         }
@@ -164,7 +164,7 @@ fn write_front_with<const N: usize>(
     let mut buffer = [0; N];
     let mut done = Front { len: 0, digits: 0 };
     'fronts: loop {
-        let front = strip(&src[done.len..], group, &mut buffer);
+        let front = unseparate(&src[done.len..], group, &mut buffer);
         if front.len == 0 {
             return done;
         }

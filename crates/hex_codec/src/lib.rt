@@ -10,7 +10,7 @@ pub mod heapless_08;
 pub mod laws;
 pub mod stream;
 pub mod strings;
-mod strip;
+mod unseparate;
 
 pub use crate::decode::{
     hex_check, hex_check_with_case, hex_decode, hex_decode_array, hex_decode_array_with_case,

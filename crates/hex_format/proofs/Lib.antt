@@ -3,5 +3,5 @@ pub mod FrameFacts
 mod GroupFacts
 pub mod PutsLemmas
 mod Repeats
-mod SpreadLemmas
+mod SeparateLemmas
 mod StreamLemmas

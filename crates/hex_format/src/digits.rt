@@ -6,8 +6,8 @@ ghost use Rattle.hex_codec.specs.Grouped.{grouped, piece_len};
 ghost use Rattle.hex_format.specs.Frame.{digits_by};
 ghost use Rattle.hex_format.specs.Sink.{Puts};
 
+use crate::separate::separated_text;
 use crate::sink::{Sink, WriteFault, put_all};
-use crate::spread::separated_text;
 use hex_codec::Group;
 use hex_codec::chunks::encoded;
 

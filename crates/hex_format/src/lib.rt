@@ -4,8 +4,8 @@
 mod digits;
 pub mod format;
 pub mod laws;
+mod separate;
 pub mod sink;
-mod spread;
 pub mod streams;
 
 pub use crate::format::{Align, Hex, HexFlags};

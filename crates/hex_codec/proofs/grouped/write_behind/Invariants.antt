@@ -1,6 +1,6 @@
 -- The bytes of the digits before this place have been written.
 use Rattle.std.proofs.Common.{◌-◌, length}
-use Rattle.hex_codec.specs.Strip.{WritesFront}
+use Rattle.hex_codec.specs.Unseparate.{WritesFront}
 use Rattle.hex_codec.proofs.grouped.write_behind.Given as goal
 
 abbrev pub invariant-loop-done : goal.invariant-loop-done

@@ -1,6 +1,6 @@
 -- The bytes of the digits before this place have been written.
 use Rattle.std.proofs.Common.{◌≡◌, ◌≤◌, ◌-◌, ◌/◌, ◌%◌, length}
-use Rattle.hex_codec.specs.Strip.{WritesFront}
+use Rattle.hex_codec.specs.Unseparate.{WritesFront}
 use Rattle.hex_codec.proofs.grouped.write_front_with.Given as goal
 
 abbrev pub invariant-fronts : goal.invariant-fronts

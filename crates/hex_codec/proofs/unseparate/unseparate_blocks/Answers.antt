@@ -1,0 +1,28 @@
+-- The digits of one more block are copied.
+use Rattle.std.proofs.Common.{rules, ◌≡◌, ◌+◌, ◌-◌, ◌≤◌, ◌++◌, length, take, drop, refl, ap, ◌∙◌, arith, length-drop, All}
+use Rattle.std.proofs.lemmas.List.{take-take}
+use Rattle.std.proofs.lemmas.Simd.{length-put_chunk}
+use Rattle.std.specs.Simd.Lanes.{put_chunk}
+use Rattle.hex_codec.specs.Grouped.{piece_len}
+use Rattle.hex_codec.specs.GroupedText.{digits_in, separators_in}
+use Rattle.hex_codec.proofs.ListLemmas.{take-front_chunk}
+use Rattle.hex_codec.proofs.PartLemmas.{all-taken, unseparates-more}
+use Rattle.hex_codec.proofs.unseparate.unseparate_blocks.Goals as goal
+
+pub loop-len-preserved : goal.loop-len-preserved
+loop-len-preserved g c =
+    let group = c.args.group in let text = c.args.text.now in let every = piece_len group in let n = g.row.DIGITS in
+    let len = c.loop-len.len in let to = c.loop-len.to in let digits = c.loop-len.digits in
+    let new = c.digits.result in
+    let rest = drop len text in
+    let left : length rest ≡ length text - len = length-drop len text in
+    let first : take 15 (take 16 rest) ≡ take 15 rest = take-take 15 16 rest (omega arith) in
+    let size : length new ≡ 16 = search rules in
+    let front : take n new ≡ digits_in every (take 15 rest) = c.digits.ensures ∙ rw (first, c.requires.every) refl in
+    let room : to + n ≤ length (put_chunk to digits new) = omega (arith, c.if-digits-to-ge-BLOCK.true, c.requires.step, length-put_chunk to digits new) in
+    let all : All (λ b. b ≡ group.sep) c.separators.result = λ k d lt. c.if-not-are_all.ensures k d lt ∙ c.sep.ensures in
+    let held : All (λ b. b ≡ group.sep) (separators_in every (take 15 rest)) =
+    rw (c.requires.every, ← first) (rw c.separators.ensures.lanes at (all-taken (15 - n) c.separators.result group.sep all)) in
+    unseparates-more group text digits (put_chunk to digits new) (record { len = len; digits = to }) 15 n c.loop-len.invariant (omega (arith, left, c.loop-len-test.true)) room
+    (rw c.requires.every c.separators.ensures.whole) held
+    (take-front_chunk to n digits new (omega (arith, size, c.if-digits-to-ge-BLOCK.true)) (omega (arith, size, c.requires.step)) ∙ ap (λ l. take to digits ++ l) front)
