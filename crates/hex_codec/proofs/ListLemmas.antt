@@ -27,3 +27,10 @@ take-front_put a k r xs ys inside fits = written-front a r xs ys (put_mid a k xs
 
 pub take-front_chunk : (a r : ℕ) (xs ys : List ℕ) → a + length ys ≤ length xs → r ≤ length ys → take (a + r) (put_chunk a xs ys) ≡ take a xs ++ take r ys
 take-front_chunk a r xs ys inside fits = written-front a r xs ys (put_chunk a xs ys) (omega arith) fits (take_more_put_chunk a xs ys (a + length ys) (omega arith) inside)
+
+-- a list whose end was written
+pub put-behind : (a : ℕ) (xs ys : List ℕ) → a ≤ length xs → length ys ≡ length xs - a → put_mid a (length xs - a) xs ys ≡ take a xs ++ ys
+put-behind a xs ys inside size =
+    let whole = take-put_mid a (length xs - a) xs ys (a + length ys) refl inside in
+    let all : length (put_mid a (length xs - a) xs ys) ≡ length xs = search (rules, places, size, inside) in
+    sym (take_all (a + length ys) (put_mid a (length xs - a) xs ys) (omega (arith, all))) ∙ whole
