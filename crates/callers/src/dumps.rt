@@ -10,14 +10,15 @@ ghost use Rattle.hex_codec.specs.GroupedText.{GroupSpells, group_refusal, groupe
 ghost use Rattle.hex_format.specs.Frame.{frame};
 ghost use Rattle.hex_format.specs.Sink.{Puts};
 
+use faster_hex::format::put_all;
 use faster_hex::grouped::read_into;
 use faster_hex::{CheckCase, Group, Hex, HexFlags, Sink, SliceSink, WriteFault};
 use hex_codec::laws::{
     a_grouped_text_is_digits_and_separators, a_grouped_text_is_read_where_it_spells_a_list,
-    grouping_inverts_strict_reading, reading_inverts_grouping, whole_pieces_are_joined_by_the_separator,
+    grouping_inverts_strict_reading, reading_inverts_grouping,
+    whole_pieces_are_joined_by_the_separator,
 };
 use hex_core::laws::{a_new_front_is_the_front, a_text_spells_one_list};
-use faster_hex::format::put_all;
 use hex_format::laws::{a_bare_text_is_its_digits, puts_in_a_row_are_one};
 
 /// Writes the padded text of some bytes into the front of a line, where it fits.
