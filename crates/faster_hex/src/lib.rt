@@ -49,7 +49,8 @@ pub use hex_lists::digests;
 /// let mut input: &[u8] = b"68656c6C6F";
 /// let mut buffer = [0; 5];
 /// let mut sink = SliceSink::new(&mut buffer);
-/// assert_eq!(rt; stream::decode_stream(&mut input, &mut sink, CheckCase::None), Ok(5));
+/// let read = faster_hex::stream::decode_stream(&mut input, &mut sink, CheckCase::None);
+/// assert_eq!(rt; read, Ok(5));
 /// assert_eq!(rt; sink.written(), b"hello".as_slice());
 /// ```
 pub mod stream {

@@ -89,8 +89,13 @@ impl Decoder {
     /// let mut bytes = [0xa5; 2];
     /// assert_eq!(rt; decoder.feed(b"00a", &mut bytes)?, 1);
     /// let refused = decoder.feed(b"bg", &mut bytes);
-    /// assert_eq!(rt; refused, Err(Error::InvalidChar { index: 4, byte: b'g' }));
-    /// assert_eq!(rt; decoder.feed(b"bcd", &mut bytes[1..]), Err(Error::OutputTooSmall { required: 2 }));
+    /// let first = Error::InvalidChar {
+    ///     index: 4,
+    ///     byte: b'g',
+    /// };
+    /// assert_eq!(rt; refused, Err(first));
+    /// let refused = decoder.feed(b"bcd", &mut bytes[1..]);
+    /// assert_eq!(rt; refused, Err(Error::OutputTooSmall { required: 2 }));
     /// assert_eq!(rt; (bytes, decoder.position()), ([0, 0xa5], 3));
     /// ```
     pub fn feed(&mut self, src: &[u8], dst: &mut [u8]) -> Result<usize, Error>

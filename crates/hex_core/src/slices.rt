@@ -58,7 +58,11 @@ impl Backend {
     ///
     /// ```rust
     /// let error = Backend::plain().first_error(b"00fg", CheckCase::None);
-    /// assert_eq!(rt; error, Error::InvalidChar { index: 3, byte: b'g' });
+    /// let first = Error::InvalidChar {
+    ///     index: 3,
+    ///     byte: b'g',
+    /// };
+    /// assert_eq!(rt; error, first);
     /// ```
     #[cold]
     #[inline(never)]

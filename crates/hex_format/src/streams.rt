@@ -48,7 +48,8 @@ pub enum StreamFault {
 /// let mut input: &[u8] = b"68656C6c6f";
 /// let mut buffer = [0; 5];
 /// let mut sink = SliceSink::new(&mut buffer);
-/// assert_eq!(rt; decode_stream(&mut input, &mut sink, CheckCase::None), Ok(5));
+/// let written = decode_stream(&mut input, &mut sink, CheckCase::None);
+/// assert_eq!(rt; written, Ok(5));
 /// assert_eq!(rt; sink.written(), b"hello".as_slice());
 /// ```
 pub fn decode_stream<R: Read, S: Sink>(
