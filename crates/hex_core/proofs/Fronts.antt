@@ -1,7 +1,6 @@
--- The front of a slice is lent, and the slice follows it.
+-- The front of a slice is lent, and the slice ends as what is left of it, with the rest behind.
 use mathlib.Core.Path.{◌≡◌, refl, sym, ap, ◌∙◌, subst}
 use Prim.Native.Nat.{ℕ, ◌≤◌, ◌+◌}
-use native.Mathlib.Omega.{arith}
 use mathlib.Core.List.{List, [], ◌∷◌, ◌++◌}
 use lib.ListN.{length, take, drop as drop_list, take-append-drop, length-append}
 use seplogic.Ra.Ura.{Ura}
@@ -9,12 +8,13 @@ use mir.Syntax.{Lifetime}
 use mir.Val.{Val}
 use base.Logic.{SProp, ent, sep, ex}
 use base.Stored.{coded_list}
-use base.Fml.{Lft, GName, Share, flft, fobs, fbor}
+use base.Fml.{Fml, Lft, GName, Share, flft, fobs, fbor}
 use types.Logic.{Logic, sem}
 use types.Mut.{open_ref}
 use types.Follow.{takes_part}
 use types.SemTy.{cells, Arr, Body}
-use types.Kit.{Item, ‵, ◌⊛◌, some, later, ◌$◌, ◌∵◌, !, qed, move, drop, use1, use2, split, split3, group, pick, rewrite, fsplit, fsplit3, fjoin, feq_i, feq_l, show, await, updating, now, done}
+use types.Kit.{Item, ‵, ◌⊛◌, some, later, ◌$◌, ◌∵◌, !, qed, move, drop, use1, use2, split, split3, group, pick, rewrite}
+use types.Kit.{fsplit, fsplit3, fjoin, feq_i, feq_l, show, await, updating, now, done}
 use denote.RattleType.{RattleType}
 use denote.Memory.{mem}
 use denote.Array.{Array}
@@ -23,52 +23,60 @@ use denote.FollowSlice.{heres_id, slice_of}
 use denote.Slice.{MutSlice, Room, slice_val}
 use borrow.Table.Elements.{at, cut_app, join_app, length-take-le}
 
-module _ {M : Type 1} {𝓤 : Ura M} (𝓛 : Logic 𝓤) (R : RattleType) (ℓ : Lifetime) (κ : Lft) (q : Share) (b o : ℕ) (γ : GName) (xs : List R.Denot) (m : ℕ) where
+module _ {M : Type 1} {𝓤 : Ura M} (𝓛 : Logic 𝓤) (R : RattleType) (ℓ : Lifetime) (κ : Lft) (q : Share) (b o : ℕ) (γ : GName) where
   open 𝓛 use {H, A}
 
-  abbrev front : List R.Denot
-  front = take m xs
+  abbrev Owned : GName → List R.Denot → List Val → Fml
+  Owned δ ys vs = (MutSlice ℓ κ R).own_val (record { ref_ptr = (b, o); ghost_name = δ; now = ys }) vs
 
-  abbrev back : List R.Denot
-  back = drop_list m xs
+  module _ (front rest : List R.Denot) where
+    abbrev Follows : GName → Fml
+    Follows δ = follows (Array R 0) (Array R 0) γ δ (λ ws. ws ++ rest)
 
-  abbrev Others : SProp 𝓤
-  Others = sem 𝓛 (cells (mem R) back b (at o (mem R).size (length front)))
+    -- k elements under a new name, the token, and what the slice ends as
+    abbrev Parts : ℕ → GName → SProp 𝓤
+    Parts k δ = sep 𝓤 (sem 𝓛 (Owned δ front (slice_val (b, o) k ∷ []))) (sep 𝓤 (A.lft κ q) (sem 𝓛 (Follows δ)))
 
-  abbrev after : List R.Denot → List R.Denot
-  after ws = ws ++ drop_list (length front) xs
+    abbrev Others : SProp 𝓤
+    Others = sem 𝓛 (cells (mem R) rest b (at o (mem R).size (length front)))
 
-  -- the front under a new name, the token, and what the slice ends as
-  abbrev pub front_lent : ℕ → GName → Item 𝓤
-  front_lent k δ = ‵ ((MutSlice ℓ κ R).own_val (record { ref_ptr = (b, o); ghost_name = δ; now = front }) (slice_val (b, o) k ∷ [])) ⊛ ‵ (flft κ q) ⊛ ‵ (follows (Array R 0) (Array R 0) γ δ after)
+    -- whatever stands in the place of the front, the rest is behind it
+    joins : (ws : List R.Denot)
+        → ent 𝓤 (sep 𝓤 (sem 𝓛 ((Arr (mem R) (length front)).own_at ws b o)) Others) (sem 𝓛 ((Arr (mem R) (length (front ++ rest))).own_at (ws ++ rest) b o))
+    joins ws =
+        qed 𝓛 (‵ ((Arr (mem R) (length front)).own_at ws b o) ∷ ‵ (cells (mem R) rest b (at o (mem R).size (length front))) ∷ []) ∵ fsplit ! $ feq_l ! (λ e.
+        move ! (1 ∷ []) $ rewrite ! 0 (λ (k : ℕ). ‵ (cells (mem R) rest b (at o (mem R).size k))) (sym e) refl $
+        move ! (1 ∷ 0 ∷ []) $ use2 𝓛 (‵ (cells (mem R) (ws ++ rest) b o)) (join_app 𝓛 (mem R) ws rest b o) $
+        feq_i ! ℕ (length (ws ++ rest)) (length (front ++ rest)) (length-append ws rest ∙ ap (λ (k : ℕ). k + length rest) e ∙ sym (length-append front rest)) $
+        fjoin ! $ done !)
 
-  abbrev pub FrontLent : ℕ → GName → SProp 𝓤
-  FrontLent k δ = sep 𝓤 (sem 𝓛 ((MutSlice ℓ κ R).own_val (record { ref_ptr = (b, o); ghost_name = δ; now = front }) (slice_val (b, o) k ∷ []))) (sep 𝓤 (A.lft κ q) (sem 𝓛 (follows (Array R 0) (Array R 0) γ δ after)))
+    parts : Room R (length front) → (vs : List Val) → ent 𝓤 (sep 𝓤 (sem 𝓛 (Owned γ (front ++ rest) vs)) (A.lft κ q)) (H.⇛ (ex 𝓤 (Parts (length front))))
+    parts room vs =
+        let code = (coded_list R.coded).code in
+        qed 𝓛 (‵ (Owned γ (front ++ rest) vs) ∷ ‵ (flft κ q) ∷ []) ∵ updating ! $ fsplit3 ! $ drop ! $
+        rewrite ! 0 (λ (l : List R.Denot). ‵ (fobs γ ((coded_list R.coded).code l))) (heres_id R (front ++ rest)) refl $
+        open_ref ! tt (Arr (mem R) (length (front ++ rest))) {b = b} {o = o} $ fsplit ! $ drop ! $
+        use1 𝓛 (‵ (cells (mem R) front b o) ⊛ ‵ (cells (mem R) rest b (at o (mem R).size (length front)))) (cut_app 𝓛 (mem R) front rest b o) $ split ! $
+        feq_i ! ℕ (length front) (length front) refl $ fjoin ! $ move ! (2 ∷ 3 ∷ 4 ∷ 0 ∷ 1 ∷ []) $ group ! 5 $
+        use1 𝓛 (later (some (λ (δ : GName). ‵ (fobs δ ((coded_list R.coded).code front)) ⊛ ‵ (fbor κ (Body (Arr (mem R) (length front)) b o δ)) ⊛ ‵ (flft κ q) ⊛ ‵ (Follows δ))))
+        (takes_part 𝓛 (Arr (mem R) (length (front ++ rest))) (Arr (mem R) (length front)) (λ ws. ws ++ rest) κ q b o b o γ Others joins
+        (code (front ++ rest)) (code (front ++ rest)) front) $
+        await ! tt $ pick ! (λ δ. split3 ! $ use2 𝓛 (‵ (Owned δ front (slice_val (b, o) (length front) ∷ []))) (slice_of 𝓛 R ℓ κ b o δ front room) $
+        now ! $ show ! (Parts (length front)) δ $ done !)
 
-  put : m ≤ length xs → (ws : List R.Denot) → ent 𝓤 (sep 𝓤 (sem 𝓛 ((Arr (mem R) (length front)).own_at ws b o)) Others) (sem 𝓛 ((Arr (mem R) (length xs)).own_at (after ws) b o))
-  put le ws =
-      let count : length front ≡ m = length-take-le m xs le in
-      let whole : length xs ≡ length front + length back = ap length (sym (take-append-drop m xs)) ∙ length-append front back in
-      let both : length (ws ++ back) ≡ length ws + length back = length-append ws back in
-      qed 𝓛 (‵ ((Arr (mem R) (length front)).own_at ws b o) ∷ ‵ (cells (mem R) back b (at o (mem R).size (length front))) ∷ []) ∵
-      fsplit ! $ feq_l ! (λ e. move ! (1 ∷ []) $
-      let same : ws ++ back ≡ after ws = ap (λ (k : ℕ). ws ++ drop_list k xs) (sym count) in
-      rewrite ! 0 (λ (k : ℕ). ‵ (cells (mem R) back b (at o (mem R).size k))) (sym e) refl $ move ! (1 ∷ 0 ∷ []) $
-      use2 𝓛 (‵ (cells (mem R) (ws ++ back) b o)) (join_app 𝓛 (mem R) ws back b o) $
-      rewrite ! 0 (λ (l : List R.Denot). ‵ (cells (mem R) l b o)) same refl $
-      feq_i ! ℕ (length (after ws)) (length xs) (ap length (sym same) ∙ omega arith) $ fjoin ! $ done !)
+  -- the same of the first n elements, and what is behind them
+  abbrev pub FrontLent : List R.Denot → ℕ → GName → SProp 𝓤
+  FrontLent xs n = Parts (take n xs) (drop_list (length (take n xs)) xs) n
 
-  pub lends_front : m ≤ length xs → Room R m → (vs : List Val)
-      → ent 𝓤 (sep 𝓤 (sem 𝓛 ((MutSlice ℓ κ R).own_val (record { ref_ptr = (b, o); ghost_name = γ; now = xs }) vs)) (A.lft κ q)) (H.⇛ (ex 𝓤 (FrontLent m)))
-  lends_front le room vs =
-      let count : length front ≡ m = length-take-le m xs le in
-      qed 𝓛 (‵ ((MutSlice ℓ κ R).own_val (record { ref_ptr = (b, o); ghost_name = γ; now = xs }) vs) ∷ ‵ (flft κ q) ∷ []) ∵ updating ! $ fsplit3 ! $ drop ! $
-      rewrite ! 0 (λ (l : List R.Denot). ‵ (fobs γ ((coded_list R.coded).code l))) (heres_id R xs) refl $ open_ref ! tt (Arr (mem R) (length xs)) {b = b} {o = o} $ fsplit ! $ drop ! $
-      rewrite ! 0 (λ (l : List R.Denot). ‵ (cells (mem R) l b o)) (sym (take-append-drop m xs)) refl $
-      use1 𝓛 (‵ (cells (mem R) front b o) ⊛ ‵ (cells (mem R) back b (at o (mem R).size (length front)))) (cut_app 𝓛 (mem R) front back b o) $ split ! $
-      feq_i ! ℕ (length front) (length front) refl $ fjoin ! $ move ! (2 ∷ 3 ∷ 4 ∷ 0 ∷ 1 ∷ []) $ group ! 5 $
-      use1 𝓛 (later (some (λ (δ : GName). ‵ (fobs δ ((coded_list R.coded).code front)) ⊛ ‵ (fbor κ (Body (Arr (mem R) (length front)) b o δ)) ⊛ ‵ (flft κ q) ⊛ ‵ (follows (Array R 0) (Array R 0) γ δ after))))
-      (takes_part 𝓛 (Arr (mem R) (length xs)) (Arr (mem R) (length front)) after κ q b o b o γ Others (put le) ((coded_list R.coded).code xs) ((coded_list R.coded).code xs) front) $ await ! tt $ pick ! (λ δ. split3 ! $
-      use2 𝓛 (‵ ((MutSlice ℓ κ R).own_val (record { ref_ptr = (b, o); ghost_name = δ; now = front }) (slice_val (b, o) (length front) ∷ []))) (slice_of 𝓛 R ℓ κ b o δ front (subst (λ (k : ℕ). Room R k) (sym count) room)) $
-      rewrite ! 0 (λ (k : ℕ). ‵ ((MutSlice ℓ κ R).own_val (record { ref_ptr = (b, o); ghost_name = δ; now = front }) (slice_val (b, o) k ∷ []))) count refl $
-      now ! $ show ! (FrontLent m) δ $ done !)
+  abbrev pub front_lent : List R.Denot → ℕ → GName → Item 𝓤
+  front_lent xs n δ = ‵ (Owned δ (take n xs) (slice_val (b, o) n ∷ [])) ⊛ ‵ (flft κ q) ⊛ ‵ (Follows (take n xs) (drop_list (length (take n xs)) xs) δ)
+
+  pub lends_front : (xs : List R.Denot) (n : ℕ) → n ≤ length xs → Room R n → (vs : List Val)
+      → ent 𝓤 (sep 𝓤 (sem 𝓛 (Owned γ xs vs)) (A.lft κ q)) (H.⇛ (ex 𝓤 (FrontLent xs n)))
+  lends_front xs n le room vs =
+      let front : List R.Denot = take n xs in
+      let count : length front ≡ n = length-take-le n xs le in
+      let whole : front ++ drop_list (length front) xs ≡ xs = ap (λ (k : ℕ). front ++ drop_list k xs) count ∙ take-append-drop n xs in
+      subst (λ (ys : List R.Denot). ent 𝓤 (sep 𝓤 (sem 𝓛 (Owned γ ys vs)) (A.lft κ q)) (H.⇛ (ex 𝓤 (FrontLent xs n)))) whole
+      (subst (λ (k : ℕ). ent 𝓤 (sep 𝓤 (sem 𝓛 (Owned γ (front ++ drop_list (length front) xs) vs)) (A.lft κ q)) (H.⇛ (ex 𝓤 (Parts front (drop_list (length front) xs) k)))) count
+      (parts front (drop_list (length front) xs) (subst (Room R) (sym count) room) vs))

@@ -111,7 +111,7 @@ module _ (E : RattleType) where
               exec ! 𝓣.C 𝓣.Λ En rest (at_ret En (Post (Ok n) (ok_val (vint w64 n)))) $
               sets ! (of_opd ! (get ! refl)) refl (tt, (record { fits = lit< tt }, ((tt, (record { fits = fn }, tt)), tt))) $
               split ! $ move ! (2 ∷ []) $ fsplit ! $ move ! (0 ∷ 2 ∷ []) $
-              use2 𝓛 (later (some (front_lent 𝓛 u8 (named 0) κ q b o γ xs n n))) (lends_front 𝓛 u8 (named 0) κ q b o γ xs n le less (mut_slice_vals self)) $ await ! tt $ pick ! (λ δ.
+              use2 𝓛 (later (some (front_lent 𝓛 u8 (named 0) κ q b o γ xs n))) (lends_front 𝓛 u8 (named 0) κ q b o γ xs n le less (mut_slice_vals self)) $ await ! tt $ pick ! (λ δ.
               returns ! (look_at ! 0 refl) $ free_all ! refl $ keep ! (0 ∷ 2 ∷ []) $ split3 ! $
               let part : MutBor (List ℕ) = record { ref_ptr = (b, o); ghost_name = δ; now = take n xs } in
               use1 𝓛 (‵ ((LentIn E (named 0) κ).own_val (Ok part) (ok_val (slice_val (b, o) n) ∷ []))) (ok_of 𝓛 Part (param 0 E) part (slice_val (b, o) n)) $
