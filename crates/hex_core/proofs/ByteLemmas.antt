@@ -8,6 +8,7 @@ use Rattle.std.proofs.lemmas.List.{get_or-map, length-map}
 use Rattle.std.proofs.lemmas.Nat.Bits.{bit_at-suc, bit_at_lowest, bit_at_ones}
 use Rattle.std.proofs.lemmas.Simd.{bit_mask_l, mask_l-lt}
 use lib.Lanes.{Each1, mask_l}
+use mathlib.Core.Bool.{beq}
 use Rattle.hex_core.specs.declared.digit.CheckCase.{CheckCase}
 use Rattle.hex_core.specs.declared.digit.CheckCase.TheVariants as policy
 use Rattle.hex_core.specs.Arithmetic.{AreLow, AreZero, excess, interleaved, letter, reach, saturating_add, valid_nibble, wrapping_sub}
@@ -25,6 +26,57 @@ has c b = is_some (value c b)
 abbrev pub always : ℕ → Bool
 always _ = true
 
+-- ---- every map at every byte
+
+-- a byte's value, or at least 16: for a byte that is no digit (no letter) the first (second) number is large
+abbrev pub saturated : CheckCase → ℕ → ℕ
+saturated c b = min (wrapping_sub (wrapping_sub b 58 - 6) 240) (saturating_add (letter c b) 10)
+
+-- whether a number stands for the value
+abbrev pub nibble_test : Option ℕ → ℕ → Bool
+nibble_test (Some v) n = eqb n v
+nibble_test None n = leb 16 n
+
+pub nibble_by : (o : Option ℕ) (n : ℕ) → nibble_test o n ≡ true → IsNibble o n
+nibble_by (Some v) n e = eqb-true n v e
+nibble_by None n e = leb-true 16 n e
+
+-- whether it is the value, where there is one
+abbrev valid_test : Option ℕ → ℕ → Bool
+valid_test (Some v) n = eqb n v && ltb n 16
+valid_test None n = true
+
+valid_by : (o : Option ℕ) (n : ℕ) → IsSome o → valid_test o n ≡ true → (o ≡ Some n) × (n < 16)
+valid_by (Some v) n s e = let p = and_parts (eqb n v) (ltb n 16) e in (ap Some (sym (eqb-true n v p.0)), ltb-true n 16 p.1)
+valid_by None n s e = cc
+
+-- two tests that agree
+pub same_tests : (s t : Bool) → beq s t ≡ true → s ≡ t
+same_tests true true e = refl
+same_tests true false e = cc
+same_tests false true e = cc
+same_tests false false e = refl
+
+-- each map of a byte is right, computed at all of them
+abbrev are_right : CheckCase → ℕ → Bool
+are_right c b =
+    beq (ltb (reach c b) 10) (has c b)
+    && (beq (eqb (excess c b) 0) (has c b) && (nibble_test (value c b) (saturated c b) && valid_test (value c b) (valid_nibble b)))
+
+all_are_right : (c : CheckCase) → agree_below (are_right c) always 256 ≡ true
+all_are_right policy.None = refl
+all_are_right policy.Lower = refl
+all_are_right policy.Upper = refl
+
+-- the reach, the excess, the saturating map and the shorter one for bytes that have a value
+maps_are_right : (c : CheckCase) (b : ℕ) → b < 256
+    → (ltb (reach c b) 10 ≡ has c b) × (eqb (excess c b) 0 ≡ has c b) × (nibble_test (value c b) (saturated c b) ≡ true) × (valid_test (value c b) (valid_nibble b) ≡ true)
+maps_are_right c b h =
+    let p = and_parts (beq (ltb (reach c b) 10) (has c b)) _ (agree_below_at (are_right c) always 256 b (all_are_right c) h) in
+    let q = and_parts (beq (eqb (excess c b) 0) (has c b)) _ p.1 in
+    let r = and_parts (nibble_test (value c b) (saturated c b)) _ q.1 in
+    (same_tests _ _ p.0, same_tests _ _ q.0, r.0, r.1)
+
 -- ---- the range tests
 
 -- where a byte's number passes exactly where the byte has a value, all lanes pass exactly where each byte has one
@@ -34,28 +86,17 @@ valid_where f Q c test v r n fits is =
     let all = passes_where (f c) Q (λ b. IsSome (value c b)) test v fits.1 is in
     (λ passes k low lt. all.0 passes k (omega (arith, fits.0)), λ valid. all.1 (λ k h. valid k (omega arith) (omega (arith, fits.0))))
 
--- the reach is below 10 there
-reaches : (c : CheckCase) → agree_below (λ b. ltb (reach c b) 10) (has c) 256 ≡ true
-reaches policy.None = refl
-reaches policy.Lower = refl
-reaches policy.Upper = refl
-
+-- all bytes pass for a reach below 10, and for an excess of 0
 reach_is_low : (c : CheckCase) (b : ℕ) → b < 256 → (reach c b < 10) ↔ IsSome (value c b)
 reach_is_low c b h =
-    let same = agree_below_at (λ x. ltb (reach c x) 10) (has c) 256 b (reaches c) h in
+    let same = (maps_are_right c b h).0 in
     (λ lt. sym same ∙ lt-ltb (reach c b) 10 lt, λ s. ltb-true (reach c b) 10 (same ∙ s))
 
 pub reach_valid : (c : CheckCase) (v r : List ℕ) (n : ℕ) → (length v ≡ n) × Each1 (Fits w8) v → r ≡ map (reach c) v → AreLow r ↔ AllValid c v 0 n
 reach_valid c = valid_where reach (λ x. x < 10) c (reach_is_low c)
 
--- the excess is 0 there
-excess_zeros : (c : CheckCase) → agree_below (λ b. eqb (excess c b) 0) (has c) 256 ≡ true
-excess_zeros policy.None = refl
-excess_zeros policy.Lower = refl
-excess_zeros policy.Upper = refl
-
 excess_zero : (c : CheckCase) (b : ℕ) → b < 256 → eqb (excess c b) 0 ≡ has c b
-excess_zero c b h = agree_below_at (λ x. eqb (excess c x) 0) (has c) 256 b (excess_zeros c) h
+excess_zero c b h = (maps_are_right c b h).1
 
 pub excess_valid : (c : CheckCase) (v r : List ℕ) (n : ℕ) → (length v ≡ n) × Each1 (Fits w8) v → r ≡ map (excess c) v → AreZero r ↔ AllValid c v 0 n
 excess_valid c = valid_where excess (λ x. x ≡ 0) c (λ b h. (λ z. sym (excess_zero c b h) ∙ rw z refl, λ s. eqb-true _ _ (excess_zero c b h ∙ s)))
@@ -93,46 +134,15 @@ full_16 c v m long small admits = (
 
 -- ---- the saturating map
 
--- a byte's value, or at least 16: for a byte that is no digit (no letter) the first (second) number is large
-abbrev pub saturated : CheckCase → ℕ → ℕ
-saturated c b = min (wrapping_sub (wrapping_sub b 58 - 6) 240) (saturating_add (letter c b) 10)
-
-abbrev pub nibble_test : Option ℕ → ℕ → Bool
-nibble_test (Some v) n = eqb n v
-nibble_test None n = leb 16 n
-
-pub nibble_by : (o : Option ℕ) (n : ℕ) → nibble_test o n ≡ true → IsNibble o n
-nibble_by (Some v) n e = eqb-true n v e
-nibble_by None n e = leb-true 16 n e
-
-saturates : (c : CheckCase) → agree_below (λ b. nibble_test (value c b) (saturated c b)) always 256 ≡ true
-saturates policy.None = refl
-saturates policy.Lower = refl
-saturates policy.Upper = refl
-
 pub saturated_nibbles : (c : CheckCase) (v r : List ℕ) → Each1 (Fits w8) v → r ≡ map (saturated c) v → AreNibbles c v r
 saturated_nibbles c v r fits is i h =
     let b = get_or v i 0 in
-    let right = nibble_by (value c b) (saturated c b) (agree_below_at (λ x. nibble_test (value c x) (saturated c x)) always 256 b (saturates c) (lane_below v fits i)) in
-    rw (mapped_at (saturated c) v i is h) right
+    rw (mapped_at (saturated c) v i is h) (nibble_by (value c b) (saturated c b) (maps_are_right c b (lane_below v fits i)).2)
 
 -- ---- the value of a byte that has one
 
-abbrev valid_test : Option ℕ → ℕ → Bool
-valid_test (Some v) n = eqb n v && ltb n 16
-valid_test None n = true
-
-valid_by : (o : Option ℕ) (n : ℕ) → IsSome o → valid_test o n ≡ true → (o ≡ Some n) × (n < 16)
-valid_by (Some v) n s e = let p = and_parts (eqb n v) (ltb n 16) e in (ap Some (sym (eqb-true n v p.0)), ltb-true n 16 p.1)
-valid_by None n s e = cc
-
-valid_everywhere : (c : CheckCase) → agree_below (λ b. valid_test (value c b) (valid_nibble b)) always 256 ≡ true
-valid_everywhere policy.None = refl
-valid_everywhere policy.Lower = refl
-valid_everywhere policy.Upper = refl
-
 pub valid_value : (c : CheckCase) (b : ℕ) → b < 256 → IsSome (value c b) → (value c b ≡ Some (valid_nibble b)) × (valid_nibble b < 16)
-valid_value c b h s = valid_by (value c b) (valid_nibble b) s (agree_below_at (λ x. valid_test (value c x) (valid_nibble x)) always 256 b (valid_everywhere c) h)
+valid_value c b h s = valid_by (value c b) (valid_nibble b) s (maps_are_right c b h).3
 
 pub value_small : (c : CheckCase) (b v : ℕ) → value c b ≡ Some v → v < 16
 value_small policy.None b v h = grind (arith, nat_tests)

@@ -1,5 +1,5 @@
 -- The hash map at each byte beside each neighbour.
-use Rattle.std.proofs.Common.{◌≡◌, ℕ, ◌-◌, ◌<◌, ◌↔◌, Bool, true, false, ◌&&◌, eqb, ltb, List, [], ◌∷◌, map, length, get_or, bit_and, bit_or, bit_xor, Option, Some, None, refl, sym, ap, ap₂, ◌∙◌, eqb-true, ltb-true, lt-ltb, arith}
+use Rattle.std.proofs.Common.{◌≡◌, ℕ, ◌-◌, ◌<◌, ◌↔◌, Bool, true, ◌&&◌, eqb, ltb, List, [], ◌∷◌, map, length, get_or, bit_and, bit_or, bit_xor, Option, Some, None, refl, sym, ap, ap₂, ◌∙◌, eqb-true, ltb-true, lt-ltb, arith}
 use Rattle.std.specs.Prelude.{EachIndex, IfSome, IsSome}
 use Rattle.std.proofs.lemmas.Bool.{agree_below, agree_below_at, and_parts}
 use Rattle.std.proofs.lemmas.Bool.Decides.{nat_tests}
@@ -11,7 +11,7 @@ use Rattle.hex_core.specs.Digit.{value}
 use Rattle.hex_core.specs.Hash.{Hashed, check_row, hash, hashed_check, hashed_value, neighbour_bits}
 use Rattle.hex_core.specs.Lanes.{AreChecked, AreValues, IsNibble}
 use Rattle.hex_core.specs.Lookup.{entry}
-use Rattle.hex_core.proofs.ByteLemmas.{always, has, nibble_by, nibble_test}
+use Rattle.hex_core.proofs.ByteLemmas.{always, has, nibble_by, nibble_test, same_tests}
 use Rattle.hex_core.proofs.LaneLemmas.{zipped_at}
 
 -- ---- one byte
@@ -41,12 +41,6 @@ all_right policy.Upper = refl
 
 is_right : (c : CheckCase) (b k : ℕ) → b < 256 → k < 8 → right c b k ≡ true
 is_right c b k B K = agree_below_at (right c b) always 8 k (agree_below_at (λ x. agree_below (right c x) always 8) always 256 b (all_right c) B) K
-
-same_tests : (s t : Bool) → beq s t ≡ true → s ≡ t
-same_tests true true e = refl
-same_tests true false e = cc
-same_tests false true e = cc
-same_tests false false e = refl
 
 pub check_is_right : (c : CheckCase) (b slot r : ℕ) → b < 256 → Hashed b slot → r ≡ hashed_check c b slot → (r < 128) ↔ IsSome (value c b)
 check_is_right c b slot r B s e =

@@ -16,16 +16,11 @@ use Rattle.hex_core.specs.Text.{Spells, lowercase, text}
 use Rattle.hex_core.specs.Search.{first_invalid}
 use Rattle.hex_core.specs.Refusal.{source_refusal}
 use Rattle.hex_core.specs.Laws.{AreBytes}
+use Rattle.hex_core.proofs.ByteLemmas.{value_small}
 use Rattle.hex_core.proofs.PositionLemmas.{position_none}
 use Rattle.hex_core.proofs.SearchLemmas.{has_value, lacks}
 use Rattle.hex_core.proofs.TableLemmas.{value_at}
 use Rattle.hex_core.proofs.TextLemmas.{digits-at, length-text}
-
--- a value is below 16
-value-below : (c : CheckCase) (b n : ℕ) → value c b ≡ Some n → n < 16
-value-below policy.None b n h = grind (arith, nat_tests)
-value-below policy.Lower b n h = grind (arith, nat_tests)
-value-below policy.Upper b n h = grind (arith, nat_tests)
 
 -- a digit is read as its number, under the policy of its case and under either
 value-digit : (upper : Bool) (n : ℕ) → n < 16 → value (strict upper) (digit upper n) ≡ Some n
@@ -48,7 +43,7 @@ value-lowercased b = grind (arith, nat_tests)
 -- a byte is what its quotient and remainder make
 pub spells-bytes : (c : CheckCase) (s bytes : List ℕ) → Spells c s bytes → AreBytes bytes
 spells-bytes c s bytes h = All-from_get_or (λ b. b < 256) bytes 0 (λ i lt.
-    let small : get_or bytes i 0 / 16 < 16 = value-below c (get_or s (2 * i) 0) (get_or bytes i 0 / 16) (h.each i lt).high in omega arith)
+    let small : get_or bytes i 0 / 16 < 16 = value_small c (get_or s (2 * i) 0) (get_or bytes i 0 / 16) (h.each i lt).high in omega arith)
 
 -- the list that the pairs of digits of a source make
 pairs : CheckCase → List ℕ → ℕ → ℕ
