@@ -1,2 +1,3 @@
+mod PartsLemmas
 mod PutLemmas
 mod UpdateLemmas

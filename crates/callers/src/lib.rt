@@ -25,6 +25,7 @@ pub mod dumps;
 pub mod identifier;
 pub mod json;
 pub mod judged;
+pub mod parts;
 pub mod probes;
 pub mod streams;
 pub mod texts;
