@@ -13,7 +13,8 @@ use Rattle.hex_codec.specs.Unseparate.{IsWhole, UnseparatesFront}
 use Rattle.hex_codec.proofs.GroupLemmas.{no_pieces, pieces-append, pieces-next}
 
 -- what each part makes, of whole parts and those behind them
-pub joined : (f : List ℕ → List ℕ) (every : ℕ) (front back : List ℕ) → IsWhole every (length front) → flat_map f (parts every (front ++ back)) ≡ flat_map f (parts every front) ++ flat_map f (parts every back)
+pub joined : (f : List ℕ → List ℕ) (every : ℕ) (front back : List ℕ) → IsWhole every (length front)
+    → flat_map f (parts every (front ++ back)) ≡ flat_map f (parts every front) ++ flat_map f (parts every back)
 joined f every front back whole =
     ap (flat_map f) (pieces-append (2 * every + 1) whole.count front back (omega arith) whole.lines) ∙ flat_map-append f (parts every front) (parts every back)
 
@@ -42,14 +43,16 @@ unparted every [] fits = let none = no_pieces (2 * every + 1) in (rw none refl, 
 unparted every (b ∷ s) fits =
     let all = b ∷ s in
     let one = one_part every all (omega arith) (omega arith) in
-    (ap (flat_map (take (2 * every))) one ∙ append-nil (take (2 * every) all) ∙ take_all (2 * every) all fits, ap (flat_map (drop (2 * every))) one ∙ append-nil (drop (2 * every) all) ∙ drop_all (2 * every) all fits)
+    (ap (flat_map (take (2 * every))) one ∙ append-nil (take (2 * every) all) ∙ take_all (2 * every) all fits, ap (flat_map (drop (2 * every))) one
+    ∙ append-nil (drop (2 * every) all) ∙ drop_all (2 * every) all fits)
 
 -- whole parts, and those behind them
 pub whole-more : (every len step : ℕ) → IsWhole every len → IsWhole every step → IsWhole every (len + step)
 whole-more every len step a b = record { count = a.count + b.count; lines = grind (arith, a.lines, b.lines) }
 
 -- the digits of the next parts are copied behind those before them
-pub unseparates-more : (group : Group) (text new new' : List ℕ) (front : Front) (step more : ℕ) → UnseparatesFront group text new front → front.len + step ≤ length text → front.digits + more ≤ length new' → IsWhole (piece_len group) step
+pub unseparates-more : (group : Group) (text new new' : List ℕ) (front : Front) (step more : ℕ) → UnseparatesFront group text new front
+    → front.len + step ≤ length text → front.digits + more ≤ length new' → IsWhole (piece_len group) step
     → All (λ b. b ≡ separator group) (separators_in (piece_len group) (take step (drop front.len text)))
     → take (front.digits + more) new' ≡ take front.digits new ++ digits_in (piece_len group) (take step (drop front.len text))
     → UnseparatesFront group text new' (record { len = front.len + step; digits = front.digits + more })
@@ -64,7 +67,8 @@ unseparates-more group text new new' front step more before inside room whole se
       inside = inside;
       room = room;
       whole = whole-more every front.len step before.whole whole;
-      separated = rw (all, joined (drop (2 * every)) every done next lines) (All-append (λ b. b ≡ separator group) (separators_in every done) (separators_in every next) before.separated separated);
+      separated = rw (all, joined (drop (2 * every)) every done next lines) (All-append (λ b. b ≡ separator group) (separators_in every done)
+          (separators_in every next) before.separated separated);
       copied = copied ∙ rw (before.copied, all) (sym (joined (take (2 * every)) every done next lines));
     }
 
@@ -73,13 +77,16 @@ pub part-digits : (every : ℕ) (s : List ℕ) → 2 * every < length s → digi
 part-digits every s long =
     let part = take (2 * every + 1) s in
     let size : length part ≡ 2 * every + 1 = length-take-le (2 * every + 1) s (omega arith) in
-    ap (flat_map (take (2 * every))) (one_part every part (omega arith) (omega arith)) ∙ append-nil (take (2 * every) part) ∙ take-take (2 * every) (2 * every + 1) s (omega arith)
+    ap (flat_map (take (2 * every))) (one_part every part (omega arith) (omega arith)) ∙ append-nil (take (2 * every) part)
+    ∙ take-take (2 * every) (2 * every + 1) s (omega arith)
 
-pub part-separator : (every sep : ℕ) (s : List ℕ) → 2 * every < length s → get_or s (2 * every) 0 ≡ sep → All (λ b. b ≡ sep) (separators_in every (take (2 * every + 1) s))
+pub part-separator : (every sep : ℕ) (s : List ℕ) → 2 * every < length s → get_or s (2 * every) 0 ≡ sep
+    → All (λ b. b ≡ sep) (separators_in every (take (2 * every + 1) s))
 part-separator every sep s long here =
     let part = take (2 * every + 1) s in
     let size : length part ≡ 2 * every + 1 = length-take-le (2 * every + 1) s (omega arith) in
-    let one : separators_in every part ≡ drop (2 * every) part = ap (flat_map (drop (2 * every))) (one_part every part (omega arith) (omega arith)) ∙ append-nil (drop (2 * every) part) in
+    let one : separators_in every part ≡ drop (2 * every) part = ap (flat_map (drop (2 * every))) (one_part every part (omega arith) (omega arith))
+    ∙ append-nil (drop (2 * every) part) in
     rw one (All-from_get_or (λ b. b ≡ sep) (drop (2 * every) part) 0 (λ i lt.
     let first : 2 * every + i ≡ 2 * every = omega (arith, lt, length-drop (2 * every) part, size) in
     get_or-drop (2 * every) part i 0 ∙ rw first (get_or-take (2 * every + 1) s (2 * every) 0 (omega arith) ∙ here)))

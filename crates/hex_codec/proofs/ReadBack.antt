@@ -45,7 +45,8 @@ back-last group upper bytes some fits =
     record { digits = rw is whole.0; separated = rw (is, whole.1) (All-nil _) }
 
 -- a piece, its separator, and what is behind them
-back-more : (group : Group) (upper : Bool) (bytes : List ℕ) → piece_len group < length bytes → Back group upper (drop (piece_len group) bytes) → Back group upper bytes
+back-more : (group : Group) (upper : Bool) (bytes : List ℕ) → piece_len group < length bytes → Back group upper (drop (piece_len group) bytes)
+    → Back group upper bytes
 back-more group upper bytes long rest =
     let every = piece_len group in
     let sep = separator group in
@@ -53,15 +54,18 @@ back-more group upper bytes long rest =
     let behind = grouped group upper (drop every bytes) in
     let size : length first ≡ 2 * every = length-text upper (take every bytes) ∙ ap (λ n. 2 * n) (length-take-le every bytes (omega arith)) in
     let all = first ++ (sep ∷ behind) in
-    let is : grouped group upper bytes ≡ all = grouped-next group upper bytes (omega arith) ∙ ap (λ l. first ++ l) (separated-cons group upper (drop every bytes) (omega (arith, length-drop every bytes))) in
+    let is : grouped group upper bytes ≡ all = grouped-next group upper bytes (omega arith)
+    ∙ ap (λ l. first ++ l) (separated-cons group upper (drop every bytes) (omega (arith, length-drop every bytes))) in
     let part = parted every all (omega (arith, length-append first (sep ∷ behind))) in
     let digits : take (2 * every) all ≡ first = rw (← size) (take-append_seam first (sep ∷ behind)) in
     let line : drop (2 * every) all ≡ sep ∷ behind = rw (← size) (drop-append_seam first (sep ∷ behind)) in
     let separators : drop (2 * every) (take (2 * every + 1) all) ≡ sep ∷ [] = drop-take (2 * every) 1 all ∙ ap (take 1) line in
     let left : drop (2 * every + 1) all ≡ behind = sym (drop-drop 1 (2 * every) all) ∙ ap (drop 1) line in
-    let both : separators_in every all ≡ (sep ∷ []) ++ separators_in every behind = part.separators ∙ ap (λ l. l ++ separators_in every (drop (2 * every + 1) all)) separators ∙ ap (λ l. (sep ∷ []) ++ separators_in every l) left in
+    let both : separators_in every all ≡ (sep ∷ []) ++ separators_in every behind = part.separators
+    ∙ ap (λ l. l ++ separators_in every (drop (2 * every + 1) all)) separators ∙ ap (λ l. (sep ∷ []) ++ separators_in every l) left in
     record {
-      digits = rw is (part.digits ∙ rw (digits, left, rest.digits) (sym (text-append upper (take every bytes) (drop every bytes)) ∙ ap (text upper) (take-append-drop every bytes)));
+      digits = rw is (part.digits ∙ rw (digits, left, rest.digits) (sym (text-append upper (take every bytes) (drop every bytes))
+          ∙ ap (text upper) (take-append-drop every bytes)));
       separated = rw (is, both) (All-append (λ b. b ≡ sep) (sep ∷ []) (separators_in every behind) (only sep) rest.separated);
     }
   where
@@ -76,13 +80,15 @@ back group upper fuel [] fits =
     record { digits = rw (none, empty) refl; separated = rw (none, empty) (λ k d lt. absurd (omega arith)) }
 back group upper zero (b ∷ bytes) fits = absurd (omega arith)
 back group upper (suc fuel) (b ∷ bytes) fits =
-    from_cases (back group upper fuel (drop (piece_len group) (b ∷ bytes)) (omega (arith, length-drop (piece_len group) (b ∷ bytes), group.is_group.0))) (cases_lt (piece_len group) (length (b ∷ bytes)))
+    from_cases (back group upper fuel (drop (piece_len group) (b ∷ bytes)) (omega (arith, length-drop (piece_len group)
+    (b ∷ bytes), group.is_group.0))) (cases_lt (piece_len group) (length (b ∷ bytes)))
   where
     from_cases : Back group upper (drop (piece_len group) (b ∷ bytes)) → (piece_len group < length (b ∷ bytes)) ⊎ (length (b ∷ bytes) ≤ piece_len group) → Back group upper (b ∷ bytes)
     from_cases rest (inl long) = back-more group upper (b ∷ bytes) long rest
     from_cases rest (inr short) = back-last group upper (b ∷ bytes) (omega arith) short
 
-pub read-back : (c : CheckCase) (group : Group) (upper : Bool) (bytes : List ℕ) → Spells c (text upper bytes) bytes → GroupSpells c group (grouped group upper bytes) bytes
+pub read-back : (c : CheckCase) (group : Group) (upper : Bool) (bytes : List ℕ) → Spells c (text upper bytes) bytes
+    → GroupSpells c group (grouped group upper bytes) bytes
 read-back c group upper bytes spelled =
     let b = back group upper (length bytes) bytes (omega arith) in
     record { long = length-grouped group upper bytes; separated = b.separated; spelled = rw b.digits spelled }
@@ -93,7 +99,8 @@ has-count : (count : Option ℕ) (f : Option GroupFault) (room : ℕ) → refusa
 has-count None f room h = cc
 has-count (Some n) f room h = (n, refl)
 
-pub read-spells : (c : CheckCase) (group : Group) (s : List ℕ) (room : ℕ) → (source_refusal c (digits_in (piece_len group) s) ≡ None → (bytes : List ℕ) × Spells c (digits_in (piece_len group) s) bytes)
+pub read-spells : (c : CheckCase) (group : Group) (s : List ℕ) (room : ℕ) → (source_refusal c (digits_in (piece_len group) s) ≡ None
+    → (bytes : List ℕ) × Spells c (digits_in (piece_len group) s) bytes)
     → group_refusal c group s room ≡ None → (bytes : List ℕ) × GroupSpells c group s bytes × (length bytes ≤ room)
 read-spells c group s room some h =
     let n = has-count (byte_count (piece_len group) (length s)) _ room h in
@@ -105,7 +112,8 @@ read-spells c group s room some h =
     let spells = group-spells c group s w.0 room n.0 is w.1 in
     (w.0, spells.0, omega (arith, spells.1, is.fits))
 
-pub spells-read : (c : CheckCase) (group : Group) (s bytes : List ℕ) (room : ℕ) → GroupSpells c group s bytes → length bytes ≤ room → source_refusal c (digits_in (piece_len group) s) ≡ None → group_refusal c group s room ≡ None
+pub spells-read : (c : CheckCase) (group : Group) (s bytes : List ℕ) (room : ℕ) → GroupSpells c group s bytes → length bytes ≤ room
+    → source_refusal c (digits_in (piece_len group) s) ≡ None → group_refusal c group s room ≡ None
 spells-read c group s bytes room h fits accepts =
     let count = count-is (piece_len group) (length s) (length bytes) group.is_group.0 (sym h.long) in
     let even : length (digits_in (piece_len group) s) % 2 ≡ 0 = omega (arith, h.spelled.twice) in

@@ -31,11 +31,14 @@ spells-joined c a b x y h k = record {
   where
     each : (i : ℕ) → i < length x + length y → (i < length x) ⊎ (length x ≤ i) → SpellsAt c (a ++ b) (x ++ y) i
     each i lt (inl l) =
-        spelled_along c a (a ++ b) x (x ++ y) i i (get_or_append_left a b 0 (2 * i) (omega (arith, h.twice))) (get_or_append_left a b 0 (2 * i + 1) (omega (arith, h.twice))) (get_or_append_left x y 0 i l) (h.each i l)
+        spelled_along c a (a ++ b) x (x ++ y) i i (get_or_append_left a b 0 (2 * i) (omega (arith, h.twice)))
+        (get_or_append_left a b 0 (2 * i + 1) (omega (arith, h.twice))) (get_or_append_left x y 0 i l) (h.each i l)
     each i lt (inr r) =
         let j = i - length x in
-        let digit : (m n : ℕ) → length a + m ≡ n → get_or (a ++ b) n 0 ≡ get_or b m 0 = λ m n e. get_or-append_right a b (length a) n 0 refl (omega arith) ∙ ap (λ p. get_or b p 0) (omega arith) in
-        spelled_along c b (a ++ b) y (x ++ y) j i (digit (2 * j) (2 * i) (omega (arith, h.twice))) (digit (2 * j + 1) (2 * i + 1) (omega (arith, h.twice))) (get_or-append_right x y (length x) i 0 refl r) (k.each j (omega arith))
+        let digit : (m n : ℕ) → length a + m ≡ n → get_or (a ++ b) n 0 ≡ get_or b m 0 = λ m n e. get_or-append_right a b (length a) n 0 refl
+        (omega arith) ∙ ap (λ p. get_or b p 0) (omega arith) in
+        spelled_along c b (a ++ b) y (x ++ y) j i (digit (2 * j) (2 * i) (omega (arith, h.twice)))
+        (digit (2 * j + 1) (2 * i + 1) (omega (arith, h.twice))) (get_or-append_right x y (length x) i 0 refl r) (k.each j (omega arith))
 
 -- decoding valid digits leaves what they spell
 pub decoded : (c : CheckCase) (s old new : List ℕ) (done : Bool) → first_invalid c s ≡ None → DecodesWhole c s old new done → Spells c s new
@@ -49,12 +52,15 @@ pub writes-none : (c : CheckCase) (group : Group) (s dst : List ℕ) → WritesF
 writes-none c group s dst = record { before = []; digits = refl; count = refl; spelled = record { twice = refl; each = λ i lt. absurd (omega arith) } }
 
 -- so many digits are left
-pub left : (c : CheckCase) (group : Group) (s dst : List ℕ) (at done all : ℕ) → WritesFront c group s dst at done → length (digits_in (piece_len group) s) ≡ 2 * all
+pub left : (c : CheckCase) (group : Group) (s dst : List ℕ) (at done all : ℕ) → WritesFront c group s dst at done
+    → length (digits_in (piece_len group) s) ≡ 2 * all
     → length (digits_in (piece_len group) (drop at s)) ≡ 2 * (all - done)
-left c group s dst at done all so_far twice = omega (arith, ap length so_far.digits ∙ length-append so_far.before (digits_in (piece_len group) (drop at s)), so_far.count, twice)
+left c group s dst at done all so_far twice = omega (arith, ap length so_far.digits ∙ length-append so_far.before
+    (digits_in (piece_len group) (drop at s)), so_far.count, twice)
 
 -- the next digits are valid, and there is room for their bytes
-pub ahead : (c : CheckCase) (group : Group) (s dst next rest : List ℕ) (at done all : ℕ) → WritesFront c group s dst at done → digits_in (piece_len group) (drop at s) ≡ next ++ rest → ValidDigits c group s all
+pub ahead : (c : CheckCase) (group : Group) (s dst next rest : List ℕ) (at done all : ℕ) → WritesFront c group s dst at done
+    → digits_in (piece_len group) (drop at s) ≡ next ++ rest → ValidDigits c group s all
     → (first_invalid c next ≡ None) × (2 * done + length next ≤ 2 * all)
 ahead c group s dst next rest at done all so_far cut (twice, valid) =
     let behind = digits_in (piece_len group) (drop at s) in
@@ -63,20 +69,24 @@ ahead c group s dst next rest at done all so_far cut (twice, valid) =
     (((none_joined (lacks c) next rest).0 (rw cut at none)).0, omega (arith, lengths, ap length cut ∙ length-append next rest, so_far.count, twice))
 
 -- their bytes are written behind those before them
-pub writes-more : (c : CheckCase) (group : Group) (s old next part : List ℕ) (at done more k : ℕ) → WritesFront c group s old at done → digits_in (piece_len group) (drop at s) ≡ next ++ digits_in (piece_len group) (drop more (drop at s))
+pub writes-more : (c : CheckCase) (group : Group) (s old next part : List ℕ) (at done more k : ℕ) → WritesFront c group s old at done
+    → digits_in (piece_len group) (drop at s) ≡ next ++ digits_in (piece_len group) (drop more (drop at s))
     → done ≤ length old → Spells c next part → WritesFront c group s (put_mid done k old part) (at + more) (done + length part)
 writes-more c group s old next part at done more k so_far cut inside spelled =
     let rest = digits_in (piece_len group) (drop more (drop at s)) in
     let front = so_far.before ++ next in
     record {
       before = front;
-      digits = so_far.digits ∙ ap (λ l. so_far.before ++ l) cut ∙ sym (append_assoc so_far.before next rest) ∙ ap (λ l. front ++ digits_in (piece_len group) l) (drop-drop more at s);
+      digits = so_far.digits ∙ ap (λ l. so_far.before ++ l) cut ∙ sym (append_assoc so_far.before next rest)
+          ∙ ap (λ l. front ++ digits_in (piece_len group) l) (drop-drop more at s);
       count = length-append so_far.before next ∙ omega (arith, so_far.count, spelled.twice);
-      spelled = rw (take-put_mid done k old part (done + length part) refl inside) (spells-joined c so_far.before next (take done old) part so_far.spelled spelled);
+      spelled = rw (take-put_mid done k old part (done + length part) refl inside) (spells-joined c so_far.before next
+          (take done old) part so_far.spelled spelled);
     }
 
 -- and at last those of all
-pub writes-all : (c : CheckCase) (group : Group) (s dst : List ℕ) (at done : ℕ) → WritesFront c group s dst at done → length dst ≤ done → length (digits_in (piece_len group) s) ≡ 2 * length dst → Spells c (digits_in (piece_len group) s) dst
+pub writes-all : (c : CheckCase) (group : Group) (s dst : List ℕ) (at done : ℕ) → WritesFront c group s dst at done → length dst ≤ done
+    → length (digits_in (piece_len group) s) ≡ 2 * length dst → Spells c (digits_in (piece_len group) s) dst
 writes-all c group s dst at done so_far end twice =
     let rest = digits_in (piece_len group) (drop at s) in
     let none : rest ≡ [] = drop_all 0 rest (omega (arith, left c group s dst at done (length dst) so_far twice)) in
@@ -95,7 +105,8 @@ pub record Copied (c : CheckCase) (group : Group) (s new : List ℕ) (at done al
   pub even : front.digits % 2 ≡ 0
   pub room : 2 * done + front.digits ≤ 2 * all
 
-pub copied : (c : CheckCase) (group : Group) (s dst new : List ℕ) (at done all : ℕ) (front : Front) → WritesFront c group s dst at done → at ≤ length s → UnseparatesFront group (take (length s - at) (drop at s)) new front
+pub copied : (c : CheckCase) (group : Group) (s dst new : List ℕ) (at done all : ℕ) (front : Front) → WritesFront c group s dst at done
+    → at ≤ length s → UnseparatesFront group (take (length s - at) (drop at s)) new front
     → ValidDigits c group s all → Copied c group s new at done all front
 copied c group s dst new at done all front so_far reached bare digits =
     let every = piece_len group in
@@ -103,7 +114,8 @@ copied c group s dst new at done all front so_far reached bare digits =
     let behind : UnseparatesFront group rest new front = rw (take_rest s at) at bare in
     let long : length (take front.len rest) ≡ front.len = length-take-le front.len rest behind.inside in
     let whole : IsWhole every (length (take front.len rest)) = rw long behind.whole in
-    let cut = ap (digits_in every) (sym (take-append-drop front.len rest)) ∙ joined (take (2 * every)) every (take front.len rest) (drop front.len rest) whole ∙ ap (λ l. l ++ digits_in every (drop front.len rest)) (sym behind.copied) in
+    let cut = ap (digits_in every) (sym (take-append-drop front.len rest)) ∙ joined (take (2 * every)) every (take front.len rest)
+    (drop front.len rest) whole ∙ ap (λ l. l ++ digits_in every (drop front.len rest)) (sym behind.copied) in
     let size = length-take-le front.digits new behind.room in
     let known = ahead c group s dst (take front.digits new) (digits_in every (drop front.len rest)) at done all so_far cut digits in
     record {
@@ -138,7 +150,8 @@ next every n s pos some size = from_cases (cases_lt (2 * every) (length s))
         let whole : length s ≡ 2 * n = sym (ap length one) ∙ size in
         let count : min every n ≡ n = omega (arith, whole, short) in
         let rest : drop (2 * n + 1) s ≡ [] = drop_all (2 * n + 1) s (omega arith) in
-        record { inside = omega (arith, count, whole); digits = rw count (one ∙ sym (rw (rest, (unparted every [] (omega arith)).0) (append-nil (take (2 * n) s) ∙ take_all (2 * n) s (omega arith)))) }
+        record { inside = omega (arith, count, whole); digits = rw count (one ∙ sym (rw (rest, (unparted every [] (omega arith)).0)
+        (append-nil (take (2 * n) s) ∙ take_all (2 * n) s (omega arith)))) }
 
 -- the digits of the next part, behind those that were decoded
 pub record Part (c : CheckCase) (group : Group) (s : List ℕ) (at count : ℕ) : Type 0 where
@@ -147,7 +160,8 @@ pub record Part (c : CheckCase) (group : Group) (s : List ℕ) (at count : ℕ) 
   pub size : length (take (2 * count) (drop at s)) ≡ 2 * count
   pub cut : digits_in (piece_len group) (drop at s) ≡ take (2 * count) (drop at s) ++ digits_in (piece_len group) (drop (2 * count + 1) (drop at s))
 
-pub part : (c : CheckCase) (group : Group) (s dst : List ℕ) (at done all count : ℕ) → WritesFront c group s dst at done → done < all → min (piece_len group) (all - done) ≡ count → ValidDigits c group s all → Part c group s at count
+pub part : (c : CheckCase) (group : Group) (s dst : List ℕ) (at done all count : ℕ) → WritesFront c group s dst at done → done < all
+    → min (piece_len group) (all - done) ≡ count → ValidDigits c group s all → Part c group s at count
 part c group s dst at done all count so_far some is digits =
     let every = piece_len group in
     let rest = drop at s in

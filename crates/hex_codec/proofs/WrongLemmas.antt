@@ -35,7 +35,8 @@ at-separator c group s =
     rw (eq-eqb (n % (n + 1)) n (mod-eq_of_lt {n = n} {m = n + 1} (omega arith))) refl
 
 -- behind whole parts a byte is wrong where it is in the rest
-wrong-behind : (c : CheckCase) (group : Group) (s : List ℕ) (at k : ℕ) → IsWhole (piece_len group) at → is_wrong c group (drop at s) k ≡ is_wrong c group s (at + k)
+wrong-behind : (c : CheckCase) (group : Group) (s : List ℕ) (at k : ℕ) → IsWhole (piece_len group) at
+    → is_wrong c group (drop at s) k ≡ is_wrong c group s (at + k)
 wrong-behind c group s at k whole =
     let line = 2 * piece_len group + 1 in
     let place : (at + k) % line ≡ k % line = ap (λ n. (n + k) % line) whole.lines ∙ mul-add-mod_self_right whole.count line k in
@@ -77,7 +78,8 @@ first-right c group s clear =
     )
 
 right-first : (c : CheckCase) (group : Group) (s : List ℕ) (k : ℕ) → first_invalid c (take (2 * piece_len group) s) ≡ None
-    → All (λ b. b ≡ separator group) (drop (2 * piece_len group) (take (2 * piece_len group + 1) s)) → k < length s → k < 2 * piece_len group + 1 → is_wrong c group s k ≡ false
+    → All (λ b. b ≡ separator group) (drop (2 * piece_len group) (take (2 * piece_len group + 1) s)) → k < length s → k < 2 * piece_len group + 1
+    → is_wrong c group s k ≡ false
 right-first c group s k valid all inside lt =
     let n = 2 * piece_len group in
     let part = take (n + 1) s in
@@ -101,10 +103,12 @@ clear-right c group (suc fuel) (b ∷ s) fits clear =
     let part = parted every all (omega arith) in
     let first = first-right c group all clear in
     let left = length-drop line all in
-    let rest = clear-right c group fuel (drop line all) (omega (arith, left)) (λ k lt. wrong-behind c group all line k (one every) ∙ clear (line + k) (omega (arith, lt, left))) in
+    let rest = clear-right c group fuel (drop line all) (omega (arith, left)) (λ k lt. wrong-behind c group all line k (one every)
+    ∙ clear (line + k) (omega (arith, lt, left))) in
     record {
       valid = rw part.digits ((none_joined (lacks c) (take (2 * every) all) (digits_in every (drop line all))).1 (first.0, rest.valid));
-      separated = rw part.separators (All-append (λ b. b ≡ separator group) (drop (2 * every) (take line all)) (separators_in every (drop line all)) first.1 rest.separated);
+      separated = rw part.separators (All-append (λ b. b ≡ separator group) (drop (2 * every) (take line all))
+          (separators_in every (drop line all)) first.1 rest.separated);
     }
 
 pub right-clear : (c : CheckCase) (group : Group) (fuel : ℕ) (s : List ℕ) → length s ≤ fuel → Right c group s → Clear c group s
@@ -121,13 +125,16 @@ right-clear c group (suc fuel) (b ∷ s) fits right k lt =
     let valid = (none_joined (lacks c) (take (2 * every) all) (digits_in every (drop line all))).0 (rw part.digits at right.valid) in
     let separated : All (λ b. b ≡ separator group) (front ++ behind) = rw part.separators at right.separated in
     let size = length-append front behind in
-    let first = All-from_get_or (λ b. b ≡ separator group) front 0 (λ i h. rw (get_or_append_left front behind 0 i h) at (All-get_or (λ b. b ≡ separator group) (front ++ behind) i 0 (omega (arith, h, size)) separated)) in
-    let second = All-from_get_or (λ b. b ≡ separator group) behind 0 (λ i h. rw (get_or-append-add front behind i 0) at (All-get_or (λ b. b ≡ separator group) (front ++ behind) (length front + i) 0 (omega (arith, h, size)) separated)) in
+    let first = All-from_get_or (λ b. b ≡ separator group) front 0 (λ i h. rw (get_or_append_left front behind 0 i h) at (All-get_or
+    (λ b. b ≡ separator group) (front ++ behind) i 0 (omega (arith, h, size)) separated)) in
+    let second = All-from_get_or (λ b. b ≡ separator group) behind 0 (λ i h. rw (get_or-append-add front behind i 0) at (All-get_or
+    (λ b. b ≡ separator group) (front ++ behind) (length front + i) 0 (omega (arith, h, size)) separated)) in
     elim (cases_lt k line) [
       | inl low ↦ right-first c group all k valid.0 first lt low
       | inr high ↦
           let place : line + (k - line) ≡ k = omega arith in
-          rw place at (sym (wrong-behind c group all line (k - line) (one every)) ∙ right-clear c group fuel (drop line all) (omega (arith, left)) (record { valid = valid.1; separated = second }) (k - line) (omega (arith, left)))
+          rw place at (sym (wrong-behind c group all line (k - line) (one every)) ∙ right-clear c group fuel (drop line all) (omega (arith, left))
+          (record { valid = valid.1; separated = second }) (k - line) (omega (arith, left)))
     ]
 
 -- ---- the first wrong byte
@@ -151,27 +158,33 @@ whole-clear c group s len inside whole right =
     let all : length s ≡ len + length (drop len s) = omega (arith, length-drop len s) in
     let clear = right-clear c group len (take len s) (omega (arith, size)) right in
     ap (λ n. position (is_wrong c group s) (range_with_len 0 n)) all
-    ∙ least_behind (is_wrong c group s) (is_wrong c group (drop len s)) len (length (drop len s)) (λ k lt. sym (wrong-taken c group s len k lt) ∙ clear k (omega (arith, lt, size))) (λ k. wrong-behind c group s len k whole)
+    ∙ least_behind (is_wrong c group s) (is_wrong c group (drop len s)) len (length (drop len s))
+    (λ k lt. sym (wrong-taken c group s len k lt) ∙ clear k (omega (arith, lt, size))) (λ k. wrong-behind c group s len k whole)
 
 -- ---- one part
 
 -- an invalid digit of the first part
-pub digit-wrong : (c : CheckCase) (group : Group) (s : List ℕ) (i : ℕ) → first_invalid c (take (2 * piece_len group) s) ≡ Some i → first_wrong c group s ≡ Some i
+pub digit-wrong : (c : CheckCase) (group : Group) (s : List ℕ) (i : ℕ) → first_invalid c (take (2 * piece_len group) s) ≡ Some i
+    → first_wrong c group s ≡ Some i
 digit-wrong c group s i first =
     let n = 2 * piece_len group in
     let told = position-Some (lacks c) (take n s) i 0 first in
     let low : i < n = omega (arith, told.0, length-take n s) in
-    let digit : (k : ℕ) → k ≤ i → is_wrong c group s k ≡ lacks c (get_or (take n s) k 0) = λ k h. at-digit c group s k (omega arith) ∙ ap (lacks c) (sym (get_or-take n s k 0 (omega arith))) in
-    least_is (is_wrong c group s) (length s) i (omega (arith, told.0, length-take n s)) (λ k lt. digit k (omega arith) ∙ told.2 k lt) (digit i (omega arith) ∙ told.1)
+    let digit : (k : ℕ) → k ≤ i → is_wrong c group s k ≡ lacks c (get_or (take n s) k 0) = λ k h. at-digit c group s k (omega arith)
+    ∙ ap (lacks c) (sym (get_or-take n s k 0 (omega arith))) in
+    least_is (is_wrong c group s) (length s) i (omega (arith, told.0, length-take n s)) (λ k lt. digit k (omega arith) ∙ told.2 k lt)
+    (digit i (omega arith) ∙ told.1)
 
 -- a part without a separator
-pub last-clear : (c : CheckCase) (group : Group) (s : List ℕ) → length s ≤ 2 * piece_len group → first_invalid c (take (2 * piece_len group) s) ≡ None → first_wrong c group s ≡ None
+pub last-clear : (c : CheckCase) (group : Group) (s : List ℕ) → length s ≤ 2 * piece_len group
+    → first_invalid c (take (2 * piece_len group) s) ≡ None → first_wrong c group s ≡ None
 last-clear c group s fits valid =
     let is = unparted (piece_len group) s fits in
     none-wrong c group s (record { valid = rw (is.0, ← take_all (2 * piece_len group) s fits) valid; separated = rw is.1 (All-nil _) })
 
 -- the digits of the first part are valid, and its separator is another byte
-pub separator-wrong : (c : CheckCase) (group : Group) (s : List ℕ) → 2 * piece_len group < length s → first_invalid c (take (2 * piece_len group) s) ≡ None → (get_or s (2 * piece_len group) 0 ≡ separator group → ⊥)
+pub separator-wrong : (c : CheckCase) (group : Group) (s : List ℕ) → 2 * piece_len group < length s
+    → first_invalid c (take (2 * piece_len group) s) ≡ None → (get_or s (2 * piece_len group) 0 ≡ separator group → ⊥)
     → first_wrong c group s ≡ Some (2 * piece_len group)
 separator-wrong c group s long valid differs =
     let n = 2 * piece_len group in
@@ -180,7 +193,8 @@ separator-wrong c group s long valid differs =
     (at-separator c group s ∙ ap not (ne_eqb (get_or s n 0) (separator group) differs))
 
 -- the first part has no wrong byte
-pub part-clear : (c : CheckCase) (group : Group) (s : List ℕ) → 2 * piece_len group < length s → first_invalid c (take (2 * piece_len group) s) ≡ None → get_or s (2 * piece_len group) 0 ≡ separator group
+pub part-clear : (c : CheckCase) (group : Group) (s : List ℕ) → 2 * piece_len group < length s
+    → first_invalid c (take (2 * piece_len group) s) ≡ None → get_or s (2 * piece_len group) 0 ≡ separator group
     → first_wrong c group s ≡ option_map (λ i. 2 * piece_len group + 1 + i) (first_wrong c group (drop (2 * piece_len group + 1) s))
 part-clear c group s long valid is =
     let every = piece_len group in
@@ -196,5 +210,6 @@ pub clears-more : (c : CheckCase) (group : Group) (s : List ℕ) (at n : ℕ) �
     → first_wrong c group (drop at s) ≡ option_map (λ i. n + i) (first_wrong c group (drop n (drop at s))) → ClearsFront c group s (at + n)
 clears-more c group s at n before inside next = record {
   inside = inside;
-  rest = before.rest ∙ ap (option_map (λ i. at + i)) next ∙ further at n (first_wrong c group (drop n (drop at s))) ∙ ap (λ l. option_map (λ i. at + n + i) (first_wrong c group l)) (drop-drop n at s);
+  rest = before.rest ∙ ap (option_map (λ i. at + i)) next ∙ further at n (first_wrong c group (drop n (drop at s)))
+      ∙ ap (λ l. option_map (λ i. at + n + i) (first_wrong c group l)) (drop-drop n at s);
 }

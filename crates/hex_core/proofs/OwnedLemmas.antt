@@ -19,14 +19,16 @@ use Rattle.hex_core.proofs.SpellsLemmas.{spelled_along}
 put_before : (old part : List ℕ) (from n i : ℕ) → i < from → from ≤ length old → get_or (put_mid from n old part) i 0 ≡ get_or old i 0
 put_before old part from n i h inside = grind (arith, common_steps)
 
-put_part : (old part : List ℕ) (from n i : ℕ) → from ≤ i → i < from + length part → from ≤ length old → get_or (put_mid from n old part) i 0 ≡ get_or part (i - from) 0
+put_part : (old part : List ℕ) (from n i : ℕ) → from ≤ i → i < from + length part → from ≤ length old
+    → get_or (put_mid from n old part) i 0 ≡ get_or part (i - from) 0
 put_part old part from n i low lt inside = grind (arith, common_steps)
 
 -- a part that is put back as it was
 pub part_same : (old part : List ℕ) (from : ℕ) → from ≤ length old → part ≡ slice_range old from (length old) → put_mid from (length old - from) old part ≡ old
 part_same old part from inside is = grind (arith, common_steps)
 
-pub part_decoded : (c : CheckCase) (s old part : List ℕ) (from : ℕ) → length s ≡ 2 * length old → from ≤ length old → length part ≡ length old - from → Spells c (slice_range s (2 * from) (length s)) part
+pub part_decoded : (c : CheckCase) (s old part : List ℕ) (from : ℕ) → length s ≡ 2 * length old → from ≤ length old → length part ≡ length old - from
+    → Spells c (slice_range s (2 * from) (length s)) part
     → DecodesRange c s old (put_mid from (length old - from) old part) from (length old)
 part_decoded c s old part from twice inside long spells =
     let new = put_mid from (length old - from) old part in
@@ -48,7 +50,8 @@ part_decoded c s old part from twice inside long spells =
 first_invalid_inside : (c : CheckCase) (s : List ℕ) (f : ℕ) → first_invalid c s ≡ Some f → f < length s
 first_invalid_inside c s f e = grind (arith, common_steps)
 
-first_invalid_after : (c : CheckCase) (s : List ℕ) (done block f : ℕ) → first_invalid c s ≡ Some f → AllValid c s 0 done → (done + block ≤ length s → ¬ AllValid c s done (done + block)) → (done ≤ f) × (f < done + block)
+first_invalid_after : (c : CheckCase) (s : List ℕ) (done block f : ℕ) → first_invalid c s ≡ Some f → AllValid c s 0 done
+    → (done + block ≤ length s → ¬ AllValid c s done (done + block)) → (done ≤ f) × (f < done + block)
 first_invalid_after c s done block f e front stopped =
     let inside = first_invalid_inside c s f e in (
       valid_misses c s f 0 done e front (omega arith),
@@ -67,7 +70,8 @@ block_of block i f some low high =
       | inr same ↦ omega arith
     ]
 
-digits_are : (c : CheckCase) (s : List ℕ) (i block done : ℕ) (o : Option ℕ) → first_invalid c s ≡ o → done ≡ i * block → (o ≡ None → ⊥) → 0 < block → AllValid c s 0 done → (done + block ≤ length s → ¬ AllValid c s done (done + block))
+digits_are : (c : CheckCase) (s : List ℕ) (i block done : ℕ) (o : Option ℕ) → first_invalid c s ≡ o → done ≡ i * block → (o ≡ None → ⊥) → 0 < block
+    → AllValid c s 0 done → (done + block ≤ length s → ¬ AllValid c s done (done + block))
     → unwrap_or (option_map (λ f. block * (f / block)) o) 0 ≡ done
 digits_are c s i block done (Some f) e is bad some front stopped =
     let at = first_invalid_after c s done block f e front stopped in
@@ -77,7 +81,8 @@ digits_are c s i block done None e is bad some front stopped = absurd (bad refl)
 
 -- ---- what a refusal leaves
 
-front_spelled : (c : CheckCase) (s mid : List ℕ) (from : ℕ) → length s ≡ 2 * length mid → from ≤ length mid → SpellsRange c s mid 0 from → Spells c (take (2 * from) s) (take from mid)
+front_spelled : (c : CheckCase) (s mid : List ℕ) (from : ℕ) → length s ≡ 2 * length mid → from ≤ length mid → SpellsRange c s mid 0 from
+    → Spells c (take (2 * from) s) (take from mid)
 front_spelled c s mid from twice inside range =
     let long : length (take from mid) ≡ from = omega (arith, length-take from mid) in
     let wide : length (take (2 * from) s) ≡ 2 * from = omega (arith, length-take (2 * from) s) in
@@ -85,10 +90,12 @@ front_spelled c s mid from twice inside range =
     let digit : (i : ℕ) → i < 2 * from → get_or (take (2 * from) s) i 0 ≡ get_or s i 0 = λ i h. grind (arith, common_steps) in
     record {
       twice = omega arith;
-      each = λ i h. spelled_along c s (take (2 * from) s) mid (take from mid) i i (digit (2 * i) (omega arith)) (digit (2 * i + 1) (omega arith)) (byte i (omega arith)) (range i (omega arith) (omega arith));
+      each = λ i h. spelled_along c s (take (2 * from) s) mid (take from mid) i i (digit (2 * i) (omega arith)) (digit (2 * i + 1) (omega arith))
+          (byte i (omega arith)) (range i (omega arith) (omega arith));
     }
 
-front_kept : (old mid : List ℕ) (from : ℕ) → length mid ≡ length old → from ≤ length mid → ((k : ℕ) → from ≤ k → get_or mid k 0 ≡ get_or old k 0) → mid ≡ with_front old (take from mid)
+front_kept : (old mid : List ℕ) (from : ℕ) → length mid ≡ length old → from ≤ length mid → ((k : ℕ) → from ≤ k → get_or mid k 0 ≡ get_or old k 0)
+    → mid ≡ with_front old (take from mid)
 front_kept old mid from same inside behind =
     let long : length (take from mid) ≡ from = omega (arith, length-take from mid) in
     let back : drop from mid ≡ drop from old = ext_get_or 0 (drop from mid) (drop from old) (grind (arith, common_steps)) (λ i h.
@@ -97,8 +104,10 @@ front_kept old mid from same inside behind =
     a ∙ behind (from + i) (omega arith) ∙ sym b) in
     sym (take-append-drop from mid) ∙ ap (λ l. take from mid ++ l) (back ∙ ap (λ n. drop n old) (sym long))
 
-pub blocks_stored : (c : CheckCase) (s old new : List ℕ) (i block from : ℕ) → length s ≡ 2 * length new → length new ≡ length old → 2 * from ≡ i * block → from ≤ length new → 0 < block → ¬ (first_invalid c s ≡ None)
-    → AllValid c s 0 (2 * from) → (2 * from + block ≤ length s → ¬ AllValid c s (2 * from) (2 * from + block)) → DecodesRange c s old new 0 from → StoresBlocks block c s old new
+pub blocks_stored : (c : CheckCase) (s old new : List ℕ) (i block from : ℕ) → length s ≡ 2 * length new → length new ≡ length old
+    → 2 * from ≡ i * block → from ≤ length new → 0 < block → ¬ (first_invalid c s ≡ None)
+    → AllValid c s 0 (2 * from) → (2 * from + block ≤ length s → ¬ AllValid c s (2 * from) (2 * from + block)) → DecodesRange c s old new 0 from
+    → StoresBlocks block c s old new
 blocks_stored c s old new i block from twice same even inside some bad front stopped done =
     let digits : digits_before block c s ≡ 2 * from = digits_are c s i block (2 * from) (first_invalid c s) refl even bad some front stopped in
     record {

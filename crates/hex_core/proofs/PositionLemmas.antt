@@ -10,7 +10,8 @@ use Rattle.std.proofs.lemmas.List.Quantifiers.{position-Some}
 use Rattle.std.proofs.lemmas.List.Sums.{fails_before_first, position_or_len_is}
 
 -- the first place that passes
-pub position_is : (p : ℕ → Bool) (s : List ℕ) (i : ℕ) → i < length s → ((k : ℕ) → k < i → p (slice_index s k) ≡ false) → p (slice_index s i) ≡ true → position p s ≡ Some i
+pub position_is : (p : ℕ → Bool) (s : List ℕ) (i : ℕ) → i < length s → ((k : ℕ) → k < i → p (slice_index s k) ≡ false) → p (slice_index s i) ≡ true
+    → position p s ≡ Some i
 position_is p s i inside before here =
     let at : position_or_len p s ≡ i = position_or_len_is p s i 0 (omega arith) before (λ _. here) in
     grind (arith, common_steps)
@@ -50,7 +51,8 @@ number_at n k lt = get_or-range_with_len 0 n k 0 lt ∙ omega arith
 
 pub least_is : (p : ℕ → Bool) (n i : ℕ) → i < n → ((k : ℕ) → k < i → p k ≡ false) → p i ≡ true → position p (range_with_len 0 n) ≡ Some i
 least_is p n i inside before here =
-    position_is p (range_with_len 0 n) i (omega (arith, length-range_with_len 0 n)) (λ k lt. rw (number_at n k (omega arith)) (before k lt)) (rw (number_at n i inside) here)
+    position_is p (range_with_len 0 n) i (omega (arith, length-range_with_len 0 n)) (λ k lt. rw (number_at n k (omega arith)) (before k lt))
+    (rw (number_at n i inside) here)
 
 pub least_none : (p : ℕ → Bool) (n : ℕ) → ((k : ℕ) → k < n → p k ≡ false) → position p (range_with_len 0 n) ≡ None
 least_none p n never =

@@ -11,7 +11,8 @@ use Rattle.hex_core.specs.Search.{first_invalid}
 use Rattle.hex_core.proofs.SearchLemmas.{first_is_first}
 
 -- the first bad character is the first invalid byte
-bad_char_is_first : (c : CheckCase) (s : List ℕ) (o : Option ℕ) → first_invalid c s ≡ o → (i b : ℕ) → option_map (λ f. InvalidChar f (slice_index s f)) o ≡ Some (InvalidChar i b) → (first_invalid c s ≡ Some i) × (b ≡ slice_index s i) × (value c b ≡ None)
+bad_char_is_first : (c : CheckCase) (s : List ℕ) (o : Option ℕ) → first_invalid c s ≡ o → (i b : ℕ)
+    → option_map (λ f. InvalidChar f (slice_index s f)) o ≡ Some (InvalidChar i b) → (first_invalid c s ≡ Some i) × (b ≡ slice_index s i) × (value c b ≡ None)
 bad_char_is_first c s (Some f) e i b h =
     let none = (first_is_first c s f e).1 in
     (cc (e, h), cc h, cc (h, none))
@@ -21,7 +22,8 @@ bad_char_names_first : NamesFirstInvalid first_bad_char
 bad_char_names_first c s i b h = bad_char_is_first c s (first_invalid c s) refl i b h
 
 -- a refusal that is an invalid character is the first bad character
-pub decode_bad_char : (c : CheckCase) (s : List ℕ) (room i b : ℕ) → decode_refusal c s room ≡ Some (InvalidChar i b) → first_bad_char c s ≡ Some (InvalidChar i b)
+pub decode_bad_char : (c : CheckCase) (s : List ℕ) (room i b : ℕ) → decode_refusal c s room ≡ Some (InvalidChar i b)
+    → first_bad_char c s ≡ Some (InvalidChar i b)
 decode_bad_char c s room i b h = grind (arith, nat_tests, h)
 
 -- and so it names the first invalid byte

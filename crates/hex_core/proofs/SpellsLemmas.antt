@@ -16,7 +16,8 @@ abbrev pub SpellsBelow : CheckCase → List ℕ → List ℕ → ℕ → Type 0
 SpellsBelow c s bytes n = (k : ℕ) → k < n → SpellsAt c s bytes k
 
 -- a pair of digits spells a byte wherever both stand
-pub spelled_along : (c : CheckCase) (s t old new : List ℕ) (i k : ℕ) → get_or t (2 * k) 0 ≡ get_or s (2 * i) 0 → get_or t (2 * k + 1) 0 ≡ get_or s (2 * i + 1) 0 → get_or new k 0 ≡ get_or old i 0
+pub spelled_along : (c : CheckCase) (s t old new : List ℕ) (i k : ℕ) → get_or t (2 * k) 0 ≡ get_or s (2 * i) 0
+    → get_or t (2 * k + 1) 0 ≡ get_or s (2 * i + 1) 0 → get_or new k 0 ≡ get_or old i 0
     → SpellsAt c s old i → SpellsAt c t new k
 spelled_along c s t old new i k high low byte is = record { high = rw (high, byte) is.high; low = rw (low, byte) is.low }
 

@@ -39,10 +39,12 @@ take-two-set : (xs : List ℕ) (n a b : ℕ) → n + 1 < length xs → take (n +
 take-two-set xs n a b h = grind (arith, common_steps)
 
 -- the next byte's digits are written
-pub text-more : (upper : Bool) (table src dst : List ℕ) (i : ℕ) → table ≡ digits_table upper → get_or src i 0 < 256 → i < length src → length dst ≡ 2 * length src
+pub text-more : (upper : Bool) (table src dst : List ℕ) (i : ℕ) → table ≡ digits_table upper → get_or src i 0 < 256 → i < length src
+    → length dst ≡ 2 * length src
     → take (2 * i) dst ≡ text upper (take i src)
     → take (2 * (i + 1)) (set (set dst (2 * i) (get_or table (2 * get_or src i 0) 0)) (2 * i + 1) (get_or table (2 * get_or src i 0 + 1) 0)) ≡ text upper (take (i + 1) src)
 text-more upper table src dst i is byte h len front =
     let b = get_or src i 0 in
     let two : 2 * (i + 1) ≡ 2 * i + 2 = omega arith in
-    rw (two, is, (digits-entry upper b byte).0, (digits-entry upper b byte).1, take-two-set dst (2 * i) (digit upper (b / 16)) (digit upper (b % 16)) (omega arith), front, take_more src i 0 h, text-append upper (take i src) (b ∷ [])) refl
+    rw (two, is, (digits-entry upper b byte).0, (digits-entry upper b byte).1, take-two-set dst (2 * i) (digit upper (b / 16)) (digit upper (b % 16))
+    (omega arith), front, take_more src i 0 h, text-append upper (take i src) (b ∷ [])) refl

@@ -13,11 +13,13 @@ one : (every n : ℕ) → 0 < every → n ≤ every → grouped_len every n ≡ 
 one every n pos h = let q : (n - 1) / every ≡ 0 = div-eq_of_lt {n = n - 1} {m = every} (omega arith) in omega (arith, len-closed every n pos)
 
 -- where nothing is behind the whole parts, or an odd number of bytes, no text has the length
-none : (every len n : ℕ) → 0 < every → 0 < len → (len % (2 * every + 1) ≡ 0) ⊎ (len % (2 * every + 1) % 2 ≡ 1) → (0 < n) ⊎ (n ≤ 0) → grouped_len every n ≡ len → ⊥
+none : (every len n : ℕ) → 0 < every → 0 < len → (len % (2 * every + 1) ≡ 0) ⊎ (len % (2 * every + 1) % 2 ≡ 1) → (0 < n) ⊎ (n ≤ 0)
+    → grouped_len every n ≡ len → ⊥
 none every len n pos long last (inr h) e = absurd (omega (arith, one every n pos (omega arith)))
 none every len n pos long last (inl h) e =
     let c = cut every n pos h in
-    let r : (c.whole * (2 * every + 1) + 2 * c.last) % (2 * every + 1) ≡ 2 * c.last = mod-mul-add c.whole (2 * every + 1) (2 * c.last) (omega (arith, c.fits)) in
+    let r : (c.whole * (2 * every + 1) + 2 * c.last) % (2 * every + 1) ≡ 2 * c.last = mod-mul-add c.whole (2 * every + 1) (2 * c.last)
+    (omega (arith, c.fits)) in
     let is : len % (2 * every + 1) ≡ 2 * c.last = rw (sym e, len-cut every n c) r in
     apart last is c.some
   where
@@ -26,13 +28,16 @@ none every len n pos long last (inl h) e =
     apart (inr o) is some = absurd (omega arith)
 
 pub returns-then-len-eq0 : goal.returns-then-len-eq0
-returns-then-len-eq0 c = sym (count-is c.args.every c.args.len (c.args.len / 2) c.requires (omega (arith, one c.args.every (c.args.len / 2) c.requires (omega (arith, c.if-every-len.true)), c.if-len-eq0.true)))
+returns-then-len-eq0 c = sym (count-is c.args.every c.args.len (c.args.len / 2) c.requires
+    (omega (arith, one c.args.every (c.args.len / 2) c.requires (omega (arith, c.if-every-len.true)), c.if-len-eq0.true)))
 
 pub returns-else-len-eq0 : goal.returns-else-len-eq0
-returns-else-len-eq0 c = sym (count-none c.args.every c.args.len (λ n. none c.args.every c.args.len n c.requires (omega (arith, c.if-len-eq0.false)) (inr (omega (arith, c.if-len-eq0.false, mod-eq_of_lt {n = c.args.len} {m = 2 * c.args.every + 1} (omega (arith, c.if-every-len.true))))) (cases_lt 0 n)))
+returns-else-len-eq0 c = sym (count-none c.args.every c.args.len (λ n. none c.args.every c.args.len n c.requires (omega (arith, c.if-len-eq0.false))
+    (inr (omega (arith, c.if-len-eq0.false, mod-eq_of_lt {n = c.args.len} {m = 2 * c.args.every + 1} (omega (arith, c.if-every-len.true))))) (cases_lt 0 n)))
 
 pub returns-then-last-eq0 : goal.returns-then-last-eq0
-returns-then-last-eq0 c = sym (count-none c.args.every c.args.len (λ n. none c.args.every c.args.len n c.requires (omega (arith, c.requires, c.if-every-len.false)) (elim c.then-last-eq0.branch [ then-last-eq0-via-then-last-eq0 w ↦ inl w.if-last-eq0.true | then-last-eq0-via-else-last-eq0+then-last-eq1 w ↦ inr w.if-last-eq1.true ]) (cases_lt 0 n)))
+returns-then-last-eq0 c = sym (count-none c.args.every c.args.len (λ n. none c.args.every c.args.len n c.requires
+    (omega (arith, c.requires, c.if-every-len.false)) (elim c.then-last-eq0.branch [ then-last-eq0-via-then-last-eq0 w ↦ inl w.if-last-eq0.true | then-last-eq0-via-else-last-eq0+then-last-eq1 w ↦ inr w.if-last-eq1.true ]) (cases_lt 0 n)))
 
 pub returns : goal.returns
 returns c =
@@ -42,6 +47,7 @@ returns c =
     let last = len % (2 * every + 1) in
     let n = whole * every + last / 2 in
     let below = mod_below len (2 * every + 1) (omega arith) in
-    let parts : Cut every n = record { whole = whole; last = last / 2; sum = refl; some = omega (arith, c.if-last-eq0.false, c.if-last-eq1.false); fits = omega (arith, below) } in
+    let parts : Cut every n = record { whole = whole; last = last / 2; sum = refl; some = omega
+    (arith, c.if-last-eq0.false, c.if-last-eq1.false); fits = omega (arith, below) } in
     let even : 2 * (last / 2) ≡ last = omega (arith, c.if-last-eq1.false) in
     sym (count-is every len n c.requires (len-cut every n parts ∙ omega (arith, even, div-add-mod' len (2 * every + 1))))

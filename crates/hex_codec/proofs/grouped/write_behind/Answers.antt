@@ -5,27 +5,35 @@ use Rattle.hex_codec.proofs.grouped.write_behind.Goals as goal
 
 pub overflow_add-at : goal.overflow_add-at
 overflow_add-at c =
-    let known = part c.args.case c.args.group c.args.src.now c.loop-done.dst c.loop-done.at c.loop-done.done (length c.loop-done.dst) c.min-count.result c.loop-done.invariant c.loop-done-test.true (sym (c.min-count.ensures ∙ ap (λ n. min n (length c.loop-done.dst - c.loop-done.done)) c.every.ensures))
+    let known = part c.args.case c.args.group c.args.src.now c.loop-done.dst c.loop-done.at c.loop-done.done
+    (length c.loop-done.dst) c.min-count.result c.loop-done.invariant c.loop-done-test.true
+    (sym (c.min-count.ensures ∙ ap (λ n. min n (length c.loop-done.dst - c.loop-done.done)) c.every.ensures))
     (rw c.loop-done.auto.dst c.requires.digits) in
     search (arith, rules, known.inside)
 
 pub slice_bounds-decode-end : goal.slice_bounds-decode-end
 slice_bounds-decode-end c =
-    let known = part c.args.case c.args.group c.args.src.now c.loop-done.dst c.loop-done.at c.loop-done.done (length c.loop-done.dst) c.min-count.result c.loop-done.invariant c.loop-done-test.true (sym (c.min-count.ensures ∙ ap (λ n. min n (length c.loop-done.dst - c.loop-done.done)) c.every.ensures))
+    let known = part c.args.case c.args.group c.args.src.now c.loop-done.dst c.loop-done.at c.loop-done.done
+    (length c.loop-done.dst) c.min-count.result c.loop-done.invariant c.loop-done-test.true
+    (sym (c.min-count.ensures ∙ ap (λ n. min n (length c.loop-done.dst - c.loop-done.done)) c.every.ensures))
     (rw c.loop-done.auto.dst c.requires.digits) in
     search (arith, rules, known.inside)
 
 pub loop-done-preserved : goal.loop-done-preserved
 loop-done-preserved c =
     let dst = c.loop-done.dst in let src = c.args.src.now in let at = c.loop-done.at in let done = c.loop-done.done in let count = c.min-count.result in let new = c.decode.new.dst in
-    let known = part c.args.case c.args.group c.args.src.now c.loop-done.dst c.loop-done.at c.loop-done.done (length c.loop-done.dst) c.min-count.result c.loop-done.invariant c.loop-done-test.true (sym (c.min-count.ensures ∙ ap (λ n. min n (length c.loop-done.dst - c.loop-done.done)) c.every.ensures))
+    let known = part c.args.case c.args.group c.args.src.now c.loop-done.dst c.loop-done.at c.loop-done.done
+    (length c.loop-done.dst) c.min-count.result c.loop-done.invariant c.loop-done-test.true
+    (sym (c.min-count.ensures ∙ ap (λ n. min n (length c.loop-done.dst - c.loop-done.done)) c.every.ensures))
     (rw c.loop-done.auto.dst c.requires.digits) in
     let n : at + 2 * count - at ≡ 2 * count = omega arith in
     let k : done + count - done ≡ count = omega arith in
     let digits = take (2 * count) (drop at src) in
     let spelled = decoded c.args.case digits (take count (drop done dst)) new c.decode.result known.valid (rw (n, k) at c.decode.ensures) in
     let long : length new ≡ count = omega (arith, spelled.twice, known.size) in
-    rw long at (writes-more c.args.case c.args.group src dst digits new at done (2 * count + 1) (done + count - done) c.loop-done.invariant known.cut (omega (arith, c.loop-done-test.true)) spelled)
+    rw long at (writes-more c.args.case c.args.group src dst digits new at done (2 * count + 1) (done + count - done) c.loop-done.invariant known.cut
+    (omega (arith, c.loop-done-test.true)) spelled)
 
 pub returns : goal.returns
-returns c = writes-all c.args.case c.args.group c.args.src.now c.loop-done.dst c.loop-done.at c.loop-done.done c.loop-done.invariant (omega (arith, c.loop-done-test.false)) (rw c.loop-done.auto.dst c.requires.digits.0)
+returns c = writes-all c.args.case c.args.group c.args.src.now c.loop-done.dst c.loop-done.at c.loop-done.done c.loop-done.invariant
+    (omega (arith, c.loop-done-test.false)) (rw c.loop-done.auto.dst c.requires.digits.0)
