@@ -1,10 +1,12 @@
 //! Tests of what no row of `rows`, `json_rows` or `program_rows` and no example of a doc comment
-//! says: writes through an answer, equal hashes, a writer that answers by a script and one that is
+//! says: writes through an answer, digits in chunks, equal hashes, a writer that answers by a script and one that is
 //! interrupted.
 #![tactic(auto)]
 
 #[cfg(test)]
 mod answers;
+#[cfg(test)]
+mod chunks;
 #[cfg(test)]
 mod hashes;
 #[cfg(test)]
