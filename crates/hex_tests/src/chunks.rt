@@ -100,12 +100,24 @@ impl Read for Halting<'_> {
 fn interrupted_reads_are_tried_again(rt: HostRuntime) {
     let mut buffer = [0; 6];
     let mut sink = SliceSink::new(&mut buffer);
-    let mut reader = Halting { left: &SOURCE, ready: false };
-    assert_eq!(rt; decode_stream(&mut reader, &mut sink, CheckCase::None), Ok(6));
-    assert_eq!(rt; sink.written(), [0, 0xab, 0xcd, 0x91, 0xff, 0xe7].as_slice());
+    let mut reader = Halting {
+        left: &SOURCE,
+        ready: false,
+    };
+    assert_eq!(rt;
+        decode_stream(&mut reader, &mut sink, CheckCase::None),
+        Ok(6)
+    );
+    assert_eq!(rt;
+        sink.written(),
+        [0, 0xab, 0xcd, 0x91, 0xff, 0xe7].as_slice()
+    );
     let mut buffer = [0; 14];
     let mut sink = SliceSink::new(&mut buffer);
-    let mut reader = Halting { left: &[0, 0xab, 1, 2, 3, 4, 0xff], ready: false };
+    let mut reader = Halting {
+        left: &[0, 0xab, 1, 2, 3, 4, 0xff],
+        ready: false,
+    };
     assert_eq!(rt; encode_stream(&mut reader, &mut sink, true), Ok(7));
     assert_eq!(rt; sink.written(), b"00AB01020304FF".as_slice());
 }
@@ -114,12 +126,21 @@ fn interrupted_reads_are_tried_again(rt: HostRuntime) {
 fn a_refused_stream_has_put_the_chunks_before(rt: HostRuntime) {
     let mut buffer = [0; 6];
     let mut sink = SliceSink::new(&mut buffer);
-    let mut reader = Halting { left: b"00aBcx", ready: false };
+    let mut reader = Halting {
+        left: b"00aBcx",
+        ready: false,
+    };
     let refused = decode_stream(&mut reader, &mut sink, CheckCase::None);
-    let named = Error::InvalidChar { index: 5, byte: b'x' };
+    let named = Error::InvalidChar {
+        index: 5,
+        byte: b'x',
+    };
     assert_eq!(rt; refused, Err(StreamFault::Codec(named)));
     assert_eq!(rt; sink.written(), [0].as_slice());
-    let mut reader = Halting { left: b"00a", ready: false };
+    let mut reader = Halting {
+        left: b"00a",
+        ready: false,
+    };
     let refused = decode_stream(&mut reader, &mut sink, CheckCase::None);
     assert_eq!(rt; refused, Err(StreamFault::Codec(Error::OddLength)));
     assert_eq!(rt; sink.written(), [0, 0].as_slice());
