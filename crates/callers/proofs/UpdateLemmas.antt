@@ -1,6 +1,5 @@
 -- A list with another digest in one entry, by its lines.
-use Rattle.std.proofs.Common.{◌≡◌, ℕ, zero, suc, ◌<◌, ◌≤◌, Bool, refl, sym, ap, ◌∙◌, arith, List, [], ◌∷◌, ◌++◌, length, map, set, drop, get_or, None}
-use Rattle.std.specs.Prelude.{cond, nat_lt}
+use Rattle.std.proofs.Common.{◌≡◌, ℕ, zero, suc, ◌<◌, Bool, refl, sym, ap, ◌∙◌, arith, List, [], ◌∷◌, ◌++◌, length, map, set, get_or, None}
 use Rattle.std.specs.List.{AllZip, flat_map, position_or_len}
 use Rattle.std.proofs.lemmas.List.{length-map, map-set}
 use Rattle.std.proofs.lemmas.List.Folds.{flat_map-map}

@@ -1,10 +1,8 @@
 -- Bytes that are written behind others.
-use Rattle.std.proofs.Common.{◌≡◌, ◌⊎◌, inl, inr, ℕ, zero, suc, min, ◌+◌, ◌-◌, ◌*◌, ◌/◌, ◌%◌, ◌<◌, ◌≤◌, Bool, true, false, refl, sym, ap, ◌∙◌, arith, None, List, [], ◌∷◌, ◌++◌, length, take, drop, get_or, append-nil, append_assoc, length-append, length-take, length-drop, take-append-drop}
-use Rattle.std.proofs.Math.Seq.{take-add}
+use Rattle.std.proofs.Common.{◌≡◌, ◌⊎◌, inl, inr, ℕ, min, ◌+◌, ◌-◌, ◌*◌, ◌%◌, ◌<◌, ◌≤◌, Bool, true, false, refl, sym, ap, ◌∙◌, arith, None, List, [], ◌++◌, length, take, drop, get_or, append-nil, append_assoc, length-append, length-drop, take-append-drop}
 use Rattle.std.proofs.lemmas.Bool.{cases_lt}
 use Rattle.std.proofs.lemmas.List.{drop-drop, drop_all, get_or_append_left, get_or-append_right, length-take-le, take_all, take_rest}
 use Rattle.std.proofs.lemmas.Slice.{take-put_mid}
-use Rattle.std.specs.List.{flat_map}
 use borrow.Rule.Slice.PartMut.{put_mid}
 use Rattle.hex_core.specs.declared.digit.CheckCase.{CheckCase}
 use Rattle.hex_core.specs.Calls.{DecodesWhole}
@@ -19,8 +17,7 @@ use Rattle.hex_codec.specs.Grouped.{piece_len}
 use Rattle.hex_codec.specs.GroupedText.{digits_in}
 use Rattle.hex_codec.specs.Unseparate.{IsWhole, UnseparatesFront, ValidDigits, WritesFront}
 use Rattle.hex_codec.proofs.CountLemmas.{even-digits}
-use Rattle.hex_codec.proofs.GroupLemmas.{no_pieces, pieces-next}
-use Rattle.hex_codec.proofs.PartLemmas.{joined, parted, unparted, whole-more}
+use Rattle.hex_codec.proofs.PartLemmas.{joined, parted, unparted}
 
 -- what two texts spell, they spell joined
 pub spells-joined : (c : CheckCase) (a b x y : List ℕ) → Spells c a x → Spells c b y → Spells c (a ++ b) (x ++ y)

@@ -1,5 +1,5 @@
 -- A name that was read holds no newline.
-use Rattle.std.proofs.Common.{◌≡◌, ℕ, zero, suc, ◌*◌, ◌<◌, Bool, true, false, ◌||◌, refl, arith, List, [], ◌∷◌, length, drop, get_or, None}
+use Rattle.std.proofs.Common.{◌≡◌, ℕ, zero, suc, ◌*◌, ◌<◌, Bool, true, false, refl, arith, List, [], ◌∷◌, length, drop, get_or, None}
 use Rattle.std.specs.Prelude.{◌==◌, cond}
 use Rattle.std.specs.List.{AllByRecursion, AllZip, list_any, onto_first, position_or_len, slice_split}
 use Rattle.std.proofs.lemmas.Bool.Decides.{nat_tests}
@@ -7,7 +7,7 @@ use Rattle.std.proofs.lemmas.Grind.{common_steps}
 use Rattle.std.proofs.lemmas.List.Sums.{position_or_len_is}
 use Rattle.hex_core.specs.declared.digit.CheckCase.{CheckCase}
 use Rattle.hex_lists.specs.declared.digests.Entry.{Entry}
-use Rattle.hex_lists.specs.Lists.{LineIs, first_bad_name, is_bad_name, lines_of, mark, without_empty_end}
+use Rattle.hex_lists.specs.Lists.{LineIs, first_bad_name, lines_of, mark, without_empty_end}
 use Rattle.hex_lists.proofs.LineLemmas.{newline}
 use Rattle.hex_lists.proofs.ReadBack.{Good, bad, or_parts}
 

@@ -1,5 +1,5 @@
 -- The bytes that were read are written as the text that they were read from.
-use Rattle.std.proofs.Common.{◌≡◌, List, ℕ, take}
+use Rattle.std.proofs.Common.{◌≡◌, take}
 use Rattle.hex_codec.specs.Grouped.{grouped}
 use Rattle.hex_core.specs.Text.{lowercase}
 use Rattle.callers.proofs.dumps.copy_line.Goals as goal

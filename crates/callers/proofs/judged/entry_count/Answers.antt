@@ -1,5 +1,5 @@
 -- Two lists of entries of one source are as long.
-use Rattle.std.proofs.Common.{◌≡◌, arith}
+use Rattle.std.proofs.Common.{arith}
 use Rattle.std.proofs.lemmas.List.Elements.{length_all_zip}
 use Rattle.hex_core.specs.declared.digit.CheckCase.TheVariants as policy
 use Rattle.hex_lists.specs.ListLaws.{SameEntry}

@@ -1,5 +1,5 @@
 -- A strict policy accepts the texts of its case.
-use Rattle.std.proofs.Common.{◌≡◌, ◌%◌, ℕ, None, length, arith}
+use Rattle.std.proofs.Common.{◌≡◌, ◌%◌, length, arith}
 use Rattle.std.proofs.lemmas.Bool.Decides.{nat_tests}
 use Rattle.hex_core.specs.Text.{lowercase}
 use Rattle.callers.proofs.judged.is_canonical.Goals as goal

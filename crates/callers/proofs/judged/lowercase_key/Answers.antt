@@ -1,5 +1,5 @@
 -- The line is the text of the bytes, which is the key in lowercase.
-use Rattle.std.proofs.Common.{◌≡◌, ◌∙◌, ◌++◌, ◌*◌, ◌/◌, ℕ, List, None, Result, Ok, Err, append-nil, ap, arith, length}
+use Rattle.std.proofs.Common.{◌≡◌, ◌∙◌, ◌++◌, ◌/◌, ℕ, List, Result, Ok, Err, append-nil, ap, arith, length}
 use Rattle.std.proofs.lemmas.Bool.Decides.{nat_tests}
 use Rattle.std.proofs.lemmas.List.{drop_all, length-map}
 use Rattle.std.specs.Char.{to_ascii_lowercase}

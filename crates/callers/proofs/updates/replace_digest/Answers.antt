@@ -1,5 +1,5 @@
 -- The lines are those of the entries.
-use Rattle.std.proofs.Common.{◌≡◌, inl, inr, false, true, ℕ, ◌<◌, ◌≤◌, List, length, refl, ap, ◌∙◌, arith, Err, None}
+use Rattle.std.proofs.Common.{◌≡◌, inl, inr, false, ◌<◌, List, length, refl, ap, ◌∙◌, arith, Err, None}
 use Rattle.std.proofs.lemmas.Bool.{cases_lt}
 use Rattle.hex_core.specs.declared.digit.CheckCase.TheVariants as policy
 use Rattle.hex_core.specs.Text.{lowercase}

@@ -1,5 +1,5 @@
 -- The first wrong byte is one of the next part, or stands behind it.
-use Rattle.std.proofs.Common.{◌≡◌, ◌*◌, ◌+◌, ◌-◌, ◌<◌, None, Some, length, take, drop, get_or, refl, sym, ap, ◌∙◌, arith, length-drop, length-take, option_map, min}
+use Rattle.std.proofs.Common.{◌≡◌, ◌*◌, ◌+◌, ◌<◌, None, length, take, drop, refl, sym, ap, ◌∙◌, arith, length-drop, length-take, option_map, min}
 use Rattle.std.proofs.lemmas.List.{get_or-drop, take_rest}
 use Rattle.hex_core.specs.Search.{first_invalid}
 use Rattle.hex_codec.specs.Grouped.{piece_len}

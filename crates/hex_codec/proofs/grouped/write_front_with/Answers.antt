@@ -1,5 +1,5 @@
 -- The digits that were copied are decoded behind those before them.
-use Rattle.std.proofs.Common.{rules, ◌≡◌, ◌+◌, ◌-◌, ◌*◌, ◌/◌, length, take, drop, refl, arith, length-drop, length-take}
+use Rattle.std.proofs.Common.{rules, ◌≡◌, ◌+◌, ◌-◌, ◌/◌, length, take, drop, refl, arith, length-drop, length-take}
 use Rattle.hex_codec.proofs.WriteLemmas.{copied, decoded, writes-more, writes-none}
 use Rattle.hex_codec.proofs.grouped.write_front_with.Goals as goal
 

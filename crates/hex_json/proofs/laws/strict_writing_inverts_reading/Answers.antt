@@ -1,11 +1,11 @@
 -- The text of a value is the prefix and a payload that is the text of what it spells.
-use Rattle.std.proofs.Common.{◌≡◌, ◌++◌, ℕ, ◌%◌, ◌==◌, Bool, true, false, List, length, take, drop, Option, Some, None, Ok, Err, refl, sym, ap, ◌∙◌, subst, take-append-drop, if◌then◌else◌}
+use Rattle.std.proofs.Common.{◌≡◌, ◌++◌, ℕ, ◌%◌, ◌==◌, Bool, true, false, List, length, take, drop, Some, None, Ok, Err, refl, sym, ap, ◌∙◌, subst, take-append-drop, if◌then◌else◌}
 use Rattle.std.proofs.lemmas.Slice.Eq.{bytes_eq-Decides}
 use Rattle.std.specs.Str.{bytes_eq}
 use Rattle.serde_json.specs.Data.{Data, null, boolean, number, string, array, object}
 use Rattle.hex_core.specs.Digit.{strict}
 use Rattle.hex_core.specs.Laws.{EncodingInvertsStrictDecoding}
-use Rattle.hex_core.specs.Text.{Spells, text}
+use Rattle.hex_core.specs.Text.{Spells}
 use Rattle.hex_json.specs.declared.adapters.WireFormat.{WireFormat}
 use Rattle.hex_json.specs.declared.adapters.AdapterError.TheVariants.{InvalidLength}
 use Rattle.hex_json.specs.Adapters.{Reads, even_payload, prefix, wire_text}
