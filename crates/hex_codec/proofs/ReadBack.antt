@@ -80,8 +80,12 @@ back group upper fuel [] fits =
     record { digits = rw (none, empty) refl; separated = rw (none, empty) (λ k d lt. absurd (omega arith)) }
 back group upper zero (b ∷ bytes) fits = absurd (omega arith)
 back group upper (suc fuel) (b ∷ bytes) fits =
-    from_cases (back group upper fuel (drop (piece_len group) (b ∷ bytes)) (omega (arith, length-drop (piece_len group)
-    (b ∷ bytes), group.is_group.0))) (cases_lt (piece_len group) (length (b ∷ bytes)))
+    from_cases (back group upper fuel (drop (piece_len group) (b ∷ bytes)) (omega (
+      arith,
+      length-drop (piece_len group)
+          (b ∷ bytes),
+      group.is_group.0,
+    ))) (cases_lt (piece_len group) (length (b ∷ bytes)))
   where
     from_cases : Back group upper (drop (piece_len group) (b ∷ bytes)) → (piece_len group < length (b ∷ bytes)) ⊎ (length (b ∷ bytes) ≤ piece_len group) → Back group upper (b ∷ bytes)
     from_cases rest (inl long) = back-more group upper (b ∷ bytes) long rest

@@ -52,8 +52,13 @@ writes-none c group s dst = record { before = []; digits = refl; count = refl; s
 pub left : (c : CheckCase) (group : Group) (s dst : List ℕ) (at done all : ℕ) → WritesFront c group s dst at done
     → length (digits_in (piece_len group) s) ≡ 2 * all
     → length (digits_in (piece_len group) (drop at s)) ≡ 2 * (all - done)
-left c group s dst at done all so_far twice = omega (arith, ap length so_far.digits ∙ length-append so_far.before
-    (digits_in (piece_len group) (drop at s)), so_far.count, twice)
+left c group s dst at done all so_far twice = omega (
+  arith,
+  ap length so_far.digits ∙ length-append so_far.before
+      (digits_in (piece_len group) (drop at s)),
+  so_far.count,
+  twice,
+)
 
 -- the next digits are valid, and there is room for their bytes
 pub ahead : (c : CheckCase) (group : Group) (s dst next rest : List ℕ) (at done all : ℕ) → WritesFront c group s dst at done
@@ -147,8 +152,11 @@ next every n s pos some size = from_cases (cases_lt (2 * every) (length s))
         let whole : length s ≡ 2 * n = sym (ap length one) ∙ size in
         let count : min every n ≡ n = omega (arith, whole, short) in
         let rest : drop (2 * n + 1) s ≡ [] = drop_all (2 * n + 1) s (omega arith) in
-        record { inside = omega (arith, count, whole); digits = rw count (one ∙ sym (rw (rest, (unparted every [] (omega arith)).0)
-        (append-nil (take (2 * n) s) ∙ take_all (2 * n) s (omega arith)))) }
+        record {
+          inside = omega (arith, count, whole);
+          digits = rw count (one ∙ sym (rw (rest, (unparted every [] (omega arith)).0)
+              (append-nil (take (2 * n) s) ∙ take_all (2 * n) s (omega arith))));
+        }
 
 -- the digits of the next part, behind those that were decoded
 pub record Part (c : CheckCase) (group : Group) (s : List ℕ) (at count : ℕ) : Type 0 where

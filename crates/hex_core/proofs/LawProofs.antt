@@ -87,8 +87,11 @@ by_pairs P n pairs k lt =
 
 pub valid-spelled : (c : CheckCase) (s bytes : List ℕ) → Spells c s bytes → first_invalid c s ≡ None
 valid-spelled c s bytes h = position_none (lacks c) s (λ k lt.
-    by_pairs (λ n. lacks c (get_or s n 0) ≡ false) (length bytes) (λ i small. let is = h.each i small in (valued c (get_or s (2 * i) 0)
-        (get_or bytes i 0 / 16) is.high, valued c (get_or s (2 * i + 1) 0) (get_or bytes i 0 % 16) is.low))
+    by_pairs (λ n. lacks c (get_or s n 0) ≡ false) (length bytes) (λ i small. let is = h.each i small in (
+      valued c (get_or s (2 * i) 0)
+          (get_or bytes i 0 / 16) is.high,
+      valued c (get_or s (2 * i + 1) 0) (get_or bytes i 0 % 16) is.low,
+    ))
     k (omega (arith, lt, h.twice)))
 
 -- where nothing is refused the length is even and there is no invalid byte, and the other way round
@@ -116,17 +119,23 @@ text-spells c upper bytes reads all = record {
 }
 
 pub decoding-inverts : (upper : Bool) (bytes : List ℕ) → AreBytes bytes → Spells (strict upper) (text upper bytes) bytes × Spells policy.None (text upper bytes) bytes
-decoding-inverts upper bytes all = (text-spells (strict upper) upper bytes (value-digit upper) all, text-spells policy.None upper bytes
-    (value-digit_either upper) all)
+decoding-inverts upper bytes all = (
+  text-spells (strict upper) upper bytes (value-digit upper) all,
+  text-spells policy.None upper bytes
+      (value-digit_either upper) all,
+)
 
 pub encoding-inverts : (upper : Bool) (s bytes : List ℕ) → Spells (strict upper) s bytes → text upper bytes ≡ s
 encoding-inverts upper s bytes h =
     let size = length-text upper bytes in
     same_number_lists (text upper bytes) s (omega (arith, size, h.twice)) (λ k lt.
     by_pairs (λ n. get_or (text upper bytes) n 0 ≡ get_or s n 0) (length bytes)
-    (λ i small. let at = digits-at upper bytes i small in let is = h.each i small in (at.0
-        ∙ digit-value upper (get_or s (2 * i) 0) (get_or bytes i 0 / 16) is.high, at.1 ∙ digit-value upper (get_or s (2 * i + 1) 0)
-        (get_or bytes i 0 % 16) is.low))
+    (λ i small. let at = digits-at upper bytes i small in let is = h.each i small in (
+      at.0
+          ∙ digit-value upper (get_or s (2 * i) 0) (get_or bytes i 0 / 16) is.high,
+      at.1 ∙ digit-value upper (get_or s (2 * i + 1) 0)
+          (get_or bytes i 0 % 16) is.low,
+    ))
     k (omega (arith, lt, size)))
 
 pub strict-accepts : (upper : Bool) (s : List ℕ) → (source_refusal (strict upper) s ≡ None) ↔ ((bytes : List ℕ) × AreBytes bytes × (text upper bytes ≡ s))
@@ -144,13 +153,19 @@ either-lowercased s bytes =
     let size : length (str_to_ascii_lowercase s) ≡ length s = length-map s to_ascii_lowercase in (
       λ h. let twice = h.twice in record {
         twice = omega (arith, size);
-        each = λ i lt. record { high = lowercased-at s (2 * i) (omega arith) ∙ (h.each i lt).high; low = lowercased-at s (2 * i + 1) (omega arith)
-            ∙ (h.each i lt).low };
+        each = λ i lt. record {
+          high = lowercased-at s (2 * i) (omega arith) ∙ (h.each i lt).high;
+          low = lowercased-at s (2 * i + 1) (omega arith)
+              ∙ (h.each i lt).low;
+        };
       },
       λ h. let twice = h.twice in let same : length s ≡ 2 * length bytes = omega (arith, size) in record {
         twice = same;
-        each = λ i lt. record { high = sym (lowercased-at s (2 * i) (omega arith)) ∙ (h.each i lt).high; low = sym
-            (lowercased-at s (2 * i + 1) (omega arith)) ∙ (h.each i lt).low };
+        each = λ i lt. record {
+          high = sym (lowercased-at s (2 * i) (omega arith)) ∙ (h.each i lt).high;
+          low = sym
+              (lowercased-at s (2 * i + 1) (omega arith)) ∙ (h.each i lt).low;
+        };
       },
     )
 

@@ -46,5 +46,14 @@ pub text-more : (upper : Bool) (table src dst : List ℕ) (i : ℕ) → table �
 text-more upper table src dst i is byte h len front =
     let b = get_or src i 0 in
     let two : 2 * (i + 1) ≡ 2 * i + 2 = omega arith in
-    rw (two, is, (digits-entry upper b byte).0, (digits-entry upper b byte).1, take-two-set dst (2 * i) (digit upper (b / 16)) (digit upper (b % 16))
-    (omega arith), front, take_more src i 0 h, text-append upper (take i src) (b ∷ [])) refl
+    rw (
+      two,
+      is,
+      (digits-entry upper b byte).0,
+      (digits-entry upper b byte).1,
+      take-two-set dst (2 * i) (digit upper (b / 16)) (digit upper (b % 16))
+          (omega arith),
+      front,
+      take_more src i 0 h,
+      text-append upper (take i src) (b ∷ []),
+    ) refl

@@ -47,7 +47,13 @@ returns c =
     let last = len % (2 * every + 1) in
     let n = whole * every + last / 2 in
     let below = mod_below len (2 * every + 1) (omega arith) in
-    let parts : Cut every n = record { whole = whole; last = last / 2; sum = refl; some = omega
-    (arith, c.if-last-eq0.false, c.if-last-eq1.false); fits = omega (arith, below) } in
+    let parts : Cut every n = record {
+      whole = whole;
+      last = last / 2;
+      sum = refl;
+      some = omega
+          (arith, c.if-last-eq0.false, c.if-last-eq1.false);
+      fits = omega (arith, below);
+    } in
     let even : 2 * (last / 2) ≡ last = omega (arith, c.if-last-eq1.false) in
     sym (count-is every len n c.requires (len-cut every n parts ∙ omega (arith, even, div-add-mod' len (2 * every + 1))))

@@ -24,8 +24,17 @@ decode-requires g c =
     (c.fronts.done.digits / 2) (length c.args.dst.now) c.unseparate-front.result c.fronts.invariant.written c.fronts.invariant.inside c.unseparate-front.ensures c.requires.digits in
     let start = c.fronts.done.digits / 2 in
     let k = (c.fronts.done.digits + c.unseparate-front.result.digits) / 2 - start in
-    omega (arith, known.size, known.even, known.room, c.fronts.invariant.even, c.fronts.auto.dst, length-take k
-    (drop start c.fronts.dst), length-drop start c.fronts.dst)
+    omega (
+      arith,
+      known.size,
+      known.even,
+      known.room,
+      c.fronts.invariant.even,
+      c.fronts.auto.dst,
+      length-take k
+          (drop start c.fronts.dst),
+      length-drop start c.fronts.dst,
+    )
 
 pub fronts-preserved : goal.fronts-preserved
 fronts-preserved g c =

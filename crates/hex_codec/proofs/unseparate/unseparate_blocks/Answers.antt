@@ -24,7 +24,7 @@ loop-len-preserved g c =
     let held : All (λ b. b ≡ group.sep) (separators_in every (take 15 rest)) =
     rw (c.requires.every, ← first) (rw c.separators.ensures.lanes at (all-taken (15 - n) c.separators.result group.sep all)) in
     unseparates-more group text digits (put_chunk to digits new) (record { len = len; digits = to }) 15 n c.loop-len.invariant
-        (omega (arith, left, c.loop-len-test.true)) room
+    (omega (arith, left, c.loop-len-test.true)) room
     (rw c.requires.every c.separators.ensures.whole) held
     (take-front_chunk to n digits new (omega (arith, size, c.if-digits-to-ge-BLOCK.true)) (omega (arith, size, c.requires.step))
     ∙ ap (λ l. take to digits ++ l) front)

@@ -26,5 +26,5 @@ loop-len-preserved g c =
     let same : length (put_mid to (to + n - to) digits new) ≡ length digits = search (rules, size) in
     let room : to + 2 * every ≤ length (put_mid to (to + n - to) digits new) = omega (arith, same, c.requires, c.if-digits-to.true) in
     rw c.every-piece.ensures (unseparates-more group text digits (put_mid to (to + n - to) digits new) (record { len = len; digits = to })
-        (2 * every + 1) (2 * every) c.loop-len.invariant (omega (arith, left, long)) room
+    (2 * every + 1) (2 * every) c.loop-len.invariant (omega (arith, left, long)) room
     (record { count = 1; lines = omega arith }) (part-separator every group.sep rest long here) (put ∙ ap (λ l. take to digits ++ l) front))
