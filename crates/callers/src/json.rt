@@ -135,8 +135,8 @@ pub fn read_signature(alloc: Global, value: &Value) -> Result<Vec<u8>, AdapterEr
     nopfx_ignorecase::deserialize_bounded::<64>(alloc, value)
 }
 
-/// Whether two optional values of a record, one `None` and one there, may be told apart as they are
-/// written: they always may.
+/// Whether a value of an `option_` module is the one of `None`. That of a list never is, even of the
+/// empty one.
 pub fn is_none_written(value: &Value, bytes: &[u8]) -> bool
     ensures { WritesOption wire.nopfx_ignorecase (Some bytes.now) (view value.now)
         → IsFalse result }
