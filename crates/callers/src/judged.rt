@@ -5,6 +5,7 @@ ghost use Rattle.std.specs.Bool.{OnFalse, OnTrue};
 ghost use Rattle.std.specs.Str.{str_to_ascii_lowercase};
 ghost use Rattle.hex_core.specs.declared.digit.CheckCase.TheVariants as policy;
 ghost use Rattle.hex_core.specs.Laws.{AreBytes};
+ghost use Rattle.hex_core.specs.Search.{first_invalid};
 ghost use Rattle.hex_core.specs.Text.{Spells, lowercase, text, with_front};
 ghost use Rattle.hex_lists.specs.declared.digests.Entry.{Entry};
 ghost use Rattle.hex_lists.specs.Lists.{Lists};
@@ -94,6 +95,7 @@ pub fn record_tag(src: &[u8], buffer: &mut [u8]) -> Result<Option<u8>, Error>
 /// assert_eq!(rt; page[63], 7);
 /// ```
 pub fn decode_page(plan: Backend, digits: &[u8; 128], page: &mut [u8; 64]) -> bool
+    ensures valid { IsTrue result ↔ (first_invalid policy.None digits.now ≡ None) }
     ensures read { OnTrue result (Spells policy.None digits.now page.new) }
     ensures kept { OnFalse result (slice_index page.new 63 ≡ slice_index page.old 63) }
 {
