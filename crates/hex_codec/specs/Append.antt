@@ -1,9 +1,10 @@
 -- What a string holds after an append.
-use Rattle.std.specs.Prelude.{◌≡◌, ℕ, ◌+◌, ◌*◌, ◌≤◌, Bool, List, ◌++◌, length, Result, MatchResult, IsOk, OnOk, string_bytes, string_len, string_capacity}
+use Rattle.std.specs.Prelude.{◌≡◌, ℕ, ◌+◌, ◌*◌, ◌^◌, ◌<◌, ◌≤◌, Bool, List, ◌++◌, length, Result, MatchResult, IsOk, OnOk, string_bytes, string_len, string_capacity}
 use Rattle.std.specs.declared.string.String.{String}
 use Rattle.hex_core.specs.declared.error.Error.{Error}
 use Rattle.hex_core.specs.Text.{text}
 use Rattle.hex_codec.specs.Calls.{EncodesBehind}
+use Rattle.hex_codec.specs.Failure.{AppendFailure}
 
 -- the old text followed by the new one at `Ok`, the old text alone at `Err`
 abbrev pub AppendsText : {T : Type 0} → Result T Error → List ℕ → List ℕ → List ℕ → Type 0
@@ -16,6 +17,10 @@ AppendsDigits upper bytes result old new =
     AppendsText result (string_bytes old) (text upper bytes) (string_bytes new)
     × OnOk result (string_len new ≡ string_len old + 2 * length bytes)
     × (string_capacity old ≤ string_capacity new)
+
+-- an append of a list's digits behind `had` bytes: their end is a `usize`, or a failure
+abbrev pub FitsBehind : {T : Type 0} → ℕ → List ℕ → Result T Error → Type 0
+FitsBehind had bytes result = MatchResult result (λ _. had + 2 * length bytes < 2 ^ 64) (λ e. AppendFailure had bytes e)
 
 -- there is no error where the spare room of the string holds the digits
 abbrev pub SucceedsInSpareRoom : {A T : Type 0} → List ℕ → String A → Result T Error → Type 0

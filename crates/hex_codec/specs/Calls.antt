@@ -1,12 +1,13 @@
 -- What a call answers, beside those into a destination: arrays, vectors and texts.
-use Rattle.std.specs.Prelude.{◌≡◌, ℕ, ◌+◌, ◌*◌, ◌^◌, ◌<◌, Bool, List, length, Result, MatchResult, vec_items}
+use Rattle.std.specs.Prelude.{◌≡◌, ℕ, ◌+◌, ◌*◌, ◌^◌, ◌<◌, Bool, List, ◌++◌, length, Result, MatchResult, string_bytes, vec_items}
+use Rattle.std.specs.declared.string.String.{String}
 use Rattle.std.specs.declared.vec.Vec.{Vec}
 use Rattle.hex_core.specs.declared.digit.CheckCase.{CheckCase}
 use Rattle.hex_core.specs.declared.error.Error.{Error}
 use Rattle.hex_core.specs.Calls.{Answers}
 use Rattle.hex_core.specs.Refusal.{OwnedFailure, array_refusal, encode_refusal}
 use Rattle.hex_core.specs.Text.{Spells, text}
-use Rattle.hex_codec.specs.Failure.{AppendFailure}
+use Rattle.hex_codec.specs.Failure.{AppendFailure, GrowthFailure}
 
 -- decoding into an array of n bytes: what the source spells, or the refusal
 abbrev pub DecodesArray : CheckCase → List ℕ → ℕ → Result (List ℕ) Error → Type 0
@@ -25,3 +26,9 @@ abbrev pub EncodesBehind : {S : Type 0} → (S → List ℕ) → ℕ → Bool �
 EncodesBehind shown had upper bytes result = MatchResult result
     (λ string. (had + 2 * length bytes < 2 ^ 64) × (shown string ≡ text upper bytes))
     (λ e. AppendFailure had bytes e)
+
+-- encoding into new memory behind a prefix: both, whose length is a `usize`, or a failure
+abbrev pub EncodesPrefixed : {A : Type 0} → List ℕ → Bool → List ℕ → Result (String A) Error → Type 0
+EncodesPrefixed prefix upper bytes result = MatchResult result
+    (λ string. (length prefix + 2 * length bytes < 2 ^ 64) × (string_bytes string ≡ prefix ++ text upper bytes))
+    (λ e. GrowthFailure 0 (length prefix + 2 * length bytes) e)

@@ -1,9 +1,9 @@
 //! Decoding hex digits.
 
-ghost use Rattle.std.specs.Prelude.{◌≡◌, ◌*◌, ◌↔◌, IsTrue, None, Some, length, MatchResult};
+ghost use Rattle.std.specs.Prelude.{◌≡◌, ◌*◌, ◌↔◌, IsTrue, None, length};
 ghost use Rattle.std.specs.Borrow.{sem};
 ghost use Rattle.hex_core.specs.declared.digit.CheckCase.TheVariants as policy;
-ghost use Rattle.hex_core.specs.Calls.{Decodes, DecodesFront};
+ghost use Rattle.hex_core.specs.Calls.{Answers, Decodes, DecodesFront};
 ghost use Rattle.hex_core.specs.Loan.{LendsAnswer};
 ghost use Rattle.hex_core.specs.Refusal.{first_bad_char};
 ghost use Rattle.hex_core.specs.Search.{first_invalid};
@@ -255,9 +255,7 @@ const OWNED: usize = 1024;
 #[inline(always)]
 fn decode_whole(src: &[u8], dst: &mut [u8], case: CheckCase) -> Result<(), Error>
     requires { length src.now ≡ 2 * length dst.old }
-    ensures { MatchResult result
-        (λ _. (first_invalid case src.now ≡ None) × Spells case src.now dst.new)
-        (λ e. first_bad_char case src.now ≡ Some e) }
+    ensures { Answers (first_bad_char case src.now) (λ _. Spells case src.now dst.new) result }
 {
     let decoded = if dst.len() > OWNED {
         Backend::plain().decode_owned(src, dst, case)

@@ -6,9 +6,8 @@ ghost use Rattle.std.specs.Str.{IsAscii};
 ghost use Rattle.std.specs.Io.BufRead.{Rests};
 ghost use Rattle.std.specs.contracts.string.String.{the_row};
 ghost use Rattle.hex_core.specs.Text.{lowercase, text, uppercase};
-ghost use Rattle.hex_codec.specs.Append.{AnswersSuffix, AppendsDigits, SucceedsInSpareRoom};
-ghost use Rattle.hex_codec.specs.Calls.{EncodesBehind};
-ghost use Rattle.hex_codec.specs.Failure.{AppendFailure, GrowthFailure};
+ghost use Rattle.hex_codec.specs.Append.{AnswersSuffix, AppendsDigits, FitsBehind, SucceedsInSpareRoom};
+ghost use Rattle.hex_codec.specs.Calls.{EncodesBehind, EncodesPrefixed};
 
 use crate::chunks::{CHUNK, CHUNK_DIGITS, chunk_text};
 use hex_core::{Backend, Error};
@@ -78,9 +77,7 @@ pub fn hex_append_into<A: Allocator>(
     dst: &mut String<A>,
     upper: bool,
 ) -> Result<(), Error>
-    ensures answer { MatchResult result
-        (λ _. string_len dst.old + 2 * length src.now < 2 ^ 64)
-        (λ e. AppendFailure (string_len dst.old) src.now e) }
+    ensures answer { FitsBehind (string_len dst.old) src.now result }
     ensures fits { SucceedsInSpareRoom src.now dst.old result }
     ensures appended { AppendsDigits upper src.now result dst.old dst.new }
 {
@@ -177,10 +174,7 @@ pub fn prefixed_string<A: Allocator + Drop>(
     upper: bool,
 ) -> Result<String<A>, Error>
     requires { IsAscii prefix.now }
-    ensures { MatchResult result
-        (λ string. (length prefix.now + 2 * length src.now < 2 ^ 64)
-        × (string_bytes string ≡ prefix.now ++ text upper src.now))
-        (λ e. GrowthFailure 0 (length prefix.now + 2 * length src.now) e) }
+    ensures { EncodesPrefixed prefix.now upper src.now result }
 {
     let Some(digits_len) = src.len().checked_mul(2) else {
         return Err(Error::Overflow);

@@ -41,6 +41,10 @@ kept_error sink = sink.last_error
 abbrev pub writer_state : {W : Type 0} → (W → Option (List ℕ)) → WriterSink W → SinkState
 writer_state contents sink = record { taken = contents sink.writer; failures = sink.failed; free = None; loan = None }
 
+-- a writer's sink is over this writer, keeps no error and has counted none
+abbrev pub IsFreshOver : {W : Type 0} → (W → Option (List ℕ)) → W → WriterSink W → Type 0
+IsFreshOver contents writer sink = (writer_of sink ≡ writer) × (kept_error sink ≡ None) × ((writer_state contents sink).failures ≡ 0)
+
 -- what a new slice's sink shows: it has taken nothing, and all of the buffer that it is lent is free
 abbrev pub fresh_state : MutBor (List ℕ) → SinkState
 fresh_state buf = record { taken = Some []; failures = 0; free = Some buf.now; loan = Some buf.ghost_name }

@@ -195,9 +195,7 @@ impl<W: Write> WriterSink<W> {
 
     /// A sink that hands its pieces to `writer`, has met no error and counts no failure.
     pub fn new(writer: W) -> WriterSink<W>
-        ensures writer { writer_of result ≡ writer }
-        ensures error { kept_error result ≡ None }
-        ensures failures { (writer_state W.contents result).failures ≡ 0 }
+        ensures { IsFreshOver W.contents writer result }
     {
         WriterSink {
             writer,
