@@ -191,7 +191,7 @@ pub struct WriterSink<W: Write> {
 }
 
 impl<W: Write> WriterSink<W> {
-    ghost use Rattle.hex_format.specs.Sinks.{writer_of, kept_error, writer_state};
+    ghost use Rattle.hex_format.specs.Sinks.{IsFreshOver, kept_error, writer_of};
 
     /// A sink that hands its pieces to `writer`, has met no error and counts no failure.
     pub fn new(writer: W) -> WriterSink<W>

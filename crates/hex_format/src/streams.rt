@@ -1,6 +1,7 @@
 //! Decoding and encoding all that a reader gives, through constant memory.
 
-ghost use Rattle.std.specs.Prelude.{◌<◌, ◌-◌, ◌^◌};
+ghost use Rattle.std.specs.Prelude.{◌<◌, ◌-◌, ◌^◌, IsErr};
+ghost use Rattle.std.specs.Bool.{OnTrue};
 ghost use Rattle.std.specs.Io.{ReadsAtMost};
 ghost use Rattle.std.specs.Io.KnownBytes.{ReadConsumes};
 ghost use Rattle.hex_format.specs.Streams.{DecodesStream, EncodesStream, Ends};
@@ -152,10 +153,17 @@ fn read_again<R: Read>(reader: &mut R, buf: &mut [u8]) -> io::Result<usize>
     ensures bytes { ReadConsumes (R.remaining reader.old) (R.remaining reader.new) result buf.new }
 {
     'tries: for _ in 0..u64::MAX {
-        match reader.read(buf) {
-            Err(error) if error.kind() == ErrorKind::Interrupted => {}
-            answer => return answer,
+        let answer = reader.read(buf);
+        if !was_interrupted(&answer) {
+            return answer;
         }
     }
     Err(io::Error::from(ErrorKind::Interrupted))
+}
+
+// Whether a read gave nothing, and only because it was interrupted.
+fn was_interrupted(answer: &io::Result<usize>) -> bool
+    ensures { OnTrue result (IsErr answer.now) }
+{
+    matches!(answer, Err(error) if error.kind() == ErrorKind::Interrupted)
 }
