@@ -1,59 +1,119 @@
--- What the walks of the appends share: the names that they cite, and the type of the answer.
-pub use mathlib.Core.Path.{◌≡◌, refl}
-pub use mathlib.Core.List.{List, [], ◌∷◌}
-pub use Prim.Native.Nat.{ℕ, ◌+◌, ◌*◌, ◌^◌, ◌<◌}
-pub use lib.ListN.{length}
-pub use mir.Syntax.{Args, a_type, dcons, dnil, named}
-pub use mir.MapTy.{inst_fn}
-pub use mir.Val.{vbool}
-pub use base.Logic.{id⊢}
-pub use base.Fml.{Lft, ftrue, flft}
-pub use contract.BorrowLft.{◌⊑◌}
-pub use contract.Monad.{fact}
-pub use contract.Running.{tables}
-pub use types.Kit.{‵, ◌⊛◌, raw, some, later, ◌$◌, ◌∵◌, !, qed, move, keep, drop, split, join, fjoin, use1, use2, await, pick, suffices, frame, done}
-pub use types.Run.{stop, addr, false_lit, true_lit, and_then, no_more, returns, enter}
-pub use types.ByLocal.{alloc_all, pass_all, free_all, look_at, get, sets, lands_as, through}
-pub use denote.Builtin.{u8, bool}
-pub use denote.Enum.Laws as enum_laws
-pub use denote.Exit.{yes, no}
-pub use denote.Laws.{Is, shows}
-pub use denote.Param.{param, bounded}
-pub use denote.Param.Laws as param_laws
-pub use denote.Plain.{bool_vals, bool_Makes}
-pub use denote.RattleType.{RattleType}
-pub use denote.Ref.{MutRef, NamedLft, mut_vals, mut_Tells}
-pub use denote.Signature.{plain, shr_slice_of, mut_ref_to}
-pub use denote.Slice.{ShrSlice, Room, shr_slice_vals, shr_slice_Tells}
-pub use denote.Bor.{Bor}
-pub use denote.Steps.{nothing, owned, peeks, heard}
-pub use denote.Text.{str-field, str-laws}
-pub use denote.Triple.Call.{calls_at}
-pub use denote.Triple.Clauses.{Lasts, lasts}
-pub use denote.Triple.Spec.{triple_of}
-pub use denote.Triple.Table.{framed}
-pub use denote.Triple.Walked.{says, Stays, stay_dropped, ends_at, Goes-dropped, Goes-spent_ref}
-pub use borrow.Table.Str.{str_laws}
-pub use Rattle.std.specs.Prelude.{Result, MatchResult, string_bytes, string_len, Bool, true, false}
-pub use Rattle.std.specs.Io.BufRead.{Rests}
-pub use Rattle.std.specs.contracts.result.Result as RS
-pub use Rattle.std.proofs.result.Result.TheLaws as RL
-pub use Rattle.std.specs.contracts.string.String as S
-pub use Rattle.std.proofs.raw_atomic.Walks.{proved}
-pub use Rattle.hex_core.specs.contracts.error.Error as E
-pub use Rattle.hex_core.proofs.error.Error.TheLaws as EL
-pub use Rattle.hex_core.specs.Text.{text}
-pub use Rattle.hex_codec.specs.Append.{AppendsText}
-pub use Rattle.hex_codec.specs.Failure.{AppendFailure}
+-- The walk of `hex_append` and of `hex_append_upper`: both pass on what `append_in` answers, with the lender in the other place.
+use Rattle.hex_core.proofs.WalkKit.{refl, ℕ, Bool, List, [], ◌∷◌, length, Ura, named, erased, sep, emp, id⊢, Lft, ftrue, flft, Logic, ‵, ◌⊛◌, raw, some, later, ◌$◌, ◌∵◌, !, qed, move, keep, drop, split, join, fjoin, use1, use2, await, pick, suffices, frame, done, stop, addr, and_then, no_more, returns, enter, alloc_all, pass_all, free_all, look_at, get, sets, lands_as, fact, tables, u8, bool, yes, no, Is, shows, bool_vals, bool_Makes, RattleType, plain, shr_slice_of, ShrSlice, Room, shr_slice_vals, shr_slice_Tells, nothing, owned, peeks, heard, calls_at, Lasts, lasts, triple_of, framed, says, Stays, stay_dropped, ends_at, Goes-dropped, Result, proved}
+use borrow.Table.Str.{str_laws}
+use contract.BorrowLft.{◌⊑◌}
+use contract.Running.{Running}
+use denote.Bor.{Bor}
+use denote.Enum.Laws as enum_laws
+use denote.Memory.{lone}
+use denote.Param.Laws as param_laws
+use denote.Param.{param}
+use denote.Ref.{MutRef, NamedLft, mut_vals, mut_Tells}
+use denote.Signature.{mut_ref_to}
+use denote.Text.{str-field, str-laws}
+use denote.Triple.Clauses.{Clauses, closing}
+use denote.Triple.Spec.{Meets}
+use denote.Triple.Walked.{Goes-spent_ref}
+use mir.Syntax.{Callee, Dict, Fn, Ty, ty_ref, mut, place, deref, local, value_local, copy, seq, call, assign, addr_of, return}
+use mir.Val.{vbool}
+use prog.Model.{Model}
+use prog.Wp.{Closed}
+use types.ByLocal.{through}
+use types.Logic.{sem}
+use Rattle.std.specs.Io.BufRead.{Rests}
+use Rattle.std.specs.contracts.result.Result as RS
+use Rattle.std.proofs.result.Result.TheLaws as RL
+use Rattle.std.specs.contracts.string.String as S
+use Rattle.hex_core.specs.contracts.error.Error as E
+use Rattle.hex_core.proofs.error.Error.TheLaws as EL
+use Rattle.std.specs.declared.alloc.Allocator.{Ghosts}
+use Rattle.hex_codec.proofs.EncodeWalk.{choice, passed}
+use Rattle.hex_codec.specs.Append.{AnswersSuffix, AppendsDigits}
+use Rattle.hex_codec.specs.contracts.strings.append_in as h
+use Rattle.hex_codec.specs.contracts.strings.hex_append as f
 
 -- the answer's text, borrowed for the second lifetime
-abbrev pub slot : Lft → NamedLft
+abbrev slot : Lft → NamedLft
 slot κ = record { mir = named 1; lft = κ }
 
 -- the answer
-abbrev pub Answer : Lft → RattleType
+abbrev Answer : Lft → RattleType
 Answer κ = RS.the_row (str-field (slot κ)).row E.the_row
 
 -- its laws
-abbrev pub AnswerLaws : (κ : Lft) → enum_laws.Laws (RS.the_type (str-field (slot κ)).row E.the_row)
+abbrev AnswerLaws : (κ : Lft) → enum_laws.Laws (RS.the_type (str-field (slot κ)).row E.the_row)
 AnswerLaws κ = RL.the_laws (str-field (slot κ)).row E.the_row (str_laws (slot κ)) EL.the_row_laws (param_laws.field_told (str-field (slot κ)) (str-laws (slot κ))) EL.the_told
+
+-- the two bodies, at a string's type as a reference names it and as it lies
+abbrev pub function : Ty → Ty → Callee → Bool → Fn
+function σ ρ appends upper = record {
+  lifetimes = 2;
+  outlives = (2, 1) ∷ [];
+  ty_params = [];
+  givens = 0;
+  params = 2;
+  locals = local (lone (Answer []).mir) value_local ∷ local (lone (ShrSlice (named 0) [] u8).mir) value_local
+      ∷ local (ty_ref (named 1) mut σ) value_local ∷ local (ty_ref erased mut σ) value_local ∷ [];
+  body = seq (assign (place 3 []) (addr_of (place 2 (deref ρ ∷ []))))
+      (seq (call appends (copy (place 3 []) ∷ copy (place 1 []) ∷ passed upper ∷ []) (place 0 [])) return);
+}
+
+module _ {M : Type 1} (𝓤 : Ura M) (𝓛 : Logic 𝓤) (𝓜 : Model 𝓤 𝓛.H) (𝓡 : Running 𝓤 𝓛.H 𝓜) (A : RattleType) (g : Ghosts A.Denot) (d dd : Dict) where
+  abbrev Owner : RattleType
+  Owner = S.the_row (param 0 A) g
+
+  abbrev stayed : Stays (f.ended A g d dd).signature.params (f.ended A g d dd).kept
+  stayed = (stay_dropped (shr_slice_of (0 ∷ []) tt (plain (λ _. u8))) yes, (stay_dropped (mut_ref_to (1 ∷ []) tt (plain (λ _. Owner))) no, tt))
+
+  -- what both promise
+  abbrev pub clauses : Bool → Clauses 𝓤 (f.ended A g d dd)
+  clauses upper κs a = record {
+    ghost = Unit {0};
+    requires = λ _. sep 𝓤 (fact 𝓤 (κs.1.1.0 ⊑ A.lives)) (emp 𝓤);
+    ensures = λ _ r _. sep 𝓤 (sem 𝓛 (Rests Owner a.1.0 (λ new. AppendsDigits upper a.0.now r a.1.0.now new)))
+        (fact 𝓤 (AnswersSuffix (λ suffix. suffix.now) upper a.0.now a.1.0.now r));
+  }
+
+  pub passes_on : (upper : Bool) (σ ρ : Ty) (appends k : Callee)
+      → Closed 𝓤 𝓛.H (tables 𝓤 𝓛.H 𝓜 𝓡 𝓡.env).C (tables 𝓤 𝓛.H 𝓜 𝓡 𝓡.env).Λ k (function σ ρ appends upper)
+      → Meets 𝓛 (h.signature A g d dd) ((tables 𝓤 𝓛.H 𝓜 𝓡 𝓡.env).C appends) (h.spec A g d dd 𝓛 𝓜.mem 𝓡.returns)
+      → Meets 𝓛 (f.ended A g d dd).signature ((tables 𝓤 𝓛.H 𝓜 𝓡 𝓡.env).C k) (closing 𝓛 (f.ended A g d dd) (clauses upper))
+  passes_on upper σ ρ appends k closed met =
+      proved 𝓛 (f.ended A g d dd) stayed (clauses upper) 𝓜 𝓡
+      (Goes-dropped 𝓛 3 (shr_slice_of (0 ∷ []) tt (plain (λ _. u8))) yes (λ κs x w. refl), (Goes-spent_ref 𝓛 3 (1 ∷ []) tt (plain (λ _. Owner)), tt))
+      k (function σ ρ appends upper) closed
+      (λ κs. (shr_slice_vals, (mut_vals, tt))) (λ κs. (shr_slice_Tells (named 0) κs.0 u8, (mut_Tells (named 1) κs.1.0 Owner, tt)))
+      (λ κs qs bounds a g₀ are.
+      let κ₀ = κs.0 in let κ₁ = κs.1.0 in let κ₂ = κs.1.1.0 in
+      let q₀ = qs.0 in let q₁ = qs.1.0 in let q₂ = qs.1.1.0 in
+      let src = a.0 in let dst = a.1.0 in
+      let rm : Room u8 (length src.now) = are.0.0.1 in
+      qed 𝓛 (((‵ (flft κ₀ q₀) ⊛ ‵ (flft κ₁ q₁) ⊛ ‵ (flft κ₂ q₂) ⊛ ‵ ftrue)
+      ⊛ (‵ ((ShrSlice (named 0) κ₀ u8).own_val src (shr_slice_vals src)) ⊛ ‵ ((MutRef (named 1) κ₁ Owner).own_val dst (mut_vals dst)) ⊛ ‵ ftrue))
+      ∷ (raw (fact 𝓤 (κ₂ ⊑ A.lives)) ⊛ ‵ ftrue) ∷ []) ∵
+      -- the callee's tokens and arguments: the string first
+      split ! $ split ! $ move ! (1 ∷ []) $ split ! $ move ! (2 ∷ 1 ∷ []) $ join ! $ move ! (1 ∷ 0 ∷ []) $ join ! $
+      move ! (1 ∷ []) $ split ! $ move ! (1 ∷ []) $ split ! $ move ! (1 ∷ []) $
+      owned ! bool (Is bool) (bool_Makes 𝓛) upper (vbool upper ∷ []) refl $ join ! $
+      move ! (2 ∷ 0 ∷ []) $ join ! $ move ! (1 ∷ 0 ∷ []) $ join ! $ move ! (1 ∷ 0 ∷ []) $ join ! $
+      enter ! _ _ _ _ _ $ alloc_all ! (λ l. pass_all ! refl ((tt, (tt, (record { fits = rm.0 }, tt))), ((tt, tt), tt)) $
+      sets ! (addr ! (through ! refl (stop !))) refl (tt, tt) $
+      let G = triple_of 𝓛 (h.signature A g d dd) (h.spec A g d dd 𝓛 𝓜.mem 𝓡.returns) in
+      let z : G.Ghost = (((κ₁, (κ₀, (κ₂, tt))), (q₁, (q₀, (q₂, tt))), bounds, (dst, (src, (upper, tt))), (mut_vals dst, (shr_slice_vals src, (bool_vals upper, tt)))), tt) in
+      use2 𝓛 (raw (G.pre z)) (id⊢ 𝓤 _) $
+      calls_at ! (framed 𝓤 𝓛.H 𝓜 (tables 𝓤 𝓛.H 𝓜 𝓡 𝓡.env)) G met z
+      (and_then ! (get ! refl) (and_then ! (get ! refl) (and_then ! (choice ! upper) (no_more !)))) (λ w.
+      use1 𝓛 (later (some (λ (r : Result (Bor (List ℕ)) E.the_row.Denot). ((‵ (flft κ₁ q₁) ⊛ ‵ (flft κ₀ q₀) ⊛ ‵ (flft κ₂ q₂) ⊛ ‵ ftrue) ⊛ ‵ ((Answer κ₁).own_val r (w ∷ [])))
+      ⊛ some (λ (ws : Lasts (h.ended A g d dd) z.0.0 z.0.3). ‵ (lasts (h.ended A g d dd) z.0.0 z.0.3 ws)
+      ⊛ (‵ (Rests Owner dst (λ new. AppendsDigits upper src.now r dst.now new))
+      ⊛ raw (fact 𝓤 (AnswersSuffix (λ suffix. suffix.now) upper src.now dst.now r))))))) (id⊢ 𝓤 _) $
+      await ! tt $ pick ! (λ r. split ! $ split ! $ move ! (1 ∷ []) $
+      peeks ! (Answer κ₁) (Is (Answer κ₁)) (shows 𝓛 (Answer κ₁)) r (w ∷ []) (λ is-r.
+      lands_as ! refl refl ((enum_laws.lawful (RS.the_type (str-field (slot κ₁)).row E.the_row) (AnswerLaws κ₁) 𝓛 tt).typed r (w ∷ []) is-r).0 $
+      move ! (2 ∷ []) $ pick ! (λ ws. split ! $ drop ! $ split ! $ move ! (1 ∷ []) $ heard ! _ (λ answer.
+      -- [the loan; the result; the tokens]
+      returns ! (look_at ! 0 refl) $ free_all ! refl $
+      move ! (2 ∷ []) $ split ! $ move ! (1 ∷ []) $ split ! $ move ! (2 ∷ 1 ∷ []) $ join ! $ move ! (1 ∷ 0 ∷ []) $ join ! $
+      keep ! (2 ∷ 0 ∷ 1 ∷ []) $
+      suffices ! _ (ends_at 𝓛 (f.ended A g d dd) stayed (clauses upper) ((κs, qs, bounds, a, (shr_slice_vals src, (mut_vals dst, tt))), g₀) w r (tt, (tt, tt)) (tt, (tt, tt))) $
+      nothing ! $ nothing ! $ fjoin ! $ nothing ! $ fjoin ! $ join ! $ move ! (1 ∷ 0 ∷ []) $ join ! $ frame ! $ says ! answer $ done !)))))))

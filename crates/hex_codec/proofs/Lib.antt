@@ -1,5 +1,6 @@
 mod AppendWalk
 mod CountLemmas
+mod EncodeWalk
 pub mod GroupLemmas
 pub mod GroupLoan
 mod GroupTextLemmas

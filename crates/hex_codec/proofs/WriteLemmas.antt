@@ -1,16 +1,16 @@
 -- Bytes that are written behind others.
-use Rattle.std.proofs.Common.{◌≡◌, ◌⊎◌, inl, inr, ℕ, min, ◌+◌, ◌-◌, ◌*◌, ◌%◌, ◌<◌, ◌≤◌, Bool, true, false, refl, sym, ap, ◌∙◌, arith, None, List, [], ◌++◌, length, take, drop, get_or, append-nil, append_assoc, length-append, length-drop, take-append-drop}
+use Rattle.std.proofs.Common.{◌≡◌, ◌⊎◌, inl, inr, ℕ, min, ◌+◌, ◌-◌, ◌*◌, ◌%◌, ◌<◌, ◌≤◌, Bool, true, false, refl, sym, ap, ◌∙◌, arith, None, List, [], ◌++◌, length, take, drop, append-nil, append_assoc, length-append, length-drop, take-append-drop}
 use Rattle.std.proofs.lemmas.Bool.{cases_lt}
-use Rattle.std.proofs.lemmas.List.{drop-drop, drop_all, get_or_append_left, get_or-append_right, length-take-le, take_all, take_rest}
+use Rattle.std.proofs.lemmas.List.{drop-drop, drop_all, length-take-le, take_all, take_rest}
 use Rattle.std.proofs.lemmas.Slice.{take-put_mid}
 use borrow.Rule.Slice.PartMut.{put_mid}
 use Rattle.hex_core.specs.declared.digit.CheckCase.{CheckCase}
 use Rattle.hex_core.specs.Calls.{DecodesWhole}
 use Rattle.hex_core.specs.Search.{first_invalid}
-use Rattle.hex_core.specs.Text.{Spells, SpellsAt}
+use Rattle.hex_core.specs.Text.{Spells}
+use Rattle.hex_core.proofs.JoinLemmas.{spells-joined}
 use Rattle.hex_core.proofs.PositionLemmas.{none_joined}
 use Rattle.hex_core.proofs.SearchLemmas.{lacks}
-use Rattle.hex_core.proofs.SpellsLemmas.{spelled_along}
 use Rattle.hex_codec.specs.declared.group.Group.{Group}
 use Rattle.hex_codec.specs.declared.unseparate.Front.{Front}
 use Rattle.hex_codec.specs.Grouped.{piece_len}
@@ -18,24 +18,6 @@ use Rattle.hex_codec.specs.GroupedText.{digits_in}
 use Rattle.hex_codec.specs.Unseparate.{IsWhole, UnseparatesFront, ValidDigits, WritesFront}
 use Rattle.hex_codec.proofs.CountLemmas.{even-digits}
 use Rattle.hex_codec.proofs.PartLemmas.{joined, parted, unparted}
-
--- what two texts spell, they spell joined
-pub spells-joined : (c : CheckCase) (a b x y : List ℕ) → Spells c a x → Spells c b y → Spells c (a ++ b) (x ++ y)
-spells-joined c a b x y h k = record {
-  twice = omega (arith, length-append a b, length-append x y, h.twice, k.twice);
-  each = λ i lt. each i (omega (arith, lt, length-append x y)) (cases_lt i (length x));
-}
-  where
-    each : (i : ℕ) → i < length x + length y → (i < length x) ⊎ (length x ≤ i) → SpellsAt c (a ++ b) (x ++ y) i
-    each i lt (inl l) =
-        spelled_along c a (a ++ b) x (x ++ y) i i (get_or_append_left a b 0 (2 * i) (omega (arith, h.twice)))
-        (get_or_append_left a b 0 (2 * i + 1) (omega (arith, h.twice))) (get_or_append_left x y 0 i l) (h.each i l)
-    each i lt (inr r) =
-        let j = i - length x in
-        let digit : (m n : ℕ) → length a + m ≡ n → get_or (a ++ b) n 0 ≡ get_or b m 0 = λ m n e. get_or-append_right a b (length a) n 0 refl
-        (omega arith) ∙ ap (λ p. get_or b p 0) (omega arith) in
-        spelled_along c b (a ++ b) y (x ++ y) j i (digit (2 * j) (2 * i) (omega (arith, h.twice)))
-        (digit (2 * j + 1) (2 * i + 1) (omega (arith, h.twice))) (get_or-append_right x y (length x) i 0 refl r) (k.each j (omega arith))
 
 -- decoding valid digits leaves what they spell
 pub decoded : (c : CheckCase) (s old new : List ℕ) (done : Bool) → first_invalid c s ≡ None → DecodesWhole c s old new done → Spells c s new

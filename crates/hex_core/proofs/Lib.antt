@@ -25,3 +25,4 @@ pub mod TableLemmas
 pub mod TextBlockLemmas
 pub mod TextLemmas
 pub mod WalkKit
+mod WriteWalk

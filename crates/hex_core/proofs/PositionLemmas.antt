@@ -1,13 +1,15 @@
 -- The first place of a list that passes a test.
-use Rattle.std.proofs.Common.{◌≡◌, ℕ, ◌+◌, ◌-◌, ◌<◌, ◌≤◌, ◌↔◌, Bool, true, false, inl, inr, List, ◌++◌, length, length-append, slice_index, Option, Some, None, option_map, refl, ◌∙◌, arith}
-use Rattle.std.specs.Prelude.{position}
+use Rattle.std.proofs.Common.{◌≡◌, ℕ, ◌+◌, ◌-◌, ◌<◌, ◌≤◌, ◌↔◌, Bool, true, false, cond, eqb, not, inl, inr, List, ◌++◌, length, length-append, slice_index, Option, Some, None, option_map, refl, ap, ◌∙◌, arith}
+use Rattle.std.specs.Option.{option_or}
+use Rattle.std.specs.Prelude.{nat_lt, position}
 use Rattle.std.specs.List.{position_or_len, range_with_len}
 use Rattle.std.proofs.lemmas.Bool.{cases_lt}
+use Rattle.std.proofs.lemmas.Bool.Decides.{nat_tests}
 use Rattle.std.proofs.lemmas.Grind.{common_steps}
-use Rattle.std.proofs.lemmas.List.{get_or-append-add, get_or-append_right, get_or_append_left}
+use Rattle.std.proofs.lemmas.List.Folds.{prefix_len-append}
 use Rattle.std.proofs.lemmas.List.FromFn.{get_or-range_with_len, length-range_with_len}
 use Rattle.std.proofs.lemmas.List.Quantifiers.{position-Some}
-use Rattle.std.proofs.lemmas.List.Sums.{fails_before_first, position_or_len_is}
+use Rattle.std.proofs.lemmas.List.Sums.{fails_before_first, position_or_len_is, prefix_len-le-length}
 
 -- the first place that passes
 pub position_is : (p : ℕ → Bool) (s : List ℕ) (i : ℕ) → i < length s → ((k : ℕ) → k < i → p (slice_index s k) ≡ false) → p (slice_index s i) ≡ true
@@ -28,21 +30,25 @@ before_none p s e k inside =
     let past : length s ≤ position_or_len p s = grind (arith, common_steps) in
     fails_before_first p s k 0 (omega arith)
 
--- no place of a joined list passes exactly where none of either list does
+-- that of a joined list is that of the first list, and else that of the second
+joined_at : (m n i j k : ℕ) → i ≤ m → k ≡ cond (eqb i m) (m + j) i
+    → cond (nat_lt k (m + n)) (Some k) None ≡ option_or (cond (nat_lt i m) (Some i) None) (option_map (λ x. m + x) (cond (nat_lt j n) (Some j) None))
+joined_at m n i j k le e = grind (arith, nat_tests)
+
+pub position-joined : (p : ℕ → Bool) (a b : List ℕ) → position p (a ++ b) ≡ option_or (position p a) (option_map (λ i. length a + i) (position p b))
+position-joined p a b =
+    ap (λ n. cond (nat_lt (position_or_len p (a ++ b)) n) (Some (position_or_len p (a ++ b))) None) (length-append a b)
+    ∙ joined_at (length a) (length b) (position_or_len p a) (position_or_len p b) (position_or_len p (a ++ b))
+    (prefix_len-le-length (λ x. not (p x)) a) (prefix_len-append (λ x. not (p x)) a b)
+
+-- so it has none exactly where neither list has one
+neither : (o p : Option ℕ) (n : ℕ) → (option_or o (option_map (λ i. n + i) p) ≡ None) ↔ ((o ≡ None) × (p ≡ None))
+neither (Some i) p n = (λ e. cc, λ (x, y). cc)
+neither None (Some i) n = (λ e. cc, λ (x, y). cc)
+neither None None n = (λ e. (refl, refl), λ _. refl)
+
 pub none_joined : (p : ℕ → Bool) (a b : List ℕ) → (position p (a ++ b) ≡ None) ↔ ((position p a ≡ None) × (position p b ≡ None))
-none_joined p a b =
-    let size = length-append a b in (
-      λ none.
-          let never = before_none p (a ++ b) none in (
-            position_none p a (λ k lt. rw (get_or_append_left a b 0 k lt) at (never k (omega (arith, lt, size)))),
-            position_none p b (λ k lt. rw (get_or-append-add a b k 0) at (never (length a + k) (omega (arith, lt, size)))),
-          ),
-      λ (x, y). position_none p (a ++ b) (λ k lt.
-          elim (cases_lt k (length a)) [
-            | inl front ↦ rw (get_or_append_left a b 0 k front) (before_none p a x k front)
-            | inr back ↦ rw (get_or-append_right a b (length a) k 0 refl back) (before_none p b y (k - length a) (omega (arith, lt, size)))
-          ]),
-    )
+none_joined p a b = rw (position-joined p a b) (neither (position p a) (position p b) (length a))
 
 -- ---- the least number that passes
 

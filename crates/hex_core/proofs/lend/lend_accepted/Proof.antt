@@ -1,11 +1,11 @@
 -- `lend_accepted` lends the first bytes of a slice, or hands on the refusal.
-use Rattle.hex_core.proofs.WalkKit.{◌≡◌, refl, sym, subst, arith, ℕ, ◌^◌, ◌<◌, ◌≤◌, List, [], ◌∷◌, lit<, length, take, Ura, named, w64, Val, vint, SProp, ent, id⊢, Lft, GName, ftrue, flft, Logic, fact, ‵, ◌⊛◌, raw, some, later, ◌$◌, ◌∵◌, !, qed, move, keep, drop, rewrite, split, split3, join, fsplit3, fjoin, use1, use2, await, pick, suffices, frame, done, whole, sub, agg, stop, fld, hop, from, addr, of_opd, and_then, no_more, returns, enter, alloc_all, pass_all, free_all, look_at, look_in_at, get, get_in, sets, tables, u8, no, Is, RattleType, owns, MutBor, plain, mut_slice_of, MutSlice, Room, slice_val, mut_slice_vals, mut_slice_Tells, nothing, heard, Stays, stay_dropped, ends_at, Goes-spent_slice, Result, Ok, Err, IfOk}
+use Rattle.hex_core.proofs.WalkKit.{◌≡◌, refl, sym, subst, arith, ℕ, ◌^◌, ◌<◌, ◌≤◌, List, [], ◌∷◌, lit<, length, take, Ura, named, w64, Val, vint, ent, id⊢, ftrue, flft, Logic, fact, ‵, ◌⊛◌, raw, some, later, ◌$◌, ◌∵◌, !, qed, move, keep, drop, rewrite, split, split3, join, fsplit3, fjoin, use1, use2, await, pick, suffices, frame, done, whole, sub, agg, stop, fld, hop, from, addr, of_opd, and_then, no_more, returns, enter, alloc_all, pass_all, free_all, look_at, look_in_at, get, get_in, sets, tables, u8, no, Is, RattleType, owns, MutBor, plain, mut_slice_of, MutSlice, Room, slice_val, mut_slice_vals, mut_slice_Tells, nothing, heard, Stays, stay_dropped, ends_at, Goes-spent_slice, Result, Ok, Err, IfOk}
 use contract.BorrowLft.{◌⊑◌}
 use contract.Lifetimes.{AllOutlive, Lfts, Shares}
 use contract.Running.{Running, MachineTables}
 use mir.MapTy.{inst_fn}
-use mir.Syntax.{Args, Body, Fn, a_type, seq, assign, place, rv_opd, copy, return}
-use base.Fml.{Share, fobs, fres}
+use mir.Syntax.{Body, Fn, a_type, seq, assign, place, rv_opd, copy, return}
+use base.Fml.{fobs, fres}
 use base.Stored.{coded_list}
 use prog.Model.{Model}
 use prog.Wp.{WpFn, Env}
@@ -17,7 +17,7 @@ use denote.Follow.{follows_by}
 use denote.FollowSlice.{heres_id}
 use denote.Param.{layouts, param}
 use denote.Param.Laws.{Laws, param_laws}
-use denote.Triple.Clauses.{Clauses, Ended}
+use denote.Triple.Statement.{Contract}
 use denote.Triple.Walked.{Goes, walk_of}
 use Rattle.std.proofs.raw_atomic.Walks.{proved_at}
 use Rattle.std.proofs.mem.Facts.{says_two}
@@ -33,16 +33,10 @@ abbrev rest : Body
 rest = seq (assign (place 0 []) (rv_opd (copy (place 5 [])))) return
 
 module _ (E : RattleType) where
-  abbrev inst : Args
-  inst = layouts (a_type ∷ []) (E, tt)
-
   abbrev function : Fn
-  function = inst_fn inst code.function
+  function = inst_fn (layouts (a_type ∷ []) (E, tt)) code.function
 
-  abbrev ended : Ended
-  ended = f.ended E
-
-  abbrev stayed : Stays ended.signature.params ended.kept
+  abbrev stayed : Stays (f.ended E).signature.params (f.ended E).kept
   stayed = (stay_dropped (mut_slice_of (0 ∷ []) tt (plain (λ _. u8))) no, (stay_dropped (plain (λ _. CountedIn E)) no, tt))
 
   module _ {M : Type 1} {𝓤 : Ura M} (𝓛 : Logic 𝓤) where
@@ -57,47 +51,25 @@ module _ (E : RattleType) where
     abbrev 𝓣 : MachineTables 𝓤 H 𝓜
     𝓣 = tables 𝓤 H 𝓜 𝓡 𝓡.env
 
-    abbrev held : Clauses 𝓤 ended
-    held = f.clauses E 𝓛 𝓜.mem 𝓡.returns
+    abbrev W : Contract 𝓤
+    W = walk_of 𝓛 (f.ended E) stayed (f.clauses E 𝓛 𝓜.mem 𝓡.returns)
 
-    abbrev At : Result ℕ E.Denot → List Val → List Val → (walk_of 𝓛 ended stayed held).Ghost
+    abbrev At : Result ℕ E.Denot → List Val → List Val → W.Ghost
     At answer us vs = ((κs, qs, bounds, (self, (answer, tt)), (us, (vs, tt))), tt)
 
     abbrev Walks : Result ℕ E.Denot → List Val → List Val → Type 1
-    Walks answer us vs = ent 𝓤 ((walk_of 𝓛 ended stayed held).pre (At answer us vs)) (WpFn 𝓤 H 𝓣.C 𝓣.Λ function ((walk_of 𝓛 ended stayed held).args (At answer us vs)) ((walk_of 𝓛 ended stayed held).post (At answer us vs)))
-
-    abbrev Post : Result ℕ E.Denot → Val → Val → SProp 𝓤
-    Post answer v = (walk_of 𝓛 ended stayed held).post (At answer (mut_slice_vals self) (v ∷ []))
-
-    abbrev κ : Lft
-    κ = κs.0
-
-    abbrev κ' : Lft
-    κ' = κs.1.0
-
-    abbrev q : Share
-    q = qs.0
-
-    abbrev b : ℕ
-    b = self.ref_ptr.0
-
-    abbrev o : ℕ
-    o = self.ref_ptr.1
-
-    abbrev γ : GName
-    γ = self.ghost_name
-
-    abbrev xs : List ℕ
-    xs = self.now
+    Walks answer us vs = ent 𝓤 (W.pre (At answer us vs)) (WpFn 𝓤 H 𝓣.C 𝓣.Λ function (W.args (At answer us vs)) (W.post (At answer us vs)))
 
     abbrev Part : RattleType
-    Part = MutSlice (named 0) κ u8
+    Part = MutSlice (named 0) κs.0 u8
 
-    lends : (n : ℕ) → n < 2 ^ 64 → Room u8 (length xs) → Walks (Ok n) (mut_slice_vals self) (ok_val (vint w64 n) ∷ [])
+    lends : (n : ℕ) → n < 2 ^ 64 → Room u8 (length self.now) → Walks (Ok n) (mut_slice_vals self) (ok_val (vint w64 n) ∷ [])
     unfolding follows_by
     lends n fn rm =
-        qed 𝓛 (((‵ (flft κ q) ⊛ ‵ (flft κ' qs.1.0) ⊛ ‵ ftrue) ⊛ ‵ (owns (Part ∷ CountedIn E ∷ []) (self, (Ok n, tt)) (mut_slice_vals self, (ok_val (vint w64 n) ∷ [], tt))))
-        ∷ (raw (fact 𝓤 (κ' ⊑ E.lives)) ⊛ raw (fact 𝓤 (n ≤ length xs))) ∷ []) ∵
+        let κ = κs.0 in let q = qs.0 in let b = self.ref_ptr.0 in let o = self.ref_ptr.1 in let γ = self.ghost_name in let xs = self.now in
+        let y : W.Ghost = At (Ok n) (mut_slice_vals self) (ok_val (vint w64 n) ∷ []) in
+        qed 𝓛 (((‵ (flft κ q) ⊛ ‵ (flft κs.1.0 qs.1.0) ⊛ ‵ ftrue) ⊛ ‵ (owns (Part ∷ CountedIn E ∷ []) (self, (Ok n, tt)) (mut_slice_vals self, (ok_val (vint w64 n) ∷ [], tt))))
+        ∷ (raw (fact 𝓤 (κs.1.0 ⊑ E.lives)) ⊛ raw (fact 𝓤 (n ≤ length xs))) ∷ []) ∵
         move ! (1 ∷ []) $ split ! $ drop ! $ heard ! _ (λ le. split ! $
         let less : Room u8 n = (omega arith, omega arith) in
         enter ! _ _ _ _ _ $ alloc_all ! (λ l. pass_all ! refl ((tt, (tt, (record { fits = rm.0 }, tt))), ((tt, (record { fits = lit< tt }, (record { fits = fn }, tt))), tt)) $
@@ -108,24 +80,26 @@ module _ (E : RattleType) where
               sets ! (addr ! (from ! (fld ! refl (hop ! (look_in_at ! 1 (sub ! 0 refl (whole !))) (stop !))))) refl (tt, tt) $
               sets ! (agg ! (and_then ! (get ! refl) (and_then ! (get ! refl) (no_more !)))) refl (tt, (tt, (record { fits = fn }, tt))) $
               sets_last ! (agg ! (and_then ! (lit ! tt) (and_then ! (get ! refl) (no_more !)))) refl (tt, (record { fits = lit< tt }, ((tt, (record { fits = fn }, tt)), tt))) $
-              exec ! 𝓣.C 𝓣.Λ En rest (at_ret En (Post (Ok n) (ok_val (vint w64 n)))) $
+              exec ! 𝓣.C 𝓣.Λ En rest (at_ret En (W.post y)) $
               sets ! (of_opd ! (get ! refl)) refl (tt, (record { fits = lit< tt }, ((tt, (record { fits = fn }, tt)), tt))) $
               split ! $ move ! (2 ∷ []) $ fsplit ! $ move ! (0 ∷ 2 ∷ []) $
               use2 𝓛 (later (some (front_lent 𝓛 u8 (named 0) κ q b o γ xs n))) (lends_front 𝓛 u8 (named 0) κ q b o γ xs n le less (mut_slice_vals self)) $ await ! tt $ pick ! (λ δ.
               returns ! (look_at ! 0 refl) $ free_all ! refl $ keep ! (0 ∷ 2 ∷ []) $ split3 ! $
               let part : MutBor (List ℕ) = record { ref_ptr = (b, o); ghost_name = δ; now = take n xs } in
               use1 𝓛 (‵ ((LentIn E (named 0) κ).own_val (Ok part) (ok_val (slice_val (b, o) n) ∷ []))) (ok_of 𝓛 Part (param 0 E) part (slice_val (b, o) n)) $
-              suffices ! _ (ends_at 𝓛 ended stayed held (At (Ok n) (mut_slice_vals self) (ok_val (vint w64 n) ∷ [])) (ok_val (slice_val (b, o) n)) (Ok part) (tt, (tt, tt)) (tt, (tt, tt))) $
+              suffices ! _ (ends_at 𝓛 (f.ended E) stayed (f.clauses E 𝓛 𝓜.mem 𝓡.returns) y (ok_val (slice_val (b, o) n)) (Ok part) (tt, (tt, tt)) (tt, (tt, tt))) $
               nothing ! $ nothing ! $ fjoin ! $ nothing ! $ fjoin ! $ join ! $ move ! (1 ∷ 3 ∷ []) $ join ! $ join ! $ frame ! $ says_two ! (refl, tt) $ done !)),
           ((λ e. absurd (omega arith)), tt),
         )))
 
-    hands_on : (e : E.Denot) (v : Val) → Is E e (v ∷ []) → Room u8 (length xs) → Walks (Err e) (mut_slice_vals self) (err_val v ∷ [])
+    hands_on : (e : E.Denot) (v : Val) → Is E e (v ∷ []) → Room u8 (length self.now) → Walks (Err e) (mut_slice_vals self) (err_val v ∷ [])
     unfolding follows_by
     hands_on e v is rm =
+        let κ = κs.0 in let γ = self.ghost_name in let xs = self.now in
+        let y : W.Ghost = At (Err e) (mut_slice_vals self) (err_val v ∷ []) in
         let good = ((param_laws 0 E LE).lawful 𝓛).typed e (v ∷ []) is in
-        qed 𝓛 (((‵ (flft κ q) ⊛ ‵ (flft κ' qs.1.0) ⊛ ‵ ftrue) ⊛ ‵ (owns (Part ∷ CountedIn E ∷ []) (self, (Err e, tt)) (mut_slice_vals self, (err_val v ∷ [], tt))))
-        ∷ (raw (fact 𝓤 (κ' ⊑ E.lives)) ⊛ raw (fact 𝓤 (IfOk {E = E.Denot} (Err e) (λ n. n ≤ length xs)))) ∷ []) ∵
+        qed 𝓛 (((‵ (flft κ qs.0) ⊛ ‵ (flft κs.1.0 qs.1.0) ⊛ ‵ ftrue) ⊛ ‵ (owns (Part ∷ CountedIn E ∷ []) (self, (Err e, tt)) (mut_slice_vals self, (err_val v ∷ [], tt))))
+        ∷ (raw (fact 𝓤 (κs.1.0 ⊑ E.lives)) ⊛ raw (fact 𝓤 (IfOk {E = E.Denot} (Err e) (λ n. n ≤ length xs)))) ∷ []) ∵
         move ! (1 ∷ []) $ drop ! $ split ! $
         enter ! _ _ _ _ _ $ alloc_all ! (λ l. pass_all ! refl ((tt, (tt, (record { fits = rm.0 }, tt))), ((and_tt _ good.0.0, (record { fits = lit< tt }, (good.0.1, tt))), tt)) $
         let En : Env 𝓤 H = env function.locals l in
@@ -136,7 +110,7 @@ module _ (E : RattleType) where
                 sets ! (of_opd ! (get_in ! (vrt ! refl (fld ! refl (stop !))) (in_variant ! 1 0 refl refl (whole !)))) refl good.0 $
                 sets ! (of_opd ! (get ! refl)) refl good.0 $
                 sets_last ! (agg ! (and_then ! (lit ! tt) (and_then ! (get ! refl) (no_more !)))) refl (and_tt _ good.0.0, (record { fits = lit< tt }, (good.0.1, tt))) $
-                exec ! 𝓣.C 𝓣.Λ En rest (at_ret En (Post (Err e) (err_val v))) $
+                exec ! 𝓣.C 𝓣.Λ En rest (at_ret En (W.post y)) $
                 sets ! (of_opd ! (get ! refl)) refl (and_tt _ good.0.0, (record { fits = lit< tt }, (good.0.1, tt))) $
                 split ! $ move ! (2 ∷ []) $ fsplit ! $ fsplit3 ! $ drop ! $
                 rewrite ! 0 (λ (l : List ℕ). ‵ (fobs γ ((coded_list u8.coded).code l))) (heres_id u8 xs) refl $
@@ -144,7 +118,7 @@ module _ (E : RattleType) where
                 move ! (2 ∷ []) $ fsplit ! $
                 use1 𝓛 (‵ ((LentIn E (named 0) κ).own_val (Err e) (err_val v ∷ []))) (id⊢ 𝓤 _) $
                 returns ! (look_at ! 0 refl) $ free_all ! refl $ keep ! (0 ∷ 4 ∷ 2 ∷ 5 ∷ []) $
-                suffices ! _ (ends_at 𝓛 ended stayed held (At (Err e) (mut_slice_vals self) (err_val v ∷ [])) (err_val v) (Err e) (tt, ((tt, tt), tt)) (tt, (tt, tt))) $
+                suffices ! _ (ends_at 𝓛 (f.ended E) stayed (f.clauses E 𝓛 𝓜.mem 𝓡.returns) y (err_val v) (Err e) (tt, ((tt, tt), tt)) (tt, (tt, tt))) $
                 nothing ! $ nothing ! $ fjoin ! $ nothing ! $ fjoin ! $ join ! $ move ! (1 ∷ 3 ∷ []) $ join ! $ join ! $ frame ! $ says_two ! (tt, refl) $ done !),
             tt,
           ),
@@ -152,14 +126,14 @@ module _ (E : RattleType) where
 
     goes : (answer : Result ℕ E.Denot) (us vs : List Val) → Is Part self us → Is (CountedIn E) answer vs → Walks answer us vs
     goes (Ok n) us vs slice is =
-        let number = counted_ok E n vs is in let at_self : us ≡ mut_slice_vals self = mut_slice_Tells (named 0) κ u8 self us slice in
+        let number = counted_ok E n vs is in let at_self : us ≡ mut_slice_vals self = mut_slice_Tells (named 0) κs.0 u8 self us slice in
         subst (λ (ws : List Val). Walks (Ok n) ws vs) (sym at_self) (subst (Walks (Ok n) (mut_slice_vals self)) (sym number.0) (lends n number.1 slice.0.1))
     goes (Err e) us vs slice is =
-        let refusal = counted_err E LE e vs is in let at_self : us ≡ mut_slice_vals self = mut_slice_Tells (named 0) κ u8 self us slice in
+        let refusal = counted_err E LE e vs is in let at_self : us ≡ mut_slice_vals self = mut_slice_Tells (named 0) κs.0 u8 self us slice in
         subst (λ (ws : List Val). Walks (Err e) ws vs) (sym at_self) (subst (Walks (Err e) (mut_slice_vals self)) (sym refusal.1.0) (hands_on e refusal.0 refusal.1.1 slice.0.1))
 
 pub lend_accepted_spec : {M : Type 1} → statement M
 lend_accepted_spec 𝓤 𝓛 𝓜 𝓡 wired E LE =
-    proved_at 𝓛 (ended E) (stayed E) (f.clauses E 𝓛 𝓜.mem 𝓡.returns) 𝓜 𝓡 (Goes-spent_slice 𝓛 2 (0 ∷ []) tt (plain (λ _. u8)), (goes_answer E 𝓛, tt))
-    (f.Key.name (inst E)) (function E) (code.unfolded 𝓤 𝓛.H 𝓜 𝓡 wired (E, tt))
+    proved_at 𝓛 (f.ended E) (stayed E) (f.clauses E 𝓛 𝓜.mem 𝓡.returns) 𝓜 𝓡 (Goes-spent_slice 𝓛 2 (0 ∷ []) tt (plain (λ _. u8)), (goes_answer E 𝓛, tt))
+    (f.Key.name (layouts (a_type ∷ []) (E, tt))) (function E) (code.unfolded 𝓤 𝓛.H 𝓜 𝓡 wired (E, tt))
     (λ y are. goes E LE 𝓛 𝓜 𝓡 y.0.0 y.0.1 y.0.2 y.0.3.0 y.0.3.1.0 y.0.4.0 y.0.4.1.0 are.0 are.1.0)

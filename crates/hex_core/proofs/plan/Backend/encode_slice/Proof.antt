@@ -1,88 +1,16 @@
 -- `encode_slice` encodes, and then lends the front.
-use Rattle.hex_core.proofs.WalkKit.{◌≡◌, refl, ℕ, ◌≤◌, List, [], ◌∷◌, length, named, emp, id⊢, ftrue, flft, fact, fact_i, ‵, ◌⊛◌, raw, some, later, ◌$◌, ◌∵◌, !, qed, move, keep, drop, rewrite, split, split3, join, fsplit3, fjoin, use0, use1, use2, await, pick, suffices, frame, done, whole, sub, agg, stop, fld, hop, from, addr, and_then, no_more, returns, enter, alloc_all, pass_all, free_all, look_at, look_in_at, get, get_in, sets, lands_as, tables, u8, bool, bool_vals, bool_Tells, bool_Makes, yes, no, Is, shows, owns, plain, mut_slice_of, shr_slice_of, Fml, MutBor, RattleType, ShrSlice, MutSlice, Room, shr_slice_vals, shr_slice_Tells, mut_slice_vals, mut_slice_Tells, nothing, owned, peeks, heard, calls_at, Lasts, lasts, triple_of, framed, says, Stays, stay_dropped, ends_at, Goes-dropped, Goes-spent_slice, Err, IfOk, IfErr, proved}
-use base.Fraction.{full_share}
-use base.Fml.{GName}
-use contract.BorrowLft.{◌⊑◌, ⊑_static}
-use types.Kit.{use3, fsplit, feq_l}
-use types.Tokens.{lft_new, lft_end}
-use Rattle.hex_core.proofs.Lent.{Plan, plan_vals, plan_tells, plan_lawful, plan_makes, Counted, counted_lawful, Lent, Answer, lent_lawful, LendsFront, Passed, passed_laws}
-use Rattle.hex_core.proofs.LentAgain.{Slice, Kept, lends_again, comes_back}
-use Rattle.hex_core.proofs.SliceWalk.{inside, same_loan, encode_leaves, encode_answer}
-use Rattle.hex_core.specs.Calls.{Encodes}
-use Rattle.hex_core.specs.Loan.{LendsAnswer}
-use Rattle.hex_core.specs.contracts.error.Error as ER
-use Rattle.hex_core.proofs.error.Error.TheLaws as EL
-use Rattle.hex_core.specs.contracts.plan.Backend.encode_into as g
+use mir.Val.{vbool}
+use Rattle.hex_core.proofs.WalkKit.{refl, bool, bool_Tells, bool_Makes}
+use Rattle.hex_core.proofs.SliceWalk.{encode_answer, encode_leaves}
+use Rattle.hex_core.proofs.WriteWalk.{writes_and_lends}
+use Rattle.hex_core.specs.Calls.{Encodes, EncodesFront}
 use Rattle.hex_core.proofs.plan.Backend.encode_into.Met as g_met
-use Rattle.hex_core.specs.contracts.lend.lend_accepted as h
-use Rattle.hex_core.proofs.lend.lend_accepted.Met as h_met
-use Rattle.hex_core.specs.contracts.plan.Backend.encode_slice as f
 use Rattle.hex_core.proofs.plan.Backend.encode_slice.Statement.{statement}
 use Rattle.hex_core.proofs.plan.Backend.encode_slice.Code as code
 
-abbrev Refusal : RattleType
-Refusal = Passed ER.the_row
-
-abbrev stayed : Stays f.ended.signature.params f.ended.kept
-stayed = (stay_dropped (plain (λ _. Plan)) yes, (stay_dropped (shr_slice_of (0 ∷ []) tt (plain (λ _. u8))) yes, (stay_dropped (mut_slice_of (1 ∷ []) tt (plain (λ _. u8))) no, (stay_dropped (plain (λ _. bool)) yes, tt))))
-
 pub encode_slice_spec : {M : Type 1} → statement M
 encode_slice_spec 𝓤 𝓛 𝓜 𝓡 wired =
-    let c = f.clauses 𝓛 𝓜.mem 𝓡.returns in
-    proved 𝓛 f.ended stayed c 𝓜 𝓡 (Goes-dropped 𝓛 2 (plain (λ _. Plan)) yes (λ κs x f. refl), (Goes-dropped 𝓛 2 (shr_slice_of (0 ∷ []) tt (plain (λ _. u8))) yes (λ κs x f. refl), (Goes-spent_slice 𝓛 2 (1 ∷ []) tt (plain (λ _. u8)), (Goes-dropped 𝓛 2 (plain (λ _. bool)) yes (λ κs x f. refl), tt))))
-    f.Key.name code.function (code.unfolded 𝓤 𝓛.H 𝓜 𝓡 wired)
-    (λ κs. (plan_vals, (shr_slice_vals, (mut_slice_vals, (bool_vals, tt)))))
-    (λ κs. (plan_tells, (shr_slice_Tells (named 0) κs.0 u8, (mut_slice_Tells (named 1) κs.1.0 u8, (bool_Tells, tt)))))
-    (λ κs qs bounds a g₀ are.
-    let κ₀ = κs.0 in let κ = κs.1.0 in let q₀ = qs.0 in let q = qs.1.0 in
-    let plan = a.0 in let src = a.1.0 in let dst = a.1.1.0 in let upper = a.1.1.1.0 in let s = src.now in let xs = dst.now in
-    let b = dst.ref_ptr.0 in let o = dst.ref_ptr.1 in let γ = dst.ghost_name in
-    let plan_vs = plan_vals plan in let upper_vs = bool_vals upper in
-    let rs : Room u8 (length s) = are.1.0.0.1 in let rm : Room u8 (length xs) = are.1.1.0.0.1 in
-    let framed_calls = framed 𝓤 𝓛.H 𝓜 (tables 𝓤 𝓛.H 𝓜 𝓡 𝓡.env) in
-    qed 𝓛 (((‵ (flft κ₀ q₀) ⊛ ‵ (flft κ q) ⊛ ‵ ftrue) ⊛ ‵ (owns (Plan ∷ ShrSlice (named 0) κ₀ u8 ∷ MutSlice (named 1) κ u8 ∷ bool ∷ []) a (plan_vs, (shr_slice_vals src, (mut_slice_vals dst, (upper_vs, tt)))))) ∷ ‵ ftrue ∷ []) ∵
-    split ! $ split3 ! $ move ! (3 ∷ []) $ fsplit3 ! $ move ! (2 ∷ []) $ fsplit3 ! $ keep ! (4 ∷ 0 ∷ 5 ∷ 6 ∷ []) $
-    enter ! _ _ _ _ _ $ alloc_all ! (λ l. pass_all ! refl (((plan_lawful 𝓛).typed plan plan_vs are.0).0, ((tt, (tt, (record { fits = rs.0 }, tt))), ((tt, (tt, (record { fits = rm.0 }, tt))), ((tt, tt), tt)))) $
-    -- [the source; the destination; the two tokens; the locals]
-    sets ! (addr ! (from ! (fld ! refl (hop ! (look_in_at ! 3 (sub ! 0 refl (whole !))) (stop !))))) refl (tt, tt) $
-    sets ! (agg ! (and_then ! (get ! refl) (and_then ! (get_in ! (fld ! refl (stop !)) (sub ! 1 refl (whole !))) (no_more !)))) refl (tt, (tt, (record { fits = rm.0 }, tt))) $
-    lft_new ! tt (λ α. move ! (2 ∷ 4 ∷ []) $
-    use2 𝓛 (later (some (λ (δ : GName). ‵ (Slice 𝓛 u8 κ (α ∷ []) q b o γ xs (named 1) (α ∷ []) δ xs) ⊛ ‵ (Kept 𝓛 u8 κ (α ∷ []) q b o γ xs δ))))
-    (lends_again 𝓛 u8 κ (α ∷ []) q b o γ xs (named 1) (named 1) rm) $ await ! tt $ pick ! (λ δ. split ! $
-    -- [the slice for the call; what is kept; the token for the call; the source; its token; the locals]
-    let G = triple_of 𝓛 g.signature (g.spec 𝓛 𝓜.mem 𝓡.returns) in
-    let z : G.Ghost = (((κ₀, (α ∷ [], tt)), (q₀, (full_share, tt)), tt, (plan, (src, (record dst { ghost_name = δ }, (upper, tt)))), (plan_vs, (shr_slice_vals src, (mut_slice_vals dst, (upper_vs, tt))))), tt) in
-    nothing ! $ owned ! bool _ (bool_Makes 𝓛) upper upper_vs are.1.1.1.0 $ fjoin ! $ move ! (1 ∷ 0 ∷ []) $ fjoin ! $ move ! (3 ∷ 0 ∷ []) $ fjoin ! $ owned ! Plan _ (plan_makes 𝓛) plan plan_vs are.0 $ fjoin ! $
-    nothing ! $ move ! (3 ∷ 0 ∷ []) $ join ! $ move ! (3 ∷ 0 ∷ []) $ join ! $ join ! $ nothing ! $ move ! (1 ∷ 0 ∷ []) $ use2 𝓛 (raw (G.pre z)) (id⊢ 𝓤 _) $
-    calls_at ! framed_calls G (g_met.met 𝓤 𝓛 𝓜 𝓡 (code.calls-hex_core::plan::Backend::encode_into 𝓡.env wired)) z (and_then ! (get ! refl) (and_then ! (get ! refl) (and_then ! (get ! refl) (and_then ! (get ! refl) (no_more !))))) (λ v.
-    use1 𝓛 (later (some (λ (u : Counted.Denot). ((‵ (flft κ₀ q₀) ⊛ ‵ (flft (α ∷ []) full_share) ⊛ ‵ ftrue) ⊛ ‵ (Counted.own_val u (v ∷ [])))
-    ⊛ some (λ (ws : Lasts g.ended z.0.0 z.0.3). ‵ (lasts g.ended z.0.0 z.0.3 ws) ⊛ raw (fact 𝓤 (Encodes upper s xs ws.1.1.0 u)))))) (id⊢ 𝓤 _) $
-    await ! tt $ pick ! (λ u. split ! $ split ! $ split3 ! $ move ! (1 ∷ []) $ lft_end ! tt $ move ! (3 ∷ []) $
-    peeks ! Counted (Is Counted) (shows 𝓛 Counted) u (v ∷ []) (λ is_u. lands_as ! refl refl ((counted_lawful 𝓛).typed u (v ∷ []) is_u).0 $
-    move ! (4 ∷ []) $ pick ! (λ ws. split ! $ move ! (1 ∷ []) $ heard ! _ (λ encodes.
-    let new = ws.1.1.0 in
-    fsplit3 ! $ move ! (2 ∷ []) $ fsplit ! $ fsplit ! $ fsplit ! $ move ! (1 ∷ []) $ feq_l ! (λ count.
-    let left = encode_leaves upper s xs new u count encodes in
-    -- [the last list; the borrow for the call; nothing, three times; the number; the call's token is over; the token of the source; nothing; what was kept; the locals]
-    move ! (6 ∷ 9 ∷ 0 ∷ []) $ use3 𝓛 (later (‵ (Slice 𝓛 u8 κ (α ∷ []) q b o γ xs (named 1) κ γ new) ⊛ ‵ (flft κ q)))
-    (comes_back 𝓛 u8 κ (α ∷ []) q b o γ xs (named 1) δ new count rm) $ await ! tt $ split ! $
-    -- [the destination; its token; the borrow; nothing, three times; the number; the token of the source; nothing; the locals]
-    sets ! (addr ! (from ! (fld ! refl (hop ! (look_in_at ! 3 (sub ! 0 refl (whole !))) (stop !))))) refl (tt, tt) $
-    sets ! (agg ! (and_then ! (get ! refl) (and_then ! (get_in ! (fld ! refl (stop !)) (sub ! 1 refl (whole !))) (no_more !)))) refl (tt, (tt, (record { fits = rm.0 }, tt))) $
-    let written : MutBor (List ℕ) = record dst { now = new } in
-    let G' = triple_of 𝓛 (h.signature Refusal) (h.spec Refusal 𝓛 𝓜.mem 𝓡.returns) in
-    let z' : G'.Ghost = (((κ, (κ₀, tt)), (q, (q₀, tt)), tt, (written, (u, tt)), (mut_slice_vals dst, (v ∷ [], tt))), tt) in
-    nothing ! $ move ! (7 ∷ 0 ∷ []) $ fjoin ! $ move ! (1 ∷ 0 ∷ []) $ fjoin ! $ nothing ! $ move ! (7 ∷ 0 ∷ []) $ join ! $ move ! (2 ∷ 0 ∷ []) $ join ! $ join ! $
-    use0 𝓛 (raw (fact 𝓤 (IfOk u (λ n. n ≤ length new)))) (fact_i 𝓤 _ (emp 𝓤) (inside xs new u left)) $
-    use0 𝓛 (raw (fact 𝓤 (κ₀ ⊑ Refusal.lives))) (fact_i 𝓤 _ (emp 𝓤) (⊑_static κ₀)) $ join ! $ move ! (1 ∷ 0 ∷ []) $ use2 𝓛 (raw (G'.pre z')) (id⊢ 𝓤 _) $
-    calls_at ! framed_calls G' (h_met.met 𝓤 𝓛 𝓜 𝓡 (code.calls-hex_core::lend::lend_accepted 𝓡.env wired) Refusal (passed_laws ER.the_row EL.the_row_laws refl)) z' (and_then ! (get ! refl) (and_then ! (get ! refl) (no_more !))) (λ w.
-    use1 𝓛 (later (some (λ (r : Answer). ((‵ (flft κ q) ⊛ ‵ (flft κ₀ q₀) ⊛ ‵ ftrue) ⊛ ‵ ((Lent (named 1) κ).own_val r (w ∷ []))) ⊛ some (λ (ws' : Lasts (h.ended Refusal) z'.0.0 z'.0.3). ‵ (lasts (h.ended Refusal) z'.0.0 z'.0.3 ws')
-    ⊛ (‵ (LendsAnswer written r) ⊛ (raw (fact 𝓤 (LendsFront new u r)) ⊛ raw (fact 𝓤 (IfErr u (λ e. r ≡ Err e))))))))) (id⊢ 𝓤 _) $
-    await ! tt $ pick ! (λ r. split ! $ split ! $ move ! (1 ∷ []) $
-    peeks ! (Lent (named 1) κ) (Is (Lent (named 1) κ)) (shows 𝓛 (Lent (named 1) κ)) r (w ∷ []) (λ is_r. lands_as ! refl refl ((lent_lawful 𝓛 (named 1) κ).typed r (w ∷ []) is_r).0 $
-    move ! (2 ∷ []) $ pick ! (λ ws'. split ! $ drop ! $ split ! $ move ! (1 ∷ []) $ split ! $ heard ! _ (λ ok. heard ! _ (λ err.
-    -- [the loan; the front; the tokens; what is left; the locals]
-    rewrite ! 0 (λ (F : Fml). ‵ F) (same_loan dst new u r left ok err) refl $
-    returns ! (look_at ! 0 refl) $ free_all ! refl $ move ! (2 ∷ []) $ split3 ! $ move ! (0 ∷ 2 ∷ []) $ join ! $ move ! (1 ∷ 0 ∷ []) $ join ! $ keep ! (2 ∷ 0 ∷ 1 ∷ []) $
-    suffices ! _ (ends_at 𝓛 f.ended stayed c ((κs, qs, bounds, a, (plan_vs, (shr_slice_vals src, (mut_slice_vals dst, (upper_vs, tt))))), g₀) w r (tt, (tt, (tt, (tt, tt)))) (tt, (tt, (tt, (tt, tt))))) $
-    nothing ! $ nothing ! $ fjoin ! $ nothing ! $ fjoin ! $ nothing ! $ fjoin ! $ nothing ! $ fjoin ! $ join ! $ move ! (1 ∷ 0 ∷ []) $ join ! $ frame ! $ says ! (encode_answer upper s xs new u r encodes ok err) $ done !))))))))))))))))
+    writes_and_lends bool _ vbool Encodes EncodesFront bool_Tells encode_leaves encode_answer 𝓤 𝓛 𝓜 𝓡
+    (λ x is. (tt, tt)) (bool_Makes 𝓛) (λ κs x f. refl) (λ x. tt) _ _
+    (code.unfolded 𝓤 𝓛.H 𝓜 𝓡 wired) (code.calls-hex_core::lend::lend_accepted 𝓡.env wired)
+    (g_met.met 𝓤 𝓛 𝓜 𝓡 (code.calls-hex_core::plan::Backend::encode_into 𝓡.env wired))

@@ -1,0 +1,102 @@
+-- The walk of `hex_encode` and of `hex_encode_upper`: both hand on what encoding under the plain plan lends.
+use Rattle.hex_core.proofs.WalkKit.{◌≡◌, refl, Bool, true, false, List, [], ◌∷◌, length, Ura, named, erased, id⊢, ftrue, flft, Logic, ‵, ◌⊛◌, raw, some, later, ◌$◌, ◌∵◌, !, qed, move, keep, drop, split, join, fsplit3, fjoin, use1, use2, await, pick, suffices, frame, done, whole, sub, agg, stop, fld, hop, from, addr, true_lit, false_lit, and_then, no_more, returns, enter, alloc_all, pass_all, free_all, look_at, look_in_at, get, get_in, sets, lands_as, fact, tables, u8, bool, bool_vals, bool_Makes, yes, no, Is, shows, owns, plain as plain_slot, mut_slice_of, shr_slice_of, ShrSlice, MutSlice, Room, shr_slice_vals, shr_slice_Tells, mut_slice_vals, mut_slice_Tells, nothing, owned, peeks, heard, calls_at, Lasts, lasts, triple_of, framed, says, Stays, stay_dropped, ends_at, Goes-dropped, Goes-spent_slice, None, Some, MatchResult, proved}
+use base.Logic.{emp, sep}
+use contract.Running.{Running}
+use denote.Memory.{lone}
+use denote.Triple.Clauses.{Clauses, closing}
+use denote.Triple.Spec.{Meets}
+use mir.Syntax.{Callee, Fn, Opd as Operand, w8, ty_int, ty_ref, mut, place, deref, field, local, value_local, copy, opd_true, opd_false, seq, call, assign, addr_of, aggregate, return}
+use mir.Val.{vbool}
+use prog.Model.{Model}
+use prog.Wired.{Wired}
+use prog.Wp.{Closed, Env}
+use types.Kit.{Item}
+use types.Run.{Opd}
+use types.Logic.{sem}
+use Rattle.hex_core.proofs.Lent.{Plan, plan_lawful, plan_makes, Lent, Answer, lent_lawful}
+use Rattle.hex_core.specs.Calls.{EncodesFront}
+use Rattle.hex_core.specs.Loan.{LendsAnswer}
+use Rattle.hex_core.specs.Refusal.{encode_refusal}
+use Rattle.hex_core.specs.Text.{text}
+use Rattle.hex_core.specs.contracts.plan.Backend.plain as p
+use Rattle.hex_core.proofs.plan.Backend.plain.Symbol as p_symbol
+use Rattle.hex_core.proofs.plan.Backend.plain.Met as p_met
+use Rattle.hex_core.specs.contracts.plan.Backend.encode_slice as h
+use Rattle.hex_core.proofs.plan.Backend.encode_slice.Symbol as h_symbol
+use Rattle.hex_core.proofs.plan.Backend.encode_slice.Met as h_met
+use Rattle.hex_codec.specs.contracts.encode.hex_encode as f
+
+-- the choice of letters, as a call passes it
+abbrev pub passed : Bool → Operand
+passed true = opd_true
+passed false = opd_false
+
+pub choice : {M : Type 1} {𝓤 : Ura M} {𝓛 : Logic 𝓤} {K : Type 0} {Γ : List (Item 𝓤)} {E : Env 𝓤 𝓛.H} → K → (upper : Bool) → Opd K 𝓛 Γ E (passed upper) (vbool upper)
+choice t true = true_lit t
+choice t false = false_lit t
+
+-- the two bodies
+abbrev pub function : Bool → Fn
+function upper = record {
+  lifetimes = 2;
+  outlives = [];
+  ty_params = [];
+  givens = 0;
+  params = 2;
+  locals = local (lone (Lent (named 1) []).mir) value_local ∷ local (lone (ShrSlice (named 0) [] u8).mir) value_local
+      ∷ local (lone (MutSlice (named 1) [] u8).mir) value_local ∷ local (lone Plan.mir) value_local
+      ∷ local (ty_ref erased mut (ty_int w8)) value_local ∷ local (lone (MutSlice erased [] u8).mir) value_local ∷ [];
+  body = seq (call p_symbol.name [] (place 3 []))
+      (seq (assign (place 4 []) (addr_of (place 2 (field 0 ∷ deref (ty_int w8) ∷ []))))
+      (seq (assign (place 5 []) (aggregate (copy (place 4 []) ∷ copy (place 2 (field 1 ∷ [])) ∷ [])))
+      (seq (call h_symbol.name (copy (place 3 []) ∷ copy (place 1 []) ∷ copy (place 5 []) ∷ passed upper ∷ []) (place 0 [])) return)));
+}
+
+abbrev stayed : Stays f.ended.signature.params f.ended.kept
+stayed = (stay_dropped (shr_slice_of (0 ∷ []) tt (plain_slot (λ _. u8))) yes, (stay_dropped (mut_slice_of (1 ∷ []) tt (plain_slot (λ _. u8))) no, tt))
+
+-- what both promise
+abbrev pub clauses : {M : Type 1} {𝓤 : Ura M} (𝓛 : Logic 𝓤) → Bool → Clauses 𝓤 f.ended
+clauses {𝓤 = 𝓤} 𝓛 upper κs a = record {
+  ghost = Unit {0};
+  requires = λ _. emp 𝓤;
+  ensures = λ _ r _. sep 𝓤 (sem 𝓛 (LendsAnswer a.1.0 r)) (fact 𝓤 (EncodesFront upper a.0.now (length a.1.0.now) r));
+}
+
+pub hands_on : {M : Type 1} (𝓤 : Ura M) (𝓛 : Logic 𝓤) (𝓜 : Model 𝓤 𝓛.H) (𝓡 : Running 𝓤 𝓛.H 𝓜) (upper : Bool) (k : Callee)
+    → Closed 𝓤 𝓛.H (tables 𝓤 𝓛.H 𝓜 𝓡 𝓡.env).C (tables 𝓤 𝓛.H 𝓜 𝓡 𝓡.env).Λ k (function upper) → Wired 𝓡.env p_symbol.code → Wired 𝓡.env h_symbol.code
+    → Meets 𝓛 f.signature ((tables 𝓤 𝓛.H 𝓜 𝓡 𝓡.env).C k) (closing 𝓛 f.ended (clauses 𝓛 upper))
+hands_on 𝓤 𝓛 𝓜 𝓡 upper k closed plain encode =
+    proved 𝓛 f.ended stayed (clauses 𝓛 upper) 𝓜 𝓡
+    (Goes-dropped 𝓛 2 (shr_slice_of (0 ∷ []) tt (plain_slot (λ _. u8))) yes (λ κs x f. refl), (Goes-spent_slice 𝓛 2 (1 ∷ []) tt (plain_slot (λ _. u8)), tt))
+    k (function upper) closed
+    (λ κs. (shr_slice_vals, (mut_slice_vals, tt))) (λ κs. (shr_slice_Tells (named 0) κs.0 u8, (mut_slice_Tells (named 1) κs.1.0 u8, tt)))
+    (λ κs qs bounds a g₀ are.
+    let κ₀ = κs.0 in let κ = κs.1.0 in let q₀ = qs.0 in let q = qs.1.0 in
+    let src = a.0 in let dst = a.1.0 in let s = src.now in let xs = dst.now in
+    let rs : Room u8 (length s) = are.0.0.1 in let rm : Room u8 (length xs) = are.1.0.0.1 in
+    qed 𝓛 (((‵ (flft κ₀ q₀) ⊛ ‵ (flft κ q) ⊛ ‵ ftrue) ⊛ ‵ (owns (ShrSlice (named 0) κ₀ u8 ∷ MutSlice (named 1) κ u8 ∷ []) a (shr_slice_vals src, (mut_slice_vals dst, tt)))) ∷ ‵ ftrue ∷ []) ∵
+    split ! $ enter ! _ _ _ _ _ $ alloc_all ! (λ l. pass_all ! refl ((tt, (tt, (record { fits = rs.0 }, tt))), ((tt, (tt, (record { fits = rm.0 }, tt))), tt)) $
+    let framed_calls = framed 𝓤 𝓛.H 𝓜 (tables 𝓤 𝓛.H 𝓜 𝓡 𝓡.env) in
+    let P = triple_of 𝓛 p.signature (p.spec 𝓛 𝓜.mem 𝓡.returns) in
+    let y : P.Ghost = ((tt, tt, tt, tt, tt), tt) in
+    nothing ! $ nothing ! $ join ! $ nothing ! $ move ! (1 ∷ 0 ∷ []) $ use2 𝓛 (raw (P.pre y)) (id⊢ 𝓤 _) $
+    calls_at ! framed_calls P (p_met.met 𝓤 𝓛 𝓜 𝓡 plain) y (no_more !) (λ v.
+    use1 𝓛 (later (some (λ (plan : Plan.Denot). (‵ ftrue ⊛ ‵ (Plan.own_val plan (v ∷ []))) ⊛ some (λ (ws : Lasts p.ended y.0.0 y.0.3). ‵ (lasts p.ended y.0.0 y.0.3 ws) ⊛ ‵ ftrue)))) (id⊢ 𝓤 _) $
+    await ! tt $ pick ! (λ plan. split ! $ split ! $ drop ! $ peeks ! Plan (Is Plan) (shows 𝓛 Plan) plan (v ∷ []) (λ is_plan. lands_as ! refl refl ((plan_lawful 𝓛).typed plan (v ∷ []) is_plan).0 $
+    drop ! $ pick ! (λ ws. split ! $ drop ! $ drop ! $
+    sets ! (addr ! (from ! (fld ! refl (hop ! (look_in_at ! 2 (sub ! 0 refl (whole !))) (stop !))))) refl (tt, tt) $
+    sets ! (agg ! (and_then ! (get ! refl) (and_then ! (get_in ! (fld ! refl (stop !)) (sub ! 1 refl (whole !))) (no_more !)))) refl (tt, (tt, (record { fits = rm.0 }, tt))) $
+    let G = triple_of 𝓛 h.signature (h.spec 𝓛 𝓜.mem 𝓡.returns) in
+    let z : G.Ghost = ((κs, qs, tt, (plan, (src, (dst, (upper, tt)))), ((v ∷ []), (shr_slice_vals src, (mut_slice_vals dst, (bool_vals upper, tt))))), tt) in
+    move ! (1 ∷ []) $ fsplit3 ! $ move ! (2 ∷ []) $ owned ! bool _ (bool_Makes 𝓛) upper (bool_vals upper) refl $ fjoin ! $ move ! (2 ∷ 0 ∷ []) $ fjoin ! $ move ! (1 ∷ 0 ∷ []) $ fjoin ! $
+    owned ! Plan _ (plan_makes 𝓛) plan (v ∷ []) is_plan $ fjoin ! $ move ! (1 ∷ 0 ∷ []) $ join ! $ use2 𝓛 (raw (G.pre z)) (id⊢ 𝓤 _) $
+    calls_at ! framed_calls G (h_met.met 𝓤 𝓛 𝓜 𝓡 encode) z (and_then ! (get ! refl) (and_then ! (get ! refl) (and_then ! (get ! refl) (and_then ! (choice ! upper) (no_more !))))) (λ w.
+    use1 𝓛 (later (some (λ (r : Answer). ((‵ (flft κ₀ q₀) ⊛ ‵ (flft κ q) ⊛ ‵ ftrue) ⊛ ‵ ((Lent (named 1) κ).own_val r (w ∷ []))) ⊛ some (λ (ws : Lasts h.ended z.0.0 z.0.3). ‵ (lasts h.ended z.0.0 z.0.3 ws)
+    ⊛ (‵ (LendsAnswer dst r) ⊛ raw (fact 𝓤 (MatchResult r (λ p. (encode_refusal s (length xs) ≡ None) × (p.now ≡ text upper s)) (λ e. encode_refusal s (length xs) ≡ Some e)))))))) (id⊢ 𝓤 _) $
+    await ! tt $ pick ! (λ r. split ! $ split ! $ move ! (1 ∷ []) $ peeks ! (Lent (named 1) κ) (Is (Lent (named 1) κ)) (shows 𝓛 (Lent (named 1) κ)) r (w ∷ []) (λ is. lands_as ! refl refl ((lent_lawful 𝓛 (named 1) κ).typed r (w ∷ []) is).0 $
+    move ! (2 ∷ []) $ pick ! (λ ws. split ! $ drop ! $ split ! $ move ! (1 ∷ []) $ heard ! _ (λ answer.
+    -- [the loan; the result; the tokens; the locals]
+    returns ! (look_at ! 0 refl) $ free_all ! refl $ keep ! (1 ∷ 2 ∷ 0 ∷ []) $
+    suffices ! _ (ends_at 𝓛 f.ended stayed (clauses 𝓛 upper) ((κs, qs, bounds, a, (shr_slice_vals src, (mut_slice_vals dst, tt))), g₀) w r (tt, (tt, tt)) (tt, (tt, tt))) $
+    nothing ! $ nothing ! $ fjoin ! $ nothing ! $ fjoin ! $ join ! $ move ! (1 ∷ 0 ∷ []) $ join ! $ frame ! $ says ! answer $ done !)))))))))))
