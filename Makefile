@@ -3,7 +3,9 @@
 # gate, `make check` all that the gate can't, `make deep` what a release takes beside it.
 # `make install PREFIX=DIR` puts into DIR the program with its page, and the library with its header,
 # its file for pkg-config and the crate for Rust; with DESTDIR below that folder, as a package wants
-# it. `make uninstall` takes the same files away. `make -s` prints nothing where all goes well.
+# it. `make uninstall` takes the same files away. `make vendor DIR=DIR` copies the library for Rattle
+# into the repository at DIR, with JSON=no and LISTS=no without what these name. `make -s` prints
+# nothing where all goes well.
 VERSION = 1.0.0
 PREFIX ?= /usr/local
 CPU = x86-64-v2
@@ -22,7 +24,7 @@ CHECK = FHEX=$(abspath $(PROGRAM)) FASTER_HEX_LIB=$(abspath $(dir $(LIBRARY))) \
 # once more: a crate over serde_json took 118 seconds of processor by four jobs, and 81 by one.
 JOBS := $(shell n=$$(nproc); echo $$((n < 4 ? n : 4)))
 
-.PHONY: build lib test check deep install uninstall clean
+.PHONY: build lib test check deep install uninstall vendor clean
 
 build:
 	scripts/build.sh fhex $(CPU)
@@ -67,6 +69,9 @@ uninstall:
 	rm -f $(TO)/bin/fhex $(TO)/share/man/man1/fhex.1 $(TO)/lib/libfaster_hex.a \
 		$(TO)/include/faster_hex.h $(TO)/lib/pkgconfig/faster_hex.pc
 	rm -rf $(TO)/share/faster_hex
+
+vendor:
+	scripts/vendor.sh $(if $(filter no,$(JSON)),--no-json) $(if $(filter no,$(LISTS)),--no-lists) "$(DIR)"
 
 clean:
 	rm -rf crates/*/out

@@ -2,7 +2,9 @@
 // least time of each and the ratios. First it checks that each call answers what it should.
 // It is compiled with -DRUST where the Rust crate's library is linked, and then with SAME_WIDTH, the
 // kernel whose vectors are as wide as this build's; and with -DOWNED where hex_core has
-// `decode_owned`.
+// `decode_owned`; and with BINDINGS, HEX and DATA_ENCODING where those crates for Rust are linked.
+// Usage: bench [SIDE PLAN NAME BYTES], which makes one call of those below, once, and times nothing:
+// counts.sh counts its instructions.
 #include "common.h"
 
 #include <stdbool.h>
@@ -22,7 +24,7 @@ static const size_t sizes[] = {8, 16, 32, 64, 100, 256, 1024, 4096, LARGEST};
 
 // What a call works on. One that checks, and one that decodes into memory of its own, is given no
 // room to write into.
-enum kind { CHECK, ENCODE, DECODE, DECODE_VEC, PADDED, GROUPED, KINDS };
+enum kind { CHECK, ENCODE, DECODE, DECODE_VEC, PADDED, GROUPED, REFUSED, KINDS };
 
 struct task {
     const uint8_t *src;
@@ -98,6 +100,22 @@ struct task {
 #define BINDINGS_CALLS(X)
 #endif
 
+// Those of other crates for Rust that do the same.
+#define PEER(X, crate) \
+    X(WRITES, rust, crate, encode, ENCODE) \
+    X(WRITES, rust, crate, decode, DECODE) \
+    X(READS, rust, crate, decode_vec, DECODE_VEC)
+#ifdef HEX
+#define HEX_CALLS(X) PEER(X, hex)
+#else
+#define HEX_CALLS(X)
+#endif
+#ifdef DATA_ENCODING
+#define DATA_ENCODING_CALLS(X) PEER(X, data_encoding)
+#else
+#define DATA_ENCODING_CALLS(X)
+#endif
+
 #define OWN_CALLS(X) \
     PIECES(X) READS_OF(X) BINDINGS_CALLS(X) PLAIN(X) PLAN(X, scalar) PLAN(X, sse41) PLAN(X, avx2) PLAN(X, avx512) PLAN(X, neon)
 
@@ -127,6 +145,8 @@ struct task {
 #define LOOP_OF(form, side, plan, name, kind) LOOP_##form(side##_##plan##_##name)
 OWN_CALLS(LOOP_OF)
 RUST_CALLS(LOOP_OF)
+HEX_CALLS(LOOP_OF)
+DATA_ENCODING_CALLS(LOOP_OF)
 
 static __attribute__((noinline)) size_t copies(const uint8_t *src, size_t len, uint8_t *dst,
     size_t room) {
@@ -147,6 +167,7 @@ struct call {
 #define IS_rust true
 #define ENTRY(form, side, plan, name, kind) \
     {#name, #plan, kind, IS_##side, side##_##plan##_##name##_loop},
+#define REFUSED_ENTRY(side, plan, name) ENTRY(, side, plan, name, REFUSED)
 static const struct call calls[] = {
     {"memcpy", "", CHECK, false, copies_loop},
     {"memcpy", "", ENCODE, false, copies_loop},
@@ -154,6 +175,16 @@ static const struct call calls[] = {
     {"memcpy", "", DECODE_VEC, false, copies_loop},
     OWN_CALLS(ENTRY)
     RUST_CALLS(ENTRY)
+    HEX_CALLS(ENTRY)
+    DATA_ENCODING_CALLS(ENTRY)
+    REFUSED_ENTRY(own, plain, decode_into)
+    REFUSED_ENTRY(own, plain, decode_slice)
+#ifdef BINDINGS
+    REFUSED_ENTRY(own, bindings, decode_slice)
+#endif
+#ifdef RUST
+    REFUSED_ENTRY(rust, public, decode)
+#endif
 };
 #define CALLS (sizeof calls / sizeof *calls)
 
@@ -199,6 +230,9 @@ static volatile size_t sink;
 static uint8_t bytes[LARGEST], lower[2 * LARGEST], upper[2 * LARGEST], mixed[2 * LARGEST];
 static uint8_t out[3 * LARGEST] __attribute__((aligned(64)));
 
+// The text in both cases, but that its last byte is no digit. That of fewer bytes is its end.
+static uint8_t refused[2 * LARGEST] __attribute__((aligned(64)));
+
 static const char *const pieces[] = {"ungrouped", "by_1", "by_2", "by_4", "by_16", "by_1000"};
 #define FORMS (sizeof pieces / sizeof *pieces)
 
@@ -237,7 +271,8 @@ static struct task task_of(const struct call *call, size_t size) {
         size_t form = form_of(call), every = every_of(form);
         return (struct task){grouped[form], 2 * size + (every ? (size - 1) / every : 0), out, size};
     }
-    return (struct task){mixed, 2 * size, out, size};
+    const uint8_t *digits = call->kind == REFUSED ? refused + 2 * (LARGEST - size) : mixed;
+    return (struct task){digits, 2 * size, out, size};
 }
 
 // Whether the call can be made: the Rust crate is asked which of its kernels the processor can run.
@@ -287,9 +322,13 @@ static void check(const struct call *call, size_t size) {
     }
     struct task task = task_of(call, size);
     memset(out, 0xa5, sizeof out);
-    bool holds = call->loop(&task, 1) == (call->kind == CHECK ? 1 : task.room);
+    size_t wanted = call->kind == CHECK ? 1 : call->kind == REFUSED ? 0 : task.room;
+    bool holds = call->loop(&task, 1) == wanted;
     if (call->kind == ENCODE || call->kind == DECODE || call->kind == GROUPED) {
         holds = holds && !memcmp(out, call->kind == ENCODE ? lower : bytes, task.room);
+    }
+    if (call->kind == REFUSED) {
+        holds = holds && out[0] == 0xa5 && !memcmp(out, out + 1, sizeof out - 1);
     }
     stop_unless(holds, call->is_rust ? "rust" : "own", call->plan, call->name, size);
 }
@@ -431,30 +470,64 @@ static void print_forms(const char *title, const char *name, enum kind kind) {
 }
 
 #ifdef BINDINGS
-// What the border between the languages costs: the bindings over the plain call of the same name.
-static void print_border(void) {
+// Calls of ours and of others, told by their plan.
+struct column {
+    bool is_rust;
+    const char *plan;
+};
+
+static double time_in(size_t at_size, struct column column, const struct table *table) {
+    return time_of(at_size, column.is_rust, column.plan, column.is_rust ? table->rust : table->name,
+        table->kind);
+}
+
+// One column over another, for each call that both have.
+static void print_over(const char *title, struct column top, struct column bottom) {
     const struct table *shown[TABLES];
     size_t count = 0;
-    printf("\nthe bindings: time over the plain call\n   bytes");
+    printf("\n%s\n   bytes", title);
     for (size_t at = 0; at < TABLES; at++) {
-        if (time_of(SIZES - 1, false, "bindings", tables[at].name, tables[at].kind) > 0) {
+        if (tables[at].plain && time_in(SIZES - 1, top, &tables[at]) > 0
+            && time_in(SIZES - 1, bottom, &tables[at]) > 0) {
             shown[count++] = &tables[at];
-            printf(" %14s", tables[at].plain);
+            printf(" %15s", tables[at].plain);
         }
     }
     printf("\n");
     for (size_t at_size = 0; at_size < SIZES; at_size++) {
         printf("%8zu", sizes[at_size]);
         for (size_t at = 0; at < count; at++) {
-            double plain = time_of(at_size, false, "plain", shown[at]->name, shown[at]->kind);
-            double bound = time_of(at_size, false, "bindings", shown[at]->name, shown[at]->kind);
-            printf("      ");
-            cell(" %8.2f", plain > 0 ? bound / plain : 0);
+            double under = time_in(at_size, bottom, shown[at]);
+            printf("       ");
+            cell(" %8.2f", under > 0 ? time_in(at_size, top, shown[at]) / under : 0);
         }
         printf("\n");
     }
 }
 #endif
+
+// Digits of which the last is none over digits, for each call that decodes them.
+static void print_refused(void) {
+    printf("\na refused decode: time over that of an accepted one\n   bytes");
+    for (size_t at = 0; at < CALLS; at++) {
+        if (calls[at].kind == REFUSED) {
+            printf(" %8s:%-12s", calls[at].plan, calls[at].name);
+        }
+    }
+    printf("\n");
+    for (size_t at_size = 0; at_size < SIZES; at_size++) {
+        printf("%8zu", sizes[at_size]);
+        for (size_t at = 0; at < CALLS; at++) {
+            const struct call *call = &calls[at];
+            if (call->kind == REFUSED) {
+                printf("             ");
+                cell(" %8.2f", least[at_size][at]
+                    / time_of(at_size, call->is_rust, call->plan, call->name, DECODE));
+            }
+        }
+        printf("\n");
+    }
+}
 
 static void print_times(const struct table *table) {
     printf("\n%s%s%s: ns\n   bytes", table->name, table->plain ? ", plain: " : "",
@@ -553,18 +626,38 @@ static void fill(void) {
         }
         memcpy(mixed + 2 * i, (i % 2 ? upper : lower) + 2 * i, 2);
     }
+    memcpy(refused, mixed, sizeof refused);
+    refused[sizeof refused - 1] = 'g';
+    for (size_t form = 0; form < FORMS; form++) {
+        group(form);
+    }
 }
 
-int main(void) {
+// Makes the one call that is named.
+static int call_once(char **words) {
+    for (size_t at = 0; at < CALLS; at++) {
+        const struct call *call = &calls[at];
+        if (call->is_rust == !strcmp(words[1], "rust") && !strcmp(words[2], call->plan)
+            && !strcmp(words[3], call->name)) {
+            struct task task = task_of(call, strtoul(words[4], NULL, 10));
+            sink = call->loop(&task, 1);
+            return 0;
+        }
+    }
+    fprintf(stderr, "no call of %s, %s is named %s\n", words[1], words[2], words[3]);
+    return 2;
+}
+
+int main(int count, char **words) {
+    fill();
+    if (count == 5) {
+        return call_once(words);
+    }
 #ifdef RUST
     ask_rust();
 #else
     printf("No Rust crate was given, so there are no ratios: --rust PATH gives one.\n");
 #endif
-    fill();
-    for (size_t form = 0; form < FORMS; form++) {
-        group(form);
-    }
     for (size_t at_size = 0; at_size < SIZES; at_size++) {
         check_all(sizes[at_size]);
     }
@@ -584,8 +677,17 @@ int main(void) {
 #endif
     }
 #ifdef BINDINGS
-    print_border();
+    struct column plain = {false, "plain"};
+    print_over("the bindings: time over the plain call", (struct column){false, "bindings"}, plain);
+#ifdef HEX
+    print_over("the plain call over hex: time over that crate's", plain, (struct column){true, "hex"});
 #endif
+#ifdef DATA_ENCODING
+    print_over("the plain call over data-encoding: time over that crate's", plain,
+        (struct column){true, "data_encoding"});
+#endif
+#endif
+    print_refused();
     print_forms("Hex::write_to into a slice", "write_to", PADDED);
     print_forms("grouped::read, ungrouped: hex_decode", "read", GROUPED);
     return 0;

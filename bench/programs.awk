@@ -20,8 +20,8 @@ direction != "" && $1 in wanted {
 }
 
 END {
-    print "| `fhex` over | 64 bytes | 4,096 | 65,536 | 1,048,576 | 8,388,607 |"
-    print "|---|---|---|---|---|---|"
+    print "Decoded bytes | 64 | 4,096 | 65,536 | 1,048,576 | 8,388,607"
+    print "---|---|---|---|---|---"
     split("encode decode", directions)
     split("basenc xxd cat", names)
     for (at = 1; at <= 2; at++)
@@ -31,13 +31,13 @@ END {
 
 function keep(key, ratio) {
     if (key in cell)
-        ratio = cell[key] " / " ratio
+        ratio = cell[key] "/" ratio
     cell[key] = ratio
 }
 
 function row(direction, name, at) {
-    printf "| `%s`, %s |", name, direction
+    printf "%s over `%s`", direction, name
     for (at = 1; at <= sizes_len; at++)
-        printf " %s |", cell[direction " " name " " sizes[at]]
+        printf " | %s", cell[direction " " name " " sizes[at]]
     print ""
 }

@@ -1,7 +1,7 @@
 #!/bin/sh
-# Makes of two outputs of run.sh, of the default build and of that for x86-64-v3, the table of
-# ../README.md, which it prints, and the picture beside it. Of two outputs of scripts/compare.sh, of
-# the same builds, it prints the table of README.md, of programs.
+# Makes of two outputs of run.sh, of the default build and of that for x86-64-v3, a picture, and the
+# tables of README.md, which it prints, with both builds in a cell. Of two outputs of
+# scripts/compare.sh, of the same builds, it prints the table of README.md, of programs.
 # Usage: bench/report.sh DEFAULT V3 PICTURE.svg [PROGRAMS PROGRAMS_V3]
 set -eu
 
@@ -10,51 +10,74 @@ if [ $# -ne 3 ] && [ $# -ne 5 ]; then
     exit 2
 fi
 here=$(cd "$(dirname "$0")" && pwd)
-calls='hex_check hex_encode hex_decode decode_owned'
 
-# ratios FILE: a line "CALL BYTES RATIO" for each, over the kernel whose vectors are as wide.
+# ratios OVER FILE: a line "CALL BYTES RATIO" for each: over the `kernel` of the Rust crate whose vectors
+# are as wide, or over its `public` call.
 ratios() {
-    awk '
+    awk -v over="$1" '
         BEGIN {
             of["check"] = "hex_check 1"
             of["encode_slice"] = "hex_encode 1"
             of["decode_slice"] = "hex_decode 1"
-            of["decode_owned"] = "decode_owned 4"
+            if (over == "kernel")
+                of["decode_owned"] = "decode_owned 4"
+            else
+                of["decode_vec"] = "hex_decode_vec 1"
         }
         /: time over the Rust crate/ { name = substr($1, 1, length($1) - 1); next }
         !NF { name = "" }
         $1 ~ /^[0-9]+$/ && name in of {
             split(of[name], call)
-            split($0, part, "|")
-            split(part[2], ratio)
+            count = split($0, part, "|")
+            split(part[over == "kernel" ? 2 : count], ratio)
             print call[1], $1, ratio[call[2]]
-        }' "$1"
+        }' "$2"
 }
 
-# row CALL: its row of the table.
-row() {
-    printf '| %s |' "$1"
-    ratios "$2" | awk -v call="$3" '$1 == call { printf " %s |", $3 } END { print "" }'
+# builds OVER DEFAULT V3: these lines of both builds, with 0 and 1 before them.
+builds() {
+    ratios "$1" "$2" | sed 's/^/0 /'
+    ratios "$1" "$3" | sed 's/^/1 /'
 }
 
-ratios "$1" | awk '
-    $1 == "hex_check" {
-        bytes = length($2) > 3 ? substr($2, 1, length($2) - 3) "," substr($2, length($2) - 2) : $2
-        head = head " " bytes (head == "" ? " bytes" : "") " |"
-        rule = rule "---|"
-    }
-    END { print "| Call |" head; print "|---|" rule }'
-for call in $calls; do
-    case $call in
-    decode_owned) row "\`Backend::decode_owned\` of \`avx2\`" "$1" "$call" ;;
-    *) row "\`$call\`" "$1" "$call" ;;
-    esac
-done
+# table OVER DEFAULT V3: a row for each call.
+table() {
+    builds "$@" | awk '
+        !(($2, $3) in cell) && !($2 in seen) { seen[$2] = 1; calls[++calls_len] = $2 }
+        !($3 in sized) { sized[$3] = 1; sizes[++sizes_len] = $3 }
+        { cell[$2, $3] = cell[$2, $3] ($1 ? "/" : "") $4 }
+        function shown(bytes) {
+            return length(bytes) < 4 ? bytes : substr(bytes, 1, length(bytes) - 3) "," substr(bytes, length(bytes) - 2)
+        }
+        END {
+            head = "Decoded bytes"
+            rule = "---"
+            for (at = 1; at <= sizes_len; at++) {
+                head = head " | " shown(sizes[at])
+                rule = rule "|---"
+            }
+            print head "\n" rule
+            for (call = 1; call <= calls_len; call++) {
+                printf "`%s`", calls[call]
+                for (at = 1; at <= sizes_len; at++)
+                    printf " | %s", (calls[call], sizes[at]) in cell ? cell[calls[call], sizes[at]] : "-"
+                print ""
+            }
+        }'
+}
 
-{
-    ratios "$1" | sed 's/^/0 /'
-    ratios "$2" | sed 's/^/1 /'
-} | awk -v calls="$calls" -f "$here/picture.awk" >"$3"
+printf "Over the Rust crate's kernel of the same width:\n\n"
+table kernel "$1" "$2"
+printf "\nOver the Rust crate's public call:\n\n"
+table public "$1" "$2"
+
+builds kernel "$1" "$2" |
+    awk -v calls='hex_check hex_encode hex_decode decode_owned' -f "$here/picture.awk" >"$3"
+
+awk -f "$here/sections.awk" "$1" "$2"
+
+printf "\nGrouped digits over ungrouped ones:\n\n"
+awk -f "$here/groups.awk" "$1" "$2"
 
 if [ $# -eq 5 ]; then
     echo

@@ -2,9 +2,10 @@
 # Builds the crates as a static library of thin exported functions, times its calls beside the Rust
 # crate's in one run, then reading digest lists beside a loop in C, and prints nanoseconds and
 # ratios; README.md says what the columns mean.
-# Usage: bench/run.sh [--cpu=x86-64-v3] [--rust PATH]
-# PATH is a checkout of the Rust crate faster-hex 1.0.0. RT, CC and RUSTC name other commands, and
-# BENCH_BUILD another folder than the user's cache to build in.
+# Usage: bench/run.sh [--cpu=x86-64-v3] [--rust PATH] [--counts]
+# PATH is a checkout of the Rust crate faster-hex 1.0.0. With --counts it counts instructions, by
+# counts.sh, in place of timing. RT, CC and RUSTC name other commands, CRATES another folder of crates
+# than that of Debian's packages, and BENCH_BUILD another one than the user's cache to build in.
 set -eu
 
 here=$(cd "$(dirname "$0")" && pwd)
@@ -15,6 +16,7 @@ rustc=${RUSTC:-rustc}
 
 cpu=
 rust=
+counts=
 while [ $# -gt 0 ]; do
     case $1 in
     --cpu=*) cpu=$1 ;;
@@ -23,8 +25,9 @@ while [ $# -gt 0 ]; do
         rust=${2:?"--rust needs a path"}
         shift
         ;;
+    --counts) counts=1 ;;
     *)
-        echo "usage: bench/run.sh [--cpu=x86-64-v3] [--rust PATH]" >&2
+        echo "usage: bench/run.sh [--cpu=x86-64-v3] [--rust PATH] [--counts]" >&2
         exit 2
         ;;
     esac
@@ -69,8 +72,11 @@ for plan in scalar sse41 avx2 avx512 neon; do
     index=$((index + 1))
 done
 
+# For x86-64-v4 the toolchain has its own compiler alone.
+backend=
+[ "$cpu" != --cpu=x86-64-v4 ] || backend='--backend rattle'
 # shellcheck disable=SC2086
-if ! (cd "$own" && "$rt" lib $cpu) >"$build/log" 2>&1; then
+if ! (cd "$own" && "$rt" lib $cpu $backend) >"$build/log" 2>&1; then
     tail -n 40 "$build/log" >&2
     exit 1
 fi
@@ -86,27 +92,43 @@ compiles() {
         -C panic=abort -o "$output" "$@"
 }
 
-# The calls of the bindings, over the library for C of this build.
+# The calls of the bindings, over the library for C of this build, and of other crates for Rust.
 set -- "$own/out/libhex_bench.a"
 bindings=
 folder=$top/crates/faster_hex_c/out
 [ -z "$cpu" ] || folder=$folder/${cpu#--cpu=}
-if command -v "$rustc" >/dev/null; then
+if [ -n "$backend" ]; then
+    echo 'Left out, since scripts/build.sh makes no such library: the bindings for Rust, hex, data-encoding.'
+elif command -v "$rustc" >/dev/null; then
     # shellcheck disable=SC2086
     make -s -C "$top" lib ${cpu:+CPU=${cpu#--cpu=}}
     compiles bindings rlib "$build/rust/libbindings.rlib" "$top/bindings/rust/src/lib.rs"
     bindings="--extern bindings=$build/rust/libbindings.rlib -L native=$folder -l static=faster_hex"
     flags="$flags -DBINDINGS"
+    cp "$here/rust/bindings.rs.in" "$build/rust/beside.rs"
+    for peer in hex data-encoding; do
+        found=$(find "${CRATES:-/usr/share/cargo/registry}" -maxdepth 1 -name "$peer-[0-9]*" 2>/dev/null |
+            sort | tail -n 1)
+        if [ -z "$found" ]; then
+            echo "Left out, since Debian's package librust-$peer-dev is not there: the crate $peer."
+            continue
+        fi
+        as=$(echo "$peer" | tr - _)
+        compiles "$as" rlib "$build/rust/lib$as.rlib" "$found/src/lib.rs"
+        bindings="$bindings --extern $as=$build/rust/lib$as.rlib"
+        flags="$flags -D$(echo "$as" | tr '[:lower:]' '[:upper:]')"
+        cat "$here/rust/$as.rs.in" >>"$build/rust/beside.rs"
+        echo "Beside it: $(basename "$found")."
+    done
 else
-    echo "Left out, since there is no $rustc: the bindings for Rust."
+    echo "Left out, since there is no $rustc: the bindings for Rust, hex, data-encoding."
 fi
 
 # The exported functions go behind the Rust crate's own adapters to its kernels, whose private names
 # they use. It is built for the default processor in any case: it asks the machine when it runs.
 if [ -z "$rust" ] && [ -n "$bindings" ]; then
-    cp "$here/rust/bindings.rs.in" "$build/rust/bindings.rs"
     # shellcheck disable=SC2086
-    compiles calls staticlib "$build/rust/libcalls.a" "$build/rust/bindings.rs" -C lto=fat $bindings
+    compiles calls staticlib "$build/rust/libcalls.a" "$build/rust/beside.rs" -C lto=fat $bindings
     set -- "$@" "$build/rust/libcalls.a"
 fi
 if [ -n "$rust" ]; then
@@ -114,7 +136,7 @@ if [ -n "$rust" ]; then
     cp -R "$rust/src" "$build/rust/src"
     chmod -R u+w "$build/rust/src"
     cat "$here/rust/calls.rs.in" >>"$build/rust/src/fuzzing.rs"
-    [ -z "$bindings" ] || cat "$here/rust/bindings.rs.in" >>"$build/rust/src/fuzzing.rs"
+    [ -z "$bindings" ] || cat "$build/rust/beside.rs" >>"$build/rust/src/fuzzing.rs"
     for plan in scalar:Scalar sse41:Sse41 avx2:Avx2 avx512:Avx512; do
         sed "s/PLAN/${plan%:*}/g; s/KIND/${plan#*:}/g" "$here/rust/plan.rs.in" \
             >>"$build/rust/src/fuzzing.rs"
@@ -127,9 +149,11 @@ if [ -n "$rust" ]; then
         -C lto=fat $bindings
     set -- "$@" "$build/rust/libcalls.a"
     case $cpu in
-    *v3) flags="$flags -DRUST -DSAME_WIDTH=avx2" ;;
-    *) flags="$flags -DRUST -DSAME_WIDTH=sse41" ;;
+    *v4) width=avx512 ;;
+    *v3) width=avx2 ;;
+    *) width=sse41 ;;
     esac
+    flags="$flags -DRUST -DSAME_WIDTH=$width"
 fi
 
 # The kit's library has the allocator that a vector takes.
@@ -142,5 +166,8 @@ done
 
 sed -n 's/^model name[^:]*: /Run on /p' /proc/cpuinfo | head -n 1
 echo "Built by $("$rt" version), $(sed -n 's/.* \(cpu=[^ ]*\).*/\1/p' "$build/log" | tail -n 1)."
+if [ -n "$counts" ]; then
+    exec "$here/counts.sh" "$build/bench" "${width:-}"
+fi
 "$build/bench"
 "$build/lists"

@@ -1,21 +1,23 @@
 #!/bin/sh
 # Runs the examples of the doc comments of the libraries, of callers and of refusing_allocator, and
-# the statements of CALLING.md, as they stand there: each is a test of a crate that this script makes
-# outside the repository, and that `rt try --test` runs and nothing proves. Run it after each change
-# of one.
+# those of CALLING.md, as they stand there: each is a test of a crate that this script makes outside
+# the repository, and that `rt try --test` runs and nothing proves. Run it after each change of one.
+# Then runs README.md's program over a copy of the library as scripts/vendor.sh makes it.
 # Usage: scripts/examples.sh [--prove | --write FOLDER]
 # With --prove, `rt test` proves that crate before it runs, and what below it is not proved yet.
 # With --write it makes that crate, crates/doc_examples, and those below it in an empty folder, and
 # runs nothing.
-# Prints each file with an example that `rt fmt` would lay out otherwise, each function of CALLING.md
-# that does not stand in callers, and each program of README.md that is no program of a crate, by its
-# first line; then what a run says beside the examples that pass, where one fails. The last line is
-# `N examples passed, M failed`, and the status is 1 where one failed or something else was printed.
+# Prints each file with an example that `rt fmt` would lay out otherwise, each block of CALLING.md that
+# prints a function, since functions to start from stand in callers, each program of README.md that is
+# no program of a crate, by its first line, and what a copy by scripts/vendor.sh does otherwise; then
+# what a run says beside the examples that pass, where one fails. The last line is `N examples passed,
+# M failed`, and the status is 1 where one failed or something else was printed.
 #
 # An example stands in a doc comment between ```rust and ```. It is the body of a test, where `rt`
 # is the runtime and `?` takes any error. Without saying so it names what is public at the root of
 # its crate, in its own module, and at the roots of those crates of this repository that crates.txt
-# names for its crate. What else it needs it imports itself.
+# names for its crate. What else it needs it imports itself. An example of CALLING.md imports all that
+# it names.
 set -eu
 LC_ALL=C
 export LC_ALL
@@ -80,6 +82,19 @@ blocks() {
         inside { print >(to count) }' "$1"
 }
 
+# holds_function BLOCK: whether the block prints a function.
+holds_function() {
+    grep -q '^ *\(pub \)\{0,1\}fn ' "$1"
+}
+
+# functions PAGE: the blocks of the page that print a function.
+functions() {
+    blocks "$1"
+    for block in "$made"/blocks/*; do
+        ! holds_function "$block" || echo "$1 prints a function: $(head -n 1 "$block")"
+    done
+}
+
 # stands_in BLOCK FILE..: whether the lines of the block stand in a row in one of the files.
 stands_in() {
     block=$1
@@ -91,16 +106,15 @@ stands_in() {
     return 1
 }
 
-# write_page_tests PAGE NAME: the page's blocks that hold no function, as tests.
+# write_page_tests PAGE NAME: the page's blocks, as tests.
 write_page_tests() {
     blocks "$1"
     {
         echo "//! Made by \`scripts/examples.sh\` from \`$1\`."
         echo
-        echo 'use faster_hex::*;'
         echo 'use std::test::Fail;'
         for block in "$made"/blocks/*; do
-            ! grep -q '^ *\(pub \)\{0,1\}fn ' "$block" || continue
+            ! holds_function "$block" || continue
             printf '\n#[test]\nfn example_%s(rt: HostRuntime) -> Result<(), Fail> {\n' \
                 "$(basename "$block")"
             sed 's/^./    &/' "$block"
@@ -115,9 +129,27 @@ strayed() {
     shift
     blocks "$page"
     for block in "$made"/blocks/*; do
-        ! grep -q '^ *\(pub \)\{0,1\}fn ' "$block" || stands_in "$block" "$@" \
-            || echo "$page: $(head -n 1 "$block")"
+        ! holds_function "$block" || stands_in "$block" "$@" || echo "$page: $(head -n 1 "$block")"
     done
+}
+
+# vendored: whether scripts/vendor.sh copies faster_hex as it is, and README.md's program does what it
+# should over a copy without JSON and lists, which is another one.
+vendored() {
+    mine=$made/mine
+    scripts/vendor.sh --no-proofs "$mine"
+    diff -r crates/faster_hex/src "$mine/crates/faster_hex/src" || true
+    grep '^faster_hex:' crates.txt | grep -vxF -f "$mine/crates.txt" || true
+    rm -r "$mine"
+    scripts/vendor.sh --no-json --no-lists --no-proofs "$mine"
+    mkdir "$mine/crates/read_back"
+    cp -R crates/read_back/src "$mine/crates/read_back/"
+    echo 'read_back: faster_hex' >>"$mine/crates.txt"
+    (cd "$mine/crates/read_back" && rt try </dev/null) >"$made/printed" 2>"$made/said" \
+        && cmp -s crates/read_back/stdout "$made/printed" || {
+        cat "$made/said" "$made/printed"
+        echo 'the program of README.md does otherwise over a copy of scripts/vendor.sh'
+    }
 }
 
 # write_root: the crate's root, once its modules are written.
@@ -162,8 +194,9 @@ copy_libraries
 
 wrong=$(
     (cd "$own" && rt fmt) | sed -n 's/^rt: formatted src./not in the layout of rt fmt: /p'
-    strayed crates/faster_hex/CALLING.md crates/callers/src/*.rt
+    functions crates/faster_hex/CALLING.md
     strayed README.md crates/*/src/main.rt
+    vendored
 )
 [ -z "$wrong" ] || printf '%s\n' "$wrong"
 

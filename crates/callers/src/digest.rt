@@ -33,8 +33,9 @@ impl Digest {
     ///
     /// # Errors
     ///
-    /// [`Error::LengthMismatch`] for another number of bytes than 64, and [`Error::InvalidChar`]
-    /// for the first byte that is no lowercase digit.
+    /// In this order: [`Error::OddLength`] for an odd number of bytes, [`Error::LengthMismatch`] for
+    /// another even number than 64, and [`Error::InvalidChar`] for the first byte that is no
+    /// lowercase digit.
     pub fn parse(text: &[u8]) -> Result<Digest, Error>
         ensures { MatchResult result
             (λ digest. Spells policy.Lower text.now digest.bytes)
