@@ -1,82 +1,25 @@
 -- What is kept of digits that are read piece by piece.
-use Rattle.std.proofs.Common.{◌≡◌, ◌∙◌, ◌⊎◌, inl, inr, ℕ, ◌+◌, ◌-◌, ◌%◌, ◌<◌, ◌≤◌, true, false, List, [], ◌++◌, length, length-append, slice_index, Option, Some, None, is_some, refl, sym, ap, subst, take, drop, append_assoc, arith}
-use Rattle.std.specs.Prelude.{option_map, IfSome, IsSome}
+use Rattle.std.proofs.Common.{◌≡◌, ◌∙◌, ◌⊎◌, inl, inr, ℕ, ◌+◌, ◌-◌, ◌%◌, ◌<◌, ◌≤◌, true, false, List, [], ◌++◌, length, length-append, slice_index, Option, Some, None, is_some, refl, sym, ap, take, drop, append_assoc, arith}
+use Rattle.std.specs.Prelude.{IfSome}
 use Rattle.std.specs.Io.KnownBytes.{Consumes}
 use Rattle.std.specs.List.{copy_within}
 use borrow.Rule.Slice.PartMut.{post_of, put_mid}
 use lib.Seq.{take-add, take-append-add}
-use Rattle.std.proofs.lemmas.Bool.{cases_lt}
 use Rattle.std.proofs.lemmas.Bool.Decides.{nat_tests}
-use Rattle.std.proofs.lemmas.List.{get_or_append_left, get_or-append_right, length-take-le, take-append-le}
+use Rattle.std.proofs.lemmas.List.{length-take-le, take-append-le}
 use Rattle.std.proofs.lemmas.Slice.{overwrites}
 use Rattle.hex_core.specs.declared.digit.CheckCase.{CheckCase}
 use Rattle.hex_core.specs.declared.error.Error.{Error}
 use Rattle.hex_core.specs.declared.error.Error.TheVariants.{InvalidChar}
-use Rattle.hex_core.specs.Digit.{value}
 use Rattle.hex_core.specs.Refusal.{first_bad_char, source_refusal}
-use Rattle.hex_core.specs.Search.{first_invalid}
 use Rattle.hex_core.specs.Text.{Spells}
+use Rattle.hex_core.proofs.JoinLemmas.{back_at, bad-behind, bad-front, spells-joined}
 use Rattle.hex_core.proofs.LawProofs.{valid-spelled}
-use Rattle.hex_core.proofs.SearchLemmas.{first_invalid_is, first_is_first, none_valid}
-use Rattle.hex_codec.proofs.WriteLemmas.{spells-joined}
 use Rattle.hex_program.specs.declared.failure.Failure.{Failure}
 use Rattle.hex_program.specs.declared.failure.Failure.TheVariants.{Codec, Usage, ReadFailed, WriteFailed, OutOfMemory, InputTooLong}
 use Rattle.hex_program.specs.Decoding.{DecodingFailure, EndsRefused, Kept}
 use Rattle.hex_program.specs.Input.{ReadsAll, input_limit}
 use Rattle.hex_program.specs.Operations.{without_newline}
-
--- a byte of the first of two pieces, and one of the second
-front : (a b : List ℕ) (i : ℕ) → i < length a → slice_index (a ++ b) i ≡ slice_index a i
-front a b i lt = get_or_append_left a b 0 i lt
-
-behind : (a b : List ℕ) (i : ℕ) → slice_index (a ++ b) (length a + i) ≡ slice_index b i
-behind a b i =
-    let place : length a + i - length a ≡ i = omega arith in
-    get_or-append_right a b (length a) (length a + i) 0 refl (omega arith) ∙ ap (slice_index b) place
-
--- a byte without a value has none
-lacks : (o : Option ℕ) → o ≡ None → is_some o ≡ false
-lacks o is = rw is refl
-
--- the first invalid byte of two pieces is that of the first, where it has one
-invalid-front : (c : CheckCase) (a b : List ℕ) (f : ℕ) → first_invalid c a ≡ Some f → first_invalid c (a ++ b) ≡ Some f
-invalid-front c a b f is =
-    let first = first_is_first c a f is in
-    first_invalid_is c (a ++ b) f (omega (arith, first.0, length-append a b))
-    (λ k low lt. subst (λ x. IsSome (value c x)) (sym (front a b k (omega (arith, lt, first.0)))) (first.2 k low lt))
-    (lacks _ (ap (value c) (front a b f first.0) ∙ first.1))
-
--- and else that of the second
-invalid-behind : (c : CheckCase) (a b : List ℕ) (f : ℕ) → first_invalid c a ≡ None → first_invalid c b ≡ Some f → first_invalid c (a ++ b) ≡ Some (length a + f)
-invalid-behind c a b f none is =
-    let first = first_is_first c b f is in
-    first_invalid_is c (a ++ b) (length a + f) (omega (arith, first.0, length-append a b))
-    (λ k low lt. elim (cases_lt k (length a)) [
-      | inl left ↦ subst (λ x. IsSome (value c x)) (sym (front a b k left)) (none_valid c a none k (omega arith) left)
-      | inr right ↦
-          let at : length a + (k - length a) ≡ k = omega (arith, right) in
-          subst (λ x. IsSome (value c x)) (sym (behind a b (k - length a)) ∙ ap (slice_index (a ++ b)) at) (first.2 (k - length a) (omega arith) (omega (arith, lt, right)))
-    ])
-    (lacks _ (ap (value c) (behind a b f) ∙ first.1))
-
--- so the first bad character stays where digits follow it
-pub bad-front : (c : CheckCase) (a b : List ℕ) (e : Error) → first_bad_char c a ≡ Some e → first_bad_char c (a ++ b) ≡ Some e
-bad-front c a b e is = by_first (first_invalid c a) refl is
-  where
-    by_first : (o : Option ℕ) → first_invalid c a ≡ o → option_map (λ f. InvalidChar f (slice_index a f)) o ≡ Some e → first_bad_char c (a ++ b) ≡ Some e
-    by_first (Some f) at named = rw (invalid-front c a b f at, front a b f (first_is_first c a f at).0) named
-    by_first None at named = absurd (cc named)
-
--- and moves behind digits that are valid
-pub bad-behind : (c : CheckCase) (a b : List ℕ) (i byte : ℕ) → first_invalid c a ≡ None → first_bad_char c b ≡ Some (InvalidChar i byte) → first_bad_char c (a ++ b) ≡ Some (InvalidChar (length a + i) byte)
-bad-behind c a b i byte none is = by_first (first_invalid c b) refl is
-  where
-    by_first : (o : Option ℕ) → first_invalid c b ≡ o → option_map (λ f. InvalidChar f (slice_index b f)) o ≡ Some (InvalidChar i byte) → first_bad_char c (a ++ b) ≡ Some (InvalidChar (length a + i) byte)
-    by_first (Some f) at named =
-        let index : f ≡ i = cc named in
-        let read : slice_index b f ≡ byte = cc named in
-        rw (invalid-behind c a b f none at, behind a b f, read, index) refl
-    by_first None at named = absurd (cc named)
 
 -- valid digits more
 pub kept-decoded : (c : CheckCase) (before digits bytes more : List ℕ) (o : Option Error) (count : ℕ) → is_some o ≡ false → length digits % 2 ≡ 0 → Spells c digits more
@@ -113,7 +56,7 @@ pub strip-behind : (a b : List ℕ) → (a ≡ []) ⊎ (1 ≤ length b) → with
 strip-behind a b (inl none) = rw none refl
 strip-behind a b (inr some) =
     let place : length a + (length b - 1) ≡ length (a ++ b) - 1 = omega (arith, some, length-append a b) in
-    let last : slice_index (a ++ b) (length (a ++ b) - 1) ≡ slice_index b (length b - 1) = ap (slice_index (a ++ b)) (sym place) ∙ behind a b (length b - 1) in
+    let last : slice_index (a ++ b) (length (a ++ b) - 1) ≡ slice_index b (length b - 1) = ap (slice_index (a ++ b)) (sym place) ∙ back_at a b (length b - 1) (length a + (length b - 1)) refl in
     let cut : take (length (a ++ b) - 1) (a ++ b) ≡ a ++ take (length b - 1) b = ap (λ n. take n (a ++ b)) (sym place) ∙ take-append-add a b (length b - 1) in
     let long : 0 < length (a ++ b) = omega (arith, some, length-append a b) in
     grind (arith, nat_tests, last, cut, long, some)

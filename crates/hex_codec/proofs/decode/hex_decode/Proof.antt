@@ -1,6 +1,6 @@
 -- `hex_decode` reads both cases.
 use Rattle.hex_core.proofs.WalkKit.{◌≡◌, refl, [], ◌∷◌, lit<, length, named, id⊢, ftrue, flft, ‵, ◌⊛◌, raw, some, later, ◌$◌, ◌∵◌, !, qed, move, keep, drop, split, join, fsplit3, fjoin, use1, use2, await, pick, suffices, frame, done, whole, sub, agg, stop, fld, hop, from, addr, lit, and_then, no_more, returns, enter, alloc_all, pass_all, free_all, look_at, look_in_at, get, get_in, sets, lands_as, fact, tables, u8, yes, no, Is, shows, owns, plain, mut_slice_of, shr_slice_of, ShrSlice, MutSlice, Room, shr_slice_vals, shr_slice_Tells, mut_slice_vals, mut_slice_Tells, nothing, owned, peeks, heard, calls_at, Lasts, lasts, triple_of, framed, says, Stays, stay_dropped, ends_at, Goes-dropped, Goes-spent_slice, None, Some, MatchResult, proved}
-use Rattle.hex_core.proofs.Lent.{Policy, policy_vals, policy_makes, policy_is, Lent, Answer, lent_lawful}
+use Rattle.hex_core.proofs.Lent.{Policy, policy_vals, policy_makes, policy_none, Lent, Answer, lent_lawful}
 use Rattle.hex_core.specs.Loan.{LendsAnswer}
 use Rattle.hex_core.specs.Refusal.{decode_refusal}
 use Rattle.hex_core.specs.Text.{Spells}
@@ -31,7 +31,7 @@ hex_decode_spec 𝓤 𝓛 𝓜 𝓡 wired =
     sets ! (agg ! (and_then ! (lit ! tt) (no_more !))) refl (tt, (record { fits = lit< tt }, tt)) $
     let G = triple_of 𝓛 h.signature (h.spec 𝓛 𝓜.mem 𝓡.returns) in
     let z : G.Ghost = ((κs, qs, tt, (src, (dst, (policy.None, tt))), (shr_slice_vals src, (mut_slice_vals dst, (policy_vals policy.None, tt)))), tt) in
-    move ! (1 ∷ []) $ fsplit3 ! $ move ! (2 ∷ []) $ owned ! Policy _ (policy_makes 𝓛) policy.None (policy_vals policy.None) (policy_is policy.None) $ fjoin ! $ move ! (2 ∷ 0 ∷ []) $ fjoin ! $ move ! (1 ∷ 0 ∷ []) $ fjoin ! $ move ! (1 ∷ 0 ∷ []) $ join ! $ use2 𝓛 (raw (G.pre z)) (id⊢ 𝓤 _) $
+    move ! (1 ∷ []) $ fsplit3 ! $ move ! (2 ∷ []) $ owned ! Policy _ (policy_makes 𝓛) policy.None (policy_vals policy.None) policy_none $ fjoin ! $ move ! (2 ∷ 0 ∷ []) $ fjoin ! $ move ! (1 ∷ 0 ∷ []) $ fjoin ! $ move ! (1 ∷ 0 ∷ []) $ join ! $ use2 𝓛 (raw (G.pre z)) (id⊢ 𝓤 _) $
     calls_at ! (framed 𝓤 𝓛.H 𝓜 (tables 𝓤 𝓛.H 𝓜 𝓡 𝓡.env)) G (h_met.met 𝓤 𝓛 𝓜 𝓡 (code.calls-hex_codec::decode::hex_decode_with_case 𝓡.env wired)) z (and_then ! (get ! refl) (and_then ! (get ! refl) (and_then ! (get ! refl) (no_more !)))) (λ w.
     use1 𝓛 (later (some (λ (r : Answer). ((‵ (flft κ₀ q₀) ⊛ ‵ (flft κ q) ⊛ ‵ ftrue) ⊛ ‵ ((Lent (named 1) κ).own_val r (w ∷ []))) ⊛ some (λ (ws : Lasts h.ended z.0.0 z.0.3). ‵ (lasts h.ended z.0.0 z.0.3 ws)
     ⊛ (‵ (LendsAnswer dst r) ⊛ raw (fact 𝓤 (MatchResult r (λ p. (decode_refusal policy.None s (length xs) ≡ None) × Spells policy.None s p.now) (λ e. decode_refusal policy.None s (length xs) ≡ Some e)))))))) (id⊢ 𝓤 _) $

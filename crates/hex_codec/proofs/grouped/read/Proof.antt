@@ -26,10 +26,10 @@ abbrev Refusal : RattleType
 Refusal = Passed GF.the_row
 
 abbrev Counted : RattleType
-Counted = CountedBy GF.the_row FL.the_row_laws FL.the_told
+Counted = CountedBy GF.the_row
 
 abbrev Lent : Lifetime → Lft → RattleType
-Lent = LentBy GF.the_row FL.the_row_laws FL.the_told
+Lent = LentBy GF.the_row
 
 abbrev stayed : Stays f.ended.signature.params f.ended.kept
 stayed = (stay_dropped (shr_slice_of (0 ∷ []) tt (plain (λ _. u8))) yes, (stay_dropped (mut_slice_of (1 ∷ []) tt (plain (λ _. u8))) no, (stay_dropped (plain (λ _. Grouping)) yes, (stay_dropped (plain (λ _. Policy)) yes, tt))))

@@ -22,8 +22,8 @@ use denote.Triple.Walked.{Goes, walk_of}
 use Rattle.std.proofs.raw_atomic.Walks.{proved_at}
 use Rattle.std.proofs.mem.Facts.{says_two}
 use Rattle.hex_core.proofs.Fronts.{front_lent, lends_front}
-use Rattle.hex_core.proofs.Lent.{CountedIn, LentIn, counted_ok, counted_err, ok_val, err_val}
-use Rattle.std.proofs.ResultValues.{ok_of, and_tt}
+use Rattle.hex_core.proofs.Lent.{CountedBy, LentBy, counted_ok, counted_err, err_val}
+use Rattle.std.proofs.ResultValues.{ok_of, ok_val, and_tt}
 use Rattle.hex_core.specs.contracts.lend.lend_accepted as f
 use Rattle.hex_core.proofs.lend.lend_accepted.Statement.{statement}
 use Rattle.hex_core.proofs.lend.lend_accepted.Code as code
@@ -37,11 +37,11 @@ module _ (E : RattleType) where
   function = inst_fn (layouts (a_type ∷ []) (E, tt)) code.function
 
   abbrev stayed : Stays (f.ended E).signature.params (f.ended E).kept
-  stayed = (stay_dropped (mut_slice_of (0 ∷ []) tt (plain (λ _. u8))) no, (stay_dropped (plain (λ _. CountedIn E)) no, tt))
+  stayed = (stay_dropped (mut_slice_of (0 ∷ []) tt (plain (λ _. u8))) no, (stay_dropped (plain (λ _. CountedBy (param 0 E))) no, tt))
 
   module _ {M : Type 1} {𝓤 : Ura M} (𝓛 : Logic 𝓤) where
     -- nothing is said of the answer that was used up
-    goes_answer : Goes 𝓛 2 (plain (λ _. CountedIn E)) no (stay_dropped (plain (λ _. CountedIn E)) no)
+    goes_answer : Goes 𝓛 2 (plain (λ _. CountedBy (param 0 E))) no (stay_dropped (plain (λ _. CountedBy (param 0 E))) no)
     goes_answer κs (Ok n) g vs fit = 𝓛.laws.⇛_intro _
     goes_answer κs (Err e) g vs fit = qed 𝓛 (‵ ftrue ∷ []) ∵ updating ! $ now ! $ nothing ! $ fjoin ! $ done !
 
@@ -68,7 +68,7 @@ module _ (E : RattleType) where
     lends n fn rm =
         let κ = κs.0 in let q = qs.0 in let b = self.ref_ptr.0 in let o = self.ref_ptr.1 in let γ = self.ghost_name in let xs = self.now in
         let y : W.Ghost = At (Ok n) (mut_slice_vals self) (ok_val (vint w64 n) ∷ []) in
-        qed 𝓛 (((‵ (flft κ q) ⊛ ‵ (flft κs.1.0 qs.1.0) ⊛ ‵ ftrue) ⊛ ‵ (owns (Part ∷ CountedIn E ∷ []) (self, (Ok n, tt)) (mut_slice_vals self, (ok_val (vint w64 n) ∷ [], tt))))
+        qed 𝓛 (((‵ (flft κ q) ⊛ ‵ (flft κs.1.0 qs.1.0) ⊛ ‵ ftrue) ⊛ ‵ (owns (Part ∷ CountedBy (param 0 E) ∷ []) (self, (Ok n, tt)) (mut_slice_vals self, (ok_val (vint w64 n) ∷ [], tt))))
         ∷ (raw (fact 𝓤 (κs.1.0 ⊑ E.lives)) ⊛ raw (fact 𝓤 (n ≤ length xs))) ∷ []) ∵
         move ! (1 ∷ []) $ split ! $ drop ! $ heard ! _ (λ le. split ! $
         let less : Room u8 n = (omega arith, omega arith) in
@@ -86,7 +86,7 @@ module _ (E : RattleType) where
               use2 𝓛 (later (some (front_lent 𝓛 u8 (named 0) κ q b o γ xs n))) (lends_front 𝓛 u8 (named 0) κ q b o γ xs n le less (mut_slice_vals self)) $ await ! tt $ pick ! (λ δ.
               returns ! (look_at ! 0 refl) $ free_all ! refl $ keep ! (0 ∷ 2 ∷ []) $ split3 ! $
               let part : MutBor (List ℕ) = record { ref_ptr = (b, o); ghost_name = δ; now = take n xs } in
-              use1 𝓛 (‵ ((LentIn E (named 0) κ).own_val (Ok part) (ok_val (slice_val (b, o) n) ∷ []))) (ok_of 𝓛 Part (param 0 E) part (slice_val (b, o) n)) $
+              use1 𝓛 (‵ ((LentBy (param 0 E) (named 0) κ).own_val (Ok part) (ok_val (slice_val (b, o) n) ∷ []))) (ok_of 𝓛 Part (param 0 E) part (slice_val (b, o) n)) $
               suffices ! _ (ends_at 𝓛 (f.ended E) stayed (f.clauses E 𝓛 𝓜.mem 𝓡.returns) y (ok_val (slice_val (b, o) n)) (Ok part) (tt, (tt, tt)) (tt, (tt, tt))) $
               nothing ! $ nothing ! $ fjoin ! $ nothing ! $ fjoin ! $ join ! $ move ! (1 ∷ 3 ∷ []) $ join ! $ join ! $ frame ! $ says_two ! (refl, tt) $ done !)),
           ((λ e. absurd (omega arith)), tt),
@@ -98,7 +98,7 @@ module _ (E : RattleType) where
         let κ = κs.0 in let γ = self.ghost_name in let xs = self.now in
         let y : W.Ghost = At (Err e) (mut_slice_vals self) (err_val v ∷ []) in
         let good = ((param_laws 0 E LE).lawful 𝓛).typed e (v ∷ []) is in
-        qed 𝓛 (((‵ (flft κ qs.0) ⊛ ‵ (flft κs.1.0 qs.1.0) ⊛ ‵ ftrue) ⊛ ‵ (owns (Part ∷ CountedIn E ∷ []) (self, (Err e, tt)) (mut_slice_vals self, (err_val v ∷ [], tt))))
+        qed 𝓛 (((‵ (flft κ qs.0) ⊛ ‵ (flft κs.1.0 qs.1.0) ⊛ ‵ ftrue) ⊛ ‵ (owns (Part ∷ CountedBy (param 0 E) ∷ []) (self, (Err e, tt)) (mut_slice_vals self, (err_val v ∷ [], tt))))
         ∷ (raw (fact 𝓤 (κs.1.0 ⊑ E.lives)) ⊛ raw (fact 𝓤 (IfOk {E = E.Denot} (Err e) (λ n. n ≤ length xs)))) ∷ []) ∵
         move ! (1 ∷ []) $ drop ! $ split ! $
         enter ! _ _ _ _ _ $ alloc_all ! (λ l. pass_all ! refl ((tt, (tt, (record { fits = rm.0 }, tt))), ((and_tt _ good.0.0, (record { fits = lit< tt }, (good.0.1, tt))), tt)) $
@@ -116,7 +116,7 @@ module _ (E : RattleType) where
                 rewrite ! 0 (λ (l : List ℕ). ‵ (fobs γ ((coded_list u8.coded).code l))) (heres_id u8 xs) refl $
                 use1 𝓛 (‵ (fres γ ((coded_list u8.coded).code xs))) (𝓛.names.obs-res γ ((coded_list u8.coded).code xs)) $
                 move ! (2 ∷ []) $ fsplit ! $
-                use1 𝓛 (‵ ((LentIn E (named 0) κ).own_val (Err e) (err_val v ∷ []))) (id⊢ 𝓤 _) $
+                use1 𝓛 (‵ ((LentBy (param 0 E) (named 0) κ).own_val (Err e) (err_val v ∷ []))) (id⊢ 𝓤 _) $
                 returns ! (look_at ! 0 refl) $ free_all ! refl $ keep ! (0 ∷ 4 ∷ 2 ∷ 5 ∷ []) $
                 suffices ! _ (ends_at 𝓛 (f.ended E) stayed (f.clauses E 𝓛 𝓜.mem 𝓡.returns) y (err_val v) (Err e) (tt, ((tt, tt), tt)) (tt, (tt, tt))) $
                 nothing ! $ nothing ! $ fjoin ! $ nothing ! $ fjoin ! $ join ! $ move ! (1 ∷ 3 ∷ []) $ join ! $ join ! $ frame ! $ says_two ! (tt, refl) $ done !),
@@ -124,7 +124,7 @@ module _ (E : RattleType) where
           ),
         ))
 
-    goes : (answer : Result ℕ E.Denot) (us vs : List Val) → Is Part self us → Is (CountedIn E) answer vs → Walks answer us vs
+    goes : (answer : Result ℕ E.Denot) (us vs : List Val) → Is Part self us → Is (CountedBy (param 0 E)) answer vs → Walks answer us vs
     goes (Ok n) us vs slice is =
         let number = counted_ok E n vs is in let at_self : us ≡ mut_slice_vals self = mut_slice_Tells (named 0) κs.0 u8 self us slice in
         subst (λ (ws : List Val). Walks (Ok n) ws vs) (sym at_self) (subst (Walks (Ok n) (mut_slice_vals self)) (sym number.0) (lends n number.1 slice.0.1))
