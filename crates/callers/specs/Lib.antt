@@ -1,5 +1,4 @@
 pub mod Records
 pub mod DigestLists
-pub mod Streams
 pub mod Dump
 pub mod Updates

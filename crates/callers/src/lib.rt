@@ -27,7 +27,6 @@ pub mod json;
 pub mod judged;
 pub mod parts;
 pub mod probes;
-pub mod streams;
 pub mod texts;
 pub mod updates;
 

@@ -1,11 +1,14 @@
-//! A caller whose digits come in two parts, proved.
+//! Callers whose digits or bytes come in two parts, proved.
 
-ghost use Rattle.std.specs.Prelude.{◌≡◌, ◌++◌, ℕ, List, length, IfOk};
+ghost use Rattle.std.specs.Prelude.{◌≡◌, ◌+◌, ◌*◌, ◌++◌, ℕ, List, length, IfOk};
 ghost use Rattle.hex_core.specs.declared.digit.CheckCase.TheVariants as policy;
-ghost use Rattle.hex_core.specs.Text.{Spells, with_front};
+ghost use Rattle.hex_core.specs.Text.{Spells, lowercase, text, with_front};
 
 use faster_hex::stream::Decoder;
-use faster_hex::{CheckCase, Error};
+use faster_hex::{CheckCase, Error, hex_encode_into};
+use hex_core::laws::{
+    a_text_is_ascii_and_twice_as_long, the_text_of_a_joined_list_is_the_texts_joined,
+};
 
 /// Decodes digits that come in two parts, of which the first may end within a pair, into the front of
 /// a buffer, and returns how many bytes they spell.
@@ -24,5 +27,24 @@ pub fn decode_parts(first: &[u8], second: &[u8], buffer: &mut [u8]) -> Result<us
     let front = decoder.feed(first, buffer)?;
     let back = decoder.feed(second, &mut buffer[front..])?;
     decoder.finish()?;
+    Ok(front + back)
+}
+
+/// Writes the digits of bytes that come in two parts into the front of a line, and returns how many
+/// digits that are. Nothing is kept between the parts.
+///
+/// ```rust
+/// let mut line = [b'-'; 8];
+/// assert_eq!(rt; encode_parts(&[0, 0xab], &[0xcd], &mut line)?, 6);
+/// assert_eq!(rt; &line, b"00abcd--");
+/// ```
+pub fn encode_parts(first: &[u8], second: &[u8], line: &mut [u8]) -> Result<usize, Error>
+    ensures { IfOk result (λ n. (n ≡ 2 * length (first.now ++ second.now))
+        × (line.new ≡ with_front line.old (text lowercase (first.now ++ second.now)))) }
+{
+    a_text_is_ascii_and_twice_as_long();
+    the_text_of_a_joined_list_is_the_texts_joined();
+    let front = hex_encode_into(first, line, false)?;
+    let back = hex_encode_into(second, &mut line[front..], false)?;
     Ok(front + back)
 }

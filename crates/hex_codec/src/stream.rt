@@ -9,7 +9,7 @@
 //! assert_eq!(rt; text.as_slice(), b"00abcd".as_slice());
 //! ```
 
-ghost use Rattle.std.specs.Prelude.{◌≡◌, ◌≢◌, ◌↔◌, ◌+◌, ◌-◌, ◌/◌, ◌^◌, ◌<◌, ◌≤◌, ◌++◌, ◌∷◌, [], None, Some, List, ℕ, drop, length, IsSome, IsTrue, MatchOption, OnErr};
+ghost use Rattle.std.specs.Prelude.{◌≡◌, ◌≢◌, ◌↔◌, ◌+◌, ◌-◌, ◌/◌, ◌^◌, ◌<◌, ◌≤◌, ◌++◌, ◌∷◌, [], None, Some, List, ℕ, drop, length, IfOk, IsSome, IsTrue, MatchOption, OnErr};
 ghost use Rattle.std.specs.Option.{ForSome, option_to_list};
 ghost use Rattle.hex_core.specs.Digit.{value};
 ghost use Rattle.hex_core.specs.Search.{first_invalid};
@@ -100,6 +100,7 @@ impl Decoder {
     /// ```
     pub fn feed(&mut self, src: &[u8], dst: &mut [u8]) -> Result<usize, Error>
         ensures feeds { Feeds self.old self.new src.now dst.old dst.new result }
+        ensures bound { IfOk result (λ n. n ≤ length dst.new) }
         ensures policy { policy_of self.new ≡ policy_of self.old }
         ensures unchanged { OnErr result ((self.new ≡ self.old) × (dst.new ≡ dst.old)) }
     {

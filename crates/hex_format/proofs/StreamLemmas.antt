@@ -14,7 +14,7 @@ use Rattle.hex_core.specs.Refusal.{encode_refusal, first_bad_char, source_refusa
 use Rattle.hex_core.specs.Search.{first_invalid}
 use Rattle.hex_core.specs.Text.{with_front}
 use Rattle.hex_codec.specs.Stream.{SpellsBut, feed_refusal, pairs_more}
-use Rattle.hex_codec.proofs.StreamLemmas.{count-but, refused-byte, refused-many}
+use Rattle.hex_codec.proofs.StreamLemmas.{refused-byte, refused-many}
 use Rattle.hex_format.specs.Sink.{SinkState, Takes}
 use Rattle.hex_format.specs.Streams.{DecodesStream, Finishes, RefusedFor, Wrote}
 use Rattle.hex_format.specs.declared.streams.StreamFault.{StreamFault}
@@ -91,11 +91,6 @@ fed-few c fed src room none = elim (cases_lt (length fed + length src) (2 ^ 64))
   | inl few ↦ few
   | inr many ↦ absurd (cc (refused-many c fed src room many, none))
 ]
-
--- and writes no more bytes than half a pair and its digits make
-pub written-few : (c d : CheckCase) (fed src written bytes : List ℕ) (w v : Option ℕ) (half : ℕ) → SpellsBut c fed written (option_to_list w) → SpellsBut d (fed ++ src) (written ++ bytes) (option_to_list v) → length src ≤ 2 * half → length bytes ≤ half
-written-few c d fed src written bytes w v half before after few =
-    omega (arith, count-but c fed written w before, count-but d (fed ++ src) (written ++ bytes) v after, length-append fed src, length-append written bytes, few)
 
 -- a text of a chunk fits
 pub text-fits : (piece : List ℕ) (room : ℕ) (e : Error) → length piece ≤ 4096 → room ≡ 8192 → encode_refusal piece room ≡ Some e → ⊥

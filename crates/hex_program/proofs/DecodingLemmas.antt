@@ -1,55 +1,64 @@
 -- What is kept of digits that are read piece by piece.
-use Rattle.std.proofs.Common.{◌≡◌, ◌∙◌, ◌⊎◌, inl, inr, ℕ, ◌+◌, ◌-◌, ◌%◌, ◌<◌, ◌≤◌, true, false, List, [], ◌++◌, length, length-append, slice_index, Option, Some, None, is_some, refl, sym, ap, take, drop, append_assoc, arith}
+use Rattle.std.proofs.Common.{◌≡◌, ◌∙◌, ◌⊎◌, inl, inr, ℕ, ◌+◌, ◌-◌, ◌^◌, ◌<◌, ◌≤◌, true, false, List, [], ◌∷◌, ◌++◌, length, length-append, slice_index, Option, Some, None, is_some, Result, Ok, Err, refl, sym, ap, take, drop, append_assoc, arith}
 use Rattle.std.specs.Prelude.{IfSome}
 use Rattle.std.specs.Io.KnownBytes.{Consumes}
-use Rattle.std.specs.List.{copy_within}
+use Rattle.std.proofs.Math.ListN.{set}
+use Rattle.std.proofs.Math.Seq.{take-append_seam}
 use borrow.Rule.Slice.PartMut.{post_of, put_mid}
-use lib.Seq.{take-add, take-append-add}
+use lib.Seq.{take-append-add}
 use Rattle.std.proofs.lemmas.Bool.Decides.{nat_tests}
-use Rattle.std.proofs.lemmas.List.{length-take-le, take-append-le}
-use Rattle.std.proofs.lemmas.Slice.{overwrites}
+use Rattle.std.proofs.lemmas.List.{length-take-le, take-append-le, take_more}
 use Rattle.hex_core.specs.declared.digit.CheckCase.{CheckCase}
 use Rattle.hex_core.specs.declared.error.Error.{Error}
-use Rattle.hex_core.specs.declared.error.Error.TheVariants.{InvalidChar}
 use Rattle.hex_core.specs.Refusal.{first_bad_char, source_refusal}
-use Rattle.hex_core.specs.Text.{Spells}
-use Rattle.hex_core.proofs.JoinLemmas.{back_at, bad-behind, bad-front, spells-joined}
-use Rattle.hex_core.proofs.LawProofs.{valid-spelled}
+use Rattle.hex_core.specs.Text.{with_front}
+use Rattle.hex_core.proofs.JoinLemmas.{back_at, bad-front}
+use Rattle.hex_codec.specs.Stream.{Feeds, HasFed, pairs_more, policy_of}
+use Rattle.hex_codec.specs.declared.stream.Decoder.{Decoder}
+use Rattle.hex_codec.proofs.StreamLemmas.{refused-byte}
 use Rattle.hex_program.specs.declared.failure.Failure.{Failure}
 use Rattle.hex_program.specs.declared.failure.Failure.TheVariants.{Codec, Usage, ReadFailed, WriteFailed, OutOfMemory, InputTooLong}
 use Rattle.hex_program.specs.Decoding.{DecodingFailure, EndsRefused, Kept}
 use Rattle.hex_program.specs.Input.{ReadsAll, input_limit}
 use Rattle.hex_program.specs.Operations.{without_newline}
 
+-- what was written to the front of a buffer
+front-written : (old bytes : List ℕ) (n : ℕ) → n ≡ length bytes → take n (with_front old bytes) ≡ bytes
+front-written old bytes n is = rw is (take-append_seam bytes (drop (length bytes) old))
+
 -- valid digits more
-pub kept-decoded : (c : CheckCase) (before digits bytes more : List ℕ) (o : Option Error) (count : ℕ) → is_some o ≡ false → length digits % 2 ≡ 0 → Spells c digits more
-    → Kept c before bytes o count → Kept c (before ++ digits) (bytes ++ more) o (count + length digits)
-kept-decoded c before digits bytes more None count none even spells (counted, even_before, spelled) = (
-  omega (arith, counted, length-append before digits),
-  omega (arith, even, even_before, length-append before digits),
-  spells-joined c before digits bytes more spelled spells,
-)
-kept-decoded c before digits bytes more (Some e) count none even spells kept = absurd (cc none)
+pub kept-fed : (before digits old new bytes : List ℕ) (d d' : Decoder) (o : Option Error) (count n : ℕ) → is_some o ≡ false
+    → Feeds d d' digits old new (Ok n) → Kept before d bytes o count → Kept (before ++ digits) d' (bytes ++ take n new) o (count + length digits)
+kept-fed before digits old new bytes d d' None count n none feeds (counted, fed) =
+    let more = feeds before bytes fed in
+    let front : take n new ≡ more.1.0 = ap (take n) more.1.2 ∙ front-written old more.1.0 n more.1.1 in (
+      omega (arith, counted, length-append before digits),
+      rw front more.1.3,
+    )
+kept-fed before digits old new bytes d d' (Some e) count n none feeds kept = absurd (cc none)
 
 -- the first invalid one among them
-pub kept-refused : (c : CheckCase) (before digits bytes : List ℕ) (o : Option Error) (count i byte : ℕ) → is_some o ≡ false → length digits % 2 ≡ 0 → first_bad_char c digits ≡ Some (InvalidChar i byte)
-    → Kept c before bytes o count → Kept c (before ++ digits) bytes (Some (InvalidChar (count + i) byte)) (count + length digits)
-kept-refused c before digits bytes None count i byte none even bad (counted, even_before, spelled) = (
-  omega (arith, counted, length-append before digits),
-  omega (arith, even, even_before, length-append before digits),
-  rw counted (bad-behind c before digits i byte (valid-spelled c before bytes spelled) bad),
-)
-kept-refused c before digits bytes (Some e) count i byte none even bad kept = absurd (cc none)
+pub kept-refused : (before digits old new bytes : List ℕ) (d d' : Decoder) (o : Option Error) (count : ℕ) (e : Error) → is_some o ≡ false
+    → count ≤ 16777216 → length digits < 65536 → length old ≡ 32768 → policy_of d' ≡ policy_of d
+    → Feeds d d' digits old new (Err e) → Kept before d bytes o count → Kept (before ++ digits) d' bytes (Some e) (count + length digits)
+kept-refused before digits old new bytes d d' None count e none few short room same feeds (counted, fed) =
+    let fits : pairs_more (length before) (length digits) ≤ length old = omega (arith, short, room) in
+    let all : length before + length digits < 2 ^ 64 = omega (arith, counted, few, short) in (
+      omega (arith, counted, length-append before digits),
+      rw same (sym (refused-byte (policy_of d) before digits (length old) all fits) ∙ feeds before bytes fed),
+    )
+kept-refused before digits old new bytes d d' (Some e) count f none few short room same feeds kept = absurd (cc none)
 
 -- digits behind the first invalid one
-pub kept-counted : (c : CheckCase) (before digits bytes : List ℕ) (o : Option Error) (count : ℕ) → is_some o ≡ true → length digits % 2 ≡ 0
-    → Kept c before bytes o count → Kept c (before ++ digits) bytes o (count + length digits)
-kept-counted c before digits bytes (Some e) count some even (counted, even_before, bad) = (
-  omega (arith, counted, length-append before digits),
-  omega (arith, even, even_before, length-append before digits),
-  bad-front c before digits e bad,
-)
-kept-counted c before digits bytes None count some even kept = absurd (cc some)
+pub kept-counted : (before digits bytes : List ℕ) (d : Decoder) (o : Option Error) (count : ℕ) → is_some o ≡ true
+    → Kept before d bytes o count → Kept (before ++ digits) d bytes o (count + length digits)
+kept-counted before digits bytes d (Some e) count some (counted, bad) =
+    (omega (arith, counted, length-append before digits), bad-front (policy_of d) before digits e bad)
+kept-counted before digits bytes d None count some kept = absurd (cc some)
+
+-- where none was refused the decoder was fed all of them
+pub judged-fed : (digits bytes : List ℕ) (d : Decoder) (o : Option Error) (count : ℕ) → Kept digits d bytes o count → o ≡ None → HasFed d digits bytes
+judged-fed digits bytes d o count (counted, fed) is = rw is at fed
 
 -- a newline at the end of two pieces is at the end of the second, unless there is none
 pub strip-behind : (a b : List ℕ) → (a ≡ []) ⊎ (1 ≤ length b) → without_newline (a ++ b) ≡ a ++ without_newline b
@@ -61,16 +70,6 @@ strip-behind a b (inr some) =
     let long : 0 < length (a ++ b) = omega (arith, some, length-append a b) in
     grind (arith, nat_tests, last, cut, long, some)
 
--- all of the digits are spelled where none was refused
-pub spelled-all : (c : CheckCase) (digits bytes : List ℕ) (o : Option Error) (count : ℕ) → Kept c digits bytes o count → o ≡ None → Spells c digits bytes
-spelled-all c digits bytes o count (counted, even, spelled) is = rw is at spelled
-
--- and else they are refused for the first invalid one, since they are even in number
-pub refused-even : (c : CheckCase) (digits bytes : List ℕ) (o : Option Error) (count : ℕ) (e : Error) → Kept c digits bytes o count → o ≡ Some e → source_refusal c digits ≡ Some e
-refused-even c digits bytes o count e (counted, even, bad) is =
-    let first : first_bad_char c digits ≡ Some e = rw is at bad in
-    grind (arith, nat_tests, even, first)
-
 -- the front of a buffer into which n bytes were read behind those that it held
 pub read-front : (chunk buf : List ℕ) (held k n : ℕ) → held ≤ length chunk → n ≤ length buf → take (held + n) (put_mid held k chunk buf) ≡ take held chunk ++ take n buf
 read-front chunk buf held k n inside given =
@@ -79,14 +78,16 @@ read-front chunk buf held k n inside given =
     ∙ take-append-add (take held chunk) (buf ++ behind) n
     ∙ ap (λ l. take held chunk ++ l) (take-append-le n buf behind given)
 
--- some of them are taken, and those behind are moved to the front of the buffer
-pub moved-front : (digits full : List ℕ) (whole end : ℕ) → whole ≤ end → end ≤ length full → (digits ++ take whole full) ++ take (end - whole) (copy_within full whole end 0) ≡ digits ++ take end full
-moved-front digits full whole end low inside =
-    let rest : take (end - whole) (copy_within full whole end 0) ≡ take (end - whole) (drop whole full) = grind (arith, overwrites) in
-    let size : whole + (end - whole) ≡ end = omega (arith, low) in
-    ap (λ l. (digits ++ take whole full) ++ l) rest
-    ∙ append_assoc digits (take whole full) (take (end - whole) (drop whole full))
-    ∙ ap (λ l. digits ++ l) (sym (take-add whole (end - whole) full) ∙ ap (λ m. take m full) size)
+-- all of them but the last are taken, which is moved to the front of the buffer
+pub moved-front : (digits full : List ℕ) (last : ℕ) → last < length full → (digits ++ take last full) ++ take 1 (set full 0 (slice_index full last)) ≡ digits ++ take (last + 1) full
+moved-front digits full last inside =
+    ap (λ l. (digits ++ take last full) ++ l) (first full (slice_index full last) (omega (arith, inside)))
+    ∙ append_assoc digits (take last full) (slice_index full last ∷ [])
+    ∙ ap (λ l. digits ++ l) (sym (take_more full last 0 inside))
+  where
+    first : (l : List ℕ) (x : ℕ) → 0 < length l → take 1 (set l 0 x) ≡ x ∷ []
+    first (y ∷ ys) x some = refl
+    first [] x some = absurd (omega (arith, some))
 
 -- how the decoding of all that was read ends, is why it has no bytes
 pub refused-all : (c : CheckCase) (left left' : Option (List ℕ)) (input : List ℕ) (f : Failure) → ReadsAll left left' input → EndsRefused (source_refusal c (without_newline input)) f → DecodingFailure c left left' f

@@ -1,9 +1,11 @@
 -- Decoding an input as it is read.
-use Rattle.std.specs.Prelude.{◌≡◌, ◌<◌, ◌%◌, ℕ, ⊤, List, length, Option, Some, MatchOption, IfSome}
+use Rattle.std.specs.Prelude.{◌≡◌, ◌<◌, ℕ, ⊤, List, length, Option, Some, MatchOption, IfSome}
 use Rattle.hex_core.specs.declared.digit.CheckCase.{CheckCase}
 use Rattle.hex_core.specs.declared.error.Error.{Error}
 use Rattle.hex_core.specs.Refusal.{first_bad_char, source_refusal}
 use Rattle.hex_core.specs.Text.{Spells}
+use Rattle.hex_codec.specs.Stream.{HasFed, policy_of}
+use Rattle.hex_codec.specs.declared.stream.Decoder.{Decoder}
 use Rattle.hex_program.specs.declared.failure.Failure.{Failure}
 use Rattle.hex_program.specs.declared.failure.Failure.TheVariants.{Codec, ReadFailed, OutOfMemory, InputTooLong}
 use Rattle.hex_program.specs.Input.{ReadsAll, input_limit}
@@ -28,8 +30,8 @@ EndsRefused refusal (Codec e) = refusal ≡ Some e
 EndsRefused refusal OutOfMemory = ⊤
 EndsRefused refusal f = ⊥
 
--- what is kept of an even number of digits: the bytes that they spell, or the first that is
--- invalid, and their number
-abbrev pub Kept : CheckCase → List ℕ → List ℕ → Option Error → ℕ → Type 0
-Kept case digits bytes refusal count = (count ≡ length digits) × (length digits % 2 ≡ 0)
-    × MatchOption refusal (Spells case digits bytes) (λ e. first_bad_char case digits ≡ Some e)
+-- what is kept of some digits: a decoder that was fed them, with the bytes that it wrote, or the
+-- first that is invalid; and their number
+abbrev pub Kept : List ℕ → Decoder → List ℕ → Option Error → ℕ → Type 0
+Kept digits decoder bytes refusal count = (count ≡ length digits)
+    × MatchOption refusal (HasFed decoder digits bytes) (λ e. first_bad_char (policy_of decoder) digits ≡ Some e)

@@ -1,22 +1,26 @@
 //! An input of digits, of which the bytes are kept that they spell, and the digits are not.
 
-ghost use Rattle.std.specs.Prelude.{◌≡◌, ◌++◌, ◌%◌, ◌≤◌, ◌⊎◌, ℕ, List, [], length, OnOk, IfOk, IfErr, MatchResult, Some};
+ghost use Rattle.std.specs.Prelude.{◌≡◌, ◌++◌, ◌<◌, ◌≤◌, ◌⊎◌, ℕ, List, [], length, OnOk, IfOk, IfErr};
+ghost use Rattle.hex_core.specs.Calls.{Answers};
 ghost use Rattle.hex_core.specs.Refusal.{source_refusal};
 ghost use Rattle.hex_core.specs.Text.{Spells};
+ghost use Rattle.hex_codec.specs.Stream.{policy_of};
 ghost use Rattle.hex_program.specs.Decoding.{DecodingFailure, EndsRefused, Kept, ReadsDecoded};
 ghost use Rattle.hex_program.specs.Operations.{without_newline};
 
 use crate::failure::Failure;
 use crate::input::{CHUNK, INPUT_LIMIT};
 use crate::operation::digits_in;
-use hex_core::{Backend, CheckCase, Error};
+use hex_codec::stream::Decoder;
+use hex_core::{CheckCase, Error};
 use std::alloc::Allocator;
 use std::io::Read;
 
 // What is kept of the digits so far.
 #[derive(Drop)]
 struct Decoding<A: Allocator> {
-    // The bytes that they spell, while none of them is invalid.
+    // It was fed all of them, while none is invalid, and wrote these bytes.
+    decoder: Decoder,
     bytes: Vec<u8, A>,
     // The first invalid one. Those behind it are counted, and no more.
     refusal: Option<Error>,
@@ -24,66 +28,68 @@ struct Decoding<A: Allocator> {
 }
 
 impl<A: Allocator + Drop> Decoding<A> {
-    // Takes more digits, an even number of them, with room for their bytes.
-    fn take(
-        &mut self,
-        digits: &[u8],
-        room: &mut [u8; CHUNK / 2],
-        case: CheckCase,
-    ) -> Result<(), Failure>
-        requires even { length digits.now % 2 ≡ 0 }
-        requires few { length digits.now ≤ CHUNK }
+    // Takes more digits, with room for their bytes.
+    fn take(&mut self, digits: &[u8], room: &mut [u8; CHUNK / 2]) -> Result<(), Failure>
+        requires few { length digits.now < CHUNK }
         requires counted { self.old.count ≤ INPUT_LIMIT }
         ensures ok { OnOk result ((before : List ℕ)
-            → Kept case before self.old.bytes.items self.old.refusal self.old.count
-            → Kept case (before ++ digits.now) self.new.bytes.items self.new.refusal self.new.count) }
+            → Kept before self.old.decoder self.old.bytes.items self.old.refusal self.old.count
+            → Kept (before ++ digits.now) self.new.decoder self.new.bytes.items self.new.refusal self.new.count) }
+        ensures policy { policy_of self.new.decoder ≡ policy_of self.old.decoder }
         ensures err { IfErr result (λ f. f ≡ Failure.OutOfMemory) }
     {
-        if self.refusal.is_none() {
-            let bytes = &mut room[..digits.len() / 2];
-            if !Backend::plain().decode(digits, bytes, case) {
-                let at = Backend::plain().first_invalid(digits, case).unwrap();
-                self.refusal = Some(Error::InvalidChar {
-                    index: self.count + at,
-                    byte: digits[at],
-                });
-            } else if self.bytes.extend_from_slice(bytes).is_err() {
-                return Err(Failure::OutOfMemory);
-            }
-        }
         self.count += digits.len();
+        if self.refusal.is_some() {
+            return Ok(());
+        }
+        let written = match self.decoder.feed(digits, room) {
+            Ok(written) => written,
+            Err(refusal) => {
+                self.refusal = Some(refusal);
+                return Ok(());
+            }
+        };
+        if self.bytes.extend_from_slice(&room[..written]).is_err() {
+            return Err(Failure::OutOfMemory);
+        }
         Ok(())
     }
 
-    // The bytes of the whole input, of which the last one or two were held back, since the last may
-    // be a newline.
-    fn end(
-        self,
-        held: &[u8],
-        room: &mut [u8; CHUNK / 2],
-        case: CheckCase,
-    ) -> Result<Vec<u8, A>, Failure>
-        requires few { length held.now ≤ CHUNK }
+    // Whether all digits are whole pairs and valid. An odd number of them is told first.
+    fn judge(&self) -> Result<(), Error>
+        ensures { (digits : List ℕ)
+            → Kept digits self.now.decoder self.now.bytes.items self.now.refusal self.now.count
+            → Answers (source_refusal (policy_of self.now.decoder) digits)
+            (λ _. Spells (policy_of self.now.decoder) digits self.now.bytes.items) result }
+    {
+        match self.refusal {
+            Some(_) if self.count % 2 == 1 => Err(Error::OddLength),
+            Some(first) => Err(first),
+            None => self.decoder.finish(),
+        }
+    }
+
+    // The bytes of the whole input, of which the last one was held back, since it may be a newline.
+    fn end(self, held: &[u8], room: &mut [u8; CHUNK / 2]) -> Result<Vec<u8, A>, Failure>
+        requires few { length held.now < CHUNK }
         requires counted { self.count ≤ INPUT_LIMIT }
         ensures ok { IfOk result (λ v. (before : List ℕ)
-            → Kept case before self.bytes.items self.refusal self.count
+            → Kept before self.decoder self.bytes.items self.refusal self.count
             → (before ≡ []) ⊎ (1 ≤ length held.now)
-            → Spells case (without_newline (before ++ held.now)) v.items) }
+            → Spells (policy_of self.decoder) (without_newline (before ++ held.now)) v.items) }
         ensures err { IfErr result (λ f. (before : List ℕ)
-            → Kept case before self.bytes.items self.refusal self.count
+            → Kept before self.decoder self.bytes.items self.refusal self.count
             → (before ≡ []) ⊎ (1 ≤ length held.now)
-            → EndsRefused (source_refusal case (without_newline (before ++ held.now))) f) }
+            → EndsRefused (source_refusal (policy_of self.decoder) (without_newline (before ++ held.now))) f) }
     {
-        let digits = digits_in(held);
-        if digits.len() % 2 == 1 {
-            return Err(Failure::Codec(Error::OddLength));
-        }
         let mut whole = self;
-        whole.take(digits, room, case)?;
-        let Decoding { bytes, refusal, .. } = whole;
-        match refusal {
-            None => Ok(bytes),
-            Some(e) => Err(Failure::Codec(e)),
+        whole.take(digits_in(held), room)?;
+        match whole.judge() {
+            Ok(()) => {
+                let Decoding { bytes, .. } = whole;
+                Ok(bytes)
+            }
+            Err(refusal) => Err(Failure::Codec(refusal)),
         }
     }
 }
@@ -117,6 +123,7 @@ pub fn read_decoded<A: Allocator + Drop, R: Read>(
     let mut chunk = [0u8; CHUNK];
     let mut room = [0u8; CHUNK / 2];
     let mut decoding = Decoding {
+        decoder: Decoder::new(case),
         bytes: Vec::new(alloc),
         refusal: None,
         count: 0,
@@ -127,13 +134,12 @@ pub fn read_decoded<A: Allocator + Drop, R: Read>(
     let mut held = 0;
     'reads: while decoding.count + held <= INPUT_LIMIT {
         match input.read(&mut chunk[held..]) {
-            Ok(0) => return decoding.end(&chunk[..held], &mut room, case),
+            Ok(0) => return decoding.end(&chunk[..held], &mut room),
             Ok(n) => {
-                let end = held + n;
-                let whole = (end - 1) / 2 * 2;
-                decoding.take(&chunk[..whole], &mut room, case)?;
-                chunk.copy_within(whole..end, 0);
-                held = end - whole;
+                let last = held + n - 1;
+                decoding.take(&chunk[..last], &mut room)?;
+                chunk[0] = chunk[last];
+                held = 1;
             }
             Err(_) => return Err(Failure::ReadFailed),
         }

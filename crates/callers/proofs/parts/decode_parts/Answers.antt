@@ -1,31 +1,9 @@
 -- The bytes of the second part stand behind those of the first.
-use Rattle.std.proofs.Common.{arith, ◌∙◌, ◌++◌, ◌-◌, ℕ, List, [], length, length-append, length-drop, take, drop, subst}
+use Rattle.std.proofs.Common.{arith, ◌∙◌, ◌++◌, ◌-◌, [], length, length-append, length-drop, take, drop, subst}
 use Rattle.std.proofs.lemmas.List.{length-take-le}
 use Rattle.hex_core.specs.Text.{Spells}
-use Rattle.callers.proofs.PartsLemmas.{front-fits, parts-written}
+use Rattle.callers.proofs.PartsLemmas.{parts-written}
 use Rattle.callers.proofs.parts.decode_parts.Goals as goal
-
-pub slice_bounds-feed-count : goal.slice_bounds-feed-count
-slice_bounds-feed-count c =
-    let one = c.in_ok-front.ensures.feeds [] [] c.new-decoder.ensures.fresh in
-    let fits = front-fits c.args.buffer.now c.feed.new.dst one.1.0 c.feed.auto.dst one.1.2 in
-    omega (arith, one.1.1, fits, c.feed.auto.dst)
-
-pub slice_bounds-feed-start : goal.slice_bounds-feed-start
-slice_bounds-feed-start c =
-    let one = c.in_ok-front.ensures.feeds [] [] c.new-decoder.ensures.fresh in
-    let fits = front-fits c.args.buffer.now c.feed.new.dst one.1.0 c.feed.auto.dst one.1.2 in
-    omega (arith, one.1.1, fits, c.feed.auto.dst)
-
-pub overflow_add-result : goal.overflow_add-result
-overflow_add-result c =
-    let one = c.in_ok-front.ensures.feeds [] [] c.new-decoder.ensures.fresh in
-    let two = c.in_ok-back.ensures.feeds c.args.first.now one.1.0 one.1.3 in
-    let fits = front-fits c.args.buffer.now c.feed.new.dst one.1.0 c.feed.auto.dst one.1.2 in
-    let rest : List ℕ = take (length c.feed.new.dst - c.in_ok-front.front) (drop c.in_ok-front.front c.feed.new.dst) in
-    let size = length-take-le (length c.feed.new.dst - c.in_ok-front.front) (drop c.in_ok-front.front c.feed.new.dst) (omega (arith, length-drop c.in_ok-front.front c.feed.new.dst)) in
-    let more = front-fits rest c.feed-2.new.dst two.1.0 c.feed-2.auto.dst two.1.2 in
-    omega (arith, one.1.1, two.1.1, fits, more, size, c.feed.auto.dst)
 
 pub returns : goal.returns
 returns c =

@@ -7,7 +7,7 @@ use Rattle.hex_codec.specs.Stream.{pairs_more}
 use Rattle.hex_format.specs.Sink.{Stops, Takes}
 use Rattle.hex_format.specs.Streams.{DecodesStream}
 use Rattle.hex_format.specs.declared.streams.StreamFault.TheVariants.{Codec, Write}
-use Rattle.hex_format.proofs.StreamLemmas.{ended-all, fed-few, front-written, pairs-fit, refused-feed, written-few}
+use Rattle.hex_format.proofs.StreamLemmas.{ended-all, fed-few, front-written, pairs-fit, refused-feed}
 use Rattle.hex_format.proofs.streams.decode_stream.Goals as goal
 
 pub returns-in-Ok-eq0 : goal.returns-in-Ok-eq0
@@ -43,30 +43,6 @@ returns-in-Err-feed g c =
         refused-feed c.reads.decoder.case digits piece (length c.reads.bytes) left c.in-Err-feed.refusal (omega (arith, fits, inv.2)) (c.in-Err-feed.ensures.feeds digits written inv.3.1.1),
       ),
     )
-
-pub slice_bounds-bytes-end : goal.slice_bounds-bytes-end
-slice_bounds-bytes-end g c =
-    let inv = c.reads.invariant in
-    let digits : List ℕ = inv.3.0 in let written : List ℕ = inv.3.1.0 in
-    let piece : List ℕ = take c.in-Ok.count c.read_again.new.buf in
-    let room : length c.read_again.new.buf ≡ 8192 = search rules in
-    let wide : length c.feed.new.dst ≡ 4096 = search rules in
-    let size = length-take-le c.in-Ok.count c.read_again.new.buf c.in-Ok.ensures.bound.0 in
-    let fed = c.in-Ok-feed.ensures.feeds digits written inv.3.1.1 in
-    let few = written-few c.reads.decoder.case c.feed.new.self.case digits piece written fed.1.0 c.reads.decoder.waiting c.feed.new.self.waiting 4096 inv.3.1.1.1 fed.1.3.1 (omega (arith, size, room, c.in-Ok.ensures.bound.0)) in
-    omega (arith, few, wide, fed.1.1)
-
-pub slice_bounds-put_all-end : goal.slice_bounds-put_all-end
-slice_bounds-put_all-end g c =
-    let inv = c.reads.invariant in
-    let digits : List ℕ = inv.3.0 in let written : List ℕ = inv.3.1.0 in
-    let piece : List ℕ = take c.in-Ok.count c.read_again.new.buf in
-    let room : length c.read_again.new.buf ≡ 8192 = search rules in
-    let wide : length c.feed.new.dst ≡ 4096 = search rules in
-    let size = length-take-le c.in-Ok.count c.read_again.new.buf c.in-Ok.ensures.bound.0 in
-    let fed = c.in-Ok-feed.ensures.feeds digits written inv.3.1.1 in
-    let few = written-few c.reads.decoder.case c.feed.new.self.case digits piece written fed.1.0 c.reads.decoder.waiting c.feed.new.self.waiting 4096 inv.3.1.1.1 fed.1.3.1 (omega (arith, size, room, c.in-Ok.ensures.bound.0)) in
-    omega (arith, length-take-le c.in-Ok-feed.written c.feed.new.dst (omega (arith, few, wide, fed.1.1)))
 
 pub returns-in-Err-put_all : goal.returns-in-Err-put_all
 returns-in-Err-put_all g c =

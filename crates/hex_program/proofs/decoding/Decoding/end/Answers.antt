@@ -1,12 +1,14 @@
--- The digits so far and the last two are all of them.
-use Rattle.std.proofs.Common.{sym}
-use Rattle.hex_program.proofs.DecodingLemmas.{refused-even, spelled-all, strip-behind}
+-- The digits so far and the last one are all of them.
+use Rattle.std.proofs.Common.{◌++◌, sym}
+use Rattle.hex_program.proofs.DecodingLemmas.{strip-behind}
 use Rattle.hex_program.proofs.decoding.Decoding.end.Goals as goal
 
-pub returns-in-None-clause-ok : goal.returns-in-None-clause-ok
-returns-in-None-clause-ok g c = λ before kept held.
-    rw (strip-behind before c.args.held.now held, sym c.digits_in-digits.ensures) (spelled-all c.args.case _ c.take.new.self.bytes.items c.take.new.self.refusal c.take.new.self.count (c.in_ok-take.ensures.ok before kept) c.in-None.is)
+pub returns-in-Ok-clause-ok : goal.returns-in-Ok-clause-ok
+returns-in-Ok-clause-ok g c = λ before kept held.
+    rw (strip-behind before c.args.held.now held, sym c.digits_in.ensures, sym c.in_ok-take.ensures.policy)
+    (c.in-Ok.ensures (before ++ c.digits_in.result.now) (c.in_ok-take.ensures.ok before kept)).1
 
-pub returns-in-Some-clause-err : goal.returns-in-Some-clause-err
-returns-in-Some-clause-err g c = λ before kept held.
-    rw (strip-behind before c.args.held.now held, sym c.digits_in-digits.ensures) (refused-even c.args.case _ c.take.new.self.bytes.items c.take.new.self.refusal c.take.new.self.count c.in-Some.e (c.in_ok-take.ensures.ok before kept) c.in-Some.is)
+pub returns-in-Err-clause-err : goal.returns-in-Err-clause-err
+returns-in-Err-clause-err g c = λ before kept held.
+    rw (strip-behind before c.args.held.now held, sym c.digits_in.ensures, sym c.in_ok-take.ensures.policy)
+    (c.in-Err.ensures (before ++ c.digits_in.result.now) (c.in_ok-take.ensures.ok before kept))

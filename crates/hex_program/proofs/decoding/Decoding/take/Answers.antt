@@ -1,22 +1,21 @@
--- Digits more are decoded, the first invalid one is kept, or they are counted.
-use Rattle.std.proofs.Common.{rules, ◌≡◌, ◌++◌, refl, sym}
-use Rattle.hex_core.specs.Text.{Spells}
-use Rattle.hex_program.proofs.DecodingLemmas.{kept-counted, kept-decoded, kept-refused}
+-- Digits more are fed, the first invalid one is kept, or they are counted.
+use Rattle.std.proofs.Common.{rules, ◌≡◌, ◌∙◌, ◌++◌, length, take, sym}
+use Rattle.hex_program.proofs.DecodingLemmas.{kept-counted, kept-fed, kept-refused}
 use Rattle.hex_program.proofs.decoding.Decoding.take.Goals as goal
-use Rattle.hex_program.proofs.decoding.Decoding.take.Goals.{then-is_none+then-not-decode, then-is_none+else-not-decode+else-is_err, else-is_none}
+
+pub returns-then-is_some-clause-ok : goal.returns-then-is_some-clause-ok
+returns-then-is_some-clause-ok g c = λ before kept.
+    let old = c.args.self.now in
+    kept-counted before c.args.digits.now old.bytes.items old.decoder old.refusal old.count (sym c.is_some.ensures ∙ c.if-is_some.true) kept
+
+pub returns-in-Err-clause-ok : goal.returns-in-Err-clause-ok
+returns-in-Err-clause-ok g c = λ before kept.
+    let old = c.args.self.now in
+    let room : length c.args.room.now ≡ 32768 = search rules in
+    kept-refused before c.args.digits.now c.args.room.now c.feed.new.dst old.bytes.items old.decoder c.feed.new.self old.refusal old.count c.in-Err.refusal (sym c.is_some.ensures ∙ c.if-is_some.false) c.requires.counted c.requires.few room c.in-Err.ensures.policy c.in-Err.ensures.feeds kept
 
 pub returns-clause-ok : goal.returns-clause-ok
 returns-clause-ok g c = λ before kept.
-    let case = c.args.case in
-    let digits = c.args.digits.now in
     let old = c.args.self.now in
-    elim c.if-is_none.branch [
-      | then-is_none+then-not-decode w ↦
-          rw w.self-is (kept-refused case before digits old.bytes.items old.refusal old.count _ _ w.if-is_none.ensures c.requires.even (rw (sym w.first_invalid.ensures, w.unwrap-at.ensures) refl) kept)
-      | then-is_none+else-not-decode+else-is_err w ↦
-          let items : w.extend_from_slice.new.self.items ≡ old.bytes.items ++ w.decode.new.dst = search rules in
-          let spelled : Spells case digits w.decode.new.dst = search rules in
-          rw (w.self-is, items) (kept-decoded case before digits old.bytes.items w.decode.new.dst old.refusal old.count w.if-is_none.ensures c.requires.even spelled kept)
-      | else-is_none w ↦
-          rw w.self-is (kept-counted case before digits old.bytes.items old.refusal old.count w.if-is_none.ensures c.requires.even kept)
-    ]
+    let items : c.extend_from_slice.new.self.items ≡ old.bytes.items ++ take c.in-Ok.written c.feed.new.dst = search rules in
+    rw items (kept-fed before c.args.digits.now c.args.room.now c.feed.new.dst old.bytes.items old.decoder c.feed.new.self old.refusal old.count c.in-Ok.written (sym c.is_some.ensures ∙ c.if-is_some.false) c.in-Ok.ensures.feeds kept)
