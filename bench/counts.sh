@@ -1,6 +1,7 @@
 #!/bin/sh
-# Counts by valgrind how many instructions our plans and the Rust crate's kernels run for 64 digits, in
-# their loops over long sources: what a call of 8,192 bytes runs more than one of 4,096.
+# Counts by valgrind how many instructions our loops and the Rust crate's run for 64 digits of a long
+# source: what a call of 8,192 bytes runs more than one of 4,096. Ours is the plan `avx2`, as in the plain
+# calls.
 # Usage: bench/counts.sh BENCH WIDTH, as run.sh calls it: the program that it built, and the kernel whose
 # vectors are as wide as those of this build.
 set -eu
@@ -12,20 +13,20 @@ if ! command -v valgrind >/dev/null || [ -z "$width" ]; then
     exit 0
 fi
 
-# runs SIDE NAME BYTES: how many instructions the program runs with one call of these.
+# runs SIDE PLAN NAME BYTES: how many instructions the program runs with one such call.
 runs() {
-    valgrind --tool=callgrind --callgrind-out-file=/dev/null "$bench" "$1" "$width" "$2" "$3" 2>&1 |
+    valgrind --tool=callgrind --callgrind-out-file=/dev/null "$bench" "$@" 2>&1 |
         sed -n 's/^==[0-9]*== Collected : \([0-9]*\)$/\1/p'
 }
 
-# counts SIDE NAME: those for 64 digits, which are 32 bytes.
+# counts SIDE PLAN NAME: those for 64 digits, which are 32 bytes.
 counts() {
-    short=$(runs "$1" "$2" 4096)
-    long=$(runs "$1" "$2" 8192)
+    short=$(runs "$@" 4096)
+    long=$(runs "$@" 8192)
     awk -v short="$short" -v long="$long" 'BEGIN { printf "%.1f", (long - short) * 32 / 4096 }'
 }
 
-printf 'instructions for 64 digits, %s\n%14s %8s %8s\n' "$width" call ours Rust
+printf 'instructions for 64 digits\n%14s %8s %8s\n' call ours "$width"
 for call in check encode decode decode_owned; do
-    printf '%14s %8s %8s\n' "$call" "$(counts own "$call")" "$(counts rust "$call")"
+    printf '%14s %8s %8s\n' "$call" "$(counts own avx2 "$call")" "$(counts rust "$width" "$call")"
 done
