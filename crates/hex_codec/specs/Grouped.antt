@@ -1,9 +1,10 @@
 -- Grouped texts: the texts of a list's pieces, with a separator between two.
-use Rattle.std.specs.Prelude.{ℕ, ◌*◌, Bool, List, [], ◌∷◌, length, take, drop, map}
+use Rattle.std.specs.Prelude.{◌≡◌, ℕ, ◌*◌, Bool, List, [], ◌∷◌, length, take, drop, map, Option, MatchOption}
 use Rattle.std.specs.Int.{div_ceil}
 use Rattle.std.specs.List.{flat_map, join_by, range_with_len}
 use Rattle.hex_core.specs.Text.{text}
 use Rattle.hex_codec.specs.declared.group.Group.{Group}
+use Rattle.hex_codec.specs.Groups.{IsGroup}
 
 -- how many bytes a piece has, and what stands between two pieces
 abbrev pub piece_len : Group → ℕ
@@ -11,6 +12,11 @@ piece_len group = group.every
 
 abbrev pub separator : Group → ℕ
 separator group = group.sep
+
+-- making a group: it has these pieces and this separator, or no group has them
+abbrev pub MakesGroup : ℕ → ℕ → Option Group → Type 0
+MakesGroup every sep result = MatchOption result (IsGroup every sep → ⊥)
+    (λ group. IsGroup every sep × (piece_len group ≡ every) × (separator group ≡ sep))
 
 -- how many pieces n bytes make: n divided by a piece's length, rounded up
 abbrev pub piece_count : ℕ → ℕ → ℕ

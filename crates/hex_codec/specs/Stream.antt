@@ -4,7 +4,8 @@ use Rattle.std.specs.Option.{option_to_list}
 use Rattle.hex_core.specs.declared.digit.CheckCase.{CheckCase}
 use Rattle.hex_core.specs.declared.error.Error.{Error}
 use Rattle.hex_core.specs.declared.error.Error.TheVariants.{InvalidChar, Overflow, OutputTooSmall}
-use Rattle.hex_core.specs.Refusal.{first_bad_char}
+use Rattle.hex_core.specs.Calls.{Answers}
+use Rattle.hex_core.specs.Refusal.{first_bad_char, source_refusal}
 use Rattle.hex_core.specs.Search.{first_invalid}
 use Rattle.hex_core.specs.Text.{Spells, with_front}
 use Rattle.hex_codec.specs.declared.stream.Decoder.{Decoder}
@@ -71,9 +72,15 @@ CuttingsAgree = (decoder other : Decoder) (fed xs ys : List ℕ)
 abbrev pub bad_char_behind : CheckCase → ℕ → List ℕ → Option Error
 bad_char_behind c had src = option_map (λ f. InvalidChar (had + f) (slice_index src f)) (first_invalid c src)
 
--- decoding the pairs of some digits: what they spell stands over the old bytes, and the digit behind
--- them waits; or the first invalid byte of the source, and the destination as it was
-abbrev pub DecodesPairs : CheckCase → ℕ → List ℕ → List ℕ → List ℕ → List ℕ → Result (Option ℕ) Error → Type 0
-DecodesPairs c had src digits old new result = MatchResult result
-    (λ waiting. (bytes : List ℕ) × SpellsBut c digits bytes (option_to_list waiting) × (new ≡ with_front old bytes))
-    (λ e. (bad_char_behind c had src ≡ Some e) × (new ≡ old))
+-- decoding the pairs of some digits, the last of which are a source that a decoder is fed: what they
+-- spell stands over the old bytes, and the digit behind them waits; or the first invalid byte of the
+-- source, and the destination as it was
+abbrev pub DecodesPairs : Decoder → List ℕ → List ℕ → List ℕ → List ℕ → Result (Option ℕ) Error → Type 0
+DecodesPairs decoder src digits old new result = MatchResult result
+    (λ waiting. (bytes : List ℕ) × SpellsBut (policy_of decoder) digits bytes (option_to_list waiting) × (new ≡ with_front old bytes))
+    (λ e. (bad_char_behind (policy_of decoder) (position_of decoder) src ≡ Some e) × (new ≡ old))
+
+-- the end of a decoding: what was written is what all that was fed spells, or a digit waits
+abbrev pub Finished : {T : Type 0} → Decoder → Result T Error → Type 0
+Finished decoder result = (fed written : List ℕ) → HasFed decoder fed written
+    → Answers (source_refusal (policy_of decoder) fed) (λ _. Spells (policy_of decoder) fed written) result

@@ -19,8 +19,8 @@ pub struct Group {
 }
 
 impl Group {
-    ghost use Rattle.std.specs.Prelude.{◌≡◌, MatchOption};
-    ghost use Rattle.hex_codec.specs.Grouped.{piece_len, separator};
+    ghost use Rattle.std.specs.Prelude.{◌≡◌};
+    ghost use Rattle.hex_codec.specs.Grouped.{MakesGroup, piece_len, separator};
 
     /// Returns pieces of `every` bytes with `sep` between them, or `None` where `every` is 0, or
     /// `sep` is not ASCII or is a digit of either case.
@@ -31,8 +31,7 @@ impl Group {
     /// assert!(rt; Group::new(2, b'a').is_none());
     /// ```
     pub fn new(every: usize, sep: u8) -> Option<Group>
-        ensures { MatchOption result (IsGroup every sep → ⊥)
-            (λ group. IsGroup every sep × (piece_len group ≡ every) × (separator group ≡ sep)) }
+        ensures { MakesGroup every sep result }
     {
         if every == 0 || !sep.is_ascii() || digit_value(sep, CheckCase::None).is_some() {
             return None;

@@ -9,7 +9,7 @@
 //! assert_eq!(rt; text.as_slice(), b"00abcd".as_slice());
 //! ```
 
-ghost use Rattle.std.specs.Prelude.{◌≡◌, ◌≢◌, ◌↔◌, ◌+◌, ◌-◌, ◌/◌, ◌^◌, ◌<◌, ◌≤◌, ◌++◌, ◌∷◌, [], None, Some, List, ℕ, drop, length, IfOk, IsSome, IsTrue, MatchOption, OnErr};
+ghost use Rattle.std.specs.Prelude.{◌≡◌, ◌≢◌, ◌↔◌, ◌+◌, ◌-◌, ◌/◌, ◌^◌, ◌<◌, ◌≤◌, ◌++◌, ◌∷◌, [], None, Some, drop, length, IfOk, IsSome, IsTrue, MatchOption, OnErr};
 ghost use Rattle.std.specs.Option.{ForSome, option_to_list};
 ghost use Rattle.hex_core.specs.Digit.{value};
 ghost use Rattle.hex_core.specs.Search.{first_invalid};
@@ -42,9 +42,7 @@ pub struct Decoder {
 }
 
 impl Decoder {
-    ghost use Rattle.hex_core.specs.Calls.{Answers};
-    ghost use Rattle.hex_core.specs.Refusal.{source_refusal};
-    ghost use Rattle.hex_codec.specs.Stream.{DecodesPairs, Feeds, HasFed, bad_char_behind, policy_of, position_of, waiting_in};
+    ghost use Rattle.hex_codec.specs.Stream.{DecodesPairs, Feeds, Finished, HasFed, bad_char_behind, policy_of, position_of, waiting_in};
 
     /// A decoder that has been fed nothing, and reads the letters that `case` admits.
     pub fn new(case: CheckCase) -> Decoder
@@ -133,8 +131,7 @@ impl Decoder {
     /// assert_eq!(rt; decoder.finish(), Err(Error::OddLength));
     /// ```
     pub fn finish(self) -> Result<(), Error>
-        ensures { (fed written : List ℕ) → HasFed self fed written
-            → Answers (source_refusal (policy_of self) fed) (λ _. Spells (policy_of self) fed written) result }
+        ensures { Finished self result }
     {
         if self.waiting.is_some() {
             return Err(Error::OddLength);
@@ -158,8 +155,7 @@ impl Decoder {
     fn decode_pairs(&self, src: &[u8], dst: &mut [u8]) -> Result<Option<u8>, Error>
         requires counted { position_of self.now + length src.now < 2 ^ 64 }
         requires room { (length (waiting_in self.now) + length src.now) / 2 ≤ length dst.old }
-        ensures { DecodesPairs (policy_of self.now) (position_of self.now) src.now
-            (waiting_in self.now ++ src.now) dst.old dst.new result }
+        ensures { DecodesPairs self.now src.now (waiting_in self.now ++ src.now) dst.old dst.new result }
     {
         let Some(high) = self.waiting else {
             return self.decode_from(src, 0, dst);
@@ -181,8 +177,7 @@ impl Decoder {
         requires inside { start ≤ length src.now }
         requires counted { position_of self.now + length src.now < 2 ^ 64 }
         requires room { (length src.now - start) / 2 ≤ length dst.old }
-        ensures { DecodesPairs (policy_of self.now) (position_of self.now) src.now
-            (drop start src.now) dst.old dst.new result }
+        ensures { DecodesPairs self.now src.now (drop start src.now) dst.old dst.new result }
     {
         let end = src.len() - (src.len() - start) % 2;
         let waiting = digit_behind(src, end);

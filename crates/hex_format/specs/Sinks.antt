@@ -6,7 +6,7 @@ use Rattle.std.specs.declared.io.Error.{Error}
 use Rattle.hex_format.specs.declared.sink.SinkFault.{SinkFault}
 use Rattle.hex_format.specs.declared.sink.SliceSink.{SliceSink}
 use Rattle.hex_format.specs.declared.sink.WriterSink.{WriterSink}
-use Rattle.hex_format.specs.Sink.{SinkState}
+use Rattle.hex_format.specs.Sink.{PutsPiece, SinkState}
 
 -- the bytes that a slice's sink has taken: the front of its buffer
 abbrev pub written_bytes : SliceSink → List ℕ
@@ -59,6 +59,10 @@ abbrev pub TakesWhatFits : SliceSink → SliceSink → Result ℕ SinkFault → 
 TakesWhatFits old new result piece = MatchResult result
     (λ n. (n ≡ min (length piece) (free_len old)) × (free_len new ≡ free_len old - n) × (0 < length piece → 0 < free_len old))
     (λ _. (0 < length piece) × (free_len old ≡ 0) × (written_bytes new ≡ written_bytes old) × (free_len new ≡ 0))
+
+-- a put into a writer's sink is one put, by what its writer tells to hold
+abbrev pub PutsIntoWriter : {W : Type 0} → (W → Option (List ℕ)) → WriterSink W → WriterSink W → Result ℕ SinkFault → List ℕ → Type 0
+PutsIntoWriter contents old new result piece = PutsPiece (writer_state contents old) (writer_state contents new) result piece
 
 -- a put into a writer's sink keeps the error of its writer where it is refused, and then the writer
 -- has taken nothing; else the error is that of before

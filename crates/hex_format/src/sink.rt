@@ -222,7 +222,7 @@ impl<W: Write> WriterSink<W> {
 }
 
 impl<W: Write> Sink for WriterSink<W> {
-    ghost use Rattle.hex_format.specs.Sinks.{KeepsError, writer_state};
+    ghost use Rattle.hex_format.specs.Sinks.{KeepsError, PutsIntoWriter, writer_state};
 
     ghost state = { writer_state W.contents };
 
@@ -237,8 +237,7 @@ impl<W: Write> Sink for WriterSink<W> {
     /// [`SinkFault`] where the writer returned an error, which is kept; nothing is taken then.
     fn put(&mut self, piece: &[u8]) -> Result<usize, SinkFault>
         requires { (writer_state W.contents self.old).failures < 2 ^ 64 - 1 }
-        ensures puts { PutsPiece (writer_state W.contents self.old)
-            (writer_state W.contents self.new) result piece.now }
+        ensures puts { PutsIntoWriter W.contents self.old self.new result piece.now }
         // A refusal takes nothing and keeps the writer's error.
         ensures error { KeepsError W.contents self.old self.new result }
     {

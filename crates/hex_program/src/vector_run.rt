@@ -1,10 +1,10 @@
 //! The run of stored vectors under each plan, or under other codecs that are handed in, and of those
 //! that name no plan, which puts a line each and their totals.
 
-ghost use Rattle.std.specs.Prelude.{◌≡◌, ◌<◌, ◌≤◌, ◌+◌, ◌-◌, ◌*◌, ◌^◌, ◌↔◌, length, IfOk, IsTrue, MatchResult, IsOkAnd, IsErrAnd, OnOk};
+ghost use Rattle.std.specs.Prelude.{◌≡◌, ◌<◌, ◌≤◌, ◌+◌, ◌-◌, ◌*◌, ◌^◌, ◌↔◌, length, IfOk, IsTrue, OnOk};
 ghost use Rattle.hex_core.specs.Calls.{DecodesFront, EncodesFront};
 ghost use Rattle.hex_core.specs.Plans.{name_of};
-ghost use Rattle.hex_program.specs.Vectors.{AreFill, HoldsOverFill};
+ghost use Rattle.hex_program.specs.Vectors.{Agrees, AreFill, HoldsOverFill};
 
 use crate::plain_run::run_plain;
 use crate::plain_vectors::PlainVector;
@@ -112,9 +112,7 @@ fn holds(destination: &[u8], bytes: &[u8]) -> bool
 
 // Whether a call gave the stated answer.
 fn agree(answer: Result<&mut [u8], Error>, stated: Result<&[u8], Error>) -> bool
-    ensures { IsTrue result ↔ MatchResult stated.entry
-        (λ wanted. IsOkAnd answer.entry (λ bytes. bytes.now ≡ wanted.now))
-        (λ wanted. IsErrAnd answer.entry (λ refusal. refusal ≡ wanted)) }
+    ensures { IsTrue result ↔ Agrees answer.entry stated.entry }
 {
     match answer {
         Ok(bytes) => stated == Ok(&*bytes),

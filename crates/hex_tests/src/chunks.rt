@@ -38,41 +38,56 @@ fn agrees(src: &[u8], cuts: usize) -> bool {
     fed(src, cuts, &mut parts) == one && (one.is_err() || whole == parts)
 }
 
+// Whether each cutting is.
+fn all_agree(src: &[u8]) -> bool {
+    (0..2048).all(|cuts| agrees(src, cuts))
+}
+
 #[test]
 fn each_cutting_of_each_length_is_one_call(rt: HostRuntime) {
     for len in 0..13 {
-        for cuts in 0..2048 {
-            assert!(rt; agrees(&SOURCE[..len], cuts), "{len} digits cut by {cuts}");
-        }
+        assert!(rt; all_agree(&SOURCE[..len]), "{len} digits");
     }
+}
+
+// Whether each cutting is, where the byte at a place is no digit.
+fn all_name(place: usize) -> bool {
+    let mut source = SOURCE;
+    if let Some(byte) = source.get_mut(place) {
+        *byte = b'g';
+    }
+    all_agree(&source)
 }
 
 #[test]
 fn an_invalid_byte_is_named_at_each_place(rt: HostRuntime) {
     for place in 0..12 {
-        let mut source = SOURCE;
-        source[place] = b'g';
-        for cuts in 0..2048 {
-            assert!(rt; agrees(&source, cuts), "place {place} cut by {cuts}");
-        }
+        assert!(rt; all_name(place), "place {place}");
     }
+}
+
+// Whether a feed whose room lacks a byte is refused behind other digits, and leaves all as it was.
+fn is_refused(waiting: &[u8], src: &[u8]) -> bool {
+    let mut decoder = Decoder::new(CheckCase::None);
+    let waits = decoder.feed(waiting, &mut []);
+    let required = waiting.len().midpoint(src.len());
+    let mut room = [0xa5; 6];
+    let short = room.get_mut(..required.saturating_sub(1));
+    let refused = decoder.feed(src, short.unwrap_or_default());
+    waits == Ok(0)
+        && refused == Err(Error::OutputTooSmall { required })
+        && room == [0xa5; 6]
+        && decoder.position() == waiting.len()
 }
 
 #[test]
 fn room_for_one_byte_less_is_refused(rt: HostRuntime) {
-    for waiting in 0..2 {
-        for len in 2..12 {
-            let mut decoder = Decoder::new(CheckCase::None);
-            let waits = decoder.feed(&SOURCE[..waiting], &mut []);
-            let required = (waiting + len) / 2;
-            let mut room = [0xa5; 6];
-            let refused = decoder.feed(&SOURCE[..len], &mut room[..required - 1]);
-            let holds = waits == Ok(0)
-                && refused == Err(Error::OutputTooSmall { required })
-                && room == [0xa5; 6]
-                && decoder.position() == waiting;
-            assert!(rt; holds, "{waiting} and {len} digits");
-        }
+    for len in 2..12 {
+        let src = &SOURCE[..len];
+        assert!(rt;
+            is_refused(b"", src) && is_refused(b"0", src),
+            "{len} digits"
+        );
     }
 }
 
@@ -96,52 +111,37 @@ impl Read for Halting<'_> {
     }
 }
 
-#[test]
-fn interrupted_reads_are_tried_again(rt: HostRuntime) {
+// Whether a stream of such reads is decoded with this answer, and these bytes are put.
+fn is_decoded(left: &[u8], answer: Result<usize, StreamFault>, bytes: &[u8]) -> bool {
     let mut buffer = [0; 6];
     let mut sink = SliceSink::new(&mut buffer);
-    let mut reader = Halting {
-        left: &SOURCE,
-        ready: false,
-    };
-    assert_eq!(rt;
-        decode_stream(&mut reader, &mut sink, CheckCase::None),
-        Ok(6)
-    );
-    assert_eq!(rt;
-        sink.written(),
-        [0, 0xab, 0xcd, 0x91, 0xff, 0xe7].as_slice()
-    );
+    let mut reader = Halting { left, ready: false };
+    let decoded = decode_stream(&mut reader, &mut sink, CheckCase::None);
+    decoded == answer && sink.written() == bytes
+}
+
+// Whether a stream of such reads is encoded whole, as these digits.
+fn is_encoded(left: &[u8], digits: &[u8]) -> bool {
     let mut buffer = [0; 14];
     let mut sink = SliceSink::new(&mut buffer);
-    let mut reader = Halting {
-        left: &[0, 0xab, 1, 2, 3, 4, 0xff],
-        ready: false,
-    };
-    assert_eq!(rt; encode_stream(&mut reader, &mut sink, true), Ok(7));
-    assert_eq!(rt; sink.written(), b"00AB01020304FF".as_slice());
+    let mut reader = Halting { left, ready: false };
+    let encoded = encode_stream(&mut reader, &mut sink, true);
+    encoded == Ok(left.len()) && sink.written() == digits
+}
+
+#[test]
+fn interrupted_reads_are_tried_again(rt: HostRuntime) {
+    let bytes = [0, 0xab, 0xcd, 0x91, 0xff, 0xe7];
+    assert!(rt; is_decoded(&SOURCE, Ok(6), &bytes));
+    assert!(rt; is_encoded(&[0, 0xab, 1, 2, 3, 4, 0xff], b"00AB01020304FF"));
 }
 
 #[test]
 fn a_refused_stream_has_put_the_chunks_before(rt: HostRuntime) {
-    let mut buffer = [0; 6];
-    let mut sink = SliceSink::new(&mut buffer);
-    let mut reader = Halting {
-        left: b"00aBcx",
-        ready: false,
-    };
-    let refused = decode_stream(&mut reader, &mut sink, CheckCase::None);
     let named = Error::InvalidChar {
         index: 5,
         byte: b'x',
     };
-    assert_eq!(rt; refused, Err(StreamFault::Codec(named)));
-    assert_eq!(rt; sink.written(), [0].as_slice());
-    let mut reader = Halting {
-        left: b"00a",
-        ready: false,
-    };
-    let refused = decode_stream(&mut reader, &mut sink, CheckCase::None);
-    assert_eq!(rt; refused, Err(StreamFault::Codec(Error::OddLength)));
-    assert_eq!(rt; sink.written(), [0, 0].as_slice());
+    assert!(rt; is_decoded(b"00aBcx", Err(StreamFault::Codec(named)), &[0]));
+    assert!(rt; is_decoded(b"00a", Err(StreamFault::Codec(Error::OddLength)), &[0]));
 }
