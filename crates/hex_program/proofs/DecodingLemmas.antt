@@ -1,5 +1,5 @@
 -- What is kept of digits that are read piece by piece.
-use Rattle.std.proofs.Common.{◌≡◌, ◌∙◌, ◌⊎◌, inl, inr, ℕ, ◌+◌, ◌-◌, ◌^◌, ◌<◌, ◌≤◌, true, false, List, [], ◌∷◌, ◌++◌, length, length-append, slice_index, Option, Some, None, is_some, Result, Ok, Err, refl, sym, ap, take, drop, append_assoc, arith}
+use Rattle.std.proofs.Common.{◌≡◌, ◌∙◌, ◌⊎◌, inl, inr, ℕ, ◌+◌, ◌-◌, ◌^◌, ◌<◌, ◌≤◌, true, false, List, [], ◌∷◌, ◌++◌, length, length-append, slice_index, Option, Some, None, is_some, Ok, Err, refl, sym, ap, take, drop, append_assoc, arith}
 use Rattle.std.specs.Prelude.{IfSome}
 use Rattle.std.specs.Io.KnownBytes.{Consumes}
 use Rattle.std.proofs.Math.ListN.{set}
@@ -10,7 +10,7 @@ use Rattle.std.proofs.lemmas.Bool.Decides.{nat_tests}
 use Rattle.std.proofs.lemmas.List.{length-take-le, take-append-le, take_more}
 use Rattle.hex_core.specs.declared.digit.CheckCase.{CheckCase}
 use Rattle.hex_core.specs.declared.error.Error.{Error}
-use Rattle.hex_core.specs.Refusal.{first_bad_char, source_refusal}
+use Rattle.hex_core.specs.Refusal.{source_refusal}
 use Rattle.hex_core.specs.Text.{with_front}
 use Rattle.hex_core.proofs.JoinLemmas.{back_at, bad-front}
 use Rattle.hex_codec.specs.Stream.{Feeds, HasFed, pairs_more, policy_of}

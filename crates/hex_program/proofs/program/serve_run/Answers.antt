@@ -14,4 +14,4 @@ returns g c =
     let all = rw (sym c.as_slice.ensures.value) at c.in-Ok.ensures.ok in
     let served = serves_run (IsOutput op) (op_refusal op) (OpNeedsMemory op input) input _ _ _ (shows c.new-sink.result) (shows c.run_in-ran.new.sink) c.run_in-ran.result c.finish-ended.result
     all c.run_in-ran.ensures kept c.finish-ended.ensures.ended in
-    rw c.new-sink.ensures.writer at served
+    rw c.new-sink.ensures.0 at served
