@@ -1,3 +1,5 @@
+mod DumpLemmas
 mod PartsLemmas
 mod PutLemmas
+mod SinkLemmas
 mod UpdateLemmas

@@ -2,3 +2,8 @@ pub mod Records
 pub mod DigestLists
 pub mod Dump
 pub mod Updates
+pub mod Judged
+pub mod Lines
+pub mod Parts
+pub mod Received
+pub mod Fields

@@ -1,10 +1,12 @@
 -- A record of JSON: what it is read as, and how it is written.
-use Rattle.std.specs.Prelude.{◌≡◌, codes, Option, None, Some, option_map, Result, MatchResult}
+use Rattle.std.specs.Prelude.{◌≡◌, ◌≤◌, ℕ, codes, length, Option, None, Some, option_map, Result, MatchResult, vec_items}
 use Rattle.std.specs.Option.{option_or}
+use Rattle.std.specs.declared.vec.Vec.{Vec}
 use Rattle.serde_json.specs.Data.{Data}
 use Rattle.serde_json.specs.Find.{get}
-use Rattle.hex_json.specs.Adapters.{Reads, Writes, array_read_refusal}
-use Rattle.hex_json.specs.WireFormats.{nopfx_lowercase, withpfx_ignorecase}
+use Rattle.hex_json.specs.declared.adapters.AdapterError.{AdapterError}
+use Rattle.hex_json.specs.Adapters.{ReadFailure, Reads, Writes, array_read_refusal}
+use Rattle.hex_json.specs.WireFormats.{nopfx_ignorecase, nopfx_lowercase, withpfx_ignorecase}
 use Rattle.callers.specs.declared.json.Record.{Record}
 use Rattle.callers.specs.declared.json.RecordError.{RecordError}
 use Rattle.callers.specs.declared.json.RecordError.TheVariants.{NoId, BadId, NoKey, BadKey}
@@ -44,3 +46,9 @@ record_refusal d = option_or (id_refusal (get (codes "id") d)) (key_refusal (get
 -- reading a record: its fields, or what is refused
 abbrev pub ReadsRecord : Data → Result Record RecordError → Type 0
 ReadsRecord d result = MatchResult result (λ r. IsReadAs d r) (λ e. record_refusal d ≡ Some e)
+
+-- a signature: at most 64 bytes, which a read without a bound reads as well; or why there is none
+abbrev pub ReadsSignature : {A : Type 0} → Data → Result (Vec ℕ A) AdapterError → Type 0
+ReadsSignature d result = MatchResult result
+    (λ bytes. Reads nopfx_ignorecase None d (vec_items bytes) × (length (vec_items bytes) ≤ 64))
+    (λ e. ReadFailure nopfx_ignorecase (Some 64) d e)

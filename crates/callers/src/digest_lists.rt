@@ -1,15 +1,16 @@
 //! A caller that looks names up in a digest list, proved.
 
-ghost use Rattle.std.specs.Prelude.{◌≡◌, ◌⊎◌, ◌↔◌, ◌<◌, ◌-◌, ◌^◌, ◌++◌, ◌∷◌, [], codes, Err, IfErr, OnOk, true, vec_items};
-ghost use Rattle.hex_core.specs.Text.{lowercase, text};
-ghost use Rattle.hex_format.specs.Sink.{Stops, Takes};
-ghost use Rattle.hex_lists.specs.Lists.{is_bad_name};
-ghost use Rattle.callers.specs.DigestLists.{FindsNames};
+ghost use Rattle.std.specs.Prelude.{◌<◌, ◌-◌, ◌^◌, IfOk};
+ghost use Rattle.callers.specs.DigestLists.{FindsNames, StoresDigest, StoresLine, WritesLine};
 
 use crate::digest::Digest;
 use faster_hex::digests::{self, Entry, ListFault, ListWriteFault};
-use faster_hex::{CheckCase, Sink};
-use std::alloc::Global;
+use faster_hex::{CheckCase, Sink, SliceSink};
+use hex_core::laws::{a_new_front_is_the_front, a_slice_holds_bytes};
+use hex_lists::laws::{
+    a_faulty_source_is_no_list, a_source_lists_one_list, reading_inverts_writing,
+};
+use std::alloc::{AllocError, Global};
 
 /// The names that a list has for a digest, in the order of its lines. The whole list is read first,
 /// so one that has a line with a fault gives no name at all.
@@ -57,13 +58,7 @@ pub fn write_digest_line<S: Sink>(
     sink: &mut S,
 ) -> Result<(), ListWriteFault>
     requires { (S.state sink.old).failures < 2 ^ 64 - 1 }
-    ensures written { OnOk result (Takes (S.state sink.old) (S.state sink.new)
-        (text lowercase digest.now.bytes ++ codes "  " ++ name.now ++ (10 ∷ []))) }
-    ensures refused { IfErr result (λ e.
-        ((e ≡ ListWriteFault.BadName 0) × (S.state sink.new ≡ S.state sink.old))
-        ⊎ Stops (S.state sink.old) (S.state sink.new)
-        (text lowercase digest.now.bytes ++ codes "  " ++ name.now ++ (10 ∷ []))) }
-    ensures bad { (result ≡ Err (ListWriteFault.BadName 0)) ↔ (is_bad_name name.now ≡ true) }
+    ensures { WritesLine digest.now.bytes name.now (S.state sink.old) (S.state sink.new) result }
 {
     let entry = Entry {
         digest: digest.bytes,
@@ -71,4 +66,49 @@ pub fn write_digest_line<S: Sink>(
         name,
     };
     digests::write_to(&[entry], sink, false)
+}
+
+/// Writes the line of one file into the front of a buffer, and reads back what stands there, as one
+/// does who checks what was stored. There is no digest where the name is bad or the line does not fit.
+///
+/// ```rust
+/// use callers::digest::Digest;
+///
+/// let digest = Digest { bytes: [0xab; 32] };
+/// let stored = stored_digest(rt.alloc(), &digest, b"a.txt", &mut [0; 72])?;
+/// assert_eq!(rt; stored, Some(digest));
+/// assert_eq!(rt; stored_digest(rt.alloc(), &digest, b"a.txt", &mut [0; 71])?, None);
+/// ```
+pub fn stored_digest(
+    alloc: Global,
+    digest: &Digest,
+    name: &[u8],
+    buffer: &mut [u8],
+) -> Result<Option<Digest>, AllocError>
+    ensures { IfOk result (λ stored. StoresDigest digest.now name.now buffer.old buffer.new stored) }
+{
+    a_slice_holds_bytes(&digest.bytes);
+    a_new_front_is_the_front();
+    reading_inverts_writing();
+    a_source_lists_one_list();
+    a_faulty_source_is_no_list();
+    let Some(len) = store_line(digest, name, buffer) else {
+        return Ok(None);
+    };
+    match digests::read::<32>(alloc, &buffer[..len], CheckCase::Lower) {
+        Ok(entries) => Ok(Some(Digest {
+            bytes: entries[0].digest,
+        })),
+        Err(ListFault::Line { .. }) => unreachable!(),
+        Err(ListFault::OutOfMemory) => Err(AllocError),
+    }
+}
+
+// Writes the line of one file into the front of a buffer, and returns how long it is.
+fn store_line(digest: &Digest, name: &[u8], buffer: &mut [u8]) -> Option<usize>
+    ensures { StoresLine digest.now.bytes name.now buffer.old buffer.new result }
+{
+    let mut sink = SliceSink::new(buffer);
+    write_digest_line(digest, name, &mut sink).ok()?;
+    Some(sink.written().len())
 }

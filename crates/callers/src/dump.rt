@@ -1,12 +1,19 @@
-//! A caller that writes a dump in lines, proved.
+//! Callers that write a dump in lines and read one back, each proved.
 
-ghost use Rattle.std.specs.Prelude.{◌≡◌, ◌⊎◌, ◌<◌, ◌-◌, ◌^◌};
+ghost use Rattle.std.specs.Prelude.{◌≡◌, ◌⊎◌, ◌<◌, ◌≤◌, ◌+◌, ◌-◌, ◌^◌, IfSome, length};
 ghost use Rattle.std.specs.Bool.{OnFalse, OnTrue};
+ghost use Rattle.hex_codec.specs.Grouped.{piece_len};
+ghost use Rattle.hex_codec.specs.GroupedText.{grouped_len};
 ghost use Rattle.hex_format.specs.Sink.{Puts, Stops, Takes};
-ghost use Rattle.callers.specs.Dump.{dump_line, dump_of};
+ghost use Rattle.callers.specs.Dump.{ReadsDump, ReadsShown, dump_line, dump_of};
 
 use faster_hex::format::put_all;
-use faster_hex::{Group, Hex, HexFlags, Sink, WriteFault};
+use faster_hex::grouped::read_into;
+use faster_hex::{CheckCase, Group, Hex, HexFlags, Sink, WriteFault};
+use hex_codec::laws::{
+    a_grouped_text_is_digits_and_separators, a_grouped_text_is_read_where_it_spells_a_list,
+    reading_inverts_grouping,
+};
 use hex_format::laws::{a_bare_text_is_its_digits, puts_in_a_row_are_one};
 
 // How many bytes a line shows.
@@ -63,4 +70,51 @@ fn put_line<S: Sink>(line: &[u8], group: Group, sink: &mut S) -> Result<(), Writ
     };
     Hex::new(line).write_to(sink, &flags)?;
     put_all(sink, b"\n")
+}
+
+/// Reads a dump back into the front of a buffer, and returns how many bytes it shows: what
+/// [`write_dump`] wrote with the same group is read as the bytes that were dumped.
+///
+/// ```rust
+/// let dump = b"6865 6c6c 6f2c 2031 3620 6279 7465 7321\n2061 6e64 2066 6f75 72\n";
+/// let mut buffer = [b'.'; 27];
+/// let group = Group::new(2, b' ').unwrap();
+/// assert_eq!(rt; read_dump(dump, group, &mut buffer), Some(25));
+/// assert_eq!(rt; &buffer, b"hello, 16 bytes! and four..");
+/// ```
+pub fn read_dump(dump: &[u8], group: Group, buffer: &mut [u8]) -> Option<usize>
+    ensures { ReadsDump group dump.now buffer.old buffer.new result }
+{
+    a_grouped_text_is_digits_and_separators();
+    let full = line_len(group);
+    let mut at = 0;
+    let mut total = 0;
+    'lines: while at < dump.len() {
+        let rest = &dump[at..];
+        let line = &rest[..full.min(rest.len())];
+        total += read_line(line, group, &mut buffer[total..])?;
+        at += line.len();
+    }
+    Some(total)
+}
+
+// How long a line of 16 bytes is, with its newline.
+fn line_len(group: Group) -> usize
+    ensures { result ≡ grouped_len (piece_len group) 16 + 1 }
+{
+    2 * LINE + LINE.div_ceil(group.every())
+}
+
+// Reads a line of a dump into the front of a buffer.
+fn read_line(line: &[u8], group: Group, buffer: &mut [u8]) -> Option<usize>
+    ensures fits { IfSome result (λ n. n ≤ length buffer.old) }
+    ensures read { ReadsShown (dump_line group) line.now buffer.old buffer.new result }
+{
+    reading_inverts_grouping();
+    a_grouped_text_is_read_where_it_spells_a_list();
+    let (last, text) = line.split_last()?;
+    if *last != b'\n' {
+        return None;
+    }
+    read_into(text, buffer, group, CheckCase::None).ok()
 }

@@ -1,14 +1,15 @@
 //! Callers that write padded texts, each proved.
 
 ghost use Rattle.std.specs.Prelude.{◌≡◌, ◌↔◌, ◌≤◌, ◌<◌, ◌-◌, ◌%◌, ◌^◌, ◌++◌, ◌∷◌, [], ℕ, List, None, length, IsOk, IsSome, IsTrue, OnOk};
-ghost use Rattle.std.specs.Bool.{OnFalse, OnTrue};
+ghost use Rattle.std.specs.Bool.{OnTrue};
 ghost use Rattle.std.specs.List.{flat_map};
 ghost use Rattle.hex_core.specs.declared.digit.CheckCase.TheVariants as policy;
 ghost use Rattle.hex_core.specs.Text.{lowercase, with_front};
 ghost use Rattle.hex_codec.specs.Grouped.{grouped, piece_len, separator};
-ghost use Rattle.hex_codec.specs.GroupedText.{GroupSpells, group_refusal, grouped_len};
+ghost use Rattle.hex_codec.specs.GroupedText.{GroupSpells, grouped_len};
 ghost use Rattle.hex_format.specs.Frame.{frame};
 ghost use Rattle.hex_format.specs.Sink.{Puts};
+ghost use Rattle.callers.specs.Lines.{CopiesLine, LowercasesLine};
 
 use faster_hex::format::put_all;
 use faster_hex::grouped::read_into;
@@ -26,7 +27,7 @@ use hex_format::laws::{a_bare_text_is_its_digits, puts_in_a_row_are_one};
 /// The caller's proof knows the whole line once the sink is gone: the text, and behind it the old
 /// bytes.
 pub fn write_line(bytes: &[u8], flags: &HexFlags, line: &mut [u8]) -> Result<(), WriteFault>
-    ensures fits { length (frame flags.now bytes.now) ≤ length line.old → IsOk result }
+    ensures fits { IsOk result ↔ (length (frame flags.now bytes.now) ≤ length line.old) }
     ensures written { OnOk result (line.new ≡ with_front line.old (frame flags.now bytes.now)) }
 {
     let mut sink = SliceSink::new(line);
@@ -56,8 +57,7 @@ pub fn write_identifiers<S: Sink>(
     sink: &mut S,
 ) -> Result<(), WriteFault>
     requires { (S.state sink.old).failures < 2 ^ 64 - 1 }
-    ensures { Puts (S.state sink.old) (S.state sink.new) result
-        (flat_map (frame flags.now) ids.now) }
+    ensures { Puts (S.state sink.old) (S.state sink.new) result (flat_map (frame flags.now) ids.now) }
 {
     puts_in_a_row_are_one();
     for id in ids {
@@ -75,10 +75,7 @@ pub fn write_identifiers<S: Sink>(
 /// assert_eq!(rt; &line, b"0a0b:0c");
 /// ```
 pub fn lowercase_line(line: &mut [u8], group: Group) -> bool
-    ensures read { IsTrue result ↔ (group_refusal policy.None group line.old 16 ≡ None) }
-    ensures written { OnTrue result ((bytes : List ℕ) × GroupSpells policy.None group line.old bytes
-        × (line.new ≡ grouped group lowercase bytes)) }
-    ensures unchanged { OnFalse result (line.new ≡ line.old) }
+    ensures { LowercasesLine group line.old line.new result }
 {
     a_text_spells_one_list();
     a_bare_text_is_its_digits();
@@ -103,9 +100,8 @@ pub fn lowercase_line(line: &mut [u8], group: Group) -> bool
 /// assert_eq!(rt; &line, b"01:02:ab  ");
 /// ```
 pub fn write_group(bytes: &[u8], group: Group, line: &mut [u8]) -> bool
-    ensures fits { grouped_len (piece_len group) (length bytes.now) ≤ length line.old → IsTrue result }
-    ensures written { OnTrue result
-        (line.new ≡ with_front line.old (grouped group lowercase bytes.now)) }
+    ensures fits { IsTrue result ↔ (grouped_len (piece_len group) (length bytes.now) ≤ length line.old) }
+    ensures written { OnTrue result (line.new ≡ with_front line.old (grouped group lowercase bytes.now)) }
 {
     a_bare_text_is_its_digits();
     a_grouped_text_is_digits_and_separators();
@@ -125,7 +121,7 @@ pub fn write_group(bytes: &[u8], group: Group, line: &mut [u8]) -> bool
 /// assert_eq!(rt; &line, b"0a:0b ");
 /// ```
 pub fn copy_line(from: &[u8], group: Group, to: &mut [u8]) -> bool
-    ensures { OnTrue result (to.new ≡ with_front to.old from.now) }
+    ensures { CopiesLine group from.now to.old to.new result }
 {
     a_new_front_is_the_front();
     grouping_inverts_strict_reading();
@@ -143,8 +139,7 @@ pub fn copy_line(from: &[u8], group: Group, to: &mut [u8]) -> bool
 /// assert_eq!(rt; address, Some([0, 0, 0x5e, 0, 0x53, 0xaf]));
 /// ```
 pub fn read_address(text: &[u8], group: Group) -> Option<[u8; 6]>
-    ensures { IsSome result ↔ ((bytes : List ℕ) × GroupSpells policy.None group text.now bytes
-        × (length bytes ≡ 6)) }
+    ensures { IsSome result ↔ ((bytes : List ℕ) × GroupSpells policy.None group text.now bytes × (length bytes ≡ 6)) }
 {
     a_grouped_text_is_read_where_it_spells_a_list();
     let mut address = [0; 6];
@@ -164,8 +159,7 @@ pub fn write_two_parts<S: Sink>(
     requires counts { (S.state sink.old).failures < 2 ^ 64 - 1 }
     requires whole { length front.now % piece_len group ≡ 0 }
     requires both { (0 < length front.now) × (0 < length back.now) }
-    ensures { Puts (S.state sink.old) (S.state sink.new) result
-        (grouped group lowercase (front.now ++ back.now)) }
+    ensures { Puts (S.state sink.old) (S.state sink.new) result (grouped group lowercase (front.now ++ back.now)) }
 {
     puts_in_a_row_are_one();
     whole_pieces_are_joined_by_the_separator();
@@ -187,8 +181,7 @@ fn put_first_part<S: Sink>(part: &[u8], group: Group, sink: &mut S) -> Result<()
 // Puts the grouped text of some bytes.
 fn put_grouped<S: Sink>(bytes: &[u8], group: Group, sink: &mut S) -> Result<(), WriteFault>
     requires { (S.state sink.old).failures < 2 ^ 64 - 1 }
-    ensures { Puts (S.state sink.old) (S.state sink.new) result
-        (grouped group lowercase bytes.now) }
+    ensures { Puts (S.state sink.old) (S.state sink.new) result (grouped group lowercase bytes.now) }
 {
     a_bare_text_is_its_digits();
     let flags = HexFlags {

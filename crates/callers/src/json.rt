@@ -1,12 +1,12 @@
 //! Callers of the JSON adapters as a user writes them, each proved.
 
-ghost use Rattle.std.specs.Prelude.{◌≡◌, ◌≤◌, None, Some, IfOk, IsFalse, codes, length, MatchResult};
+ghost use Rattle.std.specs.Prelude.{◌≡◌, ◌≤◌, None, Some, IfOk, IsFalse, IsTrue, codes, length, MatchResult};
 ghost use Rattle.serde_json.specs.Data.{Data};
 ghost use Rattle.serde_json.specs.Find.{get};
 ghost use Rattle.serde_json.specs.View.{view};
 ghost use Rattle.hex_json.specs.Adapters.{Reads, WriteFailure, WritesOption};
 ghost use Rattle.hex_json.specs.WireFormats as wire;
-ghost use Rattle.callers.specs.Records.{ReadsRecord, ShowsRecord, id_refusal};
+ghost use Rattle.callers.specs.Records.{ReadsRecord, ReadsSignature, ShowsRecord, id_refusal};
 
 use faster_hex::laws::{
     a_bound_refuses_what_is_longer_alone, a_value_is_read_as_one_list,
@@ -115,9 +115,7 @@ pub fn record_again(alloc: Global, source: Record) -> Result<Record, AdapterErro
 
 /// The same bytes, by way of a JSON text. It fails for want of memory or a text's length alone.
 pub fn copied(alloc: Global, bytes: &[u8]) -> Result<Vec<u8>, AdapterError>
-    ensures { MatchResult result
-        (λ v. v.items ≡ bytes.now)
-        (λ e. WriteFailure wire.nopfx_lowercase bytes.now e) }
+    ensures { MatchResult result (λ v. v.items ≡ bytes.now) (λ e. WriteFailure wire.nopfx_lowercase bytes.now e) }
 {
     reading_inverts_writing();
     a_value_is_read_as_one_list();
@@ -128,8 +126,7 @@ pub fn copied(alloc: Global, bytes: &[u8]) -> Result<Vec<u8>, AdapterError>
 
 /// A signature of at most 64 bytes, which reading without a bound would be as well.
 pub fn read_signature(alloc: Global, value: &Value) -> Result<Vec<u8>, AdapterError>
-    ensures { IfOk result (λ bytes. Reads wire.nopfx_ignorecase None (view value.now) bytes.items
-        × (length bytes.items ≤ 64)) }
+    ensures { ReadsSignature (view value.now) result }
 {
     a_bound_refuses_what_is_longer_alone();
     nopfx_ignorecase::deserialize_bounded::<64>(alloc, value)
@@ -138,8 +135,8 @@ pub fn read_signature(alloc: Global, value: &Value) -> Result<Vec<u8>, AdapterEr
 /// Whether a value of an `option_` module is the one of `None`. That of a list never is, even of the
 /// empty one.
 pub fn is_none_written(value: &Value, bytes: &[u8]) -> bool
-    ensures { WritesOption wire.nopfx_ignorecase (Some bytes.now) (view value.now)
-        → IsFalse result }
+    ensures none { WritesOption wire.nopfx_ignorecase None (view value.now) → IsTrue result }
+    ensures list { WritesOption wire.nopfx_ignorecase (Some bytes.now) (view value.now) → IsFalse result }
 {
     none_and_an_empty_list_stay_apart();
     value.is_null()

@@ -1,14 +1,16 @@
 //! Callers that judge texts and lists before they use them, each proved by one law.
 
-ghost use Rattle.std.specs.Prelude.{◌≡◌, ◌/◌, ◌↔◌, ℕ, List, None, Some, IsTrue, IfOk, IfSome, length, slice_index};
+ghost use Rattle.std.specs.Prelude.{◌≡◌, ◌↔◌, ℕ, List, None, IsTrue, IfOk, slice_index};
 ghost use Rattle.std.specs.Bool.{OnFalse, OnTrue};
 ghost use Rattle.std.specs.Str.{str_to_ascii_lowercase};
 ghost use Rattle.hex_core.specs.declared.digit.CheckCase.TheVariants as policy;
 ghost use Rattle.hex_core.specs.Laws.{AreBytes};
+ghost use Rattle.hex_core.specs.Refusal.{array_refusal};
 ghost use Rattle.hex_core.specs.Search.{first_invalid};
-ghost use Rattle.hex_core.specs.Text.{Spells, lowercase, text, with_front};
+ghost use Rattle.hex_core.specs.Text.{Spells, lowercase, text};
 ghost use Rattle.hex_lists.specs.declared.digests.Entry.{Entry};
 ghost use Rattle.hex_lists.specs.Lists.{Lists};
+ghost use Rattle.callers.specs.Judged.{CountsEntries, ReadsTag, WritesUnless};
 
 use faster_hex::digests::{self, ListFault};
 use faster_hex::{
@@ -58,8 +60,8 @@ pub fn is_canonical(digits: &[u8]) -> bool
 /// assert_eq!(rt; &line, b"0123456789abcdef");
 /// ```
 pub fn lowercase_key(key: &[u8], line: &mut [u8; 16]) -> bool
-    ensures written { OnTrue result (line.new ≡ str_to_ascii_lowercase key.now) }
-    ensures unchanged { OnFalse result (line.new ≡ line.old) }
+    ensures { WritesUnless (array_refusal policy.None key.now 8) (str_to_ascii_lowercase key.now)
+        line.old line.new result }
 {
     either_case_is_the_lowercased_source();
     let Ok(bytes) = hex_decode_array::<8>(key) else {
@@ -75,9 +77,7 @@ pub fn lowercase_key(key: &[u8], line: &mut [u8; 16]) -> bool
 /// assert_eq!(rt; record_tag(b"7f00", &mut buffer), Ok(Some(0x7f)));
 /// ```
 pub fn record_tag(src: &[u8], buffer: &mut [u8]) -> Result<Option<u8>, Error>
-    ensures { IfOk result (λ tag. (bytes : List ℕ) × Spells policy.None src.now bytes
-        × (buffer.new ≡ with_front buffer.old bytes)
-        × IfSome tag (λ byte. byte ≡ slice_index bytes 0)) }
+    ensures { ReadsTag src.now buffer.old buffer.new result }
 {
     a_new_front_is_the_front();
     let written = hex_decode_into(src, buffer, CheckCase::None)?;
@@ -106,8 +106,7 @@ pub fn decode_page(plan: Backend, digits: &[u8; 128], page: &mut [u8; 64]) -> bo
 
 /// Whether a source is a list of SHA-256 digests, or memory is refused.
 pub fn is_list(alloc: Global, src: &[u8]) -> Result<bool, AllocError>
-    ensures { IfOk result (λ is. IsTrue is
-        ↔ ((entries : List (Entry 32)) × Lists policy.None src.now entries)) }
+    ensures { IfOk result (λ is. IsTrue is ↔ ((entries : List (Entry 32)) × Lists policy.None src.now entries)) }
 {
     a_faulty_source_is_no_list();
     match digests::read::<32>(alloc, src, CheckCase::None) {
@@ -119,8 +118,7 @@ pub fn is_list(alloc: Global, src: &[u8]) -> Result<bool, AllocError>
 
 /// How many entries a list has, however else it is read.
 pub fn entry_count(alloc: Global, src: &[u8]) -> Result<usize, ListFault>
-    ensures { IfOk result (λ n. (entries : List (Entry 32)) → Lists policy.None src.now entries
-        → length entries ≡ n) }
+    ensures { CountsEntries src.now result }
 {
     a_source_lists_one_list();
     let entries = digests::read::<32>(alloc, src, CheckCase::None)?;

@@ -2,12 +2,12 @@
 #![tactic(auto)]
 
 ghost use Rattle.std.specs.Prelude.{◌≡◌, ◌∷◌, [], ◌<◌, ◌↔◌, ℕ, List, None, Some, IsTrue, IsSome, IfSome, IfOk, IfErr, OnOk, OnErr, length, slice_index, slice_set, vec_len};
-ghost use Rattle.std.specs.Bool.{OnFalse, OnTrue};
 ghost use Rattle.hex_core.specs.declared.digit.CheckCase.TheVariants as policy;
 ghost use Rattle.hex_core.specs.Digit.{value};
 ghost use Rattle.hex_core.specs.Search.{first_invalid};
 ghost use Rattle.hex_core.specs.Refusal.{array_refusal, decode_refusal, encode_refusal};
-ghost use Rattle.hex_core.specs.Text.{Spells, lowercase, text, uppercase, with_front};
+ghost use Rattle.hex_core.specs.Text.{Spells, text, uppercase, with_front};
+ghost use Rattle.callers.specs.Judged.{WritesUnless};
 
 use faster_hex::{
     CheckCase, Error, hex_check, hex_decode_array, hex_decode_array_with_case, hex_decode_into,
@@ -22,11 +22,13 @@ pub mod digest;
 pub mod digest_lists;
 pub mod dump;
 pub mod dumps;
+pub mod fields;
 pub mod identifier;
 pub mod json;
 pub mod judged;
 pub mod parts;
 pub mod probes;
+pub mod received;
 pub mod texts;
 pub mod updates;
 
@@ -63,9 +65,8 @@ pub fn file_mark() -> [u8; 3]
 
 /// Writes an identifier's digits into the front of a line, where they fit.
 pub fn write_identifier(id: &[u8], line: &mut [u8]) -> bool
-    ensures fits { IsTrue result ↔ (encode_refusal id.now (length line.old) ≡ None) }
-    ensures written { OnTrue result (line.new ≡ with_front line.old (text uppercase id.now)) }
-    ensures unchanged { OnFalse result (line.new ≡ line.old) }
+    ensures { WritesUnless (encode_refusal id.now (length line.old))
+        (with_front line.old (text uppercase id.now)) line.old line.new result }
 {
     hex_encode_into(id, line, true).is_ok()
 }
@@ -101,8 +102,7 @@ pub fn parse_address(text: &[u8]) -> Option<[u8; 6]>
 /// assert_eq!(rt; bad_place(b"deadbeef"), None);
 /// ```
 pub fn bad_place(text: &[u8]) -> Option<usize>
-    ensures bad { IfSome result (λ i. (i < length text.now)
-        × (value policy.None (slice_index text.now i) ≡ None)) }
+    ensures bad { IfSome result (λ i. (i < length text.now) × (value policy.None (slice_index text.now i) ≡ None)) }
     ensures eight { length text.now ≡ 8 → result ≡ first_invalid policy.None text.now }
 {
     an_invalid_char_is_the_first_invalid_byte();

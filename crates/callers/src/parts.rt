@@ -1,13 +1,14 @@
 //! Callers whose digits or bytes come in two parts, proved.
 
-ghost use Rattle.std.specs.Prelude.{◌≡◌, ◌+◌, ◌*◌, ◌++◌, ℕ, List, length, IfOk};
-ghost use Rattle.hex_core.specs.declared.digit.CheckCase.TheVariants as policy;
-ghost use Rattle.hex_core.specs.Text.{Spells, lowercase, text, with_front};
+ghost use Rattle.std.specs.Prelude.{◌≡◌, ◌*◌, ◌++◌, length, IfOk};
+ghost use Rattle.hex_core.specs.Text.{lowercase, text, with_front};
+ghost use Rattle.callers.specs.Parts.{DecodesParts};
 
 use faster_hex::stream::Decoder;
 use faster_hex::{CheckCase, Error, hex_encode_into};
 use hex_core::laws::{
-    a_text_is_ascii_and_twice_as_long, the_text_of_a_joined_list_is_the_texts_joined,
+    a_text_is_ascii_and_twice_as_long, the_first_invalid_byte_of_a_joined_source,
+    the_text_of_a_joined_list_is_the_texts_joined,
 };
 
 /// Decodes digits that come in two parts, of which the first may end within a pair, into the front of
@@ -19,10 +20,9 @@ use hex_core::laws::{
 /// assert_eq!(rt; buffer, [0, 0xab, 0xcd, 0xa5]);
 /// ```
 pub fn decode_parts(first: &[u8], second: &[u8], buffer: &mut [u8]) -> Result<usize, Error>
-    ensures { IfOk result (λ n. (bytes : List ℕ) × (n ≡ length bytes)
-        × Spells policy.None (first.now ++ second.now) bytes
-        × (buffer.new ≡ with_front buffer.old bytes)) }
+    ensures { DecodesParts first.now second.now buffer.old buffer.new result }
 {
+    the_first_invalid_byte_of_a_joined_source();
     let mut decoder = Decoder::new(CheckCase::None);
     let front = decoder.feed(first, buffer)?;
     let back = decoder.feed(second, &mut buffer[front..])?;

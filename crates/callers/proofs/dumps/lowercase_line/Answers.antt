@@ -27,14 +27,8 @@ rewritten c =
     let read = c.reading_inverts_grouping.ensures group lowercase bytes (c.a_text_spells_one_list.ensures.bytes policy.None _ bytes w.1.spelled) in
     let size : length (grouped group lowercase bytes) ≡ length c.args.line.now = read.1.long ∙ sym w.1.long in
     let answer = whole c.write_line.result c.args.line.now c.write_line.new.line (grouped group lowercase bytes) size
-    (rw (front, shown) at c.write_line.ensures.fits) (rw (front, shown) at c.write_line.ensures.written) in
+    (rw (front, shown) at c.write_line.ensures.fits).1 (rw (front, shown) at c.write_line.ensures.written) in
     (c.is_ok.ensures.value ∙ answer.0, answer.1)
 
-pub returns-clause-read : goal.returns-clause-read
-returns-clause-read c = (λ done. c.in-Ok.ensures.0, λ none. (rewritten c).0)
-
-pub returns-clause-written : goal.returns-clause-written
-returns-clause-written c = let all = rewritten c in rw all.0 (c.in-Ok.ensures.1.0, c.in-Ok.ensures.1.1, all.1)
-
-pub returns-clause-unchanged : goal.returns-clause-unchanged
-returns-clause-unchanged c = rw (rewritten c).0 tt
+pub returns : goal.returns
+returns c = let all = rewritten c in rw all.0 (c.in-Ok.ensures.0, (c.in-Ok.ensures.1.0, c.in-Ok.ensures.1.1, all.1))

@@ -6,8 +6,12 @@ use Rattle.hex_lists.specs.ListLaws.{SameEntry}
 use Rattle.callers.proofs.judged.entry_count.Goals as goal
 
 pub returns : goal.returns
-returns c = λ entries all.
-    let read = c.in_ok-entries.entries in
-    let same = c.a_source_lists_one_list.ensures 32 policy.None c.args.src.now entries read.items all c.in_ok-entries.ensures in
-    let count = length_all_zip SameEntry entries read.items same in
-    omega (arith, count, read.ok.0, c.len.ensures)
+returns c =
+    let read = c.in_ok-entries.entries in record {
+      entries = read.items;
+      listed = c.in_ok-entries.ensures;
+      counted = λ others all.
+          let same = c.a_source_lists_one_list.ensures 32 policy.None c.args.src.now others read.items all c.in_ok-entries.ensures in
+          let count = length_all_zip SameEntry others read.items same in
+          omega (arith, count, read.ok.0, c.len.ensures);
+    }
