@@ -1,5 +1,5 @@
 -- The text of the second part stands behind that of the first.
-use Rattle.std.proofs.Common.{arith, ◌≡◌, ◌∙◌, ◌++◌, ◌-◌, ◌*◌, ℕ, List, length, length-append, length-drop, take, drop, ap, sym}
+use Rattle.std.proofs.Common.{arith, ◌≡◌, ◌∙◌, ◌-◌, ◌*◌, ℕ, List, length, length-append, length-drop, take, drop, ap, sym}
 use Rattle.std.proofs.lemmas.List.{length-take-le}
 use Rattle.hex_core.specs.Text.{lowercase, text, with_front}
 use Rattle.callers.proofs.PartsLemmas.{front-fits, parts-written}
