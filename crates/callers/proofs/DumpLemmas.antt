@@ -51,12 +51,15 @@ count-lines : (bytes : List ℕ) → length (pieces 16 bytes) ≡ piece_count 16
 count-lines bytes = length-map-range_with_len (line_bytes bytes) 0 (piece_count 16 (length bytes))
 
 -- the next line, and those behind it
-next-line : (group : Group) (bytes : List ℕ) (i : ℕ) → i * 16 < length bytes → lines_left group bytes i ≡ dump_line group (line_bytes bytes i) ++ lines_left group bytes (i + 1)
+next-line : (group : Group) (bytes : List ℕ) (i : ℕ) → i * 16 < length bytes
+    → lines_left group bytes i ≡ dump_line group (line_bytes bytes i) ++ lines_left group bytes (i + 1)
 next-line group bytes i inside =
     let there : i < piece_count 16 (length bytes) = omega (arith, inside) in
-    let here : get_or (pieces 16 bytes) i [] ≡ line_bytes bytes i = get_or-map-range_with_len (line_bytes bytes) 0 (piece_count 16 (length bytes)) i i [] there (zero-add i) in
+    let here : get_or (pieces 16 bytes) i [] ≡ line_bytes bytes i = get_or-map-range_with_len (line_bytes bytes) 0 (piece_count 16 (length bytes)) i i
+    [] there (zero-add i) in
     let split : drop i (pieces 16 bytes) ≡ get_or (pieces 16 bytes) i [] ∷ drop (i + 1) (pieces 16 bytes) =
-    subst (λ k. drop i (pieces 16 bytes) ≡ get_or (pieces 16 bytes) i [] ∷ drop k (pieces 16 bytes)) (sym (add-one i)) (drop-cons (pieces 16 bytes) i [] (subst (λ n. i < n) (sym (count-lines bytes)) there)) in
+    subst (λ k. drop i (pieces 16 bytes) ≡ get_or (pieces 16 bytes) i [] ∷ drop k (pieces 16 bytes)) (sym (add-one i))
+    (drop-cons (pieces 16 bytes) i [] (subst (λ n. i < n) (sym (count-lines bytes)) there)) in
     ap (flat_map (dump_line group)) split ∙ ap (λ l. dump_line group l ++ lines_left group bytes (i + 1)) here
 
 -- no line is left behind all bytes
@@ -67,14 +70,16 @@ line-count : (bytes : List ℕ) (i : ℕ) → length (line_bytes bytes i) ≡ mi
 line-count bytes i = length-take 16 (drop (i * 16) bytes) ∙ ap (min 16) (length-drop (i * 16) bytes)
 
 -- the first so many letters of the lines that are left are the next line, by the length of a full one
-first-line : GroupedTextsAreLong → (group : Group) (bytes rest : List ℕ) (i full : ℕ) → i * 16 < length bytes → full ≡ grouped_len (piece_len group) 16 + 1 → rest ≡ lines_left group bytes i
+first-line : GroupedTextsAreLong → (group : Group) (bytes rest : List ℕ) (i full : ℕ) → i * 16 < length bytes
+    → full ≡ grouped_len (piece_len group) 16 + 1 → rest ≡ lines_left group bytes i
     → take (min full (length rest)) rest ≡ dump_line group (line_bytes bytes i)
 first-line law group bytes rest i full inside size is = by_cases (cases_lt (length bytes) (i * 16 + 16))
   where
     by_cases : (length bytes < i * 16 + 16) ⊎ (i * 16 + 16 ≤ length bytes) → take (min full (length rest)) rest ≡ dump_line group (line_bytes bytes i)
     by_cases (inl short) =
         let line = line_bytes bytes i in
-        let last : rest ≡ dump_line group line = is ∙ next-line group bytes i inside ∙ ap (λ l. dump_line group line ++ l) (last-line group bytes (i + 1) (omega (arith, short))) ∙ append-nil (dump_line group line) in
+        let last : rest ≡ dump_line group line = is ∙ next-line group bytes i inside ∙ ap (λ l. dump_line group line ++ l)
+        (last-line group bytes (i + 1) (omega (arith, short))) ∙ append-nil (dump_line group line) in
         let few : length line ≤ 16 = omega (arith, line-count bytes i) in
         let fewer = count-least (piece_len group) (length line) 16 group.is_group.0 few in
         let fits : length rest ≤ full = omega (arith, ap length last, line-long law group line, size, few, fewer) in
@@ -84,7 +89,8 @@ first-line law group bytes rest i full inside size is = by_cases (cases_lt (leng
         let next : rest ≡ dump_line group line ++ lines_left group bytes (i + 1) = is ∙ next-line group bytes i inside in
         let sixteen : length line ≡ 16 = omega (arith, line-count bytes i, whole) in
         let long : full ≡ length (dump_line group line) = size ∙ sym (line-long law group line ∙ ap (λ n. grouped_len (piece_len group) n + 1) sixteen) in
-        let all : min full (length rest) ≡ length (dump_line group line) = omega (arith, long, ap length next, length-append (dump_line group line) (lines_left group bytes (i + 1))) in
+        let all : min full (length rest) ≡ length (dump_line group line) = omega
+        (arith, long, ap length next, length-append (dump_line group line) (lines_left group bytes (i + 1))) in
         ap (λ n. take n rest) all ∙ ap (take (length (dump_line group line))) next ∙ take-append_seam (dump_line group line) (lines_left group bytes (i + 1))
 
 -- ---- how far a dump was read
@@ -101,7 +107,8 @@ pub none-shown : (group : Group) (bytes dump old : List ℕ) → dump ≡ dump_o
 none-shown group bytes dump old is = record { count = 0; left = is; place = omega arith; read = refl }
 
 -- a line is left where some of the dump is
-line-left : (group : Group) (bytes dump old new : List ℕ) (at total : ℕ) → at < length dump → (so_far : Shown group bytes dump old at total new) → so_far.count * 16 < length bytes
+line-left : (group : Group) (bytes dump old new : List ℕ) (at total : ℕ) → at < length dump → (so_far : Shown group bytes dump old at total new)
+    → so_far.count * 16 < length bytes
 line-left group bytes dump old new at total more so_far = by_cases (cases_lt (so_far.count * 16) (length bytes))
   where
     by_cases : (so_far.count * 16 < length bytes) ⊎ (length bytes ≤ so_far.count * 16) → so_far.count * 16 < length bytes
@@ -111,10 +118,12 @@ line-left group bytes dump old new at total more so_far = by_cases (cases_lt (so
         absurd (omega (arith, none, length-drop at dump, more))
 
 -- the next line is read
-pub line-read : GroupedTextsAreLong → (group : Group) (bytes dump old new rest line : List ℕ) (at total full : ℕ) (after : List ℕ) (result : Option ℕ) → AreBytes bytes → length bytes ≤ length old
+pub line-read : GroupedTextsAreLong → (group : Group) (bytes dump old new rest line : List ℕ) (at total full : ℕ) (after : List ℕ) (result : Option ℕ)
+    → AreBytes bytes → length bytes ≤ length old
     → length new ≡ length old → at < length dump → full ≡ grouped_len (piece_len group) 16 + 1 → rest ≡ drop at dump → line ≡ take (min full (length rest)) rest
     → Shown group bytes dump old at total new → ReadsShown (dump_line group) line (take (length new - total) (drop total new)) after result
-    → (count : ℕ) × (result ≡ Some count) × (length after ≡ length new - total → Shown group bytes dump old (at + length line) (total + count) (put_mid total (length new - total) new after))
+    → (count : ℕ) × (result ≡ Some count) × (length after ≡ length new - total
+    → Shown group bytes dump old (at + length line) (total + count) (put_mid total (length new - total) new after))
 line-read law group bytes dump old new rest line at total full after result are room same more size is cut so_far reads =
     let inside = line-left group bytes dump old new at total more so_far in
     let i : ℕ = so_far.count in
@@ -126,11 +135,15 @@ line-read law group bytes dump old new rest line at total full after result are 
     let fits : length piece ≤ length (take (length new - total) (drop total new)) = omega (arith, free, there, room, same, count) in
     let read = reads piece (All-take (λ b. b < 256) 16 (drop (i * 16) bytes) (All-drop (λ b. b < 256) (i * 16) bytes are)) shown fits in
     let left : drop (at + length line) dump ≡ lines_left group bytes (i + 1) =
-    sym (drop-drop (length line) at dump) ∙ ap (drop (length line)) (so_far.left ∙ next-line group bytes i inside) ∙ ap (λ l. drop (length l) (dump_line group piece ++ lines_left group bytes (i + 1))) shown ∙ drop-append_seam (dump_line group piece) (lines_left group bytes (i + 1)) in
+    sym (drop-drop (length line) at dump) ∙ ap (drop (length line)) (so_far.left ∙ next-line group bytes i inside) ∙ ap
+    (λ l. drop (length l) (dump_line group piece ++ lines_left group bytes (i + 1))) shown ∙ drop-append_seam (dump_line group piece)
+    (lines_left group bytes (i + 1)) in
     let place : total + length piece ≡ min ((i + 1) * 16) (length bytes) = omega (arith, there, count, inside) in
     let front : total ≡ length (take total bytes) = sym (length-take-le total bytes (omega (arith, there, inside))) in
     let both : take total bytes ++ piece ≡ take (total + length piece) bytes =
-    sym (take-add total (length piece) bytes ∙ ap (λ l. take total bytes ++ l) (ap (λ n. take (length piece) (drop n bytes)) there ∙ ap (λ n. take n (drop (i * 16) bytes)) (length-take 16 (drop (i * 16) bytes)) ∙ take_min 16 (drop (i * 16) bytes))) in (
+    sym (take-add total (length piece) bytes ∙ ap (λ l. take total bytes ++ l)
+    (ap (λ n. take (length piece) (drop n bytes)) there ∙ ap (λ n. take n (drop (i * 16) bytes)) (length-take 16 (drop (i * 16) bytes)) ∙ take_min 16
+    (drop (i * 16) bytes))) in (
       length piece,
       read.0,
       λ kept. record {
@@ -142,7 +155,8 @@ line-read law group bytes dump old new rest line at total full after result are 
     )
 
 -- all lines are read where nothing is left of the dump
-pub all-shown : (group : Group) (bytes dump old new : List ℕ) (at total : ℕ) → length dump ≤ at → Shown group bytes dump old at total new → (total ≡ length bytes) × (new ≡ with_front old bytes)
+pub all-shown : (group : Group) (bytes dump old new : List ℕ) (at total : ℕ) → length dump ≤ at → Shown group bytes dump old at total new
+    → (total ≡ length bytes) × (new ≡ with_front old bytes)
 all-shown group bytes dump old new at total end so_far = by_cases (cases_lt (so_far.count * 16) (length bytes))
   where
     by_cases : (so_far.count * 16 < length bytes) ⊎ (length bytes ≤ so_far.count * 16) → (total ≡ length bytes) × (new ≡ with_front old bytes)
@@ -150,7 +164,14 @@ all-shown group bytes dump old new at total end so_far = by_cases (cases_lt (so_
         let line = line_bytes bytes so_far.count in
         let none : length (drop at dump) ≡ 0 = omega (arith, length-drop at dump, end) in
         let some = ap length (so_far.left ∙ next-line group bytes so_far.count inside) in
-        absurd (omega (arith, none, some, length-append (dump_line group line) (lines_left group bytes (so_far.count + 1)), length-append (grouped group lowercase line) (10 ∷ [])))
+        absurd (omega (
+          arith,
+          none,
+          some,
+          length-append (dump_line group line) (lines_left group bytes (so_far.count + 1)),
+          length-append
+              (grouped group lowercase line) (10 ∷ []),
+        ))
     by_cases (inr behind) =
         let all : total ≡ length bytes = omega (arith, so_far.place, behind) in
         (all, so_far.read ∙ ap (with_front old) (take_all total bytes (omega (arith, all))))

@@ -35,7 +35,8 @@ pub parts-written : (old first second new rest : List ℕ) (front : ℕ) → fro
     → put_mid front (length new - front) new rest ≡ with_front old (first ++ second)
 parts-written old first second new rest front at same is size more =
     let fits = front-fits old new first same is in
-    let behind : drop front new ≡ drop (length first) old = ap (λ n. drop n new) at ∙ ap (drop (length first)) is ∙ drop-append_seam first (drop (length first) old) in
+    let behind : drop front new ≡ drop (length first) old = ap (λ n. drop n new) at ∙ ap (drop (length first)) is ∙ drop-append_seam first
+    (drop (length first) old) in
     let before : take front new ≡ first = ap (λ n. take n new) at ∙ ap (take (length first)) is ∙ take-append_seam first (drop (length first) old) in
     let whole : take (length new - front) (drop front new) ≡ drop (length first) old =
     take_all (length new - front) (drop front new) (omega (arith, length-drop front new)) ∙ behind in
@@ -75,10 +76,12 @@ valid-front law c first second none = by_first (first_invalid c first) refl
     by_first (Some f) is = let both : first_invalid c (first ++ second) ≡ Some f = rw is at (law c first second) in absurd (cc (both, none))
 
 -- and then no feed refuses it
-fed-unless : (c : CheckCase) (fed src : List ℕ) (room : ℕ) → length fed + length src < 2 ^ 64 → pairs_more (length fed) (length src) ≤ room → first_invalid c (fed ++ src) ≡ None → feed_refusal c fed src room ≡ None
+fed-unless : (c : CheckCase) (fed src : List ℕ) (room : ℕ) → length fed + length src < 2 ^ 64 → pairs_more (length fed) (length src) ≤ room
+    → first_invalid c (fed ++ src) ≡ None → feed_refusal c fed src room ≡ None
 fed-unless c fed src room few fits valid = grind (arith, nat_tests, few, fits, valid)
 
-pub first-refused : FirstInvalidOfJoined → (c : CheckCase) (first second : List ℕ) (room : ℕ) (e : Error) → length first < 2 ^ 64 → feed_refusal c [] first room ≡ Some e
+pub first-refused : FirstInvalidOfJoined → (c : CheckCase) (first second : List ℕ) (room : ℕ) (e : Error) → length first < 2 ^ 64
+    → feed_refusal c [] first room ≡ Some e
     → decode_refusal c (first ++ second) room ≢ None
 first-refused law c first second room e few refused none =
     let whole = fits-unless c (first ++ second) room none in
@@ -86,7 +89,8 @@ first-refused law c first second room e few refused none =
     let taken = fed-unless c [] first room (omega (arith, few)) fits (valid-front law c first second (valid-unless c (first ++ second) room none)) in
     absurd (cc (taken, refused))
 
-pub second-refused : (c : CheckCase) (first second : List ℕ) (room front rest : ℕ) (e : Error) → length first + length second < 2 ^ 64 → front ≤ length first / 2 → rest ≡ room - front
+pub second-refused : (c : CheckCase) (first second : List ℕ) (room front rest : ℕ) (e : Error) → length first + length second < 2 ^ 64
+    → front ≤ length first / 2 → rest ≡ room - front
     → feed_refusal c first second rest ≡ Some e → decode_refusal c (first ++ second) room ≢ None
 second-refused c first second room front rest e few part is refused none =
     let whole = fits-unless c (first ++ second) room none in
@@ -98,6 +102,7 @@ pub end-refused : (c : CheckCase) (s : List ℕ) (room : ℕ) (e : Error) → so
 end-refused c s room e refused none = grind (arith, nat_tests, refused, none)
 
 -- a refusal that is handed on
-pub refused-parts : (first second old new : List ℕ) (result : Result ℕ Error) → IsErr result → decode_refusal policy.None (first ++ second) (length old) ≢ None → DecodesParts first second old new result
+pub refused-parts : (first second old new : List ℕ) (result : Result ℕ Error) → IsErr result
+    → decode_refusal policy.None (first ++ second) (length old) ≢ None → DecodesParts first second old new result
 refused-parts first second old new (Ok n) err both = absurd (cc err)
 refused-parts first second old new (Err e) err both = both

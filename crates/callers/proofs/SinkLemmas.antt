@@ -13,10 +13,12 @@ pub record IsEmpty (start : SinkState) (free : List ℕ) : Type 0 where
   pub left : start.free ≡ Some free
 
 -- what it takes stands over the old bytes
-pub taken-over : (old : List ℕ) (start : SinkState) (sink : SliceSink) (bytes : List ℕ) → IsEmpty start old → Takes start (slice_state sink) bytes → sink.buf.now ≡ with_front old bytes
+pub taken-over : (old : List ℕ) (start : SinkState) (sink : SliceSink) (bytes : List ℕ) → IsEmpty start old → Takes start (slice_state sink) bytes
+    → sink.buf.now ≡ with_front old bytes
 taken-over old start sink bytes empty takes =
     let front : take sink.used sink.buf.now ≡ bytes = subst (λ t. Appends t (Some (take sink.used sink.buf.now)) bytes) empty.taken takes.0 in
-    let left : Some (drop sink.used sink.buf.now) ≡ Some (drop (length bytes) old) = subst (λ f. Some (drop sink.used sink.buf.now) ≡ option_map (drop (length bytes)) f) empty.left takes.2.0 in
+    let left : Some (drop sink.used sink.buf.now) ≡ Some (drop (length bytes) old) = subst
+    (λ f. Some (drop sink.used sink.buf.now) ≡ option_map (drop (length bytes)) f) empty.left takes.2.0 in
     let rest : drop sink.used sink.buf.now ≡ drop (length bytes) old = cc left in
     sym (take-append-drop sink.used sink.buf.now) ∙ ap (λ l. l ++ drop sink.used sink.buf.now) front ∙ ap (λ l. bytes ++ l) rest
 

@@ -18,9 +18,11 @@ StandsOver digits old new = Wrote policy.None digits (λ bytes. new ≡ with_fro
 -- as for the first invalid one of them all, what those before the last chunk spell; and they spell more
 -- than fits
 abbrev pub Receives : List ℕ → Option (List ℕ) → List ℕ → List ℕ → Result ℕ StreamFault → Type 0
-Receives digits left old new (Ok count) = (bytes : List ℕ) × Spells policy.None digits bytes × (count ≡ length bytes) × (new ≡ with_front old bytes) × IsAtEnd left
+Receives digits left old new (Ok count) = (bytes : List ℕ) × Spells policy.None digits bytes × (count ≡ length bytes) × (new ≡ with_front old bytes)
+    × IsAtEnd left
 Receives digits left old new (Err Read) = StandsOver digits old new
-Receives digits left old new (Err (Codec e)) = RefusedFor policy.None digits left e × ((fed : List ℕ) × (chunk : List ℕ) × (digits ≡ fed ++ chunk) × StandsOver fed old new)
+Receives digits left old new (Err (Codec e)) = RefusedFor policy.None digits left e
+    × ((fed : List ℕ) × (chunk : List ℕ) × (digits ≡ fed ++ chunk) × StandsOver fed old new)
 Receives digits left old new (Err (Write _)) = length old < length digits / 2
 
 -- some digits were read, and they were decoded
@@ -28,7 +30,7 @@ abbrev pub ReadsDigits : Option (List ℕ) → Option (List ℕ) → List ℕ �
 ReadsDigits before left old new result = (digits : List ℕ) × Consumes before left digits × Receives digits left old new result
 
 -- what the whole pairs of some digits spell stands over the old bytes; or the refusal, and these stay
-abbrev pub DecodesWhole : List ℕ → List ℕ → List ℕ → Result ℕ Error → Type 0
-DecodesWhole digits old new result = MatchResult result
+abbrev pub DecodesSoFar : List ℕ → List ℕ → List ℕ → Result ℕ Error → Type 0
+DecodesSoFar digits old new result = MatchResult result
     (λ n. (bytes : List ℕ) × (n ≡ length bytes) × Spells policy.None (take (2 * (length digits / 2)) digits) bytes × (new ≡ with_front old bytes))
     (λ e. (feed_refusal policy.None [] digits (length old) ≡ Some e) × (new ≡ old))

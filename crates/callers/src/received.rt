@@ -1,6 +1,6 @@
 //! Callers whose digits come bit by bit into one buffer, each proved.
 
-ghost use Rattle.callers.specs.Received.{DecodesWhole, ReadsDigits};
+ghost use Rattle.callers.specs.Received.{DecodesSoFar, ReadsDigits};
 
 use faster_hex::stream::{Decoder, StreamFault, decode_stream};
 use faster_hex::{CheckCase, Error, SliceSink};
@@ -35,7 +35,7 @@ pub fn read_digits<R: Read>(input: &mut R, buffer: &mut [u8]) -> Result<usize, S
 /// assert_eq!(rt; &buffer, b"he..");
 /// ```
 pub fn decode_so_far(digits: &[u8], buffer: &mut [u8]) -> Result<usize, Error>
-    ensures { DecodesWhole digits.now buffer.old buffer.new result }
+    ensures { DecodesSoFar digits.now buffer.old buffer.new result }
 {
     any_cutting_is_decoded_as_one_call();
     let mut decoder = Decoder::new(CheckCase::None);

@@ -14,8 +14,10 @@ returns-in_err-total c = λ bytes are is fits.
     let dump = c.args.dump.now in let at = c.lines.at in
     let rest = take (length dump - at) (drop at dump) in
     let whole = take_all (length dump - at) (drop at dump) (omega (arith, length-drop at dump)) in
-    let read = line-read c.a_grouped_text_is_digits_and_separators.ensures.long c.args.group bytes dump c.args.buffer.now c.lines.buffer rest (take c.min.result rest) at c.lines.total c.line_len-full.result c.read_line.new.buffer c.read_line.result are fits
-    c.lines.invariant.1 c.lines-test.true c.line_len-full.ensures whole (ap (λ n. take n rest) c.min.ensures) (c.lines.invariant.2 bytes are is fits) c.read_line.ensures.read in
+    let read = line-read c.a_grouped_text_is_digits_and_separators.ensures.long c.args.group bytes dump c.args.buffer.now c.lines.buffer rest
+    (take c.min.result rest) at c.lines.total c.line_len-full.result c.read_line.new.buffer c.read_line.result are fits
+    c.lines.invariant.1 c.lines-test.true c.line_len-full.ensures whole (ap (λ n. take n rest) c.min.ensures) (c.lines.invariant.2 bytes are is fits)
+    c.read_line.ensures.read in
     absurd (cc (read.1, c.in_err-total.was))
 
 pub lines-preserved : goal.lines-preserved
@@ -30,13 +32,17 @@ lines-preserved c =
       omega (arith, long, most, c.lines.invariant.0),
       long ∙ c.lines.invariant.1,
       λ bytes are is fits.
-          let read = line-read c.a_grouped_text_is_digits_and_separators.ensures.long c.args.group bytes dump c.args.buffer.now buffer rest (take c.min.result rest) at total c.line_len-full.result c.read_line.new.buffer c.read_line.result are fits
-          c.lines.invariant.1 c.lines-test.true c.line_len-full.ensures whole (ap (λ n. take n rest) c.min.ensures) (c.lines.invariant.2 bytes are is fits) c.read_line.ensures.read in
+          let read = line-read c.a_grouped_text_is_digits_and_separators.ensures.long c.args.group bytes dump c.args.buffer.now buffer rest
+          (take c.min.result rest) at total c.line_len-full.result c.read_line.new.buffer c.read_line.result are fits
+          c.lines.invariant.1 c.lines-test.true c.line_len-full.ensures whole (ap (λ n. take n rest) c.min.ensures)
+          (c.lines.invariant.2 bytes are is fits) c.read_line.ensures.read in
           let same : read.0 ≡ c.in_ok-total.field-0 = cc (read.1, c.in_ok-total.was) in
-          subst (λ n. Shown c.args.group bytes dump c.args.buffer.now (at + length (take c.min.result rest)) (total + n) (put_mid total (length buffer - total) buffer c.read_line.new.buffer)) same (read.2 kept),
+          subst (λ n. Shown c.args.group bytes dump c.args.buffer.now (at + length (take c.min.result rest)) (total + n)
+          (put_mid total (length buffer - total) buffer c.read_line.new.buffer)) same (read.2 kept),
     )
 
 pub returns : goal.returns
 returns c = λ bytes are is fits.
-    let all = all-shown c.args.group bytes c.args.dump.now c.args.buffer.now c.lines.buffer c.lines.at c.lines.total c.lines-test.false (c.lines.invariant.2 bytes are is fits) in
+    let all = all-shown c.args.group bytes c.args.dump.now c.args.buffer.now c.lines.buffer c.lines.at c.lines.total c.lines-test.false
+    (c.lines.invariant.2 bytes are is fits) in
     (ap (λ n. Some n) all.0, all.1)

@@ -9,5 +9,6 @@ abbrev pub decreases-lines : goal.decreases-lines
 decreases-lines l = length l.dump - l.at
 
 abbrev pub invariant-lines : goal.invariant-lines
-invariant-lines l = (l.total ≤ length l.buffer) × (length l.buffer ≡ length l.initial.buffer) × ((bytes : List ℕ) → AreBytes bytes → l.dump ≡ dump_of l.group bytes → length bytes ≤ length l.initial.buffer
+invariant-lines l = (l.total ≤ length l.buffer) × (length l.buffer ≡ length l.initial.buffer) × ((bytes : List ℕ) → AreBytes bytes
+    → l.dump ≡ dump_of l.group bytes → length bytes ≤ length l.initial.buffer
     → Shown l.group bytes l.dump l.initial.buffer l.at l.total l.buffer)

@@ -12,7 +12,8 @@ use Rattle.hex_codec.specs.GroupCalls.{Reads}
 use Rattle.hex_codec.specs.GroupLaws.{GroupSpellsOneList, ReadingInvertsGrouping, ReadsWhatGroupSpells}
 use Rattle.callers.proofs.dump.read_line.Goals as goal
 
-text-read : ReadingInvertsGrouping → ReadsWhatGroupSpells → GroupSpellsOneList → (group : Group) (s old new bytes : List ℕ) (r : Result ℕ GroupFault) → Reads policy.None group s old new r
+text-read : ReadingInvertsGrouping → ReadsWhatGroupSpells → GroupSpellsOneList → (group : Group) (s old new bytes : List ℕ) (r : Result ℕ GroupFault)
+    → Reads policy.None group s old new r
     → AreBytes bytes → s ≡ grouped group lowercase bytes → length bytes ≤ length old → (result_ok r ≡ Some (length bytes)) × (new ≡ with_front old bytes)
 text-read inverts some one group s old new bytes (Ok n) reads are is fits =
     let spelled = rw (← is) at (inverts group lowercase bytes are).1 in
@@ -32,6 +33,9 @@ front-same xs ys x y is =
 pub returns-clause-read : goal.returns-clause-read
 returns-clause-read c = λ bytes are is fits.
     let group = c.args.group in let text = c.in_ok-last.text.now in
-    let same : text ≡ grouped group lowercase bytes = front-same text (grouped group lowercase bytes) c.in_ok-last.last.now 10 (sym c.in_ok-last.ensures.cases.0 ∙ is) in
-    let read = text-read c.reading_inverts_grouping.ensures c.a_grouped_text_is_read_where_it_spells_a_list.ensures.some c.a_grouped_text_is_read_where_it_spells_a_list.ensures.one group text c.args.buffer.now c.read_into.new.dst bytes c.read_into.result c.read_into.ensures are same fits in
+    let same : text ≡ grouped group lowercase bytes = front-same text (grouped group lowercase bytes) c.in_ok-last.last.now 10
+    (sym c.in_ok-last.ensures.cases.0 ∙ is) in
+    let read = text-read c.reading_inverts_grouping.ensures c.a_grouped_text_is_read_where_it_spells_a_list.ensures.some
+    c.a_grouped_text_is_read_where_it_spells_a_list.ensures.one group text c.args.buffer.now c.read_into.new.dst bytes c.read_into.result
+    c.read_into.ensures are same fits in
     (c.ok.ensures.value ∙ read.0, read.1)

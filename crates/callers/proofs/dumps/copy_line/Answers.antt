@@ -14,6 +14,10 @@ returns c =
     let same : grouped group lowercase shown ≡ from = rw front (c.grouping_inverts_strict_reading.ensures group lowercase from w.0 w.1) in
     let long : length from ≡ grouped_len (piece_len group) (length shown) = rw front w.1.long in
     let fits = c.write_group.ensures.fits in (
-      (λ done. (c.in-Ok.ensures.0, subst (λ n. n ≤ length c.args.to.now) (sym long) (fits.0 done)), λ can. fits.1 (subst (λ n. n ≤ length c.args.to.now) long can.1)),
+      (
+        λ done. (c.in-Ok.ensures.0, subst (λ n. n ≤ length c.args.to.now) (sym long) (fits.0 done)),
+        λ can. fits.1
+            (subst (λ n. n ≤ length c.args.to.now) long can.1),
+      ),
       rw same at c.write_group.ensures.written,
     )

@@ -16,5 +16,6 @@ returns c =
       one.0 ++ two.0,
       omega (arith, front, back, length-append one.0 two.0),
       c.a_joined_source_spells_the_joined_list.ensures.joined policy.None c.args.key.now c.args.value.now one.0 two.0 one.1 two.1,
-      parts-written c.args.buffer.now one.0 two.0 first c.hex_decode_into-2.new.dst c.in_ok-front.front front c.hex_decode_into.auto.dst one.2 (omega (arith, c.hex_decode_into-2.auto.dst, size)) two.2,
+      parts-written c.args.buffer.now one.0 two.0 first c.hex_decode_into-2.new.dst c.in_ok-front.front front c.hex_decode_into.auto.dst one.2
+          (omega (arith, c.hex_decode_into-2.auto.dst, size)) two.2,
     )

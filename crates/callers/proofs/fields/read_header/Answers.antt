@@ -10,7 +10,8 @@ use Rattle.callers.proofs.fields.read_header.Goals as goal
 front : PartsSpellParts → (digits bytes : List ℕ) → length bytes ≡ 20 → Spells policy.None digits bytes → Spells policy.None (take 8 digits) (take 4 bytes)
 front law digits bytes twenty spelled =
     let size : length (take 8 digits) ≡ 8 = length-take-le 8 digits (omega (arith, twenty, spelled.twice)) in
-    let parts = law policy.None (take 8 digits) (drop 8 digits) bytes (ap (λ n. n % 2) size) (subst (λ s. Spells policy.None s bytes) (sym (take-append-drop 8 digits)) spelled) in
+    let parts = law policy.None (take 8 digits) (drop 8 digits) bytes (ap (λ n. n % 2) size)
+    (subst (λ s. Spells policy.None s bytes) (sym (take-append-drop 8 digits)) spelled) in
     subst (λ n. Spells policy.None (take 8 digits) (take n bytes)) (ap (λ n. n / 2) size) parts.0
 
 pub returns : goal.returns
@@ -18,5 +19,6 @@ returns c =
     let bytes = c.in_ok-bytes.bytes in
     let none = c.in_ok-bytes.ensures.0 in
     let half : length c.args.digits.now / 2 ≡ 20 = grind (arith, nat_tests, none) in
-    let read = front c.a_joined_source_spells_the_joined_list.ensures.parts c.args.digits.now bytes (omega (arith, half, c.in_ok-bytes.ensures.1.twice)) c.in_ok-bytes.ensures.1 in
+    let read = front c.a_joined_source_spells_the_joined_list.ensures.parts c.args.digits.now bytes
+    (omega (arith, half, c.in_ok-bytes.ensures.1.twice)) c.in_ok-bytes.ensures.1 in
     (none, rw c.copy_from_slice.ensures.after read)

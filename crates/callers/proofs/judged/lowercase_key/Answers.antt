@@ -17,10 +17,14 @@ accepted bytes old eight sixteen e refused =
     cc
 
 -- and then it is the line
-whole : (r : Result ℕ Error) (bytes old new wanted : List ℕ) → length bytes ≡ 8 → length old ≡ 16 → length (text lowercase bytes) ≡ length old → text lowercase bytes ≡ wanted
+whole : (r : Result ℕ Error) (bytes old new wanted : List ℕ) → length bytes ≡ 8 → length old ≡ 16 → length (text lowercase bytes) ≡ length old
+    → text lowercase bytes ≡ wanted
     → Encodes lowercase bytes old new r → (is_ok r ≡ true) × (new ≡ wanted)
-whole (Ok n) bytes old new wanted eight sixteen same is h =
-    (refl, h.2 ∙ ap (λ l. text lowercase bytes ++ l) (drop_all (length (text lowercase bytes)) old (omega (arith, same))) ∙ append-nil (text lowercase bytes) ∙ is)
+whole (Ok n) bytes old new wanted eight sixteen same is h = (
+  refl,
+  h.2 ∙ ap (λ l. text lowercase bytes ++ l) (drop_all (length (text lowercase bytes)) old (omega (arith, same))) ∙ append-nil
+      (text lowercase bytes) ∙ is,
+)
 whole (Err e) bytes old new wanted eight sixteen same is h = absurd (accepted bytes old eight sixteen e h.0)
 
 pub returns : goal.returns
@@ -31,6 +35,7 @@ returns c =
     let is = c.either_case_is_the_lowercased_source.ensures.text key bytes c.in-Ok.ensures.1 in
     let half : length key / 2 ≡ 8 = grind (arith, nat_tests, none) in
     let eight : length bytes ≡ 8 = omega (arith, half, c.in-Ok.ensures.1.twice) in
-    let size : length (text lowercase bytes) ≡ length c.args.line.now = omega (arith, ap length is, length-map key to_ascii_lowercase, half, c.in-Ok.ensures.1.twice, c.told-line) in
+    let size : length (text lowercase bytes) ≡ length c.args.line.now = omega
+    (arith, ap length is, length-map key to_ascii_lowercase, half, c.in-Ok.ensures.1.twice, c.told-line) in
     let all = whole c.hex_encode_into.result bytes c.args.line.now c.hex_encode_into.new.dst _ eight c.told-line size is c.hex_encode_into.ensures in
     rw (c.is_ok.ensures.value ∙ all.0) (none, all.1)

@@ -16,12 +16,15 @@ use Rattle.callers.proofs.received.read_digits.Goals as goal
 
 stands : (old : List ℕ) (start : SinkState) (sink : SliceSink) (digits : List ℕ) → IsEmpty start old → Wrote policy.None digits (Takes start (slice_state sink))
     → StandsOver digits old sink.buf.now
-stands old start sink digits empty wrote = record { bytes = wrote.bytes; waiting = wrote.waiting; spelled = wrote.spelled; put = taken-over old start sink wrote.bytes empty wrote.put }
+stands old start sink digits empty wrote = record
+    { bytes = wrote.bytes; waiting = wrote.waiting; spelled = wrote.spelled; put = taken-over old start sink wrote.bytes empty wrote.put }
 
 -- bytes that do not fit are those of more digits
-too_many : (old : List ℕ) (start end : SinkState) (digits bytes : List ℕ) (o : Option ℕ) → IsEmpty start old → SpellsBut policy.None digits bytes (option_to_list o) → Stops start end bytes
+too_many : (old : List ℕ) (start end : SinkState) (digits bytes : List ℕ) (o : Option ℕ) → IsEmpty start old
+    → SpellsBut policy.None digits bytes (option_to_list o) → Stops start end bytes
     → length old < length digits / 2
-too_many old start end digits bytes o empty but stops = omega (arith, stops-short old start end bytes empty stops, few-pairs policy.None digits bytes (option_to_list o) but)
+too_many old start end digits bytes o empty but stops = omega
+    (arith, stops-short old start end bytes empty stops, few-pairs policy.None digits bytes (option_to_list o) but)
 
 received : (old : List ℕ) (start : SinkState) (sink : SliceSink) (before left : Option (List ℕ)) (result : Result ℕ StreamFault) → IsEmpty start old
     → DecodesStream policy.None before left start (slice_state sink) result → ReadsDigits before left old sink.buf.now result
@@ -34,7 +37,8 @@ received old start sink before left (Err (Write fault)) empty (digits, consumed,
     (digits, consumed, too_many old start (slice_state sink) digits read.bytes read.waiting empty read.spelled read.put)
 
 -- the sink is lent the same buffer to the end
-same-loan : (start end : SinkState) (before left : Option (List ℕ)) (result : Result ℕ StreamFault) → DecodesStream policy.None before left start end result → end.loan ≡ start.loan
+same-loan : (start end : SinkState) (before left : Option (List ℕ)) (result : Result ℕ StreamFault)
+    → DecodesStream policy.None before left start end result → end.loan ≡ start.loan
 same-loan start end before left (Ok count) (digits, consumed, read) = read.3.2.1
 same-loan start end before left (Err Read) (digits, consumed, read) = read.put.2.1
 same-loan start end before left (Err (Codec e)) (digits, consumed, read) = read.0.wrote.put.2.1
@@ -47,4 +51,5 @@ returns g c =
     let fresh = c.new-sink.ensures.3 in
     let empty : IsEmpty start c.args.buffer.now = record { taken = ap (λ (s : SinkState). s.taken) fresh; left = ap (λ (s : SinkState). s.free) fresh } in
     let loan = same-loan start (slice_state sink) before left c.decode_stream.result c.decode_stream.ensures ∙ ap (λ (s : SinkState). s.loan) fresh in
-    subst (λ new. ReadsDigits before left c.args.buffer.now new c.decode_stream.result) (search (rules, loan)) (received c.args.buffer.now start sink before left c.decode_stream.result empty c.decode_stream.ensures)
+    subst (λ new. ReadsDigits before left c.args.buffer.now new c.decode_stream.result) (search (rules, loan))
+    (received c.args.buffer.now start sink before left c.decode_stream.result empty c.decode_stream.ensures)

@@ -1,23 +1,23 @@
 -- It asks the counts, and then refuses or answers what the inner allocator answers. Assumes `Logic`.
-use Rattle.std.proofs.Common.{◌≡◌, ℕ, ◌+◌, true, false, [], ◌∷◌, Ok, Err, refl, w64}
+use Rattle.std.proofs.Common.{◌≡◌, ℕ, ◌+◌, true, false, List, [], ◌∷◌, Ok, Err, refl, ap, w64}
 use Rattle.std.proofs.alloc.Calls.{Al, α, seen, Answer, answer_val, Answer-typed, Answer-Ok, Answer-err, Takes, at_takes, Answered, Takes-goes, Takes-gives, answers}
 use Rattle.std.proofs.raw_atomic.Walks.{proved}
 use Rattle.std.proofs.VecSteps.Shapes.{after}
 use mathlib.Core.Bool.{Bool}
 use mir.Syntax.{Args, a_type, dnil, dcons}
-use mir.Val.{vbool, vint}
+use mir.Val.{Val, vint, vptr}
 use mir.MapTy.{inst_fn}
 use base.Logic.{id⊢}
-use base.Fml.{ftrue, flft}
+use base.Fml.{ftrue, fsep, flft}
 use prog.Memory.{size, align, capped, up}
 use contract.BorrowLft.{◌⊑◌, ⊑_trans}
 use contract.Monad.{fact}
 use contract.Running.{tables}
-use types.Kit.{‵, raw, ◌⊛◌, some, later, given, at_ret, Sq, prop, ◌$◌, ◌∵◌, !, qed, move, keep, use0, use1, use2, split, join, learn, pick, fsplit, fjoin, suffices, await, done}
+use types.Kit.{‵, raw, ◌⊛◌, some, later, at_ret, Sq, prop, ◌$◌, ◌∵◌, !, qed, move, keep, drop, use0, use1, use2, split, join, pick, fsplit, fjoin, feq_i, feq_l, suffices, await, done}
 use types.Part.{agg}
 use types.Run.{lit, stop, fld, addr, un, no_more, and_then, first, branches, skips, exec, returns, returns_within, enter}
 use types.ByLocal.{alloc_all, pass_all, free_all, look_at, get, through, sets, lands_as, env}
-use denote.Builtin.{usize, RefOf}
+use denote.Builtin.{bool, usize, RefOf}
 use denote.Exit.{yes}
 use denote.Opens.{unhide}
 use denote.Param.{bounded, param}
@@ -26,13 +26,14 @@ use denote.RattleType.{owns}
 use denote.RawPtr.{block_ptr}
 use denote.Ref.{shr_vals}
 use denote.Signature.{plain, types_at}
-use denote.Steps.{heard, nothing}
+use denote.Steps.{heard, nothing, only}
 use denote.Triple.Call.{calls_at}
+use denote.Triple.Spec.{triple_of}
 use denote.Triple.Table.{framed}
 use denote.Triple.Walked.{Stays, stay_dropped, walk_of, ends_at, Goes-dropped}
-use Rattle.refusing_allocator.proofs.Counting.{Asks, at_asks, Asks-goes, Asks-gives}
 use Rattle.refusing_allocator.proofs.grants.Met as grants
 use Rattle.refusing_allocator.specs.contracts.Refusing as refusing
+use Rattle.refusing_allocator.specs.contracts.grants as asked
 use Rattle.refusing_allocator.specs.contracts.RefusingAllocator.allocate as F
 use Rattle.refusing_allocator.proofs.RefusingAllocator.allocate.Statement.{statement}
 use Rattle.refusing_allocator.proofs.RefusingAllocator.allocate.Code as code
@@ -69,11 +70,16 @@ allocate_spec 𝓤 𝓛 𝓜 𝓡 wired B L g d d' met _ =
     -- [the `&` to `counts`; the token of the parameter's lifetime; the `&` to `inner`; the other token]
     enter ! _ _ _ _ _ $ alloc_all ! (λ l. pass_all ! refl ((tt, tt), ((tt, record { fits = fn' }), ((tt, record { fits = fa }), tt))) $
     sets ! (addr ! (through ! refl (fld ! refl (stop !)))) refl (tt, tt) $
-    let Q = Asks 𝓛 𝓜.mem 𝓡.returns in let x : Q.Ghost = at_asks 𝓛 𝓜.mem 𝓡.returns κ q p' r.now.counts in
-    use2 𝓛 (raw (Q.pre x)) (Asks-goes 𝓛 𝓜.mem 𝓡.returns κ q p' r.now.counts) $
+    -- the counts go to `grants` with the token, which comes back beside a test
+    let Q = triple_of 𝓛 asked.signature (asked.spec 𝓛 𝓜.mem 𝓡.returns) in let counts = vptr p'.0 p'.1 in
+    let x : Q.Ghost = (((κ, tt), (q, tt), tt, (record { ref_ptr = p'; now = r.now.counts }, tt), (counts ∷ [], tt)), tt) in
+    feq_i ! (List Val) (counts ∷ []) (counts ∷ []) refl $ fjoin ! $ nothing ! $ move ! (1 ∷ 0 ∷ []) $ fjoin ! $
+    nothing ! $ move ! (2 ∷ 0 ∷ []) $ join ! $ join ! $ nothing ! $ move ! (1 ∷ 0 ∷ []) $ use2 𝓛 (raw (Q.pre x)) (id⊢ 𝓤 _) $
     calls_at ! (framed 𝓤 H 𝓜 𝓣) Q (grants.met 𝓤 𝓛 𝓜 𝓡 (code.calls-refusing_allocator::grants 𝓡.env wired)) x (and_then ! (get ! refl) (no_more !)) (λ u.
-    use1 𝓛 (later (some (λ (t : Bool). given (u ≡ vbool t) (‵ (flft κ q))))) (Asks-gives 𝓛 𝓜.mem 𝓡.returns κ q p' r.now.counts u) $ await ! tt $ pick ! (λ t. learn ! (λ is.
-    lands_as ! is refl (tt, tt) $ sets ! (un ! (get ! refl) tt) refl (tt, tt) $
+    use1 𝓛 (later (some (λ (t : Bool). ((‵ (flft κ q) ⊛ ‵ ftrue) ⊛ ‵ (bool.own_val t (u ∷ [])))
+    ⊛ some (λ (ws : Unit {0} × Unit {0}). ‵ (fsep ftrue ftrue) ⊛ ‵ ftrue)))) (id⊢ 𝓤 _) $ await ! tt $ pick ! (λ t.
+    split ! $ move ! (1 ∷ []) $ drop ! $ split ! $ move ! (1 ∷ []) $ feq_l ! (λ is. split ! $ move ! (1 ∷ []) $ drop ! $
+    lands_as ! (ap only is) refl (tt, tt) $ sets ! (un ! (get ! refl) tt) refl (tt, tt) $
     first ! $ branches ! (get ! refl)
     (λ refused. sets ! (agg ! (no_more !)) refl (tt, tt) $
     sets ! (agg ! (and_then ! (lit ! tt) (and_then ! (get ! refl) (no_more !)))) refl (Answer-typed false 0 0) $
