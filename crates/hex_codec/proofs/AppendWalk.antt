@@ -58,7 +58,8 @@ function σ ρ appends upper = record {
       (seq (call appends (copy (place 3 []) ∷ copy (place 1 []) ∷ passed upper ∷ []) (place 0 [])) return);
 }
 
-module _ {M : Type 1} (𝓤 : Ura M) (𝓛 : Logic 𝓤) (𝓜 : Model 𝓤 𝓛.H) (𝓡 : Running 𝓤 𝓛.H 𝓜) (A : RattleType) (g : Ghosts A.Denot) (d dd : Dict) where
+module _ {M : Type 1} (𝓤 : Ura M) (𝓛 : Logic 𝓤) (𝓜 : Model 𝓤 𝓛.H) (𝓡 : Running 𝓤 𝓛.H 𝓜)
+    (A : RattleType) (g : Ghosts A.Denot) (d dd : Dict) where
   abbrev Owner : RattleType
   Owner = S.the_row (param 0 A) g
 

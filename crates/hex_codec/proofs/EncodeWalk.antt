@@ -31,7 +31,8 @@ abbrev pub passed : Bool → Operand
 passed true = opd_true
 passed false = opd_false
 
-pub choice : {M : Type 1} {𝓤 : Ura M} {𝓛 : Logic 𝓤} {K : Type 0} {Γ : List (Item 𝓤)} {E : Env 𝓤 𝓛.H} → K → (upper : Bool) → Opd K 𝓛 Γ E (passed upper) (vbool upper)
+pub choice : {M : Type 1} {𝓤 : Ura M} {𝓛 : Logic 𝓤} {K : Type 0} {Γ : List (Item 𝓤)} {E : Env 𝓤 𝓛.H}
+    → K → (upper : Bool) → Opd K 𝓛 Γ E (passed upper) (vbool upper)
 choice t true = true_lit t
 choice t false = false_lit t
 
@@ -64,7 +65,8 @@ clauses {𝓤 = 𝓤} 𝓛 upper κs a = record {
 }
 
 pub hands_on : {M : Type 1} (𝓤 : Ura M) (𝓛 : Logic 𝓤) (𝓜 : Model 𝓤 𝓛.H) (𝓡 : Running 𝓤 𝓛.H 𝓜) (upper : Bool) (k : Callee)
-    → Closed 𝓤 𝓛.H (tables 𝓤 𝓛.H 𝓜 𝓡 𝓡.env).C (tables 𝓤 𝓛.H 𝓜 𝓡 𝓡.env).Λ k (function upper) → Wired 𝓡.env p_symbol.code → Wired 𝓡.env h_symbol.code
+    → Closed 𝓤 𝓛.H (tables 𝓤 𝓛.H 𝓜 𝓡 𝓡.env).C (tables 𝓤 𝓛.H 𝓜 𝓡 𝓡.env).Λ k (function upper)
+    → Wired 𝓡.env p_symbol.code → Wired 𝓡.env h_symbol.code
     → Meets 𝓛 f.signature ((tables 𝓤 𝓛.H 𝓜 𝓡 𝓡.env).C k) (closing 𝓛 f.ended (clauses 𝓛 upper))
 hands_on 𝓤 𝓛 𝓜 𝓡 upper k closed plain encode =
     proved 𝓛 f.ended stayed (clauses 𝓛 upper) 𝓜 𝓡

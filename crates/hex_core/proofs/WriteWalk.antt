@@ -47,7 +47,8 @@ abbrev address_local : Local
 address_local = local (ty_ref erased mut (ty_int w8)) value_local
 
 -- over the last parameter's type, its machine values, what is written, and what is answered
-module _ (X : RattleType) (τ : Ty) (val : X.Denot → Val) (Wrote : X.Denot → List ℕ → List ℕ → List ℕ → Counted.Denot → Type 0) (Answered : X.Denot → List ℕ → ℕ → Answer → Type 0) where
+module _ (X : RattleType) (τ : Ty) (val : X.Denot → Val) (Wrote : X.Denot → List ℕ → List ℕ → List ℕ → Counted.Denot → Type 0)
+    (Answered : X.Denot → List ℕ → ℕ → Answer → Type 0) where
   abbrev pub function : Callee → Fn
   function g = record {
     lifetimes = 2;
@@ -94,8 +95,11 @@ module _ (X : RattleType) (τ : Ty) (val : X.Denot → Val) (Wrote : X.Denot →
 
   pub writes_and_lends : Tells X (Is X) (λ x. val x ∷ [])
       → ((x : X.Denot) (s old new : List ℕ) (u : Counted.Denot) → length new ≡ length old → Wrote x s old new u → Leaves old new u)
-      → ((x : X.Denot) (s old new : List ℕ) (u : Counted.Denot) (r : Answer) → Wrote x s old new u → LendsFront new u r → IfErr u (λ e. r ≡ Err e) → Answered x s (length old) r)
-      → {M : Type 1} (𝓤 : Ura M) (𝓛 : Logic 𝓤) (𝓜 : Model 𝓤 𝓛.H) (𝓡 : Running 𝓤 𝓛.H 𝓜) (good : (x : X.Denot) → Is X x (val x ∷ []) → T (has_ty τ (val x)) × WT (val x)) (makes : Makes 𝓛 X (Is X)) (silent : Silent 𝓛 2 (plain (λ _. X)) yes) (last : (x : X.Denot) → Last (X.exit yes) x) (k g : Callee)
+      → ((x : X.Denot) (s old new : List ℕ) (u : Counted.Denot) (r : Answer) → Wrote x s old new u → LendsFront new u r
+      → IfErr u (λ e. r ≡ Err e) → Answered x s (length old) r)
+      → {M : Type 1} (𝓤 : Ura M) (𝓛 : Logic 𝓤) (𝓜 : Model 𝓤 𝓛.H) (𝓡 : Running 𝓤 𝓛.H 𝓜)
+      (good : (x : X.Denot) → Is X x (val x ∷ []) → T (has_ty τ (val x)) × WT (val x)) (makes : Makes 𝓛 X (Is X))
+      (silent : Silent 𝓛 2 (plain (λ _. X)) yes) (last : (x : X.Denot) → Last (X.exit yes) x) (k g : Callee)
       → Closed 𝓤 𝓛.H (tables 𝓤 𝓛.H 𝓜 𝓡 𝓡.env).C (tables 𝓤 𝓛.H 𝓜 𝓡 𝓡.env).Λ k (function g) → Wired 𝓡.env h_symbol.code
       → Meets 𝓛 Writing.signature ((tables 𝓤 𝓛.H 𝓜 𝓡 𝓡.env).C g) (closing 𝓛 Writing (writes 𝓛))
       → Meets 𝓛 Lending.signature ((tables 𝓤 𝓛.H 𝓜 𝓡 𝓡.env).C k) (closing 𝓛 Lending (lends_front 𝓛))

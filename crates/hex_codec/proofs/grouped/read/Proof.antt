@@ -10,7 +10,10 @@ use Rattle.hex_core.proofs.Lent.{Policy, policy_vals, policy_tells, policy_lawfu
 use Rattle.hex_core.proofs.LentAgain.{Slice, Kept, lends_again, comes_back}
 use Rattle.hex_core.proofs.SliceWalk.{inside, same_loan}
 use Rattle.hex_core.specs.Loan.{LendsAnswer}
-use Rattle.hex_codec.proofs.GroupLoan.{Grouping, group_vals, group_tells, group_lawful, group_makes, read_leaves, read_answer}
+use denote.Struct.Laws as struct_laws
+use Rattle.hex_codec.specs.contracts.group.Group as GR
+use Rattle.hex_codec.proofs.group.Group.TheLaws as GL
+use Rattle.hex_codec.proofs.GroupLoan.{read_leaves, read_answer}
 use Rattle.hex_codec.specs.GroupCalls.{Reads}
 use Rattle.hex_codec.specs.contracts.grouped.GroupFault as GF
 use Rattle.hex_codec.proofs.grouped.GroupFault.TheLaws as FL
@@ -32,25 +35,25 @@ abbrev Lent : Lifetime → Lft → RattleType
 Lent = LentBy GF.the_row
 
 abbrev stayed : Stays f.ended.signature.params f.ended.kept
-stayed = (stay_dropped (shr_slice_of (0 ∷ []) tt (plain (λ _. u8))) yes, (stay_dropped (mut_slice_of (1 ∷ []) tt (plain (λ _. u8))) no, (stay_dropped (plain (λ _. Grouping)) yes, (stay_dropped (plain (λ _. Policy)) yes, tt))))
+stayed = (stay_dropped (shr_slice_of (0 ∷ []) tt (plain (λ _. u8))) yes, (stay_dropped (mut_slice_of (1 ∷ []) tt (plain (λ _. u8))) no, (stay_dropped (plain (λ _. GR.the_row)) yes, (stay_dropped (plain (λ _. Policy)) yes, tt))))
 
 pub read_spec : {M : Type 1} → statement M
 read_spec 𝓤 𝓛 𝓜 𝓡 wired =
     let c = f.clauses 𝓛 𝓜.mem 𝓡.returns in
-    proved 𝓛 f.ended stayed c 𝓜 𝓡 (Goes-dropped 𝓛 2 (shr_slice_of (0 ∷ []) tt (plain (λ _. u8))) yes (λ κs x f. refl), (Goes-spent_slice 𝓛 2 (1 ∷ []) tt (plain (λ _. u8)), (Goes-dropped 𝓛 2 (plain (λ _. Grouping)) yes (λ κs x f. refl), (Goes-dropped 𝓛 2 (plain (λ _. Policy)) yes (λ κs x f. refl), tt))))
+    proved 𝓛 f.ended stayed c 𝓜 𝓡 (Goes-dropped 𝓛 2 (shr_slice_of (0 ∷ []) tt (plain (λ _. u8))) yes (λ κs x f. refl), (Goes-spent_slice 𝓛 2 (1 ∷ []) tt (plain (λ _. u8)), (Goes-dropped 𝓛 2 (plain (λ _. GR.the_row)) yes (λ κs x f. refl), (Goes-dropped 𝓛 2 (plain (λ _. Policy)) yes (λ κs x f. refl), tt))))
     f.Key.name code.function (code.unfolded 𝓤 𝓛.H 𝓜 𝓡 wired)
-    (λ κs. (shr_slice_vals, (mut_slice_vals, (group_vals, (policy_vals, tt)))))
-    (λ κs. (shr_slice_Tells (named 0) κs.0 u8, (mut_slice_Tells (named 1) κs.1.0 u8, (group_tells, (policy_tells, tt)))))
+    (λ κs. (shr_slice_vals, (mut_slice_vals, (struct_laws.vals GR.the_type GL.the_laws, (policy_vals, tt)))))
+    (λ κs. (shr_slice_Tells (named 0) κs.0 u8, (mut_slice_Tells (named 1) κs.1.0 u8, (struct_laws.tells GR.the_type GL.the_laws, (policy_tells, tt)))))
     (λ κs qs bounds a g₀ are.
     let κ₀ = κs.0 in let κ = κs.1.0 in let q₀ = qs.0 in let q = qs.1.0 in
     let src = a.0 in let dst = a.1.0 in let group = a.1.1.0 in let case = a.1.1.1.0 in let s = src.now in let xs = dst.now in
     let b = dst.ref_ptr.0 in let o = dst.ref_ptr.1 in let γ = dst.ghost_name in
-    let group_vs = group_vals group in let case_vs = policy_vals case in
+    let group_vs = struct_laws.vals GR.the_type GL.the_laws group in let case_vs = policy_vals case in
     let rs : Room u8 (length s) = are.0.0.1 in let rm : Room u8 (length xs) = are.1.0.0.1 in
     let framed_calls = framed 𝓤 𝓛.H 𝓜 (tables 𝓤 𝓛.H 𝓜 𝓡 𝓡.env) in
-    qed 𝓛 (((‵ (flft κ₀ q₀) ⊛ ‵ (flft κ q) ⊛ ‵ ftrue) ⊛ ‵ (owns (ShrSlice (named 0) κ₀ u8 ∷ MutSlice (named 1) κ u8 ∷ Grouping ∷ Policy ∷ []) a (shr_slice_vals src, (mut_slice_vals dst, (group_vs, (case_vs, tt)))))) ∷ ‵ ftrue ∷ []) ∵
+    qed 𝓛 (((‵ (flft κ₀ q₀) ⊛ ‵ (flft κ q) ⊛ ‵ ftrue) ⊛ ‵ (owns (ShrSlice (named 0) κ₀ u8 ∷ MutSlice (named 1) κ u8 ∷ GR.the_row ∷ Policy ∷ []) a (shr_slice_vals src, (mut_slice_vals dst, (group_vs, (case_vs, tt)))))) ∷ ‵ ftrue ∷ []) ∵
     split ! $ split3 ! $ move ! (3 ∷ []) $ fsplit3 ! $ keep ! (0 ∷ 1 ∷ 3 ∷ 4 ∷ []) $
-    enter ! _ _ _ _ _ $ alloc_all ! (λ l. pass_all ! refl ((tt, (tt, (record { fits = rs.0 }, tt))), ((tt, (tt, (record { fits = rm.0 }, tt))), (((group_lawful 𝓛).typed group group_vs are.1.1.0).0, (((policy_lawful 𝓛).typed case case_vs are.1.1.1.0).0, tt)))) $
+    enter ! _ _ _ _ _ $ alloc_all ! (λ l. pass_all ! refl ((tt, (tt, (record { fits = rs.0 }, tt))), ((tt, (tt, (record { fits = rm.0 }, tt))), (((struct_laws.lawful GR.the_type GL.the_laws 𝓛).typed group group_vs are.1.1.0).0, (((policy_lawful 𝓛).typed case case_vs are.1.1.1.0).0, tt)))) $
     -- [the source; the destination; the two tokens; the locals]
     sets ! (addr ! (from ! (fld ! refl (hop ! (look_in_at ! 2 (sub ! 0 refl (whole !))) (stop !))))) refl (tt, tt) $
     sets ! (agg ! (and_then ! (get ! refl) (and_then ! (get_in ! (fld ! refl (stop !)) (sub ! 1 refl (whole !))) (no_more !)))) refl (tt, (tt, (record { fits = rm.0 }, tt))) $
@@ -60,7 +63,7 @@ read_spec 𝓤 𝓛 𝓜 𝓡 wired =
     -- [the slice for the call; what is kept; the token for the call; the source; its token; the locals]
     let G = triple_of 𝓛 g.signature (g.spec 𝓛 𝓜.mem 𝓡.returns) in
     let z : G.Ghost = (((κ₀, (α ∷ [], tt)), (q₀, (full_share, tt)), tt, (src, (record dst { ghost_name = δ }, (group, (case, tt)))), (shr_slice_vals src, (mut_slice_vals dst, (group_vs, (case_vs, tt))))), tt) in
-    nothing ! $ owned ! Policy _ (policy_makes 𝓛) case case_vs are.1.1.1.0 $ fjoin ! $ owned ! Grouping _ (group_makes 𝓛) group group_vs are.1.1.0 $ fjoin ! $ move ! (1 ∷ 0 ∷ []) $ fjoin ! $ move ! (3 ∷ 0 ∷ []) $ fjoin ! $
+    nothing ! $ owned ! Policy _ (policy_makes 𝓛) case case_vs are.1.1.1.0 $ fjoin ! $ owned ! GR.the_row _ (struct_laws.makes GR.the_type GL.the_plain 𝓛) group group_vs are.1.1.0 $ fjoin ! $ move ! (1 ∷ 0 ∷ []) $ fjoin ! $ move ! (3 ∷ 0 ∷ []) $ fjoin ! $
     nothing ! $ move ! (3 ∷ 0 ∷ []) $ join ! $ move ! (3 ∷ 0 ∷ []) $ join ! $ join ! $ nothing ! $ move ! (1 ∷ 0 ∷ []) $ use2 𝓛 (raw (G.pre z)) (id⊢ 𝓤 _) $
     calls_at ! framed_calls G (g_met.met 𝓤 𝓛 𝓜 𝓡 (code.calls-hex_codec::grouped::read_into 𝓡.env wired)) z (and_then ! (get ! refl) (and_then ! (get ! refl) (and_then ! (get ! refl) (and_then ! (get ! refl) (no_more !))))) (λ v.
     use1 𝓛 (later (some (λ (u : Counted.Denot). ((‵ (flft κ₀ q₀) ⊛ ‵ (flft (α ∷ []) full_share) ⊛ ‵ ftrue) ⊛ ‵ (Counted.own_val u (v ∷ [])))
