@@ -1,7 +1,7 @@
 #!/bin/sh
 # Builds the crates as a static library of thin exported functions, times its calls beside the Rust
-# crate's in one run, then reading digest lists beside a loop in C, and prints nanoseconds and
-# ratios; README.md says what the columns mean.
+# crate's in one run, then reading digest lists beside a loop in C, and digits in chunks beside one
+# call, and prints nanoseconds and ratios; README.md says what the columns mean.
 # Usage: bench/run.sh [--cpu=x86-64-v3] [--rust PATH] [--counts]
 # PATH is a checkout of the Rust crate faster-hex 1.0.0. With --counts it counts instructions, by
 # counts.sh, in place of timing. RT, CC and RUSTC name other commands, CRATES another folder of crates
@@ -60,6 +60,7 @@ done
 # `decode_owned` where hex_core has that call.
 mkdir "$own/src"
 cp "$here/own/lib.rt.in" "$own/src/lib.rt"
+cp "$here/own/chunks.rt.in" "$own/src/chunks.rt"
 set -- "$here/own/plan.rt.in"
 flags=
 if grep -rq 'pub fn decode_owned' "$top/crates/hex_core/src"; then
@@ -158,7 +159,7 @@ fi
 
 # The kit's library has the allocator that a vector takes.
 kit=$(dirname "$("$rt" doc)")
-for program in bench lists; do
+for program in bench lists chunks; do
     # shellcheck disable=SC2086
     "$cc" -std=gnu11 -O2 -Wall -Wextra $flags -o "$build/$program" "$here/$program.c" "$@" \
         "$kit/c/liblibc_c.a"
@@ -171,3 +172,4 @@ if [ -n "$counts" ]; then
 fi
 "$build/bench"
 "$build/lists"
+"$build/chunks"

@@ -2,6 +2,7 @@
 //! answered otherwise and how many there are. `row_reader` says how a row is written.
 #![tactic(auto)]
 
+mod feeds;
 mod lanes;
 mod limited_sink;
 mod lists;
@@ -20,7 +21,8 @@ use std::io::{self, BufReader};
 
 // Each function below knows the rows of one shape, and answers `None` for any other.
 
-// `each-byte`, `each-pair` and `moves`, which have arguments in their turn, grouped texts, lists.
+// `each-byte`, `each-pair` and `moves`, which have arguments in their turn, digits in chunks,
+// grouped texts, lists.
 fn turned_row(
     call: &[u8],
     mut row: Words<'_>,
@@ -33,6 +35,8 @@ fn turned_row(
         wholes::each_pair_row(&mut row, &mut answer, to)?
     } else if call == b"moves".as_slice() {
         wholes::moves_row(&mut row, &mut answer, to)?
+    } else if call == b"feed".as_slice() {
+        feeds::feed_row(&mut row, &mut answer, to)?
     } else if call == b"group".as_slice() {
         lists::group_row(&mut row, &mut answer, to)?
     } else if call == b"list".as_slice() {
