@@ -16,6 +16,10 @@ abbrev pub id_refusal : Option Data → Option RecordError
 id_refusal None = Some NoId
 id_refusal (Some d) = option_map BadId (array_read_refusal withpfx_ignorecase 4 d)
 
+-- an object has these two fields
+abbrev pub HasFields : Data → Data → Data → Type 0
+HasFields d id key = (get (codes "id") d ≡ Some id) × (get (codes "key") d ≡ Some key)
+
 -- the two fields of an object, and that they are read as the record's
 pub record IsReadAs (d : Data) (r : Record) : Type 0 where
   pub id : Data

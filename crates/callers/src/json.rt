@@ -6,7 +6,7 @@ ghost use Rattle.serde_json.specs.Find.{get};
 ghost use Rattle.serde_json.specs.View.{view};
 ghost use Rattle.hex_json.specs.Adapters.{Reads, WriteFailure, WritesOption};
 ghost use Rattle.hex_json.specs.WireFormats as wire;
-ghost use Rattle.callers.specs.Records.{ReadsRecord, ReadsSignature, ShowsRecord, id_refusal};
+ghost use Rattle.callers.specs.Records.{HasFields, ReadsRecord, ReadsSignature, ShowsRecord, id_refusal};
 
 use faster_hex::laws::{
     a_bound_refuses_what_is_longer_alone, a_value_is_read_as_one_list,
@@ -94,6 +94,13 @@ pub fn write_record(alloc: Global, source: Record) -> Result<Value, AdapterError
 {
     let id = array::serialize(alloc, &source.id)?;
     let key = nopfx_lowercase::serialize(alloc, &source.key)?;
+    object_of(alloc, id, key)
+}
+
+// An object of two fields.
+fn object_of(alloc: Global, id: Value, key: Value) -> Result<Value, AdapterError>
+    ensures { IfOk result (λ value. HasFields (view value) (view id) (view key)) }
+{
     match json!(in alloc; {"id": id, "key": key}) {
         Ok(value) => Ok(value),
         Err(_) => Err(AdapterError::Codec(Error::OutOfMemory)),
