@@ -77,7 +77,8 @@ pub fn write_digest_line<S: Sink>(
 /// let digest = Digest { bytes: [0xab; 32] };
 /// let stored = stored_digest(rt.alloc(), &digest, b"a.txt", &mut [0; 72])?;
 /// assert_eq!(rt; stored, Some(digest));
-/// assert_eq!(rt; stored_digest(rt.alloc(), &digest, b"a.txt", &mut [0; 71])?, None);
+/// let refused = stored_digest(rt.alloc(), &digest, b"a.txt", &mut [0; 71])?;
+/// assert_eq!(rt; refused, None);
 /// ```
 pub fn stored_digest(
     alloc: Global,

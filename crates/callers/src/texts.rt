@@ -4,17 +4,20 @@ ghost use Rattle.std.specs.Prelude.{◌≡◌, ◌+◌, ◌*◌, ◌≤◌, ◌+
 ghost use Rattle.hex_core.specs.Text.{lowercase, text};
 
 use faster_hex::{hex_append_into, hex_encode};
-use hex_core::laws::a_text_is_ascii_and_twice_as_long;
+use hex_core::laws::{
+    a_text_is_ascii_and_twice_as_long, the_text_of_a_joined_list_is_the_texts_joined,
+};
 use std::alloc::{AllocError, Allocator};
 use std::str;
 
-/// Appends the digits of two parts to a text that has room for both, which can't fail.
+/// Appends the digits of two parts to a text that has room for both, which can't fail: they are
+/// those of the joined parts.
 pub fn append_both<A: Allocator>(line: &mut String<A>, first: &[u8], second: &[u8])
     requires { string_len line.old + 2 * length first.now + 2 * length second.now
         ≤ string_capacity line.old }
-    ensures { string_bytes line.new
-        ≡ (string_bytes line.old ++ text lowercase first.now) ++ text lowercase second.now }
+    ensures { string_bytes line.new ≡ string_bytes line.old ++ text lowercase (first.now ++ second.now) }
 {
+    the_text_of_a_joined_list_is_the_texts_joined();
     hex_append_into(first, line, false).unwrap();
     hex_append_into(second, line, false).unwrap();
 }
