@@ -7,12 +7,17 @@ use crate::notation::{self, Bytes};
 pub struct Words<'a> {
     rest: &'a [u8],
     turn: usize,
+    is_misread: bool,
 }
 
 impl<'a> Words<'a> {
     /// Returns the words of `side`, as they are read in `turn`.
     pub fn new(side: &'a [u8], turn: usize) -> Words<'a> {
-        Words { rest: side, turn }
+        Words {
+            rest: side,
+            turn,
+            is_misread: false,
+        }
     }
 
     /// Takes the next word. Returns an empty one where none is left.
@@ -51,6 +56,61 @@ impl<'a> Words<'a> {
         is_next
     }
 
+    /// Has the words count as misread, whatever is left of them.
+    pub fn misread(&mut self) {
+        self.is_misread = true;
+    }
+
+    /// Takes the next word, which is to be this one, or else was misread.
+    pub fn wants(&mut self, word: &[u8]) {
+        if !self.takes(word) {
+            self.misread();
+        }
+    }
+
+    /// Takes the next word as a number, or 0 where it was misread.
+    pub fn take_number(&mut self) -> usize {
+        match self.number() {
+            Some(number) => number,
+            None => {
+                self.misread();
+                0
+            }
+        }
+    }
+
+    /// Takes the next word as one byte, or 0 where it was misread.
+    pub fn take_byte(&mut self) -> u8 {
+        match self.byte() {
+            Some(byte) => byte,
+            None => {
+                self.misread();
+                0
+            }
+        }
+    }
+
+    /// Takes the next word as bytes, which `bytes` then holds where it was not misread.
+    pub fn take_bytes(&mut self, bytes: &mut Bytes) {
+        if self.bytes(bytes).is_none() {
+            self.misread();
+        }
+    }
+
+    /// Takes so many bytes, whatever they are, and the space behind them.
+    pub fn take(&mut self, count: usize) -> &'a [u8] {
+        match self.rest.split_at_checked(count) {
+            Some((taken, behind)) => {
+                self.rest = behind.get(1..).unwrap_or_default();
+                taken
+            }
+            None => {
+                self.misread();
+                &[]
+            }
+        }
+    }
+
     /// Returns the turn that the words are read in.
     pub fn turn(&self) -> usize {
         self.turn
@@ -68,8 +128,8 @@ impl<'a> Words<'a> {
         rest
     }
 
-    /// Returns whether no word is left.
+    /// Returns whether no word is left, and none was misread.
     pub fn are_read(&self) -> bool {
-        self.rest.is_empty()
+        self.rest.is_empty() && !self.is_misread
     }
 }

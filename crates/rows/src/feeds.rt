@@ -96,12 +96,12 @@ pub fn feed_row(
     answer: &mut Words<'_>,
     buffers: &mut Buffers,
 ) -> Option<bool> {
-    let given = Given::read(row, &mut buffers.given)?;
-    answer.bytes(&mut buffers.wanted)?;
+    let given = Given::read(row, &mut buffers.given);
+    answer.take_bytes(&mut buffers.wanted);
     let want = if answer.are_read() {
         Ok(())
     } else {
-        Err(refusal(answer)?)
+        Err(refusal(answer))
     };
     let (to, wanted) = (&mut buffers.destination, buffers.wanted.as_slice());
     let fed = feed_all(given, to.lend(given.src.len() / 2))?;

@@ -18,14 +18,28 @@ fn mask(letters: &[u8]) -> u64 {
     mask
 }
 
+fn is_admitted_16(bytes: &[u8], case: CheckCase, want: u64) -> Option<bool> {
+    Some(u64::from(admitted_16(bytes.first_chunk()?, case)) == want)
+}
+
+fn is_admitted_32(bytes: &[u8], case: CheckCase, want: u64) -> Option<bool> {
+    Some(u64::from(admitted_32(bytes.first_chunk()?, case)) == want)
+}
+
+fn is_admitted_64(bytes: &[u8], case: CheckCase, want: u64) -> Option<bool> {
+    Some(admitted_64(bytes.first_chunk()?, case) == want)
+}
+
 fn are_admitted(bytes: &[u8], case: CheckCase, letters: &[u8]) -> Option<bool> {
-    let got = match bytes.len() {
-        16 => u64::from(admitted_16(bytes.first_chunk()?, case)),
-        32 => u64::from(admitted_32(bytes.first_chunk()?, case)),
-        64 => admitted_64(bytes.first_chunk()?, case),
-        _ => return None,
-    };
-    Some(letters.len() == bytes.len() && got == mask(letters))
+    if letters.len() != bytes.len() {
+        return None;
+    }
+    match bytes.len() {
+        16 => is_admitted_16(bytes, case, mask(letters)),
+        32 => is_admitted_32(bytes, case, mask(letters)),
+        64 => is_admitted_64(bytes, case, mask(letters)),
+        _ => None,
+    }
 }
 
 fn are_saturated(bytes: &[u8], case: CheckCase, want: &[u8]) -> Option<bool> {
@@ -46,23 +60,32 @@ fn are_hashed(nibbles: &[u8], checks: &[u8], want: &[u8]) -> bool {
     want.len() == nibbles.len()
 }
 
+// Whether these are the wanted checks where `is_check` is true, and else the wanted nibbles.
+fn are_of(nibbles: &[u8], checks: &[u8], is_check: bool, want: &[u8]) -> bool {
+    if is_check {
+        checks == want
+    } else {
+        are_hashed(nibbles, checks, want)
+    }
+}
+
+fn are_of_32(bytes: &[u8], case: CheckCase, is_check: bool, want: &[u8]) -> Option<bool> {
+    let (nibbles, checks) = nibbles_hashed_32(bytes.first_chunk()?, case);
+    Some(are_of(&nibbles, &checks, is_check, want))
+}
+
+fn are_of_64(bytes: &[u8], case: CheckCase, is_check: bool, want: &[u8]) -> Option<bool> {
+    let (nibbles, checks) = nibbles_hashed_64(bytes.first_chunk()?, case);
+    Some(are_of(&nibbles, &checks, is_check, want))
+}
+
 // Whether 32 or 64 bytes have these nibbles, or these checks where `is_check` is true.
 fn are_nibbles_of(bytes: &[u8], case: CheckCase, is_check: bool, want: &[u8]) -> Option<bool> {
-    if bytes.len() == 32 {
-        let (nibbles, checks) = nibbles_hashed_32(bytes.first_chunk()?, case);
-        return Some(if is_check {
-            checks.as_slice() == want
-        } else {
-            are_hashed(&nibbles, &checks, want)
-        });
+    match bytes.len() {
+        32 => are_of_32(bytes, case, is_check, want),
+        64 => are_of_64(bytes, case, is_check, want),
+        _ => None,
     }
-    let (nibbles, checks) = nibbles_hashed_64(bytes.first_chunk()?, case);
-    let are_so = if is_check {
-        checks.as_slice() == want
-    } else {
-        are_hashed(&nibbles, &checks, want)
-    };
-    Some(are_so && bytes.len() == 64)
 }
 
 // Whether each nibble is below 16.
@@ -72,23 +95,53 @@ fn are_nibbles(nibbles: &[u8]) -> bool
     nibbles.iter().all(|nibble| *nibble < 16)
 }
 
+fn are_packed_16(nibbles: &[u8], bytes: &[u8]) -> Option<bool>
+    requires { AreSmall nibbles.now }
+{
+    Some(pack_16(nibbles.try_into().ok()?).as_slice() == bytes)
+}
+
+fn are_packed_32(nibbles: &[u8], bytes: &[u8]) -> Option<bool>
+    requires { AreSmall nibbles.now }
+{
+    Some(pack_32(nibbles.try_into().ok()?).as_slice() == bytes)
+}
+
+fn are_packed_64(nibbles: &[u8], bytes: &[u8]) -> Option<bool>
+    requires { AreSmall nibbles.now }
+{
+    Some(pack_64(nibbles.try_into().ok()?).as_slice() == bytes)
+}
+
 fn are_packed(nibbles: &[u8], bytes: &[u8]) -> Option<bool> {
     if !are_nibbles(nibbles) {
         return None;
     }
     match nibbles.len() {
-        16 => Some(pack_16(nibbles.try_into().ok()?).as_slice() == bytes),
-        32 => Some(pack_32(nibbles.try_into().ok()?).as_slice() == bytes),
-        64 => Some(pack_64(nibbles.try_into().ok()?).as_slice() == bytes),
+        16 => are_packed_16(nibbles, bytes),
+        32 => are_packed_32(nibbles, bytes),
+        64 => are_packed_64(nibbles, bytes),
         _ => None,
     }
 }
 
+fn are_written_8(bytes: &[u8], upper: bool, digits: &[u8]) -> Option<bool> {
+    Some(encode_8(bytes.first_chunk()?, upper).as_slice() == digits)
+}
+
+fn are_written_16(bytes: &[u8], upper: bool, digits: &[u8]) -> Option<bool> {
+    Some(encode_16(bytes.first_chunk()?, upper).as_slice() == digits)
+}
+
+fn are_written_32(bytes: &[u8], upper: bool, digits: &[u8]) -> Option<bool> {
+    Some(encode_32(bytes.first_chunk()?, upper).as_slice() == digits)
+}
+
 fn are_written(bytes: &[u8], upper: bool, digits: &[u8]) -> Option<bool> {
     match bytes.len() {
-        8 => Some(encode_8(bytes.first_chunk()?, upper).as_slice() == digits),
-        16 => Some(encode_16(bytes.first_chunk()?, upper).as_slice() == digits),
-        32 => Some(encode_32(bytes.first_chunk()?, upper).as_slice() == digits),
+        8 => are_written_8(bytes, upper, digits),
+        16 => are_written_16(bytes, upper, digits),
+        32 => are_written_32(bytes, upper, digits),
         _ => None,
     }
 }

@@ -3,7 +3,7 @@
 ghost use Rattle.std.specs.Prelude.{◌<◌};
 
 use crate::limited_sink::{LimitedSink, Mode};
-use crate::terms::{Buffers, Given, growths, invalid, is_either, is_stopped};
+use crate::terms::{Buffers, Destination, Given, group, growths, invalid, is_either, is_stopped};
 use hex_codec::Group;
 use hex_codec::grouped::{GroupFault, read, read_into};
 use hex_core::CheckCase;
@@ -40,23 +40,38 @@ fn counts(given: Given<'_>, group: Group, dst: &mut [u8], want: Reading<'_>) -> 
     }
 }
 
-// Reads the answer: bytes behind `ok`, or a refusal, `bad-length`, `too-small 3` or `invalid 4 -`, and
-// `kept` behind it.
-fn reading<'a>(answer: &mut Words<'_>, bytes: &'a mut Bytes) -> Option<Reading<'a>> {
-    if answer.takes(b"ok") {
-        answer.bytes(bytes)?;
-        return Some(Ok(bytes.as_slice()));
-    }
-    let fault = if answer.takes(b"bad-length") {
+// Reads the refusal of a grouped text.
+fn group_fault(answer: &mut Words<'_>) -> GroupFault {
+    if answer.takes(b"bad-length") {
         GroupFault::BadLength
     } else if answer.takes(b"too-small") {
-        let required = answer.number()?;
+        let required = answer.take_number();
         GroupFault::OutputTooSmall { required }
     } else {
-        let (index, byte) = invalid(answer)?;
+        let (index, byte) = invalid(answer);
         GroupFault::InvalidByte { index, byte }
-    };
-    answer.takes(b"kept").then_some(Err(fault))
+    }
+}
+
+// Reads the answer: bytes behind `ok`, or a refusal, `bad-length`, `too-small 3` or `invalid 4 -`, and
+// `kept` behind it.
+fn reading<'a>(answer: &mut Words<'_>, bytes: &'a mut Bytes) -> Reading<'a> {
+    if answer.takes(b"ok") {
+        answer.take_bytes(bytes);
+        return Ok(bytes.as_slice());
+    }
+    let fault = group_fault(answer);
+    answer.wants(b"kept");
+    Err(fault)
+}
+
+// Whether both calls answer so, and write nothing but the answer.
+fn is_grouped(given: Given<'_>, group: Group, to: &mut Destination, want: Reading<'_>) -> bool {
+    let front = want.unwrap_or_default();
+    lends(given, group, to.lend(given.number), want)
+        && to.holds(front)
+        && counts(given, group, to.lend(given.number), want)
+        && to.holds(front)
 }
 
 /// `group EVERY BYTE POLICY ROOM TEXT`.
@@ -65,54 +80,48 @@ pub fn group_row(
     answer: &mut Words<'_>,
     buffers: &mut Buffers,
 ) -> Option<bool> {
-    let every = row.number()?;
-    let group = Group::new(every, row.byte()?)?;
-    let given = Given::read(row, &mut buffers.given)?;
-    let want = reading(answer, &mut buffers.wanted)?;
-    let front = want.unwrap_or_default();
-    let to = &mut buffers.destination;
-    Some(
-        lends(given, group, to.lend(given.number), want)
-            && to.holds(front)
-            && counts(given, group, to.lend(given.number), want)
-            && to.holds(front),
-    )
+    let group = group(row);
+    let given = Given::read(row, &mut buffers.given);
+    let want = reading(answer, &mut buffers.wanted);
+    match group {
+        Some(group) => Some(is_grouped(given, group, &mut buffers.destination, want)),
+        None => None,
+    }
 }
 
-// Reads why a list is refused: `no-memory`, or `line 2` and what is wrong with it, as `short`, `mark`
-// or `invalid 2 g`.
-fn list_fault(answer: &mut Words<'_>) -> Option<ListFault> {
-    if answer.takes(b"no-memory") {
-        return Some(ListFault::OutOfMemory);
-    }
-    if !answer.takes(b"line") {
-        return None;
-    }
-    let line = answer.number()?;
-    let why = if answer.takes(b"short") {
+// Reads what is wrong with a line.
+fn line_fault(answer: &mut Words<'_>) -> LineFault {
+    if answer.takes(b"short") {
         LineFault::ShortLine
     } else if answer.takes(b"mark") {
         LineFault::BadMark
     } else {
-        let (index, byte) = invalid(answer)?;
+        let (index, byte) = invalid(answer);
         LineFault::InvalidByte { index, byte }
-    };
-    Some(ListFault::Line { line, why })
+    }
+}
+
+// Reads why a list is refused: `no-memory`, or `line 2` and what is wrong with it, as `short`, `mark`
+// or `invalid 2 g`.
+fn list_fault(answer: &mut Words<'_>) -> ListFault {
+    if answer.takes(b"no-memory") {
+        return ListFault::OutOfMemory;
+    }
+    answer.wants(b"line");
+    let line = answer.take_number();
+    let why = line_fault(answer);
+    ListFault::Line { line, why }
 }
 
 // Whether the next words are the digest, the mark and the name of an entry.
-fn is_entry<const N: usize>(
-    entry: &Entry<'_, N>,
-    answer: &mut Words<'_>,
-    bytes: &mut Bytes,
-) -> Option<bool>
+fn is_entry<const N: usize>(entry: &Entry<'_, N>, answer: &mut Words<'_>, bytes: &mut Bytes) -> bool
     requires { N < 10000 }
 {
-    answer.bytes(bytes)?;
+    answer.take_bytes(bytes);
     let is_digest = bytes.as_slice() == entry.digest.as_slice();
-    let is_binary = is_either(answer, b"*", b"text")?;
-    answer.bytes(bytes)?;
-    Some(is_digest && is_binary == entry.binary && bytes.as_slice() == entry.name)
+    let is_binary = is_either(answer, b"*", b"text");
+    answer.take_bytes(bytes);
+    is_digest && is_binary == entry.binary && bytes.as_slice() == entry.name
 }
 
 // Whether the answer is `ok` and these entries.
@@ -120,18 +129,18 @@ fn are_entries<const N: usize>(
     entries: &[Entry<'_, N>],
     answer: &mut Words<'_>,
     bytes: &mut Bytes,
-) -> Option<bool>
+) -> bool
     requires { N < 10000 }
 {
     if !answer.takes(b"ok") {
-        return Some(false);
+        return false;
     }
     for entry in entries {
-        if !is_entry(entry, answer, bytes)? {
-            return Some(false);
+        if !is_entry(entry, answer, bytes) {
+            return false;
         }
     }
-    Some(true)
+    true
 }
 
 // Whether a list was read so, where all words of the answer are read by it.
@@ -139,17 +148,49 @@ fn is_list<A: Allocator + Drop, const N: usize>(
     got: Result<Vec<Entry<'_, N>, A>, ListFault>,
     answer: &mut Words<'_>,
     bytes: &mut Bytes,
-) -> Option<bool>
+) -> bool
     requires { N < 10000 }
 {
     match got {
         Ok(entries) => are_entries(entries.as_slice(), answer, bytes),
-        Err(fault) => Some(list_fault(answer)? == fault),
+        Err(fault) => list_fault(answer) == fault,
     }
 }
 
-// Whether both calls read a list so, the one in an allocator by so many growths, and the other one
-// where memory is not wanted.
+// Whether the call in an allocator reads a list so, by so many growths.
+fn is_read_in<const N: usize>(
+    alloc: Global,
+    given: Given<'_>,
+    answer: &mut Words<'_>,
+    bytes: &mut Bytes,
+) -> bool
+    requires { N < 10000 }
+{
+    let asked = growths(answer);
+    let refusing = Refusing::new(alloc, given.granted());
+    let got = digests::read_in::<_, N>(&refusing, given.src, given.case);
+    is_list(got, answer, bytes) && refusing.asked() == asked
+}
+
+// Whether the call that names no allocator does so, where memory is not wanted.
+fn is_read_globally<const N: usize>(
+    alloc: Global,
+    given: Given<'_>,
+    answer: Words<'_>,
+    bytes: &mut Bytes,
+) -> bool
+    requires { N < 10000 }
+{
+    let mut answer = answer;
+    growths(&mut answer);
+    if answer.takes(b"no-memory") {
+        return true;
+    }
+    let got = digests::read::<N>(alloc, given.src, given.case);
+    is_list(got, &mut answer, bytes)
+}
+
+// Whether both calls read a list so.
 fn is_read<const N: usize>(
     alloc: Global,
     given: Given<'_>,
@@ -158,18 +199,26 @@ fn is_read<const N: usize>(
 ) -> Option<bool>
     requires { N < 10000 }
 {
-    let asked = growths(answer)?;
-    let mut again = *answer;
-    let refusing = Refusing::new(alloc, given.granted());
-    let got = digests::read_in::<_, N>(&refusing, given.src, given.case);
-    let is_read = is_list(got, answer, bytes)?;
-    let is_ample = again.takes(b"no-memory")
-        || is_list(
-            digests::read::<N>(alloc, given.src, given.case),
-            &mut again,
-            bytes,
-        )?;
-    Some(is_read && is_ample && refusing.asked() == asked)
+    let is_read = is_read_globally::<N>(alloc, given, *answer, bytes);
+    Some(is_read && is_read_in::<N>(alloc, given, answer, bytes))
+}
+
+// The same for a length that a row names.
+fn is_read_by(
+    len: usize,
+    alloc: Global,
+    given: Given<'_>,
+    answer: &mut Words<'_>,
+    bytes: &mut Bytes,
+) -> Option<bool> {
+    match len {
+        0 => is_read::<0>(alloc, given, answer, bytes),
+        2 => is_read::<2>(alloc, given, answer, bytes),
+        32 => is_read::<32>(alloc, given, answer, bytes),
+        64 => is_read::<64>(alloc, given, answer, bytes),
+        65 => is_read::<65>(alloc, given, answer, bytes),
+        _ => None,
+    }
 }
 
 /// `list LENGTH POLICY GRANTED LIST`: how many growths it asks for, and the entries.
@@ -178,17 +227,9 @@ pub fn list_row(
     answer: &mut Words<'_>,
     buffers: &mut Buffers,
 ) -> Option<bool> {
-    let (len, alloc) = (row.number()?, buffers.alloc);
-    let list = Given::read(row, &mut buffers.given)?;
-    let bytes = &mut buffers.wanted;
-    match len {
-        0 => is_read::<0>(alloc, list, answer, bytes),
-        2 => is_read::<2>(alloc, list, answer, bytes),
-        32 => is_read::<32>(alloc, list, answer, bytes),
-        64 => is_read::<64>(alloc, list, answer, bytes),
-        65 => is_read::<65>(alloc, list, answer, bytes),
-        _ => None,
-    }
+    let len = row.take_number();
+    let list = Given::read(row, &mut buffers.given);
+    is_read_by(len, buffers.alloc, list, answer, &mut buffers.wanted)
 }
 
 // A list that is to be written, in which letter case, and what of it is to be taken.
@@ -226,21 +267,38 @@ impl Relisted<'_> {
         answer == Err(ListWriteFault::Write(mode.fault())) && sink.has_stopped(self.text)
     }
 
+    // Whether each sink that fails behind the text, where it is stopped there, does so.
+    fn all_stop<const N: usize>(self, entries: &[Entry<'_, N>]) -> bool
+        requires { N < 10000 }
+    {
+        !self.is_stopped
+            || (self.stops(entries, Mode::WholePieces)
+                && self.stops(entries, Mode::PartAndRefusal)
+                && self.stops(entries, Mode::WhatFits)
+                && self.stops(entries, Mode::OneByte))
+    }
+
     // Whether the entries of the list are written so into as much room as is given, and each sink
     // that fails behind the text does.
     fn writes<const N: usize>(self, alloc: Global, dst: &mut [u8]) -> Option<bool>
         requires { N < 10000 }
     {
-        let list = digests::read::<N>(alloc, self.given.src, CheckCase::None).ok()?;
-        let entries = list.as_slice();
-        Some(
-            self.fills(entries, dst)
-                && (!self.is_stopped
-                    || (self.stops(entries, Mode::WholePieces)
-                        && self.stops(entries, Mode::PartAndRefusal)
-                        && self.stops(entries, Mode::WhatFits)
-                        && self.stops(entries, Mode::OneByte))),
-        )
+        match digests::read::<N>(alloc, self.given.src, CheckCase::None) {
+            Ok(list) => Some(self.fills(list.as_slice(), dst) && self.all_stop(list.as_slice())),
+            Err(_) => None,
+        }
+    }
+
+    // The same for a length that a row names.
+    fn is_written(self, len: usize, alloc: Global, dst: &mut [u8]) -> Option<bool> {
+        match len {
+            0 => self.writes::<0>(alloc, dst),
+            2 => self.writes::<2>(alloc, dst),
+            32 => self.writes::<32>(alloc, dst),
+            64 => self.writes::<64>(alloc, dst),
+            65 => self.writes::<65>(alloc, dst),
+            _ => None,
+        }
     }
 }
 
@@ -250,23 +308,15 @@ pub fn relist_row(
     answer: &mut Words<'_>,
     buffers: &mut Buffers,
 ) -> Option<bool> {
-    let (len, alloc) = (row.number()?, buffers.alloc);
-    let given = Given::read(row, &mut buffers.given)?;
-    let is_stopped = is_stopped(answer, &mut buffers.wanted)?;
-    let text = buffers.wanted.as_slice();
+    let len = row.take_number();
+    let given = Given::read(row, &mut buffers.given);
+    let is_stopped = is_stopped(answer, &mut buffers.wanted);
     let list = Relisted {
         given,
-        text,
+        text: buffers.wanted.as_slice(),
         is_stopped,
     };
     let dst = buffers.destination.lend(given.number);
-    let is_written = match len {
-        0 => list.writes::<0>(alloc, dst),
-        2 => list.writes::<2>(alloc, dst),
-        32 => list.writes::<32>(alloc, dst),
-        64 => list.writes::<64>(alloc, dst),
-        65 => list.writes::<65>(alloc, dst),
-        _ => None,
-    };
-    Some(is_written? && buffers.destination.holds(text))
+    let is_written = list.is_written(len, buffers.alloc, dst) == Some(true);
+    Some(is_written && buffers.destination.holds(list.text))
 }

@@ -15,81 +15,69 @@ mod texts;
 mod wholes;
 
 use crate::strings::Appended;
-use crate::terms::{Buffers, Given, Grown, answer, front, growths, is_either, policy, source};
-use row_reader::{Calls, Words, judge};
+use crate::terms::{Buffers, Destination, Given, Grown, front, is_either, judged, policy, source};
+use hex_core::CheckCase;
+use row_reader::{Bytes, Calls, Words, judge};
 use std::io::{self, BufReader};
-
-// Each function below knows the rows of one shape, and answers `None` for any other.
 
 // `each-byte`, `each-pair` and `moves`, which have arguments in their turn, digits in chunks,
 // grouped texts, lists.
-fn turned_row(
+fn turned(
     call: &[u8],
-    mut row: Words<'_>,
-    mut answer: Words<'_>,
+    row: &mut Words<'_>,
+    answer: &mut Words<'_>,
     to: &mut Buffers,
 ) -> Option<bool> {
-    let is_answered = if call == b"each-byte".as_slice() {
-        wholes::each_byte_row(&mut row, &mut answer, to)?
+    if call == b"each-byte".as_slice() {
+        wholes::each_byte_row(row, answer, to)
     } else if call == b"each-pair".as_slice() {
-        wholes::each_pair_row(&mut row, &mut answer, to)?
+        wholes::each_pair_row(row, answer, to)
     } else if call == b"moves".as_slice() {
-        wholes::moves_row(&mut row, &mut answer, to)?
+        wholes::moves_row(row, answer, to)
     } else if call == b"feed".as_slice() {
-        feeds::feed_row(&mut row, &mut answer, to)?
+        feeds::feed_row(row, answer, to)
     } else if call == b"group".as_slice() {
-        lists::group_row(&mut row, &mut answer, to)?
+        lists::group_row(row, answer, to)
     } else if call == b"list".as_slice() {
-        lists::list_row(&mut row, &mut answer, to)?
+        lists::list_row(row, answer, to)
     } else if call == b"relist".as_slice() {
-        lists::relist_row(&mut row, &mut answer, to)?
+        lists::relist_row(row, answer, to)
     } else {
-        return None;
-    };
-    (row.are_read() && answer.are_read()).then_some(is_answered)
+        None
+    }
 }
 
 // Padded texts, and what is told of a byte, an error, a group or the plans.
-fn text_row(
+fn told(
     call: &[u8],
-    mut row: Words<'_>,
-    mut answer: Words<'_>,
+    row: &mut Words<'_>,
+    answer: &mut Words<'_>,
     to: &mut Buffers,
 ) -> Option<bool> {
-    let is_answered = if call == b"pad".as_slice() {
-        texts::pad_row(&mut row, &mut answer, to)?
+    if call == b"pad".as_slice() {
+        Some(texts::pad_row(row, answer, to))
     } else if call == b"pad-into".as_slice() {
-        texts::pad_into_row(&mut row, &mut answer, to)?
+        Some(texts::pad_into_row(row, answer, to))
     } else if call == b"show".as_slice() {
-        texts::show_row(&mut row, &mut answer, to)?
+        Some(texts::show_row(row, answer, to))
     } else if call == b"separates".as_slice() {
-        texts::separates_row(&mut row, &mut answer)?
+        Some(texts::separates_row(row, answer))
     } else if call == b"value".as_slice() {
-        search::value_row(&mut row, &mut answer)?
+        Some(search::value_row(row, answer))
     } else if call == b"print".as_slice() {
-        search::print_row(&mut row, &mut answer)?
-    } else if call == b"plans".as_slice() {
-        search::plans_row(&mut answer)?
+        Some(search::print_row(row, answer))
     } else {
-        return None;
-    };
-    (row.are_read() && answer.are_read()).then_some(is_answered)
+        (call == b"plans".as_slice()).then_some(search::are_plans(answer))
+    }
 }
 
-// `decode POLICY ROOM DIGITS`, `encode CASE ROOM BYTES`, `array POLICY LENGTH DIGITS` and
-// `fixed CASE CAPACITY BYTES`.
-fn fitting_row(
+// `decode`, `encode`, `array` and `fixed`.
+fn fits(
     call: &[u8],
-    mut row: Words<'_>,
-    mut answer: Words<'_>,
-    buffers: &mut Buffers,
+    given: Given<'_>,
+    to: &mut Destination,
+    want: terms::Answer<'_>,
 ) -> Option<bool> {
-    let given = Given::read(&mut row, &mut buffers.given)?;
-    let want = front(&mut answer, &mut buffers.wanted)?;
-    if !row.are_read() || !answer.are_read() {
-        return None;
-    }
-    let to = &mut buffers.destination;
     if call == b"decode".as_slice() {
         Some(slices::all_decode(given, to, want))
     } else if call == b"encode".as_slice() {
@@ -103,54 +91,94 @@ fn fitting_row(
     }
 }
 
+// Each function below knows the rows of one shape, and answers `None` for any other.
+
+fn turned_row(
+    call: &[u8],
+    mut row: Words<'_>,
+    mut answer: Words<'_>,
+    buffers: &mut Buffers,
+) -> Option<bool> {
+    let is_answered = turned(call, &mut row, &mut answer, buffers);
+    judged(is_answered, row, answer)
+}
+
+fn text_row(
+    call: &[u8],
+    mut row: Words<'_>,
+    mut answer: Words<'_>,
+    buffers: &mut Buffers,
+) -> Option<bool> {
+    let is_answered = told(call, &mut row, &mut answer, buffers);
+    judged(is_answered, row, answer)
+}
+
+// `decode POLICY ROOM DIGITS`, `encode CASE ROOM BYTES`, `array POLICY LENGTH DIGITS` and
+// `fixed CASE CAPACITY BYTES`.
+fn fitting_row(
+    call: &[u8],
+    mut row: Words<'_>,
+    mut answer: Words<'_>,
+    buffers: &mut Buffers,
+) -> Option<bool> {
+    let given = Given::read(&mut row, &mut buffers.given);
+    let want = front(&mut answer, &mut buffers.wanted);
+    let is_answered = fits(call, given, &mut buffers.destination, want);
+    judged(is_answered, row, answer)
+}
+
 // `vector POLICY GRANTED DIGITS` and `string CASE GRANTED BYTES`: how many growths they ask for,
 // and the answer.
 fn grown_row(
     call: &[u8],
     mut row: Words<'_>,
-    mut words: Words<'_>,
+    mut answer: Words<'_>,
     buffers: &mut Buffers,
 ) -> Option<bool> {
-    let given = Given::read(&mut row, &mut buffers.given)?;
-    let asked = growths(&mut words)?;
-    let answer = answer(&mut words, &mut buffers.wanted)?;
-    let want = Grown { asked, answer };
-    if !row.are_read() || !words.are_read() {
-        return None;
-    }
-    if call == b"vector".as_slice() {
-        Some(owned::is_vector_read(buffers.alloc, given, want))
+    let given = Given::read(&mut row, &mut buffers.given);
+    let want = Grown::read(&mut answer, &mut buffers.wanted);
+    let is_answered = if call == b"vector".as_slice() {
+        owned::is_vector_read(buffers.alloc, given, want)
     } else {
-        let is_written = strings::is_string_written(buffers.alloc, given, want);
-        (call == b"string".as_slice()).then_some(is_written)
-    }
+        strings::is_string_written(buffers.alloc, given, want)
+    };
+    let is_known = call == b"vector".as_slice() || call == b"string".as_slice();
+    judged(is_known.then_some(is_answered), row, answer)
 }
 
 // `append CASE GRANTED BYTES CAPACITY TEXT`: how many growths it asks for, the answer, and the text
 // afterwards.
-fn append_row(
+fn append_row(mut row: Words<'_>, mut answer: Words<'_>, buffers: &mut Buffers) -> Option<bool> {
+    let given = Given::read(&mut row, &mut buffers.given);
+    let want = Grown::read(&mut answer, &mut buffers.wanted);
+    let text = Appended::read(
+        &mut row,
+        &mut answer,
+        &mut buffers.before,
+        &mut buffers.after,
+    );
+    judged(Some(text.are_left(buffers.alloc, given, want)), row, answer)
+}
+
+// `check`, `find`, `cover` and `owned` of a source.
+fn reads(
     call: &[u8],
-    mut row: Words<'_>,
-    mut words: Words<'_>,
-    buffers: &mut Buffers,
+    src: &[u8],
+    case: CheckCase,
+    answer: &mut Words<'_>,
+    (wanted, to): (&mut Bytes, &mut Destination),
 ) -> Option<bool> {
-    let given = Given::read(&mut row, &mut buffers.given)?;
-    let capacity = row.number()?;
-    row.bytes(&mut buffers.before)?;
-    let asked = growths(&mut words)?;
-    let answer = answer(&mut words, &mut buffers.wanted)?;
-    words.bytes(&mut buffers.after)?;
-    if call != b"append".as_slice() || !row.are_read() || !words.are_read() {
-        return None;
+    if call == b"check".as_slice() {
+        Some(slices::all_check(src, case, is_either(answer, b"yes", b"no")))
+    } else if call == b"find".as_slice() {
+        Some(search::all_find(src, case, answer))
+    } else if call == b"cover".as_slice() {
+        Some(search::all_cover(src, case, answer))
+    } else if call == b"owned".as_slice() {
+        Some(wholes::all_own(src, case, answer, wanted, to))
+    } else {
+        None
     }
-    let want = Grown { asked, answer };
-    let text = Appended {
-        capacity,
-        before: buffers.before.as_slice(),
-        after: buffers.after.as_slice(),
-    };
-    let is_lent = text.is_left(buffers.alloc, given, want, true)?;
-    Some(is_lent && text.is_left(buffers.alloc, given, want, false)?)
 }
 
 // `check`, `find`, `cover` and `owned`, each of `POLICY DIGITS`.
@@ -160,21 +188,11 @@ fn source_row(
     mut answer: Words<'_>,
     buffers: &mut Buffers,
 ) -> Option<bool> {
-    let case = policy(&mut row)?;
-    let src = source(&mut row, &mut buffers.given)?;
-    let is_answered = if call == b"check".as_slice() {
-        slices::all_check(src, case, is_either(&mut answer, b"yes", b"no")?)
-    } else if call == b"find".as_slice() {
-        search::all_find(src, case, &mut answer)?
-    } else if call == b"cover".as_slice() {
-        search::all_cover(src, case, &mut answer)?
-    } else if call == b"owned".as_slice() {
-        let (wanted, to) = (&mut buffers.wanted, &mut buffers.destination);
-        wholes::all_own(src, case, &mut answer, wanted, to)?
-    } else {
-        return None;
-    };
-    (row.are_read() && answer.are_read()).then_some(is_answered)
+    let case = policy(&mut row);
+    let src = source(&mut row, &mut buffers.given);
+    let to = (&mut buffers.wanted, &mut buffers.destination);
+    let is_answered = reads(call, src, case, &mut answer, to);
+    judged(is_answered, row, answer)
 }
 
 // A call of the lanes, of `POLICY BYTES`.
@@ -184,23 +202,19 @@ fn lane_row(
     mut answer: Words<'_>,
     buffers: &mut Buffers,
 ) -> Option<bool> {
-    let case = policy(&mut row)?;
-    row.bytes(&mut buffers.given)?;
-    answer.bytes(&mut buffers.wanted)?;
-    if !row.are_read() || !answer.are_read() {
-        return None;
-    }
-    lanes::is_made(
-        call,
-        buffers.given.as_slice(),
-        case,
-        buffers.wanted.as_slice(),
-    )
+    let case = policy(&mut row);
+    row.take_bytes(&mut buffers.given);
+    answer.take_bytes(&mut buffers.wanted);
+    let (bytes, want) = (buffers.given.as_slice(), buffers.wanted.as_slice());
+    judged(lanes::is_made(call, bytes, case, want), row, answer)
 }
 
 impl Calls for Buffers {
     fn is_answered(&mut self, mut row: Words<'_>, answer: Words<'_>) -> Option<bool> {
         let call = row.next();
+        if call == b"append".as_slice() {
+            return append_row(row, answer, self);
+        }
         let mut is_answered = turned_row(call, row, answer, self);
         if is_answered.is_none() {
             is_answered = fitting_row(call, row, answer, self);
@@ -213,9 +227,6 @@ impl Calls for Buffers {
         }
         if is_answered.is_none() {
             is_answered = grown_row(call, row, answer, self);
-        }
-        if is_answered.is_none() {
-            is_answered = append_row(call, row, answer, self);
         }
         if is_answered.is_none() {
             is_answered = lane_row(call, row, answer, self);

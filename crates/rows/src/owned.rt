@@ -76,15 +76,21 @@ fn is_vector<A: Allocator + Drop>(got: Result<Vec<u8, A>, Error>, want: Answer<'
     }
 }
 
-/// Returns whether each call of a vector answers so, where so many growths are granted.
-pub fn is_vector_read(alloc: Global, given: Given<'_>, want: Grown<'_>) -> bool {
+// Whether the call that names a policy answers so.
+fn is_read_by_case(alloc: Global, given: Given<'_>, want: Grown<'_>) -> bool {
     let refusing = Refusing::new(alloc, given.granted());
     let got = hex_decode_vec_with_case(&refusing, given.src, given.case);
-    let is_read = is_vector(got, want.answer) && refusing.asked() == want.asked;
-    if !given.is_plain() {
-        return is_read;
-    }
+    is_vector(got, want.answer) && refusing.asked() == want.asked
+}
+
+// Whether the call that names none does so.
+fn is_read_plainly(alloc: Global, given: Given<'_>, want: Grown<'_>) -> bool {
     let refusing = Refusing::new(alloc, given.granted());
-    let is_plain = is_vector(hex_decode_vec(&refusing, given.src), want.answer);
-    is_read && is_plain && refusing.asked() == want.asked
+    is_vector(hex_decode_vec(&refusing, given.src), want.answer) && refusing.asked() == want.asked
+}
+
+/// Returns whether each call of a vector answers so, where so many growths are granted.
+pub fn is_vector_read(alloc: Global, given: Given<'_>, want: Grown<'_>) -> bool {
+    is_read_by_case(alloc, given, want)
+        && (!given.is_plain() || is_read_plainly(alloc, given, want))
 }

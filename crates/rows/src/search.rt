@@ -8,14 +8,14 @@ use row_reader::Words;
 use std::fmt::Write;
 
 /// `value POLICY BYTE`.
-pub fn value_row(row: &mut Words<'_>, answer: &mut Words<'_>) -> Option<bool> {
-    let case = policy(row)?;
-    let got = digit_value(row.byte()?, case);
-    if answer.takes(b"none") {
-        return Some(got.is_none());
+pub fn value_row(row: &mut Words<'_>, answer: &mut Words<'_>) -> bool {
+    let case = policy(row);
+    let got = digit_value(row.take_byte(), case);
+    let want = place(answer);
+    match got {
+        Some(value) => want == Some(usize::from(value)),
+        None => want.is_none(),
     }
-    let value = answer.number()?;
-    Some(got.map(usize::from) == Some(value))
 }
 
 // Whether the search under a plan finds this place, by so many tests and looks.
@@ -33,20 +33,30 @@ fn locates(
         && plan.first_invalid(src, case) == place
 }
 
-/// Returns whether each plan finds the place, the tests and the looks of an answer.
-pub fn all_find(src: &[u8], case: CheckCase, answer: &mut Words<'_>) -> Option<bool> {
-    let place = if answer.takes(b"none") {
-        None
-    } else {
-        Some(answer.number()?)
-    };
-    let counts = (answer.number()?, answer.number()?);
+// Whether the search under each plan finds this place, by so many tests and looks.
+fn all_locate(src: &[u8], case: CheckCase, place: Option<usize>, counts: (usize, usize)) -> bool {
     for plan in backends() {
         if !locates(plan, src, case, place, counts) {
-            return Some(false);
+            return false;
         }
     }
-    Some(true)
+    true
+}
+
+// Reads a number, or `none`.
+fn place(answer: &mut Words<'_>) -> Option<usize> {
+    if answer.takes(b"none") {
+        None
+    } else {
+        Some(answer.take_number())
+    }
+}
+
+/// Returns whether each plan finds the place, the tests and the looks of an answer.
+pub fn all_find(src: &[u8], case: CheckCase, answer: &mut Words<'_>) -> bool {
+    let place = place(answer);
+    let counts = (answer.take_number(), answer.take_number());
+    all_locate(src, case, place, counts)
 }
 
 // Whether a plan covers a source, or finds that it can't, by so many tests and no look.
@@ -59,31 +69,30 @@ fn covers(plan: Backend, src: &[u8], case: CheckCase, is_clear: bool, tests: usi
 }
 
 /// Returns whether each plan covers a source as an answer says: whether all pass, and the tests.
-pub fn all_cover(src: &[u8], case: CheckCase, answer: &mut Words<'_>) -> Option<bool> {
-    let is_clear = is_either(answer, b"yes", b"no")?;
-    let tests = answer.number()?;
+pub fn all_cover(src: &[u8], case: CheckCase, answer: &mut Words<'_>) -> bool {
+    let is_clear = is_either(answer, b"yes", b"no");
+    let tests = answer.take_number();
     for plan in backends() {
         if !covers(plan, src, case, is_clear, tests) {
-            return Some(false);
+            return false;
         }
     }
-    Some(true)
+    true
 }
 
 /// `print REFUSAL`.
-pub fn print_row(row: &mut Words<'_>, answer: &mut Words<'_>) -> Option<bool> {
-    let error = refusal(row)?;
+pub fn print_row(row: &mut Words<'_>, answer: &mut Words<'_>) -> bool {
+    let error = refusal(row);
     let mut text: ArrayString<100> = ArrayString::new();
-    write!(text, "{error}").ok()?;
-    Some(text.as_str().as_bytes() == answer.take_rest())
+    write!(text, "{error}").is_ok() && text.as_str().as_bytes() == answer.take_rest()
 }
 
-/// `plans`.
-pub fn plans_row(answer: &mut Words<'_>) -> Option<bool> {
+/// Returns whether `plans` answers the name of each plan, in their order.
+pub fn are_plans(answer: &mut Words<'_>) -> bool {
     for plan in backends() {
         if !answer.takes(plan.name().as_bytes()) {
-            return Some(false);
+            return false;
         }
     }
-    Some(true)
+    true
 }

@@ -8,6 +8,7 @@ use hex_codec::{
 };
 use hex_core::Error;
 use refusing_allocator::Refusing;
+use row_reader::{Bytes, Words};
 use std::alloc::{Allocator, Global};
 
 // Whether a text of at most `N` digits answers so.
@@ -113,20 +114,44 @@ pub struct Appended<'a> {
     pub after: &'a [u8],
 }
 
-impl Appended<'_> {
-    /// Returns whether an append answers so and leaves the text afterwards, where so many growths are
-    /// granted: that of the call that lends the suffix where `is_lent` is true, and else that of the
-    /// one that answers nothing.
-    pub fn is_left(
-        self,
-        alloc: Global,
-        given: Given<'_>,
-        want: Grown<'_>,
-        is_lent: bool,
-    ) -> Option<bool> {
-        let refusing = Refusing::new(alloc, 1);
-        let mut text = String::with_capacity(&refusing, self.capacity).ok()?;
+impl<'a> Appended<'a> {
+    /// Reads the capacity and the text before the call, and the text after it.
+    pub fn read(
+        row: &mut Words<'_>,
+        answer: &mut Words<'_>,
+        before: &'a mut Bytes,
+        after: &'a mut Bytes,
+    ) -> Appended<'a> {
+        let capacity = row.take_number();
+        row.take_bytes(before);
+        answer.take_bytes(after);
+        Appended {
+            capacity,
+            before: before.as_slice(),
+            after: after.as_slice(),
+        }
+    }
+
+    // The string before the call.
+    fn text<'r>(self, alloc: &'r Refusing<Global>) -> Option<String<&'r Refusing<Global>>> {
+        let mut text = String::with_capacity(alloc, self.capacity).ok()?;
         text.push_str(str::from_utf8(self.before).ok()?).ok()?;
+        Some(text)
+    }
+
+    // Whether a string is the wanted one after the call, in no more room than a growth gave it.
+    fn is_after(self, text: &String<&Refusing<Global>>, want: Grown<'_>) -> bool {
+        let is_kept = want.asked == 0 || want.answer.is_err();
+        text.as_str().as_bytes() == self.after && (is_kept || text.capacity() == text.len())
+    }
+
+    // Whether an append answers so and leaves the text afterwards: that of the call that lends the
+    // suffix where `is_lent` is true, and else that of the one that answers nothing.
+    fn is_left(self, alloc: Global, given: Given<'_>, want: Grown<'_>, is_lent: bool) -> bool {
+        let refusing = Refusing::new(alloc, 1);
+        let Some(mut text) = self.text(&refusing) else {
+            return false;
+        };
         let before = refusing.asked();
         refusing.set_left(given.granted());
         let is_answered = if is_lent {
@@ -135,8 +160,12 @@ impl Appended<'_> {
             appends(given, &mut text, want.answer)
         };
         let asked = refusing.asked().wrapping_sub(before);
-        let is_after = text.as_str().as_bytes() == self.after;
-        let is_exact = asked == 0 || want.answer.is_err() || text.capacity() == text.len();
-        Some(is_answered && is_after && asked == want.asked && is_exact)
+        is_answered && asked == want.asked && self.is_after(&text, want)
+    }
+
+    /// Returns whether each append answers so and leaves the text afterwards, where so many growths
+    /// are granted.
+    pub fn are_left(self, alloc: Global, given: Given<'_>, want: Grown<'_>) -> bool {
+        self.is_left(alloc, given, want, true) && self.is_left(alloc, given, want, false)
     }
 }

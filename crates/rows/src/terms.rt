@@ -1,5 +1,6 @@
 //! What rows are made of: policies, letter cases, answers, and the destination of a call.
 
+use hex_codec::Group;
 use hex_core::{CheckCase, Error};
 use row_reader::{Bytes, Words};
 use std::alloc::Global;
@@ -97,28 +98,34 @@ fn is_filled(bytes: &[u8]) -> bool {
 }
 
 /// Reads a policy: `any`, `lower` or `upper`.
-pub fn policy(row: &mut Words<'_>) -> Option<CheckCase> {
+pub fn policy(row: &mut Words<'_>) -> CheckCase {
     if row.takes(b"any") {
-        Some(CheckCase::None)
+        CheckCase::None
     } else if row.takes(b"lower") {
-        Some(CheckCase::Lower)
+        CheckCase::Lower
     } else {
-        row.takes(b"upper").then_some(CheckCase::Upper)
+        row.wants(b"upper");
+        CheckCase::Upper
     }
 }
 
 /// Reads the word `yes`, or else the word `no`.
-pub fn is_either(words: &mut Words<'_>, yes: &[u8], no: &[u8]) -> Option<bool> {
+pub fn is_either(words: &mut Words<'_>, yes: &[u8], no: &[u8]) -> bool {
     let is_yes = words.takes(yes);
-    (is_yes || words.takes(no)).then_some(is_yes)
+    if !is_yes {
+        words.wants(no);
+    }
+    is_yes
 }
 
 /// Reads a source, behind which stand bytes that no policy reads.
-pub fn source<'a>(row: &mut Words<'_>, bytes: &'a mut Bytes) -> Option<&'a [u8]> {
-    row.bytes(bytes)?;
+pub fn source<'a>(row: &mut Words<'_>, bytes: &'a mut Bytes) -> &'a [u8] {
+    row.take_bytes(bytes);
     let len = bytes.len();
-    bytes.try_extend_from_slice(&[FILL; GUARD]).ok()?;
-    bytes.as_slice().get(..len)
+    if bytes.try_extend_from_slice(&[FILL; GUARD]).is_err() {
+        row.misread();
+    }
+    bytes.as_slice().get(..len).unwrap_or_default()
 }
 
 /// What most rows end with: a policy or a letter case, a number, and a source.
@@ -134,11 +141,11 @@ pub struct Given<'a> {
 
 impl<'a> Given<'a> {
     /// Reads what is left of a row.
-    pub fn read(row: &mut Words<'_>, bytes: &'a mut Bytes) -> Option<Given<'a>> {
-        let case = policy(row)?;
-        let number = row.number()?;
-        let src = source(row, bytes)?;
-        Some(Given { case, number, src })
+    pub fn read(row: &mut Words<'_>, bytes: &'a mut Bytes) -> Given<'a> {
+        let case = policy(row);
+        let number = row.take_number();
+        let src = source(row, bytes);
+        Given { case, number, src }
     }
 
     /// Returns whether the letter case is `upper`.
@@ -158,49 +165,47 @@ impl<'a> Given<'a> {
 }
 
 /// Reads `invalid`, and the place and the byte behind it.
-pub fn invalid(answer: &mut Words<'_>) -> Option<(usize, u8)> {
-    if !answer.takes(b"invalid") {
-        return None;
-    }
-    Some((answer.number()?, answer.byte()?))
+pub fn invalid(answer: &mut Words<'_>) -> (usize, u8) {
+    answer.wants(b"invalid");
+    (answer.take_number(), answer.take_byte())
 }
 
 // Reads a refusal that names numbers.
-fn counted_refusal(answer: &mut Words<'_>) -> Option<Error> {
+fn counted_refusal(answer: &mut Words<'_>) -> Error {
     if answer.takes(b"too-small") {
-        let required = answer.number()?;
-        Some(Error::OutputTooSmall { required })
+        let required = answer.take_number();
+        Error::OutputTooSmall { required }
     } else if answer.takes(b"mismatch") {
-        let expected = answer.number()?;
-        let actual = answer.number()?;
-        Some(Error::LengthMismatch { expected, actual })
+        let expected = answer.take_number();
+        let actual = answer.take_number();
+        Error::LengthMismatch { expected, actual }
     } else {
-        let (index, byte) = invalid(answer)?;
-        Some(Error::InvalidChar { index, byte })
+        let (index, byte) = invalid(answer);
+        Error::InvalidChar { index, byte }
     }
 }
 
 /// Reads a refusal, as `invalid 5 67`, `too-small 4`, `mismatch 32 1`, `odd-length`, `overflow` or
 /// `no-memory`.
-pub fn refusal(answer: &mut Words<'_>) -> Option<Error> {
+pub fn refusal(answer: &mut Words<'_>) -> Error {
     if answer.takes(b"odd-length") {
-        Some(Error::OddLength)
+        Error::OddLength
     } else if answer.takes(b"overflow") {
-        Some(Error::Overflow)
+        Error::Overflow
     } else if answer.takes(b"no-memory") {
-        Some(Error::OutOfMemory)
+        Error::OutOfMemory
     } else {
         counted_refusal(answer)
     }
 }
 
 /// Reads an answer: `ok` and bytes, or a refusal.
-pub fn answer<'a>(answer: &mut Words<'_>, bytes: &'a mut Bytes) -> Option<Answer<'a>> {
+pub fn answer<'a>(answer: &mut Words<'_>, bytes: &'a mut Bytes) -> Answer<'a> {
     if answer.takes(b"ok") {
-        answer.bytes(bytes)?;
-        Some(Ok(bytes.as_slice()))
+        answer.take_bytes(bytes);
+        Ok(bytes.as_slice())
     } else {
-        Some(Err(refusal(answer)?))
+        Err(refusal(answer))
     }
 }
 
@@ -229,21 +234,45 @@ pub struct Grown<'a> {
     pub answer: Answer<'a>,
 }
 
+impl<'a> Grown<'a> {
+    /// Reads how many growths are asked for, and an answer.
+    pub fn read(words: &mut Words<'_>, bytes: &'a mut Bytes) -> Grown<'a> {
+        let asked = growths(words);
+        let answer = answer(words, bytes);
+        Grown { asked, answer }
+    }
+}
+
 /// Reads how many growths are asked for.
-pub fn growths(words: &mut Words<'_>) -> Option<u64> {
-    u64::try_from(words.number()?).ok()
+pub fn growths(words: &mut Words<'_>) -> u64 {
+    words.take_number() as u64
+}
+
+/// Returns whether a call is answered so, where no word of its row and of the answer is left.
+pub fn judged(is_answered: Option<bool>, row: Words<'_>, answer: Words<'_>) -> Option<bool> {
+    if row.are_read() && answer.are_read() {
+        is_answered
+    } else {
+        None
+    }
+}
+
+/// Reads how many bytes a piece has, and the separator. Returns their group, if they are one.
+pub fn group(row: &mut Words<'_>) -> Option<Group> {
+    let every = row.take_number();
+    Group::new(every, row.take_byte())
 }
 
 /// Reads `ok` or `stopped`, and the bytes that are taken by then. Returns whether it was the latter.
-pub fn is_stopped(answer: &mut Words<'_>, bytes: &mut Bytes) -> Option<bool> {
-    let is_stopped = is_either(answer, b"stopped", b"ok")?;
-    answer.bytes(bytes)?;
-    Some(is_stopped)
+pub fn is_stopped(answer: &mut Words<'_>, bytes: &mut Bytes) -> bool {
+    let is_stopped = is_either(answer, b"stopped", b"ok");
+    answer.take_bytes(bytes);
+    is_stopped
 }
 
 /// Reads an answer, behind which stands `kept` where a call leaves its destination as it was.
-pub fn front<'a>(words: &mut Words<'_>, bytes: &'a mut Bytes) -> Option<Answer<'a>> {
-    let front = answer(words, bytes)?;
+pub fn front<'a>(words: &mut Words<'_>, bytes: &'a mut Bytes) -> Answer<'a> {
+    let front = answer(words, bytes);
     let _ = front.is_err() && words.takes(b"kept");
-    Some(front)
+    front
 }

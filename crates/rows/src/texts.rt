@@ -3,7 +3,7 @@
 ghost use Rattle.std.specs.Prelude.{◌<◌, ◌^◌, ◌-◌};
 
 use crate::limited_sink::{CAPACITY, LimitedSink, Mode};
-use crate::terms::{Buffers, is_stopped};
+use crate::terms::{Buffers, Destination, group, is_stopped};
 use arrayvec::ArrayString;
 use hex_codec::Group;
 use hex_format::{Align, Hex, HexFlags, Sink, SinkFault, SliceSink, WriteFault};
@@ -23,28 +23,54 @@ fn set_flag(flags: &mut HexFlags, letter: u8) {
     }
 }
 
+fn first_char(bytes: &[u8]) -> Option<char> {
+    str::from_utf8(bytes).ok()?.chars().next()
+}
+
 // Reads the character that a text is filled with, whose bytes `bytes` then holds.
-fn fill(row: &mut Words<'_>, bytes: &mut Bytes) -> Option<char> {
-    row.bytes(bytes)?;
-    str::from_utf8(bytes.as_slice()).ok()?.chars().next()
+fn fill(row: &mut Words<'_>, bytes: &mut Bytes) -> char {
+    row.take_bytes(bytes);
+    match first_char(bytes.as_slice()) {
+        Some(fill) => fill,
+        None => {
+            row.misread();
+            ' '
+        }
+    }
+}
+
+// Reads the width, or `-` where there is none.
+fn width(row: &mut Words<'_>) -> Option<usize> {
+    if row.takes(b"-") {
+        None
+    } else {
+        Some(row.take_number())
+    }
+}
+
+// Reads the bytes of a piece and the separator, or `-` where there is none.
+fn pieces(row: &mut Words<'_>) -> Option<Group> {
+    if row.takes(b"-") {
+        return None;
+    }
+    let group = group(row);
+    if group.is_none() {
+        row.misread();
+    }
+    group
 }
 
 // Reads flags: the letters of a format string (`<` or `^`, `+`, `#`, `0` and `X`, or `-` for none of
 // them), the width, the fill, the bytes of a piece and the separator, each `-` where there is none.
-fn flags(row: &mut Words<'_>, bytes: &mut Bytes) -> Option<HexFlags> {
+fn flags(row: &mut Words<'_>, bytes: &mut Bytes) -> HexFlags {
     let mut flags = HexFlags::default();
     for letter in row.next() {
         set_flag(&mut flags, *letter);
     }
-    if !row.takes(b"-") {
-        flags.width = Some(row.number()?);
-    }
-    flags.fill = fill(row, bytes)?;
-    if !row.takes(b"-") {
-        let every = row.number()?;
-        flags.group = Some(Group::new(every, row.byte()?)?);
-    }
-    Some(flags)
+    flags.width = width(row);
+    flags.fill = fill(row, bytes);
+    flags.group = pieces(row);
+    flags
 }
 
 // Writes the text of these bytes.
@@ -54,101 +80,124 @@ fn write_hex<S: Sink>(sink: &mut S, bytes: &[u8], flags: &HexFlags) -> Result<()
     Hex::new(bytes).write_to(sink, flags)
 }
 
-// Whether a slice of this length takes this text, and is refused where `is_stopped`.
-fn fills(bytes: &[u8], flags: &HexFlags, dst: &mut [u8], text: &[u8], is_stopped: bool) -> bool {
-    let mut sink = SliceSink::new(dst);
-    let answer = write_hex(&mut sink, bytes, flags);
-    let want = if is_stopped {
-        Err(WriteFault::Sink(SinkFault))
-    } else {
-        Ok(())
-    };
-    answer == want && sink.written() == text && sink.failures() == u64::from(is_stopped)
+// A text of some bytes by some flags, or, where `is_stopped`, as much of it as a sink takes that then fails.
+#[derive(Clone, Copy)]
+struct Padded<'a> {
+    bytes: &'a [u8],
+    text: &'a [u8],
+    is_stopped: bool,
 }
 
-// Whether a sink that takes as many bytes as this text has, in this way, takes all of it, or, where
-// `is_stopped`, fails behind it.
-fn takes(bytes: &[u8], flags: &HexFlags, mode: Mode, text: &[u8], is_stopped: bool) -> bool {
-    let mut sink = LimitedSink::new(mode, text.len());
-    let answer = write_hex(&mut sink, bytes, flags);
-    if is_stopped {
-        answer == Err(mode.fault()) && sink.has_stopped(text)
-    } else {
-        answer == Ok(()) && sink.taken() == text && sink.failures() == 0
+impl Padded<'_> {
+    // Whether a slice takes this text, and is refused where `is_stopped`.
+    fn fills(self, flags: &HexFlags, dst: &mut [u8]) -> bool {
+        let mut sink = SliceSink::new(dst);
+        let answer = write_hex(&mut sink, self.bytes, flags);
+        let want = if self.is_stopped {
+            Err(WriteFault::Sink(SinkFault))
+        } else {
+            Ok(())
+        };
+        answer == want
+            && sink.written() == self.text
+            && sink.failures() == u64::from(self.is_stopped)
+    }
+
+    // Whether a destination of this room takes this text so, and nothing else.
+    fn is_written(self, flags: &HexFlags, room: usize, to: &mut Destination) -> bool {
+        self.fills(flags, to.lend(room)) && to.holds(self.text)
+    }
+
+    // Whether a sink that takes as many bytes as this text has, in this way, takes all of it, or,
+    // where `is_stopped`, fails behind it.
+    fn takes(self, flags: &HexFlags, mode: Mode) -> bool {
+        let mut sink = LimitedSink::new(mode, self.text.len());
+        let answer = write_hex(&mut sink, self.bytes, flags);
+        if self.is_stopped {
+            answer == Err(mode.fault()) && sink.has_stopped(self.text)
+        } else {
+            answer == Ok(()) && sink.taken() == self.text && sink.failures() == 0
+        }
+    }
+
+    // Whether both kinds of sink take this text.
+    fn is_padded(self, flags: &HexFlags, to: &mut Destination) -> bool {
+        let len = self.text.len();
+        self.is_written(flags, len, to) && (len > CAPACITY || self.takes(flags, Mode::OneByte))
     }
 }
 
 /// `pad FLAGS BYTES`: the text.
-pub fn pad_row(row: &mut Words<'_>, answer: &mut Words<'_>, buffers: &mut Buffers) -> Option<bool> {
-    let flags = flags(row, &mut buffers.given)?;
-    row.bytes(&mut buffers.given)?;
-    answer.bytes(&mut buffers.wanted)?;
-    let (bytes, text) = (buffers.given.as_slice(), buffers.wanted.as_slice());
-    let dst = buffers.destination.lend(text.len());
-    let is_written = fills(bytes, &flags, dst, text, false) && buffers.destination.holds(text);
-    let is_taken = text.len() > CAPACITY || takes(bytes, &flags, Mode::OneByte, text, false);
-    Some(is_written && is_taken)
+pub fn pad_row(row: &mut Words<'_>, answer: &mut Words<'_>, buffers: &mut Buffers) -> bool {
+    let flags = flags(row, &mut buffers.given);
+    row.take_bytes(&mut buffers.given);
+    answer.take_bytes(&mut buffers.wanted);
+    let padded = Padded {
+        bytes: buffers.given.as_slice(),
+        text: buffers.wanted.as_slice(),
+        is_stopped: false,
+    };
+    padded.is_padded(&flags, &mut buffers.destination)
 }
 
 // Reads the way in which a sink fails.
-fn mode(row: &mut Words<'_>) -> Option<Mode> {
+fn mode(row: &mut Words<'_>) -> Mode {
     if row.takes(b"whole-pieces") {
-        Some(Mode::WholePieces)
+        Mode::WholePieces
     } else if row.takes(b"part-and-refusal") {
-        Some(Mode::PartAndRefusal)
+        Mode::PartAndRefusal
     } else if row.takes(b"what-fits") {
-        Some(Mode::WhatFits)
+        Mode::WhatFits
     } else if row.takes(b"one-byte") {
-        Some(Mode::OneByte)
+        Mode::OneByte
     } else {
-        row.takes(b"nothing").then_some(Mode::Nothing)
+        row.wants(b"nothing");
+        Mode::Nothing
+    }
+}
+
+// Reads what is written into: a slice, which `None` stands for, or a sink that fails in a way.
+fn sink(row: &mut Words<'_>) -> Option<Mode> {
+    if row.takes(b"slice") {
+        None
+    } else {
+        Some(mode(row))
     }
 }
 
 /// `pad-into SINK ROOM FLAGS BYTES`: what the sink has taken, which is as much as there is room for.
-pub fn pad_into_row(
-    row: &mut Words<'_>,
-    answer: &mut Words<'_>,
-    buffers: &mut Buffers,
-) -> Option<bool> {
-    let mode = if row.takes(b"slice") {
-        None
-    } else {
-        Some(mode(row)?)
+pub fn pad_into_row(row: &mut Words<'_>, answer: &mut Words<'_>, buffers: &mut Buffers) -> bool {
+    let sink = sink(row);
+    let room = row.take_number();
+    let flags = flags(row, &mut buffers.given);
+    row.take_bytes(&mut buffers.given);
+    let is_stopped = is_stopped(answer, &mut buffers.wanted);
+    let padded = Padded {
+        bytes: buffers.given.as_slice(),
+        text: buffers.wanted.as_slice(),
+        is_stopped,
     };
-    let room = row.number()?;
-    let flags = flags(row, &mut buffers.given)?;
-    row.bytes(&mut buffers.given)?;
-    let is_stopped = is_stopped(answer, &mut buffers.wanted)?;
-    let (bytes, text) = (buffers.given.as_slice(), buffers.wanted.as_slice());
-    let is_taken = match mode {
-        Some(mode) => takes(bytes, &flags, mode, text, is_stopped),
-        None => {
-            let dst = buffers.destination.lend(room);
-            fills(bytes, &flags, dst, text, is_stopped) && buffers.destination.holds(text)
-        }
+    let is_taken = match sink {
+        Some(mode) => padded.takes(&flags, mode),
+        None => padded.is_written(&flags, room, &mut buffers.destination),
     };
-    Some(is_taken && room == text.len())
+    is_taken && room == buffers.wanted.len()
 }
 
 /// `show BYTES`: the text as `{}` prints it.
-pub fn show_row(
-    row: &mut Words<'_>,
-    answer: &mut Words<'_>,
-    buffers: &mut Buffers,
-) -> Option<bool> {
-    row.bytes(&mut buffers.given)?;
-    answer.bytes(&mut buffers.wanted)?;
+pub fn show_row(row: &mut Words<'_>, answer: &mut Words<'_>, buffers: &mut Buffers) -> bool {
+    row.take_bytes(&mut buffers.given);
+    answer.take_bytes(&mut buffers.wanted);
     let mut text: ArrayString<8400> = ArrayString::new();
-    write!(text, "{}", Hex::new(buffers.given.as_slice())).ok()?;
-    Some(text.as_str().as_bytes() == buffers.wanted.as_slice())
+    write!(text, "{}", Hex::new(buffers.given.as_slice())).is_ok()
+        && text.as_str().as_bytes() == buffers.wanted.as_slice()
 }
 
 /// `separates EVERY BYTE`: whether that is a group.
-pub fn separates_row(row: &mut Words<'_>, answer: &mut Words<'_>) -> Option<bool> {
-    let (every, byte) = (row.number()?, row.byte()?);
+pub fn separates_row(row: &mut Words<'_>, answer: &mut Words<'_>) -> bool {
+    let (every, byte) = (row.take_number(), row.take_byte());
     match Group::new(every, byte) {
-        Some(group) => Some(answer.takes(b"yes") && group.every() == every && group.sep() == byte),
-        None => Some(answer.takes(b"no")),
+        Some(group) => answer.takes(b"yes") && group.every() == every && group.sep() == byte,
+        None => answer.takes(b"no"),
     }
 }

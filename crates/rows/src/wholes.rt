@@ -88,6 +88,29 @@ fn is_refused(
     true
 }
 
+// Whether each plan refuses a source, and leaves what the answer says of it in a buffer that is given
+// up.
+fn all_store(
+    src: &[u8],
+    case: CheckCase,
+    answer: &mut Words<'_>,
+    wanted: &mut Bytes,
+    to: &mut Destination,
+) -> bool {
+    let read = Read {
+        src,
+        case,
+        is_valid: false,
+    };
+    for plan in backends() {
+        answer.take_bytes(wanted);
+        if !read.leaves(plan, wanted.as_slice(), to) {
+            return false;
+        }
+    }
+    true
+}
+
 /// Returns whether each plan, decoding into a buffer that is given up on a refusal, leaves what an
 /// answer says: the bytes, or `refused` and what each plan has stored by then.
 pub fn all_own(
@@ -96,24 +119,12 @@ pub fn all_own(
     answer: &mut Words<'_>,
     wanted: &mut Bytes,
     to: &mut Destination,
-) -> Option<bool> {
-    let is_valid = is_either(answer, b"ok", b"refused")?;
-    if is_valid {
-        answer.bytes(wanted)?;
-        return Some(is_accepted(src, case, wanted.as_slice(), to));
+) -> bool {
+    if is_either(answer, b"ok", b"refused") {
+        answer.take_bytes(wanted);
+        return is_accepted(src, case, wanted.as_slice(), to);
     }
-    let read = Read {
-        src,
-        case,
-        is_valid,
-    };
-    for plan in backends() {
-        answer.bytes(wanted)?;
-        if !read.leaves(plan, wanted.as_slice(), to) {
-            return Some(false);
-        }
-    }
-    Some(true)
+    all_store(src, case, answer, wanted, to)
 }
 
 // The values that an answer gives to bytes; any other byte has `NONE`.
@@ -136,16 +147,18 @@ impl Values {
     }
 
     // Reads the first and the last byte and the first value of at most three ranges.
-    fn read(answer: &mut Words<'_>) -> Option<Values> {
+    fn read(answer: &mut Words<'_>) -> Values {
         let mut values = Values { of: [NONE; 256] };
         for _ in 0..3 {
             if answer.are_read() {
                 break;
             }
-            let (first, last) = (answer.byte()?, answer.byte()?);
-            values.set(first, last, answer.number()?)?;
+            let (first, last) = (answer.take_byte(), answer.take_byte());
+            if values.set(first, last, answer.take_number()).is_none() {
+                answer.misread();
+            }
         }
-        answer.are_read().then_some(values)
+        values
     }
 
     fn get(&self, byte: u8) -> Option<u8> {
@@ -166,6 +179,22 @@ fn put_nibble(bytes: &mut [u8], place: usize, nibble: u8) -> Option<()> {
     Some(())
 }
 
+// Whether each plan reads a source so whose byte at this place has this value, or is refused there
+// where it has none. The other bytes of the source are the pairs of `bytes`.
+fn is_put(
+    src: &[u8],
+    case: CheckCase,
+    (place, value): (usize, Option<u8>),
+    bytes: &mut [u8],
+    to: &mut Destination,
+) -> Option<bool> {
+    let Some(value) = value else {
+        return Some(is_refused(src, case, place, bytes, to));
+    };
+    put_nibble(bytes, place, value)?;
+    Some(is_accepted(src, case, bytes, to))
+}
+
 /// `each-byte POLICY DIGITS`: the bytes, and the values of the digits. Its turn is a place of the
 /// source and a byte that is put there: 256 times the place, and the byte.
 pub fn each_byte_row(
@@ -174,18 +203,21 @@ pub fn each_byte_row(
     buffers: &mut Buffers,
 ) -> Option<bool> {
     let (place, byte) = (row.turn() / 256, (row.turn() % 256) as u8);
-    let case = policy(row)?;
-    row.bytes(&mut buffers.given)?;
-    answer.bytes(&mut buffers.wanted)?;
-    let values = Values::read(answer)?;
-    *buffers.given.get_mut(place)? = byte;
-    let (src, to) = (buffers.given.as_slice(), &mut buffers.destination);
-    if let Some(value) = values.get(byte) {
-        put_nibble(buffers.wanted.as_mut_slice(), place, value)?;
-        Some(is_accepted(src, case, buffers.wanted.as_slice(), to))
-    } else {
-        Some(is_refused(src, case, place, buffers.wanted.as_slice(), to))
-    }
+    let case = policy(row);
+    row.take_bytes(&mut buffers.given);
+    answer.take_bytes(&mut buffers.wanted);
+    let value = Values::read(answer).get(byte);
+    let Some(put) = buffers.given.get_mut(place) else {
+        return None;
+    };
+    *put = byte;
+    is_put(
+        buffers.given.as_slice(),
+        case,
+        (place, value),
+        buffers.wanted.as_mut_slice(),
+        &mut buffers.destination,
+    )
 }
 
 // What a pair of bytes spells.
@@ -226,9 +258,9 @@ pub fn each_pair_row(
 ) -> Option<bool> {
     let turn = row.turn();
     let pair = [(turn / 256 % 256) as u8, (turn % 256) as u8];
-    let case = policy(row)?;
-    let count = row.number()? / 2;
-    let values = Values::read(answer)?;
+    let case = policy(row);
+    let count = row.take_number() / 2;
+    let values = Values::read(answer);
     buffers.given.clear();
     for _ in 0..count {
         buffers.given.try_extend_from_slice(&pair).ok()?;
@@ -262,21 +294,31 @@ fn all_move(bytes: &[u8], text: &[u8], upper: bool, to: &mut Destination) -> boo
     is_accepted(text, strict, bytes, to) && is_accepted(text, CheckCase::None, bytes, to)
 }
 
+// The same from a place of the bytes, to so many bytes behind where a destination begins.
+fn all_move_at(
+    (bytes, text): (&[u8], &[u8]),
+    upper: bool,
+    (from, shift): (usize, usize),
+    to: &mut Destination,
+) -> Option<bool> {
+    let bytes = bytes.get(from..)?;
+    let text = text.get(from.checked_mul(2)?..)?;
+    to.shift = shift;
+    let is_moved = all_move(bytes, text, upper, to);
+    to.shift = 0;
+    Some(is_moved)
+}
+
 /// `moves CASE BYTES`: the digits. Its turn is a place of the destination and one of the source.
 pub fn moves_row(
     row: &mut Words<'_>,
     answer: &mut Words<'_>,
     buffers: &mut Buffers,
 ) -> Option<bool> {
-    let (turn, to) = (row.turn(), &mut buffers.destination);
-    let upper = is_either(row, b"upper", b"lower")?;
-    row.bytes(&mut buffers.given)?;
-    answer.bytes(&mut buffers.wanted)?;
-    let from = (turn / 64) % 64;
-    let bytes = buffers.given.as_slice().get(from..)?;
-    let text = buffers.wanted.as_slice().get(2 * from..)?;
-    to.shift = turn % 64;
-    let is_moved = all_move(bytes, text, upper, to);
-    to.shift = 0;
-    Some(is_moved)
+    let (from, shift) = (row.turn() / 64 % 64, row.turn() % 64);
+    let upper = is_either(row, b"upper", b"lower");
+    row.take_bytes(&mut buffers.given);
+    answer.take_bytes(&mut buffers.wanted);
+    let both = (buffers.given.as_slice(), buffers.wanted.as_slice());
+    all_move_at(both, upper, (from, shift), &mut buffers.destination)
 }
