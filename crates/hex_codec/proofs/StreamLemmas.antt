@@ -25,7 +25,7 @@ use Rattle.hex_codec.specs.Stream.{SpellsBut, bad_char_behind, feed_refusal, pai
 -- ---- single digits
 
 -- no digit spells no byte
-nothing-spelled : (c : CheckCase) → Spells c [] []
+pub nothing-spelled : (c : CheckCase) → Spells c [] []
 nothing-spelled c = spells-pairs c [] [] refl (λ i lt. absurd (omega (arith, lt)))
 
 -- two digits spell the byte of their values

@@ -184,6 +184,10 @@ impl Decoder {
         if !is_read(waiting, self.case) {
             return Err(self.error_in(src));
         }
+        // A feed of one digit has no pair of its own, and so makes no call.
+        if start == end {
+            return Ok(waiting);
+        }
         match hex_decode_into(&src[start..end], dst, self.case) {
             Ok(_) => Ok(waiting),
             Err(_) => Err(self.error_in(src)),

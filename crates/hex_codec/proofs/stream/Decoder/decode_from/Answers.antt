@@ -1,6 +1,7 @@
-use Rattle.std.proofs.Common.{rules, arith, ◌≡◌, ◌∙◌, ◌++◌, ◌-◌, ◌%◌, ◌≤◌, ℕ, List, false, length, drop, ap, sym, IsTrue}
+use Rattle.std.proofs.Common.{rules, arith, ◌≡◌, ◌∙◌, ◌++◌, ◌-◌, ◌%◌, ◌≤◌, ℕ, List, [], false, length, refl, drop, ap, sym, IsTrue}
 use Rattle.std.specs.Prelude.{slice_range}
-use Rattle.hex_codec.proofs.StreamLemmas.{range-and-rest, range-size, read-behind, refused-part, spells-but}
+use Rattle.std.specs.Option.{option_to_list}
+use Rattle.hex_codec.proofs.StreamLemmas.{nothing-spelled, range-and-rest, range-size, read-behind, refused-part, spells-but}
 use Rattle.hex_codec.proofs.stream.Decoder.decode_from.Goals as goal
 
 -- where the whole pairs end
@@ -20,6 +21,13 @@ error_in-requires-in-Err-clause-invalid c =
     let inside : end_of s start ≤ length s = omega arith in
     let size = range-size s start (end_of s start) low inside in
     refused-part c.args.self.now.case s start (end_of s start) (length c.args.dst.now) c.in-Err.field-0 inside (omega (arith, size, c.requires.inside)) (omega (arith, size, c.requires.inside, c.requires.room)) c.in-Err.ensures.0
+
+pub returns-then-start-end : goal.returns-then-start-end
+returns-then-start-end c =
+    let s = c.args.src.now in
+    let read : IsTrue c.is_read.result = search rules in
+    let none : drop c.args.start s ≡ [] ++ option_to_list c.digit_behind-waiting.result = search rules in
+    ([], spells-but c.args.self.now.case (drop c.args.start s) [] [] c.digit_behind-waiting.result none (nothing-spelled c.args.self.now.case) (c.is_read.ensures.0 read), refl)
 
 pub returns-in-Ok : goal.returns-in-Ok
 returns-in-Ok c =
