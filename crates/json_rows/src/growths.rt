@@ -12,12 +12,17 @@ use serde_json::Value;
 use std::alloc::{Allocator, Global};
 
 // Reads a bound: a number, or `unbounded`.
-fn bound(row: &mut Words<'_>) -> Option<Option<usize>> {
+fn bound(row: &mut Words<'_>) -> Option<usize> {
     if row.takes(b"unbounded") {
-        Some(None)
+        None
     } else {
-        Some(Some(row.number()?))
+        Some(row.take_number())
     }
+}
+
+// Reads how many growths there are.
+fn growths(words: &mut Words<'_>) -> u64 {
+    words.take_number() as u64
 }
 
 // A reading by a format, with an allocator that grants so many growths.
@@ -50,13 +55,13 @@ pub fn read_row(
     wanted: &mut Words<'_>,
     buffers: &mut Buffers,
 ) -> Option<bool> {
-    let format = wire_format(row)?;
-    let refusing = Refusing::new(buffers.alloc, u64::try_from(row.number()?).ok()?);
-    let max = bound(row)?;
-    row.bytes(&mut buffers.given)?;
-    let asked = u64::try_from(wanted.number()?).ok()?;
+    let format = wire_format(row);
+    let refusing = Refusing::new(buffers.alloc, growths(row));
+    let max = bound(row);
+    row.take_bytes(&mut buffers.given);
+    let asked = growths(wanted);
     let found = if is_option { b"some".as_slice() } else { b"ok" };
-    let want = answer(wanted, found, &mut buffers.wanted)?;
+    let want = answer(wanted, found, &mut buffers.wanted);
     let value = value(buffers.alloc, buffers.given.as_slice())?;
     let reading = Reading {
         format,
@@ -87,11 +92,11 @@ pub fn text_row(
     wanted: &mut Words<'_>,
     buffers: &mut Buffers,
 ) -> Option<bool> {
-    let format = wire_format(row)?;
-    let refusing = Refusing::new(buffers.alloc, u64::try_from(row.number()?).ok()?);
-    row.bytes(&mut buffers.given)?;
-    let asked = u64::try_from(wanted.number()?).ok()?;
-    let is_written = has_bytes(wanted, b"no-memory", &mut buffers.wanted)?;
+    let format = wire_format(row);
+    let refusing = Refusing::new(buffers.alloc, growths(row));
+    row.take_bytes(&mut buffers.given);
+    let asked = growths(wanted);
+    let is_written = has_bytes(wanted, b"no-memory", &mut buffers.wanted);
     let want = is_written.then_some(buffers.wanted.as_slice());
     let is_so = is_text(text_of(&refusing, format, buffers.given.as_slice()), want);
     Some(is_so && refusing.asked() == asked)

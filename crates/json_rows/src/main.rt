@@ -18,7 +18,7 @@ use std::io::{self, BufReader};
 
 // `print REFUSAL`: whether it prints the text that the answer is.
 fn print_row(row: &mut Words<'_>, wanted: &mut Words<'_>, buffers: &Buffers) -> Option<bool> {
-    let error = refusal(row)?;
+    let error = refusal(row);
     let text = format!(in buffers.alloc; "{error}").ok()?;
     Some(text.as_str().as_bytes() == wanted.take_rest())
 }

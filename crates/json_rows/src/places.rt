@@ -28,20 +28,20 @@ pub enum Place {
 
 impl Place {
     /// Reads whose calls a row names.
-    pub fn from_row(row: &mut Words<'_>) -> Option<Place> {
+    pub fn from_row(row: &mut Words<'_>) -> Place {
         if row.takes(b"root") {
-            return Some(Place::Root);
+            return Place::Root;
         }
         if row.takes(b"by") {
-            return Some(Place::Adapters(wire_format(row)?));
+            return Place::Adapters(wire_format(row));
         }
         if row.takes(b"option-by") {
-            return Some(Place::OptionAdapters(wire_format(row)?));
+            return Place::OptionAdapters(wire_format(row));
         }
         let name = row.next();
         match name.strip_prefix(b"option_") {
-            Some(name) => Some(Place::OptionModule(Format::from_word(name)?)),
-            None => Some(Place::Module(Format::from_word(name)?)),
+            Some(name) => Place::OptionModule(Format::named(name, row)),
+            None => Place::Module(Format::named(name, row)),
         }
     }
 

@@ -67,14 +67,14 @@ pub fn read_row(
     wanted: &mut Words<'_>,
     buffers: &mut Buffers,
 ) -> Option<bool> {
-    let (place, alloc) = (Place::from_row(row)?, buffers.alloc);
+    let (place, alloc) = (Place::from_row(row), buffers.alloc);
     let count = if reading == Reading::Whole {
         0
     } else {
-        row.number()?
+        row.take_number()
     };
-    row.bytes(&mut buffers.given)?;
-    let want = answer(wanted, place.found(), &mut buffers.wanted)?;
+    row.take_bytes(&mut buffers.given);
+    let want = answer(wanted, place.found(), &mut buffers.wanted);
     let value = value(alloc, buffers.given.as_slice())?;
     if reading == Reading::Whole {
         return Some(place.reads(alloc, &value, want));

@@ -24,8 +24,19 @@ pub enum Format {
 }
 
 impl Format {
-    /// Returns the format of this name.
-    pub fn from_word(word: &[u8]) -> Option<Format> {
+    /// Reads a format, whose name this is.
+    pub fn named(name: &[u8], row: &mut Words<'_>) -> Format {
+        match Format::from_word(name) {
+            Some(format) => format,
+            None => {
+                row.misread();
+                Format::NopfxUppercase
+            }
+        }
+    }
+
+    // The format of this name.
+    fn from_word(word: &[u8]) -> Option<Format> {
         if word == b"withpfx_ignorecase".as_slice() {
             Some(Format::WithpfxIgnorecase)
         } else if word == b"nopfx_ignorecase".as_slice() {
@@ -55,36 +66,37 @@ impl Format {
 }
 
 // Reads a policy: `any`, `lower` or `upper`.
-fn policy(row: &mut Words<'_>) -> Option<CheckCase> {
+fn policy(row: &mut Words<'_>) -> CheckCase {
     if row.takes(b"any") {
-        Some(CheckCase::None)
+        CheckCase::None
     } else if row.takes(b"lower") {
-        Some(CheckCase::Lower)
+        CheckCase::Lower
     } else {
-        row.takes(b"upper").then_some(CheckCase::Upper)
+        row.wants(b"upper");
+        CheckCase::Upper
     }
+}
+
+// Reads the word `yes`, or else the word `no`.
+fn is_either(row: &mut Words<'_>, yes: &[u8], no: &[u8]) -> bool {
+    let is_yes = row.takes(yes);
+    if !is_yes {
+        row.wants(no);
+    }
+    is_yes
 }
 
 /// Reads a format: the name of one of the six, or `own`, then `0x` or `plain`, the letters that are
 /// written, and those that are read.
-pub fn wire_format(row: &mut Words<'_>) -> Option<WireFormat> {
+pub fn wire_format(row: &mut Words<'_>) -> WireFormat {
     if !row.takes(b"own") {
-        return Some(Format::from_word(row.next())?.wire());
+        return Format::named(row.next(), row).wire();
     }
-    let prefixed = row.takes(b"0x");
-    if !prefixed && !row.takes(b"plain") {
-        return None;
+    WireFormat {
+        prefixed: is_either(row, b"0x", b"plain"),
+        upper: is_either(row, b"upper", b"lower"),
+        case: policy(row),
     }
-    let upper = row.takes(b"upper");
-    if !upper && !row.takes(b"lower") {
-        return None;
-    }
-    let case = policy(row)?;
-    Some(WireFormat {
-        prefixed,
-        upper,
-        case,
-    })
 }
 
 /// Returns the value that this JSON text writes.
@@ -93,61 +105,58 @@ pub fn value(alloc: Global, json: &[u8]) -> Option<Value> {
 }
 
 // Reads a refusal by the codec.
-fn codec_refusal(answer: &mut Words<'_>) -> Option<Error> {
+fn codec_refusal(answer: &mut Words<'_>) -> Error {
     if answer.takes(b"invalid") {
-        let index = answer.number()?;
-        let byte = answer.byte()?;
-        Some(Error::InvalidChar { index, byte })
+        let index = answer.take_number();
+        let byte = answer.take_byte();
+        Error::InvalidChar { index, byte }
     } else if answer.takes(b"mismatch") {
-        let expected = answer.number()?;
-        let actual = answer.number()?;
-        Some(Error::LengthMismatch { expected, actual })
+        let expected = answer.take_number();
+        let actual = answer.take_number();
+        Error::LengthMismatch { expected, actual }
     } else {
-        answer.takes(b"no-memory").then_some(Error::OutOfMemory)
+        answer.wants(b"no-memory");
+        Error::OutOfMemory
     }
 }
 
 /// Reads a refusal: `not-text`, `invalid-prefix`, `invalid-length`, `over-bound MAX ACTUAL`, `invalid INDEX
 /// BYTE`, `mismatch EXPECTED ACTUAL` or `no-memory`.
-pub fn refusal(answer: &mut Words<'_>) -> Option<AdapterError> {
+pub fn refusal(answer: &mut Words<'_>) -> AdapterError {
     if answer.takes(b"not-text") {
-        Some(AdapterError::NotText)
+        AdapterError::NotText
     } else if answer.takes(b"invalid-prefix") {
-        Some(AdapterError::InvalidPrefix)
+        AdapterError::InvalidPrefix
     } else if answer.takes(b"invalid-length") {
-        Some(AdapterError::InvalidLength)
+        AdapterError::InvalidLength
     } else if answer.takes(b"over-bound") {
-        let max = answer.number()?;
-        let actual = answer.number()?;
-        Some(AdapterError::OverBound { max, actual })
+        let max = answer.take_number();
+        let actual = answer.take_number();
+        AdapterError::OverBound { max, actual }
     } else {
-        Some(AdapterError::Codec(codec_refusal(answer)?))
+        AdapterError::Codec(codec_refusal(answer))
     }
 }
 
 /// Reads an answer: bytes behind the word `found`, `none`, or a refusal.
-pub fn answer<'a>(
-    answer: &mut Words<'_>,
-    found: &[u8],
-    bytes: &'a mut Bytes,
-) -> Option<Answer<'a>> {
+pub fn answer<'a>(answer: &mut Words<'_>, found: &[u8], bytes: &'a mut Bytes) -> Answer<'a> {
     if answer.takes(found) {
-        answer.bytes(bytes)?;
-        Some(Ok(Some(bytes.as_slice())))
+        answer.take_bytes(bytes);
+        Ok(Some(bytes.as_slice()))
     } else if answer.takes(b"none") {
-        Some(Ok(None))
+        Ok(None)
     } else {
-        Some(Err(refusal(answer)?))
+        Err(refusal(answer))
     }
 }
 
 /// Reads bytes, or `word` in place of them. Returns whether there are any.
-pub fn has_bytes(words: &mut Words<'_>, word: &[u8], bytes: &mut Bytes) -> Option<bool> {
-    if words.takes(word) {
-        return Some(false);
+pub fn has_bytes(words: &mut Words<'_>, word: &[u8], bytes: &mut Bytes) -> bool {
+    let is_word = words.takes(word);
+    if !is_word {
+        words.take_bytes(bytes);
     }
-    words.bytes(bytes)?;
-    Some(true)
+    !is_word
 }
 
 /// What a row is read into, and where its call takes memory from.

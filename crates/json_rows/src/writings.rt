@@ -26,9 +26,9 @@ pub fn write_row(
     wanted: &mut Words<'_>,
     buffers: &mut Buffers,
 ) -> Option<bool> {
-    let (place, alloc) = (Place::from_row(row)?, buffers.alloc);
-    let is_given = has_bytes(row, b"none", &mut buffers.given)?;
-    wanted.bytes(&mut buffers.wanted)?;
+    let (place, alloc) = (Place::from_row(row), buffers.alloc);
+    let is_given = has_bytes(row, b"none", &mut buffers.given);
+    wanted.take_bytes(&mut buffers.wanted);
     let src = is_given.then_some(buffers.given.as_slice());
     let got = if is_array {
         place.write_array(alloc, src)?
