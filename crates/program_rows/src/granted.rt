@@ -1,6 +1,6 @@
 //! Rows of the whole program with growths that are refused.
 
-use crate::terms::{Buffers, is_end, word};
+use crate::terms::{Buffers, growths, is_end, word};
 use hex_program::program::serve_in;
 use refusing_allocator::Refusing;
 use row_reader::Words;
@@ -8,15 +8,12 @@ use row_reader::Words;
 /// `granted COUNT WORD INPUT`: each growth behind so many is refused; or, where `once` is true,
 /// `refused PLACE WORD INPUT`: the growth behind so many is refused alone. How many are asked for,
 /// status, output and message.
-pub fn row(once: bool, row: Words<'_>, answer: Words<'_>, buffers: &mut Buffers) -> Option<bool> {
+pub fn row(once: bool, row: Words<'_>, answer: Words<'_>, buffers: &mut Buffers) -> bool {
     let (mut row, mut answer, alloc) = (row, answer, buffers.alloc);
-    let left = u64::try_from(row.number()?).ok()?;
-    let word = word(&mut row, &mut buffers.first)?;
-    row.bytes(&mut buffers.input)?;
-    let asked = u64::try_from(answer.number()?).ok()?;
-    if !row.are_read() {
-        return None;
-    }
+    let left = growths(&mut row);
+    let word = word(&mut row, &mut buffers.first);
+    row.take_bytes(&mut buffers.input);
+    let asked = growths(&mut answer);
     let refusing = if once {
         Refusing::once(alloc, left)
     } else {
@@ -26,5 +23,5 @@ pub fn row(once: bool, row: Words<'_>, answer: Words<'_>, buffers: &mut Buffers)
     let (out, err) = (Vec::new(alloc), Vec::new(alloc));
     let ended = serve_in(&refusing, &[word], &mut source, out, err);
     let is_end = is_end(answer, &mut buffers.output, ended);
-    Some(refusing.asked() == asked && is_end?)
+    row.are_read() && is_end && refusing.asked() == asked
 }

@@ -18,12 +18,7 @@ use row_reader::{Calls, Words, judge};
 use std::io::{self, BufReader};
 
 // A row of the whole program.
-fn program_row(
-    call: &[u8],
-    row: Words<'_>,
-    answer: Words<'_>,
-    buffers: &mut Buffers,
-) -> Option<bool> {
+fn program_row(call: &[u8], row: Words<'_>, answer: Words<'_>, buffers: &mut Buffers) -> bool {
     if call == b"serve".as_slice() {
         served::serve_row(row, answer, buffers)
     } else if call == b"tell".as_slice() {
@@ -40,12 +35,7 @@ fn program_row(
 }
 
 // A row of an operation, or of a decoding in pieces.
-fn operation_row(
-    call: &[u8],
-    row: Words<'_>,
-    answer: Words<'_>,
-    buffers: &mut Buffers,
-) -> Option<bool> {
+fn operation_row(call: &[u8], row: Words<'_>, answer: Words<'_>, buffers: &mut Buffers) -> bool {
     if call == b"run".as_slice() {
         runs::run_row(row, answer, buffers)
     } else if call == b"run-in".as_slice() {
@@ -62,12 +52,7 @@ fn operation_row(
 }
 
 // A row of vectors.
-fn vector_row(
-    call: &[u8],
-    row: Words<'_>,
-    answer: Words<'_>,
-    buffers: &mut Buffers,
-) -> Option<bool> {
+fn vector_row(call: &[u8], row: Words<'_>, answer: Words<'_>, buffers: &mut Buffers) -> bool {
     if call == b"stored".as_slice() {
         vectors::stored_row(row, answer, buffers)
     } else if call == b"vectors".as_slice() {
@@ -79,7 +64,7 @@ fn vector_row(
     } else if call == b"plain".as_slice() {
         statements::run_row(row, answer, buffers)
     } else {
-        None
+        false
     }
 }
 
@@ -92,7 +77,7 @@ struct Program {
 impl Calls for Program {
     fn is_answered(&mut self, row: Words<'_>, answer: Words<'_>) -> Option<bool> {
         let mut row = row;
-        program_row(row.next(), row, answer, &mut self.buffers)
+        Some(program_row(row.next(), row, answer, &mut self.buffers))
     }
 }
 

@@ -26,17 +26,19 @@ impl<'a> Read for Pieces<'a> {
 }
 
 // Whether a run of the program that ended with this message and status tells what `run` answered.
-fn is_told(alloc: Global, ran: Result<(), RunFault>, status: u8, message: &[u8]) -> Option<bool> {
+fn is_told(alloc: Global, ran: Result<(), RunFault>, status: u8, message: &[u8]) -> bool {
     let Err(fault) = ran else {
-        return Some(status == 0 && message.is_empty());
+        return status == 0 && message.is_empty();
     };
     let failure = Failure::of_run(fault);
-    let line = failure.to_string(alloc).ok()?;
-    Some(status == failure.status() && is_message(message, line.as_bytes()))
+    match failure.to_string(alloc) {
+        Ok(line) => status == failure.status() && is_message(message, line.as_bytes()),
+        Err(_) => false,
+    }
 }
 
 // Whether an input that is read in pieces is served as an operation runs over all of it.
-fn is_served(alloc: Global, word: &str, op: Op, source: &[u8], every: usize) -> Option<bool> {
+fn is_served(alloc: Global, word: &str, op: Op, source: &[u8], every: usize) -> bool {
     let mut sink = WriterSink::new(Vec::new(alloc));
     let ran = run(alloc, op, source, &mut sink);
     let whole = sink.into_inner();
@@ -46,8 +48,7 @@ fn is_served(alloc: Global, word: &str, op: Op, source: &[u8], every: usize) -> 
     };
     let (out, err) = (Vec::new(alloc), Vec::new(alloc));
     let (status, out, err) = serve(alloc, &[word], &mut input, out, err);
-    let is_told = is_told(alloc, ran, status, err.as_slice())?;
-    Some(is_told && out.as_slice() == whole.as_slice())
+    is_told(alloc, ran, status, err.as_slice()) && out.as_slice() == whole.as_slice()
 }
 
 // Reads the answer `alike`.
@@ -57,33 +58,37 @@ fn is_alike(answer: Words<'_>) -> bool {
 }
 
 /// `pieces INPUT EVERY`: each decoding, by reads of so many bytes at most.
-pub fn pieces_row(row: Words<'_>, answer: Words<'_>, buffers: &mut Buffers) -> Option<bool> {
+pub fn pieces_row(row: Words<'_>, answer: Words<'_>, buffers: &mut Buffers) -> bool {
     let (mut row, alloc) = (row, buffers.alloc);
-    row.bytes(&mut buffers.input)?;
-    let every = row.number()?;
-    if !row.are_read() || !is_alike(answer) {
-        return None;
-    }
+    row.take_bytes(&mut buffers.input);
+    let every = row.take_number();
     let source = buffers.input.as_slice();
-    let is_lower = is_served(alloc, "decode-lower", Op::DecodeLower, source, every)?;
-    let is_upper = is_served(alloc, "decode-upper", Op::DecodeUpper, source, every)?;
-    let is_either = is_served(alloc, "decode", Op::Decode, source, every)?;
-    Some(is_lower && is_upper && is_either)
+    row.are_read()
+        && is_alike(answer)
+        && is_served(alloc, "decode-lower", Op::DecodeLower, source, every)
+        && is_served(alloc, "decode-upper", Op::DecodeUpper, source, every)
+        && is_served(alloc, "decode", Op::Decode, source, every)
+}
+
+// Zeros, with a byte at a place and so many zeros behind it.
+fn edge(alloc: Global, place: usize, behind: usize, byte: u8) -> Option<Vec<u8>> {
+    let len = place.checked_add(behind)?.checked_add(1)?;
+    let mut source = Vec::from_elem(alloc, b'0', len).ok()?;
+    *source.as_mut_slice().get_mut(place)? = byte;
+    Some(source)
 }
 
 /// `edge PLACE BEHIND BYTE EVERY`: a decoding of zeros with a byte at a place and so many zeros
 /// behind it.
-pub fn edge_row(row: Words<'_>, answer: Words<'_>, buffers: &Buffers) -> Option<bool> {
+pub fn edge_row(row: Words<'_>, answer: Words<'_>, buffers: &Buffers) -> bool {
     let (mut row, alloc) = (row, buffers.alloc);
-    let place = row.number()?;
-    let behind = row.number()?;
-    let byte = row.byte()?;
-    let every = row.number()?;
+    let (place, behind) = (row.take_number(), row.take_number());
+    let (byte, every) = (row.take_byte(), row.take_number());
     if !row.are_read() || !is_alike(answer) {
-        return None;
+        return false;
     }
-    let len = place.checked_add(behind)?.checked_add(1)?;
-    let mut source = Vec::from_elem(alloc, b'0', len).ok()?;
-    *source.as_mut_slice().get_mut(place)? = byte;
-    is_served(alloc, "decode", Op::Decode, source.as_slice(), every)
+    match edge(alloc, place, behind, byte) {
+        Some(source) => is_served(alloc, "decode", Op::Decode, source.as_slice(), every),
+        None => false,
+    }
 }

@@ -8,110 +8,114 @@ use hex_program::{PLAIN_VECTORS, PlainVector, Statement, serve_vectors};
 use row_reader::Words;
 
 // Reads `bad-length` or `invalid INDEX BYTE`.
-fn fault(fields: &mut Words<'_>) -> Option<GroupFault> {
+fn fault(fields: &mut Words<'_>) -> GroupFault {
     if fields.takes(b"bad-length") {
-        return Some(GroupFault::BadLength);
+        return GroupFault::BadLength;
     }
-    fields.takes(b"invalid").then_some(())?;
-    let index = fields.number()?;
-    let byte = byte(fields)?;
-    Some(GroupFault::InvalidByte { index, byte })
+    fields.wants(b"invalid");
+    let index = fields.take_number();
+    let byte = byte(fields);
+    GroupFault::InvalidByte { index, byte }
 }
 
 // Reads `DIGEST NAME`, of a file that was read as binary.
-fn entry<'a>(fields: &mut Words<'a>) -> Option<Entry<'a, 2>> {
+fn entry<'a>(fields: &mut Words<'a>) -> Entry<'a, 2> {
     let digest = match fields.next() {
         [first, second] => [*first, *second],
-        _ => return None,
+        _ => {
+            fields.misread();
+            [0; 2]
+        }
     };
-    Some(Entry {
+    Entry {
         digest,
         binary: true,
-        name: field(fields)?,
-    })
+        name: field(fields),
+    }
 }
 
 // Reads what stands behind the word of a statement of grouped digits.
-fn grouped<'a>(fields: &mut Words<'a>, writes: bool) -> Option<Statement<'a>> {
-    let every = fields.number()?;
-    let sep = byte(fields)?;
+fn grouped<'a>(fields: &mut Words<'a>, writes: bool) -> Statement<'a> {
+    let every = fields.take_number();
+    let sep = byte(fields);
     if writes {
-        return Some(Statement::WritesGrouped {
+        return Statement::WritesGrouped {
             every,
             sep,
-            bytes: field(fields)?,
-            text: fields.rest(),
-        });
+            bytes: field(fields),
+            text: fields.take_rest(),
+        };
     }
-    Some(Statement::RefusesGrouped {
+    Statement::RefusesGrouped {
         every,
         sep,
-        room: fields.number()?,
-        fault: fault(fields)?,
-        text: fields.rest(),
-    })
+        room: fields.take_number(),
+        fault: fault(fields),
+        text: fields.take_rest(),
+    }
 }
 
 // Reads a policy: `any`, `lower` or `upper`.
-fn case(fields: &mut Words<'_>) -> Option<CheckCase> {
+fn case(fields: &mut Words<'_>) -> CheckCase {
     if fields.takes(b"any") {
-        Some(CheckCase::None)
+        CheckCase::None
     } else if fields.takes(b"lower") {
-        Some(CheckCase::Lower)
+        CheckCase::Lower
     } else {
-        fields.takes(b"upper").then_some(CheckCase::Upper)
+        fields.wants(b"upper");
+        CheckCase::Upper
     }
 }
 
 // Reads what stands behind the word of a statement of a list.
-fn listed<'a>(fields: &mut Words<'a>, writes: bool) -> Option<Statement<'a>> {
-    let case = case(fields)?;
-    let entry = entry(fields)?;
-    let list = fields.rest();
+fn listed<'a>(fields: &mut Words<'a>, writes: bool) -> Statement<'a> {
+    let case = case(fields);
+    let entry = entry(fields);
+    let list = fields.take_rest();
     if writes {
         let upper = matches!(case, CheckCase::Upper);
-        return Some(Statement::WritesEntry { entry, upper, list });
+        return Statement::WritesEntry { entry, upper, list };
     }
-    Some(Statement::ReadsEntry { list, case, entry })
+    Statement::ReadsEntry { list, case, entry }
 }
 
 // Reads a vector: its name, and a statement to the end of the fields.
-fn vector<'a>(fields: Words<'a>) -> Option<PlainVector<'a>> {
-    let mut fields = fields;
-    let name = name(&mut fields)?;
+fn vector<'a>(fields: &mut Words<'a>) -> PlainVector<'a> {
+    let name = name(fields);
     let states = if fields.takes(b"writes-grouped") {
-        grouped(&mut fields, true)
+        grouped(fields, true)
     } else if fields.takes(b"refuses-grouped") {
-        grouped(&mut fields, false)
+        grouped(fields, false)
     } else if fields.takes(b"writes-entry") {
-        listed(&mut fields, true)
+        listed(fields, true)
     } else {
-        fields.takes(b"reads-entry").then_some(())?;
-        listed(&mut fields, false)
+        fields.wants(b"reads-entry");
+        listed(fields, false)
     };
-    Some(PlainVector {
-        name,
-        states: states?,
-    })
+    PlainVector { name, states }
 }
 
 /// `stored-plain PLACE`: the stored vector at a place.
-pub fn stored_row(row: Words<'_>, answer: Words<'_>, buffers: &mut Buffers) -> Option<bool> {
+pub fn stored_row(row: Words<'_>, answer: Words<'_>, buffers: &mut Buffers) -> bool {
     let mut row = row;
-    let stored = PLAIN_VECTORS.get(row.number()?)?;
-    let stated = vector(written(answer, &mut buffers.input)?)?;
-    row.are_read().then_some(*stored == stated)
+    let Some(stored) = PLAIN_VECTORS.get(row.take_number()) else {
+        return false;
+    };
+    let mut fields = written(answer, &mut buffers.input);
+    let stated = vector(&mut fields);
+    row.are_read() && fields.are_read() && *stored == stated
 }
 
 /// `plain VECTOR`: status, output and message of a run of a vector and a sound one behind it.
-pub fn run_row(row: Words<'_>, answer: Words<'_>, buffers: &mut Buffers) -> Option<bool> {
+pub fn run_row(row: Words<'_>, answer: Words<'_>, buffers: &mut Buffers) -> bool {
     let alloc = buffers.alloc;
-    let stated = vector(written(row, &mut buffers.input)?)?;
+    let mut fields = written(row, &mut buffers.input);
+    let stated = vector(&mut fields);
     let sound = PlainVector {
         name: "sound",
         ..PLAIN_VECTORS[3]
     };
     let (out, err) = (Vec::new(alloc), Vec::new(alloc));
     let ended = serve_vectors(&alloc, &[], &[stated, sound], out, err);
-    is_end(answer, &mut buffers.output, ended)
+    fields.are_read() && is_end(answer, &mut buffers.output, ended)
 }

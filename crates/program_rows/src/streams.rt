@@ -15,17 +15,20 @@ pub struct Repeated {
 
 impl Repeated {
     /// Reads `BYTE COUNT END`, where the last is `ends`, `newline` or `fails`.
-    pub fn read_from(row: &mut Words<'_>) -> Option<Repeated> {
-        let byte = row.byte()?;
-        let left = row.number()?;
+    pub fn read_from(row: &mut Words<'_>) -> Repeated {
+        let byte = row.take_byte();
+        let left = row.take_number();
         let newline = row.takes(b"newline");
         let fails = !newline && row.takes(b"fails");
-        (newline || fails || row.takes(b"ends")).then_some(Repeated {
+        if !newline && !fails {
+            row.wants(b"ends");
+        }
+        Repeated {
             byte,
             left,
             newline,
             fails,
-        })
+        }
     }
 }
 
@@ -64,27 +67,27 @@ pub struct Narrow {
 impl Narrow {
     /// Reads how many bytes are taken: a number, `all`, `unflushed` for all and a flush that fails,
     /// or `stuck` for none and no error.
-    pub fn read_from(row: &mut Words<'_>) -> Option<Narrow> {
+    pub fn read_from(row: &mut Words<'_>) -> Narrow {
         let stuck = row.takes(b"stuck");
         let flush_fails = !stuck && row.takes(b"unflushed");
         let is_all = stuck || flush_fails || row.takes(b"all");
-        let room = room(row, is_all)?;
-        Some(Narrow {
+        let room = room(row, is_all);
+        Narrow {
             taken: 0,
             flushes: 0,
             flush_fails,
             room,
             stuck,
-        })
+        }
     }
 }
 
 // Reads how many bytes there is room for, where that is not told yet.
-fn room(row: &mut Words<'_>, is_all: bool) -> Option<usize> {
+fn room(row: &mut Words<'_>, is_all: bool) -> usize {
     if is_all {
-        Some(usize::MAX)
+        usize::MAX
     } else {
-        row.number()
+        row.take_number()
     }
 }
 

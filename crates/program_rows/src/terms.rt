@@ -36,50 +36,74 @@ impl Buffers {
 }
 
 /// Reads a word of the program.
-pub fn word<'a>(row: &mut Words<'_>, bytes: &'a mut Bytes) -> Option<&'a str> {
-    row.bytes(bytes)?;
-    str::from_utf8(bytes.as_slice()).ok()
+pub fn word<'a>(row: &mut Words<'_>, bytes: &'a mut Bytes) -> &'a str {
+    row.take_bytes(bytes);
+    match str::from_utf8(bytes.as_slice()) {
+        Ok(word) => word,
+        Err(_) => {
+            row.misread();
+            ""
+        }
+    }
+}
+
+/// Reads how many growths there are.
+pub fn growths(words: &mut Words<'_>) -> u64 {
+    words.take_number() as u64
 }
 
 /// Reads a word that names an operation.
-pub fn operation(row: &mut Words<'_>, bytes: &mut Bytes) -> Option<Op> {
-    Op::from_word(word(row, bytes)?)
+pub fn operation(row: &mut Words<'_>, bytes: &mut Bytes) -> Op {
+    match Op::from_word(word(row, bytes)) {
+        Some(op) => op,
+        None => {
+            row.misread();
+            Op::Encode
+        }
+    }
 }
 
 /// Returns words of the bytes that the words which are left write together. No buffer is needed for
 /// each of them then, so a row can have many.
-pub fn written<'a>(row: Words<'_>, bytes: &'a mut Bytes) -> Option<Words<'a>> {
-    notation::write(row.rest(), row.turn(), bytes)?;
-    Some(Words::new(bytes.as_slice(), 0))
+pub fn written<'a>(row: Words<'_>, bytes: &'a mut Bytes) -> Words<'a> {
+    let is_written = notation::write(row.rest(), row.turn(), bytes).is_some();
+    let mut fields = Words::new(bytes.as_slice(), 0);
+    if !is_written {
+        fields.misread();
+    }
+    fields
 }
 
 /// Reads written bytes: `-` is none, and `spaced COUNT` stands before so many that hold a space.
-pub fn field<'a>(fields: &mut Words<'a>) -> Option<&'a [u8]> {
+pub fn field<'a>(fields: &mut Words<'a>) -> &'a [u8] {
     if fields.takes(b"-") {
-        return Some(b"");
+        b""
+    } else if fields.takes(b"spaced") {
+        let count = fields.take_number();
+        fields.take(count)
+    } else {
+        fields.next()
     }
-    if !fields.takes(b"spaced") {
-        return Some(fields.next());
-    }
-    let count = fields.number()?;
-    let (bytes, behind) = fields.rest().split_at_checked(count)?;
-    *fields = Words::new(behind.get(1..).unwrap_or_default(), 0);
-    Some(bytes)
 }
 
 /// Reads a word of written bytes that is one byte.
-pub fn byte(fields: &mut Words<'_>) -> Option<u8> {
+pub fn byte(fields: &mut Words<'_>) -> u8 {
     let word = fields.next();
-    if word.len() == 1 {
-        word.first().copied()
-    } else {
-        None
+    if word.len() != 1 {
+        fields.misread();
     }
+    word.first().copied().unwrap_or(0)
 }
 
 /// Reads a name.
-pub fn name<'a>(fields: &mut Words<'a>) -> Option<&'a str> {
-    str::from_utf8(fields.next()).ok()
+pub fn name<'a>(fields: &mut Words<'a>) -> &'a str {
+    match str::from_utf8(fields.next()) {
+        Ok(name) => name,
+        Err(_) => {
+            fields.misread();
+            ""
+        }
+    }
 }
 
 /// Returns whether these are the words that are left and a newline, or nothing where none is left.
@@ -91,44 +115,43 @@ pub fn is_message(message: &[u8], wanted: &[u8]) -> bool {
 }
 
 /// Reads a status, an output and a message, and returns whether a run ended so.
-pub fn is_end(answer: Words<'_>, bytes: &mut Bytes, ended: (u8, Vec<u8>, Vec<u8>)) -> Option<bool> {
+pub fn is_end(answer: Words<'_>, bytes: &mut Bytes, ended: (u8, Vec<u8>, Vec<u8>)) -> bool {
     let mut answer = answer;
     let (status, output, message) = ended;
-    let is_status = answer.number()? == usize::from(status);
-    answer.bytes(bytes)?;
+    let is_status = answer.take_number() == usize::from(status);
+    answer.take_bytes(bytes);
     let is_output = bytes.as_slice() == output.as_slice();
-    Some(is_status && is_output && is_message(message.as_slice(), answer.rest()))
+    let is_message = is_message(message.as_slice(), answer.take_rest());
+    answer.are_read() && is_status && is_output && is_message
 }
 
 /// Reads why an input is refused: `odd-length`, `too-small REQUIRED` or `invalid INDEX BYTE`.
-pub fn refusal(answer: &mut Words<'_>) -> Option<Error> {
+pub fn refusal(answer: &mut Words<'_>) -> Error {
     if answer.takes(b"odd-length") {
-        return Some(Error::OddLength);
+        return Error::OddLength;
     }
     if answer.takes(b"too-small") {
-        let required = answer.number()?;
-        return Some(Error::OutputTooSmall { required });
+        let required = answer.take_number();
+        return Error::OutputTooSmall { required };
     }
-    if !answer.takes(b"invalid") {
-        return None;
-    }
-    let index = answer.number()?;
-    let byte = answer.byte()?;
-    Some(Error::InvalidChar { index, byte })
+    answer.wants(b"invalid");
+    let index = answer.take_number();
+    let byte = answer.take_byte();
+    Error::InvalidChar { index, byte }
 }
 
 /// Reads what a run answers: `put`, `full`, `stuck`, `no-memory`, or why its input is refused.
-pub fn answer(words: &mut Words<'_>) -> Option<Result<(), RunFault>> {
+pub fn answer(words: &mut Words<'_>) -> Result<(), RunFault> {
     if words.takes(b"put") {
-        Some(Ok(()))
+        Ok(())
     } else if words.takes(b"full") {
-        Some(Err(RunFault::Write(WriteFault::Sink(SinkFault))))
+        Err(RunFault::Write(WriteFault::Sink(SinkFault)))
     } else if words.takes(b"stuck") {
-        Some(Err(RunFault::Write(WriteFault::TookNothing)))
+        Err(RunFault::Write(WriteFault::TookNothing))
     } else if words.takes(b"no-memory") {
-        Some(Err(RunFault::OutOfMemory))
+        Err(RunFault::OutOfMemory)
     } else {
-        Some(Err(RunFault::Codec(refusal(words)?)))
+        Err(RunFault::Codec(refusal(words)))
     }
 }
 
