@@ -93,8 +93,37 @@ build() {
     fi
 }
 
+# begin CRATE OUT SUM: builds a crate beside what goes on, and keeps its sum where that goes well.
+begin() {
+    (
+        if ! build "$1" >"$2/build.log" 2>&1; then
+            tail -n 40 "$2/build.log" >&2
+            exit 1
+        fi
+        echo "$3" >"$2/made-of"
+    ) &
+    begun="$begun $1"
+    tasks="$tasks $!"
+}
+
+# finish: waits for all that was begun, and then ends the script where one of them failed.
+finish() {
+    failed=
+    for task in $tasks; do
+        wait "$task" || failed=1
+    done
+    [ -z "$failed" ] || exit 1
+    begun=
+    tasks=
+}
+
 anew=
+begun=
+tasks=
 for crate in $(below "$target" | awk '!seen[$0]++'); do
+    for used in $(uses "$crate"); do
+        case " $begun " in *" $used "*) finish ;; esac
+    done
     word=statements
     out=crates/$crate/out/statements
     made=$out/$crate.rlib/format
@@ -112,9 +141,6 @@ for crate in $(below "$target" | awk '!seen[$0]++'); do
     anew=1
     rm -rf "crates/$crate/out/statements" "$made"
     mkdir -p "$out"
-    if ! build "$crate" >"$out/build.log" 2>&1; then
-        tail -n 40 "$out/build.log" >&2
-        exit 1
-    fi
-    echo "$now" >"$out/made-of"
+    begin "$crate" "$out" "$now"
 done
+finish
