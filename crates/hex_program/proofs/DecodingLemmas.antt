@@ -20,7 +20,7 @@ use Rattle.hex_program.specs.declared.failure.Failure.{Failure}
 use Rattle.hex_program.specs.declared.failure.Failure.TheVariants.{Codec, Usage, ReadFailed, WriteFailed, OutOfMemory, InputTooLong}
 use Rattle.hex_program.specs.Decoding.{DecodingFailure, EndsRefused, Kept}
 use Rattle.hex_program.specs.Input.{ReadsAll, input_limit}
-use Rattle.hex_program.specs.Operations.{without_newline}
+use Rattle.hex_operations.specs.Operations.{without_newline}
 
 -- what was written to the front of a buffer
 front-written : (old bytes : List ℕ) (n : ℕ) → n ≡ length bytes → take n (with_front old bytes) ≡ bytes

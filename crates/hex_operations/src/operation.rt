@@ -4,7 +4,7 @@ ghost use Rattle.std.specs.Prelude.{◌≡◌, ◌++◌, ◌∷◌, [], ◌<◌,
 ghost use Rattle.hex_core.specs.Text.{Spells, text};
 ghost use Rattle.hex_core.specs.Refusal.{source_refusal};
 ghost use Rattle.hex_format.specs.Sink.{Puts};
-ghost use Rattle.hex_program.specs.Operations.{NeedsMemory, Runs, RunsBy, op_of_word, op_of_words, without_newline};
+ghost use Rattle.hex_operations.specs.Operations.{NeedsMemory, Runs, RunsBy, op_of_word, op_of_words, without_newline};
 
 use hex_codec::hex_decode_vec_with_case;
 use hex_core::{CheckCase, Error};
@@ -74,7 +74,7 @@ pub enum RunFault {
 }
 
 /// The input without one final newline, where it has one.
-pub(crate) fn digits_in(input: &[u8]) -> &[u8]
+pub fn digits_in(input: &[u8]) -> &[u8]
     ensures { result.now ≡ without_newline input.now }
 {
     match input {

@@ -5,7 +5,7 @@ use Rattle.hex_format.specs.declared.format.HexFlags.{HexFlags}
 use Rattle.hex_format.specs.Frame.{frame, hex_bytes, plain_flags}
 use Rattle.hex_format.proofs.FrameFacts.{frame-plain}
 use Rattle.hex_format.proofs.PutsLemmas.{Puts-err, Puts-then, Stops-stop}
-use Rattle.hex_program.proofs.operation.put_text.Goals as goal
+use Rattle.hex_operations.proofs.operation.put_text.Goals as goal
 
 -- what is put before the newline is the text
 plain_text : (flags : HexFlags) (upper : Bool) (shown bytes : List ℕ) → flags ≡ plain_flags → shown ≡ bytes → frame (record flags { upper = upper }) shown ≡ text upper bytes
