@@ -5,9 +5,6 @@ use hex_codec::stream::Decoder;
 use hex_core::Error;
 use row_reader::Words;
 
-// How long the chunks of a cutting may be; which of them, its seed says.
-const WIDEST: [usize; 6] = [1, 2, 8, 70, 300, 3_000];
-
 // The most chunks of a cutting, more than twice as many as the longest source has digits.
 const CHUNKS: usize = 24_000;
 
@@ -20,11 +17,16 @@ struct Cutting {
 
 impl Cutting {
     fn new(seed: usize) -> Cutting {
-        let kind = WIDEST.get(seed % WIDEST.len());
-        Cutting {
-            state: seed as u64,
-            widest: kind.copied().unwrap_or(1),
-        }
+        let widest = match seed % 6 {
+            0 => 1,
+            1 => 2,
+            2 => 8,
+            3 => 70,
+            4 => 300,
+            _ => 3_000,
+        };
+        let state = seed as u64;
+        Cutting { state, widest }
     }
 
     // The length of the next chunk, which may be none.

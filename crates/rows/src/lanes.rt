@@ -50,14 +50,13 @@ fn are_saturated(bytes: &[u8], case: CheckCase, want: &[u8]) -> Option<bool> {
 // Whether the nibbles are the wanted ones, each with a check below 128, but where the byte is
 // refused, which is wanted as 255.
 fn are_hashed(nibbles: &[u8], checks: &[u8], want: &[u8]) -> bool {
-    for (i, want) in want.iter().enumerate() {
-        let is_refused = checks.get(i).is_none_or(|check| *check >= 128);
-        let nibble = nibbles.get(i).copied();
-        if (is_refused && *want != 255) || (!is_refused && nibble != Some(*want)) {
+    for ((nibble, check), want) in nibbles.iter().zip(checks).zip(want) {
+        let value = if *check < 128 { *nibble } else { 255 };
+        if value != *want {
             return false;
         }
     }
-    want.len() == nibbles.len()
+    want.len() == nibbles.len() && want.len() == checks.len()
 }
 
 // Whether these are the wanted checks where `is_check` is true, and else the wanted nibbles.

@@ -8,7 +8,7 @@ use hex_format::{Sink, SinkFault, WriteFault};
 pub const CAPACITY: usize = 1100;
 
 /// What a [`LimitedSink`] takes of a piece.
-#[derive(Clone, Copy, Debug, PartialEq, Eq)]
+#[derive(Clone, Copy, PartialEq, Eq)]
 pub enum Mode {
     /// One byte a put, and none where the limit is reached.
     OneByte,

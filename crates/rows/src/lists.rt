@@ -113,15 +113,19 @@ fn list_fault(answer: &mut Words<'_>) -> ListFault {
     ListFault::Line { line, why }
 }
 
+// Whether the next word writes these bytes.
+fn are_next(want: &[u8], answer: &mut Words<'_>, bytes: &mut Bytes) -> bool {
+    answer.take_bytes(bytes);
+    bytes.as_slice() == want
+}
+
 // Whether the next words are the digest, the mark and the name of an entry.
 fn is_entry<const N: usize>(entry: &Entry<'_, N>, answer: &mut Words<'_>, bytes: &mut Bytes) -> bool
     requires { N < 10000 }
 {
-    answer.take_bytes(bytes);
-    let is_digest = bytes.as_slice() == entry.digest.as_slice();
+    let is_digest = are_next(entry.digest.as_slice(), answer, bytes);
     let is_binary = is_either(answer, b"*", b"text");
-    answer.take_bytes(bytes);
-    is_digest && is_binary == entry.binary && bytes.as_slice() == entry.name
+    are_next(entry.name, answer, bytes) && is_digest && is_binary == entry.binary
 }
 
 // Whether the answer is `ok` and these entries.
@@ -246,13 +250,12 @@ impl Relisted<'_> {
         requires { N < 10000 }
     {
         let mut sink = SliceSink::new(dst);
-        let answer = digests::write_to(entries, &mut sink, self.given.is_upper());
-        let want = if self.is_stopped {
-            Err(ListWriteFault::Write(WriteFault::Sink(SinkFault)))
-        } else {
-            Ok(())
+        let is_stopped = match digests::write_to(entries, &mut sink, self.given.is_upper()) {
+            Ok(()) => false,
+            Err(fault) if fault == ListWriteFault::Write(WriteFault::Sink(SinkFault)) => true,
+            Err(_) => return false,
         };
-        answer == want
+        is_stopped == self.is_stopped
             && sink.written() == self.text
             && sink.failures() == u64::from(self.is_stopped)
     }

@@ -134,9 +134,12 @@ impl<'a> Appended<'a> {
 
     // The string before the call.
     fn text<'r>(self, alloc: &'r Refusing<Global>) -> Option<String<&'r Refusing<Global>>> {
+        let before = str::from_utf8(self.before).ok()?;
         let mut text = String::with_capacity(alloc, self.capacity).ok()?;
-        text.push_str(str::from_utf8(self.before).ok()?).ok()?;
-        Some(text)
+        match text.push_str(before) {
+            Ok(()) => Some(text),
+            Err(_) => None,
+        }
     }
 
     // Whether a string is the wanted one after the call, in no more room than a growth gave it.

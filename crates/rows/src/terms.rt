@@ -94,7 +94,12 @@ impl Buffers {
 
 // Whether each byte is the one that a destination is filled with.
 fn is_filled(bytes: &[u8]) -> bool {
-    bytes.iter().all(|byte| *byte == FILL)
+    for byte in bytes {
+        if *byte != FILL {
+            return false;
+        }
+    }
+    true
 }
 
 /// Reads a policy: `any`, `lower` or `upper`.

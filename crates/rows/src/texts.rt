@@ -10,16 +10,14 @@ use hex_format::{Align, Hex, HexFlags, Sink, SinkFault, SliceSink, WriteFault};
 use row_reader::{Bytes, Words};
 use std::fmt::Write;
 
-// Sets the flag that a letter names.
-fn set_flag(flags: &mut HexFlags, letter: u8) {
-    match letter {
-        b'<' => flags.align = Align::Left,
-        b'^' => flags.align = Align::Center,
-        b'+' => flags.plus = true,
-        b'#' => flags.prefix = true,
-        b'0' => flags.zero = true,
-        b'X' => flags.upper = true,
-        _ => {}
+// Where a text stands in its width, by the letters of its flags.
+fn align(letters: &[u8]) -> Align {
+    if letters.contains(&b'<') {
+        Align::Left
+    } else if letters.contains(&b'^') {
+        Align::Center
+    } else {
+        Align::Right
     }
 }
 
@@ -63,14 +61,20 @@ fn pieces(row: &mut Words<'_>) -> Option<Group> {
 // Reads flags: the letters of a format string (`<` or `^`, `+`, `#`, `0` and `X`, or `-` for none of
 // them), the width, the fill, the bytes of a piece and the separator, each `-` where there is none.
 fn flags(row: &mut Words<'_>, bytes: &mut Bytes) -> HexFlags {
-    let mut flags = HexFlags::default();
-    for letter in row.next() {
-        set_flag(&mut flags, *letter);
+    let letters = row.next();
+    let width = width(row);
+    let fill = fill(row, bytes);
+    let group = pieces(row);
+    HexFlags {
+        align: align(letters),
+        plus: letters.contains(&b'+'),
+        prefix: letters.contains(&b'#'),
+        zero: letters.contains(&b'0'),
+        upper: letters.contains(&b'X'),
+        width,
+        fill,
+        group,
     }
-    flags.width = width(row);
-    flags.fill = fill(row, bytes);
-    flags.group = pieces(row);
-    flags
 }
 
 // Writes the text of these bytes.

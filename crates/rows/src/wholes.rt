@@ -127,43 +127,63 @@ pub fn all_own(
     all_store(src, case, answer, wanted, to)
 }
 
-// The values that an answer gives to bytes; any other byte has `NONE`.
-#[derive(Drop)]
-struct Values {
-    of: [u8; 256],
+// Bytes that have values, each one more than the byte before it.
+#[derive(Clone, Copy)]
+struct Range {
+    first: u8,
+    last: u8,
+    value: u8,
 }
 
-const NONE: u8 = 255;
+impl Range {
+    const EMPTY: Range = Range {
+        first: 1,
+        last: 0,
+        value: 0,
+    };
 
-impl Values {
-    // Gives the bytes from `first` to `last` the values from `value` on.
-    fn set(&mut self, first: u8, last: u8, value: usize) -> Option<()> {
-        let mut value = u8::try_from(value).ok()?;
-        for byte in first..=last {
-            *self.of.get_mut(usize::from(byte))? = value;
-            value = value.checked_add(1)?;
+    // Reads the first and the last byte and the first value.
+    fn read(answer: &mut Words<'_>) -> Range {
+        Range {
+            first: answer.take_byte(),
+            last: answer.take_byte(),
+            value: (answer.take_number() % 256) as u8,
         }
-        Some(())
     }
 
-    // Reads the first and the last byte and the first value of at most three ranges.
+    fn value(self, byte: u8) -> Option<u8> {
+        if self.first <= byte && byte <= self.last {
+            self.value.checked_add(byte.wrapping_sub(self.first))
+        } else {
+            None
+        }
+    }
+}
+
+// The values that an answer gives to bytes, by at most three ranges.
+#[derive(Clone, Copy)]
+struct Values {
+    ranges: [Range; 3],
+}
+
+impl Values {
     fn read(answer: &mut Words<'_>) -> Values {
-        let mut values = Values { of: [NONE; 256] };
-        for _ in 0..3 {
+        let mut ranges = [Range::EMPTY; 3];
+        for range in &mut ranges {
             if answer.are_read() {
                 break;
             }
-            let (first, last) = (answer.take_byte(), answer.take_byte());
-            if values.set(first, last, answer.take_number()).is_none() {
-                answer.misread();
-            }
+            *range = Range::read(answer);
         }
-        values
+        Values { ranges }
     }
 
-    fn get(&self, byte: u8) -> Option<u8> {
-        let value = *self.of.get(usize::from(byte))?;
-        (value != NONE).then_some(value)
+    fn get(self, byte: u8) -> Option<u8> {
+        let [first, second, third] = self.ranges;
+        first
+            .value(byte)
+            .or(second.value(byte))
+            .or(third.value(byte))
     }
 }
 
@@ -221,7 +241,7 @@ pub fn each_byte_row(
 }
 
 // What a pair of bytes spells.
-fn spelled(pair: [u8; 2], values: &Values) -> Result<u8, Error> {
+fn spelled(pair: [u8; 2], values: Values) -> Result<u8, Error> {
     let [a, b] = pair;
     match (values.get(a), values.get(b)) {
         (Some(high), Some(low)) => Ok(high.wrapping_mul(16).wrapping_add(low)),
@@ -239,7 +259,10 @@ fn decodes_pairs(
 ) -> bool {
     let bytes = [pair.unwrap_or(0); 64];
     let front = bytes.get(..src.len() / 2).unwrap_or_default();
-    let want: Answer<'_> = pair.map(|_| front);
+    let want: Answer<'_> = match pair {
+        Ok(_) => Ok(front),
+        Err(e) => Err(e),
+    };
     let is_decoded = match hex_decode_with_case(src, to.lend(src.len() / 2 + 1), case) {
         Ok(front) => are_answer(front, want),
         Err(e) => is_answer(e, want),
@@ -266,7 +289,7 @@ pub fn each_pair_row(
         buffers.given.try_extend_from_slice(&pair).ok()?;
     }
     let src = buffers.given.as_slice();
-    Some(decodes_pairs(src, case, spelled(pair, &values), &mut buffers.destination))
+    Some(decodes_pairs(src, case, spelled(pair, values), &mut buffers.destination))
 }
 
 // Whether a plan writes this text of these bytes into room for it.
