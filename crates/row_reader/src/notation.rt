@@ -17,6 +17,15 @@ pub const ROOM: usize = 10_100;
 /// The bytes that a word wrote.
 pub type Bytes = ArrayVec<u8, ROOM>;
 
+fn digit_value(byte: u8) -> Option<usize> {
+    match byte {
+        b'0'..=b'9' => Some(usize::from(byte - b'0')),
+        b'a'..=b'f' => Some(usize::from(byte - b'a') + 10),
+        b'A'..=b'F' => Some(usize::from(byte - b'A') + 10),
+        _ => None,
+    }
+}
+
 // The text of a word that is still to be read, and the turn it is read for.
 #[derive(Drop)]
 struct Cursor<'a> {
@@ -44,7 +53,7 @@ impl Cursor<'_> {
 
     // The value of the next byte, where that is a digit to this base, at most 16; it is then read.
     fn digit(&mut self, base: usize) -> Option<usize> {
-        let value = char::from(self.peek()?).to_digit(16)? as usize;
+        let value = digit_value(self.peek()?)?;
         if value >= base {
             return None;
         }
@@ -94,7 +103,7 @@ impl Cursor<'_> {
     fn pair(&mut self) -> Option<u8> {
         let high = self.digit(16)?;
         let low = self.digit(16)?;
-        u8::try_from(high.wrapping_mul(16).wrapping_add(low)).ok()
+        Some((high.wrapping_mul(16).wrapping_add(low) % 256) as u8)
     }
 
     // The next byte of a part, which is written as digits where `is_hex` is true.
@@ -126,7 +135,10 @@ impl Cursor<'_> {
             if !self.is_inside() {
                 break;
             }
-            bytes.try_push(self.byte(is_hex)?).ok()?;
+            let byte = self.byte(is_hex)?;
+            if bytes.try_push(byte).is_err() {
+                return None;
+            }
         }
         Some(())
     }
