@@ -88,11 +88,13 @@ pub fn field<'a>(fields: &mut Words<'a>) -> &'a [u8] {
 
 /// Reads a word of written bytes that is one byte.
 pub fn byte(fields: &mut Words<'_>) -> u8 {
-    let word = fields.next();
-    if word.len() != 1 {
-        fields.misread();
+    match fields.next() {
+        [byte] => *byte,
+        _ => {
+            fields.misread();
+            0
+        }
     }
-    word.first().copied().unwrap_or(0)
 }
 
 /// Reads a name.
@@ -108,9 +110,9 @@ pub fn name<'a>(fields: &mut Words<'a>) -> &'a str {
 
 /// Returns whether these are the words that are left and a newline, or nothing where none is left.
 pub fn is_message(message: &[u8], wanted: &[u8]) -> bool {
-    match message {
-        [line @ .., b'\n'] => !wanted.is_empty() && line == wanted,
-        _ => message.is_empty() && wanted.is_empty(),
+    match message.split_last() {
+        Some((end, line)) => *end == b'\n' && !wanted.is_empty() && line == wanted,
+        None => wanted.is_empty(),
     }
 }
 
