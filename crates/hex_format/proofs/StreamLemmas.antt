@@ -1,5 +1,5 @@
 -- Streams that are read chunk by chunk.
-use Rattle.std.proofs.Common.{◌≡◌, ◌∙◌, inl, inr, ℕ, ◌+◌, ◌%◌, ◌*◌, ◌^◌, ◌<◌, ◌≤◌, List, [], ◌++◌, length, length-append, take, drop, slice_index, Option, Some, None, Result, Ok, Err, refl, sym, subst, append-nil, arith}
+use Rattle.std.proofs.Common.{◌≡◌, ◌∙◌, inl, inr, Bool, ℕ, ◌+◌, ◌%◌, ◌*◌, ◌^◌, ◌<◌, ◌≤◌, List, [], ◌++◌, length, length-append, take, drop, slice_index, Option, Some, None, Result, Ok, Err, refl, sym, subst, append-nil, arith}
 use Rattle.std.specs.Prelude.{option_map}
 use Rattle.std.specs.Option.{option_to_list}
 use Rattle.std.specs.Io.KnownBytes.{Consumes, IsAtEnd, Keeps, ReadConsumes}
@@ -10,12 +10,14 @@ use Rattle.std.proofs.lemmas.Bool.Decides.{nat_tests}
 use Rattle.hex_core.specs.declared.digit.CheckCase.{CheckCase}
 use Rattle.hex_core.specs.declared.error.Error.{Error}
 use Rattle.hex_core.specs.declared.error.Error.TheVariants.{InvalidChar, OddLength, Overflow}
-use Rattle.hex_core.specs.Refusal.{encode_refusal, first_bad_char, source_refusal}
+use Rattle.hex_core.specs.Refusal.{first_bad_char, source_refusal}
 use Rattle.hex_core.specs.Search.{first_invalid}
-use Rattle.hex_core.specs.Text.{with_front}
+use Rattle.hex_core.specs.Text.{text, with_front}
+use Rattle.hex_core.proofs.TextLemmas.{text-append}
 use Rattle.hex_codec.specs.Stream.{SpellsBut, feed_refusal, pairs_more}
 use Rattle.hex_codec.proofs.StreamLemmas.{refused-byte, refused-many}
-use Rattle.hex_format.specs.Sink.{SinkState, Takes}
+use Rattle.hex_format.specs.Sink.{SinkState, Stops, Takes}
+use Rattle.hex_format.proofs.PutsLemmas.{Stops-then, Takes-then}
 use Rattle.hex_format.specs.Streams.{DecodesStream, Finishes, RefusedFor, Wrote}
 use Rattle.hex_format.specs.declared.streams.StreamFault.{StreamFault}
 use Rattle.hex_format.specs.declared.streams.StreamFault.TheVariants.{Codec, Read, Write}
@@ -92,8 +94,11 @@ fed-few c fed src room none = elim (cases_lt (length fed + length src) (2 ^ 64))
   | inr many ↦ absurd (cc (refused-many c fed src room many, none))
 ]
 
--- a text of a chunk fits
-pub text-fits : (piece : List ℕ) (room : ℕ) (e : Error) → length piece ≤ 4096 → room ≡ 8192 → encode_refusal piece room ≡ Some e → ⊥
-text-fits piece room e few is refused =
-    let none : encode_refusal piece room ≡ None = grind (arith, nat_tests, few, is) in
-    absurd (cc (none, refused))
+-- a text was taken, and then that of the next bytes, or a beginning of it
+pub taken-text : (upper : Bool) (a b c : SinkState) (bytes piece shown : List ℕ) → Takes a b (text upper bytes) → shown ≡ text upper piece → Takes b c shown → Takes a c (text upper (bytes ++ piece))
+taken-text upper a b c bytes piece shown so_far is more =
+    subst (Takes a c) (sym (text-append upper bytes piece)) (Takes-then a b c (text upper bytes) (text upper piece) so_far (subst (Takes b c) is more))
+
+pub stopped-text : (upper : Bool) (a b c : SinkState) (bytes piece shown : List ℕ) → Takes a b (text upper bytes) → shown ≡ text upper piece → Stops b c shown → Stops a c (text upper (bytes ++ piece))
+stopped-text upper a b c bytes piece shown so_far is failed =
+    subst (Stops a c) (sym (text-append upper bytes piece)) (Stops-then a b c (text upper bytes) (text upper piece) so_far (subst (Stops b c) is failed))

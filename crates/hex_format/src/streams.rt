@@ -6,11 +6,9 @@ ghost use Rattle.std.specs.Io.{ReadsAtMost};
 ghost use Rattle.std.specs.Io.KnownBytes.{ReadConsumes};
 ghost use Rattle.hex_format.specs.Streams.{DecodesStream, EncodesStream, Ends};
 
-use crate::laws::puts_in_a_row_are_one;
 use crate::sink::{Sink, WriteFault, put_all};
-use hex_codec::hex_encode_into;
+use hex_codec::chunks::encoded;
 use hex_codec::stream::Decoder;
-use hex_core::laws::the_text_of_a_joined_list_is_the_texts_joined;
 use hex_core::{CheckCase, Error};
 use std::io::{self, ErrorKind, Read};
 
@@ -62,7 +60,6 @@ pub fn decode_stream<R: Read, S: Sink>(
     ensures { DecodesStream case (R.remaining reader.old) (R.remaining reader.new)
         (S.state sink.old) (S.state sink.new) result }
 {
-    puts_in_a_row_are_one();
     let mut chunk = [0; 2 * CHUNK];
     let mut bytes = [0; CHUNK];
     let mut decoder = Decoder::new(case);
@@ -111,8 +108,6 @@ pub fn encode_stream<R: Read, S: Sink>(
     ensures { EncodesStream upper (R.remaining reader.old) (R.remaining reader.new)
         (S.state sink.old) (S.state sink.new) result }
 {
-    the_text_of_a_joined_list_is_the_texts_joined();
-    puts_in_a_row_are_one();
     let mut chunk = [0; CHUNK];
     let mut text = [0; 2 * CHUNK];
     let mut total: usize = 0;
@@ -122,12 +117,8 @@ pub fn encode_stream<R: Read, S: Sink>(
             Ok(count) => count,
             Err(_) => return Err(StreamFault::Read),
         };
-        // The text of a chunk fits, so nothing is refused here.
-        let digits = match hex_encode_into(&chunk[..count], &mut text, upper) {
-            Ok(digits) => digits,
-            Err(refusal) => return Err(StreamFault::Codec(refusal)),
-        };
-        if let Err(fault) = put_all(sink, &text[..digits]) {
+        let digits = encoded(&chunk[..count], upper, &mut text);
+        if let Err(fault) = put_all(sink, digits) {
             return Err(StreamFault::Write(fault));
         }
         total = match total.checked_add(count) {

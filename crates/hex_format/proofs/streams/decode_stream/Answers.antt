@@ -7,6 +7,7 @@ use Rattle.hex_codec.specs.Stream.{pairs_more}
 use Rattle.hex_format.specs.Sink.{Stops, Takes}
 use Rattle.hex_format.specs.Streams.{DecodesStream}
 use Rattle.hex_format.specs.declared.streams.StreamFault.TheVariants.{Codec, Write}
+use Rattle.hex_format.proofs.PutsLemmas.{Stops-then, Takes-then}
 use Rattle.hex_format.proofs.StreamLemmas.{ended-all, fed-few, front-written, pairs-fit, refused-feed}
 use Rattle.hex_format.proofs.streams.decode_stream.Goals as goal
 
@@ -54,7 +55,7 @@ returns-in-Err-put_all g c =
     let piece : List ℕ = take c.in-Ok.count c.read_again.new.buf in
     let fed = c.in-Ok-feed.ensures.feeds digits written inv.3.1.1 in
     let front : take c.in-Ok-feed.written c.feed.new.dst ≡ fed.1.0 = ap (take c.in-Ok-feed.written) fed.1.2 ∙ front-written c.reads.bytes fed.1.0 c.in-Ok-feed.written fed.1.1 in
-    let stops : Stops start end (written ++ fed.1.0) = c.puts_in_a_row_are_one.ensures.stopped start middle end written fed.1.0 inv.3.1.3 (subst (Stops middle end) front c.in-Err-put_all.ensures) in
+    let stops : Stops start end (written ++ fed.1.0) = Stops-then start middle end written fed.1.0 inv.3.1.3 (subst (Stops middle end) front c.in-Err-put_all.ensures) in
     subst (λ p. DecodesStream p before left start end (Err (Write c.in-Err-put_all.fault))) (c.in-Ok-feed.ensures.policy ∙ inv.0) (
       digits ++ piece,
       Consumes-trans before (g.R.Read.remaining c.reads.reader) left digits piece inv.3.1.2 c.in-Ok.ensures.bytes.0,
@@ -83,7 +84,7 @@ reads-preserved g c =
     let front : take c.in-Ok-feed.written c.feed.new.dst ≡ fed.1.0 = ap (take c.in-Ok-feed.written) fed.1.2 ∙ front-written c.reads.bytes fed.1.0 c.in-Ok-feed.written fed.1.1 in
     let room : length c.read_again.new.buf ≡ 8192 = search rules in
     let wide : length c.feed.new.dst ≡ 4096 = search rules in
-    let takes : Takes start end (written ++ fed.1.0) = c.puts_in_a_row_are_one.ensures.taken start middle end written fed.1.0 inv.3.1.3 (subst (Takes middle end) front c.in_default.ensures) in (
+    let takes : Takes start end (written ++ fed.1.0) = Takes-then start middle end written fed.1.0 inv.3.1.3 (subst (Takes middle end) front c.in_default.ensures) in (
       c.in-Ok-feed.ensures.policy ∙ inv.0,
       room,
       wide,
