@@ -1,5 +1,5 @@
 -- A piece's text is the next of those of all pieces.
-use Rattle.std.proofs.Common.{◌≡◌, Bool, ℕ, ◌+◌, ◌-◌, ◌*◌, ◌≤◌, ◌<◌, suc, min, List, [], ◌∷◌, ◌++◌, length, take, drop, refl, sym, ap, ◌∙◌, arith, append_assoc, append-nil, length-append, length-drop, take-append-drop}
+use Rattle.std.proofs.Common.{◌≡◌, Bool, ℕ, ◌+◌, ◌-◌, ◌*◌, ◌≤◌, ◌<◌, zero, suc, min, List, [], ◌∷◌, ◌++◌, length, take, drop, refl, sym, ap, ◌∙◌, arith, append_assoc, append-nil, length-append, length-drop, take-append-drop}
 use Rattle.std.proofs.Math.Seq.{drop-append_seam, take-add, take-append_seam}
 use Rattle.std.proofs.Math.ListN.{length-set, set}
 use Rattle.std.proofs.lemmas.List.{drop_all, length-take-le, take_all, take_more_set}
@@ -27,6 +27,12 @@ piece-next group upper all piece rest parts size some =
     let cut = cut_off (piece_len group) piece rest (rw parts at size) in
     separated-next group upper all some
     ∙ rw (parts, cut.0, cut.1) refl
+
+-- a piece that is all there is
+piece-alone : (group : Group) (upper : Bool) (bytes : List ℕ) → length bytes ≤ piece_len group → 0 < length bytes → separated group upper bytes ≡ separator group ∷ text upper bytes
+piece-alone group upper bytes short some =
+    piece-next group upper bytes bytes [] (sym (append-nil bytes)) (omega (arith, short)) some
+    ∙ ap (λ l. (separator group ∷ text upper bytes) ++ l) (separated-none group upper) ∙ append-nil (separator group ∷ text upper bytes)
 
 -- a separator and a text, written behind what stands there
 pub write-next : (out shown : List ℕ) (to end n sep : ℕ) → end ≡ to + 1 + length shown → end ≤ length out
@@ -66,13 +72,20 @@ one-more group upper count at bytes whole inside =
     let some : 0 < every = group.is_group.0 in
     let piece = take every (drop at bytes) in
     let long : length piece ≡ every = length-take-le every (drop at bytes) (omega (arith, length-drop at bytes)) in
-    let last = piece-next group upper piece piece [] (sym (append-nil piece)) (omega (arith, long)) (omega (arith, long, some)) in
-    let one : separator group ∷ text upper piece ≡ separated group upper piece = sym (last ∙ ap (λ l. (separator group ∷ text upper piece) ++ l) (separated-none group upper) ∙ append-nil (separator group ∷ text upper piece)) in
+    let one = sym (piece-alone group upper piece (omega (arith, long)) (omega (arith, long, some))) in
     ap (λ l. separated group upper (take at bytes) ++ l) one ∙ bytes-more group upper count at every bytes whole (omega arith)
 
 -- there is a separator before the first piece
 pub separated-some : (group : Group) (upper : Bool) (bytes : List ℕ) → 0 < length bytes → 0 < length (separated group upper bytes)
 separated-some group upper bytes some = let more = ap length (separated-next group upper bytes some) in omega (arith, more)
+
+-- the pieces so far are all where no byte is left
+pub separated-end : (group : Group) (upper : Bool) (done whole rest : List ℕ) → length rest ≡ 0 → done ++ separated group upper rest ≡ whole → done ≡ whole
+separated-end group upper done whole [] none so_far = sym (append-nil done) ∙ (ap (λ l. done ++ l) (sym (separated-none group upper)) ∙ so_far)
+separated-end group upper done whole (b ∷ rest) none so_far = absurd (omega arith)
+
+pub grouped-end : (group : Group) (upper : Bool) (bytes done rest : List ℕ) → length rest ≡ 0 → done ++ separated group upper rest ≡ separated group upper bytes → drop 1 done ≡ grouped group upper bytes
+grouped-end group upper bytes done rest none so_far = ap (drop 1) (separated-end group upper done (separated group upper bytes) rest none so_far) ∙ sym (grouped-separated group upper bytes)
 
 -- what is put behind pieces of which the first separator was left out
 put-next : (done shown rest all : List ℕ) (from : ℕ) → from ≡ 1 - length done → 0 < length shown → done ++ (shown ++ rest) ≡ all
@@ -102,17 +115,17 @@ shown-next group upper bytes done left rest shown from is some next so_far =
       behind = append_assoc done shown (separated group upper rest) ∙ whole;
     }
 
-pub next-piece : (group : Group) (upper : Bool) (bytes done left piece rest : List ℕ) → left ≡ piece ++ rest → length piece ≡ min (piece_len group) (length left) → 0 < length left
-    → done ++ separated group upper left ≡ separated group upper bytes → Next group upper bytes done rest (separator group ∷ text upper piece) (1 - length done)
-next-piece group upper bytes done left piece rest parts size some so_far =
-    shown-next group upper bytes done left rest (separator group ∷ text upper piece) (1 - length done) refl (omega arith) (piece-next group upper left piece rest parts size some) so_far
-
 pub next-chunk : (group : Group) (upper : Bool) (count : ℕ) (bytes done left chunk rest : List ℕ) (from : ℕ) → left ≡ chunk ++ rest → length chunk ≡ min (count * piece_len group) (length left) → 0 < length chunk → from ≡ 1 - length done
     → done ++ separated group upper left ≡ separated group upper bytes → Next group upper bytes done rest (separated group upper chunk) from
 next-chunk group upper count bytes done left chunk rest from parts size some is so_far =
     shown-next group upper bytes done left rest (separated group upper chunk) from is (separated-some group upper chunk some) (chunk-next group upper count left chunk rest parts size) so_far
 
--- a separator is left out before the first piece alone
-pub due-before : (done shown : List ℕ) (sep : ℕ) → drop (1 - length done) (sep ∷ []) ++ shown ≡ drop (1 - length done) (sep ∷ shown)
-due-before [] shown sep = refl
-due-before (x ∷ done) shown sep = let none : 1 - suc (length done) ≡ 0 = omega arith in rw none refl
+-- the text of one piece with its separator left out or not
+due-before : (from sep : ℕ) (shown : List ℕ) → from ≤ 1 → drop from (sep ∷ []) ++ shown ≡ drop from (sep ∷ shown)
+due-before zero sep shown few = refl
+due-before (suc zero) sep shown few = refl
+due-before (suc (suc n)) sep shown few = absurd (omega arith)
+
+pub piece-from : (group : Group) (upper : Bool) (bytes : List ℕ) (from : ℕ) → from ≤ 1 → length bytes ≤ piece_len group → 0 < length bytes
+    → drop from (separator group ∷ []) ++ text upper bytes ≡ drop from (separated group upper bytes)
+piece-from group upper bytes from few short some = due-before from (separator group) (text upper bytes) few ∙ ap (drop from) (sym (piece-alone group upper bytes short some))

@@ -1,8 +1,8 @@
 //! Puts of digits: the text of some bytes, with separators between its pieces where it is grouped.
 
-ghost use Rattle.std.specs.Prelude.{◌≡◌, ◌-◌, ◌*◌, ◌^◌, ◌<◌, ◌≤◌};
+ghost use Rattle.std.specs.Prelude.{◌≡◌, ◌-◌, ◌*◌, ◌^◌, ◌<◌, ◌≤◌, ℕ, drop, length};
 ghost use Rattle.hex_core.specs.Text.{text};
-ghost use Rattle.hex_codec.specs.Grouped.{grouped, piece_len};
+ghost use Rattle.hex_codec.specs.Grouped.{grouped, piece_len, separated};
 ghost use Rattle.hex_format.specs.Frame.{digits_by};
 ghost use Rattle.hex_format.specs.Sink.{Puts};
 
@@ -44,9 +44,22 @@ fn put_text<S: Sink>(sink: &mut S, upper: bool, bytes: &[u8]) -> Result<(), Writ
         return put_all(sink, encoded(bytes, upper, &mut buffer));
     }
     let mut buffer = [0; 2 * CHUNK];
-    for chunk in bytes.chunks(CHUNK) {
-        let digits = encoded(chunk, upper, &mut buffer);
-        put_all(sink, digits)?;
+    put_chunks(sink, upper, bytes, &mut buffer)
+}
+
+// Puts the text of `bytes`, as many at a time as the buffer has room for.
+fn put_chunks<S: Sink>(
+    sink: &mut S,
+    upper: bool,
+    bytes: &[u8],
+    buffer: &mut [u8],
+) -> Result<(), WriteFault>
+    requires counts { (S.state sink.old).failures < 2 ^ 64 - 1 }
+    requires room { 2 ≤ length buffer.old }
+    ensures { Puts (S.state sink.old) (S.state sink.new) result (text upper bytes.now) }
+{
+    for chunk in bytes.chunks(buffer.len() / 2) {
+        put_all(sink, encoded(chunk, upper, buffer))?;
     }
     Ok(())
 }
@@ -66,52 +79,51 @@ fn put_grouped<S: Sink>(
         let shown = separated_text(bytes, upper, group, &mut buffer);
         return put_all(sink, &shown[shown.len().min(1)..]);
     }
-    if group.every() <= CHUNK {
-        put_pieces(sink, upper, group, bytes)
-    } else {
-        put_long_pieces(sink, upper, group, bytes)
-    }
-}
-
-// Puts the grouped text of `bytes`, as many whole pieces at a time as a chunk has.
-fn put_pieces<S: Sink>(
-    sink: &mut S,
-    upper: bool,
-    group: Group,
-    bytes: &[u8],
-) -> Result<(), WriteFault>
-    requires counts { (S.state sink.old).failures < 2 ^ 64 - 1 }
-    requires short { piece_len group ≤ CHUNK }
-    ensures { Puts (S.state sink.old) (S.state sink.new) result (grouped group upper bytes.now) }
-{
-    let every = group.every();
     let mut buffer = [0; 3 * CHUNK];
     // No separator stands before the first piece.
     let mut from = 1;
-    for chunk in bytes.chunks(CHUNK / every * every) {
-        let shown = separated_text(chunk, upper, group, &mut buffer);
-        put_all(sink, &shown[from..])?;
+    for pieces in bytes.chunks(bytes_at_once(group)) {
+        put_pieces(sink, upper, group, pieces, from, &mut buffer)?;
         from = 0;
     }
     Ok(())
 }
 
-// Puts the grouped text of `bytes`, a piece at a time.
-fn put_long_pieces<S: Sink>(
+// How many bytes are put at a time: as many whole pieces as a chunk has, or a longer one.
+fn bytes_at_once(group: Group) -> usize
+    ensures whole { (count : ℕ) × (result ≡ count * piece_len group) }
+    ensures some { 0 < result }
+    ensures one { CHUNK < result → result ≡ piece_len group }
+{
+    let every = group.every();
+    if every <= CHUNK {
+        CHUNK / every * every
+    } else {
+        every
+    }
+}
+
+// Puts the text of some pieces from a byte on, each behind a separator.
+fn put_pieces<S: Sink>(
     sink: &mut S,
     upper: bool,
     group: Group,
     bytes: &[u8],
+    from: usize,
+    buffer: &mut [u8],
 ) -> Result<(), WriteFault>
-    requires { (S.state sink.old).failures < 2 ^ 64 - 1 }
-    ensures { Puts (S.state sink.old) (S.state sink.new) result (grouped group upper bytes.now) }
+    requires counts { (S.state sink.old).failures < 2 ^ 64 - 1 }
+    requires some { 0 < length bytes.now }
+    requires start { from ≤ 1 }
+    requires one { CHUNK < length bytes.now → length bytes.now ≤ piece_len group }
+    requires room { length buffer.old ≡ 3 * CHUNK }
+    ensures { Puts (S.state sink.old) (S.state sink.new) result (drop from (separated group upper bytes.now)) }
 {
-    let separator = [group.sep()];
-    let mut before: &[u8] = &[];
-    for piece in bytes.chunks(group.every()) {
-        put_all(sink, before)?;
-        put_text(sink, upper, piece)?;
-        before = &separator;
+    if bytes.len() <= CHUNK {
+        let shown = separated_text(bytes, upper, group, buffer);
+        return put_all(sink, &shown[from..]);
     }
-    Ok(())
+    let separator = [group.sep()];
+    put_all(sink, &separator[from..])?;
+    put_chunks(sink, upper, bytes, buffer)
 }

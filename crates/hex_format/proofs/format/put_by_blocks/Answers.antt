@@ -53,3 +53,6 @@ slice_bounds-put_all-end g c = let small = few c.min-copies.result c.min-most.re
 
 pub slice_bounds-put_all-end-in-loop-left : goal.slice_bounds-put_all-end-in-loop-left
 slice_bounds-put_all-end-in-loop-left g c = let small = few c.min-copies.result c.min-most.result (length c.args.piece.now) (omega arith) (omega arith) c.requires.short in let size : length c.copy_into.new.block ≡ c.min-most.result * length c.args.piece.now = ap length c.copy_into.ensures ∙ length-repeat c.min-most.result c.args.piece.now in sym (length-take-le (c.min-copies.result * length c.args.piece.now) c.copy_into.new.block (omega (arith, small.0, size)))
+
+pub returns : goal.returns
+returns g c = let all : c.args.count - c.loop-left.left ≡ c.args.count = omega arith in rw all at c.loop-left.invariant.taken

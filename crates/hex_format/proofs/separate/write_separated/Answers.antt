@@ -4,7 +4,7 @@ use Rattle.std.specs.Slice.Iter.{chunks_rest}
 use Rattle.hex_core.specs.Text.{text}
 use Rattle.hex_core.proofs.TextLemmas.{length-text}
 use Rattle.hex_codec.specs.Grouped.{separated, separator}
-use Rattle.hex_format.proofs.GroupFacts.{piece-next, write-next}
+use Rattle.hex_format.proofs.GroupFacts.{piece-next, separated-end, write-next}
 use Rattle.hex_format.proofs.separate.write_separated.Goals as goal
 
 pub loop-piece-preserved : goal.loop-piece-preserved
@@ -27,3 +27,8 @@ loop-piece-preserved c =
       search (rules, room, cut, steps.1.2),
       rw (put, c.sep.ensures, c.encode.ensures) (append_assoc (take to c.loop-piece.out) (separator group ∷ text upper piece) (separated group upper rest) ∙ (ap (λ l. take to c.loop-piece.out ++ l) (sym next) ∙ c.loop-piece.invariant.4)),
     )
+
+pub returns : goal.returns
+returns c =
+    let last = c.loop-piece.invariant in
+    (omega (arith, last.3), separated-end c.args.group c.args.upper _ _ (chunks_rest c.loop-piece.piece-iterator) c.in-None.ensures.steps.1.0 last.4)

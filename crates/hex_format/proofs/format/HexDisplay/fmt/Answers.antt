@@ -3,7 +3,7 @@ use Rattle.std.proofs.Common.{◌++◌, false, ◌∙◌, rules, append_assoc}
 use Rattle.std.proofs.Output.{has_written_append}
 use Rattle.std.specs.Slice.Iter.{chunks_rest}
 use Rattle.hex_core.specs.Text.{lowercase, text}
-use Rattle.hex_format.proofs.ChunkFacts.{text-next}
+use Rattle.hex_format.proofs.ChunkFacts.{text-end, text-next}
 use Rattle.hex_format.proofs.format.HexDisplay.fmt.Goals as goal
 
 pub loop-chunk-preserved : goal.loop-chunk-preserved
@@ -20,3 +20,11 @@ loop-chunk-preserved g c =
           let whole = text-next false so_far.0 shown (text lowercase bytes) (chunks_rest c.loop-chunk.chunk-iterator) c.in-Some.chunk.now rest so_far.2 steps.1.0 c.encoded-digits.ensures.text in
           (so_far.0 ++ shown, has_written_append _ _ _ _ _ _ so_far.1 (search rules), append_assoc so_far.0 shown (text lowercase rest) ∙ whole),
     )
+
+pub returns-then-self-le-SHORT-clause-writes : goal.returns-then-self-le-SHORT-clause-writes
+returns-then-self-le-SHORT-clause-writes g c = λ plain done. rw c.encoded.ensures.text at (c.write_ascii.ensures plain done)
+
+pub returns-clause-writes : goal.returns-clause-writes
+returns-clause-writes g c = λ plain done.
+    let so_far = c.loop-chunk.invariant.3 plain in
+    rw (text-end false so_far.0 (text lowercase c.args.self.now.bytes.now) (chunks_rest c.loop-chunk.chunk-iterator) so_far.2 c.in-None.ensures.steps.1.0) at so_far.1

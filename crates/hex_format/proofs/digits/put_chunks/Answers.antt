@@ -4,7 +4,7 @@ use Rattle.std.specs.Slice.Iter.{chunks_rest}
 use Rattle.hex_core.specs.Text.{text}
 use Rattle.hex_format.proofs.PutsLemmas.{Puts-err, Stops-stop, Stops-then, Takes-none, Takes-then}
 use Rattle.hex_format.proofs.ChunkFacts.{text-end, text-next}
-use Rattle.hex_format.proofs.digits.put_text.Goals as goal
+use Rattle.hex_format.proofs.digits.put_chunks.Goals as goal
 
 pub loop-chunk-preserved : goal.loop-chunk-preserved
 loop-chunk-preserved g c =
@@ -13,9 +13,9 @@ loop-chunk-preserved g c =
     let steps = c.in-Some.ensures.steps in
     let rest = chunks_rest c.next.new.self in
     let so_far = c.loop-chunk.invariant.3 in
-    let shown = c.encoded-digits.result.now in
-    let whole = text-next upper so_far.0 shown (text upper c.args.bytes.now) (chunks_rest c.loop-chunk.chunk-iterator) c.in-Some.chunk.now rest so_far.2 steps.1.0 c.encoded-digits.ensures.text in
-    let taken = Takes-then (st c.args.sink.now) (st c.loop-chunk.sink) (st c.put_all-in-loop-chunk.new.sink) so_far.0 shown so_far.1 c.in_ok-put_all.ensures in (
+    let shown = c.encoded.result.now in
+    let whole = text-next upper so_far.0 shown (text upper c.args.bytes.now) (chunks_rest c.loop-chunk.chunk-iterator) c.in-Some.chunk.now rest so_far.2 steps.1.0 c.encoded.ensures.text in
+    let taken = Takes-then (st c.args.sink.now) (st c.loop-chunk.sink) (st c.put_all.new.sink) so_far.0 shown so_far.1 c.in_ok-put_all.ensures in (
       search rules,
       tt,
       steps.0 ∙ c.loop-chunk.invariant.2,
@@ -28,9 +28,9 @@ returns-in_err-put_all g c =
     let upper = c.args.upper in
     let rest = chunks_rest c.next.new.self in
     let so_far = c.loop-chunk.invariant.3 in
-    let shown = c.encoded-digits.result.now in
-    let whole = text-next upper so_far.0 shown (text upper c.args.bytes.now) (chunks_rest c.loop-chunk.chunk-iterator) c.in-Some.chunk.now rest so_far.2 c.in-Some.ensures.steps.1.0 c.encoded-digits.ensures.text in
-    let start = st c.args.sink.now in let middle = st c.loop-chunk.sink in let end = st c.put_all-in-loop-chunk.new.sink in
+    let shown = c.encoded.result.now in
+    let whole = text-next upper so_far.0 shown (text upper c.args.bytes.now) (chunks_rest c.loop-chunk.chunk-iterator) c.in-Some.chunk.now rest so_far.2 c.in-Some.ensures.steps.1.0 c.encoded.ensures.text in
+    let start = st c.args.sink.now in let middle = st c.loop-chunk.sink in let end = st c.put_all.new.sink in
     let failed = Stops-then start middle end _ _ so_far.1 (Stops-stop middle end _ (text upper rest) c.in_err-put_all.ensures) in
     Puts-err start end c.from_residual.result _ c.from_residual.ensures.0 (rw whole at failed)
 
