@@ -69,14 +69,13 @@ impl fmt::Display for Failure {
     fn fmt<W: fmt::Write>(&self, f: &mut fmt::Formatter<W>) -> fmt::Result {
         match self {
             Failure::Codec(e) => write!(f, "{e}"),
-            Failure::Usage => write!(
-                f,
-                "usage: fhex encode|encode-upper|decode|decode-lower|decode-upper|vectors"
+            Failure::Usage => f.write_str(
+                "usage: fhex encode|encode-upper|decode|decode-lower|decode-upper|vectors",
             ),
-            Failure::ReadFailed => write!(f, "read failed"),
-            Failure::WriteFailed => write!(f, "write failed"),
-            Failure::OutOfMemory => write!(f, "out of memory"),
-            Failure::InputTooLong => write!(f, "input too long"),
+            Failure::ReadFailed => f.write_str("read failed"),
+            Failure::WriteFailed => f.write_str("write failed"),
+            Failure::OutOfMemory => f.write_str("out of memory"),
+            Failure::InputTooLong => f.write_str("input too long"),
         }
     }
 }

@@ -41,6 +41,14 @@ fn refuses_grouped(text: &[u8], group: Option<Group>, room: usize, fault: GroupF
     refused && is_fill(&buffer)
 }
 
+// Whether these entries are this one alone.
+fn is_only(entries: &[Entry<'_, 2>], entry: &Entry<'_, 2>) -> bool {
+    match entries {
+        [only] => only == entry,
+        _ => false,
+    }
+}
+
 // Whether a list is read as this one entry. Want of memory is no answer.
 fn reads_entry<A: Allocator>(
     alloc: &A,
@@ -49,10 +57,7 @@ fn reads_entry<A: Allocator>(
     entry: &Entry<'_, 2>,
 ) -> Result<bool, AllocError> {
     match digests::read_in::<_, 2>(alloc, list, case) {
-        Ok(entries) => match entries.as_slice() {
-            [only] => Ok(only == entry),
-            _ => Ok(false),
-        },
+        Ok(entries) => Ok(is_only(entries.as_slice(), entry)),
         Err(ListFault::OutOfMemory) => Err(AllocError),
         Err(ListFault::Line { .. }) => Ok(false),
     }

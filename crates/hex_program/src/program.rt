@@ -3,7 +3,7 @@
 ghost use Rattle.std.specs.Prelude.{◌≡◌, ◌⊎◌, map, IfErr};
 ghost use Rattle.std.specs.Io.KnownBytes.{Keeps};
 ghost use Rattle.hex_program.specs.Failures.{EndsRun, status_after, status_of};
-ghost use Rattle.hex_program.specs.Serving.{Serves, ServesDecoding, ServesOp};
+ghost use Rattle.hex_program.specs.Serving.{NamesNothing, Serves, ServesDecoding, ServesOp};
 
 use crate::decoding::read_decoded;
 use crate::failure::Failure;
@@ -162,6 +162,23 @@ pub fn serve_vectors<A: Allocator, W: Write, E: Write>(
     (status, out, err)
 }
 
+// Serves words that name no operation: the stored vectors, or nothing.
+fn serve_other_words<A: Allocator, W: Write, E: Write>(
+    alloc: &A,
+    words: &[&str],
+    out: W,
+    err: E,
+) -> (u8, W, E)
+    ensures { NamesNothing (map (λ w. w.now) words.now)
+        → (W.contents result.1 ≡ W.contents out) × (result.0 ≡ 2) }
+{
+    let mut err = err;
+    match words {
+        ["vectors"] => serve_vectors(alloc, &VECTORS, &PLAIN_VECTORS, out, err),
+        _ => (refuse(&mut err, Failure::Usage), out, err),
+    }
+}
+
 /// [`serve`] over any allocator, so that a test can refuse its growths.
 pub fn serve_in<A: Allocator, R: Read, W: Write, E: Write>(
     alloc: &A,
@@ -173,13 +190,10 @@ pub fn serve_in<A: Allocator, R: Read, W: Write, E: Write>(
     ensures { Serves (map (λ w. w.now) words.now) (R.remaining input.old) (R.remaining input.new)
         (W.contents out) (W.contents result.1) result.0 }
 {
-    let mut err = err;
     let Some(op) = Op::from_words(words) else {
-        return match words {
-            ["vectors"] => serve_vectors(alloc, &VECTORS, &PLAIN_VECTORS, out, err),
-            _ => (refuse(&mut err, Failure::Usage), out, err),
-        };
+        return serve_other_words(alloc, words, out, err);
     };
+    let mut err = err;
     match serve_op(alloc, op, input, out) {
         (Ok(()), out) => (0, out, err),
         (Err(failure), out) => (refuse(&mut err, failure), out, err),

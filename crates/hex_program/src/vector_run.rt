@@ -1,7 +1,7 @@
 //! The run of stored vectors under each plan, or under other codecs that are handed in, and of those
 //! that name no plan, which puts a line each and their totals.
 
-ghost use Rattle.std.specs.Prelude.{◌≡◌, ◌<◌, ◌≤◌, ◌+◌, ◌-◌, ◌*◌, ◌^◌, ◌↔◌, length, IfOk, IsTrue, OnOk};
+ghost use Rattle.std.specs.Prelude.{◌≡◌, ◌<◌, ◌≤◌, ◌+◌, ◌-◌, ◌*◌, ◌^◌, ◌↔◌, length, IfOk, IsErrAnd, IsOkAnd, IsTrue, OnOk};
 ghost use Rattle.hex_core.specs.Calls.{DecodesFront, EncodesFront};
 ghost use Rattle.hex_core.specs.Plans.{name_of};
 ghost use Rattle.hex_program.specs.Vectors.{Agrees, AreFill, HoldsOverFill};
@@ -20,6 +20,9 @@ pub const FILL: u8 = 0xa5;
 
 /// The longest destination, in bytes.
 pub const LONGEST: usize = 128;
+
+// How many plans there are.
+const PLANS: usize = 5;
 
 /// What vectors are run under: a name, and two calls that may do anything. Each plan is one, by
 /// its calls `encode_slice` and `decode_slice`.
@@ -110,13 +113,33 @@ fn holds(destination: &[u8], bytes: &[u8]) -> bool
     }
 }
 
+// Whether these bytes are stated.
+fn states_bytes(stated: Result<&[u8], Error>, bytes: &[u8]) -> bool
+    ensures { IsTrue result ↔ IsOkAnd stated.entry (λ wanted. bytes.now ≡ wanted.now) }
+{
+    match stated {
+        Ok(wanted) => *bytes == *wanted,
+        Err(_) => false,
+    }
+}
+
+// Whether this refusal is stated.
+fn states_refusal(stated: Result<&[u8], Error>, refusal: Error) -> bool
+    ensures { IsTrue result ↔ IsErrAnd stated.entry (λ wanted. refusal ≡ wanted) }
+{
+    match stated {
+        Ok(_) => false,
+        Err(wanted) => refusal == wanted,
+    }
+}
+
 // Whether a call gave the stated answer.
 fn agree(answer: Result<&mut [u8], Error>, stated: Result<&[u8], Error>) -> bool
     ensures { IsTrue result ↔ Agrees answer.entry stated.entry }
 {
     match answer {
-        Ok(bytes) => stated == Ok(&*bytes),
-        Err(refusal) => stated == Err(refusal),
+        Ok(bytes) => states_bytes(stated, bytes),
+        Err(refusal) => states_refusal(stated, refusal),
     }
 }
 
@@ -276,6 +299,15 @@ pub enum VectorFault {
     OutOfMemory,
 }
 
+// Runs each vector under each plan, puts a line each, and returns how many failed.
+fn run_plans<S: Sink>(table: &[Vector<'_>], sink: &mut S) -> Result<usize, VectorFault>
+    requires { (S.state sink.old).failures < 2 ^ 64 - 1 }
+    ensures failed { IfOk result (λ failed. failed ≤ PLANS * length table.now) }
+    ensures counted { OnOk result ((S.state sink.new).failures ≡ (S.state sink.old).failures) }
+{
+    run_codecs(&backends(), table, sink).map_err(VectorFault::Write)
+}
+
 /// Runs each vector of `table` under each plan, in the order of [`backends`], and each of `plain`
 /// once, and puts a line each, as [`run_vectors_under`] does. The last line has the totals of all.
 /// Returns how many failed.
@@ -306,10 +338,8 @@ pub fn run_vectors<A: Allocator, S: Sink>(
     ensures failed { IfOk result (λ failed. failed ≤ 5 * length table.now + length plain.now) }
     ensures counted { OnOk result ((S.state sink.new).failures ≡ (S.state sink.old).failures) }
 {
-    let plans = backends();
-    let of_plans = run_codecs(&plans, table, sink).map_err(VectorFault::Write)?;
-    let failed = of_plans + run_plain(alloc, plain, sink)?;
-    let total = plans.len() * table.len() + plain.len();
+    let failed = run_plans(table, sink)? + run_plain(alloc, plain, sink)?;
+    let total = PLANS * table.len() + plain.len();
     put_totals(sink, total, total - failed, failed).map_err(VectorFault::Write)?;
     Ok(failed)
 }
