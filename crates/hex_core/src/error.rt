@@ -69,9 +69,9 @@ impl fmt::Display for Error {
             Error::LengthMismatch { expected, actual } => {
                 write!(f, "expected {expected} decoded bytes, got {actual}")
             }
-            Error::OddLength => write!(f, "hex input length must be even"),
-            Error::Overflow => write!(f, "encoded length overflow"),
-            Error::OutOfMemory => write!(f, "out of memory"),
+            Error::OddLength => f.write_str("hex input length must be even"),
+            Error::Overflow => f.write_str("encoded length overflow"),
+            Error::OutOfMemory => f.write_str("out of memory"),
         }
     }
 }

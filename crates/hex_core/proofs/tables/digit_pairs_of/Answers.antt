@@ -1,12 +1,15 @@
 -- Each table is what the definition computes to.
-use Rattle.std.proofs.Common.{refl}
+use Rattle.std.proofs.Common.{◌≡◌, refl, true, false}
+use Rattle.hex_core.specs.declared.tables.TheConstants.{DIGITS_LOWER, DIGITS_UPPER}
 use Rattle.hex_core.specs.Text.{digits_table}
 use Rattle.hex_core.proofs.tables.digit_pairs_of.Goals as goal
 
-pub returns-then-upper : goal.returns-then-upper
+tables : (DIGITS_UPPER ≡ digits_table true) × (DIGITS_LOWER ≡ digits_table false)
 unfolding digits_table
-returns-then-upper c = rw c.if-upper.true refl
+tables = (refl, refl)
+
+pub returns-then-upper : goal.returns-then-upper
+returns-then-upper c = rw c.if-upper.true tables.0
 
 pub returns-else-upper : goal.returns-else-upper
-unfolding digits_table
-returns-else-upper c = rw c.if-upper.false refl
+returns-else-upper c = rw c.if-upper.false tables.1

@@ -1,16 +1,19 @@
 -- Each table is what the definition computes to.
-use Rattle.std.proofs.Common.{refl}
+use Rattle.std.proofs.Common.{◌≡◌, refl}
+use Rattle.hex_core.specs.declared.digit.CheckCase.TheVariants as policy
+use Rattle.hex_core.specs.declared.tables.TheConstants.{VALUES, VALUES_LOWER, VALUES_UPPER}
 use Rattle.hex_core.specs.Text.{value_table}
 use Rattle.hex_core.proofs.tables.values_of.Goals as goal
 
-pub returns-in-None : goal.returns-in-None
+tables : (VALUES ≡ value_table policy.None) × (VALUES_LOWER ≡ value_table policy.Lower) × (VALUES_UPPER ≡ value_table policy.Upper)
 unfolding value_table
-returns-in-None c = rw c.in-None.is refl
+tables = (refl, refl, refl)
+
+pub returns-in-None : goal.returns-in-None
+returns-in-None c = rw c.in-None.is tables.0
 
 pub returns-in-Lower : goal.returns-in-Lower
-unfolding value_table
-returns-in-Lower c = rw c.in-Lower.is refl
+returns-in-Lower c = rw c.in-Lower.is tables.1
 
 pub returns-in-Upper : goal.returns-in-Upper
-unfolding value_table
-returns-in-Upper c = rw c.in-Upper.is refl
+returns-in-Upper c = rw c.in-Upper.is tables.2
