@@ -1,5 +1,5 @@
 -- Lists by their entries, and lists whose middle was written.
-use Rattle.std.proofs.Common.{rules, ◌≡◌, ℕ, ◌+◌, ◌-◌, ◌≤◌, List, ◌++◌, length, get_or, map, take, refl, sym, ap, ◌∙◌, arith}
+use Rattle.std.proofs.Common.{rules, ◌≡◌, ℕ, Bool, ◌+◌, ◌-◌, ◌≤◌, List, ◌++◌, length, get_or, map, take, refl, sym, ap, ◌∙◌, append_assoc, arith}
 use Rattle.std.proofs.Math.Seq.{take-append-add}
 use Rattle.std.proofs.lemmas.Grind.{same_number_lists}
 use Rattle.std.proofs.lemmas.List.{length-take-le, places, take-take, take_all}
@@ -9,17 +9,17 @@ use Rattle.std.proofs.lemmas.Simd.{take_more_put_chunk}
 use Rattle.std.specs.List.{range_with_len}
 use Rattle.std.specs.Simd.Lanes.{put_chunk}
 use borrow.Rule.Slice.PartMut.{put_mid}
+use Rattle.hex_core.specs.Text.{text}
+use Rattle.hex_core.proofs.TextLemmas.{text-append}
 
 -- a list by its entries
 pub entries : (xs : List ℕ) (n : ℕ) → length xs ≡ n → xs ≡ map (λ i. get_or xs i 0) (range_with_len 0 n)
 entries xs n is =
     let here = λ (i : ℕ). get_or xs i 0 in
-    same_number_lists xs (map here (range_with_len 0 n)) (is ∙ sym (length-map-range_with_len here 0 n))
-    (λ k lt. sym (get_or-map-range_with_len here 0 n k k 0 (omega arith) (omega arith)))
+    same_number_lists xs (map here (range_with_len 0 n)) (is ∙ sym (length-map-range_with_len here 0 n)) (λ k lt. sym (get_or-map-range_with_len here 0 n k k 0 (omega arith) (omega arith)))
 
 -- the front of a list that was written behind another front
-written-front : (a r : ℕ) (xs ys zs : List ℕ) → a ≤ length xs → r ≤ length ys → take (a + length ys) zs ≡ take a xs ++ ys
-    → take (a + r) zs ≡ take a xs ++ take r ys
+written-front : (a r : ℕ) (xs ys zs : List ℕ) → a ≤ length xs → r ≤ length ys → take (a + length ys) zs ≡ take a xs ++ ys → take (a + r) zs ≡ take a xs ++ take r ys
 written-front a r xs ys zs inside fits whole =
     let front : length (take a xs) + r ≡ a + r = omega (arith, length-take-le a xs inside) in
     sym (take-take (a + r) (a + length ys) zs (omega arith)) ∙ ap (take (a + r)) whole ∙ rw front at (take-append-add (take a xs) ys r)
@@ -36,3 +36,9 @@ put-behind a xs ys inside size =
     let whole = take-put_mid a (length xs - a) xs ys (a + length ys) refl inside in
     let all : length (put_mid a (length xs - a) xs ys) ≡ length xs = search (rules, places, size, inside) in
     sym (take_all (a + length ys) (put_mid a (length xs - a) xs ys) (omega (arith, all))) ∙ whole
+
+-- the text of a chunk stands behind those before it, and before that of what is left
+pub text-behind : (upper : Bool) (whole done rest shown chunk left : List ℕ) → done ++ text upper rest ≡ whole → rest ≡ chunk ++ left → shown ≡ done ++ text upper chunk
+    → shown ++ text upper left ≡ whole
+text-behind upper whole done rest shown chunk left before cut is = ap (λ l. l ++ text upper left) is ∙ append_assoc done (text upper chunk) (text upper left)
+    ∙ ap (λ l. done ++ l) (sym (text-append upper chunk left) ∙ ap (text upper) (sym cut)) ∙ before

@@ -31,21 +31,13 @@ pub writes-none : (c : CheckCase) (group : Group) (s dst : List ℕ) → WritesF
 writes-none c group s dst = record { before = []; digits = refl; count = refl; spelled = record { twice = refl; each = λ i lt. absurd (omega arith) } }
 
 -- so many digits are left
-pub left : (c : CheckCase) (group : Group) (s dst : List ℕ) (at done all : ℕ) → WritesFront c group s dst at done
-    → length (digits_in (piece_len group) s) ≡ 2 * all
+pub left : (c : CheckCase) (group : Group) (s dst : List ℕ) (at done all : ℕ) → WritesFront c group s dst at done → length (digits_in (piece_len group) s) ≡ 2 * all
     → length (digits_in (piece_len group) (drop at s)) ≡ 2 * (all - done)
-left c group s dst at done all so_far twice = omega (
-  arith,
-  ap length so_far.digits ∙ length-append so_far.before
-      (digits_in (piece_len group) (drop at s)),
-  so_far.count,
-  twice,
-)
+left c group s dst at done all so_far twice = omega (arith, ap length so_far.digits ∙ length-append so_far.before (digits_in (piece_len group) (drop at s)), so_far.count, twice)
 
 -- the next digits are valid, and there is room for their bytes
 pub ahead : (c : CheckCase) (group : Group) (s dst next rest : List ℕ) (at done all : ℕ) → WritesFront c group s dst at done
-    → digits_in (piece_len group) (drop at s) ≡ next ++ rest → ValidDigits c group s all
-    → (first_invalid c next ≡ None) × (2 * done + length next ≤ 2 * all)
+    → digits_in (piece_len group) (drop at s) ≡ next ++ rest → ValidDigits c group s all → (first_invalid c next ≡ None) × (2 * done + length next ≤ 2 * all)
 ahead c group s dst next rest at done all so_far cut (twice, valid) =
     let behind = digits_in (piece_len group) (drop at s) in
     let lengths = ap length so_far.digits ∙ length-append so_far.before behind in
@@ -61,11 +53,9 @@ writes-more c group s old next part at done more k so_far cut inside spelled =
     let front = so_far.before ++ next in
     record {
       before = front;
-      digits = so_far.digits ∙ ap (λ l. so_far.before ++ l) cut ∙ sym (append_assoc so_far.before next rest)
-          ∙ ap (λ l. front ++ digits_in (piece_len group) l) (drop-drop more at s);
+      digits = so_far.digits ∙ ap (λ l. so_far.before ++ l) cut ∙ sym (append_assoc so_far.before next rest) ∙ ap (λ l. front ++ digits_in (piece_len group) l) (drop-drop more at s);
       count = length-append so_far.before next ∙ omega (arith, so_far.count, spelled.twice);
-      spelled = rw (take-put_mid done k old part (done + length part) refl inside) (spells-joined c so_far.before next
-          (take done old) part so_far.spelled spelled);
+      spelled = rw (take-put_mid done k old part (done + length part) refl inside) (spells-joined c so_far.before next (take done old) part so_far.spelled spelled);
     }
 
 -- and at last those of all
@@ -81,7 +71,6 @@ writes-all c group s dst at done so_far end twice =
 
 -- what is known of digits that were copied from behind those that were decoded
 pub record Copied (c : CheckCase) (group : Group) (s new : List ℕ) (at done all : ℕ) (front : Front) : Type 0 where
-  pub bare : UnseparatesFront group (drop at s) new front
   pub inside : at + front.len ≤ length s
   pub cut : digits_in (piece_len group) (drop at s) ≡ take front.digits new ++ digits_in (piece_len group) (drop front.len (drop at s))
   pub valid : first_invalid c (take front.digits new) ≡ None
@@ -90,8 +79,7 @@ pub record Copied (c : CheckCase) (group : Group) (s new : List ℕ) (at done al
   pub room : 2 * done + front.digits ≤ 2 * all
 
 pub copied : (c : CheckCase) (group : Group) (s dst new : List ℕ) (at done all : ℕ) (front : Front) → WritesFront c group s dst at done
-    → at ≤ length s → UnseparatesFront group (take (length s - at) (drop at s)) new front
-    → ValidDigits c group s all → Copied c group s new at done all front
+    → at ≤ length s → UnseparatesFront group (take (length s - at) (drop at s)) new front → ValidDigits c group s all → Copied c group s new at done all front
 copied c group s dst new at done all front so_far reached bare digits =
     let every = piece_len group in
     let rest = drop at s in
@@ -103,7 +91,6 @@ copied c group s dst new at done all front so_far reached bare digits =
     let size = length-take-le front.digits new behind.room in
     let known = ahead c group s dst (take front.digits new) (digits_in every (drop front.len rest)) at done all so_far cut digits in
     record {
-      bare = behind;
       inside = omega (arith, behind.inside, length-drop at s, reached);
       cut = cut;
       valid = known.0;
@@ -136,8 +123,7 @@ next every n s pos some size = from_cases (cases_lt (2 * every) (length s))
         let rest : drop (2 * n + 1) s ≡ [] = drop_all (2 * n + 1) s (omega arith) in
         record {
           inside = omega (arith, count, whole);
-          digits = rw count (one ∙ sym (rw (rest, (unparted every [] (omega arith)).0)
-              (append-nil (take (2 * n) s) ∙ take_all (2 * n) s (omega arith))));
+          digits = rw count (one ∙ sym (rw (rest, (unparted every [] (omega arith)).0) (append-nil (take (2 * n) s) ∙ take_all (2 * n) s (omega arith))));
         }
 
 -- the digits of the next part, behind those that were decoded
@@ -147,9 +133,12 @@ pub record Part (c : CheckCase) (group : Group) (s : List ℕ) (at count : ℕ) 
   pub size : length (take (2 * count) (drop at s)) ≡ 2 * count
   pub cut : digits_in (piece_len group) (drop at s) ≡ take (2 * count) (drop at s) ++ digits_in (piece_len group) (drop (2 * count + 1) (drop at s))
 
-pub part : (c : CheckCase) (group : Group) (s dst : List ℕ) (at done all count : ℕ) → WritesFront c group s dst at done → done < all
-    → min (piece_len group) (all - done) ≡ count → ValidDigits c group s all → Part c group s at count
-part c group s dst at done all count so_far some is digits =
+pub part : (c : CheckCase) (group : Group) (s dst : List ℕ) (at done every count n : ℕ) → WritesFront c group s dst at done → done < length dst
+    → every ≡ piece_len group → count ≡ min every (length dst - done) → length dst ≡ n → ValidDigits c group s n → Part c group s at count
+part c group s dst at done every' count n so_far some same counted size valid =
+    let all = length dst in
+    let is : min (piece_len group) (all - done) ≡ count = sym (counted ∙ ap (λ k. min k (all - done)) same) in
+    let digits : ValidDigits c group s all = rw size valid in
     let every = piece_len group in
     let rest = drop at s in
     let found : Next every (all - done) rest = next every (all - done) rest group.is_group.0 (omega arith) (left c group s dst at done all so_far digits.0) in

@@ -243,8 +243,10 @@ pub fn hex_decode_vec_with_case<A: Allocator + Drop>(
     let Ok(mut bytes) = Vec::from_elem(alloc, 0u8, src.len() / 2) else {
         return Err(Error::OutOfMemory);
     };
-    decode_whole(src, bytes.as_mut_slice(), case)?;
-    Ok(bytes)
+    match decode_whole(src, bytes.as_mut_slice(), case) {
+        Ok(()) => Ok(bytes),
+        Err(e) => Err(e),
+    }
 }
 
 // A buffer of more bytes that is given up on a refusal is decoded block by block, in one pass over
@@ -257,13 +259,14 @@ fn decode_whole(src: &[u8], dst: &mut [u8], case: CheckCase) -> Result<(), Error
     requires { length src.now ≡ 2 * length dst.old }
     ensures { Answers (first_bad_char case src.now) (λ _. Spells case src.now dst.new) result }
 {
+    let plan = Backend::plain();
     let decoded = if dst.len() > OWNED {
-        Backend::plain().decode_owned(src, dst, case)
+        plan.decode_owned(src, dst, case)
     } else {
-        Backend::plain().decode(src, dst, case)
+        plan.decode(src, dst, case)
     };
     if !decoded {
-        return Err(Backend::plain().first_error(src, case));
+        return Err(plan.first_error(src, case));
     }
     Ok(())
 }

@@ -109,13 +109,17 @@ impl Decoder {
         if dst.len() < required {
             return Err(Error::OutputTooSmall { required });
         }
-        let waiting = self.decode_pairs(src, dst)?;
-        *self = Decoder {
-            case: self.case,
-            position,
-            waiting,
-        };
-        Ok(required)
+        match self.decode_pairs(src, dst) {
+            Ok(waiting) => {
+                *self = Decoder {
+                    case: self.case,
+                    position,
+                    waiting,
+                };
+                Ok(required)
+            }
+            Err(e) => Err(e),
+        }
     }
 
     /// Ends the decoding: all that was fed has to be whole pairs.
@@ -166,9 +170,13 @@ impl Decoder {
         let Some(byte) = pair_byte(high, src[0], self.case) else {
             return Err(self.error_in(src));
         };
-        let waiting = self.decode_from(src, 1, &mut dst[1..])?;
-        dst[0] = byte;
-        Ok(waiting)
+        match self.decode_from(src, 1, &mut dst[1..]) {
+            Ok(waiting) => {
+                dst[0] = byte;
+                Ok(waiting)
+            }
+            Err(e) => Err(e),
+        }
     }
 
     // Decodes the pairs that are whole from a place on, and returns the digit behind them.

@@ -188,10 +188,18 @@ pub fn prefixed_string<A: Allocator + Drop>(
     let Ok(mut string) = Vec::from_elem(alloc, 0u8, len) else {
         return Err(Error::OutOfMemory);
     };
-    let (front, digits) = string.as_mut_slice().split_at_mut(prefix.len());
+    write_prefixed(string.as_mut_slice(), prefix, src, upper);
+    Ok(unsafe { String::from_utf8_unchecked(string) })
+}
+
+// Writes a prefix and the digits of `src` behind it over all of some bytes.
+fn write_prefixed(bytes: &mut [u8], prefix: &[u8], src: &[u8], upper: bool)
+    requires { length bytes.old ≡ length prefix.now + 2 * length src.now }
+    ensures { bytes.new ≡ prefix.now ++ text upper src.now }
+{
+    let (front, digits) = bytes.split_at_mut(prefix.len());
     front.copy_from_slice(prefix);
     Backend::plain().encode(src, digits, upper);
-    Ok(unsafe { String::from_utf8_unchecked(string) })
 }
 
 // Appends the digits of `src` and returns them alone. `dst` stands first because a proof learns

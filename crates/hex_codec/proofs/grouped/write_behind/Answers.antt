@@ -1,31 +1,22 @@
 -- The digits of the next part are decoded behind those before it.
-use Rattle.std.proofs.Common.{rules, ◌≡◌, ◌+◌, ◌-◌, ◌*◌, length, take, drop, min, sym, ap, ◌∙◌, arith}
+use Rattle.std.proofs.Common.{rules, ◌≡◌, ◌+◌, ◌-◌, ◌*◌, length, take, drop, arith, length-drop, length-take}
 use Rattle.hex_codec.proofs.WriteLemmas.{decoded, part, writes-all, writes-more}
 use Rattle.hex_codec.proofs.grouped.write_behind.Goals as goal
 
 pub overflow_add-at : goal.overflow_add-at
 overflow_add-at c =
-    let known = part c.args.case c.args.group c.args.src.now c.loop-done.dst c.loop-done.at c.loop-done.done
-    (length c.loop-done.dst) c.min-count.result c.loop-done.invariant c.loop-done-test.true
-    (sym (c.min-count.ensures ∙ ap (λ n. min n (length c.loop-done.dst - c.loop-done.done)) c.every.ensures))
-    (rw c.loop-done.auto.dst c.requires.digits) in
+    let w = c.loop-done in let known = part c.args.case c.args.group c.args.src.now w.dst w.at w.done _ _ _ w.invariant c.loop-done-test.true c.every.ensures c.min-count.ensures w.auto.dst c.requires.digits in
     search (arith, rules, known.inside)
 
 pub slice_bounds-decode-end : goal.slice_bounds-decode-end
 slice_bounds-decode-end c =
-    let known = part c.args.case c.args.group c.args.src.now c.loop-done.dst c.loop-done.at c.loop-done.done
-    (length c.loop-done.dst) c.min-count.result c.loop-done.invariant c.loop-done-test.true
-    (sym (c.min-count.ensures ∙ ap (λ n. min n (length c.loop-done.dst - c.loop-done.done)) c.every.ensures))
-    (rw c.loop-done.auto.dst c.requires.digits) in
+    let w = c.loop-done in let known = part c.args.case c.args.group c.args.src.now w.dst w.at w.done _ _ _ w.invariant c.loop-done-test.true c.every.ensures c.min-count.ensures w.auto.dst c.requires.digits in
     search (arith, rules, known.inside)
 
 pub loop-done-preserved : goal.loop-done-preserved
 loop-done-preserved c =
     let dst = c.loop-done.dst in let src = c.args.src.now in let at = c.loop-done.at in let done = c.loop-done.done in let count = c.min-count.result in let new = c.decode.new.dst in
-    let known = part c.args.case c.args.group c.args.src.now c.loop-done.dst c.loop-done.at c.loop-done.done
-    (length c.loop-done.dst) c.min-count.result c.loop-done.invariant c.loop-done-test.true
-    (sym (c.min-count.ensures ∙ ap (λ n. min n (length c.loop-done.dst - c.loop-done.done)) c.every.ensures))
-    (rw c.loop-done.auto.dst c.requires.digits) in
+    let w = c.loop-done in let known = part c.args.case c.args.group c.args.src.now w.dst w.at w.done _ _ _ w.invariant c.loop-done-test.true c.every.ensures c.min-count.ensures w.auto.dst c.requires.digits in
     let n : at + 2 * count - at ≡ 2 * count = omega arith in
     let k : done + count - done ≡ count = omega arith in
     let digits = take (2 * count) (drop at src) in
@@ -37,3 +28,9 @@ loop-done-preserved c =
 pub returns : goal.returns
 returns c = writes-all c.args.case c.args.group c.args.src.now c.loop-done.dst c.loop-done.at c.loop-done.done c.loop-done.invariant
     (omega (arith, c.loop-done-test.false)) (rw c.loop-done.auto.dst c.requires.digits.0)
+
+pub decode-requires : goal.decode-requires
+decode-requires c =
+    let w = c.loop-done in let known = part c.args.case c.args.group c.args.src.now w.dst w.at w.done _ _ _ w.invariant c.loop-done-test.true c.every.ensures c.min-count.ensures w.auto.dst c.requires.digits in
+    let from = drop w.at c.args.src.now in let to = drop w.done w.dst in let n = c.min-count.result in
+    omega (arith, known.inside, c.min-count.ensures, length-take (w.at + 2 * n - w.at) from, length-drop w.at c.args.src.now, length-take (w.done + n - w.done) to, length-drop w.done w.dst)
