@@ -19,6 +19,16 @@ loop-pieces-init g c =
     let is : chunks_size c.into_iter-pieces-iterator.result ≡ c.bytes_at_once.result = search rules in
     (rw is at_once.some, tt, (at_once.whole.0, is ∙ at_once.whole.1), rw is at_once.one, refl, ([], Takes-none (g.S.Sink.state c.args.sink.now), refl, search rules))
 
+pub put_pieces-requires : goal.put_pieces-requires
+put_pieces-requires g c =
+    let last = c.loop-pieces.invariant in let steps = c.in-Some.ensures.steps in record {
+      counts = omega (arith, c.requires, last.5.1.1);
+      some = few-some _ _ _ steps.1.1 last.0 steps.1.2;
+      start = omega (arith, last.5.2);
+      one = one-piece _ _ _ _ steps.1.1 last.3;
+      room = last.4;
+    }
+
 pub loop-pieces-preserved : goal.loop-pieces-preserved
 loop-pieces-preserved g c =
     let st = g.S.Sink.state in let group = c.args.group in let upper = c.args.upper in
