@@ -50,13 +50,6 @@ next-line s some =
           rw (at, none) (only-line s some at)
     ]
 
--- it ends with the source at the latest
-pub line-inside : (s : List ℕ) (at end : ℕ) → at < length s → end ≡ position_or_len newline (take (length s - at) (drop at s)) → at + end ≤ length s
-line-inside s at end lt is =
-    let end' : end ≡ position_or_len newline (drop at s) = rw (take_rest s at) at is in
-    let most : position_or_len newline (drop at s) ≤ length (drop at s) = prefix_len-le-length (λ b. not (newline b)) (drop at s) in
-    omega (arith, end', most, length-drop at s)
-
 -- the line at a place, as the reader finds it, and those behind it
 pub line-at : (s : List ℕ) (at end : ℕ) → at < length s → end ≡ position_or_len newline (take (length s - at) (drop at s))
     → lines_of (drop at s) ≡ take end (take (length s - at) (drop at s)) ∷ lines_of (drop (at + (end + 1)) s)

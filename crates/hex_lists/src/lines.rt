@@ -11,7 +11,8 @@ const BLOCK: usize = 32;
 
 /// Returns where the first line of a source ends: at its newline, or at the end.
 pub fn line_end(src: &[u8]) -> usize
-    ensures { result ≡ position_or_len (λ b. b == 10) src.now }
+    ensures end { result ≡ position_or_len (λ b. b == 10) src.now }
+    ensures inside { result ≤ length src.now }
 {
     let whole = src.len() / BLOCK;
     'turns: for i in 0..whole {
@@ -48,7 +49,8 @@ fn before_newline(src: &[u8], at: usize) -> usize
 
 // The same as `line_end`, a byte at a time.
 fn line_end_by_bytes(src: &[u8]) -> usize
-    ensures { result ≡ position_or_len (λ b. b == 10) src.now }
+    ensures end { result ≡ position_or_len (λ b. b == 10) src.now }
+    ensures inside { result ≤ length src.now }
 {
     'bytes: for i in 0..src.len() {
         if src[i] == b'\n' {

@@ -24,8 +24,8 @@ behind s at inside before =
     let none = further s at (at + r) before (λ k high lt. (let e : at + (k - at) ≡ k = omega arith in rw e at (sym (ap newline (get_or-drop at s (k - at) 0)) ∙ fails_before_first newline (drop at s) (k - at) 0 (omega arith)))) in
     sym (position_or_len_is newline s (at + r) 0 (omega (arith, most, length-drop at s)) none (λ lt. sym (ap newline (get_or-drop at s r 0)) ∙ passes_at_first newline (drop at s) 0 (omega (arith, lt, length-drop at s))))
 
-pub returns-then-before-lt-BLOCK : goal.returns-then-before-lt-BLOCK
-returns-then-before-lt-BLOCK c =
+pub returns-then-before-lt-BLOCK-clause-end : goal.returns-then-before-lt-BLOCK-clause-end
+returns-then-before-lt-BLOCK-clause-end c =
     let s = c.args.src.now in let at = 32 * c.turns.i in
     let r = c.before_newline-before.result in
     let none = further s at (at + r) c.turns.invariant (run_in_chunk_fails newline s at 32 r 0 (omega arith) c.before_newline-before.ensures) in
@@ -43,15 +43,8 @@ turns-preserved c =
 rest-end : (s : List ℕ) (at end : ℕ) → end ≡ position_or_len newline (take (length s - at) (drop at s)) → end ≡ position_or_len newline (drop at s)
 rest-end s at end is = rw (take_rest s at) at is
 
-pub overflow_add-result-2 : goal.overflow_add-result-2
-overflow_add-result-2 c =
+pub returns-clause-end : goal.returns-clause-end
+returns-clause-end c =
     let s = c.args.src.now in let at = 32 * (length s / 32) in
-    let is = rest-end s at c.line_end_by_bytes.result c.line_end_by_bytes.ensures in
-    let most : position_or_len newline (drop at s) ≤ length (drop at s) = prefix_len-le-length (λ b. not (newline b)) (drop at s) in
-    omega (arith, is, most, length-drop at s)
-
-pub returns : goal.returns
-returns c =
-    let s = c.args.src.now in let at = 32 * (length s / 32) in
-    let is = rest-end s at c.line_end_by_bytes.result c.line_end_by_bytes.ensures in
+    let is = rest-end s at c.line_end_by_bytes.result c.line_end_by_bytes.ensures.end in
     ap (λ r. at + r) is ∙ behind s at (omega arith) (λ k lt. c.turns.invariant k (omega arith))

@@ -5,8 +5,8 @@ use Rattle.std.proofs.lemmas.Bool.{eq-eqb}
 use Rattle.std.proofs.lemmas.List.Sums.{position_or_len_is}
 use Rattle.hex_lists.proofs.lines.line_end_by_bytes.Goals as goal
 
-pub returns-then-src-i-eq10 : goal.returns-then-src-i-eq10
-returns-then-src-i-eq10 c = sym (position_or_len_is (λ b. b == 10) c.args.src.now c.bytes.i 0 (omega arith) c.bytes.invariant (λ _. eq-eqb (get_or c.args.src.now c.bytes.i 0) 10 c.if-src-i-eq10.true))
+pub returns-then-src-i-eq10-clause-end : goal.returns-then-src-i-eq10-clause-end
+returns-then-src-i-eq10-clause-end c = sym (position_or_len_is (λ b. b == 10) c.args.src.now c.bytes.i 0 (omega arith) c.bytes.invariant (λ _. eq-eqb (get_or c.args.src.now c.bytes.i 0) 10 c.if-src-i-eq10.true))
 
-pub returns : goal.returns
-returns c = sym (position_or_len_is (λ b. b == 10) c.args.src.now (length c.args.src.now) 0 (omega arith) (λ k lt. c.bytes.invariant k (omega arith)) (λ lt. absurd (omega arith)))
+pub returns-clause-end : goal.returns-clause-end
+returns-clause-end c = sym (position_or_len_is (λ b. b == 10) c.args.src.now (length c.args.src.now) 0 (omega arith) (λ k lt. c.bytes.invariant k (omega arith)) (λ lt. absurd (omega arith)))
