@@ -1,10 +1,10 @@
 -- An entry's line has no fault.
-use Rattle.std.proofs.Common.{◌≡◌, ℕ, ◌+◌, ◌*◌, Bool, true, false, refl, sym, ap, ◌∙◌, arith, Option, Some, None, List, [], ◌∷◌, ◌++◌, length, take, get_or, length-drop, nat_lt, slice_index}
+use Rattle.std.proofs.Common.{◌≡◌, ℕ, ◌+◌, ◌*◌, ◌≤◌, Bool, true, false, refl, sym, ap, ◌∙◌, arith, Option, Some, None, List, [], ◌∷◌, ◌++◌, length, take, drop, get_or, length-drop, nat_lt, slice_index}
 use Rattle.std.specs.Prelude.{option_map}
 use Rattle.std.specs.List.{AllZip}
 use Rattle.std.proofs.lemmas.Bool.{le-ltb}
 use Rattle.std.proofs.lemmas.Bool.Decides.{nat_tests}
-use Rattle.std.proofs.lemmas.List.{get_or-drop}
+use Rattle.std.proofs.lemmas.List.{drop_more, get_or-drop}
 use Rattle.std.proofs.lemmas.Option.{none-some}
 use Rattle.hex_core.specs.declared.digit.CheckCase.{CheckCase}
 use Rattle.hex_core.specs.declared.error.Error.TheVariants.{InvalidChar}
@@ -29,6 +29,21 @@ all-valid c s h =
 pub marked : (N : ℕ) (line : List ℕ) (binary : Bool) → slice_index line (2 * N) ≡ 32 → slice_index line (2 * N + 1) ≡ mark binary → has_mark N line ≡ true
 marked N line true space next = rw (space, next) refl
 marked N line false space next = rw (space, next) refl
+
+-- a line that is long enough, of valid digits, with a space and a mark behind them, is its entry's
+pub line-read : {N : ℕ} (c : CheckCase) (line : List ℕ) (e : Entry N) → 2 * N + 3 ≤ length line → (first_invalid c (take (2 * N) line) ≡ None) × Spells c (take (2 * N) line) e.digest
+    → (slice_index line (2 * N) ≡ 32) × (slice_index line (2 * N + 1) ≡ mark e.binary) → drop (2 * N + 2) line ≡ e.name.now → (line_fault c N line ≡ None) × LineIs c line e
+line-read {N} c line e long digits behind name =
+    let fits : nat_lt (length line) (2 * N + 3) ≡ false = le-ltb (length line) (2 * N + 3) long in
+    let place : 2 * N + 1 + 1 ≡ 2 * N + 2 = omega arith in
+    let rest = ap (λ b. b ∷ drop (2 * N + 1 + 1) line) behind.1 ∙ ap (λ l. mark e.binary ∷ l) (ap (λ n. drop n line) place ∙ name) in (
+      rw (fits, digits.0, marked N line e.binary behind.0 behind.1) refl,
+      record {
+        spelled = digits.1;
+        behind = drop_more line (2 * N) 0 (omega (arith, long)) ∙ (ap (λ b. b ∷ drop (2 * N + 1) line) behind.0 ∙ ap (λ l. 32 ∷ l) (drop_more line (2 * N + 1) 0 (omega (arith, long)) ∙ rest));
+        named = omega (arith, ap length name, length-drop (2 * N + 2) line, long);
+      },
+    )
 
 line-clear : (N : ℕ) (c : CheckCase) (line : List ℕ) (e : Entry N) → (Spells c (take (2 * N) line) e.digest → source_refusal c (take (2 * N) line) ≡ None) → LineIs c line e → line_fault c N line ≡ None
 line-clear N c line e accepts is =
