@@ -3,10 +3,10 @@
 //!
 //! A caller with a format or an allocator of its own takes these functions; any other the modules.
 
-ghost use Rattle.std.specs.Prelude.{◌≡◌, ◌<◌, ◌^◌, None, Some, Ok, Err, length, option_map, string_bytes, MatchResult};
+ghost use Rattle.std.specs.Prelude.{◌≡◌, ◌<◌, ◌^◌, ◌/◌, None, Some, Ok, Err, length, option_map, string_bytes, MatchResult};
 ghost use Rattle.serde_json.specs.View.{view};
 ghost use Rattle.hex_json.specs.AdapterMessage.{adapter_error_text};
-ghost use Rattle.hex_json.specs.Adapters.{AnswersArrayRead, AnswersOptionArrayRead, AnswersOptionRead, AnswersOptionWrite, AnswersRead, AnswersWrite, WriteFailure, payload_in, prefix, wire_text};
+ghost use Rattle.hex_json.specs.Adapters.{AnswersArrayRead, AnswersOptionArrayRead, AnswersOptionRead, AnswersOptionWrite, AnswersRead, AnswersWrite, ReadFailure, Within, WriteFailure, payload_in, prefix, wire_text};
 
 use hex_codec::decode::{hex_decode_array_with_case, hex_decode_vec_with_case};
 use hex_codec::strings::prefixed_string;
@@ -58,9 +58,9 @@ impl fmt::Display for AdapterError {
 
     fn fmt<W: fmt::Write>(&self, f: &mut fmt::Formatter<W>) -> fmt::Result {
         match self {
-            AdapterError::NotText => write!(f, "expected a string"),
-            AdapterError::InvalidPrefix => write!(f, "invalid prefix"),
-            AdapterError::InvalidLength => write!(f, "invalid length"),
+            AdapterError::NotText => f.write_str("expected a string"),
+            AdapterError::InvalidPrefix => f.write_str("invalid prefix"),
+            AdapterError::InvalidLength => f.write_str("invalid length"),
             AdapterError::OverBound { max, actual } => {
                 write!(f, "expected at most {max} decoded bytes, got {actual}")
             }
@@ -165,6 +165,25 @@ fn payload_of(format: WireFormat, value: &Value) -> Result<&[u8], AdapterError>
     Ok(payload)
 }
 
+// The payload of a value, of at most so many bytes where a bound is given.
+fn bounded_payload(
+    format: WireFormat,
+    max: Option<usize>,
+    value: &Value,
+) -> Result<&[u8], AdapterError>
+    ensures { MatchResult result
+        (λ payload. (payload_in format (view value.now) ≡ Ok payload.now)
+        × Within max (length payload.now / 2))
+        (λ e. ReadFailure format max (view value.now) e) }
+{
+    let payload = payload_of(format, value)?;
+    let actual = payload.len() / 2;
+    match max {
+        Some(max) if actual > max => Err(AdapterError::OverBound { max, actual }),
+        _ => Ok(payload),
+    }
+}
+
 /// Returns the bytes that the payload of a JSON text spells: the digits behind the format's prefix,
 /// two a byte. They are at most `max`, where that is given. The text itself is not copied.
 ///
@@ -198,13 +217,7 @@ pub fn read<A: Allocator + Drop>(
 ) -> Result<Vec<u8, A>, AdapterError>
     ensures { AnswersRead format max value.now result }
 {
-    let payload = payload_of(format, value)?;
-    let actual = payload.len() / 2;
-    if let Some(max) = max {
-        if actual > max {
-            return Err(AdapterError::OverBound { max, actual });
-        }
-    }
+    let payload = bounded_payload(format, max, value)?;
     hex_decode_vec_with_case(alloc, payload, format.case).map_err(AdapterError::Codec)
 }
 
