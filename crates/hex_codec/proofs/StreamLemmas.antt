@@ -11,7 +11,7 @@ use Rattle.hex_core.specs.declared.digit.CheckCase.{CheckCase}
 use Rattle.hex_core.specs.declared.error.Error.{Error}
 use Rattle.hex_core.specs.declared.error.Error.TheVariants.{InvalidChar, OddLength, Overflow, OutputTooSmall}
 use Rattle.hex_core.specs.Digit.{value}
-use Rattle.hex_core.specs.Refusal.{OwnedFailure, decode_refusal, first_bad_char, source_refusal}
+use Rattle.hex_core.specs.Refusal.{decode_refusal, first_bad_char, source_refusal}
 use Rattle.hex_core.specs.Search.{first_invalid}
 use Rattle.hex_core.specs.Text.{Spells, with_front}
 use Rattle.hex_core.proofs.BlockLemmas.{valid_range}
@@ -68,13 +68,6 @@ refused-part c s start end room e inside even fits refused none =
     let valid : first_invalid c (slice_range s start end) ≡ None = (part_is_valid c s start end inside).1 (valid_range c s start end inside none) in
     let accepted : decode_refusal c (slice_range s start end) room ≡ None = grind (arith, nat_tests, even, fits, valid) in
     absurd (cc (accepted, refused))
-
--- what an even source is refused for is no want of memory
-pub owned-refused : (c : CheckCase) (s : List ℕ) (e : Error) (o : Option ℕ) → length s % 2 ≡ 0 → first_invalid c s ≡ o → first_bad_char c s ≡ Some e → OwnedFailure c s e
-owned-refused c s e None even found is = absurd (cc (rw found at is))
-owned-refused c s e (Some f) even found is =
-    let same : InvalidChar f (slice_index s f) ≡ e = cc (rw found at is) in
-    subst (OwnedFailure c s) same (grind (arith, nat_tests, even, found))
 
 -- ---- what digits spell, but for the one that waits
 

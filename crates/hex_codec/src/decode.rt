@@ -243,10 +243,8 @@ pub fn hex_decode_vec_with_case<A: Allocator + Drop>(
     let Ok(mut bytes) = Vec::from_elem(alloc, 0u8, src.len() / 2) else {
         return Err(Error::OutOfMemory);
     };
-    match decode_whole(src, bytes.as_mut_slice(), case) {
-        Ok(()) => Ok(bytes),
-        Err(e) => Err(e),
-    }
+    decode_whole(src, bytes.as_mut_slice(), case)?;
+    Ok(bytes)
 }
 
 // A buffer of more bytes that is given up on a refusal is decoded block by block, in one pass over

@@ -1,5 +1,5 @@
 -- The digits of the next part are decoded behind those before it.
-use Rattle.std.proofs.Common.{rules, ◌≡◌, ◌+◌, ◌-◌, ◌*◌, length, take, drop, arith, length-drop, length-take}
+use Rattle.std.proofs.Common.{rules, ◌≡◌, ◌+◌, ◌-◌, ◌*◌, length, take, drop, arith}
 use Rattle.hex_codec.proofs.WriteLemmas.{decoded, part, writes-all, writes-more}
 use Rattle.hex_codec.proofs.grouped.write_behind.Goals as goal
 
@@ -29,8 +29,7 @@ pub returns : goal.returns
 returns c = writes-all c.args.case c.args.group c.args.src.now c.loop-done.dst c.loop-done.at c.loop-done.done c.loop-done.invariant
     (omega (arith, c.loop-done-test.false)) (rw c.loop-done.auto.dst c.requires.digits.0)
 
-pub decode-requires : goal.decode-requires
-decode-requires c =
+pub overflow_add-at-in-loop-done-2 : goal.overflow_add-at-in-loop-done-2
+overflow_add-at-in-loop-done-2 c =
     let w = c.loop-done in let known = part c.args.case c.args.group c.args.src.now w.dst w.at w.done _ _ _ w.invariant c.loop-done-test.true c.every.ensures c.min-count.ensures w.auto.dst c.requires.digits in
-    let from = drop w.at c.args.src.now in let to = drop w.done w.dst in let n = c.min-count.result in
-    omega (arith, known.inside, c.min-count.ensures, length-take (w.at + 2 * n - w.at) from, length-drop w.at c.args.src.now, length-take (w.done + n - w.done) to, length-drop w.done w.dst)
+    search (arith, rules, known.inside)

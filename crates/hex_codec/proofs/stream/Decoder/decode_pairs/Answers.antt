@@ -1,7 +1,8 @@
-use Rattle.std.proofs.Common.{rules, arith, ◌≡◌, ◌++◌, ◌∷◌, ◌<◌, [], refl, length, length-drop, drop, ap, sym}
+use Rattle.std.proofs.Common.{rules, arith, ◌≡◌, ◌++◌, ◌∷◌, ◌<◌, ◌≤◌, ◌-◌, ◌∙◌, [], refl, length, length-drop, take, drop, take-append-drop, ap, sym}
 use Rattle.std.proofs.lemmas.Bool.{eqb-true}
-use Rattle.std.proofs.lemmas.List.{drop_all}
+use Rattle.std.proofs.lemmas.List.{drop_all, take_all}
 use Rattle.std.specs.Option.{option_to_list}
+use Rattle.hex_codec.proofs.ListLemmas.{put-behind}
 use Rattle.hex_codec.proofs.StreamLemmas.{alone-waits, count-but, invalid-at, pair-first, pair-stored}
 use Rattle.hex_codec.proofs.stream.Decoder.decode_pairs.Goals as goal
 
@@ -24,3 +25,12 @@ returns-then-is_empty c =
 
 pub error_in-requires-clause-invalid : goal.error_in-requires-clause-invalid
 error_in-requires-clause-invalid c = invalid-at c.args.self.now.case c.args.src.now 0 (search rules) c.in_default-pair_byte.ensures
+
+pub pair_byte-requires : goal.pair_byte-requires
+pair_byte-requires c = c.args.self.now.tested c.in-Some.high c.in-Some.is
+
+pub returns-in-Err : goal.returns-in-Err
+returns-in-Err c =
+    let dst = c.args.dst.now in let n = length dst - 1 in let some : 1 ≤ length dst = search rules in
+    let all : c.decode_from-2.new.dst ≡ drop 1 dst = c.in-Err.ensures.1 ∙ take_all n (drop 1 dst) (omega (arith, length-drop 1 dst)) in
+    (c.in-Err.ensures.0, put-behind 1 dst _ some (ap length all ∙ length-drop 1 dst) ∙ ap (λ l. take 1 dst ++ l) all ∙ take-append-drop 1 dst)
