@@ -1,13 +1,12 @@
 -- What is kept of digits that are read piece by piece.
-use Rattle.std.proofs.Common.{◌≡◌, ◌∙◌, ◌⊎◌, inl, inr, ℕ, ◌+◌, ◌-◌, ◌^◌, ◌<◌, ◌≤◌, true, false, List, [], ◌∷◌, ◌++◌, length, length-append, slice_index, Option, Some, None, is_some, Ok, Err, refl, sym, ap, take, drop, append_assoc, arith}
+use Rattle.std.proofs.Common.{◌≡◌, ◌∙◌, ◌⊎◌, inl, inr, ℕ, ◌+◌, ◌-◌, ◌^◌, ◌<◌, ◌≤◌, true, false, List, [], ◌++◌, length, length-append, slice_index, Option, Some, None, is_some, Ok, Err, refl, sym, ap, take, drop, arith}
 use Rattle.std.specs.Prelude.{IfSome}
 use Rattle.std.specs.Io.KnownBytes.{Consumes}
-use Rattle.std.proofs.Math.ListN.{set}
 use Rattle.std.proofs.Math.Seq.{take-append_seam}
 use borrow.Rule.Slice.PartMut.{post_of, put_mid}
 use lib.Seq.{take-append-add}
 use Rattle.std.proofs.lemmas.Bool.Decides.{nat_tests}
-use Rattle.std.proofs.lemmas.List.{length-take-le, take-append-le, take_more}
+use Rattle.std.proofs.lemmas.List.{length-take-le, take-append-le}
 use Rattle.hex_core.specs.declared.digit.CheckCase.{CheckCase}
 use Rattle.hex_core.specs.declared.error.Error.{Error}
 use Rattle.hex_core.specs.Refusal.{source_refusal}
@@ -77,17 +76,6 @@ read-front chunk buf held k n inside given =
     ap (λ m. take (m + n) (take held chunk ++ (buf ++ behind))) (sym (length-take-le held chunk inside))
     ∙ take-append-add (take held chunk) (buf ++ behind) n
     ∙ ap (λ l. take held chunk ++ l) (take-append-le n buf behind given)
-
--- all of them but the last are taken, which is moved to the front of the buffer
-pub moved-front : (digits full : List ℕ) (last : ℕ) → last < length full → (digits ++ take last full) ++ take 1 (set full 0 (slice_index full last)) ≡ digits ++ take (last + 1) full
-moved-front digits full last inside =
-    ap (λ l. (digits ++ take last full) ++ l) (first full (slice_index full last) (omega (arith, inside)))
-    ∙ append_assoc digits (take last full) (slice_index full last ∷ [])
-    ∙ ap (λ l. digits ++ l) (sym (take_more full last 0 inside))
-  where
-    first : (l : List ℕ) (x : ℕ) → 0 < length l → take 1 (set l 0 x) ≡ x ∷ []
-    first (y ∷ ys) x some = refl
-    first [] x some = absurd (omega (arith, some))
 
 -- how the decoding of all that was read ends, is why it has no bytes
 pub refused-all : (c : CheckCase) (left left' : Option (List ℕ)) (input : List ℕ) (f : Failure) → ReadsAll left left' input → EndsRefused (source_refusal c (without_newline input)) f → DecodingFailure c left left' f

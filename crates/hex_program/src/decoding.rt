@@ -1,6 +1,6 @@
 //! An input of digits, of which the bytes are kept that they spell, and the digits are not.
 
-ghost use Rattle.std.specs.Prelude.{◌≡◌, ◌++◌, ◌<◌, ◌≤◌, ◌⊎◌, ℕ, List, [], length, OnOk, IfOk, IfErr};
+ghost use Rattle.std.specs.Prelude.{◌≡◌, ◌++◌, ◌-◌, ◌<◌, ◌≤◌, ◌⊎◌, ℕ, List, [], length, take, OnOk, IfOk, IfErr};
 ghost use Rattle.hex_core.specs.Calls.{Answers};
 ghost use Rattle.hex_core.specs.Refusal.{source_refusal};
 ghost use Rattle.hex_core.specs.Text.{Spells};
@@ -13,7 +13,7 @@ use crate::input::{CHUNK, INPUT_LIMIT};
 use hex_codec::stream::Decoder;
 use hex_core::{CheckCase, Error};
 use hex_operations::operation::digits_in;
-use std::alloc::Allocator;
+use std::alloc::{AllocError, Allocator};
 use std::io::Read;
 
 // What is kept of the digits so far.
@@ -29,14 +29,13 @@ struct Decoding<A: Allocator> {
 
 impl<A: Allocator + Drop> Decoding<A> {
     // Takes more digits, with room for their bytes.
-    fn take(&mut self, digits: &[u8], room: &mut [u8; CHUNK / 2]) -> Result<(), Failure>
+    fn take(&mut self, digits: &[u8], room: &mut [u8; CHUNK / 2]) -> Result<(), AllocError>
         requires few { length digits.now < CHUNK }
         requires counted { self.old.count ≤ INPUT_LIMIT }
         ensures ok { OnOk result ((before : List ℕ)
             → Kept before self.old.decoder self.old.bytes.items self.old.refusal self.old.count
             → Kept (before ++ digits.now) self.new.decoder self.new.bytes.items self.new.refusal self.new.count) }
         ensures policy { policy_of self.new.decoder ≡ policy_of self.old.decoder }
-        ensures err { IfErr result (λ f. f ≡ Failure.OutOfMemory) }
     {
         self.count += digits.len();
         if self.refusal.is_some() {
@@ -50,8 +49,30 @@ impl<A: Allocator + Drop> Decoding<A> {
             }
         };
         if self.bytes.extend_from_slice(&room[..written]).is_err() {
-            return Err(Failure::OutOfMemory);
+            return Err(AllocError);
         }
+        Ok(())
+    }
+
+    // Takes the digits that a buffer holds up to a place, but for the last, which is moved to the
+    // buffer's front.
+    fn take_all_but_last(
+        &mut self,
+        chunk: &mut [u8; CHUNK],
+        end: usize,
+        room: &mut [u8; CHUNK / 2],
+    ) -> Result<(), AllocError>
+        requires inside { (1 ≤ end) × (end ≤ CHUNK) }
+        requires counted { self.old.count ≤ INPUT_LIMIT }
+        ensures ok { OnOk result ((before : List ℕ)
+            → Kept before self.old.decoder self.old.bytes.items self.old.refusal self.old.count
+            → Kept (before ++ take (end - 1) chunk.old) self.new.decoder self.new.bytes.items self.new.refusal self.new.count) }
+        ensures moved { OnOk result (take (end - 1) chunk.old ++ take 1 chunk.new ≡ take end chunk.old) }
+        ensures policy { policy_of self.new.decoder ≡ policy_of self.old.decoder }
+    {
+        let last = end - 1;
+        self.take(&chunk[..last], room)?;
+        chunk[0] = chunk[last];
         Ok(())
     }
 
@@ -83,7 +104,9 @@ impl<A: Allocator + Drop> Decoding<A> {
             → EndsRefused (source_refusal (policy_of self.decoder) (without_newline (before ++ held.now))) f) }
     {
         let mut whole = self;
-        whole.take(digits_in(held), room)?;
+        let Ok(()) = whole.take(digits_in(held), room) else {
+            return Err(Failure::OutOfMemory);
+        };
         match whole.judge() {
             Ok(()) => {
                 let Decoding { bytes, .. } = whole;
@@ -136,9 +159,9 @@ pub fn read_decoded<A: Allocator + Drop, R: Read>(
         match input.read(&mut chunk[held..]) {
             Ok(0) => return decoding.end(&chunk[..held], &mut room),
             Ok(n) => {
-                let last = held + n - 1;
-                decoding.take(&chunk[..last], &mut room)?;
-                chunk[0] = chunk[last];
+                let Ok(()) = decoding.take_all_but_last(&mut chunk, held + n, &mut room) else {
+                    return Err(Failure::OutOfMemory);
+                };
                 held = 1;
             }
             Err(_) => return Err(Failure::ReadFailed),

@@ -1,17 +1,16 @@
 -- What was read is taken, but for the last byte.
-use Rattle.std.proofs.Common.{rules, arith, ◌≡◌, ◌⊎◌, ◌∙◌, ◌++◌, ◌+◌, ◌-◌, ◌≤◌, inl, inr, ℕ, List, [], length, length-append, slice_index, take, ap, sym, subst, append-nil, append_assoc}
+use Rattle.std.proofs.Common.{rules, arith, ◌≡◌, ◌⊎◌, ◌∙◌, ◌++◌, ◌+◌, ◌-◌, ◌≤◌, inl, inr, ℕ, List, [], length, length-append, take, ap, sym, subst, append-nil, append_assoc}
 use Rattle.std.proofs.KnownBytes.{Consumes-trans}
 use Rattle.std.proofs.lemmas.List.{length-take-le}
 use Rattle.std.proofs.lemmas.Result.{IfErr-weaker, IfOk-weaker}
 use Rattle.std.specs.Io.KnownBytes.{Consumes}
-use Rattle.std.proofs.Math.ListN.{set}
-use borrow.Rule.Slice.PartMut.{put_mid, take_put}
+use borrow.Rule.Slice.PartMut.{post_of, put_mid, take_put}
 use Rattle.hex_core.specs.Refusal.{source_refusal}
 use Rattle.hex_core.specs.Text.{Spells}
 use Rattle.hex_program.specs.Decoding.{EndsRefused}
 use Rattle.hex_program.specs.Input.{ReadsAll}
 use Rattle.hex_operations.specs.Operations.{without_newline}
-use Rattle.hex_program.proofs.DecodingLemmas.{longer, moved-front, read-front, refused-all}
+use Rattle.hex_program.proofs.DecodingLemmas.{longer, read-front, refused-all}
 use Rattle.hex_program.proofs.decoding.read_decoded.Given as given
 use Rattle.hex_program.proofs.decoding.read_decoded.Goals as goal
 
@@ -64,26 +63,26 @@ reads-preserved g c =
     let digits : List ℕ = inv.4.0 in
     let held = c.reads.held in
     let n = c.in-Ok.n in
-    let last : ℕ = held + n - 1 in
     let full : List ℕ = put_mid held (65536 - held) c.reads.chunk c.read.new.buf in
     let given : n ≤ length c.read.new.buf = search rules in
     let some : 1 ≤ n = search rules in
-    let size : length full ≡ 65536 = search rules in
     let room : held + n ≤ 65536 = search rules in
-    let all : last + 1 ≡ held + n = omega (arith, some) in
+    let front : length (take held c.reads.chunk) ≡ held = length-take-le held c.reads.chunk (omega (arith, inv.0, inv.2)) in
+    let behind : List ℕ = post_of held (65536 - held) c.reads.chunk in
+    let inside : held + n ≤ length full = omega (arith, front, length-append (take held c.reads.chunk) (c.read.new.buf ++ behind), length-append c.read.new.buf behind, given) in
+    let taken = c.in-Ok-take_all_but_last.ensures in
     let consumed : Consumes (g.R.Read.remaining c.args.input.now) (g.R.Read.remaining c.read.new.self) ((digits ++ take held c.reads.chunk) ++ take n c.read.new.buf) = Consumes-trans _ _ _ _ _ inv.4.3 c.in-Ok.ensures.bytes.0 in
-    let same : (digits ++ take last full) ++ take 1 (set full 0 (slice_index full last)) ≡ (digits ++ take held c.reads.chunk) ++ take n c.read.new.buf =
-    moved-front digits full last (omega (arith, some, size, room))
-    ∙ ap (λ k. digits ++ take k full) all
-    ∙ ap (λ l. digits ++ l) (read-front c.reads.chunk c.read.new.buf held (65536 - held) n (omega (arith, inv.0, inv.2)) given)
+    let same : (digits ++ take (held + n - 1) full) ++ take 1 c.take_all_but_last.new.chunk ≡ (digits ++ take held c.reads.chunk) ++ take n c.read.new.buf =
+    append_assoc digits (take (held + n - 1) full) (take 1 c.take_all_but_last.new.chunk)
+    ∙ ap (λ l. digits ++ l) (taken.moved ∙ read-front c.reads.chunk c.read.new.buf held (65536 - held) n (omega (arith, inv.0, inv.2)) given)
     ∙ sym (append_assoc digits (take held c.reads.chunk) (take n c.read.new.buf)) in
-    let kept = c.in_ok-take-in-Ok.ensures.ok digits inv.4.1 in
-    let count : c.take.new.self.count ≡ c.reads.decoding.count + last = omega (arith, kept.0, inv.4.1.0, length-append digits (take last full), length-take-le last full (omega (arith, size, room))) in (
+    let kept = taken.ok digits inv.4.1 in
+    let count : c.take_all_but_last.new.self.count ≡ c.reads.decoding.count + (held + n - 1) = omega (arith, kept.0, inv.4.1.0, length-append digits (take (held + n - 1) full), length-take-le (held + n - 1) full (omega (arith, inside))) in (
       omega arith,
       omega (arith, count, c.reads-test.true, room),
       search rules,
-      c.take.ensures.policy ∙ inv.3,
-      (digits ++ take last full, kept, inr (omega arith), rw same consumed),
+      c.take_all_but_last.ensures.policy ∙ inv.3,
+      (digits ++ take (held + n - 1) full, kept, inr (omega arith), rw same consumed),
     )
 
 pub returns-clause-err : goal.returns-clause-err
