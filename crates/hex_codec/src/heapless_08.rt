@@ -2,8 +2,7 @@
 //!
 //! The name is that of the module of the Rust crate; the texts are those of `arrayvec`.
 
-ghost use Rattle.std.specs.Prelude.{◌≡◌, ◌*◌, ◌≤◌, length};
-ghost use Rattle.hex_core.specs.Text.{lowercase, text, uppercase};
+ghost use Rattle.hex_core.specs.Text.{lowercase, uppercase};
 ghost use Rattle.hex_codec.specs.Calls.{EncodesWithin};
 
 use crate::chunks::{CHUNK, CHUNK_DIGITS, chunk_text};
@@ -62,18 +61,10 @@ fn string_of<const N: usize>(src: &[u8], upper: bool) -> Result<ArrayString<N>, 
     if N < required {
         return Err(Error::OutputTooSmall { required });
     }
-    Ok(filled(src, upper))
-}
-
-// The text of bytes whose digits find room.
-fn filled<const N: usize>(src: &[u8], upper: bool) -> ArrayString<N>
-    requires { 2 * length src.now ≤ N }
-    ensures { result.bytes ≡ text upper src.now }
-{
     let mut string = ArrayString::new();
     let mut buffer = [0; CHUNK_DIGITS];
     'chunks: for chunk in src.chunks(CHUNK) {
         string.push_str(chunk_text(&mut buffer, chunk, upper));
     }
-    string
+    Ok(string)
 }

@@ -3,10 +3,11 @@ use Rattle.std.proofs.Common.{◌≡◌, ◌+◌, ◌*◌, ◌≤◌, ◌++◌, 
 use Rattle.std.specs.Slice.Iter.{chunks_rest, chunks_size}
 use Rattle.arrayvec.specs.ArrayString.{array_string_len}
 use Rattle.hex_core.specs.Text.{text}
-use Rattle.hex_codec.proofs.heapless_08.filled.Given as goal
+use Rattle.hex_codec.proofs.heapless_08.string_of.Given as goal
 
 abbrev pub invariant-chunks : goal.invariant-chunks
-invariant-chunks g l = (goal.iterator-chunks g).can_next l.chunk-iterator
+invariant-chunks g l =
+    (goal.iterator-chunks g).can_next l.chunk-iterator
     × (goal.iterator-chunks g).is_finite l.chunk-iterator
     × (chunks_size l.chunk-iterator ≡ 256)
     × (l.string.bytes ++ text l.fn.upper (chunks_rest l.chunk-iterator) ≡ text l.fn.upper l.fn.src)
