@@ -257,14 +257,13 @@ fn decode_whole(src: &[u8], dst: &mut [u8], case: CheckCase) -> Result<(), Error
     requires { length src.now ≡ 2 * length dst.old }
     ensures { Answers (first_bad_char case src.now) (λ _. Spells case src.now dst.new) result }
 {
-    let plan = Backend::plain();
     let decoded = if dst.len() > OWNED {
-        plan.decode_owned(src, dst, case)
+        Backend::plain().decode_owned(src, dst, case)
     } else {
-        plan.decode(src, dst, case)
+        Backend::plain().decode(src, dst, case)
     };
     if !decoded {
-        return Err(plan.first_error(src, case));
+        return Err(Backend::plain().first_error(src, case));
     }
     Ok(())
 }
