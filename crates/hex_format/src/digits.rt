@@ -117,7 +117,8 @@ fn put_pieces<S: Sink>(
     requires start { from ≤ 1 }
     requires one { CHUNK < length bytes.now → length bytes.now ≤ piece_len group }
     requires room { length buffer.old ≡ 3 * CHUNK }
-    ensures { Puts (S.state sink.old) (S.state sink.new) result (drop from (separated group upper bytes.now)) }
+    ensures { Puts (S.state sink.old) (S.state sink.new) result
+        (drop from (separated group upper bytes.now)) }
 {
     if bytes.len() <= CHUNK {
         let shown = separated_text(bytes, upper, group, buffer);
