@@ -113,7 +113,8 @@ length-digits every n s pos long = from_cases (cases_lt 0 n)
     from_cases (inl some) =
         let c = cut every n pos some in
         let size = long ∙ len-cut every n c in
-        let count : length s / (2 * every + 1) ≡ c.whole = ap (λ k. k / (2 * every + 1)) size ∙ div-mul-add c.whole (2 * every + 1) (2 * c.last) (omega (arith, c.fits)) in
+        let count : length s / (2 * every + 1) ≡ c.whole = ap (λ k. k / (2 * every + 1)) size
+        ∙ div-mul-add c.whole (2 * every + 1) (2 * c.last) (omega (arith, c.fits)) in
         omega (arith, digits-fuel every (length s) s (omega arith), size, count, lines c.whole every, c.sum)
     from_cases (inr none) = omega (arith, digits-fuel every (length s) s (omega arith), long, len-closed every n pos, div-eq_of_lt {n = n - 1} {m = every} (omega arith))
 
@@ -132,14 +133,20 @@ pub record Accepted (c : CheckCase) (group : Group) (s : List ℕ) (room n : ℕ
   pub digits : ValidDigits c group s n
   pub separated : All (λ b. b ≡ separator group) (separators_in (piece_len group) s)
 
-pub accepted : (c : CheckCase) (group : Group) (s : List ℕ) (room n : ℕ) → group_refusal c group s room ≡ None → byte_count (piece_len group) (length s) ≡ Some n → Accepted c group s room n
+pub accepted : (c : CheckCase) (group : Group) (s : List ℕ) (room n : ℕ) → group_refusal c group s room ≡ None
+    → byte_count (piece_len group) (length s) ≡ Some n → Accepted c group s room n
 accepted c group s room n h is =
     let every = piece_len group in
     let fault = option_map (λ i. InvalidByte i (slice_index s i)) (first_wrong c group s) in
     let none : refusal_of_count (Some n) fault room ≡ None = rw is at h in
     let long : length s ≡ grouped_len every n = sym (count-told every (length s) n is) in
     let right : Right c group s = wrong-none c group s (grind (arith, nat_tests, none)) in
-    record { fits = grind (arith, nat_tests, none); long = long; digits = (length-digits every n s group.is_group.0 long, right.valid); separated = right.separated }
+    record {
+      fits = grind (arith, nat_tests, none);
+      long = long;
+      digits = (length-digits every n s group.is_group.0 long, right.valid);
+      separated = right.separated;
+    }
 
 -- what is spelled by its digits is spelled by the text
 pub group-spells : (c : CheckCase) (group : Group) (s bytes : List ℕ) (room n : ℕ) → Accepted c group s room n

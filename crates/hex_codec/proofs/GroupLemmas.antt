@@ -37,15 +37,18 @@ map-next f h same a (suc n) = rw (same a) (ap (λ l. h a ∷ l) (map-next f h sa
 pub pieces-next : (every : ℕ) (bytes : List ℕ) → 0 < every → 0 < length bytes → pieces every bytes ≡ take every bytes ∷ pieces every (drop every bytes)
 pieces-next every bytes pos some =
     let back = drop every bytes in
-    let count : piece_count every (length bytes) ≡ suc (piece_count every (length back)) = rw (length-drop every bytes) (count-next every (length bytes) pos some) in
+    let count : piece_count every (length bytes) ≡ suc (piece_count every (length back)) = rw (length-drop every bytes)
+    (count-next every (length bytes) pos some) in
     let here : ℕ → List ℕ = λ i. take every (drop (i * every) bytes) in
     let behind : ℕ → List ℕ = λ i. take every (drop (i * every) back) in
     let first : 0 * every ≡ 0 = omega arith in
-    let same : (i : ℕ) → here (i + 1) ≡ behind i = λ i. let at : (i + 1) * every ≡ every + i * every = grind arith in rw at (ap (take every) (sym (drop-drop (i * every) every bytes))) in
+    let same : (i : ℕ) → here (i + 1) ≡ behind i = λ i. let at : (i + 1) * every ≡ every + i * every = grind arith in rw at (ap (take every)
+    (sym (drop-drop (i * every) every bytes))) in
     rw (count, first) (ap (λ l. take every bytes ∷ l) (map-next here behind same 0 (piece_count every (length back))))
 
 -- whole pieces, and those behind them
-pub pieces-append : (every count : ℕ) (front back : List ℕ) → 0 < every → length front ≡ count * every → pieces every (front ++ back) ≡ pieces every front ++ pieces every back
+pub pieces-append : (every count : ℕ) (front back : List ℕ) → 0 < every → length front ≡ count * every
+    → pieces every (front ++ back) ≡ pieces every front ++ pieces every back
 pieces-append every zero [] back pos whole = rw (no_pieces every) refl
 pieces-append every zero (b ∷ front) back pos whole = absurd (omega arith)
 pieces-append every (suc count) front back pos whole =
@@ -53,7 +56,8 @@ pieces-append every (suc count) front back pos whole =
     let first : take every (front ++ back) ≡ take every front = grind (arith, common_steps, size, pos) in
     let behind : drop every (front ++ back) ≡ drop every front ++ back = grind (arith, common_steps, size, pos) in
     let rest = pieces-append every count (drop every front) back pos (omega (arith, length-drop every front, size)) in
-    pieces-next every (front ++ back) pos (omega (arith, length-append front back, size, pos)) ∙ rw (first, behind, rest) refl
+    pieces-next every (front ++ back) pos (omega (arith, length-append front back, size, pos))
+    ∙ rw (first, behind, rest) refl
     ∙ ap (λ l. l ++ pieces every back) (sym (pieces-next every front pos (omega (arith, size, pos))))
 
 -- ---- their texts
@@ -110,14 +114,16 @@ length-separated group upper (suc fuel) (b ∷ bytes) fits =
     parts (length-text upper front) rest cut (rw behind (count-next every (length all) some (omega arith)))
 
 -- and no separator before the first piece
-pub length-grouped : (group : Group) (upper : Bool) (bytes : List ℕ) → length (grouped group upper bytes) ≡ 2 * length bytes + (piece_count (piece_len group) (length bytes) - 1)
+pub length-grouped : (group : Group) (upper : Bool) (bytes : List ℕ)
+    → length (grouped group upper bytes) ≡ 2 * length bytes + (piece_count (piece_len group) (length bytes) - 1)
 length-grouped group upper [] = rw (grouped-separated group upper [], separated-none group upper, zero-div (piece_len group), zero-mod (piece_len group)) refl
 length-grouped group upper (b ∷ bytes) =
     let all = b ∷ bytes in
     let count = length-separated group upper (length all) all (omega arith) in
     let one = count-next (piece_len group) (length all) group.is_group.0 (omega arith) in
     ap length (grouped-separated group upper all) ∙ length-drop 1 (separated group upper all)
-    ∙ ap (λ n. n - 1) count ∙ minus (2 * length all) (piece_count (piece_len group) (length all)) (piece_count (piece_len group) (length all - piece_len group)) one
+    ∙ ap (λ n. n - 1) count ∙ minus (2 * length all) (piece_count (piece_len group) (length all))
+    (piece_count (piece_len group) (length all - piece_len group)) one
   where
     minus : (n count left : ℕ) → count ≡ suc left → n + count - 1 ≡ n + (count - 1)
     minus n count left one = omega arith

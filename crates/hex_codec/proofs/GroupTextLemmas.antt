@@ -58,14 +58,16 @@ tail-made P (x ∷ xs) all = λ k d lt. all (suc k) d (omega arith)
 
 pub made : (group : Group) (upper : Bool) (bytes : List ℕ) → AreBytes bytes → All (IsDigitOrSeparator upper group) (grouped group upper bytes)
 made group upper bytes are =
-    rw (grouped-separated group upper bytes) (tail-made (IsDigitOrSeparator upper group) (separated group upper bytes) (separated-made upper group (length bytes) bytes (omega arith) are))
+    rw (grouped-separated group upper bytes)
+    (tail-made (IsDigitOrSeparator upper group) (separated group upper bytes) (separated-made upper group (length bytes) bytes (omega arith) are))
 
 pub joined-pieces : (group : Group) (upper : Bool) (front back : List ℕ) → length front % piece_len group ≡ 0 → 0 < length front → 0 < length back
     → grouped group upper (front ++ back) ≡ grouped group upper front ++ (separator group ∷ grouped group upper back)
 joined-pieces group upper front back whole some more =
     let every = piece_len group in
     let count : length front ≡ (length front / every) * every = omega (arith, whole, div-add-mod' (length front) every) in
-    grouped-separated group upper (front ++ back) ∙ ap (drop 1) (separated-append group upper (length front / every) front back count)
+    grouped-separated group upper (front ++ back)
+    ∙ ap (drop 1) (separated-append group upper (length front / every) front back count)
     ∙ rw (separated-cons group upper front some, separated-cons group upper back more) refl
 
 -- ---- a text by its digits and its separators
@@ -82,7 +84,8 @@ same-fronts a b c d size both = (
 
 cut-part : (n : ℕ) (s : List ℕ) → s ≡ take n s ++ (drop n (take (n + 1) s) ++ drop (n + 1) s)
 cut-part n s =
-    sym (take-append-drop (n + 1) s) ∙ ap (λ l. l ++ drop (n + 1) s) (sym (take-append-drop n (take (n + 1) s)) ∙ ap (λ l. l ++ drop n (take (n + 1) s)) (take-take n (n + 1) s (omega arith)))
+    sym (take-append-drop (n + 1) s)
+    ∙ ap (λ l. l ++ drop (n + 1) s) (sym (take-append-drop n (take (n + 1) s)) ∙ ap (λ l. l ++ drop n (take (n + 1) s)) (take-take n (n + 1) s (omega arith)))
     ∙ append_assoc (take n s) (drop n (take (n + 1) s)) (drop (n + 1) s)
 
 same-text : (every sep fuel : ℕ) (s t : List ℕ) → length s ≤ fuel → length s ≡ length t → digits_in every s ≡ digits_in every t

@@ -16,10 +16,12 @@ use Rattle.hex_core.proofs.TextLemmas.{text-append}
 pub entries : (xs : List ℕ) (n : ℕ) → length xs ≡ n → xs ≡ map (λ i. get_or xs i 0) (range_with_len 0 n)
 entries xs n is =
     let here = λ (i : ℕ). get_or xs i 0 in
-    same_number_lists xs (map here (range_with_len 0 n)) (is ∙ sym (length-map-range_with_len here 0 n)) (λ k lt. sym (get_or-map-range_with_len here 0 n k k 0 (omega arith) (omega arith)))
+    same_number_lists xs (map here (range_with_len 0 n)) (is ∙ sym (length-map-range_with_len here 0 n))
+    (λ k lt. sym (get_or-map-range_with_len here 0 n k k 0 (omega arith) (omega arith)))
 
 -- the front of a list that was written behind another front
-written-front : (a r : ℕ) (xs ys zs : List ℕ) → a ≤ length xs → r ≤ length ys → take (a + length ys) zs ≡ take a xs ++ ys → take (a + r) zs ≡ take a xs ++ take r ys
+written-front : (a r : ℕ) (xs ys zs : List ℕ) → a ≤ length xs → r ≤ length ys → take (a + length ys) zs ≡ take a xs ++ ys
+    → take (a + r) zs ≡ take a xs ++ take r ys
 written-front a r xs ys zs inside fits whole =
     let front : length (take a xs) + r ≡ a + r = omega (arith, length-take-le a xs inside) in
     sym (take-take (a + r) (a + length ys) zs (omega arith)) ∙ ap (take (a + r)) whole ∙ rw front at (take-append-add (take a xs) ys r)

@@ -44,7 +44,8 @@ unparted every (b ∷ s) fits =
     let all = b ∷ s in
     let one = one_part every all (omega arith) (omega arith) in (
       ap (flat_map (take (2 * every))) one ∙ append-nil (take (2 * every) all) ∙ take_all (2 * every) all fits,
-      ap (flat_map (drop (2 * every))) one ∙ append-nil (drop (2 * every) all) ∙ drop_all (2 * every) all fits,
+      ap (flat_map (drop (2 * every))) one
+          ∙ append-nil (drop (2 * every) all) ∙ drop_all (2 * every) all fits,
     )
 
 -- whole parts, and those behind them
@@ -78,13 +79,16 @@ pub part-digits : (every : ℕ) (s : List ℕ) → 2 * every < length s → digi
 part-digits every s long =
     let part = take (2 * every + 1) s in
     let size : length part ≡ 2 * every + 1 = length-take-le (2 * every + 1) s (omega arith) in
-    ap (flat_map (take (2 * every))) (one_part every part (omega arith) (omega arith)) ∙ append-nil (take (2 * every) part) ∙ take-take (2 * every) (2 * every + 1) s (omega arith)
+    ap (flat_map (take (2 * every))) (one_part every part (omega arith) (omega arith)) ∙ append-nil (take (2 * every) part)
+    ∙ take-take (2 * every) (2 * every + 1) s (omega arith)
 
-pub part-separator : (every sep : ℕ) (s : List ℕ) → 2 * every < length s → get_or s (2 * every) 0 ≡ sep → All (λ b. b ≡ sep) (separators_in every (take (2 * every + 1) s))
+pub part-separator : (every sep : ℕ) (s : List ℕ) → 2 * every < length s → get_or s (2 * every) 0 ≡ sep
+    → All (λ b. b ≡ sep) (separators_in every (take (2 * every + 1) s))
 part-separator every sep s long here =
     let part = take (2 * every + 1) s in
     let size : length part ≡ 2 * every + 1 = length-take-le (2 * every + 1) s (omega arith) in
-    let one : separators_in every part ≡ drop (2 * every) part = ap (flat_map (drop (2 * every))) (one_part every part (omega arith) (omega arith)) ∙ append-nil (drop (2 * every) part) in
+    let one : separators_in every part ≡ drop (2 * every) part = ap (flat_map (drop (2 * every))) (one_part every part (omega arith) (omega arith))
+    ∙ append-nil (drop (2 * every) part) in
     rw one (All-from_get_or (λ b. b ≡ sep) (drop (2 * every) part) 0 (λ i lt.
     let first : 2 * every + i ≡ 2 * every = omega (arith, lt, length-drop (2 * every) part, size) in
     get_or-drop (2 * every) part i 0 ∙ rw first (get_or-take (2 * every + 1) s (2 * every) 0 (omega arith) ∙ here)))

@@ -45,7 +45,8 @@ back-last group upper bytes some fits =
     record { digits = rw is whole.0; separated = rw (is, whole.1) (All-nil _) }
 
 -- a piece, its separator, and what is behind them
-back-more : (group : Group) (upper : Bool) (bytes : List ℕ) → piece_len group < length bytes → Back group upper (drop (piece_len group) bytes) → Back group upper bytes
+back-more : (group : Group) (upper : Bool) (bytes : List ℕ) → piece_len group < length bytes → Back group upper (drop (piece_len group) bytes)
+    → Back group upper bytes
 back-more group upper bytes long rest =
     let every = piece_len group in
     let sep = separator group in
@@ -63,7 +64,8 @@ back-more group upper bytes long rest =
     let both : separators_in every all ≡ (sep ∷ []) ++ separators_in every behind = part.separators
     ∙ ap (λ l. l ++ separators_in every (drop (2 * every + 1) all)) separators ∙ ap (λ l. (sep ∷ []) ++ separators_in every l) left in
     record {
-      digits = rw is (part.digits ∙ rw (digits, left, rest.digits) (sym (text-append upper (take every bytes) (drop every bytes)) ∙ ap (text upper) (take-append-drop every bytes)));
+      digits = rw is (part.digits ∙ rw (digits, left, rest.digits) (sym (text-append upper (take every bytes) (drop every bytes))
+          ∙ ap (text upper) (take-append-drop every bytes)));
       separated = rw (is, both) (All-append (λ b. b ≡ sep) (sep ∷ []) (separators_in every behind) (only sep) rest.separated);
     }
   where
@@ -80,7 +82,8 @@ back group upper zero (b ∷ bytes) fits = absurd (omega arith)
 back group upper (suc fuel) (b ∷ bytes) fits =
     from_cases (back group upper fuel (drop (piece_len group) (b ∷ bytes)) (omega (
       arith,
-      length-drop (piece_len group) (b ∷ bytes),
+      length-drop (piece_len group)
+          (b ∷ bytes),
       group.is_group.0,
     ))) (cases_lt (piece_len group) (length (b ∷ bytes)))
   where
@@ -88,7 +91,8 @@ back group upper (suc fuel) (b ∷ bytes) fits =
     from_cases rest (inl long) = back-more group upper (b ∷ bytes) long rest
     from_cases rest (inr short) = back-last group upper (b ∷ bytes) (omega arith) short
 
-pub read-back : (c : CheckCase) (group : Group) (upper : Bool) (bytes : List ℕ) → Spells c (text upper bytes) bytes → GroupSpells c group (grouped group upper bytes) bytes
+pub read-back : (c : CheckCase) (group : Group) (upper : Bool) (bytes : List ℕ) → Spells c (text upper bytes) bytes
+    → GroupSpells c group (grouped group upper bytes) bytes
 read-back c group upper bytes spelled =
     let b = back group upper (length bytes) bytes (omega arith) in
     record { long = length-grouped group upper bytes; separated = b.separated; spelled = rw b.digits spelled }
@@ -100,7 +104,8 @@ has-count None f room h = cc
 has-count (Some n) f room h = (n, refl)
 
 pub read-spells : (c : CheckCase) (group : Group) (s : List ℕ) (room : ℕ) → (source_refusal c (digits_in (piece_len group) s) ≡ None
-    → (bytes : List ℕ) × Spells c (digits_in (piece_len group) s) bytes) → group_refusal c group s room ≡ None → (bytes : List ℕ) × GroupSpells c group s bytes × (length bytes ≤ room)
+    → (bytes : List ℕ) × Spells c (digits_in (piece_len group) s) bytes)
+    → group_refusal c group s room ≡ None → (bytes : List ℕ) × GroupSpells c group s bytes × (length bytes ≤ room)
 read-spells c group s room some h =
     let n = has-count (byte_count (piece_len group) (length s)) _ room h in
     let is = accepted c group s room n.0 h n.1 in
@@ -108,7 +113,8 @@ read-spells c group s room some h =
     let even : length digits % 2 ≡ 0 = omega (arith, is.digits.0) in
     let none : first_invalid c digits ≡ None = is.digits.1 in
     let w = some (grind (arith, nat_tests, even, none)) in
-    let spells = group-spells c group s w.0 room n.0 is w.1 in (w.0, spells.0, omega (arith, spells.1, is.fits))
+    let spells = group-spells c group s w.0 room n.0 is w.1 in
+    (w.0, spells.0, omega (arith, spells.1, is.fits))
 
 pub spells-read : (c : CheckCase) (group : Group) (s bytes : List ℕ) (room : ℕ) → GroupSpells c group s bytes → length bytes ≤ room
     → source_refusal c (digits_in (piece_len group) s) ≡ None → group_refusal c group s room ≡ None

@@ -176,7 +176,10 @@ pub finished-even : (c : CheckCase) (fed written : List ℕ) (o : Option ℕ) �
 finished-even c fed written (Some d) but none = absurd (cc none)
 finished-even c fed written None but none =
     let even : length fed % 2 ≡ 0 = omega (arith, count-but c fed written None but) in
-    let valid = but.valid in (grind (arith, nat_tests, even, valid), subst (λ s. Spells c s written) (sym (but.parts ∙ append-nil but.pairs)) but.spelled)
+    let valid = but.valid in (
+      grind (arith, nat_tests, even, valid),
+      subst (λ s. Spells c s written) (sym (but.parts ∙ append-nil but.pairs)) but.spelled,
+    )
 
 -- ---- all feeds are one
 
@@ -187,4 +190,5 @@ whole-pairs c fed written o but =
     let whole : take (2 * (length fed / 2)) fed ≡ but.pairs =
     ap (λ n. take n fed) (sym end) ∙ ap (take (length but.pairs)) but.parts ∙ take-append_seam but.pairs (option_to_list o) in
     let rest : drop (2 * (length fed / 2)) fed ≡ option_to_list o =
-    ap (λ n. drop n fed) (sym end) ∙ ap (drop (length but.pairs)) but.parts ∙ drop-append_seam but.pairs (option_to_list o) in (subst (λ s. Spells c s written) (sym whole) but.spelled, sym rest)
+    ap (λ n. drop n fed) (sym end) ∙ ap (drop (length but.pairs)) but.parts ∙ drop-append_seam but.pairs (option_to_list o) in
+    (subst (λ s. Spells c s written) (sym whole) but.spelled, sym rest)

@@ -31,13 +31,21 @@ pub writes-none : (c : CheckCase) (group : Group) (s dst : List ℕ) → WritesF
 writes-none c group s dst = record { before = []; digits = refl; count = refl; spelled = record { twice = refl; each = λ i lt. absurd (omega arith) } }
 
 -- so many digits are left
-pub left : (c : CheckCase) (group : Group) (s dst : List ℕ) (at done all : ℕ) → WritesFront c group s dst at done → length (digits_in (piece_len group) s) ≡ 2 * all
+pub left : (c : CheckCase) (group : Group) (s dst : List ℕ) (at done all : ℕ) → WritesFront c group s dst at done
+    → length (digits_in (piece_len group) s) ≡ 2 * all
     → length (digits_in (piece_len group) (drop at s)) ≡ 2 * (all - done)
-left c group s dst at done all so_far twice = omega (arith, ap length so_far.digits ∙ length-append so_far.before (digits_in (piece_len group) (drop at s)), so_far.count, twice)
+left c group s dst at done all so_far twice = omega (
+  arith,
+  ap length so_far.digits ∙ length-append so_far.before
+      (digits_in (piece_len group) (drop at s)),
+  so_far.count,
+  twice,
+)
 
 -- the next digits are valid, and there is room for their bytes
 pub ahead : (c : CheckCase) (group : Group) (s dst next rest : List ℕ) (at done all : ℕ) → WritesFront c group s dst at done
-    → digits_in (piece_len group) (drop at s) ≡ next ++ rest → ValidDigits c group s all → (first_invalid c next ≡ None) × (2 * done + length next ≤ 2 * all)
+    → digits_in (piece_len group) (drop at s) ≡ next ++ rest → ValidDigits c group s all
+    → (first_invalid c next ≡ None) × (2 * done + length next ≤ 2 * all)
 ahead c group s dst next rest at done all so_far cut (twice, valid) =
     let behind = digits_in (piece_len group) (drop at s) in
     let lengths = ap length so_far.digits ∙ length-append so_far.before behind in
@@ -53,9 +61,11 @@ writes-more c group s old next part at done more k so_far cut inside spelled =
     let front = so_far.before ++ next in
     record {
       before = front;
-      digits = so_far.digits ∙ ap (λ l. so_far.before ++ l) cut ∙ sym (append_assoc so_far.before next rest) ∙ ap (λ l. front ++ digits_in (piece_len group) l) (drop-drop more at s);
+      digits = so_far.digits ∙ ap (λ l. so_far.before ++ l) cut ∙ sym (append_assoc so_far.before next rest)
+          ∙ ap (λ l. front ++ digits_in (piece_len group) l) (drop-drop more at s);
       count = length-append so_far.before next ∙ omega (arith, so_far.count, spelled.twice);
-      spelled = rw (take-put_mid done k old part (done + length part) refl inside) (spells-joined c so_far.before next (take done old) part so_far.spelled spelled);
+      spelled = rw (take-put_mid done k old part (done + length part) refl inside) (spells-joined c so_far.before next
+          (take done old) part so_far.spelled spelled);
     }
 
 -- and at last those of all
@@ -79,7 +89,8 @@ pub record Copied (c : CheckCase) (group : Group) (s new : List ℕ) (at done al
   pub room : 2 * done + front.digits ≤ 2 * all
 
 pub copied : (c : CheckCase) (group : Group) (s dst new : List ℕ) (at done all : ℕ) (front : Front) → WritesFront c group s dst at done
-    → at ≤ length s → UnseparatesFront group (take (length s - at) (drop at s)) new front → ValidDigits c group s all → Copied c group s new at done all front
+    → at ≤ length s → UnseparatesFront group (take (length s - at) (drop at s)) new front
+    → ValidDigits c group s all → Copied c group s new at done all front
 copied c group s dst new at done all front so_far reached bare digits =
     let every = piece_len group in
     let rest = drop at s in
@@ -123,7 +134,8 @@ next every n s pos some size = from_cases (cases_lt (2 * every) (length s))
         let rest : drop (2 * n + 1) s ≡ [] = drop_all (2 * n + 1) s (omega arith) in
         record {
           inside = omega (arith, count, whole);
-          digits = rw count (one ∙ sym (rw (rest, (unparted every [] (omega arith)).0) (append-nil (take (2 * n) s) ∙ take_all (2 * n) s (omega arith))));
+          digits = rw count (one ∙ sym (rw (rest, (unparted every [] (omega arith)).0)
+              (append-nil (take (2 * n) s) ∙ take_all (2 * n) s (omega arith))));
         }
 
 -- the digits of the next part, behind those that were decoded

@@ -35,7 +35,8 @@ at-separator c group s =
     rw (eq-eqb (n % (n + 1)) n (mod-eq_of_lt {n = n} {m = n + 1} (omega arith))) refl
 
 -- behind whole parts a byte is wrong where it is in the rest
-wrong-behind : (c : CheckCase) (group : Group) (s : List ℕ) (at k : ℕ) → IsWhole (piece_len group) at → is_wrong c group (drop at s) k ≡ is_wrong c group s (at + k)
+wrong-behind : (c : CheckCase) (group : Group) (s : List ℕ) (at k : ℕ) → IsWhole (piece_len group) at
+    → is_wrong c group (drop at s) k ≡ is_wrong c group s (at + k)
 wrong-behind c group s at k whole =
     let line = 2 * piece_len group + 1 in
     let place : (at + k) % line ≡ k % line = ap (λ n. (n + k) % line) whole.lines ∙ mul-add-mod_self_right whole.count line k in
@@ -77,7 +78,8 @@ first-right c group s clear =
     )
 
 right-first : (c : CheckCase) (group : Group) (s : List ℕ) (k : ℕ) → first_invalid c (take (2 * piece_len group) s) ≡ None
-    → All (λ b. b ≡ separator group) (drop (2 * piece_len group) (take (2 * piece_len group + 1) s)) → k < length s → k < 2 * piece_len group + 1 → is_wrong c group s k ≡ false
+    → All (λ b. b ≡ separator group) (drop (2 * piece_len group) (take (2 * piece_len group + 1) s)) → k < length s → k < 2 * piece_len group + 1
+    → is_wrong c group s k ≡ false
 right-first c group s k valid all inside lt =
     let n = 2 * piece_len group in
     let part = take (n + 1) s in
@@ -101,10 +103,12 @@ clear-right c group (suc fuel) (b ∷ s) fits clear =
     let part = parted every all (omega arith) in
     let first = first-right c group all clear in
     let left = length-drop line all in
-    let rest = clear-right c group fuel (drop line all) (omega (arith, left)) (λ k lt. wrong-behind c group all line k (one every) ∙ clear (line + k) (omega (arith, lt, left))) in
+    let rest = clear-right c group fuel (drop line all) (omega (arith, left)) (λ k lt. wrong-behind c group all line k (one every)
+    ∙ clear (line + k) (omega (arith, lt, left))) in
     record {
       valid = rw part.digits ((none_joined (lacks c) (take (2 * every) all) (digits_in every (drop line all))).1 (first.0, rest.valid));
-      separated = rw part.separators (All-append (λ b. b ≡ separator group) (drop (2 * every) (take line all)) (separators_in every (drop line all)) first.1 rest.separated);
+      separated = rw part.separators (All-append (λ b. b ≡ separator group) (drop (2 * every) (take line all))
+          (separators_in every (drop line all)) first.1 rest.separated);
     }
 
 pub right-clear : (c : CheckCase) (group : Group) (fuel : ℕ) (s : List ℕ) → length s ≤ fuel → Right c group s → Clear c group s
@@ -153,29 +157,35 @@ whole-clear c group s len inside whole right =
     let size : length (take len s) ≡ len = length-take-le len s inside in
     let all : length s ≡ len + length (drop len s) = omega (arith, length-drop len s) in
     let clear = right-clear c group len (take len s) (omega (arith, size)) right in
-    ap (λ n. position (is_wrong c group s) (range_with_len 0 n)) all ∙ least_behind (is_wrong c group s) (is_wrong c group (drop len s)) len (length (drop len s))
+    ap (λ n. position (is_wrong c group s) (range_with_len 0 n)) all
+    ∙ least_behind (is_wrong c group s) (is_wrong c group (drop len s)) len (length (drop len s))
     (λ k lt. sym (wrong-taken c group s len k lt) ∙ clear k (omega (arith, lt, size))) (λ k. wrong-behind c group s len k whole)
 
 -- ---- one part
 
 -- an invalid digit of the first part
-pub digit-wrong : (c : CheckCase) (group : Group) (s : List ℕ) (i : ℕ) → first_invalid c (take (2 * piece_len group) s) ≡ Some i → first_wrong c group s ≡ Some i
+pub digit-wrong : (c : CheckCase) (group : Group) (s : List ℕ) (i : ℕ) → first_invalid c (take (2 * piece_len group) s) ≡ Some i
+    → first_wrong c group s ≡ Some i
 digit-wrong c group s i first =
     let n = 2 * piece_len group in
     let told = position-Some (lacks c) (take n s) i 0 first in
     let low : i < n = omega (arith, told.0, length-take n s) in
-    let digit : (k : ℕ) → k ≤ i → is_wrong c group s k ≡ lacks c (get_or (take n s) k 0) = λ k h. at-digit c group s k (omega arith) ∙ ap (lacks c) (sym (get_or-take n s k 0 (omega arith))) in
-    least_is (is_wrong c group s) (length s) i (omega (arith, told.0, length-take n s)) (λ k lt. digit k (omega arith) ∙ told.2 k lt) (digit i (omega arith) ∙ told.1)
+    let digit : (k : ℕ) → k ≤ i → is_wrong c group s k ≡ lacks c (get_or (take n s) k 0) = λ k h. at-digit c group s k (omega arith)
+    ∙ ap (lacks c) (sym (get_or-take n s k 0 (omega arith))) in
+    least_is (is_wrong c group s) (length s) i (omega (arith, told.0, length-take n s)) (λ k lt. digit k (omega arith) ∙ told.2 k lt)
+    (digit i (omega arith) ∙ told.1)
 
 -- a part without a separator
-pub last-clear : (c : CheckCase) (group : Group) (s : List ℕ) → length s ≤ 2 * piece_len group → first_invalid c (take (2 * piece_len group) s) ≡ None → first_wrong c group s ≡ None
+pub last-clear : (c : CheckCase) (group : Group) (s : List ℕ) → length s ≤ 2 * piece_len group
+    → first_invalid c (take (2 * piece_len group) s) ≡ None → first_wrong c group s ≡ None
 last-clear c group s fits valid =
     let is = unparted (piece_len group) s fits in
     none-wrong c group s (record { valid = rw (is.0, ← take_all (2 * piece_len group) s fits) valid; separated = rw is.1 (All-nil _) })
 
 -- the digits of the first part are valid, and its separator is another byte
 pub separator-wrong : (c : CheckCase) (group : Group) (s : List ℕ) → 2 * piece_len group < length s
-    → first_invalid c (take (2 * piece_len group) s) ≡ None → (get_or s (2 * piece_len group) 0 ≡ separator group → ⊥) → first_wrong c group s ≡ Some (2 * piece_len group)
+    → first_invalid c (take (2 * piece_len group) s) ≡ None → (get_or s (2 * piece_len group) 0 ≡ separator group → ⊥)
+    → first_wrong c group s ≡ Some (2 * piece_len group)
 separator-wrong c group s long valid differs =
     let n = 2 * piece_len group in
     least_is (is_wrong c group s) (length s) n long

@@ -109,17 +109,13 @@ impl Decoder {
         if dst.len() < required {
             return Err(Error::OutputTooSmall { required });
         }
-        match self.decode_pairs(src, dst) {
-            Ok(waiting) => {
-                *self = Decoder {
-                    case: self.case,
-                    position,
-                    waiting,
-                };
-                Ok(required)
-            }
-            Err(e) => Err(e),
-        }
+        let waiting = self.decode_pairs(src, dst)?;
+        *self = Decoder {
+            case: self.case,
+            position,
+            waiting,
+        };
+        Ok(required)
     }
 
     /// Ends the decoding: all that was fed has to be whole pairs.
@@ -170,13 +166,9 @@ impl Decoder {
         let Some(byte) = pair_byte(high, src[0], self.case) else {
             return Err(self.error_in(src));
         };
-        match self.decode_from(src, 1, &mut dst[1..]) {
-            Ok(waiting) => {
-                dst[0] = byte;
-                Ok(waiting)
-            }
-            Err(e) => Err(e),
-        }
+        let waiting = self.decode_from(src, 1, &mut dst[1..])?;
+        dst[0] = byte;
+        Ok(waiting)
     }
 
     // Decodes the pairs that are whole from a place on, and returns the digit behind them.

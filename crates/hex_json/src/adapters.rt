@@ -58,9 +58,9 @@ impl fmt::Display for AdapterError {
 
     fn fmt<W: fmt::Write>(&self, f: &mut fmt::Formatter<W>) -> fmt::Result {
         match self {
-            AdapterError::NotText => f.write_str("expected a string"),
-            AdapterError::InvalidPrefix => f.write_str("invalid prefix"),
-            AdapterError::InvalidLength => f.write_str("invalid length"),
+            AdapterError::NotText => write!(f, "expected a string"),
+            AdapterError::InvalidPrefix => write!(f, "invalid prefix"),
+            AdapterError::InvalidLength => write!(f, "invalid length"),
             AdapterError::OverBound { max, actual } => {
                 write!(f, "expected at most {max} decoded bytes, got {actual}")
             }

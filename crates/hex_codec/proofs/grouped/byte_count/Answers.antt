@@ -13,11 +13,13 @@ one : (every n : ℕ) → 0 < every → n ≤ every → grouped_len every n ≡ 
 one every n pos h = let q : (n - 1) / every ≡ 0 = div-eq_of_lt {n = n - 1} {m = every} (omega arith) in omega (arith, len-closed every n pos)
 
 -- where nothing is behind the whole parts, or an odd number of bytes, no text has the length
-none : (every len n : ℕ) → 0 < every → 0 < len → (len % (2 * every + 1) ≡ 0) ⊎ (len % (2 * every + 1) % 2 ≡ 1) → (0 < n) ⊎ (n ≤ 0) → grouped_len every n ≡ len → ⊥
+none : (every len n : ℕ) → 0 < every → 0 < len → (len % (2 * every + 1) ≡ 0) ⊎ (len % (2 * every + 1) % 2 ≡ 1) → (0 < n) ⊎ (n ≤ 0)
+    → grouped_len every n ≡ len → ⊥
 none every len n pos long last (inr h) e = absurd (omega (arith, one every n pos (omega arith)))
 none every len n pos long last (inl h) e =
     let c = cut every n pos h in
-    let r : (c.whole * (2 * every + 1) + 2 * c.last) % (2 * every + 1) ≡ 2 * c.last = mod-mul-add c.whole (2 * every + 1) (2 * c.last) (omega (arith, c.fits)) in
+    let r : (c.whole * (2 * every + 1) + 2 * c.last) % (2 * every + 1) ≡ 2 * c.last = mod-mul-add c.whole (2 * every + 1) (2 * c.last)
+    (omega (arith, c.fits)) in
     let is : len % (2 * every + 1) ≡ 2 * c.last = rw (sym e, len-cut every n c) r in
     apart last is c.some
   where
@@ -45,6 +47,13 @@ returns c =
     let last = len % (2 * every + 1) in
     let n = whole * every + last / 2 in
     let below = mod_below len (2 * every + 1) (omega arith) in
-    let parts : Cut every n = record { whole = whole; last = last / 2; sum = refl; some = omega (arith, c.if-last-eq0.false, c.if-last-eq1.false); fits = omega (arith, below) } in
+    let parts : Cut every n = record {
+      whole = whole;
+      last = last / 2;
+      sum = refl;
+      some = omega
+          (arith, c.if-last-eq0.false, c.if-last-eq1.false);
+      fits = omega (arith, below);
+    } in
     let even : 2 * (last / 2) ≡ last = omega (arith, c.if-last-eq1.false) in
     sym (count-is every len n c.requires (len-cut every n parts ∙ omega (arith, even, div-add-mod' len (2 * every + 1))))

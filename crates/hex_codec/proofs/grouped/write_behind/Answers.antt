@@ -5,18 +5,24 @@ use Rattle.hex_codec.proofs.grouped.write_behind.Goals as goal
 
 pub overflow_add-at : goal.overflow_add-at
 overflow_add-at c =
-    let w = c.loop-done in let known = part c.args.case c.args.group c.args.src.now w.dst w.at w.done _ _ _ w.invariant c.loop-done-test.true c.every.ensures c.min-count.ensures w.auto.dst c.requires.digits in
+    let w = c.loop-done in
+    let known = part c.args.case c.args.group c.args.src.now w.dst w.at w.done _ _ _ w.invariant c.loop-done-test.true
+    c.every.ensures c.min-count.ensures w.auto.dst c.requires.digits in
     search (arith, rules, known.inside)
 
 pub slice_bounds-decode-end : goal.slice_bounds-decode-end
 slice_bounds-decode-end c =
-    let w = c.loop-done in let known = part c.args.case c.args.group c.args.src.now w.dst w.at w.done _ _ _ w.invariant c.loop-done-test.true c.every.ensures c.min-count.ensures w.auto.dst c.requires.digits in
+    let w = c.loop-done in
+    let known = part c.args.case c.args.group c.args.src.now w.dst w.at w.done _ _ _ w.invariant c.loop-done-test.true
+    c.every.ensures c.min-count.ensures w.auto.dst c.requires.digits in
     search (arith, rules, known.inside)
 
 pub loop-done-preserved : goal.loop-done-preserved
 loop-done-preserved c =
     let dst = c.loop-done.dst in let src = c.args.src.now in let at = c.loop-done.at in let done = c.loop-done.done in let count = c.min-count.result in let new = c.decode.new.dst in
-    let w = c.loop-done in let known = part c.args.case c.args.group c.args.src.now w.dst w.at w.done _ _ _ w.invariant c.loop-done-test.true c.every.ensures c.min-count.ensures w.auto.dst c.requires.digits in
+    let w = c.loop-done in
+    let known = part c.args.case c.args.group c.args.src.now w.dst w.at w.done _ _ _ w.invariant c.loop-done-test.true
+    c.every.ensures c.min-count.ensures w.auto.dst c.requires.digits in
     let n : at + 2 * count - at ≡ 2 * count = omega arith in
     let k : done + count - done ≡ count = omega arith in
     let digits = take (2 * count) (drop at src) in
@@ -31,5 +37,7 @@ returns c = writes-all c.args.case c.args.group c.args.src.now c.loop-done.dst c
 
 pub overflow_add-at-in-loop-done-2 : goal.overflow_add-at-in-loop-done-2
 overflow_add-at-in-loop-done-2 c =
-    let w = c.loop-done in let known = part c.args.case c.args.group c.args.src.now w.dst w.at w.done _ _ _ w.invariant c.loop-done-test.true c.every.ensures c.min-count.ensures w.auto.dst c.requires.digits in
+    let w = c.loop-done in
+    let known = part c.args.case c.args.group c.args.src.now w.dst w.at w.done _ _ _ w.invariant c.loop-done-test.true
+    c.every.ensures c.min-count.ensures w.auto.dst c.requires.digits in
     search (arith, rules, known.inside)

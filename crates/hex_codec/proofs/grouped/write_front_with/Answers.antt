@@ -8,17 +8,20 @@ fronts-init g c = record { inside = omega arith; even = refl; written = writes-n
 
 pub overflow_add-end : goal.overflow_add-end
 overflow_add-end g c =
-    let known = copied _ _ _ _ _ _ _ (length c.args.dst.now) _ c.fronts.invariant.written c.fronts.invariant.inside c.unseparate-front.ensures c.requires.digits in
+    let known = copied _ _ _ _ _ _ _ (length c.args.dst.now) _
+    c.fronts.invariant.written c.fronts.invariant.inside c.unseparate-front.ensures c.requires.digits in
     search (arith, rules, known.room, c.fronts.auto.dst)
 
 pub slice_bounds-decode-end-in-fronts : goal.slice_bounds-decode-end-in-fronts
 slice_bounds-decode-end-in-fronts g c =
-    let known = copied _ _ _ _ _ _ _ (length c.args.dst.now) _ c.fronts.invariant.written c.fronts.invariant.inside c.unseparate-front.ensures c.requires.digits in
+    let known = copied _ _ _ _ _ _ _ (length c.args.dst.now) _
+    c.fronts.invariant.written c.fronts.invariant.inside c.unseparate-front.ensures c.requires.digits in
     search (arith, rules, known.room, c.fronts.invariant.even)
 
 pub decode-requires : goal.decode-requires
 decode-requires g c =
-    let known = copied _ _ _ _ _ _ _ (length c.args.dst.now) _ c.fronts.invariant.written c.fronts.invariant.inside c.unseparate-front.ensures c.requires.digits in
+    let known = copied _ _ _ _ _ _ _ (length c.args.dst.now) _
+    c.fronts.invariant.written c.fronts.invariant.inside c.unseparate-front.ensures c.requires.digits in
     let start = c.fronts.done.digits / 2 in
     let k = (c.fronts.done.digits + c.unseparate-front.result.digits) / 2 - start in
     omega (arith, known.size, known.even, known.room, c.fronts.invariant.even, c.fronts.auto.dst, length-take k (drop start c.fronts.dst), length-drop start c.fronts.dst)
@@ -26,7 +29,8 @@ decode-requires g c =
 pub fronts-preserved : goal.fronts-preserved
 fronts-preserved g c =
     let done = c.fronts.done in let front = c.unseparate-front.result in let dst = c.fronts.dst in let new = c.decode.new.dst in
-    let known = copied _ _ _ _ _ _ _ (length c.args.dst.now) _ c.fronts.invariant.written c.fronts.invariant.inside c.unseparate-front.ensures c.requires.digits in
+    let known = copied _ _ _ _ _ _ _ (length c.args.dst.now) _
+    c.fronts.invariant.written c.fronts.invariant.inside c.unseparate-front.ensures c.requires.digits in
     let start = done.digits / 2 in
     let k = (done.digits + front.digits) / 2 - start in
     let digits = take front.digits c.unseparate-front.new.digits in

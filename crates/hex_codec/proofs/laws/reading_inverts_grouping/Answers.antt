@@ -6,4 +6,5 @@ use Rattle.hex_codec.proofs.laws.reading_inverts_grouping.Goals as goal
 
 pub returns : goal.returns
 returns c = λ group upper bytes are.
-    let both = c.decoding_inverts_encoding.ensures upper bytes are in (read-back (strict upper) group upper bytes both.0, read-back policy.None group upper bytes both.1)
+    let both = c.decoding_inverts_encoding.ensures upper bytes are in
+    (read-back (strict upper) group upper bytes both.0, read-back policy.None group upper bytes both.1)

@@ -20,4 +20,5 @@ returns c =
     let whole : take 16 v ≡ v = take_all 16 v (omega (arith, c.fits-lanes.0)) in
     on-true _ (All (λ b. b ≡ byte) v) (λ t k d lt.
     let none : mask_l (map other v) ≡ 0 = sym mask ∙ eqb-true _ 0 t in
-    same-byte _ byte (none_from_empty_mask other v 0 16 d (omega (arith, c.fits-lanes.0)) (ap (λ l. mask_l (map other l)) whole ∙ none) k (omega arith) (omega (arith, c.fits-lanes.0))))
+    same-byte _ byte (none_from_empty_mask other v 0 16 d (omega (arith, c.fits-lanes.0)) (ap (λ l. mask_l (map other l)) whole ∙ none) k
+    (omega arith) (omega (arith, c.fits-lanes.0))))

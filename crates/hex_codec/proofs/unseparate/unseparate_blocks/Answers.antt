@@ -27,5 +27,7 @@ loop-len-preserved g c =
     rw (c.requires.every, ← first) (rw c.separators.ensures.lanes at (all-taken (15 - n) c.separators.result group.sep all)) in
     let lines : 15 % (2 * every + 1) ≡ 0 = rw c.requires.every c.separators.ensures.whole in
     let whole : IsWhole every 15 = record { count = 15 / (2 * every + 1); lines = omega (arith, div-add-mod' 15 (2 * every + 1), lines) } in
-    unseparates-more group text digits (put_chunk to digits new) (record { len = len; digits = to }) 15 n c.loop-len.invariant (omega (arith, left, c.loop-len-test.true)) room whole held
-    (take-front_chunk to n digits new (omega (arith, size, c.if-digits-to-ge-BLOCK.true)) (omega (arith, size, c.requires.step)) ∙ ap (λ l. take to digits ++ l) front)
+    unseparates-more group text digits (put_chunk to digits new) (record { len = len; digits = to }) 15 n c.loop-len.invariant
+    (omega (arith, left, c.loop-len-test.true)) room whole held
+    (take-front_chunk to n digits new (omega (arith, size, c.if-digits-to-ge-BLOCK.true)) (omega (arith, size, c.requires.step))
+    ∙ ap (λ l. take to digits ++ l) front)

@@ -16,9 +16,11 @@ loop-len-preserved g c =
     let rest = drop len text in
     let left : length rest ≡ length text - len = length-drop len text in
     let long : 2 * every < length rest = omega (arith, left, c.loop-len-test.true, c.requires) in
-    let block : new ≡ take n rest = c.copy_from_slice-in-loop-len.ensures.after ∙ c.copy_from_slice.ensures.after ∙ (let same : len + n - len ≡ n = omega arith in rw same refl) in
+    let block : new ≡ take n rest = c.copy_from_slice-in-loop-len.ensures.after ∙ c.copy_from_slice.ensures.after
+    ∙ (let same : len + n - len ≡ n = omega arith in rw same refl) in
     let size : length new ≡ n = ap length block ∙ length-take-le n rest (omega (arith, left, c.loop-len-test.true)) in
-    let front : take (2 * every) new ≡ digits_in every (take (2 * every + 1) rest) = ap (take (2 * every)) block ∙ take-take (2 * every) n rest c.requires ∙ sym (part-digits every rest long) in
+    let front : take (2 * every) new ≡ digits_in every (take (2 * every + 1) rest) = ap (take (2 * every)) block
+    ∙ take-take (2 * every) n rest c.requires ∙ sym (part-digits every rest long) in
     let put = take-front_put to (to + n - to) (2 * every) digits new (omega (arith, c.loop-len.invariant.room)) (omega (arith, size, c.requires)) in
     let here : get_or rest (2 * every) 0 ≡ group.sep = get_or-drop len text (2 * every) 0 ∙ (rw c.every-piece.ensures at (c.if-text-len.false ∙ c.sep.ensures)) in
     let same : length (put_mid to (to + n - to) digits new) ≡ length digits = search (rules, size) in

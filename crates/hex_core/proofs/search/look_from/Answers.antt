@@ -36,7 +36,8 @@ loop-i-init g c = record { valid = c.requires.valid; counted = refl; same_tests 
 pub loop-i-preserved : goal.loop-i-preserved
 loop-i-preserved g c =
     let p = g.P.Probe.state c.args.p.now in
-    let kept = c.loop-i.invariant in let looked = c.look.ensures.counted in
+    let kept = c.loop-i.invariant in
+    let looked = c.look.ensures.counted in
     let read = read_along p.policy _ p.source _ c.loop-i.i _ _ c.digit_value.ensures c.case-case.ensures c.look.ensures.byte kept.same.0 in
     record {
       valid = valid_more p.policy p.source c.loop-i.i kept.valid (sym (ap is_some read) ∙ c.if-is_none.ensures);

@@ -10,7 +10,8 @@ use Rattle.hex_core.proofs.search.test_blocks.Goals as goal
 -- the block that did not pass
 at_block : (g : given.Over) (c : goal.In-if-not g) → (64 * c.loop-i.i ≡ looks_from (g.P.Probe.state c.args.p.now)) × ((steps_in (g.P.Probe.state c.args.p.now)).tests ≡ c.loop-i.i + 1)
 at_block g c =
-    let p = g.P.Probe.state c.args.p.now in let start = 64 * c.loop-i.i in let kept = c.loop-i.invariant in
+    let p = g.P.Probe.state c.args.p.now in let start = 64 * c.loop-i.i in
+    let kept = c.loop-i.invariant in
     let fails : ¬ ValidIn p start (start + 64) = λ valid.
     let passed = c.test.ensures.valid.1 ((valid_same p (g.P.Probe.state c.loop-i.p) start (start + 64) kept.counted.2).1 valid) in cc in
     stops_at_block p.policy p.source c.loop-i.i c.block_count-whole.result _ refl (c.block_count-whole.ensures ∙ ap tested_blocks c.len.ensures) c.loop-i-test.true kept.valid fails

@@ -24,7 +24,8 @@ loop-entry-preserved g c =
 pub returns-in_err-put_line : goal.returns-in_err-put_line
 returns-in_err-put_line g c =
     let st = g.S.Sink.state in let start = st c.args.sink.now in let end = st c.put_line.new.sink in
-    let es = c.args.entries.now in let i = c.loop-entry.entry-index in
+    let es = c.args.entries.now in
+    let i = c.loop-entry.entry-index in
     let next = more c.args.upper es i c.entry-item.result c.loop-entry-test.true c.entry-item.is in
     let here = rw next.0 at (Stops-then start (st c.loop-entry.sink) end _ _ c.loop-entry.invariant c.in_err-put_line.ensures) in
     Puts-err start end c.from_residual.result _ c.from_residual.ensures.0 (rw next.1 at (Stops-stop start end _ (list_of c.args.upper (drop (i + 1) es)) here))

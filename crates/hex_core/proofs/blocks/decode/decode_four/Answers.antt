@@ -26,7 +26,8 @@ returns g c =
     let test = pairs_tested case s _ _ _ _ c.either.result c.either-2.result c.either-3.result (length s - 2 * n) (length s - n) n c.is_small.result c.nibbles_at-first.ensures c.nibbles_at-second.ensures c.nibbles_at-third.ensures c.nibbles_at-last.ensures
     (omega arith) (omega arith) (omega arith) c.is_small.ensures c.either-3.ensures.small c.either.ensures.small c.either-2.ensures.small in
     let small = c.either-3.ensures.small.0 (c.is_small.ensures.0 c.if-not-is_small.false) in
-    let first = c.either.ensures.small.0 small.0 in let last = c.either-2.ensures.small.0 small.1 in
+    let first = c.either.ensures.small.0 small.0 in
+    let last = c.either-2.ensures.small.0 small.1 in
     let third : NibblesFrom case s (2 * (end - n)) n c.nibbles_at-third.result = subst (λ at. NibblesFrom case s at n c.nibbles_at-third.result) (omega arith) c.nibbles_at-third.ensures in
     let mid = c.put_two.new.dst in let new = c.put_two-2.new.dst in
     let front : DecodesRange case s old mid 0 n = pair_decodes case s old mid c.nibbles_at-first.result c.nibbles_at-second.result 0 (n - w) n n n w (omega arith) (omega arith) (omega arith) (omega arith) (omega arith) (omega arith) c.nibbles_at-first.ensures c.nibbles_at-second.ensures first.0 first.1 c.put_two.ensures in

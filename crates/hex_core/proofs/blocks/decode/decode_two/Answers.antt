@@ -10,7 +10,8 @@ returns-then-not-is_small g c =
 
 pub returns : goal.returns
 returns g c =
-    let case = c.args.case in let s = c.args.src.now in let old = c.args.dst.now in let n = g.row.N in let w = g.row.HALF in let end = length old in let front = c.nibbles_at-front in let back = c.nibbles_at-back in
+    let case = c.args.case in let s = c.args.src.now in let old = c.args.dst.now in let n = g.row.N in let w = g.row.HALF in let end = length old in
+    let front = c.nibbles_at-front in let back = c.nibbles_at-back in
     let test = pair_tested case s _ _ c.either.result (length s - n) n c.is_small.result front.ensures back.ensures (omega arith) (omega arith) c.is_small.ensures c.either.ensures.small in
     let small = c.either.ensures.small.0 (c.is_small.ensures.0 c.if-not-is_small.false) in (
       test.0 c.if-not-is_small.false,

@@ -2,4 +2,4 @@
 use Rattle.hex_json.proofs.adapters.AdapterErrorDisplay.fmt.Goals as goal
 
 pub returns-in-OverBound-clause-writes : goal.returns-in-OverBound-clause-writes
-returns-in-OverBound-clause-writes g c = rw c.in-OverBound.is c.write.ensures.writes
+returns-in-OverBound-clause-writes g c = rw c.in-OverBound.is c.write-in-OverBound.ensures.writes
