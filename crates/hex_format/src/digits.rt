@@ -126,5 +126,5 @@ fn put_pieces<S: Sink>(
     }
     let separator = [group.sep()];
     put_all(sink, &separator[from..])?;
-    put_chunks(sink, upper, bytes, buffer)
+    put_chunks(sink, upper, bytes, &mut buffer[..2 * CHUNK])
 }

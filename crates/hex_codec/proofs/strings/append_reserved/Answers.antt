@@ -1,7 +1,5 @@
-use Rattle.std.proofs.Common.{◌≡◌, ◌∙◌, ◌++◌, [], ap, sym, refl, arith, length, length-append, append-nil, string_bytes}
+use Rattle.std.proofs.Common.{◌∙◌, ◌++◌, ap, arith, length, length-append, string_bytes}
 use Rattle.std.specs.Slice.Iter.{chunks_rest}
-use Rattle.std.proofs.lemmas.List.{drop_all}
-use Rattle.hex_core.specs.Text.{text}
 use Rattle.hex_codec.proofs.ListLemmas.{text-behind}
 use Rattle.hex_codec.proofs.strings.append_reserved.Goals as goal
 

@@ -1,5 +1,5 @@
 -- The pieces of a turn are the next of all pieces; no separator is put before the first one.
-use Rattle.std.proofs.Common.{◌≡◌, ℕ, ◌<◌, ◌≤◌, min, List, [], ◌++◌, length, refl, ◌∙◌, arith, rules, length-append}
+use Rattle.std.proofs.Common.{◌≡◌, ℕ, ◌<◌, ◌≤◌, min, [], ◌++◌, refl, ◌∙◌, arith, rules, length-append}
 use Rattle.std.specs.Slice.Iter.{chunks_rest, chunks_size}
 use Rattle.hex_codec.specs.Grouped.{separated}
 use Rattle.hex_format.proofs.GroupFacts.{grouped-end, next-chunk}

@@ -1,5 +1,5 @@
 -- Whole pieces have been taken, no put has failed, and a separator is left out where nothing has been taken yet.
-use Rattle.std.proofs.Common.{◌≡◌, ◌-◌, ◌*◌, ◌≤◌, ◌<◌, ℕ, List, ◌++◌, drop, length}
+use Rattle.std.proofs.Common.{◌≡◌, ◌-◌, ◌*◌, ◌<◌, ℕ, List, ◌++◌, drop, length}
 use Rattle.std.specs.Slice.Iter.{chunks_rest, chunks_size}
 use Rattle.hex_codec.specs.Grouped.{piece_len, separated}
 use Rattle.hex_format.specs.Sink.{Takes}

@@ -1,5 +1,5 @@
 -- The text of a piece that is longer than a chunk stands behind its separator.
-use Rattle.std.proofs.Common.{[], ◌∷◌, arith}
+use Rattle.std.proofs.Common.{[], ◌∷◌, arith, length-take}
 use Rattle.std.proofs.lemmas.List.{take_rest}
 use Rattle.hex_core.specs.Text.{text}
 use Rattle.hex_codec.specs.Grouped.{separated, separator}
@@ -24,3 +24,6 @@ returns g c =
     let whole = piece-from group upper bytes c.args.from c.requires.start (c.requires.one (omega arith)) c.requires.some in
     let put = rw (c.sep.ensures, take_rest (separator group ∷ []) c.args.from) at c.in_ok-put_all.ensures in
     rw whole at (Puts-then (st c.args.sink.now) (st c.put_all-2.new.sink) (st c.put_chunks.new.sink) c.put_chunks.result _ _ put c.put_chunks.ensures)
+
+pub slice_bounds-put_chunks-end-2 : goal.slice_bounds-put_chunks-end-2
+slice_bounds-put_chunks-end-2 g c = omega (arith, length-take 1024 c.args.buffer.now, c.requires.room)
