@@ -1,5 +1,5 @@
 -- The next line is read, or is the first one with a fault.
-use Rattle.std.proofs.Common.{rules, ◌≡◌, [], ◌∷◌, ◌++◌, ◌+◌, ◌-◌, drop, length, arith}
+use Rattle.std.proofs.Common.{rules, ◌≡◌, [], ◌∷◌, ◌++◌, ◌+◌, drop, arith}
 use Rattle.hex_lists.proofs.LineLemmas.{clear-here, fault-here, line-at, read-more}
 use Rattle.hex_lists.proofs.digests.read_lines.Goals as goal
 
