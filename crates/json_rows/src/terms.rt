@@ -3,7 +3,7 @@
 use hex_core::{CheckCase, Error};
 use hex_json::AdapterError;
 use hex_json::adapters::WireFormat;
-use row_reader::{Bytes, Words};
+use row_reader::{Bytes, Words, is};
 use serde_json::Value;
 use std::alloc::Global;
 use std::str;
@@ -37,18 +37,18 @@ impl Format {
 
     // The format of this name.
     fn from_word(word: &[u8]) -> Option<Format> {
-        if word == b"withpfx_ignorecase".as_slice() {
+        if is(word, b"withpfx_ignorecase") {
             Some(Format::WithpfxIgnorecase)
-        } else if word == b"nopfx_ignorecase".as_slice() {
+        } else if is(word, b"nopfx_ignorecase") {
             Some(Format::NopfxIgnorecase)
-        } else if word == b"withpfx_lowercase".as_slice() {
+        } else if is(word, b"withpfx_lowercase") {
             Some(Format::WithpfxLowercase)
-        } else if word == b"nopfx_lowercase".as_slice() {
+        } else if is(word, b"nopfx_lowercase") {
             Some(Format::NopfxLowercase)
-        } else if word == b"withpfx_uppercase".as_slice() {
+        } else if is(word, b"withpfx_uppercase") {
             Some(Format::WithpfxUppercase)
         } else {
-            (word == b"nopfx_uppercase".as_slice()).then_some(Format::NopfxUppercase)
+            is(word, b"nopfx_uppercase").then_some(Format::NopfxUppercase)
         }
     }
 

@@ -14,20 +14,20 @@ mod terms;
 mod vectors;
 
 use crate::terms::Buffers;
-use row_reader::{Calls, Words, judge};
+use row_reader::{Calls, Words, is, judge};
 use std::io::{self, BufReader};
 
 // A row of the whole program.
 fn program_row(call: &[u8], row: Words<'_>, answer: Words<'_>, buffers: &mut Buffers) -> bool {
-    if call == b"serve".as_slice() {
+    if is(call, b"serve") {
         served::serve_row(row, answer, buffers)
-    } else if call == b"tell".as_slice() {
+    } else if is(call, b"tell") {
         served::tell_row(row, answer, buffers)
-    } else if call == b"stream".as_slice() {
+    } else if is(call, b"stream") {
         streamed::row(row, answer, buffers)
-    } else if call == b"granted".as_slice() {
+    } else if is(call, b"granted") {
         granted::row(false, row, answer, buffers)
-    } else if call == b"refused".as_slice() {
+    } else if is(call, b"refused") {
         granted::row(true, row, answer, buffers)
     } else {
         operation_row(call, row, answer, buffers)
@@ -36,15 +36,15 @@ fn program_row(call: &[u8], row: Words<'_>, answer: Words<'_>, buffers: &mut Buf
 
 // A row of an operation, or of a decoding in pieces.
 fn operation_row(call: &[u8], row: Words<'_>, answer: Words<'_>, buffers: &mut Buffers) -> bool {
-    if call == b"run".as_slice() {
+    if is(call, b"run") {
         runs::run_row(row, answer, buffers)
-    } else if call == b"run-in".as_slice() {
+    } else if is(call, b"run-in") {
         runs::run_in_row(row, answer, buffers)
-    } else if call == b"run-into".as_slice() {
+    } else if is(call, b"run-into") {
         runs::run_into_row(row, answer, buffers)
-    } else if call == b"pieces".as_slice() {
+    } else if is(call, b"pieces") {
         pieces::pieces_row(row, answer, buffers)
-    } else if call == b"edge".as_slice() {
+    } else if is(call, b"edge") {
         pieces::edge_row(row, answer, buffers)
     } else {
         vector_row(call, row, answer, buffers)
@@ -53,15 +53,15 @@ fn operation_row(call: &[u8], row: Words<'_>, answer: Words<'_>, buffers: &mut B
 
 // A row of vectors.
 fn vector_row(call: &[u8], row: Words<'_>, answer: Words<'_>, buffers: &mut Buffers) -> bool {
-    if call == b"stored".as_slice() {
+    if is(call, b"stored") {
         vectors::stored_row(row, answer, buffers)
-    } else if call == b"vectors".as_slice() {
+    } else if is(call, b"vectors") {
         vectors::run_row(row, answer, buffers)
-    } else if call == b"codecs".as_slice() {
+    } else if is(call, b"codecs") {
         vectors::codecs_row(row, answer, buffers)
-    } else if call == b"stored-plain".as_slice() {
+    } else if is(call, b"stored-plain") {
         statements::stored_row(row, answer, buffers)
-    } else if call == b"plain".as_slice() {
+    } else if is(call, b"plain") {
         statements::run_row(row, answer, buffers)
     } else {
         false

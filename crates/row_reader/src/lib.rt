@@ -9,7 +9,7 @@ pub mod notation;
 mod words;
 
 pub use crate::notation::Bytes;
-pub use crate::words::Words;
+pub use crate::words::{Words, is};
 use std::alloc::Global;
 use std::io::{self, BufRead, Write};
 

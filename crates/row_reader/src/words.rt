@@ -2,6 +2,11 @@
 
 use crate::notation::{self, Bytes};
 
+/// Returns whether a word is this one.
+pub fn is(word: &[u8], this: &[u8]) -> bool {
+    word == this
+}
+
 /// One side of a row: its words, with one space between two, as one turn reads them.
 #[derive(Clone, Copy)]
 pub struct Words<'a> {

@@ -8,6 +8,7 @@ use hex_core::lanes::{
     admitted_16, admitted_32, admitted_64, encode_8, encode_16, encode_32, nibbles_hashed_32,
     nibbles_hashed_64, nibbles_saturating_16, pack_16, pack_32, pack_64,
 };
+use row_reader::is;
 
 // The mask whose bits from the lowest on are the letters.
 fn mask(letters: &[u8]) -> u64 {
@@ -155,17 +156,17 @@ fn are_written(bytes: &[u8], upper: bool, digits: &[u8]) -> Option<bool> {
 /// - `pack`: the bytes of these nibbles, for any policy.
 /// - `write`: the digits of 8, 16 or 32 bytes.
 pub fn is_made(call: &[u8], bytes: &[u8], case: CheckCase, want: &[u8]) -> Option<bool> {
-    if call == b"admit".as_slice() {
+    if is(call, b"admit") {
         are_admitted(bytes, case, want)
-    } else if call == b"saturate".as_slice() {
+    } else if is(call, b"saturate") {
         are_saturated(bytes, case, want)
-    } else if call == b"hash".as_slice() {
+    } else if is(call, b"hash") {
         are_nibbles_of(bytes, case, true, want)
-    } else if call == b"nibbles".as_slice() {
+    } else if is(call, b"nibbles") {
         are_nibbles_of(bytes, case, false, want)
-    } else if call == b"pack".as_slice() {
+    } else if is(call, b"pack") {
         are_packed(bytes, want)
-    } else if call == b"write".as_slice() {
+    } else if is(call, b"write") {
         are_written(bytes, case == CheckCase::Upper, want)
     } else {
         None

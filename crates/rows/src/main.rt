@@ -17,7 +17,7 @@ mod wholes;
 use crate::strings::Appended;
 use crate::terms::{Buffers, Destination, Given, Grown, front, is_either, judged, policy, source};
 use hex_core::CheckCase;
-use row_reader::{Bytes, Calls, Words, judge};
+use row_reader::{Bytes, Calls, Words, is, judge};
 use std::io::{self, BufReader};
 
 // `each-byte`, `each-pair` and `moves`, which have arguments in their turn, digits in chunks,
@@ -28,19 +28,19 @@ fn turned(
     answer: &mut Words<'_>,
     to: &mut Buffers,
 ) -> Option<bool> {
-    if call == b"each-byte".as_slice() {
+    if is(call, b"each-byte") {
         wholes::each_byte_row(row, answer, to)
-    } else if call == b"each-pair".as_slice() {
+    } else if is(call, b"each-pair") {
         wholes::each_pair_row(row, answer, to)
-    } else if call == b"moves".as_slice() {
+    } else if is(call, b"moves") {
         wholes::moves_row(row, answer, to)
-    } else if call == b"feed".as_slice() {
+    } else if is(call, b"feed") {
         feeds::feed_row(row, answer, to)
-    } else if call == b"group".as_slice() {
+    } else if is(call, b"group") {
         lists::group_row(row, answer, to)
-    } else if call == b"list".as_slice() {
+    } else if is(call, b"list") {
         lists::list_row(row, answer, to)
-    } else if call == b"relist".as_slice() {
+    } else if is(call, b"relist") {
         lists::relist_row(row, answer, to)
     } else {
         None
@@ -54,20 +54,20 @@ fn told(
     answer: &mut Words<'_>,
     to: &mut Buffers,
 ) -> Option<bool> {
-    if call == b"pad".as_slice() {
+    if is(call, b"pad") {
         Some(texts::pad_row(row, answer, to))
-    } else if call == b"pad-into".as_slice() {
+    } else if is(call, b"pad-into") {
         Some(texts::pad_into_row(row, answer, to))
-    } else if call == b"show".as_slice() {
+    } else if is(call, b"show") {
         Some(texts::show_row(row, answer, to))
-    } else if call == b"separates".as_slice() {
+    } else if is(call, b"separates") {
         Some(texts::separates_row(row, answer))
-    } else if call == b"value".as_slice() {
+    } else if is(call, b"value") {
         Some(search::value_row(row, answer))
-    } else if call == b"print".as_slice() {
+    } else if is(call, b"print") {
         Some(search::print_row(row, answer))
     } else {
-        (call == b"plans".as_slice()).then_some(search::are_plans(answer))
+        is(call, b"plans").then_some(search::are_plans(answer))
     }
 }
 
@@ -78,13 +78,13 @@ fn fits(
     to: &mut Destination,
     want: terms::Answer<'_>,
 ) -> Option<bool> {
-    if call == b"decode".as_slice() {
+    if is(call, b"decode") {
         Some(slices::all_decode(given, to, want))
-    } else if call == b"encode".as_slice() {
+    } else if is(call, b"encode") {
         Some(slices::all_encode(given, to, want))
-    } else if call == b"array".as_slice() {
+    } else if is(call, b"array") {
         owned::is_array_read(given, want)
-    } else if call == b"fixed".as_slice() {
+    } else if is(call, b"fixed") {
         strings::is_fixed_written(given, want)
     } else {
         None
@@ -137,12 +137,12 @@ fn grown_row(
 ) -> Option<bool> {
     let given = Given::read(&mut row, &mut buffers.given);
     let want = Grown::read(&mut answer, &mut buffers.wanted);
-    let is_answered = if call == b"vector".as_slice() {
+    let is_answered = if is(call, b"vector") {
         owned::is_vector_read(buffers.alloc, given, want)
     } else {
         strings::is_string_written(buffers.alloc, given, want)
     };
-    let is_known = call == b"vector".as_slice() || call == b"string".as_slice();
+    let is_known = is(call, b"vector") || is(call, b"string");
     judged(is_known.then_some(is_answered), row, answer)
 }
 
@@ -168,13 +168,13 @@ fn reads(
     answer: &mut Words<'_>,
     (wanted, to): (&mut Bytes, &mut Destination),
 ) -> Option<bool> {
-    if call == b"check".as_slice() {
+    if is(call, b"check") {
         Some(slices::all_check(src, case, is_either(answer, b"yes", b"no")))
-    } else if call == b"find".as_slice() {
+    } else if is(call, b"find") {
         Some(search::all_find(src, case, answer))
-    } else if call == b"cover".as_slice() {
+    } else if is(call, b"cover") {
         Some(search::all_cover(src, case, answer))
-    } else if call == b"owned".as_slice() {
+    } else if is(call, b"owned") {
         Some(wholes::all_own(src, case, answer, wanted, to))
     } else {
         None
@@ -212,7 +212,7 @@ fn lane_row(
 impl Calls for Buffers {
     fn is_answered(&mut self, mut row: Words<'_>, answer: Words<'_>) -> Option<bool> {
         let call = row.next();
-        if call == b"append".as_slice() {
+        if is(call, b"append") {
             return append_row(row, answer, self);
         }
         let mut is_answered = turned_row(call, row, answer, self);
