@@ -19,6 +19,9 @@ cargo=${CARGO:-cargo}
 crates=${CRATES:-/usr/share/cargo/registry}
 FASTER_HEX_LIB=${FASTER_HEX_LIB:-$top/crates/faster_hex_c/out}
 export FASTER_HEX_LIB
+# cargo refuses a folder of crates that is not there, so an empty one stands in its place.
+[ -d "$crates" ] || crates=$build/no_crates
+mkdir -p "$crates"
 passed=0
 failed=0
 
