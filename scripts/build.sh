@@ -7,8 +7,8 @@
 # Usage: scripts/build.sh NAME CPU, where CPU is x86-64-v2, the default processor, or another one.
 #
 # It calls `rattle` and not `rt`, which has no word for this: a library is built as its statements, so
-# that the crate above does not load its proofs, by several jobs. They stand in out/statements, since
-# `rt` writes over what it finds in out/rlib.
+# that the crate above does not load its proofs, by several jobs, and beside another one where neither
+# uses the other. They stand in out/statements, since `rt` writes over what it finds in out/rlib.
 set -eu
 LC_ALL=C
 export LC_ALL

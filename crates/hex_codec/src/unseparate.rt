@@ -1,10 +1,10 @@
 //! Parts of a grouped text, without their separators.
 
-ghost use Rattle.std.specs.Prelude.{◌≡◌, ◌+◌, ◌*◌, ◌-◌, ◌%◌, ◌≤◌, All, take};
+ghost use Rattle.std.specs.Prelude.{◌≡◌, ◌*◌, ◌-◌, ◌≤◌, All, take};
 ghost use Rattle.std.specs.Bool.{OnTrue};
 ghost use Rattle.hex_codec.specs.Grouped.{piece_len};
 ghost use Rattle.hex_codec.specs.GroupedText.{digits_in, separators_in};
-ghost use Rattle.hex_codec.specs.Unseparate.{UnseparatesFront};
+ghost use Rattle.hex_codec.specs.Unseparate.{IsWhole, UnseparatesFront};
 
 use crate::group::Group;
 use std::simd::prelude::*;
@@ -45,7 +45,7 @@ trait Parts<const EVERY: usize, const DIGITS: usize> {
         ensures { take DIGITS result ≡ digits_in EVERY (take 15 block) };
 
     fn separators(block: u8x16) -> u8x16
-        ensures whole { 15 % (2 * EVERY + 1) ≡ 0 }
+        ensures whole { IsWhole EVERY 15 }
         ensures lanes { take (15 - DIGITS) result ≡ separators_in EVERY (take 15 block) };
 }
 
@@ -61,7 +61,7 @@ impl Parts<1, 10> for Places {
 
     #[inline(always)]
     fn separators(block: u8x16) -> u8x16
-        ensures whole { 15 % (2 * 1 + 1) ≡ 0 }
+        ensures whole { IsWhole 1 15 }
         ensures lanes { take (15 - 10) result ≡ separators_in 1 (take 15 block) }
     {
         block.swizzle([2, 5, 8, 11, 14, 14, 14, 14, 14, 14, 14, 14, 14, 14, 14, 14])
@@ -78,7 +78,7 @@ impl Parts<2, 12> for Places {
 
     #[inline(always)]
     fn separators(block: u8x16) -> u8x16
-        ensures whole { 15 % (2 * 2 + 1) ≡ 0 }
+        ensures whole { IsWhole 2 15 }
         ensures lanes { take (15 - 12) result ≡ separators_in 2 (take 15 block) }
     {
         block.swizzle([4, 9, 14, 14, 14, 14, 14, 14, 14, 14, 14, 14, 14, 14, 14, 14])

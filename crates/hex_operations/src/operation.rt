@@ -73,7 +73,12 @@ pub enum RunFault {
     OutOfMemory,
 }
 
-/// The input without one final newline, where it has one.
+/// Returns the input without one final newline, where it has one.
+///
+/// ```rust
+/// assert_eq!(rt; digits_in(b"00ff\n"), b"00ff".as_slice());
+/// assert_eq!(rt; digits_in(b"00ff\n\n"), b"00ff\n".as_slice());
+/// ```
 pub fn digits_in(input: &[u8]) -> &[u8]
     ensures { result.now ≡ without_newline input.now }
 {

@@ -144,10 +144,13 @@ impl Range {
 
     // Reads the first and the last byte and the first value.
     fn read(answer: &mut Words<'_>) -> Range {
-        Range {
-            first: answer.take_byte(),
-            last: answer.take_byte(),
-            value: (answer.take_number() % 256) as u8,
+        let (first, last) = (answer.take_byte(), answer.take_byte());
+        match u8::try_from(answer.take_number()) {
+            Ok(value) => Range { first, last, value },
+            Err(_) => {
+                answer.misread();
+                Range::EMPTY
+            }
         }
     }
 

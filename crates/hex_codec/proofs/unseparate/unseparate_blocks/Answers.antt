@@ -1,12 +1,10 @@
 -- The digits of one more block are copied.
-use Rattle.std.proofs.Common.{rules, ◌≡◌, ◌+◌, ◌-◌, ◌*◌, ◌/◌, ◌%◌, ◌≤◌, ◌++◌, length, take, drop, refl, ap, ◌∙◌, arith, length-drop, All}
+use Rattle.std.proofs.Common.{rules, ◌≡◌, ◌+◌, ◌-◌, ◌≤◌, ◌++◌, length, take, drop, refl, ap, ◌∙◌, arith, length-drop, All}
 use Rattle.std.proofs.lemmas.List.{take-take}
-use Rattle.std.proofs.lemmas.Nat.{div-add-mod'}
 use Rattle.std.proofs.lemmas.Simd.{length-put_chunk}
 use Rattle.std.specs.Simd.Lanes.{put_chunk}
 use Rattle.hex_codec.specs.Grouped.{piece_len}
 use Rattle.hex_codec.specs.GroupedText.{digits_in, separators_in}
-use Rattle.hex_codec.specs.Unseparate.{IsWhole}
 use Rattle.hex_codec.proofs.ListLemmas.{take-front_chunk}
 use Rattle.hex_codec.proofs.PartLemmas.{all-taken, unseparates-more}
 use Rattle.hex_codec.proofs.unseparate.unseparate_blocks.Goals as goal
@@ -25,9 +23,8 @@ loop-len-preserved g c =
     let all : All (λ b. b ≡ group.sep) c.separators.result = λ k d lt. c.if-not-are_all.ensures k d lt ∙ c.sep.ensures in
     let held : All (λ b. b ≡ group.sep) (separators_in every (take 15 rest)) =
     rw (c.requires.every, ← first) (rw c.separators.ensures.lanes at (all-taken (15 - n) c.separators.result group.sep all)) in
-    let lines : 15 % (2 * every + 1) ≡ 0 = rw c.requires.every c.separators.ensures.whole in
-    let whole : IsWhole every 15 = record { count = 15 / (2 * every + 1); lines = omega (arith, div-add-mod' 15 (2 * every + 1), lines) } in
     unseparates-more group text digits (put_chunk to digits new) (record { len = len; digits = to }) 15 n c.loop-len.invariant
-    (omega (arith, left, c.loop-len-test.true)) room whole held
+    (omega (arith, left, c.loop-len-test.true)) room
+    (rw c.requires.every c.separators.ensures.whole) held
     (take-front_chunk to n digits new (omega (arith, size, c.if-digits-to-ge-BLOCK.true)) (omega (arith, size, c.requires.step))
     ∙ ap (λ l. take to digits ++ l) front)

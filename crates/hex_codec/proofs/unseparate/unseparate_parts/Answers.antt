@@ -1,6 +1,6 @@
 -- The digits of one more part are copied.
-use Rattle.std.proofs.Common.{rules, ℕ, ◌≡◌, ◌+◌, ◌-◌, ◌*◌, ◌<◌, ◌≤◌, ◌++◌, length, take, drop, refl, ap, sym, ◌∙◌, arith, length-drop, length-take, get_or}
-use Rattle.std.proofs.lemmas.List.{get_or-drop, length-replicate, length-take-le, take-take}
+use Rattle.std.proofs.Common.{rules, ◌≡◌, ◌+◌, ◌-◌, ◌*◌, ◌<◌, ◌≤◌, ◌++◌, length, take, drop, refl, ap, sym, ◌∙◌, arith, length-drop, get_or}
+use Rattle.std.proofs.lemmas.List.{get_or-drop, length-take-le, take-take}
 use borrow.Rule.Slice.PartMut.{put_mid}
 use Rattle.hex_codec.specs.Grouped.{piece_len}
 use Rattle.hex_codec.specs.GroupedText.{digits_in}
@@ -22,17 +22,9 @@ loop-len-preserved g c =
     let front : take (2 * every) new ≡ digits_in every (take (2 * every + 1) rest) = ap (take (2 * every)) block
     ∙ take-take (2 * every) n rest c.requires ∙ sym (part-digits every rest long) in
     let put = take-front_put to (to + n - to) (2 * every) digits new (omega (arith, c.loop-len.invariant.room)) (omega (arith, size, c.requires)) in
-    let here : get_or rest (2 * every) 0 ≡ group.sep = get_or-drop len text (2 * every) 0 ∙ (rw c.every-piece.ensures at (c.if-text-len.false ∙ c.sep.ensures)) in
+    let here : get_or rest (2 * every) 0 ≡ group.sep = get_or-drop len text (2 * every) 0 ∙ search rules in
     let same : length (put_mid to (to + n - to) digits new) ≡ length digits = search (rules, size) in
     let room : to + 2 * every ≤ length (put_mid to (to + n - to) digits new) = omega (arith, same, c.requires, c.if-digits-to.true) in
     rw c.every-piece.ensures (unseparates-more group text digits (put_mid to (to + n - to) digits new) (record { len = len; digits = to })
     (2 * every + 1) (2 * every) c.loop-len.invariant (omega (arith, left, long)) room
     (record { count = 1; lines = omega arith }) (part-separator every group.sep rest long here) (put ∙ ap (λ l. take to digits ++ l) front))
-
-pub bounds-text-len : goal.bounds-text-len
-bounds-text-len g c = omega (arith, c.every-piece.ensures, c.requires, c.loop-len-test.true)
-
-pub copy_from_slice-requires-in-loop-len : goal.copy_from_slice-requires-in-loop-len
-copy_from_slice-requires-in-loop-len g c =
-    let to = c.loop-len.to in let n = to + g.row.N - to in
-    omega (arith, length-take n (drop to c.loop-len.digits), length-drop to c.loop-len.digits, c.loop-len.invariant.room, c.if-digits-to.true, c.copy_from_slice.ensures.len, length-replicate {A = ℕ} g.row.N 0)
