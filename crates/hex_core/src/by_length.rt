@@ -1,7 +1,7 @@
 //! Decoding under every plan of lanes, and checking under those of 64 of them: blocks in registers
 //! where a source is short, and blocks of 64 digits above.
 
-ghost use Rattle.std.specs.Prelude.{◌≡◌, ◌↔◌, ◌*◌, IsTrue, None, length};
+ghost use Rattle.std.specs.Prelude.{◌≡◌, ◌↔◌, ◌*◌, ◌<◌, IsTrue, None, length};
 ghost use Rattle.hex_core.specs.Calls.{DecodesWhole};
 ghost use Rattle.hex_core.specs.Search.{first_invalid};
 
@@ -28,8 +28,9 @@ pub fn check(src: &[u8], case: CheckCase) -> bool
 }
 
 /// Writes the bytes that `src` spells into the whole of `dst`, or returns false and writes nothing.
-/// Up to 256 digits are held in registers. `M` finds the nibbles of 64 digits.
-#[inline(never)]
+/// `M` finds the nibbles of 64 digits. Up to 64 digits are decoded where it is called, so that a
+/// length that is known there chooses nothing as it runs.
+#[inline(always)]
 pub fn decode<M>(src: &[u8], dst: &mut [u8], case: CheckCase) -> bool
 where
     M: NibbleMap<64>,
@@ -39,9 +40,24 @@ where
     match src.len() {
         0..16 => scalar::decode_short(src, dst, case),
         16 => decode_one::<Saturating, 16, 8>(src, dst, case),
-        17..=32 => decode_two::<Saturating, 16, 8>(src, dst, case),
+        32 => decode_one::<Saturating, 32, 16>(src, dst, case),
+        17..=31 => decode_two::<Saturating, 16, 8>(src, dst, case),
         33..=64 => decode_two::<Saturating, 32, 16>(src, dst, case),
-        65..=128 => decode_two::<M, 64, 32>(src, dst, case),
+        _ => decode_more::<M>(src, dst, case),
+    }
+}
+
+// The same of more than 64 digits. Up to 256 are held in registers.
+#[inline(never)]
+fn decode_more<M>(src: &[u8], dst: &mut [u8], case: CheckCase) -> bool
+where
+    M: NibbleMap<64>,
+    requires twice { length src.now ≡ 2 * length dst.old }
+    requires more { 64 < length src.now }
+    ensures { DecodesWhole case src.now dst.old dst.new result }
+{
+    match src.len() {
+        0..=128 => decode_two::<M, 64, 32>(src, dst, case),
         129..=256 => decode_four::<M, 64, 32>(src, dst, case),
         _ => decode_long::<64, 32>(src, dst, case),
     }

@@ -24,6 +24,19 @@ where
     text.copy_to_slice(&mut dst[2 * at..]);
 }
 
+// Writes the text of `N` bytes.
+#[inline(always)]
+fn encode_one<const N: usize, const TWICE: usize>(src: &[u8], dst: &mut [u8], upper: bool)
+where
+    Lanes: Interleave<N, TWICE> + LookUp<TWICE>,
+    requires lanes { TWICE ≡ 2 * N }
+    requires twice { length dst.old ≡ 2 * length src.now }
+    requires whole { length src.now ≡ N }
+    ensures { dst.new ≡ text upper src.now }
+{
+    spell_at::<N, TWICE>(src, dst, 0, upper);
+}
+
 // Writes the text of `N` to `2 * N` bytes.
 #[inline(always)]
 fn encode_two<const N: usize, const TWICE: usize>(src: &[u8], dst: &mut [u8], upper: bool)
@@ -65,8 +78,11 @@ pub fn encode(src: &[u8], dst: &mut [u8], upper: bool)
 {
     match src.len() {
         0..8 => scalar::write_text(src, dst, upper),
-        8..=16 => encode_two::<8, 16>(src, dst, upper),
-        17..=32 => encode_two::<16, 32>(src, dst, upper),
+        16 => encode_one::<16, 32>(src, dst, upper),
+        32 => encode_one::<32, 64>(src, dst, upper),
+        8..=15 => encode_two::<8, 16>(src, dst, upper),
+        17..=31 => encode_two::<16, 32>(src, dst, upper),
+        33..=64 => encode_two::<32, 64>(src, dst, upper),
         _ => encode_blocks::<32, 64>(src, dst, upper),
     }
 }
