@@ -51,22 +51,26 @@ where
     spell_at::<N, TWICE>(src, dst, src.len() - N, upper);
 }
 
-// Writes the text of `N` bytes or more.
+// How many bytes of a longer source are one block, and of its end where so many are left.
+const BLOCK: usize = 32;
+
+const LAST: usize = 16;
+
+// Writes the text of a block or more.
 #[inline(never)]
-fn encode_blocks<const N: usize, const TWICE: usize>(src: &[u8], dst: &mut [u8], upper: bool)
-where
-    Lanes: Interleave<N, TWICE> + LookUp<TWICE>,
-    requires some { 1 ≤ N }
-    requires lanes { TWICE ≡ 2 * N }
+fn encode_blocks(src: &[u8], dst: &mut [u8], upper: bool)
     requires twice { length dst.old ≡ 2 * length src.now }
-    requires least { N ≤ length src.now }
+    requires least { BLOCK ≤ length src.now }
     ensures { dst.new ≡ text upper src.now }
 {
-    'turns: for i in 0..src.len() / N {
-        spell_at::<N, TWICE>(src, dst, i * N, upper);
+    'turns: for i in 0..src.len() / BLOCK {
+        spell_at::<32, 64>(src, dst, i * BLOCK, upper);
     }
-    if src.len() % N != 0 {
-        spell_at::<N, TWICE>(src, dst, src.len() - N, upper);
+    let rest = src.len() % BLOCK;
+    if rest > LAST {
+        spell_at::<32, 64>(src, dst, src.len() - BLOCK, upper);
+    } else if rest > 0 {
+        spell_at::<16, 32>(src, dst, src.len() - LAST, upper);
     }
 }
 
@@ -83,6 +87,6 @@ pub fn encode(src: &[u8], dst: &mut [u8], upper: bool)
         8..=15 => encode_two::<8, 16>(src, dst, upper),
         17..=31 => encode_two::<16, 32>(src, dst, upper),
         33..=64 => encode_two::<32, 64>(src, dst, upper),
-        _ => encode_blocks::<32, 64>(src, dst, upper),
+        _ => encode_blocks(src, dst, upper),
     }
 }
