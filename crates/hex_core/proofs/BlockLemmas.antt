@@ -1,11 +1,12 @@
 -- Blocks of a source, and what decoding them makes of a destination.
-use Rattle.std.proofs.Common.{◌≡◌, ℕ, suc, ◌+◌, ◌-◌, ◌*◌, ◌/◌, ◌%◌, ◌<◌, ◌≤◌, ◌↔◌, Bool, List, length, map, get_or, inl, inr, refl, sym, ap, subst, ◌∙◌, Option, Some, None, Fits, w8, arith}
+use Rattle.std.proofs.Common.{◌≡◌, ℕ, suc, ◌+◌, ◌-◌, ◌*◌, ◌/◌, ◌%◌, ◌<◌, ◌≤◌, ◌↔◌, Bool, false, List, length, map, get_or, inl, inr, refl, sym, ap, ap₂, subst, ◌∙◌, Option, Some, None, Fits, w8, arith}
 use Rattle.std.specs.Prelude.{IsSome, IsTrue, slice_index, slice_range}
 use Rattle.std.proofs.Math.Nat.{le-div_iff_mul-le, lt-div-mul-add, mod-add-div, mul_comm, mul-le-mul_right}
-use Rattle.std.proofs.lemmas.Bool.{cases_lt}
+use Rattle.std.proofs.lemmas.Bool.{cases_lt, iff_false}
 use Rattle.std.proofs.lemmas.List.{length-map}
 use Rattle.std.proofs.lemmas.Simd.{get_or-chunk, get_or-put_chunk_above, get_or-put_chunk_at, get_or-put_chunk_below, length-chunk, length-put_chunk}
 use lib.Lanes.{chunk, put_chunk}
+use std.Logic.{↔_trans}
 use Rattle.hex_core.specs.declared.digit.CheckCase.{CheckCase}
 use Rattle.hex_core.specs.Arithmetic.{packed, valid_nibble}
 use Rattle.hex_core.specs.Blocks.{DecodesRange, NibblesFrom}
@@ -45,49 +46,68 @@ blocks_past len block some = lt-div-mul-add some
 
 -- ---- ranges that are valid
 
--- a range, and one that begins inside it or at its end
-pub valid_over : (c : CheckCase) (s : List ℕ) (first middle start end : ℕ) → start ≤ middle → AllValid c s first middle → AllValid c s start end → AllValid c s first end
-valid_over c s first middle start end le front back k low lt =
-    elim (cases_lt k middle) [
-      | inl before ↦ front k low before
-      | inr past ↦ back k (omega arith) lt
-    ]
+module _ (c : CheckCase) (s : List ℕ) where
+  -- a range, and one that begins inside it or at its end
+  pub valid_over : (first middle start end : ℕ) → start ≤ middle → AllValid c s first middle → AllValid c s start end → AllValid c s first end
+  valid_over first middle start end le front back k low lt =
+      elim (cases_lt k middle) [
+        | inl before ↦ front k low before
+        | inr past ↦ back k (omega arith) lt
+      ]
 
--- one more block of w bytes behind the first i
-pub valid_next : (c : CheckCase) (s : List ℕ) (i w : ℕ) → AllValid c s 0 (i * w) → AllValid c s (i * w) (i * w + w) → AllValid c s 0 ((i + 1) * w)
-valid_next c s i w front block = subst (AllValid c s 0) (omega arith) (valid_over c s 0 (i * w) (i * w) (i * w + w) (omega arith) front block)
+  -- one more block of w bytes behind the first i
+  pub valid_next : (i w : ℕ) → AllValid c s 0 (i * w) → AllValid c s (i * w) (i * w + w) → AllValid c s 0 ((i + 1) * w)
+  valid_next i w front block = subst (AllValid c s 0) (omega arith) (valid_over 0 (i * w) (i * w) (i * w + w) (omega arith) front block)
 
-pub valid_within : (c : CheckCase) (s : List ℕ) (start end first last : ℕ) → first ≤ start → end ≤ last → AllValid c s first last → AllValid c s start end
-valid_within c s start end first last low high valid k a b = valid k (omega arith) (omega arith)
+  -- a range of a source that has no invalid byte
+  pub valid_range : (start end : ℕ) → end ≤ length s → first_invalid c s ≡ None → AllValid c s start end
+  valid_range start end inside none k low lt = none_valid c s none k (omega arith) (omega arith)
 
--- a range of a source that has no invalid byte
-pub valid_range : (c : CheckCase) (s : List ℕ) (start end : ℕ) → end ≤ length s → first_invalid c s ≡ None → AllValid c s start end
-valid_range c s start end inside none = valid_within c s start end 0 (length s) (omega arith) inside (none_valid c s none)
+  pub valid_whole : (end : ℕ) → end ≡ length s → AllValid c s 0 end ↔ (first_invalid c s ≡ None)
+  valid_whole end all = (λ valid. first_invalid_none c s (rw (← all) valid), valid_range 0 end (omega arith))
 
--- whole blocks that are the source
-pub whole_valid : (c : CheckCase) (s : List ℕ) (block : ℕ) → length s % block ≡ 0 → AllValid c s 0 (length s / block * block) → first_invalid c s ≡ None
-whole_valid c s block e valid = first_invalid_none c s (subst (AllValid c s 0) (blocks_end (length s) block e) valid)
+  -- whole blocks that are the source
+  pub whole_valid : (block : ℕ) → length s % block ≡ 0 → AllValid c s 0 (length s / block * block) → first_invalid c s ≡ None
+  whole_valid block e = (valid_whole _ (blocks_end (length s) block e)).0
 
--- a last block that overlaps them
-pub last_valid : (c : CheckCase) (s : List ℕ) (block : ℕ) → 0 < block → block ≤ length s → AllValid c s 0 (length s / block * block) → AllValid c s (length s - block) (length s) ↔ (first_invalid c s ≡ None)
-last_valid c s block some inside front =
-    let past = blocks_past (length s) block some in (
-      λ back. first_invalid_none c s (valid_over c s 0 (length s / block * block) (length s - block) (length s) (omega (arith, past)) front back),
-      λ none. valid_range c s (length s - block) (length s) (omega arith) none,
-    )
+  -- a last block that overlaps them
+  pub last_valid : (block : ℕ) → 0 < block → block ≤ length s → AllValid c s 0 (length s / block * block) → AllValid c s (length s - block) (length s) ↔ (first_invalid c s ≡ None)
+  last_valid block some inside front =
+      let past = blocks_past (length s) block some in (
+        λ back. first_invalid_none c s (valid_over 0 (length s / block * block) (length s - block) (length s) (omega (arith, past)) front back),
+        valid_range (length s - block) (length s) (omega arith),
+      )
 
--- what is behind a valid front
-pub rest_valid : (c : CheckCase) (s : List ℕ) (done : ℕ) (t : Bool) → done ≤ length s → AllValid c s 0 done → IsTrue t ↔ (first_invalid c (slice_range s done (length s)) ≡ None) → IsTrue t ↔ (first_invalid c s ≡ None)
-rest_valid c s done t inside front rest =
-    let back = part_tested c s done (length s) t (omega arith) rest in (
-      λ x. first_invalid_none c s (valid_over c s 0 done done (length s) (omega arith) front (back.0 x)),
-      λ none. back.1 (valid_range c s done (length s) (omega arith) none),
-    )
+  -- what is behind a valid front
+  pub rest_valid : (done : ℕ) (t : Bool) → done ≤ length s → AllValid c s 0 done → IsTrue t ↔ (first_invalid c (slice_range s done (length s)) ≡ None) → IsTrue t ↔ (first_invalid c s ≡ None)
+  rest_valid done t inside front rest =
+      let back = part_tested c s done (length s) t (omega arith) rest in (
+        λ x. first_invalid_none c s (valid_over 0 done done (length s) (omega arith) front (back.0 x)),
+        λ none. back.1 (valid_range done (length s) (omega arith) none),
+      )
+
+  -- where a part fails its test, the source has an invalid byte
+  pub part_fails : {t : Bool} (start end : ℕ) → end ≤ length s → IsTrue t ↔ AllValid c s start end → t ≡ false → IsTrue false ↔ (first_invalid c s ≡ None)
+  part_fails start end inside test fails = (λ x. cc, λ none. absurd (iff_false test fails (valid_range start end inside none)))
+
+  -- one test of two parts that cover a range
+  pub both_valid : {P Q R : Type 0} (start middle at last end : ℕ) → R ↔ (P × Q) → P ↔ AllValid c s start middle → Q ↔ AllValid c s at last
+      → last ≡ end → start ≤ at → at ≤ middle → middle ≤ end → R ↔ AllValid c s start end
+  both_valid start middle at last end both front back same low le inside = (
+    λ r k least lt. valid_over start middle at last le (front.0 (both.0 r).0) (back.0 (both.0 r).1) k least (omega arith),
+    λ valid. both.1 (front.1 (λ k least lt. valid k least (omega arith)), back.1 (λ k least lt. valid k (omega arith) (omega arith))),
+  )
+
+  -- the same of two that are the source
+  pub parts_tested : {P Q R T : Type 0} (middle at last : ℕ) → T ↔ R → R ↔ (P × Q) → P ↔ AllValid c s 0 middle → Q ↔ AllValid c s at last
+      → last ≡ length s → at ≤ middle → middle ≤ length s → T ↔ (first_invalid c s ≡ None)
+  parts_tested middle at last test both front back same le inside =
+      ↔_trans test (↔_trans (both_valid 0 middle at last (length s) both front back same (omega arith) le inside) (valid_whole (length s) refl))
 
 -- ---- the lanes of a block
 
-pub valid_chunk : (c : CheckCase) (s : List ℕ) (at n : ℕ) → at + n ≤ length s → AllValid c (chunk at n s) 0 n ↔ AllValid c s at (at + n)
-valid_chunk c s at n inside = (
+pub valid_chunk : (c : CheckCase) (s : List ℕ) (at n end : ℕ) → end ≡ at + n → end ≤ length s → AllValid c (chunk at n s) 0 n ↔ AllValid c s at end
+valid_chunk c s at n end all inside = (
   λ valid k low lt. subst (λ b. IsSome (value c b)) (get_or-chunk at n s (k - at) 0 (omega arith) ∙ ap (slice_index s) (omega arith)) (valid (k - at) (omega arith) (omega arith)),
   λ valid k low lt. subst (λ b. IsSome (value c b)) (sym (get_or-chunk at n s k 0 lt)) (valid (at + k) (omega arith) (omega arith)),
 )
@@ -111,83 +131,63 @@ valid_nibbles_chunk c s v at n inside fits valid is =
     )
 
 -- all nibbles of a block are below 16 exactly where it is valid
-some_of : (o : Option ℕ) (n : ℕ) → IsNibble o n → n < 16 → IsSome o
-some_of (Some v) n e lt = refl
-some_of None n e lt = absurd (omega arith)
+digit_of : (o : Option ℕ) (n : ℕ) → IsNibble o n → n < 16 → o ≡ Some n
+digit_of (Some v) n e small = ap Some (sym e)
+digit_of None n e small = absurd (omega arith)
 
 small_of : (c : CheckCase) (b n : ℕ) (o : Option ℕ) → value c b ≡ o → IsNibble o n → IsSome o → n < 16
 small_of c b n (Some v) is e s = let small : v < 16 = value_small c b v is in omega arith
 small_of c b n None is e s = cc
 
-pub small_valid : (c : CheckCase) (s v : List ℕ) (at n : ℕ) → NibblesFrom c s at n v → AreSmall v ↔ AllValid c s at (at + n)
-small_valid c s v at n are = (
+pub small_valid : {c : CheckCase} {s v : List ℕ} {at n : ℕ} (end : ℕ) → NibblesFrom c s at n v → end ≡ at + n → AreSmall v ↔ AllValid c s at end
+small_valid {c} {s} {v} {at} {n} end are all = (
   λ small k low lt.
       let j = k - at in
       let there : at + j ≡ k = omega arith in
-      subst (λ i. IsSome (value c (get_or s i 0))) there (some_of _ (get_or v j 0) (are.each j (omega arith)) (small j (omega (arith, are.long)))),
+      subst (λ i. IsSome (value c (get_or s i 0))) there (rw (digit_of _ (get_or v j 0) (are.each j (omega arith)) (small j (omega (arith, are.long)))) refl),
   λ valid k h. small_of c (get_or s (at + k) 0) (get_or v k 0) _ refl (are.each k (omega (arith, are.long))) (valid (at + k) (omega arith) (omega (arith, are.long))),
 )
 
--- two blocks that cover a range
-pub pair_valid : (c : CheckCase) (s f b : List ℕ) (start mid end n : ℕ) → NibblesFrom c s start n f → NibblesFrom c s mid n b → end ≡ mid + n → start ≤ mid → mid ≤ start + n → (AreSmall f × AreSmall b) ↔ AllValid c s start end
-pair_valid c s f b start mid end n front back whole low le =
-    let one = small_valid c s f start n front in
-    let two = small_valid c s b mid n back in (
-      λ small. valid_over c s start (start + n) mid end le (one.0 small.0) (λ k a h. two.0 small.1 k a (omega arith)),
-      λ valid. (one.1 (valid_within c s start (start + n) start end (omega arith) (omega arith) valid), two.1 (valid_within c s mid (mid + n) start end low (omega arith) valid)),
-    )
+-- one test of two blocks that cover a range
+pub pair_valid : {R : Type 0} {c : CheckCase} {s f b : List ℕ} {start at n : ℕ} (end : ℕ) → R ↔ (AreSmall f × AreSmall b) → NibblesFrom c s start n f → NibblesFrom c s at n b
+    → end ≡ at + n → start ≤ at → at ≤ start + n → R ↔ AllValid c s start end
+pair_valid {R} {c} {s} {f} {b} {start} {at} {n} end both front back all low le =
+    both_valid c s start (start + n) at end end both (small_valid (start + n) front refl) (small_valid end back all) refl low le (omega arith)
 
--- one test of both, which are a source
-pub pair_tested : (c : CheckCase) (s f b r : List ℕ) (mid n : ℕ) (t : Bool) → NibblesFrom c s 0 n f → NibblesFrom c s mid n b → length s ≡ mid + n → mid ≤ n
-    → IsTrue t ↔ AreSmall r → AreSmall r ↔ (AreSmall f × AreSmall b) → IsTrue t ↔ (first_invalid c s ≡ None)
-pair_tested c s f b r mid n t front back whole le test either =
-    let both = pair_valid c s f b 0 mid (length s) n front back whole (omega arith) (omega arith) in
-    (λ x. first_invalid_none c s (both.0 (either.0 (test.0 x))), λ none. test.1 (either.1 (both.1 (valid_range c s 0 (length s) (omega arith) none))))
+-- one test of two blocks, or of two pairs of blocks, which are a source
+pub pair_tested : {R T : Type 0} {c : CheckCase} {s f b : List ℕ} {at n : ℕ} → T ↔ R → R ↔ (AreSmall f × AreSmall b) → NibblesFrom c s 0 n f → NibblesFrom c s at n b
+    → length s ≡ at + n → at ≤ n → T ↔ (first_invalid c s ≡ None)
+pair_tested {R} {T} {c} {s} {f} {b} {at} {n} test both front back whole le =
+    parts_tested c s n at (length s) test both (small_valid n front (omega arith)) (small_valid (length s) back whole) refl le (omega arith)
 
--- one test of two pairs, which are a source
-pub pairs_tested : (c : CheckCase) (s f b g d p q r : List ℕ) (from mid n : ℕ) (t : Bool) → NibblesFrom c s 0 n f → NibblesFrom c s n n b → NibblesFrom c s from n g → NibblesFrom c s mid n d
-    → mid ≡ from + n → length s ≡ mid + n → from ≤ n + n → IsTrue t ↔ AreSmall r → AreSmall r ↔ (AreSmall p × AreSmall q) → AreSmall p ↔ (AreSmall f × AreSmall b) → AreSmall q ↔ (AreSmall g × AreSmall d)
-    → IsTrue t ↔ (first_invalid c s ≡ None)
-pairs_tested c s f b g d p q r from mid n t one two three four at whole le test both front back =
-    let first = pair_valid c s f b 0 n (n + n) n one two refl (omega arith) (omega arith) in
-    let last = pair_valid c s g d from mid (length s) n three four whole (omega arith) (omega arith) in (
-      λ x.
-          let small = both.0 (test.0 x) in
-          first_invalid_none c s (valid_over c s 0 (n + n) from (length s) le (first.0 (front.0 small.0)) (last.0 (back.0 small.1))),
-      λ none. test.1 (both.1 (front.1 (first.1 (valid_range c s 0 (n + n) (omega arith) none)), back.1 (last.1 (valid_range c s from (length s) (omega arith) none)))),
-    )
+pub pairs_tested : {P Q R T : Type 0} {c : CheckCase} {s f b g d : List ℕ} {from at n : ℕ} → T ↔ R → R ↔ (P × Q) → P ↔ (AreSmall f × AreSmall b) → Q ↔ (AreSmall g × AreSmall d)
+    → NibblesFrom c s 0 n f → NibblesFrom c s n n b → NibblesFrom c s from n g → NibblesFrom c s at n d → at ≡ from + n → length s ≡ at + n → from ≤ n + n → T ↔ (first_invalid c s ≡ None)
+pairs_tested {P} {Q} {R} {T} {c} {s} {f} {b} {g} {d} {from} {at} {n} test both front back one two three four next whole le =
+    let first = pair_valid (n + n) front one two refl (omega arith) (omega arith) in
+    let last = pair_valid (length s) back three four whole (omega arith) (omega arith) in
+    parts_tested c s (n + n) from (length s) test both first last refl le (omega arith)
 
 -- ---- a block that is decoded
 
-digit_of : (c : CheckCase) (b n : ℕ) → IsNibble (value c b) n → n < 16 → value c b ≡ Some n
-digit_of c b n are small = go (value c b) are
-  where
-    go : (o : Option ℕ) → IsNibble o n → o ≡ Some n
-    go (Some v) e = ap Some (sym e)
-    go None e = absurd (omega arith)
-
-halves_of : (h l b : ℕ) → h < 16 → l < 16 → b ≡ 16 * h + l → (h ≡ b / 16) × (l ≡ b % 16)
-halves_of h l b H L e = (omega arith, omega arith)
-
-pub block_decodes : (c : CheckCase) (s old new v : List ℕ) (at from w n : ℕ) → from ≡ 2 * at → n ≡ 2 * w → at + w ≤ length old → NibblesFrom c s from n v → AreSmall v → new ≡ put_chunk at old (packed v) → DecodesRange c s old new at (at + w)
-block_decodes c s old new v at from w n twice even room are small is =
+pub block_decodes : {c : CheckCase} {s old new v : List ℕ} {at from end n : ℕ} (w : ℕ) → NibblesFrom c s from n v → AreSmall v → new ≡ put_chunk at old (packed v)
+    → n ≡ 2 * w → from ≡ 2 * at → end ≡ at + w → end ≤ length old → DecodesRange c s old new at end
+block_decodes {c} {s} {old} {new} {v} {at} {from} {end} {n} w are small is even twice whole room =
     let long : length v ≡ n = are.long in
     let all : length (packed v) ≡ w = length-packed w v (omega arith) in
-    let spelled : (j : ℕ) → j < w → SpellsAt c s new (at + j) = λ j h.
-    let high = get_or v (2 * j) 0 in
-    let low = get_or v (2 * j + 1) 0 in
-    let byte : get_or new (at + j) 0 ≡ 16 * high + low = ap (λ l. get_or l (at + j) 0) is ∙ get_or-put_chunk_at at old (packed v) j 0 (omega arith) (omega arith) ∙ packed_at v j (omega arith) in
-    let halves = halves_of high low (get_or new (at + j) 0) (small (2 * j) (omega arith)) (small (2 * j + 1) (omega arith)) byte in
-    let first = digit_of c (get_or s (from + 2 * j) 0) high (are.each (2 * j) (omega arith)) (small (2 * j) (omega arith)) in
-    let second = digit_of c (get_or s (from + (2 * j + 1)) 0) low (are.each (2 * j + 1) (omega arith)) (small (2 * j + 1) (omega arith)) in
-    let one : from + 2 * j ≡ 2 * (at + j) = omega arith in
-    let two : from + (2 * j + 1) ≡ 2 * (at + j) + 1 = omega arith in
+    let digit : (i m : ℕ) → from + i ≡ m → i < n → value c (get_or s m 0) ≡ Some (get_or v i 0) = λ i m place h.
+    rw (← place) (digit_of _ (get_or v i 0) (are.each i h) (small i (omega arith))) in
     record {
-      high = ap (λ i. value c (get_or s i 0)) (sym one) ∙ first ∙ ap Some halves.0;
-      low = ap (λ i. value c (get_or s i 0)) (sym two) ∙ second ∙ ap Some halves.1;
-    } in
-    record {
-      decoded = λ k low lt. subst (SpellsAt c s new) (omega arith) (spelled (k - at) (omega arith));
+      decoded = λ k low lt.
+          let j = k - at in
+          let place : at + j ≡ k = omega arith in
+          let byte : get_or new k 0 ≡ 16 * get_or v (2 * j) 0 + get_or v (2 * j + 1) 0 =
+          ap₂ (λ l i. get_or l i 0) is (sym place) ∙ get_or-put_chunk_at at old (packed v) j 0 (omega arith) (omega arith) ∙ packed_at v j (omega arith) in
+          let first : get_or v (2 * j) 0 < 16 = small (2 * j) (omega arith) in
+          let second : get_or v (2 * j + 1) 0 < 16 = small (2 * j + 1) (omega arith) in
+          record {
+            high = digit (2 * j) (2 * k) (omega arith) (omega arith) ∙ ap Some (omega arith);
+            low = digit (2 * j + 1) (2 * k + 1) (omega arith) (omega arith) ∙ ap Some (omega arith);
+          };
       before = λ k lt. ap (λ l. get_or l k 0) is ∙ get_or-put_chunk_below at old (packed v) k 0 lt;
       behind = λ k le. ap (λ l. get_or l k 0) is ∙ get_or-put_chunk_above at old (packed v) k 0 (omega arith);
     }
@@ -195,8 +195,9 @@ block_decodes c s old new v at from w n twice even room are small is =
 -- ---- ranges that are decoded one after the other
 
 -- a range, and one that begins inside it or at its end
-pub decodes_over : (c : CheckCase) (s old mid new : List ℕ) (first middle start end : ℕ) → first ≤ start → start ≤ middle → middle ≤ end → DecodesRange c s old mid first middle → DecodesRange c s mid new start end → DecodesRange c s old new first end
-decodes_over c s old mid new first middle start end from le to one two = record {
+pub decodes_over : {c : CheckCase} {s old mid new : List ℕ} {first middle start end : ℕ} → DecodesRange c s old mid first middle → DecodesRange c s mid new start end
+    → first ≤ start → start ≤ middle → middle ≤ end → DecodesRange c s old new first end
+decodes_over {c} {s} {old} {mid} {new} {first} {middle} {start} one two from le to = record {
   decoded = λ k low lt.
       elim (cases_lt k start) [
         | inl before ↦ spelled_along c s s mid new k k refl refl (two.before k before) (one.decoded k low (omega arith))
@@ -206,37 +207,23 @@ decodes_over c s old mid new first middle start end from le to one two = record 
   behind = λ k h. two.behind k h ∙ one.behind k (omega arith);
 }
 
--- the whole of a destination
-pub decodes_whole : (c : CheckCase) (s old new : List ℕ) (n : ℕ) → n ≡ length new → length s ≡ 2 * length new → DecodesRange c s old new 0 n → Spells c s new
-decodes_whole c s old new n is twice all = record { twice = twice; each = λ i h. all.decoded i (omega arith) (omega arith) }
+pub decodes_whole : {c : CheckCase} {s old new : List ℕ} {n : ℕ} → DecodesRange c s old new 0 n → n ≡ length new → length s ≡ 2 * length new → Spells c s new
+decodes_whole all is twice = record { twice = twice; each = λ i h. all.decoded i (omega arith) (omega arith) }
 
--- nothing yet
-pub decodes_none : (c : CheckCase) (s old : List ℕ) (n : ℕ) → n ≡ 0 → DecodesRange c s old old 0 n
-decodes_none c s old n none = record { decoded = λ k low lt. absurd (omega arith); before = λ k lt. refl; behind = λ k le. refl }
+pub decodes_none : {c : CheckCase} {s old : List ℕ} {n : ℕ} → n ≡ 0 → DecodesRange c s old old 0 n
+decodes_none none = record { decoded = λ k low lt. absurd (omega arith); before = λ k lt. refl; behind = λ k le. refl }
 
 -- one more block of w bytes behind the first i
-pub decodes_next : (c : CheckCase) (s old mid new : List ℕ) (i w : ℕ) → DecodesRange c s old mid 0 (i * w) → DecodesRange c s mid new (i * w) (i * w + w) → DecodesRange c s old new 0 ((i + 1) * w)
-decodes_next c s old mid new i w front block = subst (DecodesRange c s old new 0) (omega arith) (decodes_over c s old mid new 0 (i * w) (i * w) (i * w + w) (omega arith) (omega arith) (omega arith) front block)
-
--- i whole blocks that are the destination
-pub blocks_spell : (c : CheckCase) (s old new : List ℕ) (i w n : ℕ) → n ≡ length new → length s ≡ 2 * n → n % w ≡ 0 → i ≡ n / w → DecodesRange c s old new 0 (i * w) → Spells c s new
-blocks_spell c s old new i w n long twice whole all front =
-    let end : i * w ≡ n = rw all (blocks_end n w whole) in
-    decodes_whole c s old new (i * w) (omega arith) (omega arith) front
-
--- a last block that overlaps them
-pub last_spells : (c : CheckCase) (s old mid new : List ℕ) (i w at n : ℕ) → n ≡ length new → length s ≡ 2 * n → 0 < w → n ≡ at + w → i ≡ n / w → DecodesRange c s old mid 0 (i * w) → DecodesRange c s mid new at (at + w) → Spells c s new
-last_spells c s old mid new i w at n long twice some end all front back =
-    let past : n < i * w + w = rw all (blocks_past n w some) in
-    let within = blocks_within n w i some (omega arith) in
-    decodes_whole c s old new (at + w) (omega arith) (omega arith) (decodes_over c s old mid new 0 (i * w) at (at + w) (omega arith) (omega arith) (omega arith) front back)
+pub decodes_next : {c : CheckCase} {s old mid new : List ℕ} (i w : ℕ) → DecodesRange c s old mid 0 (i * w) → DecodesRange c s mid new (i * w) (i * w + w) → DecodesRange c s old new 0 ((i + 1) * w)
+decodes_next {c} {s} {old} {mid} {new} i w front block = subst (DecodesRange c s old new 0) (omega arith) (decodes_over front block (omega arith) (omega arith) (omega arith))
 
 -- two blocks of n nibbles, one at each end of a range
-pub pair_decodes : (c : CheckCase) (s old new f b : List ℕ) (start at end from n w : ℕ) → n ≡ 2 * w → end ≡ at + w → from ≡ 2 * at → start ≤ at → at ≤ start + w → end ≤ length old
-    → NibblesFrom c s (2 * start) n f → NibblesFrom c s from n b → AreSmall f → AreSmall b → new ≡ put_chunk at (put_chunk start old (packed f)) (packed b) → DecodesRange c s old new start end
-pair_decodes c s old new f b start at end from n w even whole twice low le room front back p q is =
+pub pair_decodes : {c : CheckCase} {s old new f b : List ℕ} {start low from end n : ℕ} (at w : ℕ) → NibblesFrom c s low n f → NibblesFrom c s from n b → AreSmall f × AreSmall b
+    → new ≡ put_chunk at (put_chunk start old (packed f)) (packed b) → n ≡ 2 * w → low ≡ 2 * start → from ≡ 2 * at → end ≡ at + w → start ≤ at → at ≤ start + w → end ≤ length old
+    → DecodesRange c s old new start end
+pair_decodes {c} {s} {old} {new} {f} {b} {start} {low} {from} {end} at w front back small is even first second whole least le room =
     let mid = put_chunk start old (packed f) in
     let same : length mid ≡ length old = length-put_chunk start old (packed f) in
-    let one = block_decodes c s old mid f start (2 * start) w n refl even (omega arith) front p refl in
-    let two = block_decodes c s mid new b at from w n twice even (omega arith) back q is in
-    subst (DecodesRange c s old new start) (sym whole) (decodes_over c s old mid new start (start + w) at (at + w) low le (omega arith) one two)
+    let one : DecodesRange c s old mid start (start + w) = block_decodes w front small.0 refl even first refl (omega arith) in
+    let two : DecodesRange c s mid new at end = block_decodes w back small.1 is even second whole (omega arith) in
+    decodes_over one two least le (omega arith)

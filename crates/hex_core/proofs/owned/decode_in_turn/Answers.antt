@@ -22,7 +22,7 @@ returns g c =
           let rest = part_decoded case s mid c.decode.new.dst done (omega arith) (omega arith) (omega arith) whole.1 in
           rw t (
             (rest_valid case s (2 * done) true (omega arith) blocks.ensures.valid (λ h. whole.0, λ none. refl)).0 refl,
-            decodes_whole case s old _ (length mid) (omega arith) (omega arith) (decodes_over case s old mid _ 0 done done (length mid) (omega arith) (omega arith) (omega arith) blocks.ensures.decoded rest),
+            decodes_whole (decodes_over blocks.ensures.decoded rest (omega arith) (omega arith) (omega arith)) (omega arith) (omega arith),
           )
       | inr f ↦
           let kept = MatchBool-at_false _ _ f c.decode.ensures in

@@ -1,7 +1,7 @@
 -- The source is valid where its blocks and what is behind them are.
 use Rattle.std.proofs.Common.{◌+◌, ◌*◌, ◌/◌, arith, length}
 use Rattle.hex_core.specs.Search.{AllValid}
-use Rattle.hex_core.proofs.BlockLemmas.{rest_valid, valid_over, valid_range}
+use Rattle.hex_core.proofs.BlockLemmas.{part_fails, rest_valid, valid_over}
 use Rattle.hex_core.proofs.SearchLemmas.{part_tested}
 use Rattle.hex_core.proofs.scalar.check.Goals as goal
 
@@ -21,4 +21,4 @@ pub returns-then-not-is_block_valid : goal.returns-then-not-is_block_valid
 returns-then-not-is_block_valid c =
     let case = c.args.case in let s = c.args.src.now in let start = 64 * c.passes.i in
     let block = part_tested case s start (start + 64) c.is_block_valid.result (omega arith) c.is_block_valid.ensures in
-    (λ h. cc, λ none. let t = block.1 (valid_range case s start (start + 64) (omega arith) none) in cc)
+    part_fails case s start (start + 64) (omega arith) block c.if-not-is_block_valid.true

@@ -1,6 +1,7 @@
 use Rattle.std.proofs.Common.{◌+◌, ◌-◌, ◌*◌, ◌/◌, ◌≤◌, length, subst, arith}
+use std.Logic.{↔_trans}
 use Rattle.hex_core.specs.Search.{AllValid}
-use Rattle.hex_core.proofs.BlockLemmas.{block_inside, blocks_within, valid_range, rest_valid}
+use Rattle.hex_core.proofs.BlockLemmas.{block_inside, blocks_within, part_fails, rest_valid}
 use Rattle.hex_core.proofs.blocks.check.check_runs.Goals as goal
 
 pub overflow_mul-i : goal.overflow_mul-i
@@ -11,9 +12,9 @@ reach_of-requires g c = omega (arith, block_inside (length c.args.src.now - g.ro
 
 pub returns-then-not-is_low : goal.returns-then-not-is_low
 returns-then-not-is_low g c =
-    let s = c.args.src.now in let n = g.row.N in let run = 8 * n in let at = c.turns.i * run in
-    let inside : at + run ≤ length s - n = block_inside (length s - n) run c.turns.i (omega arith) c.turns-test.true in
-    (λ h. cc, λ none. let t = c.is_low.ensures.1 (c.reach_of.ensures.1 (valid_range c.args.case s at (at + run) (omega (arith, inside)) none)) in cc)
+    let s = c.args.src.now in let run = 8 * g.row.N in let at = c.turns.i * run in
+    let inside : at + run ≤ length s - g.row.N = block_inside (length s - g.row.N) run c.turns.i (omega arith) c.turns-test.true in
+    part_fails c.args.case s at (at + run) (omega (arith, inside)) (↔_trans c.is_low.ensures c.reach_of.ensures) c.if-not-is_low.true
 
 pub returns : goal.returns
 returns g c =

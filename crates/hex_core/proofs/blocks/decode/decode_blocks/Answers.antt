@@ -6,18 +6,18 @@ use Rattle.hex_core.proofs.blocks.decode.decode_blocks.Goals as goal
 
 pub turns-preserved : goal.turns-preserved
 turns-preserved g c =
-    let case = c.args.case in let s = c.args.src.now in let old = c.args.dst.now in let size = g.row.SIZE in let at = c.turns.i * size in
+    let case = c.args.case in let s = c.args.src.now in let size = g.row.SIZE in let at = c.turns.i * size in
     let valid = c.decode_at.ensures.0.0 c.if-not-decode_at.false in
     let block = OnTrue_at {P = DecodesRange case s c.turns.dst c.decode_at.new.dst at (at + size)} c.if-not-decode_at.false c.decode_at.ensures.1 in
     record {
       valid = λ k low lt. valid_over case s 0 (2 * at) (2 * at) (2 * at + 2 * size) (omega arith) c.turns.invariant.valid valid k low (omega arith);
-      decoded = decodes_next case s old c.turns.dst c.decode_at.new.dst c.turns.i size c.turns.invariant.decoded block;
+      decoded = decodes_next c.turns.i size c.turns.invariant.decoded block;
     }
 
 pub turns-init : goal.turns-init
 turns-init g c = record {
   valid = λ k low lt. absurd (omega arith);
-  decoded = decodes_none c.args.case c.args.src.now c.args.dst.now _ (omega arith);
+  decoded = decodes_none (omega arith);
 }
 
 pub overflow_mul-i : goal.overflow_mul-i

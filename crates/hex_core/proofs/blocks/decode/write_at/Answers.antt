@@ -6,5 +6,4 @@ pub valid_nibbles_at-requires : goal.valid_nibbles_at-requires
 valid_nibbles_at-requires g c = (omega arith, (omega arith, valid_range c.args.case c.args.src.now (2 * c.args.at) (2 * c.args.at + g.row.N) (omega arith) c.requires.valid))
 
 pub returns : goal.returns
-returns g c =
-    block_decodes c.args.case c.args.src.now c.args.dst.now _ c.valid_nibbles_at.result c.args.at (2 * c.args.at) g.row.HALF g.row.N refl c.requires.half c.requires.room.1 c.valid_nibbles_at.ensures.nibbles c.valid_nibbles_at.ensures.small c.put.ensures
+returns g c = block_decodes g.row.HALF c.valid_nibbles_at.ensures.nibbles c.valid_nibbles_at.ensures.small c.put.ensures c.requires.half refl refl c.requires.room.1
