@@ -1,14 +1,14 @@
 -- What the arithmetic of the lanes makes of a byte, computed at all of them.
 use Rattle.std.proofs.Common.{◌≡◌, ℕ, zero, suc, ◌+◌, ◌-◌, ◌/◌, ◌%◌, ◌^◌, ◌<◌, ◌↔◌, Bool, true, false, ◌&&◌, cond, List, [], ◌∷◌, map, length, get_or, Option, Some, None, is_some, bit_and, refl, sym, ap, ap₂, ◌∙◌, Fits, w8, eqb, leb, ltb, eqb-true, leb-true, ltb-true, lt-ltb, arith}
-use Rattle.std.specs.Prelude.{EachIndex, IsSome, min}
+use Rattle.std.specs.Prelude.{EachIndex, IfSome, IsSome, min}
 use Rattle.std.specs.Int.{bit_at}
-use Rattle.std.proofs.lemmas.Bool.{agree_below, agree_below_at, and_parts}
+use Rattle.std.proofs.lemmas.Bool.{agree_below, agree_below_at}
 use Rattle.std.proofs.lemmas.Bool.Decides.{nat_tests}
 use Rattle.std.proofs.lemmas.List.{get_or-map, length-map}
+use Rattle.std.proofs.lemmas.Nat.{and_mask}
 use Rattle.std.proofs.lemmas.Nat.Bits.{bit_at-suc, bit_at_lowest, bit_at_ones}
 use Rattle.std.proofs.lemmas.Simd.{bit_mask_l, mask_l-lt}
 use lib.Lanes.{Each1, mask_l}
-use mathlib.Core.Bool.{beq}
 use Rattle.hex_core.specs.declared.digit.CheckCase.{CheckCase}
 use Rattle.hex_core.specs.declared.digit.CheckCase.TheVariants as policy
 use Rattle.hex_core.specs.Arithmetic.{AreLow, AreZero, excess, interleaved, letter, reach, saturating_add, valid_nibble, wrapping_sub}
@@ -42,40 +42,21 @@ nibble_by (Some v) n e = eqb-true n v e
 nibble_by None n e = leb-true 16 n e
 
 -- whether it is the value, where there is one
-abbrev valid_test : Option ℕ → ℕ → Bool
-valid_test (Some v) n = eqb n v && ltb n 16
-valid_test None n = true
+abbrev pub value_test : Option ℕ → ℕ → Bool
+value_test (Some v) n = eqb n v
+value_test None n = true
 
-valid_by : (o : Option ℕ) (n : ℕ) → IsSome o → valid_test o n ≡ true → (o ≡ Some n) × (n < 16)
-valid_by (Some v) n s e = let p = and_parts (eqb n v) (ltb n 16) e in (ap Some (sym (eqb-true n v p.0)), ltb-true n 16 p.1)
-valid_by None n s e = cc
+pub value_by : (o : Option ℕ) (n : ℕ) → value_test o n ≡ true → IfSome o (λ v. n ≡ v)
+value_by (Some v) n e = eqb-true n v e
+value_by None n e = tt
 
--- two tests that agree
-pub same_tests : (s t : Bool) → beq s t ≡ true → s ≡ t
-same_tests true true e = refl
-same_tests true false e = cc
-same_tests false true e = cc
-same_tests false false e = refl
-
--- each map of a byte is right, computed at all of them
-abbrev are_right : CheckCase → ℕ → Bool
-are_right c b =
-    beq (ltb (reach c b) 10) (has c b)
-    && (beq (eqb (excess c b) 0) (has c b) && (nibble_test (value c b) (saturated c b) && valid_test (value c b) (valid_nibble b)))
-
-all_are_right : (c : CheckCase) → agree_below (are_right c) always 256 ≡ true
-all_are_right policy.None = refl
-all_are_right policy.Lower = refl
-all_are_right policy.Upper = refl
-
--- the reach, the excess, the saturating map and the shorter one for bytes that have a value
-maps_are_right : (c : CheckCase) (b : ℕ) → b < 256
-    → (ltb (reach c b) 10 ≡ has c b) × (eqb (excess c b) 0 ≡ has c b) × (nibble_test (value c b) (saturated c b) ≡ true) × (valid_test (value c b) (valid_nibble b) ≡ true)
-maps_are_right c b h =
-    let p = and_parts (beq (ltb (reach c b) 10) (has c b)) _ (agree_below_at (are_right c) always 256 b (all_are_right c) h) in
-    let q = and_parts (beq (eqb (excess c b) 0) (has c b)) _ p.1 in
-    let r = and_parts (nibble_test (value c b) (saturated c b)) _ q.1 in
-    (same_tests _ _ p.0, same_tests _ _ q.0, r.0, r.1)
+-- the reach, the excess, the saturating map and the shorter one for bytes that have a value are right, computed at all bytes
+maps_are_right : (c : CheckCase)
+    → (agree_below (λ b. ltb (reach c b) 10) (has c) 256 ≡ true) × (agree_below (λ b. eqb (excess c b) 0) (has c) 256 ≡ true)
+    × (agree_below (λ b. nibble_test (value c b) (saturated c b)) always 256 ≡ true) × (agree_below (λ b. value_test (value c b) (valid_nibble b)) always 256 ≡ true)
+maps_are_right policy.None = (refl, refl, refl, refl)
+maps_are_right policy.Lower = (refl, refl, refl, refl)
+maps_are_right policy.Upper = (refl, refl, refl, refl)
 
 -- ---- the range tests
 
@@ -87,16 +68,13 @@ valid_where f Q c test v r n fits is =
     (λ passes k low lt. all.0 passes k (omega (arith, fits.0)), λ valid. all.1 (λ k h. valid k (omega arith) (omega (arith, fits.0))))
 
 -- all bytes pass for a reach below 10, and for an excess of 0
-reach_is_low : (c : CheckCase) (b : ℕ) → b < 256 → (reach c b < 10) ↔ IsSome (value c b)
-reach_is_low c b h =
-    let same = (maps_are_right c b h).0 in
-    (λ lt. sym same ∙ lt-ltb (reach c b) 10 lt, λ s. ltb-true (reach c b) 10 (same ∙ s))
-
 pub reach_valid : (c : CheckCase) (v r : List ℕ) (n : ℕ) → (length v ≡ n) × Each1 (Fits w8) v → r ≡ map (reach c) v → AreLow r ↔ AllValid c v 0 n
-reach_valid c = valid_where reach (λ x. x < 10) c (reach_is_low c)
+reach_valid c = valid_where reach (λ x. x < 10) c (λ b h.
+    let same = agree_below_at (λ x. ltb (reach c x) 10) (has c) 256 b (maps_are_right c).0 h in
+    (λ lt. sym same ∙ lt-ltb (reach c b) 10 lt, λ s. ltb-true (reach c b) 10 (same ∙ s)))
 
 excess_zero : (c : CheckCase) (b : ℕ) → b < 256 → eqb (excess c b) 0 ≡ has c b
-excess_zero c b h = (maps_are_right c b h).1
+excess_zero c b h = agree_below_at (λ x. eqb (excess c x) 0) (has c) 256 b (maps_are_right c).1 h
 
 pub excess_valid : (c : CheckCase) (v r : List ℕ) (n : ℕ) → (length v ≡ n) × Each1 (Fits w8) v → r ≡ map (excess c) v → AreZero r ↔ AllValid c v 0 n
 excess_valid c = valid_where excess (λ x. x ≡ 0) c (λ b h. (λ z. sym (excess_zero c b h) ∙ rw z refl, λ s. eqb-true _ _ (excess_zero c b h ∙ s)))
@@ -137,31 +115,26 @@ full_16 c v m long small admits = (
 pub saturated_nibbles : (c : CheckCase) (v r : List ℕ) → Each1 (Fits w8) v → r ≡ map (saturated c) v → AreNibbles c v r
 saturated_nibbles c v r fits is i h =
     let b = get_or v i 0 in
-    rw (mapped_at (saturated c) v i is h) (nibble_by (value c b) (saturated c b) (maps_are_right c b (lane_below v fits i)).2)
+    let test = agree_below_at (λ x. nibble_test (value c x) (saturated c x)) always 256 b (maps_are_right c).2 (lane_below v fits i) in
+    rw (mapped_at (saturated c) v i is h) (nibble_by (value c b) (saturated c b) test)
 
 -- ---- the value of a byte that has one
-
-pub valid_value : (c : CheckCase) (b : ℕ) → b < 256 → IsSome (value c b) → (value c b ≡ Some (valid_nibble b)) × (valid_nibble b < 16)
-valid_value c b h s = valid_by (value c b) (valid_nibble b) s (maps_are_right c b h).3
 
 pub value_small : (c : CheckCase) (b v : ℕ) → value c b ≡ Some v → v < 16
 value_small policy.None b v h = grind (arith, nat_tests)
 value_small policy.Lower b v h = grind (arith, nat_tests)
 value_small policy.Upper b v h = grind (arith, nat_tests)
 
+some_is : (o : Option ℕ) (n : ℕ) → IsSome o → value_test o n ≡ true → o ≡ Some n
+some_is (Some v) n s e = ap Some (sym (eqb-true n v e))
+some_is None n s e = cc
+
+pub valid_value : (c : CheckCase) (b : ℕ) → b < 256 → IsSome (value c b) → (value c b ≡ Some (valid_nibble b)) × (valid_nibble b < 16)
+valid_value c b h s =
+    let is = some_is (value c b) (valid_nibble b) s (agree_below_at (λ x. value_test (value c x) (valid_nibble x)) always 256 b (maps_are_right c).3 h) in
+    (is, value_small c b (valid_nibble b) is)
+
 -- ---- the digits of a byte
-
-low_halves : agree_below (λ b. eqb (bit_and b 15) (b % 16)) always 256 ≡ true
-low_halves = refl
-
-interleaved_maps : (f g h : ℕ → ℕ) (v : List ℕ) → map f (interleaved (map g v) (map h v)) ≡ interleaved (map (λ b. f (g b)) v) (map (λ b. f (h b)) v)
-interleaved_maps f g h [] = refl
-interleaved_maps f g h (b ∷ v) = ap (λ r. f (g b) ∷ f (h b) ∷ r) (interleaved_maps f g h v)
-
-rows_are_text : (f g : ℕ → ℕ) (upper : Bool) (v : List ℕ) → ((b : ℕ) → b < 256 → f b ≡ digit upper (b / 16)) → ((b : ℕ) → b < 256 → g b ≡ digit upper (b % 16)) → Each1 (Fits w8) v
-    → interleaved (map f v) (map g v) ≡ text upper v
-rows_are_text f g upper [] p q h = refl
-rows_are_text f g upper (b ∷ v) p q h = ap₂ (λ a r. a ∷ r) (p b h.0.fits) (ap₂ (λ a r. a ∷ r) (q b h.0.fits) (rows_are_text f g upper v p q h.1))
 
 small_entry : (row : List ℕ) (a : ℕ) → a < 16 → entry row a ≡ get_or row a 0
 small_entry row a h = grind (arith, nat_tests)
@@ -169,8 +142,9 @@ small_entry row a h = grind (arith, nat_tests)
 -- halves in turn, each looked up, are the text
 pub looked_up_text : (upper : Bool) (row v : List ℕ) → ((n : ℕ) → n < 16 → get_or row n 0 ≡ digit upper n) → Each1 (Fits w8) v
     → map (entry row) (interleaved (map (λ b. b / 16) v) (map (λ b. bit_and b 15) v)) ≡ text upper v
-looked_up_text upper row v digits fits =
-    let low : (b : ℕ) → b < 256 → bit_and b 15 ≡ b % 16 = λ b h. eqb-true _ _ (agree_below_at (λ b. eqb (bit_and b 15) (b % 16)) always 256 b low_halves h) in
-    interleaved_maps (entry row) (λ b. b / 16) (λ b. bit_and b 15) v
-    ∙ rows_are_text (λ b. entry row (b / 16)) (λ b. entry row (bit_and b 15)) upper v (λ b h. small_entry row (b / 16) (omega arith) ∙ digits (b / 16) (omega arith))
-    (λ b h. ap (entry row) (low b h) ∙ small_entry row (b % 16) (omega arith) ∙ digits (b % 16) (omega arith)) fits
+looked_up_text upper row [] digits fits = refl
+looked_up_text upper row (b ∷ v) digits fits =
+    let byte : b < 256 = fits.0.fits in
+    let read : (n : ℕ) → n < 16 → entry row n ≡ digit upper n = λ n small. small_entry row n small ∙ digits n small in
+    ap₂ (λ a r. a ∷ r) (read (b / 16) (omega arith))
+    (ap₂ (λ a r. a ∷ r) (ap (entry row) (and_mask b 4) ∙ read (b % 16) (omega arith)) (looked_up_text upper row v digits fits.1))

@@ -1,64 +1,51 @@
 -- The hash map at each byte beside each neighbour.
 use Rattle.std.proofs.Common.{◌≡◌, ℕ, ◌-◌, ◌<◌, ◌↔◌, Bool, true, ◌&&◌, eqb, ltb, List, [], ◌∷◌, map, length, get_or, bit_and, bit_or, bit_xor, Option, Some, None, refl, sym, ap, ap₂, ◌∙◌, eqb-true, ltb-true, lt-ltb, arith}
 use Rattle.std.specs.Prelude.{EachIndex, IfSome, IsSome}
-use Rattle.std.proofs.lemmas.Bool.{agree_below, agree_below_at, and_parts}
+use Rattle.std.proofs.lemmas.Bool.{agree_below, agree_below_at}
 use Rattle.std.proofs.lemmas.Bool.Decides.{nat_tests}
 use lib.Lanes.{zip2}
-use mathlib.Core.Bool.{beq}
 use Rattle.hex_core.specs.declared.digit.CheckCase.{CheckCase}
 use Rattle.hex_core.specs.declared.digit.CheckCase.TheVariants as policy
 use Rattle.hex_core.specs.Digit.{value}
 use Rattle.hex_core.specs.Hash.{Hashed, check_row, hash, hashed_check, hashed_value, neighbour_bits}
 use Rattle.hex_core.specs.Lanes.{AreChecked, AreValues, IsNibble}
 use Rattle.hex_core.specs.Lookup.{entry}
-use Rattle.hex_core.proofs.ByteLemmas.{always, has, nibble_by, nibble_test, same_tests}
+use Rattle.hex_core.proofs.ByteLemmas.{always, has, nibble_by, nibble_test, value_by, value_test}
 use Rattle.hex_core.proofs.LaneLemmas.{zipped_at}
 
 -- ---- one byte
-
-abbrev value_test : Option ℕ → ℕ → Bool
-value_test (Some v) n = eqb n v
-value_test None n = true
-
-value_by : (o : Option ℕ) (n : ℕ) → value_test o n ≡ true → IfSome o (λ v. n ≡ v)
-value_by (Some v) n e = eqb-true n v e
-value_by None n e = tt
 
 -- a value, and the sign of its check
 abbrev pub marked : ℕ → ℕ → ℕ
 marked v check = bit_or v (bit_and check 128)
 
--- whether check, value and both together are right beside this neighbour
-abbrev right : CheckCase → ℕ → ℕ → Bool
-right c b k =
-    beq (ltb (hashed_check c b (hash b k)) 128) (has c b)
-    && (value_test (value c b) (hashed_value b (hash b k)) && nibble_test (value c b) (marked (hashed_value b (hash b k)) (hashed_check c b (hash b k))))
+-- check, value and both together are right beside each neighbour
+all_right : (c : CheckCase)
+    → (agree_below (λ b. agree_below (λ k. ltb (hashed_check c b (hash b k)) 128) (λ _. has c b) 8) always 256 ≡ true)
+    × (agree_below (λ b. agree_below (λ k. value_test (value c b) (hashed_value b (hash b k))) always 8) always 256 ≡ true)
+    × (agree_below (λ b. agree_below (λ k. nibble_test (value c b) (marked (hashed_value b (hash b k)) (hashed_check c b (hash b k)))) always 8) always 256 ≡ true)
+all_right policy.None = (refl, refl, refl)
+all_right policy.Lower = (refl, refl, refl)
+all_right policy.Upper = (refl, refl, refl)
 
-all_right : (c : CheckCase) → agree_below (λ b. agree_below (right c b) always 8) always 256 ≡ true
-all_right policy.None = refl
-all_right policy.Lower = refl
-all_right policy.Upper = refl
-
-is_right : (c : CheckCase) (b k : ℕ) → b < 256 → k < 8 → right c b k ≡ true
-is_right c b k B K = agree_below_at (right c b) always 8 k (agree_below_at (λ x. agree_below (right c x) always 8) always 256 b (all_right c) B) K
+is_right : (f g : ℕ → ℕ → Bool) → agree_below (λ b. agree_below (f b) (g b) 8) always 256 ≡ true → (b k : ℕ) → b < 256 → k < 8 → f b k ≡ g b k
+is_right f g all b k B K = agree_below_at (f b) (g b) 8 k (agree_below_at (λ x. agree_below (f x) (g x) 8) always 256 b all B) K
 
 pub check_is_right : (c : CheckCase) (b slot r : ℕ) → b < 256 → Hashed b slot → r ≡ hashed_check c b slot → (r < 128) ↔ IsSome (value c b)
 check_is_right c b slot r B s e =
-    let p = and_parts (beq (ltb (hashed_check c b (hash b s.0)) 128) (has c b)) _ (is_right c b s.0 B s.1) in
-    let q : ltb r 128 ≡ has c b = ap (λ x. ltb x 128) (e ∙ ap (hashed_check c b) s.2) ∙ same_tests _ _ p.0 in
+    let test = is_right (λ x k. ltb (hashed_check c x (hash x k)) 128) (λ x k. has c x) (all_right c).0 b s.0 B s.1 in
+    let q : ltb r 128 ≡ has c b = rw (e, s.2) test in
     (λ lt. sym q ∙ lt-ltb r 128 lt, λ t. ltb-true r 128 (q ∙ t))
 
-others_right : (c : CheckCase) (b k : ℕ) → b < 256 → k < 8 → (value_test (value c b) (hashed_value b (hash b k)) ≡ true) × (nibble_test (value c b) (marked (hashed_value b (hash b k)) (hashed_check c b (hash b k))) ≡ true)
-others_right c b k B K =
-    let p = and_parts (beq (ltb (hashed_check c b (hash b k)) 128) (has c b)) _ (is_right c b k B K) in
-    and_parts (value_test (value c b) (hashed_value b (hash b k))) _ p.1
-
 pub value_is_right : (c : CheckCase) (b slot r : ℕ) → b < 256 → Hashed b slot → r ≡ hashed_value b slot → IfSome (value c b) (λ v. r ≡ v)
-value_is_right c b slot r B s e = rw (e, s.2) (value_by (value c b) (hashed_value b (hash b s.0)) (others_right c b s.0 B s.1).0)
+value_is_right c b slot r B s e =
+    let test = is_right (λ x k. value_test (value c x) (hashed_value x (hash x k))) (λ x k. true) (all_right c).1 b s.0 B s.1 in
+    rw (e, s.2) (value_by (value c b) (hashed_value b (hash b s.0)) test)
 
 pub nibble_is_right : (c : CheckCase) (b slot r v check : ℕ) → b < 256 → Hashed b slot → v ≡ hashed_value b slot → check ≡ hashed_check c b slot → r ≡ marked v check → IsNibble (value c b) r
 nibble_is_right c b slot r v check B s p q e =
-    rw (e, p, q, s.2) (nibble_by (value c b) (marked (hashed_value b (hash b s.0)) (hashed_check c b (hash b s.0))) (others_right c b s.0 B s.1).1)
+    let test = is_right (λ x k. nibble_test (value c x) (marked (hashed_value x (hash x k)) (hashed_check c x (hash x k)))) (λ x k. true) (all_right c).2 b s.0 B s.1 in
+    rw (e, p, q, s.2) (nibble_by (value c b) (marked (hashed_value b (hash b s.0)) (hashed_check c b (hash b s.0))) test)
 
 -- ---- the lanes
 

@@ -1,12 +1,13 @@
 -- What an operation makes of the lanes of a vector.
-use Rattle.std.proofs.Common.{◌≡◌, ℕ, zero, suc, ◌+◌, ◌-◌, ◌*◌, ◌/◌, ◌^◌, ◌%◌, ◌<◌, ◌↔◌, Bool, true, false, not, ◌&&◌, cond, ltb, eqb, eqb-true, inl, inr, List, [], ◌∷◌, map, length, get_or, replicate, bit_and, bit_or, refl, ap, ap₂, sym, ◌∙◌, subst, Fits, w8, arith, ltb-true, ltb-false, lt-ltb}
+use Rattle.std.proofs.Common.{◌≡◌, ℕ, zero, suc, ◌+◌, ◌-◌, ◌*◌, ◌/◌, ◌^◌, ◌%◌, ◌<◌, ◌≤◌, ◌↔◌, Bool, true, false, not, ◌&&◌, cond, ltb, eqb, eqb-true, inl, inr, List, [], ◌∷◌, map, length, get_or, replicate, bit_and, bit_or, refl, ap, ap₂, sym, ◌∙◌, subst, Fits, w8, arith, ltb-true, ltb-false, lt-ltb}
 use Rattle.std.specs.Prelude.{EachIndex, IsTrue, max, min}
 use Rattle.std.specs.List.{list_all}
-use Rattle.std.proofs.lemmas.Bool.{cases_eq, ne_eqb, agree_below, agree_below_at}
-use Rattle.std.proofs.lemmas.List.{get_or-map, length-map}
+use Rattle.std.proofs.lemmas.Bool.{ne_eqb, agree_below, agree_below_at}
+use Rattle.std.proofs.lemmas.Bool.Decides.{nat_tests}
+use Rattle.std.proofs.lemmas.List.{get_or-map, get_or_default, length-map, map-id}
 use Rattle.std.proofs.lemmas.List.Sums.{AllPass-from_list_all, list_all-from_AllPass}
-use Rattle.std.proofs.lemmas.Nat.{le_or_l, le_or_r}
-use Rattle.std.proofs.lemmas.Simd.{get_or-zip2, length-zip2, zip2_splat}
+use Rattle.std.proofs.lemmas.Nat.{le_or_l, le_or_r, or_lt}
+use Rattle.std.proofs.lemmas.Simd.{Each1-zip2, Each2-of, get_or-zip2, length-zip2, map-map, zip2_splat}
 use lib.Lanes.{zip2, sel_l, top, mask_l, Each1}
 use Rattle.hex_core.specs.Arithmetic.{AreZero, pair_byte, saturating_add, wrapping_sub}
 use Rattle.hex_core.specs.Hash.{average}
@@ -26,21 +27,13 @@ zipped_at f v w i is p q = ap (λ l. get_or l i 0) is ∙ get_or-zip2 f v w i 0 
 
 -- ---- operations in a row
 
-map_map : {X Y Z : Type 0} (f : Y → Z) (g : X → Y) (v : List X) → map f (map g v) ≡ map (λ x. f (g x)) v
-map_map f g [] = refl
-map_map f g (x ∷ xs) = ap (λ r. f (g x) ∷ r) (map_map f g xs)
-
 pub mapped : {X Y Z : Type 0} (f : Y → Z) (g : X → Y) (v : List X) {xs : List Y} → xs ≡ map g v → map f xs ≡ map (λ x. f (g x)) v
-mapped f g v e = ap (map f) e ∙ map_map f g v
+mapped f g v e = ap (map f) e ∙ map-map f g v
 
 -- two functions that agree on bytes
 pub maps_agree : {Y : Type 0} (f g : ℕ → Y) → ((x : ℕ) → x < 256 → f x ≡ g x) → (v : List ℕ) → Each1 (Fits w8) v → map f v ≡ map g v
 maps_agree f g same [] e = refl
 maps_agree f g same (x ∷ xs) e = ap₂ (λ a r. a ∷ r) (same x e.0.fits) (maps_agree f g same xs e.1)
-
-pub map_id : (v : List ℕ) → map (λ x. x) v ≡ v
-map_id [] = refl
-map_id (x ∷ xs) = ap (λ r. x ∷ r) (map_id xs)
 
 -- each two lanes, the second of them mapped
 pub zipped_map : (f : ℕ → ℕ → ℕ) (g : ℕ → ℕ) (v w : List ℕ) {r : List ℕ} → r ≡ map g w → zip2 f v r ≡ zip2 (λ x y. f x (g y)) v w
@@ -54,7 +47,7 @@ zipped_map f g v w is = ap (zip2 f v) is ∙ go v w
 -- two operations with a number each
 pub splat_twice : (f g : ℕ → ℕ → ℕ) (v : List ℕ) (n a b : ℕ) → length v ≡ n → zip2 g (zip2 f v (replicate n a)) (replicate n b) ≡ map (λ x. g (f x a) b) v
 splat_twice f g v n a b e =
-    ap (λ l. zip2 g l (replicate n b)) (zip2_splat f v n a e) ∙ zip2_splat g (map (λ x. f x a) v) n b (length-map v (λ x. f x a) ∙ e) ∙ map_map (λ x. g x b) (λ x. f x a) v
+    ap (λ l. zip2 g l (replicate n b)) (zip2_splat f v n a e) ∙ zip2_splat g (map (λ x. f x a) v) n b (length-map v (λ x. f x a) ∙ e) ∙ map-map (λ x. g x b) (λ x. f x a) v
 
 -- ---- what std selects by a comparison
 
@@ -62,41 +55,35 @@ splat_twice f g v n a b e =
 abbrev pub below : ℕ → ℕ → ℕ
 below a b = cond (ltb a b) 255 0
 
+-- what is picked by it, as the one or the other
+picked : (x y a b r : ℕ) → (x < y → a ≡ r) → (y ≤ x → b ≡ r) → cond (top 7 (below x y)) a b ≡ r
+picked x y a b r under over = go (ltb x y) refl
+  where
+    go : (t : Bool) → ltb x y ≡ t → cond (top 7 (cond t 255 0)) a b ≡ r
+    go true e = under (ltb-true _ _ e)
+    go false e = over (ltb-false _ _ e)
+
 pub minima : (xs ys : List ℕ) → sel_l (map (top 7) (zip2 below xs ys)) xs ys ≡ zip2 min xs ys
 minima [] ys = refl
 minima (x ∷ xs) [] = refl
-minima (x ∷ xs) (y ∷ ys) = ap₂ (λ a r. a ∷ r) (go (ltb x y) refl) (minima xs ys)
-  where
-    go : (t : Bool) → ltb x y ≡ t → cond (top 7 (cond t 255 0)) x y ≡ min x y
-    go true e = omega (arith, ltb-true _ _ e)
-    go false e = omega (arith, ltb-false _ _ e)
+minima (x ∷ xs) (y ∷ ys) = ap₂ (λ a r. a ∷ r) (picked x y _ _ _ (λ h. omega arith) (λ h. omega arith)) (minima xs ys)
 
 pub maxima : (xs ys : List ℕ) → sel_l (map (top 7) (zip2 below xs ys)) ys xs ≡ zip2 max xs ys
 maxima [] [] = refl
 maxima [] (y ∷ ys) = refl
 maxima (x ∷ xs) [] = refl
-maxima (x ∷ xs) (y ∷ ys) = ap₂ (λ a r. a ∷ r) (go (ltb x y) refl) (maxima xs ys)
-  where
-    go : (t : Bool) → ltb x y ≡ t → cond (top 7 (cond t 255 0)) y x ≡ max x y
-    go true e = omega (arith, ltb-true _ _ e)
-    go false e = omega (arith, ltb-false _ _ e)
+maxima (x ∷ xs) (y ∷ ys) = ap₂ (λ a r. a ∷ r) (picked x y _ _ _ (λ h. omega arith) (λ h. omega arith)) (maxima xs ys)
 
-one_difference : (x y : ℕ) → x < 256 → y < 256 → wrapping_sub (cond (top 7 (below x y)) y x) y ≡ x - y
-one_difference x y X Y = go (ltb x y) refl
-  where
-    go : (t : Bool) → ltb x y ≡ t → wrapping_sub (cond (top 7 (cond t 255 0)) y x) y ≡ x - y
-    go true e = omega (arith, ltb-true _ _ e)
-    go false e = omega (arith, ltb-false _ _ e)
+one_difference : (x y : ℕ) → x < 256 → y < 256 → wrapping_sub (max x y) y ≡ x - y
+one_difference x y X Y = omega arith
 
 pub differences : (xs ys : List ℕ) → Each1 (Fits w8) xs → Each1 (Fits w8) ys → zip2 wrapping_sub (sel_l (map (top 7) (zip2 below xs ys)) ys xs) ys ≡ zip2 (λ x y. x - y) xs ys
-differences [] ys f g = refl
-differences (x ∷ xs) [] f g = refl
-differences (x ∷ xs) (y ∷ ys) f g = ap₂ (λ a r. a ∷ r) (one_difference x y f.0.fits g.0.fits) (differences xs ys f.1 g.1)
-
--- the lanes of a number
-pub replicated : (n k : ℕ) → k < 256 → Each1 (Fits w8) (replicate n k)
-replicated zero k h = tt
-replicated (suc n) k h = (record { fits = h }, replicated n k h)
+differences xs ys f g = ap (λ l. zip2 wrapping_sub l ys) (maxima xs ys) ∙ go xs ys f g
+  where
+    go : (xs ys : List ℕ) → Each1 (Fits w8) xs → Each1 (Fits w8) ys → zip2 wrapping_sub (zip2 max xs ys) ys ≡ zip2 (λ x y. x - y) xs ys
+    go [] ys f g = refl
+    go (x ∷ xs) [] f g = refl
+    go (x ∷ xs) (y ∷ ys) f g = ap₂ (λ a r. a ∷ r) (one_difference x y f.0.fits g.0.fits) (go xs ys f.1 g.1)
 
 abbrev pub wrapping_add : ℕ → ℕ → ℕ
 wrapping_add a b = (a + b) % 2 ^ 8
@@ -123,13 +110,12 @@ averaged (x ∷ xs) (y ∷ ys) f g = ap₂ (λ a r. a ∷ r) (one_average x y f.
 pub averages_of : (xs ys : List ℕ) (n : ℕ) → (length xs ≡ n) × Each1 (Fits w8) xs → (length ys ≡ n) × Each1 (Fits w8) ys
     → zip2 (λ a b. a / 2 ^ b) (zip2 word_add (zip2 word_add (map (λ x. x) xs) (map (λ x. x) ys)) (replicate n 1)) (replicate n 1) ≡ zip2 average xs ys
 averages_of xs ys n f g =
-    ap₂ (λ a b. zip2 (λ x y. x / 2 ^ y) (zip2 word_add (zip2 word_add a b) (replicate n 1)) (replicate n 1)) (map_id xs) (map_id ys)
+    ap₂ (λ a b. zip2 (λ x y. x / 2 ^ y) (zip2 word_add (zip2 word_add a b) (replicate n 1)) (replicate n 1)) (map-id xs) (map-id ys)
     ∙ splat_twice word_add (λ a b. a / 2 ^ b) (zip2 word_add xs ys) n 1 1 (length-zip2 word_add xs ys (f.0 ∙ sym g.0) ∙ f.0) ∙ averaged xs ys f.1 g.1
 
 pub averages_fit : (xs ys : List ℕ) → Each1 (Fits w8) xs → Each1 (Fits w8) ys → Each1 (Fits w8) (zip2 average xs ys)
-averages_fit [] ys f g = tt
-averages_fit (x ∷ xs) [] f g = tt
-averages_fit (x ∷ xs) (y ∷ ys) f g = (record { fits = let p : x < 256 = f.0.fits in let q : y < 256 = g.0.fits in omega arith }, averages_fit xs ys f.1 g.1)
+averages_fit xs ys f g =
+    Each1-zip2 average (Fits w8) xs ys (Each2-of (Fits w8) (Fits w8) _ (λ x y p q. let X : x < 256 = p.fits in let Y : y < 256 = q.fits in record { fits = omega arith }) xs ys f g)
 
 -- ---- words to bytes
 
@@ -141,23 +127,15 @@ pair_bytes_fit (x ∷ xs) = (record { fits = omega arith }, pair_bytes_fit xs)
 
 -- a list passes at each place, or all of it does
 pass_places : (p : ℕ → Bool) (v : List ℕ) → (list_all p v ≡ true) ↔ EachIndex v (λ k. p (get_or v k 0) ≡ true)
-pass_places p v = (λ e k h. AllPass-from_list_all p v e k 0 h, λ all. list_all-from_AllPass p v (λ k d h. rw (get_or_same v k d h) (all k h)))
-  where
-    get_or_same : (v : List ℕ) (k d : ℕ) → k < length v → get_or v k d ≡ get_or v k 0
-    get_or_same [] k d h = absurd (omega arith)
-    get_or_same (x ∷ v) zero d h = refl
-    get_or_same (x ∷ v) (suc k) d h = get_or_same v k d (omega arith)
+pass_places p v = (λ e k h. AllPass-from_list_all p v e k 0 h, λ all. list_all-from_AllPass p v (λ k d h. rw (get_or_default v k d 0 h) (all k h)))
 
 -- a mask of the lanes that are not 0 is 0 where all are
 none_set : (v : List ℕ) → eqb (mask_l (map (λ x. not (eqb x 0)) v)) 0 ≡ list_all (λ x. eqb x 0) v
 none_set [] = refl
 none_set (x ∷ xs) = go (eqb x 0) (mask_l (map (λ x. not (eqb x 0)) xs)) _ (none_set xs)
   where
-    twice : (m : ℕ) → eqb (2 * m) 0 ≡ eqb m 0
-    twice m = elim (cases_eq m 0) [ inl z ↦ rw z refl | inr p ↦ ne_eqb (2 * m) 0 (omega arith) ∙ sym (ne_eqb m 0 p) ]
-
     go : (t : Bool) (m : ℕ) (b : Bool) → eqb m 0 ≡ b → eqb (cond (not t) 1 0 + 2 * m) 0 ≡ (t && b)
-    go true m b e = ap (λ k. eqb k 0) (omega arith) ∙ twice m ∙ e
+    go true m b e = rw (← e) (grind (arith, nat_tests))
     go false m b e = ne_eqb (1 + 2 * m) 0 (omega arith)
 
 pub no_bit_set : (v : List ℕ) → IsTrue (eqb (mask_l (map (λ x. not (eqb x 0)) v)) 0) ↔ AreZero v
@@ -175,10 +153,6 @@ passes_where f Q P test v {r} fits is =
       λ all i h. (test (get_or v i 0) (lane_below v fits i)).0 (subst Q (mapped_at f v i is h) (all i (omega arith))),
       λ all i h. subst Q (sym (mapped_at f v i is (omega arith))) ((test (get_or v i 0) (lane_below v fits i)).1 (all i (omega arith))),
     )
-
--- it is 0 there
-pub zero_where : (f : ℕ → ℕ) (P : ℕ → Type 0) → ((x : ℕ) → x < 256 → (f x ≡ 0) ↔ P x) → (v : List ℕ) {r : List ℕ} → Each1 (Fits w8) v → r ≡ map f v → AreZero r ↔ EachIndex v (λ i. P (get_or v i 0))
-zero_where f P test v fits is = passes_where f (λ x. x ≡ 0) P test v fits is
 
 -- one test does for two vectors, where it passes what two lanes make exactly with both of them
 pub each_of_two : (f : ℕ → ℕ → ℕ) (P : ℕ → Type 0) → ((x y : ℕ) → P (f x y) ↔ (P x × P y)) → (v w : List ℕ) → length v ≡ length w
@@ -199,14 +173,8 @@ or_zero x y = (λ e. (omega (arith, e, le_or_l x y), omega (arith, e, le_or_r x 
 pub max_low : (x y : ℕ) → (max x y < 10) ↔ ((x < 10) × (y < 10))
 max_low x y = (λ h. (omega arith, omega arith), λ p. let a = p.0 in let b = p.1 in omega arith)
 
-ors_small : agree_below (λ a. agree_below (λ b. ltb (bit_or a b) 16) (λ _. true) 16) (λ _. true) 16 ≡ true
-ors_small = refl
-
 pub or_small : (x y : ℕ) → (bit_or x y < 16) ↔ ((x < 16) × (y < 16))
-or_small x y = (
-  λ h. (omega (arith, h, le_or_l x y), omega (arith, h, le_or_r x y)),
-  λ p. ltb-true (bit_or x y) 16 (agree_below_at (λ b. ltb (bit_or x b) 16) (λ _. true) 16 y (agree_below_at (λ a. agree_below (λ b. ltb (bit_or a b) 16) (λ _. true) 16) (λ _. true) 16 x ors_small p.0) p.1),
-)
+or_small x y = (λ h. (omega (arith, h, le_or_l x y), omega (arith, h, le_or_r x y)), λ p. or_lt 4 x y p.0 p.1)
 
 high_bits_zero : agree_below (λ x. eqb (bit_and x 240) 0) (λ x. ltb x 16) 256 ≡ true
 high_bits_zero = refl

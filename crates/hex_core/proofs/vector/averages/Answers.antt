@@ -1,7 +1,8 @@
 use Rattle.std.proofs.Common.{arith, ◌∙◌, subst, sym, Fits, w8}
+use Rattle.std.proofs.lemmas.List.{map-id}
 use Rattle.std.proofs.lemmas.Simd.{shifts_fit_splat}
 use lib.Lanes.{Each1}
-use Rattle.hex_core.proofs.LaneLemmas.{averages_fit, averages_of, map_id}
+use Rattle.hex_core.proofs.LaneLemmas.{averages_fit, averages_of}
 use Rattle.hex_core.proofs.vector.averages.Goals as goal
 
 pub overflow_shr-result : goal.overflow_shr-result
@@ -11,4 +12,4 @@ pub overflow_cast-result : goal.overflow_cast-result
 overflow_cast-result g c = subst (Each1 (Fits w8)) (sym (averages_of c.args.a c.args.b g.row.N c.fits-a c.fits-b)) (averages_fit c.args.a c.args.b c.fits-a.1 c.fits-b.1)
 
 pub returns : goal.returns
-returns g c = map_id _ ∙ averages_of c.args.a c.args.b g.row.N c.fits-a c.fits-b
+returns g c = map-id _ ∙ averages_of c.args.a c.args.b g.row.N c.fits-a c.fits-b

@@ -1,7 +1,8 @@
 use Rattle.std.proofs.Common.{◌*◌, ◌/◌, ◌%◌, ◌^◌, arith, ◌∙◌, subst, sym, Fits, w8}
+use Rattle.std.proofs.lemmas.List.{map-id}
 use Rattle.std.proofs.lemmas.Simd.{shifts_fit_splat}
 use lib.Lanes.{Each1}
-use Rattle.hex_core.proofs.LaneLemmas.{map_id, pair_bytes_fit, splat_twice}
+use Rattle.hex_core.proofs.LaneLemmas.{pair_bytes_fit, splat_twice}
 use Rattle.hex_core.proofs.vector.pair_bytes.Goals as goal
 
 pub overflow_shr-result : goal.overflow_shr-result
@@ -12,4 +13,4 @@ overflow_cast-result g c =
     subst (Each1 (Fits w8)) (sym (splat_twice (λ a b. a * b % 2 ^ 16) (λ a b. a / 2 ^ b) c.args.v g.row.N 4097 8 c.fits-v.0)) (pair_bytes_fit c.args.v)
 
 pub returns : goal.returns
-returns g c = map_id _ ∙ splat_twice (λ a b. a * b % 2 ^ 16) (λ a b. a / 2 ^ b) c.args.v g.row.N 4097 8 c.fits-v.0
+returns g c = map-id _ ∙ splat_twice (λ a b. a * b % 2 ^ 16) (λ a b. a / 2 ^ b) c.args.v g.row.N 4097 8 c.fits-v.0
