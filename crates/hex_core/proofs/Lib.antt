@@ -1,7 +1,6 @@
 pub mod AsciiLemmas
 pub mod BlockLemmas
 pub mod ByteLemmas
-pub mod FrontLemmas
 pub mod Fronts
 pub mod HashLemmas
 pub mod JoinLemmas

@@ -13,6 +13,3 @@ packed-requires-clause-low c = (value-entry c.args.case _ _ c.values_of-values.e
 
 pub bytes-preserved : goal.bytes-preserved
 bytes-preserved c = Spells-more c.args.case _ c.args.src.now c.bytes.dst c.bytes.i c.packed.result c.values_of-values.ensures (λ k. (c.type_inv.src k).fits) c.requires.valid (omega arith) (omega arith) c.packed.ensures c.bytes.invariant
-
-pub returns : goal.returns
-returns c = record { twice = omega arith; each = λ k lt. c.bytes.invariant k (omega arith) }

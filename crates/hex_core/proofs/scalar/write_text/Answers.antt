@@ -6,12 +6,3 @@ use Rattle.hex_core.proofs.scalar.write_text.Goals as goal
 
 pub digits-preserved : goal.digits-preserved
 digits-preserved c = text-more c.args.upper _ c.args.src.now c.digits.dst c.digits.i c.digit_pairs_of-digits.ensures (c.type_inv.src c.digits.i).fits (omega arith) (c.digits.auto.dst ∙ c.requires) c.digits.invariant
-
-pub digits-init : goal.digits-init
-digits-init c = refl
-
-pub returns : goal.returns
-returns c =
-    let written : take (2 * c.digits.i) c.digits.dst ≡ c.digits.dst = take_all (2 * c.digits.i) c.digits.dst (omega arith) in
-    let read : take c.digits.i c.args.src.now ≡ c.args.src.now = take_all c.digits.i c.args.src.now (omega arith) in
-    sym written ∙ c.digits.invariant ∙ ap (text c.args.upper) read

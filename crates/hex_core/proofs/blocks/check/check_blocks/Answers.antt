@@ -5,12 +5,6 @@ use Rattle.hex_core.specs.Search.{AllValid}
 use Rattle.hex_core.proofs.BlockLemmas.{block_inside, part_fails, last_valid, whole_valid}
 use Rattle.hex_core.proofs.blocks.check.check_blocks.Goals as goal
 
-pub overflow_mul-i : goal.overflow_mul-i
-overflow_mul-i g c = omega (arith, block_inside (length c.args.src.now) g.row.N c.turns.i (omega arith) (omega arith))
-
-pub is_valid_at-requires-clause-inside : goal.is_valid_at-requires-clause-inside
-is_valid_at-requires-clause-inside g c = omega (arith, block_inside (length c.args.src.now) g.row.N c.turns.i (omega arith) (omega arith))
-
 pub returns-then-not-is_valid_at : goal.returns-then-not-is_valid_at
 returns-then-not-is_valid_at g c =
     let s = c.args.src.now in let n = g.row.N in let at = c.turns.i * n in

@@ -4,12 +4,6 @@ use Rattle.hex_core.specs.Search.{AllValid}
 use Rattle.hex_core.proofs.BlockLemmas.{block_inside, blocks_within, part_fails, rest_valid}
 use Rattle.hex_core.proofs.blocks.check.check_runs.Goals as goal
 
-pub overflow_mul-i : goal.overflow_mul-i
-overflow_mul-i g c = omega (arith, block_inside (length c.args.src.now - g.row.N) (8 * g.row.N) c.turns.i (omega arith) c.turns-test.true)
-
-pub reach_of-requires : goal.reach_of-requires
-reach_of-requires g c = omega (arith, block_inside (length c.args.src.now - g.row.N) (8 * g.row.N) c.turns.i (omega arith) c.turns-test.true)
-
 pub returns-then-not-is_low : goal.returns-then-not-is_low
 returns-then-not-is_low g c =
     let s = c.args.src.now in let run = 8 * g.row.N in let at = c.turns.i * run in

@@ -14,21 +14,6 @@ turns-preserved g c =
       decoded = decodes_next c.turns.i size c.turns.invariant.decoded block;
     }
 
-pub turns-init : goal.turns-init
-turns-init g c = record {
-  valid = λ k low lt. absurd (omega arith);
-  decoded = decodes_none (omega arith);
-}
-
-pub overflow_mul-i : goal.overflow_mul-i
-overflow_mul-i g c = omega (arith, block_inside (length c.args.dst.now) g.row.SIZE c.turns.i (omega arith) (omega arith))
-
-pub decode_at-requires : goal.decode_at-requires
-decode_at-requires g c = (omega arith, omega (arith, block_inside (length c.args.dst.now) g.row.SIZE c.turns.i (omega arith) (omega arith)))
-
-pub overflow_mul-result : goal.overflow_mul-result
-overflow_mul-result g c = omega (arith, block_inside (length c.args.dst.now) g.row.SIZE c.turns.i (omega arith) (omega arith))
-
 pub returns-then-not-decode_at : goal.returns-then-not-decode_at
 returns-then-not-decode_at g c =
     let same : c.decode_at.new.dst ≡ c.turns.dst = OnFalse_at c.if-not-decode_at.true c.decode_at.ensures.2 in
@@ -39,9 +24,6 @@ returns-then-not-decode_at g c =
       stopped = λ inside valid. let t = c.decode_at.ensures.0.1 valid in cc;
       decoded = rw same c.turns.invariant.decoded;
     }
-
-pub overflow_mul-result-2 : goal.overflow_mul-result-2
-overflow_mul-result-2 g c = omega (arith, blocks_within (length c.args.dst.now) g.row.SIZE (length c.args.dst.now / g.row.SIZE) (omega arith) (omega arith))
 
 pub returns : goal.returns
 returns g c =

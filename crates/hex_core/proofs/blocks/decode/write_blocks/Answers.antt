@@ -3,15 +3,6 @@ use Rattle.std.proofs.lemmas.Bool.Decides.{nat_tests}
 use Rattle.hex_core.proofs.BlockLemmas.{block_inside, blocks_end, blocks_past, blocks_within, decodes_next, decodes_none, decodes_over, decodes_whole}
 use Rattle.hex_core.proofs.blocks.decode.write_blocks.Goals as goal
 
-pub turns-init : goal.turns-init
-turns-init g c = decodes_none (omega arith)
-
-pub overflow_mul-i : goal.overflow_mul-i
-overflow_mul-i g c = omega (arith, block_inside (length c.args.dst.now) g.row.HALF c.turns.i (omega arith) (omega arith))
-
-pub write_at-requires-clause-room : goal.write_at-requires-clause-room
-write_at-requires-clause-room g c = (omega arith, omega (arith, block_inside (length c.args.dst.now) g.row.HALF c.turns.i (omega arith) (omega arith)))
-
 pub turns-preserved : goal.turns-preserved
 turns-preserved g c = decodes_next c.turns.i g.row.HALF c.turns.invariant c.write_at.ensures
 

@@ -3,10 +3,6 @@ use std.Logic.{↔_trans}
 use Rattle.hex_core.proofs.BlockLemmas.{block_decodes, small_valid}
 use Rattle.hex_core.proofs.blocks.decode.OneVectorDecodeBlock32.decode_at.Goals as goal
 
-pub returns-then-not-is_small : goal.returns-then-not-is_small
-returns-then-not-is_small c =
-    (rw c.if-not-is_small.true at (↔_trans c.is_small.ensures (small_valid (2 * c.args.at + 2 * 32) c.nibbles_at-block.ensures refl)), tt, refl)
-
 pub returns : goal.returns
 returns c =
     let test = ↔_trans c.is_small.ensures (small_valid (2 * c.args.at + 2 * 32) c.nibbles_at-block.ensures refl) in

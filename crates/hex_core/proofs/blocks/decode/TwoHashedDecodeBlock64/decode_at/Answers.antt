@@ -3,11 +3,6 @@ use std.Logic.{↔_trans}
 use Rattle.hex_core.proofs.BlockLemmas.{pair_decodes, pair_valid}
 use Rattle.hex_core.proofs.blocks.decode.TwoHashedDecodeBlock64.decode_at.Goals as goal
 
-pub returns-then-not-is_small : goal.returns-then-not-is_small
-returns-then-not-is_small c =
-    let both = pair_valid (2 * c.args.at + 2 * 64) c.either.ensures.small c.nibbles_at-front.ensures c.nibbles_at-back.ensures (omega arith) (omega arith) (omega arith) in
-    (rw c.if-not-is_small.true at (↔_trans c.is_small.ensures both), tt, refl)
-
 pub returns : goal.returns
 returns c =
     let front = c.nibbles_at-front.ensures in let back = c.nibbles_at-back.ensures in let at = c.args.at in
