@@ -13,10 +13,10 @@ use Rattle.hex_core.specs.declared.error.Error.TheVariants.{InvalidChar, OddLeng
 use Rattle.hex_core.specs.Digit.{value}
 use Rattle.hex_core.specs.Refusal.{decode_refusal, first_bad_char, source_refusal}
 use Rattle.hex_core.specs.Search.{first_invalid}
-use Rattle.hex_core.specs.Text.{Spells, with_front}
+use Rattle.hex_core.specs.Text.{Spells, SpellsAt, with_front}
 use Rattle.hex_core.proofs.BlockLemmas.{valid_range}
 use Rattle.hex_core.proofs.ByteLemmas.{value_small}
-use Rattle.hex_core.proofs.JoinLemmas.{PairAt, bad-behind, spells-joined, spells-pairs, valid-both, valid-parts}
+use Rattle.hex_core.proofs.JoinLemmas.{bad-behind, spells-joined, valid-both, valid-parts}
 use Rattle.hex_core.proofs.LawProofs.{valid-spelled}
 use Rattle.hex_core.proofs.SearchLemmas.{first_invalid_none, none_valid, part_is_valid}
 use Rattle.hex_codec.proofs.ListLemmas.{put-behind}
@@ -26,7 +26,7 @@ use Rattle.hex_codec.specs.Stream.{SpellsBut, bad_char_behind, feed_refusal, pai
 
 -- no digit spells no byte
 pub nothing-spelled : (c : CheckCase) → Spells c [] []
-nothing-spelled c = spells-pairs c [] [] refl (λ i lt. absurd (omega (arith, lt)))
+nothing-spelled c = record { twice = refl; each = λ i lt. absurd (omega arith) }
 
 -- two digits spell the byte of their values
 pub pair-spelled : (c : CheckCase) (high low h l : ℕ) → value c high ≡ Some h → value c low ≡ Some l → Spells c (high ∷ low ∷ []) ((16 * h + l) ∷ [])
@@ -35,10 +35,12 @@ pair-spelled c high low h l first second =
     let below = value_small c low l second in
     let quotient : h ≡ (16 * h + l) / 16 = omega (arith, above, below) in
     let remainder : l ≡ (16 * h + l) % 16 = omega (arith, above, below) in
-    spells-pairs c (high ∷ low ∷ []) ((16 * h + l) ∷ []) refl (λ i lt.
-    let at : 0 ≡ i = omega (arith, lt) in
-    let pair : PairAt c (high ∷ low ∷ []) 0 (16 * h + l) = record { high = first ∙ ap (λ n. Some n) quotient; low = second ∙ ap (λ n. Some n) remainder } in
-    subst (λ k. PairAt c (high ∷ low ∷ []) (2 * k) (slice_index ((16 * h + l) ∷ []) k)) at pair)
+    record {
+      twice = refl;
+      each = λ i lt.
+          let at : 0 ≡ i = omega arith in
+          subst (SpellsAt c (high ∷ low ∷ []) ((16 * h + l) ∷ [])) at (record { high = first ∙ ap (λ n. Some n) quotient; low = second ∙ ap (λ n. Some n) remainder });
+    }
 
 -- a source is not valid where one of its bytes has no value
 pub invalid-at : (c : CheckCase) (s : List ℕ) (k : ℕ) → k < length s → value c (slice_index s k) ≡ None → first_invalid c s ≢ None

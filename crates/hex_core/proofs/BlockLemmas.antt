@@ -173,7 +173,7 @@ pub block_decodes : {c : CheckCase} {s old new v : List ℕ} {at from end n : �
     → n ≡ 2 * w → from ≡ 2 * at → end ≡ at + w → end ≤ length old → DecodesRange c s old new at end
 block_decodes {c} {s} {old} {new} {v} {at} {from} {end} {n} w are small is even twice whole room =
     let long : length v ≡ n = are.long in
-    let all : length (packed v) ≡ w = length-packed w v (omega arith) in
+    let all : length (packed v) ≡ w = omega (arith, length-packed v) in
     let digit : (i m : ℕ) → from + i ≡ m → i < n → value c (get_or s m 0) ≡ Some (get_or v i 0) = λ i m place h.
     rw (← place) (digit_of _ (get_or v i 0) (are.each i h) (small i (omega arith))) in
     record {
@@ -200,7 +200,7 @@ pub decodes_over : {c : CheckCase} {s old mid new : List ℕ} {first middle star
 decodes_over {c} {s} {old} {mid} {new} {first} {middle} {start} one two from le to = record {
   decoded = λ k low lt.
       elim (cases_lt k start) [
-        | inl before ↦ spelled_along c s s mid new k k refl refl (two.before k before) (one.decoded k low (omega arith))
+        | inl before ↦ spelled_along (one.decoded k low (omega arith)) refl refl (two.before k before)
         | inr past ↦ two.decoded k past lt
       ];
   before = λ k lt. two.before k (omega arith) ∙ one.before k lt;

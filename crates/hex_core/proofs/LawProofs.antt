@@ -1,5 +1,5 @@
 -- The laws of digits, texts and what they spell.
-use Rattle.std.proofs.Common.{◌≡◌, ℕ, List, ◌+◌, ◌*◌, ◌/◌, ◌%◌, ◌<◌, ◌↔◌, ◌==◌, length, map, get_or, Bool, true, false, None, Some, unwrap_or, refl, sym, subst, ◌∙◌, ap, arith, zero-add, inl, inr}
+use Rattle.std.proofs.Common.{◌≡◌, ℕ, List, ◌+◌, ◌*◌, ◌/◌, ◌%◌, ◌<◌, ◌↔◌, ◌==◌, length, map, get_or, Bool, true, false, None, Some, is_none, unwrap_or, refl, sym, subst, ◌∙◌, ap, arith, zero-add, inl, inr}
 use Rattle.std.proofs.lemmas.Bool.{cases_lt}
 use Rattle.std.proofs.lemmas.Bool.Decides.{nat_tests}
 use Rattle.std.proofs.lemmas.Grind.{same_number_lists}
@@ -23,13 +23,9 @@ use Rattle.hex_core.proofs.TableLemmas.{value_at}
 use Rattle.hex_core.proofs.TextLemmas.{digits-at, length-text}
 
 -- a digit is read as its number, under the policy of its case and under either
-value-digit : (upper : Bool) (n : ℕ) → n < 16 → value (strict upper) (digit upper n) ≡ Some n
-value-digit true n h = grind (arith, nat_tests)
-value-digit false n h = grind (arith, nat_tests)
-
-value-digit_either : (upper : Bool) (n : ℕ) → n < 16 → value policy.None (digit upper n) ≡ Some n
-value-digit_either true n h = grind (arith, nat_tests)
-value-digit_either false n h = grind (arith, nat_tests)
+value-digit : (upper : Bool) (n : ℕ) → n < 16 → (value (strict upper) (digit upper n) ≡ Some n) × (value policy.None (digit upper n) ≡ Some n)
+value-digit true n h = (grind (arith, nat_tests), grind (arith, nat_tests))
+value-digit false n h = (grind (arith, nat_tests), grind (arith, nat_tests))
 
 -- a byte that a strict policy reads is the digit of its value
 digit-value : (upper : Bool) (b n : ℕ) → value (strict upper) b ≡ Some n → digit upper n ≡ b
@@ -55,26 +51,17 @@ spelled c s even none =
     let n = length s / 2 in
     let bytes : List ℕ = map (pairs c s) (range_with_len 0 n) in
     let size : length bytes ≡ n = length-map-range_with_len (pairs c s) 0 n in
-    let at : (i : ℕ) → i < length bytes → get_or bytes i 0 ≡ pairs c s i = λ i lt. get_or-map-range_with_len (pairs c s) 0 n i i 0
-    (rw size at lt) (zero-add i) in
-    let high : (i : ℕ) → i < length bytes → (value c (get_or s (2 * i) 0) ≡ Some (unwrap_or (value c (get_or s (2 * i) 0)) 255)) × (unwrap_or
-    (value c (get_or s (2 * i) 0)) 255 < 16) =
-    λ i lt. value_at c (get_or s (2 * i) 0) (has_value c s (2 * i) none (omega (arith, size))) in
-    let low : (i : ℕ) → i < length bytes → (value c (get_or s (2 * i + 1) 0) ≡ Some (unwrap_or (value c (get_or s (2 * i + 1) 0)) 255)) × (unwrap_or
-    (value c (get_or s (2 * i + 1) 0)) 255 < 16) =
-    λ i lt. value_at c (get_or s (2 * i + 1) 0) (has_value c s (2 * i + 1) none (omega (arith, size))) in (
+    let digit : (k : ℕ) → k < length s → (value c (get_or s k 0) ≡ Some (unwrap_or (value c (get_or s k 0)) 255)) × (unwrap_or (value c (get_or s k 0)) 255 < 16) =
+    λ k lt. value_at c (get_or s k 0) (has_value c s k none lt) in (
       bytes,
       record {
         twice = omega (arith, size);
         each = λ i lt.
-            let h = high i lt in let l = low i lt in
-            record { high = h.0 ∙ ap Some (omega (arith, at i lt, h.1, l.1)); low = l.0 ∙ ap Some (omega (arith, at i lt, h.1, l.1)) };
+            let at : get_or bytes i 0 ≡ pairs c s i = get_or-map-range_with_len (pairs c s) 0 n i i 0 (rw size at lt) (zero-add i) in
+            let h = digit (2 * i) (omega (arith, size)) in let l = digit (2 * i + 1) (omega (arith, size)) in
+            record { high = h.0 ∙ ap Some (omega (arith, at, h.1, l.1)); low = l.0 ∙ ap Some (omega (arith, at, h.1, l.1)) };
       },
     )
-
--- a byte with a value does not lack one
-valued : (c : CheckCase) (b n : ℕ) → value c b ≡ Some n → lacks c b ≡ false
-valued c b n e = rw e refl
 
 -- what holds at both places of each pair holds at every place
 by_pairs : (P : ℕ → Type 0) (n : ℕ) → ((i : ℕ) → i < n → P (2 * i) × P (2 * i + 1)) → (k : ℕ) → k < 2 * n → P k
@@ -87,23 +74,15 @@ by_pairs P n pairs k lt =
 
 pub valid-spelled : (c : CheckCase) (s bytes : List ℕ) → Spells c s bytes → first_invalid c s ≡ None
 valid-spelled c s bytes h = position_none (lacks c) s (λ k lt.
-    by_pairs (λ n. lacks c (get_or s n 0) ≡ false) (length bytes) (λ i small. let is = h.each i small in (
-      valued c (get_or s (2 * i) 0)
-          (get_or bytes i 0 / 16) is.high,
-      valued c (get_or s (2 * i + 1) 0) (get_or bytes i 0 % 16) is.low,
-    ))
-    k (omega (arith, lt, h.twice)))
+    by_pairs (λ n. lacks c (get_or s n 0) ≡ false) (length bytes) (λ i small. (ap is_none (h.each i small).high, ap is_none (h.each i small).low)) k (omega (arith, lt, h.twice)))
 
--- where nothing is refused the length is even and there is no invalid byte, and the other way round
-accepted-parts : (c : CheckCase) (s : List ℕ) → source_refusal c s ≡ None → (length s % 2 ≡ 0) × (first_invalid c s ≡ None)
-accepted-parts c s h = (grind (arith, nat_tests, h), grind (arith, nat_tests, h))
-
+-- nothing is refused where the length is even and there is no invalid byte, and the other way round
 accepted-whole : (c : CheckCase) (s : List ℕ) → length s % 2 ≡ 0 → first_invalid c s ≡ None → source_refusal c s ≡ None
 accepted-whole c s even none = let test : (length s % 2 == 1) ≡ false = grind (arith, nat_tests) in rw (test, none) refl
 
 pub accepts_what_spells : (c : CheckCase) (s : List ℕ) → (source_refusal c s ≡ None) ↔ ((bytes : List ℕ) × Spells c s bytes)
 accepts_what_spells c s = (
-  λ h. let parts = accepted-parts c s h in spelled c s parts.0 parts.1,
+  λ h. spelled c s (grind (arith, nat_tests, h)) (grind (arith, nat_tests, h)),
   λ (bytes, h). let twice = h.twice in accepted-whole c s (omega arith) (valid-spelled c s bytes h),
 )
 
@@ -119,24 +98,16 @@ text-spells c upper bytes reads all = record {
 }
 
 pub decoding-inverts : (upper : Bool) (bytes : List ℕ) → AreBytes bytes → Spells (strict upper) (text upper bytes) bytes × Spells policy.None (text upper bytes) bytes
-decoding-inverts upper bytes all = (
-  text-spells (strict upper) upper bytes (value-digit upper) all,
-  text-spells policy.None upper bytes
-      (value-digit_either upper) all,
-)
+decoding-inverts upper bytes all =
+    (text-spells (strict upper) upper bytes (λ n h. (value-digit upper n h).0) all, text-spells policy.None upper bytes (λ n h. (value-digit upper n h).1) all)
 
 pub encoding-inverts : (upper : Bool) (s bytes : List ℕ) → Spells (strict upper) s bytes → text upper bytes ≡ s
 encoding-inverts upper s bytes h =
     let size = length-text upper bytes in
     same_number_lists (text upper bytes) s (omega (arith, size, h.twice)) (λ k lt.
-    by_pairs (λ n. get_or (text upper bytes) n 0 ≡ get_or s n 0) (length bytes)
-    (λ i small. let at = digits-at upper bytes i small in let is = h.each i small in (
-      at.0
-          ∙ digit-value upper (get_or s (2 * i) 0) (get_or bytes i 0 / 16) is.high,
-      at.1 ∙ digit-value upper (get_or s (2 * i + 1) 0)
-          (get_or bytes i 0 % 16) is.low,
-    ))
-    k (omega (arith, lt, size)))
+    by_pairs (λ n. get_or (text upper bytes) n 0 ≡ get_or s n 0) (length bytes) (λ i small.
+    let at = digits-at upper bytes i small in let is = h.each i small in
+    (at.0 ∙ digit-value upper _ _ is.high, at.1 ∙ digit-value upper _ _ is.low)) k (omega (arith, lt, size)))
 
 pub strict-accepts : (upper : Bool) (s : List ℕ) → (source_refusal (strict upper) s ≡ None) ↔ ((bytes : List ℕ) × AreBytes bytes × (text upper bytes ≡ s))
 strict-accepts upper s = (
@@ -148,25 +119,18 @@ strict-accepts upper s = (
 lowercased-at : (s : List ℕ) (k : ℕ) → k < length s → value policy.Lower (get_or (str_to_ascii_lowercase s) k 0) ≡ value policy.None (get_or s k 0)
 lowercased-at s k lt = rw (get_or-map to_ascii_lowercase s k 0 0 lt) (value-lowercased (get_or s k 0))
 
+spells-along : (c d : CheckCase) (s t bytes : List ℕ) → length t ≡ length s → ((k : ℕ) → k < length s → value d (get_or t k 0) ≡ value c (get_or s k 0)) → Spells c s bytes → Spells d t bytes
+spells-along c d s t bytes same read h =
+    let twice = h.twice in record {
+      twice = same ∙ twice;
+      each = λ i lt. record { high = read (2 * i) (omega arith) ∙ (h.each i lt).high; low = read (2 * i + 1) (omega arith) ∙ (h.each i lt).low };
+    }
+
 pub either-lowercased : (s bytes : List ℕ) → Spells policy.None s bytes ↔ Spells policy.Lower (str_to_ascii_lowercase s) bytes
 either-lowercased s bytes =
     let size : length (str_to_ascii_lowercase s) ≡ length s = length-map s to_ascii_lowercase in (
-      λ h. let twice = h.twice in record {
-        twice = omega (arith, size);
-        each = λ i lt. record {
-          high = lowercased-at s (2 * i) (omega arith) ∙ (h.each i lt).high;
-          low = lowercased-at s (2 * i + 1) (omega arith)
-              ∙ (h.each i lt).low;
-        };
-      },
-      λ h. let twice = h.twice in let same : length s ≡ 2 * length bytes = omega (arith, size) in record {
-        twice = same;
-        each = λ i lt. record {
-          high = sym (lowercased-at s (2 * i) (omega arith)) ∙ (h.each i lt).high;
-          low = sym
-              (lowercased-at s (2 * i + 1) (omega arith)) ∙ (h.each i lt).low;
-        };
-      },
+      spells-along _ _ s (str_to_ascii_lowercase s) bytes size (lowercased-at s),
+      spells-along _ _ (str_to_ascii_lowercase s) s bytes (sym size) (λ k lt. sym (lowercased-at s k (rw size at lt))),
     )
 
 pub encoding-lowercases : (s bytes : List ℕ) → Spells policy.None s bytes → text lowercase bytes ≡ str_to_ascii_lowercase s

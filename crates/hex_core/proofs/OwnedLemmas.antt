@@ -4,15 +4,15 @@ use Rattle.std.specs.Prelude.{slice_range, unwrap_or, option_map}
 use Rattle.std.proofs.Math.Nat.{le-div_iff_mul-le}
 use Rattle.std.proofs.lemmas.Bool.{cases_lt}
 use Rattle.std.proofs.lemmas.Grind.{common_steps}
-use Rattle.std.proofs.lemmas.List.{ext_get_or, length-take, take-append-drop}
+use Rattle.std.proofs.lemmas.List.{ext_get_or, get_or-drop, get_or-take, length-take-le, take-append-drop}
 use borrow.Rule.Slice.PartMut.{put_mid}
 use Rattle.hex_core.specs.declared.digit.CheckCase.{CheckCase}
-use Rattle.hex_core.specs.Blocks.{DecodesRange, SpellsRange}
+use Rattle.hex_core.specs.Blocks.{DecodesRange}
 use Rattle.hex_core.specs.Search.{AllValid, first_invalid}
 use Rattle.hex_core.specs.Plans.{StoresBlocks, digits_before}
 use Rattle.hex_core.specs.Text.{Spells, with_front}
-use Rattle.hex_core.proofs.SearchLemmas.{part_at, valid_before, valid_misses}
-use Rattle.hex_core.proofs.SpellsLemmas.{spelled_along}
+use Rattle.hex_core.proofs.SearchLemmas.{first_is_first, part_at, valid_before, valid_misses}
+use Rattle.hex_core.proofs.SpellsLemmas.{front_spells, spelled_along}
 
 -- ---- a part that is decoded, seen in the whole
 
@@ -38,8 +38,8 @@ part_decoded c s old part from twice inside long spells =
     record {
       decoded = λ k low lt.
           let j = k - from in
-          spelled_along c rest s part new j k (digit (2 * j) (2 * k) (omega arith) (omega arith)) (digit (2 * j + 1) (2 * k + 1) (omega arith) (omega arith))
-          (put_part old part from (length old - from) k low (omega arith) inside) (spells.each j (omega arith));
+          spelled_along (spells.each j (omega arith)) (digit (2 * j) (2 * k) (omega arith) (omega arith)) (digit (2 * j + 1) (2 * k + 1) (omega arith) (omega arith))
+          (put_part old part from (length old - from) k low (omega arith) inside);
       before = λ k lt. put_before old part from (length old - from) k lt inside;
       behind = λ k h. grind (arith, common_steps);
     }
@@ -47,13 +47,10 @@ part_decoded c s old part from twice inside long spells =
 -- ---- the first invalid byte behind whole blocks
 
 -- it is in the block that stopped
-first_invalid_inside : (c : CheckCase) (s : List ℕ) (f : ℕ) → first_invalid c s ≡ Some f → f < length s
-first_invalid_inside c s f e = grind (arith, common_steps)
-
 first_invalid_after : (c : CheckCase) (s : List ℕ) (done block f : ℕ) → first_invalid c s ≡ Some f → AllValid c s 0 done
     → (done + block ≤ length s → ¬ AllValid c s done (done + block)) → (done ≤ f) × (f < done + block)
 first_invalid_after c s done block f e front stopped =
-    let inside = first_invalid_inside c s f e in (
+    let inside = (first_is_first c s f e).0 in (
       valid_misses c s f 0 done e front (omega arith),
       elim (cases_lt f (done + block)) [
         | inl lt ↦ lt
@@ -81,28 +78,12 @@ digits_are c s i block done None e is bad some front stopped = absurd (bad refl)
 
 -- ---- what a refusal leaves
 
-front_spelled : (c : CheckCase) (s mid : List ℕ) (from : ℕ) → length s ≡ 2 * length mid → from ≤ length mid → SpellsRange c s mid 0 from
-    → Spells c (take (2 * from) s) (take from mid)
-front_spelled c s mid from twice inside range =
-    let long : length (take from mid) ≡ from = omega (arith, length-take from mid) in
-    let wide : length (take (2 * from) s) ≡ 2 * from = omega (arith, length-take (2 * from) s) in
-    let byte : (i : ℕ) → i < from → get_or (take from mid) i 0 ≡ get_or mid i 0 = λ i h. grind (arith, common_steps) in
-    let digit : (i : ℕ) → i < 2 * from → get_or (take (2 * from) s) i 0 ≡ get_or s i 0 = λ i h. grind (arith, common_steps) in
-    record {
-      twice = omega arith;
-      each = λ i h. spelled_along c s (take (2 * from) s) mid (take from mid) i i (digit (2 * i) (omega arith)) (digit (2 * i + 1) (omega arith))
-          (byte i (omega arith)) (range i (omega arith) (omega arith));
-    }
-
 front_kept : (old mid : List ℕ) (from : ℕ) → length mid ≡ length old → from ≤ length mid → ((k : ℕ) → from ≤ k → get_or mid k 0 ≡ get_or old k 0)
     → mid ≡ with_front old (take from mid)
 front_kept old mid from same inside behind =
-    let long : length (take from mid) ≡ from = omega (arith, length-take from mid) in
     let back : drop from mid ≡ drop from old = ext_get_or 0 (drop from mid) (drop from old) (grind (arith, common_steps)) (λ i h.
-    let a : get_or (drop from mid) i 0 ≡ get_or mid (from + i) 0 = grind (arith, common_steps) in
-    let b : get_or (drop from old) i 0 ≡ get_or old (from + i) 0 = grind (arith, common_steps) in
-    a ∙ behind (from + i) (omega arith) ∙ sym b) in
-    sym (take-append-drop from mid) ∙ ap (λ l. take from mid ++ l) (back ∙ ap (λ n. drop n old) (sym long))
+    get_or-drop from mid i 0 ∙ behind (from + i) (omega arith) ∙ sym (get_or-drop from old i 0)) in
+    sym (take-append-drop from mid) ∙ ap (λ l. take from mid ++ l) (back ∙ ap (λ n. drop n old) (sym (length-take-le from mid inside)))
 
 pub blocks_stored : (c : CheckCase) (s old new : List ℕ) (i block from : ℕ) → length s ≡ 2 * length new → length new ≡ length old
     → 2 * from ≡ i * block → from ≤ length new → 0 < block → ¬ (first_invalid c s ≡ None)
@@ -112,6 +93,6 @@ blocks_stored c s old new i block from twice same even inside some bad front sto
     let digits : digits_before block c s ≡ 2 * from = digits_are c s i block (2 * from) (first_invalid c s) refl even bad some front stopped in
     record {
       bytes = take from new;
-      spelled = rw digits (front_spelled c s new from twice inside done.decoded);
+      spelled = rw digits (front_spells c s (take (2 * from) s) new from (length-take-le (2 * from) s (omega arith)) inside (λ k lt. get_or-take (2 * from) s k 0 lt) (λ k lt. done.decoded k (omega arith) lt));
       fronted = front_kept old new from same inside done.behind;
     }

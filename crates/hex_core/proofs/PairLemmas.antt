@@ -1,46 +1,29 @@
 -- Neighbouring lanes: words of two, packed nibbles, and two vectors taken in turn.
-use Rattle.std.proofs.Common.{◌≡◌, ℕ, zero, suc, ◌+◌, ◌*◌, ◌<◌, List, [], ◌∷◌, ◌++◌, map, length, get_or, drop, Fits, w8, refl, sym, ap, ap₂, ◌∙◌, arith}
+use Rattle.std.proofs.Common.{◌≡◌, ℕ, zero, suc, ◌+◌, ◌*◌, ◌/◌, ◌<◌, List, [], ◌∷◌, ◌++◌, map, length, get_or, drop, drop-cons, refl, sym, ap, ap₂, ◌∙◌, arith}
 use Rattle.std.proofs.lemmas.List.{drop_all, get_or_append_left, get_or-append_right}
-use lib.Lanes.{Each1, number_l, digits_l, pick_l}
+use lib.Lanes.{number_l, digits_l, pick_l}
 use Rattle.hex_core.specs.Arithmetic.{interleaved, packed, pair_byte}
 use Rattle.hex_core.specs.Lanes.{ArePacked, AreSmall}
-
--- neighbours as one word, the first in its low byte
-abbrev words : List ℕ → List ℕ
-words [] = []
-words (a ∷ []) = []
-words (a ∷ b ∷ rest) = (a + 256 * b) ∷ words rest
-
--- the words of a vector's bytes, as std reads them out of one number
-words_of : (n : ℕ) (v : List ℕ) → length v ≡ 2 * n → Each1 (Fits w8) v → digits_l 65536 n (number_l 256 v) ≡ words v
-words_of zero [] e f = refl
-words_of zero (a ∷ v) e f = absurd (omega arith)
-words_of (suc n) [] e f = absurd (omega arith)
-words_of (suc n) (a ∷ []) e f = absurd (omega arith)
-words_of (suc n) (a ∷ b ∷ v) e f =
-    let A : a < 256 = f.0.fits in
-    let B : b < 256 = f.1.0.fits in
-    ap₂ (λ x r. x ∷ r) (omega arith) (ap (digits_l 65536 n) (omega arith) ∙ words_of n v (omega arith) f.1.1)
 
 one_pair : (a b : ℕ) → a < 16 → b < 16 → pair_byte (a + 256 * b) ≡ 16 * a + b
 one_pair a b A B = omega arith
 
--- the bytes of words of nibbles
-packs : (v : List ℕ) → AreSmall v → map pair_byte (words v) ≡ packed v
-packs [] small = refl
-packs (a ∷ []) small = refl
-packs (a ∷ b ∷ v) small =
-    ap₂ (λ x r. x ∷ r) (one_pair a b (small 0 (omega arith)) (small 1 (omega arith))) (packs v (λ i h. small (suc (suc i)) (omega arith)))
+-- the bytes of words of nibbles, as std reads them out of one number
+pub packs_words : (n : ℕ) (v : List ℕ) → length v ≡ 2 * n → AreSmall v → map pair_byte (digits_l 65536 n (number_l 256 v)) ≡ packed v
+packs_words zero [] e small = refl
+packs_words zero (a ∷ v) e small = absurd (omega arith)
+packs_words (suc n) [] e small = absurd (omega arith)
+packs_words (suc n) (a ∷ []) e small = absurd (omega arith)
+packs_words (suc n) (a ∷ b ∷ v) e small =
+    let A : a < 16 = small 0 (omega arith) in
+    let B : b < 16 = small 1 (omega arith) in
+    ap₂ (λ x r. x ∷ r) (ap pair_byte (omega arith) ∙ one_pair a b A B)
+    (ap (λ k. map pair_byte (digits_l 65536 n k)) (omega arith) ∙ packs_words n v (omega arith) (λ i h. small (suc (suc i)) (omega arith)))
 
-pub packs_words : (n : ℕ) (v : List ℕ) → length v ≡ 2 * n → Each1 (Fits w8) v → AreSmall v → map pair_byte (digits_l 65536 n (number_l 256 v)) ≡ packed v
-packs_words n v e f small = ap (map pair_byte) (words_of n v e f) ∙ packs v small
-
-pub length-packed : (n : ℕ) (v : List ℕ) → length v ≡ 2 * n → length (packed v) ≡ n
-length-packed zero [] e = refl
-length-packed zero (a ∷ v) e = absurd (omega arith)
-length-packed (suc n) [] e = absurd (omega arith)
-length-packed (suc n) (a ∷ []) e = absurd (omega arith)
-length-packed (suc n) (a ∷ b ∷ v) e = ap suc (length-packed n v (omega arith))
+pub length-packed : (v : List ℕ) → length (packed v) ≡ length v / 2
+length-packed [] = refl
+length-packed (a ∷ []) = refl
+length-packed (a ∷ b ∷ v) = let e = length-packed v in omega arith
 
 -- a packed byte by its pair
 pub packed_at : (v : List ℕ) (i : ℕ) → 2 * i + 1 < length v → get_or (packed v) i 0 ≡ 16 * get_or v (2 * i) 0 + get_or v (2 * i + 1) 0
@@ -54,7 +37,7 @@ packed_at (a ∷ b ∷ v) (suc i) h =
 
 pub are_packed : (v r : List ℕ) (n : ℕ) → length v ≡ 2 * n → r ≡ packed v → ArePacked v r
 are_packed v r n long is i h =
-    let half : length r ≡ n = ap length is ∙ length-packed n v long in
+    let half : length r ≡ n = ap length is ∙ omega (arith, length-packed v) in
     ap (λ l. get_or l i 0) is ∙ packed_at v i (omega arith)
 
 -- ---- two vectors in turn
@@ -64,17 +47,12 @@ abbrev pub turns : ℕ → ℕ → ℕ → List ℕ
 turns n i zero = []
 turns n i (suc m) = i ∷ (n + i) ∷ turns n (suc i) m
 
-drop_cons : (xs : List ℕ) (i : ℕ) → i < length xs → drop i xs ≡ get_or xs i 0 ∷ drop (suc i) xs
-drop_cons [] i h = absurd (omega arith)
-drop_cons (x ∷ xs) zero h = refl
-drop_cons (x ∷ xs) (suc i) h = drop_cons xs i (omega arith)
-
 pick_turns : (xs ys : List ℕ) (i m : ℕ) → length xs ≡ length ys → i + m ≡ length xs → pick_l 0 (xs ++ ys) (turns (length xs) i m) ≡ interleaved (drop i xs) (drop i ys)
 pick_turns xs ys i zero e h = sym (ap (λ l. interleaved l (drop i ys)) (drop_all i xs (omega arith)))
 pick_turns xs ys i (suc m) e h =
     ap₂ (λ a r. a ∷ r) (get_or_append_left xs ys 0 i (omega arith))
     (ap₂ (λ a r. a ∷ r) (get_or-append_right xs ys (length xs) (length xs + i) 0 refl (omega arith) ∙ ap (λ k. get_or ys k 0) (omega arith)) (pick_turns xs ys (suc i) m e (omega arith)))
-    ∙ sym (ap₂ interleaved (drop_cons xs i (omega arith)) (drop_cons ys i (omega arith)))
+    ∙ sym (ap₂ interleaved (drop-cons xs i 0 (omega arith)) (drop-cons ys i 0 (omega arith)))
 
 pub in_turn : (n : ℕ) (xs ys : List ℕ) → length xs ≡ n → length ys ≡ n → pick_l 0 (xs ++ ys) (turns n 0 n) ≡ interleaved xs ys
 in_turn n xs ys p q = ap₂ (λ k m. pick_l 0 (xs ++ ys) (turns k 0 m)) (sym p) (sym p) ∙ pick_turns xs ys 0 (length xs) (p ∙ sym q) (omega arith)

@@ -18,17 +18,12 @@ bad_char_is_first c s (Some f) e i b h =
     (cc (e, h), cc h, cc (h, none))
 bad_char_is_first c s None e i b h = absurd (cc h)
 
-bad_char_names_first : NamesFirstInvalid first_bad_char
+pub bad_char_names_first : NamesFirstInvalid first_bad_char
 bad_char_names_first c s i b h = bad_char_is_first c s (first_invalid c s) refl i b h
 
--- a refusal that is an invalid character is the first bad character
-pub decode_bad_char : (c : CheckCase) (s : List ℕ) (room i b : ℕ) → decode_refusal c s room ≡ Some (InvalidChar i b)
-    → first_bad_char c s ≡ Some (InvalidChar i b)
-decode_bad_char c s room i b h = grind (arith, nat_tests, h)
-
--- and so it names the first invalid byte
+-- a refusal that is an invalid character is that one
 pub decode_names_first : (room : ℕ) → NamesFirstInvalid (λ c s. decode_refusal c s room)
-decode_names_first room c s i b h = bad_char_names_first c s i b (decode_bad_char c s room i b h)
+decode_names_first room c s i b h = bad_char_names_first c s i b (grind (arith, nat_tests, h))
 
 pub array_names_first : (n : ℕ) → NamesFirstInvalid (λ c s. array_refusal c s n)
 array_names_first n c s i b h = bad_char_names_first c s i b (grind (arith, nat_tests, h))

@@ -1,20 +1,16 @@
 -- A shift of words of four bytes by three bits, seen in the bytes.
-use Rattle.std.proofs.Common.{◌≡◌, ℕ, zero, suc, ◌+◌, ◌*◌, ◌/◌, ◌%◌, ◌^◌, ◌<◌, ◌≤◌, List, [], ◌∷◌, map, length, get_or, refl, sym, ap, ◌∙◌, inl, inr, Fits, w8, w32, arith}
+use Rattle.std.proofs.Common.{◌≡◌, ℕ, zero, suc, ◌+◌, ◌*◌, ◌/◌, ◌%◌, ◌^◌, ◌<◌, ◌≤◌, List, [], ◌∷◌, map, length, drop-cons, get_or, refl, sym, ap, ◌∙◌, inl, inr, Fits, w8, w32, arith}
 use Rattle.std.specs.Prelude.{EachIndex}
 use Rattle.std.proofs.lemmas.Bool.{cases_lt}
 use Rattle.std.proofs.lemmas.Simd.{below_from_Fits, get_or_narrower, get_or_wider}
 use Rattle.std.proofs.lemmas.Bool.Decides.{nat_tests}
 use lib.Lanes.{Each1, chunk, digits_l, number_l}
-use Rattle.hex_core.specs.Hash.{neighbour_bits, shifted}
+use Rattle.hex_core.specs.Hash.{shifted}
 use Rattle.hex_core.proofs.LaneLemmas.{lane_below}
 
 four : (v : List ℕ) (a : ℕ) → a + 4 ≤ length v → chunk a 4 v ≡ get_or v a 0 ∷ get_or v (suc a) 0 ∷ get_or v (suc (suc a)) 0 ∷ get_or v (suc (suc (suc a))) 0 ∷ []
-four [] a h = absurd (omega arith)
-four (p ∷ []) zero h = absurd (omega arith)
-four (p ∷ q ∷ []) zero h = absurd (omega arith)
-four (p ∷ q ∷ r ∷ []) zero h = absurd (omega arith)
-four (p ∷ q ∷ r ∷ s ∷ xs) zero h = refl
-four (x ∷ xs) (suc a) h = four xs a (omega arith)
+four v a h =
+    rw (drop-cons v a 0 (omega arith), drop-cons v (suc a) 0 (omega arith), drop-cons v (suc (suc a)) 0 (omega arith), drop-cons v (suc (suc (suc a))) 0 (omega arith)) refl
 
 -- the low byte of a shifted word takes three bits of the rest, and the other bytes are the rest, shifted
 low_byte : (b rest : ℕ) → b < 256 → (b + 256 * rest) / 8 % 256 ≡ b / 8 + 32 * (rest % 8)
@@ -52,14 +48,10 @@ eighth_at (x ∷ w) (suc j) = eighth_at w j
 
 -- a lane that is not its word's last, and one that is
 inner : (v : List ℕ) (i at next : ℕ) → i ≡ at → i + 1 ≡ next → i % 4 < 3 → get_or v at 0 / 8 + 32 * (get_or v next 0 % 8) ≡ shifted v i
-inner v i at next p q h =
-    let bits : neighbour_bits v i ≡ get_or v (i + 1) 0 % 8 = grind (arith, nat_tests) in
-    rw (← p, ← q) (ap (λ k. get_or v i 0 / 8 + 32 * k) (sym bits))
+inner v i at next p q h = rw (← p, ← q) (grind (arith, nat_tests))
 
 last : (v : List ℕ) (i at : ℕ) → i ≡ at → i % 4 ≡ 3 → get_or v at 0 / 8 + 32 * 0 ≡ shifted v i
-last v i at p h =
-    let bits : neighbour_bits v i ≡ 0 = grind (arith, nat_tests) in
-    rw (← p) (ap (λ k. get_or v i 0 / 8 + 32 * k) (sym bits))
+last v i at p h = rw (← p) (grind (arith, nat_tests))
 
 -- the bytes of v are read as words, and the bytes of their eighths e are written
 pub shifted_lane : (v e : List ℕ) (n : ℕ) → (length v ≡ 4 * n) × Each1 (Fits w8) v → e ≡ map (λ x. x / 8) (digits_l 4294967296 n (number_l 256 v)) → Each1 (λ x. x < 2 ^ 32) e

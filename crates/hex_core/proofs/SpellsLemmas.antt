@@ -1,8 +1,7 @@
 -- Steps of a list that a text spells.
 use Rattle.std.proofs.Common.{◌≡◌, ℕ, List, None, ◌+◌, ◌*◌, ◌/◌, ◌%◌, ◌<◌, ◌≤◌, Some, length, get_or, take, refl, arith}
 use Rattle.std.proofs.Math.ListN.{set}
-use Rattle.std.proofs.lemmas.Grind.{common_steps}
-use Rattle.std.proofs.lemmas.List.{get_or-set_same, get_or-set_other, length-take}
+use Rattle.std.proofs.lemmas.List.{get_or-set_same, get_or-set_other, get_or-take, length-take-le}
 use borrow.Author.Count.{below_more}
 use Rattle.hex_core.proofs.SearchLemmas.{has_value}
 use Rattle.hex_core.proofs.TableLemmas.{value-entry}
@@ -16,10 +15,9 @@ abbrev pub SpellsBelow : CheckCase → List ℕ → List ℕ → ℕ → Type 0
 SpellsBelow c s bytes n = (k : ℕ) → k < n → SpellsAt c s bytes k
 
 -- a pair of digits spells a byte wherever both stand
-pub spelled_along : (c : CheckCase) (s t old new : List ℕ) (i k : ℕ) → get_or t (2 * k) 0 ≡ get_or s (2 * i) 0
-    → get_or t (2 * k + 1) 0 ≡ get_or s (2 * i + 1) 0 → get_or new k 0 ≡ get_or old i 0
-    → SpellsAt c s old i → SpellsAt c t new k
-spelled_along c s t old new i k high low byte is = record { high = rw (high, byte) is.high; low = rw (low, byte) is.low }
+pub spelled_along : {c : CheckCase} {s t old new : List ℕ} {i k : ℕ} → SpellsAt c s old i → get_or t (2 * k) 0 ≡ get_or s (2 * i) 0
+    → get_or t (2 * k + 1) 0 ≡ get_or s (2 * i + 1) 0 → get_or new k 0 ≡ get_or old i 0 → SpellsAt c t new k
+spelled_along is high low byte = record { high = rw (high, byte) is.high; low = rw (low, byte) is.low }
 
 -- the next byte is packed from the values of its pair
 pub Spells-pair : (c : CheckCase) (s bytes : List ℕ) (i v high low : ℕ) → (value c (get_or s (2 * i) 0) ≡ Some high) × (high < 16) → (value c (get_or s (2 * i + 1) 0) ≡ Some low) × (low < 16) → i < length bytes → v ≡ 16 * high + low
@@ -29,7 +27,7 @@ Spells-pair c s bytes i v high low first second h packed below =
     let remainder : v % 16 ≡ low = omega (arith, first.1, second.1) in
     let e : get_or (set bytes i v) i 0 ≡ v = get_or-set_same bytes i v 0 h in
     below_more (λ (k : ℕ). SpellsAt c s (set bytes i v) k) i
-    (λ k lt. spelled_along c s s bytes (set bytes i v) k k refl refl (get_or-set_other bytes i k v 0 (λ x. absurd (omega arith))) (below k lt))
+    (λ k lt. spelled_along (below k lt) refl refl (get_or-set_other bytes i k v 0 (λ x. absurd (omega arith))))
     (record { high = rw (e, quotient) first.0; low = rw (e, remainder) second.0 })
 
 -- or from their entries, where each byte of the source has a value
@@ -41,11 +39,14 @@ Spells-more c table s bytes i v is byte none twice h packed below =
     let low = value-entry c table (get_or s (2 * i + 1) 0) is (byte (2 * i + 1)) (has_value c s (2 * i + 1) none (omega arith)) in
     Spells-pair c s bytes i v (get_or table (get_or s (2 * i) 0) 0) (get_or table (get_or s (2 * i + 1) 0) 0) high low h packed below
 
--- the front of a list whose first bytes are spelled
-pub Spells-front : (c : CheckCase) (s kept : List ℕ) (n : ℕ) → length s ≡ 2 * n → n ≤ length kept → SpellsBelow c s kept n → Spells c s (take n kept)
-Spells-front c s kept n twice inside below =
-    let long : length (take n kept) ≡ n = omega (arith, length-take n kept) in
+-- the front of a list whose first bytes are spelled, by a source that begins like another
+pub front_spells : (c : CheckCase) (s t kept : List ℕ) (n : ℕ) → length t ≡ 2 * n → n ≤ length kept → ((k : ℕ) → k < 2 * n → get_or t k 0 ≡ get_or s k 0)
+    → SpellsBelow c s kept n → Spells c t (take n kept)
+front_spells c s t kept n twice inside same below =
+    let long : length (take n kept) ≡ n = length-take-le n kept inside in
     record {
       twice = omega arith;
-      each = λ i h. spelled_along c s s kept (take n kept) i i refl refl (grind (arith, common_steps)) (below i (omega arith));
+      each = λ i h.
+          let lt : i < n = omega arith in
+          spelled_along (below i lt) (same (2 * i) (omega arith)) (same (2 * i + 1) (omega arith)) (get_or-take n kept i 0 lt);
     }

@@ -5,7 +5,7 @@ use Rattle.hex_core.specs.Search.{first_invalid}
 use Rattle.hex_core.specs.Text.{Spells}
 use Rattle.hex_core.proofs.LawProofs.{valid-spelled}
 use Rattle.hex_core.proofs.SearchLemmas.{has_value}
-use Rattle.hex_core.proofs.SpellsLemmas.{Spells-front, Spells-pair}
+use Rattle.hex_core.proofs.SpellsLemmas.{Spells-pair, front_spells}
 use Rattle.hex_core.proofs.TableLemmas.{pair_entries, value-entry}
 use Rattle.hex_core.proofs.scalar.decode_short.Goals as goal
 use Rattle.hex_core.proofs.scalar.decode_short.Goals.{then-high-via-then-high, then-high-via-else-high+then-low}
@@ -39,5 +39,5 @@ pairs-preserved c =
 pub returns : goal.returns
 returns c =
     let n = length c.args.dst.now in
-    let spells : Spells c.args.case c.args.src.now (take n c.pairs.kept) = Spells-front c.args.case c.args.src.now c.pairs.kept n (omega arith) (omega (arith, c.pairs.invariant.size)) (λ k lt. c.pairs.invariant.spelled k (omega arith)) in
+    let spells : Spells c.args.case c.args.src.now (take n c.pairs.kept) = front_spells c.args.case c.args.src.now c.args.src.now c.pairs.kept n (omega arith) (omega (arith, c.pairs.invariant.size)) (λ k lt. refl) (λ k lt. c.pairs.invariant.spelled k (omega arith)) in
     (valid-spelled c.args.case c.args.src.now (take n c.pairs.kept) spells, rw c.copy_from_slice.ensures.after spells)
