@@ -13,7 +13,7 @@ use Rattle.hex_core.specs.Blocks.{DecodesRange, NibblesFrom}
 use Rattle.hex_core.specs.Digit.{value}
 use Rattle.hex_core.specs.Search.{AllValid, first_invalid}
 use Rattle.hex_core.specs.Lanes.{AreNibbles, AreSmall, IsNibble}
-use Rattle.hex_core.specs.Text.{Spells, SpellsAt}
+use Rattle.hex_core.specs.Text.{Spells}
 use Rattle.hex_core.proofs.ByteLemmas.{valid_value, value_small}
 use Rattle.hex_core.proofs.LaneLemmas.{mapped_at}
 use Rattle.hex_core.proofs.PairLemmas.{length-packed, packed_at}

@@ -1,5 +1,5 @@
 -- A shift of words of four bytes by three bits, seen in the bytes.
-use Rattle.std.proofs.Common.{◌≡◌, ℕ, zero, suc, ◌+◌, ◌*◌, ◌/◌, ◌%◌, ◌^◌, ◌<◌, ◌≤◌, List, [], ◌∷◌, map, length, drop-cons, get_or, refl, sym, ap, ◌∙◌, inl, inr, Fits, w8, w32, arith}
+use Rattle.std.proofs.Common.{◌≡◌, ℕ, zero, suc, ◌+◌, ◌*◌, ◌/◌, ◌%◌, ◌^◌, ◌<◌, ◌≤◌, List, [], ◌∷◌, map, length, drop-cons, get_or, refl, ap, ◌∙◌, inl, inr, Fits, w8, w32, arith}
 use Rattle.std.specs.Prelude.{EachIndex}
 use Rattle.std.proofs.lemmas.Bool.{cases_lt}
 use Rattle.std.proofs.lemmas.Simd.{below_from_Fits, get_or_narrower, get_or_wider}

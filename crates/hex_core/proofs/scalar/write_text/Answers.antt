@@ -1,6 +1,5 @@
 -- Each turn writes the digits of one more byte.
-use Rattle.std.proofs.Common.{refl, arith, ◌≡◌, ◌*◌, sym, ◌∙◌, ap, take, take_all}
-use Rattle.hex_core.specs.Text.{text}
+use Rattle.std.proofs.Common.{arith, ◌∙◌}
 use Rattle.hex_core.proofs.TextLemmas.{text-more}
 use Rattle.hex_core.proofs.scalar.write_text.Goals as goal
 

@@ -1,7 +1,7 @@
 use Rattle.std.proofs.Common.{◌≡◌, ◌+◌, ◌*◌, ◌/◌, length, refl, arith}
 use Rattle.std.proofs.lemmas.Bool.{OnFalse_at, OnTrue_at}
 use Rattle.hex_core.specs.Blocks.{DecodesRange}
-use Rattle.hex_core.proofs.BlockLemmas.{block_inside, blocks_past, blocks_within, decodes_next, decodes_none, valid_over}
+use Rattle.hex_core.proofs.BlockLemmas.{block_inside, blocks_past, blocks_within, decodes_next, valid_over}
 use Rattle.hex_core.proofs.blocks.decode.decode_blocks.Goals as goal
 
 pub turns-preserved : goal.turns-preserved

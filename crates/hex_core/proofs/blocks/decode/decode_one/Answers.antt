@@ -1,4 +1,4 @@
-use Rattle.std.proofs.Common.{◌+◌, refl, arith}
+use Rattle.std.proofs.Common.{refl, arith}
 use Rattle.std.proofs.lemmas.Bool.{iff_false}
 use std.Logic.{↔_trans}
 use Rattle.hex_core.proofs.BlockLemmas.{block_decodes, decodes_whole, small_valid, valid_whole}

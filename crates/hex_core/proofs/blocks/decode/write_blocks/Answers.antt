@@ -1,6 +1,6 @@
 use Rattle.std.proofs.Common.{◌≡◌, ◌/◌, length, sym, ◌∙◌, arith}
 use Rattle.std.proofs.lemmas.Bool.Decides.{nat_tests}
-use Rattle.hex_core.proofs.BlockLemmas.{block_inside, blocks_end, blocks_past, blocks_within, decodes_next, decodes_none, decodes_over, decodes_whole}
+use Rattle.hex_core.proofs.BlockLemmas.{blocks_end, blocks_past, blocks_within, decodes_next, decodes_over, decodes_whole}
 use Rattle.hex_core.proofs.blocks.decode.write_blocks.Goals as goal
 
 pub turns-preserved : goal.turns-preserved
