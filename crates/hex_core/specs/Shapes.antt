@@ -13,9 +13,13 @@ HasBlock n s = (1 ≤ n) × (n ≤ 64) × (n ≤ length s)
 abbrev pub EndsCover : ℕ → List ℕ → Type 0
 EndsCover n s = (n ≤ length s) × (length s ≤ 2 * n)
 
--- n digits in a vector spell half as many bytes
-abbrev pub Halves : ℕ → ℕ → Type 0
-Halves n half = (n ≤ 64) × (n ≡ 2 * half)
+-- n digits in a vector spell half as many bytes, and so does a whole source over a destination
+abbrev pub Halves : ℕ → ℕ → List ℕ → List ℕ → Type 0
+Halves n half s dst = (n ≤ 64) × (n ≡ 2 * half) × (length s ≡ 2 * length dst)
+
+-- a source is decoded over a destination by blocks of so many bytes
+abbrev pub InBlocks : ℕ → List ℕ → List ℕ → Type 0
+InBlocks size s dst = (1 ≤ size) × (length s ≡ 2 * length dst)
 
 -- a destination of what a source spells has so many bytes from a place on
 abbrev pub HasRoom : ℕ → ℕ → List ℕ → List ℕ → Type 0

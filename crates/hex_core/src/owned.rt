@@ -1,8 +1,9 @@
 //! Decoding into a buffer that is given up on a refusal: block by block, each stored once its own
 //! digits are tested.
 
-ghost use Rattle.std.specs.Prelude.{◌≡◌, ◌*◌, ◌≤◌, length};
+ghost use Rattle.std.specs.Prelude.{◌*◌};
 ghost use Rattle.hex_core.specs.Calls.{DecodesOwned};
+ghost use Rattle.hex_core.specs.Shapes.{InBlocks};
 
 use crate::blocks::decode::{DecodeBlock, decode_blocks};
 use crate::by_length;
@@ -23,8 +24,7 @@ pub fn decode_by_blocks<B, M, const SIZE: usize>(
 where
     B: DecodeBlock<SIZE>,
     M: NibbleMap<64>,
-    requires some { 1 ≤ SIZE }
-    requires twice { length src.now ≡ 2 * length dst.old }
+    requires { InBlocks SIZE src.now dst.old }
     ensures { DecodesOwned (2 * SIZE) case src.now dst.old dst.new result }
 {
     if src.len() > 256 {
@@ -42,8 +42,7 @@ fn decode_in_turn<B, M, const SIZE: usize>(src: &[u8], dst: &mut [u8], case: Che
 where
     B: DecodeBlock<SIZE>,
     M: NibbleMap<64>,
-    requires some { 1 ≤ SIZE }
-    requires twice { length src.now ≡ 2 * length dst.old }
+    requires { InBlocks SIZE src.now dst.old }
     ensures { DecodesOwned (2 * SIZE) case src.now dst.old dst.new result }
 {
     let done = decode_blocks::<B, SIZE>(src, dst, case);

@@ -7,7 +7,7 @@ ghost use Rattle.hex_core.specs.Blocks.{DecodesRange, NibblesFrom};
 ghost use Rattle.hex_core.specs.Calls.{DecodesWhole};
 ghost use Rattle.hex_core.specs.Search.{AllValid, first_invalid};
 ghost use Rattle.hex_core.specs.Lanes.{AreSmall};
-ghost use Rattle.hex_core.specs.Shapes.{DecodesAt, DecodesBlocks, EndsCover, Halves, HasBlock, HasRoom};
+ghost use Rattle.hex_core.specs.Shapes.{DecodesAt, DecodesBlocks, EndsCover, Halves, HasBlock, HasRoom, InBlocks};
 ghost use Rattle.hex_core.specs.Text.{Spells};
 
 use crate::blocks::check::check_long;
@@ -74,8 +74,7 @@ pub fn write_blocks<const N: usize, const HALF: usize>(src: &[u8], dst: &mut [u8
 where
     Lanes: Pack<N, HALF>,
     requires block { HasBlock N src.now }
-    requires half { N ≡ 2 * HALF }
-    requires twice { length src.now ≡ 2 * length dst.old }
+    requires sizes { Halves N HALF src.now dst.old }
     requires valid { first_invalid case src.now ≡ None }
     ensures { Spells case src.now dst.new }
 {
@@ -120,8 +119,7 @@ pub fn decode_one<M, const N: usize, const HALF: usize>(
 where
     M: NibbleMap<N>,
     Lanes: Pack<N, HALF>,
-    requires sizes { Halves N HALF }
-    requires twice { length src.now ≡ 2 * length dst.old }
+    requires sizes { Halves N HALF src.now dst.old }
     requires whole { length src.now ≡ N }
     ensures { DecodesWhole case src.now dst.old dst.new result }
 {
@@ -143,8 +141,7 @@ pub fn decode_two<M, const N: usize, const HALF: usize>(
 where
     M: NibbleMap<N>,
     Lanes: Pack<N, HALF>,
-    requires sizes { Halves N HALF }
-    requires twice { length src.now ≡ 2 * length dst.old }
+    requires sizes { Halves N HALF src.now dst.old }
     requires covered { EndsCover N src.now }
     ensures { DecodesWhole case src.now dst.old dst.new result }
 {
@@ -168,8 +165,7 @@ pub fn decode_four<M, const N: usize, const HALF: usize>(
 where
     M: NibbleMap<N>,
     Lanes: Pack<N, HALF>,
-    requires sizes { Halves N HALF }
-    requires twice { length src.now ≡ 2 * length dst.old }
+    requires sizes { Halves N HALF src.now dst.old }
     requires covered { EndsCover (2 * N) src.now }
     ensures { DecodesWhole case src.now dst.old dst.new result }
 {
@@ -197,8 +193,7 @@ pub fn decode_long<const N: usize, const HALF: usize>(
 where
     Lanes: Pack<N, HALF>,
     requires block { HasBlock N src.now }
-    requires half { N ≡ 2 * HALF }
-    requires twice { length src.now ≡ 2 * length dst.old }
+    requires sizes { Halves N HALF src.now dst.old }
     ensures { DecodesWhole case src.now dst.old dst.new result }
 {
     let valid = check_long::<N>(src, case);
@@ -260,8 +255,7 @@ impl DecodeBlock<64> for TwoHashed {
 pub fn decode_blocks<B, const SIZE: usize>(src: &[u8], dst: &mut [u8], case: CheckCase) -> usize
 where
     B: DecodeBlock<SIZE>,
-    requires some { 1 ≤ SIZE }
-    requires twice { length src.now ≡ 2 * length dst.old }
+    requires { InBlocks SIZE src.now dst.old }
     ensures { DecodesBlocks case SIZE src.now dst.old dst.new result }
 {
     let blocks = dst.len() / SIZE;
