@@ -15,7 +15,6 @@ digit_below : (upper : Bool) (n : ℕ) → n < 16 → digit upper n < 128
 digit_below true n h = grind (arith, nat_tests)
 digit_below false n h = grind (arith, nat_tests)
 
--- a text is ASCII where its list is one of bytes
 pub IsAscii-text : (upper : Bool) (bytes : List ℕ) → ((i : ℕ) → get_or bytes i 0 < 256) → IsAscii (text upper bytes)
 IsAscii-text upper [] range = IsAscii-nil
 IsAscii-text upper (b ∷ bytes) range =
@@ -23,7 +22,6 @@ IsAscii-text upper (b ∷ bytes) range =
     let rest : IsAscii (text upper bytes) = IsAscii-text upper bytes (λ i. range (suc i)) in
     IsAscii-cons (digit upper (b / 16)) (digit upper (b % 16) ∷ text upper bytes) (digit_below upper (b / 16) (omega arith)) (IsAscii-cons (digit upper (b % 16)) (text upper bytes) (digit_below upper (b % 16) (omega arith)) rest)
 
--- so it is UTF-8
 pub IsUtf8-text : (upper : Bool) (bytes : List ℕ) → ((i : ℕ) → get_or bytes i 0 < 256) → IsUtf8 (text upper bytes)
 IsUtf8-text upper bytes range = IsUtf8-from_ascii _ (IsAscii-text upper bytes range)
 

@@ -17,7 +17,7 @@ use Rattle.hex_core.specs.Text.{Spells}
 use Rattle.hex_core.proofs.ByteLemmas.{valid_value, value_small}
 use Rattle.hex_core.proofs.LaneLemmas.{mapped_at}
 use Rattle.hex_core.proofs.PairLemmas.{length-packed, packed_at}
-use Rattle.hex_core.proofs.SearchLemmas.{none_valid, first_invalid_none, part_tested}
+use Rattle.hex_core.proofs.SearchLemmas.{none_valid, first_invalid_none, part_is_valid}
 use Rattle.hex_core.proofs.SpellsLemmas.{spelled_along}
 
 -- ---- places of blocks of any width
@@ -79,11 +79,11 @@ module _ (c : CheckCase) (s : List ℕ) where
       )
 
   -- what is behind a valid front
-  pub rest_valid : (done : ℕ) (t : Bool) → done ≤ length s → AllValid c s 0 done → IsTrue t ↔ (first_invalid c (slice_range s done (length s)) ≡ None) → IsTrue t ↔ (first_invalid c s ≡ None)
-  rest_valid done t inside front rest =
-      let back = part_tested c s done (length s) t (omega arith) rest in (
-        λ x. first_invalid_none c s (valid_over 0 done done (length s) (omega arith) front (back.0 x)),
-        λ none. back.1 (valid_range done (length s) (omega arith) none),
+  pub rest_none : (done : ℕ) → done ≤ length s → AllValid c s 0 done → (first_invalid c (slice_range s done (length s)) ≡ None) ↔ (first_invalid c s ≡ None)
+  rest_none done inside front =
+      let part = part_is_valid c s done (length s) (omega arith) in (
+        λ none. first_invalid_none c s (valid_over 0 done done (length s) (omega arith) front (part.0 none)),
+        λ none. part.1 (valid_range done (length s) (omega arith) none),
       )
 
   -- where a part fails its test, the source has an invalid byte
@@ -111,12 +111,6 @@ valid_chunk c s at n end all inside = (
   λ valid k low lt. subst (λ b. IsSome (value c b)) (get_or-chunk at n s (k - at) 0 (omega arith) ∙ ap (slice_index s) (omega arith)) (valid (k - at) (omega arith) (omega arith)),
   λ valid k low lt. subst (λ b. IsSome (value c b)) (sym (get_or-chunk at n s k 0 lt)) (valid (at + k) (omega arith) (omega arith)),
 )
-
-pub nibbles_chunk : (c : CheckCase) (s v : List ℕ) (at n : ℕ) → at + n ≤ length s → length v ≡ n → AreNibbles c (chunk at n s) v → NibblesFrom c s at n v
-nibbles_chunk c s v at n inside long are = record {
-  long = long;
-  each = λ k h. subst (λ b. IsNibble (value c b) (get_or v k 0)) (get_or-chunk at n s k 0 h) (are k (omega (arith, length-chunk at n s inside)));
-}
 
 -- where each byte has a value
 pub valid_nibbles_chunk : (c : CheckCase) (s v : List ℕ) (at n : ℕ) → at + n ≤ length s → ((k : ℕ) → Fits w8 (get_or s k 0)) → AllValid c s at (at + n) → v ≡ map valid_nibble (chunk at n s) → NibblesFrom c s at n v × AreSmall v
@@ -209,9 +203,6 @@ decodes_over {c} {s} {old} {mid} {new} {first} {middle} {start} one two from le 
 
 pub decodes_whole : {c : CheckCase} {s old new : List ℕ} {n : ℕ} → DecodesRange c s old new 0 n → n ≡ length new → length s ≡ 2 * length new → Spells c s new
 decodes_whole all is twice = record { twice = twice; each = λ i h. all.decoded i (omega arith) (omega arith) }
-
-pub decodes_none : {c : CheckCase} {s old : List ℕ} {n : ℕ} → n ≡ 0 → DecodesRange c s old old 0 n
-decodes_none none = record { decoded = λ k low lt. absurd (omega arith); before = λ k lt. refl; behind = λ k le. refl }
 
 -- one more block of w bytes behind the first i
 pub decodes_next : {c : CheckCase} {s old mid new : List ℕ} (i w : ℕ) → DecodesRange c s old mid 0 (i * w) → DecodesRange c s mid new (i * w) (i * w + w) → DecodesRange c s old new 0 ((i + 1) * w)

@@ -19,7 +19,6 @@ use Rattle.hex_core.specs.Lookup.{entry}
 use Rattle.hex_core.specs.Text.{text}
 use Rattle.hex_core.proofs.LaneLemmas.{lane_below, mapped, mapped_at, maps_agree, passes_where}
 
--- whether a byte has a value
 abbrev pub has : CheckCase → ℕ → Bool
 has c b = is_some (value c b)
 

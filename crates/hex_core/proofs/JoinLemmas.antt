@@ -26,7 +26,6 @@ back_at a b i all place =
 
 -- ---- what they spell
 
--- what two sources spell, they spell joined
 pub spells-joined : (c : CheckCase) (a b x y : List ℕ) → Spells c a x → Spells c b y → Spells c (a ++ b) (x ++ y)
 spells-joined c a b x y first second =
     let both = length-append x y in let one = first.twice in let two = second.twice in

@@ -27,12 +27,10 @@ value-digit : (upper : Bool) (n : ℕ) → n < 16 → (value (strict upper) (dig
 value-digit true n h = (grind (arith, nat_tests), grind (arith, nat_tests))
 value-digit false n h = (grind (arith, nat_tests), grind (arith, nat_tests))
 
--- a byte that a strict policy reads is the digit of its value
 digit-value : (upper : Bool) (b n : ℕ) → value (strict upper) b ≡ Some n → digit upper n ≡ b
 digit-value true b n h = grind (arith, nat_tests)
 digit-value false b n h = grind (arith, nat_tests)
 
--- a byte is read under either case as its lowercase form is under lowercase
 value-lowercased : (b : ℕ) → value policy.Lower (to_ascii_lowercase b) ≡ value policy.None b
 value-lowercased b = grind (arith, nat_tests)
 
@@ -115,7 +113,6 @@ strict-accepts upper s = (
   λ (bytes, all, is). (accepts_what_spells (strict upper) s).1 (bytes, rw is at (decoding-inverts upper bytes all).0),
 )
 
--- the lowercased source's bytes
 lowercased-at : (s : List ℕ) (k : ℕ) → k < length s → value policy.Lower (get_or (str_to_ascii_lowercase s) k 0) ≡ value policy.None (get_or s k 0)
 lowercased-at s k lt = rw (get_or-map to_ascii_lowercase s k 0 0 lt) (value-lowercased (get_or s k 0))
 

@@ -37,7 +37,6 @@ entry_of row t n i a j b false e is h whole rows =
     let at : 16 * ((0 + i) / 16) + j < n = omega arith in
     rows (16 * ((0 + i) / 16) + j) at ∙ ap (λ k. get_or row k 0) (omega arith)
 
--- what the look-up finds
 pub look_up_is : (b n : ℕ) (row t v js : List ℕ) → (length v ≡ n) × Each1 (Fits w8) v → js ≡ map slot v → n ≡ b * 16 → Repeats row t n → swz_l w8 16 t 0 js ≡ map (entry row) v
 look_up_is b n row t v js f is e rows =
     let long : length js ≡ n = ap length is ∙ length-map v slot ∙ f.0 in

@@ -7,7 +7,6 @@ use Rattle.hex_core.specs.Digit.{digit}
 use Rattle.hex_core.specs.Laws.{AreBytes}
 use Rattle.hex_core.specs.Text.{text}
 
--- digits of one case stand in the order of their numbers
 digit_order : (upper : Bool) (m n : ℕ) → m < 16 → n < 16 → nat_cmp (digit upper m) (digit upper n) ≡ nat_cmp m n
 digit_order true m n a b = grind (arith, nat_tests)
 digit_order false m n a b = grind (arith, nat_tests)

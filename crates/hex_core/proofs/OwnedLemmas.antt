@@ -1,14 +1,15 @@
 -- What decoding block by block leaves: whole blocks in order, and then a rest.
-use Rattle.std.proofs.Common.{◌≡◌, ℕ, suc, ◌+◌, ◌-◌, ◌*◌, ◌/◌, ◌<◌, ◌≤◌, List, ◌++◌, length, take, drop, get_or, inl, inr, refl, sym, ap, ◌∙◌, Option, Some, None, arith}
+use Rattle.std.proofs.Common.{◌≡◌, ℕ, ◌+◌, ◌-◌, ◌*◌, ◌/◌, ◌<◌, ◌≤◌, List, ◌++◌, length, take, drop, get_or, inl, inr, refl, sym, ap, ◌∙◌, Option, Some, None, arith}
 use Rattle.std.specs.Prelude.{slice_range, unwrap_or, option_map}
-use Rattle.std.proofs.Math.Nat.{le-div_iff_mul-le}
 use Rattle.std.proofs.lemmas.Bool.{cases_lt}
 use Rattle.std.proofs.lemmas.Grind.{common_steps}
+use Rattle.std.proofs.lemmas.Nat.{div-mul-add}
 use Rattle.std.proofs.lemmas.List.{ext_get_or, get_or-drop, get_or-take, length-take-le, take-append-drop}
 use borrow.Rule.Slice.PartMut.{put_mid}
 use Rattle.hex_core.specs.declared.digit.CheckCase.{CheckCase}
 use Rattle.hex_core.specs.Blocks.{DecodesRange}
-use Rattle.hex_core.specs.Search.{AllValid, first_invalid}
+use Rattle.hex_core.specs.Search.{first_invalid}
+use Rattle.hex_core.specs.Shapes.{DecodesBlocks}
 use Rattle.hex_core.specs.Plans.{StoresBlocks, digits_before}
 use Rattle.hex_core.specs.Text.{Spells, with_front}
 use Rattle.hex_core.proofs.SearchLemmas.{first_is_first, part_at, valid_before, valid_misses}
@@ -47,34 +48,19 @@ part_decoded c s old part from twice inside long spells =
 -- ---- the first invalid byte behind whole blocks
 
 -- it is in the block that stopped
-first_invalid_after : (c : CheckCase) (s : List ℕ) (done block f : ℕ) → first_invalid c s ≡ Some f → AllValid c s 0 done
-    → (done + block ≤ length s → ¬ AllValid c s done (done + block)) → (done ≤ f) × (f < done + block)
-first_invalid_after c s done block f e front stopped =
-    let inside = (first_is_first c s f e).0 in (
-      valid_misses c s f 0 done e front (omega arith),
-      elim (cases_lt f (done + block)) [
-        | inl lt ↦ lt
-        | inr past ↦ absurd (stopped (omega arith) (λ k a b. valid_before c s f e k (omega arith) (omega arith)))
-      ],
-    )
-
--- the block of a place in it
-block_of : (block i f : ℕ) → 0 < block → i * block ≤ f → f < i * block + block → f / block ≡ i
-block_of block i f some low high =
-    let least : i ≤ f / block = (le-div_iff_mul-le some).1 low in
-    elim (cases_lt i (f / block)) [
-      | inl more ↦ absurd (let product : suc i * block ≤ f = (le-div_iff_mul-le some).0 (omega arith) in omega arith)
-      | inr same ↦ omega arith
-    ]
-
-digits_are : (c : CheckCase) (s : List ℕ) (i block done : ℕ) (o : Option ℕ) → first_invalid c s ≡ o → done ≡ i * block → (o ≡ None → ⊥) → 0 < block
-    → AllValid c s 0 done → (done + block ≤ length s → ¬ AllValid c s done (done + block))
-    → unwrap_or (option_map (λ f. block * (f / block)) o) 0 ≡ done
-digits_are c s i block done (Some f) e is bad some front stopped =
-    let at = first_invalid_after c s done block f e front stopped in
-    let same = block_of block i f some (omega (arith, at.0)) (omega (arith, at.1)) in
-    ap (λ n. block * n) same ∙ omega arith
-digits_are c s i block done None e is bad some front stopped = absurd (bad refl)
+digits_are : {c : CheckCase} {size done : ℕ} {s old new : List ℕ} (o : Option ℕ) → first_invalid c s ≡ o → (o ≡ None → ⊥) → 0 < size → DecodesBlocks c size s old new done
+    → unwrap_or (option_map (λ f. 2 * size * (f / (2 * size))) o) 0 ≡ 2 * done
+digits_are {c} {size} {done} {s} (Some f) e bad some blocks =
+    let i = blocks.whole.0 in let is = blocks.whole.1 in
+    let inside = (first_is_first c s f e).0 in
+    let low = valid_misses c s f 0 (2 * done) e blocks.valid (omega arith) in
+    let high : f < 2 * done + 2 * size = elim (cases_lt f (2 * done + 2 * size)) [
+      | inl lt ↦ lt
+      | inr past ↦ absurd (blocks.stopped (omega arith) (λ k a b. valid_before c s f e k (omega arith) (omega arith)))
+    ] in
+    let same : f / (2 * size) ≡ i = ap (λ n. n / (2 * size)) (omega arith) ∙ div-mul-add i (2 * size) (f - i * (2 * size)) (omega arith) in
+    ap (λ n. 2 * size * n) same ∙ omega arith
+digits_are None e bad some blocks = absurd (bad refl)
 
 -- ---- what a refusal leaves
 
@@ -85,14 +71,14 @@ front_kept old mid from same inside behind =
     get_or-drop from mid i 0 ∙ behind (from + i) (omega arith) ∙ sym (get_or-drop from old i 0)) in
     sym (take-append-drop from mid) ∙ ap (λ l. take from mid ++ l) (back ∙ ap (λ n. drop n old) (sym (length-take-le from mid inside)))
 
-pub blocks_stored : (c : CheckCase) (s old new : List ℕ) (i block from : ℕ) → length s ≡ 2 * length new → length new ≡ length old
-    → 2 * from ≡ i * block → from ≤ length new → 0 < block → ¬ (first_invalid c s ≡ None)
-    → AllValid c s 0 (2 * from) → (2 * from + block ≤ length s → ¬ AllValid c s (2 * from) (2 * from + block)) → DecodesRange c s old new 0 from
-    → StoresBlocks block c s old new
-blocks_stored c s old new i block from twice same even inside some bad front stopped done =
-    let digits : digits_before block c s ≡ 2 * from = digits_are c s i block (2 * from) (first_invalid c s) refl even bad some front stopped in
+pub blocks_stored : {c : CheckCase} {size done : ℕ} {s old new : List ℕ} → DecodesBlocks c size s old new done → length s ≡ 2 * length new → length new ≡ length old
+    → 0 < size → ¬ (first_invalid c s ≡ None) → StoresBlocks (2 * size) c s old new
+blocks_stored {c} {size} {done} {s} {old} {new} blocks twice same some bad =
+    let inside : done ≤ length new = rw same blocks.inside in
     record {
-      bytes = take from new;
-      spelled = rw digits (front_spells c s (take (2 * from) s) new from (length-take-le (2 * from) s (omega arith)) inside (λ k lt. get_or-take (2 * from) s k 0 lt) (λ k lt. done.decoded k (omega arith) lt));
-      fronted = front_kept old new from same inside done.behind;
+      bytes = take done new;
+      spelled = rw (digits_are (first_invalid c s) refl bad some blocks)
+          (front_spells c s (take (2 * done) s) new done (length-take-le (2 * done) s (omega arith)) inside (λ k lt. get_or-take (2 * done) s k 0 lt)
+          (λ k lt. blocks.decoded.decoded k (omega arith) lt));
+      fronted = front_kept old new done same inside blocks.decoded.behind;
     }

@@ -25,7 +25,6 @@ length-packed [] = refl
 length-packed (a ∷ []) = refl
 length-packed (a ∷ b ∷ v) = let e = length-packed v in omega arith
 
--- a packed byte by its pair
 pub packed_at : (v : List ℕ) (i : ℕ) → 2 * i + 1 < length v → get_or (packed v) i 0 ≡ 16 * get_or v (2 * i) 0 + get_or v (2 * i + 1) 0
 packed_at [] i h = absurd (omega arith)
 packed_at (a ∷ []) i h = absurd (omega arith)

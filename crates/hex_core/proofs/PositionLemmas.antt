@@ -11,14 +11,12 @@ use Rattle.std.proofs.lemmas.List.FromFn.{get_or-range_with_len, length-range_wi
 use Rattle.std.proofs.lemmas.List.Quantifiers.{position-Some}
 use Rattle.std.proofs.lemmas.List.Sums.{fails_before_first, position_or_len_is, prefix_len-le-length}
 
--- the first place that passes
 pub position_is : (p : ℕ → Bool) (s : List ℕ) (i : ℕ) → i < length s → ((k : ℕ) → k < i → p (slice_index s k) ≡ false) → p (slice_index s i) ≡ true
     → position p s ≡ Some i
 position_is p s i inside before here =
     let at : position_or_len p s ≡ i = position_or_len_is p s i 0 (omega arith) before (λ _. here) in
     grind (arith, common_steps)
 
--- no place passes
 pub position_none : (p : ℕ → Bool) (s : List ℕ) → ((k : ℕ) → k < length s → p (slice_index s k) ≡ false) → position p s ≡ None
 position_none p s before =
     let at : position_or_len p s ≡ length s = position_or_len_is p s (length s) 0 (omega arith) before (λ h. absurd (omega arith)) in

@@ -8,7 +8,6 @@ use Rattle.hex_core.specs.declared.digit.CheckCase.TheVariants as policy
 use Rattle.hex_core.specs.Digit.{value}
 use Rattle.hex_core.specs.Text.{value_table}
 
--- the entry of a byte is its value, or 255
 pub get_or-value_table : (c : CheckCase) (b d : ℕ) → b < 256 → get_or (value_table c) b d ≡ unwrap_or (value c b) 255
 unfolding value_table
 get_or-value_table c b d h = get_or-map-range_with_len (λ (k : ℕ). unwrap_or (value c k) 255) 0 256 b b d h (omega arith)

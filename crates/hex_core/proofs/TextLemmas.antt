@@ -9,16 +9,13 @@ use Rattle.std.specs.List.{range_with_len}
 use Rattle.hex_core.specs.Digit.{digit}
 use Rattle.hex_core.specs.Text.{text, digits, digits_table}
 
--- a text is twice as long as its list
 pub length-text : (upper : Bool) (bytes : List ℕ) → length (text upper bytes) ≡ 2 * length bytes
 length-text upper [] = refl
 length-text upper (b ∷ bytes) = let e = length-text upper bytes in omega arith
 
--- the text of a joined list is the two texts joined
 pub text-append : (upper : Bool) (front back : List ℕ) → text upper (front ++ back) ≡ text upper front ++ text upper back
 text-append upper front back = flat_map-append (digits upper) front back
 
--- the digits of the byte at a place
 pub digits-at : (upper : Bool) (bytes : List ℕ) (i : ℕ) → i < length bytes
     → (get_or (text upper bytes) (2 * i) 0 ≡ digit upper (get_or bytes i 0 / 16)) × (get_or (text upper bytes) (2 * i + 1) 0 ≡ digit upper (get_or bytes i 0 % 16))
 digits-at upper bytes i h =
@@ -34,7 +31,6 @@ digits-entry upper b h =
     let is = get_or-range_with_len 0 256 b 0 h in
     (rw (is, zero-add b) at found.0, rw (is, zero-add b) at found.1)
 
--- two writes in a row
 take-two-set : (xs : List ℕ) (n a b : ℕ) → n + 1 < length xs → take (n + 2) (set (set xs n a) (n + 1) b) ≡ take n xs ++ a ∷ b ∷ []
 take-two-set xs n a b h = grind (arith, common_steps)
 

@@ -2,8 +2,8 @@ use Rattle.std.proofs.Common.{arith}
 use Rattle.hex_core.proofs.HashLemmas.{checks_right, values_right}
 use Rattle.hex_core.proofs.lanes.nibbles_hashed_64.Goals as goal
 
-pub returns-clause-nibbles : goal.returns-clause-nibbles
-returns-clause-nibbles c = values_right c.args.case c.args.bytes.now c.hashes-slots.result c.fits-bytes (omega arith) c.hashes-slots.ensures c.hashed_values.ensures
-
-pub returns-clause-checked : goal.returns-clause-checked
-returns-clause-checked c = checks_right c.args.case c.args.bytes.now c.hashes-slots.result c.fits-bytes (omega arith) c.hashes-slots.ensures c.hashed_checks.ensures
+pub returns : goal.returns
+returns c = record {
+  nibbles = values_right c.args.case c.args.bytes.now c.hashes-slots.result c.fits-bytes (omega arith) c.hashes-slots.ensures c.hashed_values.ensures;
+  checked = checks_right c.args.case c.args.bytes.now c.hashes-slots.result c.fits-bytes (omega arith) c.hashes-slots.ensures c.hashed_checks.ensures;
+}

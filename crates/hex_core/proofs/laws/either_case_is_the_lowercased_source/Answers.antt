@@ -1,8 +1,5 @@
 use Rattle.hex_core.proofs.LawProofs.{either-lowercased, encoding-lowercases}
 use Rattle.hex_core.proofs.laws.either_case_is_the_lowercased_source.Goals as goal
 
-pub returns-clause-same : goal.returns-clause-same
-returns-clause-same c = either-lowercased
-
-pub returns-clause-text : goal.returns-clause-text
-returns-clause-text c = encoding-lowercases
+pub returns : goal.returns
+returns c = record { same = either-lowercased; text = encoding-lowercases }

@@ -21,11 +21,10 @@ returns-then-high c =
       refl,
     )
 
-pub packed-requires-clause-high : goal.packed-requires-clause-high
-packed-requires-clause-high c = (pair_entries c.args.case _ c.args.src.now c.pairs.i c.values_of-values.ensures (λ k. (c.type_inv.src k).fits) c.if-high.false c.if-low.false).0.1
-
-pub packed-requires-clause-low : goal.packed-requires-clause-low
-packed-requires-clause-low c = (pair_entries c.args.case _ c.args.src.now c.pairs.i c.values_of-values.ensures (λ k. (c.type_inv.src k).fits) c.if-high.false c.if-low.false).1.1
+pub packed-requires : goal.packed-requires
+packed-requires c =
+    let both = pair_entries c.args.case _ c.args.src.now c.pairs.i c.values_of-values.ensures (λ k. (c.type_inv.src k).fits) c.if-high.false c.if-low.false in
+    record { high = both.0.1; low = both.1.1 }
 
 pub pairs-preserved : goal.pairs-preserved
 pairs-preserved c =

@@ -2,7 +2,6 @@ use Rattle.std.proofs.Common.{◌≡◌, length}
 use Rattle.hex_core.proofs.SpellsLemmas.{SpellsBelow}
 use Rattle.hex_core.proofs.scalar.decode_short.Given as goal
 
--- the bytes kept so far are those that their pairs of digits spell
 abbrev pub invariant-pairs : goal.invariant-pairs
 invariant-pairs l = record {
   size : length l.kept ≡ 7;

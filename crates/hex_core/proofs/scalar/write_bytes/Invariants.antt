@@ -1,6 +1,5 @@
 use Rattle.hex_core.proofs.SpellsLemmas.{SpellsBelow}
 use Rattle.hex_core.proofs.scalar.write_bytes.Given as goal
 
--- the bytes so far are those that their pairs of digits spell
 abbrev pub invariant-bytes : goal.invariant-bytes
 invariant-bytes l = SpellsBelow l.fn.case l.src l.dst l.i

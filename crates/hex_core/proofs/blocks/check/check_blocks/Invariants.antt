@@ -2,6 +2,5 @@ use Rattle.std.proofs.Common.{◌*◌}
 use Rattle.hex_core.specs.Search.{AllValid}
 use Rattle.hex_core.proofs.blocks.check.check_blocks.Given as goal
 
--- the blocks so far are valid
 abbrev pub invariant-turns : goal.invariant-turns
 invariant-turns g l = AllValid l.fn.case l.src 0 (l.i * g.row.N)

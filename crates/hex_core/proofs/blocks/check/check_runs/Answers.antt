@@ -1,7 +1,7 @@
 use Rattle.std.proofs.Common.{◌+◌, ◌-◌, ◌*◌, ◌/◌, ◌≤◌, length, subst, arith}
 use std.Logic.{↔_trans}
 use Rattle.hex_core.specs.Search.{AllValid}
-use Rattle.hex_core.proofs.BlockLemmas.{block_inside, blocks_within, part_fails, rest_valid}
+use Rattle.hex_core.proofs.BlockLemmas.{block_inside, blocks_within, part_fails, rest_none}
 use Rattle.hex_core.proofs.blocks.check.check_runs.Goals as goal
 
 pub returns-then-not-is_low : goal.returns-then-not-is_low
@@ -15,4 +15,4 @@ returns g c =
     let s = c.args.src.now in let run = 8 * g.row.N in let runs = (length s - g.row.N) / run in
     let inside : runs * run ≤ length s - g.row.N = blocks_within (length s - g.row.N) run runs (omega arith) (omega arith) in
     let front : AllValid c.args.case s 0 (runs * run) = subst (λ i. AllValid c.args.case s 0 (i * run)) (omega arith) c.turns.invariant in
-    rest_valid c.args.case s (runs * run) c.check_blocks.result (omega (arith, inside)) front c.check_blocks.ensures
+    ↔_trans c.check_blocks.ensures (rest_none c.args.case s (runs * run) (omega (arith, inside)) front)

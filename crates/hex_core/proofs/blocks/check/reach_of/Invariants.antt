@@ -3,6 +3,5 @@ use Rattle.hex_core.specs.Arithmetic.{AreLow}
 use Rattle.hex_core.specs.Search.{AllValid}
 use Rattle.hex_core.proofs.blocks.check.reach_of.Given as goal
 
--- the lanes so far are below 10 exactly where the blocks so far are valid
 abbrev pub invariant-turns : goal.invariant-turns
 invariant-turns g l = AreLow l.farthest ↔ AllValid l.fn.case l.src l.at (l.at + l.i * g.row.N)

@@ -2,6 +2,5 @@ use Rattle.std.proofs.Common.{◌*◌}
 use Rattle.hex_core.specs.Blocks.{DecodesRange}
 use Rattle.hex_core.proofs.blocks.decode.write_blocks.Given as goal
 
--- the blocks so far are decoded
 abbrev pub invariant-turns : goal.invariant-turns
 invariant-turns g l = DecodesRange l.fn.case l.src l.fn.dst l.dst 0 (l.i * g.row.HALF)
