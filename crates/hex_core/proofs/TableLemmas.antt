@@ -1,5 +1,5 @@
 -- What the entries of the value tables say of a byte.
-use Rattle.std.proofs.Common.{refl, Bool, ◌≡◌, ◌≢◌, ℕ, List, ◌+◌, ◌*◌, ◌<◌, get_or, true, false, Some, is_none, unwrap_or, ◌∙◌, arith}
+use Rattle.std.proofs.Common.{refl, Bool, ◌≡◌, ◌≢◌, ℕ, List, ◌+◌, ◌*◌, ◌<◌, get_or, true, false, Option, Some, None, is_none, unwrap_or, ◌∙◌, arith}
 use Rattle.std.specs.Prelude.{IsTrue, ◌&&◌, not, ◌==◌}
 use Rattle.std.proofs.lemmas.Bool.Decides.{nat_tests}
 use Rattle.std.proofs.lemmas.List.FromFn.{get_or-map-range_with_len}
@@ -13,10 +13,9 @@ unfolding value_table
 get_or-value_table c b d h = get_or-map-range_with_len (λ (k : ℕ). unwrap_or (value c k) 255) 0 256 b b d h (omega arith)
 
 -- an entry that is not 255 says that the byte has a value
-pub some_at : (c : CheckCase) (b : ℕ) → unwrap_or (value c b) 255 ≢ 255 → is_none (value c b) ≡ false
-some_at policy.None b h = grind (arith, nat_tests)
-some_at policy.Lower b h = grind (arith, nat_tests)
-some_at policy.Upper b h = grind (arith, nat_tests)
+some_at : (o : Option ℕ) → unwrap_or o 255 ≢ 255 → is_none o ≡ false
+some_at (Some v) h = refl
+some_at None h = absurd (h refl)
 
 -- the value of a byte that has one is its entry, and is below 16
 pub value_at : (c : CheckCase) (b : ℕ) → is_none (value c b) ≡ false → (value c b ≡ Some (unwrap_or (value c b) 255)) × (unwrap_or (value c b) 255 < 16)
@@ -26,19 +25,20 @@ value_at policy.Upper b h = grind (arith, nat_tests)
 
 -- an entry of a table that is not 255 says so too
 pub admitted-entry : (c : CheckCase) (table : List ℕ) (b : ℕ) → table ≡ value_table c → b < 256 → get_or table b 0 ≢ 255 → is_none (value c b) ≡ false
-admitted-entry c table b is h e = some_at c b (λ x. e (rw is (get_or-value_table c b 0 h ∙ x)))
+admitted-entry c table b is h e = some_at (value c b) (λ x. e (rw is (get_or-value_table c b 0 h ∙ x)))
 
 -- the entry of a byte that has a value is that value, and is below 16
-pub value-entry : (c : CheckCase) (table : List ℕ) (b : ℕ) → table ≡ value_table c → b < 256 → is_none (value c b) ≡ false → (value c b ≡ Some (get_or table b 0)) × (get_or table b 0 < 16)
+abbrev pub IsEntry : CheckCase → List ℕ → ℕ → Type 0
+IsEntry c table b = (value c b ≡ Some (get_or table b 0)) × (get_or table b 0 < 16)
+
+pub value-entry : (c : CheckCase) (table : List ℕ) (b : ℕ) → table ≡ value_table c → b < 256 → is_none (value c b) ≡ false → IsEntry c table b
 value-entry c table b is h e = rw is (rw (get_or-value_table c b 0 h) (value_at c b e))
 
 -- the entries of a pair, neither of which is 255
 pub pair_entries : (c : CheckCase) (table s : List ℕ) (i : ℕ) → table ≡ value_table c → ((k : ℕ) → get_or s k 0 < 256) → get_or table (get_or s (2 * i) 0) 0 ≢ 255 → get_or table (get_or s (2 * i + 1) 0) 0 ≢ 255
-    → ((value c (get_or s (2 * i) 0) ≡ Some (get_or table (get_or s (2 * i) 0) 0)) × (get_or table (get_or s (2 * i) 0) 0 < 16))
-    × ((value c (get_or s (2 * i + 1) 0) ≡ Some (get_or table (get_or s (2 * i + 1) 0) 0)) × (get_or table (get_or s (2 * i + 1) 0) 0 < 16))
+    → IsEntry c table (get_or s (2 * i) 0) × IsEntry c table (get_or s (2 * i + 1) 0)
 pair_entries c table s i is byte high low =
-    let entry : (k : ℕ) → get_or table (get_or s k 0) 0 ≢ 255 → (value c (get_or s k 0) ≡ Some (get_or table (get_or s k 0) 0)) × (get_or table (get_or s k 0) 0 < 16) =
-    λ k there. value-entry c table (get_or s k 0) is (byte k) (admitted-entry c table (get_or s k 0) is (byte k) there) in
+    let entry = λ (k : ℕ) (there : get_or table (get_or s k 0) 0 ≢ 255). value-entry c table (get_or s k 0) is (byte k) (admitted-entry c table (get_or s k 0) is (byte k) there) in
     (entry (2 * i) high, entry (2 * i + 1) low)
 
 -- one more entry that is looked up
