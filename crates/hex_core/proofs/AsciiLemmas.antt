@@ -8,7 +8,7 @@ use Rattle.std.proofs.lemmas.Str.Ascii.{IsAscii-nil, IsAscii-cons}
 use Rattle.std.specs.Str.{IsUtf8}
 use Rattle.std.proofs.lemmas.Str.{IsUtf8-from_ascii}
 use Rattle.hex_core.specs.Digit.{digit}
-use Rattle.hex_core.specs.Laws.{AreBytes}
+use Rattle.hex_core.specs.Laws.{AreBytes, TextsAreAscii}
 use Rattle.hex_core.specs.Text.{text}
 
 digit_below : (upper : Bool) (n : ℕ) → n < 16 → digit upper n < 128
@@ -33,5 +33,5 @@ in_range bytes all i =
       | inr past ↦ grind (arith, common_steps)
     ]
 
-pub ascii_and_utf8 : (upper : Bool) (bytes : List ℕ) → AreBytes bytes → IsAscii (text upper bytes) × IsUtf8 (text upper bytes)
+pub ascii_and_utf8 : TextsAreAscii
 ascii_and_utf8 upper bytes all = (IsAscii-text upper bytes (in_range bytes all), IsUtf8-text upper bytes (in_range bytes all))

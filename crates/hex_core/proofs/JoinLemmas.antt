@@ -1,5 +1,5 @@
 -- Sources in a row: what they spell, and the first invalid byte of them all.
-use Rattle.std.proofs.Common.{◌≡◌, ◌∙◌, inl, inr, ℕ, ◌+◌, ◌-◌, ◌*◌, ◌<◌, ◌≤◌, List, ◌++◌, length, length-append, length-drop, take, drop, get_or, Option, Some, None, refl, sym, ap, arith}
+use Rattle.std.proofs.Common.{◌≡◌, ◌∙◌, inl, inr, ℕ, ◌+◌, ◌-◌, ◌*◌, ◌/◌, ◌<◌, ◌≤◌, List, ◌++◌, length, length-append, length-drop, take, drop, get_or, Option, Some, None, refl, sym, ap, arith}
 use Rattle.std.specs.Option.{option_or}
 use Rattle.std.specs.Prelude.{option_map}
 use Rattle.std.proofs.lemmas.Bool.{cases_lt}
@@ -7,6 +7,7 @@ use Rattle.std.proofs.lemmas.List.{get_or-append_right, get_or-drop, get_or_appe
 use Rattle.hex_core.specs.declared.digit.CheckCase.{CheckCase}
 use Rattle.hex_core.specs.declared.error.Error.{Error}
 use Rattle.hex_core.specs.declared.error.Error.TheVariants.{InvalidChar}
+use Rattle.hex_core.specs.Laws.{FirstInvalidOfJoined, JoinedSourcesSpellJoined, PartsSpellParts}
 use Rattle.hex_core.specs.Refusal.{first_bad_char}
 use Rattle.hex_core.specs.Search.{first_invalid}
 use Rattle.hex_core.specs.Text.{Spells}
@@ -26,7 +27,7 @@ back_at a b i all place =
 
 -- ---- what they spell
 
-pub spells-joined : (c : CheckCase) (a b x y : List ℕ) → Spells c a x → Spells c b y → Spells c (a ++ b) (x ++ y)
+pub spells-joined : JoinedSourcesSpellJoined
 spells-joined c a b x y first second =
     let both = length-append x y in let one = first.twice in let two = second.twice in
     record {
@@ -39,25 +40,24 @@ spells-joined c a b x y first second =
       ];
     }
 
--- a source that spells a list, cut behind n whole pairs, spells its two parts
-pub spells-front : (c : CheckCase) (a b bytes : List ℕ) (n : ℕ) → length a ≡ 2 * n → Spells c (a ++ b) bytes → Spells c a (take n bytes)
-spells-front c a b bytes n even spells =
-    let inside : n ≤ length bytes = omega (arith, even, length-append a b, spells.twice) in
-    front_spells c (a ++ b) a bytes n even inside (λ k lt. sym (front_at a b k (omega arith))) (λ i lt. spells.each i (omega arith))
-
-pub spells-back : (c : CheckCase) (a b bytes : List ℕ) (n : ℕ) → length a ≡ 2 * n → Spells c (a ++ b) bytes → Spells c b (drop n bytes)
-spells-back c a b bytes n even spells =
-    let size = length-drop n bytes in let all = length-append a b in let twice = spells.twice in
-    record {
-      twice = omega arith;
-      each = λ i lt.
-          spelled_along (spells.each (n + i) (omega arith)) (sym (back_at a b (2 * i) (2 * (n + i)) (omega arith)))
-          (sym (back_at a b (2 * i + 1) (2 * (n + i) + 1) (omega arith))) (get_or-drop n bytes i 0);
-    }
+-- a source that spells a list, cut behind a whole pair, spells its two parts
+pub spells-parts : PartsSpellParts
+spells-parts c a b bytes even spells =
+    let n = length a / 2 in
+    let half : length a ≡ 2 * n = omega arith in
+    let all = length-append a b in let twice = spells.twice in let size = length-drop n bytes in (
+      front_spells c (a ++ b) a bytes n half (omega arith) (λ k lt. sym (front_at a b k (omega arith))) (λ i lt. spells.each i (omega arith)),
+      record {
+        twice = omega arith;
+        each = λ i lt.
+            spelled_along (spells.each (n + i) (omega arith)) (sym (back_at a b (2 * i) (2 * (n + i)) (omega arith)))
+            (sym (back_at a b (2 * i + 1) (2 * (n + i) + 1) (omega arith))) (get_or-drop n bytes i 0);
+      },
+    )
 
 -- ---- their first invalid byte
 
-pub invalid-joined : (c : CheckCase) (a b : List ℕ) → first_invalid c (a ++ b) ≡ option_or (first_invalid c a) (option_map (λ i. length a + i) (first_invalid c b))
+pub invalid-joined : FirstInvalidOfJoined
 invalid-joined c = position-joined (lacks c)
 
 pub valid-both : (c : CheckCase) (a b : List ℕ) → first_invalid c a ≡ None → first_invalid c b ≡ None → first_invalid c (a ++ b) ≡ None

@@ -15,7 +15,7 @@ use Rattle.hex_core.specs.Digit.{value, digit, strict}
 use Rattle.hex_core.specs.Text.{Spells, lowercase, text}
 use Rattle.hex_core.specs.Search.{first_invalid}
 use Rattle.hex_core.specs.Refusal.{source_refusal}
-use Rattle.hex_core.specs.Laws.{AreBytes}
+use Rattle.hex_core.specs.Laws.{AcceptsWhatSpells, AreBytes, DecodingInvertsEncoding, EitherCaseIsLowercased, EncodingInvertsStrictDecoding, EncodingLowercases, SpellsBytes, StrictAcceptsTexts}
 use Rattle.hex_core.proofs.ByteLemmas.{value_small}
 use Rattle.hex_core.proofs.PositionLemmas.{position_none}
 use Rattle.hex_core.proofs.SearchLemmas.{has_value, lacks}
@@ -35,7 +35,7 @@ value-lowercased : (b : ℕ) → value policy.Lower (to_ascii_lowercase b) ≡ v
 value-lowercased b = grind (arith, nat_tests)
 
 -- a byte is what its quotient and remainder make
-pub spells-bytes : (c : CheckCase) (s bytes : List ℕ) → Spells c s bytes → AreBytes bytes
+pub spells-bytes : SpellsBytes
 spells-bytes c s bytes h = All-from_get_or (λ b. b < 256) bytes 0 (λ i lt.
     let small : get_or bytes i 0 / 16 < 16 = value_small c (get_or s (2 * i) 0) (get_or bytes i 0 / 16) (h.each i lt).high in omega arith)
 
@@ -78,7 +78,7 @@ valid-spelled c s bytes h = position_none (lacks c) s (λ k lt.
 accepted-whole : (c : CheckCase) (s : List ℕ) → length s % 2 ≡ 0 → first_invalid c s ≡ None → source_refusal c s ≡ None
 accepted-whole c s even none = let test : (length s % 2 == 1) ≡ false = grind (arith, nat_tests) in rw (test, none) refl
 
-pub accepts_what_spells : (c : CheckCase) (s : List ℕ) → (source_refusal c s ≡ None) ↔ ((bytes : List ℕ) × Spells c s bytes)
+pub accepts_what_spells : AcceptsWhatSpells
 accepts_what_spells c s = (
   λ h. spelled c s (grind (arith, nat_tests, h)) (grind (arith, nat_tests, h)),
   λ (bytes, h). let twice = h.twice in accepted-whole c s (omega arith) (valid-spelled c s bytes h),
@@ -95,11 +95,11 @@ text-spells c upper bytes reads all = record {
       record { high = rw at.0 (reads _ (omega arith)); low = rw at.1 (reads _ (omega arith)) };
 }
 
-pub decoding-inverts : (upper : Bool) (bytes : List ℕ) → AreBytes bytes → Spells (strict upper) (text upper bytes) bytes × Spells policy.None (text upper bytes) bytes
+pub decoding-inverts : DecodingInvertsEncoding
 decoding-inverts upper bytes all =
     (text-spells (strict upper) upper bytes (λ n h. (value-digit upper n h).0) all, text-spells policy.None upper bytes (λ n h. (value-digit upper n h).1) all)
 
-pub encoding-inverts : (upper : Bool) (s bytes : List ℕ) → Spells (strict upper) s bytes → text upper bytes ≡ s
+pub encoding-inverts : EncodingInvertsStrictDecoding
 encoding-inverts upper s bytes h =
     let size = length-text upper bytes in
     same_number_lists (text upper bytes) s (omega (arith, size, h.twice)) (λ k lt.
@@ -107,7 +107,7 @@ encoding-inverts upper s bytes h =
     let at = digits-at upper bytes i small in let is = h.each i small in
     (at.0 ∙ digit-value upper _ _ is.high, at.1 ∙ digit-value upper _ _ is.low)) k (omega (arith, lt, size)))
 
-pub strict-accepts : (upper : Bool) (s : List ℕ) → (source_refusal (strict upper) s ≡ None) ↔ ((bytes : List ℕ) × AreBytes bytes × (text upper bytes ≡ s))
+pub strict-accepts : StrictAcceptsTexts
 strict-accepts upper s = (
   λ h. let found = (accepts_what_spells (strict upper) s).0 h in (found.0, spells-bytes (strict upper) s found.0 found.1, encoding-inverts upper s found.0 found.1),
   λ (bytes, all, is). (accepts_what_spells (strict upper) s).1 (bytes, rw is at (decoding-inverts upper bytes all).0),
@@ -123,12 +123,12 @@ spells-along c d s t bytes same read h =
       each = λ i lt. record { high = read (2 * i) (omega arith) ∙ (h.each i lt).high; low = read (2 * i + 1) (omega arith) ∙ (h.each i lt).low };
     }
 
-pub either-lowercased : (s bytes : List ℕ) → Spells policy.None s bytes ↔ Spells policy.Lower (str_to_ascii_lowercase s) bytes
+pub either-lowercased : EitherCaseIsLowercased
 either-lowercased s bytes =
     let size : length (str_to_ascii_lowercase s) ≡ length s = length-map s to_ascii_lowercase in (
       spells-along _ _ s (str_to_ascii_lowercase s) bytes size (lowercased-at s),
       spells-along _ _ (str_to_ascii_lowercase s) s bytes (sym size) (λ k lt. sym (lowercased-at s k (rw size at lt))),
     )
 
-pub encoding-lowercases : (s bytes : List ℕ) → Spells policy.None s bytes → text lowercase bytes ≡ str_to_ascii_lowercase s
+pub encoding-lowercases : EncodingLowercases
 encoding-lowercases s bytes h = encoding-inverts false (str_to_ascii_lowercase s) bytes ((either-lowercased s bytes).0 h)

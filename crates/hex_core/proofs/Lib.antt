@@ -8,7 +8,6 @@ pub mod LaneLemmas
 pub mod LawProofs
 pub mod LookupLemmas
 pub mod OwnedLemmas
-pub mod OrderLemmas
 pub mod PairLemmas
 pub mod PositionLemmas
 pub mod ProbeLemmas
@@ -16,7 +15,6 @@ pub mod SearchLemmas
 pub mod Lent
 pub mod LentAgain
 pub mod RefusalLemmas
-pub mod Refused
 pub mod ShiftLemmas
 pub mod SliceWalk
 pub mod SpellsLemmas
