@@ -53,13 +53,11 @@ pub neighbour_small : (v : List ℕ) (i : ℕ) → neighbour_bits v i < 8
 neighbour_small v i = grind (arith, nat_tests)
 
 -- the difference between two turns of the sign
-pub checks_are : (c : CheckCase) (v slots f t d r : List ℕ) → f ≡ map (λ x. bit_xor x 128) v → t ≡ map (entry (check_row c)) slots → d ≡ zip2 (λ x y. x - y) f t → r ≡ map (λ x. bit_xor x 128) d → r ≡ zip2 (hashed_check c) v slots
-checks_are c v slots f t d r turn is low back = back ∙ ap (map (λ x. bit_xor x 128)) (low ∙ ap₂ (zip2 (λ x y. x - y)) turn is) ∙ go v slots
-  where
-    go : (v w : List ℕ) → map (λ x. bit_xor x 128) (zip2 (λ x y. x - y) (map (λ x. bit_xor x 128) v) (map (entry (check_row c)) w)) ≡ zip2 (hashed_check c) v w
-    go [] w = refl
-    go (x ∷ v) [] = refl
-    go (x ∷ v) (y ∷ w) = ap (λ l. hashed_check c x y ∷ l) (go v w)
+pub checks_are : (c : CheckCase) (v w : List ℕ)
+    → map (λ x. bit_xor x 128) (zip2 (λ x y. x - y) (map (λ x. bit_xor x 128) v) (map (entry (check_row c)) w)) ≡ zip2 (hashed_check c) v w
+checks_are c [] w = refl
+checks_are c (x ∷ v) [] = refl
+checks_are c (x ∷ v) (y ∷ w) = ap (λ l. hashed_check c x y ∷ l) (checks_are c v w)
 
 -- the values, and the checks, of the bytes of a block
 pub values_right : (c : CheckCase) (v slots : List ℕ) {r : List ℕ} → ((i : ℕ) → get_or v i 0 < 256) → length slots ≡ length v → EachIndex v (λ i. Hashed (get_or v i 0) (get_or slots i 0)) → r ≡ zip2 hashed_value v slots → AreValues c v r
