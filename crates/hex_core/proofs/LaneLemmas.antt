@@ -36,18 +36,15 @@ maps_agree f g same [] e = refl
 maps_agree f g same (x ∷ xs) e = ap₂ (λ a r. a ∷ r) (same x e.0.fits) (maps_agree f g same xs e.1)
 
 -- each two lanes, the second of them mapped
-pub zipped_map : (f : ℕ → ℕ → ℕ) (g : ℕ → ℕ) (v w : List ℕ) {r : List ℕ} → r ≡ map g w → zip2 f v r ≡ zip2 (λ x y. f x (g y)) v w
-zipped_map f g v w is = ap (zip2 f v) is ∙ go v w
-  where
-    go : (v w : List ℕ) → zip2 f v (map g w) ≡ zip2 (λ x y. f x (g y)) v w
-    go [] w = refl
-    go (x ∷ v) [] = refl
-    go (x ∷ v) (y ∷ w) = ap (λ l. f x (g y) ∷ l) (go v w)
+pub zipped_map : (f : ℕ → ℕ → ℕ) (g : ℕ → ℕ) (v w : List ℕ) → zip2 f v (map g w) ≡ zip2 (λ x y. f x (g y)) v w
+zipped_map f g [] w = refl
+zipped_map f g (x ∷ v) [] = refl
+zipped_map f g (x ∷ v) (y ∷ w) = ap (λ l. f x (g y) ∷ l) (zipped_map f g v w)
 
 -- two operations with a number each
 pub splat_twice : (f g : ℕ → ℕ → ℕ) (v : List ℕ) (n a b : ℕ) → length v ≡ n → zip2 g (zip2 f v (replicate n a)) (replicate n b) ≡ map (λ x. g (f x a) b) v
 splat_twice f g v n a b e =
-    ap (λ l. zip2 g l (replicate n b)) (zip2_splat f v n a e) ∙ zip2_splat g (map (λ x. f x a) v) n b (length-map v (λ x. f x a) ∙ e) ∙ map-map (λ x. g x b) (λ x. f x a) v
+    rw (zip2_splat f v n a e, zip2_splat g (map (λ x. f x a) v) n b (length-map v (λ x. f x a) ∙ e)) (map-map (λ x. g x b) (λ x. f x a) v)
 
 -- ---- what std selects by a comparison
 
@@ -91,8 +88,8 @@ wrapping_add a b = (a + b) % 2 ^ 8
 pub sums : (v : List ℕ) (k n : ℕ) → (length v ≡ n) × Each1 (Fits w8) v → k < 256
     → zip2 wrapping_add (sel_l (map (top 7) (zip2 below v (replicate n (255 - k)))) v (replicate n (255 - k))) (replicate n k) ≡ map (λ x. saturating_add x k) v
 sums v k n f h =
-    ap (λ l. zip2 wrapping_add l (replicate n k)) (minima v (replicate n (255 - k))) ∙ splat_twice min wrapping_add v n (255 - k) k f.0
-    ∙ maps_agree (λ x. wrapping_add (min x (255 - k)) k) (λ x. saturating_add x k) (λ x lt. omega arith) v f.1
+    rw (minima v (replicate n (255 - k)), splat_twice min wrapping_add v n (255 - k) k f.0)
+    (maps_agree (λ x. wrapping_add (min x (255 - k)) k) (λ x. saturating_add x k) (λ x lt. omega arith) v f.1)
 
 -- ---- averages, computed in words
 
@@ -110,8 +107,8 @@ averaged (x ∷ xs) (y ∷ ys) f g = ap₂ (λ a r. a ∷ r) (one_average x y f.
 pub averages_of : (xs ys : List ℕ) (n : ℕ) → (length xs ≡ n) × Each1 (Fits w8) xs → (length ys ≡ n) × Each1 (Fits w8) ys
     → zip2 (λ a b. a / 2 ^ b) (zip2 word_add (zip2 word_add (map (λ x. x) xs) (map (λ x. x) ys)) (replicate n 1)) (replicate n 1) ≡ zip2 average xs ys
 averages_of xs ys n f g =
-    ap₂ (λ a b. zip2 (λ x y. x / 2 ^ y) (zip2 word_add (zip2 word_add a b) (replicate n 1)) (replicate n 1)) (map-id xs) (map-id ys)
-    ∙ splat_twice word_add (λ a b. a / 2 ^ b) (zip2 word_add xs ys) n 1 1 (length-zip2 word_add xs ys (f.0 ∙ sym g.0) ∙ f.0) ∙ averaged xs ys f.1 g.1
+    rw (map-id xs, map-id ys)
+    (splat_twice word_add (λ a b. a / 2 ^ b) (zip2 word_add xs ys) n 1 1 (length-zip2 word_add xs ys (f.0 ∙ sym g.0) ∙ f.0) ∙ averaged xs ys f.1 g.1)
 
 pub averages_fit : (xs ys : List ℕ) → Each1 (Fits w8) xs → Each1 (Fits w8) ys → Each1 (Fits w8) (zip2 average xs ys)
 averages_fit xs ys f g =

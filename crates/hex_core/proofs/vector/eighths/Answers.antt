@@ -11,4 +11,4 @@ pub returns-clause-lanes : goal.returns-clause-lanes
 returns-clause-lanes g c = zip2_splat _ c.args.v g.row.N _ c.fits-v.0
 
 pub returns-clause-words : goal.returns-clause-words
-returns-clause-words g c = subst (Each1 (λ x. x < 2 ^ 32)) (sym (returns-clause-lanes g c)) (eighths_fit c.args.v c.fits-v.1)
+returns-clause-words g c = rw (returns-clause-lanes g c) (eighths_fit c.args.v c.fits-v.1)
