@@ -12,7 +12,7 @@ use Rattle.hex_core.specs.Arithmetic.{packed, valid_nibble}
 use Rattle.hex_core.specs.Blocks.{DecodesRange, NibblesFrom}
 use Rattle.hex_core.specs.Digit.{value}
 use Rattle.hex_core.specs.Search.{AllValid, first_invalid}
-use Rattle.hex_core.specs.Lanes.{AreNibbles, AreSmall, IsNibble}
+use Rattle.hex_core.specs.Lanes.{AreSmall, IsNibble}
 use Rattle.hex_core.specs.Text.{Spells}
 use Rattle.hex_core.proofs.ByteLemmas.{valid_value, value_small}
 use Rattle.hex_core.proofs.LaneLemmas.{mapped_at}

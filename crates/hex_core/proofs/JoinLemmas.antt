@@ -1,6 +1,5 @@
 -- Sources in a row: what they spell, and the first invalid byte of them all.
-use Rattle.std.proofs.Common.{◌≡◌, ◌∙◌, inl, inr, ℕ, ◌+◌, ◌-◌, ◌*◌, ◌/◌, ◌<◌, ◌≤◌, List, ◌++◌, length, length-append, length-drop, take, drop, get_or, Option, Some, None, refl, sym, ap, arith}
-use Rattle.std.specs.Option.{option_or}
+use Rattle.std.proofs.Common.{◌≡◌, ◌∙◌, inl, inr, ℕ, ◌+◌, ◌-◌, ◌*◌, ◌/◌, ◌<◌, List, ◌++◌, length, length-append, length-drop, get_or, Option, Some, None, refl, sym, ap, arith}
 use Rattle.std.specs.Prelude.{option_map}
 use Rattle.std.proofs.lemmas.Bool.{cases_lt}
 use Rattle.std.proofs.lemmas.List.{get_or-append_right, get_or-drop, get_or_append_left}
@@ -10,7 +9,6 @@ use Rattle.hex_core.specs.declared.error.Error.TheVariants.{InvalidChar}
 use Rattle.hex_core.specs.Laws.{FirstInvalidOfJoined, JoinedSourcesSpellJoined, PartsSpellParts}
 use Rattle.hex_core.specs.Refusal.{first_bad_char}
 use Rattle.hex_core.specs.Search.{first_invalid}
-use Rattle.hex_core.specs.Text.{Spells}
 use Rattle.hex_core.proofs.PositionLemmas.{none_joined, position-joined}
 use Rattle.hex_core.proofs.RefusalLemmas.{bad_char_names_first}
 use Rattle.hex_core.proofs.SearchLemmas.{first_is_first, lacks}

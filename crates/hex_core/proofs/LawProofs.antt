@@ -1,5 +1,5 @@
 -- The laws of digits, texts and what they spell.
-use Rattle.std.proofs.Common.{◌≡◌, ℕ, List, ◌+◌, ◌*◌, ◌/◌, ◌%◌, ◌<◌, ◌↔◌, ◌==◌, length, map, get_or, Bool, true, false, None, Some, is_none, unwrap_or, refl, sym, subst, ◌∙◌, ap, arith, zero-add, inl, inr}
+use Rattle.std.proofs.Common.{◌≡◌, ℕ, List, ◌+◌, ◌*◌, ◌/◌, ◌%◌, ◌<◌, ◌==◌, length, map, get_or, Bool, true, false, None, Some, is_none, unwrap_or, refl, sym, subst, ◌∙◌, ap, arith, zero-add, inl, inr}
 use Rattle.std.proofs.lemmas.Bool.{cases_lt}
 use Rattle.std.proofs.lemmas.Bool.Decides.{nat_tests}
 use Rattle.std.proofs.lemmas.Grind.{same_number_lists}
@@ -12,7 +12,7 @@ use Rattle.std.specs.Str.{str_to_ascii_lowercase}
 use Rattle.hex_core.specs.declared.digit.CheckCase.{CheckCase}
 use Rattle.hex_core.specs.declared.digit.CheckCase.TheVariants as policy
 use Rattle.hex_core.specs.Digit.{value, digit, strict}
-use Rattle.hex_core.specs.Text.{Spells, lowercase, text}
+use Rattle.hex_core.specs.Text.{Spells, text}
 use Rattle.hex_core.specs.Search.{first_invalid}
 use Rattle.hex_core.specs.Refusal.{source_refusal}
 use Rattle.hex_core.specs.Laws.{AcceptsWhatSpells, AreBytes, DecodingInvertsEncoding, EitherCaseIsLowercased, EncodingInvertsStrictDecoding, EncodingLowercases, SpellsBytes, StrictAcceptsTexts}

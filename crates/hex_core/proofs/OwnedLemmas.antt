@@ -10,7 +10,7 @@ use Rattle.hex_core.specs.declared.digit.CheckCase.{CheckCase}
 use Rattle.hex_core.specs.Blocks.{DecodesRange}
 use Rattle.hex_core.specs.Search.{first_invalid}
 use Rattle.hex_core.specs.Shapes.{DecodesBlocks}
-use Rattle.hex_core.specs.Plans.{StoresBlocks, digits_before}
+use Rattle.hex_core.specs.Plans.{StoresBlocks}
 use Rattle.hex_core.specs.Text.{Spells, with_front}
 use Rattle.hex_core.proofs.SearchLemmas.{first_is_first, part_at, valid_before, valid_misses}
 use Rattle.hex_core.proofs.SpellsLemmas.{front_spells, spelled_along}

@@ -1,10 +1,9 @@
-use Rattle.std.proofs.Common.{◌≡◌, ℕ, ◌<◌, ◌/◌, ◌%◌, Bool, true, false, List, [], ◌∷◌, suc, Ordering, refl, arith}
+use Rattle.std.proofs.Common.{◌≡◌, ℕ, ◌<◌, ◌/◌, ◌%◌, Bool, true, false, [], ◌∷◌, suc, Ordering, refl, arith}
 use Rattle.std.proofs.lemmas.Bool.Decides.{nat_tests}
 use Rattle.std.specs.Cmp.Lexicographic.{slice_cmp}
 use Rattle.std.specs.Ordering.{nat_cmp, ordering_then}
 use Rattle.hex_core.specs.Digit.{digit}
 use Rattle.hex_core.specs.Laws.{TextsCompareAsLists}
-use Rattle.hex_core.specs.Text.{text}
 use Rattle.hex_core.proofs.laws.texts_compare_as_their_lists.Goals as goal
 
 digit_order : (upper : Bool) (m n : ℕ) → m < 16 → n < 16 → nat_cmp (digit upper m) (digit upper n) ≡ nat_cmp m n

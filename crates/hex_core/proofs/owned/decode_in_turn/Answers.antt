@@ -1,4 +1,4 @@
-use Rattle.std.proofs.Common.{None, ◌≡◌, ◌+◌, ◌*◌, length, inl, inr, arith}
+use Rattle.std.proofs.Common.{None, ◌≡◌, ◌+◌, ◌*◌, inl, inr, arith}
 use Rattle.std.proofs.lemmas.Bool.{MatchBool-at_false, MatchBool-at_true, cases_Bool}
 use Rattle.hex_core.specs.Search.{first_invalid}
 use Rattle.hex_core.proofs.BlockLemmas.{valid_range, decodes_over, decodes_whole, rest_none}

@@ -1,7 +1,6 @@
-use Rattle.std.proofs.Common.{arith, ◌∙◌, subst, sym, Fits, w8}
+use Rattle.std.proofs.Common.{arith, ◌∙◌}
 use Rattle.std.proofs.lemmas.List.{map-id}
 use Rattle.std.proofs.lemmas.Simd.{shifts_fit_splat}
-use lib.Lanes.{Each1}
 use Rattle.hex_core.proofs.LaneLemmas.{averages_fit, averages_of}
 use Rattle.hex_core.proofs.vector.averages.Goals as goal
 

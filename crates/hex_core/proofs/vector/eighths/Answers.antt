@@ -1,6 +1,5 @@
-use Rattle.std.proofs.Common.{◌<◌, ◌^◌, arith, subst, sym}
+use Rattle.std.proofs.Common.{arith}
 use Rattle.std.proofs.lemmas.Simd.{shifts_fit_splat, zip2_splat}
-use lib.Lanes.{Each1}
 use Rattle.hex_core.proofs.ShiftLemmas.{eighths_fit}
 use Rattle.hex_core.proofs.vector.eighths.Goals as goal
 

@@ -1,6 +1,5 @@
-use Rattle.std.proofs.Common.{◌<◌, sym, subst, ◌↔◌, ◌∙◌}
+use Rattle.std.proofs.Common.{◌<◌, sym, ◌∙◌}
 use Rattle.std.specs.Prelude.{max}
-use Rattle.hex_core.specs.Arithmetic.{AreLow}
 use Rattle.hex_core.proofs.LaneLemmas.{each_of_two, max_low, maxima}
 use Rattle.hex_core.proofs.vector.larger.Goals as goal
 

@@ -1,7 +1,6 @@
-use Rattle.std.proofs.Common.{◌*◌, ◌/◌, ◌%◌, ◌^◌, arith, ◌∙◌, subst, sym, Fits, w8}
+use Rattle.std.proofs.Common.{◌*◌, ◌/◌, ◌%◌, ◌^◌, arith, ◌∙◌}
 use Rattle.std.proofs.lemmas.List.{map-id}
 use Rattle.std.proofs.lemmas.Simd.{shifts_fit_splat}
-use lib.Lanes.{Each1}
 use Rattle.hex_core.proofs.LaneLemmas.{pair_bytes_fit, splat_twice}
 use Rattle.hex_core.proofs.vector.pair_bytes.Goals as goal
 
