@@ -31,17 +31,6 @@ all_right policy.Upper = (refl, refl, refl)
 is_right : (f g : ℕ → ℕ → Bool) → agree_below (λ b. agree_below (f b) (g b) 8) always 256 ≡ true → (b k : ℕ) → b < 256 → k < 8 → f b k ≡ g b k
 is_right f g all b k B K = agree_below_at (f b) (g b) 8 k (agree_below_at (λ x. agree_below (f x) (g x) 8) always 256 b all B) K
 
-pub check_is_right : (c : CheckCase) (b slot r : ℕ) → b < 256 → Hashed b slot → r ≡ hashed_check c b slot → (r < 128) ↔ IsSome (value c b)
-check_is_right c b slot r B s e =
-    let test = is_right (λ x k. ltb (hashed_check c x (hash x k)) 128) (λ x k. has c x) (all_right c).0 b s.0 B s.1 in
-    let q : ltb r 128 ≡ has c b = rw (e, s.2) test in
-    (λ lt. sym q ∙ lt-ltb r 128 lt, λ t. ltb-true r 128 (q ∙ t))
-
-pub value_is_right : (c : CheckCase) (b slot r : ℕ) → b < 256 → Hashed b slot → r ≡ hashed_value b slot → IfSome (value c b) (λ v. r ≡ v)
-value_is_right c b slot r B s e =
-    let test = is_right (λ x k. value_test (value c x) (hashed_value x (hash x k))) (λ x k. true) (all_right c).1 b s.0 B s.1 in
-    rw (e, s.2) (value_by (value c b) (hashed_value b (hash b s.0)) test)
-
 pub nibble_is_right : (c : CheckCase) (b slot r v check : ℕ) → b < 256 → Hashed b slot → v ≡ hashed_value b slot → check ≡ hashed_check c b slot → r ≡ marked v check → IsNibble (value c b) r
 nibble_is_right c b slot r v check B s p q e =
     let test = is_right (λ x k. nibble_test (value c x) (marked (hashed_value x (hash x k)) (hashed_check c x (hash x k)))) (λ x k. true) (all_right c).2 b s.0 B s.1 in
@@ -62,8 +51,13 @@ checks_are c (x ∷ v) (y ∷ w) = ap (λ l. hashed_check c x y ∷ l) (checks_a
 -- the values, and the checks, of the bytes of a block
 pub values_right : (c : CheckCase) (v slots : List ℕ) {r : List ℕ} → ((i : ℕ) → get_or v i 0 < 256) → length slots ≡ length v → EachIndex v (λ i. Hashed (get_or v i 0) (get_or slots i 0)) → r ≡ zip2 hashed_value v slots → AreValues c v r
 values_right c v slots small same hashed is i h =
-    value_is_right c (get_or v i 0) _ _ (small i) (hashed i h) (zipped_at hashed_value v slots i is h (omega arith))
+    let b = get_or v i 0 in let s = hashed i h in
+    let test = is_right (λ x k. value_test (value c x) (hashed_value x (hash x k))) (λ x k. true) (all_right c).1 b s.0 (small i) s.1 in
+    rw (zipped_at hashed_value v slots i is h (omega arith), s.2) (value_by (value c b) (hashed_value b (hash b s.0)) test)
 
 pub checks_right : (c : CheckCase) (v slots : List ℕ) {r : List ℕ} → ((i : ℕ) → get_or v i 0 < 256) → length slots ≡ length v → EachIndex v (λ i. Hashed (get_or v i 0) (get_or slots i 0)) → r ≡ zip2 (hashed_check c) v slots → AreChecked c v r
-checks_right c v slots small same hashed is i h =
-    check_is_right c (get_or v i 0) _ _ (small i) (hashed i h) (zipped_at (hashed_check c) v slots i is h (omega arith))
+checks_right c v slots {r} small same hashed is i h =
+    let b = get_or v i 0 in let s = hashed i h in
+    let test = is_right (λ x k. ltb (hashed_check c x (hash x k)) 128) (λ x k. has c x) (all_right c).0 b s.0 (small i) s.1 in
+    let q : ltb (get_or r i 0) 128 ≡ has c b = rw (zipped_at (hashed_check c) v slots i is h (omega arith), s.2) test in
+    (λ lt. sym q ∙ lt-ltb (get_or r i 0) 128 lt, λ t. ltb-true (get_or r i 0) 128 (q ∙ t))

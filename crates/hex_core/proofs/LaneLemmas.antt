@@ -173,10 +173,7 @@ max_low x y = (λ h. (omega arith, omega arith), λ p. let a = p.0 in let b = p.
 pub or_small : (x y : ℕ) → (bit_or x y < 16) ↔ ((x < 16) × (y < 16))
 or_small x y = (λ h. (omega (arith, h, le_or_l x y), omega (arith, h, le_or_r x y)), λ p. or_lt 4 x y p.0 p.1)
 
-high_bits_zero : agree_below (λ x. eqb (bit_and x 240) 0) (λ x. ltb x 16) 256 ≡ true
-high_bits_zero = refl
-
 pub high_bits_are_zero : (x : ℕ) → x < 256 → (bit_and x 240 ≡ 0) ↔ (x < 16)
 high_bits_are_zero x h =
-    let same = agree_below_at (λ x. eqb (bit_and x 240) 0) (λ x. ltb x 16) 256 x high_bits_zero h in
+    let same = agree_below_at (λ x. eqb (bit_and x 240) 0) (λ x. ltb x 16) 256 x refl h in
     (λ z. ltb-true x 16 (sym same ∙ rw z refl), λ lt. eqb-true _ _ (same ∙ lt-ltb x 16 lt))

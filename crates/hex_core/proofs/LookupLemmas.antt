@@ -13,13 +13,9 @@ use Rattle.hex_core.proofs.LaneLemmas.{lane_below, mapped_at}
 abbrev pub slot : ℕ → ℕ
 slot a = bit_and a 143
 
-slots_are_right : (agree_below (λ a. eqb (slot a) (cond (leb 128 a) (128 + a % 16) (a % 16))) always 256 ≡ true)
-    × (agree_below (λ a. zeroes 16 w8 (slot a) || ltb (slot a) 16) always 256 ≡ true) × (agree_below (λ a. zeroes 16 w8 (slot a)) (λ a. leb 128 a) 256 ≡ true)
-slots_are_right = (refl, refl, refl)
-
 all_in_row : (v : List ℕ) → Each1 (Fits w8) v → Each1 (λ j. T (zeroes 16 w8 j || ltb j 16)) (map slot v)
 all_in_row [] f = tt
-all_in_row (x ∷ xs) f = (subst T (sym (agree_below_at (λ a. zeroes 16 w8 (slot a) || ltb (slot a) 16) always 256 x slots_are_right.1 f.0.fits)) tt, all_in_row xs f.1)
+all_in_row (x ∷ xs) f = (subst T (sym (agree_below_at (λ a. zeroes 16 w8 (slot a) || ltb (slot a) 16) always 256 x refl f.0.fits)) tt, all_in_row xs f.1)
 
 -- the positions are those that std's look-up takes, in a vector of b times sixteen lanes
 pub look_up_ok : (b n : ℕ) (v js : List ℕ) → (length v ≡ n) × Each1 (Fits w8) v → js ≡ map slot v → n ≡ b * 16 → SwzOk w8 16 n 0 js
@@ -45,9 +41,9 @@ look_up_is b n row t v js f is e rows =
     let a = get_or v i 0 in
     let A : a < 256 = lane_below v f.1 i in
     let at : get_or js i 0 ≡ slot a = mapped_at slot v i is (omega (arith, f.0)) in
-    let none : zeroes 16 w8 (get_or js i 0) ≡ leb 128 a = ap (zeroes 16 w8) at ∙ agree_below_at (λ x. zeroes 16 w8 (slot x)) (λ x. leb 128 x) 256 a slots_are_right.2 A in
+    let none : zeroes 16 w8 (get_or js i 0) ≡ leb 128 a = ap (zeroes 16 w8) at ∙ agree_below_at (λ x. zeroes 16 w8 (slot x)) (λ x. leb 128 x) 256 a refl A in
     get_or-swz_l w8 16 t 0 js i (omega arith) ∙ ap (λ z. cond z 0 (get_or t (16 * ((0 + i) / 16) + get_or js i 0) 0)) none
-    ∙ entry_of row t n i a (get_or js i 0) b (leb 128 a) refl (at ∙ eqb-true _ _ (agree_below_at (λ x. eqb (slot x) (cond (leb 128 x) (128 + x % 16) (x % 16))) always 256 a slots_are_right.0 A)) lt e rows ∙ sym (get_or-map (entry row) v i 0 0 (omega (arith, f.0))))
+    ∙ entry_of row t n i a (get_or js i 0) b (leb 128 a) refl (at ∙ eqb-true _ _ (agree_below_at (λ x. eqb (slot x) (cond (leb 128 x) (128 + x % 16) (x % 16))) always 256 a refl A)) lt e rows ∙ sym (get_or-map (entry row) v i 0 0 (omega (arith, f.0))))
 
 -- the places of a row, over and over
 abbrev pub over : ℕ → ℕ → List ℕ

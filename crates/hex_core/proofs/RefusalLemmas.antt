@@ -1,12 +1,11 @@
 -- What a refusal that is an invalid character names.
-use Rattle.std.proofs.Common.{◌≡◌, ℕ, List, Option, Some, None, refl, arith}
+use Rattle.std.proofs.Common.{◌≡◌, ℕ, List, Option, Some, None, refl}
 use Rattle.std.specs.Prelude.{option_map, slice_index}
-use Rattle.std.proofs.lemmas.Bool.Decides.{nat_tests}
 use Rattle.hex_core.specs.declared.digit.CheckCase.{CheckCase}
 use Rattle.hex_core.specs.declared.error.Error.TheVariants.{InvalidChar}
 use Rattle.hex_core.specs.Digit.{value}
 use Rattle.hex_core.specs.Laws.{NamesFirstInvalid}
-use Rattle.hex_core.specs.Refusal.{array_refusal, decode_refusal, first_bad_char, source_refusal}
+use Rattle.hex_core.specs.Refusal.{first_bad_char}
 use Rattle.hex_core.specs.Search.{first_invalid}
 use Rattle.hex_core.proofs.SearchLemmas.{first_is_first}
 
@@ -20,13 +19,3 @@ bad_char_is_first c s None e i b h = absurd (cc h)
 
 pub bad_char_names_first : NamesFirstInvalid first_bad_char
 bad_char_names_first c s i b h = bad_char_is_first c s (first_invalid c s) refl i b h
-
--- a refusal that is an invalid character is that one
-pub decode_names_first : (room : ℕ) → NamesFirstInvalid (λ c s. decode_refusal c s room)
-decode_names_first room c s i b h = bad_char_names_first c s i b (grind (arith, nat_tests, h))
-
-pub array_names_first : (n : ℕ) → NamesFirstInvalid (λ c s. array_refusal c s n)
-array_names_first n c s i b h = bad_char_names_first c s i b (grind (arith, nat_tests, h))
-
-pub source_names_first : NamesFirstInvalid source_refusal
-source_names_first c s i b h = bad_char_names_first c s i b (grind (arith, nat_tests, h))
