@@ -1,6 +1,6 @@
 -- The hash map at each byte beside each neighbour.
-use Rattle.std.proofs.Common.{◌≡◌, ℕ, ◌-◌, ◌<◌, ◌↔◌, Bool, true, ltb, List, [], ◌∷◌, map, length, get_or, bit_and, bit_or, bit_xor, refl, sym, ap, ◌∙◌, ltb-true, lt-ltb, arith}
-use Rattle.std.specs.Prelude.{EachIndex, IfSome, IsSome}
+use Rattle.std.proofs.Common.{◌≡◌, ℕ, ◌-◌, ◌<◌, Bool, true, ltb, List, [], ◌∷◌, map, length, get_or, bit_and, bit_or, bit_xor, refl, sym, ap, ◌∙◌, ltb-true, lt-ltb, arith}
+use Rattle.std.specs.Prelude.{EachIndex}
 use Rattle.std.proofs.lemmas.Bool.{agree_below, agree_below_at}
 use Rattle.std.proofs.lemmas.Bool.Decides.{nat_tests}
 use lib.Lanes.{zip2}

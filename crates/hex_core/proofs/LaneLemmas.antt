@@ -1,13 +1,11 @@
 -- What an operation makes of the lanes of a vector.
-use Rattle.std.proofs.Common.{◌≡◌, ℕ, zero, suc, ◌+◌, ◌-◌, ◌*◌, ◌/◌, ◌^◌, ◌%◌, ◌<◌, ◌≤◌, ◌↔◌, Bool, true, false, not, ◌&&◌, cond, ltb, eqb, eqb-true, List, [], ◌∷◌, map, length, get_or, replicate, bit_and, bit_or, refl, ap, ap₂, sym, ◌∙◌, subst, Fits, w8, arith, ltb-true, ltb-false, lt-ltb}
+use Rattle.std.proofs.Common.{◌≡◌, ℕ, zero, suc, ◌+◌, ◌-◌, ◌/◌, ◌^◌, ◌%◌, ◌<◌, ◌≤◌, ◌↔◌, Bool, true, false, not, cond, ltb, eqb, eqb-true, List, [], ◌∷◌, map, length, get_or, replicate, bit_and, bit_or, refl, ap, ap₂, sym, ◌∙◌, subst, Fits, w8, arith, ltb-true, ltb-false, lt-ltb}
 use Rattle.std.specs.Prelude.{EachIndex, IsTrue, max, min}
-use Rattle.std.specs.List.{list_all}
-use Rattle.std.proofs.lemmas.Bool.{ne_eqb, agree_below, agree_below_at}
-use Rattle.std.proofs.lemmas.Bool.Decides.{nat_tests}
-use Rattle.std.proofs.lemmas.List.{get_or-map, get_or_default, length-map, map-id}
-use Rattle.std.proofs.lemmas.List.Sums.{AllPass-from_list_all, list_all-from_AllPass}
+use Rattle.std.proofs.lemmas.Bool.{agree_below_at, not-false, not-true}
+use Rattle.std.proofs.lemmas.List.{get_or-map, length-map, map-id}
+use Rattle.std.proofs.lemmas.List.Sums.{prefix_len_passes}
 use Rattle.std.proofs.lemmas.Nat.{le_or_l, le_or_r, or_lt}
-use Rattle.std.proofs.lemmas.Simd.{Each1-zip2, Each2-of, get_or-zip2, length-zip2, map-map, zip2_splat}
+use Rattle.std.proofs.lemmas.Simd.{Each1-zip2, Each2-of, get_or-zip2, leading_from_mask_l, length-zip2, map-map, zip2_splat}
 use lib.Lanes.{zip2, sel_l, top, mask_l, Each1}
 use Rattle.hex_core.specs.Arithmetic.{AreZero, pair_byte, saturating_add, wrapping_sub}
 use Rattle.hex_core.specs.Hash.{average}
@@ -122,25 +120,18 @@ pair_bytes_fit (x ∷ xs) = (record { fits = omega arith }, pair_bytes_fit xs)
 
 -- ---- tests of all lanes
 
--- a list passes at each place, or all of it does
-pass_places : (p : ℕ → Bool) (v : List ℕ) → (list_all p v ≡ true) ↔ EachIndex v (λ k. p (get_or v k 0) ≡ true)
-pass_places p v = (λ e k h. AllPass-from_list_all p v e k 0 h, λ all. list_all-from_AllPass p v (λ k d h. rw (get_or_default v k d 0 h) (all k h)))
-
 -- a mask of the lanes that are not 0 is 0 where all are
-none_set : (v : List ℕ) → eqb (mask_l (map (λ x. not (eqb x 0)) v)) 0 ≡ list_all (λ x. eqb x 0) v
-none_set [] = refl
-none_set (x ∷ xs) = go (eqb x 0) (mask_l (map (λ x. not (eqb x 0)) xs)) _ (none_set xs)
-  where
-    go : (t : Bool) (m : ℕ) (b : Bool) → eqb m 0 ≡ b → eqb (cond (not t) 1 0 + 2 * m) 0 ≡ (t && b)
-    go true m b e = rw (← e) (grind (arith, nat_tests))
-    go false m b e = ne_eqb (1 + 2 * m) 0 (omega arith)
+no_bits : (v : List ℕ) → AreZero v → mask_l (map (λ x. not (eqb x 0)) v) ≡ 0
+no_bits [] none = refl
+no_bits (x ∷ v) none = rw (none 0 (omega arith), no_bits v (λ i h. none (suc i) (omega arith))) refl
 
 pub no_bit_set : (v : List ℕ) → IsTrue (eqb (mask_l (map (λ x. not (eqb x 0)) v)) 0) ↔ AreZero v
-no_bit_set v =
-    let places = pass_places (λ x. eqb x 0) v in (
-      λ t i h. eqb-true _ _ (places.0 (sym (none_set v) ∙ t) i h),
-      λ zero. none_set v ∙ places.1 (λ i h. rw (zero i h) refl),
-    )
+no_bit_set v = (
+  λ t i h.
+      let all = leading_from_mask_l (λ x. not (eqb x 0)) v (eqb-true _ _ t) in
+      eqb-true _ _ (not-false _ (not-true _ (prefix_len_passes (λ x. not (not (eqb x 0))) v i 0 (omega arith)))),
+  λ none. rw (no_bits v none) refl,
+)
 
 -- a computed vector passes where each byte has a property
 pub passes_where : (f : ℕ → ℕ) (Q P : ℕ → Type 0) → ((x : ℕ) → x < 256 → Q (f x) ↔ P x) → (v : List ℕ) {r : List ℕ} → Each1 (Fits w8) v → r ≡ map f v
