@@ -42,8 +42,9 @@ look_up_is b n row t v js f is e rows =
     let A : a < 256 = lane_below v f.1 i in
     let at : get_or js i 0 ≡ slot a = mapped_at slot v i is (omega (arith, f.0)) in
     let none : zeroes 16 w8 (get_or js i 0) ≡ leb 128 a = ap (zeroes 16 w8) at ∙ agree_below_at (λ x. zeroes 16 w8 (slot x)) (λ x. leb 128 x) 256 a refl A in
+    let is_slot = at ∙ eqb-true _ _ (agree_below_at (λ x. eqb (slot x) (cond (leb 128 x) (128 + x % 16) (x % 16))) always 256 a refl A) in
     get_or-swz_l w8 16 t 0 js i (omega arith) ∙ ap (λ z. cond z 0 (get_or t (16 * ((0 + i) / 16) + get_or js i 0) 0)) none
-    ∙ entry_of row t n i a (get_or js i 0) b (leb 128 a) refl (at ∙ eqb-true _ _ (agree_below_at (λ x. eqb (slot x) (cond (leb 128 x) (128 + x % 16) (x % 16))) always 256 a refl A)) lt e rows ∙ sym (get_or-map (entry row) v i 0 0 (omega (arith, f.0))))
+    ∙ entry_of row t n i a (get_or js i 0) b (leb 128 a) refl is_slot lt e rows ∙ sym (get_or-map (entry row) v i 0 0 (omega (arith, f.0))))
 
 -- the places of a row, over and over
 abbrev pub over : ℕ → ℕ → List ℕ

@@ -17,9 +17,8 @@ pub block_step : (upper : Bool) (src dst : List ℕ) (i w m at to : ℕ) → len
     → take at dst ≡ text upper (take i src) → take to (put_chunk at dst (text upper (chunk i w src))) ≡ text upper (take m src)
 block_step upper src dst i w m at to ratio room e p q front =
     let block = text upper (chunk i w src) in
-    let long : length block ≡ 2 * w = length-text upper (chunk i w src) ∙ ap (λ n. 2 * n) (length-chunk i w src (omega arith)) in
-    take_more_put_chunk at dst block to (omega arith) (omega arith) ∙ ap (λ l. l ++ block) front ∙ sym (text-append upper (take i src) (chunk i w src))
-    ∙ ap (text upper) (sym (take-add i w src) ∙ ap (λ n. take n src) (sym e))
+    let long : length block ≡ 2 * w = omega (arith, length-text upper (chunk i w src), length-chunk i w src (omega arith)) in
+    rw (take_more_put_chunk at dst block to (omega arith) (omega arith), front, e, take-add i w src) (sym (text-append upper (take i src) (chunk i w src)))
 
 -- a last block, of the w bytes from i on, overlaps the first j, which are written
 pub block_last : (upper : Bool) (src dst : List ℕ) (i w j at to : ℕ) → length dst ≡ 2 * length src → length src ≡ i + w → i ≤ j → j ≤ length src → at ≡ 2 * i → to ≡ 2 * j

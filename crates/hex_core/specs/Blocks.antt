@@ -10,12 +10,8 @@ pub record NibblesFrom (c : CheckCase) (s : List ℕ) (at n : ℕ) (lanes : List
   pub long : length lanes ≡ n
   pub each : (k : ℕ) → k < n → IsNibble (value c (slice_index s (at + k))) (slice_index lanes k)
 
--- the bytes of a range are what their pairs of digits spell
-abbrev pub SpellsRange : CheckCase → List ℕ → List ℕ → ℕ → ℕ → Type 0
-SpellsRange c s bytes start end = (k : ℕ) → start ≤ k → k < end → SpellsAt c s bytes k
-
 -- the bytes of a range were decoded, and the others are as they were
 pub record DecodesRange (c : CheckCase) (s old new : List ℕ) (start end : ℕ) : Type 0 where
-  pub decoded : SpellsRange c s new start end
+  pub decoded : (k : ℕ) → start ≤ k → k < end → SpellsAt c s new k
   pub before : (k : ℕ) → k < start → slice_index new k ≡ slice_index old k
   pub behind : (k : ℕ) → end ≤ k → slice_index new k ≡ slice_index old k

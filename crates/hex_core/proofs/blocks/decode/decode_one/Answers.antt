@@ -5,10 +5,9 @@ use Rattle.hex_core.proofs.BlockLemmas.{block_decodes, decodes_whole, small_vali
 use Rattle.hex_core.proofs.blocks.decode.decode_one.Goals as goal
 
 pub returns-then-not-is_small : goal.returns-then-not-is_small
-returns-then-not-is_small g c = (
-  iff_false (↔_trans c.is_small.ensures (↔_trans (small_valid g.row.N c.nibbles_at-nibbles.ensures (omega arith)) (valid_whole c.args.case c.args.src.now g.row.N (omega arith)))) c.if-not-is_small.true,
-  refl,
-)
+returns-then-not-is_small g c =
+    let whole = ↔_trans (small_valid g.row.N c.nibbles_at-nibbles.ensures (omega arith)) (valid_whole c.args.case c.args.src.now g.row.N (omega arith)) in
+    (iff_false (↔_trans c.is_small.ensures whole) c.if-not-is_small.true, refl)
 
 pub returns : goal.returns
 returns g c =
