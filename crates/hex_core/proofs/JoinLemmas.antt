@@ -14,10 +14,7 @@ use Rattle.hex_core.proofs.RefusalLemmas.{bad_char_names_first}
 use Rattle.hex_core.proofs.SearchLemmas.{first_is_first, lacks}
 use Rattle.hex_core.proofs.SpellsLemmas.{front_spells, spelled_along}
 
--- a byte of the first of two sources, and one of the second
-front_at : (a b : List ℕ) (i : ℕ) → i < length a → get_or (a ++ b) i 0 ≡ get_or a i 0
-front_at a b i lt = get_or_append_left a b 0 i lt
-
+-- a byte of the second of two sources
 pub back_at : (a b : List ℕ) (i all : ℕ) → all ≡ length a + i → get_or (a ++ b) all 0 ≡ get_or b i 0
 back_at a b i all place =
     let index : all - length a ≡ i = omega (arith, place) in
@@ -31,7 +28,7 @@ spells-joined c a b x y first second =
     record {
       twice = omega (arith, length-append a b);
       each = λ i lt. elim (cases_lt i (length x)) [
-        | inl left ↦ spelled_along (first.each i left) (front_at a b (2 * i) (omega arith)) (front_at a b (2 * i + 1) (omega arith)) (front_at x y i left)
+        | inl left ↦ spelled_along (first.each i left) (get_or_append_left a b 0 (2 * i) (omega arith)) (get_or_append_left a b 0 (2 * i + 1) (omega arith)) (get_or_append_left x y 0 i left)
         | inr right ↦
             let j = i - length x in
             spelled_along (second.each j (omega arith)) (back_at a b (2 * j) (2 * i) (omega arith)) (back_at a b (2 * j + 1) (2 * i + 1) (omega arith)) (back_at x y j i (omega arith))
@@ -44,7 +41,7 @@ spells-parts c a b bytes even spells =
     let n = length a / 2 in
     let half : length a ≡ 2 * n = omega arith in
     let all = length-append a b in let twice = spells.twice in let size = length-drop n bytes in (
-      front_spells c (a ++ b) a bytes n half (omega arith) (λ k lt. sym (front_at a b k (omega arith))) (λ i lt. spells.each i (omega arith)),
+      front_spells c (a ++ b) a bytes n half (omega arith) (λ k lt. sym (get_or_append_left a b 0 k (omega arith))) (λ i lt. spells.each i (omega arith)),
       record {
         twice = omega arith;
         each = λ i lt.
@@ -69,7 +66,7 @@ pub bad-front : (c : CheckCase) (a b : List ℕ) (e : Error) → first_bad_char 
 bad-front c a b e is = by_first (first_invalid c a) refl is
   where
     by_first : (o : Option ℕ) → first_invalid c a ≡ o → option_map (λ f. InvalidChar f (get_or a f 0)) o ≡ Some e → first_bad_char c (a ++ b) ≡ Some e
-    by_first (Some f) at named = rw (invalid-joined c a b, at, front_at a b f (first_is_first c a f at).0) named
+    by_first (Some f) at named = rw (invalid-joined c a b, at, get_or_append_left a b 0 f (first_is_first c a f at).0) named
     by_first None at named = absurd (cc named)
 
 -- and moves behind digits that are valid

@@ -17,13 +17,6 @@ use Rattle.hex_core.proofs.SpellsLemmas.{front_spells, spelled_along}
 
 -- ---- a part that is decoded, seen in the whole
 
-put_before : (old part : List ℕ) (from n i : ℕ) → i < from → from ≤ length old → get_or (put_mid from n old part) i 0 ≡ get_or old i 0
-put_before old part from n i h inside = grind (arith, common_steps)
-
-put_part : (old part : List ℕ) (from n i : ℕ) → from ≤ i → i < from + length part → from ≤ length old
-    → get_or (put_mid from n old part) i 0 ≡ get_or part (i - from) 0
-put_part old part from n i low lt inside = grind (arith, common_steps)
-
 -- a part that is put back as it was
 pub part_same : (old part : List ℕ) (from : ℕ) → from ≤ length old → part ≡ slice_range old from (length old) → put_mid from (length old - from) old part ≡ old
 part_same old part from inside is = grind (arith, common_steps)
@@ -40,8 +33,8 @@ part_decoded c s old part from twice inside long spells =
       decoded = λ k low lt.
           let j = k - from in
           spelled_along (spells.each j (omega arith)) (digit (2 * j) (2 * k) (omega arith) (omega arith)) (digit (2 * j + 1) (2 * k + 1) (omega arith) (omega arith))
-          (put_part old part from (length old - from) k low (omega arith) inside);
-      before = λ k lt. put_before old part from (length old - from) k lt inside;
+          (grind (arith, common_steps));
+      before = λ k lt. grind (arith, common_steps);
       behind = λ k h. grind (arith, common_steps);
     }
 
