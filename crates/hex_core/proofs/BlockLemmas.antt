@@ -116,13 +116,11 @@ valid_chunk c s at n end all inside = (
 pub valid_nibbles_chunk : (c : CheckCase) (s v : List ℕ) (at n : ℕ) → at + n ≤ length s → ((k : ℕ) → Fits w8 (get_or s k 0)) → AllValid c s at (at + n) → v ≡ map valid_nibble (chunk at n s) → NibblesFrom c s at n v × AreSmall v
 valid_nibbles_chunk c s v at n inside fits valid is =
     let wide : length (chunk at n s) ≡ n = length-chunk at n s inside in
+    let lane : (k : ℕ) → k < n → (value c (get_or s (at + k) 0) ≡ Some (get_or v k 0)) × (get_or v k 0 < 16) = λ k h.
+    rw (mapped_at valid_nibble (chunk at n s) k is (omega arith), get_or-chunk at n s k 0 h)
+    (valid_value c (get_or s (at + k) 0) (fits (at + k)).fits (valid (at + k) (omega arith) (omega arith))) in
     let long : length v ≡ n = ap length is ∙ length-map (chunk at n s) valid_nibble ∙ wide in
-    let lane : (k : ℕ) → k < n → get_or v k 0 ≡ valid_nibble (get_or s (at + k) 0) = λ k h. mapped_at valid_nibble (chunk at n s) k is (omega arith) ∙ ap valid_nibble (get_or-chunk at n s k 0 h) in
-    let good : (k : ℕ) → k < n → (value c (get_or s (at + k) 0) ≡ Some (valid_nibble (get_or s (at + k) 0))) × (valid_nibble (get_or s (at + k) 0) < 16) =
-    λ k h. valid_value c (get_or s (at + k) 0) (fits (at + k)).fits (valid (at + k) (omega arith) (omega arith)) in (
-      record { long = long; each = λ k h. subst (λ o. IsNibble o (get_or v k 0)) (sym (good k h).0) (lane k h) },
-      λ k h. rw (lane k (omega arith)) (good k (omega arith)).1,
-    )
+    (record { long = long; each = λ k h. subst (λ o. IsNibble o (get_or v k 0)) (sym (lane k h).0) refl }, λ k h. (lane k (omega arith)).1)
 
 -- all nibbles of a block are below 16 exactly where it is valid
 digit_of : (o : Option ℕ) (n : ℕ) → IsNibble o n → n < 16 → o ≡ Some n

@@ -2,12 +2,11 @@
 use Rattle.std.proofs.Common.{◌≡◌, ℕ, ◌-◌, ◌<◌, Bool, true, ltb, List, [], ◌∷◌, map, length, get_or, bit_and, bit_or, bit_xor, refl, sym, ap, ◌∙◌, ltb-true, lt-ltb, arith}
 use Rattle.std.specs.Prelude.{EachIndex}
 use Rattle.std.proofs.lemmas.Bool.{agree_below, agree_below_at}
-use Rattle.std.proofs.lemmas.Bool.Decides.{nat_tests}
 use lib.Lanes.{zip2}
 use Rattle.hex_core.specs.declared.digit.CheckCase.{CheckCase}
 use Rattle.hex_core.specs.declared.digit.CheckCase.TheVariants as policy
 use Rattle.hex_core.specs.Digit.{value}
-use Rattle.hex_core.specs.Hash.{Hashed, check_row, hash, hashed_check, hashed_value, neighbour_bits}
+use Rattle.hex_core.specs.Hash.{Hashed, check_row, hash, hashed_check, hashed_value}
 use Rattle.hex_core.specs.Lanes.{AreChecked, AreValues, IsNibble}
 use Rattle.hex_core.specs.Lookup.{entry}
 use Rattle.hex_core.proofs.ByteLemmas.{always, has, nibble_by, nibble_test, value_by, value_test}
@@ -37,9 +36,6 @@ nibble_is_right c b slot r v check B s p q e =
     rw (e, p, q, s.2) (nibble_by (value c b) (marked (hashed_value b (hash b s.0)) (hashed_check c b (hash b s.0))) test)
 
 -- ---- the lanes
-
-pub neighbour_small : (v : List ℕ) (i : ℕ) → neighbour_bits v i < 8
-neighbour_small v i = grind (arith, nat_tests)
 
 -- the difference between two turns of the sign
 pub checks_are : (c : CheckCase) (v w : List ℕ)
