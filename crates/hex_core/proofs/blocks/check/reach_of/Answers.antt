@@ -17,3 +17,6 @@ turns-preserved g c =
     let block = ↔_trans c.reach.ensures.low (valid_chunk c.args.case c.args.src.now at n (at + n) refl (omega (arith, inside))) in
     both_valid c.args.case c.args.src.now start at at (at + n) (start + (c.turns.i + 1) * n) c.larger-farthest.ensures.low c.turns.invariant block
     (omega (arith, next)) (omega arith) (omega arith) (omega (arith, next))
+
+pub returns : goal.returns
+returns g c = let all : c.turns.i ≡ g.row.K = omega arith in rw (← all) c.turns.invariant

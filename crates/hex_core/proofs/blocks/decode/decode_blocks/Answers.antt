@@ -36,3 +36,6 @@ returns g c =
       stopped = λ inside valid. absurd (omega (arith, blocks_past n size c.requires.0));
       decoded = rw all at c.turns.invariant.decoded;
     }
+
+pub decode_at-requires : goal.decode_at-requires
+decode_at-requires g c = (omega arith, omega (arith, block_inside (length c.args.dst.now) g.row.SIZE c.turns.i (omega arith) (omega arith)))
