@@ -8,6 +8,7 @@ ghost use Rattle.hex_operations.specs.Operations.{NeedsMemory, Runs, RunsBy, op_
 
 use hex_codec::hex_decode_vec_with_case;
 use hex_core::{CheckCase, Error};
+use hex_format::laws::{a_bare_text_is_its_digits, puts_in_a_row_are_one};
 use hex_format::{Hex, HexFlags, Sink, WriteFault, put_all};
 use std::alloc::{Allocator, Global};
 
@@ -93,6 +94,8 @@ fn put_text<S: Sink>(bytes: &[u8], upper: bool, sink: &mut S) -> Result<(), Writ
     requires { (S.state sink.old).failures < 2 ^ 64 - 1 }
     ensures { Puts (S.state sink.old) (S.state sink.new) result (text upper bytes.now ++ 10 ∷ []) }
 {
+    a_bare_text_is_its_digits();
+    puts_in_a_row_are_one();
     let flags = HexFlags {
         upper,
         ..HexFlags::default()
