@@ -8,9 +8,8 @@ ghost use Rattle.hex_format.specs.Frame.{frame};
 ghost use Rattle.faster_hex_c.specs.Answers.{WritesGrouped};
 
 use hex_codec::Group;
-use hex_codec::laws::reading_inverts_grouping;
+use hex_codec::laws::a_grouped_text_is_digits_and_separators;
 use hex_core::Error;
-use hex_core::laws::a_slice_holds_bytes;
 use hex_format::laws::a_bare_text_is_its_digits;
 use hex_format::{Hex, HexFlags, SliceSink, WriteFault};
 
@@ -40,9 +39,8 @@ fn write_groups(bytes: &[u8], dst: &mut [u8], upper: bool, group: Group)
     requires { grouped_len (piece_len group) (length bytes.now) ≤ length dst.old }
     ensures { dst.new ≡ with_front dst.old (grouped group upper bytes.now) }
 {
-    a_slice_holds_bytes(bytes);
     a_bare_text_is_its_digits();
-    reading_inverts_grouping();
+    a_grouped_text_is_digits_and_separators();
     let flags = HexFlags {
         upper,
         group: Some(group),
