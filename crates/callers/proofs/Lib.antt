@@ -1,5 +1,3 @@
 mod DumpLemmas
 mod PartsLemmas
-mod PutLemmas
-mod SinkLemmas
 mod UpdateLemmas

@@ -50,9 +50,8 @@ fn put_lines<S: Sink>(bytes: &[u8], group: Group, sink: &mut S) -> Result<(), Wr
     ensures { Puts (S.state sink.old) (S.state sink.new) result (dump_of group bytes.now) }
 {
     puts_in_a_row_are_one();
-    'lines: for i in 0..bytes.len().div_ceil(LINE) {
-        let rest = &bytes[LINE * i..];
-        put_line(&rest[..LINE.min(rest.len())], group, sink)?;
+    'lines: for line in bytes.chunks(LINE) {
+        put_line(line, group, sink)?;
     }
     Ok(())
 }
@@ -86,14 +85,9 @@ pub fn read_dump(dump: &[u8], group: Group, buffer: &mut [u8]) -> Option<usize>
     ensures { ReadsDump group dump.now buffer.old buffer.new result }
 {
     a_grouped_text_is_digits_and_separators();
-    let full = line_len(group);
-    let mut at = 0;
     let mut total = 0;
-    'lines: while at < dump.len() {
-        let rest = &dump[at..];
-        let line = &rest[..full.min(rest.len())];
+    'lines: for line in dump.chunks(line_len(group)) {
         total += read_line(line, group, &mut buffer[total..])?;
-        at += line.len();
     }
     Some(total)
 }

@@ -78,17 +78,12 @@ pub fn lowercase_line(line: &mut [u8], group: Group) -> bool
     ensures { LowercasesLine group line.old line.new result }
 {
     a_text_spells_one_list();
-    a_bare_text_is_its_digits();
     reading_inverts_grouping();
     let mut bytes = [0; 16];
     let Ok(count) = read_into(line, &mut bytes, group, CheckCase::None) else {
         return false;
     };
-    let flags = HexFlags {
-        group: Some(group),
-        ..HexFlags::default()
-    };
-    write_line(&bytes[..count], &flags, line).is_ok()
+    write_group(&bytes[..count], group, line)
 }
 
 /// Writes the grouped text of some bytes into the front of a line, where it fits: its length is known
