@@ -3,34 +3,27 @@ use Rattle.std.proofs.Common.{◌≡◌, ◌∙◌, ◌⊎◌, inl, inr, ℕ, �
 use Rattle.std.specs.Prelude.{IfSome}
 use Rattle.std.specs.Io.KnownBytes.{Consumes}
 use Rattle.std.proofs.Math.Seq.{take-append_seam}
-use borrow.Rule.Slice.PartMut.{post_of, put_mid}
 use lib.Seq.{take-append-add}
 use Rattle.std.proofs.lemmas.Bool.Decides.{nat_tests}
-use Rattle.std.proofs.lemmas.List.{length-take-le, take-append-le}
 use Rattle.hex_core.specs.declared.digit.CheckCase.{CheckCase}
 use Rattle.hex_core.specs.declared.error.Error.{Error}
 use Rattle.hex_core.specs.Refusal.{source_refusal}
-use Rattle.hex_core.specs.Text.{with_front}
 use Rattle.hex_core.proofs.JoinLemmas.{back_at, bad-front}
 use Rattle.hex_codec.specs.Stream.{Feeds, HasFed, pairs_more, policy_of}
 use Rattle.hex_codec.specs.declared.stream.Decoder.{Decoder}
 use Rattle.hex_codec.proofs.StreamLemmas.{refused-byte}
 use Rattle.hex_program.specs.declared.failure.Failure.{Failure}
-use Rattle.hex_program.specs.declared.failure.Failure.TheVariants.{Codec, Usage, ReadFailed, WriteFailed, OutOfMemory, InputTooLong}
+use Rattle.hex_program.specs.declared.failure.Failure.TheVariants.{Codec, OutOfMemory}
 use Rattle.hex_program.specs.Decoding.{DecodingFailure, EndsRefused, Kept}
 use Rattle.hex_program.specs.Input.{ReadsAll, input_limit}
 use Rattle.hex_operations.specs.Operations.{without_newline}
-
--- what was written to the front of a buffer
-front-written : (old bytes : List ℕ) (n : ℕ) → n ≡ length bytes → take n (with_front old bytes) ≡ bytes
-front-written old bytes n is = rw is (take-append_seam bytes (drop (length bytes) old))
 
 -- valid digits more
 pub kept-fed : (before digits old new bytes : List ℕ) (d d' : Decoder) (o : Option Error) (count n : ℕ) → is_some o ≡ false
     → Feeds d d' digits old new (Ok n) → Kept before d bytes o count → Kept (before ++ digits) d' (bytes ++ take n new) o (count + length digits)
 kept-fed before digits old new bytes d d' None count n none feeds (counted, fed) =
     let more = feeds before bytes fed in
-    let front : take n new ≡ more.1.0 = ap (take n) more.1.2 ∙ front-written old more.1.0 n more.1.1 in (
+    let front : take n new ≡ more.1.0 = rw (more.1.2, more.1.1) (take-append_seam more.1.0 (drop (length more.1.0) old)) in (
       omega (arith, counted, length-append before digits),
       rw front more.1.3,
     )
@@ -69,22 +62,11 @@ strip-behind a b (inr some) =
     let long : 0 < length (a ++ b) = omega (arith, some, length-append a b) in
     grind (arith, nat_tests, last, cut, long, some)
 
--- the front of a buffer into which n bytes were read behind those that it held
-pub read-front : (chunk buf : List ℕ) (held k n : ℕ) → held ≤ length chunk → n ≤ length buf → take (held + n) (put_mid held k chunk buf) ≡ take held chunk ++ take n buf
-read-front chunk buf held k n inside given =
-    let behind : List ℕ = post_of held k chunk in
-    ap (λ m. take (m + n) (take held chunk ++ (buf ++ behind))) (sym (length-take-le held chunk inside))
-    ∙ take-append-add (take held chunk) (buf ++ behind) n
-    ∙ ap (λ l. take held chunk ++ l) (take-append-le n buf behind given)
-
 -- how the decoding of all that was read ends, is why it has no bytes
 pub refused-all : (c : CheckCase) (left left' : Option (List ℕ)) (input : List ℕ) (f : Failure) → ReadsAll left left' input → EndsRefused (source_refusal c (without_newline input)) f → DecodingFailure c left left' f
 refused-all c left left' input (Codec e) all refused = (input, all, refused)
 refused-all c left left' input OutOfMemory all refused = tt
-refused-all c left left' input ReadFailed all refused = absurd refused
-refused-all c left left' input InputTooLong all refused = absurd refused
-refused-all c left left' input Usage all refused = absurd refused
-refused-all c left left' input WriteFailed all refused = absurd refused
+refused-all c left left' input f all refused = absurd refused
 
 -- an input that begins with more bytes than the limit is longer
 pub longer : (left left' : Option (List ℕ)) (read : List ℕ) → Consumes left left' read → input_limit < length read → IfSome left (λ bytes. input_limit < length bytes)

@@ -35,5 +35,4 @@ serves_run Outputs refusal_of needs input left left' held' old new (Err (fault.C
   refused = λ is_one. record { input = input; refusal = e; read = all; is_refusal = runs.0; kept = Keeps-trans old.taken new.taken held' runs.1.0 kept };
   statuses = inr (inl refl);
 })
-serves_run Outputs refusal_of needs input left left' held' old new (Err (fault.Write why)) ended all runs kept ends = served_at_three Outputs refusal_of left left' old.taken held' _ (ap status_after ends)
-serves_run Outputs refusal_of needs input left left' held' old new (Err fault.OutOfMemory) ended all runs kept ends = served_at_three Outputs refusal_of left left' old.taken held' _ (ap status_after ends)
+serves_run Outputs refusal_of needs input left left' held' old new (Err why) ended all runs kept ends = served_at_three Outputs refusal_of left left' old.taken held' _ (ap status_after ends)

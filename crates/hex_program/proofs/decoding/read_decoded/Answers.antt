@@ -1,16 +1,17 @@
 -- What was read is taken, but for the last byte.
 use Rattle.std.proofs.Common.{rules, arith, ◌≡◌, ◌⊎◌, ◌∙◌, ◌++◌, ◌+◌, ◌-◌, ◌≤◌, inl, inr, ℕ, List, [], length, length-append, take, ap, sym, subst, append-nil, append_assoc}
 use Rattle.std.proofs.KnownBytes.{Consumes-trans}
-use Rattle.std.proofs.lemmas.List.{length-take-le}
+use Rattle.std.proofs.lemmas.List.{length-take-le, places}
 use Rattle.std.proofs.lemmas.Result.{IfErr-weaker, IfOk-weaker}
 use Rattle.std.specs.Io.KnownBytes.{Consumes}
-use borrow.Rule.Slice.PartMut.{post_of, put_mid, take_put}
+use borrow.Rule.Slice.PartMut.{put_mid, take_put}
 use Rattle.hex_core.specs.Refusal.{source_refusal}
 use Rattle.hex_core.specs.Text.{Spells}
 use Rattle.hex_program.specs.Decoding.{EndsRefused}
 use Rattle.hex_program.specs.Input.{ReadsAll}
 use Rattle.hex_operations.specs.Operations.{without_newline}
-use Rattle.hex_program.proofs.DecodingLemmas.{longer, read-front, refused-all}
+use Rattle.hex_codec.proofs.ListLemmas.{take-front_put}
+use Rattle.hex_program.proofs.DecodingLemmas.{longer, refused-all}
 use Rattle.hex_program.proofs.decoding.read_decoded.Given as given
 use Rattle.hex_program.proofs.decoding.read_decoded.Goals as goal
 
@@ -20,12 +21,10 @@ rest g c = take c.reads.held (put_mid c.reads.held (65536 - c.reads.held) c.read
 
 -- it is there where any digit was taken
 held_back : (g : given.Over) (c : goal.After-end g) → (c.reads.invariant.4.0 ≡ []) ⊎ (1 ≤ length (rest g c))
-held_back g c =
-    let size : length (put_mid c.reads.held (65536 - c.reads.held) c.reads.chunk c.read.new.buf) ≡ 65536 = search rules in
-    elim c.reads.invariant.4.2 [
-      | inl none ↦ inl none
-      | inr some ↦ inr (omega (arith, some, c.reads.invariant.0, length-take-le c.reads.held (put_mid c.reads.held (65536 - c.reads.held) c.reads.chunk c.read.new.buf) (omega (arith, c.reads.invariant.0, size))))
-    ]
+held_back g c = elim c.reads.invariant.4.2 [
+  | inl none ↦ inl none
+  | inr some ↦ inr (search (rules, places, some, c.reads.invariant.0, c.reads.invariant.2, c.read.auto.buf))
+]
 
 -- and with it all of the input was read
 read_all : (g : given.Over) (c : goal.After-end g) → ReadsAll (g.R.Read.remaining c.args.input.now) (g.R.Read.remaining c.read.new.self) (c.reads.invariant.4.0 ++ rest g c)
@@ -67,14 +66,12 @@ reads-preserved g c =
     let given : n ≤ length c.read.new.buf = search rules in
     let some : 1 ≤ n = search rules in
     let room : held + n ≤ 65536 = search rules in
-    let front : length (take held c.reads.chunk) ≡ held = length-take-le held c.reads.chunk (omega (arith, inv.0, inv.2)) in
-    let behind : List ℕ = post_of held (65536 - held) c.reads.chunk in
-    let inside : held + n ≤ length full = omega (arith, front, length-append (take held c.reads.chunk) (c.read.new.buf ++ behind), length-append c.read.new.buf behind, given) in
+    let inside : held + n ≤ length full = search (rules, places, inv.0, inv.2, given) in
     let taken = c.in-Ok-take_all_but_last.ensures in
     let consumed : Consumes (g.R.Read.remaining c.args.input.now) (g.R.Read.remaining c.read.new.self) ((digits ++ take held c.reads.chunk) ++ take n c.read.new.buf) = Consumes-trans _ _ _ _ _ inv.4.3 c.in-Ok.ensures.bytes.0 in
     let same : (digits ++ take (held + n - 1) full) ++ take 1 c.take_all_but_last.new.chunk ≡ (digits ++ take held c.reads.chunk) ++ take n c.read.new.buf =
     append_assoc digits (take (held + n - 1) full) (take 1 c.take_all_but_last.new.chunk)
-    ∙ ap (λ l. digits ++ l) (taken.moved ∙ read-front c.reads.chunk c.read.new.buf held (65536 - held) n (omega (arith, inv.0, inv.2)) given)
+    ∙ ap (λ l. digits ++ l) (taken.moved ∙ take-front_put held (65536 - held) n c.reads.chunk c.read.new.buf (omega (arith, inv.0, inv.2)) given)
     ∙ sym (append_assoc digits (take held c.reads.chunk) (take n c.read.new.buf)) in
     let kept = taken.ok digits inv.4.1 in
     let count : c.take_all_but_last.new.self.count ≡ c.reads.decoding.count + (held + n - 1) = omega (arith, kept.0, inv.4.1.0, length-append digits (take (held + n - 1) full), length-take-le (held + n - 1) full (omega (arith, inside))) in (
