@@ -135,3 +135,7 @@ Puts-then a b c (Err _) xs ys p q = Stops-then a b c xs ys p q
 pub Puts-err : {E : Type 0} (a b : SinkState) (r : Result (Unit {0}) E) (bs : List ℕ) → IsErr r → Stops a b bs → Puts a b r bs
 Puts-err a b (Ok _) bs err failed = cc
 Puts-err a b (Err _) bs err failed = failed
+
+-- a put of xs failed, and nothing of ys was put
+pub Puts-stop : {E : Type 0} {a b : SinkState} {xs : List ℕ} (r : Result (Unit {0}) E) (ys : List ℕ) → IsErr r → Stops a b xs → Puts a b r (xs ++ ys)
+Puts-stop r ys err failed = Puts-err _ _ r _ err (Stops-stop _ _ _ ys failed)
