@@ -1,130 +1,68 @@
 -- Puts in a row.
-use Rattle.std.proofs.Common.{◌≡◌, ℕ, zero, suc, ◌+◌, ◌-◌, ◌<◌, ◌≤◌, inl, inr, List, [], ◌∷◌, ◌++◌, length, take, drop, Option, Some, None, Result, Ok, Err, IsErr, refl, sym, ap, subst, ◌∙◌, arith, append_assoc, length-append, length-take, length-drop, take-append-drop}
-use Rattle.std.specs.Prelude.{option_map, unwrap_or}
-use Rattle.std.proofs.Math.Seq.{take-add}
-use Rattle.std.proofs.lemmas.Bool.{cases_lt}
-use Rattle.std.proofs.lemmas.List.{drop-drop, take_rest}
+use Rattle.std.proofs.Common.{◌≡◌, ℕ, zero, suc, ◌+◌, ◌-◌, ◌<◌, List, [], ◌∷◌, ◌++◌, length, take, Result, Ok, Err, IsErr, IfOk, refl, ap, ◌∙◌, arith, append_assoc, length-append, length-drop}
+use Rattle.std.proofs.lemmas.List.{drop-drop, length-take-le}
 use Rattle.std.proofs.KnownBytes.{Appends-nil, Appends-trans}
-use Rattle.std.specs.Io.KnownBytes.{Appends}
 use Rattle.hex_format.specs.declared.sink.SinkFault.{SinkFault}
-use Rattle.hex_format.specs.Sink.{AppendsBeginning, FillsBy, Puts, SinkState, Stops, Takes, faults_of, room}
+use Rattle.hex_format.specs.Sink.{FillsBy, Puts, PutsPiece, SinkState, Stops, Takes, room}
 
--- ---- the free bytes
+-- the free bytes after some are taken, and then some more
+FillsBy-then : (m n : ℕ) (a b c : SinkState) → FillsBy m a b → FillsBy n b c → FillsBy (m + n) a c
+FillsBy-then m n a b c p q = (rw (q.0, p.0) (grind (arith, drop-drop)), q.1 ∙ p.1)
 
--- some bytes are gone from the front, and then some more
-pub dropped : (m n : ℕ) (l : List ℕ) → drop n (drop m l) ≡ drop (m + n) l
-dropped m n l = drop-drop n m l
+-- ---- one put of a nonempty piece
 
-freed : (m n : ℕ) (o : Option (List ℕ)) → option_map (drop n) (option_map (drop m) o) ≡ option_map (drop (m + n)) o
-freed m n (Some l) = ap Some (dropped m n l)
-freed m n None = refl
+-- it took some bytes
+pub PutsPiece-takes : (a b : SinkState) (n : ℕ) (piece : List ℕ) → 0 < n → PutsPiece a b (Ok n) piece → Takes a b (take n piece)
+PutsPiece-takes a b zero piece some p = absurd (omega arith)
+PutsPiece-takes a b (suc n) piece some p = (p.0.1, omega (arith, p.1), rw (length-take-le (suc n) piece p.0.0) p.0.2)
 
-pub FillsBy-then : (m n : ℕ) (a b c : SinkState) → FillsBy m a b → FillsBy n b c → FillsBy (m + n) a c
-FillsBy-then m n a b c p q = (q.0 ∙ ap (option_map (drop n)) p.0 ∙ freed m n a.free, q.1 ∙ p.1)
-
-kept : (o : Option (List ℕ)) → o ≡ option_map (drop 0) o
-kept (Some l) = refl
-kept None = refl
-
-pub FillsBy-none : (a : SinkState) → FillsBy 0 a a
-FillsBy-none a = (kept a.free, refl)
-
-left_of : (n : ℕ) (o : Option (List ℕ)) → length (unwrap_or (option_map (drop n) o) []) ≡ length (unwrap_or o []) - n
-left_of n (Some l) = length-drop n l
-left_of n None = omega arith
-
--- how much room they leave
-pub room-left : (n : ℕ) (a b : SinkState) → FillsBy n a b → room b ≡ room a - n
-room-left n a b p = ap (λ o. length (unwrap_or o [])) p.0 ∙ left_of n a.free
-
--- ---- one put
-
--- the fault that a put of a nonempty piece is, where it took none
-pub faults_of-none : (piece : List ℕ) → 0 < length piece → faults_of (Ok 0) piece ≡ 1
-faults_of-none [] h = absurd (omega arith)
-faults_of-none (b ∷ piece) h = refl
-
-pub faults_of-some : (n : ℕ) (piece : List ℕ) → 0 < n → faults_of (Ok n) piece ≡ 0
-faults_of-some zero piece h = absurd (omega arith)
-faults_of-some (suc n) piece h = refl
-
--- a put that took none of a nonempty piece, or refused it, had no room for it
-pub no_room : (old : SinkState) (result : Result ℕ SinkFault) (piece : List ℕ) → 0 < length piece → faults_of result piece ≡ 1 → (0 < length piece → length piece ≤ room old → result ≡ Ok (length piece)) → room old < length piece
-no_room old result piece some failed fits =
-    elim (cases_lt (room old) (length piece)) [
-      | inl lt ↦ lt
-      | inr le ↦ let none : faults_of result piece ≡ 0 = rw (fits some le) (faults_of-some (length piece) piece some) in absurd (omega (arith, none, failed))
-    ]
-
--- what a put of the rest of a piece is given
-rest_of : (at : ℕ) (piece : List ℕ) → take (length piece - at) (drop at piece) ≡ drop at piece
-rest_of at piece = take_rest piece at
-
--- a put took some more of a piece
-pub Appends-more : (a b c : Option (List ℕ)) (piece : List ℕ) (at n : ℕ) → Appends a b (take at piece)
-    → Appends b c (take n (take (length piece - at) (drop at piece))) → Appends a c (take (at + n) piece)
-Appends-more a b c piece at n so_far more =
-    subst (Appends a c) (sym (take-add at n piece)) (Appends-trans a b c _ _ so_far (rw rest_of at more))
-
--- a put that failed took a beginning of the rest
-pub AppendsBeginning-more : (a b c : SinkState) (piece : List ℕ) (at : ℕ) → at ≤ length piece → Appends a.taken b.taken (take at piece) → FillsBy at a b
-    → AppendsBeginning b c (take (length piece - at) (drop at piece)) → AppendsBeginning a c piece
-AppendsBeginning-more a b c piece at inside so_far filled more =
-    let size : length (take at piece ++ more.front) ≡ at + length more.front = simp (length-append, length-take) (omega arith) in
-    record {
-      front = take at piece ++ more.front;
-      rest = more.rest;
-      parts = append_assoc (take at piece) more.front more.rest ∙ ap (λ l. take at piece ++ l) (more.parts ∙ rest_of at piece) ∙ take-append-drop at piece;
-      appended = Appends-trans a.taken b.taken c.taken _ _ so_far more.appended;
-      filled = rw size (FillsBy-then at (length more.front) a b c filled more.filled);
-    }
-
--- what was taken is a beginning of the piece
-pub AppendsBeginning-take : (a b : SinkState) (piece : List ℕ) (n : ℕ) → n ≤ length piece → Appends a.taken b.taken (take n piece) → FillsBy n a b → AppendsBeginning a b piece
-AppendsBeginning-take a b piece n inside h filled =
-    let size : length (take n piece) ≡ n = simp length-take (omega arith) in
-    record { front = take n piece; rest = drop n piece; parts = take-append-drop n piece; appended = h; filled = rw size filled }
+-- it took none, or was refused
+pub PutsPiece-stops : (a b : SinkState) (r : Result ℕ SinkFault) (piece : List ℕ) → 0 < length piece → IfOk r (λ n. n ≡ 0) → PutsPiece a b r piece → Stops a b piece
+PutsPiece-stops a b (Ok zero) [] some none p = absurd (omega arith)
+PutsPiece-stops a b (Ok zero) (x ∷ piece) some none p =
+    (record { front = []; rest = x ∷ piece; parts = refl; appended = p.0.1; filled = p.0.2 }, p.1, grind (arith, p.2))
+PutsPiece-stops a b (Ok (suc n)) piece some none p = absurd (omega arith)
+PutsPiece-stops a b (Err e) piece some none p = (p.0, p.1, grind (arith, p.2))
 
 -- ---- many puts
 
--- xs was taken, and then a beginning of ys
-AppendsBeginning-then : (a b c : SinkState) (xs ys : List ℕ) → Takes a b xs → AppendsBeginning b c ys → AppendsBeginning a c (xs ++ ys)
-AppendsBeginning-then a b c xs ys p q = record {
-  front = xs ++ q.front;
-  rest = q.rest;
-  parts = append_assoc xs q.front q.rest ∙ ap (λ l. xs ++ l) q.parts;
-  appended = Appends-trans a.taken b.taken c.taken xs q.front p.0 q.appended;
-  filled = rw (length-append xs q.front) (FillsBy-then (length xs) (length q.front) a b c p.2 q.filled);
-}
-
--- a beginning of xs was taken, and nothing of ys was put
-AppendsBeginning-stop : (a b : SinkState) (xs ys : List ℕ) → AppendsBeginning a b xs → AppendsBeginning a b (xs ++ ys)
-AppendsBeginning-stop a b xs ys p = record {
-  front = p.front;
-  rest = p.rest ++ ys;
-  parts = sym (append_assoc p.front p.rest ys) ∙ ap (λ l. l ++ ys) p.parts;
-  appended = p.appended;
-  filled = p.filled;
-}
-
 -- nothing was put
 pub Takes-none : (a : SinkState) → Takes a a []
-Takes-none a = (Appends-nil a.taken, refl, FillsBy-none a)
+Takes-none a = (Appends-nil a.taken, refl, (grind arith, refl))
 
 -- xs was taken, and then ys
 pub Takes-then : (a b c : SinkState) (xs ys : List ℕ) → Takes a b xs → Takes b c ys → Takes a c (xs ++ ys)
-Takes-then a b c xs ys p q =
-    (Appends-trans a.taken b.taken c.taken xs ys p.0 q.0, q.1 ∙ p.1, rw (length-append xs ys) (FillsBy-then (length xs) (length ys) a b c p.2 q.2))
+Takes-then a b c xs ys p q = (Appends-trans _ _ _ _ _ p.0 q.0, q.1 ∙ p.1, rw length-append (FillsBy-then _ _ a b c p.2 q.2))
 
 -- xs was taken without a failure, and then a put of ys failed
 pub Stops-then : (a b c : SinkState) (xs ys : List ℕ) → Takes a b xs → Stops b c ys → Stops a c (xs ++ ys)
 Stops-then a b c xs ys p q =
-    let left = room-left (length xs) a b p.2 in
-    (AppendsBeginning-then a b c xs ys p q.0, q.1 ∙ ap (λ n. n + 1) p.1, simp length-append (omega (arith, q.2, left)))
+    let left : room b ≡ room a - length xs = rw p.2.0 (grind (arith, length-drop)) in let begun = q.0 in (
+      record {
+        front = xs ++ begun.front;
+        rest = begun.rest;
+        parts = rw (append_assoc, begun.parts);
+        appended = Appends-trans _ _ _ _ _ p.0 begun.appended;
+        filled = rw length-append (FillsBy-then _ _ a b c p.2 begun.filled);
+      },
+      q.1 ∙ ap (λ n. n + 1) p.1,
+      simp length-append (omega (arith, q.2, left)),
+    )
 
 -- a put of xs failed, and nothing of ys was put
 pub Stops-stop : (a b : SinkState) (xs ys : List ℕ) → Stops a b xs → Stops a b (xs ++ ys)
-Stops-stop a b xs ys p = (AppendsBeginning-stop a b xs ys p.0, p.1, simp length-append (omega (arith, p.2)))
+Stops-stop a b xs ys p =
+    let begun = p.0 in (
+      record {
+        front = begun.front;
+        rest = begun.rest ++ ys;
+        parts = rw (← append_assoc begun.front begun.rest ys, begun.parts);
+        appended = begun.appended;
+        filled = begun.filled;
+      },
+      p.1,
+      simp length-append (omega (arith, p.2)),
+    )
 
 -- xs was taken without a failure, and then ys was put
 pub Puts-then : {E : Type 0} (a b c : SinkState) (r : Result (Unit {0}) E) (xs ys : List ℕ) → Takes a b xs → Puts b c r ys → Puts a c r (xs ++ ys)

@@ -1,15 +1,12 @@
 -- The front of the piece up to here has been taken, and no put has failed.
-use Rattle.std.proofs.Common.{◌≡◌, ◌-◌, ◌≤◌, length, take}
-use Rattle.std.specs.Io.KnownBytes.{Appends}
-use Rattle.hex_format.specs.Sink.{FillsBy}
+use Rattle.std.proofs.Common.{◌-◌, ◌≤◌, length, take}
+use Rattle.hex_format.specs.Sink.{Takes}
 use Rattle.hex_format.proofs.sink.put_all.Given as goal
 
 abbrev pub invariant-loop-at : goal.invariant-loop-at
 invariant-loop-at g l = record {
   within : l.at ≤ length l.piece;
-  taken : Appends (g.S.Sink.state l.initial.sink).taken (g.S.Sink.state l.sink).taken (take l.at l.piece);
-  filled : FillsBy l.at (g.S.Sink.state l.initial.sink) (g.S.Sink.state l.sink);
-  counted : (g.S.Sink.state l.sink).failures ≡ (g.S.Sink.state l.initial.sink).failures;
+  taken : Takes (g.S.Sink.state l.initial.sink) (g.S.Sink.state l.sink) (take l.at l.piece);
 }
 
 abbrev pub decreases-loop-at : goal.decreases-loop-at
