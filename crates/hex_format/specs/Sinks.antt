@@ -16,11 +16,7 @@ written_bytes sink = take sink.used sink.buf.now
 abbrev pub free_len : SliceSink → ℕ
 free_len sink = length sink.buf.now - sink.used
 
--- what stands in its buffer
-abbrev pub buffer_bytes : SliceSink → List ℕ
-buffer_bytes sink = sink.buf.now
-
--- what it shows
+-- what a slice's sink shows
 abbrev pub slice_state : SliceSink → SinkState
 slice_state sink = record {
   taken = Some (written_bytes sink);
@@ -51,7 +47,7 @@ fresh_state buf = record { taken = Some []; failures = 0; free = Some buf.now; l
 
 -- a slice's sink has taken nothing, and all of this buffer, which it is lent, is free
 abbrev pub IsFresh : SliceSink → MutBor (List ℕ) → Type 0
-IsFresh sink buf = (written_bytes sink ≡ []) × (free_len sink ≡ length buf.now) × (buffer_bytes sink ≡ buf.now) × (slice_state sink ≡ fresh_state buf)
+IsFresh sink buf = (written_bytes sink ≡ []) × (free_len sink ≡ length buf.now) × (sink.buf.now ≡ buf.now) × (slice_state sink ≡ fresh_state buf)
 
 -- a put into a slice's sink takes what fits; it is refused exactly where nothing is free and the piece
 -- has some bytes, and takes nothing then

@@ -201,8 +201,7 @@ fn padding_of_view(flags: &HexFlags, bytes: &[u8]) -> usize
 
 // How many of the padding's characters stand before the text.
 fn before_text(align: Align, padding: usize) -> usize
-    ensures value { result ≡ left_padding align padding }
-    ensures part { result ≤ padding }
+    ensures { result ≡ left_padding align padding }
 {
     match align {
         Align::Left => 0,
@@ -243,8 +242,7 @@ fn put_by_blocks<S: Sink>(
     buffer: &mut [u8],
 ) -> Result<(), WriteFault>
     requires counts { (S.state sink.old).failures < 2 ^ 64 - 1 }
-    requires short { length piece.now ≤ LONGEST }
-    requires room { length buffer.old ≡ COPIES * LONGEST }
+    requires room { COPIES * length piece.now ≤ length buffer.old }
     ensures { Puts (S.state sink.old) (S.state sink.new) result (repeat count piece.now) }
 {
     let most = count.min(COPIES);

@@ -1,5 +1,5 @@
 -- What is put of the block is copies, and what was put before it is the copies that are not left.
-use Rattle.std.proofs.Common.{◌≡◌, ◌+◌, ◌-◌, length, ap, sym, arith}
+use Rattle.std.proofs.Common.{le_refl, ◌≡◌, ◌+◌, ◌-◌, length, ap, sym, arith}
 use Rattle.std.proofs.lemmas.List.{length-take-le}
 use Rattle.std.proofs.lemmas.Nat.{mul-le}
 use Rattle.std.proofs.Concat.{length-repeat}
@@ -22,29 +22,28 @@ loop-left-preserved g c =
     record { within = omega arith; taken = rw (sum, repeat-add) (Takes-then _ _ _ _ _ c.loop-left.invariant.taken put) }
 
 pub overflow_mul-block : goal.overflow_mul-block
-overflow_mul-block g c = omega (arith, mul-le c.min-most.result (length c.args.piece.now) 64 4 (omega arith) c.requires.short)
+overflow_mul-block g c = omega (arith, mul-le c.min-most.result _ 64 _ (omega arith) (le_refl (length c.args.piece.now)))
 
 pub slice_bounds-block-end : goal.slice_bounds-block-end
-slice_bounds-block-end g c = omega (arith, mul-le c.min-most.result (length c.args.piece.now) 64 4 (omega arith) c.requires.short)
+slice_bounds-block-end g c = omega (arith, mul-le c.min-most.result _ 64 _ (omega arith) (le_refl (length c.args.piece.now)))
 
 pub copy_into-requires : goal.copy_into-requires
 copy_into-requires g c =
-    let most = mul-le c.min-most.result (length c.args.piece.now) 64 4 (omega arith) c.requires.short in
-    length-take-le _ c.args.buffer.now (omega (arith, most))
+    length-take-le _ c.args.buffer.now (omega (arith, c.requires, mul-le c.min-most.result _ 64 _ (omega arith) (le_refl (length c.args.piece.now))))
 
 pub overflow_mul-copies : goal.overflow_mul-copies
-overflow_mul-copies g c = omega (arith, mul-le c.min-copies.result (length c.args.piece.now) 64 4 (omega arith) c.requires.short)
+overflow_mul-copies g c = omega (arith, mul-le c.min-copies.result _ 64 _ (omega arith) (le_refl (length c.args.piece.now)))
 
 pub slice_bounds-put_all-end : goal.slice_bounds-put_all-end
 slice_bounds-put_all-end g c =
-    let piece = c.args.piece.now in
-    omega (arith, mul-le c.min-copies.result (length piece) c.min-most.result (length piece) (omega arith) (omega arith), ap length c.copy_into.ensures, length-repeat c.min-most.result piece)
+    let piece = c.args.piece.now in let most = c.min-most.result in
+    omega (arith, mul-le c.min-copies.result _ most _ (omega arith) (le_refl (length piece)), ap length c.copy_into.ensures, length-repeat most piece)
 
 pub slice_bounds-put_all-end-in-loop-left : goal.slice_bounds-put_all-end-in-loop-left
 slice_bounds-put_all-end-in-loop-left g c =
-    let piece = c.args.piece.now in
-    let small = mul-le c.min-copies.result (length piece) c.min-most.result (length piece) (omega arith) (omega arith) in
-    sym (length-take-le _ c.copy_into.new.block (omega (arith, small, ap length c.copy_into.ensures, length-repeat c.min-most.result piece)))
+    let piece = c.args.piece.now in let most = c.min-most.result in
+    let small = mul-le c.min-copies.result _ most _ (omega arith) (le_refl (length piece)) in
+    sym (length-take-le _ c.copy_into.new.block (omega (arith, small, ap length c.copy_into.ensures, length-repeat most piece)))
 
 pub returns : goal.returns
 returns g c = let all : c.args.count - c.loop-left.left ≡ c.args.count = omega arith in rw all at c.loop-left.invariant.taken

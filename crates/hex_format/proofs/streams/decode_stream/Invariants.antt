@@ -1,5 +1,5 @@
 -- The sink has taken what the decoder wrote of all that was read.
-use Rattle.std.proofs.Common.{◌≡◌, ◌-◌, ◌^◌, List, ℕ, length}
+use Rattle.std.proofs.Common.{◌≡◌, ◌-◌, ◌^◌, List, ℕ}
 use Rattle.std.specs.Io.KnownBytes.{Consumes}
 use Rattle.hex_codec.specs.Stream.{HasFed, policy_of, position_of}
 use Rattle.hex_format.specs.Sink.{Takes}
@@ -9,7 +9,7 @@ abbrev pub decreases-reads : goal.decreases-reads
 decreases-reads g l = 2 ^ 64 - position_of l.decoder
 
 abbrev pub invariant-reads : goal.invariant-reads
-invariant-reads g l = (policy_of l.decoder ≡ l.fn.case) × (length l.chunk ≡ 8192) × (length l.bytes ≡ 4096)
+invariant-reads g l = (policy_of l.decoder ≡ l.fn.case)
     × ((digits : List ℕ) × ((written : List ℕ) × HasFed l.decoder digits written
     × Consumes (g.R.Read.remaining l.initial.reader) (g.R.Read.remaining l.reader) digits
     × Takes (g.S.Sink.state l.initial.sink) (g.S.Sink.state l.sink) written))

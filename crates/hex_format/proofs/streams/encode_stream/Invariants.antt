@@ -9,6 +9,5 @@ abbrev pub decreases-reads : goal.decreases-reads
 decreases-reads g l = 2 ^ 64 - l.total
 
 abbrev pub invariant-reads : goal.invariant-reads
-invariant-reads g l = (length l.chunk ≡ 4096)
-    × ((bytes : List ℕ) × Consumes (g.R.Read.remaining l.initial.reader) (g.R.Read.remaining l.reader) bytes × (l.total ≡ length bytes)
-    × Takes (g.S.Sink.state l.initial.sink) (g.S.Sink.state l.sink) (text l.fn.upper bytes))
+invariant-reads g l = (bytes : List ℕ) × Consumes (g.R.Read.remaining l.initial.reader) (g.R.Read.remaining l.reader) bytes × (l.total ≡ length bytes)
+    × Takes (g.S.Sink.state l.initial.sink) (g.S.Sink.state l.sink) (text l.fn.upper bytes)

@@ -1,5 +1,6 @@
-use Rattle.std.proofs.Common.{arith}
-use Rattle.hex_format.proofs.StreamLemmas.{odd-refused}
+use Rattle.std.proofs.Common.{◌≡◌, arith}
+use Rattle.std.proofs.lemmas.Bool.Decides.{nat_tests}
+use Rattle.hex_core.specs.declared.error.Error.TheVariants.{OddLength}
 use Rattle.hex_format.proofs.streams.ended.Goals as goal
 
 pub returns-in-Ok : goal.returns-in-Ok
@@ -8,4 +9,7 @@ returns-in-Ok c = λ fed written has.
     (spelled, omega (arith, c.position.ensures, has.0, spelled.twice))
 
 pub returns-in-Err : goal.returns-in-Err
-returns-in-Err c = λ fed written has. odd-refused c.args.decoder.case fed written _ c.in-Err.refusal has.1 (c.in-Err.ensures fed written has)
+returns-in-Err c = λ fed written has.
+    let refused = c.in-Err.ensures fed written has in
+    let odd : c.in-Err.refusal ≡ OddLength = grind (arith, nat_tests, has.1.valid, refused) in
+    (odd, rw odd at refused)
