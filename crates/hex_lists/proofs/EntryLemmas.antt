@@ -1,13 +1,12 @@
 -- The entries of a source, and the source of some entries.
-use Rattle.std.proofs.Common.{◌≡◌, inl, inr, ℕ, zero, suc, ◌+◌, ◌-◌, ◌*◌, ◌<◌, ◌≤◌, Bool, true, false, not, refl, sym, ap, ◌∙◌, arith, List, [], ◌∷◌, ◌++◌, length, map, take, drop, get_or, length-drop}
-use Rattle.std.specs.Prelude.{◌==◌}
+use Rattle.std.proofs.Common.{◌≡◌, inl, inr, ℕ, zero, suc, ◌+◌, ◌-◌, ◌*◌, ◌<◌, ◌≤◌, Bool, not, refl, sym, ap, ◌∙◌, arith, List, [], ◌∷◌, ◌++◌, length, map, take, drop, get_or, length-drop, append_assoc}
 use Rattle.std.specs.List.{AllZip, flat_map, position_or_len}
 use Rattle.std.proofs.lemmas.Bool.{cases_lt}
 use Rattle.std.proofs.lemmas.Bool.Decides.{nat_tests}
 use Rattle.std.proofs.lemmas.Grind.{common_steps}
 use Rattle.std.proofs.lemmas.List.{append-nil, drop_all, take-append-drop, take_all}
 use Rattle.std.proofs.lemmas.List.Folds.{flat_map-map}
-use Rattle.std.proofs.lemmas.List.Sums.{fails_before_first, passes_at_first, prefix_len-le-length}
+use Rattle.std.proofs.lemmas.List.Sums.{fails_before_first, passes_at_first, prefix_len-le-length, split_at_first}
 use Rattle.hex_core.specs.declared.digit.CheckCase.{CheckCase}
 use Rattle.hex_core.specs.Digit.{strict}
 use Rattle.hex_core.specs.Laws.{EncodingInvertsStrictDecoding, SpellsOneList}
@@ -19,10 +18,7 @@ use Rattle.hex_lists.proofs.LineLemmas.{newline, next-line}
 -- ---- one list
 
 mark-one : (a b : Bool) → mark a ≡ mark b → a ≡ b
-mark-one true true e = refl
-mark-one true false e = absurd (omega (arith, e))
-mark-one false true e = absurd (omega (arith, e))
-mark-one false false e = refl
+mark-one a b e = grind (arith, e)
 
 same-entry : {N : ℕ} (c : CheckCase) (line : List ℕ) (e other : Entry N) → SpellsOneList → LineIs c line e → LineIs c line other → SameEntry e other
 same-entry {N} c line e other one a b =
@@ -56,21 +52,9 @@ written-lines upper [] (e ∷ entries) back all = absurd all
 written-lines upper (line ∷ lines) [] back all = absurd all
 written-lines upper (line ∷ lines) (e ∷ entries) back all = rw (line-back upper line e back all.0, written-lines upper lines entries back all.1) refl
 
--- the last byte of what follows is the last of all
-last-behind : (front rest : List ℕ) → 0 < length rest → with_last_newline (front ++ rest) ≡ front ++ with_last_newline rest
-last-behind front rest some = grind (arith, common_steps, nat_tests)
-
--- a source up to its first newline, and what follows
-cut-at : (s : List ℕ) (end : ℕ) → end < length s → get_or s end 0 ≡ 10 → s ≡ (take end s ++ (10 ∷ [])) ++ drop (end + 1) s
-cut-at s end inside here = grind (arith, common_steps)
-
-over : (front rest : List ℕ) → with_last_newline ((front ++ (10 ∷ [])) ++ rest) ≡ (front ++ (10 ∷ [])) ++ with_last_newline rest
-over front [] = grind (arith, common_steps, nat_tests)
-over front (b ∷ rest) = last-behind (front ++ (10 ∷ [])) (b ∷ rest) (omega arith)
-
--- a source that ends otherwise
-open-end : (s : List ℕ) → 0 < length s → newline (get_or s (length s - 1) 0) ≡ false → with_last_newline s ≡ s ++ (10 ∷ [])
-open-end s some last = let full : (length s == 0) ≡ false = grind (arith, nat_tests) in rw (full, last) refl
+-- a newline behind the last line stands behind the lines after the first
+over : (line rest : List ℕ) → with_last_newline (line ++ (10 ∷ rest)) ≡ line ++ (10 ∷ with_last_newline rest)
+over line rest = grind (arith, common_steps, nat_tests)
 
 first-back : (s : List ℕ) → 0 < length s → (take (position_or_len newline s) s ++ (10 ∷ [])) ++ with_last_newline (drop (position_or_len newline s + 1) s) ≡ with_last_newline s
 first-back s some =
@@ -78,12 +62,13 @@ first-back s some =
     elim (cases_lt end (length s)) [
       | inl inside ↦
           let here : get_or s end 0 ≡ 10 = grind (arith, nat_tests, passes_at_first newline s 0 inside) in
-          sym (ap with_last_newline (cut-at s end inside here) ∙ over (take end s) (drop (end + 1) s))
+          let parts : s ≡ take end s ++ (10 ∷ drop (end + 1) s) = rw here at (split_at_first newline s 0 inside) in
+          rw append_assoc (sym (ap with_last_newline parts ∙ over (take end s) (drop (end + 1) s)))
       | inr past ↦
-          let most : end ≤ length s = prefix_len-le-length (λ b. not (newline b)) s in
-          let at : end ≡ length s = omega (arith, most, past) in
+          let at : end ≡ length s = omega (arith, prefix_len-le-length (λ b. not (newline b)) s, past) in
           let last = fails_before_first newline s (length s - 1) 0 (omega (arith, at, some)) in
-          rw (at, drop_all (length s + 1) s (omega arith), take_all (length s) s (omega arith), open-end s some last) (append-nil (s ++ (10 ∷ [])))
+          let ended : with_last_newline s ≡ s ++ (10 ∷ []) = grind (arith, nat_tests, last, some) in
+          rw (at, drop_all (length s + 1) s (omega arith), take_all (length s) s (omega arith), ended) (append-nil (s ++ (10 ∷ [])))
     ]
 
 joined-lines : (n : ℕ) (s : List ℕ) → length s ≤ n → joined (lines_of s) ≡ with_last_newline s

@@ -1,67 +1,58 @@
--- A name that was read holds no newline.
-use Rattle.std.proofs.Common.{◌≡◌, ℕ, zero, suc, ◌*◌, ◌<◌, Bool, true, false, refl, arith, List, [], ◌∷◌, length, drop, get_or, None}
-use Rattle.std.specs.Prelude.{◌==◌, cond}
-use Rattle.std.specs.List.{AllByRecursion, AllZip, list_any, onto_first, position_or_len, slice_split}
+-- Names: which are bad, and that none is that was read.
+use Rattle.std.proofs.Common.{◌≡◌, ℕ, zero, suc, ◌+◌, ◌*◌, ◌<◌, ◌≤◌, Bool, false, refl, arith, List, [], ◌∷◌, length, take, drop, length-drop, length-take, None}
+use Rattle.std.specs.List.{All, AllByRecursion, AllZip, position_or_len}
 use Rattle.std.proofs.lemmas.Bool.Decides.{nat_tests}
 use Rattle.std.proofs.lemmas.Grind.{common_steps}
-use Rattle.std.proofs.lemmas.List.Sums.{position_or_len_is}
+use Rattle.std.proofs.lemmas.List.{get_or-take}
+use Rattle.std.proofs.lemmas.List.Elements.{All-cons, All-drop, All-nil}
+use Rattle.std.proofs.lemmas.List.Folds.{list_any_at, list_any_none}
+use Rattle.std.proofs.lemmas.List.Sums.{fails_before_first, position_or_len_is}
 use Rattle.hex_core.specs.declared.digit.CheckCase.{CheckCase}
 use Rattle.hex_lists.specs.declared.digests.Entry.{Entry}
-use Rattle.hex_lists.specs.Lists.{LineIs, first_bad_name, lines_of, mark, without_empty_end}
-use Rattle.hex_lists.proofs.LineLemmas.{newline}
-use Rattle.hex_lists.proofs.ReadBack.{Good, bad, or_parts}
+use Rattle.hex_lists.specs.Lists.{LineIs, first_bad_name, is_bad_name, lines_of, mark}
+use Rattle.hex_lists.proofs.LineLemmas.{NoNewline, OneLine, newline, next-line}
 
--- a line without a newline
-abbrev Clean : List ℕ → Type 0
-Clean line = list_any newline line ≡ false
+-- whether an entry's name is bad, and that no entry's is
+abbrev pub bad : {N : ℕ} → Entry N → Bool
+bad e = is_bad_name e.name.now
 
-clean-onto : (b : ℕ) (parts : List (List ℕ)) → newline b ≡ false → AllByRecursion Clean parts → AllByRecursion Clean (onto_first b parts)
-clean-onto b [] other all = (rw other refl, tt)
-clean-onto b (part ∷ parts) other all = (rw (other, all.0) refl, all.1)
+abbrev pub AllGood : {N : ℕ} → List (Entry N) → Type 0
+AllGood es = All (λ e. bad e ≡ false) es
 
-clean-step : (test : Bool) (b : ℕ) (parts : List (List ℕ)) → newline b ≡ test → AllByRecursion Clean parts → AllByRecursion Clean (cond test ([] ∷ parts) (onto_first b parts))
-clean-step true b parts is all = (refl, all)
-clean-step false b parts is all = clean-onto b parts is all
+pub all-good : {N : ℕ} (es : List (Entry N)) → first_bad_name es ≡ None → AllGood es
+all-good es none = λ k d lt. fails_before_first bad es k d (grind (arith, nat_tests, none))
 
-clean-parts : (s : List ℕ) → AllByRecursion Clean (slice_split newline s)
-clean-parts [] = (refl, tt)
-clean-parts (b ∷ s) = clean-step (newline b) b (slice_split newline s) refl (clean-parts s)
-
-clean-end : (parts : List (List ℕ)) → AllByRecursion Clean parts → AllByRecursion Clean (without_empty_end parts)
-clean-end [] all = tt
-clean-end ([] ∷ []) all = tt
-clean-end ([] ∷ next ∷ parts) all = (all.0, clean-end (next ∷ parts) all.1)
-clean-end ((b ∷ line) ∷ parts) all = (all.0, clean-end parts all.1)
-
-clean-behind : (n : ℕ) (line : List ℕ) → Clean line → Clean (drop n line)
-clean-behind zero line clean = clean
-clean-behind (suc n) [] clean = clean
-clean-behind (suc n) (b ∷ line) clean = clean-behind n line (or_parts (newline b) (list_any newline line) clean).1
-
-good-name : {N : ℕ} (c : CheckCase) (line : List ℕ) (e : Entry N) → Clean line → LineIs c line e → Good e
-good-name {N} c line e clean is =
-    let behind : Clean (32 ∷ mark e.binary ∷ e.name.now) = rw is.behind at (clean-behind (2 * N) line clean) in
-    let name : Clean e.name.now = (or_parts (newline (mark e.binary)) (list_any newline e.name.now) (or_parts (newline 32) (list_any newline (mark e.binary ∷ e.name.now)) behind).1).1 in
-    let some : (length e.name.now == 0) ≡ false = grind (arith, nat_tests, is.named) in
-    rw (some, name) refl
-
-good-names : {N : ℕ} (c : CheckCase) (lines : List (List ℕ)) (entries : List (Entry N)) → AllByRecursion Clean lines → AllZip (LineIs c) lines entries → AllByRecursion Good entries
-good-names c [] [] clean all = tt
-good-names c [] (e ∷ entries) clean all = absurd all
-good-names c (line ∷ lines) [] clean all = absurd all
-good-names c (line ∷ lines) (e ∷ entries) clean all = (good-name c line e clean.0 all.0, good-names c lines entries clean.1 all.1)
-
-good-at : {N : ℕ} (es : List (Entry N)) (k : ℕ) (d : Entry N) → AllByRecursion Good es → k < length es → bad (get_or es k d) ≡ false
-good-at [] k d good lt = absurd (omega arith)
-good-at (e ∷ es) zero d good lt = good.0
-good-at (e ∷ es) (suc k) d good lt = good-at es k d good.1 (omega arith)
-
-none-bad : {N : ℕ} (es : List (Entry N)) → AllByRecursion Good es → first_bad_name es ≡ None
+pub none-bad : {N : ℕ} (es : List (Entry N)) → AllGood es → first_bad_name es ≡ None
 none-bad [] good = refl
 none-bad (e ∷ es) good =
-    let all = e ∷ es in
-    let at : position_or_len bad all ≡ length all = position_or_len_is bad all (length all) e (omega arith) (λ k lt. good-at all k e good lt) (λ h. absurd (omega arith)) in
+    let at = position_or_len_is bad (e ∷ es) (length (e ∷ es)) e (omega arith) (λ k lt. good k e lt) (λ h. absurd (omega arith)) in
     grind (arith, common_steps, at)
 
+-- a name that is not bad has some bytes, and no newline
+pub named : (name : List ℕ) → is_bad_name name ≡ false → (0 < length name) × OneLine name
+named name good = (grind (arith, nat_tests, good), λ k d lt. grind (arith, list_any_at newline name k d lt, good))
+
+good-name : {N : ℕ} (c : CheckCase) (line : List ℕ) (e : Entry N) → OneLine line → LineIs c line e → bad e ≡ false
+good-name {N} c line e one is =
+    let behind : OneLine (32 ∷ mark e.binary ∷ e.name.now) = rw is.behind at (All-drop NoNewline (2 * N) line one) in
+    let none = list_any_none newline e.name.now (All-drop NoNewline 2 (32 ∷ mark e.binary ∷ e.name.now) behind) in
+    grind (arith, nat_tests, is.named, none)
+
+good-names : {N : ℕ} (c : CheckCase) (lines : List (List ℕ)) (entries : List (Entry N)) → AllByRecursion OneLine lines → AllZip (LineIs c) lines entries → AllGood entries
+good-names c [] [] one all = All-nil (λ e. bad e ≡ false)
+good-names c [] (e ∷ entries) one all = absurd all
+good-names c (line ∷ lines) [] one all = absurd all
+good-names c (line ∷ lines) (e ∷ entries) one all =
+    All-cons (λ e. bad e ≡ false) e entries (good-name c line e one.0 all.0) (good-names c lines entries one.1 all.1)
+
+-- the lines of a source hold no newline
+each-line : (n : ℕ) (s : List ℕ) → length s ≤ n → AllByRecursion OneLine (lines_of s)
+each-line n [] short = tt
+each-line zero (b ∷ s) short = absurd (omega arith)
+each-line (suc n) (b ∷ s) short =
+    let end = position_or_len newline (b ∷ s) in
+    let first : OneLine (take end (b ∷ s)) = λ k d lt. (let inside : k < end = omega (arith, lt, length-take end (b ∷ s)) in rw get_or-take (fails_before_first newline (b ∷ s) k d inside)) in
+    rw (next-line (b ∷ s) (omega arith)) (first, each-line n (drop (end + 1) (b ∷ s)) (omega (arith, length-drop (end + 1) (b ∷ s))))
+
 pub read-names : {N : ℕ} (c : CheckCase) (s : List ℕ) (entries : List (Entry N)) → AllZip (LineIs c) (lines_of s) entries → first_bad_name entries ≡ None
-read-names c s entries all = none-bad entries (good-names c (lines_of s) entries (clean-end (slice_split newline s) (clean-parts s)) all)
+read-names c s entries all = none-bad entries (good-names c (lines_of s) entries (each-line (length s) s (omega arith)) all)

@@ -57,23 +57,25 @@ fault_in n line None = if has_mark n line then None else Some BadMark
 abbrev pub line_fault : CheckCase → ℕ → List ℕ → Option LineFault
 line_fault c n line = if nat_lt (length line) (2 * n + 3) then Some ShortLine else fault_in n line (first_invalid c (take (2 * n) line))
 
+-- the lines of a source are some without a fault, and then the others
+abbrev pub ClearBefore : CheckCase → ℕ → List ℕ → List (List ℕ) → List (List ℕ) → Type 0
+ClearBefore c n s done rest = (lines_of s ≡ done ++ rest) × AllByRecursion (λ line. line_fault c n line ≡ None) done
+
 -- a line of a source, counted from 1, is the first one with a fault, and this is it
 pub record FirstFault (c : CheckCase) (n : ℕ) (s : List ℕ) (line : ℕ) (why : LineFault) : Type 0 where
   pub before : List (List ℕ)
   pub here : List ℕ
   pub after : List (List ℕ)
-  pub lines : lines_of s ≡ before ++ (here ∷ after)
+  pub clear : ClearBefore c n s before (here ∷ after)
   pub count : line ≡ length before + 1
-  pub clear : AllByRecursion (λ l. line_fault c n l ≡ None) before
   pub fault : line_fault c n here ≡ Some why
 
 -- a source has so many lines or more, and these first ones have no fault
 pub record ClearLines (c : CheckCase) (n : ℕ) (s : List ℕ) (count : ℕ) : Type 0 where
   pub done : List (List ℕ)
   pub rest : List (List ℕ)
-  pub lines : lines_of s ≡ done ++ rest
+  pub clear : ClearBefore c n s done rest
   pub long : length done ≡ count
-  pub clear : AllByRecursion (λ l. line_fault c n l ≡ None) done
 
 -- why a source is not read behind so many entries: for its first line with a fault, or for want of
 -- memory, which is asked for once the next line, too, is known to have none

@@ -1,7 +1,8 @@
 -- Each line is its entry's.
 use Rattle.hex_core.specs.Digit.{strict}
 use Rattle.hex_core.specs.declared.digit.CheckCase.TheVariants as policy
-use Rattle.hex_lists.proofs.ReadBack.{all-good, read-back}
+use Rattle.hex_lists.proofs.NameLemmas.{all-good}
+use Rattle.hex_lists.proofs.ReadBack.{read-back}
 use Rattle.hex_lists.proofs.laws.reading_inverts_writing.Goals as goal
 
 pub returns : goal.returns
