@@ -1,5 +1,5 @@
 -- The first newline is in this block, or behind it.
-use Rattle.std.proofs.Common.{◌≡◌, inl, inr, ◌+◌, ◌-◌, ◌*◌, ◌/◌, ◌<◌, ◌≤◌, ℕ, false, List, length, drop, take, get_or, sym, ap, ◌∙◌, arith, length-drop, slice_index}
+use Rattle.std.proofs.Common.{◌≡◌, inl, inr, ◌+◌, ◌-◌, ◌*◌, ◌/◌, ◌<◌, ◌≤◌, ℕ, false, List, length, drop, get_or, sym, ap, ◌∙◌, arith, length-drop, slice_index}
 use Rattle.std.specs.List.{position_or_len}
 use Rattle.std.proofs.lemmas.Bool.{cases_lt}
 use Rattle.std.proofs.lemmas.List.{get_or-drop, take_rest}
@@ -39,12 +39,7 @@ turns-preserved c =
     let none = further s at (at + r) c.turns.invariant (run_in_chunk_fails newline s at 32 r 0 (omega arith) c.before_newline-before.ensures) in
     λ k lt. none k (omega (arith, most, lt))
 
--- where the bytes behind the blocks end
-rest-end : (s : List ℕ) (at end : ℕ) → end ≡ position_or_len newline (take (length s - at) (drop at s)) → end ≡ position_or_len newline (drop at s)
-rest-end s at end is = rw (take_rest s at) at is
-
 pub returns-clause-end : goal.returns-clause-end
 returns-clause-end c =
     let s = c.args.src.now in let at = 32 * (length s / 32) in
-    let is = rest-end s at c.line_end_by_bytes.result c.line_end_by_bytes.ensures.end in
-    ap (λ r. at + r) is ∙ behind s at (omega arith) (λ k lt. c.turns.invariant k (omega arith))
+    rw (c.line_end_by_bytes.ensures.end, take_rest s at) (behind s at (omega arith) (λ k lt. c.turns.invariant k (omega arith)))
