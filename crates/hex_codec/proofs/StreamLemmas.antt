@@ -1,5 +1,5 @@
 -- Digits that come in chunks.
-use Rattle.std.proofs.Common.{◌≡◌, ◌≢◌, ◌∙◌, ℕ, suc, ◌+◌, ◌-◌, ◌*◌, ◌/◌, ◌%◌, ◌^◌, ◌<◌, ◌≤◌, true, false, List, [], ◌∷◌, ◌++◌, length, length-append, length-drop, take, drop, slice_index, Option, Some, None, is_some, refl, sym, ap, subst, append-nil, append_assoc, take-append-drop, arith}
+use Rattle.std.proofs.Common.{◌≡◌, ◌≢◌, ◌∙◌, ℕ, suc, ◌+◌, ◌-◌, ◌*◌, ◌/◌, ◌%◌, ◌^◌, ◌<◌, ◌≤◌, List, [], ◌∷◌, ◌++◌, length, length-append, length-drop, take, drop, slice_index, Option, Some, None, refl, sym, ap, subst, append-nil, append_assoc, take-append-drop, arith}
 use Rattle.std.specs.Prelude.{option_map, slice_range, IsSome}
 use Rattle.std.specs.Option.{ForSome, option_to_list}
 use Rattle.std.proofs.Math.ListN.{set}
@@ -9,9 +9,9 @@ use Rattle.std.proofs.lemmas.List.{drop-drop, length-take-le, take_all}
 use borrow.Rule.Slice.PartMut.{put_mid}
 use Rattle.hex_core.specs.declared.digit.CheckCase.{CheckCase}
 use Rattle.hex_core.specs.declared.error.Error.{Error}
-use Rattle.hex_core.specs.declared.error.Error.TheVariants.{InvalidChar, OddLength, Overflow, OutputTooSmall}
+use Rattle.hex_core.specs.declared.error.Error.TheVariants.{InvalidChar, Overflow}
 use Rattle.hex_core.specs.Digit.{value}
-use Rattle.hex_core.specs.Refusal.{decode_refusal, first_bad_char, source_refusal}
+use Rattle.hex_core.specs.Refusal.{decode_refusal, first_bad_char}
 use Rattle.hex_core.specs.Search.{first_invalid}
 use Rattle.hex_core.specs.Text.{Spells, SpellsAt, with_front}
 use Rattle.hex_core.proofs.BlockLemmas.{valid_range}
@@ -41,12 +41,6 @@ pair-spelled c high low h l first second =
           let at : 0 ≡ i = omega arith in
           subst (SpellsAt c (high ∷ low ∷ []) ((16 * h + l) ∷ [])) at (record { high = first ∙ ap (λ n. Some n) quotient; low = second ∙ ap (λ n. Some n) remainder });
     }
-
--- a source is not valid where one of its bytes has no value
-pub invalid-at : (c : CheckCase) (s : List ℕ) (k : ℕ) → k < length s → value c (slice_index s k) ≡ None → first_invalid c s ≢ None
-invalid-at c s k inside lacks none =
-    let some : is_some (value c (slice_index s k)) ≡ true = none_valid c s none k (omega arith) inside in
-    absurd (cc (subst (λ o. is_some o ≡ true) lacks some))
 
 -- a digit that waits has a value where it is valid, and the other way round
 one-read : (c : CheckCase) (d : ℕ) → first_invalid c (d ∷ []) ≡ None → IsSome (value c d)
@@ -80,13 +74,6 @@ spells-but c digits part bytes o parts spelled read = record {
   parts = parts;
   spelled = spelled;
 }
-
-pub nothing-fed : (c : CheckCase) → SpellsBut c [] [] []
-nothing-fed c = spells-but c [] [] [] None refl (nothing-spelled c) (λ d is. absurd (cc is))
-
--- a digit alone waits
-pub alone-waits : (c : CheckCase) (d : ℕ) → IsSome (value c d) → SpellsBut c (d ∷ []) [] (d ∷ [])
-alone-waits c d read = spells-but c (d ∷ []) [] [] (Some d) refl (nothing-spelled c) (λ x is. let same : d ≡ x = cc is in subst (λ y. IsSome (value c y)) same read)
 
 -- the digit that waits has a value
 pub waits-read : (c : CheckCase) (digits bytes : List ℕ) (o : Option ℕ) → SpellsBut c digits bytes (option_to_list o) → ForSome o (λ d. IsSome (value c d))
@@ -152,9 +139,6 @@ bad-behind-all c fed src had none is = subst (λ n. bad_char_behind c n src ≡ 
 pub refused-many : (c : CheckCase) (fed src : List ℕ) (room : ℕ) → 2 ^ 64 ≤ length fed + length src → feed_refusal c fed src room ≡ Some Overflow
 refused-many c fed src room many = grind (arith, nat_tests, many)
 
-pub refused-room : (c : CheckCase) (fed src : List ℕ) (room required : ℕ) → length fed + length src < 2 ^ 64 → pairs_more (length fed) (length src) ≡ required → room < required → feed_refusal c fed src room ≡ Some (OutputTooSmall required)
-refused-room c fed src room required few is short = grind (arith, nat_tests, few, is, short)
-
 pub refused-byte : (c : CheckCase) (fed src : List ℕ) (room : ℕ) → length fed + length src < 2 ^ 64 → pairs_more (length fed) (length src) ≤ room → feed_refusal c fed src room ≡ first_bad_char c (fed ++ src)
 refused-byte c fed src room few fits = grind (arith, nat_tests, few, fits)
 
@@ -167,21 +151,6 @@ pub pairs-behind : (fed written : List ℕ) (waits n : ℕ) → (length fed ≡ 
 pairs-behind fed written waits n (count, one) = omega (arith, count, one)
 
 -- ---- the end
-
-pub finished-odd : (c : CheckCase) (fed written : List ℕ) (o : Option ℕ) → SpellsBut c fed written (option_to_list o) → is_some o ≡ true → source_refusal c fed ≡ Some OddLength
-finished-odd c fed written None but some = absurd (cc some)
-finished-odd c fed written (Some d) but some =
-    let odd : length fed % 2 ≡ 1 = omega (arith, count-but c fed written (Some d) but) in
-    grind (arith, nat_tests, odd)
-
-pub finished-even : (c : CheckCase) (fed written : List ℕ) (o : Option ℕ) → SpellsBut c fed written (option_to_list o) → is_some o ≡ false → (source_refusal c fed ≡ None) × Spells c fed written
-finished-even c fed written (Some d) but none = absurd (cc none)
-finished-even c fed written None but none =
-    let even : length fed % 2 ≡ 0 = omega (arith, count-but c fed written None but) in
-    let valid = but.valid in (
-      grind (arith, nat_tests, even, valid),
-      subst (λ s. Spells c s written) (sym (but.parts ∙ append-nil but.pairs)) but.spelled,
-    )
 
 -- ---- all feeds are one
 

@@ -3,11 +3,6 @@ use Rattle.std.specs.Slice.Iter.{chunks_rest}
 use Rattle.hex_codec.proofs.ListLemmas.{text-behind}
 use Rattle.hex_codec.proofs.strings.append_reserved.Goals as goal
 
-pub unwrap-requires : goal.unwrap-requires
-unwrap-requires g c =
-    let sizes = ap length c.in-Some.ensures.steps.1.0 ∙ length-append c.in-Some.chunk.now (chunks_rest c.next.new.self) in
-    c.push_str.ensures.succeeds (omega (arith, sizes, c.chunk_text.ensures.len, c.chunks.invariant.4, c.chunks.invariant.5, c.requires))
-
 pub chunks-preserved : goal.chunks-preserved
 chunks-preserved g c =
     let steps = c.in-Some.ensures.steps in let inv = c.chunks.invariant in let left = chunks_rest c.next.new.self in

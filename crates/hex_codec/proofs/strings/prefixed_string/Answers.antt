@@ -15,5 +15,3 @@ from_utf8_unchecked-requires g c =
     rw (c.write_prefixed.ensures, take_at shown (drop (length shown) c.in-Ok.string.items) c.in-Ok.string.len size)
     (IsUtf8-from_ascii _ (IsAscii-append c.args.prefix.now digits c.requires (IsAscii-text c.args.upper c.args.src.now (λ i. (c.type_inv.src i).fits))))
 
-pub write_prefixed-requires : goal.write_prefixed-requires
-write_prefixed-requires g c = omega (arith, c.in-Some.ensures, c.in-Some-checked_add.ensures, c.in-Ok.ensures.len, c.as_mut_slice.ensures.len)
