@@ -1,5 +1,5 @@
 -- What the entries of the value tables say of a byte.
-use Rattle.std.proofs.Common.{refl, Bool, ◌≡◌, ◌≢◌, ℕ, List, ◌+◌, ◌*◌, ◌<◌, get_or, true, false, Option, Some, None, is_none, unwrap_or, ◌∙◌, arith}
+use Rattle.std.proofs.Common.{refl, Bool, ◌≡◌, ◌≢◌, ℕ, List, ◌+◌, ◌*◌, ◌<◌, get_or, true, false, Option, Some, None, is_none, is_some, unwrap_or, ◌∙◌, arith}
 use Rattle.std.specs.Prelude.{IsTrue, ◌&&◌, not, ◌==◌}
 use Rattle.std.proofs.lemmas.Bool.Decides.{nat_tests}
 use Rattle.std.proofs.lemmas.List.FromFn.{get_or-map-range_with_len}
@@ -33,6 +33,15 @@ IsEntry c table b = (value c b ≡ Some (get_or table b 0)) × (get_or table b 0
 
 pub value-entry : (c : CheckCase) (table : List ℕ) (b : ℕ) → table ≡ value_table c → b < 256 → is_none (value c b) ≡ false → IsEntry c table b
 value-entry c table b is h e = rw is (rw (get_or-value_table c b 0 h) (value_at c b e))
+
+-- whether an entry is another one than 255 is whether the byte has a value
+tells : (c : CheckCase) (b : ℕ) → not (unwrap_or (value c b) 255 == 255) ≡ is_some (value c b)
+tells policy.None b = grind (arith, nat_tests)
+tells policy.Lower b = grind (arith, nat_tests)
+tells policy.Upper b = grind (arith, nat_tests)
+
+pub entry_tells : (c : CheckCase) (table : List ℕ) (b : ℕ) → table ≡ value_table c → b < 256 → not (get_or table b 0 == 255) ≡ is_some (value c b)
+entry_tells c table b is h = rw is (rw (get_or-value_table c b 0 h) (tells c b))
 
 -- the entries of a pair, neither of which is 255
 pub pair_entries : (c : CheckCase) (table s : List ℕ) (i : ℕ) → table ≡ value_table c → ((k : ℕ) → get_or s k 0 < 256) → get_or table (get_or s (2 * i) 0) 0 ≢ 255 → get_or table (get_or s (2 * i + 1) 0) 0 ≢ 255

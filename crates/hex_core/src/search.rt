@@ -5,7 +5,8 @@ ghost use Rattle.std.specs.Int.{div_ceil};
 ghost use Rattle.hex_core.specs.Probe.{Adds, ProbeState, ValidIn, invalid_in, looks_from, steps_in};
 ghost use Rattle.hex_core.specs.Search.{tested_blocks};
 
-use crate::digit::{CheckCase, digit_value};
+use crate::digit::CheckCase;
+use crate::tables::has_value;
 
 // How many bytes each test that `locate` makes takes.
 const BLOCK: usize = 64;
@@ -78,6 +79,7 @@ fn block_count(len: usize) -> usize
 
 // Tests the whole blocks in order, and returns where the looks begin: at the first block that does
 // not pass, or behind the last one.
+#[inline(always)]
 fn test_blocks<P: Probe>(p: &mut P) -> usize
     requires block { (P.state p.old).block ≡ 64 }
     requires countable { (P.state p.old).tests + length (P.state p.old).source < 2 ^ 64 }
@@ -96,6 +98,7 @@ fn test_blocks<P: Probe>(p: &mut P) -> usize
 
 // Looks at byte after byte from `start` on, up to the first one without a value. It makes at most
 // 64 looks, since the first invalid byte is within a block of `start`, or the end is.
+#[inline(always)]
 fn look_from<P: Probe>(p: &mut P, start: usize) -> Option<usize>
     requires valid { ValidIn (P.state p.old) 0 start }
     requires start { start ≡ looks_from (P.state p.old) }
@@ -106,7 +109,7 @@ fn look_from<P: Probe>(p: &mut P, start: usize) -> Option<usize>
     let len = p.len();
     let case = p.case();
     for i in start..len {
-        if digit_value(p.look(i), case).is_none() {
+        if !has_value(p.look(i), case) {
             return Some(i);
         }
     }
@@ -130,6 +133,7 @@ fn look_from<P: Probe>(p: &mut P, start: usize) -> Option<usize>
 /// assert_eq!(rt; locate(&mut probe), Some(5));
 /// assert_eq!(rt; (probe.tests(), probe.looks()), (0, 6));
 /// ```
+#[inline(always)]
 pub fn locate<P: Probe>(p: &mut P) -> Option<usize>
     requires block { (P.state p.old).block ≡ 64 }
     requires tests { (P.state p.old).tests + length (P.state p.old).source < 2 ^ 64 }

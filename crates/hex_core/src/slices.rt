@@ -28,6 +28,7 @@ impl Backend {
     /// assert_eq!(rt; scalar.first_invalid(b"00ff0g", CheckCase::None), Some(5));
     /// assert_eq!(rt; scalar.first_invalid(b"00FF", CheckCase::Upper), None);
     /// ```
+    #[inline(always)]
     pub fn first_invalid(self, src: &[u8], case: CheckCase) -> Option<usize>
         ensures { result ≡ first_invalid case src.now }
     {

@@ -1,6 +1,7 @@
 //! Tables: the value of each byte under a policy, and the two digits of each byte.
 
-ghost use Rattle.std.specs.Prelude.{◌≡◌};
+ghost use Rattle.std.specs.Prelude.{◌≡◌, is_some};
+ghost use Rattle.hex_core.specs.Digit.{value};
 ghost use Rattle.hex_core.specs.Text.{digits_table, value_table};
 
 use crate::digit::CheckCase;
@@ -82,6 +83,7 @@ static DIGITS_UPPER: [u8; 512] = *b"\
 ";
 
 /// Returns the table of every byte's value under `case`, with [`NIL`] where there is none.
+#[inline(always)]
 pub fn values_of(case: CheckCase) -> &'static [u8; 256]
     ensures { result.now ≡ value_table case }
 {
@@ -90,6 +92,14 @@ pub fn values_of(case: CheckCase) -> &'static [u8; 256]
         CheckCase::Lower => &VALUES_LOWER,
         CheckCase::Upper => &VALUES_UPPER,
     }
+}
+
+/// Returns whether `byte` has a value under `case`, by one look-up.
+#[inline(always)]
+pub fn has_value(byte: u8, case: CheckCase) -> bool
+    ensures { result ≡ is_some (value case byte) }
+{
+    values_of(case)[byte as usize] != NIL
 }
 
 /// Returns the table of every byte's two digits, the high one first, byte after byte.

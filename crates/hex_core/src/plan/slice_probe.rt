@@ -72,11 +72,13 @@ impl<'a> Probe for SliceProbe<'a> {
         self.tests
     }
 
+    #[inline(always)]
     fn look(&mut self, i: usize) -> u8 {
         self.looks += 1;
         self.src[i]
     }
 
+    #[inline(always)]
     fn test(&mut self, start: usize, width: usize) -> bool {
         self.tests += 1;
         self.backend

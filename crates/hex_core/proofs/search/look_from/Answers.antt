@@ -13,15 +13,15 @@ look-requires-clause-countable g c =
     omega (arith, near)
 
 -- the byte that was looked at has no value
-at_byte : (g : given.Over) (c : goal.Then-is_none g) → invalid_in (g.P.Probe.state c.args.p.now) ≡ Some c.loop-i.i
+at_byte : (g : given.Over) (c : goal.Then-not-has_value g) → invalid_in (g.P.Probe.state c.args.p.now) ≡ Some c.loop-i.i
 at_byte g c =
     let p = g.P.Probe.state c.args.p.now in
     let inside : c.loop-i.i < length p.source = omega arith in
-    let read = read_along p.policy _ p.source _ c.loop-i.i _ _ c.digit_value.ensures c.case-case.ensures c.look.ensures.byte c.loop-i.invariant.same.0 in
-    first_invalid_is p.policy p.source c.loop-i.i inside c.loop-i.invariant.valid (sym (ap is_some read) ∙ c.if-is_none.ensures)
+    let read = read_along p.policy _ p.source _ c.loop-i.i _ _ refl c.case-case.ensures c.look.ensures.byte c.loop-i.invariant.same.0 in
+    first_invalid_is p.policy p.source c.loop-i.i inside c.loop-i.invariant.valid (sym (c.has_value.ensures ∙ ap is_some read) ∙ c.if-not-has_value.true)
 
-pub returns-then-is_none : goal.returns-then-is_none
-returns-then-is_none g c =
+pub returns-then-not-has_value : goal.returns-then-not-has_value
+returns-then-not-has_value g c =
     let p = g.P.Probe.state c.args.p.now in
     let kept = c.loop-i.invariant in let looked = c.look.ensures.counted in
     let looks = looks_found p.policy p.source c.args.start c.loop-i.i _ refl (at_byte g c) c.requires.start in
@@ -38,9 +38,9 @@ loop-i-preserved g c =
     let p = g.P.Probe.state c.args.p.now in
     let kept = c.loop-i.invariant in
     let looked = c.look.ensures.counted in
-    let read = read_along p.policy _ p.source _ c.loop-i.i _ _ c.digit_value.ensures c.case-case.ensures c.look.ensures.byte kept.same.0 in
+    let read = read_along p.policy _ p.source _ c.loop-i.i _ _ refl c.case-case.ensures c.look.ensures.byte kept.same.0 in
     record {
-      valid = valid_more p.policy p.source c.loop-i.i kept.valid (sym (ap is_some read) ∙ c.if-is_none.ensures);
+      valid = valid_more p.policy p.source c.loop-i.i kept.valid (sym (c.has_value.ensures ∙ ap is_some read) ∙ c.if-not-has_value.false);
       counted = omega (arith, looked.0, kept.counted);
       same_tests = omega (arith, looked.1, kept.same_tests);
       same = same_then p (g.P.Probe.state c.loop-i.p) (g.P.Probe.state c.look.new.self) kept.same looked.2;

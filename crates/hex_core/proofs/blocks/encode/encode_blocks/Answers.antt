@@ -1,4 +1,4 @@
-use Rattle.std.proofs.Common.{◌≡◌, ◌-◌, ◌+◌, ◌*◌, take, length, ap, ◌∙◌, refl, arith}
+use Rattle.std.proofs.Common.{◌-◌, ◌+◌, ◌*◌, take, length, ap, ◌∙◌, refl, arith}
 use Rattle.hex_core.proofs.TextBlockLemmas.{block_last, block_step}
 use Rattle.hex_core.proofs.blocks.encode.encode_blocks.Goals as goal
 
