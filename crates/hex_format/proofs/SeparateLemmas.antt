@@ -1,13 +1,15 @@
 -- Texts of bytes of which there is a known number.
-use Rattle.std.proofs.Common.{◌≡◌, Bool, ℕ, ◌*◌, ◌≤◌, ◌∷◌, ◌++◌, List, length, get_or, map, take, drop, sym, ap, ◌∙◌, arith, take-append-drop}
+use Rattle.std.proofs.Common.{◌≡◌, Bool, true, false, ℕ, ◌+◌, ◌*◌, ◌%◌, ◌<◌, ◌≤◌, [], ◌∷◌, ◌++◌, List, length, get_or, map, take, drop, replicate, bit_and, bit_or, cond, leb, refl, sym, ap, ◌∙◌, arith, take-append-drop}
 use Rattle.std.proofs.lemmas.List.{length-take-le}
+use Rattle.std.proofs.lemmas.Simd.{put_chunk_whole}
+use Rattle.std.proofs.Math.ListN.{set}
 use Rattle.std.proofs.Math.Seq.{take-append_seam}
-use Rattle.std.specs.List.{flat_map, range_with_len}
+use lib.Bits.{and_mask, and_zero_r, or_zero_r}
+use lib.Lanes.{put_chunk, sel_l, zip2}
+use Rattle.hex_core.specs.Lookup.{entry}
 use Rattle.hex_core.specs.Text.{text}
 use Rattle.hex_core.proofs.TextLemmas.{length-text, text-append}
-use Rattle.hex_codec.specs.declared.group.Group.{Group}
-use Rattle.hex_codec.specs.Grouped.{piece_len, pieces, separated, separator}
-use Rattle.hex_codec.proofs.ListLemmas.{entries}
+use Rattle.hex_format.specs.Frame.{placed}
 
 -- the first digits of a text are those of the first bytes
 pub take-text : (upper : Bool) (n : ℕ) (bytes : List ℕ) → n ≤ length bytes → take (2 * n) (text upper bytes) ≡ text upper (take n bytes)
@@ -17,16 +19,21 @@ take-text upper n bytes inside =
     let parts : text upper bytes ≡ front ++ text upper (drop n bytes) = ap (text upper) (sym (take-append-drop n bytes)) ∙ text-append upper (take n bytes) (drop n bytes) in
     rw (parts, ← size) (take-append_seam front (text upper (drop n bytes)))
 
--- sixteen bytes by their entries, so that what is said of them computes
-abbrev pub listed : List ℕ → List ℕ
-listed bytes = map (λ i. get_or bytes i 0) (range_with_len 0 16)
+-- a byte, and a vector that is written behind it
+pub put-behind-first : (sep : ℕ) (old digits : List ℕ) → length old ≡ 1 + length digits → put_chunk 1 (set old 0 sep) digits ≡ sep ∷ digits
+put-behind-first sep [] digits long = absurd (omega arith)
+put-behind-first sep (b ∷ old) digits long = ap (λ l. sep ∷ l) (put_chunk_whole old digits (omega arith))
 
--- so do their digits, and their pieces where a piece's length is known
-pub digits-listed : (upper : Bool) (bytes digits : List ℕ) → length bytes ≡ 16 → digits ≡ text upper bytes → digits ≡ text upper (listed bytes)
-digits-listed upper bytes digits long is = is ∙ ap (text upper) (entries bytes 16 long)
+-- one lane, of which the digit or the separator is 0
+lane-placed : (sep at digit : ℕ) (mark : Bool) → sep < 256 → leb 128 at ≡ mark
+    → bit_or (cond (leb 128 at) 0 digit) (bit_and sep (cond (leb 128 at) 255 0)) ≡ cond (leb 128 at) sep digit
+lane-placed sep at digit true byte is = rw is (and_mask sep 8 ∙ omega (arith, byte))
+lane-placed sep at digit false byte is = rw (is, and_zero_r sep) (or_zero_r digit)
 
-pub separated-listed : (group : Group) (upper : Bool) (bytes : List ℕ) (every : ℕ) → length bytes ≡ 16 → piece_len group ≡ every
-    → flat_map (λ piece. separator group ∷ text upper piece) (pieces every (listed bytes)) ≡ separated group upper bytes
-separated-listed group upper bytes every long is =
-    ap (λ n. flat_map (λ piece. separator group ∷ text upper piece) (pieces n (listed bytes))) (sym is)
-    ∙ ap (separated group upper) (sym (entries bytes 16 long))
+pub lanes-placed : (sep : ℕ) (digits places : List ℕ) → sep < 256
+    → zip2 bit_or (map (entry digits) places) (zip2 bit_and (replicate (length places) sep) (sel_l (map (leb 128) places) (replicate (length places) 255) (replicate (length places) 0)))
+    ≡ map (placed sep digits) places
+lanes-placed sep digits [] byte = refl
+lanes-placed sep digits (at ∷ places) byte =
+    let here = lane-placed sep at (get_or digits (at % 16) 0) (leb 128 at) byte refl in
+    let rest = lanes-placed sep digits places byte in λ i. here i ∷ rest i

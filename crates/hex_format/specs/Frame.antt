@@ -1,5 +1,5 @@
 -- The padded text of a list of bytes.
-use Rattle.std.specs.Prelude.{◌≡◌, ◌≤◌, ℕ, ◌-◌, ◌/◌, Bool, false, List, [], ◌++◌, length, take, codes, encode_utf8, Option, Some, None, if◌then◌else◌}
+use Rattle.std.specs.Prelude.{◌≡◌, ◌≤◌, ℕ, ◌-◌, ◌/◌, ◌%◌, nat_le, Bool, false, List, [], ◌++◌, length, slice_index, take, codes, encode_utf8, Option, Some, None, if◌then◌else◌}
 use Rattle.std.specs.List.{repeat}
 use Rattle.hex_core.specs.Text.{text}
 use Rattle.hex_codec.specs.declared.group.Group.{Group}
@@ -53,6 +53,10 @@ left_padding Center padding = padding / 2
 -- a buffer begins with n bytes that are these
 abbrev pub BeginsWith : ℕ → List ℕ → List ℕ → Type 0
 BeginsWith n buffer bytes = (n ≤ length buffer) × (take n buffer ≡ bytes)
+
+-- the digit at a place among sixteen, or the separator where the place is 128
+abbrev pub placed : ℕ → List ℕ → ℕ → ℕ
+placed sep digits at = if nat_le 128 at then sep else slice_index digits (at % 16)
 
 -- this many fill characters, in UTF-8
 abbrev pub fills : HexFlags → ℕ → List ℕ

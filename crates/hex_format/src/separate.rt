@@ -1,8 +1,10 @@
 //! Texts of pieces, each behind a separator.
 
-ghost use Rattle.std.specs.Prelude.{◌≡◌, ◌++◌, ◌-◌, ◌*◌, ◌%◌, ◌≤◌, length, take};
+ghost use Rattle.std.specs.Prelude.{◌≡◌, ◌∷◌, ◌+◌, ◌-◌, ◌*◌, ◌/◌, ◌%◌, ◌≤◌, drop, length, map, take};
+ghost use Rattle.std.specs.Simd.Lanes.{chunk, put_chunk};
+ghost use Rattle.hex_core.specs.Text.{text};
 ghost use Rattle.hex_codec.specs.Grouped.{piece_len, separated};
-ghost use Rattle.hex_format.specs.Frame.{BeginsWith};
+ghost use Rattle.hex_format.specs.Frame.{BeginsWith, placed};
 
 use hex_codec::Group;
 use hex_core::Backend;
@@ -11,6 +13,9 @@ use std::simd::prelude::*;
 
 // How many bytes are separated at a time where whole pieces are so many.
 const BLOCK: usize = 16;
+
+// The place of a separator among those of digits.
+const SEP: u8 = 128;
 
 // How many bytes are encoded at a time where a piece has fewer or as many.
 const EIGHT: usize = 8;
@@ -26,7 +31,9 @@ pub fn separated_text<'b>(bytes: &[u8], upper: bool, group: Group, buffer: &'b m
         1 => write_blocks::<Separate, 1, 48>(bytes, upper, group, buffer),
         2 => write_blocks::<Separate, 2, 40>(bytes, upper, group, buffer),
         4 => write_blocks::<Separate, 4, 36>(bytes, upper, group, buffer),
-        3..=8 => write_short(bytes, upper, group, buffer),
+        8 => write_blocks::<Separate, 8, 34>(bytes, upper, group, buffer),
+        16 => write_blocks::<Separate, 16, 33>(bytes, upper, group, buffer),
+        3..=7 => write_short(bytes, upper, group, buffer),
         _ => write_separated(bytes, upper, group, buffer),
     };
     &buffer[..end]
@@ -76,90 +83,113 @@ trait SeparateBlock<const EVERY: usize, const OUT: usize> {
         ensures { out.new ≡ separated group upper bytes.now };
 }
 
-// Each vector of what is written takes its lanes from 16 of the digits: a shuffle of more lanes is done
-// byte by byte.
 struct Separate;
 
 impl SeparateBlock<1, 48> for Separate {
     #[inline(always)]
     fn separate(bytes: &[u8; BLOCK], upper: bool, group: Group, out: &mut [u8]) {
-        let digits = encode_16(bytes, upper);
-        let first = u8x16::from_slice(&digits);
-        let last = u8x16::from_slice(&digits[BLOCK..]);
-        let inner = first.shuffle(
-            last,
-            [
-                10, 11, 12, 13, 14, 15, 16, 17, 18, 19, 20, 21, 22, 23, 24, 25,
-            ],
-        );
-        let seps = u8x16::splat(group.sep());
-        let front = first.shuffle(seps, [16, 0, 1, 16, 2, 3, 16, 4, 5, 16, 6, 7, 16, 8, 9, 16]);
-        let middle = inner.shuffle(seps, [0, 1, 16, 2, 3, 16, 4, 5, 16, 6, 7, 16, 8, 9, 16, 10]);
-        let back = last.shuffle(
-            seps,
-            [5, 16, 6, 7, 16, 8, 9, 16, 10, 11, 16, 12, 13, 16, 14, 15],
-        );
-        put_three(front, middle, back, out);
+        let front = u8x16::from_array([SEP, 0, 1, SEP, 2, 3, SEP, 4, 5, SEP, 6, 7, SEP, 8, 9, SEP]);
+        let middle = u8x16::from_array([
+            2, 3, SEP, 4, 5, SEP, 6, 7, SEP, 8, 9, SEP, 10, 11, SEP, 12,
+        ]);
+        let back = u8x16::from_array([
+            5, SEP, 6, 7, SEP, 8, 9, SEP, 10, 11, SEP, 12, 13, SEP, 14, 15,
+        ]);
+        put_placed(bytes, upper, group.sep(), front, middle, back, out);
     }
 }
 
 impl SeparateBlock<2, 40> for Separate {
     #[inline(always)]
     fn separate(bytes: &[u8; BLOCK], upper: bool, group: Group, out: &mut [u8]) {
-        let digits = encode_16(bytes, upper);
-        let first = u8x16::from_slice(&digits);
-        let last = u8x16::from_slice(&digits[BLOCK..]);
-        let inner = first.shuffle(
-            last,
-            [
-                12, 13, 14, 15, 16, 17, 18, 19, 20, 21, 22, 23, 24, 25, 26, 27,
-            ],
-        );
-        let seps = u8x16::splat(group.sep());
-        let front = first.shuffle(seps, [16, 0, 1, 2, 3, 16, 4, 5, 6, 7, 16, 8, 9, 10, 11, 16]);
-        let middle = inner.shuffle(seps, [0, 1, 2, 3, 16, 4, 5, 6, 7, 16, 8, 9, 10, 11, 16, 12]);
-        let back = last.shuffle(
-            seps,
-            [3, 16, 4, 5, 6, 7, 16, 8, 9, 10, 11, 16, 12, 13, 14, 15],
-        );
-        put_three(front, middle, back, out);
+        let front = u8x16::from_array([SEP, 0, 1, 2, 3, SEP, 4, 5, 6, 7, SEP, 8, 9, 10, 11, SEP]);
+        let middle = u8x16::from_array([1, 2, 3, SEP, 4, 5, 6, 7, SEP, 8, 9, 10, 11, SEP, 12, 13]);
+        let back = u8x16::from_array([3, SEP, 4, 5, 6, 7, SEP, 8, 9, 10, 11, SEP, 12, 13, 14, 15]);
+        put_placed(bytes, upper, group.sep(), front, middle, back, out);
     }
 }
 
 impl SeparateBlock<4, 36> for Separate {
     #[inline(always)]
     fn separate(bytes: &[u8; BLOCK], upper: bool, group: Group, out: &mut [u8]) {
-        let digits = encode_16(bytes, upper);
-        let first = u8x16::from_slice(&digits);
-        let last = u8x16::from_slice(&digits[BLOCK..]);
-        let inner = first.shuffle(
-            last,
-            [
-                14, 15, 16, 17, 18, 19, 20, 21, 22, 23, 24, 25, 26, 27, 28, 29,
-            ],
-        );
-        let seps = u8x16::splat(group.sep());
-        let front = first.shuffle(seps, [16, 0, 1, 2, 3, 4, 5, 6, 7, 16, 8, 9, 10, 11, 12, 13]);
-        let middle = inner.shuffle(seps, [0, 1, 16, 2, 3, 4, 5, 6, 7, 8, 9, 16, 10, 11, 12, 13]);
-        let back = last.shuffle(
-            seps,
-            [1, 2, 3, 4, 5, 6, 7, 16, 8, 9, 10, 11, 12, 13, 14, 15],
-        );
-        put_three(front, middle, back, out);
+        let front = u8x16::from_array([SEP, 0, 1, 2, 3, 4, 5, 6, 7, SEP, 8, 9, 10, 11, 12, 13]);
+        let middle = u8x16::from_array([0, 1, 2, 3, 4, 5, 6, 7, SEP, 8, 9, 10, 11, 12, 13, 14]);
+        let back = u8x16::from_array([1, 2, 3, 4, 5, 6, 7, SEP, 8, 9, 10, 11, 12, 13, 14, 15]);
+        put_placed(bytes, upper, group.sep(), front, middle, back, out);
     }
 }
 
-// Writes three vectors, of which the last ends where the output does, over the end of the one before.
+impl SeparateBlock<8, 34> for Separate {
+    #[inline(always)]
+    fn separate(bytes: &[u8; BLOCK], upper: bool, group: Group, out: &mut [u8]) {
+        let digits = encode_16(bytes, upper);
+        let sep = group.sep();
+        put_piece(sep, u8x16::from_slice(&digits), &mut out[..17]);
+        put_piece(sep, u8x16::from_slice(&digits[16..]), &mut out[17..]);
+    }
+}
+
+impl SeparateBlock<16, 33> for Separate {
+    #[inline(always)]
+    fn separate(bytes: &[u8; BLOCK], upper: bool, group: Group, out: &mut [u8]) {
+        put_piece(group.sep(), u8x32::from_array(encode_16(bytes, upper)), out);
+    }
+}
+
+// Writes a separator, and behind it the digits of a piece.
 #[inline(always)]
-fn put_three(front: u8x16, middle: u8x16, back: u8x16, out: &mut [u8])
+fn put_piece<const N: usize>(sep: u8, digits: Simd<u8, N>, out: &mut [u8])
+    requires { length out.old ≡ 1 + N }
+    ensures { out.new ≡ sep ∷ digits.entry }
+{
+    out[0] = sep;
+    digits.copy_to_slice(&mut out[1..]);
+}
+
+// The digits at their places, and separators. These are the same in each block, so they are joined
+// to the digits: a shuffle of both would make them anew.
+#[inline(always)]
+fn placed(digits: u8x16, places: u8x16, sep: u8) -> u8x16
+    ensures { result ≡ map (placed sep digits) places }
+{
+    let marks = places
+        .simd_ge(u8x16::splat(SEP))
+        .select(u8x16::splat(0xff), u8x16::splat(0));
+    digits.swizzle_dyn_within::<16>(places & u8x16::splat(0x8f)) | u8x16::splat(sep) & marks
+}
+
+// Writes a block's digits, by their places among the first 16, the last and the middle ones, to both
+// ends of the output, and over what these have in common.
+#[inline(always)]
+fn put_placed(
+    bytes: &[u8; BLOCK],
+    upper: bool,
+    sep: u8,
+    front: u8x16,
+    middle: u8x16,
+    back: u8x16,
+    out: &mut [u8],
+)
     requires least { 2 * BLOCK ≤ length out.old }
     requires most { length out.old ≤ 3 * BLOCK }
-    ensures { out.new ≡ front ++ (take (length out.old - 2 * BLOCK) middle ++ back) }
+    ensures { let digits = text upper bytes.now in
+        let last = length out.old - BLOCK in
+        let first = map (placed sep (take BLOCK digits)) front in
+        let second = map (placed sep (drop BLOCK digits)) back in
+        let inner = map (placed sep (chunk 8 BLOCK digits)) middle in
+        out.new ≡ put_chunk (last / 2) (put_chunk last (put_chunk 0 out.old first) second) inner }
 {
+    let digits = encode_16(bytes, upper);
+    let first = u8x16::from_slice(&digits);
+    let second = u8x16::from_slice(&digits[BLOCK..]);
+    let inner = first.shuffle(
+        second,
+        [8, 9, 10, 11, 12, 13, 14, 15, 16, 17, 18, 19, 20, 21, 22, 23],
+    );
     let last = out.len() - BLOCK;
-    front.copy_to_slice(out);
-    middle.copy_to_slice(&mut out[BLOCK..]);
-    back.copy_to_slice(&mut out[last..]);
+    placed(first, front, sep).copy_to_slice(out);
+    placed(second, back, sep).copy_to_slice(&mut out[last..]);
+    placed(inner, middle, sep).copy_to_slice(&mut out[last / 2..]);
 }
 
 // The same as `write_separated` where whole pieces make a block, a block at a time.
