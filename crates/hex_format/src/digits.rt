@@ -14,9 +14,11 @@ use hex_codec::chunks::encoded;
 /// How many source bytes are encoded at a time.
 pub const CHUNK: usize = 512;
 
-/// Up to how many source bytes a smaller buffer serves, so that a digest does not pay for the large
-/// one.
+/// Up to how many source bytes smaller buffers serve, so that a digest or a line of a dump does not
+/// pay for the large one.
 pub const SHORT: usize = 64;
+
+pub const MIDDLE: usize = 256;
 
 /// Puts the digits of `bytes`, grouped where there is a group.
 pub fn put_digits<S: Sink>(
@@ -41,6 +43,10 @@ fn put_text<S: Sink>(sink: &mut S, upper: bool, bytes: &[u8]) -> Result<(), Writ
 {
     if bytes.len() <= SHORT {
         let mut buffer = [0; 2 * SHORT];
+        return put_all(sink, encoded(bytes, upper, &mut buffer));
+    }
+    if bytes.len() <= MIDDLE {
+        let mut buffer = [0; 2 * MIDDLE];
         return put_all(sink, encoded(bytes, upper, &mut buffer));
     }
     let mut buffer = [0; 2 * CHUNK];
@@ -76,8 +82,11 @@ fn put_grouped<S: Sink>(
 {
     if bytes.len() <= SHORT {
         let mut buffer = [0; 3 * SHORT];
-        let shown = separated_text(bytes, upper, group, &mut buffer);
-        return put_all(sink, &shown[shown.len().min(1)..]);
+        return put_at_once(sink, upper, group, bytes, &mut buffer);
+    }
+    if bytes.len() <= MIDDLE {
+        let mut buffer = [0; 3 * MIDDLE];
+        return put_at_once(sink, upper, group, bytes, &mut buffer);
     }
     let mut buffer = [0; 3 * CHUNK];
     // No separator stands before the first piece.
@@ -87,6 +96,22 @@ fn put_grouped<S: Sink>(
         from = 0;
     }
     Ok(())
+}
+
+// Puts the grouped text of `bytes` where the buffer has room for all of it.
+fn put_at_once<S: Sink>(
+    sink: &mut S,
+    upper: bool,
+    group: Group,
+    bytes: &[u8],
+    buffer: &mut [u8],
+) -> Result<(), WriteFault>
+    requires counts { (S.state sink.old).failures < 2 ^ 64 - 1 }
+    requires room { 3 * length bytes.now ≤ length buffer.old }
+    ensures { Puts (S.state sink.old) (S.state sink.new) result (grouped group upper bytes.now) }
+{
+    let shown = separated_text(bytes, upper, group, buffer);
+    put_all(sink, &shown[shown.len().min(1)..])
 }
 
 // How many bytes are put at a time: as many whole pieces as a chunk has, or a longer one.
