@@ -11,8 +11,9 @@ use Rattle.hex_core.proofs.PositionLemmas.{least_is, least_none, least_told}
 use Rattle.hex_codec.specs.declared.group.Group.{Group}
 use Rattle.hex_codec.specs.declared.grouped.GroupFault.TheVariants.{InvalidByte}
 use Rattle.hex_codec.specs.Grouped.{piece_count, piece_len, separator}
+use Rattle.hex_codec.specs.declared.unseparate.Front.{Front}
 use Rattle.hex_codec.specs.GroupedText.{GroupSpells, byte_count, digits_in, first_wrong, group_refusal, grouped_len, refusal_of_count, separators_in}
-use Rattle.hex_codec.specs.Unseparate.{ValidDigits}
+use Rattle.hex_codec.specs.Unseparate.{UnseparatesFront, ValidDigits}
 use Rattle.hex_codec.proofs.GroupLemmas.{no_pieces}
 use Rattle.hex_codec.proofs.PartLemmas.{parted, unparted}
 use Rattle.hex_codec.proofs.WrongLemmas.{Right, wrong-none}
@@ -105,6 +106,12 @@ digits-fuel every (suc fuel) s fits = from_cases (digits-fuel every fuel (drop (
         let count : length s / line ≡ length (drop line s) / line + 1 = ap (λ n. n / line) sum ∙ add-div_left (length (drop line s)) {k = line} (omega arith) in
         omega (arith, cut, length-take-le (2 * every) s (omega arith), rest (omega (arith, left)), left, count)
 
+-- so a text has no fewer bytes, and a front that was copied
+pub fewer : (group : Group) (text new : List ℕ) (front : Front) → UnseparatesFront group text new front → front.digits ≤ front.len
+fewer group text new front bare =
+    let done = take front.len text in
+    omega (arith, ap length bare.copied, digits-fuel (piece_len group) (length done) done (omega arith), length-take-le front.len text bare.inside, length-take-le front.digits new bare.room)
+
 -- two for each byte
 pub length-digits : (every n : ℕ) (s : List ℕ) → 0 < every → length s ≡ grouped_len every n → length (digits_in every s) ≡ 2 * n
 length-digits every n s pos long = from_cases (cases_lt 0 n)
@@ -125,6 +132,13 @@ even-digits every count s whole =
     omega (arith, digits-fuel every (length s) s (omega arith), whole, size, lines count every)
 
 -- ---- texts that are read
+
+-- a length that is not refused is that of so many bytes, which have room
+pub fitting : (every len room n : ℕ) → refusal_of_count (byte_count every len) None room ≡ None → byte_count every len ≡ Some n
+    → (n ≤ room) × (len ≡ grouped_len every n)
+fitting every len room n h is =
+    let none : refusal_of_count (Some n) None room ≡ None = rw is at h in
+    (grind (arith, nat_tests, none), sym (count-told every len n is))
 
 -- what holds where reading refuses nothing
 pub record Accepted (c : CheckCase) (group : Group) (s : List ℕ) (room n : ℕ) : Type 0 where

@@ -1,5 +1,5 @@
 -- Parts of a text, and those behind them.
-use Rattle.std.proofs.Common.{◌≡◌, ℕ, ◌+◌, ◌*◌, ◌<◌, ◌≤◌, List, [], ◌∷◌, ◌++◌, length, take, drop, refl, sym, ap, ◌∙◌, arith, All, append-nil, length-drop, length-take, get_or}
+use Rattle.std.proofs.Common.{◌≡◌, ℕ, ◌+◌, ◌*◌, ◌<◌, ◌≤◌, List, [], ◌∷◌, ◌++◌, length, take, drop, refl, sym, ap, ◌∙◌, arith, All, append-nil, length-append, length-drop, length-take, take-append-drop, get_or, ◌-◌}
 use Rattle.std.proofs.Math.Seq.{take-add}
 use Rattle.std.proofs.lemmas.Grind.{flat_map-append}
 use Rattle.std.proofs.lemmas.List.{drop_all, get_or-drop, get_or-take, length-take-le, take_all, take-take}
@@ -9,7 +9,7 @@ use Rattle.hex_codec.specs.declared.group.Group.{Group}
 use Rattle.hex_codec.specs.declared.unseparate.Front.{Front}
 use Rattle.hex_codec.specs.Grouped.{piece_len, separator}
 use Rattle.hex_codec.specs.GroupedText.{digits_in, parts, separators_in}
-use Rattle.hex_codec.specs.Unseparate.{IsWhole, UnseparatesFront}
+use Rattle.hex_codec.specs.Unseparate.{IsWhole, UnseparatesAll, UnseparatesFront}
 use Rattle.hex_codec.proofs.GroupLemmas.{no_pieces, pieces-append, pieces-next}
 
 -- what each part makes, of whole parts and those behind them
@@ -72,6 +72,55 @@ unseparates-more group text new new' front step more before inside room whole se
       separated = rw (all, joined (drop (2 * every)) every done next lines) (All-append (λ b. b ≡ separator group) (separators_in every done)
           (separators_in every next) before.separated separated);
       copied = copied ∙ rw (before.copied, all) (sym (joined (take (2 * every)) every done next lines));
+    }
+
+-- a text's digits and separators are those of a front and those behind it
+pub record Behind (group : Group) (text new : List ℕ) (front : Front) : Type 0 where
+  pub digits : digits_in (piece_len group) text ≡ take front.digits new ++ digits_in (piece_len group) (drop front.len text)
+  pub separators : separators_in (piece_len group) text
+      ≡ separators_in (piece_len group) (take front.len text) ++ separators_in (piece_len group) (drop front.len text)
+
+pub behind : (group : Group) (text new : List ℕ) (front : Front) → UnseparatesFront group text new front → Behind group text new front
+behind group text new front before =
+    let every = piece_len group in
+    let done = take front.len text in
+    let rest = drop front.len text in
+    let cut = sym (take-append-drop front.len text) in
+    let whole : IsWhole every (length done) = rw (length-take-le front.len text before.inside) before.whole in
+    record {
+      digits = ap (digits_in every) cut ∙ joined (take (2 * every)) every done rest whole ∙ ap (λ l. l ++ digits_in every rest) (sym before.copied);
+      separators = ap (separators_in every) cut ∙ joined (drop (2 * every)) every done rest whole;
+    }
+
+-- a front of what is before a place is one of the text
+pub uncut : (group : Group) (text new : List ℕ) (n : ℕ) (front : Front) → UnseparatesFront group (take n text) new front → UnseparatesFront group text new front
+uncut group text new n front cut =
+    let size = length-take n text in
+    let same : take front.len (take n text) ≡ take front.len text = take-take front.len n text (omega (arith, cut.inside, size)) in
+    record {
+      inside = omega (arith, cut.inside, size);
+      room = cut.room;
+      whole = cut.whole;
+      separated = rw same at cut.separated;
+      copied = rw same at cut.copied;
+    }
+
+-- at last those of the last part are copied
+pub unseparates-last : (group : Group) (text new new' : List ℕ) (front : Front) → UnseparatesFront group text new front
+    → length text - front.len ≤ 2 * piece_len group
+    → take (front.digits + (length text - front.len)) new' ≡ take front.digits new ++ drop front.len text → UnseparatesAll group text new'
+unseparates-last group text new new' front before short copied =
+    let every = piece_len group in
+    let rest = drop front.len text in
+    let left = length-drop front.len text in
+    let is = behind group text new front before in
+    let last = unparted every rest (omega (arith, left, short)) in
+    let all : digits_in every text ≡ take front.digits new ++ rest = is.digits ∙ ap (λ l. take front.digits new ++ l) last.0 in
+    let sum = ap length all ∙ length-append (take front.digits new) rest in
+    let size : length (digits_in every text) ≡ front.digits + (length text - front.len) = omega (arith, sum, left, length-take-le front.digits new before.room) in
+    record {
+      separated = rw (is.separators, last.1, append-nil (separators_in every (take front.len text))) before.separated;
+      copied = rw size (copied ∙ sym all);
     }
 
 -- the digits of one part, and its separator

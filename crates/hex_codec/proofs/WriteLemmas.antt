@@ -1,5 +1,5 @@
 -- Bytes that are written behind others.
-use Rattle.std.proofs.Common.{◌≡◌, ◌⊎◌, inl, inr, ℕ, min, ◌+◌, ◌-◌, ◌*◌, ◌%◌, ◌<◌, ◌≤◌, Bool, true, false, refl, sym, ap, ◌∙◌, arith, None, List, [], ◌++◌, length, take, drop, append-nil, append_assoc, length-append, length-drop, take-append-drop}
+use Rattle.std.proofs.Common.{◌≡◌, ◌⊎◌, inl, inr, ℕ, min, ◌+◌, ◌-◌, ◌*◌, ◌%◌, ◌<◌, ◌≤◌, Bool, true, false, refl, sym, ap, ◌∙◌, arith, All, None, List, [], ◌++◌, length, take, drop, append-nil, append_assoc, length-append, length-drop}
 use Rattle.std.proofs.lemmas.Bool.{cases_lt}
 use Rattle.std.proofs.lemmas.List.{drop-drop, drop_all, length-take-le, take_all, take_rest}
 use Rattle.std.proofs.lemmas.Slice.{take-put_mid}
@@ -13,16 +13,33 @@ use Rattle.hex_core.proofs.PositionLemmas.{none_joined}
 use Rattle.hex_core.proofs.SearchLemmas.{lacks}
 use Rattle.hex_codec.specs.declared.group.Group.{Group}
 use Rattle.hex_codec.specs.declared.unseparate.Front.{Front}
-use Rattle.hex_codec.specs.Grouped.{piece_len}
-use Rattle.hex_codec.specs.GroupedText.{digits_in}
-use Rattle.hex_codec.specs.Unseparate.{IsWhole, UnseparatesFront, ValidDigits, WritesFront}
-use Rattle.hex_codec.proofs.CountLemmas.{even-digits}
-use Rattle.hex_codec.proofs.PartLemmas.{joined, parted, unparted}
+use Rattle.hex_codec.specs.GroupCalls.{ReadsWhole}
+use Rattle.hex_codec.specs.Grouped.{piece_len, separator}
+use Rattle.hex_codec.specs.GroupedText.{GroupSpells, digits_in, grouped_len, separators_in}
+use Rattle.hex_codec.specs.Unseparate.{UnseparatesAll, UnseparatesFront, ValidDigits, WritesFront}
+use Rattle.hex_codec.proofs.CountLemmas.{even-digits, length-digits}
+use Rattle.hex_codec.proofs.PartLemmas.{behind, parted, unparted}
 
 -- decoding valid digits leaves what they spell
 pub decoded : (c : CheckCase) (s old new : List ℕ) (done : Bool) → first_invalid c s ≡ None → DecodesWhole c s old new done → Spells c s new
 decoded c s old new true valid answer = answer.1
 decoded c s old new false valid answer = absurd (answer.0 valid)
+
+-- a text of the right length is read where its separators are the group's and its digits spell what is left
+pub reads : (c : CheckCase) (group : Group) (s new : List ℕ) (n : ℕ) → length s ≡ grouped_len (piece_len group) n
+    → All (λ b. b ≡ separator group) (separators_in (piece_len group) s) → Spells c (digits_in (piece_len group) s) new → GroupSpells c group s new
+reads c group s new n long separated spelled =
+    let size = length-digits (piece_len group) n s group.is_group.0 long in
+    record { long = long ∙ ap (grouped_len (piece_len group)) (omega (arith, spelled.twice, size)); separated = separated; spelled = spelled }
+
+-- so it is where all its digits are decoded
+pub reads-all : (c : CheckCase) (group : Group) (s digits old new : List ℕ) (done : Bool) → length s ≡ grouped_len (piece_len group) (length old)
+    → UnseparatesAll group s digits → DecodesWhole c (take (2 * length old) digits) old new done → ReadsWhole c group s old new done
+reads-all c group s digits old new false long all answer = answer.1
+reads-all c group s digits old new true long all answer =
+    let size = length-digits (piece_len group) (length old) s group.is_group.0 long in
+    let spelled : Spells c (digits_in (piece_len group) s) new = rw (rw size at all.copied) at answer.1 in
+    reads c group s new (length old) long all.separated spelled
 
 -- ---- behind a front
 
@@ -94,19 +111,17 @@ pub copied : (c : CheckCase) (group : Group) (s dst new : List ℕ) (at done all
 copied c group s dst new at done all front so_far reached bare digits =
     let every = piece_len group in
     let rest = drop at s in
-    let behind : UnseparatesFront group rest new front = rw (take_rest s at) at bare in
-    let long : length (take front.len rest) ≡ front.len = length-take-le front.len rest behind.inside in
-    let whole : IsWhole every (length (take front.len rest)) = rw long behind.whole in
-    let cut = ap (digits_in every) (sym (take-append-drop front.len rest)) ∙ joined (take (2 * every)) every (take front.len rest)
-    (drop front.len rest) whole ∙ ap (λ l. l ++ digits_in every (drop front.len rest)) (sym behind.copied) in
-    let size = length-take-le front.digits new behind.room in
+    let next : UnseparatesFront group rest new front = rw (take_rest s at) at bare in
+    let long : length (take front.len rest) ≡ front.len = length-take-le front.len rest next.inside in
+    let cut = (behind group rest new front next).digits in
+    let size = length-take-le front.digits new next.room in
     let known = ahead c group s dst (take front.digits new) (digits_in every (drop front.len rest)) at done all so_far cut digits in
     record {
-      inside = omega (arith, behind.inside, length-drop at s, reached);
+      inside = omega (arith, next.inside, length-drop at s, reached);
       cut = cut;
       valid = known.0;
       size = size;
-      even = omega (arith, ap length behind.copied, size, even-digits every behind.whole.count (take front.len rest) (long ∙ behind.whole.lines));
+      even = omega (arith, ap length next.copied, size, even-digits every next.whole.count (take front.len rest) (long ∙ next.whole.lines));
       room = omega (arith, known.1, size);
     }
 

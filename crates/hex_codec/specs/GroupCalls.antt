@@ -1,17 +1,21 @@
 -- What reading a grouped text answers and leaves.
-use Rattle.std.specs.Prelude.{◌≡◌, ℕ, List, length, Result, MatchResult, Some, None}
+use Rattle.std.specs.Prelude.{◌≡◌, ℕ, Bool, List, length, Result, MatchResult, Some, None}
+use Rattle.std.specs.Bool.{MatchBool}
 use Rattle.std.specs.Borrow.{MutBor}
 use Rattle.hex_core.specs.declared.digit.CheckCase.{CheckCase}
 use Rattle.hex_core.specs.Calls.{Answers}
 use Rattle.hex_core.specs.Text.{with_front}
 use Rattle.hex_codec.specs.declared.group.Group.{Group}
 use Rattle.hex_codec.specs.declared.grouped.GroupFault.{GroupFault}
-use Rattle.hex_codec.specs.Grouped.{piece_len}
-use Rattle.hex_codec.specs.GroupedText.{GroupSpells, byte_count, group_refusal}
+use Rattle.hex_codec.specs.GroupedText.{GroupSpells, byte_count, group_refusal, refusal_of_count}
 
--- how many bytes a text that is read has, or the refusal
-abbrev pub Accepts : CheckCase → Group → List ℕ → ℕ → Result ℕ GroupFault → Type 0
-Accepts c group s room = Answers (group_refusal c group s room) (λ n. byte_count (piece_len group) (length s) ≡ Some n)
+-- how many bytes the text of a length has, or what this length or the room refuses
+abbrev pub CountsBytes : ℕ → ℕ → ℕ → Result ℕ GroupFault → Type 0
+CountsBytes every len room = Answers (refusal_of_count (byte_count every len) None room) (λ n. byte_count every len ≡ Some n)
+
+-- reading a text of the right length over a whole destination, or leaving it as it was
+abbrev pub ReadsWhole : CheckCase → Group → List ℕ → List ℕ → List ℕ → Bool → Type 0
+ReadsWhole c group s old new done = MatchBool done (GroupSpells c group s new) (new ≡ old)
 
 -- reading into the front of a destination: the number of bytes, which are what the text spells and
 -- stand over the old ones; or the refusal, and the destination as it was

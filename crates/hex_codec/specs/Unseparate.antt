@@ -21,6 +21,11 @@ pub record UnseparatesFront (group : Group) (text new : List ℕ) (front : Front
   pub separated : All (λ b. b ≡ separator group) (separators_in (piece_len group) (take front.len text))
   pub copied : take front.digits new ≡ digits_in (piece_len group) (take front.len text)
 
+-- the separators of all of a text are the group's, and its digits were copied
+pub record UnseparatesAll (group : Group) (text new : List ℕ) : Type 0 where
+  pub separated : All (λ b. b ≡ separator group) (separators_in (piece_len group) text)
+  pub copied : take (length (digits_in (piece_len group) text)) new ≡ digits_in (piece_len group) text
+
 -- the first wrong byte stands behind a front of this length
 pub record ClearsFront (c : CheckCase) (group : Group) (text : List ℕ) (len : ℕ) : Type 0 where
   pub inside : len ≤ length text

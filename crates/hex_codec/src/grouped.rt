@@ -1,20 +1,21 @@
 //! Grouped digits: pieces with a separator between two, read into bytes.
 //!
-//! All of a text is tested before the first store. Pieces of up to 16 bytes are stripped of their
-//! separators into a buffer, many at a time, and tested and decoded there.
+//! All of a text is tested before the first store. Digits are stripped of their separators into a
+//! buffer, and tested and decoded there: all of them where they find room. Else those of pieces of up
+//! to 16 bytes are, as many as find room, in one pass that tests and another that decodes.
 
-ghost use Rattle.std.specs.Prelude.{◌≡◌, ◌*◌, ◌/◌, ◌≤◌, ◌<◌, None, length, take};
+ghost use Rattle.std.specs.Prelude.{◌≡◌, ◌*◌, ◌/◌, ◌≤◌, ◌<◌, None, is_none, length, take};
 ghost use Rattle.std.specs.Borrow.{sem};
 ghost use Rattle.hex_core.specs.Loan.{LendsAnswer};
 ghost use Rattle.hex_core.specs.Search.{first_invalid};
 ghost use Rattle.hex_core.specs.Text.{Spells};
 ghost use Rattle.hex_codec.specs.Grouped.{piece_len};
-ghost use Rattle.hex_codec.specs.GroupedText.{byte_count, digits_in, first_wrong};
-ghost use Rattle.hex_codec.specs.GroupCalls.{Accepts, Reads, ReadsFront};
+ghost use Rattle.hex_codec.specs.GroupedText.{byte_count, digits_in, first_wrong, grouped_len};
+ghost use Rattle.hex_codec.specs.GroupCalls.{CountsBytes, Reads, ReadsFront, ReadsWhole};
 ghost use Rattle.hex_codec.specs.Unseparate.{ClearsFront, ValidDigits, WritesFront};
 
 pub use crate::group::Group;
-use crate::unseparate::{Front, SHORT, unseparate};
+use crate::unseparate::{Front, NONE, SHORT, unseparate, unseparate_all};
 use hex_core::lend::lend_accepted;
 use hex_core::{Backend, CheckCase};
 
@@ -47,11 +48,8 @@ pub enum GroupFault {
     },
 }
 
-// How many digits are copied together.
-const LARGE: usize = 2048;
-
-// The same in a source of so many bytes, so that a line of a dump does not pay for the large buffer.
-const SMALL: usize = 128;
+// How much of a text is copied together.
+const LARGE: usize = 12_288;
 
 // How many bytes have a grouped text of this length.
 fn byte_count(len: usize, every: usize) -> Option<usize>
@@ -113,12 +111,14 @@ fn first_wrong_behind(src: &[u8], front: usize, group: Group, case: CheckCase) -
     None
 }
 
-// How long a front of whole parts without a wrong byte is, by so many digits at a time.
-fn clear_front_with<const N: usize>(src: &[u8], group: Group, case: CheckCase) -> usize
-    requires { N ≤ LARGE }
+// How long a front of whole parts without a wrong byte is, where pieces are short.
+fn clear_front(src: &[u8], group: Group, case: CheckCase) -> usize
     ensures { ClearsFront case group src.now result }
 {
-    let mut buffer = [0; N];
+    if group.every() > SHORT {
+        return 0;
+    }
+    let mut buffer = [0; LARGE];
     let mut at = 0;
     'fronts: loop {
         let front = unseparate(&src[at..], group, &mut buffer);
@@ -129,19 +129,6 @@ fn clear_front_with<const N: usize>(src: &[u8], group: Group, case: CheckCase) -
     }
 }
 
-// How long a front of whole parts without a wrong byte is, where pieces are short.
-fn clear_front(src: &[u8], group: Group, case: CheckCase) -> usize
-    ensures { ClearsFront case group src.now result }
-{
-    if group.every() > SHORT {
-        0
-    } else if src.len() <= SMALL {
-        clear_front_with::<SMALL>(src, group, case)
-    } else {
-        clear_front_with::<LARGE>(src, group, case)
-    }
-}
-
 // The first wrong byte.
 fn first_wrong(src: &[u8], group: Group, case: CheckCase) -> Option<usize>
     ensures { result ≡ first_wrong case group src.now }
@@ -149,20 +136,17 @@ fn first_wrong(src: &[u8], group: Group, case: CheckCase) -> Option<usize>
     first_wrong_behind(src, clear_front(src, group, case), group, case)
 }
 
-// Writes the bytes of the digits of whole parts, by so many at a time, and returns the front that has
-// them.
-fn write_front_with<const N: usize>(
-    src: &[u8],
-    dst: &mut [u8],
-    group: Group,
-    case: CheckCase,
-) -> Front
-    requires digits { ValidDigits case group src.now (length dst.old) }
-    requires size { N ≤ LARGE }
+// Writes the bytes of the digits of whole parts, where pieces are short, and returns the front that
+// has them.
+fn write_front(src: &[u8], dst: &mut [u8], group: Group, case: CheckCase) -> Front
+    requires { ValidDigits case group src.now (length dst.old) }
     ensures { WritesFront case group src.now dst.new result.len (result.digits / 2) }
 {
-    let mut buffer = [0; N];
-    let mut done = Front { len: 0, digits: 0 };
+    let mut done = NONE;
+    if group.every() > SHORT {
+        return done;
+    }
+    let mut buffer = [0; LARGE];
     'fronts: loop {
         let front = unseparate(&src[done.len..], group, &mut buffer);
         if front.len == 0 {
@@ -195,20 +179,6 @@ fn write_behind(src: &[u8], dst: &mut [u8], front: Front, group: Group, case: Ch
     }
 }
 
-// The same, where pieces are short.
-fn write_front(src: &[u8], dst: &mut [u8], group: Group, case: CheckCase) -> Front
-    requires { ValidDigits case group src.now (length dst.old) }
-    ensures { WritesFront case group src.now dst.new result.len (result.digits / 2) }
-{
-    if group.every() > SHORT {
-        Front { len: 0, digits: 0 }
-    } else if src.len() <= SMALL {
-        write_front_with::<SMALL>(src, dst, group, case)
-    } else {
-        write_front_with::<LARGE>(src, dst, group, case)
-    }
-}
-
 // Writes the bytes of the digits of a text.
 fn write_bytes(src: &[u8], dst: &mut [u8], group: Group, case: CheckCase)
     requires { ValidDigits case group src.now (length dst.old) }
@@ -218,23 +188,75 @@ fn write_bytes(src: &[u8], dst: &mut [u8], group: Group, case: CheckCase)
     write_behind(src, dst, front, group, case);
 }
 
-// How many bytes a text spells, or what reading it into this room refuses.
-fn accepted(src: &[u8], room: usize, group: Group, case: CheckCase) -> Result<usize, GroupFault>
-    ensures { Accepts case group src.now room result }
+// Reads a text by way of a buffer that has room for all of its digits, or returns false where a
+// byte is wrong or pieces are long.
+fn read_through(
+    src: &[u8],
+    dst: &mut [u8],
+    buffer: &mut [u8],
+    group: Group,
+    case: CheckCase,
+) -> bool
+    requires long { length src.now ≡ grouped_len (piece_len group) (length dst.old) }
+    requires room { length src.now ≤ length buffer.old }
+    ensures { ReadsWhole case group src.now dst.old dst.new result }
 {
-    let Some(required) = byte_count(src.len(), group.every()) else {
+    unseparate_all(src, group, buffer)
+        && Backend::plain().decode(&buffer[..2 * dst.len()], dst, case)
+}
+
+// The same by way of a buffer of this size.
+fn read_with<const N: usize>(src: &[u8], dst: &mut [u8], group: Group, case: CheckCase) -> bool
+    requires long { length src.now ≡ grouped_len (piece_len group) (length dst.old) }
+    requires room { length src.now ≤ N }
+    requires size { N ≤ LARGE }
+    ensures { ReadsWhole case group src.now dst.old dst.new result }
+{
+    let mut buffer = [0; N];
+    read_through(src, dst, &mut buffer, group, case)
+}
+
+// The same by way of no larger buffer than the text needs, or false where none is large enough.
+fn read_short(src: &[u8], dst: &mut [u8], group: Group, case: CheckCase) -> bool
+    requires { length src.now ≡ grouped_len (piece_len group) (length dst.old) }
+    ensures { ReadsWhole case group src.now dst.old dst.new result }
+{
+    match src.len() {
+        0..=192 => read_with::<192>(src, dst, group, case),
+        193..=768 => read_with::<768>(src, dst, group, case),
+        769..=3_072 => read_with::<3_072>(src, dst, group, case),
+        3_073..=LARGE => read_with::<LARGE>(src, dst, group, case),
+        _ => false,
+    }
+}
+
+// Reads a text, or returns the first wrong byte.
+fn read_whole(src: &[u8], dst: &mut [u8], group: Group, case: CheckCase) -> Option<usize>
+    requires { length src.now ≡ grouped_len (piece_len group) (length dst.old) }
+    ensures wrong { result ≡ first_wrong case group src.now }
+    ensures read { ReadsWhole case group src.now dst.old dst.new (is_none result) }
+{
+    if read_short(src, dst, group, case) {
+        return None;
+    }
+    if let Some(index) = first_wrong(src, group, case) {
+        return Some(index);
+    }
+    write_bytes(src, dst, group, case);
+    None
+}
+
+// How many bytes a text of this length spells, or what its length refuses.
+fn required(len: usize, room: usize, group: Group) -> Result<usize, GroupFault>
+    ensures { CountsBytes (piece_len group) len room result }
+{
+    let Some(required) = byte_count(len, group.every()) else {
         return Err(GroupFault::BadLength);
     };
     if room < required {
         return Err(GroupFault::OutputTooSmall { required });
     }
-    match first_wrong(src, group, case) {
-        Some(index) => Err(GroupFault::InvalidByte {
-            index,
-            byte: src[index],
-        }),
-        None => Ok(required),
-    }
+    Ok(required)
 }
 
 /// Reads all of a grouped text into the front of `dst`, by an explicit letter-case policy, and
@@ -271,8 +293,13 @@ pub fn read_into(
 ) -> Result<usize, GroupFault>
     ensures { Reads case group src.now dst.old dst.new result }
 {
-    let count = accepted(src, dst.len(), group, case)?;
-    write_bytes(src, &mut dst[..count], group, case);
+    let count = required(src.len(), dst.len(), group)?;
+    if let Some(index) = read_whole(src, &mut dst[..count], group, case) {
+        return Err(GroupFault::InvalidByte {
+            index,
+            byte: src[index],
+        });
+    }
     Ok(count)
 }
 

@@ -1,10 +1,11 @@
 //! Parts of a grouped text, without their separators.
 
-ghost use Rattle.std.specs.Prelude.{◌≡◌, ◌*◌, ◌-◌, ◌≤◌, All, take};
+ghost use Rattle.std.specs.Prelude.{◌≡◌, ◌*◌, ◌-◌, ◌≤◌, All, length, take};
 ghost use Rattle.std.specs.Bool.{OnTrue};
+ghost use Rattle.hex_core.specs.Arithmetic.{AreZero};
 ghost use Rattle.hex_codec.specs.Grouped.{piece_len};
 ghost use Rattle.hex_codec.specs.GroupedText.{digits_in, separators_in};
-ghost use Rattle.hex_codec.specs.Unseparate.{IsWhole, UnseparatesFront};
+ghost use Rattle.hex_codec.specs.Unseparate.{IsWhole, UnseparatesAll, UnseparatesFront};
 
 use crate::group::Group;
 use std::simd::prelude::*;
@@ -19,24 +20,70 @@ pub struct Front {
     pub digits: usize,
 }
 
-// How many bytes a block has, and how many of them are whole parts where a piece has one byte or two.
+/// No front.
+pub const NONE: Front = Front { len: 0, digits: 0 };
+
+// How many bytes a block has, and how many of them are whole parts where a piece has one byte or
+// two.
 const BLOCK: usize = 16;
 
 const WHOLE: usize = 15;
 
-/// Copies the digits of whole parts at the front of a text, as many as find room and up to one
-/// with another separator, and returns that front.
+/// Copies the digits of whole parts at the front of a text, as many as find room and none behind
+/// another separator, and returns that front.
 pub fn unseparate(text: &[u8], group: Group, digits: &mut [u8]) -> Front
     ensures { UnseparatesFront group text.now digits.new result }
 {
+    let len = text.len().min(digits.len());
+    unseparate_front(&text[..len], group, digits)
+}
+
+// The same where all of the text finds room. Each length has a body of its own, whose copies have a
+// known length.
+fn unseparate_front(text: &[u8], group: Group, digits: &mut [u8]) -> Front
+    requires { length text.now ≤ length digits.old }
+    ensures { UnseparatesFront group text.now digits.new result }
+{
     match group.every() {
-        1 => unseparate_blocks::<1, 10>(text, group, digits),
-        2 => unseparate_blocks::<2, 12>(text, group, digits),
-        3..=4 => unseparate_parts::<8>(text, group, digits),
-        5..=8 => unseparate_parts::<16>(text, group, digits),
-        9..=16 => unseparate_parts::<32>(text, group, digits),
-        _ => Front { len: 0, digits: 0 },
+        1 => {
+            let front = unseparate_blocks::<1, 10>(text, group, digits);
+            unseparate_parts::<2>(text, front, group, digits)
+        }
+        2 => {
+            let front = unseparate_blocks::<2, 12>(text, group, digits);
+            unseparate_parts::<4>(text, front, group, digits)
+        }
+        3 => unseparate_parts::<6>(text, NONE, group, digits),
+        4 => unseparate_parts::<8>(text, NONE, group, digits),
+        5 => unseparate_parts::<10>(text, NONE, group, digits),
+        6 => unseparate_parts::<12>(text, NONE, group, digits),
+        7 => unseparate_parts::<14>(text, NONE, group, digits),
+        8 => unseparate_parts::<16>(text, NONE, group, digits),
+        9 => unseparate_parts::<18>(text, NONE, group, digits),
+        10 => unseparate_parts::<20>(text, NONE, group, digits),
+        11 => unseparate_parts::<22>(text, NONE, group, digits),
+        12 => unseparate_parts::<24>(text, NONE, group, digits),
+        13 => unseparate_parts::<26>(text, NONE, group, digits),
+        14 => unseparate_parts::<28>(text, NONE, group, digits),
+        15 => unseparate_parts::<30>(text, NONE, group, digits),
+        16 => unseparate_parts::<32>(text, NONE, group, digits),
+        _ => NONE,
     }
+}
+
+/// Copies all digits of a text to the front of `digits`, or returns false where a separator is
+/// another or pieces are long.
+pub fn unseparate_all(text: &[u8], group: Group, digits: &mut [u8]) -> bool
+    requires { length text.now ≤ length digits.old }
+    ensures { OnTrue result (UnseparatesAll group text.now digits.new) }
+{
+    let front = unseparate_front(text, group, digits);
+    let last = text.len() - front.len;
+    if (last + 1) / 2 > group.every() {
+        return false;
+    }
+    digits[front.digits..front.digits + last].copy_from_slice(&text[front.len..]);
+    true
 }
 
 // The lanes of a block at the places of digits, and at those of separators.
@@ -93,7 +140,16 @@ fn are_all(lanes: u8x16, byte: u8) -> bool
     lanes.simd_ne(u8x16::splat(byte)).to_bitmask() == 0
 }
 
-// The same as `unseparate` where a piece has one byte or two, by blocks.
+// A lane has no bit only where it had none before and is this byte.
+#[inline(always)]
+fn differences(before: u8x16, lanes: u8x16, byte: u8) -> u8x16
+    ensures { AreZero result → AreZero before × All (λ b. b ≡ byte) lanes }
+{
+    before | (lanes ^ u8x16::splat(byte))
+}
+
+// The same as `unseparate_front` where a piece has one byte or two, by blocks. A test of separators
+// in each turn would take half as long again, so there is one at the end.
 fn unseparate_blocks<const EVERY: usize, const DIGITS: usize>(
     text: &[u8],
     group: Group,
@@ -103,40 +159,47 @@ where
     Places: Parts<EVERY, DIGITS>,
     requires every { piece_len group ≡ EVERY }
     requires step { DIGITS ≤ 15 }
+    requires room { length text.now ≤ length digits.old }
     ensures { UnseparatesFront group text.now digits.new result }
 {
     let mut len = 0;
     let mut to = 0;
-    while text.len() - len >= BLOCK && digits.len() - to >= BLOCK {
+    let mut wrong = u8x16::splat(0);
+    while text.len() - len >= BLOCK {
         let block = u8x16::from_slice(&text[len..]);
-        if !are_all(Places::separators(block), group.sep()) {
-            return Front { len, digits: to };
-        }
+        wrong = differences(wrong, Places::separators(block), group.sep());
         Places::digits(block).copy_to_slice(&mut digits[to..]);
         len += WHOLE;
         to += DIGITS;
     }
-    Front { len, digits: to }
+    if are_all(wrong, 0) {
+        Front { len, digits: to }
+    } else {
+        NONE
+    }
 }
 
-// The same where a piece has at most `N` digits: each is copied with what follows it, which the next
-// one is written over.
-fn unseparate_parts<const N: usize>(text: &[u8], group: Group, digits: &mut [u8]) -> Front
-    requires { 2 * piece_len group ≤ N }
+// The same behind a front, where a piece has `N` digits.
+fn unseparate_parts<const N: usize>(
+    text: &[u8],
+    front: Front,
+    group: Group,
+    digits: &mut [u8],
+) -> Front
+    requires piece { 2 * piece_len group ≡ N }
+    requires room { length text.now ≤ length digits.old }
+    requires front { UnseparatesFront group text.now digits.old front }
     ensures { UnseparatesFront group text.now digits.new result }
 {
-    let piece = 2 * group.every();
-    let mut len = 0;
-    let mut to = 0;
-    while text.len() - len > N && digits.len() - to >= N {
-        if text[len + piece] != group.sep() {
+    let mut len = front.len;
+    let mut to = front.digits;
+    while text.len() - len > N {
+        if text[len + N] != group.sep() {
             return Front { len, digits: to };
         }
-        let mut block = [0; N];
-        block.copy_from_slice(&text[len..len + N]);
-        digits[to..to + N].copy_from_slice(&block);
-        len += piece + 1;
-        to += piece;
+        digits[to..to + N].copy_from_slice(&text[len..len + N]);
+        len += N + 1;
+        to += N;
     }
     Front { len, digits: to }
 }

@@ -1,17 +1,16 @@
--- The front is as long as the number of bytes.
-use Rattle.std.proofs.Common.{◌++◌, sym, ap, length, drop}
+-- The front is as long as the number of bytes, and the first wrong byte is inside the source.
+use Rattle.std.proofs.Common.{sym, ◌∙◌, length}
 use Rattle.std.proofs.lemmas.List.{length-take-le}
-use Rattle.hex_codec.proofs.CountLemmas.{accepted, group-spells}
+use Rattle.hex_codec.specs.Grouped.{piece_len}
+use Rattle.hex_codec.proofs.CountLemmas.{fitting}
+use Rattle.hex_codec.proofs.WrongLemmas.{wrong-inside}
 use Rattle.hex_codec.proofs.grouped.read_into.Goals as goal
 
-pub write_bytes-requires : goal.write_bytes-requires
-write_bytes-requires c =
-    let is = accepted c.args.case c.args.group c.args.src.now (length c.args.dst.now) c.in_ok-count.count c.in_ok-count.ensures.0 c.in_ok-count.ensures.1 in
-    rw (length-take-le c.in_ok-count.count c.args.dst.now is.fits) is.digits
+pub read_whole-requires : goal.read_whole-requires
+read_whole-requires c =
+    let old = c.args.dst.now in let count = c.in_ok-count.count in
+    let is = fitting (piece_len c.args.group) (length c.args.src.now) (length old) count c.in_ok-count.ensures.0 c.in_ok-count.ensures.1 in
+    rw (length-take-le count old is.0) is.1
 
-pub returns : goal.returns
-returns c =
-    let count = c.in_ok-count.count in let new = c.write_bytes.new.dst in let old = c.args.dst.now in
-    let is = accepted c.args.case c.args.group c.args.src.now (length old) count c.in_ok-count.ensures.0 c.in_ok-count.ensures.1 in
-    let spells = group-spells c.args.case c.args.group c.args.src.now new (length old) count is c.write_bytes.ensures in
-    (c.in_ok-count.ensures.0, (new, spells.0, sym spells.1, ap (λ n. new ++ drop n old) (sym spells.1)))
+pub bounds-src-index : goal.bounds-src-index
+bounds-src-index c = wrong-inside c.args.case c.args.group c.args.src.now c.in-Some.index (sym c.read_whole.ensures.wrong ∙ c.in-Some.is)

@@ -16,15 +16,22 @@ loop-len-preserved g c =
     let new = c.digits.result in
     let rest = drop len text in
     let left : length rest ≡ length text - len = length-drop len text in
+    let fits : to + 16 ≤ length digits = omega (arith, c.loop-len.invariant.fewer, c.loop-len-test.true, c.requires.room, c.loop-len.auto.digits) in
     let first : take 15 (take 16 rest) ≡ take 15 rest = take-take 15 16 rest (omega arith) in
     let size : length new ≡ 16 = search rules in
     let front : take n new ≡ digits_in every (take 15 rest) = c.digits.ensures ∙ rw (first, c.requires.every) refl in
-    let room : to + n ≤ length (put_chunk to digits new) = omega (arith, c.if-digits-to-ge-BLOCK.true, c.requires.step, length-put_chunk to digits new) in
-    let all : All (λ b. b ≡ group.sep) c.separators.result = λ k d lt. c.if-not-are_all.ensures k d lt ∙ c.sep.ensures in
-    let held : All (λ b. b ≡ group.sep) (separators_in every (take 15 rest)) =
-    rw (c.requires.every, ← first) (rw c.separators.ensures.lanes at (all-taken (15 - n) c.separators.result group.sep all)) in
-    unseparates-more group text digits (put_chunk to digits new) (record { len = len; digits = to }) 15 n c.loop-len.invariant
-    (omega (arith, left, c.loop-len-test.true)) room
-    (rw c.requires.every c.separators.ensures.whole) held
-    (take-front_chunk to n digits new (omega (arith, size, c.if-digits-to-ge-BLOCK.true)) (omega (arith, size, c.requires.step))
-    ∙ ap (λ l. take to digits ++ l) front)
+    let room : to + n ≤ length (put_chunk to digits new) = omega (arith, fits, c.requires.step, length-put_chunk to digits new) in
+    record {
+      inside = omega (arith, c.loop-len-test.true);
+      fewer = omega (arith, c.loop-len.invariant.fewer, c.requires.step);
+      copied = λ zero.
+          let right = c.differences-wrong.ensures zero in
+          let all : All (λ b. b ≡ group.sep) c.separators.result = λ k d lt. right.1 k d lt ∙ c.sep.ensures in
+          let held : All (λ b. b ≡ group.sep) (separators_in every (take 15 rest)) =
+          rw (c.requires.every, ← first) (rw c.separators.ensures.lanes at (all-taken (15 - n) c.separators.result group.sep all)) in
+          unseparates-more group text digits (put_chunk to digits new) (record { len = len; digits = to }) 15 n (c.loop-len.invariant.copied right.0)
+          (omega (arith, left, c.loop-len-test.true)) room
+          (rw c.requires.every c.separators.ensures.whole) held
+          (take-front_chunk to n digits new (omega (arith, size, fits)) (omega (arith, size, c.requires.step))
+          ∙ ap (λ l. take to digits ++ l) front);
+    }

@@ -1,10 +1,15 @@
--- Whole parts have been copied.
-use Rattle.std.proofs.Common.{◌-◌, length}
+-- Whole parts have been copied, where no separator was another.
+use Rattle.std.proofs.Common.{◌-◌, ◌≤◌, length}
+use Rattle.hex_core.specs.Arithmetic.{AreZero}
 use Rattle.hex_codec.specs.Unseparate.{UnseparatesFront}
 use Rattle.hex_codec.proofs.unseparate.unseparate_blocks.Given as goal
 
 abbrev pub invariant-loop-len : goal.invariant-loop-len
-invariant-loop-len g l = UnseparatesFront l.fn.group l.text l.digits (record { len = l.len; digits = l.to })
+invariant-loop-len g l = record {
+  inside : l.len ≤ length l.text;
+  fewer : l.to ≤ l.len;
+  copied : AreZero l.wrong → UnseparatesFront l.fn.group l.text l.digits (record { len = l.len; digits = l.to });
+}
 
 abbrev pub decreases-loop-len : goal.decreases-loop-len
 decreases-loop-len g l = length l.text - l.len

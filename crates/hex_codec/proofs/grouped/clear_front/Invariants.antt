@@ -1,10 +1,10 @@
 -- No byte before this place is wrong.
 use Rattle.std.proofs.Common.{◌-◌, length}
 use Rattle.hex_codec.specs.Unseparate.{ClearsFront}
-use Rattle.hex_codec.proofs.grouped.clear_front_with.Given as goal
+use Rattle.hex_codec.proofs.grouped.clear_front.Given as goal
 
 abbrev pub invariant-fronts : goal.invariant-fronts
-invariant-fronts g l = ClearsFront l.case l.group l.src l.at
+invariant-fronts l = ClearsFront l.case l.group l.src l.at
 
 abbrev pub decreases-fronts : goal.decreases-fronts
-decreases-fronts g l = length l.src - l.at
+decreases-fronts l = length l.src - l.at

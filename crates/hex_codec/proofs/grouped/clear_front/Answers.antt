@@ -6,10 +6,10 @@ use Rattle.hex_codec.specs.Grouped.{piece_len}
 use Rattle.hex_codec.specs.GroupedText.{digits_in}
 use Rattle.hex_codec.specs.Unseparate.{UnseparatesFront}
 use Rattle.hex_codec.proofs.WrongLemmas.{clears-more, whole-clear}
-use Rattle.hex_codec.proofs.grouped.clear_front_with.Goals as goal
+use Rattle.hex_codec.proofs.grouped.clear_front.Goals as goal
 
 pub fronts-preserved : goal.fronts-preserved
-fronts-preserved g c =
+fronts-preserved c =
     let group = c.args.group in let src = c.args.src.now in let at = c.fronts.at in let rest = drop at src in
     let front = c.unseparate-front.result in
     let bare : UnseparatesFront group rest c.unseparate-front.new.digits front = rw (take_rest src at) at c.unseparate-front.ensures in
