@@ -3,6 +3,7 @@ use Rattle.std.proofs.Common.{◌≡◌, ℕ, suc, ◌+◌, ◌-◌, ◌*◌, �
 use Rattle.std.specs.Prelude.{IsSome, IsTrue, slice_index, slice_range}
 use Rattle.std.proofs.Math.Nat.{le-div_iff_mul-le, lt-div-mul-add, mod-add-div, mul_comm, mul-le-mul_right}
 use Rattle.std.proofs.lemmas.Bool.{cases_lt, iff_false}
+use Rattle.std.proofs.lemmas.Grind.{common_steps}
 use Rattle.std.proofs.lemmas.List.{length-map}
 use Rattle.std.proofs.lemmas.Simd.{get_or-chunk, get_or-put_chunk_above, get_or-put_chunk_at, get_or-put_chunk_below, length-chunk, length-put_chunk}
 use lib.Lanes.{chunk, put_chunk}
@@ -17,7 +18,7 @@ use Rattle.hex_core.specs.Text.{Spells}
 use Rattle.hex_core.proofs.ByteLemmas.{valid_value, value_small}
 use Rattle.hex_core.proofs.LaneLemmas.{mapped_at}
 use Rattle.hex_core.proofs.PairLemmas.{length-packed, packed_at}
-use Rattle.hex_core.proofs.SearchLemmas.{none_valid, first_invalid_none, part_is_valid}
+use Rattle.hex_core.proofs.SearchLemmas.{exactly_first, first_is_first, none_valid, first_invalid_none, part_at, part_is_valid}
 use Rattle.hex_core.proofs.SpellsLemmas.{spelled_along}
 
 -- ---- places of blocks of any width
@@ -78,12 +79,33 @@ module _ (c : CheckCase) (s : List ℕ) where
         valid_range (length s - block) (length s) (omega arith),
       )
 
+  rest_length : (done : ℕ) → done ≤ length s → length (slice_range s done (length s)) ≡ length s - done
+  rest_length done inside = grind (arith, common_steps)
+
+  -- a valid front, and one of what is behind it
+  pub front_over : (done n : ℕ) → done ≤ length s → n ≤ length (slice_range s done (length s)) → AllValid c s 0 done → AllValid c (slice_range s done (length s)) 0 n → AllValid c s 0 (done + n)
+  front_over done n inside short front behind =
+      let long = rest_length done inside in
+      valid_over 0 done done (done + n) (omega arith) front (λ k low lt.
+      let read = subst (λ b. IsSome (value c b)) (part_at s done (length s) (k - done) (omega arith) (omega (arith, long))) (behind (k - done) (omega arith) (omega arith)) in
+      subst (λ j. IsSome (value c (slice_index s j))) (omega arith) read)
+
   -- what is behind a valid front
   pub rest_none : (done : ℕ) → done ≤ length s → AllValid c s 0 done → (first_invalid c (slice_range s done (length s)) ≡ None) ↔ (first_invalid c s ≡ None)
   rest_none done inside front =
       let part = part_is_valid c s done (length s) (omega arith) in (
         λ none. first_invalid_none c s (valid_over 0 done done (length s) (omega arith) front (part.0 none)),
         λ none. part.1 (valid_range done (length s) (omega arith) none),
+      )
+
+  pub rest_some : (done i : ℕ) → done ≤ length s → AllValid c s 0 done → first_invalid c (slice_range s done (length s)) ≡ Some i → first_invalid c s ≡ Some (done + i)
+  rest_some done i inside front found =
+      let first = first_is_first c (slice_range s done (length s)) i found in
+      let long = rest_length done inside in
+      (exactly_first c s (done + i)).1 (
+        omega (arith, first.0),
+        ap (value c) (sym (part_at s done (length s) i (omega arith) (omega (arith, first.0)))) ∙ first.1,
+        front_over done i inside (omega (arith, first.0)) front first.2,
       )
 
   -- where a part fails its test, the source has an invalid byte
@@ -111,6 +133,11 @@ valid_chunk c s at n end all inside = (
   λ valid k low lt. subst (λ b. IsSome (value c b)) (get_or-chunk at n s (k - at) 0 (omega arith) ∙ ap (slice_index s) (omega arith)) (valid (k - at) (omega arith) (omega arith)),
   λ valid k low lt. subst (λ b. IsSome (value c b)) (sym (get_or-chunk at n s k 0 lt)) (valid (at + k) (omega arith) (omega arith)),
 )
+
+-- of which a front is valid
+pub valid_in_chunk : (c : CheckCase) (s : List ℕ) (at w n : ℕ) → n ≤ w → AllValid c (chunk at w s) 0 n → AllValid c s at (at + n)
+valid_in_chunk c s at w n inside valid k low lt =
+    subst (λ b. IsSome (value c b)) (get_or-chunk at w s (k - at) 0 (omega arith) ∙ ap (slice_index s) (omega arith)) (valid (k - at) (omega arith) (omega arith))
 
 -- where each byte has a value
 pub valid_nibbles_chunk : (c : CheckCase) (s v : List ℕ) (at n : ℕ) → at + n ≤ length s → ((k : ℕ) → Fits w8 (get_or s k 0)) → AllValid c s at (at + n) → v ≡ map valid_nibble (chunk at n s) → NibblesFrom c s at n v × AreSmall v

@@ -1,12 +1,12 @@
 -- What the arithmetic of the lanes makes of a byte, computed at all of them.
-use Rattle.std.proofs.Common.{◌≡◌, ℕ, zero, suc, ◌+◌, ◌-◌, ◌/◌, ◌%◌, ◌^◌, ◌<◌, ◌↔◌, Bool, true, false, cond, List, [], ◌∷◌, map, length, get_or, Option, Some, None, is_some, bit_and, refl, sym, ap, ap₂, ◌∙◌, Fits, w8, eqb, leb, ltb, eqb-true, leb-true, ltb-true, lt-ltb, arith}
+use Rattle.std.proofs.Common.{◌≡◌, ℕ, zero, suc, ◌+◌, ◌-◌, ◌/◌, ◌%◌, ◌^◌, ◌<◌, ◌≤◌, ◌↔◌, Bool, true, false, cond, List, [], ◌∷◌, map, length, get_or, Option, Some, None, is_some, bit_and, refl, sym, ap, ap₂, ◌∙◌, Fits, w8, w64, inl, inr, eqb, leb, ltb, eqb-true, leb-true, ltb-true, lt-ltb, arith}
 use Rattle.std.specs.Prelude.{EachIndex, IfSome, IsSome, min}
-use Rattle.std.specs.Int.{bit_at}
-use Rattle.std.proofs.lemmas.Bool.{agree_below, agree_below_at}
+use Rattle.std.specs.Int.{bit_at, trailing_ones}
+use Rattle.std.proofs.lemmas.Bool.{agree_below, agree_below_at, cases_lt}
 use Rattle.std.proofs.lemmas.Bool.Decides.{nat_tests}
 use Rattle.std.proofs.lemmas.List.{get_or-map, length-map}
 use Rattle.std.proofs.lemmas.Nat.{and_mask}
-use Rattle.std.proofs.lemmas.Nat.Bits.{bit_at-suc, bit_at_lowest, bit_at_ones}
+use Rattle.std.proofs.lemmas.Nat.Bits.{bit_at-suc, bit_at-trailing_ones, bit_at_lowest, bit_at_ones}
 use Rattle.std.proofs.lemmas.Simd.{bit_mask_l, mask_l-lt}
 use lib.Lanes.{Each1, mask_l}
 use Rattle.hex_core.specs.declared.digit.CheckCase.{CheckCase}
@@ -147,3 +147,13 @@ looked_up_text upper row (b ∷ v) digits fits =
     let read : (n : ℕ) → n < 16 → entry row n ≡ digit upper n = λ n small. small_entry row n small ∙ digits n small in
     ap₂ (λ a r. a ∷ r) (read (b / 16) (omega arith))
     (ap₂ (λ a r. a ∷ r) (ap (entry row) (and_mask b 4) ∙ read (b % 16) (omega arith)) (looked_up_text upper row v digits fits.1))
+
+-- the bytes below the lowest bit that is clear have a value
+pub ones_below : (m k : ℕ) → m < 2 ^ 64 → k < 64 → k < trailing_ones w64 m → bit_at m k ≡ 1
+ones_below m k fits inside lt = elim (cases_lt (m + 1) (2 ^ 64)) [
+  | inl less ↦ (bit_at-trailing_ones w64 m less).2 k lt
+  | inr most ↦ (let all : m ≡ 2 ^ 64 - 1 = omega arith in rw all (bit_at_ones 64 k inside))
+]
+
+pub valid_below : (c : CheckCase) (v : List ℕ) (m n end : ℕ) → m ≡ mask_l (map (has c) v) → length v ≡ n → n ≤ 64 → end ≤ n → end ≤ trailing_ones w64 m → m < 2 ^ 64 → AllValid c v 0 end
+valid_below c v m n end is long small inside few fits k low lt = (admits c v m is k (omega arith)).0 (ones_below m k fits (omega arith) (omega arith))

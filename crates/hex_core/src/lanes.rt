@@ -251,9 +251,9 @@ pub(crate) fn excess<const N: usize>(v: Simd<u8, N>, case: CheckCase) -> Simd<u8
     smaller(digits, saturating_sub(letters(v, case), 5))
 }
 
-// A mask whose bit i says whether lane i has a value.
+/// A mask whose bit i says whether lane i has a value.
 #[inline(always)]
-fn admitted<const N: usize>(v: Simd<u8, N>, case: CheckCase) -> u64
+pub(crate) fn admitted<const N: usize>(v: Simd<u8, N>, case: CheckCase) -> u64
     requires { N ≤ 64 }
     ensures { result ≡ mask_l (map (λ b. is_some (value case b)) v.entry) }
 {

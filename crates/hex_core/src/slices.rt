@@ -10,6 +10,7 @@ ghost use Rattle.hex_core.specs.Refusal.{decode_refusal, encode_refusal, first_b
 ghost use Rattle.hex_core.specs.Search.{first_invalid};
 ghost use Rattle.hex_core.specs.Text.{text};
 
+use crate::blocks::check::valid_front;
 use crate::digit::CheckCase;
 use crate::error::Error;
 use crate::lend::lend_accepted;
@@ -71,9 +72,12 @@ impl Backend {
         requires { first_invalid case src.now ≢ None }
         ensures { first_bad_char case src.now ≡ Some result }
     {
-        let Some(index) = self.first_invalid(src, case) else {
+        // Behind that front one look finds it.
+        let front = valid_front(src, case);
+        let Some(behind) = self.first_invalid(&src[front..], case) else {
             unreachable!();
         };
+        let index = front + behind;
         Error::InvalidChar {
             index,
             byte: src[index],

@@ -6,7 +6,7 @@ ghost use Rattle.hex_core.specs.Search.{AllValid, first_invalid};
 ghost use Rattle.hex_core.specs.Shapes.{EndsCover, HasBlock};
 
 use crate::digit::CheckCase;
-use crate::lanes::{excess, reach};
+use crate::lanes::{admitted, excess, reach};
 use crate::vector::{either, is_low, is_zero, larger};
 use std::simd::prelude::*;
 
@@ -115,4 +115,44 @@ pub fn check_long<const N: usize>(src: &[u8], case: CheckCase) -> bool
     } else {
         check_runs::<N>(src, case)
     }
+}
+
+// How many of `N` bytes from `at` on stand before the first one without a value.
+#[inline(always)]
+fn valid_from<const N: usize>(src: &[u8], at: usize, case: CheckCase) -> usize
+    requires lanes { N ≤ 64 }
+    requires inside { at + N ≤ length src.now }
+    ensures most { result ≤ N }
+    ensures valid { AllValid case src.now at (at + result) }
+{
+    let valid = admitted(Simd::<u8, N>::from_slice(&src[at..]), case);
+    (valid.trailing_ones() as usize).min(N)
+}
+
+// How many bytes stand before the first one without a value, or in all whole blocks of `N`.
+#[inline(never)]
+fn valid_front_by<const N: usize>(src: &[u8], case: CheckCase) -> usize
+    requires lanes { N ≤ 64 }
+    requires some { 1 ≤ N }
+    ensures most { result ≤ length src.now }
+    ensures valid { AllValid case src.now 0 result }
+{
+    let whole = src.len() / N;
+    'turns: for i in 0..whole {
+        let valid = valid_from::<N>(src, i * N, case);
+        if valid < N {
+            return i * N + valid;
+        }
+    }
+    whole * N
+}
+
+/// How many bytes stand before the first one without a value, or before the last 15 at most where
+/// there is none.
+pub fn valid_front(src: &[u8], case: CheckCase) -> usize
+    ensures most { result ≤ length src.now }
+    ensures valid { AllValid case src.now 0 result }
+{
+    let front = valid_front_by::<64>(src, case);
+    front + valid_front_by::<16>(&src[front..], case)
 }

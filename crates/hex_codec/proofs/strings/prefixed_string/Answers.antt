@@ -14,4 +14,3 @@ from_utf8_unchecked-requires g c =
     let size : length shown ≡ c.in-Ok.string.len = omega (arith, length-append c.args.prefix.now digits, length-text c.args.upper c.args.src.now, c.in-Some.ensures, c.in-Some-checked_add.ensures, c.in-Ok.ensures.len) in
     rw (c.write_prefixed.ensures, take_at shown (drop (length shown) c.in-Ok.string.items) c.in-Ok.string.len size)
     (IsUtf8-from_ascii _ (IsAscii-append c.args.prefix.now digits c.requires (IsAscii-text c.args.upper c.args.src.now (λ i. (c.type_inv.src i).fits))))
-
