@@ -13,6 +13,10 @@ pub record IsWhole (every len : ℕ) : Type 0 where
   pub count : ℕ
   pub lines : len ≡ count * (2 * every + 1)
 
+-- a block begins with whole parts of this length, and so many lanes are their separators
+abbrev pub TakesSeparators : ℕ → ℕ → ℕ → List ℕ → List ℕ → Type 0
+TakesSeparators every len count block lanes = IsWhole every len × (take count lanes ≡ separators_in every (take len block))
+
 -- the front is whole parts, its separators are the group's, and its digits were copied
 pub record UnseparatesFront (group : Group) (text new : List ℕ) (front : Front) : Type 0 where
   pub inside : front.len ≤ length text

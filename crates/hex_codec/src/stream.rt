@@ -214,8 +214,7 @@ impl Decoder {
 // The digit behind the whole pairs of a source, where it has one.
 #[inline(always)]
 fn digit_behind(src: &[u8], end: usize) -> Option<u8>
-    requires inside { end ≤ length src.now }
-    requires last { length src.now ≤ end + 1 }
+    requires { length src.now ≤ end + 1 }
     ensures { option_to_list result ≡ drop end src.now }
 {
     if end < src.len() {

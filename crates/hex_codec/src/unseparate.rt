@@ -4,8 +4,8 @@ ghost use Rattle.std.specs.Prelude.{◌≡◌, ◌*◌, ◌-◌, ◌≤◌, All,
 ghost use Rattle.std.specs.Bool.{OnTrue};
 ghost use Rattle.hex_core.specs.Arithmetic.{AreZero};
 ghost use Rattle.hex_codec.specs.Grouped.{piece_len};
-ghost use Rattle.hex_codec.specs.GroupedText.{digits_in, separators_in};
-ghost use Rattle.hex_codec.specs.Unseparate.{IsWhole, UnseparatesAll, UnseparatesFront};
+ghost use Rattle.hex_codec.specs.GroupedText.{digits_in};
+ghost use Rattle.hex_codec.specs.Unseparate.{TakesSeparators, UnseparatesAll, UnseparatesFront};
 
 use crate::group::Group;
 use std::simd::prelude::*;
@@ -92,8 +92,7 @@ trait Parts<const EVERY: usize, const DIGITS: usize> {
         ensures { take DIGITS result ≡ digits_in EVERY (take 15 block) };
 
     fn separators(block: u8x16) -> u8x16
-        ensures whole { IsWhole EVERY 15 }
-        ensures lanes { take (15 - DIGITS) result ≡ separators_in EVERY (take 15 block) };
+        ensures { TakesSeparators EVERY 15 (15 - DIGITS) block result };
 }
 
 struct Places;
@@ -108,8 +107,7 @@ impl Parts<1, 10> for Places {
 
     #[inline(always)]
     fn separators(block: u8x16) -> u8x16
-        ensures whole { IsWhole 1 15 }
-        ensures lanes { take (15 - 10) result ≡ separators_in 1 (take 15 block) }
+        ensures { TakesSeparators 1 15 (15 - 10) block result }
     {
         block.swizzle([2, 5, 8, 11, 14, 14, 14, 14, 14, 14, 14, 14, 14, 14, 14, 14])
     }
@@ -125,8 +123,7 @@ impl Parts<2, 12> for Places {
 
     #[inline(always)]
     fn separators(block: u8x16) -> u8x16
-        ensures whole { IsWhole 2 15 }
-        ensures lanes { take (15 - 12) result ≡ separators_in 2 (take 15 block) }
+        ensures { TakesSeparators 2 15 (15 - 12) block result }
     {
         block.swizzle([4, 9, 14, 14, 14, 14, 14, 14, 14, 14, 14, 14, 14, 14, 14, 14])
     }

@@ -1,6 +1,7 @@
 -- The padded text of a list of bytes.
-use Rattle.std.specs.Prelude.{◌≡◌, ◌≤◌, ℕ, ◌-◌, ◌/◌, ◌%◌, nat_le, Bool, false, List, [], ◌++◌, length, slice_index, take, codes, encode_utf8, Option, Some, None, if◌then◌else◌}
+use Rattle.std.specs.Prelude.{◌≡◌, ◌≤◌, ℕ, ◌-◌, ◌/◌, ◌%◌, nat_le, Bool, false, List, [], ◌++◌, length, map, slice_index, drop, take, codes, encode_utf8, Option, Some, None, if◌then◌else◌}
 use Rattle.std.specs.List.{repeat}
+use Rattle.std.specs.Simd.Lanes.{chunk, put_chunk}
 use Rattle.hex_core.specs.Text.{text}
 use Rattle.hex_codec.specs.declared.group.Group.{Group}
 use Rattle.hex_codec.specs.Grouped.{grouped, piece_count, piece_len}
@@ -57,6 +58,14 @@ BeginsWith n buffer bytes = (n ≤ length buffer) × (take n buffer ≡ bytes)
 -- the digit at a place among sixteen, or the separator where the place is 128
 abbrev pub placed : ℕ → List ℕ → ℕ → ℕ
 placed sep digits at = if nat_le 128 at then sep else slice_index digits (at % 16)
+
+-- the text of sixteen bytes, its digits moved by three vectors of places: to both ends of a buffer, and
+-- over what these have in common
+abbrev pub placed_text : ℕ → List ℕ → List ℕ → List ℕ → List ℕ → List ℕ → List ℕ
+placed_text sep digits front middle back buffer =
+    let last = length buffer - 16 in
+    let ends = put_chunk last (put_chunk 0 buffer (map (placed sep (take 16 digits)) front)) (map (placed sep (drop 16 digits)) back) in
+    put_chunk (last / 2) ends (map (placed sep (chunk 8 16 digits)) middle)
 
 -- this many fill characters, in UTF-8
 abbrev pub fills : HexFlags → ℕ → List ℕ

@@ -1,10 +1,9 @@
 //! Texts of pieces, each behind a separator.
 
-ghost use Rattle.std.specs.Prelude.{◌≡◌, ◌∷◌, ◌+◌, ◌-◌, ◌*◌, ◌/◌, ◌%◌, ◌≤◌, drop, length, map, take};
-ghost use Rattle.std.specs.Simd.Lanes.{chunk, put_chunk};
+ghost use Rattle.std.specs.Prelude.{◌≡◌, ◌∷◌, ◌+◌, ◌*◌, ◌%◌, ◌≤◌, length, map};
 ghost use Rattle.hex_core.specs.Text.{text};
 ghost use Rattle.hex_codec.specs.Grouped.{piece_len, separated};
-ghost use Rattle.hex_format.specs.Frame.{BeginsWith, placed};
+ghost use Rattle.hex_format.specs.Frame.{BeginsWith, placed, placed_text};
 
 use hex_codec::Group;
 use hex_core::Backend;
@@ -172,12 +171,7 @@ fn put_placed(
 )
     requires least { 2 * BLOCK ≤ length out.old }
     requires most { length out.old ≤ 3 * BLOCK }
-    ensures { let digits = text upper bytes.now in
-        let last = length out.old - BLOCK in
-        let first = map (placed sep (take BLOCK digits)) front in
-        let second = map (placed sep (drop BLOCK digits)) back in
-        let inner = map (placed sep (chunk 8 BLOCK digits)) middle in
-        out.new ≡ put_chunk (last / 2) (put_chunk last (put_chunk 0 out.old first) second) inner }
+    ensures { out.new ≡ placed_text sep (text upper bytes.now) front middle back out.old }
 {
     let digits = encode_16(bytes, upper);
     let first = u8x16::from_slice(&digits);

@@ -70,6 +70,14 @@ RunsBy is_output refusal needs old new result = MatchResult result
     (λ _. (output : List ℕ) × is_output output × Takes old new output)
     (λ why. FailureBy is_output refusal needs old new why)
 
+-- encoding this input, and decoding it
+abbrev pub RunsEncoding : Bool → List ℕ → SinkState → SinkState → Result (Unit {0}) RunFault → Type 0
+RunsEncoding upper input = RunsBy (λ output. output ≡ text upper input ++ 10 ∷ []) None ⊥
+
+abbrev pub RunsDecoding : CheckCase → List ℕ → SinkState → SinkState → Result (Unit {0}) RunFault → Type 0
+RunsDecoding case input =
+    let digits = without_newline input in RunsBy (Spells case digits) (source_refusal case digits) (NeedsMemory digits)
+
 -- an operation's run over this input, with what the sink shows before and after it
 abbrev pub Runs : Op → List ℕ → SinkState → SinkState → Result (Unit {0}) RunFault → Type 0
 Runs op input = RunsBy (IsOutput op input) (op_refusal op input) (OpNeedsMemory op input)

@@ -1,10 +1,9 @@
 //! The operations of `fhex`, and how one runs over an input and a sink.
 
 ghost use Rattle.std.specs.Prelude.{◌≡◌, ◌++◌, ◌∷◌, [], ◌<◌, ◌-◌, ◌^◌, map};
-ghost use Rattle.hex_core.specs.Text.{Spells, text};
-ghost use Rattle.hex_core.specs.Refusal.{source_refusal};
+ghost use Rattle.hex_core.specs.Text.{text};
 ghost use Rattle.hex_format.specs.Sink.{Puts};
-ghost use Rattle.hex_operations.specs.Operations.{NeedsMemory, Runs, RunsBy, op_of_word, op_of_words, without_newline};
+ghost use Rattle.hex_operations.specs.Operations.{Runs, RunsDecoding, RunsEncoding, op_of_word, op_of_words, without_newline};
 
 use hex_codec::hex_decode_vec_with_case;
 use hex_core::{CheckCase, Error};
@@ -107,8 +106,7 @@ fn put_text<S: Sink>(bytes: &[u8], upper: bool, sink: &mut S) -> Result<(), Writ
 // Encodes the input. No memory is taken.
 fn encode<S: Sink>(input: &[u8], upper: bool, sink: &mut S) -> Result<(), RunFault>
     requires { (S.state sink.old).failures < 2 ^ 64 - 1 }
-    ensures { RunsBy (λ output. output ≡ text upper input.now ++ 10 ∷ []) None ⊥
-        (S.state sink.old) (S.state sink.new) result }
+    ensures { RunsEncoding upper input.now (S.state sink.old) (S.state sink.new) result }
 {
     put_text(input, upper, sink).map_err(RunFault::Write)
 }
@@ -121,9 +119,7 @@ fn decode<A: Allocator + Drop, S: Sink>(
     sink: &mut S,
 ) -> Result<(), RunFault>
     requires { (S.state sink.old).failures < 2 ^ 64 - 1 }
-    ensures { RunsBy (Spells case (without_newline input.now))
-        (source_refusal case (without_newline input.now)) (NeedsMemory (without_newline input.now))
-        (S.state sink.old) (S.state sink.new) result }
+    ensures { RunsDecoding case input.now (S.state sink.old) (S.state sink.new) result }
 {
     match hex_decode_vec_with_case(alloc, digits_in(input), case) {
         Ok(bytes) => put_all(sink, bytes.as_slice()).map_err(RunFault::Write),

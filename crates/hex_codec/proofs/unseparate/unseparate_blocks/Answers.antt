@@ -28,10 +28,10 @@ loop-len-preserved g c =
           let right = c.differences-wrong.ensures zero in
           let all : All (λ b. b ≡ group.sep) c.separators.result = λ k d lt. right.1 k d lt ∙ c.sep.ensures in
           let held : All (λ b. b ≡ group.sep) (separators_in every (take 15 rest)) =
-          rw (c.requires.every, ← first) (rw c.separators.ensures.lanes at (all-taken (15 - n) c.separators.result group.sep all)) in
+          rw (c.requires.every, ← first) (rw c.separators.ensures.1 at (all-taken (15 - n) c.separators.result group.sep all)) in
           unseparates-more group text digits (put_chunk to digits new) (record { len = len; digits = to }) 15 n (c.loop-len.invariant.copied right.0)
           (omega (arith, left, c.loop-len-test.true)) room
-          (rw c.requires.every c.separators.ensures.whole) held
+          (rw c.requires.every c.separators.ensures.0) held
           (take-front_chunk to n digits new (omega (arith, size, fits)) (omega (arith, size, c.requires.step))
           ∙ ap (λ l. take to digits ++ l) front);
     }

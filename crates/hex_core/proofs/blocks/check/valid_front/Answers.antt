@@ -1,4 +1,3 @@
-use Rattle.std.proofs.Common.{arith}
 use Rattle.hex_core.proofs.BlockLemmas.{front_over}
 use Rattle.hex_core.proofs.blocks.check.valid_front.Goals as goal
 
