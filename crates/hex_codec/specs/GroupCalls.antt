@@ -1,5 +1,5 @@
 -- What reading a grouped text answers and leaves.
-use Rattle.std.specs.Prelude.{◌≡◌, ℕ, Bool, List, length, Result, MatchResult, Some, None}
+use Rattle.std.specs.Prelude.{◌≡◌, ℕ, Bool, List, length, Option, Some, None, is_none, Result, MatchResult}
 use Rattle.std.specs.Bool.{MatchBool}
 use Rattle.std.specs.Borrow.{MutBor}
 use Rattle.hex_core.specs.declared.digit.CheckCase.{CheckCase}
@@ -7,7 +7,7 @@ use Rattle.hex_core.specs.Calls.{Answers}
 use Rattle.hex_core.specs.Text.{with_front}
 use Rattle.hex_codec.specs.declared.group.Group.{Group}
 use Rattle.hex_codec.specs.declared.grouped.GroupFault.{GroupFault}
-use Rattle.hex_codec.specs.GroupedText.{GroupSpells, byte_count, group_refusal, refusal_of_count}
+use Rattle.hex_codec.specs.GroupedText.{GroupSpells, byte_count, first_wrong, group_refusal, refusal_of_count}
 
 -- how many bytes the text of a length has, or what this length or the room refuses
 abbrev pub CountsBytes : ℕ → ℕ → ℕ → Result ℕ GroupFault → Type 0
@@ -16,6 +16,10 @@ CountsBytes every len room = Answers (refusal_of_count (byte_count every len) No
 -- reading a text of the right length over a whole destination, or leaving it as it was
 abbrev pub ReadsWhole : CheckCase → Group → List ℕ → List ℕ → List ℕ → Bool → Type 0
 ReadsWhole c group s old new done = MatchBool done (GroupSpells c group s new) (new ≡ old)
+
+-- the same, or naming the first wrong byte
+abbrev pub ReadsOrNames : CheckCase → Group → List ℕ → List ℕ → List ℕ → Option ℕ → Type 0
+ReadsOrNames c group s old new result = (result ≡ first_wrong c group s) × ReadsWhole c group s old new (is_none result)
 
 -- reading into the front of a destination: the number of bytes, which are what the text spells and
 -- stand over the old ones; or the refusal, and the destination as it was

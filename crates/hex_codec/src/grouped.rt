@@ -4,14 +4,14 @@
 //! buffer, and tested and decoded there: all of them where they find room. Else those of pieces of up
 //! to 16 bytes are, as many as find room, in one pass that tests and another that decodes.
 
-ghost use Rattle.std.specs.Prelude.{◌≡◌, ◌*◌, ◌/◌, ◌≤◌, ◌<◌, None, is_none, length, take};
+ghost use Rattle.std.specs.Prelude.{◌≡◌, ◌*◌, ◌/◌, ◌≤◌, ◌<◌, None, length, take};
 ghost use Rattle.std.specs.Borrow.{sem};
 ghost use Rattle.hex_core.specs.Loan.{LendsAnswer};
 ghost use Rattle.hex_core.specs.Search.{first_invalid};
 ghost use Rattle.hex_core.specs.Text.{Spells};
 ghost use Rattle.hex_codec.specs.Grouped.{piece_len};
 ghost use Rattle.hex_codec.specs.GroupedText.{byte_count, digits_in, first_wrong, grouped_len};
-ghost use Rattle.hex_codec.specs.GroupCalls.{CountsBytes, Reads, ReadsFront, ReadsWhole};
+ghost use Rattle.hex_codec.specs.GroupCalls.{CountsBytes, Reads, ReadsFront, ReadsOrNames, ReadsWhole};
 ghost use Rattle.hex_codec.specs.Unseparate.{ClearsFront, ValidDigits, WritesFront};
 
 pub use crate::group::Group;
@@ -233,8 +233,7 @@ fn read_short(src: &[u8], dst: &mut [u8], group: Group, case: CheckCase) -> bool
 // Reads a text, or returns the first wrong byte.
 fn read_whole(src: &[u8], dst: &mut [u8], group: Group, case: CheckCase) -> Option<usize>
     requires { length src.now ≡ grouped_len (piece_len group) (length dst.old) }
-    ensures wrong { result ≡ first_wrong case group src.now }
-    ensures read { ReadsWhole case group src.now dst.old dst.new (is_none result) }
+    ensures { ReadsOrNames case group src.now dst.old dst.new result }
 {
     if read_short(src, dst, group, case) {
         return None;

@@ -13,4 +13,4 @@ read_whole-requires c =
     rw (length-take-le count old is.0) is.1
 
 pub bounds-src-index : goal.bounds-src-index
-bounds-src-index c = wrong-inside c.args.case c.args.group c.args.src.now c.in-Some.index (sym c.read_whole.ensures.wrong ∙ c.in-Some.is)
+bounds-src-index c = wrong-inside c.args.case c.args.group c.args.src.now c.in-Some.index (sym c.read_whole.ensures.0 ∙ c.in-Some.is)

@@ -8,11 +8,11 @@ use Rattle.hex_codec.proofs.WriteLemmas.{reads}
 use Rattle.hex_codec.proofs.WrongLemmas.{none-wrong, wrong-none}
 use Rattle.hex_codec.proofs.grouped.read_whole.Goals as goal
 
-pub returns-then-read_short-clause-wrong : goal.returns-then-read_short-clause-wrong
-returns-then-read_short-clause-wrong c =
+pub returns-then-read_short : goal.returns-then-read_short
+returns-then-read_short c =
     let spells = c.if-read_short.ensures in
     let valid = valid-spelled c.args.case (digits_in (piece_len c.args.group) c.args.src.now) c.read_short.new.dst spells.spelled in
-    sym (none-wrong c.args.case c.args.group c.args.src.now (record { valid = valid; separated = spells.separated }))
+    (sym (none-wrong c.args.case c.args.group c.args.src.now (record { valid = valid; separated = spells.separated })), spells)
 
 pub write_bytes-requires : goal.write_bytes-requires
 write_bytes-requires c =
@@ -20,7 +20,8 @@ write_bytes-requires c =
     let right = wrong-none c.args.case group src (sym c.first_wrong.ensures ∙ c.in_default.is) in
     rw c.if-read_short.ensures (length-digits (piece_len group) (length c.args.dst.now) src group.is_group.0 c.requires, right.valid)
 
-pub returns-clause-read : goal.returns-clause-read
-returns-clause-read c =
-    let right = wrong-none c.args.case c.args.group c.args.src.now (sym c.first_wrong.ensures ∙ c.in_default.is) in
-    reads c.args.case c.args.group c.args.src.now c.write_bytes.new.dst (length c.args.dst.now) c.requires right.separated c.write_bytes.ensures
+pub returns : goal.returns
+returns c =
+    let none = sym c.first_wrong.ensures ∙ c.in_default.is in
+    let right = wrong-none c.args.case c.args.group c.args.src.now none in
+    (sym none, reads c.args.case c.args.group c.args.src.now c.write_bytes.new.dst (length c.args.dst.now) c.requires right.separated c.write_bytes.ensures)
