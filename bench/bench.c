@@ -77,6 +77,7 @@ struct task {
     X(WRITES, own, by_1, write_to, PADDED) \
     X(WRITES, own, by_2, write_to, PADDED) \
     X(WRITES, own, by_4, write_to, PADDED) \
+    X(WRITES, own, by_8, write_to, PADDED) \
     X(WRITES, own, by_16, write_to, PADDED) \
     X(WRITES, own, by_1000, write_to, PADDED)
 
@@ -86,6 +87,7 @@ struct task {
     X(WRITES, own, by_1, read, GROUPED) \
     X(WRITES, own, by_2, read, GROUPED) \
     X(WRITES, own, by_4, read, GROUPED) \
+    X(WRITES, own, by_8, read, GROUPED) \
     X(WRITES, own, by_16, read, GROUPED) \
     X(WRITES, own, by_1000, read, GROUPED)
 
@@ -233,7 +235,8 @@ static uint8_t out[3 * LARGEST] __attribute__((aligned(64)));
 // The text in both cases, but that its last byte is no digit. That of fewer bytes is its end.
 static uint8_t refused[2 * LARGEST] __attribute__((aligned(64)));
 
-static const char *const pieces[] = {"ungrouped", "by_1", "by_2", "by_4", "by_16", "by_1000"};
+static const char *const pieces[] = {"ungrouped", "by_1", "by_2", "by_4",
+                                     "by_8", "by_16", "by_1000"};
 #define FORMS (sizeof pieces / sizeof *pieces)
 
 // The text in both cases in each of these forms, with colons. That of fewer bytes is its front.

@@ -2,10 +2,10 @@
 # row for writing and for reading in pieces of each length, and in each cell the builds.
 
 BEGIN {
-    sizes_len = split("8 64 1024 65536", sizes)
+    sizes_len = split("8 64 256 1024 65536", sizes)
     for (at = 1; at <= sizes_len; at++)
         wanted[sizes[at]] = 1
-    forms_len = split("1 2 4 16", forms)
+    forms_len = split("1 2 4 8 16", forms)
 }
 
 FNR == 1 { build++ }
@@ -24,7 +24,7 @@ what != "" && $1 in wanted {
 }
 
 END {
-    print "Decoded bytes | 8 | 64 | 1,024 | 65,536\n---|---|---|---|---"
+    print "Decoded bytes | 8 | 64 | 256 | 1,024 | 65,536\n---|---|---|---|---|---"
     row("write")
     row("read")
 }

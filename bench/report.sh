@@ -19,9 +19,10 @@ ratios() {
             of["check"] = "hex_check 1"
             of["encode_slice"] = "hex_encode 1"
             of["decode_slice"] = "hex_decode 1"
-            if (over == "kernel")
+            if (over == "kernel") {
                 of["decode_owned"] = "decode_owned 4"
-            else
+                of["first_invalid"] = "first_invalid 4"
+            } else
                 of["decode_vec"] = "hex_decode_vec 1"
         }
         /: time over the Rust crate/ { name = substr($1, 1, length($1) - 1); next }
