@@ -1,3 +1,4 @@
 mod DumpLemmas
+mod FrontLemmas
 mod PartsLemmas
 mod UpdateLemmas

@@ -13,7 +13,6 @@ use Rattle.hex_core.specs.Laws.{FirstInvalidOfJoined}
 use Rattle.hex_core.specs.Refusal.{decode_refusal, source_refusal}
 use Rattle.hex_core.specs.Search.{first_invalid}
 use Rattle.hex_core.specs.Text.{with_front}
-use Rattle.hex_core.proofs.Refused.{decodes}
 use Rattle.hex_codec.specs.Stream.{feed_refusal, pairs_more}
 use Rattle.hex_codec.proofs.ListLemmas.{put-behind}
 use Rattle.hex_codec.proofs.StreamLemmas.{refused-byte, valid-fed}
@@ -41,14 +40,17 @@ none-first : (o p : Option ℕ) → option_or o p ≡ None → o ≡ None
 none-first None p none = refl
 none-first (Some f) p none = none
 
+decodes : (c : CheckCase) (s : List ℕ) (room : ℕ) → decode_refusal c s room ≡ None → (length s / 2 ≤ room) × (first_invalid c s ≡ None)
+decodes c s room none = (grind (arith, nat_tests, none), grind (arith, nat_tests, none))
+
 -- what one call would decode no feed of a part refuses, where it has the room that the part before left
 pub feed-refused : FirstInvalidOfJoined → (c : CheckCase) (fed src behind : List ℕ) (room done rest : ℕ) (e : Error) → length fed + length src < 2 ^ 64
     → done ≤ length fed / 2 → rest ≡ room - done
     → feed_refusal c fed src rest ≡ Some e → decode_refusal c ((fed ++ src) ++ behind) room ≢ None
 feed-refused law c fed src behind room done rest e few part is refused none =
     let all = decodes c ((fed ++ src) ++ behind) room none in
-    let fits : pairs_more (length fed) (length src) ≤ rest = omega (arith, all.fits, length-append (fed ++ src) behind, length-append fed src, part, is) in
-    let valid : first_invalid c (fed ++ src) ≡ None = none-first _ _ (sym (law c (fed ++ src) behind) ∙ all.valid) in
+    let fits : pairs_more (length fed) (length src) ≤ rest = omega (arith, all.0, length-append (fed ++ src) behind, length-append fed src, part, is) in
+    let valid : first_invalid c (fed ++ src) ≡ None = none-first _ _ (sym (law c (fed ++ src) behind) ∙ all.1) in
     absurd (cc (refused, refused-byte c fed src rest few fits ∙ valid-fed c (fed ++ src) valid))
 
 pub end-refused : (c : CheckCase) (s : List ℕ) (room : ℕ) (e : Error) → source_refusal c s ≡ Some e → decode_refusal c s room ≢ None

@@ -3,7 +3,7 @@ use Rattle.std.proofs.Common.{◌≡◌, take, sym, ◌∙◌, arith, true}
 use Rattle.std.proofs.Math.Seq.{take-append_seam}
 use Rattle.hex_core.specs.declared.digit.CheckCase.TheVariants as policy
 use Rattle.hex_core.specs.Text.{lowercase}
-use Rattle.hex_core.proofs.FrontLemmas.{whole_front}
+use Rattle.callers.proofs.FrontLemmas.{whole_front}
 use Rattle.hex_codec.specs.Grouped.{grouped}
 use Rattle.callers.proofs.dumps.lowercase_line.Goals as goal
 

@@ -6,7 +6,7 @@ use Rattle.hex_core.specs.declared.error.Error.{Error}
 use Rattle.hex_core.specs.Calls.{Encodes}
 use Rattle.hex_core.specs.Refusal.{encode_refusal}
 use Rattle.hex_core.specs.Text.{lowercase, text}
-use Rattle.hex_core.proofs.FrontLemmas.{whole_front}
+use Rattle.callers.proofs.FrontLemmas.{whole_front}
 use Rattle.hex_core.proofs.TextLemmas.{length-text}
 use Rattle.callers.proofs.judged.lowercase_key.Goals as goal
 
