@@ -40,8 +40,7 @@ where
     match src.len() {
         0..16 => scalar::decode_short(src, dst, case),
         16 => decode_one::<Saturating, 16, 8>(src, dst, case),
-        32 => decode_one::<Saturating, 32, 16>(src, dst, case),
-        17..=31 => decode_two::<Saturating, 16, 8>(src, dst, case),
+        17..=32 => decode_two::<Saturating, 16, 8>(src, dst, case),
         33..=64 => decode_two::<Saturating, 32, 16>(src, dst, case),
         _ => decode_more::<M>(src, dst, case),
     }
