@@ -1,16 +1,14 @@
 -- Lists by their entries, and lists whose middle was written.
-use Rattle.std.proofs.Common.{rules, ◌≡◌, ℕ, Bool, ◌+◌, ◌-◌, ◌≤◌, List, ◌++◌, length, get_or, map, take, refl, sym, ap, ◌∙◌, append_assoc, arith}
+use Rattle.std.proofs.Common.{◌≡◌, ℕ, ◌+◌, ◌-◌, ◌≤◌, List, ◌++◌, length, get_or, map, take, refl, sym, ap, ◌∙◌, arith}
 use Rattle.std.proofs.Math.Seq.{take-append-add}
-use Rattle.std.proofs.lemmas.Grind.{same_number_lists}
-use Rattle.std.proofs.lemmas.List.{length-take-le, places, take-take, take_all}
+use Rattle.std.proofs.lemmas.Grind.{common_steps, same_number_lists}
+use Rattle.std.proofs.lemmas.List.{length-take-le, take-take}
 use Rattle.std.proofs.lemmas.List.FromFn.{get_or-map-range_with_len, length-map-range_with_len}
 use Rattle.std.proofs.lemmas.Slice.{take-put_mid}
 use Rattle.std.proofs.lemmas.Simd.{take_more_put_chunk}
 use Rattle.std.specs.List.{range_with_len}
 use Rattle.std.specs.Simd.Lanes.{put_chunk}
 use borrow.Rule.Slice.PartMut.{put_mid}
-use Rattle.hex_core.specs.Text.{text}
-use Rattle.hex_core.proofs.TextLemmas.{text-append}
 
 -- a list by its entries
 pub entries : (xs : List ℕ) (n : ℕ) → length xs ≡ n → xs ≡ map (λ i. get_or xs i 0) (range_with_len 0 n)
@@ -34,13 +32,4 @@ take-front_chunk a r xs ys inside fits = written-front a r xs ys (put_chunk a xs
 
 -- a list whose end was written
 pub put-behind : (a : ℕ) (xs ys : List ℕ) → a ≤ length xs → length ys ≡ length xs - a → put_mid a (length xs - a) xs ys ≡ take a xs ++ ys
-put-behind a xs ys inside size =
-    let whole = take-put_mid a (length xs - a) xs ys (a + length ys) refl inside in
-    let all : length (put_mid a (length xs - a) xs ys) ≡ length xs = search (rules, places, size, inside) in
-    sym (take_all (a + length ys) (put_mid a (length xs - a) xs ys) (omega (arith, all))) ∙ whole
-
--- the text of a chunk stands behind those before it, and before that of what is left
-pub text-behind : (upper : Bool) (whole done rest shown chunk left : List ℕ) → done ++ text upper rest ≡ whole → rest ≡ chunk ++ left → shown ≡ done ++ text upper chunk
-    → shown ++ text upper left ≡ whole
-text-behind upper whole done rest shown chunk left before cut is = ap (λ l. l ++ text upper left) is ∙ append_assoc done (text upper chunk) (text upper left)
-    ∙ ap (λ l. done ++ l) (sym (text-append upper chunk left) ∙ ap (text upper) (sym cut)) ∙ before
+put-behind a xs ys inside size = grind (arith, common_steps, inside, size)

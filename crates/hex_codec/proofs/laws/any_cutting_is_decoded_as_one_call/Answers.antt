@@ -1,6 +1,5 @@
 -- Both wrote what the whole pairs spell, which is one list.
-use Rattle.std.proofs.Common.{◌∙◌, ◌*◌, ◌/◌, length, take, subst, sym}
-use Rattle.hex_core.specs.Text.{Spells}
+use Rattle.std.proofs.Common.{◌∙◌, sym}
 use Rattle.hex_codec.proofs.StreamLemmas.{whole-pairs}
 use Rattle.hex_codec.proofs.laws.any_cutting_is_decoded_as_one_call.Goals as goal
 
@@ -11,4 +10,4 @@ pub returns-clause-same : goal.returns-clause-same
 returns-clause-same c = λ decoder other fed xs ys policy first second.
     let one = whole-pairs decoder.case fed xs decoder.waiting first.1 in
     let two = whole-pairs other.case fed ys other.waiting second.1 in
-    (c.a_text_spells_one_list.ensures.one decoder.case (take (2 * (length fed / 2)) fed) xs ys one.0 (subst (λ p. Spells p (take (2 * (length fed / 2)) fed) ys) (sym policy) two.0), one.1 ∙ sym two.1)
+    (c.a_text_spells_one_list.ensures.one decoder.case _ xs ys one.0 (rw policy two.0), one.1 ∙ sym two.1)
