@@ -3,9 +3,6 @@ use Rattle.std.proofs.Common.{◌∙◌, sym}
 use Rattle.hex_codec.proofs.StreamLemmas.{whole-pairs}
 use Rattle.hex_codec.proofs.laws.any_cutting_is_decoded_as_one_call.Goals as goal
 
-pub returns-clause-one : goal.returns-clause-one
-returns-clause-one c = λ decoder fed written has. whole-pairs decoder.case fed written decoder.waiting has.1
-
 pub returns-clause-same : goal.returns-clause-same
 returns-clause-same c = λ decoder other fed xs ys policy first second.
     let one = whole-pairs decoder.case fed xs decoder.waiting first.1 in
