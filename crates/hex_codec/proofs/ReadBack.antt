@@ -1,10 +1,10 @@
 -- A text that was written in groups is read back, and one that is read spells a list.
-use Rattle.std.proofs.Common.{◌≡◌, ◌⊎◌, inl, inr, Bool, ℕ, zero, suc, false, ◌+◌, ◌*◌, ◌%◌, ◌<◌, ◌≤◌, nat_lt, refl, sym, ap, ◌∙◌, arith, Option, Some, None, List, [], ◌∷◌, ◌++◌, length, take, drop, All, append-nil, length-append, length-drop, take-append-drop}
+use Rattle.std.proofs.Common.{◌≡◌, ◌⊎◌, inl, inr, Bool, ℕ, zero, suc, false, ◌+◌, ◌*◌, ◌%◌, ◌<◌, ◌≤◌, nat_lt, refl, sym, ap, ◌∙◌, arith, Option, Some, None, List, [], ◌∷◌, ◌++◌, length, take, drop, slice_index, All, option_map, append-nil, length-append, length-drop, take-append-drop}
 use Rattle.std.proofs.Math.Seq.{drop-append_seam, take-append_seam}
-use Rattle.std.proofs.lemmas.Bool.{cases_lt, le-ltb}
+use Rattle.std.proofs.lemmas.Bool.{cases_lt}
 use Rattle.std.proofs.lemmas.Bool.Decides.{nat_tests}
 use Rattle.std.proofs.lemmas.List.{drop-drop, drop-take, drop_all, length-take-le, take_all}
-use Rattle.std.proofs.lemmas.List.Elements.{All-append, All-nil}
+use Rattle.std.proofs.lemmas.List.Elements.{All-cons, All-nil}
 use Rattle.hex_core.specs.declared.digit.CheckCase.{CheckCase}
 use Rattle.hex_core.specs.Refusal.{source_refusal}
 use Rattle.hex_core.specs.Search.{first_invalid}
@@ -12,84 +12,70 @@ use Rattle.hex_core.specs.Text.{Spells, text}
 use Rattle.hex_core.proofs.TextLemmas.{length-text, text-append}
 use Rattle.hex_codec.specs.declared.group.Group.{Group}
 use Rattle.hex_codec.specs.declared.grouped.GroupFault.{GroupFault}
+use Rattle.hex_codec.specs.declared.grouped.GroupFault.TheVariants.{InvalidByte}
 use Rattle.hex_codec.specs.Grouped.{grouped, piece_len, separated, separator}
-use Rattle.hex_codec.specs.GroupedText.{GroupSpells, byte_count, digits_in, group_refusal, refusal_of_count, separators_in}
-use Rattle.hex_codec.proofs.CountLemmas.{accepted, count-is, group-spells}
+use Rattle.hex_codec.specs.GroupedText.{GroupSpells, byte_count, digits_in, first_wrong, group_refusal, grouped_len, refusal_of_count, separators_in}
+use Rattle.hex_codec.proofs.CountLemmas.{count-is, count-told, length-digits}
 use Rattle.hex_codec.proofs.GroupLemmas.{grouped-separated, length-grouped, no_pieces, separated-next, separated-none}
 use Rattle.hex_codec.proofs.PartLemmas.{parted, unparted}
-use Rattle.hex_codec.proofs.WrongLemmas.{none-wrong}
+use Rattle.hex_codec.proofs.WrongLemmas.{Right, none-wrong, wrong-none}
 
 -- ---- written, and read back
 
--- the text of the first piece, and those behind it
-grouped-next : (group : Group) (upper : Bool) (bytes : List ℕ) → 0 < length bytes → grouped group upper bytes ≡ text upper (take (piece_len group) bytes) ++ separated group upper (drop (piece_len group) bytes)
-grouped-next group upper bytes some = grouped-separated group upper bytes ∙ ap (drop 1) (separated-next group upper bytes some)
+module _ (group : Group) (upper : Bool) where
+  -- the text of the first piece, and those behind it
+  grouped-next : (bytes : List ℕ) → 0 < length bytes → grouped group upper bytes ≡ text upper (take (piece_len group) bytes) ++ separated group upper (drop (piece_len group) bytes)
+  grouped-next bytes some = grouped-separated group upper bytes ∙ ap (drop 1) (separated-next group upper bytes some)
 
-pub separated-cons : (group : Group) (upper : Bool) (bytes : List ℕ) → 0 < length bytes → separated group upper bytes ≡ separator group ∷ grouped group upper bytes
-separated-cons group upper bytes some = separated-next group upper bytes some ∙ ap (λ l. separator group ∷ l) (sym (grouped-next group upper bytes some))
+  pub separated-cons : (bytes : List ℕ) → 0 < length bytes → separated group upper bytes ≡ separator group ∷ grouped group upper bytes
+  separated-cons bytes some = rw (grouped-next bytes some) (separated-next group upper bytes some)
 
--- the digits of a grouped text are those of the list, and its separators the group's
-pub record Back (group : Group) (upper : Bool) (bytes : List ℕ) : Type 0 where
-  pub digits : digits_in (piece_len group) (grouped group upper bytes) ≡ text upper bytes
-  pub separated : All (λ b. b ≡ separator group) (separators_in (piece_len group) (grouped group upper bytes))
+  -- the digits of a grouped text are those of the list, and its separators the group's
+  pub record Back (bytes : List ℕ) : Type 0 where
+    pub digits : digits_in (piece_len group) (grouped group upper bytes) ≡ text upper bytes
+    pub separated : All (λ b. b ≡ separator group) (separators_in (piece_len group) (grouped group upper bytes))
 
--- one piece has no separator
-back-last : (group : Group) (upper : Bool) (bytes : List ℕ) → 0 < length bytes → length bytes ≤ piece_len group → Back group upper bytes
-back-last group upper bytes some fits =
-    let every = piece_len group in
-    let all = text upper bytes in
-    let size : length all ≡ 2 * length bytes = length-text upper bytes in
-    let is : grouped group upper bytes ≡ all =
-    grouped-next group upper bytes some ∙ rw (take_all every bytes fits, drop_all every bytes fits, separated-none group upper) (append-nil all) in
-    let whole = unparted every all (omega (arith, size)) in
-    record { digits = rw is whole.0; separated = rw (is, whole.1) (All-nil _) }
+  -- one piece has no separator
+  back-last : (bytes : List ℕ) → 0 < length bytes → length bytes ≤ piece_len group → Back bytes
+  back-last bytes some fits =
+      let every = piece_len group in let all = text upper bytes in
+      let is : grouped group upper bytes ≡ all =
+      grouped-next bytes some ∙ rw (take_all every bytes fits, drop_all every bytes fits, separated-none group upper) (append-nil all) in
+      let whole = unparted every all (omega (arith, length-text upper bytes)) in
+      record { digits = rw is whole.0; separated = rw (is, whole.1) (All-nil _) }
 
--- a piece, its separator, and what is behind them
-back-more : (group : Group) (upper : Bool) (bytes : List ℕ) → piece_len group < length bytes → Back group upper (drop (piece_len group) bytes)
-    → Back group upper bytes
-back-more group upper bytes long rest =
-    let every = piece_len group in
-    let sep = separator group in
-    let first = text upper (take every bytes) in
-    let behind = grouped group upper (drop every bytes) in
-    let size : length first ≡ 2 * every = length-text upper (take every bytes) ∙ ap (λ n. 2 * n) (length-take-le every bytes (omega arith)) in
-    let all = first ++ (sep ∷ behind) in
-    let is : grouped group upper bytes ≡ all = grouped-next group upper bytes (omega arith)
-    ∙ ap (λ l. first ++ l) (separated-cons group upper (drop every bytes) (omega (arith, length-drop every bytes))) in
-    let part = parted every all (omega (arith, length-append first (sep ∷ behind))) in
-    let digits : take (2 * every) all ≡ first = rw (← size) (take-append_seam first (sep ∷ behind)) in
-    let line : drop (2 * every) all ≡ sep ∷ behind = rw (← size) (drop-append_seam first (sep ∷ behind)) in
-    let separators : drop (2 * every) (take (2 * every + 1) all) ≡ sep ∷ [] = drop-take (2 * every) 1 all ∙ ap (take 1) line in
-    let left : drop (2 * every + 1) all ≡ behind = sym (drop-drop 1 (2 * every) all) ∙ ap (drop 1) line in
-    let both : separators_in every all ≡ (sep ∷ []) ++ separators_in every behind = part.separators
-    ∙ ap (λ l. l ++ separators_in every (drop (2 * every + 1) all)) separators ∙ ap (λ l. (sep ∷ []) ++ separators_in every l) left in
-    record {
-      digits = rw is (part.digits ∙ rw (digits, left, rest.digits) (sym (text-append upper (take every bytes) (drop every bytes))
-          ∙ ap (text upper) (take-append-drop every bytes)));
-      separated = rw (is, both) (All-append (λ b. b ≡ sep) (sep ∷ []) (separators_in every behind) (only sep) rest.separated);
-    }
-  where
-    only : (sep : ℕ) → All (λ b. b ≡ sep) (sep ∷ [])
-    only sep zero d lt = refl
-    only sep (suc k) d lt = absurd (omega arith)
+  -- a piece, its separator, and what is behind them
+  back-more : (bytes : List ℕ) → piece_len group < length bytes → Back (drop (piece_len group) bytes) → Back bytes
+  back-more bytes long rest =
+      let every = piece_len group in let sep = separator group in
+      let first = text upper (take every bytes) in
+      let behind = grouped group upper (drop every bytes) in
+      let size : length first ≡ 2 * every = omega (arith, length-text upper (take every bytes), length-take-le every bytes (omega arith)) in
+      let all = first ++ (sep ∷ behind) in
+      let is : grouped group upper bytes ≡ all =
+      rw (grouped-next bytes (omega arith), separated-cons (drop every bytes) (omega (arith, length-drop every bytes))) refl in
+      let part = parted every all (omega (arith, length-append first (sep ∷ behind))) in
+      let digits : take (2 * every) all ≡ first = rw (← size) (take-append_seam first (sep ∷ behind)) in
+      let line : drop (2 * every) all ≡ sep ∷ behind = rw (← size) (drop-append_seam first (sep ∷ behind)) in
+      let separators : drop (2 * every) (take (2 * every + 1) all) ≡ sep ∷ [] = drop-take (2 * every) 1 all ∙ ap (take 1) line in
+      let left : drop (2 * every + 1) all ≡ behind = sym (drop-drop 1 (2 * every) all) ∙ ap (drop 1) line in
+      record {
+        digits = rw (is, part.digits, digits, left, rest.digits, ← text-append upper (take every bytes) (drop every bytes))
+            (ap (text upper) (take-append-drop every bytes));
+        separated = rw (is, part.separators, left, separators) (All-cons (λ b. b ≡ sep) sep (separators_in every behind) refl rest.separated);
+      }
 
-pub back : (group : Group) (upper : Bool) (fuel : ℕ) (bytes : List ℕ) → length bytes ≤ fuel → Back group upper bytes
-back group upper fuel [] fits =
-    let none : grouped group upper [] ≡ [] = grouped-separated group upper [] ∙ ap (drop 1) (separated-none group upper) in
-    let empty = no_pieces (2 * piece_len group + 1) in
-    record { digits = rw (none, empty) refl; separated = rw (none, empty) (λ k d lt. absurd (omega arith)) }
-back group upper zero (b ∷ bytes) fits = absurd (omega arith)
-back group upper (suc fuel) (b ∷ bytes) fits =
-    from_cases (back group upper fuel (drop (piece_len group) (b ∷ bytes)) (omega (
-      arith,
-      length-drop (piece_len group)
-          (b ∷ bytes),
-      group.is_group.0,
-    ))) (cases_lt (piece_len group) (length (b ∷ bytes)))
-  where
-    from_cases : Back group upper (drop (piece_len group) (b ∷ bytes)) → (piece_len group < length (b ∷ bytes)) ⊎ (length (b ∷ bytes) ≤ piece_len group) → Back group upper (b ∷ bytes)
-    from_cases rest (inl long) = back-more group upper (b ∷ bytes) long rest
-    from_cases rest (inr short) = back-last group upper (b ∷ bytes) (omega arith) short
+  pub back : (fuel : ℕ) (bytes : List ℕ) → length bytes ≤ fuel → Back bytes
+  back fuel [] fits =
+      let none : grouped group upper [] ≡ [] = rw (grouped-separated group upper [], separated-none group upper) refl in
+      let empty = no_pieces (2 * piece_len group + 1) in
+      record { digits = rw (none, empty) refl; separated = rw (none, empty) (All-nil _) }
+  back zero (b ∷ bytes) fits = absurd (omega arith)
+  back (suc fuel) (b ∷ bytes) fits = elim (cases_lt (piece_len group) (length (b ∷ bytes))) [
+    | inl long ↦
+      back-more (b ∷ bytes) long (back fuel (drop (piece_len group) (b ∷ bytes)) (omega (arith, length-drop (piece_len group) (b ∷ bytes), group.is_group.0)))
+    | inr short ↦ back-last (b ∷ bytes) (omega arith) short
+  ]
 
 pub read-back : (c : CheckCase) (group : Group) (upper : Bool) (bytes : List ℕ) → Spells c (text upper bytes) bytes
     → GroupSpells c group (grouped group upper bytes) bytes
@@ -107,14 +93,17 @@ pub read-spells : (c : CheckCase) (group : Group) (s : List ℕ) (room : ℕ) �
     → (bytes : List ℕ) × Spells c (digits_in (piece_len group) s) bytes)
     → group_refusal c group s room ≡ None → (bytes : List ℕ) × GroupSpells c group s bytes × (length bytes ≤ room)
 read-spells c group s room some h =
-    let n = has-count (byte_count (piece_len group) (length s)) _ room h in
-    let is = accepted c group s room n.0 h n.1 in
-    let digits = digits_in (piece_len group) s in
-    let even : length digits % 2 ≡ 0 = omega (arith, is.digits.0) in
-    let none : first_invalid c digits ≡ None = is.digits.1 in
-    let w = some (grind (arith, nat_tests, even, none)) in
-    let spells = group-spells c group s w.0 room n.0 is w.1 in
-    (w.0, spells.0, omega (arith, spells.1, is.fits))
+    let every = piece_len group in
+    let fault = option_map (λ i. InvalidByte i (slice_index s i)) (first_wrong c group s) in
+    let (n, is) = has-count (byte_count every (length s)) fault room h in
+    let none : refusal_of_count (Some n) fault room ≡ None = rw is at h in
+    let long : length s ≡ grouped_len every n = sym (count-told every (length s) n is) in
+    let right : Right c group s = wrong-none c group s (grind (arith, nat_tests, none)) in
+    let size = length-digits every n s group.is_group.0 long in
+    let even : length (digits_in every s) % 2 ≡ 0 = omega (arith, size) in
+    let (bytes, spelled) = some (grind (arith, nat_tests, even, right.valid)) in
+    let count : length bytes ≡ n = omega (arith, spelled.twice, size) in
+    (bytes, record { long = rw count long; separated = right.separated; spelled = spelled }, grind (arith, nat_tests, none, count))
 
 pub spells-read : (c : CheckCase) (group : Group) (s bytes : List ℕ) (room : ℕ) → GroupSpells c group s bytes → length bytes ≤ room
     → source_refusal c (digits_in (piece_len group) s) ≡ None → group_refusal c group s room ≡ None
@@ -123,5 +112,4 @@ spells-read c group s bytes room h fits accepts =
     let even : length (digits_in (piece_len group) s) % 2 ≡ 0 = omega (arith, h.spelled.twice) in
     let valid : first_invalid c (digits_in (piece_len group) s) ≡ None = grind (arith, nat_tests, even, accepts) in
     let none = none-wrong c group s (record { valid = valid; separated = h.separated }) in
-    let enough : nat_lt room (length bytes) ≡ false = le-ltb room (length bytes) fits in
-    rw (count, enough, none) refl
+    rw (count, none) (grind (arith, nat_tests, fits))
