@@ -16,8 +16,6 @@ use types.Logic.{sem}
 use Rattle.hex_core.proofs.Lent.{Plan, plan_lawful, plan_makes, Lent, Answer, lent_lawful}
 use Rattle.hex_core.specs.Calls.{EncodesFront}
 use Rattle.hex_core.specs.Loan.{LendsAnswer}
-use Rattle.hex_core.specs.Refusal.{encode_refusal}
-use Rattle.hex_core.specs.Text.{text}
 use Rattle.hex_core.specs.contracts.plan.Backend.plain as p
 use Rattle.hex_core.proofs.plan.Backend.plain.Symbol as p_symbol
 use Rattle.hex_core.proofs.plan.Backend.plain.Met as p_met
@@ -53,7 +51,7 @@ function upper = record {
       (seq (call h_symbol.name (copy (place 3 []) ∷ copy (place 1 []) ∷ copy (place 5 []) ∷ passed upper ∷ []) (place 0 [])) return)));
 }
 
-abbrev stayed : Stays f.ended.signature.params f.ended.kept
+abbrev pub stayed : Stays f.ended.signature.params f.ended.kept
 stayed = (stay_dropped (shr_slice_of (0 ∷ []) tt (plain_slot (λ _. u8))) yes, (stay_dropped (mut_slice_of (1 ∷ []) tt (plain_slot (λ _. u8))) no, tt))
 
 -- what both promise
@@ -95,7 +93,7 @@ hands_on 𝓤 𝓛 𝓜 𝓡 upper k closed plain encode =
     owned ! Plan _ (plan_makes 𝓛) plan (v ∷ []) is_plan $ fjoin ! $ move ! (1 ∷ 0 ∷ []) $ join ! $ use2 𝓛 (raw (G.pre z)) (id⊢ 𝓤 _) $
     calls_at ! framed_calls G (h_met.met 𝓤 𝓛 𝓜 𝓡 encode) z (and_then ! (get ! refl) (and_then ! (get ! refl) (and_then ! (get ! refl) (and_then ! (choice ! upper) (no_more !))))) (λ w.
     use1 𝓛 (later (some (λ (r : Answer). ((‵ (flft κ₀ q₀) ⊛ ‵ (flft κ q) ⊛ ‵ ftrue) ⊛ ‵ ((Lent (named 1) κ).own_val r (w ∷ []))) ⊛ some (λ (ws : Lasts h.ended z.0.0 z.0.3). ‵ (lasts h.ended z.0.0 z.0.3 ws)
-    ⊛ (‵ (LendsAnswer dst r) ⊛ raw (fact 𝓤 (MatchResult r (λ p. (encode_refusal s (length xs) ≡ None) × (p.now ≡ text upper s)) (λ e. encode_refusal s (length xs) ≡ Some e)))))))) (id⊢ 𝓤 _) $
+    ⊛ (‵ (LendsAnswer dst r) ⊛ raw (fact 𝓤 (EncodesFront upper s (length xs) r))))))) (id⊢ 𝓤 _) $
     await ! tt $ pick ! (λ r. split ! $ split ! $ move ! (1 ∷ []) $ peeks ! (Lent (named 1) κ) (Is (Lent (named 1) κ)) (shows 𝓛 (Lent (named 1) κ)) r (w ∷ []) (λ is. lands_as ! refl refl ((lent_lawful 𝓛 (named 1) κ).typed r (w ∷ []) is).0 $
     move ! (2 ∷ []) $ pick ! (λ ws. split ! $ drop ! $ split ! $ move ! (1 ∷ []) $ heard ! _ (λ answer.
     -- [the loan; the result; the tokens; the locals]

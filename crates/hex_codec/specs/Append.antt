@@ -4,17 +4,13 @@ use Rattle.std.specs.declared.string.String.{String}
 use Rattle.hex_core.specs.declared.error.Error.{Error}
 use Rattle.hex_core.specs.Text.{text}
 use Rattle.hex_codec.specs.Calls.{EncodesBehind}
-use Rattle.hex_codec.specs.Failure.{AppendFailure}
-
--- the old text followed by the new one at `Ok`, the old text alone at `Err`
-abbrev pub AppendsText : {T : Type 0} → Result T Error → List ℕ → List ℕ → List ℕ → Type 0
-AppendsText result old added new = MatchResult result (λ _. new ≡ old ++ added) (λ _. new ≡ old)
+use Rattle.hex_codec.specs.Failure.{GrowthFailure}
 
 -- what a string ends as after an append of a list's digits: these are behind its text, or it has its
 -- text alone, and it gives no room back
 abbrev pub AppendsDigits : {A T : Type 0} → Bool → List ℕ → Result T Error → String A → String A → Type 0
 AppendsDigits upper bytes result old new =
-    AppendsText result (string_bytes old) (text upper bytes) (string_bytes new)
+    MatchResult result (λ _. string_bytes new ≡ string_bytes old ++ text upper bytes) (λ _. string_bytes new ≡ string_bytes old)
     × OnOk result (string_len new ≡ string_len old + 2 * length bytes)
     × (string_capacity old ≤ string_capacity new)
 
@@ -27,7 +23,7 @@ GrewBy upper bytes old new =
 
 -- an append of a list's digits behind `had` bytes: their end is a `usize`, or a failure
 abbrev pub FitsBehind : {T : Type 0} → ℕ → List ℕ → Result T Error → Type 0
-FitsBehind had bytes result = MatchResult result (λ _. had + 2 * length bytes < 2 ^ 64) (λ e. AppendFailure had bytes e)
+FitsBehind had bytes result = MatchResult result (λ _. had + 2 * length bytes < 2 ^ 64) (λ e. GrowthFailure had (2 * length bytes) e)
 
 -- there is no error where the spare room of the string holds the digits
 abbrev pub SucceedsInSpareRoom : {A T : Type 0} → List ℕ → String A → Result T Error → Type 0

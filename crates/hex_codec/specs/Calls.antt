@@ -7,7 +7,7 @@ use Rattle.hex_core.specs.declared.error.Error.{Error}
 use Rattle.hex_core.specs.Calls.{Answers}
 use Rattle.hex_core.specs.Refusal.{OwnedFailure, array_refusal, encode_refusal}
 use Rattle.hex_core.specs.Text.{Spells, text}
-use Rattle.hex_codec.specs.Failure.{AppendFailure, GrowthFailure}
+use Rattle.hex_codec.specs.Failure.{GrowthFailure}
 
 -- decoding into an array of n bytes: what the source spells, or the refusal
 abbrev pub DecodesArray : CheckCase → List ℕ → ℕ → Result (List ℕ) Error → Type 0
@@ -25,7 +25,7 @@ EncodesWithin shown upper bytes room = Answers (encode_refusal bytes room) (λ s
 abbrev pub EncodesBehind : {S : Type 0} → (S → List ℕ) → ℕ → Bool → List ℕ → Result S Error → Type 0
 EncodesBehind shown had upper bytes result = MatchResult result
     (λ string. (had + 2 * length bytes < 2 ^ 64) × (shown string ≡ text upper bytes))
-    (λ e. AppendFailure had bytes e)
+    (λ e. GrowthFailure had (2 * length bytes) e)
 
 -- encoding into new memory behind a prefix: both, whose length is a `usize`, or a failure
 abbrev pub EncodesPrefixed : {A : Type 0} → List ℕ → Bool → List ℕ → Result (String A) Error → Type 0

@@ -1,5 +1,5 @@
 -- Why a text was not made, or not appended.
-use Rattle.std.specs.Prelude.{ℕ, ◌+◌, ◌*◌, ◌^◌, ◌<◌, ◌≤◌, List, length}
+use Rattle.std.specs.Prelude.{ℕ, ◌+◌, ◌^◌, ◌<◌, ◌≤◌}
 use Rattle.hex_core.specs.declared.error.Error.{Error}
 use Rattle.hex_core.specs.declared.error.Error.TheVariants.{Overflow, OutOfMemory}
 
@@ -9,7 +9,3 @@ abbrev pub GrowthFailure : ℕ → ℕ → Error → Type 0
 GrowthFailure had added Overflow = 2 ^ 64 ≤ had + added
 GrowthFailure had added OutOfMemory = (0 < added) × (had + added < 2 ^ 64)
 GrowthFailure had added _ = ⊥
-
--- an error of appending a list's text
-abbrev pub AppendFailure : ℕ → List ℕ → Error → Type 0
-AppendFailure had bytes e = GrowthFailure had (2 * length bytes) e

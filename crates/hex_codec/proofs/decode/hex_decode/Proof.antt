@@ -1,18 +1,15 @@
 -- `hex_decode` reads both cases.
 use Rattle.hex_core.proofs.WalkKit.{◌≡◌, refl, [], ◌∷◌, lit<, length, named, id⊢, ftrue, flft, ‵, ◌⊛◌, raw, some, later, ◌$◌, ◌∵◌, !, qed, move, keep, drop, split, join, fsplit3, fjoin, use1, use2, await, pick, suffices, frame, done, whole, sub, agg, stop, fld, hop, from, addr, lit, and_then, no_more, returns, enter, alloc_all, pass_all, free_all, look_at, look_in_at, get, get_in, sets, lands_as, fact, tables, u8, yes, no, Is, shows, owns, plain, mut_slice_of, shr_slice_of, ShrSlice, MutSlice, Room, shr_slice_vals, shr_slice_Tells, mut_slice_vals, mut_slice_Tells, nothing, owned, peeks, heard, calls_at, Lasts, lasts, triple_of, framed, says, Stays, stay_dropped, ends_at, Goes-dropped, Goes-spent_slice, None, Some, MatchResult, proved}
 use Rattle.hex_core.proofs.Lent.{Policy, policy_vals, policy_makes, policy_none, Lent, Answer, lent_lawful}
+use Rattle.hex_core.specs.Calls.{DecodesFront}
 use Rattle.hex_core.specs.Loan.{LendsAnswer}
-use Rattle.hex_core.specs.Refusal.{decode_refusal}
-use Rattle.hex_core.specs.Text.{Spells}
+use Rattle.hex_codec.proofs.EncodeWalk.{stayed}
 use Rattle.hex_codec.specs.contracts.decode.hex_decode_with_case as h
 use Rattle.hex_codec.proofs.decode.hex_decode_with_case.Met as h_met
 use Rattle.hex_core.specs.declared.digit.CheckCase.TheVariants as policy
 use Rattle.hex_codec.specs.contracts.decode.hex_decode as f
 use Rattle.hex_codec.proofs.decode.hex_decode.Statement.{statement}
 use Rattle.hex_codec.proofs.decode.hex_decode.Code as code
-
-abbrev stayed : Stays f.ended.signature.params f.ended.kept
-stayed = (stay_dropped (shr_slice_of (0 ∷ []) tt (plain (λ _. u8))) yes, (stay_dropped (mut_slice_of (1 ∷ []) tt (plain (λ _. u8))) no, tt))
 
 pub hex_decode_spec : {M : Type 1} → statement M
 hex_decode_spec 𝓤 𝓛 𝓜 𝓡 wired =
@@ -34,7 +31,7 @@ hex_decode_spec 𝓤 𝓛 𝓜 𝓡 wired =
     move ! (1 ∷ []) $ fsplit3 ! $ move ! (2 ∷ []) $ owned ! Policy _ (policy_makes 𝓛) policy.None (policy_vals policy.None) policy_none $ fjoin ! $ move ! (2 ∷ 0 ∷ []) $ fjoin ! $ move ! (1 ∷ 0 ∷ []) $ fjoin ! $ move ! (1 ∷ 0 ∷ []) $ join ! $ use2 𝓛 (raw (G.pre z)) (id⊢ 𝓤 _) $
     calls_at ! (framed 𝓤 𝓛.H 𝓜 (tables 𝓤 𝓛.H 𝓜 𝓡 𝓡.env)) G (h_met.met 𝓤 𝓛 𝓜 𝓡 (code.calls-hex_codec::decode::hex_decode_with_case 𝓡.env wired)) z (and_then ! (get ! refl) (and_then ! (get ! refl) (and_then ! (get ! refl) (no_more !)))) (λ w.
     use1 𝓛 (later (some (λ (r : Answer). ((‵ (flft κ₀ q₀) ⊛ ‵ (flft κ q) ⊛ ‵ ftrue) ⊛ ‵ ((Lent (named 1) κ).own_val r (w ∷ []))) ⊛ some (λ (ws : Lasts h.ended z.0.0 z.0.3). ‵ (lasts h.ended z.0.0 z.0.3 ws)
-    ⊛ (‵ (LendsAnswer dst r) ⊛ raw (fact 𝓤 (MatchResult r (λ p. (decode_refusal policy.None s (length xs) ≡ None) × Spells policy.None s p.now) (λ e. decode_refusal policy.None s (length xs) ≡ Some e)))))))) (id⊢ 𝓤 _) $
+    ⊛ (‵ (LendsAnswer dst r) ⊛ raw (fact 𝓤 (DecodesFront policy.None s (length xs) r))))))) (id⊢ 𝓤 _) $
     await ! tt $ pick ! (λ r. split ! $ split ! $ move ! (1 ∷ []) $ peeks ! (Lent (named 1) κ) (Is (Lent (named 1) κ)) (shows 𝓛 (Lent (named 1) κ)) r (w ∷ []) (λ is. lands_as ! refl refl ((lent_lawful 𝓛 (named 1) κ).typed r (w ∷ []) is).0 $
     move ! (2 ∷ []) $ pick ! (λ ws. split ! $ drop ! $ split ! $ move ! (1 ∷ []) $ heard ! _ (λ answer.
     -- [the loan; the result; the tokens; the locals]

@@ -1,9 +1,8 @@
 -- `hex_decode_with_case` decodes under the plain plan.
 use Rattle.hex_core.proofs.WalkKit.{◌≡◌, refl, [], ◌∷◌, length, named, id⊢, ftrue, flft, ‵, ◌⊛◌, raw, some, later, ◌$◌, ◌∵◌, !, qed, move, keep, drop, split, join, fjoin, use1, use2, await, pick, suffices, frame, done, whole, sub, agg, stop, fld, hop, from, addr, and_then, no_more, returns, enter, alloc_all, pass_all, free_all, look_at, look_in_at, get, get_in, sets, lands_as, fact, tables, u8, yes, no, Is, shows, owns, plain, mut_slice_of, shr_slice_of, ShrSlice, MutSlice, Room, shr_slice_vals, shr_slice_Tells, mut_slice_vals, mut_slice_Tells, nothing, owned, peeks, heard, calls_at, Lasts, lasts, triple_of, framed, says, Stays, stay_dropped, ends_at, Goes-dropped, Goes-spent_slice, None, Some, MatchResult, proved}
 use Rattle.hex_core.proofs.Lent.{Plan, plan_lawful, plan_makes, Policy, policy_vals, policy_tells, policy_lawful, Lent, Answer, lent_lawful}
+use Rattle.hex_core.specs.Calls.{DecodesFront}
 use Rattle.hex_core.specs.Loan.{LendsAnswer}
-use Rattle.hex_core.specs.Refusal.{decode_refusal}
-use Rattle.hex_core.specs.Text.{Spells}
 use Rattle.hex_core.specs.contracts.plan.Backend.plain as p
 use Rattle.hex_core.proofs.plan.Backend.plain.Met as p_met
 use Rattle.hex_core.specs.contracts.plan.Backend.decode_slice as h
@@ -42,7 +41,7 @@ hex_decode_with_case_spec 𝓤 𝓛 𝓜 𝓡 wired =
     move ! (1 ∷ []) $ owned ! Plan _ (plan_makes 𝓛) plan (v ∷ []) is_plan $ fjoin ! $ move ! (1 ∷ 0 ∷ []) $ join ! $ use2 𝓛 (raw (G.pre z)) (id⊢ 𝓤 _) $
     calls_at ! framed_calls G (h_met.met 𝓤 𝓛 𝓜 𝓡 (code.calls-hex_core::plan::Backend::decode_slice 𝓡.env wired)) z (and_then ! (get ! refl) (and_then ! (get ! refl) (and_then ! (get ! refl) (and_then ! (get ! refl) (no_more !))))) (λ w.
     use1 𝓛 (later (some (λ (r : Answer). ((‵ (flft κ₀ q₀) ⊛ ‵ (flft κ q) ⊛ ‵ ftrue) ⊛ ‵ ((Lent (named 1) κ).own_val r (w ∷ []))) ⊛ some (λ (ws : Lasts h.ended z.0.0 z.0.3). ‵ (lasts h.ended z.0.0 z.0.3 ws)
-    ⊛ (‵ (LendsAnswer dst r) ⊛ raw (fact 𝓤 (MatchResult r (λ p. (decode_refusal case s (length xs) ≡ None) × Spells case s p.now) (λ e. decode_refusal case s (length xs) ≡ Some e)))))))) (id⊢ 𝓤 _) $
+    ⊛ (‵ (LendsAnswer dst r) ⊛ raw (fact 𝓤 (DecodesFront case s (length xs) r))))))) (id⊢ 𝓤 _) $
     await ! tt $ pick ! (λ r. split ! $ split ! $ move ! (1 ∷ []) $ peeks ! (Lent (named 1) κ) (Is (Lent (named 1) κ)) (shows 𝓛 (Lent (named 1) κ)) r (w ∷ []) (λ is. lands_as ! refl refl ((lent_lawful 𝓛 (named 1) κ).typed r (w ∷ []) is).0 $
     move ! (2 ∷ []) $ pick ! (λ ws. split ! $ drop ! $ split ! $ move ! (1 ∷ []) $ heard ! _ (λ answer.
     -- [the loan; the result; the tokens; the locals]
