@@ -2,10 +2,9 @@
 use Rattle.std.proofs.Common.{◌≡◌, ℕ, ◌+◌, ◌-◌, ◌≤◌, List, ◌++◌, length, get_or, map, take, refl, sym, ap, ◌∙◌, arith}
 use Rattle.std.proofs.Math.Seq.{take-append-add}
 use Rattle.std.proofs.lemmas.Grind.{common_steps, same_number_lists}
-use Rattle.std.proofs.lemmas.List.{length-take-le, take-take}
+use Rattle.std.proofs.lemmas.List.{length-take-le, take-append-le}
 use Rattle.std.proofs.lemmas.List.FromFn.{get_or-map-range_with_len, length-map-range_with_len}
-use Rattle.std.proofs.lemmas.Slice.{take-put_mid}
-use Rattle.std.proofs.lemmas.Simd.{take_more_put_chunk}
+use Rattle.std.proofs.lemmas.Simd.{put_chunk_is}
 use Rattle.std.specs.List.{range_with_len}
 use Rattle.std.specs.Simd.Lanes.{put_chunk}
 use borrow.Rule.Slice.PartMut.{put_mid}
@@ -18,17 +17,16 @@ entries xs n is =
     (λ k lt. sym (get_or-map-range_with_len here 0 n k k 0 (omega arith) (omega arith)))
 
 -- the front of a list that was written behind another front
-written-front : (a r : ℕ) (xs ys zs : List ℕ) → a ≤ length xs → r ≤ length ys → take (a + length ys) zs ≡ take a xs ++ ys
-    → take (a + r) zs ≡ take a xs ++ take r ys
-written-front a r xs ys zs inside fits whole =
-    let front : length (take a xs) + r ≡ a + r = omega (arith, length-take-le a xs inside) in
-    sym (take-take (a + r) (a + length ys) zs (omega arith)) ∙ ap (take (a + r)) whole ∙ rw front at (take-append-add (take a xs) ys r)
+written-front : (a r : ℕ) (xs ys rest : List ℕ) → a ≤ length xs → r ≤ length ys → take (a + r) (take a xs ++ (ys ++ rest)) ≡ take a xs ++ take r ys
+written-front a r xs ys rest inside fits =
+    let seam : length (take a xs) + r ≡ a + r = omega (arith, length-take-le a xs inside) in
+    rw (← seam, take-append-add (take a xs) (ys ++ rest) r, take-append-le r ys rest fits) refl
 
 pub take-front_put : (a k r : ℕ) (xs ys : List ℕ) → a ≤ length xs → r ≤ length ys → take (a + r) (put_mid a k xs ys) ≡ take a xs ++ take r ys
-take-front_put a k r xs ys inside fits = written-front a r xs ys (put_mid a k xs ys) inside fits (take-put_mid a k xs ys (a + length ys) refl inside)
+take-front_put a k r xs ys inside fits = written-front a r xs ys _ inside fits
 
 pub take-front_chunk : (a r : ℕ) (xs ys : List ℕ) → a + length ys ≤ length xs → r ≤ length ys → take (a + r) (put_chunk a xs ys) ≡ take a xs ++ take r ys
-take-front_chunk a r xs ys inside fits = written-front a r xs ys (put_chunk a xs ys) (omega arith) fits (take_more_put_chunk a xs ys (a + length ys) (omega arith) inside)
+take-front_chunk a r xs ys inside fits = rw (put_chunk_is a xs ys inside) (written-front a r xs ys _ (omega arith) fits)
 
 -- a list whose end was written
 pub put-behind : (a : ℕ) (xs ys : List ℕ) → a ≤ length xs → length ys ≡ length xs - a → put_mid a (length xs - a) xs ys ≡ take a xs ++ ys

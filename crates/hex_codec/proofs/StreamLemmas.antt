@@ -49,10 +49,6 @@ spells-but c digits part bytes o parts spelled read = record {
   spelled = spelled;
 }
 
--- the digit that waits has a value
-pub waits-read : (c : CheckCase) (digits bytes : List ℕ) (o : Option ℕ) → SpellsBut c digits bytes (option_to_list o) → ForSome o (λ d. IsSome (value c d))
-waits-read c digits bytes o but = read-valid c o (valid-parts c but.pairs (option_to_list o) (rw but.parts at but.valid)).1
-
 -- how many digits they are
 pub count-but : (c : CheckCase) (digits bytes : List ℕ) (o : Option ℕ) → SpellsBut c digits bytes (option_to_list o) → (length digits ≡ 2 * length bytes + length (option_to_list o)) × (length (option_to_list o) ≤ 1)
 count-but c digits bytes o but = (omega (arith, ap length but.parts, length-append but.pairs (option_to_list o), but.spelled.twice), grind (arith, common_steps))
@@ -71,11 +67,6 @@ pub pair-first : (c : CheckCase) (high byte : ℕ) (src bytes v : List ℕ) → 
 pair-first c high byte [] bytes v some spelled rest = absurd (omega (arith, some))
 pair-first c high byte (low ∷ tail) bytes v some spelled rest =
     but-joined c (high ∷ low ∷ []) tail (byte ∷ []) bytes [] v (record { valid = valid-spelled c _ _ spelled; pairs = _; parts = refl; spelled = spelled }) rest
-
--- its byte is stored before theirs
-pub pair-stored : (old new bytes : List ℕ) (byte : ℕ) → 0 < length old → length bytes ≤ length old - 1 → new ≡ with_front (take (length old - 1) (drop 1 old)) bytes
-    → set (put_mid 1 (length old - 1) old new) 0 byte ≡ byte ∷ (bytes ++ drop (suc (length bytes)) old)
-pair-stored old new bytes byte some fits is = grind (arith, common_steps, some, fits, is)
 
 -- ---- what a feed refuses
 

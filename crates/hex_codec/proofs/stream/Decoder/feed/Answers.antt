@@ -1,7 +1,8 @@
 use Rattle.std.proofs.Common.{arith, ◌≡◌, ◌∙◌, ◌++◌, Some, length, length-append, sym}
 use Rattle.std.proofs.lemmas.Result.{err_from_is_err_and}
 use Rattle.std.specs.Option.{option_to_list}
-use Rattle.hex_codec.proofs.StreamLemmas.{bad-behind-all, but-joined, count-but, refused-byte, valid-fed, waits-read}
+use Rattle.hex_core.proofs.JoinLemmas.{valid-parts}
+use Rattle.hex_codec.proofs.StreamLemmas.{bad-behind-all, but-joined, count-but, read-valid, refused-byte, valid-fed}
 use Rattle.hex_codec.proofs.stream.Decoder.feed.Goals as goal
 
 pub returns-in_err-waiting-clause-feeds : goal.returns-in_err-waiting-clause-feeds
@@ -14,7 +15,9 @@ returns-in_err-waiting-clause-feeds c = λ fed written has.
     rw ended.1 (cc (refused, bad, c.in_err-waiting.ensures.0, ended.2))
 
 pub invariant_of-self : goal.invariant_of-self
-invariant_of-self c = record { tested = waits-read _ _ c.in_ok-waiting.ensures.0 c.in_ok-waiting.waiting c.in_ok-waiting.ensures.1 }
+invariant_of-self c =
+    let but = c.in_ok-waiting.ensures.1 in
+    record { tested = read-valid _ _ (valid-parts _ but.pairs _ (rw but.parts at but.valid)).1 }
 
 pub returns-clause-feeds : goal.returns-clause-feeds
 returns-clause-feeds c = λ fed written has.
