@@ -1,22 +1,17 @@
 -- Lengths of grouped texts, and what reading one needs.
-use Rattle.std.proofs.Common.{◌≡◌, ◌⊎◌, inl, inr, ℕ, zero, suc, ◌+◌, ◌-◌, ◌*◌, ◌/◌, ◌%◌, ◌<◌, ◌≤◌, ◌==◌, refl, sym, ap, ◌∙◌, arith, Some, None, List, [], ◌∷◌, length, take, drop, length-append, length-drop, slice_index, All, option_map}
+use Rattle.std.proofs.Common.{◌≡◌, inl, inr, ℕ, zero, suc, ◌+◌, ◌-◌, ◌*◌, ◌/◌, ◌%◌, ◌<◌, ◌≤◌, ◌==◌, sym, ap, ◌∙◌, arith, Some, None, List, length, take, drop, length-append, length-drop}
 use Rattle.std.proofs.lemmas.Bool.{cases_lt, eq-eqb, eqb-true, ne_eqb}
 use Rattle.std.proofs.lemmas.Bool.Decides.{nat_tests}
 use Rattle.std.proofs.lemmas.List.{length-take-le}
 use Rattle.std.proofs.lemmas.Nat.{div-add-mod', div-mul-add, le-div, mod-mul-add, mod_below}
 use Rattle.std.proofs.Math.Nat.{add-div_left, div-eq_of_lt, div-mul-le_self, mul-div_cancel, zero-div, zero-mod}
-use Rattle.hex_core.specs.declared.digit.CheckCase.{CheckCase}
-use Rattle.hex_core.specs.Text.{Spells}
 use Rattle.hex_core.proofs.PositionLemmas.{least_is, least_none, least_told}
 use Rattle.hex_codec.specs.declared.group.Group.{Group}
-use Rattle.hex_codec.specs.declared.grouped.GroupFault.TheVariants.{InvalidByte}
-use Rattle.hex_codec.specs.Grouped.{piece_count, piece_len, separator}
+use Rattle.hex_codec.specs.Grouped.{piece_count, piece_len}
 use Rattle.hex_codec.specs.declared.unseparate.Front.{Front}
-use Rattle.hex_codec.specs.GroupedText.{GroupSpells, byte_count, digits_in, first_wrong, group_refusal, grouped_len, refusal_of_count, separators_in}
-use Rattle.hex_codec.specs.Unseparate.{UnseparatesFront, ValidDigits}
-use Rattle.hex_codec.proofs.GroupLemmas.{no_pieces}
+use Rattle.hex_codec.specs.GroupedText.{byte_count, digits_in, grouped_len, refusal_of_count}
+use Rattle.hex_codec.specs.Unseparate.{UnseparatesFront}
 use Rattle.hex_codec.proofs.PartLemmas.{parted, unparted}
-use Rattle.hex_codec.proofs.WrongLemmas.{Right, wrong-none}
 
 -- ---- lengths
 
@@ -46,8 +41,8 @@ module _ (every : ℕ) where
   count-cut whole last some fits = elim (cases_lt last every) [
     | inl h ↦ rw (div-mul-add whole every last h, mod-mul-add whole every last h) (omega arith)
     | inr h ↦
-      let e : whole * every + last ≡ (whole + 1) * every + 0 = grind (arith, h, fits) in
-      rw (e, div-mul-add (whole + 1) every 0 (omega arith), mod-mul-add (whole + 1) every 0 (omega arith)) (omega arith)
+        let e : whole * every + last ≡ (whole + 1) * every + 0 = grind (arith, h, fits) in
+        rw (e, div-mul-add (whole + 1) every 0 (omega arith), mod-mul-add (whole + 1) every 0 (omega arith)) (omega arith)
   ]
 
   -- the length of a text in parts
@@ -90,12 +85,12 @@ module _ (every : ℕ) where
   digits-fuel (suc fuel) s fits = elim (cases_lt (length s) (2 * every + 1)) [
     | inl short ↦ omega (arith, ap length (unparted every s (omega arith)).0, div-eq_of_lt short)
     | inr long ↦
-      let line = 2 * every + 1 in
-      let left = length-drop line s in
-      let cut = ap length (parted every s (omega arith)).digits ∙ length-append (take (2 * every) s) (digits_in every (drop line s)) in
-      let sum : length s ≡ line + length (drop line s) = omega (arith, left) in
-      let count = ap (λ n. n / line) sum ∙ add-div_left (length (drop line s)) {k = line} (omega arith) in
-      omega (arith, cut, length-take-le (2 * every) s (omega arith), digits-fuel fuel (drop line s) (omega (arith, left)), left, count)
+        let line = 2 * every + 1 in
+        let left = length-drop line s in
+        let cut = ap length (parted every s (omega arith)).digits ∙ length-append (take (2 * every) s) (digits_in every (drop line s)) in
+        let sum : length s ≡ line + length (drop line s) = omega (arith, left) in
+        let count = ap (λ n. n / line) sum ∙ add-div_left (length (drop line s)) {k = line} (omega arith) in
+        omega (arith, cut, length-take-le (2 * every) s (omega arith), digits-fuel fuel (drop line s) (omega (arith, left)), left, count)
   ]
 
   digits-of : (s : List ℕ) → length (digits_in every s) + length s / (2 * every + 1) ≡ length s
@@ -105,10 +100,10 @@ module _ (every : ℕ) where
   pub length-digits : (n : ℕ) (s : List ℕ) → 0 < every → length s ≡ grouped_len every n → length (digits_in every s) ≡ 2 * n
   length-digits n s pos long = elim (cases_lt 0 n) [
     | inl some ↦
-      let c = cut every n pos some in
-      let size = long ∙ len-cut n c in
-      let count = ap (λ k. k / (2 * every + 1)) size ∙ div-mul-add c.whole (2 * every + 1) (2 * c.last) (omega (arith, c.fits)) in
-      omega (arith, digits-of s, size, count, lines c.whole, c.sum)
+        let c = cut every n pos some in
+        let size = long ∙ len-cut n c in
+        let count = ap (λ k. k / (2 * every + 1)) size ∙ div-mul-add c.whole (2 * every + 1) (2 * c.last) (omega (arith, c.fits)) in
+        omega (arith, digits-of s, size, count, lines c.whole, c.sum)
     | inr none ↦ omega (arith, digits-of s, long, len-closed n pos, div-eq_of_lt {n = n - 1} {m = every} (omega arith))
   ]
 

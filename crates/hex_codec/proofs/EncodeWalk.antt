@@ -1,5 +1,5 @@
 -- The walk of `hex_encode` and of `hex_encode_upper`: both hand on what encoding under the plain plan lends.
-use Rattle.hex_core.proofs.WalkKit.{◌≡◌, refl, Bool, true, false, List, [], ◌∷◌, length, Ura, named, erased, id⊢, ftrue, flft, Logic, ‵, ◌⊛◌, raw, some, later, ◌$◌, ◌∵◌, !, qed, move, keep, drop, split, join, fsplit3, fjoin, use1, use2, await, pick, suffices, frame, done, whole, sub, agg, stop, fld, hop, from, addr, true_lit, false_lit, and_then, no_more, returns, enter, alloc_all, pass_all, free_all, look_at, look_in_at, get, get_in, sets, lands_as, fact, tables, u8, bool, bool_vals, bool_Makes, yes, no, Is, shows, owns, plain as plain_slot, mut_slice_of, shr_slice_of, ShrSlice, MutSlice, Room, shr_slice_vals, shr_slice_Tells, mut_slice_vals, mut_slice_Tells, nothing, owned, peeks, heard, calls_at, Lasts, lasts, triple_of, framed, says, Stays, stay_dropped, ends_at, Goes-dropped, Goes-spent_slice, None, Some, MatchResult, proved}
+use Rattle.hex_core.proofs.WalkKit.{refl, Bool, true, false, List, [], ◌∷◌, length, Ura, named, erased, id⊢, ftrue, flft, Logic, ‵, ◌⊛◌, raw, some, later, ◌$◌, ◌∵◌, !, qed, move, keep, drop, split, join, fsplit3, fjoin, use1, use2, await, pick, suffices, frame, done, whole, sub, agg, stop, fld, hop, from, addr, true_lit, false_lit, and_then, no_more, returns, enter, alloc_all, pass_all, free_all, look_at, look_in_at, get, get_in, sets, lands_as, fact, tables, u8, bool, bool_vals, bool_Makes, yes, no, Is, shows, owns, plain as plain_slot, mut_slice_of, shr_slice_of, ShrSlice, MutSlice, Room, shr_slice_vals, shr_slice_Tells, mut_slice_vals, mut_slice_Tells, nothing, owned, peeks, heard, calls_at, Lasts, lasts, triple_of, framed, says, Stays, stay_dropped, ends_at, Goes-dropped, Goes-spent_slice, proved}
 use base.Logic.{emp, sep}
 use contract.Running.{Running}
 use denote.Memory.{lone}

@@ -1,5 +1,5 @@
 -- A text that was written in groups is read back, and one that is read spells a list.
-use Rattle.std.proofs.Common.{◌≡◌, ◌⊎◌, inl, inr, Bool, ℕ, zero, suc, false, ◌+◌, ◌*◌, ◌%◌, ◌<◌, ◌≤◌, nat_lt, refl, sym, ap, ◌∙◌, arith, Option, Some, None, List, [], ◌∷◌, ◌++◌, length, take, drop, slice_index, All, option_map, append-nil, length-append, length-drop, take-append-drop}
+use Rattle.std.proofs.Common.{◌≡◌, inl, inr, Bool, ℕ, zero, suc, ◌+◌, ◌*◌, ◌%◌, ◌<◌, ◌≤◌, refl, sym, ap, ◌∙◌, arith, Option, Some, None, List, [], ◌∷◌, ◌++◌, length, take, drop, slice_index, All, option_map, append-nil, length-append, length-drop, take-append-drop}
 use Rattle.std.proofs.Math.Seq.{drop-append_seam, take-append_seam}
 use Rattle.std.proofs.lemmas.Bool.{cases_lt}
 use Rattle.std.proofs.lemmas.Bool.Decides.{nat_tests}
@@ -73,7 +73,7 @@ module _ (group : Group) (upper : Bool) where
   back zero (b ∷ bytes) fits = absurd (omega arith)
   back (suc fuel) (b ∷ bytes) fits = elim (cases_lt (piece_len group) (length (b ∷ bytes))) [
     | inl long ↦
-      back-more (b ∷ bytes) long (back fuel (drop (piece_len group) (b ∷ bytes)) (omega (arith, length-drop (piece_len group) (b ∷ bytes), group.is_group.0)))
+        back-more (b ∷ bytes) long (back fuel (drop (piece_len group) (b ∷ bytes)) (omega (arith, length-drop (piece_len group) (b ∷ bytes), group.is_group.0)))
     | inr short ↦ back-last (b ∷ bytes) (omega arith) short
   ]
 

@@ -1,25 +1,20 @@
 -- Digits that come in chunks.
-use Rattle.std.proofs.Common.{◌≡◌, ◌≢◌, ◌∙◌, ℕ, suc, ◌+◌, ◌-◌, ◌*◌, ◌/◌, ◌%◌, ◌^◌, ◌<◌, ◌≤◌, List, [], ◌∷◌, ◌++◌, length, length-append, length-drop, take, drop, slice_index, Option, Some, None, refl, sym, ap, subst, append-nil, append_assoc, take-append-drop, arith}
-use Rattle.std.specs.Prelude.{option_map, slice_range, IsSome}
+use Rattle.std.proofs.Common.{◌≡◌, ℕ, ◌+◌, ◌*◌, ◌/◌, ◌%◌, ◌^◌, ◌<◌, ◌≤◌, List, [], ◌∷◌, ◌++◌, length, length-append, take, drop, slice_index, Option, Some, None, refl, sym, ap, append_assoc, arith}
+use Rattle.std.specs.Prelude.{option_map, IsSome}
 use Rattle.std.specs.Option.{ForSome, option_to_list}
-use Rattle.std.proofs.Math.ListN.{set}
 use Rattle.std.proofs.Math.Seq.{drop-append_seam, take-append_seam}
 use Rattle.std.proofs.lemmas.Bool.Decides.{nat_tests}
 use Rattle.std.proofs.lemmas.Grind.{common_steps}
-use Rattle.std.proofs.lemmas.List.{drop-drop, length-take-le, take_all}
-use borrow.Rule.Slice.PartMut.{put_mid}
 use Rattle.hex_core.specs.declared.digit.CheckCase.{CheckCase}
-use Rattle.hex_core.specs.declared.error.Error.{Error}
 use Rattle.hex_core.specs.declared.error.Error.TheVariants.{InvalidChar, Overflow}
 use Rattle.hex_core.specs.Digit.{value}
-use Rattle.hex_core.specs.Refusal.{decode_refusal, first_bad_char}
+use Rattle.hex_core.specs.Refusal.{first_bad_char}
 use Rattle.hex_core.specs.Search.{first_invalid}
-use Rattle.hex_core.specs.Text.{Spells, SpellsAt, with_front}
-use Rattle.hex_core.proofs.BlockLemmas.{valid_range}
+use Rattle.hex_core.specs.Text.{Spells}
 use Rattle.hex_core.proofs.ByteLemmas.{value_small}
 use Rattle.hex_core.proofs.JoinLemmas.{bad-behind, spells-joined, valid-both, valid-parts}
 use Rattle.hex_core.proofs.LawProofs.{valid-spelled}
-use Rattle.hex_core.proofs.SearchLemmas.{first_invalid_none, none_valid, part_is_valid}
+use Rattle.hex_core.proofs.SearchLemmas.{none_valid}
 use Rattle.hex_codec.specs.Stream.{SpellsBut, bad_char_behind, feed_refusal, pairs_more}
 
 -- ---- single digits

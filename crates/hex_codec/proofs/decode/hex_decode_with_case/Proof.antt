@@ -1,5 +1,5 @@
 -- `hex_decode_with_case` decodes under the plain plan.
-use Rattle.hex_core.proofs.WalkKit.{◌≡◌, refl, [], ◌∷◌, length, named, id⊢, ftrue, flft, ‵, ◌⊛◌, raw, some, later, ◌$◌, ◌∵◌, !, qed, move, keep, drop, split, join, fjoin, use1, use2, await, pick, suffices, frame, done, whole, sub, agg, stop, fld, hop, from, addr, and_then, no_more, returns, enter, alloc_all, pass_all, free_all, look_at, look_in_at, get, get_in, sets, lands_as, fact, tables, u8, yes, no, Is, shows, owns, plain, mut_slice_of, shr_slice_of, ShrSlice, MutSlice, Room, shr_slice_vals, shr_slice_Tells, mut_slice_vals, mut_slice_Tells, nothing, owned, peeks, heard, calls_at, Lasts, lasts, triple_of, framed, says, Stays, stay_dropped, ends_at, Goes-dropped, Goes-spent_slice, None, Some, MatchResult, proved}
+use Rattle.hex_core.proofs.WalkKit.{refl, [], ◌∷◌, length, named, id⊢, ftrue, flft, ‵, ◌⊛◌, raw, some, later, ◌$◌, ◌∵◌, !, qed, move, keep, drop, split, join, fjoin, use1, use2, await, pick, suffices, frame, done, whole, sub, agg, stop, fld, hop, from, addr, and_then, no_more, returns, enter, alloc_all, pass_all, free_all, look_at, look_in_at, get, get_in, sets, lands_as, fact, tables, u8, yes, no, Is, shows, owns, plain, mut_slice_of, shr_slice_of, ShrSlice, MutSlice, Room, shr_slice_vals, shr_slice_Tells, mut_slice_vals, mut_slice_Tells, nothing, owned, peeks, heard, calls_at, Lasts, lasts, triple_of, framed, says, Stays, stay_dropped, ends_at, Goes-dropped, Goes-spent_slice, proved}
 use Rattle.hex_core.proofs.Lent.{Plan, plan_lawful, plan_makes, Policy, policy_vals, policy_tells, policy_lawful, Lent, Answer, lent_lawful}
 use Rattle.hex_core.specs.Calls.{DecodesFront}
 use Rattle.hex_core.specs.Loan.{LendsAnswer}

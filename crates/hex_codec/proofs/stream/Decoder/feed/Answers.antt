@@ -1,4 +1,4 @@
-use Rattle.std.proofs.Common.{arith, ◌≡◌, ◌∙◌, ◌++◌, Some, length, length-append, sym}
+use Rattle.std.proofs.Common.{arith, ◌∙◌, ◌++◌, length, length-append}
 use Rattle.std.proofs.lemmas.Result.{err_from_is_err_and}
 use Rattle.std.specs.Option.{option_to_list}
 use Rattle.hex_core.proofs.JoinLemmas.{valid-parts}
@@ -9,7 +9,7 @@ pub returns-in_err-waiting-clause-feeds : goal.returns-in_err-waiting-clause-fee
 returns-in_err-waiting-clause-feeds c = λ fed written has.
     let d = c.args.self.now in let src = c.args.src.now in
     let refused = refused-byte d.case fed src (length c.args.dst.now) (omega (arith, has.0, c.in-Some.ensures))
-        (omega (arith, count-but d.case fed written d.waiting has.1, c.whole_pairs-required.ensures, c.if-dst-required.false)) in
+    (omega (arith, count-but d.case fed written d.waiting has.1, c.whole_pairs-required.ensures, c.if-dst-required.false)) in
     let bad = bad-behind-all d.case fed src d.position has.1.valid has.0 in
     let ended = err_from_is_err_and c.from_residual.result c.from_residual.ensures.1 in
     rw ended.1 (cc (refused, bad, c.in_err-waiting.ensures.0, ended.2))
