@@ -19,13 +19,6 @@ use Rattle.hex_codec.specs.Stream.{SpellsBut, bad_char_behind, feed_refusal, pai
 
 -- ---- single digits
 
--- two digits spell the byte of their values
-pub pair-spelled : (c : CheckCase) (high low h l : ℕ) → value c high ≡ Some h → value c low ≡ Some l → Spells c (high ∷ low ∷ []) ((16 * h + l) ∷ [])
-pair-spelled c high low h l first second =
-    let quotient : (16 * h + l) / 16 ≡ h = omega (arith, value_small c low l second) in
-    let remainder : (16 * h + l) % 16 ≡ l = omega (arith, value_small c low l second) in
-    record { twice = refl; each = λ i lt. (let at : i ≡ 0 = omega arith in rw at (record { high = rw quotient first; low = rw remainder second })) }
-
 -- a digit that waits has a value where it is valid, and the other way round
 waiting-valid : (c : CheckCase) (o : Option ℕ) → ForSome o (λ d. IsSome (value c d)) → first_invalid c (option_to_list o) ≡ None
 waiting-valid c None read = refl

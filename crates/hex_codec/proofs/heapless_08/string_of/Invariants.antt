@@ -7,7 +7,6 @@ use Rattle.hex_codec.proofs.heapless_08.string_of.Given as goal
 
 abbrev pub invariant-chunks : goal.invariant-chunks
 invariant-chunks g l =
-    (goal.iterator-chunks g).can_next l.chunk-iterator
-    × (chunks_size l.chunk-iterator ≡ 256)
+    (chunks_size l.chunk-iterator ≡ 256)
     × (l.string.bytes ++ text l.fn.upper (chunks_rest l.chunk-iterator) ≡ text l.fn.upper l.fn.src)
     × (array_string_len l.string + 2 * length (chunks_rest l.chunk-iterator) ≤ g.row.N)

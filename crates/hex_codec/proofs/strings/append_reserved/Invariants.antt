@@ -6,8 +6,7 @@ use Rattle.hex_codec.proofs.strings.append_reserved.Given as goal
 
 abbrev pub invariant-chunks : goal.invariant-chunks
 invariant-chunks g l =
-    (goal.iterator-chunks g).can_next l.chunk-iterator
-    × (chunks_size l.chunk-iterator ≡ 256)
+    (chunks_size l.chunk-iterator ≡ 256)
     × (string_bytes l.dst ++ text l.fn.upper (chunks_rest l.chunk-iterator) ≡ string_bytes l.initial.dst ++ text l.fn.upper l.fn.src)
     × (string_capacity l.initial.dst ≤ string_capacity l.dst)
     × (string_len l.dst + 2 * length (chunks_rest l.chunk-iterator) ≡ string_len l.initial.dst + 2 * length l.fn.src)
