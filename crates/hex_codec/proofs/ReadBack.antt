@@ -38,7 +38,8 @@ module _ (group : Group) (upper : Bool) where
   -- one piece has no separator
   back-last : (bytes : List ℕ) → 0 < length bytes → length bytes ≤ piece_len group → Back bytes
   back-last bytes some fits =
-      let every = piece_len group in let all = text upper bytes in
+      let every = piece_len group in
+      let all = text upper bytes in
       let is : grouped group upper bytes ≡ all =
       grouped-next bytes some ∙ rw (take_all every bytes fits, drop_all every bytes fits, separated-none group upper) (append-nil all) in
       let whole = unparted every all (omega (arith, length-text upper bytes)) in
@@ -47,7 +48,8 @@ module _ (group : Group) (upper : Bool) where
   -- a piece, its separator, and what is behind them
   back-more : (bytes : List ℕ) → piece_len group < length bytes → Back (drop (piece_len group) bytes) → Back bytes
   back-more bytes long rest =
-      let every = piece_len group in let sep = separator group in
+      let every = piece_len group in
+      let sep = separator group in
       let first = text upper (take every bytes) in
       let behind = grouped group upper (drop every bytes) in
       let size : length first ≡ 2 * every = omega (arith, length-text upper (take every bytes), length-take-le every bytes (omega arith)) in

@@ -10,7 +10,9 @@ use Rattle.hex_codec.specs.Failure.{GrowthFailure}
 -- text alone, and it gives no room back
 abbrev pub AppendsDigits : {A T : Type 0} → Bool → List ℕ → Result T Error → String A → String A → Type 0
 AppendsDigits upper bytes result old new =
-    MatchResult result (λ _. string_bytes new ≡ string_bytes old ++ text upper bytes) (λ _. string_bytes new ≡ string_bytes old)
+    MatchResult result
+    (λ _. string_bytes new ≡ string_bytes old ++ text upper bytes)
+    (λ _. string_bytes new ≡ string_bytes old)
     × OnOk result (string_len new ≡ string_len old + 2 * length bytes)
     × (string_capacity old ≤ string_capacity new)
 

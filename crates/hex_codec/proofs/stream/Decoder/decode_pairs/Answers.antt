@@ -11,5 +11,8 @@ returns c =
     let one : length (option_to_list c.args.self.now.waiting) ≡ 1 = rw c.in-Some.is refl in
     let count = count-but _ _ rest.0 c.in_ok-waiting.waiting rest.1 in
     let room : 0 < length c.args.dst.now = omega (arith, one, some, c.requires.room) in
-    let fits : length rest.0 ≤ length c.args.dst.now - 1 = omega (arith, one, some, c.requires.room, count.0, length-drop 1 c.args.src.now) in
-    (c.in-Some-pair_byte.byte ∷ rest.0, rw c.in-Some.is (pair-first _ _ _ _ _ _ some c.in-Some-pair_byte.ensures rest.1), grind (arith, common_steps, room, fits, rest.2))
+    let fits : length rest.0 ≤ length c.args.dst.now - 1 = omega (arith, one, some, c.requires.room, count.0, length-drop 1 c.args.src.now) in (
+      c.in-Some-pair_byte.byte ∷ rest.0,
+      rw c.in-Some.is (pair-first _ _ _ _ _ _ some c.in-Some-pair_byte.ensures rest.1),
+      grind (arith, common_steps, room, fits, rest.2),
+    )
