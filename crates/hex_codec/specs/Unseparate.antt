@@ -1,5 +1,5 @@
 -- Fronts of grouped texts that are whole parts: copied, tested and written.
-use Rattle.std.specs.Prelude.{◌≡◌, ℕ, ◌*◌, ◌+◌, ◌≤◌, List, ◌++◌, length, take, drop, All, None, option_map}
+use Rattle.std.specs.Prelude.{◌≡◌, ℕ, ◌*◌, ◌+◌, ◌-◌, ◌≤◌, List, ◌++◌, length, take, drop, All, None, option_map}
 use Rattle.hex_core.specs.declared.digit.CheckCase.{CheckCase}
 use Rattle.hex_core.specs.Search.{first_invalid}
 use Rattle.hex_core.specs.Text.{Spells}
@@ -39,9 +39,9 @@ pub record ClearsFront (c : CheckCase) (group : Group) (text : List ℕ) (len : 
 abbrev pub ValidDigits : CheckCase → Group → List ℕ → ℕ → Type 0
 ValidDigits c group text n = (length (digits_in (piece_len group) text) ≡ 2 * n) × (first_invalid c (digits_in (piece_len group) text) ≡ None)
 
--- the first bytes were written, which are those of the digits before a place
+-- the first bytes were written: before what the digits behind a place spell, they are what all spell
 pub record WritesFront (c : CheckCase) (group : Group) (text new : List ℕ) (at done : ℕ) : Type 0 where
-  pub before : List ℕ
-  pub digits : digits_in (piece_len group) text ≡ before ++ digits_in (piece_len group) (drop at text)
-  pub count : length before ≡ 2 * done
-  pub spelled : Spells c before (take done new)
+  pub inside : done ≤ length new
+  pub rest : ValidDigits c group (drop at text) (length new - done)
+  pub spelled : (bytes : List ℕ) → Spells c (digits_in (piece_len group) (drop at text)) bytes
+      → Spells c (digits_in (piece_len group) text) (take done new ++ bytes)

@@ -24,4 +24,4 @@ pub returns : goal.returns
 returns c =
     let none = sym c.first_wrong.ensures ∙ c.in_default.is in
     let right = wrong-none c.args.case c.args.group c.args.src.now none in
-    (sym none, reads c.args.case c.args.group c.args.src.now c.write_bytes.new.dst (length c.args.dst.now) c.requires right.separated c.write_bytes.ensures)
+    (sym none, reads (length c.args.dst.now) c.requires right.separated c.write_bytes.ensures)
