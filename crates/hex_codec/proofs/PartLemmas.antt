@@ -2,8 +2,8 @@
 use Rattle.std.proofs.Common.{◌≡◌, ℕ, ◌+◌, ◌*◌, ◌<◌, ◌≤◌, List, [], ◌∷◌, ◌++◌, length, take, drop, refl, sym, ap, ◌∙◌, arith, All, append-nil, length-append, length-drop, length-take, take-append-drop, get_or, ◌-◌}
 use Rattle.std.proofs.Math.Seq.{take-add}
 use Rattle.std.proofs.lemmas.Grind.{flat_map-append}
-use Rattle.std.proofs.lemmas.List.{drop_all, get_or-drop, get_or-take, length-take-le, take_all, take-take}
-use Rattle.std.proofs.lemmas.List.Elements.{All-append, All-from_get_or}
+use Rattle.std.proofs.lemmas.List.{drop-take, drop_all, drop_more, get_or-take, length-take-le, take_all, take-take}
+use Rattle.std.proofs.lemmas.List.Elements.{All-append, All-cons, All-from_get_or, All-nil}
 use Rattle.std.specs.List.{flat_map}
 use Rattle.hex_codec.specs.declared.group.Group.{Group}
 use Rattle.hex_codec.specs.declared.unseparate.Front.{Front}
@@ -131,16 +131,15 @@ part-digits every s long =
     ap (flat_map (take (2 * every))) (one_part every part (omega arith) (omega arith)) ∙ append-nil (take (2 * every) part)
     ∙ take-take (2 * every) (2 * every + 1) s (omega arith)
 
+pub one_separator : (n : ℕ) (s : List ℕ) → n < length s → drop n (take (n + 1) s) ≡ get_or s n 0 ∷ []
+one_separator n s long = rw (drop-take n 1 s, drop_more s n 0 long) refl
+
 pub part-separator : (every sep : ℕ) (s : List ℕ) → 2 * every < length s → get_or s (2 * every) 0 ≡ sep
     → All (λ b. b ≡ sep) (separators_in every (take (2 * every + 1) s))
 part-separator every sep s long here =
-    let part = take (2 * every + 1) s in
-    let size : length part ≡ 2 * every + 1 = length-take-le (2 * every + 1) s (omega arith) in
-    let one : separators_in every part ≡ drop (2 * every) part = ap (flat_map (drop (2 * every))) (one_part every part (omega arith) (omega arith))
-    ∙ append-nil (drop (2 * every) part) in
-    rw one (All-from_get_or (λ b. b ≡ sep) (drop (2 * every) part) 0 (λ i lt.
-    let first : 2 * every + i ≡ 2 * every = omega (arith, lt, length-drop (2 * every) part, size) in
-    get_or-drop (2 * every) part i 0 ∙ rw first (get_or-take (2 * every + 1) s (2 * every) 0 (omega arith) ∙ here)))
+    let size = length-take-le (2 * every + 1) s (omega arith) in
+    rw (one_part every (take (2 * every + 1) s) (omega (arith, size)) (omega (arith, size)), one_separator (2 * every) s long)
+    (All-cons (λ b. b ≡ sep) (get_or s (2 * every) 0) [] here (All-nil _))
 
 -- what holds of all bytes holds of the first ones
 pub all-taken : (n : ℕ) (s : List ℕ) (sep : ℕ) → All (λ b. b ≡ sep) s → All (λ b. b ≡ sep) (take n s)
