@@ -5,7 +5,7 @@ use Rattle.std.proofs.lemmas.Bool.{cases_lt}
 use Rattle.std.proofs.lemmas.List.{drop-drop}
 use Rattle.std.proofs.lemmas.Grind.{common_steps, flat_map-append}
 use Rattle.std.specs.List.{flat_map, join_by, range_with_len}
-use Rattle.hex_core.specs.Text.{digits, text}
+use Rattle.hex_core.specs.Text.{text}
 use Rattle.hex_core.proofs.TextLemmas.{length-text}
 use Rattle.hex_codec.specs.declared.group.Group.{Group}
 use Rattle.hex_codec.specs.Grouped.{grouped, piece_count, piece_len, pieces, separated, separator}
@@ -89,11 +89,6 @@ separated-append group upper count front back whole =
 
 -- ---- lengths
 
--- a separator, the digits of the first piece, and what is behind it
-tally : (total digits behind front back n here left : ℕ) → total ≡ suc (digits + behind) → digits ≡ 2 * front → behind ≡ 2 * back + left
-    → front + back ≡ n → here ≡ suc left → total ≡ 2 * n + here
-tally total digits behind front back n here left all twice rest parts count = omega arith
-
 -- a separator for each piece, and two digits for each byte
 length-separated : (group : Group) (upper : Bool) (fuel : ℕ) (bytes : List ℕ) → length bytes ≤ fuel
     → length (separated group upper bytes) ≡ 2 * length bytes + piece_count (piece_len group) (length bytes)
@@ -102,16 +97,12 @@ length-separated group upper zero (b ∷ bytes) fits = absurd (omega arith)
 length-separated group upper (suc fuel) (b ∷ bytes) fits =
     let every = piece_len group in
     let all = b ∷ bytes in
-    let some : 0 < every = group.is_group.0 in
-    let front = take every all in
     let back = drop every all in
     let behind : length back ≡ length all - every = length-drop every all in
-    let rest = length-separated group upper fuel back (omega (arith, behind, some)) in
-    let cut : length front + length back ≡ length all = omega (arith, length-take every all, behind) in
-    let parts = ap length (separated-next group upper all (omega arith)) ∙ ap suc (length-append (text upper front) (separated group upper back)) in
-    tally (length (separated group upper all)) (length (text upper front)) (length (separated group upper back)) (length front) (length back)
-    (length all) (piece_count every (length all)) (piece_count every (length back))
-    parts (length-text upper front) rest cut (rw behind (count-next every (length all) some (omega arith)))
+    let rest = length-separated group upper fuel back (omega (arith, behind, group.is_group.0)) in
+    let count = count-next every (length all) group.is_group.0 (omega arith) in
+    rw (separated-next group upper all (omega arith), length-append (text upper (take every all)) (separated group upper back), length-text upper (take every all), rest, count)
+    (omega (arith, length-take every all, behind, ap (piece_count every) behind))
 
 -- and no separator before the first piece
 pub length-grouped : (group : Group) (upper : Bool) (bytes : List ℕ)
@@ -119,11 +110,5 @@ pub length-grouped : (group : Group) (upper : Bool) (bytes : List ℕ)
 length-grouped group upper [] = rw (grouped-separated group upper [], separated-none group upper, zero-div (piece_len group), zero-mod (piece_len group)) refl
 length-grouped group upper (b ∷ bytes) =
     let all = b ∷ bytes in
-    let count = length-separated group upper (length all) all (omega arith) in
     let one = count-next (piece_len group) (length all) group.is_group.0 (omega arith) in
-    ap length (grouped-separated group upper all) ∙ length-drop 1 (separated group upper all)
-    ∙ ap (λ n. n - 1) count ∙ minus (2 * length all) (piece_count (piece_len group) (length all))
-    (piece_count (piece_len group) (length all - piece_len group)) one
-  where
-    minus : (n count left : ℕ) → count ≡ suc left → n + count - 1 ≡ n + (count - 1)
-    minus n count left one = omega arith
+    rw (grouped-separated group upper all, length-drop 1 (separated group upper all), length-separated group upper (length all) all (omega arith)) (omega (arith, one))
