@@ -18,7 +18,7 @@ use Rattle.hex_codec.specs.Grouped.{piece_len, separator}
 use Rattle.hex_codec.specs.GroupedText.{GroupSpells, digits_in, grouped_len, separators_in}
 use Rattle.hex_codec.specs.Unseparate.{UnseparatesAll, UnseparatesFront, WritesFront}
 use Rattle.hex_codec.proofs.CountLemmas.{even-digits, length-digits}
-use Rattle.hex_codec.proofs.PartLemmas.{behind, parted, unparted}
+use Rattle.hex_codec.proofs.PartLemmas.{joined, parted, unparted}
 
 -- a text of the right length is read where its separators are the group's and its digits spell what is left
 pub reads : {c : CheckCase} {group : Group} {s new : List ℕ} (n : ℕ) → length s ≡ grouped_len (piece_len group) n
@@ -86,7 +86,8 @@ copied {c} {group} {s} {dst} {new} {at} {done} {front} so_far reached bare =
     let every = piece_len group in
     let rest = drop at s in
     let next : UnseparatesFront group rest new front = rw (take_rest s at) at bare in
-    let cut = (behind group rest new front next).digits in
+    let cut : digits_in every rest ≡ take front.digits new ++ digits_in every (drop front.len rest) = rw next.copied
+    (joined (take (2 * every)) every front.len rest next.inside next.whole) in
     let size = length-take-le front.digits new next.room in
     let lengths = ap length cut ∙ length-append (take front.digits new) (digits_in every (drop front.len rest)) in
     let whole = even-digits every next.whole.count (take front.len rest) (length-take-le front.len rest next.inside ∙ next.whole.lines) in

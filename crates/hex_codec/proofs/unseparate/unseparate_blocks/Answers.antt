@@ -1,12 +1,13 @@
 -- The digits of one more block are copied.
 use Rattle.std.proofs.Common.{rules, ◌≡◌, ◌+◌, ◌-◌, ◌≤◌, ◌++◌, length, take, drop, refl, ap, ◌∙◌, arith, length-drop, All}
 use Rattle.std.proofs.lemmas.List.{take-take}
+use Rattle.std.proofs.lemmas.List.Elements.{All-take}
 use Rattle.std.proofs.lemmas.Simd.{length-put_chunk}
 use Rattle.std.specs.Simd.Lanes.{put_chunk}
 use Rattle.hex_codec.specs.Grouped.{piece_len}
 use Rattle.hex_codec.specs.GroupedText.{digits_in, separators_in}
 use Rattle.hex_codec.proofs.ListLemmas.{take-front_chunk}
-use Rattle.hex_codec.proofs.PartLemmas.{all-taken, unseparates-more}
+use Rattle.hex_codec.proofs.PartLemmas.{unseparates-more}
 use Rattle.hex_codec.proofs.unseparate.unseparate_blocks.Goals as goal
 
 pub loop-len-preserved : goal.loop-len-preserved
@@ -28,8 +29,8 @@ loop-len-preserved g c =
           let right = c.differences-wrong.ensures zero in
           let all : All (λ b. b ≡ group.sep) c.separators.result = λ k d lt. right.1 k d lt ∙ c.sep.ensures in
           let held : All (λ b. b ≡ group.sep) (separators_in every (take 15 rest)) =
-          rw (c.requires.every, ← first) (rw c.separators.ensures.1 at (all-taken (15 - n) c.separators.result group.sep all)) in
-          unseparates-more group text digits (put_chunk to digits new) (record { len = len; digits = to }) 15 n (c.loop-len.invariant.copied right.0)
+          rw (c.requires.every, ← first) (rw c.separators.ensures.1 at (All-take (λ b. b ≡ group.sep) (15 - n) c.separators.result all)) in
+          unseparates-more 15 n (c.loop-len.invariant.copied right.0)
           (omega (arith, left, c.loop-len-test.true)) room
           (rw c.requires.every c.separators.ensures.0) held
           (take-front_chunk to n digits new (omega (arith, size, fits)) (omega (arith, size, c.requires.step))

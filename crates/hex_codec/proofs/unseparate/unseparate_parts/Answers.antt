@@ -1,11 +1,10 @@
 -- The digits of one more part are copied.
-use Rattle.std.proofs.Common.{rules, ◌≡◌, ◌+◌, ◌-◌, ◌*◌, ◌<◌, ◌++◌, length, take, drop, refl, ap, sym, ◌∙◌, arith, length-drop, get_or}
-use Rattle.std.proofs.lemmas.List.{get_or-drop, length-take-le, take_all}
+use Rattle.std.proofs.Common.{rules, ◌≡◌, ◌+◌, ◌-◌, ◌*◌, ◌<◌, length, take, drop, refl, ap, ◌∙◌, arith, length-drop, get_or}
+use Rattle.std.proofs.lemmas.List.{get_or-drop, length-take-le}
+use Rattle.std.proofs.lemmas.Slice.{take-put_mid}
 use borrow.Rule.Slice.PartMut.{put_mid}
-use Rattle.hex_codec.specs.declared.unseparate.Front.{Front}
 use Rattle.hex_codec.specs.Grouped.{piece_len}
 use Rattle.hex_codec.proofs.CountLemmas.{fewer}
-use Rattle.hex_codec.proofs.ListLemmas.{take-front_put}
 use Rattle.hex_codec.proofs.PartLemmas.{part-digits, part-separator, unseparates-more}
 use Rattle.hex_codec.proofs.unseparate.unseparate_parts.Goals as goal
 
@@ -17,21 +16,17 @@ slice_bounds-copy_from_slice-end g c =
 pub loop-len-preserved : goal.loop-len-preserved
 loop-len-preserved g c =
     let group = c.args.group in let text = c.args.text.now in let every = piece_len group in let n = 2 * every in
-    let len = c.loop-len.len in let to = c.loop-len.to in let digits = c.loop-len.digits in
-    let front : Front = record { len = len; digits = to } in
-    let new = c.copy_from_slice.new.self in
+    let len = c.loop-len.len in let to = c.loop-len.to in let digits = c.loop-len.digits in let new = c.copy_from_slice.new.self in
     let rest = drop len text in
-    let left : length rest ≡ length text - len = length-drop len text in
+    let left = length-drop len text in
     let long : n < length rest = omega (arith, left, c.loop-len-test.true, c.requires.piece) in
     let same : len + g.row.N - len ≡ n = omega (arith, c.requires.piece) in
     let piece : new ≡ take n rest = c.copy_from_slice.ensures.after ∙ rw same refl in
     let size : length new ≡ n = ap length piece ∙ length-take-le n rest (omega (arith, long)) in
-    let put = take-front_put to (to + n - to) n digits new (omega (arith, c.loop-len.invariant.room)) (omega (arith, size)) in
-    let found : get_or text (len + n) 0 ≡ group.sep = rw c.requires.piece (c.if-text-len.false ∙ c.sep.ensures) in
-    let here : get_or rest n 0 ≡ group.sep = get_or-drop len text n 0 ∙ found in
+    let put = take-put_mid to (to + n - to) digits new (to + n) (omega (arith, size)) c.loop-len.invariant.room in
+    let here : get_or rest n 0 ≡ group.sep = get_or-drop len text n 0 ∙ rw c.requires.piece (c.if-text-len.false ∙ c.sep.ensures) in
     let whole : length (put_mid to (to + n - to) digits new) ≡ length digits = search (rules, size) in
-    let few = fewer group text digits front c.loop-len.invariant in
-    rw (← c.requires.piece) (unseparates-more group text digits (put_mid to (to + n - to) digits new) front
-    (n + 1) n c.loop-len.invariant (omega (arith, left, long)) (omega (arith, whole, few, left, long, c.requires.room, c.loop-len.auto.digits))
-    (record { count = 1; lines = omega arith }) (part-separator every group.sep rest long here)
-    (put ∙ ap (λ l. take to digits ++ l) (take_all n new (omega (arith, size)) ∙ piece ∙ sym (part-digits every rest long))))
+    let few = fewer group text digits (record { len = len; digits = to }) c.loop-len.invariant in
+    rw (← c.requires.piece) (unseparates-more (n + 1) n c.loop-len.invariant (omega (arith, left, long))
+    (omega (arith, whole, few, left, long, c.requires.room, c.loop-len.auto.digits)) (record { count = 1; lines = omega arith })
+    (part-separator every group.sep rest long here) (put ∙ rw (piece, part-digits every rest long) refl))
