@@ -1,23 +1,23 @@
 -- What a grouped text is made of.
-use Rattle.std.proofs.Common.{◌≡◌, ◌⊎◌, inl, inr, ℕ, zero, suc, ◌+◌, ◌*◌, ◌/◌, ◌%◌, ◌<◌, ◌≤◌, Bool, refl, sym, ap, ◌∙◌, arith, List, [], ◌∷◌, ◌++◌, length, take, drop, get_or, All, Some, length-drop, length-take, take-append-drop}
-use Rattle.std.specs.Prelude.{IsSome}
+use Rattle.std.proofs.Common.{◌≡◌, ◌⊎◌, not, ◌==◌, if◌then◌else◌, true, false, Option, None, inl, inr, ℕ, zero, suc, ◌+◌, ◌*◌, ◌/◌, ◌%◌, ◌<◌, ◌≤◌, Bool, refl, sym, ap, ◌∙◌, arith, List, ◌∷◌, ◌++◌, length, take, drop, get_or, All, Some, length-drop, length-take, take-append-drop}
+use Rattle.std.specs.Prelude.{IsSome, is_none}
 use Rattle.std.proofs.lemmas.Bool.{cases_lt}
 use Rattle.std.proofs.lemmas.Nat.{div-add-mod'}
 use Rattle.std.proofs.Math.Seq.{drop-append_seam, take-append_seam}
 use Rattle.std.proofs.lemmas.List.{drop_more}
-use Rattle.std.proofs.lemmas.List.Elements.{All-append, All-cons, All-drop, All-from_get_or, All-nil, All-take}
+use Rattle.std.proofs.lemmas.List.Elements.{All-from_get_or}
 use Rattle.hex_core.specs.Digit.{strict, value}
 use Rattle.hex_core.specs.Laws.{AreBytes, EncodingInvertsStrictDecoding}
-use Rattle.hex_core.specs.Text.{text}
-use Rattle.hex_core.proofs.LawProofs.{decoding-inverts, valid-spelled}
-use Rattle.hex_core.proofs.SearchLemmas.{none_valid}
+use Rattle.hex_core.proofs.LawProofs.{decoding-inverts}
+use Rattle.hex_core.proofs.PositionLemmas.{none_told}
 use Rattle.hex_codec.specs.declared.group.Group.{Group}
-use Rattle.hex_codec.specs.Grouped.{grouped, piece_len, separated, separator}
-use Rattle.hex_codec.specs.GroupedText.{GroupSpells, digits_in, grouped_len, separators_in}
+use Rattle.hex_codec.specs.Grouped.{grouped, piece_len, separator}
+use Rattle.hex_codec.specs.GroupedText.{GroupSpells, digits_in, grouped_len, is_wrong, separators_in}
 use Rattle.hex_codec.proofs.CountLemmas.{count-is}
-use Rattle.hex_codec.proofs.GroupLemmas.{grouped-separated, length-grouped, separated-append, separated-next, separated-none}
-use Rattle.hex_codec.proofs.ReadBack.{back, separated-cons}
+use Rattle.hex_codec.proofs.GroupLemmas.{grouped-separated, length-grouped, separated-append}
+use Rattle.hex_codec.proofs.ReadBack.{back, read-back, separated-cons}
 use Rattle.hex_codec.proofs.PartLemmas.{one_separator, parted, unparted}
+use Rattle.hex_codec.proofs.WrongLemmas.{same-byte, spells-clear}
 
 pub one-count : (group : Group) (m n : ℕ) → grouped_len (piece_len group) m ≡ grouped_len (piece_len group) n → m ≡ n
 one-count group m n same =
@@ -28,28 +28,19 @@ one-count group m n same =
 abbrev pub IsDigitOrSeparator : Bool → Group → ℕ → Type 0
 IsDigitOrSeparator upper group b = IsSome (value (strict upper) b) ⊎ (b ≡ separator group)
 
-text-made : (upper : Bool) (group : Group) (bytes : List ℕ) → AreBytes bytes → All (IsDigitOrSeparator upper group) (text upper bytes)
-text-made upper group bytes are =
-    let none = valid-spelled (strict upper) (text upper bytes) bytes (decoding-inverts upper bytes are).0 in
-    All-from_get_or (IsDigitOrSeparator upper group) (text upper bytes) 0 (λ k lt. inl (none_valid (strict upper) (text upper bytes) none k (omega arith) lt))
-
-separated-made : (upper : Bool) (group : Group) (fuel : ℕ) (bytes : List ℕ) → length bytes ≤ fuel → AreBytes bytes → All (IsDigitOrSeparator upper group) (separated group upper bytes)
-separated-made upper group fuel [] fits are = rw (separated-none group upper) (All-nil (IsDigitOrSeparator upper group))
-separated-made upper group zero (b ∷ bytes) fits are = absurd (omega arith)
-separated-made upper group (suc fuel) (b ∷ bytes) fits are =
-    let P = IsDigitOrSeparator upper group in
-    let all = b ∷ bytes in
-    let every = piece_len group in
-    let fewer : length (drop every all) ≤ fuel = omega (arith, length-drop every all, group.is_group.0) in
-    let front = text-made upper group (take every all) (All-take (λ b. b < 256) every all are) in
-    let back = separated-made upper group fuel (drop every all) fewer (All-drop (λ b. b < 256) every all are) in
-    rw (separated-next group upper all (omega arith))
-    (All-cons P (separator group) (text upper (take every all) ++ separated group upper (drop every all)) (inr refl) (All-append P (text upper (take every all)) (separated group upper (drop every all)) front back))
+-- a byte that is not wrong
+not-wrong : (at : Bool) (group : Group) (upper : Bool) (b : ℕ) (v : Option ℕ) → value (strict upper) b ≡ v
+    → (if at then not (b == separator group) else is_none v) ≡ false → IsDigitOrSeparator upper group b
+not-wrong true group upper b v is e = inr (same-byte b (separator group) e)
+not-wrong false group upper b None is e = cc
+not-wrong false group upper b (Some n) is e = inl (rw is refl)
 
 pub made : (group : Group) (upper : Bool) (bytes : List ℕ) → AreBytes bytes → All (IsDigitOrSeparator upper group) (grouped group upper bytes)
 made group upper bytes are =
-    rw (grouped-separated group upper bytes)
-    (All-drop (IsDigitOrSeparator upper group) 1 (separated group upper bytes) (separated-made upper group (length bytes) bytes (omega arith) are))
+    let none = spells-clear (read-back (strict upper) group upper bytes (decoding-inverts upper bytes are).0) in
+    All-from_get_or (IsDigitOrSeparator upper group) (grouped group upper bytes) 0 (λ k lt.
+    not-wrong (k % (2 * piece_len group + 1) == 2 * piece_len group) group upper _ _ refl
+    (none_told (is_wrong (strict upper) group (grouped group upper bytes)) (length (grouped group upper bytes)) none k lt))
 
 pub joined-pieces : (group : Group) (upper : Bool) (front back : List ℕ) → length front % piece_len group ≡ 0 → 0 < length front → 0 < length back
     → grouped group upper (front ++ back) ≡ grouped group upper front ++ (separator group ∷ grouped group upper back)

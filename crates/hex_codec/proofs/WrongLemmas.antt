@@ -10,12 +10,13 @@ use Rattle.std.proofs.lemmas.List.Elements.{All-cons, All-nil}
 use Rattle.std.proofs.lemmas.List.Quantifiers.{position-Some}
 use Rattle.hex_core.specs.declared.digit.CheckCase.{CheckCase}
 use Rattle.hex_core.specs.Search.{first_invalid}
+use Rattle.hex_core.proofs.LawProofs.{valid-spelled}
 use Rattle.hex_core.proofs.PositionLemmas.{before_none, least_behind, least_is, least_none, least_told, none_joined, none_told, position_none}
 use Rattle.hex_core.proofs.SearchLemmas.{lacks}
 use Rattle.hex_codec.specs.declared.group.Group.{Group}
 use Rattle.hex_codec.specs.declared.unseparate.Front.{Front}
 use Rattle.hex_codec.specs.Grouped.{piece_len, separator}
-use Rattle.hex_codec.specs.GroupedText.{digits_in, first_wrong, is_wrong, separators_in}
+use Rattle.hex_codec.specs.GroupedText.{GroupSpells, digits_in, first_wrong, is_wrong, separators_in}
 use Rattle.hex_codec.specs.Unseparate.{ClearsFront, IsWhole, UnseparatesFront}
 use Rattle.hex_codec.proofs.PartLemmas.{one_separator, parted, unparted}
 
@@ -197,3 +198,7 @@ module _ (c : CheckCase) (group : Group) (s digits : List ℕ) (at every : ℕ) 
       let end : at + length digits + 1 ≡ at + (2 * piece_len group + 1) = omega (arith, full) in
       rw end (clears-more c group s at (2 * piece_len group + 1) before (omega (arith, long, length-drop at s))
       (part-clear c group (drop at s) long (rw is at valid) (get_or-drop at s (2 * piece_len group) 0 ∙ (rw full at here))))
+
+-- a text that spells a list has no wrong byte
+pub spells-clear : {c : CheckCase} {group : Group} {s bytes : List ℕ} → GroupSpells c group s bytes → first_wrong c group s ≡ None
+spells-clear {c} {group} {s} h = none-wrong c group s (record { valid = valid-spelled c _ _ h.spelled; separated = h.separated })
