@@ -1,5 +1,5 @@
 -- The pieces of a list, and the texts of them.
-use Rattle.std.proofs.Common.{◌≡◌, ◌⊎◌, inl, inr, ℕ, zero, suc, ◌+◌, ◌-◌, ◌*◌, ◌/◌, ◌%◌, ◌<◌, ◌≤◌, Bool, refl, sym, ap, ◌∙◌, arith, List, [], ◌∷◌, ◌++◌, length, take, drop, map, length-append, length-take, length-drop}
+use Rattle.std.proofs.Common.{◌≡◌, ◌⊎◌, inl, inr, ℕ, zero, suc, ◌+◌, ◌-◌, ◌*◌, ◌/◌, ◌%◌, ◌<◌, ◌≤◌, Bool, refl, ap, ◌∙◌, arith, List, [], ◌∷◌, ◌++◌, length, take, drop, map, length-append, length-take, length-drop}
 use Rattle.std.proofs.Math.Nat.{add-div_left, add-mod_left, zero-div, zero-mod, div-eq_of_lt, mod-eq_of_lt}
 use Rattle.std.proofs.lemmas.Bool.{cases_lt}
 use Rattle.std.proofs.lemmas.List.{drop-drop}
@@ -39,12 +39,9 @@ pieces-next every bytes pos some =
     let back = drop every bytes in
     let count : piece_count every (length bytes) ≡ suc (piece_count every (length back)) = rw (length-drop every bytes)
     (count-next every (length bytes) pos some) in
-    let here : ℕ → List ℕ = λ i. take every (drop (i * every) bytes) in
-    let behind : ℕ → List ℕ = λ i. take every (drop (i * every) back) in
     let first : 0 * every ≡ 0 = omega arith in
-    let same : (i : ℕ) → here (i + 1) ≡ behind i = λ i. let at : (i + 1) * every ≡ every + i * every = grind arith in rw at (ap (take every)
-    (sym (drop-drop (i * every) every bytes))) in
-    rw (count, first) (ap (λ l. take every bytes ∷ l) (map-next here behind same 0 (piece_count every (length back))))
+    rw (count, first) (ap (λ l. take every bytes ∷ l) (map-next (λ i. take every (drop (i * every) bytes)) (λ i. take every (drop (i * every) back))
+    (λ i. let at : (i + 1) * every ≡ every + i * every = grind arith in rw (at, drop-drop (i * every) every bytes) refl) 0 _))
 
 -- whole pieces, and those behind them
 pub pieces-append : (every count : ℕ) (front back : List ℕ) → 0 < every → length front ≡ count * every
@@ -56,9 +53,8 @@ pieces-append every (suc count) front back pos whole =
     let first : take every (front ++ back) ≡ take every front = grind (arith, common_steps, size, pos) in
     let behind : drop every (front ++ back) ≡ drop every front ++ back = grind (arith, common_steps, size, pos) in
     let rest = pieces-append every count (drop every front) back pos (omega (arith, length-drop every front, size)) in
-    pieces-next every (front ++ back) pos (omega (arith, length-append front back, size, pos))
-    ∙ rw (first, behind, rest) refl
-    ∙ ap (λ l. l ++ pieces every back) (sym (pieces-next every front pos (omega (arith, size, pos))))
+    let next = pieces-next every front pos (omega (arith, size, pos)) in
+    rw (pieces-next every (front ++ back) pos (omega (arith, length-append front back, size, pos)), first, behind, rest, next) refl
 
 -- ---- their texts
 

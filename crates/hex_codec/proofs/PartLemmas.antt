@@ -43,11 +43,8 @@ pub unparted : (every : ℕ) (s : List ℕ) → length s ≤ 2 * every → (digi
 unparted every [] fits = let none = no_pieces (2 * every + 1) in (rw none refl, rw none refl)
 unparted every (b ∷ s) fits =
     let all = b ∷ s in
-    let one = one_part every all (omega arith) (omega arith) in (
-      ap (flat_map (take (2 * every))) one ∙ append-nil (take (2 * every) all) ∙ take_all (2 * every) all fits,
-      ap (flat_map (drop (2 * every))) one
-          ∙ append-nil (drop (2 * every) all) ∙ drop_all (2 * every) all fits,
-    )
+    let one = one_part every all (omega arith) (omega arith) in
+    (rw (one, append-nil (take (2 * every) all)) (take_all (2 * every) all fits), rw (one, append-nil (drop (2 * every) all)) (drop_all (2 * every) all fits))
 
 -- the digits of the next parts are copied behind those before them
 pub unseparates-more : {group : Group} {text new new' : List ℕ} {front : Front} (step more : ℕ) → UnseparatesFront group text new front
