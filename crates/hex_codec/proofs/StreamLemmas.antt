@@ -1,5 +1,5 @@
 -- Digits that come in chunks.
-use Rattle.std.proofs.Common.{◌≡◌, ℕ, ◌+◌, ◌*◌, ◌/◌, ◌%◌, ◌^◌, ◌<◌, ◌≤◌, List, [], ◌∷◌, ◌++◌, length, length-append, take, drop, slice_index, Option, Some, None, refl, sym, ap, append_assoc, arith}
+use Rattle.std.proofs.Common.{◌≡◌, ℕ, ◌+◌, ◌*◌, ◌/◌, ◌^◌, ◌<◌, ◌≤◌, List, [], ◌∷◌, ◌++◌, length, length-append, take, drop, slice_index, Option, Some, None, refl, sym, ap, append_assoc, arith}
 use Rattle.std.specs.Prelude.{option_map, IsSome}
 use Rattle.std.specs.Option.{ForSome, option_to_list}
 use Rattle.std.proofs.Math.Seq.{drop-append_seam, take-append_seam}
@@ -11,7 +11,6 @@ use Rattle.hex_core.specs.Digit.{value}
 use Rattle.hex_core.specs.Refusal.{first_bad_char}
 use Rattle.hex_core.specs.Search.{first_invalid}
 use Rattle.hex_core.specs.Text.{Spells}
-use Rattle.hex_core.proofs.ByteLemmas.{value_small}
 use Rattle.hex_core.proofs.JoinLemmas.{bad-behind, spells-joined, valid-both, valid-parts}
 use Rattle.hex_core.proofs.LawProofs.{valid-spelled}
 use Rattle.hex_core.proofs.SearchLemmas.{none_valid}
