@@ -6,7 +6,7 @@ use Rattle.std.proofs.lemmas.List.{get_or-map, length-map, map-id}
 use Rattle.std.proofs.lemmas.List.Sums.{prefix_len_passes}
 use Rattle.std.proofs.lemmas.Nat.{le_or_l, le_or_r, or_lt}
 use Rattle.std.proofs.lemmas.Simd.{Each1-zip2, Each2-of, get_or-zip2, leading_from_mask_l, length-zip2, map-map, zip2_splat}
-use lib.Lanes.{zip2, sel_l, top, mask_l, Each1}
+use lib.Lanes.{zip2, sel_l, top, fold_l, Each1}
 use Rattle.hex_core.specs.Arithmetic.{AreZero, pair_byte, saturating_add, wrapping_sub}
 use Rattle.hex_core.specs.Hash.{average}
 
@@ -120,18 +120,26 @@ pair_bytes_fit (x ∷ xs) = (record { fits = omega arith }, pair_bytes_fit xs)
 
 -- ---- tests of all lanes
 
--- a mask of the lanes that are not 0 is 0 where all are
-no_bits : (v : List ℕ) → AreZero v → mask_l (map (λ x. not (eqb x 0)) v) ≡ 0
-no_bits [] none = refl
-no_bits (x ∷ v) none = rw (none 0 (omega arith), no_bits v (λ i h. none (suc i) (omega arith))) refl
+pub or_zero : (x y : ℕ) → (bit_or x y ≡ 0) ↔ ((x ≡ 0) × (y ≡ 0))
+or_zero x y = (λ e. (omega (arith, e, le_or_l x y), omega (arith, e, le_or_r x y)), λ p. rw (p.0, p.1) refl)
 
-pub no_bit_set : (v : List ℕ) → IsTrue (eqb (mask_l (map (λ x. not (eqb x 0)) v)) 0) ↔ AreZero v
-no_bit_set v = (
-  λ t i h.
-      let all = leading_from_mask_l (λ x. not (eqb x 0)) v (eqb-true _ _ t) in
-      eqb-true _ _ (not-false _ (not-true _ (prefix_len_passes (λ x. not (not (eqb x 0))) v i 0 (omega arith)))),
-  λ none. rw (no_bits v none) refl,
-)
+-- the bits of all lanes together are none exactly where each lane is 0
+folds_to_none : (v : List ℕ) → AreZero v → fold_l bit_or 0 v ≡ 0
+folds_to_none [] none = refl
+folds_to_none (x ∷ v) none = rw (none 0 (omega arith)) (folds_to_none v (λ i h. none (suc i) (omega arith)))
+
+also_none : (x : ℕ) (v : List ℕ) → x ≡ 0 → AreZero v → AreZero (x ∷ v)
+also_none x v first none zero h = first
+also_none x v first none (suc i) h = none i (omega arith)
+
+folds_from : (v : List ℕ) (a : ℕ) → fold_l bit_or a v ≡ 0 → (a ≡ 0) × AreZero v
+folds_from [] a e = (e, λ i h. omega arith)
+folds_from (x ∷ v) a e =
+    let rest = folds_from v (bit_or a x) e in let both = (or_zero a x).0 rest.0 in
+    (both.0, also_none x v both.1 rest.1)
+
+pub no_bit_set : (v : List ℕ) → IsTrue (eqb (fold_l bit_or 0 v) 0) ↔ AreZero v
+no_bit_set v = (λ t. (folds_from v 0 (eqb-true _ _ t)).1, λ none. rw (folds_to_none v none) refl)
 
 -- a computed vector passes where each byte has a property
 pub passes_where : (f : ℕ → ℕ) (Q P : ℕ → Type 0) → ((x : ℕ) → x < 256 → Q (f x) ↔ P x) → (v : List ℕ) {r : List ℕ} → Each1 (Fits w8) v → r ≡ map f v
@@ -154,9 +162,6 @@ each_of_two f P both v w same =
       ),
       λ all i h. subst P (sym (at i (omega arith))) ((both (get_or v i 0) (get_or w i 0)).1 (all.0 i (omega arith), all.1 i (omega arith))),
     )
-
-pub or_zero : (x y : ℕ) → (bit_or x y ≡ 0) ↔ ((x ≡ 0) × (y ≡ 0))
-or_zero x y = (λ e. (omega (arith, e, le_or_l x y), omega (arith, e, le_or_r x y)), λ p. rw (p.0, p.1) refl)
 
 pub max_low : (x y : ℕ) → (max x y < 10) ↔ ((x < 10) × (y < 10))
 max_low x y = (λ h. (omega arith, omega arith), λ p. let a = p.0 in let b = p.1 in omega arith)

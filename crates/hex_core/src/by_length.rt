@@ -8,7 +8,7 @@ ghost use Rattle.hex_core.specs.Search.{first_invalid};
 use crate::blocks::check::{check_ends, check_long, check_one, check_two};
 use crate::blocks::decode::{decode_four, decode_long, decode_one, decode_two};
 use crate::digit::CheckCase;
-use crate::lanes::{NibbleMap, Saturating};
+use crate::lanes::{Hashing, NibbleMap, Saturating};
 use crate::scalar;
 
 /// Returns whether every byte of `src` has a value under `case`.
@@ -28,21 +28,21 @@ pub fn check(src: &[u8], case: CheckCase) -> bool
 }
 
 /// Writes the bytes that `src` spells into the whole of `dst`, or returns false and writes nothing.
-/// `M` finds the nibbles of 64 digits. Up to 64 digits are decoded where it is called, so that a
-/// length that is known there chooses nothing as it runs.
+/// Up to 64 digits are decoded where it is called, so that a length that is known there chooses
+/// nothing as it runs. The nibbles of more are found by a hash where `hashed` is true.
 #[inline(always)]
-pub fn decode<M>(src: &[u8], dst: &mut [u8], case: CheckCase) -> bool
-where
-    M: NibbleMap<64>,
+pub fn decode(src: &[u8], dst: &mut [u8], case: CheckCase, hashed: bool) -> bool
     requires { length src.now ≡ 2 * length dst.old }
     ensures { DecodesWhole case src.now dst.old dst.new result }
 {
     match src.len() {
         0..16 => scalar::decode_short(src, dst, case),
         16 => decode_one::<Saturating, 16, 8>(src, dst, case),
-        17..=32 => decode_two::<Saturating, 16, 8>(src, dst, case),
+        17..=31 => decode_two::<Saturating, 16, 8>(src, dst, case),
+        32 => decode_one::<Saturating, 32, 16>(src, dst, case),
         33..=64 => decode_two::<Saturating, 32, 16>(src, dst, case),
-        _ => decode_more::<M>(src, dst, case),
+        _ if hashed => decode_more::<Hashing>(src, dst, case),
+        _ => decode_more::<Saturating>(src, dst, case),
     }
 }
 

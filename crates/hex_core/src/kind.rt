@@ -9,7 +9,6 @@ ghost use Rattle.hex_core.specs.Text.{text};
 use crate::blocks::decode::{OneVector, TwoHashed};
 use crate::blocks::encode;
 use crate::digit::CheckCase;
-use crate::lanes::{Hashing, Saturating};
 use crate::owned::decode_by_blocks;
 use crate::{by_length, scalar, sixteen};
 
@@ -24,6 +23,15 @@ pub enum Kind {
 }
 
 impl Kind {
+    // Whether the nibbles of more than 64 digits are found by a hash.
+    #[inline(always)]
+    fn is_hashed(self) -> bool {
+        match self {
+            Kind::Scalar | Kind::Sse41 | Kind::Avx2 | Kind::Neon => false,
+            Kind::Avx512 => true,
+        }
+    }
+
     /// Returns whether every byte of `src` has a value under `case`.
     #[inline(always)]
     pub fn check(self, src: &[u8], case: CheckCase) -> bool
@@ -59,10 +67,9 @@ impl Kind {
     {
         match self {
             Kind::Scalar => scalar::decode(src, dst, case),
-            Kind::Sse41 | Kind::Avx2 | Kind::Neon => {
-                by_length::decode::<Saturating>(src, dst, case)
+            Kind::Sse41 | Kind::Avx2 | Kind::Avx512 | Kind::Neon => {
+                by_length::decode(src, dst, case, self.is_hashed())
             }
-            Kind::Avx512 => by_length::decode::<Hashing>(src, dst, case),
         }
     }
 
@@ -75,10 +82,8 @@ impl Kind {
     {
         match self {
             Kind::Scalar | Kind::Sse41 => self.decode_at_once(src, dst, case),
-            Kind::Avx2 | Kind::Neon => {
-                decode_by_blocks::<OneVector, Saturating, 32>(src, dst, case)
-            }
-            Kind::Avx512 => decode_by_blocks::<TwoHashed, Hashing, 64>(src, dst, case),
+            Kind::Avx2 | Kind::Neon => decode_by_blocks::<OneVector, 32>(src, dst, case, false),
+            Kind::Avx512 => decode_by_blocks::<TwoHashed, 64>(src, dst, case, true),
         }
     }
 

@@ -8,40 +8,43 @@ ghost use Rattle.hex_core.specs.Shapes.{InBlocks};
 use crate::blocks::decode::{DecodeBlock, decode_blocks};
 use crate::by_length;
 use crate::digit::CheckCase;
-use crate::lanes::NibbleMap;
 
 /// Writes the bytes that `src` spells into the whole of `dst`, or returns false and has stored the
 /// whole blocks before the first invalid byte.
 ///
 /// Up to 256 digits are decoded at once, in registers: the blocks before a refusal are stored behind
-/// it alone. `M` finds the nibbles of 64 digits.
+/// it alone. The nibbles of more than 64 are found by a hash where `hashed` is true.
 #[inline(always)]
-pub fn decode_by_blocks<B, M, const SIZE: usize>(
+pub fn decode_by_blocks<B, const SIZE: usize>(
     src: &[u8],
     dst: &mut [u8],
     case: CheckCase,
+    hashed: bool,
 ) -> bool
 where
     B: DecodeBlock<SIZE>,
-    M: NibbleMap<64>,
     requires { InBlocks SIZE src.now dst.old }
     ensures { DecodesOwned (2 * SIZE) case src.now dst.old dst.new result }
 {
     if src.len() > 256 {
-        return decode_in_turn::<B, M, SIZE>(src, dst, case);
+        return decode_in_turn::<B, SIZE>(src, dst, case, hashed);
     }
-    if by_length::decode::<M>(src, dst, case) {
+    if by_length::decode(src, dst, case, hashed) {
         return true;
     }
-    decode_in_turn::<B, M, SIZE>(src, dst, case)
+    decode_in_turn::<B, SIZE>(src, dst, case, hashed)
 }
 
 // Decodes block by block, and what is behind the whole blocks at once.
-#[inline(always)]
-fn decode_in_turn<B, M, const SIZE: usize>(src: &[u8], dst: &mut [u8], case: CheckCase) -> bool
+#[inline(never)]
+fn decode_in_turn<B, const SIZE: usize>(
+    src: &[u8],
+    dst: &mut [u8],
+    case: CheckCase,
+    hashed: bool,
+) -> bool
 where
     B: DecodeBlock<SIZE>,
-    M: NibbleMap<64>,
     requires { InBlocks SIZE src.now dst.old }
     ensures { DecodesOwned (2 * SIZE) case src.now dst.old dst.new result }
 {
@@ -50,5 +53,5 @@ where
     if dst.len() - done >= SIZE {
         return false;
     }
-    by_length::decode::<M>(&src[2 * done..], &mut dst[done..], case)
+    by_length::decode(&src[2 * done..], &mut dst[done..], case, hashed)
 }

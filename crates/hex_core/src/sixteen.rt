@@ -67,7 +67,7 @@ fn passes(part: &[u8], case: CheckCase) -> bool
 }
 
 /// Returns whether every byte of `src` has a value under `case`.
-#[inline(never)]
+#[inline(always)]
 pub fn check(src: &[u8], case: CheckCase) -> bool
     ensures { IsTrue result ↔ (first_invalid case src.now ≡ None) }
 {

@@ -101,7 +101,7 @@ pub fn is_zero<const N: usize>(v: Simd<u8, N>) -> bool
     requires { N ≤ 64 }
     ensures { IsTrue result ↔ AreZero v.entry }
 {
-    v.simd_ne(Simd::splat(0)).to_bitmask() == 0
+    v.reduce_or() == 0
 }
 
 /// Whether each lane is below 10.
