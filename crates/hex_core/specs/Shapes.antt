@@ -15,7 +15,7 @@ EndsCover n s = (n ≤ length s) × (length s ≤ 2 * n)
 
 -- n digits in a vector spell half as many bytes, and so does a whole source over a destination
 abbrev pub Halves : ℕ → ℕ → List ℕ → List ℕ → Type 0
-Halves n half s dst = (n ≤ 64) × (n ≡ 2 * half) × (length s ≡ 2 * length dst)
+Halves n half s dst = (n ≡ 2 * half) × (length s ≡ 2 * length dst)
 
 -- a source is decoded over a destination by blocks of so many bytes
 abbrev pub InBlocks : ℕ → List ℕ → List ℕ → Type 0

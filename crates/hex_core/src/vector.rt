@@ -98,7 +98,6 @@ pub fn zero_bits<const N: usize>(v: Simd<u8, N>) -> u64
 /// the vector has.
 #[inline(always)]
 pub fn is_zero<const N: usize>(v: Simd<u8, N>) -> bool
-    requires { N ≤ 64 }
     ensures { IsTrue result ↔ AreZero v.entry }
 {
     v.reduce_or() == 0
@@ -107,7 +106,6 @@ pub fn is_zero<const N: usize>(v: Simd<u8, N>) -> bool
 /// Whether each lane is below 10.
 #[inline(always)]
 pub fn is_low<const N: usize>(v: Simd<u8, N>) -> bool
-    requires { N ≤ 64 }
     ensures { IsTrue result ↔ AreLow v.entry }
 {
     is_zero(saturating_sub(v, 9))
@@ -116,7 +114,6 @@ pub fn is_low<const N: usize>(v: Simd<u8, N>) -> bool
 /// Whether each lane is below 16.
 #[inline(always)]
 pub fn is_small<const N: usize>(v: Simd<u8, N>) -> bool
-    requires { N ≤ 64 }
     ensures { IsTrue result ↔ AreSmall v.entry }
 {
     is_zero(masked(v, 0xf0))

@@ -13,7 +13,6 @@ use std::simd::prelude::*;
 // Whether each of `N` bytes from `at` on has a value.
 #[inline(always)]
 fn is_valid_at<const N: usize>(src: &[u8], at: usize, case: CheckCase) -> bool
-    requires lanes { N ≤ 64 }
     requires inside { at + N ≤ length src.now }
     ensures { IsTrue result ↔ AllValid case src.now at (at + N) }
 {
@@ -23,7 +22,6 @@ fn is_valid_at<const N: usize>(src: &[u8], at: usize, case: CheckCase) -> bool
 /// Whether every byte of a source of `N` bytes has a value.
 #[inline(always)]
 pub fn check_one<const N: usize>(src: &[u8], case: CheckCase) -> bool
-    requires lanes { N ≤ 64 }
     requires whole { length src.now ≡ N }
     ensures { IsTrue result ↔ (first_invalid case src.now ≡ None) }
 {
@@ -33,7 +31,6 @@ pub fn check_one<const N: usize>(src: &[u8], case: CheckCase) -> bool
 /// Whether every byte of a source of `N` to `2 * N` bytes has a value.
 #[inline(always)]
 pub fn check_two<const N: usize>(src: &[u8], case: CheckCase) -> bool
-    requires lanes { N ≤ 64 }
     requires covered { EndsCover N src.now }
     ensures { IsTrue result ↔ (first_invalid case src.now ≡ None) }
 {
@@ -60,7 +57,6 @@ fn reach_of<const N: usize, const K: usize>(src: &[u8], at: usize, case: CheckCa
 /// Whether every byte of a source of `K` to `2 * K` blocks has a value, by one test.
 #[inline(never)]
 pub fn check_ends<const N: usize, const K: usize>(src: &[u8], case: CheckCase) -> bool
-    requires lanes { N ≤ 64 }
     requires some { 1 ≤ K }
     requires covered { EndsCover (K * N) src.now }
     ensures { IsTrue result ↔ (first_invalid case src.now ≡ None) }
