@@ -58,6 +58,6 @@ where
     match src.len() {
         0..=128 => decode_two::<M, 64, 32>(src, dst, case),
         129..=256 => decode_four::<M, 64, 32>(src, dst, case),
-        _ => decode_long::<64, 32>(src, dst, case),
+        _ => decode_long(src, dst, case),
     }
 }

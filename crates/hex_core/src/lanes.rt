@@ -13,7 +13,7 @@ ghost use Rattle.hex_core.specs.Text.{text};
 
 use crate::digit::CheckCase;
 use crate::vector::{
-    Interleave, Lanes, LookUp, Pack, Shift, averages, either, high_bits, masked, saturating_add,
+    Interleave, Lanes, LookUp, Pack, Shift, averages, either, high_bits, known_factors, masked, saturating_add,
     saturating_differences, saturating_sub, sign_flipped, smaller, with_bits, wrapping_differences,
     wrapping_sub, zero_bits,
 };
@@ -130,7 +130,7 @@ pub fn pack_16(nibbles: &[u8; 16]) -> [u8; 8]
     requires { AreSmall nibbles.now }
     ensures { ArePacked nibbles.now result }
 {
-    Lanes::pack(u8x16::from_array(*nibbles)).to_array()
+    Lanes::pack(u8x16::from_array(*nibbles), known_factors()).to_array()
 }
 
 /// The same as [`pack_16`], of 32 nibbles.
@@ -145,7 +145,7 @@ pub fn pack_32(nibbles: &[u8; 32]) -> [u8; 16]
     requires { AreSmall nibbles.now }
     ensures { ArePacked nibbles.now result }
 {
-    Lanes::pack(u8x32::from_array(*nibbles)).to_array()
+    Lanes::pack(u8x32::from_array(*nibbles), known_factors()).to_array()
 }
 
 /// The same as [`pack_16`], of 64 nibbles.
@@ -160,7 +160,7 @@ pub fn pack_64(nibbles: &[u8; 64]) -> [u8; 32]
     requires { AreSmall nibbles.now }
     ensures { ArePacked nibbles.now result }
 {
-    Lanes::pack(u8x64::from_array(*nibbles)).to_array()
+    Lanes::pack(u8x64::from_array(*nibbles), known_factors()).to_array()
 }
 
 /// Returns the text of 8 bytes, in uppercase where `upper` is true.

@@ -2,7 +2,7 @@
 
 ghost use Rattle.std.specs.Prelude.{◌≡◌, ◌↔◌, ℕ, ◌-◌, ◌/◌, ◌^◌, ◌≤◌, ◌<◌, ◌==◌, EachIndex, IsTrue, max, min, map, slice_index, bit_and, bit_or, bit_xor};
 ghost use Rattle.std.specs.Simd.Lanes.{Each1, mask_l, zip2};
-ghost use Rattle.hex_core.specs.Arithmetic.{AreLow, AreZero, interleaved, packed, pair_byte, saturating_add, wrapping_sub};
+ghost use Rattle.hex_core.specs.Arithmetic.{AreLow, AreZero, interleaved, packed, pair_byte, pair_factors, saturating_add, wrapping_sub};
 ghost use Rattle.hex_core.specs.Hash.{average, shifted};
 ghost use Rattle.hex_core.specs.Lanes.{AreSmall};
 ghost use Rattle.hex_core.specs.Lookup.{entry};
@@ -119,12 +119,36 @@ pub fn is_small<const N: usize>(v: Simd<u8, N>) -> bool
     is_zero(masked(v, 0xf0))
 }
 
+// What brings the byte of two nibbles into the high half of their word, when it is multiplied.
+const FACTOR: u16 = 4097;
+
+// Two rows of it, the one as the other.
+static FACTORS: [[u16; 32]; 2] = [[FACTOR; 32]; 2];
+
+/// The factors of 32 words, from the row that `byte` chooses. The compiler makes a shift and a sum of
+/// a product whose factor it knows, and in a long loop they take longer than the product.
+#[inline(always)]
+pub fn factors(byte: u8) -> u16x32
+    ensures { result ≡ pair_factors 32 }
+{
+    u16x32::from_array(FACTORS[(byte >> 7) as usize])
+}
+
+/// The factors of so many words, which the compiler knows.
+#[inline(always)]
+pub fn known_factors<const N: usize>() -> Simd<u16, N>
+    ensures { result ≡ pair_factors N }
+{
+    Simd::splat(FACTOR)
+}
+
 // The byte of each word of two nibbles, the high one in the word's low byte.
 #[inline(always)]
-fn pair_bytes<const N: usize>(v: Simd<u16, N>) -> Simd<u8, N>
+fn pair_bytes<const N: usize>(v: Simd<u16, N>, factors: Simd<u16, N>) -> Simd<u8, N>
+    requires { factors ≡ pair_factors N }
     ensures { result ≡ map pair_byte v.entry }
 {
-    ((v * Simd::splat(4097)) >> Simd::splat(8)).cast::<u8>()
+    ((v * factors) >> Simd::splat(8)).cast::<u8>()
 }
 
 /// Each lane with its sign bit turned, so that signed bytes are in the order of unsigned ones.
@@ -175,38 +199,42 @@ pub struct Lanes;
 
 /// The nibbles of each pair of lanes become one byte, the first of a pair its high half.
 pub trait Pack<const N: usize, const HALF: usize> {
-    fn pack(v: Simd<u8, N>) -> Simd<u8, HALF>
-        requires { AreSmall v }
+    fn pack(v: Simd<u8, N>, factors: Simd<u16, HALF>) -> Simd<u8, HALF>
+        requires small { AreSmall v }
+        requires factors { factors ≡ pair_factors HALF }
         ensures { result ≡ packed v.entry };
 }
 
 impl Pack<16, 8> for Lanes {
     #[inline(always)]
-    fn pack(v: u8x16) -> u8x8
-        requires { AreSmall v }
+    fn pack(v: u8x16, factors: u16x8) -> u8x8
+        requires small { AreSmall v }
+        requires factors { factors ≡ pair_factors 8 }
         ensures { result ≡ packed v }
     {
-        pair_bytes(u16x8::from_le_bytes(v))
+        pair_bytes(u16x8::from_le_bytes(v), factors)
     }
 }
 
 impl Pack<32, 16> for Lanes {
     #[inline(always)]
-    fn pack(v: u8x32) -> u8x16
-        requires { AreSmall v }
+    fn pack(v: u8x32, factors: u16x16) -> u8x16
+        requires small { AreSmall v }
+        requires factors { factors ≡ pair_factors 16 }
         ensures { result ≡ packed v }
     {
-        pair_bytes(u16x16::from_le_bytes(v))
+        pair_bytes(u16x16::from_le_bytes(v), factors)
     }
 }
 
 impl Pack<64, 32> for Lanes {
     #[inline(always)]
-    fn pack(v: u8x64) -> u8x32
-        requires { AreSmall v }
+    fn pack(v: u8x64, factors: u16x32) -> u8x32
+        requires small { AreSmall v }
+        requires factors { factors ≡ pair_factors 32 }
         ensures { result ≡ packed v }
     {
-        pair_bytes(u16x32::from_le_bytes(v))
+        pair_bytes(u16x32::from_le_bytes(v), factors)
     }
 }
 

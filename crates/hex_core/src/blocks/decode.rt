@@ -2,7 +2,7 @@
 
 ghost use Rattle.std.specs.Prelude.{◌≡◌, ◌+◌, ◌-◌, ◌*◌, ◌≤◌, None, length};
 ghost use Rattle.std.specs.Simd.Lanes.{put_chunk};
-ghost use Rattle.hex_core.specs.Arithmetic.{packed};
+ghost use Rattle.hex_core.specs.Arithmetic.{packed, pair_factors};
 ghost use Rattle.hex_core.specs.Blocks.{DecodesRange, NibblesFrom};
 ghost use Rattle.hex_core.specs.Calls.{DecodesWhole};
 ghost use Rattle.hex_core.specs.Search.{AllValid, first_invalid};
@@ -13,7 +13,7 @@ ghost use Rattle.hex_core.specs.Text.{Spells};
 use crate::blocks::check::check_long;
 use crate::digit::CheckCase;
 use crate::lanes::{Hashing, NibbleMap, Saturating, valid_nibbles};
-use crate::vector::{Lanes, Pack, either, is_small};
+use crate::vector::{Lanes, Pack, either, factors, is_small, known_factors};
 use std::simd::prelude::*;
 
 // The nibbles of `N` bytes from `at` on.
@@ -40,14 +40,20 @@ fn valid_nibbles_at<const N: usize>(src: &[u8], at: usize, case: CheckCase) -> S
 
 // Writes the bytes of nibbles from `at` on.
 #[inline(always)]
-fn put<const N: usize, const HALF: usize>(nibbles: Simd<u8, N>, dst: &mut [u8], at: usize)
+fn put<const N: usize, const HALF: usize>(
+    nibbles: Simd<u8, N>,
+    factors: Simd<u16, HALF>,
+    dst: &mut [u8],
+    at: usize,
+)
 where
     Lanes: Pack<N, HALF>,
     requires small { AreSmall nibbles }
+    requires factors { factors ≡ pair_factors HALF }
     requires room { at + HALF ≤ length dst.old }
     ensures { dst.new ≡ put_chunk at dst.old (packed nibbles.entry) }
 {
-    Lanes::pack(nibbles).copy_to_slice(&mut dst[at..]);
+    Lanes::pack(nibbles, factors).copy_to_slice(&mut dst[at..]);
 }
 
 // Writes the bytes from `at` on that `N` valid digits spell.
@@ -57,33 +63,34 @@ fn write_at<const N: usize, const HALF: usize>(
     dst: &mut [u8],
     at: usize,
     case: CheckCase,
+    factors: Simd<u16, HALF>,
 )
 where
     Lanes: Pack<N, HALF>,
     requires half { N ≡ 2 * HALF }
+    requires factors { factors ≡ pair_factors HALF }
     requires room { HasRoom at HALF src.now dst.old }
     requires valid { first_invalid case src.now ≡ None }
     ensures { DecodesRange case src.now dst.old dst.new at (at + HALF) }
 {
-    put(valid_nibbles_at::<N>(src, 2 * at, case), dst, at);
+    put(valid_nibbles_at::<N>(src, 2 * at, case), factors, dst, at);
 }
 
-/// Writes the bytes that a valid source of `N` digits or more spells.
+/// Writes the bytes that a valid source of 64 digits or more spells.
 #[inline(never)]
-pub fn write_blocks<const N: usize, const HALF: usize>(src: &[u8], dst: &mut [u8], case: CheckCase)
-where
-    Lanes: Pack<N, HALF>,
-    requires block { HasBlock N src.now }
-    requires sizes { Halves N HALF src.now dst.old }
+pub fn write_blocks(src: &[u8], dst: &mut [u8], case: CheckCase)
+    requires least { 64 ≤ length src.now }
+    requires twice { length src.now ≡ 2 * length dst.old }
     requires valid { first_invalid case src.now ≡ None }
     ensures { Spells case src.now dst.new }
 {
-    'turns: for i in 0..dst.len() / HALF {
-        write_at::<N, HALF>(src, dst, i * HALF, case);
+    let factors = factors(src[0]);
+    'turns: for i in 0..dst.len() / 32 {
+        write_at::<64, 32>(src, dst, i * 32, case, factors);
     }
-    if dst.len() % HALF != 0 {
-        let at = dst.len() - HALF;
-        write_at::<N, HALF>(src, dst, at, case);
+    if dst.len() % 32 != 0 {
+        let at = dst.len() - 32;
+        write_at::<64, 32>(src, dst, at, case, factors);
     }
 }
 
@@ -92,6 +99,7 @@ where
 fn put_two<const N: usize, const HALF: usize>(
     front: Simd<u8, N>,
     back: Simd<u8, N>,
+    factors: Simd<u16, HALF>,
     dst: &mut [u8],
     start: usize,
     end: usize,
@@ -100,13 +108,14 @@ where
     Lanes: Pack<N, HALF>,
     requires front { AreSmall front }
     requires back { AreSmall back }
+    requires factors { factors ≡ pair_factors HALF }
     requires least { start + HALF ≤ end }
     requires inside { end ≤ length dst.old }
     ensures { dst.new ≡ put_chunk (end - HALF) (put_chunk start dst.old (packed front.entry))
         (packed back.entry) }
 {
-    put(front, dst, start);
-    put(back, dst, end - HALF);
+    put(front, factors, dst, start);
+    put(back, factors, dst, end - HALF);
 }
 
 /// Decodes a source of `N` digits: all of it is tested before the first store.
@@ -127,7 +136,7 @@ where
     if !is_small(nibbles) {
         return false;
     }
-    put(nibbles, dst, 0);
+    put(nibbles, known_factors(), dst, 0);
     true
 }
 
@@ -151,7 +160,7 @@ where
         return false;
     }
     let end = dst.len();
-    put_two(front, back, dst, 0, end);
+    put_two(front, back, known_factors(), dst, 0, end);
     true
 }
 
@@ -178,27 +187,21 @@ where
         return false;
     }
     let end = dst.len();
-    put_two(first, second, dst, 0, N);
-    put_two(third, last, dst, end - N, end);
+    put_two(first, second, known_factors(), dst, 0, N);
+    put_two(third, last, known_factors(), dst, end - N, end);
     true
 }
 
-/// Decodes a source of `N` digits or more: all of it is tested before the first store.
+/// Decodes a source of 64 digits or more: all of it is tested before the first store.
 #[inline(never)]
-pub fn decode_long<const N: usize, const HALF: usize>(
-    src: &[u8],
-    dst: &mut [u8],
-    case: CheckCase,
-) -> bool
-where
-    Lanes: Pack<N, HALF>,
-    requires block { HasBlock N src.now }
-    requires sizes { Halves N HALF src.now dst.old }
+pub fn decode_long(src: &[u8], dst: &mut [u8], case: CheckCase) -> bool
+    requires least { 64 ≤ length src.now }
+    requires twice { length src.now ≡ 2 * length dst.old }
     ensures { DecodesWhole case src.now dst.old dst.new result }
 {
-    let valid = check_long::<N>(src, case);
+    let valid = check_long::<64>(src, case);
     if valid {
-        write_blocks::<N, HALF>(src, dst, case);
+        write_blocks(src, dst, case);
     }
     valid
 }
@@ -207,8 +210,15 @@ where
 /// store.
 pub trait DecodeBlock<const SIZE: usize> {
     /// Decodes the block of the bytes from `at` on, and returns whether it is valid.
-    fn decode_at(src: &[u8], dst: &mut [u8], at: usize, case: CheckCase) -> bool
-        requires { HasRoom at SIZE src.now dst.old }
+    fn decode_at(
+        src: &[u8],
+        dst: &mut [u8],
+        at: usize,
+        case: CheckCase,
+        factors: u16x32,
+    ) -> bool
+        requires room { HasRoom at SIZE src.now dst.old }
+        requires factors { factors ≡ pair_factors 32 }
         ensures { DecodesAt case src.now dst.old dst.new at SIZE result };
 }
 
@@ -217,15 +227,22 @@ pub struct OneVector;
 
 impl DecodeBlock<32> for OneVector {
     #[inline(always)]
-    fn decode_at(src: &[u8], dst: &mut [u8], at: usize, case: CheckCase) -> bool
-        requires { HasRoom at 32 src.now dst.old }
+    fn decode_at(
+        src: &[u8],
+        dst: &mut [u8],
+        at: usize,
+        case: CheckCase,
+        factors: u16x32,
+    ) -> bool
+        requires room { HasRoom at 32 src.now dst.old }
+        requires factors { factors ≡ pair_factors 32 }
         ensures { DecodesAt case src.now dst.old dst.new at 32 result }
     {
         let block = nibbles_at::<Saturating, 64>(src, 2 * at, case);
         if !is_small(block) {
             return false;
         }
-        put::<64, 32>(block, dst, at);
+        put::<64, 32>(block, factors, dst, at);
         true
     }
 }
@@ -235,8 +252,15 @@ pub struct TwoHashed;
 
 impl DecodeBlock<64> for TwoHashed {
     #[inline(always)]
-    fn decode_at(src: &[u8], dst: &mut [u8], at: usize, case: CheckCase) -> bool
-        requires { HasRoom at 64 src.now dst.old }
+    fn decode_at(
+        src: &[u8],
+        dst: &mut [u8],
+        at: usize,
+        case: CheckCase,
+        factors: u16x32,
+    ) -> bool
+        requires room { HasRoom at 64 src.now dst.old }
+        requires factors { factors ≡ pair_factors 32 }
         ensures { DecodesAt case src.now dst.old dst.new at 64 result }
     {
         let front = nibbles_at::<Hashing, 64>(src, 2 * at, case);
@@ -244,7 +268,7 @@ impl DecodeBlock<64> for TwoHashed {
         if !is_small(either(front, back)) {
             return false;
         }
-        put_two::<64, 32>(front, back, dst, at, at + 64);
+        put_two::<64, 32>(front, back, factors, dst, at, at + 64);
         true
     }
 }
@@ -258,9 +282,13 @@ where
     requires { InBlocks SIZE src.now dst.old }
     ensures { DecodesBlocks case SIZE src.now dst.old dst.new result }
 {
+    let Some(first) = src.first() else {
+        return 0;
+    };
+    let factors = factors(*first);
     let blocks = dst.len() / SIZE;
     'turns: for i in 0..blocks {
-        if !B::decode_at(src, dst, i * SIZE, case) {
+        if !B::decode_at(src, dst, i * SIZE, case, factors) {
             return i * SIZE;
         }
     }

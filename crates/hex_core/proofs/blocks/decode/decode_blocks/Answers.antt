@@ -37,5 +37,5 @@ returns g c =
       decoded = rw all at c.turns.invariant.decoded;
     }
 
-pub decode_at-requires : goal.decode_at-requires
-decode_at-requires g c = (omega arith, omega (arith, block_inside (length c.args.dst.now) g.row.SIZE c.turns.i (omega arith) (omega arith)))
+pub decode_at-requires-clause-room : goal.decode_at-requires-clause-room
+decode_at-requires-clause-room g c = (omega arith, omega (arith, block_inside (length c.args.dst.now) g.row.SIZE c.turns.i (omega arith) (omega arith)))
