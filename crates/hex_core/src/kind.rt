@@ -74,9 +74,22 @@ impl Kind {
     }
 
     /// Decodes likewise, into a buffer that is given up where this returns false: then the blocks
-    /// before the first invalid byte may have been stored.
+    /// before the first invalid byte may have been stored. Up to 256 digits are decoded at once, in
+    /// registers, and the blocks before a refusal are stored behind it alone.
     #[inline(always)]
     pub fn decode_owned(self, src: &[u8], dst: &mut [u8], case: CheckCase) -> bool
+        requires { length src.now ≡ 2 * length dst.old }
+        ensures { DecodesOwned (owned_block (kind_name self)) case src.now dst.old dst.new result }
+    {
+        if src.len() <= 256 && self.decode(src, dst, case) {
+            return true;
+        }
+        self.decode_in_turn(src, dst, case)
+    }
+
+    // Decodes block by block where the plan does.
+    #[inline(never)]
+    fn decode_in_turn(self, src: &[u8], dst: &mut [u8], case: CheckCase) -> bool
         requires { length src.now ≡ 2 * length dst.old }
         ensures { DecodesOwned (owned_block (kind_name self)) case src.now dst.old dst.new result }
     {

@@ -10,34 +10,10 @@ use crate::by_length;
 use crate::digit::CheckCase;
 
 /// Writes the bytes that `src` spells into the whole of `dst`, or returns false and has stored the
-/// whole blocks before the first invalid byte.
-///
-/// Up to 256 digits are decoded at once, in registers: the blocks before a refusal are stored behind
-/// it alone. The nibbles of more than 64 are found by a hash where `hashed` is true.
+/// whole blocks before the first invalid byte: decodes block by block, and what is behind the whole
+/// blocks at once. The nibbles of more than 64 digits are found by a hash where `hashed` is true.
 #[inline(always)]
 pub fn decode_by_blocks<B, const SIZE: usize>(
-    src: &[u8],
-    dst: &mut [u8],
-    case: CheckCase,
-    hashed: bool,
-) -> bool
-where
-    B: DecodeBlock<SIZE>,
-    requires { InBlocks SIZE src.now dst.old }
-    ensures { DecodesOwned (2 * SIZE) case src.now dst.old dst.new result }
-{
-    if src.len() > 256 {
-        return decode_in_turn::<B, SIZE>(src, dst, case, hashed);
-    }
-    if by_length::decode(src, dst, case, hashed) {
-        return true;
-    }
-    decode_in_turn::<B, SIZE>(src, dst, case, hashed)
-}
-
-// Decodes block by block, and what is behind the whole blocks at once.
-#[inline(never)]
-fn decode_in_turn<B, const SIZE: usize>(
     src: &[u8],
     dst: &mut [u8],
     case: CheckCase,

@@ -3,7 +3,7 @@ use Rattle.std.proofs.lemmas.Bool.{MatchBool-at_false, MatchBool-at_true, cases_
 use Rattle.hex_core.specs.Search.{first_invalid}
 use Rattle.hex_core.proofs.BlockLemmas.{valid_range, decodes_over, decodes_whole, rest_none}
 use Rattle.hex_core.proofs.OwnedLemmas.{blocks_stored, part_decoded, part_same}
-use Rattle.hex_core.proofs.owned.decode_in_turn.Goals as goal
+use Rattle.hex_core.proofs.owned.decode_by_blocks.Goals as goal
 
 pub returns-then-dst-done : goal.returns-then-dst-done
 returns-then-dst-done g c =
