@@ -28,7 +28,7 @@ pub fn check(src: &[u8], case: CheckCase) -> bool
 }
 
 /// Writes the bytes that `src` spells into the whole of `dst`, or returns false and writes nothing.
-/// Up to 64 digits are decoded where it is called, so that a length that is known there chooses
+/// Up to 128 digits are decoded where it is called, so that a length that is known there chooses
 /// nothing as it runs. The nibbles of more are found by a hash where `hashed` is true.
 #[inline(always)]
 pub fn decode(src: &[u8], dst: &mut [u8], case: CheckCase, hashed: bool) -> bool
@@ -41,23 +41,24 @@ pub fn decode(src: &[u8], dst: &mut [u8], case: CheckCase, hashed: bool) -> bool
         17..=31 => decode_two::<Saturating, 16, 8>(src, dst, case),
         32 => decode_one::<Saturating, 32, 16>(src, dst, case),
         33..=64 => decode_two::<Saturating, 32, 16>(src, dst, case),
+        65..=128 => decode_two::<Saturating, 64, 32>(src, dst, case),
         _ if hashed => decode_more::<Hashing>(src, dst, case),
         _ => decode_more::<Saturating>(src, dst, case),
     }
 }
 
-// The same of more than 64 digits. Up to 256 are held in registers.
+// The same of more than 128 digits. Up to 256 are held in registers.
 #[inline(never)]
 fn decode_more<M>(src: &[u8], dst: &mut [u8], case: CheckCase) -> bool
 where
     M: NibbleMap<64>,
     requires twice { length src.now ≡ 2 * length dst.old }
-    requires more { 64 < length src.now }
+    requires more { 128 < length src.now }
     ensures { DecodesWhole case src.now dst.old dst.new result }
 {
-    match src.len() {
-        0..=128 => decode_two::<M, 64, 32>(src, dst, case),
-        129..=256 => decode_four::<M, 64, 32>(src, dst, case),
-        _ => decode_long(src, dst, case),
+    if src.len() <= 256 {
+        decode_four::<M, 64, 32>(src, dst, case)
+    } else {
+        decode_long(src, dst, case)
     }
 }

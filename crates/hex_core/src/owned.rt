@@ -29,5 +29,8 @@ where
     if dst.len() - done >= SIZE {
         return false;
     }
+    if done == dst.len() {
+        return true;
+    }
     by_length::decode(&src[2 * done..], &mut dst[done..], case, hashed)
 }

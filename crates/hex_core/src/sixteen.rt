@@ -66,18 +66,38 @@ fn passes(part: &[u8], case: CheckCase) -> bool
     }
 }
 
-/// Returns whether every byte of `src` has a value under `case`.
+// Whether every byte of a block or more has a value, a mask for each block.
 #[inline(always)]
-pub fn check(src: &[u8], case: CheckCase) -> bool
+fn check_blocks(src: &[u8], case: CheckCase) -> bool
+    requires { 16 ≤ length src.now }
     ensures { IsTrue result ↔ (first_invalid case src.now ≡ None) }
 {
-    if src.len() < BLOCK {
-        return scalar::check(src, case);
-    }
     covered(&mut BlockProbe {
         src,
         case,
         looks: 0,
         tests: 0,
     })
+}
+
+// The same, not where it is called.
+#[inline(never)]
+fn check_apart(src: &[u8], case: CheckCase) -> bool
+    requires { 16 ≤ length src.now }
+    ensures { IsTrue result ↔ (first_invalid case src.now ≡ None) }
+{
+    check_blocks(src, case)
+}
+
+/// Returns whether every byte of `src` has a value under `case`. The 64 bytes of a test of `locate`
+/// are checked where it is called, by four masks and no loop.
+#[inline(always)]
+pub fn check(src: &[u8], case: CheckCase) -> bool
+    ensures { IsTrue result ↔ (first_invalid case src.now ≡ None) }
+{
+    match src.len() {
+        0..BLOCK => scalar::check(src, case),
+        64 => check_blocks(src, case),
+        _ => check_apart(src, case),
+    }
 }

@@ -83,7 +83,20 @@ fn check_blocks<const N: usize>(src: &[u8], case: CheckCase) -> bool
 // How many blocks one test is for in a long source: with more of them an invalid byte is found later.
 const RUN: usize = 8;
 
-// The same as `check_blocks`, by runs as long as there is one.
+// The same as `check_blocks`, by one test where there are blocks enough and not too many.
+#[inline(always)]
+fn check_few<const N: usize>(src: &[u8], case: CheckCase) -> bool
+    requires { HasBlock N src.now }
+    ensures { IsTrue result ↔ (first_invalid case src.now ≡ None) }
+{
+    if 4 * N <= src.len() && src.len() <= RUN * N {
+        check_ends::<N, 4>(src, case)
+    } else {
+        check_blocks::<N>(src, case)
+    }
+}
+
+// The same by runs as long as there is one.
 #[inline(never)]
 fn check_runs<const N: usize>(src: &[u8], case: CheckCase) -> bool
     requires { HasBlock N src.now }
@@ -95,7 +108,7 @@ fn check_runs<const N: usize>(src: &[u8], case: CheckCase) -> bool
             return false;
         }
     }
-    check_blocks::<N>(&src[runs * (RUN * N)..], case)
+    check_few::<N>(&src[runs * (RUN * N)..], case)
 }
 
 /// Whether every byte of a source of `N` bytes or more has a value.
@@ -104,10 +117,8 @@ pub fn check_long<const N: usize>(src: &[u8], case: CheckCase) -> bool
     requires { HasBlock N src.now }
     ensures { IsTrue result ↔ (first_invalid case src.now ≡ None) }
 {
-    if src.len() < 4 * N {
-        check_blocks::<N>(src, case)
-    } else if src.len() <= RUN * N {
-        check_ends::<N, 4>(src, case)
+    if src.len() <= RUN * N {
+        check_few::<N>(src, case)
     } else {
         check_runs::<N>(src, case)
     }

@@ -165,7 +165,7 @@ where
 }
 
 /// Decodes a source of `2 * N` to `4 * N` digits: all of it is tested before the first store.
-#[inline(never)]
+#[inline(always)]
 pub fn decode_four<M, const N: usize, const HALF: usize>(
     src: &[u8],
     dst: &mut [u8],

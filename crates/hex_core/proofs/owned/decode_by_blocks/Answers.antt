@@ -1,7 +1,7 @@
 use Rattle.std.proofs.Common.{None, ◌≡◌, ◌+◌, ◌*◌, inl, inr, arith}
 use Rattle.std.proofs.lemmas.Bool.{MatchBool-at_false, MatchBool-at_true, cases_Bool}
 use Rattle.hex_core.specs.Search.{first_invalid}
-use Rattle.hex_core.proofs.BlockLemmas.{valid_range, decodes_over, decodes_whole, rest_none}
+use Rattle.hex_core.proofs.BlockLemmas.{valid_range, decodes_over, decodes_whole, rest_none, valid_whole}
 use Rattle.hex_core.proofs.OwnedLemmas.{blocks_stored, part_decoded, part_same}
 use Rattle.hex_core.proofs.owned.decode_by_blocks.Goals as goal
 
@@ -10,6 +10,11 @@ returns-then-dst-done g c =
     let case = c.args.case in let s = c.args.src.now in let blocks = c.decode_blocks-done.ensures in let from = 2 * c.decode_blocks-done.result in let block = 2 * g.row.SIZE in
     let bad : ¬ (first_invalid case s ≡ None) = λ none. blocks.stopped (omega arith) (valid_range case s from (from + block) (omega arith) none) in
     (bad, blocks_stored blocks (omega arith) (omega arith) (omega arith) bad)
+
+pub returns-then-done-dst : goal.returns-then-done-dst
+returns-then-done-dst g c =
+    let blocks = c.decode_blocks-done.ensures in
+    ((valid_whole c.args.case c.args.src.now (2 * c.decode_blocks-done.result) (omega arith)).0 blocks.valid, decodes_whole blocks.decoded (omega arith) (omega arith))
 
 pub returns : goal.returns
 returns g c =

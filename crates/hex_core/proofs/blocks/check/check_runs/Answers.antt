@@ -15,4 +15,4 @@ returns g c =
     let s = c.args.src.now in let run = 8 * g.row.N in let runs = (length s - g.row.N) / run in
     let inside : runs * run ≤ length s - g.row.N = blocks_within (length s - g.row.N) run runs (omega arith) (omega arith) in
     let front : AllValid c.args.case s 0 (runs * run) = subst (λ i. AllValid c.args.case s 0 (i * run)) (omega arith) c.turns.invariant in
-    ↔_trans c.check_blocks.ensures (rest_none c.args.case s (runs * run) (omega (arith, inside)) front)
+    ↔_trans c.check_few.ensures (rest_none c.args.case s (runs * run) (omega (arith, inside)) front)
