@@ -10,6 +10,7 @@ use crate::blocks::decode::{decode_four, decode_long, decode_one, decode_two};
 use crate::digit::CheckCase;
 use crate::lanes::{Hashing, NibbleMap, Saturating};
 use crate::scalar;
+use crate::vector::{factors, known_factors};
 
 /// Returns whether every byte of `src` has a value under `case`.
 #[inline(always)]
@@ -37,11 +38,12 @@ pub fn decode(src: &[u8], dst: &mut [u8], case: CheckCase, hashed: bool) -> bool
 {
     match src.len() {
         0..16 => scalar::decode_short(src, dst, case),
-        16 => decode_one::<Saturating, 16, 8>(src, dst, case),
-        17..=31 => decode_two::<Saturating, 16, 8>(src, dst, case),
-        32 => decode_one::<Saturating, 32, 16>(src, dst, case),
-        33..=64 => decode_two::<Saturating, 32, 16>(src, dst, case),
-        65..=128 => decode_two::<Saturating, 64, 32>(src, dst, case),
+        16 => decode_one::<Saturating, 16, 8>(src, dst, case, known_factors()),
+        17..=31 => decode_two::<Saturating, 16, 8>(src, dst, case, known_factors()),
+        32 => decode_one::<Saturating, 32, 16>(src, dst, case, known_factors()),
+        33..=63 => decode_two::<Saturating, 32, 16>(src, dst, case, known_factors()),
+        64 => decode_one::<Saturating, 64, 32>(src, dst, case, factors(src[0])),
+        65..=128 => decode_two::<Saturating, 64, 32>(src, dst, case, factors(src[0])),
         _ if hashed => decode_more::<Hashing>(src, dst, case),
         _ => decode_more::<Saturating>(src, dst, case),
     }
@@ -57,7 +59,7 @@ where
     ensures { DecodesWhole case src.now dst.old dst.new result }
 {
     if src.len() <= 256 {
-        decode_four::<M, 64, 32>(src, dst, case)
+        decode_four::<M, 64, 32>(src, dst, case, factors(src[0]))
     } else {
         decode_long(src, dst, case)
     }

@@ -13,7 +13,7 @@ ghost use Rattle.hex_core.specs.Text.{Spells};
 use crate::blocks::check::check_long;
 use crate::digit::CheckCase;
 use crate::lanes::{Hashing, NibbleMap, Saturating, valid_nibbles};
-use crate::vector::{Lanes, Pack, either, factors, is_small, known_factors};
+use crate::vector::{Lanes, Pack, either, factors, is_small};
 use std::simd::prelude::*;
 
 // The nibbles of `N` bytes from `at` on.
@@ -124,10 +124,12 @@ pub fn decode_one<M, const N: usize, const HALF: usize>(
     src: &[u8],
     dst: &mut [u8],
     case: CheckCase,
+    factors: Simd<u16, HALF>,
 ) -> bool
 where
     M: NibbleMap<N>,
     Lanes: Pack<N, HALF>,
+    requires factors { factors ≡ pair_factors HALF }
     requires sizes { Halves N HALF src.now dst.old }
     requires whole { length src.now ≡ N }
     ensures { DecodesWhole case src.now dst.old dst.new result }
@@ -136,7 +138,7 @@ where
     if !is_small(nibbles) {
         return false;
     }
-    put(nibbles, known_factors(), dst, 0);
+    put(nibbles, factors, dst, 0);
     true
 }
 
@@ -146,10 +148,12 @@ pub fn decode_two<M, const N: usize, const HALF: usize>(
     src: &[u8],
     dst: &mut [u8],
     case: CheckCase,
+    factors: Simd<u16, HALF>,
 ) -> bool
 where
     M: NibbleMap<N>,
     Lanes: Pack<N, HALF>,
+    requires factors { factors ≡ pair_factors HALF }
     requires sizes { Halves N HALF src.now dst.old }
     requires covered { EndsCover N src.now }
     ensures { DecodesWhole case src.now dst.old dst.new result }
@@ -160,7 +164,7 @@ where
         return false;
     }
     let end = dst.len();
-    put_two(front, back, known_factors(), dst, 0, end);
+    put_two(front, back, factors, dst, 0, end);
     true
 }
 
@@ -170,10 +174,12 @@ pub fn decode_four<M, const N: usize, const HALF: usize>(
     src: &[u8],
     dst: &mut [u8],
     case: CheckCase,
+    factors: Simd<u16, HALF>,
 ) -> bool
 where
     M: NibbleMap<N>,
     Lanes: Pack<N, HALF>,
+    requires factors { factors ≡ pair_factors HALF }
     requires sizes { Halves N HALF src.now dst.old }
     requires covered { EndsCover (2 * N) src.now }
     ensures { DecodesWhole case src.now dst.old dst.new result }
@@ -187,8 +193,8 @@ where
         return false;
     }
     let end = dst.len();
-    put_two(first, second, known_factors(), dst, 0, N);
-    put_two(third, last, known_factors(), dst, end - N, end);
+    put_two(first, second, factors, dst, 0, N);
+    put_two(third, last, factors, dst, end - N, end);
     true
 }
 
