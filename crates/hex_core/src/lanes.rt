@@ -232,7 +232,7 @@ fn letters<const N: usize>(v: Simd<u8, N>, case: CheckCase) -> Simd<u8, N>
 
 /// How far each lane reaches past the first digit, or past the first letter and four more: below 10
 /// exactly where it has a value. One bound for both leaves the comparison to the end of a test of
-/// many blocks; for one or two of them the excess takes an instruction less.
+/// more blocks than one.
 #[inline(always)]
 pub(crate) fn reach<const N: usize>(v: Simd<u8, N>, case: CheckCase) -> Simd<u8, N>
     ensures lanes { result ≡ map (reach case) v.entry }

@@ -7,7 +7,7 @@ ghost use Rattle.hex_core.specs.Shapes.{EndsCover, HasBlock};
 
 use crate::digit::CheckCase;
 use crate::lanes::{admitted, excess, reach};
-use crate::vector::{either, is_low, is_zero, larger};
+use crate::vector::{is_low, is_zero, larger};
 use std::simd::prelude::*;
 
 // Whether each of `N` bytes from `at` on has a value.
@@ -34,9 +34,9 @@ pub fn check_two<const N: usize>(src: &[u8], case: CheckCase) -> bool
     requires covered { EndsCover N src.now }
     ensures { IsTrue result ↔ (first_invalid case src.now ≡ None) }
 {
-    let front = excess(Simd::<u8, N>::from_slice(src), case);
-    let back = excess(Simd::<u8, N>::from_slice(&src[src.len() - N..]), case);
-    is_zero(either(front, back))
+    let front = reach(Simd::<u8, N>::from_slice(src), case);
+    let back = reach(Simd::<u8, N>::from_slice(&src[src.len() - N..]), case);
+    is_low(larger(front, back))
 }
 
 // What is below 10 in each lane exactly where each byte of `K` blocks from `at` on has a value.
