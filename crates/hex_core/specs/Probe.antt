@@ -1,5 +1,5 @@
 -- What a counted source shows, and what its calls change of that.
-use Rattle.std.specs.Prelude.{◌≡◌, ℕ, ◌+◌, ◌*◌, ◌/◌, List, length, min, Option, Some, None}
+use Rattle.std.specs.Prelude.{◌≡◌, ℕ, ◌+◌, ◌-◌, ◌*◌, ◌/◌, ◌<◌, List, length, min, MatchOption, Option, Some, None}
 use Rattle.hex_core.specs.declared.digit.CheckCase.{CheckCase}
 use Rattle.hex_core.specs.Search.{AllValid, Steps, first_invalid, steps, tested_blocks}
 
@@ -34,6 +34,13 @@ invalid_in p = first_invalid p.policy p.source
 
 abbrev pub steps_in : ProbeState → Steps
 steps_in p = steps p.policy p.source
+
+-- looking at a range, behind a front that is valid: each byte up to the source's first invalid one is
+-- one look, or each byte of the range is, and it is valid too
+abbrev pub LooksIn : ℕ → ℕ → ProbeState → ProbeState → Option ℕ → Type 0
+LooksIn start end old new result = MatchOption result
+    (ValidIn old 0 end × Adds (end - start) 0 old new)
+    (λ i. (i < end) × (invalid_in old ≡ Some i) × Adds (i + 1 - start) 0 old new)
 
 -- where the looks begin, in a source of this length with this first invalid byte: at the block of
 -- that byte, or behind the whole blocks

@@ -1,12 +1,16 @@
-use Rattle.std.proofs.Common.{◌≡◌, ◌+◌}
-use Rattle.hex_core.specs.Probe.{SameSource, ValidIn}
+use Rattle.std.proofs.Common.{◌≡◌, ℕ, ◌+◌, ◌-◌, ◌*◌, ◌≤◌, length}
+use Rattle.hex_core.specs.Probe.{Adds, ValidIn}
 use Rattle.hex_core.proofs.search.look_from.Given as goal
 
--- the bytes so far are valid, and each was one look
-abbrev pub invariant-loop-i : goal.invariant-loop-i
-invariant-loop-i g l = record {
-  valid : ValidIn (g.P.Probe.state l.fn.p) 0 l.i;
-  counted : (g.P.Probe.state l.p).looks + l.start ≡ (g.P.Probe.state l.fn.p).looks + l.i;
-  same_tests : (g.P.Probe.state l.p).tests ≡ (g.P.Probe.state l.fn.p).tests;
-  same : SameSource (g.P.Probe.state l.fn.p) (g.P.Probe.state l.p);
+-- the turns so far found no invalid byte, and each was four looks
+abbrev pub invariant-loop-at : goal.invariant-loop-at
+invariant-loop-at g l = record {
+  inside : l.at ≤ l.len;
+  near : l.at ≤ l.start + 64;
+  turns : (k : ℕ) × (l.at ≡ l.start + 4 * k);
+  valid : ValidIn (g.P.Probe.state l.fn.p) 0 l.at;
+  counted : Adds (l.at - l.start) 0 (g.P.Probe.state l.fn.p) (g.P.Probe.state l.p);
 }
+
+abbrev pub decreases-loop-at : goal.decreases-loop-at
+decreases-loop-at g l = l.len - l.at
