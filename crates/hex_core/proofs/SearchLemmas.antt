@@ -127,11 +127,7 @@ stops_at_end c s whole (Some f) e all valid =
     (omega arith, omega arith)
 stops_at_end c s whole None e all valid = (omega arith, sym all)
 
--- the looks begin in the source, at most 64 bytes before the invalid byte or the end
-pub looks_inside : (c : CheckCase) (s : List ℕ) (start : ℕ) (o : Option ℕ) → first_invalid c s ≡ o → start ≡ looks_behind (length s) o → start ≤ length s
-looks_inside c s start (Some f) e from = omega (arith, tests_within (length s))
-looks_inside c s start None e from = omega (arith, tests_within (length s))
-
+-- the looks begin at most 64 bytes before the invalid byte or the end
 pub looks_near : (c : CheckCase) (s : List ℕ) (start i : ℕ) (o : Option ℕ) → first_invalid c s ≡ o → start ≡ looks_behind (length s) o → AllValid c s 0 i → i < length s → i < start + 64
 looks_near c s start i (Some f) e from valid inside =
     let before : i ≤ f = valid_misses c s f 0 i e valid (omega arith) in

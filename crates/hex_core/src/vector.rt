@@ -79,7 +79,6 @@ pub fn larger<const N: usize>(a: Simd<u8, N>, b: Simd<u8, N>) -> Simd<u8, N>
 #[inline(always)]
 pub fn either<const N: usize>(a: Simd<u8, N>, b: Simd<u8, N>) -> Simd<u8, N>
     ensures lanes { result ≡ zip2 bit_or a.entry b.entry }
-    ensures zero { AreZero result ↔ (AreZero a.entry × AreZero b.entry) }
     ensures small { AreSmall result ↔ (AreSmall a.entry × AreSmall b.entry) }
 {
     a | b
