@@ -35,12 +35,12 @@ invalid_in p = first_invalid p.policy p.source
 abbrev pub steps_in : ProbeState → Steps
 steps_in p = steps p.policy p.source
 
--- looking at a range, behind a front that is valid: each byte up to the source's first invalid one is
--- one look, or each byte of the range is, and it is valid too
-abbrev pub LooksIn : ℕ → ℕ → ProbeState → ProbeState → Option ℕ → Type 0
-LooksIn start end old new result = MatchOption result
-    (ValidIn old 0 end × Adds (end - start) 0 old new)
-    (λ i. (i < end) × (invalid_in old ≡ Some i) × Adds (i + 1 - start) 0 old new)
+-- looking at so many bytes behind a front that is valid: each byte up to the source's first invalid
+-- one is one look, or each of them is, and they are valid too
+abbrev pub LooksAt : ℕ → ℕ → ProbeState → ProbeState → Option ℕ → Type 0
+LooksAt start count old new result = MatchOption result
+    (ValidIn old 0 (start + count) × Adds count 0 old new)
+    (λ i. (i < start + count) × (invalid_in old ≡ Some i) × Adds (i + 1 - start) 0 old new)
 
 -- where the looks begin, in a source of this length with this first invalid byte: at the block of
 -- that byte, or behind the whole blocks

@@ -1,8 +1,8 @@
 //! Counted sources, and the search for the first invalid byte through their counted calls.
 
-ghost use Rattle.std.specs.Prelude.{◌≡◌, ℕ, None, ◌+◌, ◌-◌, ◌/◌, ◌^◌, ◌<◌, ◌≤◌, ◌↔◌, IsTrue, length, slice_index};
+ghost use Rattle.std.specs.Prelude.{◌≡◌, ℕ, None, ◌+◌, ◌/◌, ◌^◌, ◌<◌, ◌≤◌, ◌↔◌, IsTrue, length, slice_index};
 ghost use Rattle.std.specs.Int.{div_ceil};
-ghost use Rattle.hex_core.specs.Probe.{Adds, LooksIn, ProbeState, ValidIn, invalid_in, looks_from, steps_in};
+ghost use Rattle.hex_core.specs.Probe.{Adds, LooksAt, ProbeState, ValidIn, invalid_in, looks_from, steps_in};
 ghost use Rattle.hex_core.specs.Search.{tested_blocks};
 
 use crate::digit::CheckCase;
@@ -99,19 +99,19 @@ fn test_blocks<P: Probe>(p: &mut P) -> usize
 // How many bytes are looked at in a turn: a branch back behind each of them takes half of the time.
 const TURN: usize = 4;
 
-// Looks at a range byte by byte, up to the first one without a value.
+// Looks at so many bytes from `start` on, up to the first one without a value.
 #[inline(always)]
-fn look_in<P: Probe>(p: &mut P, start: usize, end: usize) -> Option<usize>
+fn look_at<P: Probe>(p: &mut P, start: usize, count: usize) -> Option<usize>
     requires valid { ValidIn (P.state p.old) 0 start }
-    requires order { start ≤ end }
-    requires inside { end ≤ length (P.state p.old).source }
-    requires countable { (P.state p.old).looks + (end - start) < 2 ^ 64 }
-    ensures { LooksIn start end (P.state p.old) (P.state p.new) result }
+    requires inside { start + count ≤ length (P.state p.old).source }
+    requires reachable { start + count < 2 ^ 64 }
+    requires countable { (P.state p.old).looks + count < 2 ^ 64 }
+    ensures { LooksAt start count (P.state p.old) (P.state p.new) result }
 {
     let case = p.case();
-    for i in start..end {
-        if !has_value(p.look(i), case) {
-            return Some(i);
+    for i in 0..count {
+        if !has_value(p.look(start + i), case) {
+            return Some(start + i);
         }
     }
     None
@@ -130,12 +130,12 @@ fn look_from<P: Probe>(p: &mut P, start: usize) -> Option<usize>
     let len = p.len();
     let mut at = start;
     while len - at >= TURN {
-        if let Some(i) = look_in(p, at, at + TURN) {
+        if let Some(i) = look_at(p, at, TURN) {
             return Some(i);
         }
         at += TURN;
     }
-    look_in(p, at, len)
+    look_at(p, at, len - at)
 }
 
 /// Returns the first place of the source whose byte has no value under the policy, from 0 and in
