@@ -4,7 +4,7 @@ use Rattle.std.specs.List.{repeat}
 use Rattle.std.specs.Simd.Lanes.{chunk, put_chunk}
 use Rattle.hex_core.specs.Text.{text}
 use Rattle.hex_codec.specs.declared.group.Group.{Group}
-use Rattle.hex_codec.specs.Grouped.{grouped, piece_count, piece_len}
+use Rattle.hex_codec.specs.Grouped.{grouped, piece_count, piece_len, separated, separator}
 use Rattle.hex_format.specs.declared.format.Align.{Align}
 use Rattle.hex_format.specs.declared.format.Align.TheVariants.{Left, Right, Center}
 use Rattle.hex_format.specs.declared.format.Hex.{Hex}
@@ -59,13 +59,26 @@ BeginsWith n buffer bytes = (n ≤ length buffer) × (take n buffer ≡ bytes)
 abbrev pub placed : ℕ → List ℕ → ℕ → ℕ
 placed sep digits at = if nat_le 128 at then sep else slice_index digits (at % 16)
 
--- the text of sixteen bytes, its digits moved by three vectors of places: to both ends of a buffer, and
--- over what these have in common
+-- a front, a back, and over what these have in common a middle
+abbrev pub joined_parts : List ℕ → List ℕ → List ℕ → List ℕ → List ℕ
+joined_parts front middle back buffer =
+    let last = length buffer - 16 in
+    put_chunk (last / 2) (put_chunk last (put_chunk 0 buffer front) back) middle
+
+-- the text of sixteen bytes, its digits moved by three vectors of places: the first sixteen, those in the
+-- middle and the last ones, each in order of its number modulo 16
 abbrev pub placed_text : ℕ → List ℕ → List ℕ → List ℕ → List ℕ → List ℕ → List ℕ
 placed_text sep digits front middle back buffer =
-    let last = length buffer - 16 in
-    let ends = put_chunk last (put_chunk 0 buffer (map (placed sep (take 16 digits)) front)) (map (placed sep (drop 16 digits)) back) in
-    put_chunk (last / 2) ends (map (placed sep (chunk 8 16 digits)) middle)
+    let inner = chunk 16 8 digits ++ chunk 8 8 digits in
+    joined_parts (map (placed sep (take 16 digits)) front) (map (placed sep inner) middle) (map (placed sep (drop 16 digits)) back) buffer
+
+-- places that make of sixteen bytes the text of their pieces, so long, each behind a separator
+abbrev pub ArePlaces : ℕ → ℕ → List ℕ → List ℕ → List ℕ → Type 0
+ArePlaces every size front middle back = (group : Group) (upper : Bool) (bytes buffer : List ℕ)
+    → piece_len group ≡ every
+    → length bytes ≡ 16
+    → length buffer ≡ size
+    → placed_text (separator group) (text upper bytes) front middle back buffer ≡ separated group upper bytes
 
 -- this many fill characters, in UTF-8
 abbrev pub fills : HexFlags → ℕ → List ℕ

@@ -9,31 +9,31 @@ use Rattle.hex_format.proofs.separate.write_blocks.Goals as goal
 
 pub turns-preserved : goal.turns-preserved
 turns-preserved g c =
-    let i = c.turns.i in let to = c.turns.to in let size = g.row.OUT in let so_far = c.turns.invariant in
+    let i = c.turns.i in let to = c.turns.to in let size = 2 * g.row.OUT in let so_far = c.turns.invariant in
     let group = c.args.group in let upper = c.args.upper in let bytes = c.args.bytes.now in
-    let at = 16 * i in let new = c.separate.new.out in
-    let inside : at + 16 ≤ length bytes = omega (arith, c.turns-test.true) in
-    let sixteen : at + 16 - at ≡ 16 = omega arith in
-    let read : c.copy_from_slice.new.self ≡ take 16 (drop at bytes) = rw sixteen at c.copy_from_slice.ensures.after in
-    let shown : new ≡ separated group upper (take 16 (drop at bytes)) = c.separate.ensures ∙ ap (separated group upper) read in
+    let at = 32 * i in let new = c.separate.new.out in
+    let inside : at + 32 ≤ length bytes = omega (arith, c.turns-test.true) in
+    let wide : at + 32 - at ≡ 32 = omega arith in
+    let read : c.copy_from_slice.new.self ≡ take 32 (drop at bytes) = rw wide at c.copy_from_slice.ensures.after in
+    let shown : new ≡ separated group upper (take 32 (drop at bytes)) = c.separate.ensures ∙ ap (separated group upper) read in
     let long : length new ≡ size = omega (arith, c.separate.auto.out, so_far.room, c.requires.thrice, c.requires.room, c.turns.auto.out, inside) in
     let put = take-front_put to (to + size - to) size c.turns.out new (omega (arith, so_far.room, c.requires.room, c.turns.auto.out, inside)) (omega (arith, long)) in
-    let pieces : 16 ≡ 16 / g.row.EVERY * piece_len group = rw c.requires.every (omega (arith, mod-add-div' 16 g.row.EVERY, c.requires.whole)) in
-    let read_to : at + 16 ≡ 16 * (i + 1) = omega arith in
-    let next = bytes-more group upper so_far.whole.0 at 16 bytes so_far.whole.1 (omega (arith, inside)) in
+    let pieces : 32 ≡ 2 * (16 / g.row.EVERY) * piece_len group = rw c.requires.every (grind (arith, mod-add-div' 16 g.row.EVERY, c.requires.whole)) in
+    let read_to : at + 32 ≡ 32 * (i + 1) = omega arith in
+    let next = bytes-more group upper so_far.whole.0 at 32 bytes so_far.whole.1 (omega (arith, inside)) in
     record {
       room = omega (arith, so_far.room, c.requires.thrice);
-      whole = (so_far.whole.0 + 16 / g.row.EVERY, grind (arith, so_far.whole.1, pieces));
+      whole = (so_far.whole.0 + 2 * (16 / g.row.EVERY), grind (arith, so_far.whole.1, pieces));
       written = put ∙ rw (so_far.written, take_all size new (omega (arith, long)) ∙ shown) (rw read_to at next);
     }
 
 pub returns : goal.returns
 returns g c =
     let group = c.args.group in let upper = c.args.upper in let bytes = c.args.bytes.now in
-    let to = c.turns.to in let done = 16 * (length bytes / 16) in let so_far = c.turns.invariant in
-    let last : c.turns.i ≡ length bytes / 16 = omega (arith, c.turns-test.false, c.turns.auto.i-end) in
+    let to = c.turns.to in let done = 32 * (length bytes / 32) in let so_far = c.turns.invariant in
+    let last : c.turns.i ≡ length bytes / 32 = omega (arith, c.turns-test.false, c.turns.auto.i-end) in
     let whole : done ≡ so_far.whole.0 * piece_len group = rw last at so_far.whole.1 in
     let front : take to c.turns.out ≡ separated group upper (take done bytes) = rw last at so_far.written in
-    let back = rw (take_rest bytes done) at c.write_separated.ensures.1 in
-    let put = take-front_put to (length c.turns.out - to) c.write_separated.result c.turns.out c.write_separated.new.out (omega (arith, so_far.room, last, c.turns.auto.out, c.requires.room)) c.write_separated.ensures.0 in
-    (let inside = c.write_separated.ensures.0 in search rules, put ∙ rw (front, back) (behind-whole group upper so_far.whole.0 done bytes whole (omega arith)))
+    let back = rw (take_rest bytes done) at c.write_half.ensures.1 in
+    let put = take-front_put to (length c.turns.out - to) c.write_half.result c.turns.out c.write_half.new.out (omega (arith, so_far.room, last, c.turns.auto.out, c.requires.room)) c.write_half.ensures.0 in
+    (let inside = c.write_half.ensures.0 in search rules, put ∙ rw (front, back) (behind-whole group upper so_far.whole.0 done bytes whole (omega arith)))

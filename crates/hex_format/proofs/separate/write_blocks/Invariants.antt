@@ -5,7 +5,7 @@ use Rattle.hex_format.proofs.separate.write_blocks.Given as goal
 
 abbrev pub invariant-turns : goal.invariant-turns
 invariant-turns g l = record {
-  room : l.to ≤ 48 * l.i;
-  whole : (count : ℕ) × (16 * l.i ≡ count * piece_len l.group);
-  written : take l.to l.out ≡ separated l.group l.upper (take (16 * l.i) l.bytes);
+  room : l.to ≤ 96 * l.i;
+  whole : (count : ℕ) × (32 * l.i ≡ count * piece_len l.group);
+  written : take l.to l.out ≡ separated l.group l.upper (take (32 * l.i) l.bytes);
 }

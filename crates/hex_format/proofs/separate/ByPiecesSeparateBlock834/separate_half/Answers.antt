@@ -1,6 +1,6 @@
 use Rattle.std.proofs.Common.{rules, ◌≡◌, length, refl}
 use Rattle.hex_codec.proofs.ListLemmas.{entries}
-use Rattle.hex_format.proofs.separate.SeparateSeparateBlock834.separate.Goals as goal
+use Rattle.hex_format.proofs.separate.ByPiecesSeparateBlock834.separate_half.Goals as goal
 
 pub returns : goal.returns
 returns c =
