@@ -24,16 +24,23 @@ pub put-behind-first : (sep : ℕ) (old digits : List ℕ) → length old ≡ 1 
 put-behind-first sep [] digits long = absurd (omega arith)
 put-behind-first sep (b ∷ old) digits long = ap (λ l. sep ∷ l) (put_chunk_whole old digits (omega arith))
 
--- one lane, of which the digit or the separator is 0
-lane-placed : (sep at digit : ℕ) (mark : Bool) → sep < 256 → leb 128 at ≡ mark
-    → bit_or (cond (leb 128 at) 0 digit) (bit_and sep (cond (leb 128 at) 255 0)) ≡ cond (leb 128 at) sep digit
-lane-placed sep at digit true byte is = rw is (and_mask sep 8 ∙ omega (arith, byte))
-lane-placed sep at digit false byte is = rw (is, and_zero_r sep) (or_zero_r digit)
+-- one lane that is 0 but for a separator
+lane-separated : (sep : ℕ) (mark : Bool) → sep < 256 → bit_and sep (cond mark 255 0) ≡ cond mark sep 0
+lane-separated sep true byte = and_mask sep 8 ∙ omega (arith, byte)
+lane-separated sep false byte = and_zero_r sep
 
-pub lanes-placed : (sep : ℕ) (digits places : List ℕ) → sep < 256
-    → zip2 bit_or (map (entry digits) places) (zip2 bit_and (replicate (length places) sep) (sel_l (map (leb 128) places) (replicate (length places) 255) (replicate (length places) 0)))
-    ≡ map (placed sep digits) places
-lanes-placed sep digits [] byte = refl
-lanes-placed sep digits (at ∷ places) byte =
-    let here = lane-placed sep at (get_or digits (at % 16) 0) (leb 128 at) byte refl in
-    let rest = lanes-placed sep digits places byte in λ i. here i ∷ rest i
+pub lanes-separated : (sep : ℕ) (places : List ℕ) → sep < 256
+    → zip2 bit_and (replicate (length places) sep) (sel_l (map (leb 128) places) (replicate (length places) 255) (replicate (length places) 0)) ≡ map (placed sep []) places
+lanes-separated sep [] byte = refl
+lanes-separated sep (at ∷ places) byte =
+    let here = lane-separated sep (leb 128 at) byte in let rest = lanes-separated sep places byte in λ i. here i ∷ rest i
+
+-- one lane, of which the digit or the separator is 0
+lane-placed : (sep digit : ℕ) (mark : Bool) → bit_or (cond mark 0 digit) (cond mark sep 0) ≡ cond mark sep digit
+lane-placed sep digit true = refl
+lane-placed sep digit false = or_zero_r digit
+
+pub lanes-placed : (sep : ℕ) (digits places : List ℕ) → zip2 bit_or (map (entry digits) places) (map (placed sep []) places) ≡ map (placed sep digits) places
+lanes-placed sep digits [] = refl
+lanes-placed sep digits (at ∷ places) =
+    let here = lane-placed sep (get_or digits (at % 16) 0) (leb 128 at) in let rest = lanes-placed sep digits places in λ i. here i ∷ rest i

@@ -1,6 +1,6 @@
 //! Texts of pieces, each behind a separator.
 
-ghost use Rattle.std.specs.Prelude.{◌≡◌, ◌∷◌, ◌++◌, ◌+◌, ◌*◌, ◌/◌, ◌%◌, ◌≤◌, drop, length, map, take};
+ghost use Rattle.std.specs.Prelude.{◌≡◌, [], ◌∷◌, ◌++◌, ◌+◌, ◌*◌, ◌/◌, ◌%◌, ◌<◌, ◌≤◌, drop, length, map, take};
 ghost use Rattle.std.specs.Simd.Lanes.{chunk};
 ghost use Rattle.hex_core.specs.Lookup.{entry};
 ghost use Rattle.hex_core.specs.Text.{text};
@@ -206,16 +206,24 @@ fn put_piece<const N: usize>(sep: u8, digits: Simd<u8, N>, out: &mut [u8])
     digits.copy_to_slice(&mut out[1..]);
 }
 
+// The separators at their places, and 0 at those of digits.
+#[inline(always)]
+fn separators_at(places: u8x16, sep: u8) -> u8x16
+    ensures { result ≡ map (placed sep []) places }
+{
+    let marks = places
+        .simd_ge(u8x16::splat(SEP))
+        .select(u8x16::splat(0xff), u8x16::splat(0));
+    u8x16::splat(sep) & marks
+}
+
 // The digits at their places, and separators. These are the same in each block, so they are joined
 // to the digits: a shuffle of both would make them anew.
 #[inline(always)]
 fn placed(digits: u8x16, places: u8x16, sep: u8) -> u8x16
     ensures { result ≡ map (placed sep digits) places }
 {
-    let marks = places
-        .simd_ge(u8x16::splat(SEP))
-        .select(u8x16::splat(0xff), u8x16::splat(0));
-    digits.swizzle_dyn_within::<16>(places & u8x16::splat(0x8f)) | u8x16::splat(sep) & marks
+    digits.swizzle_dyn_within::<16>(places & u8x16::splat(0x8f)) | separators_at(places, sep)
 }
 
 // The same in both halves of a wide vector.
@@ -223,11 +231,7 @@ fn placed(digits: u8x16, places: u8x16, sep: u8) -> u8x16
 fn placed_twice(digits: u8x32, places: u8x16, sep: u8) -> u8x32
     ensures { result ≡ map (placed sep (take 16 digits)) places ++ map (placed sep (drop 16 digits)) places }
 {
-    let both = twice(places);
-    let marks = both
-        .simd_ge(u8x32::splat(SEP))
-        .select(u8x32::splat(0xff), u8x32::splat(0));
-    look_up_within(digits, both) | u8x32::splat(sep) & marks
+    look_up_within(digits, twice(places)) | twice(separators_at(places, sep))
 }
 
 #[inline(always)]
@@ -282,6 +286,21 @@ fn encode_halves(bytes: &[u8; BLOCK], upper: bool) -> (u8x32, u8x32)
     );
     let rows = twice(u8x16::from_array(encode_8(&ALL_DIGITS, upper)));
     (look_up_within(rows, first), look_up_within(rows, last))
+}
+
+// In each half the first eight lanes are those of `last`, and the others those of `first`. Shuffles bound
+// the loop, and of a choice that it knows the compiler makes one: it does not know how small `sep` is.
+#[inline(always)]
+fn inner_halves(first: u8x32, last: u8x32, sep: u8) -> u8x32
+    requires { sep < SEP }
+    ensures { result ≡ chunk 0 8 last ++ (chunk 8 8 first ++ (chunk 16 8 last ++ chunk 24 8 first)) }
+{
+    let lasts = u8x32::from_array([
+        SEP, SEP, SEP, SEP, SEP, SEP, SEP, SEP, 0, 0, 0, 0, 0, 0, 0, 0, SEP, SEP, SEP, SEP, SEP,
+        SEP, SEP, SEP, 0, 0, 0, 0, 0, 0, 0, 0,
+    ]);
+    let choice = (lasts + u8x32::splat(sep)).simd_ge(u8x32::splat(SEP));
+    choice.select(last, first)
 }
 
 // Writes a text by its front, its middle and its back: to both ends of the output, and over what these
@@ -342,18 +361,13 @@ fn put_placed_twice(
     requires least { 4 * HALF ≤ length out.old }
     requires most { length out.old ≤ 6 * HALF }
     requires even { length out.old % 2 ≡ 0 }
+    requires separator { sep < SEP }
     ensures { out.new
         ≡ placed_text sep (text upper (take 16 bytes.now)) front middle back (take (length out.old / 2) out.old)
         ++ placed_text sep (text upper (drop 16 bytes.now)) front middle back (drop (length out.old / 2) out.old) }
 {
     let (first, last) = encode_halves(bytes, upper);
-    let inner = first.shuffle(
-        last,
-        [
-            32, 33, 34, 35, 36, 37, 38, 39, 8, 9, 10, 11, 12, 13, 14, 15, 48, 49, 50, 51, 52, 53,
-            54, 55, 24, 25, 26, 27, 28, 29, 30, 31,
-        ],
-    );
+    let inner = inner_halves(first, last, sep);
     let fronts = halves(placed_twice(first, front, sep));
     let middles = halves(placed_twice(inner, middle, sep));
     let backs = halves(placed_twice(last, back, sep));

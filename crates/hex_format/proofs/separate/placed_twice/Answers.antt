@@ -1,14 +1,12 @@
--- In each half a digit or a separator is looked up, and the other one is 0.
-use Rattle.std.proofs.Common.{◌≡◌, ◌++◌, length, take, drop, leb, replicate, ap₂, ◌∙◌, w8, length-append, arith, ap}
-use Rattle.std.proofs.lemmas.Simd.{tops_compared, zip2_splat_left}
+-- Each half is what a narrow vector is.
+use Rattle.std.proofs.Common.{◌++◌, List, ℕ, map, take, drop, get_or, ap₂}
+use Rattle.std.specs.List.{range_with_len}
 use Rattle.hex_codec.proofs.ListLemmas.{entries}
 use Rattle.hex_format.proofs.SeparateLemmas.{lanes-placed}
 use Rattle.hex_format.proofs.separate.placed_twice.Goals as goal
 
 pub returns : goal.returns
 returns c =
-    let digits = c.args.digits in let places = c.args.places in let both = c.twice-both.result in
-    let long : length both ≡ 32 = omega (arith, ap length c.twice-both.ensures, length-append places places, c.fits-places.0) in
-    let marks = tops_compared w8 leb (replicate 32 128) both ∙ zip2_splat_left leb 128 32 both long in
-    rw (marks, c.look_up_within.ensures, c.twice-both.ensures, entries places 16 c.fits-places.0)
-    (ap₂ (λ a b. a ++ b) (rw (entries places 16 c.fits-places.0) at (lanes-placed c.args.sep (take 16 digits) places c.ranges.sep.fits)) (rw (entries places 16 c.fits-places.0) at (lanes-placed c.args.sep (drop 16 digits) places c.ranges.sep.fits)))
+    let digits = c.args.digits in let places = map (λ i. get_or c.args.places i 0) (range_with_len 0 16) in
+    let left = lanes-placed c.args.sep (take 16 digits) places in let right = lanes-placed c.args.sep (drop 16 digits) places in
+    rw (c.look_up_within.ensures, c.twice.ensures, c.twice-2.ensures, c.separators_at.ensures, entries c.args.places 16 c.fits-places.0) (ap₂ (λ a b. a ++ b) left right)

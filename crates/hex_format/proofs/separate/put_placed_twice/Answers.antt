@@ -1,8 +1,6 @@
 -- Each half of a wide vector is what the half of the bytes makes of a narrow one.
 use Rattle.std.proofs.Common.{◌≡◌, ◌/◌, ◌++◌, rules, length, take, drop, refl, sym, ap, ◌∙◌, arith, take-append-drop, length-drop}
 use Rattle.std.proofs.lemmas.List.{length-take-le}
-use Rattle.std.specs.List.{range_with_len}
-use lib.Lanes.{pick_l}
 use Rattle.hex_core.specs.Text.{text}
 use Rattle.hex_core.proofs.TextLemmas.{length-text, text-append}
 use Rattle.hex_codec.proofs.ListLemmas.{entries}
@@ -21,7 +19,7 @@ returns c =
     let sep = c.args.sep in let first = c.encode_halves.result.0 in let last = c.encode_halves.result.1 in
     let fronts = halves_mapped (placed sep (take 16 first)) (placed sep (drop 16 first)) c.args.front c.fits-front.0 in
     let backs = halves_mapped (placed sep (take 16 last)) (placed sep (drop 16 last)) c.args.back c.fits-back.0 in
-    let inner = pick_l 0 (first ++ last) (range_with_len 32 8 ++ (range_with_len 8 8 ++ (range_with_len 48 8 ++ range_with_len 24 8))) in
+    let inner = c.inner_halves-inner.result in
     let middles = halves_mapped (placed sep (take 16 inner)) (placed sep (drop 16 inner)) c.args.middle c.fits-middle.0 in
     rw (
       c.put_parts.ensures,
@@ -43,6 +41,7 @@ returns c =
       middles.1,
       backs.0,
       backs.1,
+      c.inner_halves-inner.ensures,
       c.encode_halves.ensures.first,
       c.encode_halves.ensures.last,
       parts,
