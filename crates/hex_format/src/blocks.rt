@@ -1,0 +1,320 @@
+//! Blocks of whole pieces, each behind a separator, one lane a byte.
+
+ghost use Rattle.std.specs.Prelude.{◌≡◌, [], ◌∷◌, ◌++◌, ◌+◌, ◌*◌, ◌/◌, ◌%◌, ◌<◌, ◌≤◌, drop, length, map, take};
+ghost use Rattle.std.specs.Simd.Lanes.{chunk};
+ghost use Rattle.hex_core.specs.Lookup.{entry};
+ghost use Rattle.hex_core.specs.Text.{text};
+ghost use Rattle.hex_codec.specs.Grouped.{piece_len, separated};
+ghost use Rattle.hex_format.specs.Frame.{ArePlaces, joined_parts, placed, placed_text};
+
+use hex_codec::Group;
+use hex_core::lanes::{encode_8, encode_16, encode_32};
+use std::simd::prelude::*;
+
+/// How many bytes are separated at a time where whole pieces are so many, and where half as many are left.
+pub const BLOCK: usize = 32;
+
+pub const HALF: usize = 16;
+
+// The place of a separator among those of digits.
+const SEP: u8 = 128;
+
+// The bytes whose text is each digit, in order.
+const ALL_DIGITS: [u8; 8] = [0x01, 0x23, 0x45, 0x67, 0x89, 0xab, 0xcd, 0xef];
+
+// The places of digits where sixteen bytes are whole pieces, each behind a separator: among the first
+// sixteen digits, those in the middle and the last ones. A digit's place is its number modulo 16.
+trait Places<const EVERY: usize, const OUT: usize> {
+    fn places() -> (u8x16, u8x16, u8x16)
+        ensures least { 2 * HALF ≤ OUT }
+        ensures most { OUT ≤ 3 * HALF }
+        ensures places { ArePlaces EVERY OUT result.0 result.1 result.2 };
+}
+
+/// Pieces that are shorter than a vector: each digit is moved to its place.
+pub struct ByPlaces;
+
+impl Places<1, 48> for ByPlaces {
+    #[inline(always)]
+    fn places() -> (u8x16, u8x16, u8x16) {
+        let front = u8x16::from_array([SEP, 0, 1, SEP, 2, 3, SEP, 4, 5, SEP, 6, 7, SEP, 8, 9, SEP]);
+        let middle = u8x16::from_array([
+            10, 11, SEP, 12, 13, SEP, 14, 15, SEP, 0, 1, SEP, 2, 3, SEP, 4,
+        ]);
+        let back = u8x16::from_array([
+            5, SEP, 6, 7, SEP, 8, 9, SEP, 10, 11, SEP, 12, 13, SEP, 14, 15,
+        ]);
+        (front, middle, back)
+    }
+}
+
+impl Places<2, 40> for ByPlaces {
+    #[inline(always)]
+    fn places() -> (u8x16, u8x16, u8x16) {
+        let front = u8x16::from_array([SEP, 0, 1, 2, 3, SEP, 4, 5, 6, 7, SEP, 8, 9, 10, 11, SEP]);
+        let middle = u8x16::from_array([
+            9, 10, 11, SEP, 12, 13, 14, 15, SEP, 0, 1, 2, 3, SEP, 4, 5,
+        ]);
+        let back = u8x16::from_array([3, SEP, 4, 5, 6, 7, SEP, 8, 9, 10, 11, SEP, 12, 13, 14, 15]);
+        (front, middle, back)
+    }
+}
+
+impl Places<4, 36> for ByPlaces {
+    #[inline(always)]
+    fn places() -> (u8x16, u8x16, u8x16) {
+        let front = u8x16::from_array([SEP, 0, 1, 2, 3, 4, 5, 6, 7, SEP, 8, 9, 10, 11, 12, 13]);
+        let middle = u8x16::from_array([8, 9, 10, 11, 12, 13, 14, 15, SEP, 0, 1, 2, 3, 4, 5, 6]);
+        let back = u8x16::from_array([1, 2, 3, 4, 5, 6, 7, SEP, 8, 9, 10, 11, 12, 13, 14, 15]);
+        (front, middle, back)
+    }
+}
+
+/// Blocks and their halves where these are whole pieces, each written behind a separator.
+pub trait SeparateBlock<const EVERY: usize, const OUT: usize> {
+    fn separate(bytes: &[u8; BLOCK], upper: bool, group: Group, out: &mut [u8])
+        requires every { piece_len group ≡ EVERY }
+        requires whole { HALF % EVERY ≡ 0 }
+        requires long { length out.old ≡ 2 * OUT }
+        ensures { out.new ≡ separated group upper bytes.now };
+
+    fn separate_half(bytes: &[u8; HALF], upper: bool, group: Group, out: &mut [u8])
+        requires every { piece_len group ≡ EVERY }
+        requires long { length out.old ≡ OUT }
+        ensures { out.new ≡ separated group upper bytes.now };
+}
+
+impl<const EVERY: usize, const OUT: usize> SeparateBlock<EVERY, OUT> for ByPlaces
+where
+    ByPlaces: Places<EVERY, OUT>,
+{
+    #[inline(always)]
+    fn separate(bytes: &[u8; BLOCK], upper: bool, group: Group, out: &mut [u8]) {
+        let (front, middle, back) = <ByPlaces as Places<EVERY, OUT>>::places();
+        put_placed_twice(bytes, upper, group.sep(), front, middle, back, out);
+    }
+
+    #[inline(always)]
+    fn separate_half(bytes: &[u8; HALF], upper: bool, group: Group, out: &mut [u8]) {
+        let (front, middle, back) = <ByPlaces as Places<EVERY, OUT>>::places();
+        put_placed(bytes, upper, group.sep(), front, middle, back, out);
+    }
+}
+
+/// Pieces of a vector or more: each is written behind a separator.
+pub struct ByPieces;
+
+impl SeparateBlock<8, 34> for ByPieces {
+    #[inline(always)]
+    fn separate(bytes: &[u8; BLOCK], upper: bool, group: Group, out: &mut [u8]) {
+        let digits = encode_32(bytes, upper);
+        let sep = group.sep();
+        put_piece(sep, u8x16::from_slice(&digits), &mut out[..17]);
+        put_piece(sep, u8x16::from_slice(&digits[16..]), &mut out[17..34]);
+        put_piece(sep, u8x16::from_slice(&digits[32..]), &mut out[34..51]);
+        put_piece(sep, u8x16::from_slice(&digits[48..]), &mut out[51..]);
+    }
+
+    #[inline(always)]
+    fn separate_half(bytes: &[u8; HALF], upper: bool, group: Group, out: &mut [u8]) {
+        let digits = encode_16(bytes, upper);
+        let sep = group.sep();
+        put_piece(sep, u8x16::from_slice(&digits), &mut out[..17]);
+        put_piece(sep, u8x16::from_slice(&digits[16..]), &mut out[17..]);
+    }
+}
+
+impl SeparateBlock<16, 33> for ByPieces {
+    #[inline(always)]
+    fn separate(bytes: &[u8; BLOCK], upper: bool, group: Group, out: &mut [u8]) {
+        let digits = encode_32(bytes, upper);
+        let sep = group.sep();
+        put_piece(sep, u8x32::from_slice(&digits), &mut out[..33]);
+        put_piece(sep, u8x32::from_slice(&digits[32..]), &mut out[33..]);
+    }
+
+    #[inline(always)]
+    fn separate_half(bytes: &[u8; HALF], upper: bool, group: Group, out: &mut [u8]) {
+        put_piece(group.sep(), u8x32::from_array(encode_16(bytes, upper)), out);
+    }
+}
+
+// Writes a separator, and behind it the digits of a piece.
+#[inline(always)]
+fn put_piece<const N: usize>(sep: u8, digits: Simd<u8, N>, out: &mut [u8])
+    requires { length out.old ≡ 1 + N }
+    ensures { out.new ≡ sep ∷ digits.entry }
+{
+    out[0] = sep;
+    digits.copy_to_slice(&mut out[1..]);
+}
+
+// The separators at their places, and 0 at those of digits.
+#[inline(always)]
+fn separators_at(places: u8x16, sep: u8) -> u8x16
+    ensures { result ≡ map (placed sep []) places }
+{
+    let marks = places
+        .simd_ge(u8x16::splat(SEP))
+        .select(u8x16::splat(0xff), u8x16::splat(0));
+    u8x16::splat(sep) & marks
+}
+
+// The digits at their places, and separators. These are the same in each block, so they are joined
+// to the digits: a shuffle of both would make them anew.
+#[inline(always)]
+fn placed(digits: u8x16, places: u8x16, sep: u8) -> u8x16
+    ensures { result ≡ map (placed sep digits) places }
+{
+    digits.swizzle_dyn_within::<16>(places & u8x16::splat(0x8f)) | separators_at(places, sep)
+}
+
+// The same in both halves of a wide vector.
+#[inline(always)]
+fn placed_twice(digits: u8x32, places: u8x16, sep: u8) -> u8x32
+    ensures { result ≡ map (placed sep (take 16 digits)) places ++ map (placed sep (drop 16 digits)) places }
+{
+    look_up_within(digits, twice(places)) | twice(separators_at(places, sep))
+}
+
+#[inline(always)]
+fn twice(v: u8x16) -> u8x32
+    ensures { result ≡ v ++ v }
+{
+    v.swizzle([
+        0, 1, 2, 3, 4, 5, 6, 7, 8, 9, 10, 11, 12, 13, 14, 15, 0, 1, 2, 3, 4, 5, 6, 7, 8, 9, 10, 11,
+        12, 13, 14, 15,
+    ])
+}
+
+#[inline(always)]
+fn halves(v: u8x32) -> (u8x16, u8x16)
+    ensures left { result.0 ≡ take 16 v }
+    ensures right { result.1 ≡ drop 16 v }
+{
+    (v.extract::<0, 16>(), v.extract::<16, 16>())
+}
+
+// Each lane is looked up in its half of the rows.
+#[inline(always)]
+fn look_up_within(rows: u8x32, at: u8x32) -> u8x32
+    ensures { result ≡ map (entry (take 16 rows)) (take 16 at) ++ map (entry (drop 16 rows)) (drop 16 at) }
+{
+    rows.swizzle_dyn_within::<16>(at & u8x32::splat(0x8f))
+}
+
+// The text of a block: the first sixteen digits of both halves, and the last ones. No lane leaves its
+// half, which would cost more.
+#[inline(always)]
+fn encode_halves(bytes: &[u8; BLOCK], upper: bool) -> (u8x32, u8x32)
+    ensures first { result.0 ≡ chunk 0 16 (text upper bytes.now) ++ chunk 32 16 (text upper bytes.now) }
+    ensures last { result.1 ≡ chunk 16 16 (text upper bytes.now) ++ chunk 48 16 (text upper bytes.now) }
+{
+    let v = u8x32::from_array(*bytes);
+    let high = v >> u8x32::splat(4);
+    let low = v & u8x32::splat(0x0f);
+    let first = high.shuffle(
+        low,
+        [
+            0, 32, 1, 33, 2, 34, 3, 35, 4, 36, 5, 37, 6, 38, 7, 39, 16, 48, 17, 49, 18, 50, 19, 51,
+            20, 52, 21, 53, 22, 54, 23, 55,
+        ],
+    );
+    let last = high.shuffle(
+        low,
+        [
+            8, 40, 9, 41, 10, 42, 11, 43, 12, 44, 13, 45, 14, 46, 15, 47, 24, 56, 25, 57, 26, 58,
+            27, 59, 28, 60, 29, 61, 30, 62, 31, 63,
+        ],
+    );
+    let rows = twice(u8x16::from_array(encode_8(&ALL_DIGITS, upper)));
+    (look_up_within(rows, first), look_up_within(rows, last))
+}
+
+// In each half the first eight lanes are those of `last`, and the others those of `first`. Shuffles bound
+// the loop, and of a choice that it knows the compiler makes one: it does not know how small `sep` is.
+#[inline(always)]
+fn inner_halves(first: u8x32, last: u8x32, sep: u8) -> u8x32
+    requires { sep < SEP }
+    ensures { result ≡ chunk 0 8 last ++ (chunk 8 8 first ++ (chunk 16 8 last ++ chunk 24 8 first)) }
+{
+    let lasts = u8x32::from_array([
+        SEP, SEP, SEP, SEP, SEP, SEP, SEP, SEP, 0, 0, 0, 0, 0, 0, 0, 0, SEP, SEP, SEP, SEP, SEP,
+        SEP, SEP, SEP, 0, 0, 0, 0, 0, 0, 0, 0,
+    ]);
+    let choice = (lasts + u8x32::splat(sep)).simd_ge(u8x32::splat(SEP));
+    choice.select(last, first)
+}
+
+// Writes a text by its front, its middle and its back: to both ends of the output, and over what these
+// have in common.
+#[inline(always)]
+fn put_parts(front: u8x16, middle: u8x16, back: u8x16, out: &mut [u8])
+    requires least { 2 * HALF ≤ length out.old }
+    requires most { length out.old ≤ 3 * HALF }
+    ensures { out.new ≡ joined_parts front middle back out.old }
+{
+    let last = out.len() - HALF;
+    front.copy_to_slice(out);
+    back.copy_to_slice(&mut out[last..]);
+    middle.copy_to_slice(&mut out[last / 2..]);
+}
+
+// Writes the text of half a block, its digits moved to their places.
+#[inline(always)]
+fn put_placed(
+    bytes: &[u8; HALF],
+    upper: bool,
+    sep: u8,
+    front: u8x16,
+    middle: u8x16,
+    back: u8x16,
+    out: &mut [u8],
+)
+    requires least { 2 * HALF ≤ length out.old }
+    requires most { length out.old ≤ 3 * HALF }
+    ensures { out.new ≡ placed_text sep (text upper bytes.now) front middle back out.old }
+{
+    let digits = encode_16(bytes, upper);
+    let first = u8x16::from_slice(&digits);
+    let last = u8x16::from_slice(&digits[HALF..]);
+    let inner = first.shuffle(
+        last,
+        [16, 17, 18, 19, 20, 21, 22, 23, 8, 9, 10, 11, 12, 13, 14, 15],
+    );
+    put_parts(
+        placed(first, front, sep),
+        placed(inner, middle, sep),
+        placed(last, back, sep),
+        out,
+    );
+}
+
+// The same of both halves of a block.
+#[inline(always)]
+fn put_placed_twice(
+    bytes: &[u8; BLOCK],
+    upper: bool,
+    sep: u8,
+    front: u8x16,
+    middle: u8x16,
+    back: u8x16,
+    out: &mut [u8],
+)
+    requires least { 4 * HALF ≤ length out.old }
+    requires most { length out.old ≤ 6 * HALF }
+    requires even { length out.old % 2 ≡ 0 }
+    requires separator { sep < SEP }
+    ensures { out.new
+        ≡ placed_text sep (text upper (take 16 bytes.now)) front middle back (take (length out.old / 2) out.old)
+        ++ placed_text sep (text upper (drop 16 bytes.now)) front middle back (drop (length out.old / 2) out.old) }
+{
+    let (first, last) = encode_halves(bytes, upper);
+    let inner = inner_halves(first, last, sep);
+    let fronts = halves(placed_twice(first, front, sep));
+    let middles = halves(placed_twice(inner, middle, sep));
+    let backs = halves(placed_twice(last, back, sep));
+    let (left, right) = out.split_at_mut(out.len() / 2);
+    put_parts(fronts.0, middles.0, backs.0, left);
+    put_parts(fronts.1, middles.1, backs.1, right);
+}
