@@ -207,8 +207,8 @@ fn look_up_within(rows: u8x32, at: u8x32) -> u8x32
 // half, which would cost more.
 #[inline(always)]
 fn encode_halves(bytes: &[u8; BLOCK], upper: bool) -> (u8x32, u8x32)
-    ensures first { result.0 ≡ chunk 0 16 (text upper bytes.now) ++ chunk 32 16 (text upper bytes.now) }
-    ensures last { result.1 ≡ chunk 16 16 (text upper bytes.now) ++ chunk 48 16 (text upper bytes.now) }
+    ensures { (result.0 ≡ chunk 0 16 (text upper bytes.now) ++ chunk 32 16 (text upper bytes.now))
+        × (result.1 ≡ chunk 16 16 (text upper bytes.now) ++ chunk 48 16 (text upper bytes.now)) }
 {
     let v = u8x32::from_array(*bytes);
     let high = v >> u8x32::splat(4);
