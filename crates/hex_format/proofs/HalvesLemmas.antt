@@ -2,7 +2,6 @@
 use Rattle.std.proofs.Common.{◌≡◌, ℕ, suc, ◌+◌, ◌*◌, ◌/◌, ◌%◌, List, [], ◌∷◌, ◌++◌, cond, length, get_or, map, take, drop, refl, sym, ap, ap₂, ◌∙◌, arith, Fits, w8, take-append-drop, length-drop}
 use Rattle.std.proofs.lemmas.List.{get_or-drop, get_or-take, length-take-le, length-map, map-append, take_all}
 use Rattle.std.proofs.lemmas.Simd.{Each1-chunk, swz_l}
-use Rattle.std.proofs.Math.Seq.{drop-append_seam, take-append_seam}
 use lib.Lanes.{Each1}
 use mir.Val.{zeroes}
 use Rattle.hex_core.specs.Lookup.{entry}
@@ -33,10 +32,3 @@ look_up_halves t v js f is =
     ∙ ap₂ (λ a b. a ++ b)
     (look_up_is 1 16 (take 16 t) t left (map slot left) (left_long, Each1-chunk (Fits w8) 0 16 v f.1) refl refl front)
     (looked_up-behind t (map slot right) 16 0 refl ∙ look_up_is 1 16 (drop 16 t) (drop 16 t) right (map slot right) (right_long, right_fits) refl refl back)
-
--- the halves of what was made by halves
-pub halves_mapped : (f g : ℕ → ℕ) (places : List ℕ) → length places ≡ 16
-    → (take 16 (map f places ++ map g places) ≡ map f places) × (drop 16 (map f places ++ map g places) ≡ map g places)
-halves_mapped f g places long =
-    let size : length (map f places) ≡ 16 = length-map places f ∙ long in
-    (rw size at (take-append_seam (map f places) (map g places)), rw size at (drop-append_seam (map f places) (map g places)))

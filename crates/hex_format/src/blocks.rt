@@ -169,12 +169,14 @@ fn placed(digits: u8x16, places: u8x16, sep: u8) -> u8x16
     digits.swizzle_dyn_within::<16>(places & u8x16::splat(0x8f)) | separators_at(places, sep)
 }
 
-// The same in both halves of a wide vector.
+// The same of both halves of a wide vector.
 #[inline(always)]
-fn placed_twice(digits: u8x32, places: u8x16, sep: u8) -> u8x32
-    ensures { result ≡ map (placed sep (take 16 digits)) places ++ map (placed sep (drop 16 digits)) places }
+fn placed_twice(digits: u8x32, places: u8x16, sep: u8) -> (u8x16, u8x16)
+    ensures { (result.0 ≡ map (placed sep (take 16 digits)) places)
+        × (result.1 ≡ map (placed sep (drop 16 digits)) places) }
 {
-    look_up_within(digits, twice(places)) | twice(separators_at(places, sep))
+    let both = look_up_within(digits, twice(places)) | twice(separators_at(places, sep));
+    (both.extract::<0, 16>(), both.extract::<16, 16>())
 }
 
 #[inline(always)]
@@ -185,14 +187,6 @@ fn twice(v: u8x16) -> u8x32
         0, 1, 2, 3, 4, 5, 6, 7, 8, 9, 10, 11, 12, 13, 14, 15, 0, 1, 2, 3, 4, 5, 6, 7, 8, 9, 10, 11,
         12, 13, 14, 15,
     ])
-}
-
-#[inline(always)]
-fn halves(v: u8x32) -> (u8x16, u8x16)
-    ensures left { result.0 ≡ take 16 v }
-    ensures right { result.1 ≡ drop 16 v }
-{
-    (v.extract::<0, 16>(), v.extract::<16, 16>())
 }
 
 // Each lane is looked up in its half of the rows.
@@ -311,9 +305,9 @@ fn put_placed_twice(
 {
     let (first, last) = encode_halves(bytes, upper);
     let inner = inner_halves(first, last, sep);
-    let fronts = halves(placed_twice(first, front, sep));
-    let middles = halves(placed_twice(inner, middle, sep));
-    let backs = halves(placed_twice(last, back, sep));
+    let fronts = placed_twice(first, front, sep);
+    let middles = placed_twice(inner, middle, sep);
+    let backs = placed_twice(last, back, sep);
     let (left, right) = out.split_at_mut(out.len() / 2);
     put_parts(fronts.0, middles.0, backs.0, left);
     put_parts(fronts.1, middles.1, backs.1, right);
