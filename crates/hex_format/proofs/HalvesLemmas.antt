@@ -1,5 +1,5 @@
 -- Vectors of 32 lanes, each half of which is looked up by itself.
-use Rattle.std.proofs.Common.{◌≡◌, ℕ, suc, ◌+◌, ◌*◌, ◌/◌, ◌%◌, List, [], ◌∷◌, ◌++◌, cond, length, get_or, map, take, drop, refl, sym, ap, ap₂, ◌∙◌, arith, Fits, w8, take-append-drop, length-drop}
+use Rattle.std.proofs.Common.{◌≡◌, ℕ, suc, ◌+◌, ◌*◌, ◌/◌, List, [], ◌∷◌, ◌++◌, cond, length, get_or, map, take, drop, refl, sym, ap, ap₂, ◌∙◌, arith, Fits, w8, take-append-drop, length-drop}
 use Rattle.std.proofs.lemmas.List.{get_or-drop, get_or-take, length-take-le, length-map, map-append, take_all}
 use Rattle.std.proofs.lemmas.Simd.{Each1-chunk, swz_l}
 use lib.Lanes.{Each1}

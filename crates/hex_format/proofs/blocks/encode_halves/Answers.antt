@@ -1,9 +1,8 @@
 -- The nibbles of each half are taken in turn, and looked up among the digits.
-use Rattle.std.proofs.Common.{◌≡◌, ◌<◌, ℕ, List, rules, length, get_or, map, refl, ap, ◌∙◌, arith, Fits, w8}
+use Rattle.std.proofs.Common.{◌≡◌, ◌<◌, ℕ, rules, length, get_or, refl, ap, ◌∙◌, arith, Fits, w8}
 use Rattle.std.proofs.lemmas.List.FromFn.{get_or-map-range_with_len}
 use Rattle.std.proofs.lemmas.Simd.{Each1-from_get_or}
 use Rattle.hex_core.specs.Digit.{digit}
-use Rattle.hex_core.specs.Text.{text}
 use Rattle.hex_core.proofs.ByteLemmas.{looked_up_text}
 use Rattle.hex_codec.proofs.ListLemmas.{entries}
 use Rattle.hex_format.proofs.blocks.encode_halves.Goals as goal

@@ -1,5 +1,5 @@
 -- A separator is below 128, so it carries no lane past that, or back.
-use Rattle.std.proofs.Common.{◌≡◌, ◌+◌, ◌%◌, ℕ, Bool, true, List, ◌++◌, cond, leb, map, replicate, subst, refl, sym, arith}
+use Rattle.std.proofs.Common.{◌≡◌, ◌+◌, ◌%◌, ℕ, Bool, true, List, ◌++◌, cond, leb, replicate, subst, refl, sym, arith}
 use Rattle.std.proofs.lemmas.Bool.{le-leb, lt-leb}
 use lib.Lanes.{chunk, sel_l, top}
 use Rattle.hex_codec.proofs.ListLemmas.{entries}

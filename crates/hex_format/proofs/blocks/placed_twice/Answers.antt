@@ -1,5 +1,5 @@
 -- Each half is what a narrow vector is.
-use Rattle.std.proofs.Common.{List, ℕ, map, take, drop, get_or}
+use Rattle.std.proofs.Common.{map, take, drop, get_or}
 use Rattle.std.specs.List.{range_with_len}
 use Rattle.hex_codec.proofs.ListLemmas.{entries}
 use Rattle.hex_format.proofs.SeparateLemmas.{lanes-placed}

@@ -1,5 +1,5 @@
 -- Each half of a wide vector is what the half of the bytes makes of a narrow one.
-use Rattle.std.proofs.Common.{◌≡◌, ◌/◌, ◌++◌, rules, length, take, drop, refl, sym, ap, ◌∙◌, arith, take-append-drop, length-drop}
+use Rattle.std.proofs.Common.{◌≡◌, ◌++◌, rules, length, take, drop, refl, sym, ap, ◌∙◌, arith, take-append-drop, length-drop}
 use Rattle.std.proofs.lemmas.List.{length-take-le}
 use Rattle.hex_core.specs.Text.{text}
 use Rattle.hex_core.proofs.TextLemmas.{length-text, text-append}

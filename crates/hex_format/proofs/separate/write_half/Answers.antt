@@ -1,8 +1,8 @@
 -- Half a block is written, and what is behind it a piece at a time.
-use Rattle.std.proofs.Common.{rules, ◌≡◌, ◌≤◌, ◌+◌, ◌-◌, ◌*◌, ◌/◌, ◌++◌, length, take, drop, ap, ◌∙◌, arith, length-append, length-drop}
+use Rattle.std.proofs.Common.{rules, ◌≡◌, ◌≤◌, ◌-◌, ◌*◌, ◌/◌, ◌++◌, length, take, drop, ap, ◌∙◌, arith, length-append}
 use Rattle.std.proofs.Math.Nat.{mod-add-div'}
 use Rattle.std.proofs.Math.Seq.{take-append_seam}
-use Rattle.std.proofs.lemmas.List.{length-take-le, take_all, take_rest}
+use Rattle.std.proofs.lemmas.List.{length-take-le, take_rest}
 use Rattle.hex_codec.specs.Grouped.{piece_len, separated}
 use Rattle.hex_codec.proofs.ListLemmas.{take-front_put}
 use Rattle.hex_format.proofs.GroupFacts.{behind-whole}

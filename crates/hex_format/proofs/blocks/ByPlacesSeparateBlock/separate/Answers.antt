@@ -1,5 +1,5 @@
 -- A block is the text of both its halves.
-use Rattle.std.proofs.Common.{◌≡◌, ◌+◌, ◌*◌, ◌/◌, ◌++◌, rules, length, take, drop, ap₂, ◌∙◌, arith, length-drop}
+use Rattle.std.proofs.Common.{◌≡◌, ◌*◌, ◌/◌, ◌++◌, rules, length, take, drop, ap₂, ◌∙◌, arith, length-drop}
 use Rattle.std.proofs.Math.Nat.{mod-add-div'}
 use Rattle.std.proofs.lemmas.List.{length-take-le}
 use Rattle.hex_codec.specs.Grouped.{piece_len}
