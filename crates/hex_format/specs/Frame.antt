@@ -66,7 +66,7 @@ joined_parts front middle back buffer =
     put_chunk (last / 2) (put_chunk last (put_chunk 0 buffer front) back) middle
 
 -- the text of sixteen bytes, its digits moved by three vectors of places: the first sixteen, those in the
--- middle and the last ones, each in order of its number modulo 16
+-- middle and the last sixteen, each from the lane of its number modulo 16
 abbrev pub placed_text : ℕ → List ℕ → List ℕ → List ℕ → List ℕ → List ℕ → List ℕ
 placed_text sep digits front middle back buffer =
     let inner = chunk 16 8 digits ++ chunk 8 8 digits in

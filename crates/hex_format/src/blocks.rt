@@ -22,8 +22,8 @@ const SEP: u8 = 128;
 // The bytes whose text is each digit, in order.
 const ALL_DIGITS: [u8; 8] = [0x01, 0x23, 0x45, 0x67, 0x89, 0xab, 0xcd, 0xef];
 
-// The places of digits where sixteen bytes are whole pieces, each behind a separator: among the first
-// sixteen digits, those in the middle and the last ones. A digit's place is its number modulo 16.
+// Where the text of sixteen bytes, whole pieces behind separators, has its digits from: for its front, its
+// middle and its back. A digit's place is its number modulo 16.
 trait Places<const EVERY: usize, const OUT: usize> {
     fn places() -> (u8x16, u8x16, u8x16)
         ensures least { 2 * HALF ≤ OUT }
