@@ -120,7 +120,7 @@ pair_bytes_fit (x ∷ xs) = (record { fits = omega arith }, pair_bytes_fit xs)
 
 -- ---- tests of all lanes
 
-or_zero : (x y : ℕ) → (bit_or x y ≡ 0) ↔ ((x ≡ 0) × (y ≡ 0))
+pub or_zero : (x y : ℕ) → (bit_or x y ≡ 0) ↔ ((x ≡ 0) × (y ≡ 0))
 or_zero x y = (λ e. (omega (arith, e, le_or_l x y), omega (arith, e, le_or_r x y)), λ p. rw (p.0, p.1) refl)
 
 -- the bits of all lanes together are none exactly where each lane is 0
