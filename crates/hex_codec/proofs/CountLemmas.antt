@@ -114,7 +114,7 @@ module _ (every : ℕ) where
       omega (arith, digits-of s, whole, size, lines count)
 
 -- so a text has no fewer bytes, and a front that was copied
-pub fewer : (group : Group) (text new : List ℕ) (front : Front) → UnseparatesFront group text new front → front.digits ≤ front.len
+pub fewer : {tested : ℕ} (group : Group) (text new : List ℕ) (front : Front) → UnseparatesFront tested group text new front → front.digits ≤ front.len
 fewer group text new front bare =
     omega (arith, ap length bare.copied, digits-of (piece_len group) (take front.len text), length-take-le front.len text bare.inside, length-take-le front.digits new bare.room)
 

@@ -1,9 +1,11 @@
 -- Parts of a text, and those behind them.
-use Rattle.std.proofs.Common.{◌≡◌, ℕ, ◌+◌, ◌*◌, ◌<◌, ◌≤◌, List, [], ◌∷◌, ◌++◌, length, take, drop, refl, sym, ap, ◌∙◌, arith, All, append-nil, length-append, length-drop, take-append-drop, get_or, ◌-◌}
+use Rattle.std.proofs.Common.{◌≡◌, ℕ, ◌+◌, ◌*◌, ◌<◌, ◌≤◌, List, [], ◌∷◌, ◌++◌, length, take, drop, refl, sym, ap, ◌∙◌, arith, All, bit_xor, append-nil, length-append, length-drop, take-append-drop, get_or, ◌-◌}
 use Rattle.std.proofs.lemmas.Grind.{flat_map-append}
 use Rattle.std.proofs.lemmas.List.{drop-take, drop_all, drop_more, length-take-le, take_all, take-take}
 use Rattle.std.proofs.lemmas.List.Elements.{All-append, All-cons, All-nil}
 use Rattle.std.specs.List.{flat_map}
+use lib.Bits.{xor_assoc, xor_self, xor_zero_r}
+use Rattle.std.specs.Int.Bits.{xor_zero_l}
 use Rattle.hex_codec.specs.declared.group.Group.{Group}
 use Rattle.hex_codec.specs.declared.unseparate.Front.{Front}
 use Rattle.hex_codec.specs.Grouped.{piece_len, separator}
@@ -47,12 +49,12 @@ unparted every (b ∷ s) fits =
     (rw (one, append-nil (take (2 * every) all)) (take_all (2 * every) all fits), rw (one, append-nil (drop (2 * every) all)) (drop_all (2 * every) all fits))
 
 -- the digits of the next parts are copied behind those before them
-pub unseparates-more : {group : Group} {text new new' : List ℕ} {front : Front} (step more : ℕ) → UnseparatesFront group text new front
+pub unseparates-more : {tested : ℕ} {group : Group} {text new new' : List ℕ} {front : Front} (step more : ℕ) → UnseparatesFront tested group text new front
     → front.len + step ≤ length text → front.digits + more ≤ length new' → IsWhole (piece_len group) step
-    → All (λ b. b ≡ separator group) (separators_in (piece_len group) (take step (drop front.len text)))
+    → (0 < tested → All (λ b. b ≡ separator group) (separators_in (piece_len group) (take step (drop front.len text))))
     → take (front.digits + more) new' ≡ take front.digits new ++ digits_in (piece_len group) (take step (drop front.len text))
-    → UnseparatesFront group text new' (record { len = front.len + step; digits = front.digits + more })
-unseparates-more {group} {text} {new} {new'} {front} step more before inside room whole separated copied =
+    → UnseparatesFront tested group text new' (record { len = front.len + step; digits = front.digits + more })
+unseparates-more {tested} {group} {text} {new} {new'} {front} step more before inside room whole separated copied =
     let every = piece_len group in
     let all = take (front.len + step) text in
     let within : front.len ≤ length all = omega (arith, length-take-le (front.len + step) text inside) in
@@ -62,12 +64,12 @@ unseparates-more {group} {text} {new} {new'} {front} step more before inside roo
       inside = inside;
       room = room;
       whole = record { count = before.whole.count + whole.count; lines = grind (arith, before.whole.lines, whole.lines) };
-      separated = rw (joined (drop (2 * every)) every front.len all within before.whole, first, next) (All-append (λ b. b ≡ separator group) _ _ before.separated separated);
+      separated = λ t. rw (joined (drop (2 * every)) every front.len all within before.whole, first, next) (All-append (λ b. b ≡ separator group) _ _ (before.separated t) (separated t));
       copied = rw (joined (take (2 * every)) every front.len all within before.whole, first, next, ← before.copied) copied;
     }
 
 -- at last those of the last part are copied
-pub unseparates-last : {group : Group} {text new new' : List ℕ} {front : Front} → UnseparatesFront group text new front
+pub unseparates-last : {group : Group} {text new new' : List ℕ} {front : Front} → UnseparatesFront 1 group text new front
     → length text - front.len ≤ 2 * piece_len group
     → take (front.digits + (length text - front.len)) new' ≡ take front.digits new ++ drop front.len text → UnseparatesAll group text new'
 unseparates-last {group} {text} {new} {new'} {front} before short copied =
@@ -81,7 +83,7 @@ unseparates-last {group} {text} {new} {new'} {front} before short copied =
     let size : length (digits_in every text) ≡ front.digits + (length text - front.len) = omega (arith, sum, left, length-take-le front.digits new before.room) in
     record {
       separated = rw (joined (drop (2 * every)) every front.len text before.inside before.whole, last.1, append-nil (separators_in every (take front.len text)))
-          before.separated;
+          (before.separated (omega arith));
       copied = rw size (copied ∙ sym all);
     }
 
@@ -101,3 +103,7 @@ part-separator every sep s long here =
     let size = length-take-le (2 * every + 1) s (omega arith) in
     rw (one_part every (take (2 * every + 1) s) (omega (arith, size)) (omega (arith, size)), one_separator (2 * every) s long)
     (All-cons (λ b. b ≡ sep) (get_or s (2 * every) 0) [] here (All-nil _))
+
+-- two bytes without a difference
+pub no_difference : (x y : ℕ) → bit_xor x y ≡ 0 → x ≡ y
+no_difference x y e = sym (xor_zero_r x) ∙ ap (bit_xor x) (sym (xor_self y)) ∙ sym (xor_assoc x y y) ∙ ap (λ z. bit_xor z y) e ∙ xor_zero_l y

@@ -80,12 +80,12 @@ pub record Copied (group : Group) (s new : List ℕ) (at left : ℕ) (front : Fr
   pub even : front.digits % 2 ≡ 0
   pub room : front.digits ≤ 2 * left
 
-pub copied : {c : CheckCase} {group : Group} {s dst new : List ℕ} {at done : ℕ} {front : Front} → WritesFront c group s dst at done
-    → at ≤ length s → UnseparatesFront group (take (length s - at) (drop at s)) new front → Copied group s new at (length dst - done) front
-copied {c} {group} {s} {dst} {new} {at} {done} {front} so_far reached bare =
+pub copied : {tested : ℕ} {c : CheckCase} {group : Group} {s dst new : List ℕ} {at done : ℕ} {front : Front} → WritesFront c group s dst at done
+    → at ≤ length s → UnseparatesFront tested group (take (length s - at) (drop at s)) new front → Copied group s new at (length dst - done) front
+copied {tested} {c} {group} {s} {dst} {new} {at} {done} {front} so_far reached bare =
     let every = piece_len group in
     let rest = drop at s in
-    let next : UnseparatesFront group rest new front = rw (take_rest s at) at bare in
+    let next : UnseparatesFront tested group rest new front = rw (take_rest s at) at bare in
     let cut : digits_in every rest ≡ take front.digits new ++ digits_in every (drop front.len rest) = rw next.copied
     (joined (take (2 * every)) every front.len rest next.inside next.whole) in
     let size = length-take-le front.digits new next.room in

@@ -156,13 +156,13 @@ module _ (c : CheckCase) (group : Group) where
   }
 
   -- whole parts whose digits were copied, and are valid
-  pub clears-copied : (s new : List ℕ) (at : ℕ) (front : Front) → ClearsFront c group s at → UnseparatesFront group (take (length s - at) (drop at s)) new front
+  pub clears-copied : (s new : List ℕ) (at : ℕ) (front : Front) → ClearsFront c group s at → UnseparatesFront 1 group (take (length s - at) (drop at s)) new front
       → first_invalid c (take front.digits new) ≡ None → ClearsFront c group s (at + front.len)
   clears-copied s new at front before bare valid =
       let rest = drop at s in
-      let next : UnseparatesFront group rest new front = rw (take_rest s at) at bare in
+      let next : UnseparatesFront 1 group rest new front = rw (take_rest s at) at bare in
       let size = length-take-le front.len rest next.inside in
-      let none = none-wrong (take front.len rest) (record { valid = rw next.copied at valid; separated = next.separated }) in
+      let none = none-wrong (take front.len rest) (record { valid = rw next.copied at valid; separated = next.separated (omega arith) }) in
       clears-more s at front.len before (omega (arith, next.inside, length-drop at s, before.inside)) (whole-clear rest front.len next.inside next.whole (λ k lt.
       rw (get_or-take front.len rest k 0 lt) at (none_told (is_wrong c group (take front.len rest)) _ none k (omega (arith, lt, size)))))
 

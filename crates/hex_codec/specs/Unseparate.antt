@@ -1,5 +1,5 @@
 -- Fronts of grouped texts that are whole parts: copied, tested and written.
-use Rattle.std.specs.Prelude.{◌≡◌, ℕ, ◌*◌, ◌+◌, ◌-◌, ◌≤◌, List, ◌++◌, length, take, drop, All, None, option_map}
+use Rattle.std.specs.Prelude.{◌≡◌, ℕ, ◌*◌, ◌+◌, ◌-◌, ◌≤◌, ◌<◌, List, ◌++◌, length, take, drop, All, None, option_map}
 use Rattle.hex_core.specs.declared.digit.CheckCase.{CheckCase}
 use Rattle.hex_core.specs.Search.{first_invalid}
 use Rattle.hex_core.specs.Text.{Spells}
@@ -17,12 +17,13 @@ pub record IsWhole (every len : ℕ) : Type 0 where
 abbrev pub TakesSeparators : ℕ → ℕ → ℕ → List ℕ → List ℕ → Type 0
 TakesSeparators every len count block lanes = IsWhole every len × (take count lanes ≡ separators_in every (take len block))
 
--- the front is whole parts, its separators are the group's, and its digits were copied
-pub record UnseparatesFront (group : Group) (text new : List ℕ) (front : Front) : Type 0 where
+-- the front is whole parts, its separators are the group's if they are tested, and its digits were
+-- copied
+pub record UnseparatesFront (tested : ℕ) (group : Group) (text new : List ℕ) (front : Front) : Type 0 where
   pub inside : front.len ≤ length text
   pub room : front.digits ≤ length new
   pub whole : IsWhole (piece_len group) front.len
-  pub separated : All (λ b. b ≡ separator group) (separators_in (piece_len group) (take front.len text))
+  pub separated : 0 < tested → All (λ b. b ≡ separator group) (separators_in (piece_len group) (take front.len text))
   pub copied : take front.digits new ≡ digits_in (piece_len group) (take front.len text)
 
 -- the separators of all of a text are the group's, and its digits were copied

@@ -52,6 +52,7 @@ pub enum GroupFault {
 const LARGE: usize = 12_288;
 
 // How many bytes have a grouped text of this length.
+#[inline(always)]
 fn byte_count(len: usize, every: usize) -> Option<usize>
     requires { 0 < every }
     ensures { result ≡ byte_count every len }
@@ -65,6 +66,22 @@ fn byte_count(len: usize, every: usize) -> Option<usize>
         return None;
     }
     Some(len / part * every + last / 2)
+}
+
+// The same by a divisor that is known, where pieces have a usual length: to divide by another takes
+// about as long as to decode a short text.
+fn byte_count_of(len: usize, every: usize) -> Option<usize>
+    requires { 0 < every }
+    ensures { result ≡ byte_count every len }
+{
+    match every {
+        1 => byte_count(len, 1),
+        2 => byte_count(len, 2),
+        4 => byte_count(len, 4),
+        8 => byte_count(len, 8),
+        16 => byte_count(len, 16),
+        _ => byte_count(len, every),
+    }
 }
 
 // The digits before the first separator, or all bytes where there is none.
@@ -121,7 +138,7 @@ fn clear_front(src: &[u8], group: Group, case: CheckCase) -> usize
     let mut buffer = [0; LARGE];
     let mut at = 0;
     'fronts: loop {
-        let front = unseparate(&src[at..], group, &mut buffer);
+        let front = unseparate::<1>(&src[at..], group, &mut buffer);
         if front.len == 0 || !Backend::plain().check(&buffer[..front.digits], case) {
             return at;
         }
@@ -148,7 +165,7 @@ fn write_front(src: &[u8], dst: &mut [u8], group: Group, case: CheckCase) -> Fro
     }
     let mut buffer = [0; LARGE];
     'fronts: loop {
-        let front = unseparate(&src[done.len..], group, &mut buffer);
+        let front = unseparate::<0>(&src[done.len..], group, &mut buffer);
         if front.len == 0 {
             return done;
         }
@@ -249,7 +266,7 @@ fn read_whole(src: &[u8], dst: &mut [u8], group: Group, case: CheckCase) -> Opti
 fn required(len: usize, room: usize, group: Group) -> Result<usize, GroupFault>
     ensures { CountsBytes (piece_len group) len room result }
 {
-    let Some(required) = byte_count(len, group.every()) else {
+    let Some(required) = byte_count_of(len, group.every()) else {
         return Err(GroupFault::BadLength);
     };
     if room < required {

@@ -1,6 +1,6 @@
 //! Parts of a grouped text, without their separators.
 
-ghost use Rattle.std.specs.Prelude.{◌≡◌, ◌*◌, ◌-◌, ◌≤◌, All, length, take};
+ghost use Rattle.std.specs.Prelude.{◌≡◌, ◌*◌, ◌-◌, ◌≤◌, ◌<◌, All, length, take};
 ghost use Rattle.std.specs.Bool.{OnTrue};
 ghost use Rattle.hex_core.specs.Arithmetic.{AreZero};
 ghost use Rattle.hex_codec.specs.Grouped.{piece_len};
@@ -29,44 +29,45 @@ const BLOCK: usize = 16;
 
 const WHOLE: usize = 15;
 
-/// Copies the digits of whole parts at the front of a text, as many as find room and none behind
-/// another separator, and returns that front.
-pub fn unseparate(text: &[u8], group: Group, digits: &mut [u8]) -> Front
-    ensures { UnseparatesFront group text.now digits.new result }
+/// Copies the digits of whole parts at the front of a text, as many as find room, and returns that
+/// front. Where `TESTED`, how many separators of a part are tested, is 0, they may be others.
+/// Else none of these digits stands behind another separator.
+pub fn unseparate<const TESTED: usize>(text: &[u8], group: Group, digits: &mut [u8]) -> Front
+    ensures { UnseparatesFront TESTED group text.now digits.new result }
 {
     let len = text.len().min(digits.len());
-    unseparate_front(&text[..len], group, digits)
+    unseparate_front::<TESTED>(&text[..len], group, digits)
 }
 
 // The same where all of the text finds room. Each length has a body of its own, whose copies have a
 // known length.
-fn unseparate_front(text: &[u8], group: Group, digits: &mut [u8]) -> Front
+fn unseparate_front<const TESTED: usize>(text: &[u8], group: Group, digits: &mut [u8]) -> Front
     requires { length text.now ≤ length digits.old }
-    ensures { UnseparatesFront group text.now digits.new result }
+    ensures { UnseparatesFront TESTED group text.now digits.new result }
 {
     match group.every() {
         1 => {
-            let front = unseparate_blocks::<1, 10>(text, group, digits);
-            unseparate_parts::<2>(text, front, group, digits)
+            let front = unseparate_blocks::<1, 10, TESTED>(text, group, digits);
+            unseparate_pieces::<2, TESTED>(text, front, group, digits)
         }
         2 => {
-            let front = unseparate_blocks::<2, 12>(text, group, digits);
-            unseparate_parts::<4>(text, front, group, digits)
+            let front = unseparate_blocks::<2, 12, TESTED>(text, group, digits);
+            unseparate_pieces::<4, TESTED>(text, front, group, digits)
         }
-        3 => unseparate_parts::<6>(text, NONE, group, digits),
-        4 => unseparate_parts::<8>(text, NONE, group, digits),
-        5 => unseparate_parts::<10>(text, NONE, group, digits),
-        6 => unseparate_parts::<12>(text, NONE, group, digits),
-        7 => unseparate_parts::<14>(text, NONE, group, digits),
-        8 => unseparate_parts::<16>(text, NONE, group, digits),
-        9 => unseparate_parts::<18>(text, NONE, group, digits),
-        10 => unseparate_parts::<20>(text, NONE, group, digits),
-        11 => unseparate_parts::<22>(text, NONE, group, digits),
-        12 => unseparate_parts::<24>(text, NONE, group, digits),
-        13 => unseparate_parts::<26>(text, NONE, group, digits),
-        14 => unseparate_parts::<28>(text, NONE, group, digits),
-        15 => unseparate_parts::<30>(text, NONE, group, digits),
-        16 => unseparate_parts::<32>(text, NONE, group, digits),
+        3 => unseparate_parts::<6, TESTED>(text, NONE, group, digits),
+        4 => unseparate_pieces::<8, TESTED>(text, NONE, group, digits),
+        5 => unseparate_parts::<10, TESTED>(text, NONE, group, digits),
+        6 => unseparate_parts::<12, TESTED>(text, NONE, group, digits),
+        7 => unseparate_parts::<14, TESTED>(text, NONE, group, digits),
+        8 => unseparate_pieces::<16, TESTED>(text, NONE, group, digits),
+        9 => unseparate_parts::<18, TESTED>(text, NONE, group, digits),
+        10 => unseparate_parts::<20, TESTED>(text, NONE, group, digits),
+        11 => unseparate_parts::<22, TESTED>(text, NONE, group, digits),
+        12 => unseparate_parts::<24, TESTED>(text, NONE, group, digits),
+        13 => unseparate_parts::<26, TESTED>(text, NONE, group, digits),
+        14 => unseparate_parts::<28, TESTED>(text, NONE, group, digits),
+        15 => unseparate_parts::<30, TESTED>(text, NONE, group, digits),
+        16 => unseparate_pieces::<32, TESTED>(text, NONE, group, digits),
         _ => NONE,
     }
 }
@@ -77,7 +78,7 @@ pub fn unseparate_all(text: &[u8], group: Group, digits: &mut [u8]) -> bool
     requires { length text.now ≤ length digits.old }
     ensures { OnTrue result (UnseparatesAll group text.now digits.new) }
 {
-    let front = unseparate_front(text, group, digits);
+    let front = unseparate_front::<1>(text, group, digits);
     let last = text.len() - front.len;
     if (last + 1) / 2 > group.every() {
         return false;
@@ -137,17 +138,31 @@ fn are_all(lanes: u8x16, byte: u8) -> bool
     lanes.simd_ne(u8x16::splat(byte)).to_bitmask() == 0
 }
 
-// A lane has no bit only where it had none before and is this byte.
+// A lane has no bit only where it had none before and, where it is tested, is this byte.
 #[inline(always)]
-fn differences(before: u8x16, lanes: u8x16, byte: u8) -> u8x16
-    ensures { AreZero result → AreZero before × All (λ b. b ≡ byte) lanes }
+fn differences<const TESTED: usize>(before: u8x16, lanes: u8x16, byte: u8) -> u8x16
+    ensures { AreZero result → AreZero before × (0 < TESTED → All (λ b. b ≡ byte) lanes) }
 {
+    if TESTED == 0 {
+        return before;
+    }
     before | (lanes ^ u8x16::splat(byte))
+}
+
+// The same of one byte.
+#[inline(always)]
+fn difference<const TESTED: usize>(before: u8, found: u8, byte: u8) -> u8
+    ensures { result ≡ 0 → (before ≡ 0) × (0 < TESTED → found ≡ byte) }
+{
+    if TESTED == 0 {
+        return before;
+    }
+    before | (found ^ byte)
 }
 
 // The same as `unseparate_front` where a piece has one byte or two, by blocks. A test of separators
 // in each turn would take half as long again, so there is one at the end.
-fn unseparate_blocks<const EVERY: usize, const DIGITS: usize>(
+fn unseparate_blocks<const EVERY: usize, const DIGITS: usize, const TESTED: usize>(
     text: &[u8],
     group: Group,
     digits: &mut [u8],
@@ -157,14 +172,14 @@ where
     requires every { piece_len group ≡ EVERY }
     requires step { DIGITS ≤ 15 }
     requires room { length text.now ≤ length digits.old }
-    ensures { UnseparatesFront group text.now digits.new result }
+    ensures { UnseparatesFront TESTED group text.now digits.new result }
 {
     let mut len = 0;
     let mut to = 0;
     let mut wrong = u8x16::splat(0);
     while text.len() - len >= BLOCK {
         let block = u8x16::from_slice(&text[len..]);
-        wrong = differences(wrong, Places::separators(block), group.sep());
+        wrong = differences::<TESTED>(wrong, Places::separators(block), group.sep());
         Places::digits(block).copy_to_slice(&mut digits[to..]);
         len += WHOLE;
         to += DIGITS;
@@ -176,8 +191,8 @@ where
     }
 }
 
-// The same behind a front, where a piece has `N` digits.
-fn unseparate_parts<const N: usize>(
+// The same behind a front, where the `N` digits of a piece make a vector.
+fn unseparate_pieces<const N: usize, const TESTED: usize>(
     text: &[u8],
     front: Front,
     group: Group,
@@ -185,8 +200,36 @@ fn unseparate_parts<const N: usize>(
 ) -> Front
     requires piece { 2 * piece_len group ≡ N }
     requires room { length text.now ≤ length digits.old }
-    requires front { UnseparatesFront group text.now digits.old front }
-    ensures { UnseparatesFront group text.now digits.new result }
+    requires front { UnseparatesFront TESTED group text.now digits.old front }
+    ensures { UnseparatesFront TESTED group text.now digits.new result }
+{
+    let mut len = front.len;
+    let mut to = front.digits;
+    let mut wrong = 0;
+    while text.len() - len > N {
+        wrong = difference::<TESTED>(wrong, text[len + N], group.sep());
+        Simd::<u8, N>::from_slice(&text[len..]).copy_to_slice(&mut digits[to..]);
+        len += N + 1;
+        to += N;
+    }
+    if wrong == 0 {
+        Front { len, digits: to }
+    } else {
+        NONE
+    }
+}
+
+// The same where they make none.
+fn unseparate_parts<const N: usize, const TESTED: usize>(
+    text: &[u8],
+    front: Front,
+    group: Group,
+    digits: &mut [u8],
+) -> Front
+    requires piece { 2 * piece_len group ≡ N }
+    requires room { length text.now ≤ length digits.old }
+    requires front { UnseparatesFront TESTED group text.now digits.old front }
+    ensures { UnseparatesFront TESTED group text.now digits.new result }
 {
     let mut len = front.len;
     let mut to = front.digits;

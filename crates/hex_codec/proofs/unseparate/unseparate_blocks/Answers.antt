@@ -1,5 +1,5 @@
 -- The digits of one more block are copied.
-use Rattle.std.proofs.Common.{rules, ◌≡◌, ◌+◌, ◌-◌, ◌≤◌, ◌++◌, length, take, drop, refl, ap, ◌∙◌, arith, length-drop, All}
+use Rattle.std.proofs.Common.{rules, ◌≡◌, ◌+◌, ◌-◌, ◌<◌, ◌≤◌, ◌++◌, length, take, drop, refl, ap, ◌∙◌, arith, length-drop, All}
 use Rattle.std.proofs.lemmas.List.{take-take}
 use Rattle.std.proofs.lemmas.List.Elements.{All-take}
 use Rattle.std.proofs.lemmas.Simd.{length-put_chunk}
@@ -27,9 +27,9 @@ loop-len-preserved g c =
       fewer = omega (arith, c.loop-len.invariant.fewer, c.requires.step);
       copied = λ zero.
           let right = c.differences-wrong.ensures zero in
-          let all : All (λ b. b ≡ group.sep) c.separators.result = λ k d lt. right.1 k d lt ∙ c.sep.ensures in
-          let held : All (λ b. b ≡ group.sep) (separators_in every (take 15 rest)) =
-          rw (c.requires.every, ← first) (rw c.separators.ensures.1 at (All-take (λ b. b ≡ group.sep) (15 - n) c.separators.result all)) in
+          let all : 0 < g.row.TESTED → All (λ b. b ≡ group.sep) c.separators.result = λ t k d lt. right.1 t k d lt ∙ c.sep.ensures in
+          let held : 0 < g.row.TESTED → All (λ b. b ≡ group.sep) (separators_in every (take 15 rest)) = λ t.
+          rw (c.requires.every, ← first) (rw c.separators.ensures.1 at (All-take (λ b. b ≡ group.sep) (15 - n) c.separators.result (all t))) in
           unseparates-more 15 n (c.loop-len.invariant.copied right.0)
           (omega (arith, left, c.loop-len-test.true)) room
           (rw c.requires.every c.separators.ensures.0) held

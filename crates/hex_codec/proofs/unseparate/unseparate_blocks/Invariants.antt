@@ -8,7 +8,7 @@ abbrev pub invariant-loop-len : goal.invariant-loop-len
 invariant-loop-len g l = record {
   inside : l.len ≤ length l.text;
   fewer : l.to ≤ l.len;
-  copied : AreZero l.wrong → UnseparatesFront l.fn.group l.text l.digits (record { len = l.len; digits = l.to });
+  copied : AreZero l.wrong → UnseparatesFront g.row.TESTED l.fn.group l.text l.digits (record { len = l.len; digits = l.to });
 }
 
 abbrev pub decreases-loop-len : goal.decreases-loop-len

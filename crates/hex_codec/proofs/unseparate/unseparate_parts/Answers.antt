@@ -29,4 +29,4 @@ loop-len-preserved g c =
     let few = fewer group text digits (record { len = len; digits = to }) c.loop-len.invariant in
     rw (← c.requires.piece) (unseparates-more (n + 1) n c.loop-len.invariant (omega (arith, left, long))
     (omega (arith, whole, few, left, long, c.requires.room, c.loop-len.auto.digits)) (record { count = 1; lines = omega arith })
-    (part-separator every group.sep rest long here) (put ∙ rw (piece, part-digits every rest long) refl))
+    (λ _. part-separator every group.sep rest long here) (put ∙ rw (piece, part-digits every rest long) refl))
