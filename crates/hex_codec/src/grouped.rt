@@ -51,6 +51,9 @@ pub enum GroupFault {
 // How much of a text is copied together.
 const LARGE: usize = 12_288;
 
+// How long a text is that is read with the least room.
+const SHORTEST: usize = 64;
+
 // How many bytes have a grouped text of this length.
 #[inline(always)]
 fn byte_count(len: usize, every: usize) -> Option<usize>
@@ -207,6 +210,7 @@ fn write_bytes(src: &[u8], dst: &mut [u8], group: Group, case: CheckCase)
 
 // Reads a text by way of a buffer that has room for all of its digits, or returns false where a
 // byte is wrong or pieces are long.
+#[inline(always)]
 fn read_through(
     src: &[u8],
     dst: &mut [u8],
@@ -223,6 +227,7 @@ fn read_through(
 }
 
 // The same by way of a buffer of this size.
+#[inline(always)]
 fn read_with<const N: usize>(src: &[u8], dst: &mut [u8], group: Group, case: CheckCase) -> bool
     requires long { length src.now ≡ grouped_len (piece_len group) (length dst.old) }
     requires room { length src.now ≤ N }
@@ -234,7 +239,20 @@ fn read_with<const N: usize>(src: &[u8], dst: &mut [u8], group: Group, case: Che
 }
 
 // The same by way of no larger buffer than the text needs, or false where none is large enough.
+#[inline(always)]
 fn read_short(src: &[u8], dst: &mut [u8], group: Group, case: CheckCase) -> bool
+    requires { length src.now ≡ grouped_len (piece_len group) (length dst.old) }
+    ensures { ReadsWhole case group src.now dst.old dst.new result }
+{
+    if src.len() <= SHORTEST {
+        return read_with::<SHORTEST>(src, dst, group, case);
+    }
+    read_longer(src, dst, group, case)
+}
+
+// The same in a body of its own, since a short text would pay for the room of all of its buffers.
+#[inline(never)]
+fn read_longer(src: &[u8], dst: &mut [u8], group: Group, case: CheckCase) -> bool
     requires { length src.now ≡ grouped_len (piece_len group) (length dst.old) }
     ensures { ReadsWhole case group src.now dst.old dst.new result }
 {
@@ -255,6 +273,15 @@ fn read_whole(src: &[u8], dst: &mut [u8], group: Group, case: CheckCase) -> Opti
     if read_short(src, dst, group, case) {
         return None;
     }
+    read_in_passes(src, dst, group, case)
+}
+
+// The same in a pass that tests all and another that writes.
+#[inline(never)]
+fn read_in_passes(src: &[u8], dst: &mut [u8], group: Group, case: CheckCase) -> Option<usize>
+    requires { length src.now ≡ grouped_len (piece_len group) (length dst.old) }
+    ensures { ReadsOrNames case group src.now dst.old dst.new result }
+{
     if let Some(index) = first_wrong(src, group, case) {
         return Some(index);
     }

@@ -83,8 +83,34 @@ pub fn unseparate_all(text: &[u8], group: Group, digits: &mut [u8]) -> bool
     if (last + 1) / 2 > group.every() {
         return false;
     }
-    digits[front.digits..front.digits + last].copy_from_slice(&text[front.len..]);
+    copy(&text[front.len..], &mut digits[front.digits..front.digits + last]);
     true
+}
+
+// Copies the last part. Where it is a whole piece of a usual length, a call would take longer than
+// the copy.
+#[inline(always)]
+fn copy(from: &[u8], to: &mut [u8])
+    requires { length to.old ≡ length from.now }
+    ensures { to.new ≡ from.now }
+{
+    match from.len() {
+        2 => copy_vector::<2>(from, to),
+        4 => copy_vector::<4>(from, to),
+        8 => copy_vector::<8>(from, to),
+        16 => copy_vector::<16>(from, to),
+        32 => copy_vector::<32>(from, to),
+        _ => to.copy_from_slice(from),
+    }
+}
+
+#[inline(always)]
+fn copy_vector<const N: usize>(from: &[u8], to: &mut [u8])
+    requires long { length from.now ≡ N }
+    requires room { length to.old ≡ N }
+    ensures { to.new ≡ from.now }
+{
+    Simd::<u8, N>::from_slice(from).copy_to_slice(to);
 }
 
 // The lanes of a block at the places of digits, and at those of separators.

@@ -1,21 +1,13 @@
--- A text is read where no byte is wrong.
-use Rattle.std.proofs.Common.{sym, ◌∙◌, length}
-use Rattle.hex_codec.specs.Grouped.{piece_len}
-use Rattle.hex_codec.proofs.CountLemmas.{length-digits}
-use Rattle.hex_codec.proofs.WriteLemmas.{reads}
-use Rattle.hex_codec.proofs.WrongLemmas.{spells-clear, wrong-none}
+-- A text that is read at once has no wrong byte, and another one is left to the passes as it was.
+use Rattle.std.proofs.Common.{refl, sym, ◌∙◌}
+use Rattle.hex_codec.proofs.WrongLemmas.{spells-clear}
 use Rattle.hex_codec.proofs.grouped.read_whole.Goals as goal
 
 pub returns-then-read_short : goal.returns-then-read_short
 returns-then-read_short c = (sym (spells-clear c.if-read_short.ensures), c.if-read_short.ensures)
 
-pub write_bytes-requires : goal.write_bytes-requires
-write_bytes-requires c =
-    let group = c.args.group in let src = c.args.src.now in
-    let right = wrong-none c.args.case group src (sym c.first_wrong.ensures ∙ c.in_default.is) in
-    rw c.if-read_short.ensures (length-digits (piece_len group) (length c.args.dst.now) src group.is_group.0 c.requires, right.valid)
+pub read_in_passes-requires : goal.read_in_passes-requires
+read_in_passes-requires c = rw c.if-read_short.ensures c.requires
 
 pub returns : goal.returns
-returns c =
-    let none = sym c.first_wrong.ensures ∙ c.in_default.is in
-    (sym none, reads _ c.requires (wrong-none c.args.case c.args.group c.args.src.now none).separated c.write_bytes.ensures)
+returns c = rw c.if-read_short.ensures at c.read_in_passes.ensures

@@ -6,8 +6,8 @@ use Rattle.hex_codec.proofs.CountLemmas.{fewer}
 use Rattle.hex_codec.proofs.PartLemmas.{unseparates-last}
 use Rattle.hex_codec.proofs.unseparate.unseparate_all.Goals as goal
 
-pub slice_bounds-copy_from_slice-end : goal.slice_bounds-copy_from_slice-end
-slice_bounds-copy_from_slice-end c =
+pub slice_bounds-copy-end-2 : goal.slice_bounds-copy-end-2
+slice_bounds-copy-end-2 c =
     let bare = c.unseparate_front-front.ensures in
     let few = fewer c.args.group c.args.text.now c.unseparate_front-front.new.digits c.unseparate_front-front.result bare in
     search (arith, rules, few, bare.inside, c.requires, c.unseparate_front-front.auto.digits)
@@ -15,7 +15,7 @@ slice_bounds-copy_from_slice-end c =
 pub returns : goal.returns
 returns c =
     let text = c.args.text.now in let front = c.unseparate_front-front.result in let bare = c.unseparate_front-front.ensures in
-    let rest = c.copy_from_slice.ensures.after ∙ take_rest text front.len in
+    let rest = c.copy.ensures ∙ take_rest text front.len in
     let size = ap length rest ∙ length-drop front.len text in
     unseparates-last bare (omega (arith, c.if-last-every.false, c.every.ensures))
-    (take-put_mid front.digits _ c.unseparate_front-front.new.digits c.copy_from_slice.new.self _ (omega (arith, size)) bare.room ∙ rw rest refl)
+    (take-put_mid front.digits _ c.unseparate_front-front.new.digits c.copy.new.to _ (omega (arith, size)) bare.room ∙ rw rest refl)
