@@ -41,6 +41,7 @@ pub fn unseparate<const TESTED: usize>(text: &[u8], group: Group, digits: &mut [
 
 // The same where all of the text finds room. Each length has a body of its own, whose copies have a
 // known length.
+#[inline(never)]
 fn unseparate_front<const TESTED: usize>(text: &[u8], group: Group, digits: &mut [u8]) -> Front
     requires { length text.now ≤ length digits.old }
     ensures { UnseparatesFront TESTED group text.now digits.new result }
