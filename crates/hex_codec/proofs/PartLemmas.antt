@@ -1,7 +1,8 @@
 -- Parts of a text, and those behind them.
-use Rattle.std.proofs.Common.{◌≡◌, ℕ, ◌+◌, ◌*◌, ◌<◌, ◌≤◌, List, [], ◌∷◌, ◌++◌, length, take, drop, refl, sym, ap, ◌∙◌, arith, All, bit_xor, append-nil, length-append, length-drop, take-append-drop, get_or, ◌-◌}
+use Rattle.std.proofs.Common.{◌≡◌, ◌⊎◌, inl, inr, ℕ, zero, suc, ◌+◌, ◌*◌, ◌<◌, ◌≤◌, List, [], ◌∷◌, ◌++◌, length, take, drop, refl, sym, ap, ◌∙◌, arith, All, bit_xor, append-nil, length-append, length-drop, take-append-drop, get_or, ◌-◌}
 use Rattle.std.proofs.lemmas.Grind.{flat_map-append}
-use Rattle.std.proofs.lemmas.List.{drop-take, drop_all, drop_more, length-take-le, take_all, take-take}
+use Rattle.std.proofs.lemmas.Bool.{cases_lt}
+use Rattle.std.proofs.lemmas.List.{get_or-drop, drop-take, drop_all, drop_more, length-take-le, take_all, take-take}
 use Rattle.std.proofs.lemmas.List.Elements.{All-append, All-cons, All-nil}
 use Rattle.std.specs.List.{flat_map}
 use lib.Bits.{xor_assoc, xor_self, xor_zero_r}
@@ -10,7 +11,7 @@ use Rattle.hex_codec.specs.declared.group.Group.{Group}
 use Rattle.hex_codec.specs.declared.unseparate.Front.{Front}
 use Rattle.hex_codec.specs.Grouped.{piece_len, separator}
 use Rattle.hex_codec.specs.GroupedText.{digits_in, parts, separators_in}
-use Rattle.hex_codec.specs.Unseparate.{IsWhole, UnseparatesAll, UnseparatesFront}
+use Rattle.hex_codec.specs.Unseparate.{HasNoDifference, IsWhole, UnseparatesAll, UnseparatesFront}
 use Rattle.hex_codec.proofs.GroupLemmas.{no_pieces, pieces-append, pieces-next}
 
 -- what each part makes, of whole parts and those behind them
@@ -107,3 +108,48 @@ part-separator every sep s long here =
 -- two bytes without a difference
 pub no_difference : (x y : ℕ) → bit_xor x y ≡ 0 → x ≡ y
 no_difference x y e = sym (xor_zero_r x) ∙ ap (bit_xor x) (sym (xor_self y)) ∙ sym (xor_assoc x y y) ∙ ap (λ z. bit_xor z y) e ∙ xor_zero_l y
+
+-- ---- separators by their places
+
+-- what each separator has, the byte behind the digits of each whole part has
+pub at-place : (every j : ℕ) (P : ℕ → Type 0) (s : List ℕ) → All P (separators_in every s) → j * (2 * every + 1) + 2 * every < length s
+    → P (get_or s (j * (2 * every + 1) + 2 * every) 0)
+at-place every zero P s all lt =
+    let n = 2 * every in
+    let long : n < length s = omega (arith, lt) in
+    let first : All P (get_or s n 0 ∷ separators_in every (drop (n + 1) s)) = rw ((parted every s (omega (arith, long))).separators, one_separator n s long) at all in
+    let here : 0 * (n + 1) + n ≡ n = omega arith in
+    rw here (first 0 0 (omega arith))
+at-place every (suc j) P s all lt =
+    let n = 2 * every in
+    let next : suc j * (n + 1) + n ≡ n + 1 + (j * (n + 1) + n) = grind arith in
+    let long : n < length s = omega (arith, lt, next) in
+    let rest = drop (n + 1) s in
+    let first : All P (get_or s n 0 ∷ separators_in every rest) = rw ((parted every s (omega (arith, long))).separators, one_separator n s long) at all in
+    rw (next, ← get_or-drop (n + 1) s (j * (n + 1) + n) 0) (at-place every j P rest (λ k d h. first (suc k) d (omega arith)) (omega (arith, lt, next, length-drop (n + 1) s)))
+
+-- and the other way round
+from-places : (every fuel : ℕ) (P : ℕ → Type 0) (s : List ℕ) → length s ≤ fuel
+    → ((j : ℕ) → j * (2 * every + 1) + 2 * every < length s → P (get_or s (j * (2 * every + 1) + 2 * every) 0))
+    → (2 * every < length s) ⊎ (length s ≤ 2 * every) → All P (separators_in every s)
+from-places every fuel P s fits each (inr short) = rw (unparted every s short).1 (All-nil P)
+from-places every zero P s fits each (inl long) = absurd (omega arith)
+from-places every (suc fuel) P s fits each (inl long) =
+    let n = 2 * every in
+    let rest = drop (n + 1) s in
+    let left = length-drop (n + 1) s in
+    let here : 0 * (n + 1) + n ≡ n = omega arith in
+    let behind = from-places every fuel P rest (omega (arith, left)) (λ j lt.
+    let next : suc j * (n + 1) + n ≡ n + 1 + (j * (n + 1) + n) = grind arith in
+    rw (get_or-drop (n + 1) s (j * (n + 1) + n) 0, ← next) (each (suc j) (omega (arith, lt, left, next)))) (cases_lt n (length rest)) in
+    rw ((parted every s (omega (arith, long))).separators, one_separator n s long) (All-cons P (get_or s n 0) (separators_in every rest) (rw here at (each 0 (omega (arith, long)))) behind)
+
+-- lanes without a difference where separators stand had none there before, and are the separator
+pub no_differences : (tested every sep : ℕ) (before lanes found : List ℕ) → length before ≡ length found → length lanes ≡ length found
+    → ((i : ℕ) → i < length found → HasNoDifference tested sep (get_or before i 0) (get_or lanes i 0) (get_or found i 0))
+    → All (λ b. b ≡ 0) (separators_in every found)
+    → All (λ b. b ≡ 0) (separators_in every before) × (0 < tested → All (λ b. b ≡ sep) (separators_in every lanes))
+no_differences tested every sep before lanes found size same each none = (
+  from-places every (length before) (λ b. b ≡ 0) before (omega arith) (λ j lt. (each _ (omega (arith, lt, size)) (at-place every j (λ b. b ≡ 0) found none (omega (arith, lt, size)))).0) (cases_lt (2 * every) (length before)),
+  λ t. from-places every (length lanes) (λ b. b ≡ sep) lanes (omega arith) (λ j lt. (each _ (omega (arith, lt, same)) (at-place every j (λ b. b ≡ 0) found none (omega (arith, lt, same)))).1 t) (cases_lt (2 * every) (length lanes)),
+)

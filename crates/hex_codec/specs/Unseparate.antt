@@ -13,9 +13,9 @@ pub record IsWhole (every len : ℕ) : Type 0 where
   pub count : ℕ
   pub lines : len ≡ count * (2 * every + 1)
 
--- a block begins with whole parts of this length, and so many lanes are their separators
-abbrev pub TakesSeparators : ℕ → ℕ → ℕ → List ℕ → List ℕ → Type 0
-TakesSeparators every len count block lanes = IsWhole every len × (take count lanes ≡ separators_in every (take len block))
+-- no difference was found only where none was before and, if it was tested, a byte is the separator
+abbrev pub HasNoDifference : ℕ → ℕ → ℕ → ℕ → ℕ → Type 0
+HasNoDifference tested sep before byte found = found ≡ 0 → (before ≡ 0) × (0 < tested → byte ≡ sep)
 
 -- the front is whole parts, its separators are the group's if they are tested, and its digits were
 -- copied

@@ -1,11 +1,10 @@
 //! Parts of a grouped text, without their separators.
 
-ghost use Rattle.std.specs.Prelude.{◌≡◌, ◌*◌, ◌-◌, ◌≤◌, ◌<◌, All, length, take};
+ghost use Rattle.std.specs.Prelude.{◌≡◌, ◌*◌, ◌-◌, ◌≤◌, All, EachIndex, length, slice_index, take};
 ghost use Rattle.std.specs.Bool.{OnTrue};
-ghost use Rattle.hex_core.specs.Arithmetic.{AreZero};
 ghost use Rattle.hex_codec.specs.Grouped.{piece_len};
-ghost use Rattle.hex_codec.specs.GroupedText.{digits_in};
-ghost use Rattle.hex_codec.specs.Unseparate.{TakesSeparators, UnseparatesAll, UnseparatesFront};
+ghost use Rattle.hex_codec.specs.GroupedText.{digits_in, separators_in};
+ghost use Rattle.hex_codec.specs.Unseparate.{HasNoDifference, IsWhole, UnseparatesAll, UnseparatesFront};
 
 use crate::group::Group;
 use std::simd::prelude::*;
@@ -84,7 +83,10 @@ pub fn unseparate_all(text: &[u8], group: Group, digits: &mut [u8]) -> bool
     if (last + 1) / 2 > group.every() {
         return false;
     }
-    copy(&text[front.len..], &mut digits[front.digits..front.digits + last]);
+    copy(
+        &text[front.len..],
+        &mut digits[front.digits..front.digits + last],
+    );
     true
 }
 
@@ -117,10 +119,11 @@ fn copy_vector<const N: usize>(from: &[u8], to: &mut [u8])
 // The lanes of a block at the places of digits, and at those of separators.
 trait Parts<const EVERY: usize, const DIGITS: usize> {
     fn digits(block: u8x16) -> u8x16
-        ensures { take DIGITS result ≡ digits_in EVERY (take 15 block) };
+        ensures whole { IsWhole EVERY 15 }
+        ensures taken { take DIGITS result ≡ digits_in EVERY (take 15 block) };
 
     fn separators(block: u8x16) -> u8x16
-        ensures { TakesSeparators EVERY 15 (15 - DIGITS) block result };
+        ensures { take (15 - DIGITS) result ≡ separators_in EVERY (take 15 block) };
 }
 
 struct Places;
@@ -128,14 +131,15 @@ struct Places;
 impl Parts<1, 10> for Places {
     #[inline(always)]
     fn digits(block: u8x16) -> u8x16
-        ensures { take 10 result ≡ digits_in 1 (take 15 block) }
+        ensures whole { IsWhole 1 15 }
+        ensures taken { take 10 result ≡ digits_in 1 (take 15 block) }
     {
         block.swizzle([0, 1, 3, 4, 6, 7, 9, 10, 12, 13, 13, 13, 13, 13, 13, 13])
     }
 
     #[inline(always)]
     fn separators(block: u8x16) -> u8x16
-        ensures { TakesSeparators 1 15 (15 - 10) block result }
+        ensures { take (15 - 10) result ≡ separators_in 1 (take 15 block) }
     {
         block.swizzle([2, 5, 8, 11, 14, 14, 14, 14, 14, 14, 14, 14, 14, 14, 14, 14])
     }
@@ -144,14 +148,15 @@ impl Parts<1, 10> for Places {
 impl Parts<2, 12> for Places {
     #[inline(always)]
     fn digits(block: u8x16) -> u8x16
-        ensures { take 12 result ≡ digits_in 2 (take 15 block) }
+        ensures whole { IsWhole 2 15 }
+        ensures taken { take 12 result ≡ digits_in 2 (take 15 block) }
     {
         block.swizzle([0, 1, 2, 3, 5, 6, 7, 8, 10, 11, 12, 13, 13, 13, 13, 13])
     }
 
     #[inline(always)]
     fn separators(block: u8x16) -> u8x16
-        ensures { TakesSeparators 2 15 (15 - 12) block result }
+        ensures { take (15 - 12) result ≡ separators_in 2 (take 15 block) }
     {
         block.swizzle([4, 9, 14, 14, 14, 14, 14, 14, 14, 14, 14, 14, 14, 14, 14, 14])
     }
@@ -168,7 +173,7 @@ fn are_all(lanes: u8x16, byte: u8) -> bool
 // A lane has no bit only where it had none before and, where it is tested, is this byte.
 #[inline(always)]
 fn differences<const TESTED: usize>(before: u8x16, lanes: u8x16, byte: u8) -> u8x16
-    ensures { AreZero result → AreZero before × (0 < TESTED → All (λ b. b ≡ byte) lanes) }
+    ensures { EachIndex result (λ i. HasNoDifference TESTED byte (slice_index before i) (slice_index lanes i) (slice_index result i)) }
 {
     if TESTED == 0 {
         return before;
@@ -179,7 +184,7 @@ fn differences<const TESTED: usize>(before: u8x16, lanes: u8x16, byte: u8) -> u8
 // The same of one byte.
 #[inline(always)]
 fn difference<const TESTED: usize>(before: u8, found: u8, byte: u8) -> u8
-    ensures { result ≡ 0 → (before ≡ 0) × (0 < TESTED → found ≡ byte) }
+    ensures { HasNoDifference TESTED byte before found result }
 {
     if TESTED == 0 {
         return before;
@@ -187,8 +192,8 @@ fn difference<const TESTED: usize>(before: u8, found: u8, byte: u8) -> u8
     before | (found ^ byte)
 }
 
-// The same as `unseparate_front` where a piece has one byte or two, by blocks. A test of separators
-// in each turn would take half as long again, so there is one at the end.
+// The same as `unseparate_front` where a piece has one byte or two, by blocks. All lanes are compared
+// with the separator in each turn, and at the end alone it is asked how its places differed.
 fn unseparate_blocks<const EVERY: usize, const DIGITS: usize, const TESTED: usize>(
     text: &[u8],
     group: Group,
@@ -206,12 +211,12 @@ where
     let mut wrong = u8x16::splat(0);
     while text.len() - len >= BLOCK {
         let block = u8x16::from_slice(&text[len..]);
-        wrong = differences::<TESTED>(wrong, Places::separators(block), group.sep());
+        wrong = differences::<TESTED>(wrong, block, group.sep());
         Places::digits(block).copy_to_slice(&mut digits[to..]);
         len += WHOLE;
         to += DIGITS;
     }
-    if are_all(wrong, 0) {
+    if are_all(Places::separators(wrong), 0) {
         Front { len, digits: to }
     } else {
         NONE

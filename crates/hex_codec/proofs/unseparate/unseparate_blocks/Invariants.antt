@@ -1,6 +1,6 @@
--- Whole parts have been copied, where no separator was another.
-use Rattle.std.proofs.Common.{◌-◌, ◌≤◌, length}
-use Rattle.hex_core.specs.Arithmetic.{AreZero}
+-- Whole parts have been copied, where no place of a separator had another byte.
+use Rattle.std.proofs.Common.{◌-◌, ◌≤◌, ◌≡◌, All, length, take}
+use Rattle.hex_codec.specs.GroupedText.{separators_in}
 use Rattle.hex_codec.specs.Unseparate.{UnseparatesFront}
 use Rattle.hex_codec.proofs.unseparate.unseparate_blocks.Given as goal
 
@@ -8,7 +8,7 @@ abbrev pub invariant-loop-len : goal.invariant-loop-len
 invariant-loop-len g l = record {
   inside : l.len ≤ length l.text;
   fewer : l.to ≤ l.len;
-  copied : AreZero l.wrong → UnseparatesFront g.row.TESTED l.fn.group l.text l.digits (record { len = l.len; digits = l.to });
+  copied : All (λ b. b ≡ 0) (separators_in g.row.EVERY (take 15 l.wrong)) → UnseparatesFront g.row.TESTED l.fn.group l.text l.digits (record { len = l.len; digits = l.to });
 }
 
 abbrev pub decreases-loop-len : goal.decreases-loop-len
