@@ -4,7 +4,9 @@ use Rattle.std.proofs.lemmas.Grind.{flat_map-append}
 use Rattle.std.proofs.lemmas.Bool.{cases_lt}
 use Rattle.std.proofs.lemmas.List.{get_or-drop, drop-take, drop_all, drop_more, length-take-le, take_all, take-take}
 use Rattle.std.proofs.lemmas.List.Elements.{All-append, All-cons, All-nil}
+use Rattle.std.proofs.lemmas.Simd.{length-put_chunk, take_more_put_chunk}
 use Rattle.std.specs.List.{flat_map}
+use Rattle.std.specs.Simd.Lanes.{put_chunk}
 use lib.Bits.{xor_assoc, xor_self, xor_zero_r}
 use Rattle.std.specs.Int.Bits.{xor_zero_l}
 use Rattle.hex_codec.specs.declared.group.Group.{Group}
@@ -153,3 +155,21 @@ no_differences tested every sep before lanes found size same each none = (
   from-places every (length before) (λ b. b ≡ 0) before (omega arith) (λ j lt. (each _ (omega (arith, lt, size)) (at-place every j (λ b. b ≡ 0) found none (omega (arith, lt, size)))).0) (cases_lt (2 * every) (length before)),
   λ t. from-places every (length lanes) (λ b. b ≡ sep) lanes (omega arith) (λ j lt. (each _ (omega (arith, lt, same)) (at-place every j (λ b. b ≡ 0) found none (omega (arith, lt, same)))).1 t) (cases_lt (2 * every) (length lanes)),
 )
+
+-- ---- one piece
+
+-- the digits of one more piece are stored behind those before them
+pub unseparates-piece : {tested : ℕ} {group : Group} {text new : List ℕ} {front : Front} (n len digits : ℕ) → len ≡ front.len + (n + 1) → digits ≡ front.digits + n → 2 * piece_len group ≡ n → UnseparatesFront tested group text new front
+    → front.len + n < length text → front.digits + n ≤ length new → (0 < tested → get_or text (front.len + n) 0 ≡ separator group)
+    → UnseparatesFront tested group text (put_chunk front.digits new (take n (drop front.len text))) (record { len = len; digits = digits })
+unseparates-piece {tested} {group} {text} {new} {front} n len digits to_len to_digits piece before inside room here =
+    let every = piece_len group in
+    let rest = drop front.len text in
+    let left = length-drop front.len text in
+    let long : 2 * every < length rest = omega (arith, left, inside, piece) in
+    let size : length (take n rest) ≡ n = length-take-le n rest (omega (arith, long, piece)) in
+    let at : 0 < tested → get_or rest (2 * every) 0 ≡ separator group = λ t. get_or-drop front.len text (2 * every) 0 ∙ rw piece (here t) in
+    rw (to_len, to_digits) (unseparates-more (n + 1) n before (omega (arith, inside)) (omega (arith, length-put_chunk front.digits new (take n rest), room)) (record { count = 1; lines = omega (arith, piece) })
+    (λ t. rw (← piece) (part-separator every (separator group) rest long (at t)))
+    (take_more_put_chunk front.digits new (take n rest) (front.digits + n) (omega (arith, size)) room
+    ∙ ap (λ l. take front.digits new ++ l) (rw (← piece) (sym (part-digits every rest long)))))

@@ -55,7 +55,10 @@ fn unseparate_front<const TESTED: usize>(text: &[u8], group: Group, digits: &mut
             unseparate_pieces::<4, TESTED>(text, front, group, digits)
         }
         3 => unseparate_parts::<6, TESTED>(text, NONE, group, digits),
-        4 => unseparate_pieces::<8, TESTED>(text, NONE, group, digits),
+        4 => {
+            let front = unseparate_fours::<TESTED>(text, group, digits);
+            unseparate_pieces::<8, TESTED>(text, front, group, digits)
+        }
         5 => unseparate_parts::<10, TESTED>(text, NONE, group, digits),
         6 => unseparate_parts::<12, TESTED>(text, NONE, group, digits),
         7 => unseparate_parts::<14, TESTED>(text, NONE, group, digits),
@@ -172,13 +175,17 @@ fn are_all(lanes: u8x16, byte: u8) -> bool
 
 // A lane has no bit only where it had none before and, where it is tested, is this byte.
 #[inline(always)]
-fn differences<const TESTED: usize>(before: u8x16, lanes: u8x16, byte: u8) -> u8x16
-    ensures { EachIndex result (λ i. HasNoDifference TESTED byte (slice_index before i) (slice_index lanes i) (slice_index result i)) }
+fn differences<const N: usize, const TESTED: usize>(
+    before: Simd<u8, N>,
+    lanes: Simd<u8, N>,
+    byte: u8,
+) -> Simd<u8, N>
+    ensures { EachIndex result (λ i. HasNoDifference TESTED byte (slice_index before.entry i) (slice_index lanes.entry i) (slice_index result i)) }
 {
     if TESTED == 0 {
         return before;
     }
-    before | (lanes ^ u8x16::splat(byte))
+    before | (lanes ^ Simd::splat(byte))
 }
 
 // The same of one byte.
@@ -211,12 +218,40 @@ where
     let mut wrong = u8x16::splat(0);
     while text.len() - len >= BLOCK {
         let block = u8x16::from_slice(&text[len..]);
-        wrong = differences::<TESTED>(wrong, block, group.sep());
+        wrong = differences::<16, TESTED>(wrong, block, group.sep());
         Places::digits(block).copy_to_slice(&mut digits[to..]);
         len += WHOLE;
         to += DIGITS;
     }
     if are_all(Places::separators(wrong), 0) {
+        Front { len, digits: to }
+    } else {
+        NONE
+    }
+}
+
+// The same where a piece has four bytes, four parts a turn. The bytes from the first separator to
+// the last one are compared with it, and at the end alone it is asked how its places differed.
+fn unseparate_fours<const TESTED: usize>(text: &[u8], group: Group, digits: &mut [u8]) -> Front
+    requires every { piece_len group ≡ 4 }
+    requires room { length text.now ≤ length digits.old }
+    ensures { UnseparatesFront TESTED group text.now digits.new result }
+{
+    let mut len = 0;
+    let mut to = 0;
+    let mut wrong = u8x32::splat(0);
+    while text.len() - len >= 40 {
+        let block = u8x32::from_slice(&text[len + 8..]);
+        wrong = differences::<32, TESTED>(wrong, block, group.sep());
+        u8x8::from_slice(&text[len..]).copy_to_slice(&mut digits[to..]);
+        u8x8::from_slice(&text[len + 9..]).copy_to_slice(&mut digits[to + 8..]);
+        u8x8::from_slice(&text[len + 18..]).copy_to_slice(&mut digits[to + 16..]);
+        u8x8::from_slice(&text[len + 27..]).copy_to_slice(&mut digits[to + 24..]);
+        len += 36;
+        to += 32;
+    }
+    let lanes = wrong.to_array();
+    if lanes[0] | lanes[9] | lanes[18] | lanes[27] == 0 {
         Front { len, digits: to }
     } else {
         NONE

@@ -1,5 +1,5 @@
 -- A text that is read at once has no wrong byte, and another one is left to the passes as it was.
-use Rattle.std.proofs.Common.{refl, sym, ◌∙◌}
+use Rattle.std.proofs.Common.{sym}
 use Rattle.hex_codec.proofs.WrongLemmas.{spells-clear}
 use Rattle.hex_codec.proofs.grouped.read_whole.Goals as goal
 
