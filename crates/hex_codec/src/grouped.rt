@@ -131,7 +131,8 @@ fn first_wrong_behind(src: &[u8], front: usize, group: Group, case: CheckCase) -
     None
 }
 
-// How long a front of whole parts without a wrong byte is, where pieces are short.
+// How long a front of whole parts without a wrong byte is, where pieces are short. Where a byte is
+// wrong among many it is looked for among fewer.
 fn clear_front(src: &[u8], group: Group, case: CheckCase) -> usize
     ensures { ClearsFront case group src.now result }
 {
@@ -139,14 +140,17 @@ fn clear_front(src: &[u8], group: Group, case: CheckCase) -> usize
         return 0;
     }
     let mut buffer = [0; LARGE];
+    let mut room = LARGE;
     let mut at = 0;
-    'fronts: loop {
-        let front = unseparate::<1>(&src[at..], group, &mut buffer);
-        if front.len == 0 || !Backend::plain().check(&buffer[..front.digits], case) {
-            return at;
+    while room > 0 {
+        let front = unseparate::<1>(&src[at..], group, &mut buffer[..room]);
+        if front.len > 0 && Backend::plain().check(&buffer[..front.digits], case) {
+            at += front.len;
+        } else {
+            room /= 4;
         }
-        at += front.len;
     }
+    at
 }
 
 // The first wrong byte.
