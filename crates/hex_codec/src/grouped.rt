@@ -140,7 +140,7 @@ fn clear_front(src: &[u8], group: Group, case: CheckCase) -> usize
         return 0;
     }
     let mut buffer = [0; LARGE];
-    let mut room = LARGE;
+    let mut room = LARGE.min(src.len());
     let mut at = 0;
     while room > 0 {
         let front = unseparate::<1>(&src[at..], group, &mut buffer[..room]);
