@@ -1,5 +1,5 @@
 -- No byte before this place is wrong.
-use Rattle.std.proofs.Common.{◌≡◌, ◌+◌, ◌-◌, ◌≤◌, length}
+use Rattle.std.proofs.Common.{◌+◌, ◌-◌, ◌≤◌, length}
 use Rattle.hex_codec.specs.Unseparate.{ClearsFront}
 use Rattle.hex_codec.proofs.grouped.clear_front.Given as goal
 
