@@ -13,9 +13,9 @@ ghost use Rattle.hex_core.specs.Text.{text};
 
 use crate::digit::CheckCase;
 use crate::vector::{
-    Interleave, Lanes, LookUp, Pack, Shift, averages, either, high_bits, known_factors, masked, saturating_add,
-    saturating_differences, saturating_sub, sign_flipped, smaller, with_bits, wrapping_differences,
-    wrapping_sub, zero_bits,
+    Interleave, Lanes, LookUp, Pack, Shift, averages, either, high_bits, known_factors, masked,
+    saturating_add, saturating_differences, saturating_sub, sign_flipped, smaller, with_bits,
+    wrapping_differences, wrapping_sub, zero_bits,
 };
 use std::simd::prelude::*;
 

@@ -216,13 +216,7 @@ pub fn decode_long(src: &[u8], dst: &mut [u8], case: CheckCase) -> bool
 /// store.
 pub trait DecodeBlock<const SIZE: usize> {
     /// Decodes the block of the bytes from `at` on, and returns whether it is valid.
-    fn decode_at(
-        src: &[u8],
-        dst: &mut [u8],
-        at: usize,
-        case: CheckCase,
-        factors: u16x32,
-    ) -> bool
+    fn decode_at(src: &[u8], dst: &mut [u8], at: usize, case: CheckCase, factors: u16x32) -> bool
         requires room { HasRoom at SIZE src.now dst.old }
         requires factors { factors ≡ pair_factors 32 }
         ensures { DecodesAt case src.now dst.old dst.new at SIZE result };
@@ -233,13 +227,7 @@ pub struct OneVector;
 
 impl DecodeBlock<32> for OneVector {
     #[inline(always)]
-    fn decode_at(
-        src: &[u8],
-        dst: &mut [u8],
-        at: usize,
-        case: CheckCase,
-        factors: u16x32,
-    ) -> bool
+    fn decode_at(src: &[u8], dst: &mut [u8], at: usize, case: CheckCase, factors: u16x32) -> bool
         requires room { HasRoom at 32 src.now dst.old }
         requires factors { factors ≡ pair_factors 32 }
         ensures { DecodesAt case src.now dst.old dst.new at 32 result }
@@ -258,13 +246,7 @@ pub struct TwoHashed;
 
 impl DecodeBlock<64> for TwoHashed {
     #[inline(always)]
-    fn decode_at(
-        src: &[u8],
-        dst: &mut [u8],
-        at: usize,
-        case: CheckCase,
-        factors: u16x32,
-    ) -> bool
+    fn decode_at(src: &[u8], dst: &mut [u8], at: usize, case: CheckCase, factors: u16x32) -> bool
         requires room { HasRoom at 64 src.now dst.old }
         requires factors { factors ≡ pair_factors 32 }
         ensures { DecodesAt case src.now dst.old dst.new at 64 result }

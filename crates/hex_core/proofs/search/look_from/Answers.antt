@@ -1,4 +1,4 @@
-use Rattle.std.proofs.Common.{◌≡◌, ℕ, ◌+◌, ◌-◌, ◌<◌, ◌≤◌, Option, Some, None, inl, inr, length, refl, sym, ◌∙◌, arith}
+use Rattle.std.proofs.Common.{◌≡◌, ℕ, ◌+◌, ◌-◌, ◌≤◌, Option, Some, None, inl, inr, length, refl, sym, ◌∙◌, arith}
 use Rattle.std.proofs.lemmas.Bool.{cases_lt}
 use Rattle.hex_core.specs.Probe.{Adds, LooksAt, ProbeState, ValidIn, invalid_in, looks_from, steps_in}
 use Rattle.hex_core.proofs.ProbeLemmas.{adds_then, invalid_same, valid_same}

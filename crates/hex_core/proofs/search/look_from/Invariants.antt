@@ -1,4 +1,4 @@
-use Rattle.std.proofs.Common.{◌≡◌, ℕ, ◌+◌, ◌-◌, ◌*◌, ◌≤◌, length}
+use Rattle.std.proofs.Common.{◌≡◌, ℕ, ◌+◌, ◌-◌, ◌*◌, ◌≤◌}
 use Rattle.hex_core.specs.Probe.{Adds, ValidIn}
 use Rattle.hex_core.proofs.search.look_from.Given as goal
 

@@ -1,4 +1,4 @@
-use Rattle.std.proofs.Common.{◌≡◌, ◌<◌, bit_or, refl, sym, ◌∙◌}
+use Rattle.std.proofs.Common.{◌<◌, bit_or, refl, sym, ◌∙◌}
 use Rattle.hex_core.proofs.LaneLemmas.{each_of_two, or_small}
 use Rattle.hex_core.proofs.vector.either.Goals as goal
 
