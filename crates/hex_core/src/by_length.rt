@@ -1,7 +1,7 @@
 //! Decoding under every plan of lanes, and checking under those of 64 of them: blocks in registers
 //! where a source is short, and blocks of 64 digits above.
 
-ghost use Rattle.std.specs.Prelude.{◌≡◌, ◌↔◌, ◌*◌, ◌<◌, IsTrue, None, length};
+ghost use Rattle.std.specs.Prelude.{◌≡◌, ◌↔◌, ◌*◌, ◌<◌, ◌≤◌, IsTrue, None, length};
 ghost use Rattle.hex_core.specs.Calls.{DecodesWhole};
 ghost use Rattle.hex_core.specs.Search.{first_invalid};
 
@@ -36,16 +36,30 @@ pub fn decode(src: &[u8], dst: &mut [u8], case: CheckCase, hashed: bool) -> bool
     requires { length src.now ≡ 2 * length dst.old }
     ensures { DecodesWhole case src.now dst.old dst.new result }
 {
+    if src.len() <= 32 {
+        return decode_few(src, dst, case);
+    }
     match src.len() {
-        0..16 => scalar::decode_short(src, dst, case),
-        16 => decode_one::<Saturating, 16, 8>(src, dst, case, known_factors()),
-        17..=31 => decode_two::<Saturating, 16, 8>(src, dst, case, known_factors()),
-        32 => decode_one::<Saturating, 32, 16>(src, dst, case, known_factors()),
-        33..=63 => decode_two::<Saturating, 32, 16>(src, dst, case, known_factors()),
         64 => decode_one::<Saturating, 64, 32>(src, dst, case, factors(src[0])),
+        0..64 => decode_two::<Saturating, 32, 16>(src, dst, case, known_factors()),
         65..=128 => decode_two::<Saturating, 64, 32>(src, dst, case, factors(src[0])),
         _ if hashed => decode_more::<Hashing>(src, dst, case),
         _ => decode_more::<Saturating>(src, dst, case),
+    }
+}
+
+// The same of at most 32 digits.
+#[inline(always)]
+fn decode_few(src: &[u8], dst: &mut [u8], case: CheckCase) -> bool
+    requires twice { length src.now ≡ 2 * length dst.old }
+    requires few { length src.now ≤ 32 }
+    ensures { DecodesWhole case src.now dst.old dst.new result }
+{
+    match src.len() {
+        16 => decode_one::<Saturating, 16, 8>(src, dst, case, known_factors()),
+        32 => decode_one::<Saturating, 32, 16>(src, dst, case, known_factors()),
+        0..16 => scalar::decode_short(src, dst, case),
+        _ => decode_two::<Saturating, 16, 8>(src, dst, case, known_factors()),
     }
 }
 
