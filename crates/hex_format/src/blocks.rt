@@ -24,19 +24,26 @@ const ALL_DIGITS: [u8; 8] = [0x01, 0x23, 0x45, 0x67, 0x89, 0xab, 0xcd, 0xef];
 
 // Where the text of sixteen bytes, whole pieces behind separators, has its digits from: for its front, its
 // middle and its back. A digit's place is its number modulo 16.
-trait Places<const EVERY: usize, const OUT: usize> {
-    fn places() -> (u8x16, u8x16, u8x16)
+#[derive(Clone, Copy)]
+struct Places {
+    front: u8x16,
+    middle: u8x16,
+    back: u8x16,
+}
+
+trait PlacesOf<const EVERY: usize, const OUT: usize> {
+    fn places() -> Places
         ensures least { 2 * HALF ≤ OUT }
         ensures most { OUT ≤ 3 * HALF }
-        ensures places { ArePlaces EVERY OUT result.0 result.1 result.2 };
+        ensures places { ArePlaces EVERY OUT result.front result.middle result.back };
 }
 
 /// Pieces that are shorter than a vector: each digit is moved to its place.
 pub struct ByPlaces;
 
-impl Places<1, 48> for ByPlaces {
+impl PlacesOf<1, 48> for ByPlaces {
     #[inline(always)]
-    fn places() -> (u8x16, u8x16, u8x16) {
+    fn places() -> Places {
         let front = u8x16::from_array([SEP, 0, 1, SEP, 2, 3, SEP, 4, 5, SEP, 6, 7, SEP, 8, 9, SEP]);
         let middle = u8x16::from_array([
             10, 11, SEP, 12, 13, SEP, 14, 15, SEP, 0, 1, SEP, 2, 3, SEP, 4,
@@ -44,29 +51,41 @@ impl Places<1, 48> for ByPlaces {
         let back = u8x16::from_array([
             5, SEP, 6, 7, SEP, 8, 9, SEP, 10, 11, SEP, 12, 13, SEP, 14, 15,
         ]);
-        (front, middle, back)
+        Places {
+            front,
+            middle,
+            back,
+        }
     }
 }
 
-impl Places<2, 40> for ByPlaces {
+impl PlacesOf<2, 40> for ByPlaces {
     #[inline(always)]
-    fn places() -> (u8x16, u8x16, u8x16) {
+    fn places() -> Places {
         let front = u8x16::from_array([SEP, 0, 1, 2, 3, SEP, 4, 5, 6, 7, SEP, 8, 9, 10, 11, SEP]);
         let middle = u8x16::from_array([
             9, 10, 11, SEP, 12, 13, 14, 15, SEP, 0, 1, 2, 3, SEP, 4, 5,
         ]);
         let back = u8x16::from_array([3, SEP, 4, 5, 6, 7, SEP, 8, 9, 10, 11, SEP, 12, 13, 14, 15]);
-        (front, middle, back)
+        Places {
+            front,
+            middle,
+            back,
+        }
     }
 }
 
-impl Places<4, 36> for ByPlaces {
+impl PlacesOf<4, 36> for ByPlaces {
     #[inline(always)]
-    fn places() -> (u8x16, u8x16, u8x16) {
+    fn places() -> Places {
         let front = u8x16::from_array([SEP, 0, 1, 2, 3, 4, 5, 6, 7, SEP, 8, 9, 10, 11, 12, 13]);
         let middle = u8x16::from_array([8, 9, 10, 11, 12, 13, 14, 15, SEP, 0, 1, 2, 3, 4, 5, 6]);
         let back = u8x16::from_array([1, 2, 3, 4, 5, 6, 7, SEP, 8, 9, 10, 11, 12, 13, 14, 15]);
-        (front, middle, back)
+        Places {
+            front,
+            middle,
+            back,
+        }
     }
 }
 
@@ -86,18 +105,18 @@ pub trait SeparateBlock<const EVERY: usize, const OUT: usize> {
 
 impl<const EVERY: usize, const OUT: usize> SeparateBlock<EVERY, OUT> for ByPlaces
 where
-    ByPlaces: Places<EVERY, OUT>,
+    ByPlaces: PlacesOf<EVERY, OUT>,
 {
     #[inline(always)]
     fn separate(bytes: &[u8; BLOCK], upper: bool, group: Group, out: &mut [u8]) {
-        let (front, middle, back) = <ByPlaces as Places<EVERY, OUT>>::places();
-        put_placed_twice(bytes, upper, group.sep(), front, middle, back, out);
+        let places = <ByPlaces as PlacesOf<EVERY, OUT>>::places();
+        put_placed_twice(bytes, upper, group.sep(), places, out);
     }
 
     #[inline(always)]
     fn separate_half(bytes: &[u8; HALF], upper: bool, group: Group, out: &mut [u8]) {
-        let (front, middle, back) = <ByPlaces as Places<EVERY, OUT>>::places();
-        put_placed(bytes, upper, group.sep(), front, middle, back, out);
+        let places = <ByPlaces as PlacesOf<EVERY, OUT>>::places();
+        put_placed(bytes, upper, group.sep(), places, out);
     }
 }
 
@@ -256,18 +275,10 @@ fn put_parts(front: u8x16, middle: u8x16, back: u8x16, out: &mut [u8])
 
 // Writes the text of half a block, its digits moved to their places.
 #[inline(always)]
-fn put_placed(
-    bytes: &[u8; HALF],
-    upper: bool,
-    sep: u8,
-    front: u8x16,
-    middle: u8x16,
-    back: u8x16,
-    out: &mut [u8],
-)
+fn put_placed(bytes: &[u8; HALF], upper: bool, sep: u8, places: Places, out: &mut [u8])
     requires least { 2 * HALF ≤ length out.old }
     requires most { length out.old ≤ 3 * HALF }
-    ensures { out.new ≡ placed_text sep (text upper bytes.now) front middle back out.old }
+    ensures { out.new ≡ placed_text sep (text upper bytes.now) places.front places.middle places.back out.old }
 {
     let digits = encode_16(bytes, upper);
     let first = u8x16::from_slice(&digits);
@@ -277,37 +288,29 @@ fn put_placed(
         [16, 17, 18, 19, 20, 21, 22, 23, 8, 9, 10, 11, 12, 13, 14, 15],
     );
     put_parts(
-        placed(first, front, sep),
-        placed(inner, middle, sep),
-        placed(last, back, sep),
+        placed(first, places.front, sep),
+        placed(inner, places.middle, sep),
+        placed(last, places.back, sep),
         out,
     );
 }
 
 // The same of both halves of a block.
 #[inline(always)]
-fn put_placed_twice(
-    bytes: &[u8; BLOCK],
-    upper: bool,
-    sep: u8,
-    front: u8x16,
-    middle: u8x16,
-    back: u8x16,
-    out: &mut [u8],
-)
+fn put_placed_twice(bytes: &[u8; BLOCK], upper: bool, sep: u8, places: Places, out: &mut [u8])
     requires least { 4 * HALF ≤ length out.old }
     requires most { length out.old ≤ 6 * HALF }
     requires even { length out.old % 2 ≡ 0 }
     requires separator { sep < SEP }
     ensures { out.new
-        ≡ placed_text sep (text upper (take 16 bytes.now)) front middle back (take (length out.old / 2) out.old)
-        ++ placed_text sep (text upper (drop 16 bytes.now)) front middle back (drop (length out.old / 2) out.old) }
+        ≡ placed_text sep (text upper (take 16 bytes.now)) places.front places.middle places.back (take (length out.old / 2) out.old)
+        ++ placed_text sep (text upper (drop 16 bytes.now)) places.front places.middle places.back (drop (length out.old / 2) out.old) }
 {
     let (first, last) = encode_halves(bytes, upper);
     let inner = inner_halves(first, last, sep);
-    let fronts = placed_twice(first, front, sep);
-    let middles = placed_twice(inner, middle, sep);
-    let backs = placed_twice(last, back, sep);
+    let fronts = placed_twice(first, places.front, sep);
+    let middles = placed_twice(inner, places.middle, sep);
+    let backs = placed_twice(last, places.back, sep);
     let (left, right) = out.split_at_mut(out.len() / 2);
     put_parts(fronts.0, middles.0, backs.0, left);
     put_parts(fronts.1, middles.1, backs.1, right);

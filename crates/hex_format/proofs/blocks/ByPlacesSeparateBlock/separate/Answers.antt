@@ -13,6 +13,6 @@ returns g c =
     let long : length bytes ≡ 32 = search rules in
     let half : length out / 2 ≡ g.row.OUT = omega (arith, size) in
     let pieces : 16 ≡ 16 / g.row.EVERY * piece_len group = rw every (omega (arith, mod-add-div' 16 g.row.EVERY, c.requires.whole)) in
-    let left = c.places.ensures.places group upper (take 16 bytes) (take g.row.OUT out) every (length-take-le 16 bytes (omega (arith, long))) (length-take-le g.row.OUT out (omega (arith, size))) in
-    let right = c.places.ensures.places group upper (drop 16 bytes) (drop g.row.OUT out) every (omega (arith, length-drop 16 bytes, long)) (omega (arith, length-drop g.row.OUT out, size)) in
+    let left = c.places-places.ensures.places group upper (take 16 bytes) (take g.row.OUT out) every (length-take-le 16 bytes (omega (arith, long))) (length-take-le g.row.OUT out (omega (arith, size))) in
+    let right = c.places-places.ensures.places group upper (drop 16 bytes) (drop g.row.OUT out) every (omega (arith, length-drop 16 bytes, long)) (omega (arith, length-drop g.row.OUT out, size)) in
     c.put_placed_twice.ensures ∙ rw (half, c.sep.ensures) (ap₂ (λ a b. a ++ b) left right ∙ behind-whole group upper (16 / g.row.EVERY) 16 bytes pieces (omega (arith, long)))
