@@ -1,42 +1,18 @@
 -- What decoding block by block leaves: whole blocks in order, and then a rest.
-use Rattle.std.proofs.Common.{◌≡◌, ℕ, ◌+◌, ◌-◌, ◌*◌, ◌/◌, ◌<◌, ◌≤◌, List, ◌++◌, length, take, drop, get_or, inl, inr, refl, sym, ap, ◌∙◌, Option, Some, None, arith}
-use Rattle.std.specs.Prelude.{slice_range, unwrap_or, option_map}
+use Rattle.std.proofs.Common.{◌≡◌, ℕ, ◌+◌, ◌-◌, ◌*◌, ◌/◌, ◌<◌, ◌≤◌, List, ◌++◌, length, take, drop, get_or, inl, inr, refl, sym, ap, ◌∙◌, Option, Some, None, Bool, true, false, arith}
+use Rattle.std.specs.Prelude.{slice_index, unwrap_or, option_map}
 use Rattle.std.proofs.lemmas.Bool.{cases_lt}
 use Rattle.std.proofs.lemmas.Grind.{common_steps}
 use Rattle.std.proofs.lemmas.Nat.{div-mul-add}
 use Rattle.std.proofs.lemmas.List.{ext_get_or, get_or-drop, get_or-take, length-take-le, take-append-drop}
-use borrow.Rule.Slice.PartMut.{put_mid}
 use Rattle.hex_core.specs.declared.digit.CheckCase.{CheckCase}
-use Rattle.hex_core.specs.Blocks.{DecodesRange}
+use Rattle.hex_core.specs.Calls.{DecodesOwned, DecodesWhole}
 use Rattle.hex_core.specs.Search.{first_invalid}
 use Rattle.hex_core.specs.Shapes.{DecodesBlocks}
 use Rattle.hex_core.specs.Plans.{StoresBlocks}
-use Rattle.hex_core.specs.Text.{Spells, with_front}
-use Rattle.hex_core.proofs.SearchLemmas.{first_is_first, part_at, valid_before, valid_misses}
-use Rattle.hex_core.proofs.SpellsLemmas.{front_spells, spelled_along}
-
--- ---- a part that is decoded, seen in the whole
-
--- a part that is put back as it was
-pub part_same : (old part : List ℕ) (from : ℕ) → from ≤ length old → part ≡ slice_range old from (length old) → put_mid from (length old - from) old part ≡ old
-part_same old part from inside is = grind (arith, common_steps)
-
-pub part_decoded : (c : CheckCase) (s old part : List ℕ) (from : ℕ) → length s ≡ 2 * length old → from ≤ length old → length part ≡ length old - from
-    → Spells c (slice_range s (2 * from) (length s)) part
-    → DecodesRange c s old (put_mid from (length old - from) old part) from (length old)
-part_decoded c s old part from twice inside long spells =
-    let new = put_mid from (length old - from) old part in
-    let rest = slice_range s (2 * from) (length s) in
-    let digit : (j k : ℕ) → 2 * from + j ≡ k → j < length s - 2 * from → get_or s k 0 ≡ get_or rest j 0 =
-    λ j k e h. sym (part_at s (2 * from) (length s) j (omega arith) h ∙ ap (λ i. get_or s i 0) e) in
-    record {
-      decoded = λ k low lt.
-          let j = k - from in
-          spelled_along (spells.each j (omega arith)) (digit (2 * j) (2 * k) (omega arith) (omega arith)) (digit (2 * j + 1) (2 * k + 1) (omega arith) (omega arith))
-          (grind (arith, common_steps));
-      before = λ k lt. grind (arith, common_steps);
-      behind = λ k h. grind (arith, common_steps);
-    }
+use Rattle.hex_core.specs.Text.{with_front}
+use Rattle.hex_core.proofs.SearchLemmas.{first_is_first, valid_before, valid_misses}
+use Rattle.hex_core.proofs.SpellsLemmas.{front_spells}
 
 -- ---- the first invalid byte behind whole blocks
 
@@ -75,3 +51,17 @@ blocks_stored {c} {size} {done} {s} {old} {new} blocks twice same some bad =
           (λ k lt. blocks.decoded.decoded k (omega arith) lt));
       fronted = front_kept old new done same inside blocks.decoded.behind;
     }
+
+-- where a source is shorter than a block
+pub owned_short : (c : CheckCase) (s old new : List ℕ) (size : ℕ) (done : Bool) → length s ≡ 2 * length new → length new ≡ length old → length old < size → DecodesWhole c s old new done
+    → DecodesOwned (2 * size) c s old new done
+owned_short c s old new size true twice same short answer = answer
+owned_short c s old new size false twice same short answer =
+    let none : DecodesBlocks c size s old new 0 = record {
+      inside = omega arith;
+      whole = (0, omega arith);
+      valid = λ k low lt. absurd (omega (arith, lt));
+      stopped = λ inside valid. absurd (omega (arith, inside, twice, same, short));
+      decoded = record { decoded = λ k low lt. absurd (omega (arith, lt)); before = λ k lt. absurd (omega (arith, lt)); behind = λ k low. ap (λ l. slice_index l k) answer.1 };
+    } in
+    (answer.0, blocks_stored none twice same (omega (arith, short)) answer.0)

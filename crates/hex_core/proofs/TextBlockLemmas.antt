@@ -12,29 +12,29 @@ text_take upper v k h =
     ap (λ l. take (2 * k) (text upper l)) (sym (take-append-drop k v)) ∙ ap (take (2 * k)) (text-append upper (take k v) (drop k v))
     ∙ take_at (text upper (take k v)) (text upper (drop k v)) (2 * k) (length-text upper (take k v) ∙ omega (arith, length-take k v))
 
--- the first m bytes are written, once the w from i on follow the first i; at and to are their places in the text
-pub block_step : (upper : Bool) (src dst : List ℕ) (i w m at to : ℕ) → length dst ≡ 2 * length src → m ≤ length src → m ≡ i + w → at ≡ 2 * i → to ≡ 2 * m
-    → take at dst ≡ text upper (take i src) → take to (put_chunk at dst (text upper (chunk i w src))) ≡ text upper (take m src)
-block_step upper src dst i w m at to ratio room e p q front =
+-- the text of the first n bytes is written
+pub record Written (upper : Bool) (src dst : List ℕ) (n : ℕ) : Type 0 where
+  pub long : length dst ≡ 2 * length src
+  pub front : take (2 * n) dst ≡ text upper (take n src)
+
+-- at first that of none, and at last all of it
+pub written-none : (upper : Bool) (src dst : List ℕ) → length dst ≡ 2 * length src → Written upper src dst 0
+written-none upper src dst long = record { long = long; front = refl }
+
+pub written-all : {upper : Bool} {src dst : List ℕ} (n : ℕ) → n ≡ length src → Written upper src dst n → dst ≡ text upper src
+written-all {upper} {src} {dst} n whole so_far =
+    sym (take_all (2 * n) dst (omega (arith, so_far.long, whole))) ∙ so_far.front ∙ ap (text upper) (take_all n src (omega (arith, whole)))
+
+-- then that of the w bytes from i on, which begin among those or behind them
+pub written-more : {upper : Bool} {src dst : List ℕ} {n : ℕ} (i w m at : ℕ) → i ≤ n → m ≡ i + w → m ≤ length src → at ≡ 2 * i
+    → Written upper src dst n → Written upper src (put_chunk at dst (text upper (chunk i w src))) m
+written-more {upper} {src} {dst} {n} i w m at le e room p so_far =
     let block = text upper (chunk i w src) in
     let long : length block ≡ 2 * w = omega (arith, length-text upper (chunk i w src), length-chunk i w src (omega arith)) in
-    rw (take_more_put_chunk at dst block to (omega arith) (omega arith), front, e, take-add i w src) (sym (text-append upper (take i src) (chunk i w src)))
-
--- a last block, of the w bytes from i on, overlaps the first j, which are written
-pub block_last : (upper : Bool) (src dst : List ℕ) (i w j at to : ℕ) → length dst ≡ 2 * length src → length src ≡ i + w → i ≤ j → j ≤ length src → at ≡ 2 * i → to ≡ 2 * j
-    → take to dst ≡ text upper (take j src) → put_chunk at dst (text upper (chunk i w src)) ≡ text upper src
-block_last upper src dst i w j at to ratio whole le inside p q front =
-    let long : length (take j src) ≡ j = omega (arith, length-take j src) in
     let before : take at dst ≡ text upper (take i src) =
-    sym (take-take at to dst (omega arith)) ∙ ap (take at) front ∙ ap (λ n. take n (text upper (take j src))) p ∙ text_take upper (take j src) i (omega arith) ∙ ap (text upper) (take-take i j src le) in
-    let new = put_chunk at dst (text upper (chunk i w src)) in
-    sym (take_all (2 * length src) new (omega (arith, length-put_chunk at dst (text upper (chunk i w src)))))
-    ∙ block_step upper src dst i w (length src) at (2 * length src) ratio (omega arith) whole p refl before ∙ ap (text upper) (take_all (length src) src (omega arith))
-
--- two blocks of w bytes that cover a source
-pub two_blocks : (upper : Bool) (src dst mid : List ℕ) (w i at : ℕ) → length dst ≡ 2 * length src → length src ≡ i + w → i ≤ w → at ≡ 2 * i
-    → mid ≡ put_chunk 0 dst (text upper (chunk 0 w src)) → put_chunk at mid (text upper (chunk i w src)) ≡ text upper src
-two_blocks upper src dst mid w i at ratio whole le p is =
-    let same : length mid ≡ length dst = ap length is ∙ length-put_chunk 0 dst (text upper (chunk 0 w src)) in
-    let front : take (2 * w) mid ≡ text upper (take w src) = ap (take (2 * w)) is ∙ block_step upper src dst 0 w w 0 (2 * w) ratio (omega arith) (omega arith) refl refl refl in
-    block_last upper src mid i w w at (2 * w) (omega arith) whole le (omega arith) p refl front
+    sym (take-take at (2 * n) dst (omega arith)) ∙ ap (take at) so_far.front ∙ ap (λ k. take k (text upper (take n src))) p
+    ∙ text_take upper (take n src) i (omega (arith, length-take n src)) ∙ ap (text upper) (take-take i n src le) in
+    record {
+      long = length-put_chunk at dst block ∙ so_far.long;
+      front = rw (take_more_put_chunk at dst block (2 * m) (omega (arith, long)) (omega (arith, so_far.long)), before, e, take-add i w src) (sym (text-append upper (take i src) (chunk i w src)));
+    }

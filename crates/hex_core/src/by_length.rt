@@ -4,9 +4,10 @@
 ghost use Rattle.std.specs.Prelude.{◌≡◌, ◌↔◌, ◌*◌, ◌<◌, ◌≤◌, IsTrue, None, length};
 ghost use Rattle.hex_core.specs.Calls.{DecodesWhole};
 ghost use Rattle.hex_core.specs.Search.{first_invalid};
+ghost use Rattle.hex_core.specs.Text.{Spells};
 
 use crate::blocks::check::{check_ends, check_long, check_one, check_two};
-use crate::blocks::decode::{decode_four, decode_long, decode_one, decode_two};
+use crate::blocks::decode::{decode_four, decode_long, decode_one, decode_two, write_blocks};
 use crate::digit::CheckCase;
 use crate::lanes::{Hashing, NibbleMap, Saturating};
 use crate::scalar;
@@ -29,7 +30,7 @@ pub fn check(src: &[u8], case: CheckCase) -> bool
 }
 
 /// Writes the bytes that `src` spells into the whole of `dst`, or returns false and writes nothing.
-/// Up to 128 digits are decoded where it is called, so that a length that is known there chooses
+/// From 16 to 128 digits are decoded where it is called, so that a length that is known there chooses
 /// nothing as it runs. The nibbles of more are found by a hash where `hashed` is true.
 #[inline(always)]
 pub fn decode(src: &[u8], dst: &mut [u8], case: CheckCase, hashed: bool) -> bool
@@ -76,5 +77,27 @@ where
         decode_four::<M, 64, 32>(src, dst, case, factors(src[0]))
     } else {
         decode_long(src, dst, case)
+    }
+}
+
+/// Writes the bytes that `src` spells over the whole of `dst`, and tests none of 64 digits or more.
+///
+/// The caller shows that each byte of `src` has a value under `case`, and that `src` is exactly twice
+/// as long as `dst`, in bytes.
+///
+/// ```rust
+/// let mut bytes = [0xa5; 2];
+/// decode_valid(b"00aB", &mut bytes, CheckCase::None);
+/// assert_eq!(rt; bytes, [0, 0xab]);
+/// ```
+pub fn decode_valid(src: &[u8], dst: &mut [u8], case: CheckCase)
+    requires twice { length src.now ≡ 2 * length dst.old }
+    requires valid { first_invalid case src.now ≡ None }
+    ensures { Spells case src.now dst.new }
+{
+    if src.len() < 64 {
+        decode(src, dst, case, false);
+    } else {
+        write_blocks(src, dst, case);
     }
 }

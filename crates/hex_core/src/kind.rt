@@ -9,8 +9,7 @@ ghost use Rattle.hex_core.specs.Text.{text};
 use crate::blocks::decode::{OneVector, TwoHashed};
 use crate::blocks::encode;
 use crate::digit::CheckCase;
-use crate::owned::decode_by_blocks;
-use crate::{by_length, scalar, sixteen};
+use crate::{by_length, owned, scalar, sixteen};
 
 /// What a plan is called, and what its bodies are chosen by.
 #[derive(Clone, Copy)]
@@ -23,15 +22,6 @@ pub enum Kind {
 }
 
 impl Kind {
-    // Whether the nibbles of more than 64 digits are found by a hash.
-    #[inline(always)]
-    fn is_hashed(self) -> bool {
-        match self {
-            Kind::Scalar | Kind::Sse41 | Kind::Avx2 | Kind::Neon => false,
-            Kind::Avx512 => true,
-        }
-    }
-
     /// Returns whether every byte of `src` has a value under `case`.
     #[inline(always)]
     pub fn check(self, src: &[u8], case: CheckCase) -> bool
@@ -68,40 +58,31 @@ impl Kind {
         match self {
             Kind::Scalar => scalar::decode(src, dst, case),
             Kind::Sse41 | Kind::Avx2 | Kind::Avx512 | Kind::Neon => {
-                by_length::decode(src, dst, case, self.is_hashed())
+                by_length::decode(src, dst, case, matches!(self, Kind::Avx512))
             }
         }
     }
 
     /// Decodes likewise, into a buffer that is given up where this returns false: then the blocks
-    /// before the first invalid byte may have been stored. Up to 256 digits are decoded at once, in
-    /// registers, and the blocks before a refusal are stored behind it alone.
+    /// before the first invalid byte may have been stored.
     #[inline(always)]
     pub fn decode_owned(self, src: &[u8], dst: &mut [u8], case: CheckCase) -> bool
         requires { length src.now ≡ 2 * length dst.old }
         ensures { DecodesOwned (owned_block (kind_name self)) case src.now dst.old dst.new result }
     {
-        if src.len() <= 256 && self.decode(src, dst, case) {
+        // These lengths are decoded here, with no further call.
+        if matches!(src.len(), 16..=128) && self.decode(src, dst, case) {
             return true;
         }
-        self.decode_in_turn(src, dst, case)
-    }
-
-    // Decodes block by block where the plan does.
-    #[inline(never)]
-    fn decode_in_turn(self, src: &[u8], dst: &mut [u8], case: CheckCase) -> bool
-        requires { length src.now ≡ 2 * length dst.old }
-        ensures { DecodesOwned (owned_block (kind_name self)) case src.now dst.old dst.new result }
-    {
         match self {
             Kind::Scalar | Kind::Sse41 => self.decode_at_once(src, dst, case),
-            Kind::Avx2 | Kind::Neon => decode_by_blocks::<OneVector, 32>(src, dst, case, false),
-            Kind::Avx512 => decode_by_blocks::<TwoHashed, 64>(src, dst, case, true),
+            Kind::Avx2 | Kind::Neon => owned::decode::<OneVector, 32>(src, dst, case),
+            Kind::Avx512 => owned::decode::<TwoHashed, 64>(src, dst, case),
         }
     }
 
     // [`Kind::decode`], which stores no block before a refusal.
-    #[inline(always)]
+    #[inline(never)]
     fn decode_at_once(self, src: &[u8], dst: &mut [u8], case: CheckCase) -> bool
         requires { length src.now ≡ 2 * length dst.old }
         ensures { DecodesOwned 0 case src.now dst.old dst.new result }

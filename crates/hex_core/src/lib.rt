@@ -24,6 +24,7 @@ pub mod probe {
     pub use crate::search::{Probe, covered, locate};
 }
 
+pub use crate::by_length::decode_valid;
 pub use crate::digit::{CheckCase, digit_value};
 pub use crate::error::Error;
 pub use crate::plan::{Backend, Probe, SliceProbe, backends, covered, locate};

@@ -1,30 +1,41 @@
 //! Decoding into a buffer that is given up on a refusal: block by block, each stored once its own
 //! digits are tested.
 
-ghost use Rattle.std.specs.Prelude.{◌*◌};
+ghost use Rattle.std.specs.Prelude.{◌*◌, ◌≤◌, length};
 ghost use Rattle.hex_core.specs.Calls.{DecodesOwned};
 ghost use Rattle.hex_core.specs.Shapes.{InBlocks};
 
 use crate::blocks::decode::{DecodeBlock, decode_blocks};
 use crate::by_length;
 use crate::digit::CheckCase;
+use crate::vector::factors;
 
 /// Writes the bytes that `src` spells into the whole of `dst`, or returns false and has stored the
-/// whole blocks before the first invalid byte: decodes block by block, and what is behind the whole
-/// blocks at once. The nibbles of more than 64 digits are found by a hash where `hashed` is true.
-#[inline(always)]
-pub fn decode_by_blocks<B, const SIZE: usize>(
-    src: &[u8],
-    dst: &mut [u8],
-    case: CheckCase,
-    hashed: bool,
-) -> bool
+/// whole blocks before the first invalid byte.
+#[inline(never)]
+pub fn decode<B, const SIZE: usize>(src: &[u8], dst: &mut [u8], case: CheckCase) -> bool
 where
     B: DecodeBlock<SIZE>,
     requires { InBlocks SIZE src.now dst.old }
     ensures { DecodesOwned (2 * SIZE) case src.now dst.old dst.new result }
 {
-    let done = decode_blocks::<B, SIZE>(src, dst, case);
+    if dst.len() < SIZE {
+        return by_length::decode(src, dst, case, false);
+    }
+    decode_by_blocks::<B, SIZE>(src, dst, case)
+}
+
+// The same of a block or more: whole blocks in order, and then the one that the source ends with.
+#[inline(always)]
+fn decode_by_blocks<B, const SIZE: usize>(src: &[u8], dst: &mut [u8], case: CheckCase) -> bool
+where
+    B: DecodeBlock<SIZE>,
+    requires blocks { InBlocks SIZE src.now dst.old }
+    requires least { SIZE ≤ length dst.old }
+    ensures { DecodesOwned (2 * SIZE) case src.now dst.old dst.new result }
+{
+    let factors = factors(src[0]);
+    let done = decode_blocks::<B, SIZE>(src, dst, case, factors);
     // The blocks end before the last whole one where the next has an invalid byte.
     if dst.len() - done >= SIZE {
         return false;
@@ -32,5 +43,6 @@ where
     if done == dst.len() {
         return true;
     }
-    by_length::decode(&src[2 * done..], &mut dst[done..], case, hashed)
+    let last = dst.len() - SIZE;
+    B::decode_at(src, dst, last, case, factors)
 }

@@ -69,7 +69,7 @@ fn passes(part: &[u8], case: CheckCase) -> bool
 // Whether every byte of a block or more has a value, a mask for each block.
 #[inline(always)]
 fn check_blocks(src: &[u8], case: CheckCase) -> bool
-    requires { 16 ≤ length src.now }
+    requires { BLOCK ≤ length src.now }
     ensures { IsTrue result ↔ (first_invalid case src.now ≡ None) }
 {
     covered(&mut BlockProbe {
@@ -83,7 +83,7 @@ fn check_blocks(src: &[u8], case: CheckCase) -> bool
 // The same, not where it is called.
 #[inline(never)]
 fn check_apart(src: &[u8], case: CheckCase) -> bool
-    requires { 16 ≤ length src.now }
+    requires { BLOCK ≤ length src.now }
     ensures { IsTrue result ↔ (first_invalid case src.now ≡ None) }
 {
     check_blocks(src, case)

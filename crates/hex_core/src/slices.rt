@@ -1,7 +1,7 @@
 //! The slice calls under a plan: decoding and encoding into the front of a destination, of any
 //! length, and the loan of that front.
 
-ghost use Rattle.std.specs.Prelude.{◌≡◌, ◌≢◌, ◌*◌, ◌≤◌, None, Some, length, MatchResult};
+ghost use Rattle.std.specs.Prelude.{◌≡◌, ◌≢◌, ◌*◌, ◌<◌, ◌≤◌, ℕ, None, Some, length, MatchResult};
 ghost use Rattle.std.specs.Borrow.{sem};
 ghost use Rattle.hex_core.specs.declared.digit.CheckCase.{CheckCase};
 ghost use Rattle.hex_core.specs.Calls.{Answers, Decodes, DecodesFront, Encodes, EncodesFront};
@@ -89,13 +89,23 @@ impl Backend {
     fn encoded_len(src: &[u8], room: usize) -> Result<usize, Error>
         ensures { Answers (encode_refusal src.now room) (λ n. n ≡ 2 * length src.now) result }
     {
-        let Some(required) = src.len().checked_mul(2) else {
-            return Err(Error::Overflow);
-        };
-        if room < required {
-            return Err(Error::OutputTooSmall { required });
+        // No product is formed before it is known to be a `usize`.
+        if room / 2 < src.len() {
+            return Err(Backend::no_room(src));
         }
-        Ok(required)
+        Ok(2 * src.len())
+    }
+
+    // What encoding `src` refuses where its text has no room.
+    #[cold]
+    #[inline(never)]
+    fn no_room(src: &[u8]) -> Error
+        ensures { (room : ℕ) → room < 2 * length src.now → encode_refusal src.now room ≡ Some result }
+    {
+        match src.len().checked_mul(2) {
+            None => Error::Overflow,
+            Some(required) => Error::OutputTooSmall { required },
+        }
     }
 
     /// Decodes all of `src` into the front of `dst` and returns how many bytes it wrote,

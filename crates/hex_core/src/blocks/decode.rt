@@ -263,17 +263,19 @@ impl DecodeBlock<64> for TwoHashed {
 
 /// Decodes whole blocks of `2 * SIZE` digits in order, each tested before its bytes are stored, up
 /// to one that has an invalid byte, and returns how many bytes it stored.
-#[inline(never)]
-pub fn decode_blocks<B, const SIZE: usize>(src: &[u8], dst: &mut [u8], case: CheckCase) -> usize
+#[inline(always)]
+pub fn decode_blocks<B, const SIZE: usize>(
+    src: &[u8],
+    dst: &mut [u8],
+    case: CheckCase,
+    factors: u16x32,
+) -> usize
 where
     B: DecodeBlock<SIZE>,
-    requires { InBlocks SIZE src.now dst.old }
+    requires blocks { InBlocks SIZE src.now dst.old }
+    requires factors { factors ≡ pair_factors 32 }
     ensures { DecodesBlocks case SIZE src.now dst.old dst.new result }
 {
-    let Some(first) = src.first() else {
-        return 0;
-    };
-    let factors = factors(*first);
     let blocks = dst.len() / SIZE;
     'turns: for i in 0..blocks {
         if !B::decode_at(src, dst, i * SIZE, case, factors) {

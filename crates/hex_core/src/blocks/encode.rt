@@ -1,6 +1,6 @@
 //! Encoding by blocks.
 
-ghost use Rattle.std.specs.Prelude.{◌≡◌, ◌+◌, ◌*◌, ◌≤◌, length};
+ghost use Rattle.std.specs.Prelude.{◌≡◌, ◌+◌, ◌*◌, ◌<◌, ◌≤◌, length};
 ghost use Rattle.std.specs.Simd.Lanes.{chunk, put_chunk};
 ghost use Rattle.hex_core.specs.Shapes.{EndsCover};
 ghost use Rattle.hex_core.specs.Text.{text};
@@ -51,6 +51,23 @@ where
     spell_at::<N, TWICE>(src, dst, src.len() - N, upper);
 }
 
+// Writes the text of `2 * N` to `4 * N` bytes.
+#[inline(always)]
+fn encode_four<const N: usize, const TWICE: usize>(src: &[u8], dst: &mut [u8], upper: bool)
+where
+    Lanes: Interleave<N, TWICE> + LookUp<TWICE>,
+    requires lanes { TWICE ≡ 2 * N }
+    requires twice { length dst.old ≡ 2 * length src.now }
+    requires covered { EndsCover (2 * N) src.now }
+    ensures { dst.new ≡ text upper src.now }
+{
+    let last = src.len() - N;
+    spell_at::<N, TWICE>(src, dst, 0, upper);
+    spell_at::<N, TWICE>(src, dst, N, upper);
+    spell_at::<N, TWICE>(src, dst, last - N, upper);
+    spell_at::<N, TWICE>(src, dst, last, upper);
+}
+
 // How many bytes of a longer source are one block, and of its end where so many are left.
 const BLOCK: usize = 32;
 
@@ -71,6 +88,20 @@ fn encode_blocks(src: &[u8], dst: &mut [u8], upper: bool)
         spell_at::<32, 64>(src, dst, src.len() - BLOCK, upper);
     } else if rest > 0 {
         spell_at::<16, 32>(src, dst, src.len() - LAST, upper);
+    }
+}
+
+// Writes the text of more than 64 bytes.
+#[inline(never)]
+fn encode_more(src: &[u8], dst: &mut [u8], upper: bool)
+    requires twice { length dst.old ≡ 2 * length src.now }
+    requires more { 64 < length src.now }
+    ensures { dst.new ≡ text upper src.now }
+{
+    if src.len() <= 128 {
+        encode_four::<32, 64>(src, dst, upper);
+    } else {
+        encode_blocks(src, dst, upper);
     }
 }
 
@@ -99,6 +130,6 @@ pub fn encode(src: &[u8], dst: &mut [u8], upper: bool)
         32 => encode_one::<32, 64>(src, dst, upper),
         17..=31 => encode_two::<16, 32>(src, dst, upper),
         33..=64 => encode_two::<32, 64>(src, dst, upper),
-        _ => encode_blocks(src, dst, upper),
+        _ => encode_more(src, dst, upper),
     }
 }

@@ -1,8 +1,9 @@
-use Rattle.std.proofs.Common.{None, ◌≡◌, ◌+◌, ◌*◌, inl, inr, arith}
-use Rattle.std.proofs.lemmas.Bool.{MatchBool-at_false, MatchBool-at_true, cases_Bool}
-use Rattle.hex_core.specs.Search.{first_invalid}
-use Rattle.hex_core.proofs.BlockLemmas.{valid_range, decodes_over, decodes_whole, rest_none, valid_whole}
-use Rattle.hex_core.proofs.OwnedLemmas.{blocks_stored, part_decoded, part_same}
+use Rattle.std.proofs.Common.{None, ◌≡◌, ◌+◌, ◌*◌, ◌-◌, inl, inr, length, arith}
+use Rattle.std.proofs.lemmas.Bool.{OnFalse_at, OnTrue_at, cases_Bool}
+use Rattle.hex_core.specs.Blocks.{DecodesRange}
+use Rattle.hex_core.specs.Search.{AllValid, first_invalid}
+use Rattle.hex_core.proofs.BlockLemmas.{valid_over, valid_range, decodes_over, decodes_whole, valid_whole}
+use Rattle.hex_core.proofs.OwnedLemmas.{blocks_stored}
 use Rattle.hex_core.proofs.owned.decode_by_blocks.Goals as goal
 
 pub returns-then-dst-done : goal.returns-then-dst-done
@@ -19,14 +20,15 @@ returns-then-done-dst g c =
 pub returns : goal.returns
 returns g c =
     let case = c.args.case in let s = c.args.src.now in let blocks = c.decode_blocks-done.ensures in let mid = c.decode_blocks-done.new.dst in let done = c.decode_blocks-done.result in
-    let behind = rest_none case s (2 * done) (omega arith) blocks.valid in
-    elim (cases_Bool c.decode.result) [
+    let size = g.row.SIZE in let last = length mid - size in let new = c.decode_at.new.dst in
+    elim (cases_Bool c.decode_at.result) [
       | inl t ↦
-          let whole = MatchBool-at_true _ _ t c.decode.ensures in
-          let rest = part_decoded case s mid c.decode.new.dst done (omega arith) (omega arith) (omega arith) whole.1 in
-          rw t (behind.0 whole.0, decodes_whole (decodes_over blocks.decoded rest (omega arith) (omega arith) (omega arith)) (omega arith) (omega arith))
+          let valid = c.decode_at.ensures.0.0 t in
+          let range = OnTrue_at {P = DecodesRange case s mid new last (last + size)} t c.decode_at.ensures.1 in
+          let all : AllValid case s 0 (2 * last + 2 * size) = λ k low lt. valid_over case s 0 (2 * done) (2 * last) (2 * last + 2 * size) (omega arith) blocks.valid valid k low (omega arith) in
+          rw t ((valid_whole case s (2 * last + 2 * size) (omega arith)).0 all, decodes_whole (decodes_over blocks.decoded range (omega arith) (omega arith) (omega arith)) (omega arith) (omega arith))
       | inr f ↦
-          let kept = MatchBool-at_false _ _ f c.decode.ensures in
-          let bad : ¬ (first_invalid case s ≡ None) = λ none. kept.0 (behind.1 none) in
-          rw (f, part_same mid c.decode.new.dst done (omega arith) kept.1) (bad, blocks_stored blocks (omega arith) (omega arith) (omega arith) bad)
+          let same : new ≡ mid = OnFalse_at f c.decode_at.ensures.2 in
+          let bad : ¬ (first_invalid case s ≡ None) = λ none. let t = c.decode_at.ensures.0.1 (valid_range case s (2 * last) (2 * last + 2 * size) (omega arith) none) in cc in
+          rw (f, same) (bad, blocks_stored blocks (omega arith) (omega arith) (omega arith) bad)
     ]

@@ -33,7 +33,7 @@ returns g c =
       inside = omega (arith, blocks_within n size (n / size) (omega arith) (omega arith));
       whole = (n / size, refl);
       valid = rw all at c.turns.invariant.valid;
-      stopped = λ inside valid. absurd (omega (arith, blocks_past n size c.requires.0));
+      stopped = λ inside valid. absurd (omega (arith, blocks_past n size c.requires.blocks.0));
       decoded = rw all at c.turns.invariant.decoded;
     }
 

@@ -1,6 +1,7 @@
-use Rattle.std.proofs.Common.{◌≡◌, ◌*◌, take}
-use Rattle.hex_core.specs.Text.{text}
+-- The text of the blocks before this turn has been written.
+use Rattle.std.proofs.Common.{◌*◌}
+use Rattle.hex_core.proofs.TextBlockLemmas.{Written}
 use Rattle.hex_core.proofs.blocks.encode.encode_blocks.Given as goal
 
 abbrev pub invariant-turns : goal.invariant-turns
-invariant-turns l = take (2 * (l.i * 32)) l.dst ≡ text l.fn.upper (take (l.i * 32) l.src)
+invariant-turns l = Written l.fn.upper l.src l.dst (l.i * 32)

@@ -1,7 +1,8 @@
 use Rattle.std.proofs.Common.{◌∙◌, refl, arith}
-use Rattle.hex_core.proofs.TextBlockLemmas.{block_last}
+use Rattle.hex_core.proofs.TextBlockLemmas.{written-all, written-more, written-none}
 use Rattle.hex_core.proofs.blocks.encode.encode_one.Goals as goal
 
 pub returns : goal.returns
 returns g c =
-    c.spell_at.ensures ∙ block_last c.args.upper c.args.src.now c.args.dst.now 0 g.row.N 0 0 0 (omega arith) (omega arith) (omega arith) (omega arith) refl refl refl
+    let n = g.row.N in
+    c.spell_at.ensures ∙ written-all n (omega arith) (written-more 0 n n 0 (omega arith) (omega arith) (omega arith) refl (written-none c.args.upper c.args.src.now c.args.dst.now (omega arith)))

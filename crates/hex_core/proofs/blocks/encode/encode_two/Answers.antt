@@ -1,8 +1,9 @@
 use Rattle.std.proofs.Common.{◌*◌, ◌-◌, length, refl, ◌∙◌, arith}
-use Rattle.hex_core.proofs.TextBlockLemmas.{two_blocks}
+use Rattle.hex_core.proofs.TextBlockLemmas.{written-all, written-more, written-none}
 use Rattle.hex_core.proofs.blocks.encode.encode_two.Goals as goal
 
 pub returns : goal.returns
 returns g c =
-    let n = g.row.N in let i = length c.args.src.now - n in
-    c.spell_at-2.ensures ∙ two_blocks c.args.upper c.args.src.now c.args.dst.now _ n i (2 * i) (omega arith) (omega arith) (omega arith) refl c.spell_at.ensures
+    let src = c.args.src.now in let n = g.row.N in let i = length src - n in
+    let front = written-more 0 n n 0 (omega arith) (omega arith) (omega arith) refl (written-none c.args.upper src c.args.dst.now (omega arith)) in
+    c.spell_at-2.ensures ∙ rw c.spell_at.ensures (written-all (length src) refl (written-more i n (length src) (2 * i) (omega arith) (omega arith) (omega arith) refl front))
