@@ -37,21 +37,20 @@ reads-all {group} {s} c old new true long all answer =
 
 -- ---- behind a front
 
--- decoding valid digits leaves what they spell
-decoded : (c : CheckCase) (s old new : List ℕ) (done : Bool) → first_invalid c s ≡ None → DecodesWhole c s old new done → Spells c s new
-decoded c s old new true valid answer = answer.1
-decoded c s old new false valid answer = absurd (answer.0 valid)
+-- the digits that come next are valid
+next-valid : {c : CheckCase} {group : Group} {s old : List ℕ} {at done : ℕ} (next rest : List ℕ) → WritesFront c group s old at done
+    → digits_in (piece_len group) (drop at s) ≡ next ++ rest → first_invalid c next ≡ None
+next-valid {c} next rest so_far cut = ((none_joined (lacks c) next rest).0 (rw cut at so_far.rest.1)).0
 
 -- the bytes of the next digits are written behind those before them
-pub writes-more : {c : CheckCase} {group : Group} {s old : List ℕ} {at done : ℕ} (next mid part : List ℕ) (more end : ℕ) (told : Bool)
+pub writes-more : {c : CheckCase} {group : Group} {s old : List ℕ} {at done : ℕ} (next part : List ℕ) (more end : ℕ)
     → WritesFront c group s old at done
     → digits_in (piece_len group) (drop at s) ≡ next ++ digits_in (piece_len group) (drop more (drop at s))
-    → length next ≡ 2 * (end - done) → done ≤ end → end ≤ length old → DecodesWhole c next mid part told
+    → length next ≡ 2 * (end - done) → done ≤ end → end ≤ length old → Spells c next part
     → WritesFront c group s (put_mid done (end - done) old part) (at + more) end
-writes-more {c} {group} {s} {old} {at} {done} next mid part more end told so_far cut size fits room answer =
+writes-more {c} {group} {s} {old} {at} {done} next part more end so_far cut size fits room spelled =
     let rest = digits_in (piece_len group) (drop more (drop at s)) in
     let valid = (none_joined (lacks c) next rest).0 (rw cut at so_far.rest.1) in
-    let spelled = decoded c next mid part told valid.0 answer in
     let long : length part ≡ end - done = omega (arith, spelled.twice, size) in
     let same : length (put_mid done (end - done) old part) ≡ length old = search (rules, places, long, room) in
     let lengths = ap length cut ∙ length-append next rest in
@@ -99,6 +98,11 @@ copied {tested} {c} {group} {s} {dst} {new} {at} {done} {front} so_far reached b
       room = omega (arith, lengths, size, so_far.rest.0);
     }
 
+pub copied-valid : {c : CheckCase} {group : Group} {s dst new : List ℕ} {at done left : ℕ} {front : Front} → WritesFront c group s dst at done
+    → Copied group s new at left front → first_invalid c (take front.digits new) ≡ None
+copied-valid {c} {group} {s} {dst} {new} {at} {done} {left} {front} so_far known =
+    next-valid (take front.digits new) (digits_in (piece_len group) (drop front.len (drop at s))) so_far known.cut
+
 -- ---- one part
 
 -- the digits of the next part, where so many bytes are left
@@ -126,3 +130,8 @@ part {c} {group} {s} {dst} {at} {done} so_far some same counted =
     let left = length dst - done in
     let found = next (piece_len group) left (drop at s) (omega arith) so_far.rest.0 (cases_lt (2 * piece_len group) (length (drop at s))) in
     rw (counted, same) (omega (arith, found.0, length-drop at s, some, group.is_group.0), found)
+
+pub part-valid : {c : CheckCase} {group : Group} {s dst : List ℕ} {at done : ℕ} (count : ℕ) → WritesFront c group s dst at done
+    → Next (piece_len group) count (drop at s) → first_invalid c (take (2 * count) (drop at s)) ≡ None
+part-valid {c} {group} {s} {dst} {at} {done} count so_far known =
+    next-valid (take (2 * count) (drop at s)) (digits_in (piece_len group) (drop (2 * count + 1) (drop at s))) so_far known.1

@@ -4,6 +4,7 @@ use Rattle.hex_core.specs.declared.digit.CheckCase.{CheckCase}
 use Rattle.hex_core.specs.Search.{first_invalid}
 use Rattle.hex_core.specs.Text.{Spells}
 use Rattle.hex_codec.specs.declared.group.Group.{Group}
+use Rattle.hex_codec.specs.declared.unseparate.Blocks.{Blocks}
 use Rattle.hex_codec.specs.declared.unseparate.Front.{Front}
 use Rattle.hex_codec.specs.Grouped.{piece_len, separator}
 use Rattle.hex_codec.specs.GroupedText.{digits_in, first_wrong, separators_in}
@@ -25,6 +26,13 @@ pub record UnseparatesFront (tested : ℕ) (group : Group) (text new : List ℕ)
   pub whole : IsWhole (piece_len group) front.len
   pub separated : 0 < tested → All (λ b. b ≡ separator group) (separators_in (piece_len group) (take front.len text))
   pub copied : take front.digits new ≡ digits_in (piece_len group) (take front.len text)
+
+-- so it is of some blocks, if no lane where a separator stands ever differed
+pub record CopiesBlocks (every tested : ℕ) (group : Group) (text new : List ℕ) (done : Blocks) : Type 0 where
+  pub inside : done.len ≤ length text
+  pub fewer : done.digits ≤ done.len
+  pub copied : All (λ b. b ≡ 0) (separators_in every (take 15 done.wrong))
+      → UnseparatesFront tested group text new (record { len = done.len; digits = done.digits })
 
 -- the separators of all of a text are the group's, and its digits were copied
 pub record UnseparatesAll (group : Group) (text new : List ℕ) : Type 0 where

@@ -17,7 +17,7 @@ ghost use Rattle.hex_codec.specs.Unseparate.{ClearsFront, ValidDigits, WritesFro
 pub use crate::group::Group;
 use crate::unseparate::{Front, NONE, SHORT, unseparate, unseparate_all};
 use hex_core::lend::lend_accepted;
-use hex_core::{Backend, CheckCase};
+use hex_core::{Backend, CheckCase, decode_valid};
 
 /// Why a grouped text was not read.
 ///
@@ -177,7 +177,7 @@ fn write_front(src: &[u8], dst: &mut [u8], group: Group, case: CheckCase) -> Fro
             return done;
         }
         let end = done.digits + front.digits;
-        Backend::plain().decode(
+        decode_valid(
             &buffer[..front.digits],
             &mut dst[done.digits / 2..end / 2],
             case,
@@ -197,7 +197,7 @@ fn write_behind(src: &[u8], dst: &mut [u8], front: Front, group: Group, case: Ch
     let mut done = front.digits / 2;
     while done < dst.len() {
         let count = group.every().min(dst.len() - done);
-        Backend::plain().decode(&src[at..at + 2 * count], &mut dst[done..done + count], case);
+        decode_valid(&src[at..at + 2 * count], &mut dst[done..done + count], case);
         done += count;
         at += 2 * count + 1;
     }

@@ -1,10 +1,10 @@
 //! Parts of a grouped text, without their separators.
 
-ghost use Rattle.std.specs.Prelude.{◌≡◌, ◌*◌, ◌-◌, ◌≤◌, All, EachIndex, length, slice_index, take};
+ghost use Rattle.std.specs.Prelude.{◌≡◌, ◌+◌, ◌*◌, ◌-◌, ◌≤◌, All, EachIndex, length, slice_index, take};
 ghost use Rattle.std.specs.Bool.{OnTrue};
 ghost use Rattle.hex_codec.specs.Grouped.{piece_len};
 ghost use Rattle.hex_codec.specs.GroupedText.{digits_in, separators_in};
-ghost use Rattle.hex_codec.specs.Unseparate.{HasNoDifference, IsWhole, UnseparatesAll, UnseparatesFront};
+ghost use Rattle.hex_codec.specs.Unseparate.{CopiesBlocks, HasNoDifference, IsWhole, UnseparatesAll, UnseparatesFront};
 
 use crate::group::Group;
 use std::simd::prelude::*;
@@ -199,6 +199,70 @@ fn difference<const TESTED: usize>(before: u8, found: u8, byte: u8) -> u8
     before | (found ^ byte)
 }
 
+// Blocks whose digits were copied: how many bytes their whole parts have, how many digits are among
+// them, and how their lanes differed from the separator.
+#[derive(Clone, Copy)]
+struct Blocks {
+    len: usize,
+    digits: usize,
+    wrong: u8x16,
+}
+
+// Copies the digits of one block more.
+#[inline(always)]
+fn copy_block<const EVERY: usize, const DIGITS: usize, const TESTED: usize>(
+    text: &[u8],
+    group: Group,
+    digits: &mut [u8],
+    done: Blocks,
+) -> Blocks
+where
+    Places: Parts<EVERY, DIGITS>,
+    requires every { piece_len group ≡ EVERY }
+    requires step { DIGITS ≤ 15 }
+    requires room { length text.now ≤ length digits.old }
+    requires done { CopiesBlocks EVERY TESTED group text.now digits.old done }
+    requires more { done.len + BLOCK ≤ length text.now }
+    ensures copied { CopiesBlocks EVERY TESTED group text.now digits.new result }
+    ensures next { result.len ≡ done.len + WHOLE }
+{
+    let block = u8x16::from_slice(&text[done.len..]);
+    Places::digits(block).copy_to_slice(&mut digits[done.digits..]);
+    Blocks {
+        len: done.len + WHOLE,
+        digits: done.digits + DIGITS,
+        wrong: differences::<16, TESTED>(done.wrong, block, group.sep()),
+    }
+}
+
+// Copies the digits of blocks, four a turn.
+#[inline(always)]
+fn copy_blocks<const EVERY: usize, const DIGITS: usize, const TESTED: usize>(
+    text: &[u8],
+    group: Group,
+    digits: &mut [u8],
+) -> Blocks
+where
+    Places: Parts<EVERY, DIGITS>,
+    requires every { piece_len group ≡ EVERY }
+    requires step { DIGITS ≤ 15 }
+    requires room { length text.now ≤ length digits.old }
+    ensures { CopiesBlocks EVERY TESTED group text.now digits.new result }
+{
+    let mut done = Blocks {
+        len: 0,
+        digits: 0,
+        wrong: u8x16::splat(0),
+    };
+    while text.len() - done.len > 4 * WHOLE {
+        done = copy_block::<EVERY, DIGITS, TESTED>(text, group, digits, done);
+        done = copy_block::<EVERY, DIGITS, TESTED>(text, group, digits, done);
+        done = copy_block::<EVERY, DIGITS, TESTED>(text, group, digits, done);
+        done = copy_block::<EVERY, DIGITS, TESTED>(text, group, digits, done);
+    }
+    done
+}
+
 // The same as `unseparate_front` where a piece has one byte or two, by blocks. All lanes are compared
 // with the separator in each turn, and at the end alone it is asked how its places differed.
 fn unseparate_blocks<const EVERY: usize, const DIGITS: usize, const TESTED: usize>(
@@ -213,18 +277,15 @@ where
     requires room { length text.now ≤ length digits.old }
     ensures { UnseparatesFront TESTED group text.now digits.new result }
 {
-    let mut len = 0;
-    let mut to = 0;
-    let mut wrong = u8x16::splat(0);
-    while text.len() - len >= BLOCK {
-        let block = u8x16::from_slice(&text[len..]);
-        wrong = differences::<16, TESTED>(wrong, block, group.sep());
-        Places::digits(block).copy_to_slice(&mut digits[to..]);
-        len += WHOLE;
-        to += DIGITS;
+    let mut done = copy_blocks::<EVERY, DIGITS, TESTED>(text, group, digits);
+    while text.len() - done.len >= BLOCK {
+        done = copy_block::<EVERY, DIGITS, TESTED>(text, group, digits, done);
     }
-    if are_all(Places::separators(wrong), 0) {
-        Front { len, digits: to }
+    if are_all(Places::separators(done.wrong), 0) {
+        Front {
+            len: done.len,
+            digits: done.digits,
+        }
     } else {
         NONE
     }
@@ -240,6 +301,7 @@ fn unseparate_fours<const TESTED: usize>(text: &[u8], group: Group, digits: &mut
     let mut len = 0;
     let mut to = 0;
     let mut wrong = u8x32::splat(0);
+    // A block of 32 bytes begins behind the first piece.
     while text.len() - len >= 40 {
         let block = u8x32::from_slice(&text[len + 8..]);
         wrong = differences::<32, TESTED>(wrong, block, group.sep());

@@ -1,49 +1,8 @@
--- The digits of one more block are copied.
-use Rattle.std.proofs.Common.{rules, ◌≡◌, ◌+◌, ◌-◌, ◌<◌, ◌≤◌, ◌++◌, length, take, drop, refl, sym, ap, ◌∙◌, arith, length-drop, All}
-use Rattle.std.proofs.lemmas.List.{get_or-take, length-take-le, take-take}
+-- No place of a separator had another byte.
+use Rattle.std.proofs.Common.{◌-◌, ◌≡◌}
 use Rattle.std.proofs.lemmas.List.Elements.{All-take}
-use Rattle.std.proofs.lemmas.Simd.{length-put_chunk}
-use Rattle.std.specs.Simd.Lanes.{put_chunk}
-use Rattle.hex_codec.specs.Grouped.{piece_len}
-use Rattle.hex_codec.specs.GroupedText.{digits_in, separators_in}
-use Rattle.hex_codec.proofs.ListLemmas.{take-front_chunk}
-use Rattle.hex_codec.proofs.PartLemmas.{no_differences, unseparates-more}
 use Rattle.hex_codec.proofs.unseparate.unseparate_blocks.Goals as goal
 
-pub loop-len-preserved : goal.loop-len-preserved
-loop-len-preserved g c =
-    let group = c.args.group in let text = c.args.text.now in let every = piece_len group in let n = g.row.DIGITS in
-    let len = c.loop-len.len in let to = c.loop-len.to in let digits = c.loop-len.digits in
-    let new = c.digits.result in
-    let rest = drop len text in
-    let left : length rest ≡ length text - len = length-drop len text in
-    let fits : to + 16 ≤ length digits = omega (arith, c.loop-len.invariant.fewer, c.loop-len-test.true, c.requires.room, c.loop-len.auto.digits) in
-    let first : take 15 (take 16 rest) ≡ take 15 rest = take-take 15 16 rest (omega arith) in
-    let long : length (take 16 rest) ≡ 16 = length-take-le 16 rest (omega (arith, left, c.loop-len-test.true)) in
-    let size : length new ≡ 16 = search rules in
-    let front : take n new ≡ digits_in every (take 15 rest) = c.digits.ensures.taken ∙ rw (first, c.requires.every) refl in
-    let room : to + n ≤ length (put_chunk to digits new) = omega (arith, fits, c.requires.step, length-put_chunk to digits new) in
-    record {
-      inside = omega (arith, c.loop-len-test.true);
-      fewer = omega (arith, c.loop-len.invariant.fewer, c.requires.step);
-      copied = λ none.
-          let block = take 16 rest in
-          let before = c.loop-len.wrong in let found = c.differences-wrong.result in
-          let was = length-take-le 15 before (omega (arith, c.loop-len.auto.wrong.0)) in
-          let is = length-take-le 15 found (omega (arith, c.type_inv.wrong.0)) in
-          let right = no_differences g.row.TESTED g.row.EVERY group.sep (take 15 before) (take 15 block) (take 15 found) (was ∙ sym is)
-          (length-take-le 15 block (omega (arith, long)) ∙ sym is) (λ i lt zero.
-          let low : i < 15 = omega (arith, lt, is) in
-          let here = c.differences-wrong.ensures i (omega (arith, low, c.type_inv.wrong.0)) (sym (get_or-take 15 found i 0 low) ∙ zero) in
-          (get_or-take 15 before i 0 low ∙ here.0, λ t. get_or-take 15 block i 0 low ∙ here.1 t ∙ c.sep.ensures)) none in
-          let held : 0 < g.row.TESTED → All (λ b. b ≡ group.sep) (separators_in every (take 15 rest)) = λ t. rw (c.requires.every, ← first) (right.1 t) in
-          unseparates-more 15 n (c.loop-len.invariant.copied right.0)
-          (omega (arith, left, c.loop-len-test.true)) room
-          (rw c.requires.every c.digits.ensures.whole) held
-          (take-front_chunk to n digits new (omega (arith, size, fits)) (omega (arith, size, c.requires.step))
-          ∙ ap (λ l. take to digits ++ l) front);
-    }
-
 pub returns-then-are_all : goal.returns-then-are_all
-returns-then-are_all g c = c.loop-len.invariant.copied
+returns-then-are_all g c = c.loop-done.invariant.copied
     (rw c.separators.ensures at (All-take (λ b. b ≡ 0) (15 - g.row.DIGITS) c.separators.result c.if-are_all.ensures))

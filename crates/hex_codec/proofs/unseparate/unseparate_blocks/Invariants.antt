@@ -1,15 +1,10 @@
--- Whole parts have been copied, where no place of a separator had another byte.
-use Rattle.std.proofs.Common.{◌-◌, ◌≤◌, ◌≡◌, All, length, take}
-use Rattle.hex_codec.specs.GroupedText.{separators_in}
-use Rattle.hex_codec.specs.Unseparate.{UnseparatesFront}
+-- The digits of whole blocks have been copied.
+use Rattle.std.proofs.Common.{◌-◌, length}
+use Rattle.hex_codec.specs.Unseparate.{CopiesBlocks}
 use Rattle.hex_codec.proofs.unseparate.unseparate_blocks.Given as goal
 
-abbrev pub invariant-loop-len : goal.invariant-loop-len
-invariant-loop-len g l = record {
-  inside : l.len ≤ length l.text;
-  fewer : l.to ≤ l.len;
-  copied : All (λ b. b ≡ 0) (separators_in g.row.EVERY (take 15 l.wrong)) → UnseparatesFront g.row.TESTED l.fn.group l.text l.digits (record { len = l.len; digits = l.to });
-}
+abbrev pub invariant-loop-done : goal.invariant-loop-done
+invariant-loop-done g l = CopiesBlocks g.row.EVERY g.row.TESTED l.fn.group l.text l.digits l.done
 
-abbrev pub decreases-loop-len : goal.decreases-loop-len
-decreases-loop-len g l = length l.text - l.len
+abbrev pub decreases-loop-done : goal.decreases-loop-done
+decreases-loop-done g l = length l.text - l.done.len
