@@ -1,6 +1,7 @@
 // Times `digests::read` over lists as sha256sum prints them, beside a reference that finds each
-// line's end by the C library's `memchr` and decodes each digest by `hex_decode_into`, in turn in
-// one run, and prints the least time of each and their ratio. First it checks what they answer.
+// line's end by the C library's `memchr` and decodes each digest by `hex_decode_into`, and beside one
+// that keeps these entries too, in turn in one run, and prints the least time of each and their
+// ratios. First it checks what they answer.
 #include "common.h"
 
 #include <malloc.h>
@@ -20,6 +21,14 @@ static const size_t name_lens[] = {1, 16, 64};
 struct list {
     uint8_t *text;
     size_t len;
+};
+
+// As large as an entry of `digests::read`.
+struct entry {
+    uint8_t digest[DIGEST];
+    const uint8_t *name;
+    size_t name_len;
+    bool binary;
 };
 
 size_t own_lists_read(const uint8_t *src, size_t len);
@@ -42,23 +51,43 @@ static size_t line_ends(const struct list *list) {
     return lines;
 }
 
-// Keeps no digest: each is written over the one before it.
-static size_t reference(const struct list *list) {
+// Writes an entry for each line, each so many behind the one before it.
+static size_t entries_of(const struct list *list, struct entry *entry, size_t step) {
     const uint8_t *at = list->text, *end = at + list->len, *newline;
-    uint8_t digest[DIGEST];
     size_t lines = 0;
     while ((newline = memchr(at, '\n', end - at)) != NULL) {
-        if (newline - at < DIGITS || own_lists_decode(at, DIGITS, digest, DIGEST) != DIGEST) {
+        if (newline - at < DIGITS + 2 || own_lists_decode(at, DIGITS, entry->digest, DIGEST) != DIGEST) {
             return 0;
         }
+        entry->name = at + DIGITS + 2;
+        entry->name_len = newline - entry->name;
+        entry->binary = entry->name[-1] == '*';
+        entry += step;
         at = newline + 1;
         lines++;
     }
     return lines;
 }
 
-static reader *const readers[] = {ours, reference, line_ends, ours};
-enum { OURS, REFERENCE, LINE_ENDS, IN_NEW_MEMORY, READERS };
+// Keeps no entry: each is written over the one before it.
+static size_t reference(const struct list *list) {
+    struct entry entry;
+    return entries_of(list, &entry, 0);
+}
+
+// Keeps all entries, in memory that it asks for once.
+static size_t keeping(const struct list *list) {
+    struct entry *entries = malloc(LINES * sizeof *entries);
+    if (entries == NULL) {
+        return 0;
+    }
+    size_t lines = entries_of(list, entries, 1);
+    free(entries);
+    return lines;
+}
+
+static reader *const readers[] = {ours, reference, line_ends, ours, keeping};
+enum { OURS, REFERENCE, LINE_ENDS, IN_NEW_MEMORY, KEPT_IN_NEW_MEMORY, READERS };
 
 static void put_line(uint8_t *line, size_t name_len) {
     for (size_t i = 0; i < DIGITS; i++) {
@@ -88,7 +117,7 @@ static void check(const struct list *list) {
     for (size_t at = 0; at < READERS; at++) {
         holds = holds && readers[at](list) == LINES;
     }
-    // Both decoders look at the last line's digits too.
+    // All of them look at the last line's digits too.
     uint8_t *digit = list->text + list->len / LINES * (LINES - 1), kept = *digit;
     *digit = 'g';
     holds = holds && ours(list) == 0 && reference(list) == 0;
@@ -112,7 +141,7 @@ static double spent(reader *reader, const struct list *list) {
 static void measure(const struct list *list, int round, double *least) {
     for (size_t turn = 0; turn < READERS; turn++) {
         size_t at = (turn + round) % READERS;
-        if (at == IN_NEW_MEMORY) {
+        if (at == IN_NEW_MEMORY || at == KEPT_IN_NEW_MEMORY) {
             malloc_trim(0);
         }
         double time = spent(readers[at], list) / LINES;
@@ -135,11 +164,13 @@ int main(void) {
         }
     }
     printf("\ndigests::read, lists of %d lines of %d digits: ns a line\n"
-        "    name     read reference / reference | line ends | read in new memory\n", LINES, DIGITS);
+        "    name     read reference / reference | line ends | in new memory: read     kept / kept\n",
+        LINES, DIGITS);
     for (size_t at = 0; at < LISTS; at++) {
         const double *time = least[at];
-        printf("%8zu %8.1f %9.1f %11.2f | %9.1f | %18.1f\n", name_lens[at], time[OURS],
-            time[REFERENCE], time[OURS] / time[REFERENCE], time[LINE_ENDS], time[IN_NEW_MEMORY]);
+        printf("%8zu %8.1f %9.1f %11.2f | %9.1f | %19.1f %8.1f %6.2f\n", name_lens[at], time[OURS],
+            time[REFERENCE], time[OURS] / time[REFERENCE], time[LINE_ENDS], time[IN_NEW_MEMORY],
+            time[KEPT_IN_NEW_MEMORY], time[IN_NEW_MEMORY] / time[KEPT_IN_NEW_MEMORY]);
     }
     return 0;
 }
