@@ -18,7 +18,7 @@ use Rattle.hex_core.specs.Text.{Spells}
 use Rattle.hex_core.proofs.ByteLemmas.{valid_value, value_small}
 use Rattle.hex_core.proofs.LaneLemmas.{mapped_at}
 use Rattle.hex_core.proofs.PairLemmas.{length-packed, packed_at}
-use Rattle.hex_core.proofs.SearchLemmas.{exactly_first, first_is_first, none_valid, first_invalid_none, part_at, part_is_valid}
+use Rattle.hex_core.proofs.SearchLemmas.{none_valid, first_invalid_none, part_at, part_is_valid}
 use Rattle.hex_core.proofs.SpellsLemmas.{spelled_along}
 
 -- ---- places of blocks of any width
@@ -96,16 +96,6 @@ module _ (c : CheckCase) (s : List ℕ) where
       let part = part_is_valid c s done (length s) (omega arith) in (
         λ none. first_invalid_none c s (valid_over 0 done done (length s) (omega arith) front (part.0 none)),
         λ none. part.1 (valid_range done (length s) (omega arith) none),
-      )
-
-  pub rest_some : (done i : ℕ) → done ≤ length s → AllValid c s 0 done → first_invalid c (slice_range s done (length s)) ≡ Some i → first_invalid c s ≡ Some (done + i)
-  rest_some done i inside front found =
-      let first = first_is_first c (slice_range s done (length s)) i found in
-      let long = rest_length done inside in
-      (exactly_first c s (done + i)).1 (
-        omega (arith, first.0),
-        ap (value c) (sym (part_at s done (length s) i (omega arith) (omega (arith, first.0)))) ∙ first.1,
-        front_over done i inside (omega (arith, first.0)) front first.2,
       )
 
   -- where a part fails its test, the source has an invalid byte

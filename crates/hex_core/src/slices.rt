@@ -16,6 +16,7 @@ use crate::error::Error;
 use crate::lend::lend_accepted;
 use crate::plan::{Backend, SliceProbe};
 use crate::search::locate;
+use crate::tables::has_value;
 
 impl Backend {
     /// Returns the first place of `src` whose byte has no value under `case`, from 0 and in bytes,
@@ -72,12 +73,10 @@ impl Backend {
         requires { first_invalid case src.now ≢ None }
         ensures { first_bad_char case src.now ≡ Some result }
     {
-        // Behind that front one look finds it.
-        let front = valid_front(src, case);
-        let Some(behind) = self.first_invalid(&src[front..], case) else {
-            unreachable!();
-        };
-        let index = front + behind;
+        let mut index = valid_front(src, case);
+        'looks: while has_value(src[index], case) {
+            index += 1;
+        }
         Error::InvalidChar {
             index,
             byte: src[index],

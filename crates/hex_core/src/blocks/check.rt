@@ -137,7 +137,7 @@ fn valid_from<const N: usize>(src: &[u8], at: usize, case: CheckCase) -> usize
 }
 
 // How many bytes stand before the first one without a value, or in all whole blocks of `N`.
-#[inline(never)]
+#[inline(always)]
 fn valid_front_by<const N: usize>(src: &[u8], case: CheckCase) -> usize
     requires lanes { N ≤ 64 }
     requires some { 1 ≤ N }
@@ -156,6 +156,7 @@ fn valid_front_by<const N: usize>(src: &[u8], case: CheckCase) -> usize
 
 /// How many bytes stand before the first one without a value, or before the last 15 at most where
 /// there is none.
+#[inline(always)]
 pub fn valid_front(src: &[u8], case: CheckCase) -> usize
     ensures most { result ≤ length src.now }
     ensures valid { AllValid case src.now 0 result }
