@@ -41,7 +41,7 @@ pub fn decode(src: &[u8], dst: &mut [u8], case: CheckCase, hashed: bool) -> bool
         return decode_few(src, dst, case);
     }
     match src.len() {
-        64 => decode_one::<Saturating, 64, 32>(src, dst, case, factors(src[0])),
+        64 => decode_one::<Saturating, 64, 32>(src, dst, case, known_factors()),
         0..64 => decode_two::<Saturating, 32, 16>(src, dst, case, known_factors()),
         65..=128 => decode_two::<Saturating, 64, 32>(src, dst, case, factors(src[0])),
         _ if hashed => decode_more::<Hashing>(src, dst, case),
