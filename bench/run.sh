@@ -1,6 +1,6 @@
 #!/bin/sh
 # Builds the crates as a static library of thin exported functions, times its calls beside the Rust
-# crate's in one run, then reading digest lists beside a loop in C, and digits in chunks beside one
+# crate's in one run, then reading digest lists beside loops in C, and digits in chunks beside one
 # call, and prints nanoseconds and ratios; README.md says what the columns mean.
 # Usage: bench/run.sh [--cpu=x86-64-v3] [--rust PATH] [--counts]
 # PATH is a checkout of the Rust crate faster-hex 1.0.0. With --counts it counts instructions, by

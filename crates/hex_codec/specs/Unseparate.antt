@@ -27,7 +27,7 @@ pub record UnseparatesFront (tested : ℕ) (group : Group) (text new : List ℕ)
   pub separated : 0 < tested → All (λ b. b ≡ separator group) (separators_in (piece_len group) (take front.len text))
   pub copied : take front.digits new ≡ digits_in (piece_len group) (take front.len text)
 
--- so it is of some blocks, if no lane where a separator stands ever differed
+-- some blocks make such a front, if no lane at the place of a separator ever differed
 pub record CopiesBlocks (every tested : ℕ) (group : Group) (text new : List ℕ) (done : Blocks) : Type 0 where
   pub inside : done.len ≤ length text
   pub fewer : done.digits ≤ done.len

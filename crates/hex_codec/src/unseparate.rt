@@ -235,7 +235,8 @@ where
     }
 }
 
-// Copies the digits of blocks, four a turn.
+// Copies the digits of blocks, four a turn, and leaves three of them at most. The last of four reads a
+// byte behind its whole parts, so one more has to be there.
 #[inline(always)]
 fn copy_blocks<const EVERY: usize, const DIGITS: usize, const TESTED: usize>(
     text: &[u8],

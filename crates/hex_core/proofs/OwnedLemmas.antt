@@ -1,4 +1,4 @@
--- What decoding block by block leaves: whole blocks in order, and then a rest.
+-- What decoding block by block leaves where a source is refused.
 use Rattle.std.proofs.Common.{◌≡◌, ℕ, ◌+◌, ◌-◌, ◌*◌, ◌/◌, ◌<◌, ◌≤◌, List, ◌++◌, length, take, drop, get_or, inl, inr, refl, sym, ap, ◌∙◌, Option, Some, None, Bool, true, false, arith}
 use Rattle.std.specs.Prelude.{slice_index, unwrap_or, option_map}
 use Rattle.std.proofs.lemmas.Bool.{cases_lt}

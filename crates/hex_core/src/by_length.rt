@@ -1,5 +1,5 @@
-//! Decoding under every plan of lanes, and checking under those of 64 of them: blocks in registers
-//! where a source is short, and blocks of 64 digits above.
+//! Decoding under every plan of lanes, checking under those of 64 of them, and writing what valid
+//! digits spell: blocks in registers where a source is short, and blocks of 64 digits above.
 
 ghost use Rattle.std.specs.Prelude.{◌≡◌, ◌↔◌, ◌*◌, ◌<◌, ◌≤◌, IsTrue, None, length};
 ghost use Rattle.hex_core.specs.Calls.{DecodesWhole};
@@ -80,7 +80,7 @@ where
     }
 }
 
-/// Writes the bytes that `src` spells over the whole of `dst`, and tests none of 64 digits or more.
+/// Writes the bytes that `src` spells over the whole of `dst`. From 64 digits on it tests none.
 ///
 /// The caller shows that each byte of `src` has a value under `case`, and that `src` is exactly twice
 /// as long as `dst`, in bytes.

@@ -57,9 +57,8 @@ impl Kind {
     {
         match self {
             Kind::Scalar => scalar::decode(src, dst, case),
-            Kind::Sse41 | Kind::Avx2 | Kind::Avx512 | Kind::Neon => {
-                by_length::decode(src, dst, case, matches!(self, Kind::Avx512))
-            }
+            Kind::Sse41 | Kind::Avx2 | Kind::Neon => by_length::decode(src, dst, case, false),
+            Kind::Avx512 => by_length::decode(src, dst, case, true),
         }
     }
 
@@ -70,7 +69,8 @@ impl Kind {
         requires { length src.now ≡ 2 * length dst.old }
         ensures { DecodesOwned (owned_block (kind_name self)) case src.now dst.old dst.new result }
     {
-        // These lengths are decoded here, with no further call.
+        // Under a plan of lanes no call is made for these lengths, unless they are refused: then the
+        // blocks before the first invalid byte are still to be stored.
         if matches!(src.len(), 16..=128) && self.decode(src, dst, case) {
             return true;
         }

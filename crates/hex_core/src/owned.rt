@@ -19,6 +19,7 @@ where
     requires { InBlocks SIZE src.now dst.old }
     ensures { DecodesOwned (2 * SIZE) case src.now dst.old dst.new result }
 {
+    // So few digits are never hashed.
     if dst.len() < SIZE {
         return by_length::decode(src, dst, case, false);
     }

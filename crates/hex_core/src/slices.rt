@@ -73,6 +73,7 @@ impl Backend {
         requires { first_invalid case src.now ≢ None }
         ensures { first_bad_char case src.now ≡ Some result }
     {
+        // At most 14 valid bytes stand behind this front: to search them by a probe would take longer.
         let mut index = valid_front(src, case);
         'looks: while has_value(src[index], case) {
             index += 1;

@@ -31,6 +31,7 @@ struct Places {
     back: u8x16,
 }
 
+// The places where pieces have `EVERY` bytes, and the text of sixteen bytes has `OUT`.
 trait PlacesOf<const EVERY: usize, const OUT: usize> {
     fn places() -> Places
         ensures least { 2 * HALF ≤ OUT }

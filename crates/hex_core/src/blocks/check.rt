@@ -154,8 +154,8 @@ fn valid_front_by<const N: usize>(src: &[u8], case: CheckCase) -> usize
     whole * N
 }
 
-/// How many bytes stand before the first one without a value, or before the last 15 at most where
-/// there is none.
+/// How many bytes of a valid front there are: up to the first one without a value, or all whole blocks
+/// of 16 where that one stands behind them or there is none.
 #[inline(always)]
 pub fn valid_front(src: &[u8], case: CheckCase) -> usize
     ensures most { result ≤ length src.now }
