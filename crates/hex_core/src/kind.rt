@@ -57,8 +57,10 @@ impl Kind {
     {
         match self {
             Kind::Scalar => scalar::decode(src, dst, case),
-            Kind::Sse41 | Kind::Avx2 | Kind::Neon => by_length::decode(src, dst, case, false),
-            Kind::Avx512 => by_length::decode(src, dst, case, true),
+            // One call: two would be too much to inline.
+            Kind::Sse41 | Kind::Avx2 | Kind::Avx512 | Kind::Neon => {
+                by_length::decode(src, dst, case, matches!(self, Kind::Avx512))
+            }
         }
     }
 
