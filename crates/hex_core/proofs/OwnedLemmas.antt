@@ -1,6 +1,7 @@
 -- What decoding block by block leaves where a source is refused.
-use Rattle.std.proofs.Common.{◌≡◌, ℕ, ◌+◌, ◌-◌, ◌*◌, ◌/◌, ◌<◌, ◌≤◌, List, ◌++◌, length, take, drop, get_or, inl, inr, refl, sym, ap, ◌∙◌, Option, Some, None, Bool, true, false, arith}
+use Rattle.std.proofs.Common.{◌≡◌, ℕ, ◌+◌, ◌-◌, ◌*◌, ◌/◌, ◌%◌, ◌<◌, ◌≤◌, List, ◌++◌, length, take, drop, get_or, inl, inr, refl, sym, ap, ◌∙◌, Option, Some, None, Bool, true, false, arith}
 use Rattle.std.specs.Prelude.{slice_index, unwrap_or, option_map}
+use Rattle.std.proofs.Math.Nat.{mul_assoc}
 use Rattle.std.proofs.lemmas.Bool.{cases_lt}
 use Rattle.std.proofs.lemmas.Grind.{common_steps}
 use Rattle.std.proofs.lemmas.Nat.{div-mul-add}
@@ -11,13 +12,14 @@ use Rattle.hex_core.specs.Search.{first_invalid}
 use Rattle.hex_core.specs.Shapes.{DecodesBlocks}
 use Rattle.hex_core.specs.Plans.{StoresBlocks}
 use Rattle.hex_core.specs.Text.{with_front}
+use Rattle.hex_core.proofs.BlockLemmas.{blocks_end, decodes_over, valid_over}
 use Rattle.hex_core.proofs.SearchLemmas.{first_is_first, valid_before, valid_misses}
 use Rattle.hex_core.proofs.SpellsLemmas.{front_spells}
 
 -- ---- the first invalid byte behind whole blocks
 
 -- it is in the block that stopped
-digits_are : {c : CheckCase} {size done : ℕ} {s old new : List ℕ} (o : Option ℕ) → first_invalid c s ≡ o → (o ≡ None → ⊥) → 0 < size → DecodesBlocks c size s old new done
+digits_are : {c : CheckCase} {size done : ℕ} {s old new : List ℕ} (o : Option ℕ) → first_invalid c s ≡ o → (o ≡ None → ⊥) → 0 < size → DecodesBlocks c size s old new 0 done
     → unwrap_or (option_map (λ f. 2 * size * (f / (2 * size))) o) 0 ≡ 2 * done
 digits_are {c} {size} {done} {s} (Some f) e bad some blocks =
     let i = blocks.whole.0 in let is = blocks.whole.1 in
@@ -31,6 +33,21 @@ digits_are {c} {size} {done} {s} (Some f) e bad some blocks =
     ap (λ n. 2 * size * n) same ∙ omega arith
 digits_are None e bad some blocks = absurd (bad refl)
 
+-- ---- whole blocks behind whole turns
+
+pub joined : {c : CheckCase} {size turns done : ℕ} {s old mid new : List ℕ} → 64 % size ≡ 0 → length mid ≡ length old → DecodesBlocks c 64 s old mid 0 turns → DecodesBlocks c size s mid new turns done
+    → DecodesBlocks c size s old new 0 done
+joined {c} {size} {turns} {done} {s} whole same front back =
+    let i = front.whole.0 in let j = back.whole.0 in
+    let product : i * (64 / size) * size ≡ i * 64 = mul_assoc i (64 / size) size ∙ ap (λ n. i * n) (blocks_end 64 size whole) in
+    record {
+      inside = (omega arith, omega (arith, same, back.inside.1));
+      whole = (i * (64 / size) + j, omega (arith, product, front.whole.1, back.whole.1));
+      valid = valid_over c s 0 (2 * turns) (2 * turns) (2 * done) (omega arith) front.valid back.valid;
+      stopped = back.stopped;
+      decoded = decodes_over front.decoded back.decoded (omega arith) (omega arith) (omega (arith, back.inside.0));
+    }
+
 -- ---- what a refusal leaves
 
 front_kept : (old mid : List ℕ) (from : ℕ) → length mid ≡ length old → from ≤ length mid → ((k : ℕ) → from ≤ k → get_or mid k 0 ≡ get_or old k 0)
@@ -40,10 +57,10 @@ front_kept old mid from same inside behind =
     get_or-drop from mid i 0 ∙ behind (from + i) (omega arith) ∙ sym (get_or-drop from old i 0)) in
     sym (take-append-drop from mid) ∙ ap (λ l. take from mid ++ l) (back ∙ ap (λ n. drop n old) (sym (length-take-le from mid inside)))
 
-pub blocks_stored : {c : CheckCase} {size done : ℕ} {s old new : List ℕ} → DecodesBlocks c size s old new done → length s ≡ 2 * length new → length new ≡ length old
+pub blocks_stored : {c : CheckCase} {size done : ℕ} {s old new : List ℕ} → DecodesBlocks c size s old new 0 done → length s ≡ 2 * length new → length new ≡ length old
     → 0 < size → ¬ (first_invalid c s ≡ None) → StoresBlocks (2 * size) c s old new
 blocks_stored {c} {size} {done} {s} {old} {new} blocks twice same some bad =
-    let inside : done ≤ length new = rw same blocks.inside in
+    let inside : done ≤ length new = rw same blocks.inside.1 in
     record {
       bytes = take done new;
       spelled = rw (digits_are (first_invalid c s) refl bad some blocks)
@@ -57,8 +74,8 @@ pub owned_short : (c : CheckCase) (s old new : List ℕ) (size : ℕ) (done : Bo
     → DecodesOwned (2 * size) c s old new done
 owned_short c s old new size true twice same short answer = answer
 owned_short c s old new size false twice same short answer =
-    let none : DecodesBlocks c size s old new 0 = record {
-      inside = omega arith;
+    let none : DecodesBlocks c size s old new 0 0 = record {
+      inside = (omega arith, omega arith);
       whole = (0, omega arith);
       valid = λ k low lt. absurd (omega (arith, lt));
       stopped = λ inside valid. absurd (omega (arith, inside, twice, same, short));

@@ -31,10 +31,11 @@ DecodesAt c s old new at size done =
     (IsTrue done ↔ AllValid c s (2 * at) (2 * at + 2 * size))
     × OnTrue done (DecodesRange c s old new at (at + size)) × OnFalse done (new ≡ old)
 
--- so many bytes were decoded, in whole blocks, up to one whose digits are not valid
-pub record DecodesBlocks (c : CheckCase) (size : ℕ) (s old new : List ℕ) (done : ℕ) : Type 0 where
-  pub inside : done ≤ length old
-  pub whole : (i : ℕ) × (done ≡ i * size)
-  pub valid : AllValid c s 0 (2 * done)
+-- the bytes from one place up to another were decoded, in whole blocks, up to one whose digits are not
+-- valid
+pub record DecodesBlocks (c : CheckCase) (size : ℕ) (s old new : List ℕ) (start done : ℕ) : Type 0 where
+  pub inside : (start ≤ done) × (done ≤ length old)
+  pub whole : (i : ℕ) × (done ≡ start + i * size)
+  pub valid : AllValid c s (2 * start) (2 * done)
   pub stopped : 2 * done + 2 * size ≤ length s → ¬ AllValid c s (2 * done) (2 * done + 2 * size)
-  pub decoded : DecodesRange c s old new 0 done
+  pub decoded : DecodesRange c s old new start done

@@ -80,7 +80,7 @@ where
     }
 }
 
-/// Writes the bytes that `src` spells over the whole of `dst`. From 64 digits on it tests none.
+/// Writes the bytes that `src` spells over the whole of `dst`. From 256 digits on it tests none.
 ///
 /// The caller shows that each byte of `src` has a value under `case`, and that `src` is exactly twice
 /// as long as `dst`, in bytes.
@@ -95,7 +95,7 @@ pub fn decode_valid(src: &[u8], dst: &mut [u8], case: CheckCase)
     requires valid { first_invalid case src.now ≡ None }
     ensures { Spells case src.now dst.new }
 {
-    if src.len() < 64 {
+    if src.len() < 256 {
         decode(src, dst, case, false);
     } else {
         write_blocks(src, dst, case);

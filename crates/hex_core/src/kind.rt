@@ -6,9 +6,10 @@ ghost use Rattle.hex_core.specs.Plans.{kind_name, owned_block};
 ghost use Rattle.hex_core.specs.Search.{first_invalid};
 ghost use Rattle.hex_core.specs.Text.{text};
 
-use crate::blocks::decode::{OneVector, TwoHashed};
+use crate::blocks::decode::{OneVector, TwoVectors};
 use crate::blocks::encode;
 use crate::digit::CheckCase;
+use crate::lanes::{Hashing, Saturating};
 use crate::{by_length, owned, scalar, sixteen};
 
 /// What a plan is called, and what its bodies are chosen by.
@@ -78,8 +79,12 @@ impl Kind {
         }
         match self {
             Kind::Scalar | Kind::Sse41 => self.decode_at_once(src, dst, case),
-            Kind::Avx2 | Kind::Neon => owned::decode::<OneVector, 32>(src, dst, case),
-            Kind::Avx512 => owned::decode::<TwoHashed, 64>(src, dst, case),
+            Kind::Avx2 | Kind::Neon => {
+                owned::decode::<TwoVectors<Saturating>, OneVector, 32>(src, dst, case)
+            }
+            Kind::Avx512 => {
+                owned::decode::<TwoVectors<Hashing>, TwoVectors<Hashing>, 64>(src, dst, case)
+            }
         }
     }
 

@@ -12,8 +12,9 @@ ghost use Rattle.hex_core.specs.Text.{Spells};
 
 use crate::blocks::check::check_long;
 use crate::digit::CheckCase;
-use crate::lanes::{Hashing, NibbleMap, Saturating, valid_nibbles};
+use crate::lanes::{NibbleMap, Saturating, valid_nibbles};
 use crate::vector::{Lanes, Pack, either, factors, is_small};
+use std::marker::PhantomData;
 use std::simd::prelude::*;
 
 // The nibbles of `N` bytes from `at` on.
@@ -76,21 +77,35 @@ where
     put(valid_nibbles_at::<N>(src, 2 * at, case), factors, dst, at);
 }
 
-/// Writes the bytes that a valid source of 64 digits or more spells.
+// The same of 256 digits: a turn, so that what the compiler knows is read once for four blocks.
+#[inline(always)]
+fn write_turn(src: &[u8], dst: &mut [u8], at: usize, case: CheckCase, factors: u16x32)
+    requires factors { factors ≡ pair_factors 32 }
+    requires room { HasRoom at 128 src.now dst.old }
+    requires valid { first_invalid case src.now ≡ None }
+    ensures { DecodesRange case src.now dst.old dst.new at (at + 128) }
+{
+    write_at::<64, 32>(src, dst, at, case, factors);
+    write_at::<64, 32>(src, dst, at + 32, case, factors);
+    write_at::<64, 32>(src, dst, at + 64, case, factors);
+    write_at::<64, 32>(src, dst, at + 96, case, factors);
+}
+
+/// Writes the bytes that a valid source of 256 digits or more spells.
 #[inline(never)]
 pub fn write_blocks(src: &[u8], dst: &mut [u8], case: CheckCase)
-    requires least { 64 ≤ length src.now }
+    requires least { 256 ≤ length src.now }
     requires twice { length src.now ≡ 2 * length dst.old }
     requires valid { first_invalid case src.now ≡ None }
     ensures { Spells case src.now dst.new }
 {
     let factors = factors(src[0]);
-    'turns: for i in 0..dst.len() / 32 {
-        write_at::<64, 32>(src, dst, i * 32, case, factors);
+    'turns: for i in 0..dst.len() / 128 {
+        write_turn(src, dst, i * 128, case, factors);
     }
-    if dst.len() % 32 != 0 {
-        let at = dst.len() - 32;
-        write_at::<64, 32>(src, dst, at, case, factors);
+    if dst.len() % 128 != 0 {
+        let at = dst.len() - 128;
+        write_turn(src, dst, at, case, factors);
     }
 }
 
@@ -198,10 +213,10 @@ where
     true
 }
 
-/// Decodes a source of 64 digits or more: all of it is tested before the first store.
+/// Decodes a source of 256 digits or more: all of it is tested before the first store.
 #[inline(never)]
 pub fn decode_long(src: &[u8], dst: &mut [u8], case: CheckCase) -> bool
-    requires least { 64 ≤ length src.now }
+    requires least { 256 ≤ length src.now }
     requires twice { length src.now ≡ 2 * length dst.old }
     ensures { DecodesWhole case src.now dst.old dst.new result }
 {
@@ -241,18 +256,21 @@ impl DecodeBlock<32> for OneVector {
     }
 }
 
-/// A block of 128 digits in two vectors, whose nibbles are found by a hash.
-pub struct TwoHashed;
+/// A block of 128 digits in two vectors, whose nibbles are found by `M`.
+pub struct TwoVectors<M>(PhantomData<M>);
 
-impl DecodeBlock<64> for TwoHashed {
+impl<M> DecodeBlock<64> for TwoVectors<M>
+where
+    M: NibbleMap<64>,
+{
     #[inline(always)]
     fn decode_at(src: &[u8], dst: &mut [u8], at: usize, case: CheckCase, factors: u16x32) -> bool
         requires room { HasRoom at 64 src.now dst.old }
         requires factors { factors ≡ pair_factors 32 }
         ensures { DecodesAt case src.now dst.old dst.new at 64 result }
     {
-        let front = nibbles_at::<Hashing, 64>(src, 2 * at, case);
-        let back = nibbles_at::<Hashing, 64>(src, 2 * at + 64, case);
+        let front = nibbles_at::<M, 64>(src, 2 * at, case);
+        let back = nibbles_at::<M, 64>(src, 2 * at + 64, case);
         if !is_small(either(front, back)) {
             return false;
         }
@@ -261,26 +279,28 @@ impl DecodeBlock<64> for TwoHashed {
     }
 }
 
-/// Decodes whole blocks of `2 * SIZE` digits in order, each tested before its bytes are stored, up
-/// to one that has an invalid byte, and returns how many bytes it stored.
+/// Decodes whole blocks of `SIZE` bytes from `start` on, in order, each tested before its bytes are
+/// stored, up to one that has an invalid byte, and returns up to which byte it stored.
 #[inline(always)]
 pub fn decode_blocks<B, const SIZE: usize>(
     src: &[u8],
     dst: &mut [u8],
+    start: usize,
     case: CheckCase,
     factors: u16x32,
 ) -> usize
 where
     B: DecodeBlock<SIZE>,
     requires blocks { InBlocks SIZE src.now dst.old }
+    requires inside { start ≤ length dst.old }
     requires factors { factors ≡ pair_factors 32 }
-    ensures { DecodesBlocks case SIZE src.now dst.old dst.new result }
+    ensures { DecodesBlocks case SIZE src.now dst.old dst.new start result }
 {
-    let blocks = dst.len() / SIZE;
+    let blocks = (dst.len() - start) / SIZE;
     'turns: for i in 0..blocks {
-        if !B::decode_at(src, dst, i * SIZE, case, factors) {
-            return i * SIZE;
+        if !B::decode_at(src, dst, start + i * SIZE, case, factors) {
+            return start + i * SIZE;
         }
     }
-    blocks * SIZE
+    start + blocks * SIZE
 }

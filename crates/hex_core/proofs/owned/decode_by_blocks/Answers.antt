@@ -3,23 +3,23 @@ use Rattle.std.proofs.lemmas.Bool.{OnFalse_at, OnTrue_at, cases_Bool}
 use Rattle.hex_core.specs.Blocks.{DecodesRange}
 use Rattle.hex_core.specs.Search.{AllValid, first_invalid}
 use Rattle.hex_core.proofs.BlockLemmas.{valid_over, valid_range, decodes_over, decodes_whole, valid_whole}
-use Rattle.hex_core.proofs.OwnedLemmas.{blocks_stored}
+use Rattle.hex_core.proofs.OwnedLemmas.{blocks_stored, joined}
 use Rattle.hex_core.proofs.owned.decode_by_blocks.Goals as goal
 
 pub returns-then-dst-done : goal.returns-then-dst-done
 returns-then-dst-done g c =
-    let case = c.args.case in let s = c.args.src.now in let blocks = c.decode_blocks-done.ensures in let from = 2 * c.decode_blocks-done.result in let block = 2 * g.row.SIZE in
+    let case = c.args.case in let s = c.args.src.now in let blocks = joined c.requires.turn (omega arith) c.decode_blocks-turns.ensures c.decode_blocks-done.ensures in let from = 2 * c.decode_blocks-done.result in let block = 2 * g.row.SIZE in
     let bad : ¬ (first_invalid case s ≡ None) = λ none. blocks.stopped (omega arith) (valid_range case s from (from + block) (omega arith) none) in
     (bad, blocks_stored blocks (omega arith) (omega arith) (omega arith) bad)
 
 pub returns-then-done-dst : goal.returns-then-done-dst
 returns-then-done-dst g c =
-    let blocks = c.decode_blocks-done.ensures in
+    let blocks = joined c.requires.turn (omega arith) c.decode_blocks-turns.ensures c.decode_blocks-done.ensures in
     ((valid_whole c.args.case c.args.src.now (2 * c.decode_blocks-done.result) (omega arith)).0 blocks.valid, decodes_whole blocks.decoded (omega arith) (omega arith))
 
 pub returns : goal.returns
 returns g c =
-    let case = c.args.case in let s = c.args.src.now in let blocks = c.decode_blocks-done.ensures in let mid = c.decode_blocks-done.new.dst in let done = c.decode_blocks-done.result in
+    let case = c.args.case in let s = c.args.src.now in let blocks = joined c.requires.turn (omega arith) c.decode_blocks-turns.ensures c.decode_blocks-done.ensures in let mid = c.decode_blocks-done.new.dst in let done = c.decode_blocks-done.result in
     let size = g.row.SIZE in let last = length mid - size in let new = c.decode_at.new.dst in
     elim (cases_Bool c.decode_at.result) [
       | inl t ↦

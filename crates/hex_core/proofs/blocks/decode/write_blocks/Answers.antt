@@ -3,11 +3,11 @@ use Rattle.hex_core.proofs.BlockLemmas.{decodes_next, decodes_over, decodes_whol
 use Rattle.hex_core.proofs.blocks.decode.write_blocks.Goals as goal
 
 pub turns-preserved : goal.turns-preserved
-turns-preserved c = decodes_next c.turns.i 32 c.turns.invariant c.write_at.ensures
+turns-preserved c = decodes_next c.turns.i 128 c.turns.invariant c.write_turn.ensures
 
 pub returns-then-dst-ne0 : goal.returns-then-dst-ne0
 returns-then-dst-ne0 c =
-    decodes_whole (decodes_over c.turns.invariant c.write_at-then-dst-ne0.ensures (omega arith) (omega arith) (omega arith)) (omega arith) (omega arith)
+    decodes_whole (decodes_over c.turns.invariant c.write_turn-then-dst-ne0.ensures (omega arith) (omega arith) (omega arith)) (omega arith) (omega arith)
 
 pub returns-else-dst-ne0 : goal.returns-else-dst-ne0
 returns-else-dst-ne0 c = decodes_whole c.turns.invariant (omega arith) (omega arith)
