@@ -3,7 +3,6 @@ use Rattle.std.proofs.Common.{◌≡◌, ℕ, suc, ◌+◌, ◌-◌, ◌*◌, �
 use Rattle.std.specs.Prelude.{IsSome, IsTrue, slice_index, slice_range}
 use Rattle.std.proofs.Math.Nat.{le-div_iff_mul-le, lt-div-mul-add, mod-add-div, mul_comm, mul-le-mul_right}
 use Rattle.std.proofs.lemmas.Bool.{cases_lt, iff_false}
-use Rattle.std.proofs.lemmas.Grind.{common_steps}
 use Rattle.std.proofs.lemmas.List.{length-map}
 use Rattle.std.proofs.lemmas.Simd.{get_or-chunk, get_or-put_chunk_above, get_or-put_chunk_at, get_or-put_chunk_below, length-chunk, length-put_chunk}
 use lib.Lanes.{chunk, put_chunk}
@@ -18,7 +17,7 @@ use Rattle.hex_core.specs.Text.{Spells}
 use Rattle.hex_core.proofs.ByteLemmas.{valid_value, value_small}
 use Rattle.hex_core.proofs.LaneLemmas.{mapped_at}
 use Rattle.hex_core.proofs.PairLemmas.{length-packed, packed_at}
-use Rattle.hex_core.proofs.SearchLemmas.{none_valid, first_invalid_none, part_at, part_is_valid}
+use Rattle.hex_core.proofs.SearchLemmas.{none_valid, first_invalid_none, part_is_valid}
 use Rattle.hex_core.proofs.SpellsLemmas.{spelled_along}
 
 -- ---- places of blocks of any width
@@ -78,17 +77,6 @@ module _ (c : CheckCase) (s : List ℕ) where
         λ back. first_invalid_none c s (valid_over 0 (length s / block * block) (length s - block) (length s) (omega (arith, past)) front back),
         valid_range (length s - block) (length s) (omega arith),
       )
-
-  rest_length : (done : ℕ) → done ≤ length s → length (slice_range s done (length s)) ≡ length s - done
-  rest_length done inside = grind (arith, common_steps)
-
-  -- a valid front, and one of what is behind it
-  pub front_over : (done n : ℕ) → done ≤ length s → n ≤ length (slice_range s done (length s)) → AllValid c s 0 done → AllValid c (slice_range s done (length s)) 0 n → AllValid c s 0 (done + n)
-  front_over done n inside short front behind =
-      let long = rest_length done inside in
-      valid_over 0 done done (done + n) (omega arith) front (λ k low lt.
-      let read = subst (λ b. IsSome (value c b)) (part_at s done (length s) (k - done) (omega arith) (omega (arith, long))) (behind (k - done) (omega arith) (omega arith)) in
-      subst (λ j. IsSome (value c (slice_index s j))) (omega arith) read)
 
   -- what is behind a valid front
   pub rest_none : (done : ℕ) → done ≤ length s → AllValid c s 0 done → (first_invalid c (slice_range s done (length s)) ≡ None) ↔ (first_invalid c s ≡ None)

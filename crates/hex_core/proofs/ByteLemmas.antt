@@ -2,6 +2,7 @@
 use Rattle.std.proofs.Common.{◌≡◌, ℕ, zero, suc, ◌+◌, ◌-◌, ◌/◌, ◌%◌, ◌^◌, ◌<◌, ◌≤◌, ◌↔◌, Bool, true, false, cond, List, [], ◌∷◌, map, length, get_or, Option, Some, None, is_some, bit_and, refl, sym, ap, ap₂, ◌∙◌, Fits, w8, w64, inl, inr, eqb, leb, ltb, eqb-true, leb-true, ltb-true, lt-ltb, arith}
 use Rattle.std.specs.Prelude.{EachIndex, IfSome, IsSome, min}
 use Rattle.std.specs.Int.{bit_at, trailing_ones}
+use Rattle.std.proofs.Math.Pow.{pow_mono}
 use Rattle.std.proofs.lemmas.Bool.{agree_below, agree_below_at, cases_lt}
 use Rattle.std.proofs.lemmas.Bool.Decides.{nat_tests}
 use Rattle.std.proofs.lemmas.List.{get_or-map, length-map}
@@ -157,3 +158,14 @@ ones_below m k fits inside lt = elim (cases_lt (m + 1) (2 ^ 64)) [
 
 pub valid_below : (c : CheckCase) (v : List ℕ) (m n end : ℕ) → m ≡ mask_l (map (has c) v) → length v ≡ n → n ≤ 64 → end ≤ n → end ≤ trailing_ones w64 m → m < 2 ^ 64 → AllValid c v 0 end
 valid_below c v m n end is long small inside few fits k low lt = (admits c v m is k (omega arith)).0 (ones_below m k fits (omega arith) (omega arith))
+
+-- and the byte of that bit has none
+no_value : (o : Option ℕ) → ¬ IsSome o → o ≡ None
+no_value (Some x) none = absurd (none refl)
+no_value None none = refl
+
+pub invalid_behind : (c : CheckCase) (v : List ℕ) (m n : ℕ) → m ≡ mask_l (map (has c) v) → length v ≡ n → n ≤ 32 → trailing_ones w64 m < n → value c (get_or v (trailing_ones w64 m) 0) ≡ None
+invalid_behind c v m n is long small lt =
+    let fits : m < 2 ^ 32 = omega (arith, mask_below c v m n is long, pow_mono {i = n} {j = 32} small) in
+    let clear = (bit_at-trailing_ones w64 m (omega arith)).1 in
+    no_value (value c (get_or v (trailing_ones w64 m) 0)) (λ some. let set = (admits c v m is (trailing_ones w64 m) (omega arith)).1 some in absurd (omega arith))

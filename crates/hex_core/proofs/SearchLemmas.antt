@@ -152,7 +152,7 @@ none_from_test : (o : Option ℕ) → is_none o ≡ true → o ≡ None
 none_from_test (Some x) e = cc
 none_from_test None e = refl
 
-test_from_lack : (o : Option ℕ) → o ≡ None → is_some o ≡ false
+pub test_from_lack : (o : Option ℕ) → o ≡ None → is_some o ≡ false
 test_from_lack o e = rw e refl
 
 pub first_is_first : (c : CheckCase) (s : List ℕ) (f : ℕ) → first_invalid c s ≡ Some f → (f < length s) × (value c (slice_index s f) ≡ None) × AllValid c s 0 f

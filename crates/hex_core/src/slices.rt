@@ -10,13 +10,12 @@ ghost use Rattle.hex_core.specs.Refusal.{decode_refusal, encode_refusal, first_b
 ghost use Rattle.hex_core.specs.Search.{first_invalid};
 ghost use Rattle.hex_core.specs.Text.{text};
 
-use crate::blocks::check::valid_front;
+use crate::blocks::check::first_place;
 use crate::digit::CheckCase;
 use crate::error::Error;
 use crate::lend::lend_accepted;
 use crate::plan::{Backend, SliceProbe};
 use crate::search::locate;
-use crate::tables::has_value;
 
 impl Backend {
     /// Returns the first place of `src` whose byte has no value under `case`, from 0 and in bytes,
@@ -73,11 +72,7 @@ impl Backend {
         requires { first_invalid case src.now ≢ None }
         ensures { first_bad_char case src.now ≡ Some result }
     {
-        // At most 14 valid bytes stand behind this front: to search them by a probe would take longer.
-        let mut index = valid_front(src, case);
-        'looks: while has_value(src[index], case) {
-            index += 1;
-        }
+        let index = first_place(src, case);
         Error::InvalidChar {
             index,
             byte: src[index],

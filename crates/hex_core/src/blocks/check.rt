@@ -1,12 +1,14 @@
-//! Checking by blocks.
+//! Checking by blocks, and the place of the first byte without a value.
 
-ghost use Rattle.std.specs.Prelude.{◌≡◌, ◌↔◌, ◌+◌, ◌-◌, ◌*◌, ◌≤◌, IsTrue, None, length};
+ghost use Rattle.std.specs.Prelude.{◌≡◌, ◌≢◌, ◌↔◌, ◌+◌, ◌-◌, ◌*◌, ◌/◌, ◌<◌, ◌≤◌, IsTrue, MatchOption, None, Some, length, slice_index};
 ghost use Rattle.hex_core.specs.Arithmetic.{AreLow};
+ghost use Rattle.hex_core.specs.Digit.{value};
 ghost use Rattle.hex_core.specs.Search.{AllValid, first_invalid};
 ghost use Rattle.hex_core.specs.Shapes.{EndsCover, HasBlock};
 
 use crate::digit::CheckCase;
 use crate::lanes::{admitted, excess, reach};
+use crate::tables::has_value;
 use crate::vector::{is_low, is_zero, larger};
 use std::simd::prelude::*;
 
@@ -127,40 +129,53 @@ pub fn check_long<const N: usize>(src: &[u8], case: CheckCase) -> bool
 // How many of `N` bytes from `at` on stand before the first one without a value.
 #[inline(always)]
 fn valid_from<const N: usize>(src: &[u8], at: usize, case: CheckCase) -> usize
-    requires lanes { N ≤ 64 }
+    requires lanes { N ≤ 32 }
     requires inside { at + N ≤ length src.now }
     ensures most { result ≤ N }
     ensures valid { AllValid case src.now at (at + result) }
+    ensures invalid { result < N → value case (slice_index src.now (at + result)) ≡ None }
 {
     let valid = admitted(Simd::<u8, N>::from_slice(&src[at..]), case);
     (valid.trailing_ones() as usize).min(N)
 }
 
-// How many bytes stand before the first one without a value, or in all whole blocks of `N`.
+// The place of the first byte without a value in the whole blocks of `N` bytes behind a valid front.
 #[inline(always)]
-fn valid_front_by<const N: usize>(src: &[u8], case: CheckCase) -> usize
-    requires lanes { N ≤ 64 }
+fn place_in_blocks<const N: usize>(src: &[u8], front: usize, case: CheckCase) -> Option<usize>
+    requires lanes { N ≤ 32 }
     requires some { 1 ≤ N }
-    ensures most { result ≤ length src.now }
-    ensures valid { AllValid case src.now 0 result }
+    requires inside { front ≤ length src.now }
+    requires valid { AllValid case src.now 0 front }
+    ensures { MatchOption result
+        (AllValid case src.now 0 (front + (length src.now - front) / N * N))
+        (λ place. first_invalid case src.now ≡ Some place) }
 {
-    let whole = src.len() / N;
-    'turns: for i in 0..whole {
-        let valid = valid_from::<N>(src, i * N, case);
+    'turns: for i in 0..(src.len() - front) / N {
+        let at = front + i * N;
+        let valid = valid_from::<N>(src, at, case);
         if valid < N {
-            return i * N + valid;
+            return Some(at + valid);
         }
     }
-    whole * N
+    None
 }
 
-/// How many bytes of a valid front there are: up to the first one without a value, or all whole blocks
-/// of 16 where that one stands behind them or there is none.
+/// The place of the first byte without a value, which the caller shows that there is: by blocks, and
+/// by looks at the last bytes, 15 at most.
 #[inline(always)]
-pub fn valid_front(src: &[u8], case: CheckCase) -> usize
-    ensures most { result ≤ length src.now }
-    ensures valid { AllValid case src.now 0 result }
+pub fn first_place(src: &[u8], case: CheckCase) -> usize
+    requires { first_invalid case src.now ≢ None }
+    ensures { first_invalid case src.now ≡ Some result }
 {
-    let front = valid_front_by::<64>(src, case);
-    front + valid_front_by::<16>(&src[front..], case)
+    if let Some(place) = place_in_blocks::<32>(src, 0, case) {
+        return place;
+    }
+    if let Some(place) = place_in_blocks::<16>(src, src.len() / 32 * 32, case) {
+        return place;
+    }
+    let mut place = src.len() / 16 * 16;
+    'looks: while has_value(src[place], case) {
+        place += 1;
+    }
+    place
 }
