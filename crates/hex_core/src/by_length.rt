@@ -43,7 +43,7 @@ pub fn decode(src: &[u8], dst: &mut [u8], case: CheckCase, hashed: bool) -> bool
     match src.len() {
         64 => decode_one::<Saturating, 64, 32>(src, dst, case, known_factors()),
         0..64 => decode_two::<Saturating, 32, 16>(src, dst, case, known_factors()),
-        65..=128 => decode_two::<Saturating, 64, 32>(src, dst, case, factors(src[0])),
+        65..=128 => decode_two::<Saturating, 64, 32>(src, dst, case, known_factors()),
         _ if hashed => decode_more::<Hashing>(src, dst, case),
         _ => decode_more::<Saturating>(src, dst, case),
     }
