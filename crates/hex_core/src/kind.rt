@@ -72,9 +72,9 @@ impl Kind {
         requires { length src.now ≡ 2 * length dst.old }
         ensures { DecodesOwned (owned_block (kind_name self)) case src.now dst.old dst.new result }
     {
-        // Under a plan of lanes no call is made for these lengths, unless they are refused: then the
-        // blocks before the first invalid byte are still to be stored.
-        if matches!(src.len(), 16..=128) && self.decode(src, dst, case) {
+        // A plan of lanes holds so many digits in registers. Where they are refused, the blocks before
+        // the first invalid byte are still to be stored.
+        if matches!(src.len(), 16..=256) && self.decode(src, dst, case) {
             return true;
         }
         match self {

@@ -214,7 +214,7 @@ where
 }
 
 /// Decodes a source of 256 digits or more: all of it is tested before the first store.
-#[inline(never)]
+#[inline(always)]
 pub fn decode_long(src: &[u8], dst: &mut [u8], case: CheckCase) -> bool
     requires least { 256 ≤ length src.now }
     requires twice { length src.now ≡ 2 * length dst.old }
