@@ -52,7 +52,7 @@ value_by None n e = tt
 
 -- the reach, the excess, the saturating map and the shorter one for bytes that have a value are right, computed at all bytes
 maps_are_right : (c : CheckCase)
-    → (agree_below (λ b. ltb (reach c b) 10) (has c) 256 ≡ true) × (agree_below (λ b. eqb (excess c b) 0) (has c) 256 ≡ true)
+    → (agree_below (λ b. ltb (reach c b) 6) (has c) 256 ≡ true) × (agree_below (λ b. eqb (excess c b) 0) (has c) 256 ≡ true)
     × (agree_below (λ b. nibble_test (value c b) (saturated c b)) always 256 ≡ true) × (agree_below (λ b. value_test (value c b) (valid_nibble b)) always 256 ≡ true)
 maps_are_right policy.None = (refl, refl, refl, refl)
 maps_are_right policy.Lower = (refl, refl, refl, refl)
@@ -67,11 +67,11 @@ valid_where f Q c test v r n fits is =
     let all = passes_where (f c) Q (λ b. IsSome (value c b)) test v fits.1 is in
     (λ passes k low lt. all.0 passes k (omega (arith, fits.0)), λ valid. all.1 (λ k h. valid k (omega arith) (omega (arith, fits.0))))
 
--- all bytes pass for a reach below 10, and for an excess of 0
+-- all bytes pass for a reach below 6, and for an excess of 0
 pub reach_valid : (c : CheckCase) (v r : List ℕ) (n : ℕ) → (length v ≡ n) × Each1 (Fits w8) v → r ≡ map (reach c) v → AreLow r ↔ AllValid c v 0 n
-reach_valid c = valid_where reach (λ x. x < 10) c (λ b h.
-    let same = agree_below_at (λ x. ltb (reach c x) 10) (has c) 256 b (maps_are_right c).0 h in
-    (λ lt. sym same ∙ lt-ltb (reach c b) 10 lt, λ s. ltb-true (reach c b) 10 (same ∙ s)))
+reach_valid c = valid_where reach (λ x. x < 6) c (λ b h.
+    let same = agree_below_at (λ x. ltb (reach c x) 6) (has c) 256 b (maps_are_right c).0 h in
+    (λ lt. sym same ∙ lt-ltb (reach c b) 6 lt, λ s. ltb-true (reach c b) 6 (same ∙ s)))
 
 excess_zero : (c : CheckCase) (b : ℕ) → b < 256 → eqb (excess c b) 0 ≡ has c b
 excess_zero c b h = agree_below_at (λ x. eqb (excess c x) 0) (has c) 256 b (maps_are_right c).1 h

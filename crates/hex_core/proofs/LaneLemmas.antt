@@ -1,11 +1,11 @@
 -- What an operation makes of the lanes of a vector.
-use Rattle.std.proofs.Common.{◌≡◌, ℕ, zero, suc, ◌+◌, ◌-◌, ◌/◌, ◌^◌, ◌%◌, ◌<◌, ◌≤◌, ◌↔◌, Bool, true, false, cond, ltb, eqb, eqb-true, List, [], ◌∷◌, map, length, get_or, replicate, bit_and, bit_or, refl, ap, ap₂, sym, ◌∙◌, subst, Fits, w8, arith, ltb-true, ltb-false, lt-ltb}
+use Rattle.std.proofs.Common.{◌≡◌, ℕ, zero, suc, ◌+◌, ◌-◌, ◌*◌, ◌/◌, ◌^◌, ◌%◌, ◌<◌, ◌≤◌, ◌↔◌, Bool, true, false, cond, leb, ltb, eqb, eqb-true, List, [], ◌∷◌, map, length, get_or, replicate, bit_and, bit_or, refl, ap, ap₂, sym, ◌∙◌, subst, Fits, w8, arith, ltb-true, ltb-false, lt-ltb}
 use Rattle.std.specs.Prelude.{EachIndex, IsTrue, max, min}
-use Rattle.std.proofs.lemmas.Bool.{agree_below_at}
-use Rattle.std.proofs.lemmas.List.{get_or-map, length-map, map-id}
+use Rattle.std.proofs.lemmas.Bool.{agree_below_at, leb-false, leb-true}
+use Rattle.std.proofs.lemmas.List.{get_or-map, length-map, length-replicate, map-id}
 use Rattle.std.proofs.lemmas.Nat.{le_or_l, le_or_r, or_lt}
-use Rattle.std.proofs.lemmas.Simd.{Each1-zip2, Each2-of, get_or-zip2, length-zip2, map-map, zip2_splat}
-use lib.Lanes.{zip2, sel_l, top, fold_l, Each1}
+use Rattle.std.proofs.lemmas.Simd.{Each1-zip2, Each2-of, get_or-zip2, length-zip2, map-map, mask_l-mod, zip2_splat}
+use lib.Lanes.{zip2, sel_l, top, fold_l, mask_l, Each1}
 use Rattle.hex_core.specs.Arithmetic.{AreZero, pair_byte, saturating_add, wrapping_sub}
 use Rattle.hex_core.specs.Hash.{average}
 
@@ -88,6 +88,16 @@ sums v k n f h =
     rw (minima v (replicate n (255 - k)), splat_twice min wrapping_add v n (255 - k) k f.0)
     (maps_agree (λ x. wrapping_add (min x (255 - k)) k) (λ x. saturating_add x k) (λ x lt. omega arith) v f.1)
 
+-- the same of a vector's own sum
+pub own_sums : (v : List ℕ) (k n : ℕ) → (length v ≡ n) × Each1 (Fits w8) v → k < 256
+    → zip2 wrapping_add v (sel_l (map (top 7) (zip2 below (replicate n k) (map (λ x. 255 - x) v))) (replicate n k) (map (λ x. 255 - x) v)) ≡ map (λ x. saturating_add x k) v
+own_sums v k n f h =
+    rw (← f.0, minima (replicate (length v) k) (map (λ x. 255 - x) v)) (go v f.1)
+  where
+    go : (v : List ℕ) → Each1 (Fits w8) v → zip2 wrapping_add v (zip2 min (replicate (length v) k) (map (λ x. 255 - x) v)) ≡ map (λ x. saturating_add x k) v
+    go [] e = refl
+    go (x ∷ v) e = let lt : x < 256 = e.0.fits in ap₂ (λ a r. a ∷ r) (omega (arith, h, lt)) (go v e.1)
+
 -- ---- averages, computed in words
 
 abbrev word_add : ℕ → ℕ → ℕ
@@ -140,6 +150,35 @@ folds_from (x ∷ v) a e =
 pub no_bit_set : (v : List ℕ) → IsTrue (eqb (fold_l bit_or 0 v) 0) ↔ AreZero v
 no_bit_set v = (λ t. (folds_from v 0 (eqb-true _ _ t)).1, λ none. rw (folds_to_none v none) refl)
 
+-- the mask of the lanes that are 128 or more
+abbrev pub sign_mask : List ℕ → ℕ
+sign_mask v = mask_l (map (top 7) (zip2 (λ a b. cond (leb a b) 255 0) (replicate (length v) 128) v))
+
+also_below : (x : ℕ) (v : List ℕ) → x < 128 → EachIndex v (λ i. get_or v i 0 < 128) → EachIndex (x ∷ v) (λ i. get_or (x ∷ v) i 0 < 128)
+also_below x v lt rest zero h = lt
+also_below x v lt rest (suc i) h = rest i (omega (arith, h))
+
+-- it is empty exactly where each lane is below 128
+no_sign : (v : List ℕ) → (sign_mask v ≡ 0) ↔ EachIndex v (λ i. get_or v i 0 < 128)
+no_sign [] = (λ e i h. omega arith, λ all. refl)
+no_sign (x ∷ v) = go (no_sign v) (leb 128 x) refl
+  where
+    go : (sign_mask v ≡ 0) ↔ EachIndex v (λ i. get_or v i 0 < 128) → (t : Bool) → leb 128 x ≡ t
+        → (cond (top 7 (cond t 255 0)) 1 0 + 2 * sign_mask v ≡ 0) ↔ EachIndex (x ∷ v) (λ i. get_or (x ∷ v) i 0 < 128)
+    go rest true e = (λ z. absurd (omega (arith, z)), λ all. absurd (omega (arith, leb-true 128 x e, all 0 (omega arith))))
+    go rest false e = (
+      λ z. also_below x v (leb-false 128 x e) (rest.0 (omega (arith, z))),
+      λ all. let none = rest.1 (λ i h. all (suc i) (omega (arith, h))) in omega (arith, none),
+    )
+
+pub no_sign_set : (v : List ℕ) (n : ℕ) → length v ≡ n → n ≤ 64
+    → IsTrue (eqb (mask_l (map (top 7) (zip2 (λ a b. cond (leb a b) 255 0) (replicate n 128) v)) % 2 ^ 64) 0) ↔ EachIndex v (λ i. get_or v i 0 < 128)
+no_sign_set v n long most =
+    let at = zip2 (λ a b. cond (leb a b) 255 0) (replicate n 128) v in
+    let wide : length (map (top 7) at) ≡ n = length-map at (top 7) ∙ length-zip2 _ (replicate n 128) v (length-replicate n 128 ∙ sym long) ∙ length-replicate n 128 in
+    let same : mask_l (map (top 7) at) % 2 ^ 64 ≡ sign_mask v = mask_l-mod (map (top 7) at) 64 (omega (arith, wide, most)) ∙ ap (λ k. mask_l (map (top 7) (zip2 (λ a b. cond (leb a b) 255 0) (replicate k 128) v))) (sym long) in
+    (λ t. (no_sign v).0 (sym same ∙ eqb-true _ 0 t), λ all. rw (same, (no_sign v).1 all) refl)
+
 -- a computed vector passes where each byte has a property
 pub passes_where : (f : ℕ → ℕ) (Q P : ℕ → Type 0) → ((x : ℕ) → x < 256 → Q (f x) ↔ P x) → (v : List ℕ) {r : List ℕ} → Each1 (Fits w8) v → r ≡ map f v
     → EachIndex r (λ i. Q (get_or r i 0)) ↔ EachIndex v (λ i. P (get_or v i 0))
@@ -162,7 +201,7 @@ each_of_two f P both v w same =
       λ all i h. subst P (sym (at i (omega arith))) ((both (get_or v i 0) (get_or w i 0)).1 (all.0 i (omega arith), all.1 i (omega arith))),
     )
 
-pub max_low : (x y : ℕ) → (max x y < 10) ↔ ((x < 10) × (y < 10))
+pub max_low : (x y : ℕ) → (max x y < 6) ↔ ((x < 6) × (y < 6))
 max_low x y = (λ h. (omega arith, omega arith), λ p. let a = p.0 in let b = p.1 in omega arith)
 
 pub or_small : (x y : ℕ) → (bit_or x y < 16) ↔ ((x < 16) × (y < 16))

@@ -7,9 +7,9 @@ use Rattle.hex_core.specs.declared.digit.CheckCase.TheVariants as policy
 abbrev pub AreZero : List ℕ → Type 0
 AreZero lanes = EachIndex lanes (λ i. slice_index lanes i ≡ 0)
 
--- each lane is below 10
+-- each lane is below 6
 abbrev pub AreLow : List ℕ → Type 0
-AreLow lanes = EachIndex lanes (λ i. slice_index lanes i < 10)
+AreLow lanes = EachIndex lanes (λ i. slice_index lanes i < 6)
 
 -- a difference of bytes, modulo 256
 abbrev pub wrapping_sub : ℕ → ℕ → ℕ
@@ -39,9 +39,9 @@ letter c b = wrapping_sub (bit_or b (fold_of c)) (first_letter c)
 abbrev pub excess : CheckCase → ℕ → ℕ
 excess c b = min (wrapping_sub b 48 - 9) (letter c b - 5)
 
--- how far a byte reaches past the first of ten digits, or past the first of six letters and four more: below 10 exactly where it has a value
+-- how far a byte reaches past the first four of ten digits, or past the first of six letters: below 6 exactly where it has a value
 abbrev pub reach : CheckCase → ℕ → ℕ
-reach c b = min (wrapping_sub b 48) (saturating_add (letter c b) 4)
+reach c b = min (wrapping_sub b 48 - 4) (letter c b)
 
 -- the value of a byte that has one, which is the same under every policy that reads it
 abbrev pub valid_nibble : ℕ → ℕ

@@ -6,7 +6,7 @@ ghost use Rattle.hex_core.specs.Calls.{DecodesWhole};
 ghost use Rattle.hex_core.specs.Search.{first_invalid};
 ghost use Rattle.hex_core.specs.Text.{Spells};
 
-use crate::blocks::check::{check_ends, check_long, check_one, check_two};
+use crate::blocks::check::{check_block, check_ends, check_long, check_one, check_two};
 use crate::blocks::decode::{decode_four, decode_long, decode_one, decode_two, write_blocks};
 use crate::digit::CheckCase;
 use crate::lanes::{Hashing, NibbleMap, Saturating};
@@ -22,7 +22,8 @@ pub fn check(src: &[u8], case: CheckCase) -> bool
         0..16 => scalar::check(src, case),
         16 => check_one::<16>(src, case),
         17..=32 => check_two::<16>(src, case),
-        33..=64 => check_two::<32>(src, case),
+        64 => check_block(src, case),
+        33..64 => check_two::<32>(src, case),
         65..=128 => check_two::<64>(src, case),
         129..=256 => check_ends::<64, 2>(src, case),
         _ => check_long::<64>(src, case),

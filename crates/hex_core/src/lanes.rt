@@ -222,6 +222,26 @@ fn first_letter(case: CheckCase) -> u8
     FIRST_LETTERS[case as u8 as usize]
 }
 
+// Two rows of the policies, the one as the other.
+static POLICIES: [[CheckCase; 3]; 2] = [[CheckCase::None, CheckCase::Lower, CheckCase::Upper]; 2];
+
+/// The policy, from the row that a length chooses, so that the compiler does not know it. What it knows
+/// it reads anew in each turn of a loop, and what it does not know it keeps in registers.
+#[inline(always)]
+pub(crate) fn unknown(case: CheckCase, len: usize) -> CheckCase
+    ensures { result ≡ case }
+{
+    POLICIES[len >> 63][case as u8 as usize]
+}
+
+/// The number, which the compiler knows only where it knows the policy.
+#[inline(always)]
+pub(crate) fn with_policy(number: u8, case: CheckCase) -> u8
+    ensures { result ≡ number }
+{
+    number | (case as u8 >> 2)
+}
+
 // How far each lane is past the first letter that the policy reads, once folded.
 #[inline(always)]
 fn letters<const N: usize>(v: Simd<u8, N>, case: CheckCase) -> Simd<u8, N>
@@ -230,15 +250,19 @@ fn letters<const N: usize>(v: Simd<u8, N>, case: CheckCase) -> Simd<u8, N>
     wrapping_sub(with_bits(v, fold_of(case)), first_letter(case))
 }
 
-/// How far each lane reaches past the first digit, or past the first letter and four more: below 10
-/// exactly where it has a value. One bound for both leaves the comparison to the end of a test of
-/// more blocks than one.
+/// How far each lane reaches past the first four digits, or past the first letter: below 6 exactly where
+/// it has a value. One bound for both leaves the comparison to the end of a test of more blocks than
+/// one.
 #[inline(always)]
 pub(crate) fn reach<const N: usize>(v: Simd<u8, N>, case: CheckCase) -> Simd<u8, N>
     ensures lanes { result ≡ map (reach case) v.entry }
     ensures low { AreLow result ↔ AllValid case v.entry 0 N }
 {
-    smaller(wrapping_sub(v, b'0'), saturating_add(letters(v, case), 4))
+    let digits = wrapping_sub(v, with_policy(b'0', case));
+    smaller(
+        saturating_sub(digits, with_policy(4, case)),
+        letters(v, case),
+    )
 }
 
 /// How far each lane is past the digits and letters: 0 exactly where it has a value.

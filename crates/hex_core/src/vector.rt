@@ -102,12 +102,24 @@ pub fn is_zero<const N: usize>(v: Simd<u8, N>) -> bool
     v.reduce_or() == 0
 }
 
-/// Whether each lane is below 10.
+/// Whether each lane is below 6.
 #[inline(always)]
 pub fn is_low<const N: usize>(v: Simd<u8, N>) -> bool
     ensures { IsTrue result ↔ AreLow v.entry }
 {
-    is_zero(saturating_sub(v, 9))
+    is_zero(saturating_sub(v, 5))
+}
+
+/// The same by the signs of the lanes once 122 is added, which one instruction reads. The caller gives
+/// that number, so that a loop can keep it in a register.
+#[inline(always)]
+pub fn is_low_by_signs<const N: usize>(v: Simd<u8, N>, added: u8) -> bool
+    requires lanes { N ≤ 64 }
+    requires added { added ≡ 122 }
+    ensures { IsTrue result ↔ AreLow v.entry }
+{
+    let sums = v.saturating_add(Simd::splat(added));
+    sums.simd_ge(Simd::splat(0x80)).to_bitmask() == 0
 }
 
 /// Whether each lane is below 16.

@@ -7,9 +7,9 @@ ghost use Rattle.hex_core.specs.Search.{AllValid, first_invalid};
 ghost use Rattle.hex_core.specs.Shapes.{EndsCover, HasBlock};
 
 use crate::digit::CheckCase;
-use crate::lanes::{admitted, excess, reach};
+use crate::lanes::{admitted, excess, reach, with_policy};
 use crate::tables::has_value;
-use crate::vector::{is_low, is_zero, larger};
+use crate::vector::{is_low, is_low_by_signs, is_zero, larger};
 use std::simd::prelude::*;
 
 // Whether each of `N` bytes from `at` on has a value.
@@ -41,7 +41,19 @@ pub fn check_two<const N: usize>(src: &[u8], case: CheckCase) -> bool
     is_low(larger(front, back))
 }
 
-// What is below 10 in each lane exactly where each byte of `K` blocks from `at` on has a value.
+/// Whether every byte of a source of 64 bytes has a value, for the tests of `locate`: a loop keeps all
+/// that it takes in registers where the policy is not known.
+#[inline(always)]
+pub fn check_block(src: &[u8], case: CheckCase) -> bool
+    requires whole { length src.now ≡ 64 }
+    ensures { IsTrue result ↔ (first_invalid case src.now ≡ None) }
+{
+    let front = reach(u8x32::from_slice(src), case);
+    let back = reach(u8x32::from_slice(&src[32..]), case);
+    is_low_by_signs(larger(front, back), with_policy(122, case))
+}
+
+// What is below 6 in each lane exactly where each byte of `K` blocks from `at` on has a value.
 #[inline(always)]
 fn reach_of<const N: usize, const K: usize>(src: &[u8], at: usize, case: CheckCase) -> Simd<u8, N>
     requires some { 1 ≤ K }

@@ -6,4 +6,4 @@ use Rattle.hex_core.proofs.vector.is_low.Goals as goal
 pub returns : goal.returns
 returns g c =
     ↔_trans c.is_zero.ensures
-    (passes_where (λ x. x - 9) (λ x. x ≡ 0) (λ x. x < 10) (λ x h. (λ z. omega arith, λ lt. omega arith)) c.args.v c.fits-v.1 c.saturating_sub.ensures)
+    (passes_where (λ x. x - 5) (λ x. x ≡ 0) (λ x. x < 6) (λ x h. (λ z. omega arith, λ lt. omega arith)) c.args.v c.fits-v.1 c.saturating_sub.ensures)
