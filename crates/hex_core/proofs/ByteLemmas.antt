@@ -1,5 +1,5 @@
 -- What the arithmetic of the lanes makes of a byte, computed at all of them.
-use Rattle.std.proofs.Common.{◌≡◌, ℕ, zero, suc, ◌+◌, ◌-◌, ◌/◌, ◌%◌, ◌^◌, ◌<◌, ◌≤◌, ◌↔◌, Bool, true, false, cond, List, [], ◌∷◌, map, length, get_or, Option, Some, None, is_some, bit_and, refl, sym, ap, ap₂, ◌∙◌, Fits, w8, w64, inl, inr, eqb, leb, ltb, eqb-true, leb-true, ltb-true, lt-ltb, arith}
+use Rattle.std.proofs.Common.{◌≡◌, ℕ, zero, suc, ◌+◌, ◌-◌, ◌/◌, ◌%◌, ◌^◌, ◌<◌, ◌≤◌, ◌↔◌, Bool, true, false, cond, List, [], ◌∷◌, map, length, get_or, Option, Some, None, is_some, bit_and, bit_or, refl, sym, ap, ap₂, ◌∙◌, Fits, w8, w64, inl, inr, eqb, leb, ltb, eqb-true, leb-true, ltb-true, lt-ltb, arith}
 use Rattle.std.specs.Prelude.{EachIndex, IfSome, IsSome, min}
 use Rattle.std.specs.Int.{bit_at, trailing_ones}
 use Rattle.std.proofs.Math.Pow.{pow_mono}
@@ -9,7 +9,7 @@ use Rattle.std.proofs.lemmas.List.{get_or-map, length-map}
 use Rattle.std.proofs.lemmas.Nat.{and_mask}
 use Rattle.std.proofs.lemmas.Nat.Bits.{bit_at-suc, bit_at-trailing_ones, bit_at_lowest, bit_at_ones}
 use Rattle.std.proofs.lemmas.Simd.{bit_mask_l, mask_l-lt}
-use lib.Lanes.{Each1, mask_l}
+use lib.Lanes.{Each1, mask_l, zip2}
 use Rattle.hex_core.specs.declared.digit.CheckCase.{CheckCase}
 use Rattle.hex_core.specs.declared.digit.CheckCase.TheVariants as policy
 use Rattle.hex_core.specs.Arithmetic.{AreLow, AreZero, excess, interleaved, letter, reach, saturating_add, valid_nibble, wrapping_sub}
@@ -18,7 +18,7 @@ use Rattle.hex_core.specs.Search.{AllValid}
 use Rattle.hex_core.specs.Lanes.{Admits, AreNibbles, IsNibble}
 use Rattle.hex_core.specs.Lookup.{entry}
 use Rattle.hex_core.specs.Text.{text}
-use Rattle.hex_core.proofs.LaneLemmas.{lane_below, mapped, mapped_at, maps_agree, passes_where}
+use Rattle.hex_core.proofs.LaneLemmas.{lane_below, mapped, mapped_at, maps_agree, or_zero, passes_where, zipped_at}
 
 abbrev pub has : CheckCase → ℕ → Bool
 has c b = is_some (value c b)
@@ -83,6 +83,19 @@ excess_valid c = valid_where excess (λ x. x ≡ 0) c (λ b h. (λ z. sym (exces
 pub admitted_mask : (c : CheckCase) (v e : List ℕ) (m : ℕ) → Each1 (Fits w8) v → e ≡ map (excess c) v → m ≡ mask_l (map (λ x. eqb x 0) e) → m ≡ mask_l (map (has c) v)
 admitted_mask c v e m fits lanes is =
     is ∙ ap mask_l (mapped (λ x. eqb x 0) (excess c) v lanes ∙ maps_agree (λ b. eqb (excess c b) 0) (has c) (excess_zero c) v fits)
+
+-- a mark that a byte is added to
+pub marked : (c : CheckCase) (m v e r : List ℕ) (i : ℕ) → get_or v i 0 < 256 → e ≡ map (excess c) v → r ≡ zip2 bit_or m e → i < length v → i < length m
+    → (get_or r i 0 ≡ 0) ↔ ((get_or m i 0 ≡ 0) × IsSome (value c (get_or v i 0)))
+marked c m v e r i below lanes is h inside =
+    let b = get_or v i 0 in
+    let found : get_or e i 0 ≡ excess c b = mapped_at (excess c) v i lanes h in
+    let mark : get_or r i 0 ≡ bit_or (get_or m i 0) (excess c b) = zipped_at bit_or m e i is inside (omega (arith, h, ap length lanes ∙ length-map v (excess c))) ∙ ap (bit_or (get_or m i 0)) found in
+    let zero = excess_zero c b below in
+    let both = or_zero (get_or m i 0) (excess c b) in (
+      λ z. let p = both.0 (sym mark ∙ z) in (p.0, sym zero ∙ rw p.1 refl),
+      λ p. mark ∙ both.1 (p.0, eqb-true _ _ (zero ∙ p.1)),
+    )
 
 bit_says : (b : Bool) (n : ℕ) → n ≡ cond b 1 0 → (n ≡ 1) ↔ (b ≡ true)
 bit_says true n e = (λ x. refl, λ x. e)

@@ -8,7 +8,7 @@ ghost use Rattle.hex_core.specs.Arithmetic.{AreLow, AreZero, excess, first_lette
 ghost use Rattle.hex_core.specs.Digit.{digit, value};
 ghost use Rattle.hex_core.specs.Search.{AllValid};
 ghost use Rattle.hex_core.specs.Hash.{Hashed, check_row, hashed_check, hashed_value};
-ghost use Rattle.hex_core.specs.Lanes.{Admits, AreChecked, AreNibbles, ArePacked, AreSmall, AreValues};
+ghost use Rattle.hex_core.specs.Lanes.{Admits, AreChecked, AreMarked, AreNibbles, ArePacked, AreSmall, AreValues};
 ghost use Rattle.hex_core.specs.Text.{text};
 
 use crate::digit::CheckCase;
@@ -57,6 +57,23 @@ pub fn admitted_64(bytes: &[u8; 64], case: CheckCase) -> u64
     ensures { Admits case bytes.now result }
 {
     admitted(u8x64::from_array(*bytes), case)
+}
+
+/// Returns a mark for each byte: 0 exactly where its mark before is 0 and the byte has a value under
+/// `case`. So one look at the marks tells of many blocks.
+///
+/// ```rust
+/// let mut bytes = [b'7'; 64];
+/// assert_eq!(rt; marked_64(&[0; 64], &bytes, CheckCase::None), [0; 64]);
+/// bytes[63] = b'g';
+/// assert!(rt; marked_64(&[0; 64], &bytes, CheckCase::None)[63] != 0);
+/// ```
+#[inline(always)]
+pub fn marked_64(marks: &[u8; 64], bytes: &[u8; 64], case: CheckCase) -> [u8; 64]
+    ensures { AreMarked case marks.now bytes.now result }
+{
+    let lacking = excess(u8x64::from_array(*bytes), case);
+    either(u8x64::from_array(*marks), lacking).to_array()
 }
 
 /// Returns for each byte its value under `case`, or at least 16 where it has none.

@@ -13,13 +13,9 @@ ghost use Rattle.hex_core.specs.Text.{text};
 use crate::blocks::check::first_place;
 use crate::digit::CheckCase;
 use crate::error::Error;
-use crate::lanes::unknown;
 use crate::lend::lend_accepted;
 use crate::plan::{Backend, SliceProbe};
 use crate::search::locate;
-
-// Up to how many bytes a search takes no longer with a policy that the compiler knows.
-const MANY: usize = 256;
 
 impl Backend {
     /// Returns the first place of `src` whose byte has no value under `case`, from 0 and in bytes,
@@ -37,11 +33,6 @@ impl Backend {
     pub fn first_invalid(self, src: &[u8], case: CheckCase) -> Option<usize>
         ensures { result ≡ first_invalid case src.now }
     {
-        if src.len() > MANY {
-            // In a long loop a policy that is not known takes less time.
-            let case = unknown(case, src.len());
-            return locate(&mut SliceProbe::new(self, src, case));
-        }
         locate(&mut SliceProbe::new(self, src, case))
     }
 

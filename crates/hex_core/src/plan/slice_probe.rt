@@ -4,6 +4,7 @@ ghost use Rattle.std.specs.Prelude.{◌≡◌};
 ghost use Rattle.hex_core.specs.Probe.{fresh_probe};
 
 use crate::digit::CheckCase;
+use crate::lanes::unknown;
 use crate::plan::Backend;
 use crate::search::Probe;
 
@@ -81,7 +82,8 @@ impl<'a> Probe for SliceProbe<'a> {
     #[inline(always)]
     fn test(&mut self, start: usize, width: usize) -> bool {
         self.tests += 1;
-        self.backend
-            .check(&self.src[start..start + width], self.case)
+        // Many tests are a loop, which keeps in registers what a policy that is not known takes.
+        let case = unknown(self.case, self.src.len());
+        self.backend.check(&self.src[start..start + width], case)
     }
 }
