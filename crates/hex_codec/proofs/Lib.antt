@@ -1,4 +1,5 @@
 mod AppendWalk
+mod ClearLemmas
 mod CountLemmas
 mod EncodeWalk
 pub mod GroupLemmas

@@ -5,7 +5,7 @@ use Rattle.std.specs.List.{range_with_len}
 use Rattle.std.proofs.Math.Nat.{mod-eq_of_lt, mul-add-mod_self_right}
 use Rattle.std.proofs.lemmas.Bool.{cases_lt, eq-eqb, ne_eqb}
 use Rattle.std.proofs.lemmas.Bool.Decides.{nat_tests}
-use Rattle.std.proofs.lemmas.List.{drop-drop, get_or-drop, get_or-take, length-take-le, take_all, take_rest}
+use Rattle.std.proofs.lemmas.List.{drop-drop, get_or-drop, get_or-take, take_all, take_rest}
 use Rattle.std.proofs.lemmas.List.Elements.{All-cons, All-nil}
 use Rattle.std.proofs.lemmas.List.Quantifiers.{position-Some}
 use Rattle.hex_core.specs.declared.digit.CheckCase.{CheckCase}
@@ -14,10 +14,9 @@ use Rattle.hex_core.proofs.LawProofs.{valid-spelled}
 use Rattle.hex_core.proofs.PositionLemmas.{before_none, least_behind, least_is, least_none, least_told, none_joined, none_told, position_none}
 use Rattle.hex_core.proofs.SearchLemmas.{lacks}
 use Rattle.hex_codec.specs.declared.group.Group.{Group}
-use Rattle.hex_codec.specs.declared.unseparate.Front.{Front}
 use Rattle.hex_codec.specs.Grouped.{piece_len, separator}
 use Rattle.hex_codec.specs.GroupedText.{GroupSpells, digits_in, first_wrong, is_wrong, separators_in}
-use Rattle.hex_codec.specs.Unseparate.{ClearsFront, IsWhole, UnseparatesFront}
+use Rattle.hex_codec.specs.Unseparate.{ClearsFront, IsWhole}
 use Rattle.hex_codec.proofs.PartLemmas.{one_separator, parted, unparted}
 
 pub same-byte : (x y : ℕ) → not (x == y) ≡ false → x ≡ y
@@ -41,7 +40,7 @@ module _ (c : CheckCase) (group : Group) where
   at-separator s = rw (eq-eqb (n % (n + 1)) n (mod-eq_of_lt {n = n} {m = n + 1} (omega arith))) refl
 
   -- behind whole parts a byte is wrong where it is in the rest
-  wrong-behind : (s : List ℕ) (at k : ℕ) → IsWhole (piece_len group) at → is_wrong c group (drop at s) k ≡ is_wrong c group s (at + k)
+  pub wrong-behind : (s : List ℕ) (at k : ℕ) → IsWhole (piece_len group) at → is_wrong c group (drop at s) k ≡ is_wrong c group s (at + k)
   wrong-behind s at k whole =
       let place : (at + k) % (n + 1) ≡ k % (n + 1) = ap (λ m. (m + k) % (n + 1)) whole.lines ∙ mul-add-mod_self_right whole.count (n + 1) k in
       rw (place, get_or-drop at s k 0) refl
@@ -78,7 +77,7 @@ module _ (c : CheckCase) (group : Group) where
       (at-separator s ∙ ap not (ne_eqb (get_or s n 0) (separator group) differs))
 
   -- whole parts have no wrong byte
-  whole-clear : (s : List ℕ) (len : ℕ) → len ≤ length s → IsWhole (piece_len group) len → ((k : ℕ) → k < len → is_wrong c group s k ≡ false)
+  pub whole-clear : (s : List ℕ) (len : ℕ) → len ≤ length s → IsWhole (piece_len group) len → ((k : ℕ) → k < len → is_wrong c group s k ≡ false)
       → first_wrong c group s ≡ option_map (λ i. len + i) (first_wrong c group (drop len s))
   whole-clear s len inside whole clear =
       let all : length s ≡ len + length (drop len s) = omega (arith, length-drop len s) in
@@ -154,17 +153,6 @@ module _ (c : CheckCase) (group : Group) where
     inside = inside;
     rest = before.rest ∙ ap (option_map (λ i. at + i)) next ∙ further at len _ ∙ rw (drop-drop len at s) refl;
   }
-
-  -- whole parts whose digits were copied, and are valid
-  pub clears-copied : (s new : List ℕ) (at : ℕ) (front : Front) → ClearsFront c group s at → UnseparatesFront 1 group (take (length s - at) (drop at s)) new front
-      → first_invalid c (take front.digits new) ≡ None → ClearsFront c group s (at + front.len)
-  clears-copied s new at front before bare valid =
-      let rest = drop at s in
-      let next : UnseparatesFront 1 group rest new front = rw (take_rest s at) at bare in
-      let size = length-take-le front.len rest next.inside in
-      let none = none-wrong (take front.len rest) (record { valid = rw next.copied at valid; separated = next.separated (omega arith) }) in
-      clears-more s at front.len before (omega (arith, next.inside, length-drop at s, before.inside)) (whole-clear rest front.len next.inside next.whole (λ k lt.
-      rw (get_or-take front.len rest k 0 lt) at (none_told (is_wrong c group (take front.len rest)) _ none k (omega (arith, lt, size)))))
 
 -- the digits of the part behind a front
 module _ (c : CheckCase) (group : Group) (s digits : List ℕ) (at every : ℕ) (before : ClearsFront c group s at) (same : every ≡ piece_len group)

@@ -1,5 +1,6 @@
 pub mod Append
 pub mod Calls
+pub mod Clear
 pub mod Failure
 pub mod GroupCalls
 pub mod GroupLaws

@@ -14,6 +14,7 @@ ghost use Rattle.hex_codec.specs.GroupedText.{byte_count, digits_in, first_wrong
 ghost use Rattle.hex_codec.specs.GroupCalls.{CountsBytes, Reads, ReadsFront, ReadsOrNames, ReadsWhole};
 ghost use Rattle.hex_codec.specs.Unseparate.{ClearsFront, ValidDigits, WritesFront};
 
+use crate::clear::clear_front;
 pub use crate::group::Group;
 use crate::unseparate::{Front, NONE, SHORT, unseparate, unseparate_all};
 use hex_core::lend::lend_accepted;
@@ -131,28 +132,6 @@ fn first_wrong_behind(src: &[u8], front: usize, group: Group, case: CheckCase) -
     None
 }
 
-// How long a front of whole parts without a wrong byte is, where pieces are short. Where a byte is
-// wrong among many it is looked for among fewer.
-fn clear_front(src: &[u8], group: Group, case: CheckCase) -> usize
-    ensures { ClearsFront case group src.now result }
-{
-    if group.every() > SHORT {
-        return 0;
-    }
-    let mut buffer = [0; LARGE];
-    let mut room = LARGE.min(src.len());
-    let mut at = 0;
-    while room > 0 {
-        let front = unseparate::<1>(&src[at..], group, &mut buffer[..room]);
-        if front.len > 0 && Backend::plain().check(&buffer[..front.digits], case) {
-            at += front.len;
-        } else {
-            room /= 4;
-        }
-    }
-    at
-}
-
 // The first wrong byte.
 fn first_wrong(src: &[u8], group: Group, case: CheckCase) -> Option<usize>
     ensures { result ≡ first_wrong case group src.now }
@@ -172,7 +151,7 @@ fn write_front(src: &[u8], dst: &mut [u8], group: Group, case: CheckCase) -> Fro
     }
     let mut buffer = [0; LARGE];
     'fronts: loop {
-        let front = unseparate::<0>(&src[done.len..], group, &mut buffer);
+        let front = unseparate(&src[done.len..], group, &mut buffer);
         if front.len == 0 {
             return done;
         }

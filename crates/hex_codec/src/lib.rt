@@ -2,6 +2,7 @@
 #![tactic(auto)]
 
 pub mod chunks;
+mod clear;
 pub mod decode;
 pub mod encode;
 mod group;

@@ -29,17 +29,17 @@ const BLOCK: usize = 16;
 const WHOLE: usize = 15;
 
 /// Copies the digits of whole parts at the front of a text, as many as find room, and returns that
-/// front. Where `TESTED`, how many separators of a part are tested, is 0, they may be others.
-/// Else none of these digits stands behind another separator.
-pub fn unseparate<const TESTED: usize>(text: &[u8], group: Group, digits: &mut [u8]) -> Front
-    ensures { UnseparatesFront TESTED group text.now digits.new result }
+/// front. Their separators are not tested.
+pub fn unseparate(text: &[u8], group: Group, digits: &mut [u8]) -> Front
+    ensures { UnseparatesFront 0 group text.now digits.new result }
 {
     let len = text.len().min(digits.len());
-    unseparate_front::<TESTED>(&text[..len], group, digits)
+    unseparate_front::<0>(&text[..len], group, digits)
 }
 
-// The same where all of the text finds room. Each length has a body of its own, whose copies have a
-// known length.
+// The same where all of the text finds room. Where `TESTED`, how many separators of a part are tested, is
+// not 0, none of these digits stands behind another separator. Each length has a body of its own, whose
+// copies have a known length.
 #[inline(never)]
 fn unseparate_front<const TESTED: usize>(text: &[u8], group: Group, digits: &mut [u8]) -> Front
     requires { length text.now ≤ length digits.old }
@@ -173,9 +173,9 @@ fn are_all(lanes: u8x16, byte: u8) -> bool
     lanes.simd_ne(u8x16::splat(byte)).to_bitmask() == 0
 }
 
-// A lane has no bit only where it had none before and, where it is tested, is this byte.
+/// A lane has no bit only where it had none before and, where it is tested, is this byte.
 #[inline(always)]
-fn differences<const N: usize, const TESTED: usize>(
+pub fn differences<const N: usize, const TESTED: usize>(
     before: Simd<u8, N>,
     lanes: Simd<u8, N>,
     byte: u8,

@@ -4,7 +4,7 @@ use Rattle.std.proofs.lemmas.List.{take-take}
 use Rattle.hex_codec.proofs.unseparate.unseparate.Goals as goal
 
 pub returns : goal.returns
-returns g c =
+returns c =
     let cut = c.unseparate_front.ensures in
     let size = length-take c.min-len.result c.args.text.now in
     let same = take-take c.unseparate_front.result.len c.min-len.result c.args.text.now (omega (arith, cut.inside, size)) in
