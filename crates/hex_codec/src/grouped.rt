@@ -1,8 +1,8 @@
 //! Grouped digits: pieces with a separator between two, read into bytes.
 //!
 //! All of a text is tested before the first store. Digits are stripped of their separators into a
-//! buffer, and tested and decoded there: all of them where they find room. Else those of pieces of up
-//! to 16 bytes are, as many as find room, in one pass that tests and another that decodes.
+//! buffer, and tested and decoded there, where all of them find room. A longer text is tested where it
+//! stands. Then the digits of pieces of up to 16 bytes are stripped and decoded, as many as find room.
 
 ghost use Rattle.std.specs.Prelude.{◌≡◌, ◌*◌, ◌/◌, ◌≤◌, ◌<◌, None, length, take};
 ghost use Rattle.std.specs.Borrow.{sem};
