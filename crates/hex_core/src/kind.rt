@@ -72,9 +72,22 @@ impl Kind {
         requires { length src.now ≡ 2 * length dst.old }
         ensures { DecodesOwned (owned_block (kind_name self)) case src.now dst.old dst.new result }
     {
-        // A plan of lanes holds so many digits in registers. Where they are refused, the blocks before
-        // the first invalid byte are still to be stored.
-        if matches!(src.len(), 16..=256) && self.decode(src, dst, case) {
+        // So many digits are decoded where this is called. With one call behind them, no registers
+        // have to be saved.
+        if matches!(src.len(), 16..=128) && self.decode(src, dst, case) {
+            return true;
+        }
+        self.decode_owned_apart(src, dst, case)
+    }
+
+    // The same, not where it is called. A plan of lanes holds up to 256 digits in registers. Where they
+    // are refused, the blocks before the first invalid byte are still to be stored.
+    #[inline(never)]
+    fn decode_owned_apart(self, src: &[u8], dst: &mut [u8], case: CheckCase) -> bool
+        requires { length src.now ≡ 2 * length dst.old }
+        ensures { DecodesOwned (owned_block (kind_name self)) case src.now dst.old dst.new result }
+    {
+        if matches!(src.len(), 129..=256) && self.decode(src, dst, case) {
             return true;
         }
         match self {
