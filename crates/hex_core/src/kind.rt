@@ -72,41 +72,15 @@ impl Kind {
         requires { length src.now ≡ 2 * length dst.old }
         ensures { DecodesOwned (owned_block (kind_name self)) case src.now dst.old dst.new result }
     {
-        // A plan of lanes holds up to 256 digits in registers. Nothing is done behind the calls below, so
-        // that no registers have to be saved.
+        // Up to 128 digits are held in registers where this is called. Nothing is done behind the calls
+        // below, so that no registers have to be saved.
         if matches!(src.len(), 16..=128) && self.decode(src, dst, case) {
             return true;
         }
-        if matches!(src.len(), 129..=256) {
-            return self.decode_held(src, dst, case);
-        }
-        self.decode_in_blocks(src, dst, case)
-    }
-
-    // The same of so many digits. Where they are refused, the blocks before the first invalid byte are
-    // still to be stored.
-    #[inline(never)]
-    fn decode_held(self, src: &[u8], dst: &mut [u8], case: CheckCase) -> bool
-        requires { length src.now ≡ 2 * length dst.old }
-        ensures { DecodesOwned (owned_block (kind_name self)) case src.now dst.old dst.new result }
-    {
-        self.decode(src, dst, case) || self.decode_in_blocks(src, dst, case)
-    }
-
-    // The same by the blocks of the plan.
-    #[inline(always)]
-    fn decode_in_blocks(self, src: &[u8], dst: &mut [u8], case: CheckCase) -> bool
-        requires { length src.now ≡ 2 * length dst.old }
-        ensures { DecodesOwned (owned_block (kind_name self)) case src.now dst.old dst.new result }
-    {
         match self {
             Kind::Scalar | Kind::Sse41 => self.decode_at_once(src, dst, case),
-            Kind::Avx2 | Kind::Neon => {
-                owned::decode::<TwoVectors<Saturating>, OneVector, 32>(src, dst, case)
-            }
-            Kind::Avx512 => {
-                owned::decode::<TwoVectors<Hashing>, TwoVectors<Hashing>, 64>(src, dst, case)
-            }
+            Kind::Avx2 | Kind::Neon => owned::decode::<Saturating, OneVector, 32>(src, dst, case),
+            Kind::Avx512 => owned::decode::<Hashing, TwoVectors<Hashing>, 64>(src, dst, case),
         }
     }
 
