@@ -100,7 +100,7 @@ valid_part c s start end inside e k low lt =
     subst P (part_at s start end (k - start) inside (omega arith) ∙ ap (slice_index s) place) read
 
 -- the tested blocks are within the source
-tests_within : (len : ℕ) → 64 * tested_blocks len ≤ len
+pub tests_within : (len : ℕ) → 64 * tested_blocks len ≤ len
 tests_within len = grind (arith, nat_tests)
 
 -- a block behind a valid range that does not pass is the invalid byte's

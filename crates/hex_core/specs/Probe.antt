@@ -1,5 +1,5 @@
 -- What a counted source shows, and what its calls change of that.
-use Rattle.std.specs.Prelude.{◌≡◌, ℕ, ◌+◌, ◌-◌, ◌*◌, ◌/◌, ◌<◌, List, length, min, MatchOption, Option, Some, None}
+use Rattle.std.specs.Prelude.{◌≡◌, ℕ, ◌+◌, ◌-◌, ◌*◌, ◌/◌, ◌<◌, ◌≤◌, List, length, min, MatchOption, Option, Some, None}
 use Rattle.hex_core.specs.declared.digit.CheckCase.{CheckCase}
 use Rattle.hex_core.specs.Search.{AllValid, Steps, first_invalid, steps, tested_blocks}
 
@@ -50,3 +50,10 @@ looks_behind len None = 64 * tested_blocks len
 
 abbrev pub looks_from : ProbeState → ℕ
 looks_from p = looks_behind (length p.source) (invalid_in p)
+
+-- testing so many blocks behind a front of blocks that is valid: it ends at the block where the looks
+-- begin, with all the tests that there are, or each of them was one test, and they are valid too
+abbrev pub TestsAt : ℕ → ℕ → ProbeState → ProbeState → Option ℕ → Type 0
+TestsAt first count old new result = MatchOption result
+    (ValidIn old 0 (64 * (first + count)) × Adds 0 count old new)
+    (λ i. ValidIn old 0 (64 * i) × (64 * i ≡ looks_from old) × (first ≤ (steps_in old).tests) × Adds 0 ((steps_in old).tests - first) old new)

@@ -1,8 +1,8 @@
 //! Counted sources, and the search for the first invalid byte through their counted calls.
 
-ghost use Rattle.std.specs.Prelude.{◌≡◌, ℕ, None, ◌+◌, ◌/◌, ◌^◌, ◌<◌, ◌≤◌, ◌↔◌, IsTrue, length, slice_index};
+ghost use Rattle.std.specs.Prelude.{◌≡◌, ℕ, None, ◌+◌, ◌*◌, ◌/◌, ◌^◌, ◌<◌, ◌≤◌, ◌↔◌, IsTrue, length, slice_index};
 ghost use Rattle.std.specs.Int.{div_ceil};
-ghost use Rattle.hex_core.specs.Probe.{Adds, LooksAt, ProbeState, ValidIn, invalid_in, looks_from, steps_in};
+ghost use Rattle.hex_core.specs.Probe.{Adds, LooksAt, ProbeState, TestsAt, ValidIn, invalid_in, looks_from, steps_in};
 ghost use Rattle.hex_core.specs.Search.{tested_blocks};
 
 use crate::digit::CheckCase;
@@ -69,35 +69,55 @@ pub trait Probe {
         ensures counted { Adds 0 1 (state self.old) (state self.new) };
 }
 
-// How many whole blocks of a source of `len` bytes are tested. A source of one block is not tested:
-// its bytes are few enough to look at.
-fn block_count(len: usize) -> usize
-    ensures { result ≡ tested_blocks len }
+// How many blocks are tested in a turn: with a branch back behind each of them, a source that only the
+// second cache holds took a fifth longer.
+const TESTS: usize = 4;
+
+// Tests so many whole blocks from block `first` on, up to the first one that does not pass.
+#[inline(always)]
+fn test_at<P: Probe>(p: &mut P, first: usize, count: usize) -> Option<usize>
+    requires block { (P.state p.old).block ≡ 64 }
+    requires valid { ValidIn (P.state p.old) 0 (64 * first) }
+    requires inside { first + count ≤ tested_blocks (length (P.state p.old).source) }
+    requires reachable { length (P.state p.old).source < 2 ^ 64 }
+    requires countable { (P.state p.old).tests + count < 2 ^ 64 }
+    ensures { TestsAt first count (P.state p.old) (P.state p.new) result }
 {
-    if len > BLOCK { len / BLOCK } else { 0 }
+    for block in 0..count {
+        if !p.test(BLOCK * (first + block), BLOCK) {
+            return Some(first + block);
+        }
+    }
+    None
 }
 
 // Tests the whole blocks in order, and returns where the looks begin: at the first block that does
 // not pass, or behind the last one.
 #[inline(always)]
 fn test_blocks<P: Probe>(p: &mut P) -> usize
+    requires long { 64 < length (P.state p.old).source }
     requires block { (P.state p.old).block ≡ 64 }
     requires countable { (P.state p.old).tests + length (P.state p.old).source < 2 ^ 64 }
     ensures valid { ValidIn (P.state p.old) 0 result }
     ensures start { result ≡ looks_from (P.state p.old) }
     ensures counted { Adds 0 (steps_in (P.state p.old)).tests (P.state p.old) (P.state p.new) }
 {
-    let whole = block_count(p.len());
-    for i in 0..whole {
-        if !p.test(BLOCK * i, BLOCK) {
+    let whole = p.len() / BLOCK;
+    let mut at = 0;
+    while whole - at >= TESTS {
+        if let Some(i) = test_at(p, at, TESTS) {
             return BLOCK * i;
         }
+        at += TESTS;
     }
-    BLOCK * whole
+    match test_at(p, at, whole - at) {
+        Some(i) => BLOCK * i,
+        None => BLOCK * whole,
+    }
 }
 
 // How many bytes are looked at in a turn: a branch back behind each of them takes half of the time.
-const TURN: usize = 4;
+const TURN: usize = 16;
 
 // Looks at so many bytes from `start` on, up to the first one without a value.
 #[inline(always)]
@@ -167,7 +187,8 @@ pub fn locate<P: Probe>(p: &mut P) -> Option<usize>
         ≤ (P.state p.old).tests + length (P.state p.old).source / 64 }
     ensures few_looks { (P.state p.new).looks ≤ (P.state p.old).looks + 64 }
 {
-    let start = test_blocks(p);
+    // The bytes of one block are few enough to look at.
+    let start = if p.len() > BLOCK { test_blocks(p) } else { 0 };
     look_from(p, start)
 }
 

@@ -3,7 +3,6 @@
 ghost use Rattle.std.specs.Prelude.{◌≡◌, ◌↔◌, ◌+◌, ◌*◌, ◌≤◌, ◌<◌, IsTrue, None, length, slice_index};
 ghost use Rattle.hex_core.specs.Search.{AllValid, first_invalid};
 
-use crate::blocks::check::check_block;
 use crate::digit::CheckCase;
 use crate::lanes::admitted_16;
 use crate::scalar;
@@ -81,15 +80,14 @@ fn check_blocks(src: &[u8], case: CheckCase) -> bool
     })
 }
 
-/// Returns whether every byte of `src` has a value under `case`. The 64 bytes of a test of `locate`
-/// are checked as under the other plans: masks of 16 lanes took twice as long.
+/// Returns whether every byte of `src` has a value under `case`.
 #[inline(always)]
 pub fn check(src: &[u8], case: CheckCase) -> bool
     ensures { IsTrue result ↔ (first_invalid case src.now ≡ None) }
 {
-    match src.len() {
-        0..BLOCK => scalar::check(src, case),
-        64 => check_block(src, case),
-        _ => check_blocks(src, case),
+    if src.len() < BLOCK {
+        scalar::check(src, case)
+    } else {
+        check_blocks(src, case)
     }
 }

@@ -31,7 +31,7 @@ look_at-requires-clause-countable g c =
 pub returns-in-Some-clause-counted : goal.returns-in-Some-clause-counted
 returns-in-Some-clause-counted g c =
     let kept = c.loop-at.invariant in
-    (found (g.P.Probe.state c.args.p.now) (g.P.Probe.state c.loop-at.p) (g.P.Probe.state c.look_at.new.p) c.args.start c.loop-at.at 4 c.requires.start (omega (arith, kept.turns.1)) kept.valid kept.counted c.in-Some.i (c.in-Some.ensures)).1
+    (found (g.P.Probe.state c.args.p.now) (g.P.Probe.state c.loop-at.p) (g.P.Probe.state c.look_at.new.p) c.args.start c.loop-at.at 16 c.requires.start (omega (arith, kept.turns.1)) kept.valid kept.counted c.in-Some.i (c.in-Some.ensures)).1
 
 pub loop-at-preserved : goal.loop-at-preserved
 loop-at-preserved g c =
@@ -42,8 +42,8 @@ loop-at-preserved g c =
       inside = omega arith;
       near = omega (arith, near, kept.turns.1);
       turns = (kept.turns.0 + 1, omega (arith, kept.turns.1));
-      valid = (valid_same p (g.P.Probe.state c.loop-at.p) 0 (at + 4) kept.counted.2).0 looked.0;
-      counted = adds_then p (g.P.Probe.state c.loop-at.p) (g.P.Probe.state c.look_at.new.p) (at - c.args.start) 0 4 0 _ _ (omega (arith, kept.turns.1)) refl kept.counted looked.1;
+      valid = (valid_same p (g.P.Probe.state c.loop-at.p) 0 (at + 16) kept.counted.2).0 looked.0;
+      counted = adds_then p (g.P.Probe.state c.loop-at.p) (g.P.Probe.state c.look_at.new.p) (at - c.args.start) 0 16 0 _ _ (omega (arith, kept.turns.1)) refl kept.counted looked.1;
     }
 
 pub look_at-requires-2-clause-countable : goal.look_at-requires-2-clause-countable
