@@ -9,7 +9,6 @@ ghost use Rattle.hex_core.specs.Text.{Spells};
 use crate::blocks::check::{check_block, check_ends, check_long, check_one, check_two};
 use crate::blocks::decode::{decode_four, decode_long, decode_one, decode_two, write_blocks};
 use crate::digit::CheckCase;
-use crate::lanes::{Hashing, NibbleMap, Saturating};
 use crate::scalar;
 use crate::vector::{factors, known_factors};
 
@@ -32,9 +31,9 @@ pub fn check(src: &[u8], case: CheckCase) -> bool
 
 /// Writes the bytes that `src` spells into the whole of `dst`, or returns false and writes nothing.
 /// From 16 to 128 digits are decoded where it is called, so that a length that is known there chooses
-/// nothing as it runs. The nibbles of more are found by a hash where `hashed` is true.
+/// nothing as it runs.
 #[inline(always)]
-pub fn decode(src: &[u8], dst: &mut [u8], case: CheckCase, hashed: bool) -> bool
+pub fn decode(src: &[u8], dst: &mut [u8], case: CheckCase) -> bool
     requires { length src.now ≡ 2 * length dst.old }
     ensures { DecodesWhole case src.now dst.old dst.new result }
 {
@@ -42,11 +41,10 @@ pub fn decode(src: &[u8], dst: &mut [u8], case: CheckCase, hashed: bool) -> bool
         return decode_few(src, dst, case);
     }
     match src.len() {
-        64 => decode_one::<Saturating, 64, 32>(src, dst, case, known_factors()),
-        0..64 => decode_two::<Saturating, 32, 16>(src, dst, case, known_factors()),
-        65..=128 => decode_two::<Saturating, 64, 32>(src, dst, case, known_factors()),
-        _ if hashed => decode_more::<Hashing>(src, dst, case),
-        _ => decode_more::<Saturating>(src, dst, case),
+        64 => decode_one::<64, 32>(src, dst, case, known_factors()),
+        0..64 => decode_two::<32, 16>(src, dst, case, known_factors()),
+        65..=128 => decode_two::<64, 32>(src, dst, case, known_factors()),
+        _ => decode_more(src, dst, case),
     }
 }
 
@@ -58,24 +56,22 @@ fn decode_few(src: &[u8], dst: &mut [u8], case: CheckCase) -> bool
     ensures { DecodesWhole case src.now dst.old dst.new result }
 {
     match src.len() {
-        16 => decode_one::<Saturating, 16, 8>(src, dst, case, known_factors()),
-        32 => decode_one::<Saturating, 32, 16>(src, dst, case, known_factors()),
+        16 => decode_one::<16, 8>(src, dst, case, known_factors()),
+        32 => decode_one::<32, 16>(src, dst, case, known_factors()),
         0..16 => scalar::decode_short(src, dst, case),
-        _ => decode_two::<Saturating, 16, 8>(src, dst, case, known_factors()),
+        _ => decode_two::<16, 8>(src, dst, case, known_factors()),
     }
 }
 
 // The same of more than 128 digits. Up to 256 are held in registers.
 #[inline(never)]
-fn decode_more<M>(src: &[u8], dst: &mut [u8], case: CheckCase) -> bool
-where
-    M: NibbleMap<64>,
+fn decode_more(src: &[u8], dst: &mut [u8], case: CheckCase) -> bool
     requires twice { length src.now ≡ 2 * length dst.old }
     requires more { 128 < length src.now }
     ensures { DecodesWhole case src.now dst.old dst.new result }
 {
     if src.len() <= 256 {
-        decode_four::<M, 64, 32>(src, dst, case, factors(src[0]))
+        decode_four::<64, 32>(src, dst, case, factors(src[0]))
     } else {
         decode_long(src, dst, case)
     }
@@ -97,7 +93,7 @@ pub fn decode_valid(src: &[u8], dst: &mut [u8], case: CheckCase)
     ensures { Spells case src.now dst.new }
 {
     if src.len() < 256 {
-        decode(src, dst, case, false);
+        decode(src, dst, case);
     } else {
         write_blocks(src, dst, case);
     }

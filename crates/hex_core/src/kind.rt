@@ -9,7 +9,6 @@ ghost use Rattle.hex_core.specs.Text.{text};
 use crate::blocks::decode::{OneVector, TwoVectors};
 use crate::blocks::encode;
 use crate::digit::CheckCase;
-use crate::lanes::{Hashing, Saturating};
 use crate::{by_length, owned, scalar, sixteen};
 
 /// What a plan is called, and what its bodies are chosen by.
@@ -58,9 +57,8 @@ impl Kind {
     {
         match self {
             Kind::Scalar => scalar::decode(src, dst, case),
-            // One call: two would be too much to inline.
             Kind::Sse41 | Kind::Avx2 | Kind::Avx512 | Kind::Neon => {
-                by_length::decode(src, dst, case, matches!(self, Kind::Avx512))
+                by_length::decode(src, dst, case)
             }
         }
     }
@@ -79,8 +77,8 @@ impl Kind {
         }
         match self {
             Kind::Scalar | Kind::Sse41 => self.decode_at_once(src, dst, case),
-            Kind::Avx2 | Kind::Neon => owned::decode::<Saturating, OneVector, 32>(src, dst, case),
-            Kind::Avx512 => owned::decode::<Hashing, TwoVectors<Hashing>, 64>(src, dst, case),
+            Kind::Avx2 | Kind::Neon => owned::decode::<OneVector, 32>(src, dst, case),
+            Kind::Avx512 => owned::decode::<TwoVectors, 64>(src, dst, case),
         }
     }
 

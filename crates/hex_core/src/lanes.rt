@@ -301,9 +301,9 @@ pub(crate) fn admitted<const N: usize>(v: Simd<u8, N>, case: CheckCase) -> u64
     zero_bits(excess(v, case))
 }
 
-// The value of each lane, or at least 16.
+/// The value of each lane, or at least 16.
 #[inline(always)]
-fn saturated<const N: usize>(v: Simd<u8, N>, case: CheckCase) -> Simd<u8, N>
+pub(crate) fn saturated<const N: usize>(v: Simd<u8, N>, case: CheckCase) -> Simd<u8, N>
     ensures { AreNibbles case v.entry result }
 {
     // Less 58, the byte behind `9`, the digits are the ten greatest bytes, 246 to 255. A step down
@@ -370,39 +370,6 @@ where
 {
     let offsets = Lanes::look_up(check_row(case), slots);
     sign_flipped(saturating_differences(sign_flipped(v), offsets))
-}
-
-/// How the nibbles of a vector are found: the value of each lane, or at least 16.
-pub(crate) trait NibbleMap<const N: usize> {
-    fn nibbles(v: Simd<u8, N>, case: CheckCase) -> Simd<u8, N>
-        ensures { AreNibbles case v.entry result };
-}
-
-/// Nibbles by saturating sums and differences.
-pub(crate) struct Saturating;
-
-impl<const N: usize> NibbleMap<N> for Saturating {
-    #[inline(always)]
-    fn nibbles(v: Simd<u8, N>, case: CheckCase) -> Simd<u8, N>
-        ensures { AreNibbles case v.entry result }
-    {
-        saturated(v, case)
-    }
-}
-
-/// Nibbles by a hash that looks up both offsets of a byte.
-pub(crate) struct Hashing;
-
-impl NibbleMap<64> for Hashing {
-    #[inline(always)]
-    fn nibbles(v: u8x64, case: CheckCase) -> u8x64
-        ensures { AreNibbles case v result }
-    {
-        let slots = hashes(v);
-        // The sign of a failed check makes its nibble large.
-        let signs = masked(hashed_checks(v, slots, case), 0x80);
-        either(hashed_values(v, slots), signs)
-    }
 }
 
 /// The value of each lane, where every lane has one.

@@ -12,20 +12,17 @@ ghost use Rattle.hex_core.specs.Text.{Spells};
 
 use crate::blocks::check::check_long;
 use crate::digit::CheckCase;
-use crate::lanes::{NibbleMap, Saturating, valid_nibbles};
+use crate::lanes::{saturated, valid_nibbles};
 use crate::vector::{Lanes, Pack, either, factors, is_small};
-use std::marker::PhantomData;
 use std::simd::prelude::*;
 
 // The nibbles of `N` bytes from `at` on.
 #[inline(always)]
-fn nibbles_at<M, const N: usize>(src: &[u8], at: usize, case: CheckCase) -> Simd<u8, N>
-where
-    M: NibbleMap<N>,
+fn nibbles_at<const N: usize>(src: &[u8], at: usize, case: CheckCase) -> Simd<u8, N>
     requires { at + N ≤ length src.now }
     ensures { NibblesFrom case src.now at N result }
 {
-    M::nibbles(Simd::<u8, N>::from_slice(&src[at..]), case)
+    saturated(Simd::<u8, N>::from_slice(&src[at..]), case)
 }
 
 // The same, where each of the bytes has a value.
@@ -135,21 +132,20 @@ where
 
 /// Decodes a source of `N` digits: all of it is tested before the first store.
 #[inline(always)]
-pub fn decode_one<M, const N: usize, const HALF: usize>(
+pub fn decode_one<const N: usize, const HALF: usize>(
     src: &[u8],
     dst: &mut [u8],
     case: CheckCase,
     factors: Simd<u16, HALF>,
 ) -> bool
 where
-    M: NibbleMap<N>,
     Lanes: Pack<N, HALF>,
     requires factors { factors ≡ pair_factors HALF }
     requires sizes { Halves N HALF src.now dst.old }
     requires whole { length src.now ≡ N }
     ensures { DecodesWhole case src.now dst.old dst.new result }
 {
-    let nibbles = nibbles_at::<M, N>(src, 0, case);
+    let nibbles = nibbles_at::<N>(src, 0, case);
     if !is_small(nibbles) {
         return false;
     }
@@ -159,22 +155,21 @@ where
 
 /// Decodes a source of `N` to `2 * N` digits: all of it is tested before the first store.
 #[inline(always)]
-pub fn decode_two<M, const N: usize, const HALF: usize>(
+pub fn decode_two<const N: usize, const HALF: usize>(
     src: &[u8],
     dst: &mut [u8],
     case: CheckCase,
     factors: Simd<u16, HALF>,
 ) -> bool
 where
-    M: NibbleMap<N>,
     Lanes: Pack<N, HALF>,
     requires factors { factors ≡ pair_factors HALF }
     requires sizes { Halves N HALF src.now dst.old }
     requires covered { EndsCover N src.now }
     ensures { DecodesWhole case src.now dst.old dst.new result }
 {
-    let front = nibbles_at::<M, N>(src, 0, case);
-    let back = nibbles_at::<M, N>(src, src.len() - N, case);
+    let front = nibbles_at::<N>(src, 0, case);
+    let back = nibbles_at::<N>(src, src.len() - N, case);
     if !is_small(either(front, back)) {
         return false;
     }
@@ -185,14 +180,13 @@ where
 
 /// Decodes a source of `2 * N` to `4 * N` digits: all of it is tested before the first store.
 #[inline(always)]
-pub fn decode_four<M, const N: usize, const HALF: usize>(
+pub fn decode_four<const N: usize, const HALF: usize>(
     src: &[u8],
     dst: &mut [u8],
     case: CheckCase,
     factors: Simd<u16, HALF>,
 ) -> bool
 where
-    M: NibbleMap<N>,
     Lanes: Pack<N, HALF>,
     requires factors { factors ≡ pair_factors HALF }
     requires sizes { Halves N HALF src.now dst.old }
@@ -200,10 +194,10 @@ where
     ensures { DecodesWhole case src.now dst.old dst.new result }
 {
     let len = src.len();
-    let first = nibbles_at::<M, N>(src, 0, case);
-    let second = nibbles_at::<M, N>(src, N, case);
-    let third = nibbles_at::<M, N>(src, len - 2 * N, case);
-    let last = nibbles_at::<M, N>(src, len - N, case);
+    let first = nibbles_at::<N>(src, 0, case);
+    let second = nibbles_at::<N>(src, N, case);
+    let third = nibbles_at::<N>(src, len - 2 * N, case);
+    let last = nibbles_at::<N>(src, len - N, case);
     if !is_small(either(either(first, second), either(third, last))) {
         return false;
     }
@@ -247,7 +241,7 @@ impl DecodeBlock<32> for OneVector {
         requires factors { factors ≡ pair_factors 32 }
         ensures { DecodesAt case src.now dst.old dst.new at 32 result }
     {
-        let block = nibbles_at::<Saturating, 64>(src, 2 * at, case);
+        let block = nibbles_at::<64>(src, 2 * at, case);
         if !is_small(block) {
             return false;
         }
@@ -256,21 +250,18 @@ impl DecodeBlock<32> for OneVector {
     }
 }
 
-/// A block of 128 digits in two vectors, whose nibbles are found by `M`.
-pub struct TwoVectors<M>(PhantomData<M>);
+/// A block of 128 digits in two vectors.
+pub struct TwoVectors;
 
-impl<M> DecodeBlock<64> for TwoVectors<M>
-where
-    M: NibbleMap<64>,
-{
+impl DecodeBlock<64> for TwoVectors {
     #[inline(always)]
     fn decode_at(src: &[u8], dst: &mut [u8], at: usize, case: CheckCase, factors: u16x32) -> bool
         requires room { HasRoom at 64 src.now dst.old }
         requires factors { factors ≡ pair_factors 32 }
         ensures { DecodesAt case src.now dst.old dst.new at 64 result }
     {
-        let front = nibbles_at::<M, 64>(src, 2 * at, case);
-        let back = nibbles_at::<M, 64>(src, 2 * at + 64, case);
+        let front = nibbles_at::<64>(src, 2 * at, case);
+        let back = nibbles_at::<64>(src, 2 * at + 64, case);
         if !is_small(either(front, back)) {
             return false;
         }

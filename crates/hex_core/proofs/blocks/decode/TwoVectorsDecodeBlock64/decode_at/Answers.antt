@@ -4,7 +4,7 @@ use Rattle.hex_core.proofs.BlockLemmas.{pair_decodes, pair_valid}
 use Rattle.hex_core.proofs.blocks.decode.TwoVectorsDecodeBlock64.decode_at.Goals as goal
 
 pub returns : goal.returns
-returns g c =
+returns c =
     let front = c.nibbles_at-front.ensures in let back = c.nibbles_at-back.ensures in let at = c.args.at in
     let both = pair_valid (2 * at + 2 * 64) c.either.ensures.small front back (omega arith) (omega arith) (omega arith) in
     let small = c.either.ensures.small.0 (c.is_small.ensures.0 c.if-not-is_small.false) in (
