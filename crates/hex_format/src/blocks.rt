@@ -1,6 +1,6 @@
 //! Blocks of whole pieces, each behind a separator, one lane a byte.
 
-ghost use Rattle.std.specs.Prelude.{◌≡◌, [], ◌∷◌, ◌++◌, ◌+◌, ◌*◌, ◌/◌, ◌%◌, ◌<◌, ◌≤◌, drop, length, map, take};
+ghost use Rattle.std.specs.Prelude.{◌≡◌, [], ◌∷◌, ◌++◌, ◌+◌, ◌-◌, ◌*◌, ◌/◌, ◌%◌, ◌<◌, ◌≤◌, drop, length, map, take};
 ghost use Rattle.std.specs.Simd.Lanes.{chunk};
 ghost use Rattle.hex_core.specs.Lookup.{entry};
 ghost use Rattle.hex_core.specs.Text.{text};
@@ -260,18 +260,29 @@ fn inner_halves(first: u8x32, last: u8x32, sep: u8) -> u8x32
     choice.select(last, first)
 }
 
+// Half of a length, which the compiler does not know where it knows the length. Stores whose places it
+// knows it joins by shuffles, and shuffles bound the loop.
+#[inline(always)]
+fn half_of(len: usize, sep: u8) -> usize
+    requires { sep < SEP }
+    ensures { result ≡ len / 2 }
+{
+    len / 2 + (sep >> 7) as usize
+}
+
 // Writes a text by its front, its middle and its back: to both ends of the output, and over what these
 // have in common.
 #[inline(always)]
-fn put_parts(front: u8x16, middle: u8x16, back: u8x16, out: &mut [u8])
+fn put_parts(front: u8x16, middle: u8x16, back: u8x16, between: usize, out: &mut [u8])
     requires least { 2 * HALF ≤ length out.old }
     requires most { length out.old ≤ 3 * HALF }
+    requires between { between ≡ (length out.old - HALF) / 2 }
     ensures { out.new ≡ joined_parts front middle back out.old }
 {
     let last = out.len() - HALF;
     front.copy_to_slice(out);
     back.copy_to_slice(&mut out[last..]);
-    middle.copy_to_slice(&mut out[last / 2..]);
+    middle.copy_to_slice(&mut out[between..]);
 }
 
 // Writes the text of half a block, its digits moved to their places.
@@ -292,6 +303,7 @@ fn put_placed(bytes: &[u8; HALF], upper: bool, sep: u8, places: Places, out: &mu
         placed(first, places.front, sep),
         placed(inner, places.middle, sep),
         placed(last, places.back, sep),
+        (out.len() - HALF) / 2,
         out,
     );
 }
@@ -312,7 +324,9 @@ fn put_placed_twice(bytes: &[u8; BLOCK], upper: bool, sep: u8, places: Places, o
     let fronts = placed_twice(first, places.front, sep);
     let middles = placed_twice(inner, places.middle, sep);
     let backs = placed_twice(last, places.back, sep);
-    let (left, right) = out.split_at_mut(out.len() / 2);
-    put_parts(fronts.0, middles.0, backs.0, left);
-    put_parts(fronts.1, middles.1, backs.1, right);
+    let half = out.len() / 2;
+    let between = half_of(half - HALF, sep);
+    let (left, right) = out.split_at_mut(half);
+    put_parts(fronts.0, middles.0, backs.0, between, left);
+    put_parts(fronts.1, middles.1, backs.1, between, right);
 }
