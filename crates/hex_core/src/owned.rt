@@ -11,7 +11,7 @@ use crate::digit::CheckCase;
 use crate::vector::factors;
 
 /// Writes the bytes that `src` spells into the whole of `dst`, or returns false and has stored the
-/// whole blocks of `SIZE` bytes before the first invalid byte, which `B` decodes.
+/// whole blocks of `SIZE` bytes before the first invalid byte. `B` decodes a block.
 #[inline(always)]
 pub fn decode<B, const SIZE: usize>(src: &[u8], dst: &mut [u8], case: CheckCase) -> bool
 where

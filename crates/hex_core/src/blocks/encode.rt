@@ -52,7 +52,7 @@ where
 }
 
 // Writes the text of `2 * N` to `4 * N` bytes.
-#[inline(always)]
+#[inline(never)]
 fn encode_four<const N: usize, const TWICE: usize>(src: &[u8], dst: &mut [u8], upper: bool)
 where
     Lanes: Interleave<N, TWICE> + LookUp<TWICE>,
@@ -91,20 +91,6 @@ fn encode_blocks(src: &[u8], dst: &mut [u8], upper: bool)
     }
 }
 
-// Writes the text of more than 64 bytes.
-#[inline(never)]
-fn encode_more(src: &[u8], dst: &mut [u8], upper: bool)
-    requires twice { length dst.old ≡ 2 * length src.now }
-    requires more { 64 < length src.now }
-    ensures { dst.new ≡ text upper src.now }
-{
-    if src.len() <= 128 {
-        encode_four::<32, 64>(src, dst, upper);
-    } else {
-        encode_blocks(src, dst, upper);
-    }
-}
-
 // Writes the text of at most 16 bytes.
 #[inline(always)]
 fn encode_few(src: &[u8], dst: &mut [u8], upper: bool)
@@ -130,6 +116,7 @@ pub fn encode(src: &[u8], dst: &mut [u8], upper: bool)
         32 => encode_one::<32, 64>(src, dst, upper),
         17..=31 => encode_two::<16, 32>(src, dst, upper),
         33..=64 => encode_two::<32, 64>(src, dst, upper),
-        _ => encode_more(src, dst, upper),
+        65..=128 => encode_four::<32, 64>(src, dst, upper),
+        _ => encode_blocks(src, dst, upper),
     }
 }
