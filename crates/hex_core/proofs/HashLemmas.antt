@@ -1,5 +1,5 @@
 -- The hash map at each byte beside each neighbour.
-use Rattle.std.proofs.Common.{◌≡◌, ℕ, ◌-◌, ◌<◌, Bool, true, ltb, List, [], ◌∷◌, map, length, get_or, bit_and, bit_or, bit_xor, refl, sym, ap, ◌∙◌, ltb-true, lt-ltb, arith}
+use Rattle.std.proofs.Common.{◌≡◌, ℕ, ◌-◌, ◌<◌, Bool, true, ltb, List, [], ◌∷◌, map, length, get_or, bit_xor, refl, sym, ap, ◌∙◌, ltb-true, lt-ltb, arith}
 use Rattle.std.specs.Prelude.{EachIndex}
 use Rattle.std.proofs.lemmas.Bool.{agree_below, agree_below_at}
 use lib.Lanes.{zip2}
@@ -7,33 +7,23 @@ use Rattle.hex_core.specs.declared.digit.CheckCase.{CheckCase}
 use Rattle.hex_core.specs.declared.digit.CheckCase.TheVariants as policy
 use Rattle.hex_core.specs.Digit.{value}
 use Rattle.hex_core.specs.Hash.{Hashed, check_row, hash, hashed_check, hashed_value}
-use Rattle.hex_core.specs.Lanes.{AreChecked, AreValues, IsNibble}
+use Rattle.hex_core.specs.Lanes.{AreChecked, AreValues}
 use Rattle.hex_core.specs.Lookup.{entry}
-use Rattle.hex_core.proofs.ByteLemmas.{always, has, nibble_by, nibble_test, value_by, value_test}
+use Rattle.hex_core.proofs.ByteLemmas.{always, has, value_by, value_test}
 use Rattle.hex_core.proofs.LaneLemmas.{zipped_at}
 
 -- ---- one byte
 
--- a value, and the sign of its check
-abbrev pub marked : ℕ → ℕ → ℕ
-marked v check = bit_or v (bit_and check 128)
-
--- check, value and both together are right beside each neighbour
+-- check and value are right beside each neighbour
 all_right : (c : CheckCase)
     → (agree_below (λ b. agree_below (λ k. ltb (hashed_check c b (hash b k)) 128) (λ _. has c b) 8) always 256 ≡ true)
     × (agree_below (λ b. agree_below (λ k. value_test (value c b) (hashed_value b (hash b k))) always 8) always 256 ≡ true)
-    × (agree_below (λ b. agree_below (λ k. nibble_test (value c b) (marked (hashed_value b (hash b k)) (hashed_check c b (hash b k)))) always 8) always 256 ≡ true)
-all_right policy.None = (refl, refl, refl)
-all_right policy.Lower = (refl, refl, refl)
-all_right policy.Upper = (refl, refl, refl)
+all_right policy.None = (refl, refl)
+all_right policy.Lower = (refl, refl)
+all_right policy.Upper = (refl, refl)
 
 is_right : (f g : ℕ → ℕ → Bool) → agree_below (λ b. agree_below (f b) (g b) 8) always 256 ≡ true → (b k : ℕ) → b < 256 → k < 8 → f b k ≡ g b k
 is_right f g all b k B K = agree_below_at (f b) (g b) 8 k (agree_below_at (λ x. agree_below (f x) (g x) 8) always 256 b all B) K
-
-pub nibble_is_right : (c : CheckCase) (b slot r v check : ℕ) → b < 256 → Hashed b slot → v ≡ hashed_value b slot → check ≡ hashed_check c b slot → r ≡ marked v check → IsNibble (value c b) r
-nibble_is_right c b slot r v check B s p q e =
-    let test = is_right (λ x k. nibble_test (value c x) (marked (hashed_value x (hash x k)) (hashed_check c x (hash x k)))) (λ x k. true) (all_right c).2 b s.0 B s.1 in
-    rw (e, p, q, s.2) (nibble_by (value c b) (marked (hashed_value b (hash b s.0)) (hashed_check c b (hash b s.0))) test)
 
 -- ---- the lanes
 
