@@ -5,4 +5,5 @@ mod HalvesLemmas
 pub mod PutsLemmas
 mod Repeats
 mod SeparateLemmas
+mod SeparatorLemmas
 mod StreamLemmas

@@ -1,5 +1,5 @@
 -- The padded text of a list of bytes.
-use Rattle.std.specs.Prelude.{◌≡◌, ◌≤◌, ℕ, ◌-◌, ◌/◌, ◌%◌, nat_le, Bool, false, List, [], ◌++◌, length, map, slice_index, drop, take, codes, encode_utf8, Option, Some, None, if◌then◌else◌}
+use Rattle.std.specs.Prelude.{◌≡◌, ◌<◌, ℕ, ◌+◌, ◌-◌, ◌*◌, ◌/◌, ◌%◌, nat_le, Bool, false, List, [], ◌++◌, length, map, slice_index, drop, take, codes, encode_utf8, Option, Some, None, if◌then◌else◌}
 use Rattle.std.specs.List.{repeat}
 use Rattle.std.specs.Simd.Lanes.{chunk, put_chunk}
 use Rattle.hex_core.specs.Text.{text}
@@ -51,9 +51,15 @@ left_padding Left padding = 0
 left_padding Right padding = padding
 left_padding Center padding = padding / 2
 
--- a buffer begins with n bytes that are these
-abbrev pub BeginsWith : ℕ → List ℕ → List ℕ → Type 0
-BeginsWith n buffer bytes = (n ≤ length buffer) × (take n buffer ≡ bytes)
+-- these n bytes were written over the front of a buffer, and what is behind them is as it was
+abbrev pub WritesFront : ℕ → List ℕ → List ℕ → List ℕ → Type 0
+WritesFront n bytes old new = (n ≡ length bytes) × (new ≡ bytes ++ drop n old)
+
+-- a buffer has the separator wherever a text of whole pieces has one
+abbrev pub HasSeparators : Group → List ℕ → Type 0
+HasSeparators group buffer = (i : ℕ)
+    → i * (1 + 2 * piece_len group) < length buffer
+    → slice_index buffer (i * (1 + 2 * piece_len group)) ≡ separator group
 
 -- the digit at a place among sixteen, or the separator where the place is 128
 abbrev pub placed : ℕ → List ℕ → ℕ → ℕ

@@ -5,7 +5,7 @@ ghost use Rattle.std.specs.Simd.Lanes.{chunk};
 ghost use Rattle.hex_core.specs.Lookup.{entry};
 ghost use Rattle.hex_core.specs.Text.{text};
 ghost use Rattle.hex_codec.specs.Grouped.{piece_len, separated};
-ghost use Rattle.hex_format.specs.Frame.{ArePlaces, joined_parts, placed, placed_text};
+ghost use Rattle.hex_format.specs.Frame.{ArePlaces, HasSeparators, joined_parts, placed, placed_text};
 
 use hex_codec::Group;
 use hex_core::lanes::{encode_8, encode_16, encode_32};
@@ -90,17 +90,20 @@ impl PlacesOf<4, 36> for ByPlaces {
     }
 }
 
-/// Blocks and their halves where these are whole pieces, each written behind a separator.
+/// Blocks and their halves where these are whole pieces, each written behind a separator that is there
+/// before.
 pub trait SeparateBlock<const EVERY: usize, const OUT: usize> {
     fn separate(bytes: &[u8; BLOCK], upper: bool, group: Group, out: &mut [u8])
         requires every { piece_len group ≡ EVERY }
         requires whole { HALF % EVERY ≡ 0 }
         requires long { length out.old ≡ 2 * OUT }
+        requires separators { HasSeparators group out.old }
         ensures { out.new ≡ separated group upper bytes.now };
 
     fn separate_half(bytes: &[u8; HALF], upper: bool, group: Group, out: &mut [u8])
         requires every { piece_len group ≡ EVERY }
         requires long { length out.old ≡ OUT }
+        requires separators { HasSeparators group out.old }
         ensures { out.new ≡ separated group upper bytes.now };
 }
 
@@ -121,26 +124,24 @@ where
     }
 }
 
-/// Pieces of a vector or more: each is written behind a separator.
+/// Pieces of a vector or more: their digits are written between the separators.
 pub struct ByPieces;
 
 impl SeparateBlock<8, 34> for ByPieces {
     #[inline(always)]
     fn separate(bytes: &[u8; BLOCK], upper: bool, group: Group, out: &mut [u8]) {
         let digits = encode_32(bytes, upper);
-        let sep = group.sep();
-        put_piece(sep, u8x16::from_slice(&digits), &mut out[..17]);
-        put_piece(sep, u8x16::from_slice(&digits[16..]), &mut out[17..34]);
-        put_piece(sep, u8x16::from_slice(&digits[32..]), &mut out[34..51]);
-        put_piece(sep, u8x16::from_slice(&digits[48..]), &mut out[51..]);
+        u8x16::from_slice(&digits).copy_to_slice(&mut out[1..]);
+        u8x16::from_slice(&digits[16..]).copy_to_slice(&mut out[18..]);
+        u8x16::from_slice(&digits[32..]).copy_to_slice(&mut out[35..]);
+        u8x16::from_slice(&digits[48..]).copy_to_slice(&mut out[52..]);
     }
 
     #[inline(always)]
     fn separate_half(bytes: &[u8; HALF], upper: bool, group: Group, out: &mut [u8]) {
         let digits = encode_16(bytes, upper);
-        let sep = group.sep();
-        put_piece(sep, u8x16::from_slice(&digits), &mut out[..17]);
-        put_piece(sep, u8x16::from_slice(&digits[16..]), &mut out[17..]);
+        u8x16::from_slice(&digits).copy_to_slice(&mut out[1..]);
+        u8x16::from_slice(&digits[16..]).copy_to_slice(&mut out[18..]);
     }
 }
 
@@ -148,25 +149,14 @@ impl SeparateBlock<16, 33> for ByPieces {
     #[inline(always)]
     fn separate(bytes: &[u8; BLOCK], upper: bool, group: Group, out: &mut [u8]) {
         let digits = encode_32(bytes, upper);
-        let sep = group.sep();
-        put_piece(sep, u8x32::from_slice(&digits), &mut out[..33]);
-        put_piece(sep, u8x32::from_slice(&digits[32..]), &mut out[33..]);
+        u8x32::from_slice(&digits).copy_to_slice(&mut out[1..]);
+        u8x32::from_slice(&digits[32..]).copy_to_slice(&mut out[34..]);
     }
 
     #[inline(always)]
     fn separate_half(bytes: &[u8; HALF], upper: bool, group: Group, out: &mut [u8]) {
-        put_piece(group.sep(), u8x32::from_array(encode_16(bytes, upper)), out);
+        u8x32::from_array(encode_16(bytes, upper)).copy_to_slice(&mut out[1..]);
     }
-}
-
-// Writes a separator, and behind it the digits of a piece.
-#[inline(always)]
-fn put_piece<const N: usize>(sep: u8, digits: Simd<u8, N>, out: &mut [u8])
-    requires { length out.old ≡ 1 + N }
-    ensures { out.new ≡ sep ∷ digits.entry }
-{
-    out[0] = sep;
-    digits.copy_to_slice(&mut out[1..]);
 }
 
 // The separators at their places, and 0 at those of digits.

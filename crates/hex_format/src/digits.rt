@@ -3,10 +3,10 @@
 ghost use Rattle.std.specs.Prelude.{◌≡◌, ◌-◌, ◌*◌, ◌^◌, ◌<◌, ◌≤◌, ℕ, drop, length};
 ghost use Rattle.hex_core.specs.Text.{text};
 ghost use Rattle.hex_codec.specs.Grouped.{grouped, piece_len, separated};
-ghost use Rattle.hex_format.specs.Frame.{digits_by};
+ghost use Rattle.hex_format.specs.Frame.{HasSeparators, digits_by};
 ghost use Rattle.hex_format.specs.Sink.{Puts};
 
-use crate::separate::separated_text;
+use crate::separate::write_pieces;
 use crate::sink::{Sink, WriteFault, put_all};
 use hex_codec::Group;
 use hex_codec::chunks::encoded;
@@ -81,14 +81,14 @@ fn put_grouped<S: Sink>(
     ensures { Puts (S.state sink.old) (S.state sink.new) result (grouped group upper bytes.now) }
 {
     if bytes.len() <= SHORT {
-        let mut buffer = [0; 3 * SHORT];
+        let mut buffer = [group.sep(); 3 * SHORT];
         return put_at_once(sink, upper, group, bytes, &mut buffer);
     }
     if bytes.len() <= MIDDLE {
-        let mut buffer = [0; 3 * MIDDLE];
+        let mut buffer = [group.sep(); 3 * MIDDLE];
         return put_at_once(sink, upper, group, bytes, &mut buffer);
     }
-    let mut buffer = [0; 3 * CHUNK];
+    let mut buffer = [group.sep(); 3 * CHUNK];
     // No separator stands before the first piece.
     let mut from = 1;
     for pieces in bytes.chunks(bytes_at_once(group)) {
@@ -108,10 +108,11 @@ fn put_at_once<S: Sink>(
 ) -> Result<(), WriteFault>
     requires counts { (S.state sink.old).failures < 2 ^ 64 - 1 }
     requires room { 3 * length bytes.now ≤ length buffer.old }
+    requires separators { HasSeparators group buffer.old }
     ensures { Puts (S.state sink.old) (S.state sink.new) result (grouped group upper bytes.now) }
 {
-    let shown = separated_text(bytes, upper, group, buffer);
-    put_all(sink, &shown[shown.len().min(1)..])
+    let end = write_pieces(bytes, upper, group, buffer);
+    put_all(sink, &buffer[end.min(1)..end])
 }
 
 // How many bytes are put at a time: as many whole pieces as a chunk has, or a longer one.
@@ -128,7 +129,8 @@ fn bytes_at_once(group: Group) -> usize
     }
 }
 
-// Puts the text of some pieces from a byte on, each behind a separator.
+// Puts the text of some pieces from a byte on, each behind a separator. The buffer keeps its separators:
+// those of a piece that is longer than a chunk lie before its digits and behind a chunk's.
 fn put_pieces<S: Sink>(
     sink: &mut S,
     upper: bool,
@@ -142,14 +144,15 @@ fn put_pieces<S: Sink>(
     requires start { from ≤ 1 }
     requires one { CHUNK < length bytes.now → length bytes.now ≤ piece_len group }
     requires room { length buffer.old ≡ 3 * CHUNK }
-    ensures { Puts (S.state sink.old) (S.state sink.new) result
+    requires separators { HasSeparators group buffer.old }
+    ensures puts { Puts (S.state sink.old) (S.state sink.new) result
         (drop from (separated group upper bytes.now)) }
+    ensures separators { HasSeparators group buffer.new }
 {
     if bytes.len() <= CHUNK {
-        let shown = separated_text(bytes, upper, group, buffer);
-        return put_all(sink, &shown[from..]);
+        let end = write_pieces(bytes, upper, group, buffer);
+        return put_all(sink, &buffer[from..end]);
     }
-    let separator = [group.sep()];
-    put_all(sink, &separator[from..])?;
-    put_chunks(sink, upper, bytes, &mut buffer[..2 * CHUNK])
+    put_all(sink, &buffer[from..1])?;
+    put_chunks(sink, upper, bytes, &mut buffer[1..1 + 2 * CHUNK])
 }

@@ -2,7 +2,7 @@
 
 ghost use Rattle.std.specs.Prelude.{◌≡◌, ◌*◌, ◌%◌, ◌≤◌, length};
 ghost use Rattle.hex_codec.specs.Grouped.{piece_len, separated};
-ghost use Rattle.hex_format.specs.Frame.{BeginsWith};
+ghost use Rattle.hex_format.specs.Frame.{HasSeparators, WritesFront};
 
 use crate::blocks::{BLOCK, ByPieces, ByPlaces, HALF, SeparateBlock};
 use hex_codec::Group;
@@ -12,14 +12,19 @@ use hex_core::lanes::encode_8;
 // How many bytes are encoded at a time where a piece has fewer or as many.
 const EIGHT: usize = 8;
 
-/// Returns the text of each piece behind a separator, written into the front of the buffer.
+/// Writes the text of each piece behind a separator over the front of the buffer, and returns how many
+/// bytes that is.
 ///
-/// The caller shows that the buffer has room for three bytes for each of `bytes`.
-pub fn separated_text<'b>(bytes: &[u8], upper: bool, group: Group, buffer: &'b mut [u8]) -> &'b [u8]
-    requires { 3 * length bytes.now ≤ length buffer.old }
-    ensures { result.now ≡ separated group upper bytes.now }
+/// The caller shows that the buffer has room for three bytes for each of `bytes`, and separators. It has
+/// them after the call too, so that many texts in a row cost one buffer of separators.
+#[tactic(auto, using(crate::proofs::SeparatorLemmas::separators_after))]
+pub fn write_pieces(bytes: &[u8], upper: bool, group: Group, buffer: &mut [u8]) -> usize
+    requires room { 3 * length bytes.now ≤ length buffer.old }
+    requires separators { HasSeparators group buffer.old }
+    ensures text { WritesFront result (separated group upper bytes.now) buffer.old buffer.new }
+    ensures separators { HasSeparators group buffer.new }
 {
-    let end = match group.every() {
+    match group.every() {
         1 => write_blocks::<ByPlaces, 1, 48>(bytes, upper, group, buffer),
         2 => write_blocks::<ByPlaces, 2, 40>(bytes, upper, group, buffer),
         4 => write_blocks::<ByPlaces, 4, 36>(bytes, upper, group, buffer),
@@ -27,14 +32,13 @@ pub fn separated_text<'b>(bytes: &[u8], upper: bool, group: Group, buffer: &'b m
         16 => write_blocks::<ByPieces, 16, 33>(bytes, upper, group, buffer),
         3..=7 => write_short(bytes, upper, group, buffer),
         _ => write_separated(bytes, upper, group, buffer),
-    };
-    &buffer[..end]
+    }
 }
 
 // Writes the text of each piece behind a separator, and returns how many bytes that is.
 fn write_separated(bytes: &[u8], upper: bool, group: Group, out: &mut [u8]) -> usize
     requires { 3 * length bytes.now ≤ length out.old }
-    ensures { BeginsWith result out.new (separated group upper bytes.now) }
+    ensures { WritesFront result (separated group upper bytes.now) out.old out.new }
 {
     let mut to = 0;
     for piece in bytes.chunks(group.every()) {
@@ -51,7 +55,7 @@ fn write_separated(bytes: &[u8], upper: bool, group: Group, out: &mut [u8]) -> u
 fn write_short(bytes: &[u8], upper: bool, group: Group, out: &mut [u8]) -> usize
     requires short { piece_len group ≤ 8 }
     requires room { 3 * length bytes.now ≤ length out.old }
-    ensures { BeginsWith result out.new (separated group upper bytes.now) }
+    ensures { WritesFront result (separated group upper bytes.now) out.old out.new }
 {
     let every = group.every();
     let mut at = 0;
@@ -80,7 +84,8 @@ where
     requires whole { HALF % EVERY ≡ 0 }
     requires thrice { OUT ≤ 3 * HALF }
     requires room { 3 * length bytes.now ≤ length out.old }
-    ensures { BeginsWith result out.new (separated group upper bytes.now) }
+    requires separators { HasSeparators group out.old }
+    ensures { WritesFront result (separated group upper bytes.now) out.old out.new }
 {
     let whole = bytes.len() / BLOCK;
     let mut to = 0;
@@ -107,7 +112,8 @@ where
     requires whole { HALF % EVERY ≡ 0 }
     requires thrice { OUT ≤ 3 * HALF }
     requires room { 3 * length bytes.now ≤ length out.old }
-    ensures { BeginsWith result out.new (separated group upper bytes.now) }
+    requires separators { HasSeparators group out.old }
+    ensures { WritesFront result (separated group upper bytes.now) out.old out.new }
 {
     if bytes.len() < HALF {
         return write_separated(bytes, upper, group, out);

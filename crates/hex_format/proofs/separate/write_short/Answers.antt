@@ -1,5 +1,5 @@
 -- A piece is written behind those before it, and what is left a piece at a time.
-use Rattle.std.proofs.Common.{rules, ◌≡◌, ◌+◌, ◌-◌, ◌*◌, ◌≤◌, [], ◌∷◌, length, take, drop, ap, ◌∙◌, arith, append_assoc, length-drop}
+use Rattle.std.proofs.Common.{◌≡◌, ◌+◌, ◌-◌, ◌*◌, ◌≤◌, [], ◌∷◌, length, take, drop, ap, ◌∙◌, sym, arith, append_assoc, length-append, length-drop}
 use Rattle.std.proofs.Math.ListN.{length-set, set}
 use Rattle.std.proofs.lemmas.List.{length-take-le, take-take, take_more_set, take_rest}
 use Rattle.hex_core.specs.Text.{text}
@@ -8,6 +8,7 @@ use Rattle.hex_codec.specs.Grouped.{piece_len, separated, separator}
 use Rattle.hex_format.proofs.GroupFacts.{behind-whole, one-more}
 use Rattle.hex_codec.proofs.ListLemmas.{take-front_put}
 use Rattle.hex_format.proofs.SeparateLemmas.{take-text}
+use Rattle.hex_format.proofs.SeparatorLemmas.{front-then, length-some, rest-next}
 use Rattle.hex_format.proofs.separate.write_short.Goals as goal
 
 pub loop-at-preserved : goal.loop-at-preserved
@@ -27,17 +28,25 @@ loop-at-preserved c =
     let put = take-front_put (to + 1) (to + 1 + 16 - (to + 1)) (2 * every) (set out to c.sep.result) new (omega (arith, length-set out to c.sep.result, c.if-out-to.true)) (omega (arith, size, long, c.requires.short)) in
     let mark = take_more_set out to c.sep.result (omega (arith, c.if-out-to.true)) in
     let next = one-more group upper so_far.whole.0 at bytes so_far.whole.1 (omega (arith, length-drop at bytes, inside, c.requires.short, so_far.within)) in
+    let rest = separated group upper (drop at bytes) in
+    let all = ap length (sym (behind-whole group upper so_far.whole.0 at bytes so_far.whole.1 so_far.within)) ∙ length-append (separated group upper (take at bytes)) rest in
+    let done = sym (length-take-le to out (omega (arith, c.if-out-to.true))) ∙ ap length so_far.written in
+    let reach : to + 17 ≤ length (separated group upper bytes) = omega (arith, all, done, inside, length-some group upper (drop at bytes) (omega (arith, inside))) in
     rw c.every-every.ensures (record {
       within = omega (arith, length-drop at bytes, inside, c.requires.short, so_far.within);
       room = omega (arith, so_far.room, some);
       whole = (so_far.whole.0 + 1, grind (arith, so_far.whole.1));
+      behind = rest-next out c.args.out.now new to (length (separated group upper bytes)) (to + 1 + 16 - (to + 1)) c.sep.result (omega (arith, all, reach)) (omega (arith, size, long)) (omega (arith, c.if-out-to.true)) so_far.behind;
       written = rw place (put ∙ rw (mark, so_far.written, digits, c.sep.ensures) (append_assoc (separated group upper (take at bytes)) (separator group ∷ []) (text upper (take every (drop at bytes))) ∙ next));
     })
 
 pub returns : goal.returns
 returns c =
     let group = c.args.group in let upper = c.args.upper in let bytes = c.args.bytes.now in
-    let at = c.loop-at.at in let to = c.loop-at.to in let so_far = c.loop-at.invariant in
-    let back = rw (take_rest bytes at) at c.write_separated.ensures.1 in
-    let put = take-front_put to (length c.loop-at.out - to) c.write_separated.result c.loop-at.out c.write_separated.new.out (omega (arith, so_far.room, so_far.within, c.requires.room, c.loop-at.auto.out)) c.write_separated.ensures.0 in
-    (let inside = c.write_separated.ensures.0 in search rules, put ∙ rw (so_far.written, back) (behind-whole group upper so_far.whole.0 at bytes so_far.whole.1 so_far.within))
+    let at = c.loop-at.at in let to = c.loop-at.to in let out = c.loop-at.out in let so_far = c.loop-at.invariant in let last = c.write_separated in
+    let front = separated group upper (take at bytes) in let back = separated group upper (drop at bytes) in
+    let whole = behind-whole group upper so_far.whole.0 at bytes so_far.whole.1 so_far.within in
+    let fits : to ≤ length out = omega (arith, so_far.room, so_far.within, c.requires.room, c.loop-at.auto.out) in
+    let written = rw (take_rest bytes at, take_rest out to) at last.ensures in
+    let all : to + last.result ≡ length (separated group upper bytes) = omega (arith, ap length whole, length-append front back, length-take-le to out fits, ap length so_far.written, written.0) in
+    rw whole at (front-then to last.result out c.args.out.now front back last.new.out fits so_far.written (rw all so_far.behind) (omega (arith, last.auto.out, length-drop to out)) written)
