@@ -1,5 +1,5 @@
 -- Texts of bytes of which there is a known number.
-use Rattle.std.proofs.Common.{◌≡◌, Bool, true, false, ℕ, ◌+◌, ◌*◌, ◌%◌, ◌<◌, ◌≤◌, [], ◌∷◌, ◌++◌, List, length, get_or, map, take, drop, replicate, bit_and, bit_or, cond, leb, refl, sym, ap, ◌∙◌, arith, take-append-drop}
+use Rattle.std.proofs.Common.{◌≡◌, Bool, true, false, ℕ, zero, suc, ◌+◌, ◌*◌, ◌%◌, ◌<◌, ◌≤◌, [], ◌∷◌, ◌++◌, List, length, get_or, map, take, drop, replicate, bit_and, bit_or, cond, leb, refl, sym, ap, ◌∙◌, arith, take-append-drop}
 use Rattle.std.proofs.lemmas.List.{length-take-le}
 use Rattle.std.proofs.lemmas.Simd.{put_chunk_whole}
 use Rattle.std.proofs.Math.ListN.{set}
@@ -44,3 +44,10 @@ pub lanes-placed : (sep : ℕ) (digits places : List ℕ) → zip2 bit_or (map (
 lanes-placed sep digits [] = refl
 lanes-placed sep digits (at ∷ places) =
     let here = lane-placed sep (get_or digits (at % 16) 0) (leb 128 at) in let rest = lanes-placed sep digits places in λ i. here i ∷ rest i
+
+-- lanes that have no bit more
+pub lanes-with-none : (n : ℕ) (xs : List ℕ) → length xs ≡ n → zip2 bit_or xs (replicate n 0) ≡ xs
+lanes-with-none zero [] size = refl
+lanes-with-none (suc n) [] size = absurd (omega arith)
+lanes-with-none zero (x ∷ xs) size = absurd (omega arith)
+lanes-with-none (suc n) (x ∷ xs) size = let here = or_zero_r x in let rest = lanes-with-none n xs (omega arith) in λ i. here i ∷ rest i

@@ -130,11 +130,11 @@ pub struct ByPieces;
 impl SeparateBlock<8, 34> for ByPieces {
     #[inline(always)]
     fn separate(bytes: &[u8; BLOCK], upper: bool, group: Group, out: &mut [u8]) {
-        let digits = encode_32(bytes, upper);
-        u8x16::from_slice(&digits).copy_to_slice(&mut out[1..]);
-        u8x16::from_slice(&digits[16..]).copy_to_slice(&mut out[18..]);
-        u8x16::from_slice(&digits[32..]).copy_to_slice(&mut out[35..]);
-        u8x16::from_slice(&digits[48..]).copy_to_slice(&mut out[52..]);
+        let (first, last) = encode_halves(bytes, upper);
+        first.extract::<0, 16>().copy_to_slice(&mut out[1..]);
+        last.extract::<0, 16>().copy_to_slice(&mut out[18..]);
+        first.extract::<16, 16>().copy_to_slice(&mut out[35..]);
+        last.extract::<16, 16>().copy_to_slice(&mut out[52..]);
     }
 
     #[inline(always)]
@@ -157,6 +157,16 @@ impl SeparateBlock<16, 33> for ByPieces {
     fn separate_half(bytes: &[u8; HALF], upper: bool, group: Group, out: &mut [u8]) {
         u8x32::from_array(encode_16(bytes, upper)).copy_to_slice(&mut out[1..]);
     }
+}
+
+// The places, which the compiler does not know. What it knows it reads anew in each turn of a loop, and
+// what it does not know it keeps in registers.
+#[inline(always)]
+fn unknown(places: u8x16, sep: u8) -> u8x16
+    requires { sep < SEP }
+    ensures { result ≡ places }
+{
+    places | u8x16::splat(sep >> 7)
 }
 
 // The separators at their places, and 0 at those of digits.
@@ -311,9 +321,9 @@ fn put_placed_twice(bytes: &[u8; BLOCK], upper: bool, sep: u8, places: Places, o
 {
     let (first, last) = encode_halves(bytes, upper);
     let inner = inner_halves(first, last, sep);
-    let fronts = placed_twice(first, places.front, sep);
-    let middles = placed_twice(inner, places.middle, sep);
-    let backs = placed_twice(last, places.back, sep);
+    let fronts = placed_twice(first, unknown(places.front, sep), sep);
+    let middles = placed_twice(inner, unknown(places.middle, sep), sep);
+    let backs = placed_twice(last, unknown(places.back, sep), sep);
     let half = out.len() / 2;
     let between = half_of(half - HALF, sep);
     let (left, right) = out.split_at_mut(half);

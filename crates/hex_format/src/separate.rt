@@ -115,6 +115,9 @@ where
     requires separators { HasSeparators group out.old }
     ensures { WritesFront result (separated group upper bytes.now) out.old out.new }
 {
+    if bytes.is_empty() {
+        return 0;
+    }
     if bytes.len() < HALF {
         return write_separated(bytes, upper, group, out);
     }

@@ -16,5 +16,5 @@ returns c =
     let right_long : length right ≡ 32 = omega (arith, length-text upper (drop 16 bytes), length-drop 16 bytes, long) in
     let fronts = c.placed_twice-fronts.ensures in let middles = c.placed_twice-middles.ensures in let backs = c.placed_twice-backs.ensures in
     let out = c.split_at_mut-left.ensures in
-    rw (c.put_parts.ensures, c.put_parts-2.ensures, out.front, out.back, fronts.0, fronts.1, middles.0, middles.1, backs.0, backs.1)
+    rw (c.put_parts.ensures, c.put_parts-2.ensures, out.front, out.back, fronts.0, fronts.1, middles.0, middles.1, backs.0, backs.1, c.unknown.ensures, c.unknown-2.ensures, c.unknown-3.ensures)
     (rw (c.inner_halves-inner.ensures, c.encode_halves.ensures.0, c.encode_halves.ensures.1, parts, entries left 32 left_long, entries right 32 right_long) refl)
