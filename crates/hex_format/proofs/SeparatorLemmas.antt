@@ -124,8 +124,8 @@ separators-around group n (b ∷ buffer) new short size fits has (suc i) inside 
     let is : 1 + n + (at - (1 + n)) ≡ at = omega (arith, far) in
     let rest = drop-put_mid 1 n all new (1 + n) (omega arith) (omega arith) size in
     let same : get_or (put_mid 1 n all new) at 0 ≡ get_or all at 0 =
-        ap (λ k. get_or (put_mid 1 n all new) k 0) (sym is) ∙ (sym (get_or-drop (1 + n) (put_mid 1 n all new) (at - (1 + n)) 0)
-        ∙ (ap (λ l. get_or l (at - (1 + n)) 0) rest ∙ (get_or-drop (1 + n) all (at - (1 + n)) 0 ∙ ap (λ k. get_or all k 0) is))) in
+    ap (λ k. get_or (put_mid 1 n all new) k 0) (sym is) ∙ (sym (get_or-drop (1 + n) (put_mid 1 n all new) (at - (1 + n)) 0)
+    ∙ (ap (λ l. get_or l (at - (1 + n)) 0) rest ∙ (get_or-drop (1 + n) all (at - (1 + n)) 0 ∙ ap (λ k. get_or all k 0) is))) in
     same ∙ has (suc i) (omega (arith, inside, far, ap length rest, length-drop (1 + n) (put_mid 1 n all new), length-drop (1 + n) all))
 
 -- each byte takes two digits, and where there is one there is a separator too
@@ -164,6 +164,7 @@ separated-entries group every n buffer has is size =
   where
     here : ℕ → ℕ
     here i = cond (leb 1 (i % (1 + 2 * every))) (get_or buffer i 0) (separator group)
+
     known : (k : ℕ) → k < n → (k % (1 + 2 * every) < 1) ⊎ (1 ≤ k % (1 + 2 * every)) → get_or buffer k 0 ≡ here k
     known k lt (inl none) =
         let at : k / (1 + 2 * every) * step group ≡ k = rw is (omega (arith, none, mod-add-div' k (1 + 2 * every))) in

@@ -1,7 +1,6 @@
 -- The text of a piece that is longer than a chunk stands behind its separator.
-use Rattle.std.proofs.Common.{[], ◌∷◌, arith}
+use Rattle.std.proofs.Common.{arith}
 use Rattle.hex_core.specs.Text.{text}
-use Rattle.hex_codec.specs.Grouped.{separator}
 use Rattle.hex_format.proofs.GroupFacts.{piece-from}
 use Rattle.hex_format.proofs.PutsLemmas.{Puts-err, Puts-then, Stops-stop}
 use Rattle.hex_format.proofs.SeparatorLemmas.{first-separator, separators-around}
