@@ -15,6 +15,8 @@
 
 // The rounds of a size are spread over the whole run, since a shared machine has slow seconds.
 #define PASSES 20
+// How far below the last one a pass begins: twenty go round a page.
+#define PLACE 208
 #define ROUNDS 12
 #define TURNS_NS 30000
 #define LARGEST 65536
@@ -427,6 +429,16 @@ static void measure(enum kind kind, size_t at_size) {
     }
 }
 
+// The same from another place of the stack on, so many bytes below. A load waits for a store before it
+// whose address has the same low twelve bits: where a buffer on the stack stood so beside what is read or
+// written, some calls took a tenth longer in the whole run.
+static void measure_below(size_t bytes, enum kind kind, size_t at_size) {
+    volatile char room[bytes];
+    room[0] = 0;
+    measure(kind, at_size);
+    (void)room[0];
+}
+
 // The least time of a call, or 0 where there is none.
 static double time_of(size_t at_size, bool is_rust, const char *plan, const char *name,
     enum kind kind) {
@@ -668,7 +680,7 @@ int main(int count, char **words) {
         for (size_t at_size = 0; at_size < SIZES; at_size++) {
             for (enum kind kind = 0; kind < KINDS; kind++) {
                 if (is_measured(kind, sizes[at_size])) {
-                    measure(kind, at_size);
+                    measure_below(PLACE * (pass + 1), kind, at_size);
                 }
             }
         }
