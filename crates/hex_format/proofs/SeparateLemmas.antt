@@ -1,11 +1,9 @@
 -- Texts of bytes of which there is a known number.
-use Rattle.std.proofs.Common.{◌≡◌, Bool, true, false, ℕ, zero, suc, ◌+◌, ◌*◌, ◌%◌, ◌<◌, ◌≤◌, [], ◌∷◌, ◌++◌, List, length, get_or, map, take, drop, replicate, bit_and, bit_or, cond, leb, refl, sym, ap, ◌∙◌, arith, take-append-drop}
+use Rattle.std.proofs.Common.{◌≡◌, Bool, true, false, ℕ, zero, suc, ◌*◌, ◌%◌, ◌<◌, ◌≤◌, [], ◌∷◌, ◌++◌, List, length, get_or, map, take, drop, replicate, bit_and, bit_or, cond, leb, refl, sym, ap, ◌∙◌, arith, take-append-drop}
 use Rattle.std.proofs.lemmas.List.{length-take-le}
-use Rattle.std.proofs.lemmas.Simd.{put_chunk_whole}
-use Rattle.std.proofs.Math.ListN.{set}
 use Rattle.std.proofs.Math.Seq.{take-append_seam}
 use lib.Bits.{and_mask, and_zero_r, or_zero_r}
-use lib.Lanes.{put_chunk, sel_l, zip2}
+use lib.Lanes.{sel_l, zip2}
 use Rattle.hex_core.specs.Lookup.{entry}
 use Rattle.hex_core.specs.Text.{text}
 use Rattle.hex_core.proofs.TextLemmas.{length-text, text-append}
@@ -18,11 +16,6 @@ take-text upper n bytes inside =
     let size : length front ≡ 2 * n = omega (arith, length-text upper (take n bytes), length-take-le n bytes inside) in
     let parts : text upper bytes ≡ front ++ text upper (drop n bytes) = ap (text upper) (sym (take-append-drop n bytes)) ∙ text-append upper (take n bytes) (drop n bytes) in
     rw (parts, ← size) (take-append_seam front (text upper (drop n bytes)))
-
--- a byte, and a vector that is written behind it
-pub put-behind-first : (sep : ℕ) (old digits : List ℕ) → length old ≡ 1 + length digits → put_chunk 1 (set old 0 sep) digits ≡ sep ∷ digits
-put-behind-first sep [] digits long = absurd (omega arith)
-put-behind-first sep (b ∷ old) digits long = ap (λ l. sep ∷ l) (put_chunk_whole old digits (omega arith))
 
 -- one lane that is 0 but for a separator
 lane-separated : (sep : ℕ) (mark : Bool) → sep < 256 → bit_and sep (cond mark 255 0) ≡ cond mark sep 0
