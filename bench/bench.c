@@ -429,9 +429,9 @@ static void measure(enum kind kind, size_t at_size) {
     }
 }
 
-// The same from another place of the stack on, so many bytes below. A load waits for a store before it
-// whose address has the same low twelve bits: where a buffer on the stack stood so beside what is read or
-// written, some calls took a tenth longer in the whole run.
+// The same from another place of the stack on, so many bytes below. A call with a buffer there took up to
+// a seventh longer from some places, and one place held for a whole run. A likely cause is that a load
+// waits for a store whose address has the same low twelve bits.
 static void measure_below(size_t bytes, enum kind kind, size_t at_size) {
     volatile char room[bytes];
     room[0] = 0;
