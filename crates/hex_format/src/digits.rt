@@ -12,15 +12,13 @@ use hex_codec::Group;
 use hex_codec::chunks::encoded;
 
 /// How many source bytes are encoded at a time.
-pub const CHUNK: usize = 1_024;
+pub const CHUNK: usize = 512;
 
 /// Up to how many source bytes smaller buffers serve, so that a digest or a line of a dump does not
 /// pay for the large one.
 pub const SHORT: usize = 64;
 
 pub const MIDDLE: usize = 256;
-
-pub const LONG: usize = 512;
 
 /// Puts the digits of `bytes`, grouped where there is a group.
 pub fn put_digits<S: Sink>(
@@ -49,10 +47,6 @@ fn put_text<S: Sink>(sink: &mut S, upper: bool, bytes: &[u8]) -> Result<(), Writ
     }
     if bytes.len() <= MIDDLE {
         let mut buffer = [0; 2 * MIDDLE];
-        return put_all(sink, encoded(bytes, upper, &mut buffer));
-    }
-    if bytes.len() <= LONG {
-        let mut buffer = [0; 2 * LONG];
         return put_all(sink, encoded(bytes, upper, &mut buffer));
     }
     put_long_text(sink, upper, bytes)
@@ -102,10 +96,6 @@ fn put_grouped<S: Sink>(
     }
     if bytes.len() <= MIDDLE {
         let mut buffer = [group.sep(); 3 * MIDDLE];
-        return put_at_once(sink, upper, group, bytes, &mut buffer);
-    }
-    if bytes.len() <= LONG {
-        let mut buffer = [group.sep(); 3 * LONG];
         return put_at_once(sink, upper, group, bytes, &mut buffer);
     }
     put_long_grouped(sink, upper, group, bytes)

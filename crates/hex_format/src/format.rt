@@ -8,7 +8,7 @@ ghost use Rattle.hex_core.specs.Text.{lowercase, text};
 ghost use Rattle.hex_format.specs.Frame.{frame, hex_bytes, left_padding, padding_of, plain_flags, separators_by, sign_and_prefix};
 ghost use Rattle.hex_format.specs.Sink.{Puts};
 
-use crate::digits::{CHUNK, LONG, MIDDLE, SHORT, put_digits};
+use crate::digits::{CHUNK, MIDDLE, SHORT, put_digits};
 pub use crate::sink::{Sink, SinkFault, SliceSink, WriteFault, WriterSink, put_all};
 use hex_codec::Group;
 use hex_codec::chunks::encoded;
@@ -147,10 +147,6 @@ impl fmt::Display for Hex<'_> {
         }
         if self.bytes.len() <= MIDDLE {
             let mut buffer = [0; 2 * MIDDLE];
-            return write_ascii(f, encoded(self.bytes, false, &mut buffer));
-        }
-        if self.bytes.len() <= LONG {
-            let mut buffer = [0; 2 * LONG];
             return write_ascii(f, encoded(self.bytes, false, &mut buffer));
         }
         let mut buffer = [0; 2 * CHUNK];

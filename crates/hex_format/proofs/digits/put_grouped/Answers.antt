@@ -6,6 +6,3 @@ put_at_once-requires-clause-separators g c = all-separators c.args.group 192 c.s
 
 pub put_at_once-requires-then-bytes-le-MIDDLE-clause-separators : goal.put_at_once-requires-then-bytes-le-MIDDLE-clause-separators
 put_at_once-requires-then-bytes-le-MIDDLE-clause-separators g c = all-separators c.args.group 768 c.sep-buffer-then-bytes-le-MIDDLE.result c.sep-buffer-then-bytes-le-MIDDLE.ensures
-
-pub put_at_once-requires-then-bytes-le-LONG-clause-separators : goal.put_at_once-requires-then-bytes-le-LONG-clause-separators
-put_at_once-requires-then-bytes-le-LONG-clause-separators g c = all-separators c.args.group 1536 c.sep-buffer-then-bytes-le-LONG.result c.sep-buffer-then-bytes-le-LONG.ensures

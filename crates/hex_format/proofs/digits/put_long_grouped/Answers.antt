@@ -11,14 +11,14 @@ use Rattle.hex_format.proofs.digits.put_long_grouped.Goals as goal
 few-some : (n size left : ℕ) → n ≡ min size left → 0 < size → 0 < left → 0 < n
 few-some n size left is every some = omega arith
 
-one-piece : (n size left every : ℕ) → n ≡ min size left → (1024 < size → size ≡ every) → 1024 < n → n ≤ every
+one-piece : (n size left every : ℕ) → n ≡ min size left → (512 < size → size ≡ every) → 512 < n → n ≤ every
 one-piece n size left every is one many = let whole = one (omega arith) in omega (arith, is, whole)
 
 pub loop-pieces-init : goal.loop-pieces-init
 loop-pieces-init g c =
     let at_once = c.bytes_at_once.ensures in
     let is : chunks_size c.into_iter-pieces-iterator.result ≡ c.bytes_at_once.result = search rules in
-    (rw is at_once.some, tt, (at_once.whole.0, is ∙ at_once.whole.1), rw is at_once.one, refl, all-separators c.args.group 3072 c.sep-buffer.result c.sep-buffer.ensures, ([], Takes-none (g.S.Sink.state c.args.sink.now), refl, search rules))
+    (rw is at_once.some, tt, (at_once.whole.0, is ∙ at_once.whole.1), rw is at_once.one, refl, all-separators c.args.group 1536 c.sep-buffer.result c.sep-buffer.ensures, ([], Takes-none (g.S.Sink.state c.args.sink.now), refl, search rules))
 
 pub put_pieces-requires : goal.put_pieces-requires
 put_pieces-requires g c =

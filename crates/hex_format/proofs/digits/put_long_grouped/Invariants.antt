@@ -11,8 +11,8 @@ invariant-loop-pieces g l =
     (goal.iterator-loop-pieces g).can_next l.pieces-iterator
     × (goal.iterator-loop-pieces g).is_finite l.pieces-iterator
     × ((count : ℕ) × (chunks_size l.pieces-iterator ≡ count * piece_len l.group))
-    × (1024 < chunks_size l.pieces-iterator → chunks_size l.pieces-iterator ≡ piece_len l.group)
-    × (length l.buffer ≡ 3 * 1024)
+    × (512 < chunks_size l.pieces-iterator → chunks_size l.pieces-iterator ≡ piece_len l.group)
+    × (length l.buffer ≡ 3 * 512)
     × HasSeparators l.group l.buffer
     × ((done : List ℕ) × Takes (g.S.Sink.state l.initial.sink) (g.S.Sink.state l.sink) (drop 1 done)
     × (l.from ≡ 1 - length done)

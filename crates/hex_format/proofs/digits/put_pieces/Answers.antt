@@ -25,4 +25,4 @@ returns-clause-puts g c =
 pub returns-clause-separators : goal.returns-clause-separators
 returns-clause-separators g c =
     let long = c.requires.one (omega arith) in
-    separators-around c.args.group 2048 c.args.buffer.now c.put_chunks.new.buffer (omega (arith, long, c.if-bytes-le-CHUNK.false)) (omega (arith, c.put_chunks.auto.buffer, c.requires.room)) (omega (arith, c.requires.room)) c.requires.separators
+    separators-around c.args.group 1024 c.args.buffer.now c.put_chunks.new.buffer (omega (arith, long, c.if-bytes-le-CHUNK.false)) (omega (arith, c.put_chunks.auto.buffer, c.requires.room)) (omega (arith, c.requires.room)) c.requires.separators

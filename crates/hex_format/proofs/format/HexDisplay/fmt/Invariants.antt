@@ -10,6 +10,6 @@ abbrev pub invariant-loop-chunk : goal.invariant-loop-chunk
 invariant-loop-chunk g l =
     (goal.iterator-loop-chunk g).can_next l.chunk-iterator
     × (goal.iterator-loop-chunk g).is_finite l.chunk-iterator
-    × (chunks_size l.chunk-iterator ≡ 1024)
+    × (chunks_size l.chunk-iterator ≡ 512)
     × (IsPlainFormatter l.initial.f → (done : List ℕ) × HasWritten g.W.Write.write_str_gives l.initial.f done l.f
     × (done ++ text lowercase (chunks_rest l.chunk-iterator) ≡ text lowercase (hex_bytes l.fn.self)))
