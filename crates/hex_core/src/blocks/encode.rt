@@ -1,6 +1,6 @@
 //! Encoding by blocks.
 
-ghost use Rattle.std.specs.Prelude.{◌≡◌, ◌+◌, ◌*◌, ◌<◌, ◌≤◌, length};
+ghost use Rattle.std.specs.Prelude.{◌≡◌, ◌+◌, ◌*◌, ◌<◌, ◌≤◌, length, take};
 ghost use Rattle.std.specs.Simd.Lanes.{chunk, put_chunk};
 ghost use Rattle.hex_core.specs.Shapes.{EndsCover};
 ghost use Rattle.hex_core.specs.Text.{text};
@@ -51,27 +51,42 @@ where
     spell_at::<N, TWICE>(src, dst, src.len() - N, upper);
 }
 
-// Writes the text of `2 * N` to `4 * N` bytes.
-#[inline(never)]
-fn encode_four<const N: usize, const TWICE: usize>(src: &[u8], dst: &mut [u8], upper: bool)
-where
-    Lanes: Interleave<N, TWICE> + LookUp<TWICE>,
-    requires lanes { TWICE ≡ 2 * N }
-    requires twice { length dst.old ≡ 2 * length src.now }
-    requires covered { EndsCover (2 * N) src.now }
-    ensures { dst.new ≡ text upper src.now }
-{
-    let last = src.len() - N;
-    spell_at::<N, TWICE>(src, dst, 0, upper);
-    spell_at::<N, TWICE>(src, dst, N, upper);
-    spell_at::<N, TWICE>(src, dst, last - N, upper);
-    spell_at::<N, TWICE>(src, dst, last, upper);
-}
-
 // How many bytes of a longer source are one block, and of its end where so many are left.
 const BLOCK: usize = 32;
 
 const LAST: usize = 16;
+
+// Writes the text of what is behind the first `done` bytes, at most a block, where theirs is written.
+#[inline(always)]
+fn encode_rest(src: &[u8], dst: &mut [u8], done: usize, upper: bool)
+    requires twice { length dst.old ≡ 2 * length src.now }
+    requires least { BLOCK ≤ length src.now }
+    requires left { (done ≤ length src.now) × (length src.now ≤ done + BLOCK) }
+    requires written { take (2 * done) dst.old ≡ text upper (take done src.now) }
+    ensures { dst.new ≡ text upper src.now }
+{
+    let rest = src.len() - done;
+    if rest > LAST {
+        spell_at::<32, 64>(src, dst, src.len() - BLOCK, upper);
+    } else if rest > 0 {
+        spell_at::<16, 32>(src, dst, src.len() - LAST, upper);
+    }
+}
+
+// Writes the text of two to four blocks, without a loop.
+#[inline(never)]
+fn encode_some(src: &[u8], dst: &mut [u8], upper: bool)
+    requires twice { length dst.old ≡ 2 * length src.now }
+    requires least { 2 * BLOCK ≤ length src.now }
+    requires most { length src.now ≤ 4 * BLOCK }
+    ensures { dst.new ≡ text upper src.now }
+{
+    let third = (src.len() - BLOCK).min(2 * BLOCK);
+    spell_at::<32, 64>(src, dst, 0, upper);
+    spell_at::<32, 64>(src, dst, BLOCK, upper);
+    spell_at::<32, 64>(src, dst, third, upper);
+    encode_rest(src, dst, third + BLOCK, upper);
+}
 
 // Writes the text of a block or more.
 #[inline(never)]
@@ -80,15 +95,11 @@ fn encode_blocks(src: &[u8], dst: &mut [u8], upper: bool)
     requires least { BLOCK ≤ length src.now }
     ensures { dst.new ≡ text upper src.now }
 {
-    'turns: for i in 0..src.len() / BLOCK {
+    let whole = src.len() / BLOCK;
+    'turns: for i in 0..whole {
         spell_at::<32, 64>(src, dst, i * BLOCK, upper);
     }
-    let rest = src.len() % BLOCK;
-    if rest > LAST {
-        spell_at::<32, 64>(src, dst, src.len() - BLOCK, upper);
-    } else if rest > 0 {
-        spell_at::<16, 32>(src, dst, src.len() - LAST, upper);
-    }
+    encode_rest(src, dst, whole * BLOCK, upper);
 }
 
 // Writes the text of at most 16 bytes.
@@ -116,7 +127,7 @@ pub fn encode(src: &[u8], dst: &mut [u8], upper: bool)
         32 => encode_one::<32, 64>(src, dst, upper),
         17..=31 => encode_two::<16, 32>(src, dst, upper),
         33..=64 => encode_two::<32, 64>(src, dst, upper),
-        65..=128 => encode_four::<32, 64>(src, dst, upper),
+        65..=128 => encode_some(src, dst, upper),
         _ => encode_blocks(src, dst, upper),
     }
 }
