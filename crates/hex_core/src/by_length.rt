@@ -4,10 +4,13 @@
 ghost use Rattle.std.specs.Prelude.{◌≡◌, ◌↔◌, ◌*◌, ◌<◌, ◌≤◌, IsTrue, None, length};
 ghost use Rattle.hex_core.specs.Calls.{DecodesWhole};
 ghost use Rattle.hex_core.specs.Search.{first_invalid};
+ghost use Rattle.hex_core.specs.Shapes.{EndsCover};
 ghost use Rattle.hex_core.specs.Text.{Spells};
 
 use crate::blocks::check::{check_block, check_ends, check_long, check_one, check_two};
-use crate::blocks::decode::{decode_four, decode_long, decode_one, decode_two, write_blocks};
+use crate::blocks::decode::{
+    decode_four, decode_long, decode_one, decode_three, decode_two, write_blocks,
+};
 use crate::digit::CheckCase;
 use crate::scalar;
 use crate::vector::{factors, known_factors};
@@ -63,7 +66,7 @@ fn decode_few(src: &[u8], dst: &mut [u8], case: CheckCase) -> bool
     }
 }
 
-// The same of more than 128 digits. Up to 256 are held in registers.
+// The same of more than 128 digits.
 #[inline(never)]
 fn decode_more(src: &[u8], dst: &mut [u8], case: CheckCase) -> bool
     requires twice { length src.now ≡ 2 * length dst.old }
@@ -71,9 +74,24 @@ fn decode_more(src: &[u8], dst: &mut [u8], case: CheckCase) -> bool
     ensures { DecodesWhole case src.now dst.old dst.new result }
 {
     if src.len() <= 256 {
-        decode_four::<64, 32>(src, dst, case, factors(src[0]))
+        decode_held(src, dst, case)
     } else {
         decode_long(src, dst, case)
+    }
+}
+
+/// The same of 128 to 256 digits, held in registers.
+#[inline(always)]
+pub fn decode_held(src: &[u8], dst: &mut [u8], case: CheckCase) -> bool
+    requires twice { length src.now ≡ 2 * length dst.old }
+    requires covered { EndsCover 128 src.now }
+    ensures { DecodesWhole case src.now dst.old dst.new result }
+{
+    let factors = factors(src[0]);
+    if src.len() <= 192 {
+        decode_three::<64, 32>(src, dst, case, factors)
+    } else {
+        decode_four::<64, 32>(src, dst, case, factors)
     }
 }
 

@@ -5,7 +5,7 @@ ghost use Rattle.std.specs.Prelude.{◌≡◌, ◌*◌, ◌%◌, ◌≤◌, leng
 ghost use Rattle.hex_core.specs.Calls.{DecodesOwned};
 ghost use Rattle.hex_core.specs.Shapes.{EndsCover, InBlocks};
 
-use crate::blocks::decode::{DecodeBlock, TwoVectors, decode_blocks, decode_four};
+use crate::blocks::decode::{DecodeBlock, TwoVectors, decode_blocks};
 use crate::by_length;
 use crate::digit::CheckCase;
 use crate::vector::factors;
@@ -39,8 +39,7 @@ where
     requires covered { EndsCover 128 src.now }
     ensures { DecodesOwned (2 * SIZE) case src.now dst.old dst.new result }
 {
-    decode_four::<64, 32>(src, dst, case, factors(src[0]))
-        || decode_in_order::<B, SIZE>(src, dst, case)
+    by_length::decode_held(src, dst, case) || decode_in_order::<B, SIZE>(src, dst, case)
 }
 
 // The same, a block behind the other.

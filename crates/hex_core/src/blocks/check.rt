@@ -103,26 +103,30 @@ fn check_few<const N: usize>(src: &[u8], case: CheckCase) -> bool
     requires { HasBlock N src.now }
     ensures { IsTrue result ↔ (first_invalid case src.now ≡ None) }
 {
-    if 4 * N <= src.len() && src.len() <= RUN * N {
+    let len = src.len();
+    if 3 * N <= len && len <= 6 * N {
+        check_ends::<N, 3>(src, case)
+    } else if 6 * N < len && len <= RUN * N {
         check_ends::<N, 4>(src, case)
     } else {
         check_blocks::<N>(src, case)
     }
 }
 
-// The same by runs as long as there is one.
+// The same by runs, and what is behind them as a short source of a block or more.
 #[inline(never)]
 fn check_runs<const N: usize>(src: &[u8], case: CheckCase) -> bool
     requires { HasBlock N src.now }
     ensures { IsTrue result ↔ (first_invalid case src.now ≡ None) }
 {
-    let runs = (src.len() - N) / (RUN * N);
+    let runs = src.len() / (RUN * N);
     'turns: for i in 0..runs {
         if !is_low(reach_of::<N, RUN>(src, i * (RUN * N), case)) {
             return false;
         }
     }
-    check_few::<N>(&src[runs * (RUN * N)..], case)
+    let done = runs * (RUN * N);
+    done == src.len() || check_few::<N>(&src[done.min(src.len() - N)..], case)
 }
 
 /// Whether every byte of a source of `N` bytes or more has a value.

@@ -88,7 +88,21 @@ fn write_turn(src: &[u8], dst: &mut [u8], at: usize, case: CheckCase, factors: u
     write_at::<64, 32>(src, dst, at + 96, case, factors);
 }
 
-/// Writes the bytes that a valid source of 256 digits or more spells.
+// The same of so many blocks of 64 digits.
+#[inline(always)]
+fn write_some(src: &[u8], dst: &mut [u8], at: usize, count: usize, case: CheckCase, factors: u16x32)
+    requires factors { factors ≡ pair_factors 32 }
+    requires room { HasRoom at (count * 32) src.now dst.old }
+    requires valid { first_invalid case src.now ≡ None }
+    ensures { DecodesRange case src.now dst.old dst.new at (at + count * 32) }
+{
+    'turns: for i in 0..count {
+        write_at::<64, 32>(src, dst, at + i * 32, case, factors);
+    }
+}
+
+/// Writes the bytes that a valid source of 256 digits or more spells: in turns, behind them block by
+/// block, and last the block that it ends with.
 #[inline(never)]
 pub fn write_blocks(src: &[u8], dst: &mut [u8], case: CheckCase)
     requires least { 256 ≤ length src.now }
@@ -97,12 +111,15 @@ pub fn write_blocks(src: &[u8], dst: &mut [u8], case: CheckCase)
     ensures { Spells case src.now dst.new }
 {
     let factors = factors(src[0]);
-    'turns: for i in 0..dst.len() / 128 {
+    let turns = dst.len() / 128;
+    'turns: for i in 0..turns {
         write_turn(src, dst, i * 128, case, factors);
     }
-    if dst.len() % 128 != 0 {
-        let at = dst.len() - 128;
-        write_turn(src, dst, at, case, factors);
+    let blocks = dst.len() / 32 - 4 * turns;
+    write_some(src, dst, turns * 128, blocks, case, factors);
+    if dst.len() % 32 != 0 {
+        let at = dst.len() - 32;
+        write_at::<64, 32>(src, dst, at, case, factors);
     }
 }
 
@@ -175,6 +192,34 @@ where
     }
     let end = dst.len();
     put_two(front, back, factors, dst, 0, end);
+    true
+}
+
+/// Decodes a source of `2 * N` to `3 * N` digits: all of it is tested before the first store.
+#[inline(always)]
+pub fn decode_three<const N: usize, const HALF: usize>(
+    src: &[u8],
+    dst: &mut [u8],
+    case: CheckCase,
+    factors: Simd<u16, HALF>,
+) -> bool
+where
+    Lanes: Pack<N, HALF>,
+    requires factors { factors ≡ pair_factors HALF }
+    requires sizes { Halves N HALF src.now dst.old }
+    requires least { 2 * N ≤ length src.now }
+    requires most { length src.now ≤ 3 * N }
+    ensures { DecodesWhole case src.now dst.old dst.new result }
+{
+    let first = nibbles_at::<N>(src, 0, case);
+    let second = nibbles_at::<N>(src, N, case);
+    let last = nibbles_at::<N>(src, src.len() - N, case);
+    if !is_small(either(either(first, second), last)) {
+        return false;
+    }
+    let end = dst.len();
+    put_two(first, second, factors, dst, 0, N);
+    put(last, factors, dst, end - HALF);
     true
 }
 

@@ -7,7 +7,8 @@ turns-preserved c = decodes_next c.turns.i 128 c.turns.invariant c.write_turn.en
 
 pub returns-then-dst-ne0 : goal.returns-then-dst-ne0
 returns-then-dst-ne0 c =
-    decodes_whole (decodes_over c.turns.invariant c.write_turn-then-dst-ne0.ensures (omega arith) (omega arith) (omega arith)) (omega arith) (omega arith)
+    let whole = decodes_over c.turns.invariant c.write_some.ensures (omega arith) (omega arith) (omega arith) in
+    decodes_whole (decodes_over whole c.write_at.ensures (omega arith) (omega arith) (omega arith)) (omega arith) (omega arith)
 
 pub returns-else-dst-ne0 : goal.returns-else-dst-ne0
-returns-else-dst-ne0 c = decodes_whole c.turns.invariant (omega arith) (omega arith)
+returns-else-dst-ne0 c = decodes_whole (decodes_over c.turns.invariant c.write_some.ensures (omega arith) (omega arith) (omega arith)) (omega arith) (omega arith)
