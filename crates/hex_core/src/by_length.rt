@@ -21,7 +21,8 @@ pub fn check(src: &[u8], case: CheckCase) -> bool
     ensures { IsTrue result ↔ (first_invalid case src.now ≡ None) }
 {
     match src.len() {
-        0..16 => scalar::check(src, case),
+        0..4 => scalar::check(src, case),
+        4..16 => check_least(src, case),
         16 => check_one::<16>(src, case),
         17..=32 => check_two::<16>(src, case),
         64 => check_block(src, case),
@@ -29,6 +30,20 @@ pub fn check(src: &[u8], case: CheckCase) -> bool
         65..=128 => check_two::<64>(src, case),
         129..=256 => check_ends::<64, 2>(src, case),
         _ => check_long::<64>(src, case),
+    }
+}
+
+// The same of 4 to 15 bytes.
+#[inline(never)]
+fn check_least(src: &[u8], case: CheckCase) -> bool
+    requires least { 4 ≤ length src.now }
+    requires most { length src.now < 16 }
+    ensures { IsTrue result ↔ (first_invalid case src.now ≡ None) }
+{
+    if src.len() < 8 {
+        check_two::<4>(src, case)
+    } else {
+        check_two::<8>(src, case)
     }
 }
 
@@ -61,8 +76,23 @@ fn decode_few(src: &[u8], dst: &mut [u8], case: CheckCase) -> bool
     match src.len() {
         16 => decode_one::<16, 8>(src, dst, case, known_factors()),
         32 => decode_one::<32, 16>(src, dst, case, known_factors()),
-        0..16 => scalar::decode_short(src, dst, case),
+        0..16 => decode_least(src, dst, case),
         _ => decode_two::<16, 8>(src, dst, case, known_factors()),
+    }
+}
+
+// The same of fewer than 16 digits.
+#[inline(never)]
+fn decode_least(src: &[u8], dst: &mut [u8], case: CheckCase) -> bool
+    requires twice { length src.now ≡ 2 * length dst.old }
+    requires least { length src.now < 16 }
+    ensures { DecodesWhole case src.now dst.old dst.new result }
+{
+    match src.len() {
+        8..16 => decode_two::<8, 4>(src, dst, case, known_factors()),
+        4..8 => decode_two::<4, 2>(src, dst, case, known_factors()),
+        2 => scalar::decode_pair(src, dst, case),
+        _ => true,
     }
 }
 

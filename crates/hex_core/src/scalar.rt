@@ -72,25 +72,19 @@ pub fn decode(src: &[u8], dst: &mut [u8], case: CheckCase) -> bool
     true
 }
 
-/// The same of fewer than 16 digits, in one pass: the bytes are kept aside until every pair was
-/// looked up.
-#[inline(never)]
-pub fn decode_short(src: &[u8], dst: &mut [u8], case: CheckCase) -> bool
-    requires twice { length src.now ≡ 2 * length dst.old }
-    requires few { length dst.old ≤ 7 }
+/// The same of one pair of digits.
+#[inline(always)]
+pub fn decode_pair(src: &[u8], dst: &mut [u8], case: CheckCase) -> bool
+    requires { (length src.now ≡ 2) × (length dst.old ≡ 1) }
     ensures { DecodesWhole case src.now dst.old dst.new result }
 {
     let values = values_of(case);
-    let mut kept = [0u8; 7];
-    'pairs: for i in 0..dst.len() {
-        let high = values[src[2 * i] as usize];
-        let low = values[src[2 * i + 1] as usize];
-        if high == NIL || low == NIL {
-            return false;
-        }
-        kept[i] = packed(high, low);
+    let high = values[src[0] as usize];
+    let low = values[src[1] as usize];
+    if high == NIL || low == NIL {
+        return false;
     }
-    dst.copy_from_slice(&kept[..dst.len()]);
+    dst[0] = packed(high, low);
     true
 }
 

@@ -216,6 +216,28 @@ pub trait Pack<const N: usize, const HALF: usize> {
         ensures { result ≡ packed v.entry };
 }
 
+impl Pack<4, 2> for Lanes {
+    #[inline(always)]
+    fn pack(v: u8x4, factors: u16x2) -> u8x2
+        requires small { AreSmall v }
+        requires factors { factors ≡ pair_factors 2 }
+        ensures { result ≡ packed v }
+    {
+        pair_bytes(u16x2::from_le_bytes(v), factors)
+    }
+}
+
+impl Pack<8, 4> for Lanes {
+    #[inline(always)]
+    fn pack(v: u8x8, factors: u16x4) -> u8x4
+        requires small { AreSmall v }
+        requires factors { factors ≡ pair_factors 4 }
+        ensures { result ≡ packed v }
+    {
+        pair_bytes(u16x4::from_le_bytes(v), factors)
+    }
+}
+
 impl Pack<16, 8> for Lanes {
     #[inline(always)]
     fn pack(v: u8x16, factors: u16x8) -> u8x8

@@ -1,9 +1,9 @@
-use Rattle.std.proofs.Common.{ℕ, List, ◌+◌, ◌-◌, ◌*◌, ◌/◌, ◌≤◌, length, refl, subst, arith}
+use Rattle.std.proofs.Common.{ℕ, List, ◌+◌, ◌*◌, ◌/◌, ◌≤◌, length, subst, arith}
 use Rattle.std.proofs.lemmas.Bool.Decides.{nat_tests}
 use std.Logic.{↔_trans}
 use Rattle.hex_core.specs.declared.digit.CheckCase.{CheckCase}
 use Rattle.hex_core.specs.Search.{AllValid}
-use Rattle.hex_core.proofs.BlockLemmas.{block_inside, blocks_within, part_fails, rest_none, valid_whole}
+use Rattle.hex_core.proofs.BlockLemmas.{block_inside, part_fails, rest_none, valid_whole}
 use Rattle.hex_core.proofs.blocks.check.check_runs.Goals as goal
 
 pub returns-then-not-is_low : goal.returns-then-not-is_low
