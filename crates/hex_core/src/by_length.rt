@@ -21,8 +21,7 @@ pub fn check(src: &[u8], case: CheckCase) -> bool
     ensures { IsTrue result ↔ (first_invalid case src.now ≡ None) }
 {
     match src.len() {
-        0..4 => scalar::check(src, case),
-        4..16 => check_least(src, case),
+        0..16 => check_least(src, case),
         16 => check_one::<16>(src, case),
         17..=32 => check_two::<16>(src, case),
         64 => check_block(src, case),
@@ -33,17 +32,16 @@ pub fn check(src: &[u8], case: CheckCase) -> bool
     }
 }
 
-// The same of 4 to 15 bytes.
+// The same of fewer than 16 bytes.
 #[inline(never)]
 fn check_least(src: &[u8], case: CheckCase) -> bool
-    requires least { 4 ≤ length src.now }
-    requires most { length src.now < 16 }
+    requires { length src.now < 16 }
     ensures { IsTrue result ↔ (first_invalid case src.now ≡ None) }
 {
-    if src.len() < 8 {
-        check_two::<4>(src, case)
-    } else {
-        check_two::<8>(src, case)
+    match src.len() {
+        8..16 => check_two::<8>(src, case),
+        4..8 => check_two::<4>(src, case),
+        _ => scalar::check(src, case),
     }
 }
 
