@@ -21,7 +21,7 @@
 #define TURNS_NS 30000
 #define LARGEST 65536
 
-static const size_t sizes[] = {8, 16, 32, 64, 100, 256, 1024, 4096, LARGEST};
+static const size_t sizes[] = {8, 16, 32, 64, 72, 100, 150, 256, 1024, 4096, LARGEST};
 #define SIZES (sizeof sizes / sizeof *sizes)
 
 // What a call works on. One that checks, and one that decodes into memory of its own, is given no
