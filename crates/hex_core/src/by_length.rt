@@ -21,7 +21,7 @@ pub fn check(src: &[u8], case: CheckCase) -> bool
     ensures { IsTrue result ↔ (first_invalid case src.now ≡ None) }
 {
     match src.len() {
-        0..16 => check_least(src, case),
+        0..16 => check_short(src, case),
         16 => check_one::<16>(src, case),
         17..=32 => check_two::<16>(src, case),
         64 => check_block(src, case),
@@ -35,7 +35,7 @@ pub fn check(src: &[u8], case: CheckCase) -> bool
 
 // The same of fewer than 16 bytes.
 #[inline(never)]
-fn check_least(src: &[u8], case: CheckCase) -> bool
+fn check_short(src: &[u8], case: CheckCase) -> bool
     requires { length src.now < 16 }
     ensures { IsTrue result ↔ (first_invalid case src.now ≡ None) }
 {
@@ -75,16 +75,16 @@ fn decode_few(src: &[u8], dst: &mut [u8], case: CheckCase) -> bool
     match src.len() {
         16 => decode_one::<16, 8>(src, dst, case, known_factors()),
         32 => decode_one::<32, 16>(src, dst, case, known_factors()),
-        0..16 => decode_least(src, dst, case),
+        0..16 => decode_short(src, dst, case),
         _ => decode_two::<16, 8>(src, dst, case, known_factors()),
     }
 }
 
 // The same of fewer than 16 digits.
 #[inline(never)]
-fn decode_least(src: &[u8], dst: &mut [u8], case: CheckCase) -> bool
+fn decode_short(src: &[u8], dst: &mut [u8], case: CheckCase) -> bool
     requires twice { length src.now ≡ 2 * length dst.old }
-    requires least { length src.now < 16 }
+    requires few { length src.now < 16 }
     ensures { DecodesWhole case src.now dst.old dst.new result }
 {
     match src.len() {
@@ -103,7 +103,7 @@ fn decode_more(src: &[u8], dst: &mut [u8], case: CheckCase) -> bool
     ensures { DecodesWhole case src.now dst.old dst.new result }
 {
     if src.len() <= 256 {
-        decode_held(src, dst, case)
+        decode_in_registers(src, dst, case)
     } else {
         decode_long(src, dst, case)
     }
@@ -111,7 +111,7 @@ fn decode_more(src: &[u8], dst: &mut [u8], case: CheckCase) -> bool
 
 /// The same of 128 to 256 digits, held in registers.
 #[inline(always)]
-pub fn decode_held(src: &[u8], dst: &mut [u8], case: CheckCase) -> bool
+pub fn decode_in_registers(src: &[u8], dst: &mut [u8], case: CheckCase) -> bool
     requires twice { length src.now ≡ 2 * length dst.old }
     requires covered { EndsCover 128 src.now }
     ensures { DecodesWhole case src.now dst.old dst.new result }

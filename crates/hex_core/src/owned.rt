@@ -39,7 +39,7 @@ where
     requires covered { EndsCover 128 src.now }
     ensures { DecodesOwned (2 * SIZE) case src.now dst.old dst.new result }
 {
-    by_length::decode_held(src, dst, case) || decode_in_order::<B, SIZE>(src, dst, case)
+    by_length::decode_in_registers(src, dst, case) || decode_in_order::<B, SIZE>(src, dst, case)
 }
 
 // The same, a block behind the other.

@@ -75,7 +75,8 @@ pub fn decode(src: &[u8], dst: &mut [u8], case: CheckCase) -> bool
 /// The same of one pair of digits.
 #[inline(always)]
 pub fn decode_pair(src: &[u8], dst: &mut [u8], case: CheckCase) -> bool
-    requires { (length src.now ≡ 2) × (length dst.old ≡ 1) }
+    requires twice { length src.now ≡ 2 * length dst.old }
+    requires pair { length src.now ≡ 2 }
     ensures { DecodesWhole case src.now dst.old dst.new result }
 {
     let values = values_of(case);

@@ -49,16 +49,6 @@ fn put_text<S: Sink>(sink: &mut S, upper: bool, bytes: &[u8]) -> Result<(), Writ
         let mut buffer = [0; 2 * MIDDLE];
         return put_all(sink, encoded(bytes, upper, &mut buffer));
     }
-    put_long_text(sink, upper, bytes)
-}
-
-// The same of a long source. Its buffer stands apart, since a large frame costs a call that uses little
-// of it.
-#[inline(never)]
-fn put_long_text<S: Sink>(sink: &mut S, upper: bool, bytes: &[u8]) -> Result<(), WriteFault>
-    requires { (S.state sink.old).failures < 2 ^ 64 - 1 }
-    ensures { Puts (S.state sink.old) (S.state sink.new) result (text upper bytes.now) }
-{
     let mut buffer = [0; 2 * CHUNK];
     put_chunks(sink, upper, bytes, &mut buffer)
 }
@@ -98,20 +88,6 @@ fn put_grouped<S: Sink>(
         let mut buffer = [group.sep(); 3 * MIDDLE];
         return put_at_once(sink, upper, group, bytes, &mut buffer);
     }
-    put_long_grouped(sink, upper, group, bytes)
-}
-
-// The same of a long source, a chunk at a time.
-#[inline(never)]
-fn put_long_grouped<S: Sink>(
-    sink: &mut S,
-    upper: bool,
-    group: Group,
-    bytes: &[u8],
-) -> Result<(), WriteFault>
-    requires { (S.state sink.old).failures < 2 ^ 64 - 1 }
-    ensures { Puts (S.state sink.old) (S.state sink.new) result (grouped group upper bytes.now) }
-{
     let mut buffer = [group.sep(); 3 * CHUNK];
     // No separator stands before the first piece.
     let mut from = 1;

@@ -74,23 +74,9 @@ where
     put(valid_nibbles_at::<N>(src, 2 * at, case), factors, dst, at);
 }
 
-// The same of 256 digits: a turn, so that what the compiler knows is read once for four blocks.
-#[inline(always)]
-fn write_turn(src: &[u8], dst: &mut [u8], at: usize, case: CheckCase, factors: u16x32)
-    requires factors { factors ≡ pair_factors 32 }
-    requires room { HasRoom at 128 src.now dst.old }
-    requires valid { first_invalid case src.now ≡ None }
-    ensures { DecodesRange case src.now dst.old dst.new at (at + 128) }
-{
-    write_at::<64, 32>(src, dst, at, case, factors);
-    write_at::<64, 32>(src, dst, at + 32, case, factors);
-    write_at::<64, 32>(src, dst, at + 64, case, factors);
-    write_at::<64, 32>(src, dst, at + 96, case, factors);
-}
-
 // The same of so many blocks of 64 digits.
 #[inline(always)]
-fn write_some(src: &[u8], dst: &mut [u8], at: usize, count: usize, case: CheckCase, factors: u16x32)
+fn write_run(src: &[u8], dst: &mut [u8], at: usize, count: usize, case: CheckCase, factors: u16x32)
     requires factors { factors ≡ pair_factors 32 }
     requires room { HasRoom at (count * 32) src.now dst.old }
     requires valid { first_invalid case src.now ≡ None }
@@ -113,10 +99,10 @@ pub fn write_blocks(src: &[u8], dst: &mut [u8], case: CheckCase)
     let factors = factors(src[0]);
     let turns = dst.len() / 128;
     'turns: for i in 0..turns {
-        write_turn(src, dst, i * 128, case, factors);
+        // So many at a time read once what the compiler knows.
+        write_run(src, dst, i * 128, 4, case, factors);
     }
-    let blocks = dst.len() / 32 - 4 * turns;
-    write_some(src, dst, turns * 128, blocks, case, factors);
+    write_run(src, dst, turns * 128, dst.len() % 128 / 32, case, factors);
     if dst.len() % 32 != 0 {
         let at = dst.len() - 32;
         write_at::<64, 32>(src, dst, at, case, factors);

@@ -61,7 +61,8 @@ const LAST: usize = 16;
 fn encode_rest(src: &[u8], dst: &mut [u8], done: usize, upper: bool)
     requires twice { length dst.old ≡ 2 * length src.now }
     requires least { BLOCK ≤ length src.now }
-    requires left { (done ≤ length src.now) × (length src.now ≤ done + BLOCK) }
+    requires inside { done ≤ length src.now }
+    requires left { length src.now ≤ done + BLOCK }
     requires written { take (2 * done) dst.old ≡ text upper (take done src.now) }
     ensures { dst.new ≡ text upper src.now }
 {

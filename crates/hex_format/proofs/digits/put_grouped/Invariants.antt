@@ -4,7 +4,7 @@ use Rattle.std.specs.Slice.Iter.{chunks_rest, chunks_size}
 use Rattle.hex_codec.specs.Grouped.{piece_len, separated}
 use Rattle.hex_format.specs.Frame.{HasSeparators}
 use Rattle.hex_format.specs.Sink.{Takes}
-use Rattle.hex_format.proofs.digits.put_long_grouped.Given as goal
+use Rattle.hex_format.proofs.digits.put_grouped.Given as goal
 
 abbrev pub invariant-loop-pieces : goal.invariant-loop-pieces
 invariant-loop-pieces g l =
