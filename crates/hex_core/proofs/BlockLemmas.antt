@@ -66,6 +66,13 @@ module _ (c : CheckCase) (s : List ℕ) where
   pub valid_whole : (end : ℕ) → end ≡ length s → AllValid c s 0 end ↔ (first_invalid c s ≡ None)
   valid_whole end all = (λ valid. first_invalid_none c s (rw (← all) valid), valid_range 0 end (omega arith))
 
+  -- where some byte is invalid, a front of valid bytes is not all
+  pub some_behind : (i : ℕ) → ¬ (first_invalid c s ≡ None) → AllValid c s 0 i → i ≤ length s → i < length s
+  some_behind i bad valid le = elim (cases_lt i (length s)) [
+    | inl lt ↦ lt
+    | inr past ↦ absurd (bad ((valid_whole i (omega (arith, le, past))).0 valid))
+  ]
+
   -- whole blocks that are the source
   pub whole_valid : (block : ℕ) → length s % block ≡ 0 → AllValid c s 0 (length s / block * block) → first_invalid c s ≡ None
   whole_valid block e = (valid_whole _ (blocks_end (length s) block e)).0

@@ -155,43 +155,61 @@ fn valid_from<const N: usize>(src: &[u8], at: usize, case: CheckCase) -> usize
     (valid.trailing_ones() as usize).min(N)
 }
 
-// The place of the first byte without a value in the whole blocks of `N` bytes behind a valid front.
+// The place of the first byte without a value in the whole blocks of `N` bytes.
 #[inline(always)]
-fn place_in_blocks<const N: usize>(src: &[u8], front: usize, case: CheckCase) -> Option<usize>
+fn place_in_blocks<const N: usize>(src: &[u8], case: CheckCase) -> Option<usize>
     requires lanes { N ≤ 32 }
     requires some { 1 ≤ N }
-    requires inside { front ≤ length src.now }
-    requires valid { AllValid case src.now 0 front }
     ensures { MatchOption result
-        (AllValid case src.now 0 (front + (length src.now - front) / N * N))
+        (AllValid case src.now 0 (length src.now / N * N))
         (λ place. first_invalid case src.now ≡ Some place) }
 {
-    'turns: for i in 0..(src.len() - front) / N {
-        let at = front + i * N;
-        let valid = valid_from::<N>(src, at, case);
+    'turns: for i in 0..src.len() / N {
+        let valid = valid_from::<N>(src, i * N, case);
         if valid < N {
-            return Some(at + valid);
+            return Some(i * N + valid);
         }
     }
     None
 }
 
-/// The place of the first byte without a value, which the caller shows that there is: by blocks, and
-/// by looks at the last bytes, 15 at most.
+// The same of a block or more where the caller shows that there is such a byte: in the whole blocks, or
+// in the one that the source ends with.
+#[inline(always)]
+fn place_by_blocks<const N: usize>(src: &[u8], case: CheckCase) -> usize
+    requires lanes { N ≤ 32 }
+    requires block { HasBlock N src.now }
+    requires invalid { first_invalid case src.now ≢ None }
+    ensures { first_invalid case src.now ≡ Some result }
+{
+    if let Some(place) = place_in_blocks::<N>(src, case) {
+        return place;
+    }
+    let last = src.len() - N;
+    last + valid_from::<N>(src, last, case)
+}
+
+// The same byte by byte.
+fn place_by_looks(src: &[u8], case: CheckCase) -> usize
+    requires { first_invalid case src.now ≢ None }
+    ensures { first_invalid case src.now ≡ Some result }
+{
+    let mut place = 0;
+    'looks: while has_value(src[place], case) {
+        place += 1;
+    }
+    place
+}
+
+/// The place of the first byte without a value, which the caller shows that there is.
 #[inline(always)]
 pub fn first_place(src: &[u8], case: CheckCase) -> usize
     requires { first_invalid case src.now ≢ None }
     ensures { first_invalid case src.now ≡ Some result }
 {
-    if let Some(place) = place_in_blocks::<32>(src, 0, case) {
-        return place;
+    match src.len() {
+        0..16 => place_by_looks(src, case),
+        16..32 => place_by_blocks::<16>(src, case),
+        _ => place_by_blocks::<32>(src, case),
     }
-    if let Some(place) = place_in_blocks::<16>(src, src.len() / 32 * 32, case) {
-        return place;
-    }
-    let mut place = src.len() / 16 * 16;
-    'looks: while has_value(src[place], case) {
-        place += 1;
-    }
-    place
 }

@@ -1,7 +1,7 @@
 -- The bytes before this place are valid.
 use Rattle.std.proofs.Common.{◌-◌, ◌≤◌, length}
 use Rattle.hex_core.specs.Search.{AllValid}
-use Rattle.hex_core.proofs.blocks.check.first_place.Given as goal
+use Rattle.hex_core.proofs.blocks.check.place_by_looks.Given as goal
 
 abbrev pub invariant-looks : goal.invariant-looks
 invariant-looks l = record {
