@@ -27,8 +27,8 @@ pub fn check(src: &[u8], case: CheckCase) -> bool
         64 => check_block(src, case),
         33..64 => check_two::<32>(src, case),
         65..=128 => check_two::<64>(src, case),
-        129..=192 => check_ends::<32, 3>(src, case),
-        193..=256 => check_ends::<64, 2>(src, case),
+        129..=192 => check_ends::<32, 3, 3>(src, case),
+        193..=256 => check_ends::<64, 2, 2>(src, case),
         _ => check_long::<64>(src, case),
     }
 }

@@ -68,15 +68,21 @@ fn reach_of<const N: usize, const K: usize>(src: &[u8], at: usize, case: CheckCa
     farthest
 }
 
-/// Whether every byte of a source of `K` to `2 * K` blocks has a value, by one test.
+/// Whether every byte of a source of `K` to `K + L` blocks has a value, by one test of its first `K` and
+/// its last `L`.
 #[inline(never)]
-pub fn check_ends<const N: usize, const K: usize>(src: &[u8], case: CheckCase) -> bool
-    requires some { 1 ≤ K }
-    requires covered { EndsCover (K * N) src.now }
+pub fn check_ends<const N: usize, const K: usize, const L: usize>(
+    src: &[u8],
+    case: CheckCase,
+) -> bool
+    requires some { 1 ≤ L }
+    requires less { L ≤ K }
+    requires least { K * N ≤ length src.now }
+    requires most { length src.now ≤ K * N + L * N }
     ensures { IsTrue result ↔ (first_invalid case src.now ≡ None) }
 {
     let front = reach_of::<N, K>(src, 0, case);
-    let back = reach_of::<N, K>(src, src.len() - K * N, case);
+    let back = reach_of::<N, L>(src, src.len() - L * N, case);
     is_low(larger(front, back))
 }
 
@@ -104,12 +110,14 @@ fn check_few<const N: usize>(src: &[u8], case: CheckCase) -> bool
     ensures { IsTrue result ↔ (first_invalid case src.now ≡ None) }
 {
     let len = src.len();
-    if 3 * N <= len && len <= 6 * N {
-        check_ends::<N, 3>(src, case)
-    } else if 6 * N < len && len <= RUN * N {
-        check_ends::<N, 4>(src, case)
-    } else {
+    if len < 3 * N || RUN * N < len {
         check_blocks::<N>(src, case)
+    } else if len <= 5 * N {
+        check_ends::<N, 3, 2>(src, case)
+    } else if len <= 6 * N {
+        check_ends::<N, 3, 3>(src, case)
+    } else {
+        check_ends::<N, 4, 4>(src, case)
     }
 }
 
