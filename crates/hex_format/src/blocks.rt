@@ -76,20 +76,6 @@ impl PlacesOf<2, 40> for ByPlaces {
     }
 }
 
-impl PlacesOf<4, 36> for ByPlaces {
-    #[inline(always)]
-    fn places() -> Places {
-        let front = u8x16::from_array([SEP, 0, 1, 2, 3, 4, 5, 6, 7, SEP, 8, 9, 10, 11, 12, 13]);
-        let middle = u8x16::from_array([8, 9, 10, 11, 12, 13, 14, 15, SEP, 0, 1, 2, 3, 4, 5, 6]);
-        let back = u8x16::from_array([1, 2, 3, 4, 5, 6, 7, SEP, 8, 9, 10, 11, 12, 13, 14, 15]);
-        Places {
-            front,
-            middle,
-            back,
-        }
-    }
-}
-
 /// Blocks and their halves where these are whole pieces, each written behind a separator that is there
 /// before.
 pub trait SeparateBlock<const EVERY: usize, const OUT: usize> {
@@ -121,6 +107,50 @@ where
     fn separate_half(bytes: &[u8; HALF], upper: bool, group: Group, out: &mut [u8]) {
         let places = <ByPlaces as PlacesOf<EVERY, OUT>>::places();
         put_placed(bytes, upper, group.sep(), places, out);
+    }
+}
+
+/// Pieces of four bytes. The first sixteen digits of a half are stored behind the separator that is there,
+/// which is right for the first eight; the middle is written over the others.
+pub struct ByFours;
+
+// Where the middle has its digits from, which begins with the second separator, and where the back has.
+const MIDDLE_OF_FOURS: [u8; 16] = [SEP, 8, 9, 10, 11, 12, 13, 14, 15, SEP, 0, 1, 2, 3, 4, 5];
+
+const BACK_OF_FOURS: [u8; 16] = [1, 2, 3, 4, 5, 6, 7, SEP, 8, 9, 10, 11, 12, 13, 14, 15];
+
+impl SeparateBlock<4, 36> for ByFours {
+    #[inline(always)]
+    fn separate(bytes: &[u8; BLOCK], upper: bool, group: Group, out: &mut [u8]) {
+        let sep = group.sep();
+        let (first, last) = encode_halves(bytes, upper);
+        let inner = inner_halves(first, last, sep);
+        let middle = unknown(u8x16::from_array(MIDDLE_OF_FOURS), sep);
+        let back = unknown(u8x16::from_array(BACK_OF_FOURS), sep);
+        let middles = placed_twice(inner, middle, sep);
+        let backs = placed_twice(last, back, sep);
+        first.extract::<0, 16>().copy_to_slice(&mut out[1..]);
+        backs.0.copy_to_slice(&mut out[20..]);
+        middles.0.copy_to_slice(&mut out[9..]);
+        first.extract::<16, 16>().copy_to_slice(&mut out[37..]);
+        backs.1.copy_to_slice(&mut out[56..]);
+        middles.1.copy_to_slice(&mut out[45..]);
+    }
+
+    #[inline(always)]
+    fn separate_half(bytes: &[u8; HALF], upper: bool, group: Group, out: &mut [u8]) {
+        let sep = group.sep();
+        let digits = encode_16(bytes, upper);
+        let first = u8x16::from_slice(&digits);
+        let last = u8x16::from_slice(&digits[HALF..]);
+        let middle = placed(
+            inner_half(first, last),
+            u8x16::from_array(MIDDLE_OF_FOURS),
+            sep,
+        );
+        first.copy_to_slice(&mut out[1..]);
+        placed(last, u8x16::from_array(BACK_OF_FOURS), sep).copy_to_slice(&mut out[20..]);
+        middle.copy_to_slice(&mut out[9..]);
     }
 }
 
@@ -245,8 +275,19 @@ fn encode_halves(bytes: &[u8; BLOCK], upper: bool) -> (u8x32, u8x32)
     (look_up_within(rows, first), look_up_within(rows, last))
 }
 
-// In each half the first eight lanes are those of `last`, and the others those of `first`. Shuffles bound
-// the loop, and of a choice that it knows the compiler makes one: it does not know how small `sep` is.
+// The first eight lanes of `last`, and the last eight of `first`.
+#[inline(always)]
+fn inner_half(first: u8x16, last: u8x16) -> u8x16
+    ensures { result ≡ chunk 0 8 last ++ chunk 8 8 first }
+{
+    first.shuffle(
+        last,
+        [16, 17, 18, 19, 20, 21, 22, 23, 8, 9, 10, 11, 12, 13, 14, 15],
+    )
+}
+
+// The same of each half of wide vectors. Shuffles bound the loop, and of a choice that it knows the
+// compiler makes one: it does not know how small `sep` is.
 #[inline(always)]
 fn inner_halves(first: u8x32, last: u8x32, sep: u8) -> u8x32
     requires { sep < SEP }
@@ -295,13 +336,9 @@ fn put_placed(bytes: &[u8; HALF], upper: bool, sep: u8, places: Places, out: &mu
     let digits = encode_16(bytes, upper);
     let first = u8x16::from_slice(&digits);
     let last = u8x16::from_slice(&digits[HALF..]);
-    let inner = first.shuffle(
-        last,
-        [16, 17, 18, 19, 20, 21, 22, 23, 8, 9, 10, 11, 12, 13, 14, 15],
-    );
     put_parts(
         placed(first, places.front, sep),
-        placed(inner, places.middle, sep),
+        placed(inner_half(first, last), places.middle, sep),
         placed(last, places.back, sep),
         (out.len() - HALF) / 2,
         out,

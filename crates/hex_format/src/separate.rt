@@ -4,7 +4,7 @@ ghost use Rattle.std.specs.Prelude.{◌≡◌, ◌*◌, ◌%◌, ◌≤◌, leng
 ghost use Rattle.hex_codec.specs.Grouped.{piece_len, separated};
 ghost use Rattle.hex_format.specs.Frame.{HasSeparators, WritesFront};
 
-use crate::blocks::{BLOCK, ByPieces, ByPlaces, HALF, SeparateBlock};
+use crate::blocks::{BLOCK, ByFours, ByPieces, ByPlaces, HALF, SeparateBlock};
 use hex_codec::Group;
 use hex_core::Backend;
 use hex_core::lanes::encode_8;
@@ -27,7 +27,7 @@ pub fn write_pieces(bytes: &[u8], upper: bool, group: Group, buffer: &mut [u8]) 
     match group.every() {
         1 => write_blocks::<ByPlaces, 1, 48>(bytes, upper, group, buffer),
         2 => write_blocks::<ByPlaces, 2, 40>(bytes, upper, group, buffer),
-        4 => write_blocks::<ByPlaces, 4, 36>(bytes, upper, group, buffer),
+        4 => write_blocks::<ByFours, 4, 36>(bytes, upper, group, buffer),
         8 => write_blocks::<ByPieces, 8, 34>(bytes, upper, group, buffer),
         16 => write_blocks::<ByPieces, 16, 33>(bytes, upper, group, buffer),
         3..=7 => write_short(bytes, upper, group, buffer),
