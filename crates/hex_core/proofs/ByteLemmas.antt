@@ -9,6 +9,7 @@ use Rattle.std.proofs.lemmas.List.{get_or-map, length-map}
 use Rattle.std.proofs.lemmas.Nat.{and_mask}
 use Rattle.std.proofs.lemmas.Nat.Bits.{bit_at-suc, bit_at-trailing_ones, bit_at_lowest, bit_at_ones}
 use Rattle.std.proofs.lemmas.Simd.{bit_mask_l, mask_l-lt}
+use lib.Count.{count_trailing_zeros}
 use lib.Lanes.{Each1, mask_l, zip2}
 use Rattle.hex_core.specs.declared.digit.CheckCase.{CheckCase}
 use Rattle.hex_core.specs.declared.digit.CheckCase.TheVariants as policy
@@ -177,8 +178,19 @@ no_value : (o : Option ℕ) → ¬ IsSome o → o ≡ None
 no_value (Some x) none = absurd (none refl)
 no_value None none = refl
 
-pub invalid_behind : (c : CheckCase) (v : List ℕ) (m n : ℕ) → m ≡ mask_l (map (has c) v) → length v ≡ n → n ≤ 32 → trailing_ones w64 m < n → value c (get_or v (trailing_ones w64 m) 0) ≡ None
+all_ones : trailing_ones w64 (2 ^ 64 - 1) ≡ 64
+unfolding count_trailing_zeros
+all_ones = refl
+
+pub invalid_behind : (c : CheckCase) (v : List ℕ) (m n : ℕ) → m ≡ mask_l (map (has c) v) → length v ≡ n → n ≤ 64 → trailing_ones w64 m < n → value c (get_or v (trailing_ones w64 m) 0) ≡ None
 invalid_behind c v m n is long small lt =
-    let fits : m < 2 ^ 32 = omega (arith, mask_below c v m n is long, pow_mono {i = n} {j = 32} small) in
-    let clear = (bit_at-trailing_ones w64 m (omega arith)).1 in
-    no_value (value c (get_or v (trailing_ones w64 m) 0)) (λ some. let set = (admits c v m is (trailing_ones w64 m) (omega arith)).1 some in absurd (omega arith))
+    let fits : m < 2 ^ 64 = omega (arith, mask_below c v m n is long, pow_mono {i = n} {j = 64} small) in
+    elim (cases_lt (m + 1) (2 ^ 64)) [
+      | inl less ↦
+          let clear = (bit_at-trailing_ones w64 m less).1 in
+          no_value (value c (get_or v (trailing_ones w64 m) 0)) (λ some. let set = (admits c v m is (trailing_ones w64 m) (omega arith)).1 some in absurd (omega arith))
+      | inr full ↦
+          let all : m ≡ 2 ^ 64 - 1 = omega (arith, fits, full) in
+          let ones : trailing_ones w64 m ≡ 64 = ap (trailing_ones w64) all ∙ all_ones in
+          absurd (omega (arith, ones, lt, small))
+    ]

@@ -153,7 +153,7 @@ pub fn check_long<const N: usize>(src: &[u8], case: CheckCase) -> bool
 // How many of `N` bytes from `at` on stand before the first one without a value.
 #[inline(always)]
 fn valid_from<const N: usize>(src: &[u8], at: usize, case: CheckCase) -> usize
-    requires lanes { N ≤ 32 }
+    requires lanes { N ≤ 64 }
     requires inside { at + N ≤ length src.now }
     ensures most { result ≤ N }
     ensures valid { AllValid case src.now at (at + result) }
@@ -166,7 +166,7 @@ fn valid_from<const N: usize>(src: &[u8], at: usize, case: CheckCase) -> usize
 // The place of the first byte without a value in the whole blocks of `N` bytes.
 #[inline(always)]
 fn place_in_blocks<const N: usize>(src: &[u8], case: CheckCase) -> Option<usize>
-    requires lanes { N ≤ 32 }
+    requires lanes { N ≤ 64 }
     requires some { 1 ≤ N }
     ensures { MatchOption result
         (AllValid case src.now 0 (length src.now / N * N))
@@ -185,7 +185,7 @@ fn place_in_blocks<const N: usize>(src: &[u8], case: CheckCase) -> Option<usize>
 // in the one that the source ends with.
 #[inline(always)]
 fn place_by_blocks<const N: usize>(src: &[u8], case: CheckCase) -> usize
-    requires lanes { N ≤ 32 }
+    requires lanes { N ≤ 64 }
     requires block { HasBlock N src.now }
     requires invalid { first_invalid case src.now ≢ None }
     ensures { first_invalid case src.now ≡ Some result }
@@ -218,6 +218,7 @@ pub fn first_place(src: &[u8], case: CheckCase) -> usize
     match src.len() {
         0..16 => place_by_looks(src, case),
         16..32 => place_by_blocks::<16>(src, case),
-        _ => place_by_blocks::<32>(src, case),
+        32..64 => place_by_blocks::<32>(src, case),
+        _ => place_by_blocks::<64>(src, case),
     }
 }
