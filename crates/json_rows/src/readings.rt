@@ -3,7 +3,7 @@
 ghost use Rattle.std.specs.Prelude.{◌<◌};
 
 use crate::places::Place;
-use crate::terms::{Answer, Buffers, answer, value};
+use crate::terms::{Answer, Buffers, answer, field_of, json, value};
 use row_reader::Words;
 use serde_json::Value;
 use std::alloc::Global;
@@ -54,6 +54,7 @@ impl Counted<'_> {
             32 => Some(self.is_so::<32>()),
             33 => Some(self.is_so::<33>()),
             64 => Some(self.is_so::<64>()),
+            129 => Some(self.is_so::<129>()),
             300 => Some(self.is_so::<300>()),
             _ => None,
         }
@@ -73,20 +74,21 @@ pub fn read_row(
     } else {
         row.take_number()
     };
-    row.take_bytes(&mut buffers.given);
+    let name = json(row, &mut buffers.given);
     let want = answer(wanted, place.found(), &mut buffers.wanted);
-    let value = value(alloc, buffers.given.as_slice())?;
+    let whole = value(alloc, buffers.given.as_slice())?;
+    let value = field_of(&whole, name)?;
     if reading == Reading::Whole {
-        return Some(place.reads(alloc, &value, want));
+        return Some(place.reads(alloc, value, want));
     }
     if count == usize::MAX && reading == Reading::Within {
-        return Some(place.reads_within::<{ usize::MAX }>(alloc, &value, want));
+        return Some(place.reads_within::<{ usize::MAX }>(alloc, value, want));
     }
     let counted = Counted {
         alloc,
         place,
         is_array: reading == Reading::Array,
-        value: &value,
+        value,
         want,
     };
     counted.is_answered(count)

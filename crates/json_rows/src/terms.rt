@@ -104,6 +104,29 @@ pub fn value(alloc: Global, json: &[u8]) -> Option<Value> {
     Value::from_str(alloc, str::from_utf8(json).ok()?).ok()
 }
 
+/// Reads a JSON text into `bytes`, or `field NAME OBJECT`, where the object is written as it is.
+/// Returns the name, if there is one.
+pub fn json<'a>(row: &mut Words<'a>, bytes: &mut Bytes) -> Option<&'a [u8]> {
+    if !row.takes(b"field") {
+        row.take_bytes(bytes);
+        return None;
+    }
+    let name = row.next();
+    bytes.clear();
+    if bytes.try_extend_from_slice(row.next()).is_err() {
+        row.misread();
+    }
+    Some(name)
+}
+
+/// Returns the value of the field of this name, or the whole value where there is no name.
+pub fn field_of<'a>(value: &'a Value, name: Option<&[u8]>) -> Option<&'a Value> {
+    match name {
+        Some(name) => value.get(str::from_utf8(name).ok()?),
+        None => Some(value),
+    }
+}
+
 // Reads a refusal by the codec.
 fn codec_refusal(answer: &mut Words<'_>) -> Error {
     if answer.takes(b"invalid") {

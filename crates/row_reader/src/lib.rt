@@ -5,6 +5,8 @@
 //! with `#` says what the rows below it show.
 #![tactic(auto)]
 
+mod cursor;
+pub mod formula;
 pub mod notation;
 mod words;
 

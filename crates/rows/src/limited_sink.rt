@@ -1,4 +1,4 @@
-//! A sink that takes a number of bytes and then fails, in one of five ways.
+//! Sinks that take what is put in four ways, three of which fail.
 
 ghost use Rattle.std.specs.Prelude.{◌≡◌, ◌+◌, ◌≤◌, None};
 
@@ -7,27 +7,26 @@ use hex_format::{Sink, SinkFault, WriteFault};
 /// How many bytes a [`LimitedSink`] can take at most.
 pub const CAPACITY: usize = 1100;
 
-/// What a [`LimitedSink`] takes of a piece.
+/// What a [`LimitedSink`] takes of a piece, where its limit is the number of bytes that it takes in
+/// all.
 #[derive(Clone, Copy, PartialEq, Eq)]
 pub enum Mode {
-    /// One byte a put, and none where the limit is reached.
+    /// One byte a put.
     OneByte,
-    /// A piece that fits; any other is refused and nothing of it taken.
-    WholePieces,
-    /// A piece that fits; of any other what fits, and then it is refused.
-    PartAndRefusal,
+    /// What fits; a put where the limit is reached is refused, also of an empty piece.
+    ThenRefuses,
+    /// What fits, and a piece that does not fit whole is refused.
+    RefusesTheRest,
     /// What fits, and none where the limit is reached.
-    WhatFits,
-    /// Nothing: each put is refused, also of an empty piece.
-    Nothing,
+    ThenTakesNone,
 }
 
 impl Mode {
     /// Returns the fault that a put into a sink that fails in this way is told as.
     pub fn fault(self) -> WriteFault {
         match self {
-            Mode::OneByte | Mode::WhatFits => WriteFault::TookNothing,
-            Mode::WholePieces | Mode::PartAndRefusal | Mode::Nothing => WriteFault::Sink(SinkFault),
+            Mode::OneByte | Mode::ThenTakesNone => WriteFault::TookNothing,
+            Mode::ThenRefuses | Mode::RefusesTheRest => WriteFault::Sink(SinkFault),
         }
     }
 }
@@ -60,18 +59,9 @@ impl LimitedSink {
         }
     }
 
-    /// The bytes taken so far.
-    pub fn taken(&self) -> &[u8] {
-        &self.bytes[..self.used]
-    }
-
-    /// Whether it has taken a beginning of this text, all of it but where it takes whole pieces alone,
-    /// and met one failure and no put behind it.
-    pub fn has_stopped(&self, text: &[u8]) -> bool {
-        text.starts_with(self.taken())
-            && (self.mode == Mode::WholePieces || self.used == text.len())
-            && self.failed == 1
-            && !self.again
+    /// Whether it has taken exactly this text, and met so many failures and no put behind one.
+    pub fn has_taken(&self, text: &[u8], failures: u64) -> bool {
+        &self.bytes[..self.used] == text && self.failed == failures && !self.again
     }
 }
 
@@ -87,14 +77,16 @@ impl Sink for LimitedSink {
         let fits = piece.len().min(self.limit - self.used);
         let count = match self.mode {
             Mode::OneByte => fits.min(1),
-            Mode::WholePieces => { if fits < piece.len() { 0 } else { fits } }
-            Mode::PartAndRefusal | Mode::WhatFits => fits,
-            Mode::Nothing => 0,
+            _ => fits,
+        };
+        let is_refused = match self.mode {
+            Mode::ThenRefuses => self.used == self.limit,
+            Mode::RefusesTheRest => count < piece.len(),
+            Mode::OneByte | Mode::ThenTakesNone => false,
         };
         self.bytes[self.used..self.used + count].copy_from_slice(&piece[..count]);
         self.used += count;
-        let refuses = matches!(self.mode, Mode::WholePieces | Mode::PartAndRefusal);
-        if self.mode == Mode::Nothing || (refuses && count < piece.len()) {
+        if is_refused {
             self.failed += 1;
             return Err(SinkFault);
         }

@@ -2,7 +2,7 @@
 
 ghost use Rattle.std.specs.Prelude.{◌<◌};
 
-use crate::limited_sink::{LimitedSink, Mode};
+use crate::limited_sink::{CAPACITY, LimitedSink, Mode};
 use crate::terms::{Buffers, Destination, Given, group, growths, invalid, is_either, is_stopped};
 use hex_codec::Group;
 use hex_codec::grouped::{GroupFault, read, read_into};
@@ -260,34 +260,39 @@ impl Relisted<'_> {
             && sink.failures() == u64::from(self.is_stopped)
     }
 
-    // Whether a sink that fails in this way behind as many bytes as the text has takes it, or, where
-    // it takes whole pieces alone, a beginning of it.
-    fn stops<const N: usize>(self, entries: &[Entry<'_, N>], mode: Mode) -> bool
+    // Whether a sink that takes as many bytes as the text has, in this way, takes it, and fails behind
+    // it where `is_stopped`.
+    fn is_taken<const N: usize>(self, entries: &[Entry<'_, N>], mode: Mode) -> bool
         requires { N < 10000 }
     {
         let mut sink = LimitedSink::new(mode, self.text.len());
         let answer = digests::write_to(entries, &mut sink, self.given.is_upper());
-        answer == Err(ListWriteFault::Write(mode.fault())) && sink.has_stopped(self.text)
+        let want = if self.is_stopped {
+            Err(ListWriteFault::Write(mode.fault()))
+        } else {
+            Ok(())
+        };
+        answer == want && sink.has_taken(self.text, u64::from(self.is_stopped))
     }
 
-    // Whether each sink that fails behind the text, where it is stopped there, does so.
-    fn all_stop<const N: usize>(self, entries: &[Entry<'_, N>]) -> bool
+    // Whether each kind of sink that can take the text does so.
+    fn all_take<const N: usize>(self, entries: &[Entry<'_, N>]) -> bool
         requires { N < 10000 }
     {
-        !self.is_stopped
-            || (self.stops(entries, Mode::WholePieces)
-                && self.stops(entries, Mode::PartAndRefusal)
-                && self.stops(entries, Mode::WhatFits)
-                && self.stops(entries, Mode::OneByte))
+        CAPACITY < self.text.len()
+            || (self.is_taken(entries, Mode::ThenRefuses)
+                && self.is_taken(entries, Mode::RefusesTheRest)
+                && self.is_taken(entries, Mode::ThenTakesNone)
+                && (self.is_stopped || self.is_taken(entries, Mode::OneByte)))
     }
 
-    // Whether the entries of the list are written so into as much room as is given, and each sink
-    // that fails behind the text does.
+    // Whether the entries of the list are written so into as much room as is given, and taken by each
+    // kind of sink.
     fn writes<const N: usize>(self, alloc: Global, dst: &mut [u8]) -> Option<bool>
         requires { N < 10000 }
     {
         match digests::read::<N>(alloc, self.given.src, CheckCase::None) {
-            Ok(list) => Some(self.fills(list.as_slice(), dst) && self.all_stop(list.as_slice())),
+            Ok(list) => Some(self.fills(list.as_slice(), dst) && self.all_take(list.as_slice())),
             Err(_) => None,
         }
     }

@@ -20,8 +20,8 @@ use hex_core::CheckCase;
 use row_reader::{Bytes, Calls, Words, is, judge};
 use std::io::{self, BufReader};
 
-// `each-byte`, `each-pair` and `moves`, which have arguments in their turn, digits in chunks,
-// grouped texts, lists.
+// `each-byte` and `each-pair`, which have arguments in their turn, bytes with their digits, appends one
+// after another, digits in chunks, grouped texts, lists.
 fn turned(
     call: &[u8],
     row: &mut Words<'_>,
@@ -32,8 +32,10 @@ fn turned(
         wholes::each_byte_row(row, answer, to)
     } else if is(call, b"each-pair") {
         wholes::each_pair_row(row, answer, to)
-    } else if is(call, b"moves") {
-        wholes::moves_row(row, answer, to)
+    } else if is(call, b"both") {
+        Some(wholes::both_row(row, answer, to))
+    } else if is(call, b"appends") {
+        strings::appends_row(row, answer, to)
     } else if is(call, b"feed") {
         feeds::feed_row(row, answer, to)
     } else if is(call, b"group") {
@@ -121,7 +123,7 @@ fn fitting_row(
     mut answer: Words<'_>,
     buffers: &mut Buffers,
 ) -> Option<bool> {
-    let given = Given::read(&mut row, &mut buffers.given);
+    let given = Given::read_behind(&mut row, &mut buffers.given, buffers.from);
     let want = front(&mut answer, &mut buffers.wanted);
     let is_answered = fits(call, given, &mut buffers.destination, want);
     judged(is_answered, row, answer)
@@ -135,7 +137,7 @@ fn grown_row(
     mut answer: Words<'_>,
     buffers: &mut Buffers,
 ) -> Option<bool> {
-    let given = Given::read(&mut row, &mut buffers.given);
+    let given = Given::read_behind(&mut row, &mut buffers.given, buffers.from);
     let want = Grown::read(&mut answer, &mut buffers.wanted);
     let is_answered = if is(call, b"vector") {
         owned::is_vector_read(buffers.alloc, given, want)
@@ -189,7 +191,7 @@ fn source_row(
     buffers: &mut Buffers,
 ) -> Option<bool> {
     let case = policy(&mut row);
-    let src = source(&mut row, &mut buffers.given);
+    let src = source(&mut row, &mut buffers.given, buffers.from);
     let to = (&mut buffers.wanted, &mut buffers.destination);
     let is_answered = reads(call, src, case, &mut answer, to);
     judged(is_answered, row, answer)
@@ -211,6 +213,7 @@ fn lane_row(
 
 impl Calls for Buffers {
     fn is_answered(&mut self, mut row: Words<'_>, answer: Words<'_>) -> Option<bool> {
+        self.place(&mut row);
         let call = row.next();
         if is(call, b"append") {
             return append_row(row, answer, self);

@@ -33,8 +33,8 @@ fn plan_decodes(plan: Backend, given: Given<'_>, to: &mut Destination, want: Ans
         && to.holds(want.unwrap_or_default())
 }
 
-// Whether both calls that name a policy and no plan do so.
-fn decodes(given: Given<'_>, to: &mut Destination, want: Answer<'_>) -> bool {
+/// Returns whether both calls that name a policy and no plan do so.
+pub fn decodes(given: Given<'_>, to: &mut Destination, want: Answer<'_>) -> bool {
     let Given { case, number, src } = given;
     lends(hex_decode_with_case(src, to.lend(number), case), want)
         && to.holds(want.unwrap_or_default())
@@ -66,8 +66,8 @@ fn plan_encodes(plan: Backend, given: Given<'_>, to: &mut Destination, want: Ans
         && to.holds(want.unwrap_or_default())
 }
 
-// Whether both calls that name no plan do so.
-fn encodes(given: Given<'_>, to: &mut Destination, want: Answer<'_>) -> bool {
+/// Returns whether both calls that name no plan do so.
+pub fn encodes(given: Given<'_>, to: &mut Destination, want: Answer<'_>) -> bool {
     let (room, src, upper) = (given.number, given.src, given.is_upper());
     let is_lent = if upper {
         lends(hex_encode_upper(src, to.lend(room)), want)

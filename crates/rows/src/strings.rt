@@ -2,7 +2,7 @@
 
 ghost use Rattle.std.specs.Prelude.{◌<◌};
 
-use crate::terms::{Answer, Given, Grown, are_answer, is_answer};
+use crate::terms::{Answer, Buffers, Given, Grown, are_answer, is_answer, policy, source};
 use hex_codec::{
     heapless_08, hex_append, hex_append_into, hex_append_upper, hex_string, hex_string_upper,
 };
@@ -10,6 +10,9 @@ use hex_core::Error;
 use refusing_allocator::Refusing;
 use row_reader::{Bytes, Words};
 use std::alloc::{Allocator, Global};
+
+// The most appends of a row that follow one another.
+const APPENDS: usize = 8;
 
 // Whether a text of at most `N` digits answers so.
 fn is_fixed<const N: usize>(given: Given<'_>, want: Answer<'_>) -> bool
@@ -103,6 +106,20 @@ fn appends(given: Given<'_>, text: &mut String<&Refusing<Global>>, want: Answer<
     }
 }
 
+// A string of this capacity that holds this text.
+fn with_text<'r>(
+    alloc: &'r Refusing<Global>,
+    capacity: usize,
+    text: &[u8],
+) -> Option<String<&'r Refusing<Global>>> {
+    let text = str::from_utf8(text).ok()?;
+    let mut string = String::with_capacity(alloc, capacity).ok()?;
+    match string.push_str(text) {
+        Ok(()) => Some(string),
+        Err(_) => None,
+    }
+}
+
 /// A string that is appended to: its capacity, and its text before and after the call.
 #[derive(Clone, Copy)]
 pub struct Appended<'a> {
@@ -132,16 +149,6 @@ impl<'a> Appended<'a> {
         }
     }
 
-    // The string before the call.
-    fn text<'r>(self, alloc: &'r Refusing<Global>) -> Option<String<&'r Refusing<Global>>> {
-        let before = str::from_utf8(self.before).ok()?;
-        let mut text = String::with_capacity(alloc, self.capacity).ok()?;
-        match text.push_str(before) {
-            Ok(()) => Some(text),
-            Err(_) => None,
-        }
-    }
-
     // Whether a string is the wanted one after the call, in no more room than a growth gave it.
     fn is_after(self, text: &String<&Refusing<Global>>, want: Grown<'_>) -> bool {
         let is_kept = want.asked == 0 || want.answer.is_err();
@@ -152,7 +159,7 @@ impl<'a> Appended<'a> {
     // suffix where `is_lent` is true, and else that of the one that answers nothing.
     fn is_left(self, alloc: Global, given: Given<'_>, want: Grown<'_>, is_lent: bool) -> bool {
         let refusing = Refusing::new(alloc, 1);
-        let Some(mut text) = self.text(&refusing) else {
+        let Some(mut text) = with_text(&refusing, self.capacity, self.before) else {
             return false;
         };
         let before = refusing.asked();
@@ -171,4 +178,46 @@ impl<'a> Appended<'a> {
     pub fn are_left(self, alloc: Global, given: Given<'_>, want: Grown<'_>) -> bool {
         self.is_left(alloc, given, want, true) && self.is_left(alloc, given, want, false)
     }
+}
+
+// Whether the appends that are left of a row follow one another in a string so.
+fn follow(
+    text: &mut String<&Refusing<Global>>,
+    row: &mut Words<'_>,
+    answer: &mut Words<'_>,
+    (given, wanted): (&mut Bytes, &mut Bytes),
+) -> bool {
+    for _ in 0..APPENDS {
+        if row.are_read() {
+            break;
+        }
+        let next = Given {
+            case: policy(row),
+            number: 0,
+            src: source(row, given, 0),
+        };
+        answer.take_bytes(wanted);
+        if !lends(next, text, Ok(wanted.as_slice())) {
+            return false;
+        }
+    }
+    true
+}
+
+/// `appends CAPACITY TEXT CASE BYTES CASE BYTES ..`: the suffix that each answers, and the text behind the last
+/// one. None of them asks for a growth.
+pub fn appends_row(
+    row: &mut Words<'_>,
+    answer: &mut Words<'_>,
+    buffers: &mut Buffers,
+) -> Option<bool> {
+    let refusing = Refusing::new(buffers.alloc, 1);
+    let capacity = row.take_number();
+    row.take_bytes(&mut buffers.before);
+    let mut text = with_text(&refusing, capacity, buffers.before.as_slice())?;
+    let asked = refusing.asked();
+    let to = (&mut buffers.given, &mut buffers.wanted);
+    let is_answered = follow(&mut text, row, answer, to) && refusing.asked() == asked;
+    answer.take_bytes(&mut buffers.after);
+    Some(is_answered && text.as_str().as_bytes() == buffers.after.as_slice())
 }

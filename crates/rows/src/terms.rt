@@ -8,7 +8,7 @@ use std::alloc::Global;
 /// What a destination holds before a call, and what stands beside it. No policy reads it.
 pub const FILL: u8 = 0xa5;
 
-// How many bytes stand on each side of a destination.
+// How many bytes stand on each side of a destination, and behind a source.
 const GUARD: usize = 64;
 
 // The longest destination, with what stands beside it.
@@ -67,6 +67,8 @@ pub struct Buffers {
     pub before: Bytes,
     /// The same text after the call.
     pub after: Bytes,
+    /// How many bytes stand before its source.
+    pub from: usize,
     /// Where its call writes to.
     pub destination: Destination,
     /// Where it takes memory from.
@@ -86,9 +88,18 @@ impl Buffers {
             wanted: Bytes::new(),
             before: Bytes::new(),
             after: Bytes::new(),
+            from: 0,
             destination,
             alloc,
         }
+    }
+
+    /// Reads `at FROM SHIFT`, which may stand before a call: how many bytes stand before its source,
+    /// and how many more before its destination.
+    pub fn place(&mut self, row: &mut Words<'_>) {
+        let is_placed = row.takes(b"at");
+        self.from = if is_placed { row.take_number() } else { 0 };
+        self.destination.shift = if is_placed { row.take_number() } else { 0 };
     }
 }
 
@@ -123,14 +134,26 @@ pub fn is_either(words: &mut Words<'_>, yes: &[u8], no: &[u8]) -> bool {
     is_yes
 }
 
-/// Reads a source, behind which stand bytes that no policy reads.
-pub fn source<'a>(row: &mut Words<'_>, bytes: &'a mut Bytes) -> &'a [u8] {
+// Moves the first bytes, `len` of them, behind so many that no policy reads, and lends them there.
+fn moved(bytes: &mut [u8], len: usize, from: usize) -> &[u8] {
+    let end = len.saturating_add(from);
+    if bytes.len() < end {
+        return &[];
+    }
+    bytes.copy_within(..len, from);
+    bytes[..from].fill(FILL);
+    &bytes[from..end]
+}
+
+/// Reads a source, before which stand `from` bytes that no policy reads, at most as many as a guard
+/// has, and behind which stand more of them.
+pub fn source<'a>(row: &mut Words<'_>, bytes: &'a mut Bytes, from: usize) -> &'a [u8] {
     row.take_bytes(bytes);
     let len = bytes.len();
-    if bytes.try_extend_from_slice(&[FILL; GUARD]).is_err() {
+    if bytes.try_extend_from_slice(&[FILL; 2 * GUARD]).is_err() || GUARD < from {
         row.misread();
     }
-    bytes.as_slice().get(..len).unwrap_or_default()
+    moved(bytes.as_mut_slice(), len, from)
 }
 
 /// What most rows end with: a policy or a letter case, a number, and a source.
@@ -145,12 +168,17 @@ pub struct Given<'a> {
 }
 
 impl<'a> Given<'a> {
-    /// Reads what is left of a row.
-    pub fn read(row: &mut Words<'_>, bytes: &'a mut Bytes) -> Given<'a> {
+    /// Reads what is left of a row, whose source stands behind `from` bytes.
+    pub fn read_behind(row: &mut Words<'_>, bytes: &'a mut Bytes, from: usize) -> Given<'a> {
         let case = policy(row);
         let number = row.take_number();
-        let src = source(row, bytes);
+        let src = source(row, bytes, from);
         Given { case, number, src }
+    }
+
+    /// Reads what is left of a row.
+    pub fn read(row: &mut Words<'_>, bytes: &'a mut Bytes) -> Given<'a> {
+        Given::read_behind(row, bytes, 0)
     }
 
     /// Returns whether the letter case is `upper`.

@@ -112,22 +112,24 @@ impl Padded<'_> {
         self.fills(flags, to.lend(room)) && to.holds(self.text)
     }
 
-    // Whether a sink that takes as many bytes as this text has, in this way, takes all of it, or,
-    // where `is_stopped`, fails behind it.
-    fn takes(self, flags: &HexFlags, mode: Mode) -> bool {
-        let mut sink = LimitedSink::new(mode, self.text.len());
+    // Whether a sink that takes so many bytes, in this way, takes all of this text, or, where
+    // `is_stopped`, fails behind it.
+    fn is_taken(self, flags: &HexFlags, mode: Mode, limit: usize) -> bool {
+        let mut sink = LimitedSink::new(mode, limit);
         let answer = write_hex(&mut sink, self.bytes, flags);
-        if self.is_stopped {
-            answer == Err(mode.fault()) && sink.has_stopped(self.text)
+        let want = if self.is_stopped {
+            Err(mode.fault())
         } else {
-            answer == Ok(()) && sink.taken() == self.text && sink.failures() == 0
-        }
+            Ok(())
+        };
+        answer == want && sink.has_taken(self.text, u64::from(self.is_stopped))
     }
 
     // Whether both kinds of sink take this text.
     fn is_padded(self, flags: &HexFlags, to: &mut Destination) -> bool {
         let len = self.text.len();
-        self.is_written(flags, len, to) && (len > CAPACITY || self.takes(flags, Mode::OneByte))
+        self.is_written(flags, len, to)
+            && (len > CAPACITY || self.is_taken(flags, Mode::OneByte, len))
     }
 }
 
@@ -144,19 +146,17 @@ pub fn pad_row(row: &mut Words<'_>, answer: &mut Words<'_>, buffers: &mut Buffer
     padded.is_padded(&flags, &mut buffers.destination)
 }
 
-// Reads the way in which a sink fails.
+// Reads what a sink takes of a piece.
 fn mode(row: &mut Words<'_>) -> Mode {
-    if row.takes(b"whole-pieces") {
-        Mode::WholePieces
-    } else if row.takes(b"part-and-refusal") {
-        Mode::PartAndRefusal
-    } else if row.takes(b"what-fits") {
-        Mode::WhatFits
-    } else if row.takes(b"one-byte") {
+    if row.takes(b"one-byte") {
         Mode::OneByte
+    } else if row.takes(b"then-refuses") {
+        Mode::ThenRefuses
+    } else if row.takes(b"refuses-the-rest") {
+        Mode::RefusesTheRest
     } else {
-        row.wants(b"nothing");
-        Mode::Nothing
+        row.wants(b"then-takes-none");
+        Mode::ThenTakesNone
     }
 }
 
@@ -169,7 +169,8 @@ fn sink(row: &mut Words<'_>) -> Option<Mode> {
     }
 }
 
-/// `pad-into SINK ROOM FLAGS BYTES`: what the sink has taken, which is as much as there is room for.
+/// `pad-into SINK ROOM FLAGS BYTES`: what the sink has taken, which is as much as there is room for
+/// where it is stopped, and else the whole text.
 pub fn pad_into_row(row: &mut Words<'_>, answer: &mut Words<'_>, buffers: &mut Buffers) -> bool {
     let sink = sink(row);
     let room = row.take_number();
@@ -182,10 +183,10 @@ pub fn pad_into_row(row: &mut Words<'_>, answer: &mut Words<'_>, buffers: &mut B
         is_stopped,
     };
     let is_taken = match sink {
-        Some(mode) => padded.takes(&flags, mode),
+        Some(mode) => padded.is_taken(&flags, mode, room),
         None => padded.is_written(&flags, room, &mut buffers.destination),
     };
-    is_taken && room == buffers.wanted.len()
+    is_taken && (!is_stopped || room == buffers.wanted.len())
 }
 
 /// `show BYTES`: the text as `{}` prints it.

@@ -1,7 +1,10 @@
-//! Rows of the plans' calls into exactly as much room as their answer takes, of each byte at each
-//! place of a source, and of each pair of bytes.
+//! Rows of calls into exactly as much room as their answer takes, of each byte at each place of a
+//! source, and of each pair of bytes.
 
-use crate::terms::{Answer, Buffers, Destination, are_answer, is_answer, is_either, policy};
+use crate::slices;
+use crate::terms::{
+    Answer, Buffers, Destination, Given, are_answer, is_answer, is_either, policy, source,
+};
 use hex_codec::{hex_check_with_case, hex_decode_with_case};
 use hex_core::{Backend, CheckCase, Error, backends};
 use row_reader::{Bytes, Words};
@@ -112,7 +115,8 @@ fn all_store(
 }
 
 /// Returns whether each plan, decoding into a buffer that is given up on a refusal, leaves what an
-/// answer says: the bytes, or `refused` and what each plan has stored by then.
+/// answer says: the bytes; or `refused` and what each plan has stored by then; or `at`, the first
+/// invalid place, and the bytes before it, of which each plan has stored those of whole blocks.
 pub fn all_own(
     src: &[u8],
     case: CheckCase,
@@ -120,6 +124,11 @@ pub fn all_own(
     wanted: &mut Bytes,
     to: &mut Destination,
 ) -> bool {
+    if answer.takes(b"at") {
+        let place = answer.take_number();
+        answer.take_bytes(wanted);
+        return is_refused(src, case, place, wanted.as_slice(), to);
+    }
     if is_either(answer, b"ok", b"refused") {
         answer.take_bytes(wanted);
         return is_accepted(src, case, wanted.as_slice(), to);
@@ -253,7 +262,7 @@ fn spelled(pair: [u8; 2], values: Values) -> Result<u8, Error> {
     }
 }
 
-// Whether a source of one pair again and again is decoded as the pair is.
+// Whether a source of one pair again and again is decoded as the pair is, into 34 bytes.
 fn decodes_pairs(
     src: &[u8],
     case: CheckCase,
@@ -266,7 +275,7 @@ fn decodes_pairs(
         Ok(_) => Ok(front),
         Err(e) => Err(e),
     };
-    let is_decoded = match hex_decode_with_case(src, to.lend(src.len() / 2 + 1), case) {
+    let is_decoded = match hex_decode_with_case(src, to.lend(34), case) {
         Ok(front) => are_answer(front, want),
         Err(e) => is_answer(e, want),
     };
@@ -305,46 +314,42 @@ fn writes(plan: Backend, bytes: &[u8], text: &[u8], upper: bool, to: &mut Destin
     to.holds(text)
 }
 
-// Whether each plan writes these digits of some bytes, and reads them back.
-fn all_move(bytes: &[u8], text: &[u8], upper: bool, to: &mut Destination) -> bool {
+// Whether each plan, and the calls that name none, write this text of some bytes.
+fn all_write(bytes: &[u8], text: &[u8], case: CheckCase, to: &mut Destination) -> bool {
+    let upper = case == CheckCase::Upper;
     for plan in backends() {
         if !writes(plan, bytes, text, upper, to) {
             return false;
         }
     }
-    let strict = if upper {
-        CheckCase::Upper
-    } else {
-        CheckCase::Lower
+    let given = Given {
+        case,
+        number: text.len(),
+        src: bytes,
     };
-    is_accepted(text, strict, bytes, to) && is_accepted(text, CheckCase::None, bytes, to)
+    slices::encodes(given, to, Ok(text))
 }
 
-// The same from a place of the bytes, to so many bytes behind where a destination begins.
-fn all_move_at(
-    (bytes, text): (&[u8], &[u8]),
-    upper: bool,
-    (from, shift): (usize, usize),
-    to: &mut Destination,
-) -> Option<bool> {
-    let bytes = bytes.get(from..)?;
-    let text = text.get(from.checked_mul(2)?..)?;
-    to.shift = shift;
-    let is_moved = all_move(bytes, text, upper, to);
-    to.shift = 0;
-    Some(is_moved)
+// Whether they read the bytes from the text under its policy, and the plans from either case too.
+fn all_read(text: &[u8], bytes: &[u8], case: CheckCase, to: &mut Destination) -> bool {
+    let given = Given {
+        case,
+        number: bytes.len(),
+        src: text,
+    };
+    is_accepted(text, case, bytes, to)
+        && is_accepted(text, CheckCase::None, bytes, to)
+        && slices::decodes(given, to, Ok(bytes))
 }
 
-/// `moves CASE BYTES`: the digits. Its turn is a place of the destination and one of the source.
-pub fn moves_row(
-    row: &mut Words<'_>,
-    answer: &mut Words<'_>,
-    buffers: &mut Buffers,
-) -> Option<bool> {
-    let (from, shift) = (row.turn() / 64 % 64, row.turn() % 64);
-    let upper = is_either(row, b"upper", b"lower");
-    row.take_bytes(&mut buffers.given);
-    answer.take_bytes(&mut buffers.wanted);
-    let both = (buffers.given.as_slice(), buffers.wanted.as_slice());
-    all_move_at(both, upper, (from, shift), &mut buffers.destination)
+/// `both CASE BYTES`: the text, which stands where it was written to when it is read, and the bytes are
+/// then written to where they stood.
+pub fn both_row(row: &mut Words<'_>, answer: &mut Words<'_>, buffers: &mut Buffers) -> bool {
+    let case = policy(row);
+    let bytes = source(row, &mut buffers.given, buffers.from);
+    let to = &mut buffers.destination;
+    let text = source(answer, &mut buffers.wanted, to.shift);
+    let is_written = all_write(bytes, text, case, to);
+    to.shift = buffers.from;
+    is_written && all_read(text, bytes, case, to)
 }

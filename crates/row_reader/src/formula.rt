@@ -1,0 +1,110 @@
+//! How a word of a row writes a list by a formula.
+//!
+//! `(73i+i/7)^100` are 100 bytes, the one at place `i` being `73 * i + i / 7` modulo 256. Either
+//! summand may be left out, `+5` behind them adds a number, and `(8:73i+i/7)` begins at place 8.
+//! Behind the parenthesis `x` stands for the digits of these bytes in lowercase, `X` in uppercase,
+//! and `m` in uppercase at each third place and else in lowercase: `(73i+i/7)x^200` are those of 100
+//! bytes.
+
+use crate::cursor::Cursor;
+
+// How the bytes of a list are written.
+#[derive(Clone, Copy, PartialEq, Eq)]
+enum Form {
+    Bytes,
+    Lower,
+    Upper,
+    Mixed,
+}
+
+impl Form {
+    fn read(word: &mut Cursor<'_>) -> Form {
+        if word.takes(b'x') {
+            Form::Lower
+        } else if word.takes(b'X') {
+            Form::Upper
+        } else if word.takes(b'm') {
+            Form::Mixed
+        } else {
+            Form::Bytes
+        }
+    }
+
+    // The letters of the digit at a place of the text.
+    fn letters(self, place: usize) -> &'static [u8; 16] {
+        if self == Form::Upper || (self == Form::Mixed && place % 3 == 0) {
+            b"0123456789ABCDEF"
+        } else {
+            b"0123456789abcdef"
+        }
+    }
+}
+
+/// A list by a formula, without an end.
+#[derive(Clone, Copy)]
+pub struct Formula {
+    start: usize,
+    factor: usize,
+    // 0 where there is no quotient.
+    divisor: usize,
+    added: usize,
+    form: Form,
+}
+
+impl Formula {
+    /// Reads a formula, once its first parenthesis is read. Returns `None` where it is none.
+    pub fn read(word: &mut Cursor<'_>) -> Option<Formula> {
+        let number = word.number();
+        let (start, factor) = if word.takes(b':') {
+            (number?, word.number())
+        } else {
+            (0, number)
+        };
+        let mut formula = Formula {
+            start,
+            factor: factor.unwrap_or(1),
+            divisor: 0,
+            added: 0,
+            form: Form::Bytes,
+        };
+        formula.read_sum(word)?;
+        formula.form = Form::read(word);
+        Some(formula)
+    }
+
+    // Reads what stands behind the factor.
+    fn read_sum(&mut self, word: &mut Cursor<'_>) -> Option<()> {
+        if !word.takes(b'i') {
+            return None;
+        }
+        for _ in 0..2 {
+            if !word.takes(b'+') {
+                break;
+            }
+            if word.takes(b'i') {
+                self.divisor = word.takes(b'/').then(|| word.number())??;
+            } else {
+                self.added = word.number()?;
+            }
+        }
+        word.takes(b')').then_some(())
+    }
+
+    // The byte at a place of the list.
+    fn byte(self, place: usize) -> u8 {
+        let i = self.start.wrapping_add(place);
+        let quotient = i.checked_div(self.divisor).unwrap_or(0);
+        let product = self.factor.wrapping_mul(i);
+        (product.wrapping_add(quotient).wrapping_add(self.added) % 256) as u8
+    }
+
+    /// The byte at a place of what is written: of the list, or of its digits.
+    pub fn at(self, place: usize) -> u8 {
+        if self.form == Form::Bytes {
+            return self.byte(place);
+        }
+        let byte = self.byte(place / 2);
+        let digit = if place % 2 == 0 { byte / 16 } else { byte % 16 };
+        self.form.letters(place)[usize::from(digit)]
+    }
+}
