@@ -36,6 +36,7 @@ lib:
 
 test:
 	scripts/header.sh
+	scripts/test-rows --carried
 	scripts/examples.sh
 	RT_JOBS=$(JOBS) rt ci
 

@@ -29,6 +29,8 @@ fn are_distinct<T: Hash + PartialEq + Copy>(values: &[T]) -> bool {
     true
 }
 
+// The default policy is the last line of the Rust crate's
+// `errors_have_stable_precedence_and_do_not_write`.
 #[test]
 fn a_policy_is_equal_to_itself_alone(rt: HostRuntime) {
     let cases = [CheckCase::None, CheckCase::Lower, CheckCase::Upper];

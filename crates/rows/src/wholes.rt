@@ -68,8 +68,8 @@ fn stored_before(place: usize, block: usize) -> usize {
     blocks.saturating_mul(block / 2)
 }
 
-// Whether each plan refuses a source whose first invalid byte is at this place, where `bytes` are
-// those of the pairs before it.
+// Whether each plan refuses a source and finds its first invalid byte at this place, where `bytes`
+// are those of the pairs before it.
 fn is_refused(
     src: &[u8],
     case: CheckCase,
@@ -84,7 +84,7 @@ fn is_refused(
     };
     for (plan, block) in backends().into_iter().zip(OWNED_BLOCKS) {
         let stored = bytes.get(..stored_before(place, block)).unwrap_or_default();
-        if !read.leaves(plan, stored, to) {
+        if !read.leaves(plan, stored, to) || plan.first_invalid(src, case) != Some(place) {
             return false;
         }
     }
