@@ -1,10 +1,10 @@
 //! Callers whose digits come bit by bit into one buffer, each proved.
 
-ghost use Rattle.callers.specs.Received.{DecodesSoFar, ReadsDigits};
+ghost use Rattle.callers.specs.Received.{DecodesMore, DecodesSoFar, ReadsDigits};
 
 use faster_hex::stream::{Decoder, StreamFault, decode_stream};
 use faster_hex::{CheckCase, Error, SliceSink};
-use hex_codec::laws::any_cutting_is_decoded_as_one_call;
+use hex_codec::laws::{any_cutting_is_decoded_as_one_call, every_decoder_has_been_fed};
 use std::io::Read;
 
 /// Decodes all digits that a reader gives into the front of a buffer, and returns how many bytes they
@@ -39,5 +39,24 @@ pub fn decode_so_far(digits: &[u8], buffer: &mut [u8]) -> Result<usize, Error>
 {
     any_cutting_is_decoded_as_one_call();
     let mut decoder = Decoder::new(CheckCase::None);
+    decoder.feed(digits, buffer)
+}
+
+/// Decodes more digits by a decoder that is handed in, and returns how many bytes they make whole.
+///
+/// The caller's proof knows that number, and where the decoder stands then, whatever it was fed
+/// before.
+///
+/// ```rust
+/// let mut decoder = Decoder::new(CheckCase::None);
+/// decoder.feed(b"6", &mut [])?;
+/// let mut buffer = [b'.'; 4];
+/// assert_eq!(rt; decode_more(&mut decoder, b"865", &mut buffer)?, 2);
+/// assert_eq!(rt; &buffer, b"he..");
+/// ```
+pub fn decode_more(decoder: &mut Decoder, digits: &[u8], buffer: &mut [u8]) -> Result<usize, Error>
+    ensures { DecodesMore decoder.old decoder.new digits.now result }
+{
+    every_decoder_has_been_fed();
     decoder.feed(digits, buffer)
 }

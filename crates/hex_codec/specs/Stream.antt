@@ -68,6 +68,10 @@ CuttingsAgree = (decoder other : Decoder) (fed xs ys : List ℕ)
     → HasFed other fed ys
     → (xs ≡ ys) × (waiting_in decoder ≡ waiting_in other)
 
+-- every decoder has been fed some digits, and has written what they spell
+abbrev pub DecodersWereFed : Type 0
+DecodersWereFed = (decoder : Decoder) → (fed : List ℕ) × (written : List ℕ) × HasFed decoder fed written
+
 -- the first invalid byte of a source that follows `had` digits
 abbrev pub bad_char_behind : CheckCase → ℕ → List ℕ → Option Error
 bad_char_behind c had src = option_map (λ f. InvalidChar (had + f) (slice_index src f)) (first_invalid c src)

@@ -2,7 +2,7 @@
 //! nothing: a caller that needs one in a proof calls it.
 
 ghost use Rattle.hex_codec.specs.GroupLaws.{GroupSpellsOneList, GroupedTextsAreDigitsAndSeparators, GroupedTextsAreLong, GroupingInvertsStrictReading, LengthsTellCounts, ReadingInvertsGrouping, ReadsWhatGroupSpells, WholePiecesJoin};
-ghost use Rattle.hex_codec.specs.Stream.{CuttingsAgree, WritesAsOneCall};
+ghost use Rattle.hex_codec.specs.Stream.{CuttingsAgree, DecodersWereFed, WritesAsOneCall};
 
 use hex_core::laws::{
     a_source_is_accepted_where_it_spells_a_list, a_text_spells_one_list, decoding_inverts_encoding,
@@ -53,4 +53,12 @@ pub fn any_cutting_is_decoded_as_one_call()
     ensures same { CuttingsAgree }
 {
     a_text_spells_one_list();
+}
+
+/// Every decoder has been fed some digits and has written what they spell: so the contract of a feed
+/// speaks of a decoder that was handed in, too.
+pub fn every_decoder_has_been_fed()
+    ensures { DecodersWereFed }
+{
+    decoding_inverts_encoding();
 }

@@ -9,7 +9,7 @@
 //! assert_eq!(rt; text.as_slice(), b"00abcd".as_slice());
 //! ```
 
-ghost use Rattle.std.specs.Prelude.{◌≡◌, ◌≢◌, ◌↔◌, ◌+◌, ◌-◌, ◌/◌, ◌^◌, ◌<◌, ◌≤◌, ◌++◌, ◌∷◌, [], None, Some, drop, length, IfOk, IsSome, IsTrue, MatchOption, OnErr};
+ghost use Rattle.std.specs.Prelude.{◌≡◌, ◌≢◌, ◌↔◌, ◌+◌, ◌-◌, ◌/◌, ◌%◌, ◌^◌, ◌<◌, ◌≤◌, ◌++◌, ◌∷◌, [], None, Some, drop, length, IfOk, IsSome, IsTrue, MatchOption, OnErr};
 ghost use Rattle.std.specs.Option.{ForSome, option_to_list};
 ghost use Rattle.hex_core.specs.Digit.{value};
 ghost use Rattle.hex_core.specs.Search.{first_invalid};
@@ -39,6 +39,8 @@ pub struct Decoder {
     waiting: Option<u8>,
     // The digit that waits was tested as it came.
     ghost tested: { ForSome waiting (λ digit. IsSome (value case digit)) },
+    // One waits exactly where so far an odd number came.
+    ghost paired: { position % 2 ≡ length (option_to_list waiting) },
 }
 
 impl Decoder {

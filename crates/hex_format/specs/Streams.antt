@@ -1,5 +1,5 @@
 -- What decoding and encoding a stream answer, and what they do to the reader and the sink.
-use Rattle.std.specs.Prelude.{◌≡◌, ◌≤◌, ◌^◌, ℕ, Bool, List, ◌++◌, length, Option, Some, Result, Ok, Err}
+use Rattle.std.specs.Prelude.{◌≡◌, ◌≤◌, ◌^◌, ℕ, Bool, List, ◌++◌, length, Option, Some, None, Result, Ok, Err}
 use Rattle.std.specs.Io.KnownBytes.{Consumes, IsAtEnd}
 use Rattle.std.specs.Option.{option_to_list}
 use Rattle.hex_core.specs.declared.digit.CheckCase.{CheckCase}
@@ -17,7 +17,7 @@ use Rattle.hex_format.specs.declared.streams.StreamFault.TheVariants.{Codec, Rea
 -- partner, or the first invalid byte
 abbrev pub RefusedFor : CheckCase → List ℕ → Option (List ℕ) → Error → Type 0
 RefusedFor c digits left Overflow = 2 ^ 64 ≤ length digits
-RefusedFor c digits left OddLength = (source_refusal c digits ≡ Some OddLength) × IsAtEnd left
+RefusedFor c digits left OddLength = (source_refusal c digits ≡ Some OddLength) × (first_bad_char c digits ≡ None) × IsAtEnd left
 RefusedFor c digits left e = first_bad_char c digits ≡ Some e
 
 -- the sink did this with what digits spell, but for a last one that waits
@@ -27,19 +27,22 @@ pub record Wrote (c : CheckCase) (digits : List ℕ) (Does : List ℕ → Type 0
   pub spelled : SpellsBut c digits bytes (option_to_list waiting)
   pub put : Does bytes
 
--- the sink took what the digits before the last chunk spell
+-- the sink took what the digits before the last chunk spell, which is no longer than a read can be
 pub record WroteBefore (c : CheckCase) (digits : List ℕ) (old new : SinkState) : Type 0 where
   pub fed : List ℕ
   pub chunk : List ℕ
   pub parts : digits ≡ fed ++ chunk
+  pub short : length chunk ≤ 8192
   pub wrote : Wrote c fed (Takes old new)
 
 -- the answer for the digits that were read: at `Ok` they are all that there were, and the sink took
--- the bytes that they spell; where a read failed, those of the whole pairs, and where a put failed a
--- beginning of these; where they are refused, those of the chunks before
+-- the bytes that they spell; where a read failed or the last one has no partner, those of the whole
+-- pairs, and where a put failed a beginning of these; where they are refused for more, those of the
+-- chunks before
 abbrev pub Decodes : CheckCase → List ℕ → Option (List ℕ) → SinkState → SinkState → Result ℕ StreamFault → Type 0
 Decodes c digits left old new (Ok count) = (bytes : List ℕ) × Spells c digits bytes × (count ≡ length bytes) × Takes old new bytes × IsAtEnd left
 Decodes c digits left old new (Err Read) = Wrote c digits (Takes old new)
+Decodes c digits left old new (Err (Codec OddLength)) = Wrote c digits (Takes old new) × RefusedFor c digits left OddLength
 Decodes c digits left old new (Err (Codec e)) = WroteBefore c digits old new × RefusedFor c digits left e
 Decodes c digits left old new (Err (Write _)) = Wrote c digits (Stops old new)
 

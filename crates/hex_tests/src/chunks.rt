@@ -1,12 +1,8 @@
-//! Digits in chunks: each cutting of a short source is answered as one call over it, and a stream
-//! whose reads are short and interrupted as one that is read at once.
+//! Digits in chunks: each cutting of a short source is answered as one call over it.
 
 use hex_codec::hex_decode_into;
 use hex_codec::stream::Decoder;
 use hex_core::{CheckCase, Error};
-use hex_format::SliceSink;
-use hex_format::streams::{StreamFault, decode_stream, encode_stream};
-use std::io::{self, ErrorKind, Read};
 
 const SOURCE: [u8; 12] = *b"00aBcD91fFe7";
 
@@ -89,59 +85,4 @@ fn room_for_one_byte_less_is_refused(rt: HostRuntime) {
             "{len} digits"
         );
     }
-}
-
-// Gives three bytes a read, and is interrupted before each.
-#[derive(Drop)]
-struct Halting<'a> {
-    left: &'a [u8],
-    ready: bool,
-}
-
-impl Read for Halting<'_> {
-    fn read(&mut self, buf: &mut [u8]) -> io::Result<usize> {
-        self.ready = !self.ready;
-        if self.ready {
-            return Err(io::Error::from(ErrorKind::Interrupted));
-        }
-        let count = self.left.len().min(buf.len()).min(3);
-        buf[..count].copy_from_slice(&self.left[..count]);
-        self.left = &self.left[count..];
-        Ok(count)
-    }
-}
-
-// Whether a stream of such reads is decoded with this answer, and these bytes are put.
-fn is_decoded(left: &[u8], answer: Result<usize, StreamFault>, bytes: &[u8]) -> bool {
-    let mut buffer = [0; 6];
-    let mut sink = SliceSink::new(&mut buffer);
-    let mut reader = Halting { left, ready: false };
-    let decoded = decode_stream(&mut reader, &mut sink, CheckCase::None);
-    decoded == answer && sink.written() == bytes
-}
-
-// Whether a stream of such reads is encoded whole, as these digits.
-fn is_encoded(left: &[u8], digits: &[u8]) -> bool {
-    let mut buffer = [0; 14];
-    let mut sink = SliceSink::new(&mut buffer);
-    let mut reader = Halting { left, ready: false };
-    let encoded = encode_stream(&mut reader, &mut sink, true);
-    encoded == Ok(left.len()) && sink.written() == digits
-}
-
-#[test]
-fn interrupted_reads_are_tried_again(rt: HostRuntime) {
-    let bytes = [0, 0xab, 0xcd, 0x91, 0xff, 0xe7];
-    assert!(rt; is_decoded(&SOURCE, Ok(6), &bytes));
-    assert!(rt; is_encoded(&[0, 0xab, 1, 2, 3, 4, 0xff], b"00AB01020304FF"));
-}
-
-#[test]
-fn a_refused_stream_has_put_the_chunks_before(rt: HostRuntime) {
-    let named = Error::InvalidChar {
-        index: 5,
-        byte: b'x',
-    };
-    assert!(rt; is_decoded(b"00aBcx", Err(StreamFault::Codec(named)), &[0]));
-    assert!(rt; is_decoded(b"00a", Err(StreamFault::Codec(Error::OddLength)), &[0]));
 }

@@ -1,5 +1,6 @@
-//! An interrupted write behind a buffer.
+//! Writes behind a buffer that are interrupted or fail otherwise.
 
+use crate::failing::{Failing, is_its_error};
 use hex_program::Unretried;
 use std::alloc::Global;
 use std::io;
@@ -41,4 +42,22 @@ fn an_interrupted_write_is_not_tried_again(rt: HostRuntime) -> io::Result<()> {
     let holds = fails_once(rt.alloc(), b"ab")? && fails_once(rt.alloc(), b"abcdef")?;
     assert!(rt; holds);
     Ok(())
+}
+
+// Whether a write that fails otherwise is told with its own error, and a flush is passed on.
+fn is_passed_on(alloc: Global, code: i32) -> bool {
+    let inner = Failing { code, flushes: 0 };
+    let mut out = Unretried { inner };
+    let is_told = match out.write(b"a") {
+        Ok(_) => false,
+        Err(error) => is_its_error(alloc, &error, code),
+    };
+    is_told && out.flush().is_ok() && out.inner.flushes == 1
+}
+
+#[test]
+fn another_error_and_a_flush_are_passed_on(rt: HostRuntime) {
+    for code in [0, 5, 28, 32] {
+        assert!(rt; is_passed_on(rt.alloc(), code));
+    }
 }

@@ -1,12 +1,14 @@
 //! Tests of what no row of `rows`, `json_rows` or `program_rows` and no example of a doc comment
-//! says: writes through an answer, digits in chunks, equal hashes, a writer that answers by a script and one that is
-//! interrupted.
+//! says: writes through an answer, digits in chunks, equal hashes, a writer that answers by a script,
+//! and one that is interrupted or fails.
 #![tactic(auto)]
 
 #[cfg(test)]
 mod answers;
 #[cfg(test)]
 mod chunks;
+#[cfg(test)]
+mod failing;
 #[cfg(test)]
 mod hashes;
 #[cfg(test)]

@@ -1,7 +1,9 @@
 //! A writer's sink over a writer that answers by a script. The calls of the script are counted from
 //! 0, and each put is one of them.
 
+use crate::failing::{Failing, is_its_error};
 use hex_format::{Hex, HexFlags, Sink, SinkFault, WriteFault, WriterSink};
+use std::alloc::Global;
 use std::io::{self, ErrorKind, Write};
 
 const AGAIN: ErrorKind = ErrorKind::Interrupted;
@@ -143,4 +145,22 @@ fn ends_at_the_error() -> bool {
 #[test]
 fn a_writer_that_fails_is_not_asked_again(rt: HostRuntime) {
     assert!(rt; ends_at_the_error());
+}
+
+// Whether a put keeps the error itself that its writer failed with.
+fn keeps_error(alloc: Global, code: i32) -> bool {
+    let mut sink = WriterSink::new(Failing { code, flushes: 0 });
+    let answer = sink.put(b"a");
+    let is_kept = match sink.last_error() {
+        Some(error) => is_its_error(alloc, error, code),
+        None => false,
+    };
+    is_kept && answer == Err(SinkFault)
+}
+
+#[test]
+fn a_put_keeps_the_code_and_the_words_of_an_error(rt: HostRuntime) {
+    for code in [0, 5, 28, 32] {
+        assert!(rt; keeps_error(rt.alloc(), code));
+    }
 }

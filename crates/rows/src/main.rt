@@ -9,6 +9,7 @@ mod lists;
 mod owned;
 mod search;
 mod slices;
+mod streamed;
 mod strings;
 mod terms;
 mod texts;
@@ -21,7 +22,7 @@ use row_reader::{Bytes, Calls, Words, is, judge};
 use std::io::{self, BufReader};
 
 // `each-byte` and `each-pair`, which have arguments in their turn, bytes with their digits, appends one
-// after another, digits in chunks, grouped texts, lists.
+// after another, digits in chunks, streams, grouped texts, lists.
 fn turned(
     call: &[u8],
     row: &mut Words<'_>,
@@ -38,6 +39,8 @@ fn turned(
         strings::appends_row(row, answer, to)
     } else if is(call, b"feed") {
         feeds::feed_row(row, answer, to)
+    } else if is(call, b"stream") {
+        streamed::stream_row(row, answer, to)
     } else if is(call, b"group") {
         lists::group_row(row, answer, to)
     } else if is(call, b"list") {

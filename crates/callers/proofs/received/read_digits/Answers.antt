@@ -1,7 +1,8 @@
 -- What a sink over a fresh buffer has taken stands over the old bytes.
-use Rattle.std.proofs.Common.{◌≡◌, ◌∙◌, List, ℕ, Option, Some, Result, Ok, Err, drop, length, take, take-append-drop, subst, sym, rules, arith}
+use Rattle.std.proofs.Common.{◌≡◌, ◌∙◌, List, [], ℕ, Option, Some, Result, Ok, Err, append-nil, drop, length, take, take-append-drop, subst, sym, rules, arith}
 use Rattle.std.specs.Borrow.{MutBor}
 use Rattle.hex_core.specs.declared.digit.CheckCase.TheVariants as policy
+use Rattle.hex_core.specs.declared.error.Error.TheVariants.{OddLength}
 use Rattle.hex_core.specs.Text.{with_front}
 use Rattle.hex_codec.proofs.StreamLemmas.{count-but}
 use Rattle.hex_format.specs.declared.sink.SliceSink.{SliceSink}
@@ -29,6 +30,8 @@ received : (buf : MutBor (List ℕ)) (sink : SliceSink) (before left : Option (L
 received buf sink before left (Ok count) (digits, consumed, read) =
     ((digits, consumed, (read.0, read.1, read.2, taken-over buf sink read.0 read.3, read.4)), read.3.2.1)
 received buf sink before left (Err Read) (digits, consumed, read) = ((digits, consumed, stands buf sink digits read), read.put.2.1)
+received buf sink before left (Err (Codec OddLength)) (digits, consumed, (read, refused)) =
+    ((digits, consumed, (refused, (digits, [], sym (append-nil digits), stands buf sink digits read))), read.put.2.1)
 received buf sink before left (Err (Codec e)) (digits, consumed, (read, refused)) =
     ((digits, consumed, (refused, (read.fed, read.chunk, read.parts, stands buf sink read.fed read.wrote))), read.wrote.put.2.1)
 received buf sink before left (Err (Write fault)) (digits, consumed, read) =

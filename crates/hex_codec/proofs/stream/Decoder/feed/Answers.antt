@@ -16,8 +16,11 @@ returns-in_err-waiting-clause-feeds c = λ fed written has.
 
 pub invariant_of-self : goal.invariant_of-self
 invariant_of-self c =
-    let but = c.in_ok-waiting.ensures.1 in
-    record { tested = read-valid _ _ (valid-parts _ but.pairs _ (rw but.parts at but.valid)).1 }
+    let but = c.in_ok-waiting.ensures.1 in let d = c.args.self.now in
+    record {
+      tested = read-valid _ _ (valid-parts _ but.pairs _ (rw but.parts at but.valid)).1;
+      paired = omega (arith, d.paired, count-but d.case _ c.in_ok-waiting.ensures.0 c.in_ok-waiting.waiting but, length-append (option_to_list d.waiting) c.args.src.now);
+    }
 
 pub returns-clause-feeds : goal.returns-clause-feeds
 returns-clause-feeds c = λ fed written has.
