@@ -1,5 +1,6 @@
 /* Tries the calls of faster_hex.h beside models of a few lines: between guarded pages at all lengths
- * from 0 to 300, with NULL, with source and destination that touch, at all alignments, and in threads.
+ * from 0 to 300, with NULL, with sources too long for any text, with source and destination that touch,
+ * at all alignments, and in threads.
  * scripts/library.sh builds and runs it. Prints a line for each thing that failed, and
  * `N passed, M failed` at the end.
  * Usage: library [threads] */
@@ -253,6 +254,29 @@ static void with_null(struct memory to) {
     }
 }
 
+static bool is_told(struct faster_hex_answer answer, size_t number, uint8_t status) {
+    return answer.number == number && answer.status == status && answer.byte == 0;
+}
+
+/* Sources whose digits no size_t counts, and the longest of all others. None of them is read. */
+static void too_long(struct memory to) {
+    const size_t lengths[] = { SIZE_MAX / 2 + 1, SIZE_MAX / 2 + 2, SIZE_MAX - 1, SIZE_MAX };
+    unsigned i;
+    for (i = 0; i < 16; i++) {
+        size_t len = lengths[i / 4];
+        bool upper = i % 2;
+        uint8_t *dst = i % 4 < 2 ? NULL : to.start;
+        size_t room = dst ? to.size : 0;
+        count(is_told(faster_hex_encode(to.start, len, dst, room, upper), 0, FASTER_HEX_OVERFLOW));
+        count(is_told(faster_hex_encode_grouped(to.start, len, dst, room, upper, 1 + i, ':'), 0,
+                      FASTER_HEX_OVERFLOW));
+    }
+    count(is_told(faster_hex_encode(to.start, SIZE_MAX / 2, NULL, 0, false), SIZE_MAX - 1,
+                  FASTER_HEX_OUTPUT_TOO_SMALL));
+    count(is_told(faster_hex_encode_grouped(to.start, SIZE_MAX / 2, NULL, 0, false, 1, ':'), 0,
+                  FASTER_HEX_OVERFLOW));
+}
+
 /* Source and destination that touch, in either order, in one piece of memory. */
 static void touching(struct memory both) {
     unsigned call, turn;
@@ -350,6 +374,7 @@ int main(int words, char **word) {
         struct memory from = guarded(), to = guarded();
         between_guards(from, to);
         with_null(to);
+        too_long(to);
         touching(to);
         aligned(from, to);
         free(from.kept);

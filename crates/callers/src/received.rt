@@ -54,9 +54,9 @@ pub fn decode_so_far(digits: &[u8], buffer: &mut [u8]) -> Result<usize, Error>
 /// assert_eq!(rt; decode_more(&mut decoder, b"865", &mut buffer)?, 2);
 /// assert_eq!(rt; &buffer, b"he..");
 /// ```
-pub fn decode_more(decoder: &mut Decoder, digits: &[u8], buffer: &mut [u8]) -> Result<usize, Error>
-    ensures { DecodesMore decoder.old decoder.new digits.now result }
+pub fn decode_more(decoder: &mut Decoder, more: &[u8], buffer: &mut [u8]) -> Result<usize, Error>
+    ensures { DecodesMore decoder.old decoder.new more.now result }
 {
     every_decoder_has_been_fed();
-    decoder.feed(digits, buffer)
+    decoder.feed(more, buffer)
 }

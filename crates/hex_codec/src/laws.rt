@@ -46,8 +46,8 @@ pub fn whole_pieces_are_joined_by_the_separator()
     ensures { WholePiecesJoin }
 {}
 
-/// What a decoder has written is what one call over all that it was fed writes, whatever the chunks
-/// were, but for a last digit that waits.
+/// What a decoder has written is what one call over the whole pairs of all that it was fed writes,
+/// whatever the chunks were.
 pub fn any_cutting_is_decoded_as_one_call()
     ensures one { WritesAsOneCall }
     ensures same { CuttingsAgree }

@@ -21,8 +21,9 @@ use hex_core::{Backend, CheckCase, Error, digit_value};
 /// Decodes digits that are fed to it in chunks, each of which may end within a pair.
 ///
 /// It keeps its policy, how many digits it has been fed, and the digit that waits for its partner.
-/// What it writes, joined, is what all that it was fed spells, but for a digit that waits: the
-/// answer of any cutting into chunks is that of one call over the whole. No memory is taken.
+/// What it writes, joined, is what all that it was fed spells, but for a digit that waits, whatever
+/// the chunks were. A refusal is that of what has come so far: a chunk `0g1` names its `g`, where one
+/// call over it tells the odd length. No memory is taken.
 ///
 /// ```rust
 /// let mut decoder = Decoder::new(CheckCase::None);

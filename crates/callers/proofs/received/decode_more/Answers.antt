@@ -20,4 +20,4 @@ fed-more start end fed written digits old new (Err e) has feeds = tt
 pub returns : goal.returns
 returns c =
     let was = c.every_decoder_has_been_fed.ensures c.args.decoder.now in
-    fed-more c.args.decoder.now c.feed.new.self was.0 was.1 c.args.digits.now c.args.buffer.now c.feed.new.dst c.feed.result was.2 c.feed.ensures.feeds
+    fed-more c.args.decoder.now c.feed.new.self was.0 was.1 c.args.more.now c.args.buffer.now c.feed.new.dst c.feed.result was.2 c.feed.ensures.feeds
