@@ -8,10 +8,10 @@
 # With --write it makes that crate, crates/doc_examples, and those below it in an empty folder, and
 # runs nothing.
 # Prints each file with an example that `rt fmt` would lay out otherwise, each block of CALLING.md that
-# prints a function, since functions to start from stand in callers, each program of README.md that is
-# no program of a crate, by its first line, and what a copy by scripts/vendor.sh does otherwise; then
-# what a run says beside the examples that pass, where one fails. The last line is `N examples passed,
-# M failed`, and the status is 1 where one failed or something else was printed.
+# prints a function, since functions to start from stand in callers, and what a copy by
+# scripts/vendor.sh does otherwise; then what a run says beside the examples that pass, where one fails.
+# The last line is `N examples passed, M failed`, and the status is 1 where one failed or something
+# else was printed.
 #
 # An example stands in a doc comment between ```rust and ```. It is the body of a test, where `rt`
 # is the runtime and `?` takes any error. Without saying so it names what is public at the root of
@@ -35,8 +35,8 @@ case $#:${1-} in
 esac
 
 cd "$(dirname "$0")/.."
-libraries='hex_core hex_codec hex_format hex_lists hex_json faster_hex hex_operations hex_program
-    callers refusing_allocator'
+libraries='hex_core hex_codec hex_format hex_lists hex_json faster_hex hex_program callers
+    refusing_allocator'
 made=$folder
 if [ -z "$made" ]; then
     made=$(mktemp -d)
@@ -95,17 +95,6 @@ functions() {
     done
 }
 
-# stands_in BLOCK FILE..: whether the lines of the block stand in a row in one of the files.
-stands_in() {
-    block=$1
-    shift
-    for source in "$@"; do
-        ! awk 'NR == FNR { block = block $0 "\n"; next } { source = source $0 "\n" }
-            END { exit !index(source, block) }' "$block" "$source" || return 0
-    done
-    return 1
-}
-
 # write_page_tests PAGE NAME: the page's blocks, as tests.
 write_page_tests() {
     blocks "$1"
@@ -123,16 +112,6 @@ write_page_tests() {
     } >"$own/src/$2.rt"
 }
 
-# strayed PAGE FILE..: the blocks of the page that hold a function and stand in none of the files.
-strayed() {
-    page=$1
-    shift
-    blocks "$page"
-    for block in "$made"/blocks/*; do
-        ! holds_function "$block" || stands_in "$block" "$@" || echo "$page: $(head -n 1 "$block")"
-    done
-}
-
 # vendored: whether scripts/vendor.sh copies faster_hex as it is, and README.md's program does what it
 # should over a copy without JSON and lists, which is another one.
 vendored() {
@@ -142,11 +121,13 @@ vendored() {
     grep '^faster_hex:' crates.txt | grep -vxF -f "$mine/crates.txt" || true
     rm -r "$mine"
     scripts/vendor.sh --no-json --no-lists --no-proofs "$mine"
-    mkdir "$mine/crates/read_back"
-    cp -R crates/read_back/src "$mine/crates/read_back/"
-    echo 'read_back: faster_hex' >>"$mine/crates.txt"
-    (cd "$mine/crates/read_back" && rt try </dev/null) >"$made/printed" 2>"$made/said" \
-        && cmp -s crates/read_back/stdout "$made/printed" || {
+    mkdir -p "$mine/crates/readme/src"
+    blocks README.md
+    printf '//! The program of README.md.\n#![tactic(auto)]\n\n' \
+        | cat - "$made/blocks/1" >"$mine/crates/readme/src/main.rt"
+    echo 'readme: faster_hex' >>"$mine/crates.txt"
+    (cd "$mine/crates/readme" && rt try </dev/null) >"$made/printed" 2>"$made/said" \
+        && [ "$(cat "$made/printed")" = 00abcd ] || {
         cat "$made/said" "$made/printed"
         echo 'the program of README.md does otherwise over a copy of scripts/vendor.sh'
     }
@@ -195,7 +176,6 @@ copy_libraries
 wrong=$(
     (cd "$own" && rt fmt) | sed -n 's/^rt: formatted src./not in the layout of rt fmt: /p'
     functions crates/faster_hex/CALLING.md
-    strayed README.md crates/*/src/main.rt
     vendored
 )
 [ -z "$wrong" ] || printf '%s\n' "$wrong"

@@ -13,9 +13,9 @@
  * - The answer says all that can go wrong. After a refusal the destination is as it was, and else
  *   what stands behind the written bytes is. The stack has to have room for the call.
  *
- * What a call answers and writes is proved for lengths below 2^63. Of longer ones `make check` shows
- * that FASTER_HEX_OVERFLOW is answered, and of all calls that they stay inside source and destination,
- * take no memory, have no state and may run in threads.
+ * What a call answers and writes is proved where `len` and `room` are below 2^63. That encoding answers
+ * FASTER_HEX_OVERFLOW from there on, and that all calls stay inside source and destination, take no
+ * memory, have no state and may run in threads, is shown by `make check`.
  */
 #ifndef FASTER_HEX_H
 #define FASTER_HEX_H

@@ -48,6 +48,8 @@ pub fn decode_so_far(digits: &[u8], buffer: &mut [u8]) -> Result<usize, Error>
 /// before.
 ///
 /// ```rust
+/// use faster_hex::stream::Decoder;
+///
 /// let mut decoder = Decoder::new(CheckCase::None);
 /// decoder.feed(b"6", &mut [])?;
 /// let mut buffer = [b'.'; 4];

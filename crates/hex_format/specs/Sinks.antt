@@ -60,8 +60,8 @@ TakesWhatFits old new result piece = MatchResult result
 abbrev pub PutsIntoWriter : {W : Type 0} → (W → Option (List ℕ)) → WriterSink W → WriterSink W → Result ℕ SinkFault → List ℕ → Type 0
 PutsIntoWriter contents old new result piece = PutsPiece (writer_state contents old) (writer_state contents new) result piece
 
--- a put into a writer's sink keeps the error of its writer where it is refused, and then the writer
--- has taken nothing; else the error is that of before
+-- a put into a writer's sink keeps an error where it is refused, and then the writer has taken
+-- nothing; else the error is that of before
 abbrev pub KeepsError : {W : Type 0} → (W → Option (List ℕ)) → WriterSink W → WriterSink W → Result ℕ SinkFault → Type 0
 KeepsError contents old new result = MatchResult result
     (λ _. kept_error new ≡ kept_error old)

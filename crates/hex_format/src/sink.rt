@@ -238,7 +238,7 @@ impl<W: Write> Sink for WriterSink<W> {
     fn put(&mut self, piece: &[u8]) -> Result<usize, SinkFault>
         requires { (writer_state W.contents self.old).failures < 2 ^ 64 - 1 }
         ensures puts { PutsIntoWriter W.contents self.old self.new result piece.now }
-        // A refusal takes nothing and keeps the writer's error.
+        // A refusal takes nothing and keeps an error: no clause can name the writer's.
         ensures error { KeepsError W.contents self.old self.new result }
     {
         match self.writer.write(piece) {

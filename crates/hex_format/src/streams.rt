@@ -39,7 +39,8 @@ pub enum StreamFault {
 /// - [`StreamFault::Codec`] with [`Error::InvalidChar`], which names the first byte of the stream
 ///   that is no digit, by its place in the stream: what was put then are the bytes of the whole pairs
 ///   of the chunks before, and nothing of its own chunk;
-/// - [`StreamFault::Codec`] with [`Error::OddLength`] where the last digit has no partner;
+/// - [`StreamFault::Codec`] with [`Error::OddLength`] where all are digits and the last one has no
+///   partner: what was put then are the bytes of all whole pairs;
 /// - [`StreamFault::Codec`] with [`Error::Overflow`] where more digits came than a `usize` counts;
 /// - [`StreamFault::Write`] where a put failed.
 ///

@@ -1,5 +1,6 @@
 pub mod Decoding
 pub mod Failures
 pub mod Input
+pub mod Operations
 pub mod Serving
 pub mod Vectors

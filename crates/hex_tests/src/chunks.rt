@@ -1,4 +1,5 @@
-//! Digits in chunks: each cutting of a short source is answered as one call over it.
+//! Digits in chunks: each cutting of a short source is answered as one call over it, where no odd
+//! length stands before an invalid byte.
 
 use hex_codec::hex_decode_into;
 use hex_codec::stream::Decoder;

@@ -6,7 +6,7 @@ use std::io::{self, ErrorKind, Write};
 const WORDS: &str = "no more is taken";
 
 /// Fails each write with the error of this code, or, where that is 0, with one of some words. Counts
-/// its flushes.
+/// its flushes, and fails them too where there is a code.
 #[derive(Drop)]
 pub struct Failing {
     pub code: i32,
@@ -24,7 +24,10 @@ impl Write for Failing {
 
     fn flush(&mut self) -> io::Result<()> {
         self.flushes = self.flushes.saturating_add(1);
-        Ok(())
+        match self.code {
+            0 => Ok(()),
+            code => Err(io::Error::from_raw_os_error(code)),
+        }
     }
 }
 

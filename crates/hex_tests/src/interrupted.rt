@@ -52,7 +52,11 @@ fn is_passed_on(alloc: Global, code: i32) -> bool {
         Ok(_) => false,
         Err(error) => is_its_error(alloc, &error, code),
     };
-    is_told && out.flush().is_ok() && out.inner.flushes == 1
+    let is_flushed = match out.flush() {
+        Ok(()) => code == 0,
+        Err(error) => code != 0 && is_its_error(alloc, &error, code),
+    };
+    is_told && is_flushed && out.inner.flushes == 1
 }
 
 #[test]

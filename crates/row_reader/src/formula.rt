@@ -1,7 +1,8 @@
 //! How a word of a row writes a list by a formula.
 //!
-//! `(73i+i/7)^100` are 100 bytes, the one at place `i` being `73 * i + i / 7` modulo 256. Either
-//! summand may be left out, `+5` behind them adds a number, and `(8:73i+i/7)` begins at place 8.
+//! `(73i+i/7)^100` are 100 bytes, the one at place `i` being `73 * i + i / 7` modulo 256. The quotient
+//! may be left out, and the factor where it is 1; `+5` behind them adds a number, and `(8:73i+i/7)`
+//! begins at place 8.
 //! Behind the parenthesis `x` stands for the digits of these bytes in lowercase, `X` in uppercase,
 //! and `m` in uppercase at each third place and else in lowercase: `(73i+i/7)x^200` are those of 100
 //! bytes.

@@ -91,6 +91,11 @@ fn write_parts(word: &mut Cursor<'_>, bytes: &mut Bytes) -> Option<()> {
             break;
         }
     }
+    Some(())
+}
+
+// Puts each byte that is to stand at a place, and leaves out what is not to be kept.
+fn write_changes(word: &mut Cursor<'_>, bytes: &mut Bytes) -> Option<()> {
     for _ in 0..ROOM {
         if !word.takes(b'&') {
             break;
@@ -139,5 +144,7 @@ pub fn write(word: &[u8], turn: usize, bytes: &mut Bytes) -> Option<()> {
     if word == b"-".as_slice() {
         return Some(());
     }
-    write_parts(&mut Cursor::new(word, turn), bytes)
+    let mut word = Cursor::new(word, turn);
+    write_parts(&mut word, bytes)?;
+    write_changes(&mut word, bytes)
 }

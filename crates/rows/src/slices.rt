@@ -42,8 +42,8 @@ pub fn decodes(given: Given<'_>, to: &mut Destination, want: Answer<'_>) -> bool
         && to.holds(want.unwrap_or_default())
 }
 
-// Whether the call that names neither does so.
-fn decodes_plainly(given: Given<'_>, to: &mut Destination, want: Answer<'_>) -> bool {
+/// Returns whether the call that names neither does so.
+pub fn decodes_plainly(given: Given<'_>, to: &mut Destination, want: Answer<'_>) -> bool {
     lends(hex_decode(given.src, to.lend(given.number)), want) && to.holds(want.unwrap_or_default())
 }
 

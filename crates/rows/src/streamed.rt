@@ -174,10 +174,13 @@ pub fn stream_row(
     row.take_bytes(&mut buffers.given);
     let mut reader = Giving::from_row(row, buffers.given.as_slice());
     let (room, failures) = (row.take_number(), growths(row));
+    if failures == u64::MAX {
+        return None;
+    }
     let want = answer(wanted);
     let taken = wanted.take_number();
     wanted.take_bytes(&mut buffers.wanted);
-    let mut sink = Taking::new(buffers.wanted.as_slice(), room, failures.min(9));
+    let mut sink = Taking::new(buffers.wanted.as_slice(), room, failures);
     let got = if is_decoded {
         decode_stream(&mut reader, &mut sink, case)
     } else {

@@ -204,8 +204,8 @@ fn follow(
     true
 }
 
-/// `appends CAPACITY TEXT CASE BYTES CASE BYTES ..`: the suffix that each answers, and the text behind the last
-/// one. None of them asks for a growth.
+/// `appends CAPACITY TEXT CASE BYTES CASE BYTES ..`: the suffix that each answers, and the text behind
+/// the last one. None of them asks for a growth.
 pub fn appends_row(
     row: &mut Words<'_>,
     answer: &mut Words<'_>,

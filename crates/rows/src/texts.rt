@@ -125,7 +125,7 @@ impl Padded<'_> {
         answer == want && sink.has_taken(self.text, u64::from(self.is_stopped))
     }
 
-    // Whether both kinds of sink take this text.
+    // Whether a slice takes this text, and a sink that has room for it a byte at a time.
     fn is_padded(self, flags: &HexFlags, to: &mut Destination) -> bool {
         let len = self.text.len();
         self.is_written(flags, len, to)

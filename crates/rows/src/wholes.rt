@@ -330,7 +330,7 @@ fn all_write(bytes: &[u8], text: &[u8], case: CheckCase, to: &mut Destination) -
     slices::encodes(given, to, Ok(text))
 }
 
-// Whether they read the bytes from the text under its policy, and the plans from either case too.
+// Whether they read the bytes from the text, under its policy and in either case.
 fn all_read(text: &[u8], bytes: &[u8], case: CheckCase, to: &mut Destination) -> bool {
     let given = Given {
         case,
@@ -340,6 +340,7 @@ fn all_read(text: &[u8], bytes: &[u8], case: CheckCase, to: &mut Destination) ->
     is_accepted(text, case, bytes, to)
         && is_accepted(text, CheckCase::None, bytes, to)
         && slices::decodes(given, to, Ok(bytes))
+        && slices::decodes_plainly(given, to, Ok(bytes))
 }
 
 /// `both CASE BYTES`: the text, which stands where it was written to when it is read, and the bytes are

@@ -1,5 +1,5 @@
 -- A decoder may have been fed as many pairs of zeros as it has counted, and then the digit that waits.
-use Rattle.std.proofs.Common.{arith, ◌≡◌, ℕ, ◌++◌, ◌/◌, ◌<◌, List, replicate, true, false, refl, length-append}
+use Rattle.std.proofs.Common.{arith, ℕ, ◌++◌, ◌/◌, ◌<◌, List, replicate, true, false, refl, length-append}
 use Rattle.std.specs.Option.{option_to_list}
 use Rattle.std.proofs.lemmas.List.{length-replicate}
 use Rattle.std.proofs.lemmas.List.Elements.{All-replicate}

@@ -33,7 +33,7 @@ returns-in-Err-feed g c =
       so_far.0 ++ piece,
       Consumes-trans _ _ _ _ _ so_far.1.2 c.in-Ok.ensures.bytes.0,
       refused-feed _ so_far.0 piece _ left old new _ fits (c.in-Err-feed.ensures.feeds so_far.0 so_far.1.0 has)
-        (record { fed = so_far.0; chunk = piece; parts = refl; short = omega (arith, size, c.in-Ok.ensures.bound.0); wrote = record { bytes = so_far.1.0; waiting = _; spelled = has.1; put = so_far.1.3 } }),
+          (record { fed = so_far.0; chunk = piece; parts = refl; short = omega (arith, size, c.in-Ok.ensures.bound.0); wrote = record { bytes = so_far.1.0; waiting = _; spelled = has.1; put = so_far.1.3 } }),
     )
 
 pub returns-in-Err-put_all : goal.returns-in-Err-put_all
