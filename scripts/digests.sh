@@ -18,7 +18,7 @@ tar -C "$top" -c --exclude=out crates crates.txt HANDLES | tar -C "$build" -x
 echo 'relist: hex_program hex_lists hex_format hex_core' >>"$build/crates.txt"
 
 # What the repository's own checks left saves a first run most of the proving.
-for crate in hex_core hex_codec hex_format hex_lists hex_program; do
+for crate in hex_core hex_codec hex_format hex_lists hex_operations hex_program; do
     kept=$build/crates/$crate/out
     if [ ! -e "$kept" ] && [ -e "$top/crates/$crate/out" ]; then
         cp -R "$top/crates/$crate/out" "$kept" || rm -rf "$kept"

@@ -35,8 +35,8 @@ case $#:${1-} in
 esac
 
 cd "$(dirname "$0")/.."
-libraries='hex_core hex_codec hex_format hex_lists hex_json faster_hex hex_program callers
-    refusing_allocator'
+libraries='hex_core hex_codec hex_format hex_lists hex_json faster_hex hex_operations hex_program
+    callers refusing_allocator'
 made=$folder
 if [ -z "$made" ]; then
     made=$(mktemp -d)

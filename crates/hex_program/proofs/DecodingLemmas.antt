@@ -16,7 +16,7 @@ use Rattle.hex_program.specs.declared.failure.Failure.{Failure}
 use Rattle.hex_program.specs.declared.failure.Failure.TheVariants.{Codec, OutOfMemory}
 use Rattle.hex_program.specs.Decoding.{DecodingFailure, EndsRefused, Kept}
 use Rattle.hex_program.specs.Input.{ReadsAll, input_limit}
-use Rattle.hex_program.specs.Operations.{without_newline}
+use Rattle.hex_operations.specs.Operations.{without_newline}
 
 -- valid digits more
 pub kept-fed : (before digits old new bytes : List ℕ) (d d' : Decoder) (o : Option Error) (count n : ℕ) → is_some o ≡ false

@@ -5,11 +5,11 @@ use Rattle.std.specs.Io.KnownBytes.{Keeps}
 use Rattle.std.proofs.KnownBytes.{Appends-kept, Keeps-trans}
 use Rattle.hex_core.specs.declared.error.Error.{Error}
 use Rattle.hex_format.specs.Sink.{SinkState}
-use Rattle.hex_program.specs.declared.operation.RunFault.{RunFault}
-use Rattle.hex_program.specs.declared.operation.RunFault.TheVariants as fault
+use Rattle.hex_operations.specs.declared.operation.RunFault.{RunFault}
+use Rattle.hex_operations.specs.declared.operation.RunFault.TheVariants as fault
 use Rattle.hex_program.specs.declared.failure.Failure.{Failure}
 use Rattle.hex_program.specs.Input.{ReadsAll}
-use Rattle.hex_program.specs.Operations.{RunsBy}
+use Rattle.hex_operations.specs.Operations.{RunsBy}
 use Rattle.hex_program.specs.Failures.{EndsRun, status_after}
 use Rattle.hex_program.specs.Serving.{ServesBy}
 

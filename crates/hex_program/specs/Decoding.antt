@@ -9,7 +9,7 @@ use Rattle.hex_codec.specs.declared.stream.Decoder.{Decoder}
 use Rattle.hex_program.specs.declared.failure.Failure.{Failure}
 use Rattle.hex_program.specs.declared.failure.Failure.TheVariants.{Codec, ReadFailed, OutOfMemory, InputTooLong}
 use Rattle.hex_program.specs.Input.{ReadsAll, input_limit}
-use Rattle.hex_program.specs.Operations.{without_newline}
+use Rattle.hex_operations.specs.Operations.{without_newline}
 
 -- an input was read whose digits spell these bytes
 abbrev pub ReadsDecoded : CheckCase → Option (List ℕ) → Option (List ℕ) → List ℕ → Type 0

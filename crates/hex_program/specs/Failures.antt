@@ -1,8 +1,8 @@
 -- The failures of `fhex`: their statuses, their texts, and which one a run and a flush end in.
 use Rattle.std.specs.Prelude.{◌≡◌, ℕ, List, codes, Result, Ok, Err, IfErr}
 use Rattle.hex_core.specs.Message.{error_text}
-use Rattle.hex_program.specs.declared.operation.RunFault.{RunFault}
-use Rattle.hex_program.specs.declared.operation.RunFault.TheVariants as fault
+use Rattle.hex_operations.specs.declared.operation.RunFault.{RunFault}
+use Rattle.hex_operations.specs.declared.operation.RunFault.TheVariants as fault
 use Rattle.hex_program.specs.declared.failure.Failure.{Failure}
 use Rattle.hex_program.specs.declared.failure.Failure.TheVariants.{Codec, Usage, ReadFailed, WriteFailed, OutOfMemory, InputTooLong}
 

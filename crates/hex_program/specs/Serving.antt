@@ -5,9 +5,9 @@ use Rattle.hex_core.specs.declared.digit.CheckCase.{CheckCase}
 use Rattle.hex_core.specs.declared.error.Error.{Error}
 use Rattle.hex_core.specs.Refusal.{source_refusal}
 use Rattle.hex_core.specs.Text.{Spells}
-use Rattle.hex_program.specs.declared.operation.Op.{Op}
+use Rattle.hex_operations.specs.declared.operation.Op.{Op}
 use Rattle.hex_program.specs.Input.{ReadsAll}
-use Rattle.hex_program.specs.Operations.{IsOutput, op_of_words, op_refusal, without_newline}
+use Rattle.hex_operations.specs.Operations.{IsOutput, op_of_words, op_refusal, without_newline}
 
 -- the program's words name neither an operation nor the stored vectors
 abbrev pub NamesNothing : List (List ℕ) → Type 0

@@ -6,13 +6,13 @@ ghost use Rattle.hex_core.specs.Refusal.{source_refusal};
 ghost use Rattle.hex_core.specs.Text.{Spells};
 ghost use Rattle.hex_codec.specs.Stream.{policy_of};
 ghost use Rattle.hex_program.specs.Decoding.{DecodingFailure, EndsRefused, Kept, ReadsDecoded};
-ghost use Rattle.hex_program.specs.Operations.{without_newline};
+ghost use Rattle.hex_operations.specs.Operations.{without_newline};
 
 use crate::failure::Failure;
 use crate::input::{CHUNK, INPUT_LIMIT};
-use crate::operation::digits_in;
 use hex_codec::stream::Decoder;
 use hex_core::{CheckCase, Error};
+use hex_operations::operation::digits_in;
 use std::alloc::{AllocError, Allocator};
 use std::io::Read;
 

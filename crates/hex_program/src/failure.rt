@@ -3,8 +3,8 @@
 ghost use Rattle.std.specs.Prelude.{◌≡◌, ◌⊎◌, Some};
 ghost use Rattle.hex_program.specs.Failures.{failure_of, failure_text, status_of};
 
-use crate::operation::RunFault;
 use hex_core::Error;
+use hex_operations::RunFault;
 use std::fmt;
 
 /// Why `fhex` does not end well. Displayed, it is the line that goes to standard error.

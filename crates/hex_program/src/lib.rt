@@ -5,7 +5,6 @@
 pub mod decoding;
 pub mod failure;
 pub mod input;
-pub mod operation;
 mod plain_run;
 pub mod plain_vectors;
 pub mod program;
@@ -16,9 +15,14 @@ pub mod vectors;
 pub use crate::decoding::read_decoded;
 pub use crate::failure::Failure;
 pub use crate::input::{INPUT_LIMIT, read_input};
-pub use crate::operation::{Op, RunFault, run};
 pub use crate::plain_vectors::{PLAIN_VECTORS, PlainVector, Statement};
 pub use crate::program::{refuse, serve, serve_vectors};
 pub use crate::unretried::Unretried;
 pub use crate::vector_run::{Codec, VectorFault, run_vectors, run_vectors_under};
 pub use crate::vectors::{Call, VECTORS, Vector};
+pub use hex_operations::{Op, RunFault, run};
+
+/// The operations of `fhex`, and how one runs over an input and a sink.
+pub mod operation {
+    pub use hex_operations::operation::{Op, RunFault, run, run_in};
+}

@@ -8,13 +8,13 @@ ghost use Rattle.hex_program.specs.Serving.{NamesNothing, Serves, ServesDecoding
 use crate::decoding::read_decoded;
 use crate::failure::Failure;
 use crate::input::read_input;
-use crate::operation::{Op, RunFault, run_in};
 use crate::plain_vectors::{PLAIN_VECTORS, PlainVector};
 use crate::vector_run::{VectorFault, run_vectors};
 use crate::vectors::{VECTORS, Vector};
 use arrayvec::ArrayString;
 use hex_core::CheckCase;
 use hex_format::{WriterSink, put_all};
+use hex_operations::operation::{Op, RunFault, run_in};
 use std::alloc::{Allocator, Global};
 use std::fmt;
 use std::io::{Read, Write};

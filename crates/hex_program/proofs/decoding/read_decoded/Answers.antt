@@ -9,7 +9,7 @@ use Rattle.hex_core.specs.Refusal.{source_refusal}
 use Rattle.hex_core.specs.Text.{Spells}
 use Rattle.hex_program.specs.Decoding.{EndsRefused}
 use Rattle.hex_program.specs.Input.{ReadsAll}
-use Rattle.hex_program.specs.Operations.{without_newline}
+use Rattle.hex_operations.specs.Operations.{without_newline}
 use Rattle.hex_codec.proofs.ListLemmas.{take-front_put}
 use Rattle.hex_program.proofs.DecodingLemmas.{longer, refused-all}
 use Rattle.hex_program.proofs.decoding.read_decoded.Given as given

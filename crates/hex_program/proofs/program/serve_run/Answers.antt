@@ -1,7 +1,7 @@
 -- What the run of all that was read put, and how the program ended, is how the operation is served.
 use Rattle.std.proofs.Common.{sym}
 use Rattle.hex_format.specs.Sinks.{writer_state}
-use Rattle.hex_program.specs.Operations.{IsOutput, OpNeedsMemory, op_refusal}
+use Rattle.hex_operations.specs.Operations.{IsOutput, OpNeedsMemory, op_refusal}
 use Rattle.hex_program.proofs.RunFacts.{serves_run}
 use Rattle.hex_program.proofs.program.serve_run.Goals as goal
 

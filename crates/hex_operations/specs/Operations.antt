@@ -8,10 +8,10 @@ use Rattle.hex_core.specs.declared.error.Error.{Error}
 use Rattle.hex_core.specs.Text.{Spells, lowercase, text, uppercase}
 use Rattle.hex_core.specs.Refusal.{source_refusal}
 use Rattle.hex_format.specs.Sink.{PutsNothing, SinkState, Stops, Takes}
-use Rattle.hex_program.specs.declared.operation.Op.{Op}
-use Rattle.hex_program.specs.declared.operation.Op.TheVariants.{Encode, EncodeUpper, Decode, DecodeLower, DecodeUpper}
-use Rattle.hex_program.specs.declared.operation.RunFault.{RunFault}
-use Rattle.hex_program.specs.declared.operation.RunFault.TheVariants as fault
+use Rattle.hex_operations.specs.declared.operation.Op.{Op}
+use Rattle.hex_operations.specs.declared.operation.Op.TheVariants.{Encode, EncodeUpper, Decode, DecodeLower, DecodeUpper}
+use Rattle.hex_operations.specs.declared.operation.RunFault.{RunFault}
+use Rattle.hex_operations.specs.declared.operation.RunFault.TheVariants as fault
 
 -- the operation that a word names
 abbrev pub op_of_word : List ℕ → Option Op

@@ -3,7 +3,7 @@
 ghost use Rattle.std.specs.Prelude.{◌≡◌, ◌++◌, ◌∷◌, [], ◌<◌, ◌-◌, ◌^◌, map};
 ghost use Rattle.hex_core.specs.Text.{text};
 ghost use Rattle.hex_format.specs.Sink.{Puts};
-ghost use Rattle.hex_program.specs.Operations.{Runs, RunsDecoding, RunsEncoding, op_of_word, op_of_words, without_newline};
+ghost use Rattle.hex_operations.specs.Operations.{Runs, RunsDecoding, RunsEncoding, op_of_word, op_of_words, without_newline};
 
 use hex_codec::hex_decode_vec_with_case;
 use hex_core::{CheckCase, Error};
