@@ -1,10 +1,10 @@
 -- Digits that come bit by bit into one buffer.
-use Rattle.std.specs.Prelude.{◌≡◌, ◌<◌, ℕ, ◌+◌, ◌-◌, ◌*◌, ◌/◌, List, [], ◌++◌, length, take, Option, Some, Result, Ok, Err, IfOk, MatchResult}
+use Rattle.std.specs.Prelude.{◌≡◌, ◌<◌, ℕ, ◌+◌, ◌-◌, ◌*◌, ◌/◌, List, [], ◌++◌, length, take, Option, Some, Result, Ok, Err, MatchResult}
 use Rattle.std.specs.Io.KnownBytes.{Consumes, IsAtEnd}
 use Rattle.hex_core.specs.declared.digit.CheckCase.TheVariants as policy
 use Rattle.hex_core.specs.declared.error.Error.{Error}
 use Rattle.hex_core.specs.Text.{Spells, with_front}
-use Rattle.hex_codec.specs.Stream.{feed_refusal, position_of}
+use Rattle.hex_codec.specs.Stream.{feed_refusal, policy_of, position_of}
 use Rattle.hex_codec.specs.declared.stream.Decoder.{Decoder}
 use Rattle.hex_format.specs.Streams.{RefusedFor, Wrote}
 use Rattle.hex_format.specs.declared.streams.StreamFault.{StreamFault}
@@ -36,7 +36,9 @@ DecodesSoFar digits old new result = MatchResult result
     (λ n. (bytes : List ℕ) × (n ≡ length bytes) × Spells policy.None (take (2 * (length digits / 2)) digits) bytes × (new ≡ with_front old bytes))
     (λ e. (feed_refusal policy.None [] digits (length old) ≡ Some e) × (new ≡ old))
 
--- a decoder counts the digits that it is fed, and as many bytes are written as pairs become whole
-abbrev pub DecodesMore : Decoder → Decoder → List ℕ → Result ℕ Error → Type 0
-DecodesMore old new digits result = IfOk result
+-- a decoder counts the digits that it is fed, and as many bytes are written as pairs become whole;
+-- a refusal is that of digits behind as many as it had counted
+abbrev pub DecodesMore : Decoder → Decoder → List ℕ → ℕ → Result ℕ Error → Type 0
+DecodesMore old new digits room result = MatchResult result
     (λ n. (position_of new ≡ position_of old + length digits) × (n ≡ position_of new / 2 - position_of old / 2))
+    (λ e. (fed : List ℕ) × (length fed ≡ position_of old) × (feed_refusal (policy_of old) fed digits room ≡ Some e))

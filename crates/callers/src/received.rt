@@ -1,5 +1,6 @@
 //! Callers whose digits come bit by bit into one buffer, each proved.
 
+ghost use Rattle.std.specs.Prelude.{length};
 ghost use Rattle.callers.specs.Received.{DecodesMore, DecodesSoFar, ReadsDigits};
 
 use faster_hex::stream::{Decoder, StreamFault, decode_stream};
@@ -44,8 +45,8 @@ pub fn decode_so_far(digits: &[u8], buffer: &mut [u8]) -> Result<usize, Error>
 
 /// Decodes more digits by a decoder that is handed in, and returns how many bytes they make whole.
 ///
-/// The caller's proof knows that number, and where the decoder stands then, whatever it was fed
-/// before.
+/// The caller's proof knows that number and where the decoder stands then, or what is refused,
+/// whatever the decoder was fed before.
 ///
 /// ```rust
 /// use faster_hex::stream::Decoder;
@@ -57,7 +58,7 @@ pub fn decode_so_far(digits: &[u8], buffer: &mut [u8]) -> Result<usize, Error>
 /// assert_eq!(rt; &buffer, b"he..");
 /// ```
 pub fn decode_more(decoder: &mut Decoder, more: &[u8], buffer: &mut [u8]) -> Result<usize, Error>
-    ensures { DecodesMore decoder.old decoder.new more.now result }
+    ensures { DecodesMore decoder.old decoder.new more.now (length buffer.old) result }
 {
     every_decoder_has_been_fed();
     decoder.feed(more, buffer)

@@ -8,14 +8,14 @@ use Rattle.callers.specs.Received.{DecodesMore}
 use Rattle.callers.proofs.received.decode_more.Goals as goal
 
 fed-more : (start end : Decoder) (fed written digits old new : List ℕ) (result : Result ℕ Error) → HasFed start fed written
-    → Feeds start end digits old new result → DecodesMore start end digits result
+    → Feeds start end digits old new result → DecodesMore start end digits (length old) result
 fed-more start end fed written digits old new (Ok n) has feeds =
     let more = (feeds fed written has).1 in
     let before = count-but start.case fed written start.waiting has.1 in
     let after = count-but end.case (fed ++ digits) (written ++ more.0) end.waiting more.3.1 in
     let place : position_of end ≡ position_of start + length digits = omega (arith, has.0, more.3.0, length-append fed digits) in
     (place, omega (arith, place, has.0, before, after, more.1, length-append fed digits, length-append written more.0))
-fed-more start end fed written digits old new (Err e) has feeds = tt
+fed-more start end fed written digits old new (Err e) has feeds = (fed, omega (arith, has.0), feeds fed written has)
 
 pub returns : goal.returns
 returns c =
