@@ -16,6 +16,8 @@ use types.Logic.{sem}
 use Rattle.hex_core.proofs.Lent.{Plan, plan_lawful, plan_makes, Lent, Answer, lent_lawful}
 use Rattle.hex_core.specs.Calls.{EncodesFront}
 use Rattle.hex_core.specs.Loan.{LendsAnswer}
+use Rattle.hex_core.specs.Plans.{name_of}
+use Rattle.std.specs.Prelude.{◌≡◌, codes}
 use Rattle.hex_core.specs.contracts.plan.Backend.plain as p
 use Rattle.hex_core.proofs.plan.Backend.plain.Symbol as p_symbol
 use Rattle.hex_core.proofs.plan.Backend.plain.Met as p_met
@@ -82,7 +84,7 @@ hands_on 𝓤 𝓛 𝓜 𝓡 upper k closed plain encode =
     let y : P.Ghost = ((tt, tt, tt, tt, tt), tt) in
     nothing ! $ nothing ! $ join ! $ nothing ! $ move ! (1 ∷ 0 ∷ []) $ use2 𝓛 (raw (P.pre y)) (id⊢ 𝓤 _) $
     calls_at ! framed_calls P (p_met.met 𝓤 𝓛 𝓜 𝓡 plain) y (no_more !) (λ v.
-    use1 𝓛 (later (some (λ (plan : Plan.Denot). (‵ ftrue ⊛ ‵ (Plan.own_val plan (v ∷ []))) ⊛ some (λ (ws : Lasts p.ended y.0.0 y.0.3). ‵ (lasts p.ended y.0.0 y.0.3 ws) ⊛ ‵ ftrue)))) (id⊢ 𝓤 _) $
+    use1 𝓛 (later (some (λ (plan : Plan.Denot). (‵ ftrue ⊛ ‵ (Plan.own_val plan (v ∷ []))) ⊛ some (λ (ws : Lasts p.ended y.0.0 y.0.3). ‵ (lasts p.ended y.0.0 y.0.3 ws) ⊛ raw (fact 𝓤 (name_of plan ≡ codes "plain")))))) (id⊢ 𝓤 _) $
     await ! tt $ pick ! (λ plan. split ! $ split ! $ drop ! $ peeks ! Plan (Is Plan) (shows 𝓛 Plan) plan (v ∷ []) (λ is_plan. lands_as ! refl refl ((plan_lawful 𝓛).typed plan (v ∷ []) is_plan).0 $
     drop ! $ pick ! (λ ws. split ! $ drop ! $ drop ! $
     sets ! (addr ! (from ! (fld ! refl (hop ! (look_in_at ! 2 (sub ! 0 refl (whole !))) (stop !))))) refl (tt, tt) $

@@ -1,6 +1,6 @@
 -- Blocks of a source, and what decoding them makes of a destination.
 use Rattle.std.proofs.Common.{◌≡◌, ℕ, suc, ◌+◌, ◌-◌, ◌*◌, ◌/◌, ◌%◌, ◌<◌, ◌≤◌, ◌↔◌, Bool, false, List, length, map, get_or, inl, inr, refl, sym, ap, ap₂, subst, ◌∙◌, Option, Some, None, Fits, w8, arith}
-use Rattle.std.specs.Prelude.{IsSome, IsTrue, slice_index, slice_range}
+use Rattle.std.specs.Prelude.{IfSome, IsSome, IsTrue, slice_index, slice_range}
 use Rattle.std.proofs.Math.Nat.{le-div_iff_mul-le, lt-div-mul-add, mod-add-div, mul_comm, mul-le-mul_right}
 use Rattle.std.proofs.lemmas.Bool.{cases_lt, iff_false}
 use Rattle.std.proofs.lemmas.List.{length-map}
@@ -8,13 +8,13 @@ use Rattle.std.proofs.lemmas.Simd.{get_or-chunk, get_or-put_chunk_above, get_or-
 use lib.Lanes.{chunk, put_chunk}
 use std.Logic.{↔_trans}
 use Rattle.hex_core.specs.declared.digit.CheckCase.{CheckCase}
-use Rattle.hex_core.specs.Arithmetic.{packed, valid_nibble}
+use Rattle.hex_core.specs.Arithmetic.{AreUnsigned, packed}
 use Rattle.hex_core.specs.Blocks.{DecodesRange, NibblesFrom}
 use Rattle.hex_core.specs.Digit.{value}
 use Rattle.hex_core.specs.Search.{AllValid, first_invalid}
-use Rattle.hex_core.specs.Lanes.{AreSmall, IsNibble}
+use Rattle.hex_core.specs.Lanes.{AreChecked, AreSmall, AreValues, IsNibble}
 use Rattle.hex_core.specs.Text.{Spells}
-use Rattle.hex_core.proofs.ByteLemmas.{valid_value, value_small}
+use Rattle.hex_core.proofs.ByteLemmas.{value_is, value_small}
 use Rattle.hex_core.proofs.LaneLemmas.{mapped_at}
 use Rattle.hex_core.proofs.PairLemmas.{length-packed, packed_at}
 use Rattle.hex_core.proofs.SearchLemmas.{none_valid, first_invalid_none, part_is_valid}
@@ -66,13 +66,6 @@ module _ (c : CheckCase) (s : List ℕ) where
   pub valid_whole : (end : ℕ) → end ≡ length s → AllValid c s 0 end ↔ (first_invalid c s ≡ None)
   valid_whole end all = (λ valid. first_invalid_none c s (rw (← all) valid), valid_range 0 end (omega arith))
 
-  -- where some byte is invalid, a front of valid bytes is not all
-  pub some_behind : (i : ℕ) → ¬ (first_invalid c s ≡ None) → AllValid c s 0 i → i ≤ length s → i < length s
-  some_behind i bad valid le = elim (cases_lt i (length s)) [
-    | inl lt ↦ lt
-    | inr past ↦ absurd (bad ((valid_whole i (omega (arith, le, past))).0 valid))
-  ]
-
   -- whole blocks that are the source
   pub whole_valid : (block : ℕ) → length s % block ≡ 0 → AllValid c s 0 (length s / block * block) → first_invalid c s ≡ None
   whole_valid block e = (valid_whole _ (blocks_end (length s) block e)).0
@@ -92,6 +85,10 @@ module _ (c : CheckCase) (s : List ℕ) where
         λ none. first_invalid_none c s (valid_over 0 done done (length s) (omega arith) front (part.0 none)),
         λ none. part.1 (valid_range done (length s) (omega arith) none),
       )
+
+  -- a range behind a valid front is valid exactly where all of it is
+  pub behind_valid : (done end : ℕ) → done ≤ end → AllValid c s 0 done → AllValid c s done end ↔ AllValid c s 0 end
+  behind_valid done end le front = (valid_over 0 done done end (omega arith) front, λ all k low lt. all k (omega arith) lt)
 
   -- where a part fails its test, the source has an invalid byte
   pub part_fails : {t : Bool} (start end : ℕ) → end ≤ length s → IsTrue t ↔ AllValid c s start end → t ≡ false → IsTrue false ↔ (first_invalid c s ≡ None)
@@ -119,20 +116,20 @@ valid_chunk c s at n end all inside = (
   λ valid k low lt. subst (λ b. IsSome (value c b)) (sym (get_or-chunk at n s k 0 lt)) (valid (at + k) (omega arith) (omega arith)),
 )
 
--- of which a front is valid
-pub valid_in_chunk : (c : CheckCase) (s : List ℕ) (at w n : ℕ) → n ≤ w → AllValid c (chunk at w s) 0 n → AllValid c s at (at + n)
-valid_in_chunk c s at w n inside valid k low lt =
-    subst (λ b. IsSome (value c b)) (get_or-chunk at w s (k - at) 0 (omega arith) ∙ ap (slice_index s) (omega arith)) (valid (k - at) (omega arith) (omega arith))
+-- marks have no sign exactly where each byte has a value
+pub unsigned_valid : (c : CheckCase) (v r : List ℕ) (n : ℕ) → length v ≡ n → length r ≡ n → AreChecked c v r → AreUnsigned r ↔ AllValid c v 0 n
+unsigned_valid c v r n long wide are = (
+  λ all k low lt. (are k (omega arith)).0 (all k (omega arith)),
+  λ valid k h. (are k (omega arith)).1 (valid k (omega arith) (omega arith)),
+)
 
--- where each byte has a value
-pub valid_nibbles_chunk : (c : CheckCase) (s v : List ℕ) (at n : ℕ) → at + n ≤ length s → ((k : ℕ) → Fits w8 (get_or s k 0)) → AllValid c s at (at + n) → v ≡ map valid_nibble (chunk at n s) → NibblesFrom c s at n v × AreSmall v
-valid_nibbles_chunk c s v at n inside fits valid is =
-    let wide : length (chunk at n s) ≡ n = length-chunk at n s inside in
-    let lane : (k : ℕ) → k < n → (value c (get_or s (at + k) 0) ≡ Some (get_or v k 0)) × (get_or v k 0 < 16) = λ k h.
-    rw (mapped_at valid_nibble (chunk at n s) k is (omega arith), get_or-chunk at n s k 0 h)
-    (valid_value c (get_or s (at + k) 0) (fits (at + k)).fits (valid (at + k) (omega arith) (omega arith))) in
-    let long : length v ≡ n = ap length is ∙ length-map (chunk at n s) valid_nibble ∙ wide in
-    (record { long = long; each = λ k h. subst (λ o. IsNibble o (get_or v k 0)) (sym (lane k h).0) refl }, λ k h. (lane k (omega arith)).1)
+-- nibbles of bytes that have values
+pub valid_nibbles_chunk : (c : CheckCase) (s v : List ℕ) (at n : ℕ) → at + n ≤ length s → length v ≡ n → AllValid c s at (at + n) → AreValues c (chunk at n s) v → NibblesFrom c s at n v × AreSmall v
+valid_nibbles_chunk c s v at n inside long valid are =
+    let lane : (k : ℕ) → k < n → value c (get_or s (at + k) 0) ≡ Some (get_or v k 0) = λ k h.
+    let here = subst (λ b. IfSome (value c b) (λ x. get_or v k 0 ≡ x)) (get_or-chunk at n s k 0 h) (are k (omega (arith, length-chunk at n s inside))) in
+    value_is (value c (get_or s (at + k) 0)) (get_or v k 0) (valid (at + k) (omega arith) (omega arith)) here in
+    (record { long = long; each = λ k h. subst (λ o. IsNibble o (get_or v k 0)) (sym (lane k h)) refl }, λ k h. value_small c (get_or s (at + k) 0) (get_or v k 0) (lane k (omega arith)))
 
 -- all nibbles of a block are below 16 exactly where it is valid
 digit_of : (o : Option ℕ) (n : ℕ) → IsNibble o n → n < 16 → o ≡ Some n

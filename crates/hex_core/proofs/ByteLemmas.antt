@@ -16,7 +16,7 @@ use Rattle.hex_core.specs.declared.digit.CheckCase.TheVariants as policy
 use Rattle.hex_core.specs.Arithmetic.{AreLow, AreZero, excess, interleaved, letter, reach, saturating_add, valid_nibble, wrapping_sub}
 use Rattle.hex_core.specs.Digit.{digit, value}
 use Rattle.hex_core.specs.Search.{AllValid}
-use Rattle.hex_core.specs.Lanes.{Admits, AreNibbles, IsNibble}
+use Rattle.hex_core.specs.Lanes.{Admits, AreChecked, AreNibbles, AreValues, IsNibble}
 use Rattle.hex_core.specs.Lookup.{entry}
 use Rattle.hex_core.specs.Text.{text}
 use Rattle.hex_core.proofs.LaneLemmas.{lane_below, mapped, mapped_at, maps_agree, or_zero, passes_where, zipped_at}
@@ -139,15 +139,6 @@ value_small policy.None b v h = grind (arith, nat_tests)
 value_small policy.Lower b v h = grind (arith, nat_tests)
 value_small policy.Upper b v h = grind (arith, nat_tests)
 
-some_is : (o : Option ℕ) (n : ℕ) → IsSome o → value_test o n ≡ true → o ≡ Some n
-some_is (Some v) n s e = ap Some (sym (eqb-true n v e))
-some_is None n s e = cc
-
-pub valid_value : (c : CheckCase) (b : ℕ) → b < 256 → IsSome (value c b) → (value c b ≡ Some (valid_nibble b)) × (valid_nibble b < 16)
-valid_value c b h s =
-    let is = some_is (value c b) (valid_nibble b) s (agree_below_at (λ x. value_test (value c x) (valid_nibble x)) always 256 b (maps_are_right c).3 h) in
-    (is, value_small c b (valid_nibble b) is)
-
 -- ---- the digits of a byte
 
 small_entry : (row : List ℕ) (a : ℕ) → a < 16 → entry row a ≡ get_or row a 0
@@ -163,34 +154,41 @@ looked_up_text upper row (b ∷ v) digits fits =
     ap₂ (λ a r. a ∷ r) (read (b / 16) (omega arith))
     (ap₂ (λ a r. a ∷ r) (ap (entry row) (and_mask b 4) ∙ read (b % 16) (omega arith)) (looked_up_text upper row v digits fits.1))
 
--- the bytes below the lowest bit that is clear have a value
-pub ones_below : (m k : ℕ) → m < 2 ^ 64 → k < 64 → k < trailing_ones w64 m → bit_at m k ≡ 1
-ones_below m k fits inside lt = elim (cases_lt (m + 1) (2 ^ 64)) [
-  | inl less ↦ (bit_at-trailing_ones w64 m less).2 k lt
-  | inr most ↦ (let all : m ≡ 2 ^ 64 - 1 = omega arith in rw all (bit_at_ones 64 k inside))
-]
+-- ---- nibbles and marks
 
-pub valid_below : (c : CheckCase) (v : List ℕ) (m n end : ℕ) → m ≡ mask_l (map (has c) v) → length v ≡ n → n ≤ 64 → end ≤ n → end ≤ trailing_ones w64 m → m < 2 ^ 64 → AllValid c v 0 end
-valid_below c v m n end is long small inside few fits k low lt = (admits c v m is k (omega arith)).0 (ones_below m k fits (omega arith) (omega arith))
+-- a nibble is the value, where there is one
+nibble_value : (o : Option ℕ) (n : ℕ) → IsNibble o n → IfSome o (λ v. n ≡ v)
+nibble_value (Some v) n e = e
+nibble_value None n e = tt
 
--- and the byte of that bit has none
-no_value : (o : Option ℕ) → ¬ IsSome o → o ≡ None
-no_value (Some x) none = absurd (none refl)
-no_value None none = refl
+pub nibbles_values : (c : CheckCase) (v r : List ℕ) → AreNibbles c v r → AreValues c v r
+nibbles_values c v r are i h = nibble_value (value c (get_or v i 0)) (get_or r i 0) (are i h)
 
-all_ones : trailing_ones w64 (2 ^ 64 - 1) ≡ 64
-unfolding count_trailing_zeros
-all_ones = refl
+pub ranged_values : (v r : List ℕ) → Each1 (Fits w8) v → r ≡ map valid_nibble v → (c : CheckCase) → AreValues c v r
+ranged_values v r fits is c i h =
+    let b = get_or v i 0 in
+    let test = agree_below_at (λ x. value_test (value c x) (valid_nibble x)) always 256 b (maps_are_right c).3 (lane_below v fits i) in
+    rw (mapped_at valid_nibble v i is h) (value_by (value c b) (valid_nibble b) test)
 
-pub invalid_behind : (c : CheckCase) (v : List ℕ) (m n : ℕ) → m ≡ mask_l (map (has c) v) → length v ≡ n → n ≤ 64 → trailing_ones w64 m < n → value c (get_or v (trailing_ones w64 m) 0) ≡ None
-invalid_behind c v m n is long small lt =
-    let fits : m < 2 ^ 64 = omega (arith, mask_below c v m n is long, pow_mono {i = n} {j = 64} small) in
-    elim (cases_lt (m + 1) (2 ^ 64)) [
-      | inl less ↦
-          let clear = (bit_at-trailing_ones w64 m less).1 in
-          no_value (value c (get_or v (trailing_ones w64 m) 0)) (λ some. let set = (admits c v m is (trailing_ones w64 m) (omega arith)).1 some in absurd (omega arith))
-      | inr full ↦
-          let all : m ≡ 2 ^ 64 - 1 = omega (arith, fits, full) in
-          let ones : trailing_ones w64 m ≡ 64 = ap (trailing_ones w64) all ∙ all_ones in
-          absurd (omega (arith, ones, lt, small))
-    ]
+-- a nibble is below 16, and a reach below 6, exactly where there is a value
+mark_of : (c : CheckCase) (b n m : ℕ) (o : Option ℕ) → value c b ≡ o → IsNibble o n → m ≡ saturating_add n 112 → (m < 128) ↔ IsSome o
+mark_of c b n m (Some v) e is mark = let small : v < 16 = value_small c b v e in (λ lt. refl, λ s. omega (arith, mark, is, small))
+mark_of c b n m None e is mark = (λ lt. absurd (omega arith), λ s. cc)
+
+pub saturating_marks : (c : CheckCase) (v n r : List ℕ) → AreNibbles c v n → length n ≡ length v → r ≡ map (λ x. saturating_add x 112) n → AreChecked c v r
+saturating_marks c v n r are same is i h =
+    mark_of c (get_or v i 0) (get_or n i 0) (get_or r i 0) _ refl (are i h) (mapped_at (λ x. saturating_add x 112) n i is (omega arith))
+
+pub ranged_marks : (c : CheckCase) (v e r : List ℕ) → Each1 (Fits w8) v → e ≡ map (reach c) v → r ≡ map (λ x. saturating_add x 122) e → AreChecked c v r
+ranged_marks c v e r fits lanes is i h =
+    let b = get_or v i 0 in
+    let low = agree_below_at (λ x. ltb (reach c x) 6) (has c) 256 b (maps_are_right c).0 (lane_below v fits i) in
+    let mark : get_or r i 0 ≡ saturating_add (reach c b) 122 = mapped_at (λ x. saturating_add (reach c x) 122) v i (is ∙ mapped _ (reach c) v lanes) h in (
+      λ lt. sym low ∙ lt-ltb (reach c b) 6 (omega (arith, lt, mark)),
+      λ s. let under = ltb-true (reach c b) 6 (low ∙ s) in omega (arith, under, mark),
+    )
+
+-- the values of bytes that have one
+pub value_is : (o : Option ℕ) (n : ℕ) → IsSome o → IfSome o (λ v. n ≡ v) → o ≡ Some n
+value_is (Some v) n s e = ap Some (sym e)
+value_is None n s e = cc

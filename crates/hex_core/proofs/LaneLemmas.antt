@@ -211,3 +211,8 @@ pub high_bits_are_zero : (x : ℕ) → x < 256 → (bit_and x 240 ≡ 0) ↔ (x 
 high_bits_are_zero x h =
     let same = agree_below_at (λ x. eqb (bit_and x 240) 0) (λ x. ltb x 16) 256 x refl h in
     (λ z. ltb-true x 16 (sym same ∙ rw z refl), λ lt. eqb-true _ _ (same ∙ lt-ltb x 16 lt))
+
+pub sign_bit_is_zero : (x : ℕ) → x < 256 → (bit_and x 128 ≡ 0) ↔ (x < 128)
+sign_bit_is_zero x h =
+    let same = agree_below_at (λ x. eqb (bit_and x 128) 0) (λ x. ltb x 128) 256 x refl h in
+    (λ z. ltb-true x 128 (sym same ∙ rw z refl), λ lt. eqb-true _ _ (same ∙ lt-ltb x 128 lt))

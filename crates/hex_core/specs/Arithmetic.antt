@@ -1,5 +1,5 @@
 -- The arithmetic of the lanes, on one byte, one pair or one list. No public promise rests on it.
-use Rattle.std.specs.Prelude.{◌≡◌, ℕ, ◌+◌, ◌-◌, ◌*◌, ◌/◌, ◌%◌, ◌<◌, min, bit_or, List, [], ◌∷◌, EachIndex, slice_index, replicate}
+use Rattle.std.specs.Prelude.{◌≡◌, ℕ, ◌+◌, ◌-◌, ◌*◌, ◌/◌, ◌%◌, ◌<◌, min, bit_or, List, [], ◌∷◌, EachIndex, slice_index}
 use Rattle.hex_core.specs.declared.digit.CheckCase.{CheckCase}
 use Rattle.hex_core.specs.declared.digit.CheckCase.TheVariants as policy
 
@@ -10,6 +10,10 @@ AreZero lanes = EachIndex lanes (λ i. slice_index lanes i ≡ 0)
 -- each lane is below 6
 abbrev pub AreLow : List ℕ → Type 0
 AreLow lanes = EachIndex lanes (λ i. slice_index lanes i < 6)
+
+-- no lane has its sign bit
+abbrev pub AreUnsigned : List ℕ → Type 0
+AreUnsigned lanes = EachIndex lanes (λ i. slice_index lanes i < 128)
 
 -- a difference of bytes, modulo 256
 abbrev pub wrapping_sub : ℕ → ℕ → ℕ
@@ -46,10 +50,6 @@ reach c b = min (wrapping_sub b 48 - 4) (letter c b)
 -- the value of a byte that has one, which is the same under every policy that reads it
 abbrev pub valid_nibble : ℕ → ℕ
 valid_nibble b = min (wrapping_sub b 48) (wrapping_sub (bit_or b 0x20) 87)
-
--- what n words of two nibbles are multiplied by
-abbrev pub pair_factors : ℕ → List ℕ
-pair_factors n = replicate n 4097
 
 -- the byte of a word of two nibbles: 4097 is 2 ^ 12 + 1, so bits 8 to 15 become those of the first nibble over those of the second
 abbrev pub pair_byte : ℕ → ℕ

@@ -3,7 +3,7 @@ use Rattle.std.specs.Prelude.{◌≡◌, ℕ, ◌*◌, ◌/◌, List, [], ◌∷
 use Rattle.hex_core.specs.declared.digit.CheckCase.{CheckCase}
 use Rattle.hex_core.specs.declared.plan.Backend.{Backend}
 use Rattle.hex_core.specs.declared.kind.Kind.{Kind}
-use Rattle.hex_core.specs.declared.kind.Kind.TheVariants.{Scalar, Sse41, Avx2, Avx512, Neon}
+use Rattle.hex_core.specs.declared.kind.Kind.TheVariants.{Scalar, Sse41, Avx2, Avx512, Neon, Plain}
 use Rattle.hex_core.specs.Search.{first_invalid}
 use Rattle.hex_core.specs.Text.{Spells, with_front}
 
@@ -14,12 +14,13 @@ kind_name Sse41 = codes "sse41"
 kind_name Avx2 = codes "avx2"
 kind_name Avx512 = codes "avx512"
 kind_name Neon = codes "neon"
+kind_name Plain = codes "plain"
 
 -- the bytes of a plan's name
 abbrev pub name_of : Backend → List ℕ
 name_of b = kind_name b.0
 
--- the names of all plans, in their order
+-- the names of the plans that are listed, in their order; the plan of the plain calls is not
 abbrev pub plan_names : List (List ℕ)
 plan_names =
     codes "scalar" ∷ codes "sse41" ∷ codes "avx2" ∷ codes "avx512" ∷ codes "neon" ∷ []
@@ -28,6 +29,7 @@ plan_names =
 abbrev pub owned_block : List ℕ → ℕ
 owned_block name =
     if bytes_eq name (codes "avx512") then 128
+    else if bytes_eq name (codes "plain") then 128
     else if bytes_eq name (codes "avx2") || bytes_eq name (codes "neon") then 64
     else 0
 

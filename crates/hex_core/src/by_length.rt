@@ -1,19 +1,16 @@
-//! Decoding under every plan of lanes, checking under those of 64 of them, and writing what valid
-//! digits spell: blocks in registers where a source is short, and blocks of 64 digits above.
+//! The plan of the calls that name none: blocks in registers where a source is short, and blocks of 64
+//! digits above.
 
 ghost use Rattle.std.specs.Prelude.{◌≡◌, ◌↔◌, ◌*◌, ◌<◌, ◌≤◌, IsTrue, None, length};
 ghost use Rattle.hex_core.specs.Calls.{DecodesWhole};
 ghost use Rattle.hex_core.specs.Search.{first_invalid};
-ghost use Rattle.hex_core.specs.Shapes.{EndsCover};
 ghost use Rattle.hex_core.specs.Text.{Spells};
 
-use crate::blocks::check::{check_block, check_ends, check_long, check_one, check_two};
-use crate::blocks::decode::{
-    decode_four, decode_long, decode_one, decode_three, decode_two, write_blocks,
-};
+use crate::blocks::check::{check_block, check_long, check_two};
+use crate::blocks::decode::{decode_four, decode_long, decode_one, decode_three, decode_two};
 use crate::digit::CheckCase;
-use crate::scalar;
-use crate::vector::{factors, known_factors};
+use crate::nibbles::Ranged;
+use crate::{kernel, scalar};
 
 /// Returns whether every byte of `src` has a value under `case`.
 #[inline(always)]
@@ -22,14 +19,11 @@ pub fn check(src: &[u8], case: CheckCase) -> bool
 {
     match src.len() {
         0..16 => check_short(src, case),
-        16 => check_one::<16>(src, case),
-        17..=32 => check_two::<16>(src, case),
+        16..=32 => check_two::<16>(src, case),
         64 => check_block(src, case),
         33..64 => check_two::<32>(src, case),
         65..=128 => check_two::<64>(src, case),
-        129..=192 => check_ends::<32, 3, 3>(src, case),
-        193..=256 => check_ends::<64, 2, 2>(src, case),
-        _ => check_long::<64>(src, case),
+        _ => check_long(src, case),
     }
 }
 
@@ -58,9 +52,9 @@ pub fn decode(src: &[u8], dst: &mut [u8], case: CheckCase) -> bool
         return decode_few(src, dst, case);
     }
     match src.len() {
-        64 => decode_one::<64, 32>(src, dst, case, known_factors()),
-        0..64 => decode_two::<32, 16>(src, dst, case, known_factors()),
-        65..=128 => decode_two::<64, 32>(src, dst, case, known_factors()),
+        64 => decode_one::<64, 32>(src, dst, case),
+        0..64 => decode_two::<32, 16>(src, dst, case),
+        65..=128 => decode_two::<64, 32>(src, dst, case),
         _ => decode_more(src, dst, case),
     }
 }
@@ -73,10 +67,10 @@ fn decode_few(src: &[u8], dst: &mut [u8], case: CheckCase) -> bool
     ensures { DecodesWhole case src.now dst.old dst.new result }
 {
     match src.len() {
-        16 => decode_one::<16, 8>(src, dst, case, known_factors()),
-        32 => decode_one::<32, 16>(src, dst, case, known_factors()),
+        16 => decode_one::<16, 8>(src, dst, case),
+        32 => decode_one::<32, 16>(src, dst, case),
         0..16 => decode_short(src, dst, case),
-        _ => decode_two::<16, 8>(src, dst, case, known_factors()),
+        _ => decode_two::<16, 8>(src, dst, case),
     }
 }
 
@@ -88,39 +82,23 @@ fn decode_short(src: &[u8], dst: &mut [u8], case: CheckCase) -> bool
     ensures { DecodesWhole case src.now dst.old dst.new result }
 {
     match src.len() {
-        8..16 => decode_two::<8, 4>(src, dst, case, known_factors()),
-        4..8 => decode_two::<4, 2>(src, dst, case, known_factors()),
-        2 => scalar::decode_pair(src, dst, case),
-        _ => true,
+        8..16 => decode_two::<8, 4>(src, dst, case),
+        4..8 => decode_two::<4, 2>(src, dst, case),
+        _ => scalar::decode(src, dst, case),
     }
 }
 
-// The same of more than 128 digits.
+// The same of more than 128 digits, of which up to 256 are held in registers.
 #[inline(never)]
 fn decode_more(src: &[u8], dst: &mut [u8], case: CheckCase) -> bool
     requires twice { length src.now ≡ 2 * length dst.old }
     requires more { 128 < length src.now }
     ensures { DecodesWhole case src.now dst.old dst.new result }
 {
-    if src.len() <= 256 {
-        decode_in_registers(src, dst, case)
-    } else {
-        decode_long(src, dst, case)
-    }
-}
-
-/// The same of 128 to 256 digits, held in registers.
-#[inline(always)]
-pub fn decode_in_registers(src: &[u8], dst: &mut [u8], case: CheckCase) -> bool
-    requires twice { length src.now ≡ 2 * length dst.old }
-    requires covered { EndsCover 128 src.now }
-    ensures { DecodesWhole case src.now dst.old dst.new result }
-{
-    let factors = factors(src[0]);
-    if src.len() <= 192 {
-        decode_three::<64, 32>(src, dst, case, factors)
-    } else {
-        decode_four::<64, 32>(src, dst, case, factors)
+    match src.len() {
+        0..=192 => decode_three::<64, 32>(src, dst, case),
+        193..=256 => decode_four::<64, 32>(src, dst, case),
+        _ => decode_long(src, dst, case),
     }
 }
 
@@ -142,6 +120,6 @@ pub fn decode_valid(src: &[u8], dst: &mut [u8], case: CheckCase)
     if src.len() < 256 {
         decode(src, dst, case);
     } else {
-        write_blocks(src, dst, case);
+        kernel::write::<Ranged, 64, 32>(src, dst, case);
     }
 }

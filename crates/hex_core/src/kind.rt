@@ -1,4 +1,4 @@
-//! The choice of a body: one `match` for each thing that a plan does.
+//! The plans: which body each of them takes for a source of how many bytes.
 
 ghost use Rattle.std.specs.Prelude.{◌≡◌, ◌*◌, ◌↔◌, IsTrue, None, length};
 ghost use Rattle.hex_core.specs.Calls.{DecodesOwned, DecodesWhole};
@@ -6,10 +6,10 @@ ghost use Rattle.hex_core.specs.Plans.{kind_name, owned_block};
 ghost use Rattle.hex_core.specs.Search.{first_invalid};
 ghost use Rattle.hex_core.specs.Text.{text};
 
-use crate::blocks::decode::{OneVector, TwoVectors};
 use crate::blocks::encode;
 use crate::digit::CheckCase;
-use crate::{by_length, owned, scalar, sixteen};
+use crate::nibbles::{Hashed, Saturating};
+use crate::{by_length, kernel, scalar, sixteen};
 
 /// What a plan is called, and what its bodies are chosen by.
 #[derive(Clone, Copy)]
@@ -19,6 +19,7 @@ pub enum Kind {
     Avx2,
     Avx512,
     Neon,
+    Plain,
 }
 
 impl Kind {
@@ -27,10 +28,12 @@ impl Kind {
     pub fn check(self, src: &[u8], case: CheckCase) -> bool
         ensures { IsTrue result ↔ (first_invalid case src.now ≡ None) }
     {
-        match self {
-            Kind::Scalar => scalar::check(src, case),
-            Kind::Sse41 | Kind::Neon => sixteen::check(src, case),
-            Kind::Avx2 | Kind::Avx512 => by_length::check(src, case),
+        match (self, src.len()) {
+            (Kind::Plain, _) => by_length::check(src, case),
+            (Kind::Scalar, _) | (_, 0..16) => scalar::check(src, case),
+            (Kind::Sse41 | Kind::Neon, _) | (_, 16..32) => sixteen::check(src, case),
+            (Kind::Avx2, _) | (_, 32..64) => kernel::check::<Hashed, 32>(src, case),
+            (Kind::Avx512, _) => kernel::check::<Hashed, 64>(src, case),
         }
     }
 
@@ -40,11 +43,14 @@ impl Kind {
         requires { length dst.old ≡ 2 * length src.now }
         ensures { dst.new ≡ text upper src.now }
     {
-        match self {
-            Kind::Scalar => scalar::write_text(src, dst, upper),
-            Kind::Sse41 | Kind::Avx2 | Kind::Avx512 | Kind::Neon => {
-                encode::encode(src, dst, upper)
+        match (self, src.len()) {
+            (Kind::Plain, _) => encode::encode(src, dst, upper),
+            (Kind::Scalar, _) | (_, 0..8) => scalar::write_text(src, dst, upper),
+            (_, 8..16) => kernel::encode::<8, 16>(src, dst, upper),
+            (Kind::Sse41 | Kind::Neon, _) | (_, 16..32) => {
+                kernel::encode::<16, 32>(src, dst, upper)
             }
+            (Kind::Avx2 | Kind::Avx512, _) => kernel::encode::<32, 64>(src, dst, upper),
         }
     }
 
@@ -55,39 +61,31 @@ impl Kind {
         requires { length src.now ≡ 2 * length dst.old }
         ensures { DecodesWhole case src.now dst.old dst.new result }
     {
-        match self {
-            Kind::Scalar => scalar::decode(src, dst, case),
-            Kind::Sse41 | Kind::Avx2 | Kind::Avx512 | Kind::Neon => {
-                by_length::decode(src, dst, case)
+        match (self, src.len()) {
+            (Kind::Plain, _) => by_length::decode(src, dst, case),
+            (Kind::Scalar, _) | (_, 0..16) => scalar::decode(src, dst, case),
+            (Kind::Sse41 | Kind::Neon, _) | (_, 16..32) => {
+                kernel::decode::<Saturating, 16, 8>(src, dst, case)
             }
+            (Kind::Avx2, _) | (_, 32..64) => kernel::decode::<Hashed, 32, 16>(src, dst, case),
+            (Kind::Avx512, _) => kernel::decode::<Hashed, 64, 32>(src, dst, case),
         }
     }
 
     /// Decodes likewise, into a buffer that is given up where this returns false: then the blocks
     /// before the first invalid byte may have been stored.
-    #[inline(always)]
+    #[inline(never)]
     pub fn decode_owned(self, src: &[u8], dst: &mut [u8], case: CheckCase) -> bool
         requires { length src.now ≡ 2 * length dst.old }
         ensures { DecodesOwned (owned_block (kind_name self)) case src.now dst.old dst.new result }
     {
-        // Up to 128 digits are held in registers where this is called. Nothing is done behind the calls
-        // below, so that no registers have to be saved.
-        if matches!(src.len(), 16..=128) && self.decode(src, dst, case) {
-            return true;
-        }
         match self {
-            Kind::Scalar | Kind::Sse41 => self.decode_at_once(src, dst, case),
-            Kind::Avx2 | Kind::Neon => owned::decode::<OneVector, 32>(src, dst, case),
-            Kind::Avx512 => owned::decode::<TwoVectors, 64>(src, dst, case),
+            Kind::Scalar | Kind::Sse41 => self.decode(src, dst, case),
+            // Each by its name, so that no block asks for it.
+            Kind::Avx2 => Kind::Avx2.decode_by_blocks::<32>(src, dst, case),
+            Kind::Neon => Kind::Neon.decode_by_blocks::<32>(src, dst, case),
+            Kind::Avx512 => Kind::Avx512.decode_by_blocks::<64>(src, dst, case),
+            Kind::Plain => Kind::Plain.decode_by_blocks::<64>(src, dst, case),
         }
-    }
-
-    // [`Kind::decode`], which stores no block before a refusal.
-    #[inline(never)]
-    fn decode_at_once(self, src: &[u8], dst: &mut [u8], case: CheckCase) -> bool
-        requires { length src.now ≡ 2 * length dst.old }
-        ensures { DecodesOwned 0 case src.now dst.old dst.new result }
-    {
-        self.decode(src, dst, case)
     }
 }

@@ -3,19 +3,21 @@
 //! The functions over arrays are the public ones. Below them are the kernels, over vectors.
 
 ghost use Rattle.std.specs.Prelude.{◌≡◌, ◌↔◌, ℕ, ◌≤◌, ◌<◌, EachIndex, is_some, map, slice_index};
-ghost use Rattle.std.specs.Simd.Lanes.{mask_l, zip2};
+ghost use Rattle.hex_core.specs.declared.digit.CheckCase.{CheckCase};
+ghost use Rattle.std.specs.Simd.Lanes.{mask_l};
 ghost use Rattle.hex_core.specs.Arithmetic.{AreLow, AreZero, excess, first_letter, fold_of, letter, reach, valid_nibble};
 ghost use Rattle.hex_core.specs.Digit.{digit, value};
 ghost use Rattle.hex_core.specs.Search.{AllValid};
-ghost use Rattle.hex_core.specs.Hash.{Hashed, check_row, hashed_check, hashed_value};
+ghost use Rattle.hex_core.specs.Hash.{Hashed, check_row};
 ghost use Rattle.hex_core.specs.Lanes.{Admits, AreChecked, AreMarked, AreNibbles, ArePacked, AreSmall, AreValues};
 ghost use Rattle.hex_core.specs.Text.{text};
 
 use crate::digit::CheckCase;
+use crate::hidden::hidden_zero;
 use crate::vector::{
-    Interleave, Lanes, LookUp, Pack, Shift, averages, either, high_bits, known_factors, masked,
-    saturating_add, saturating_differences, saturating_sub, sign_flipped, smaller, with_bits,
-    wrapping_differences, wrapping_sub, zero_bits,
+    Interleave, Lanes, LookUp, Pack, Shift, averages, either, high_bits, masked, saturating_add,
+    saturating_differences, saturating_sub, sign_flipped, smaller, with_bits, wrapping_differences,
+    wrapping_sub, zero_bits,
 };
 use std::simd::prelude::*;
 
@@ -105,10 +107,9 @@ pub fn nibbles_hashed_32(bytes: &[u8; 32], case: CheckCase) -> ([u8; 32], [u8; 3
     ensures checked { AreChecked case bytes.now result.1 }
 {
     let v = u8x32::from_array(*bytes);
-    let slots = hashes(v);
     (
-        hashed_values(v, slots).to_array(),
-        hashed_checks(v, slots, case).to_array(),
+        hashed_values(v).to_array(),
+        hashed_checks(v, case).to_array(),
     )
 }
 
@@ -127,10 +128,9 @@ pub fn nibbles_hashed_64(bytes: &[u8; 64], case: CheckCase) -> ([u8; 64], [u8; 6
     ensures checked { AreChecked case bytes.now result.1 }
 {
     let v = u8x64::from_array(*bytes);
-    let slots = hashes(v);
     (
-        hashed_values(v, slots).to_array(),
-        hashed_checks(v, slots, case).to_array(),
+        hashed_values(v).to_array(),
+        hashed_checks(v, case).to_array(),
     )
 }
 
@@ -147,7 +147,7 @@ pub fn pack_16(nibbles: &[u8; 16]) -> [u8; 8]
     requires { AreSmall nibbles.now }
     ensures { ArePacked nibbles.now result }
 {
-    Lanes::pack(u8x16::from_array(*nibbles), known_factors()).to_array()
+    Lanes::pack(u8x16::from_array(*nibbles), CheckCase::None).to_array()
 }
 
 /// The same as [`pack_16`], of 32 nibbles.
@@ -162,7 +162,7 @@ pub fn pack_32(nibbles: &[u8; 32]) -> [u8; 16]
     requires { AreSmall nibbles.now }
     ensures { ArePacked nibbles.now result }
 {
-    Lanes::pack(u8x32::from_array(*nibbles), known_factors()).to_array()
+    Lanes::pack(u8x32::from_array(*nibbles), CheckCase::None).to_array()
 }
 
 /// The same as [`pack_16`], of 64 nibbles.
@@ -177,7 +177,7 @@ pub fn pack_64(nibbles: &[u8; 64]) -> [u8; 32]
     requires { AreSmall nibbles.now }
     ensures { ArePacked nibbles.now result }
 {
-    Lanes::pack(u8x64::from_array(*nibbles), known_factors()).to_array()
+    Lanes::pack(u8x64::from_array(*nibbles), CheckCase::None).to_array()
 }
 
 /// Returns the text of 8 bytes, in uppercase where `upper` is true.
@@ -239,26 +239,6 @@ fn first_letter(case: CheckCase) -> u8
     FIRST_LETTERS[case as u8 as usize]
 }
 
-// Two rows of the policies, the one as the other.
-static POLICIES: [[CheckCase; 3]; 2] = [[CheckCase::None, CheckCase::Lower, CheckCase::Upper]; 2];
-
-/// The policy, from the row that a length chooses, so that the compiler does not know it. What it knows
-/// it reads anew in each turn of a loop, and what it does not know it keeps in registers.
-#[inline(always)]
-pub(crate) fn unknown(case: CheckCase, len: usize) -> CheckCase
-    ensures { result ≡ case }
-{
-    POLICIES[len >> 63][case as u8 as usize]
-}
-
-/// The number, which the compiler knows only where it knows the policy.
-#[inline(always)]
-pub(crate) fn with_policy(number: u8, case: CheckCase) -> u8
-    ensures { result ≡ number }
-{
-    number | (case as u8 >> 2)
-}
-
 // How far each lane is past the first letter that the policy reads, once folded.
 #[inline(always)]
 fn letters<const N: usize>(v: Simd<u8, N>, case: CheckCase) -> Simd<u8, N>
@@ -275,11 +255,9 @@ pub(crate) fn reach<const N: usize>(v: Simd<u8, N>, case: CheckCase) -> Simd<u8,
     ensures lanes { result ≡ map (reach case) v.entry }
     ensures low { AreLow result ↔ AllValid case v.entry 0 N }
 {
-    let digits = wrapping_sub(v, with_policy(b'0', case));
-    smaller(
-        saturating_sub(digits, with_policy(4, case)),
-        letters(v, case),
-    )
+    let hidden = hidden_zero(case);
+    let digits = wrapping_sub(v, b'0' + hidden);
+    smaller(saturating_sub(digits, 4 + hidden), letters(v, case))
 }
 
 /// How far each lane is past the digits and letters: 0 exactly where it has a value.
@@ -353,29 +331,32 @@ where
     )
 }
 
+/// The value of each lane that has one, which is the same under each policy that reads it.
 #[inline(always)]
-fn hashed_values<const N: usize>(v: Simd<u8, N>, slots: Simd<u8, N>) -> Simd<u8, N>
+pub(crate) fn hashed_values<const N: usize>(v: Simd<u8, N>) -> Simd<u8, N>
 where
-    Lanes: LookUp<N>,
-    ensures { result ≡ zip2 hashed_value v.entry slots.entry }
+    Lanes: LookUp<N> + Shift<N>,
+    ensures { (case : CheckCase) → AreValues case v.entry result }
 {
-    wrapping_differences(v, Lanes::look_up(u8x16::from_array(VALUE_ROW), slots))
+    let offsets = Lanes::look_up(u8x16::from_array(VALUE_ROW), hashes(v));
+    wrapping_differences(v, offsets)
 }
 
+/// A check of each lane: it is below 128 exactly where the lane has a value, whatever stands beside it.
 #[inline(always)]
-fn hashed_checks<const N: usize>(v: Simd<u8, N>, slots: Simd<u8, N>, case: CheckCase) -> Simd<u8, N>
+pub(crate) fn hashed_checks<const N: usize>(v: Simd<u8, N>, case: CheckCase) -> Simd<u8, N>
 where
-    Lanes: LookUp<N>,
-    ensures { result ≡ zip2 (hashed_check case) v.entry slots.entry }
+    Lanes: LookUp<N> + Shift<N>,
+    ensures { AreChecked case v.entry result }
 {
-    let offsets = Lanes::look_up(check_row(case), slots);
+    let offsets = Lanes::look_up(check_row(case), hashes(v));
     sign_flipped(saturating_differences(sign_flipped(v), offsets))
 }
 
-/// The value of each lane, where every lane has one.
+/// The same by the ranges of digits and letters.
 #[inline(always)]
 pub(crate) fn valid_nibbles<const N: usize>(v: Simd<u8, N>) -> Simd<u8, N>
-    ensures { result ≡ map valid_nibble v.entry }
+    ensures { (case : CheckCase) → AreValues case v.entry result }
 {
     smaller(
         wrapping_sub(v, b'0'),

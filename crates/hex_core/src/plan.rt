@@ -1,6 +1,6 @@
 //! Plans by name, and the calls whose caller shows the ratio of the lengths.
 
-ghost use Rattle.std.specs.Prelude.{◌≡◌, ◌*◌, ◌↔◌, IsTrue, None, length, map};
+ghost use Rattle.std.specs.Prelude.{◌≡◌, ◌*◌, ◌↔◌, IsTrue, None, codes, length, map};
 ghost use Rattle.hex_core.specs.Calls.{DecodesOwned, DecodesWhole};
 ghost use Rattle.hex_core.specs.Plans.{name_of, owned_block, plan_names};
 ghost use Rattle.hex_core.specs.Search.{first_invalid};
@@ -40,18 +40,20 @@ pub fn backends() -> [Backend; 5]
 }
 
 impl Backend {
-    /// Returns the plan of the calls that name none. Which of the five that is, is no promise, so no
-    /// proof can know it.
+    /// Returns the plan of the calls that name none. It is none of those that [`backends`] lists: its
+    /// blocks are chosen for each length, by what was measured. Its name is `plain`.
     ///
     /// ```rust
     /// assert!(rt; Backend::plain().check(b"00aBc", CheckCase::None));
     /// ```
     #[inline(always)]
-    pub fn plain() -> Backend {
-        Backend(Kind::Avx2)
+    pub fn plain() -> Backend
+        ensures { name_of result ≡ codes "plain" }
+    {
+        Backend(Kind::Plain)
     }
 
-    /// Returns the plan's name: `scalar`, `sse41`, `avx2`, `avx512` or `neon`.
+    /// Returns the plan's name: `scalar`, `sse41`, `avx2`, `avx512`, `neon` or `plain`.
     ///
     /// ```rust
     /// let [_, _, avx2, ..] = backends();
@@ -66,6 +68,7 @@ impl Backend {
             Kind::Avx2 => "avx2",
             Kind::Avx512 => "avx512",
             Kind::Neon => "neon",
+            Kind::Plain => "plain",
         }
     }
 
@@ -123,8 +126,8 @@ impl Backend {
     ///
     /// Then `avx2` and `neon` have stored exactly the bytes of the whole blocks of 64 digits before
     /// the first one with a byte that has no value, or of all whole blocks where that byte stands
-    /// behind them; `avx512` those of its blocks of 128 digits; `scalar` and `sse41` nothing. The
-    /// bytes behind are as they were.
+    /// behind them; `avx512` and the plain plan those of blocks of 128 digits; `scalar` and `sse41`
+    /// nothing. The bytes behind are as they were.
     ///
     /// The caller shows that `src` is exactly twice as long as `dst`, in bytes.
     ///

@@ -66,9 +66,9 @@ fn passes(part: &[u8], case: CheckCase) -> bool
     }
 }
 
-// Whether every byte of a block or more has a value, a mask for each block.
+/// Returns whether every byte of a block or more has a value under `case`, a mask for each block.
 #[inline(never)]
-fn check_blocks(src: &[u8], case: CheckCase) -> bool
+pub fn check(src: &[u8], case: CheckCase) -> bool
     requires { BLOCK ≤ length src.now }
     ensures { IsTrue result ↔ (first_invalid case src.now ≡ None) }
 {
@@ -78,16 +78,4 @@ fn check_blocks(src: &[u8], case: CheckCase) -> bool
         looks: 0,
         tests: 0,
     })
-}
-
-/// Returns whether every byte of `src` has a value under `case`.
-#[inline(always)]
-pub fn check(src: &[u8], case: CheckCase) -> bool
-    ensures { IsTrue result ↔ (first_invalid case src.now ≡ None) }
-{
-    if src.len() < BLOCK {
-        scalar::check(src, case)
-    } else {
-        check_blocks(src, case)
-    }
 }

@@ -10,7 +10,6 @@ ghost use Rattle.hex_core.specs.Refusal.{decode_refusal, encode_refusal, first_b
 ghost use Rattle.hex_core.specs.Search.{first_invalid};
 ghost use Rattle.hex_core.specs.Text.{text};
 
-use crate::blocks::check::first_place;
 use crate::digit::CheckCase;
 use crate::error::Error;
 use crate::lend::lend_accepted;
@@ -72,7 +71,7 @@ impl Backend {
         requires { first_invalid case src.now ≢ None }
         ensures { first_bad_char case src.now ≡ Some result }
     {
-        let index = first_place(src, case);
+        let index = self.first_invalid(src, case).unwrap();
         Error::InvalidChar {
             index,
             byte: src[index],

@@ -2,11 +2,13 @@
 
 ghost use Rattle.std.specs.Prelude.{◌≡◌, ◌↔◌, ℕ, ◌-◌, ◌/◌, ◌^◌, ◌≤◌, ◌<◌, ◌==◌, EachIndex, IsTrue, max, min, map, slice_index, bit_and, bit_or, bit_xor};
 ghost use Rattle.std.specs.Simd.Lanes.{Each1, mask_l, zip2};
-ghost use Rattle.hex_core.specs.Arithmetic.{AreLow, AreZero, interleaved, packed, pair_byte, pair_factors, saturating_add, wrapping_sub};
+ghost use Rattle.hex_core.specs.Arithmetic.{AreLow, AreUnsigned, AreZero, interleaved, packed, pair_byte, saturating_add, wrapping_sub};
 ghost use Rattle.hex_core.specs.Hash.{average, shifted};
 ghost use Rattle.hex_core.specs.Lanes.{AreSmall};
 ghost use Rattle.hex_core.specs.Lookup.{entry};
 
+use crate::digit::CheckCase;
+use crate::hidden::hidden_zero;
 use std::simd::prelude::*;
 
 /// The difference of each lane, modulo 256.
@@ -130,36 +132,25 @@ pub fn is_small<const N: usize>(v: Simd<u8, N>) -> bool
     is_zero(masked(v, 0xf0))
 }
 
+/// Whether no lane has its sign bit: each is below 128.
+#[inline(always)]
+pub fn has_no_sign<const N: usize>(v: Simd<u8, N>) -> bool
+    ensures { IsTrue result ↔ AreUnsigned v.entry }
+{
+    is_zero(masked(v, 0x80))
+}
+
 // What brings the byte of two nibbles into the high half of their word, when it is multiplied.
 const FACTOR: u16 = 4097;
 
-// Two rows of it, the one as the other.
-static FACTORS: [[u16; 32]; 2] = [[FACTOR; 32]; 2];
-
-/// The factors of 32 words, from the row that `byte` chooses. The compiler makes a shift and a sum of
-/// a product whose factor it knows, and in a long loop they take longer than the product.
+// The byte of each word of two nibbles, the high one in the word's low byte. Of a product whose factor it
+// knows the compiler makes a shift and a sum, which take longer in a long loop.
 #[inline(always)]
-pub fn factors(byte: u8) -> u16x32
-    ensures { result ≡ pair_factors 32 }
-{
-    u16x32::from_array(FACTORS[(byte >> 7) as usize])
-}
-
-/// The factors of so many words, which the compiler knows.
-#[inline(always)]
-pub fn known_factors<const N: usize>() -> Simd<u16, N>
-    ensures { result ≡ pair_factors N }
-{
-    Simd::splat(FACTOR)
-}
-
-// The byte of each word of two nibbles, the high one in the word's low byte.
-#[inline(always)]
-fn pair_bytes<const N: usize>(v: Simd<u16, N>, factors: Simd<u16, N>) -> Simd<u8, N>
-    requires { factors ≡ pair_factors N }
+fn pair_bytes<const N: usize>(v: Simd<u16, N>, case: CheckCase) -> Simd<u8, N>
     ensures { result ≡ map pair_byte v.entry }
 {
-    ((v * factors) >> Simd::splat(8)).cast::<u8>()
+    let factor = FACTOR + hidden_zero(case) as u16;
+    ((v * Simd::splat(factor)) >> Simd::splat(8)).cast::<u8>()
 }
 
 /// Each lane with its sign bit turned, so that signed bytes are in the order of unsigned ones.
@@ -208,66 +199,61 @@ fn eighths<const N: usize>(v: Simd<u32, N>) -> Simd<u32, N>
 /// width, so it is written once for each width, below.
 pub struct Lanes;
 
-/// The nibbles of each pair of lanes become one byte, the first of a pair its high half.
+/// The nibbles of each pair of lanes become one byte, the first of a pair its high half. By the policy a
+/// number is hidden from the compiler.
 pub trait Pack<const N: usize, const HALF: usize> {
-    fn pack(v: Simd<u8, N>, factors: Simd<u16, HALF>) -> Simd<u8, HALF>
-        requires small { AreSmall v }
-        requires factors { factors ≡ pair_factors HALF }
+    fn pack(v: Simd<u8, N>, case: CheckCase) -> Simd<u8, HALF>
+        requires { AreSmall v }
         ensures { result ≡ packed v.entry };
 }
 
 impl Pack<4, 2> for Lanes {
     #[inline(always)]
-    fn pack(v: u8x4, factors: u16x2) -> u8x2
-        requires small { AreSmall v }
-        requires factors { factors ≡ pair_factors 2 }
+    fn pack(v: u8x4, case: CheckCase) -> u8x2
+        requires { AreSmall v }
         ensures { result ≡ packed v }
     {
-        pair_bytes(u16x2::from_le_bytes(v), factors)
+        pair_bytes(u16x2::from_le_bytes(v), case)
     }
 }
 
 impl Pack<8, 4> for Lanes {
     #[inline(always)]
-    fn pack(v: u8x8, factors: u16x4) -> u8x4
-        requires small { AreSmall v }
-        requires factors { factors ≡ pair_factors 4 }
+    fn pack(v: u8x8, case: CheckCase) -> u8x4
+        requires { AreSmall v }
         ensures { result ≡ packed v }
     {
-        pair_bytes(u16x4::from_le_bytes(v), factors)
+        pair_bytes(u16x4::from_le_bytes(v), case)
     }
 }
 
 impl Pack<16, 8> for Lanes {
     #[inline(always)]
-    fn pack(v: u8x16, factors: u16x8) -> u8x8
-        requires small { AreSmall v }
-        requires factors { factors ≡ pair_factors 8 }
+    fn pack(v: u8x16, case: CheckCase) -> u8x8
+        requires { AreSmall v }
         ensures { result ≡ packed v }
     {
-        pair_bytes(u16x8::from_le_bytes(v), factors)
+        pair_bytes(u16x8::from_le_bytes(v), case)
     }
 }
 
 impl Pack<32, 16> for Lanes {
     #[inline(always)]
-    fn pack(v: u8x32, factors: u16x16) -> u8x16
-        requires small { AreSmall v }
-        requires factors { factors ≡ pair_factors 16 }
+    fn pack(v: u8x32, case: CheckCase) -> u8x16
+        requires { AreSmall v }
         ensures { result ≡ packed v }
     {
-        pair_bytes(u16x16::from_le_bytes(v), factors)
+        pair_bytes(u16x16::from_le_bytes(v), case)
     }
 }
 
 impl Pack<64, 32> for Lanes {
     #[inline(always)]
-    fn pack(v: u8x64, factors: u16x32) -> u8x32
-        requires small { AreSmall v }
-        requires factors { factors ≡ pair_factors 32 }
+    fn pack(v: u8x64, case: CheckCase) -> u8x32
+        requires { AreSmall v }
         ensures { result ≡ packed v }
     {
-        pair_bytes(u16x32::from_le_bytes(v), factors)
+        pair_bytes(u16x32::from_le_bytes(v), case)
     }
 }
 

@@ -1,15 +1,10 @@
 //! A slice as a counted source.
 
-ghost use Rattle.std.specs.Prelude.{◌≡◌, ◌↔◌, IsTrue, None};
+ghost use Rattle.std.specs.Prelude.{◌≡◌};
 ghost use Rattle.hex_core.specs.Probe.{fresh_probe};
-ghost use Rattle.hex_core.specs.Search.{first_invalid};
 
-use crate::blocks::check::check_block;
 use crate::digit::CheckCase;
-use crate::kind::Kind;
-use crate::lanes::unknown;
 use crate::plan::Backend;
-use crate::scalar;
 use crate::search::Probe;
 
 // How many bytes the widest test takes.
@@ -86,29 +81,7 @@ impl<'a> Probe for SliceProbe<'a> {
     #[inline(always)]
     fn test(&mut self, start: usize, width: usize) -> bool {
         self.tests += 1;
-        // Many tests are a loop, which keeps in registers what a policy that is not known takes.
-        let case = unknown(self.case, self.src.len());
-        passes(self.backend.0, &self.src[start..start + width], case)
+        let part = &self.src[start..start + width];
+        self.backend.check(part, self.case)
     }
-}
-
-// Whether each byte of a part has a value: of a block in little code, so that it is inlined at each test
-// of a loop.
-#[inline(always)]
-fn passes(kind: Kind, part: &[u8], case: CheckCase) -> bool
-    ensures { IsTrue result ↔ (first_invalid case part.now ≡ None) }
-{
-    match (kind, part.len()) {
-        (Kind::Scalar, _) => scalar::check(part, case),
-        (_, BLOCK) => check_block(part, case),
-        _ => passes_apart(kind, part, case),
-    }
-}
-
-// The same of any other part.
-#[inline(never)]
-fn passes_apart(kind: Kind, part: &[u8], case: CheckCase) -> bool
-    ensures { IsTrue result ↔ (first_invalid case part.now ≡ None) }
-{
-    kind.check(part, case)
 }

@@ -4,4 +4,4 @@ use Rattle.hex_core.specs.Search.{AllValid}
 use Rattle.hex_core.proofs.blocks.check.reach_of.Given as goal
 
 abbrev pub invariant-turns : goal.invariant-turns
-invariant-turns g l = AreLow l.farthest ↔ AllValid l.fn.case l.src l.at (l.at + l.i * g.row.N)
+invariant-turns l = AreLow l.farthest ↔ AllValid l.fn.case l.src l.at (l.at + l.i * 64)

@@ -13,12 +13,12 @@ returns-then-not-is_small g c =
 pub put_two-requires : goal.put_two-requires
 put_two-requires g c =
     let small = c.either.ensures.small.0 (c.either-3.ensures.small.0 (c.is_small.ensures.0 c.if-not-is_small.false)).0 in
-    (omega arith, (omega arith, (small.0, (small.1, (c.requires.factors, (omega arith, omega arith))))))
+    (omega arith, (small.0, (small.1, (omega arith, omega arith))))
 
 pub put_two-requires-2 : goal.put_two-requires-2
 put_two-requires-2 g c =
     let small = c.either-2.ensures.small.0 (c.either-3.ensures.small.0 (c.is_small.ensures.0 c.if-not-is_small.false)).1 in
-    (omega arith, (omega arith, (small.0, (small.1, (c.requires.factors, (omega arith, omega arith))))))
+    (omega arith, (small.0, (small.1, (omega arith, omega arith))))
 
 pub returns : goal.returns
 returns g c =

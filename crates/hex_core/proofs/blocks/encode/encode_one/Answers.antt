@@ -5,4 +5,4 @@ use Rattle.hex_core.proofs.blocks.encode.encode_one.Goals as goal
 pub returns : goal.returns
 returns g c =
     let n = g.row.N in
-    c.spell_at.ensures ∙ written-all n (omega arith) (written-more 0 n n 0 (omega arith) (omega arith) (omega arith) refl (written-none c.args.upper c.args.src.now c.args.dst.now (omega arith)))
+    c.encode_at.ensures ∙ written-all n (omega arith) (written-more 0 n n 0 (omega arith) (omega arith) (omega arith) refl (written-none c.args.upper c.args.src.now c.args.dst.now (omega arith)))

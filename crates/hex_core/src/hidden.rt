@@ -1,0 +1,16 @@
+//! What the compiler is kept from knowing.
+
+ghost use Rattle.std.specs.Prelude.{◌≡◌};
+
+use crate::digit::CheckCase;
+
+/// Returns 0, which the compiler knows only where it knows the policy.
+///
+/// A number that it knows it reads anew in each turn of a loop, and of a product by such a number it
+/// makes a shift and a sum. One to which this is added it keeps in a register.
+#[inline(always)]
+pub fn hidden_zero(case: CheckCase) -> u8
+    ensures { result ≡ 0 }
+{
+    case as u8 >> 2
+}

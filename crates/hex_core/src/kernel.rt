@@ -1,0 +1,173 @@
+//! Checking, decoding and encoding a block at a time, in any number of lanes and by any map. A source
+//! that is no multiple of a block ends with a last whole block, which overlaps the one before.
+
+ghost use Rattle.std.specs.Prelude.{◌≡◌, ◌↔◌, ◌+◌, ◌*◌, ◌≤◌, IsTrue, None, length};
+ghost use Rattle.std.specs.Simd.Lanes.{chunk, put_chunk};
+ghost use Rattle.hex_core.specs.Arithmetic.{packed};
+ghost use Rattle.hex_core.specs.Blocks.{DecodesRange, NibblesFrom};
+ghost use Rattle.hex_core.specs.Calls.{DecodesWhole};
+ghost use Rattle.hex_core.specs.Lanes.{AreSmall};
+ghost use Rattle.hex_core.specs.Search.{AllValid, first_invalid};
+ghost use Rattle.hex_core.specs.Shapes.{Halves, HasBlock, HasRoom};
+ghost use Rattle.hex_core.specs.Text.{Spells, text};
+
+use crate::digit::CheckCase;
+use crate::lanes::encoded;
+use crate::nibbles::Nibbles;
+use crate::vector::{Interleave, Lanes, LookUp, Pack, has_no_sign};
+use std::simd::prelude::*;
+
+// Whether each of `N` bytes from `at` on has a value.
+#[inline(always)]
+fn is_valid_at<M, const N: usize>(src: &[u8], at: usize, case: CheckCase) -> bool
+where
+    M: Nibbles<N>,
+    requires inside { at + N ≤ length src.now }
+    ensures { IsTrue result ↔ AllValid case src.now at (at + N) }
+{
+    has_no_sign(M::marks(Simd::<u8, N>::from_slice(&src[at..]), case))
+}
+
+/// Returns whether every byte of a block or more has a value under `case`.
+#[inline(never)]
+pub fn check<M, const N: usize>(src: &[u8], case: CheckCase) -> bool
+where
+    M: Nibbles<N>,
+    requires { HasBlock N src.now }
+    ensures { IsTrue result ↔ (first_invalid case src.now ≡ None) }
+{
+    'turns: for i in 0..src.len() / N {
+        if !is_valid_at::<M, N>(src, i * N, case) {
+            return false;
+        }
+    }
+    src.len() % N == 0 || is_valid_at::<M, N>(src, src.len() - N, case)
+}
+
+// The values of `N` digits from `at` on, each of which has one.
+#[inline(always)]
+fn values_at<M, const N: usize>(src: &[u8], at: usize, case: CheckCase) -> Simd<u8, N>
+where
+    M: Nibbles<N>,
+    requires inside { at + N ≤ length src.now }
+    requires valid { AllValid case src.now at (at + N) }
+    ensures nibbles { NibblesFrom case src.now at N result }
+    ensures small { AreSmall result }
+{
+    M::nibbles(Simd::<u8, N>::from_slice(&src[at..]), case)
+}
+
+/// Writes the bytes of nibbles from `at` on.
+#[inline(always)]
+pub fn put<const N: usize, const HALF: usize>(
+    nibbles: Simd<u8, N>,
+    case: CheckCase,
+    dst: &mut [u8],
+    at: usize,
+)
+where
+    Lanes: Pack<N, HALF>,
+    requires small { AreSmall nibbles }
+    requires room { at + HALF ≤ length dst.old }
+    ensures { dst.new ≡ put_chunk at dst.old (packed nibbles.entry) }
+{
+    Lanes::pack(nibbles, case).copy_to_slice(&mut dst[at..]);
+}
+
+// Writes the bytes from `at` on that `N` valid digits spell.
+#[inline(always)]
+fn write_at<M, const N: usize, const HALF: usize>(
+    src: &[u8],
+    dst: &mut [u8],
+    at: usize,
+    case: CheckCase,
+)
+where
+    M: Nibbles<N>,
+    Lanes: Pack<N, HALF>,
+    requires half { N ≡ 2 * HALF }
+    requires room { HasRoom at HALF src.now dst.old }
+    requires valid { first_invalid case src.now ≡ None }
+    ensures { DecodesRange case src.now dst.old dst.new at (at + HALF) }
+{
+    put(values_at::<M, N>(src, 2 * at, case), case, dst, at);
+}
+
+/// Writes the bytes that a block or more of valid digits spells over the whole of `dst`.
+#[inline(never)]
+pub fn write<M, const N: usize, const HALF: usize>(src: &[u8], dst: &mut [u8], case: CheckCase)
+where
+    M: Nibbles<N>,
+    Lanes: Pack<N, HALF>,
+    requires sizes { Halves N HALF src.now dst.old }
+    requires block { HasBlock N src.now }
+    requires valid { first_invalid case src.now ≡ None }
+    ensures { Spells case src.now dst.new }
+{
+    'turns: for i in 0..dst.len() / HALF {
+        write_at::<M, N, HALF>(src, dst, i * HALF, case);
+    }
+    if dst.len() % HALF != 0 {
+        let last = dst.len() - HALF;
+        write_at::<M, N, HALF>(src, dst, last, case);
+    }
+}
+
+/// Decodes a block or more over the whole of `dst`, or returns false and writes nothing: all is checked
+/// before the first store.
+#[inline(always)]
+pub fn decode<M, const N: usize, const HALF: usize>(
+    src: &[u8],
+    dst: &mut [u8],
+    case: CheckCase,
+) -> bool
+where
+    M: Nibbles<N>,
+    Lanes: Pack<N, HALF>,
+    requires sizes { Halves N HALF src.now dst.old }
+    requires block { HasBlock N src.now }
+    ensures { DecodesWhole case src.now dst.old dst.new result }
+{
+    let valid = check::<M, N>(src, case);
+    if valid {
+        write::<M, N, HALF>(src, dst, case);
+    }
+    valid
+}
+
+// Writes the text of `N` bytes from `at` on.
+#[inline(always)]
+pub fn encode_at<const N: usize, const TWICE: usize>(
+    src: &[u8],
+    dst: &mut [u8],
+    at: usize,
+    upper: bool,
+)
+where
+    Lanes: Interleave<N, TWICE> + LookUp<TWICE>,
+    requires lanes { TWICE ≡ 2 * N }
+    requires source { at + N ≤ length src.now }
+    requires room { 2 * at + TWICE ≤ length dst.old }
+    ensures { dst.new ≡ put_chunk (2 * at) dst.old (text upper (chunk at N src.now)) }
+{
+    let text = encoded::<N, TWICE>(Simd::<u8, N>::from_slice(&src[at..]), upper);
+    text.copy_to_slice(&mut dst[2 * at..]);
+}
+
+/// Writes the text of a block or more over the whole of `dst`.
+#[inline(never)]
+pub fn encode<const N: usize, const TWICE: usize>(src: &[u8], dst: &mut [u8], upper: bool)
+where
+    Lanes: Interleave<N, TWICE> + LookUp<TWICE>,
+    requires lanes { TWICE ≡ 2 * N }
+    requires twice { length dst.old ≡ 2 * length src.now }
+    requires block { HasBlock N src.now }
+    ensures { dst.new ≡ text upper src.now }
+{
+    'turns: for i in 0..src.len() / N {
+        encode_at::<N, TWICE>(src, dst, i * N, upper);
+    }
+    if src.len() % N != 0 {
+        encode_at::<N, TWICE>(src, dst, src.len() - N, upper);
+    }
+}

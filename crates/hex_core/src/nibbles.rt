@@ -1,0 +1,83 @@
+//! Maps from digits to their values, each for vectors of a number of lanes.
+
+ghost use Rattle.hex_core.specs.Lanes.{AreChecked, AreValues};
+
+use crate::digit::CheckCase;
+use crate::lanes::{hashed_checks, hashed_values, reach, saturated, valid_nibbles};
+use crate::vector::{Lanes, LookUp, Shift, saturating_add};
+use std::simd::prelude::*;
+
+/// A map from bytes to nibbles and marks, lane by lane.
+pub trait Nibbles<const N: usize> {
+    /// Returns nibbles: the value of each lane that has one.
+    fn nibbles(v: Simd<u8, N>, case: CheckCase) -> Simd<u8, N>
+        ensures { AreValues case v.entry result };
+
+    /// Returns marks: the sign bit of each is clear exactly where its lane has a value.
+    fn marks(v: Simd<u8, N>, case: CheckCase) -> Simd<u8, N>
+        ensures { AreChecked case v.entry result };
+}
+
+/// By saturating sums and differences, of any number of lanes.
+pub struct Saturating;
+
+impl<const N: usize> Nibbles<N> for Saturating {
+    #[inline(always)]
+    fn nibbles(v: Simd<u8, N>, case: CheckCase) -> Simd<u8, N>
+        ensures { AreValues case v.entry result }
+    {
+        saturated(v, case)
+    }
+
+    #[inline(always)]
+    fn marks(v: Simd<u8, N>, case: CheckCase) -> Simd<u8, N>
+        ensures { AreChecked case v.entry result }
+    {
+        // 16 becomes 128.
+        saturating_add(saturated(v, case), 112)
+    }
+}
+
+/// By a hash, which finds in rows of sixteen what is to be taken from a byte.
+pub struct Hashed;
+
+impl<const N: usize> Nibbles<N> for Hashed
+where
+    Lanes: LookUp<N> + Shift<N>,
+{
+    #[inline(always)]
+    fn nibbles(v: Simd<u8, N>, case: CheckCase) -> Simd<u8, N>
+        ensures { AreValues case v.entry result }
+    {
+        let _ = case;
+        hashed_values(v)
+    }
+
+    #[inline(always)]
+    fn marks(v: Simd<u8, N>, case: CheckCase) -> Simd<u8, N>
+        ensures { AreChecked case v.entry result }
+    {
+        hashed_checks(v, case)
+    }
+}
+
+/// By the ranges of digits and letters: a short computation for nibbles, and another one for marks.
+pub struct Ranged;
+
+impl<const N: usize> Nibbles<N> for Ranged {
+    #[inline(always)]
+    fn nibbles(v: Simd<u8, N>, case: CheckCase) -> Simd<u8, N>
+        ensures { AreValues case v.entry result }
+    {
+        let _ = case;
+        valid_nibbles(v)
+    }
+
+    #[inline(always)]
+    fn marks(v: Simd<u8, N>, case: CheckCase) -> Simd<u8, N>
+        ensures { AreChecked case v.entry result }
+    {
+        // 6 becomes 128.
+        saturating_add(reach(v, case), 122)
+    }
+}
