@@ -22,4 +22,5 @@ pub mod TableLemmas
 pub mod TextBlockLemmas
 pub mod TextLemmas
 pub mod WalkKit
+mod WordLemmas
 mod WriteWalk

@@ -69,8 +69,7 @@ impl<const N: usize> Nibbles<N> for Ranged {
     fn nibbles(v: Simd<u8, N>, case: CheckCase) -> Simd<u8, N>
         ensures { AreValues case v.entry result }
     {
-        let _ = case;
-        valid_nibbles(v)
+        valid_nibbles(v, case)
     }
 
     #[inline(always)]

@@ -1,6 +1,7 @@
 //! The plain bodies: a table look-up a digit.
 
-ghost use Rattle.std.specs.Prelude.{◌≡◌, ◌+◌, ◌*◌, ◌<◌, ◌≤◌, ◌↔◌, IsTrue, None, length};
+ghost use Rattle.std.specs.Prelude.{◌≡◌, ◌≢◌, ◌+◌, ◌*◌, ◌/◌, ◌%◌, ◌<◌, ◌≤◌, ◌↔◌, IsTrue, MatchOption, None, length};
+ghost use Rattle.std.specs.Int.{bytes_high_first};
 ghost use Rattle.hex_core.specs.Calls.{DecodesWhole};
 ghost use Rattle.hex_core.specs.Search.{first_invalid};
 ghost use Rattle.hex_core.specs.Text.{Spells, text};
@@ -59,34 +60,56 @@ fn write_bytes(src: &[u8], dst: &mut [u8], case: CheckCase)
     }
 }
 
-/// Writes the bytes that `src` spells into the whole of `dst`, or returns false and writes nothing.
+// The bytes that fewer than 16 digits spell, in one number, of which the last byte is the lowest; or
+// none where a digit has no value.
+#[inline(always)]
+fn word_of(src: &[u8], case: CheckCase) -> Option<u64>
+    requires few { length src.now < 16 }
+    requires pairs { length src.now % 2 ≡ 0 }
+    ensures { MatchOption result (first_invalid case src.now ≢ None)
+        (λ word. Spells case src.now (bytes_high_first (length src.now / 2) word)) }
+{
+    let values = values_of(case);
+    let mut word = 0;
+    'pairs: for i in 0..src.len() / 2 {
+        let high = values[src[2 * i] as usize];
+        let low = values[src[2 * i + 1] as usize];
+        if high == NIL || low == NIL {
+            return None;
+        }
+        word = 256 * word + packed(high, low) as u64;
+    }
+    Some(word)
+}
+
+// Decodes fewer than 16 digits in one pass: their bytes are stored once every pair is known to be valid.
 #[inline(never)]
+fn decode_short(src: &[u8], dst: &mut [u8], case: CheckCase) -> bool
+    requires twice { length src.now ≡ 2 * length dst.old }
+    requires few { length src.now < 16 }
+    ensures { DecodesWhole case src.now dst.old dst.new result }
+{
+    let Some(word) = word_of(src, case) else {
+        return false;
+    };
+    dst.copy_from_slice(&word.to_be_bytes()[8 - dst.len()..]);
+    true
+}
+
+/// Writes the bytes that `src` spells into the whole of `dst`, or returns false and writes nothing.
+#[inline(always)]
 pub fn decode(src: &[u8], dst: &mut [u8], case: CheckCase) -> bool
     requires { length src.now ≡ 2 * length dst.old }
     ensures { DecodesWhole case src.now dst.old dst.new result }
 {
-    if !check(src, case) {
-        return false;
+    if src.len() < 16 {
+        return decode_short(src, dst, case);
     }
-    write_bytes(src, dst, case);
-    true
-}
-
-/// The same of one pair of digits.
-#[inline(always)]
-pub fn decode_pair(src: &[u8], dst: &mut [u8], case: CheckCase) -> bool
-    requires twice { length src.now ≡ 2 * length dst.old }
-    requires pair { length src.now ≡ 2 }
-    ensures { DecodesWhole case src.now dst.old dst.new result }
-{
-    let values = values_of(case);
-    let high = values[src[0] as usize];
-    let low = values[src[1] as usize];
-    if high == NIL || low == NIL {
-        return false;
+    let valid = check(src, case);
+    if valid {
+        write_bytes(src, dst, case);
     }
-    dst[0] = packed(high, low);
-    true
+    valid
 }
 
 /// Writes the text of `src` into the whole of `dst`.

@@ -22,6 +22,19 @@ pub fn check_two<const N: usize>(src: &[u8], case: CheckCase) -> bool
     is_low(larger(front, back))
 }
 
+/// Whether every byte of a source of `2 * N` to `3 * N` bytes has a value.
+#[inline(never)]
+pub fn check_three<const N: usize>(src: &[u8], case: CheckCase) -> bool
+    requires least { 2 * N ≤ length src.now }
+    requires most { length src.now ≤ 3 * N }
+    ensures { IsTrue result ↔ (first_invalid case src.now ≡ None) }
+{
+    let first = reach(Simd::<u8, N>::from_slice(src), case);
+    let second = reach(Simd::<u8, N>::from_slice(&src[N..]), case);
+    let last = reach(Simd::<u8, N>::from_slice(&src[src.len() - N..]), case);
+    is_low(larger(larger(first, second), last))
+}
+
 /// Whether every byte of a source of 64 bytes has a value, for the tests of `locate`: a loop keeps all
 /// that it takes in registers where the policy is not known.
 #[inline(always)]

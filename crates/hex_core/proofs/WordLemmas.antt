@@ -1,0 +1,65 @@
+-- The bytes of a number that they are kept in, the last one lowest.
+use Rattle.std.proofs.Common.{◌≡◌, ℕ, zero, suc, ◌+◌, ◌*◌, ◌-◌, ◌/◌, ◌%◌, ◌^◌, ◌<◌, ◌≤◌, List, [], ◌∷◌, ◌++◌, length, get_or, drop, refl, ap, ap₂, ◌∙◌, arith}
+use Rattle.std.specs.Int.{byte_at, bytes_high_first}
+use Rattle.std.proofs.lemmas.List.{get_or_append_left, get_or-append_right}
+use borrow.Author.Count.{below_more}
+use Rattle.hex_core.specs.declared.digit.CheckCase.{CheckCase}
+use Rattle.hex_core.specs.Text.{SpellsAt}
+use Rattle.hex_core.proofs.SpellsLemmas.{SpellsBelow, spelled_along}
+use Rattle.hex_core.proofs.TableLemmas.{IsEntry}
+
+-- one more byte behind them
+shifted_byte : (k w b : ℕ) → b < 256 → k < 6 → byte_at (suc k) (256 * w + b) ≡ byte_at k w
+shifted_byte zero w b h lt = omega arith
+shifted_byte (suc zero) w b h lt = omega arith
+shifted_byte (suc (suc zero)) w b h lt = omega arith
+shifted_byte (suc (suc (suc zero))) w b h lt = omega arith
+shifted_byte (suc (suc (suc (suc zero)))) w b h lt = omega arith
+shifted_byte (suc (suc (suc (suc (suc zero))))) w b h lt = omega arith
+shifted_byte (suc (suc (suc (suc (suc (suc k)))))) w b h lt = absurd (omega arith)
+
+bytes_more : (i w b : ℕ) → b < 256 → i < 7 → bytes_high_first (suc i) (256 * w + b) ≡ bytes_high_first i w ++ b ∷ []
+bytes_more zero w b h lt = ap (λ x. x ∷ []) (omega arith)
+bytes_more (suc i) w b h lt = ap₂ (λ x r. x ∷ r) (shifted_byte i w b h (omega arith)) (bytes_more i w b h (omega arith))
+
+pub length-bytes : (i w : ℕ) → length (bytes_high_first i w) ≡ i
+length-bytes zero w = refl
+length-bytes (suc i) w = ap suc (length-bytes i w)
+
+pub word_more : (c : CheckCase) (table s : List ℕ) (i w v : ℕ) → IsEntry c table (get_or s (2 * i) 0) × IsEntry c table (get_or s (2 * i + 1) 0) → i < 7 → v ≡ 16 * get_or table (get_or s (2 * i) 0) 0 + get_or table (get_or s (2 * i + 1) 0) 0
+    → SpellsBelow c s (bytes_high_first i w) i → SpellsBelow c s (bytes_high_first (i + 1) (256 * w + v)) (i + 1)
+word_more c table s i w v (first, second) few packed below =
+    let next : i + 1 ≡ suc i = omega arith in
+    let more : bytes_high_first (i + 1) (256 * w + v) ≡ bytes_high_first i w ++ v ∷ [] =
+    ap (λ n. bytes_high_first n (256 * w + v)) next ∙ bytes_more i w v (omega (arith, first.1, second.1)) few in
+    let long = length-bytes i w in
+    rw more (below_more (λ (k : ℕ). SpellsAt c s (bytes_high_first i w ++ v ∷ []) k) i
+    (λ k lt. spelled_along (below k lt) refl refl (get_or_append_left (bytes_high_first i w) (v ∷ []) 0 k (omega arith)))
+    (let top : i - i ≡ 0 = omega arith in
+    let is : get_or (bytes_high_first i w ++ v ∷ []) i 0 ≡ v = get_or-append_right (bytes_high_first i w) (v ∷ []) i i 0 long (omega arith) ∙ ap (λ k. get_or (v ∷ []) k 0) top in
+    let quotient : v / 16 ≡ get_or table (get_or s (2 * i) 0) 0 = omega (arith, first.1, second.1) in
+    let remainder : v % 16 ≡ get_or table (get_or s (2 * i + 1) 0) 0 = omega (arith, first.1, second.1) in
+    record { high = rw (is, quotient) first.0; low = rw (is, remainder) second.0 }))
+
+-- how great it is
+pub word_small : (i w b : ℕ) → w < 256 ^ i → b < 256 → i < 7 → (256 * w + b < 256 ^ (i + 1)) × (256 * w + b < 2 ^ 64)
+word_small zero w b h small few = (omega arith, omega arith)
+word_small (suc zero) w b h small few = (omega arith, omega arith)
+word_small (suc (suc zero)) w b h small few = (omega arith, omega arith)
+word_small (suc (suc (suc zero))) w b h small few = (omega arith, omega arith)
+word_small (suc (suc (suc (suc zero)))) w b h small few = (omega arith, omega arith)
+word_small (suc (suc (suc (suc (suc zero))))) w b h small few = (omega arith, omega arith)
+word_small (suc (suc (suc (suc (suc (suc zero)))))) w b h small few = (omega arith, omega arith)
+word_small (suc (suc (suc (suc (suc (suc (suc i))))))) w b h small few = absurd (omega arith)
+
+-- the last bytes of eight
+pub last_bytes : (n w : ℕ) → n < 8 → drop (8 - n) (bytes_high_first 8 w) ≡ bytes_high_first n w
+last_bytes zero w lt = refl
+last_bytes (suc zero) w lt = refl
+last_bytes (suc (suc zero)) w lt = refl
+last_bytes (suc (suc (suc zero))) w lt = refl
+last_bytes (suc (suc (suc (suc zero)))) w lt = refl
+last_bytes (suc (suc (suc (suc (suc zero))))) w lt = refl
+last_bytes (suc (suc (suc (suc (suc (suc zero)))))) w lt = refl
+last_bytes (suc (suc (suc (suc (suc (suc (suc zero))))))) w lt = refl
+last_bytes (suc (suc (suc (suc (suc (suc (suc (suc n)))))))) w lt = absurd (omega arith)
