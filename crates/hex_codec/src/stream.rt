@@ -15,7 +15,6 @@ ghost use Rattle.hex_core.specs.Digit.{value};
 ghost use Rattle.hex_core.specs.Search.{first_invalid};
 ghost use Rattle.hex_core.specs.Text.{Spells};
 
-use crate::decode::hex_decode_into;
 use hex_core::{Backend, CheckCase, Error, digit_value};
 
 /// Decodes digits that are fed to it in chunks, each of which may end within a pair.
@@ -191,10 +190,11 @@ impl Decoder {
         if start == end {
             return Ok(waiting);
         }
-        match hex_decode_into(&src[start..end], dst, self.case) {
-            Ok(_) => Ok(waiting),
-            Err(_) => Err(self.error_in(src)),
+        let pairs = (end - start) / 2;
+        if !Backend::plain().decode(&src[start..end], &mut dst[..pairs], self.case) {
+            return Err(self.error_in(src));
         }
+        Ok(waiting)
     }
 
     // The first invalid byte of a chunk that has one, by its place in all that was fed.
@@ -204,9 +204,7 @@ impl Decoder {
         requires counted { position_of self.now + length src.now < 2 ^ 64 }
         ensures { bad_char_behind (policy_of self.now) (position_of self.now) src.now ≡ Some result }
     {
-        let Some(index) = Backend::plain().first_invalid(src, self.case) else {
-            unreachable!();
-        };
+        let index = Backend::plain().first_invalid(src, self.case).unwrap();
         Error::InvalidChar {
             index: self.position + index,
             byte: src[index],
