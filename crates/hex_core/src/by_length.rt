@@ -6,7 +6,7 @@ ghost use Rattle.hex_core.specs.Calls.{DecodesWhole};
 ghost use Rattle.hex_core.specs.Search.{first_invalid};
 ghost use Rattle.hex_core.specs.Text.{Spells};
 
-use crate::blocks::check::{check_block, check_long, check_three, check_two};
+use crate::blocks::check::{check_block, check_ends, check_long, check_two};
 use crate::blocks::decode::{decode_four, decode_long, decode_one, decode_three, decode_two};
 use crate::digit::CheckCase;
 use crate::nibbles::Ranged;
@@ -23,7 +23,10 @@ pub fn check(src: &[u8], case: CheckCase) -> bool
         64 => check_block(src, case),
         33..64 => check_two::<32>(src, case),
         65..=128 => check_two::<64>(src, case),
-        129..=192 => check_three::<64>(src, case),
+        129..=192 => check_ends::<2, 1>(src, case),
+        193..=256 => check_ends::<2, 2>(src, case),
+        257..=320 => check_ends::<3, 2>(src, case),
+        321..=384 => check_ends::<3, 3>(src, case),
         _ => check_long(src, case),
     }
 }

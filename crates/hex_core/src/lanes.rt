@@ -355,13 +355,12 @@ where
 
 /// The same by the ranges of digits and letters.
 #[inline(always)]
-pub(crate) fn valid_nibbles<const N: usize>(v: Simd<u8, N>, case: CheckCase) -> Simd<u8, N>
-    ensures { AreValues case v.entry result }
+pub(crate) fn valid_nibbles<const N: usize>(v: Simd<u8, N>) -> Simd<u8, N>
+    ensures { (case : CheckCase) → AreValues case v.entry result }
 {
-    let hidden = hidden_zero(case);
     smaller(
-        wrapping_sub(v, b'0' + hidden),
-        wrapping_sub(with_bits(v, 0x20 + hidden), b'a' - 10 + hidden),
+        wrapping_sub(v, b'0'),
+        wrapping_sub(with_bits(v, 0x20), b'a' - 10),
     )
 }
 

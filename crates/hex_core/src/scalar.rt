@@ -83,7 +83,7 @@ fn word_of(src: &[u8], case: CheckCase) -> Option<u64>
 }
 
 // Decodes fewer than 16 digits in one pass: their bytes are stored once every pair is known to be valid.
-#[inline(never)]
+#[inline(always)]
 fn decode_short(src: &[u8], dst: &mut [u8], case: CheckCase) -> bool
     requires twice { length src.now ≡ 2 * length dst.old }
     requires few { length src.now < 16 }
@@ -105,6 +105,15 @@ pub fn decode(src: &[u8], dst: &mut [u8], case: CheckCase) -> bool
     if src.len() < 16 {
         return decode_short(src, dst, case);
     }
+    decode_long(src, dst, case)
+}
+
+// The same of 16 digits or more.
+#[inline(never)]
+fn decode_long(src: &[u8], dst: &mut [u8], case: CheckCase) -> bool
+    requires { length src.now ≡ 2 * length dst.old }
+    ensures { DecodesWhole case src.now dst.old dst.new result }
+{
     let valid = check(src, case);
     if valid {
         write_bytes(src, dst, case);

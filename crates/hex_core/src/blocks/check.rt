@@ -22,19 +22,6 @@ pub fn check_two<const N: usize>(src: &[u8], case: CheckCase) -> bool
     is_low(larger(front, back))
 }
 
-/// Whether every byte of a source of `2 * N` to `3 * N` bytes has a value.
-#[inline(never)]
-pub fn check_three<const N: usize>(src: &[u8], case: CheckCase) -> bool
-    requires least { 2 * N ≤ length src.now }
-    requires most { length src.now ≤ 3 * N }
-    ensures { IsTrue result ↔ (first_invalid case src.now ≡ None) }
-{
-    let first = reach(Simd::<u8, N>::from_slice(src), case);
-    let second = reach(Simd::<u8, N>::from_slice(&src[N..]), case);
-    let last = reach(Simd::<u8, N>::from_slice(&src[src.len() - N..]), case);
-    is_low(larger(larger(first, second), last))
-}
-
 /// Whether every byte of a source of 64 bytes has a value, for the tests of `locate`: a loop keeps all
 /// that it takes in registers where the policy is not known.
 #[inline(always)]
@@ -65,6 +52,20 @@ fn reach_of(src: &[u8], at: usize, count: usize, case: CheckCase) -> u8x64
         farthest = larger(farthest, reach(block, case));
     }
     farthest
+}
+
+/// Whether every byte of a source of `K` to `K + L` blocks has a value, by one test of its first `K` and
+/// its last `L`.
+#[inline(never)]
+pub fn check_ends<const K: usize, const L: usize>(src: &[u8], case: CheckCase) -> bool
+    requires less { L ≤ K }
+    requires least { K * 64 ≤ length src.now }
+    requires most { length src.now ≤ K * 64 + L * 64 }
+    ensures { IsTrue result ↔ (first_invalid case src.now ≡ None) }
+{
+    let front = reach_of(src, 0, K, case);
+    let back = reach_of(src, src.len() - L * BLOCK, L, case);
+    is_low(larger(front, back))
 }
 
 /// Whether every byte of a source of a block or more has a value: by runs, and then by one test of the
