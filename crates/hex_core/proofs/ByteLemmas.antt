@@ -13,7 +13,7 @@ use lib.Count.{count_trailing_zeros}
 use lib.Lanes.{Each1, mask_l, zip2}
 use Rattle.hex_core.specs.declared.digit.CheckCase.{CheckCase}
 use Rattle.hex_core.specs.declared.digit.CheckCase.TheVariants as policy
-use Rattle.hex_core.specs.Arithmetic.{AreLow, AreZero, excess, interleaved, letter, reach, saturating_add, valid_nibble, wrapping_sub}
+use Rattle.hex_core.specs.Arithmetic.{AreLow, interleaved, letter, reach, saturating_add, valid_nibble, wrapping_sub}
 use Rattle.hex_core.specs.Digit.{digit, value}
 use Rattle.hex_core.specs.Search.{AllValid}
 use Rattle.hex_core.specs.Lanes.{Admits, AreChecked, AreNibbles, AreValues, IsNibble}
@@ -28,6 +28,10 @@ abbrev pub always : ℕ → Bool
 always _ = true
 
 -- ---- every map at every byte
+
+-- how far a reach is past those of digits and letters: 0 exactly where there is a value
+abbrev pub excess : CheckCase → ℕ → ℕ
+excess c b = reach c b - 5
 
 -- a byte's value, or at least 16: for a byte that is no digit (no letter) the first (second) number is large
 abbrev pub saturated : CheckCase → ℕ → ℕ
@@ -76,9 +80,6 @@ reach_valid c = valid_where reach (λ x. x < 6) c (λ b h.
 
 excess_zero : (c : CheckCase) (b : ℕ) → b < 256 → eqb (excess c b) 0 ≡ has c b
 excess_zero c b h = agree_below_at (λ x. eqb (excess c x) 0) (has c) 256 b (maps_are_right c).1 h
-
-pub excess_valid : (c : CheckCase) (v r : List ℕ) (n : ℕ) → (length v ≡ n) × Each1 (Fits w8) v → r ≡ map (excess c) v → AreZero r ↔ AllValid c v 0 n
-excess_valid c = valid_where excess (λ x. x ≡ 0) c (λ b h. (λ z. sym (excess_zero c b h) ∙ rw z refl, λ s. eqb-true _ _ (excess_zero c b h ∙ s)))
 
 -- the mask of the bytes that have a value, and its bits
 pub admitted_mask : (c : CheckCase) (v e : List ℕ) (m : ℕ) → Each1 (Fits w8) v → e ≡ map (excess c) v → m ≡ mask_l (map (λ x. eqb x 0) e) → m ≡ mask_l (map (has c) v)

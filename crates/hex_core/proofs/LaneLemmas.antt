@@ -88,16 +88,6 @@ sums v k n f h =
     rw (minima v (replicate n (255 - k)), splat_twice min wrapping_add v n (255 - k) k f.0)
     (maps_agree (λ x. wrapping_add (min x (255 - k)) k) (λ x. saturating_add x k) (λ x lt. omega arith) v f.1)
 
--- the same of a vector's own sum
-pub own_sums : (v : List ℕ) (k n : ℕ) → (length v ≡ n) × Each1 (Fits w8) v → k < 256
-    → zip2 wrapping_add v (sel_l (map (top 7) (zip2 below (replicate n k) (map (λ x. 255 - x) v))) (replicate n k) (map (λ x. 255 - x) v)) ≡ map (λ x. saturating_add x k) v
-own_sums v k n f h =
-    rw (← f.0, minima (replicate (length v) k) (map (λ x. 255 - x) v)) (go v f.1)
-  where
-    go : (v : List ℕ) → Each1 (Fits w8) v → zip2 wrapping_add v (zip2 min (replicate (length v) k) (map (λ x. 255 - x) v)) ≡ map (λ x. saturating_add x k) v
-    go [] e = refl
-    go (x ∷ v) e = let lt : x < 256 = e.0.fits in ap₂ (λ a r. a ∷ r) (omega (arith, h, lt)) (go v e.1)
-
 -- ---- averages, computed in words
 
 abbrev word_add : ℕ → ℕ → ℕ
@@ -211,8 +201,3 @@ pub high_bits_are_zero : (x : ℕ) → x < 256 → (bit_and x 240 ≡ 0) ↔ (x 
 high_bits_are_zero x h =
     let same = agree_below_at (λ x. eqb (bit_and x 240) 0) (λ x. ltb x 16) 256 x refl h in
     (λ z. ltb-true x 16 (sym same ∙ rw z refl), λ lt. eqb-true _ _ (same ∙ lt-ltb x 16 lt))
-
-pub sign_bit_is_zero : (x : ℕ) → x < 256 → (bit_and x 128 ≡ 0) ↔ (x < 128)
-sign_bit_is_zero x h =
-    let same = agree_below_at (λ x. eqb (bit_and x 128) 0) (λ x. ltb x 128) 256 x refl h in
-    (λ z. ltb-true x 128 (sym same ∙ rw z refl), λ lt. eqb-true _ _ (same ∙ lt-ltb x 128 lt))

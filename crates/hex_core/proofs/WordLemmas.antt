@@ -1,5 +1,5 @@
 -- The bytes of a number that they are kept in, the last one lowest.
-use Rattle.std.proofs.Common.{◌≡◌, ℕ, zero, suc, ◌+◌, ◌*◌, ◌-◌, ◌/◌, ◌%◌, ◌^◌, ◌<◌, ◌≤◌, List, [], ◌∷◌, ◌++◌, length, get_or, drop, refl, ap, ap₂, ◌∙◌, arith}
+use Rattle.std.proofs.Common.{◌≡◌, ℕ, zero, suc, ◌+◌, ◌*◌, ◌-◌, ◌/◌, ◌%◌, ◌^◌, ◌<◌, ◌≤◌, List, [], ◌∷◌, ◌++◌, length, get_or, refl, ap, ap₂, ◌∙◌, arith}
 use Rattle.std.specs.Int.{byte_at, bytes_high_first}
 use Rattle.std.proofs.lemmas.List.{get_or_append_left, get_or-append_right}
 use borrow.Author.Count.{below_more}
@@ -52,14 +52,27 @@ word_small (suc (suc (suc (suc (suc zero))))) w b h small few = (omega arith, om
 word_small (suc (suc (suc (suc (suc (suc zero)))))) w b h small few = (omega arith, omega arith)
 word_small (suc (suc (suc (suc (suc (suc (suc i))))))) w b h small few = absurd (omega arith)
 
--- the last bytes of eight
-pub last_bytes : (n w : ℕ) → n < 8 → drop (8 - n) (bytes_high_first 8 w) ≡ bytes_high_first n w
-last_bytes zero w lt = refl
-last_bytes (suc zero) w lt = refl
-last_bytes (suc (suc zero)) w lt = refl
-last_bytes (suc (suc (suc zero))) w lt = refl
-last_bytes (suc (suc (suc (suc zero)))) w lt = refl
-last_bytes (suc (suc (suc (suc (suc zero))))) w lt = refl
-last_bytes (suc (suc (suc (suc (suc (suc zero)))))) w lt = refl
-last_bytes (suc (suc (suc (suc (suc (suc (suc zero))))))) w lt = refl
-last_bytes (suc (suc (suc (suc (suc (suc (suc (suc n)))))))) w lt = absurd (omega arith)
+-- ---- bytes taken out of it
+
+-- the lowest byte of what is left, and what is left behind it
+pub byte_left : (i w left : ℕ) → i < 7 → left ≡ w / 256 ^ i → (left % 256 ≡ byte_at i w) × (left / 256 ≡ w / 256 ^ (i + 1))
+byte_left zero w left lt is = (omega arith, omega arith)
+byte_left (suc zero) w left lt is = (omega arith, omega arith)
+byte_left (suc (suc zero)) w left lt is = (omega arith, omega arith)
+byte_left (suc (suc (suc zero))) w left lt is = (omega arith, omega arith)
+byte_left (suc (suc (suc (suc zero)))) w left lt is = (omega arith, omega arith)
+byte_left (suc (suc (suc (suc (suc zero))))) w left lt is = (omega arith, omega arith)
+byte_left (suc (suc (suc (suc (suc (suc zero)))))) w left lt is = (omega arith, omega arith)
+byte_left (suc (suc (suc (suc (suc (suc (suc i))))))) w left lt is = absurd (omega arith)
+
+-- a list of them, from the end
+pub are_bytes : (n w : ℕ) (bytes : List ℕ) → length bytes ≡ n → ((k : ℕ) → k < n → get_or bytes (n - 1 - k) 0 ≡ byte_at k w) → bytes ≡ bytes_high_first n w
+are_bytes zero w [] long each = refl
+are_bytes zero w (b ∷ bytes) long each = absurd (omega arith)
+are_bytes (suc n) w [] long each = absurd (omega arith)
+are_bytes (suc n) w (b ∷ bytes) long each =
+    let top : 0 ≡ suc n - 1 - n = omega arith in
+    ap₂ (λ x r. x ∷ r) (ap (λ k. get_or (b ∷ bytes) k 0) top ∙ each n (omega arith))
+    (are_bytes n w bytes (omega arith) (λ k lt.
+    let next : suc (n - 1 - k) ≡ suc n - 1 - k = omega arith in
+    ap (λ i. get_or (b ∷ bytes) i 0) next ∙ each k (omega arith)))

@@ -39,10 +39,6 @@ first_letter policy.Upper = 65
 abbrev pub letter : CheckCase → ℕ → ℕ
 letter c b = wrapping_sub (bit_or b (fold_of c)) (first_letter c)
 
--- how far a byte is past the ten digits and past the six letters: 0 exactly where it has a value
-abbrev pub excess : CheckCase → ℕ → ℕ
-excess c b = min (wrapping_sub b 48 - 9) (letter c b - 5)
-
 -- how far a byte reaches past the first four of ten digits, or past the first of six letters: below 6 exactly where it has a value
 abbrev pub reach : CheckCase → ℕ → ℕ
 reach c b = min (wrapping_sub b 48 - 4) (letter c b)

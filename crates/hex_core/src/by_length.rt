@@ -6,7 +6,7 @@ ghost use Rattle.hex_core.specs.Calls.{DecodesWhole};
 ghost use Rattle.hex_core.specs.Search.{first_invalid};
 ghost use Rattle.hex_core.specs.Text.{Spells};
 
-use crate::blocks::check::{check_block, check_ends, check_long, check_two};
+use crate::blocks::check::{check_ends, check_long, check_two};
 use crate::blocks::decode::{decode_four, decode_long, decode_one, decode_three, decode_two};
 use crate::digit::CheckCase;
 use crate::nibbles::Ranged;
@@ -20,8 +20,7 @@ pub fn check(src: &[u8], case: CheckCase) -> bool
     match src.len() {
         0..16 => check_short(src, case),
         16..=32 => check_two::<16>(src, case),
-        64 => check_block(src, case),
-        33..64 => check_two::<32>(src, case),
+        33..=64 => check_two::<32>(src, case),
         65..=128 => check_two::<64>(src, case),
         129..=192 => check_ends::<2, 1>(src, case),
         193..=256 => check_ends::<2, 2>(src, case),
@@ -52,29 +51,15 @@ pub fn decode(src: &[u8], dst: &mut [u8], case: CheckCase) -> bool
     requires { length src.now ≡ 2 * length dst.old }
     ensures { DecodesWhole case src.now dst.old dst.new result }
 {
-    if src.len() <= 32 {
-        return decode_few(src, dst, case);
-    }
     match src.len() {
-        64 => decode_one::<64, 32>(src, dst, case),
-        0..64 => decode_two::<32, 16>(src, dst, case),
-        65..=128 => decode_two::<64, 32>(src, dst, case),
-        _ => decode_more(src, dst, case),
-    }
-}
-
-// The same of at most 32 digits.
-#[inline(always)]
-fn decode_few(src: &[u8], dst: &mut [u8], case: CheckCase) -> bool
-    requires twice { length src.now ≡ 2 * length dst.old }
-    requires few { length src.now ≤ 32 }
-    ensures { DecodesWhole case src.now dst.old dst.new result }
-{
-    match src.len() {
+        0..16 => decode_short(src, dst, case),
         16 => decode_one::<16, 8>(src, dst, case),
         32 => decode_one::<32, 16>(src, dst, case),
-        0..16 => decode_short(src, dst, case),
-        _ => decode_two::<16, 8>(src, dst, case),
+        64 => decode_one::<64, 32>(src, dst, case),
+        17..32 => decode_two::<16, 8>(src, dst, case),
+        33..64 => decode_two::<32, 16>(src, dst, case),
+        65..=128 => decode_two::<64, 32>(src, dst, case),
+        _ => decode_more(src, dst, case),
     }
 }
 

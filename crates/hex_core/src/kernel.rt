@@ -22,6 +22,7 @@ use std::simd::prelude::*;
 fn is_valid_at<M, const N: usize>(src: &[u8], at: usize, case: CheckCase) -> bool
 where
     M: Nibbles<N>,
+    requires lanes { N ≤ 64 }
     requires inside { at + N ≤ length src.now }
     ensures { IsTrue result ↔ AllValid case src.now at (at + N) }
 {
@@ -93,6 +94,31 @@ where
     put(values_at::<M, N>(src, 2 * at, case), case, dst, at);
 }
 
+// The same of so many blocks.
+#[inline(always)]
+fn write_run<M, const N: usize, const HALF: usize>(
+    src: &[u8],
+    dst: &mut [u8],
+    at: usize,
+    count: usize,
+    case: CheckCase,
+)
+where
+    M: Nibbles<N>,
+    Lanes: Pack<N, HALF>,
+    requires half { N ≡ 2 * HALF }
+    requires room { HasRoom at (count * HALF) src.now dst.old }
+    requires valid { first_invalid case src.now ≡ None }
+    ensures { DecodesRange case src.now dst.old dst.new at (at + count * HALF) }
+{
+    'turns: for i in 0..count {
+        write_at::<M, N, HALF>(src, dst, at + i * HALF, case);
+    }
+}
+
+// How many blocks are written in a turn: so many read once what the compiler knows.
+const TURN: usize = 4;
+
 /// Writes the bytes that a block or more of valid digits spells over the whole of `dst`.
 #[inline(never)]
 pub fn write<M, const N: usize, const HALF: usize>(src: &[u8], dst: &mut [u8], case: CheckCase)
@@ -104,10 +130,14 @@ where
     requires valid { first_invalid case src.now ≡ None }
     ensures { Spells case src.now dst.new }
 {
-    'turns: for i in 0..dst.len() / HALF {
-        write_at::<M, N, HALF>(src, dst, i * HALF, case);
+    let mut at = 0;
+    'turns: while dst.len() - at >= TURN * HALF {
+        write_run::<M, N, HALF>(src, dst, at, TURN, case);
+        at += TURN * HALF;
     }
-    if dst.len() % HALF != 0 {
+    let rest = (dst.len() - at) / HALF;
+    write_run::<M, N, HALF>(src, dst, at, rest, case);
+    if at + rest * HALF < dst.len() {
         let last = dst.len() - HALF;
         write_at::<M, N, HALF>(src, dst, last, case);
     }

@@ -5,7 +5,7 @@
 ghost use Rattle.std.specs.Prelude.{◌≡◌, ◌↔◌, ℕ, ◌≤◌, ◌<◌, EachIndex, is_some, map, slice_index};
 ghost use Rattle.hex_core.specs.declared.digit.CheckCase.{CheckCase};
 ghost use Rattle.std.specs.Simd.Lanes.{mask_l};
-ghost use Rattle.hex_core.specs.Arithmetic.{AreLow, AreZero, excess, first_letter, fold_of, letter, reach, valid_nibble};
+ghost use Rattle.hex_core.specs.Arithmetic.{AreLow, first_letter, fold_of, letter, reach};
 ghost use Rattle.hex_core.specs.Digit.{digit, value};
 ghost use Rattle.hex_core.specs.Search.{AllValid};
 ghost use Rattle.hex_core.specs.Hash.{Hashed, check_row};
@@ -74,7 +74,7 @@ pub fn admitted_64(bytes: &[u8; 64], case: CheckCase) -> u64
 pub fn marked_64(marks: &[u8; 64], bytes: &[u8; 64], case: CheckCase) -> [u8; 64]
     ensures { AreMarked case marks.now bytes.now result }
 {
-    let lacking = excess(u8x64::from_array(*bytes), case);
+    let lacking = saturating_sub(reach(u8x64::from_array(*bytes), case), 5);
     either(u8x64::from_array(*marks), lacking).to_array()
 }
 
@@ -260,23 +260,13 @@ pub(crate) fn reach<const N: usize>(v: Simd<u8, N>, case: CheckCase) -> Simd<u8,
     smaller(saturating_sub(digits, 4 + hidden), letters(v, case))
 }
 
-/// How far each lane is past the digits and letters: 0 exactly where it has a value.
-#[inline(always)]
-pub(crate) fn excess<const N: usize>(v: Simd<u8, N>, case: CheckCase) -> Simd<u8, N>
-    ensures lanes { result ≡ map (excess case) v.entry }
-    ensures zero { AreZero result ↔ AllValid case v.entry 0 N }
-{
-    let digits = saturating_sub(wrapping_sub(v, b'0'), 9);
-    smaller(digits, saturating_sub(letters(v, case), 5))
-}
-
 /// A mask whose bit i says whether lane i has a value.
 #[inline(always)]
 pub(crate) fn admitted<const N: usize>(v: Simd<u8, N>, case: CheckCase) -> u64
     requires { N ≤ 64 }
     ensures { result ≡ mask_l (map (λ b. is_some (value case b)) v.entry) }
 {
-    zero_bits(excess(v, case))
+    zero_bits(saturating_sub(reach(v, case), 5))
 }
 
 /// The value of each lane, or at least 16.

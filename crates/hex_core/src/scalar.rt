@@ -9,30 +9,15 @@ ghost use Rattle.hex_core.specs.Text.{Spells, text};
 use crate::digit::CheckCase;
 use crate::tables::{NIL, digit_pairs_of, values_of};
 
-// How many bytes are looked up between two tests.
-const BLOCK: usize = 64;
-
-/// Returns whether every byte of `src` has a value under `case`.
+/// Returns whether every byte of `src` has a value under `case`. All are looked up, since a branch a byte
+/// costs more.
 #[inline(never)]
 pub fn check(src: &[u8], case: CheckCase) -> bool
     ensures { IsTrue result ↔ (first_invalid case src.now ≡ None) }
 {
-    let whole = src.len() / BLOCK;
-    'passes: for i in 0..whole {
-        if !is_block_valid(&src[BLOCK * i..BLOCK * i + BLOCK], case) {
-            return false;
-        }
-    }
-    is_block_valid(&src[BLOCK * whole..], case)
-}
-
-// Whether every byte of a block has a value. All are looked up, since a branch a byte costs more.
-fn is_block_valid(block: &[u8], case: CheckCase) -> bool
-    ensures { IsTrue result ↔ (first_invalid case block.now ≡ None) }
-{
     let values = values_of(case);
     let mut valid = true;
-    for byte in block {
+    for byte in src {
         valid &= values[*byte as usize] != NIL;
     }
     valid
@@ -82,6 +67,20 @@ fn word_of(src: &[u8], case: CheckCase) -> Option<u64>
     Some(word)
 }
 
+// Writes the last bytes of a number over the whole of `dst`. A copy of so few bytes would be a call.
+#[inline(always)]
+fn put_word(word: u64, dst: &mut [u8])
+    requires { length dst.old < 8 }
+    ensures { dst.new ≡ bytes_high_first (length dst.old) word }
+{
+    let mut left = word;
+    'bytes: for i in 0..dst.len() {
+        let at = dst.len() - 1 - i;
+        dst[at] = (left % 256) as u8;
+        left /= 256;
+    }
+}
+
 // Decodes fewer than 16 digits in one pass: their bytes are stored once every pair is known to be valid.
 #[inline(always)]
 fn decode_short(src: &[u8], dst: &mut [u8], case: CheckCase) -> bool
@@ -92,7 +91,7 @@ fn decode_short(src: &[u8], dst: &mut [u8], case: CheckCase) -> bool
     let Some(word) = word_of(src, case) else {
         return false;
     };
-    dst.copy_from_slice(&word.to_be_bytes()[8 - dst.len()..]);
+    put_word(word, dst);
     true
 }
 

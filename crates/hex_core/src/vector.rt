@@ -104,24 +104,23 @@ pub fn is_zero<const N: usize>(v: Simd<u8, N>) -> bool
     v.reduce_or() == 0
 }
 
+/// Whether no lane has its sign bit: each is below 128. One instruction reads the signs of a register.
+#[inline(always)]
+pub fn has_no_sign<const N: usize>(v: Simd<u8, N>) -> bool
+    requires { N ≤ 64 }
+    ensures { IsTrue result ↔ AreUnsigned v.entry }
+{
+    v.simd_ge(Simd::splat(0x80)).to_bitmask() == 0
+}
+
 /// Whether each lane is below 6.
 #[inline(always)]
 pub fn is_low<const N: usize>(v: Simd<u8, N>) -> bool
+    requires { N ≤ 64 }
     ensures { IsTrue result ↔ AreLow v.entry }
 {
-    is_zero(saturating_sub(v, 5))
-}
-
-/// The same by the signs of the lanes once 122 is added, which one instruction reads. The caller gives
-/// that number, so that a loop can keep it in a register.
-#[inline(always)]
-pub fn is_low_by_signs<const N: usize>(v: Simd<u8, N>, added: u8) -> bool
-    requires lanes { N ≤ 64 }
-    requires added { added ≡ 122 }
-    ensures { IsTrue result ↔ AreLow v.entry }
-{
-    let sums = v.saturating_add(Simd::splat(added));
-    sums.simd_ge(Simd::splat(0x80)).to_bitmask() == 0
+    // 6 becomes 128.
+    has_no_sign(saturating_add(v, 122))
 }
 
 /// Whether each lane is below 16.
@@ -130,14 +129,6 @@ pub fn is_small<const N: usize>(v: Simd<u8, N>) -> bool
     ensures { IsTrue result ↔ AreSmall v.entry }
 {
     is_zero(masked(v, 0xf0))
-}
-
-/// Whether no lane has its sign bit: each is below 128.
-#[inline(always)]
-pub fn has_no_sign<const N: usize>(v: Simd<u8, N>) -> bool
-    ensures { IsTrue result ↔ AreUnsigned v.entry }
-{
-    is_zero(masked(v, 0x80))
 }
 
 // What brings the byte of two nibbles into the high half of their word, when it is multiplied.

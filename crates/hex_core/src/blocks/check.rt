@@ -6,14 +6,14 @@ ghost use Rattle.hex_core.specs.Search.{AllValid, first_invalid};
 ghost use Rattle.hex_core.specs.Shapes.{EndsCover};
 
 use crate::digit::CheckCase;
-use crate::hidden::hidden_zero;
 use crate::lanes::reach;
-use crate::vector::{is_low, is_low_by_signs, larger};
+use crate::vector::{is_low, larger};
 use std::simd::prelude::*;
 
 /// Whether every byte of a source of `N` to `2 * N` bytes has a value.
 #[inline(always)]
 pub fn check_two<const N: usize>(src: &[u8], case: CheckCase) -> bool
+    requires lanes { N ≤ 64 }
     requires covered { EndsCover N src.now }
     ensures { IsTrue result ↔ (first_invalid case src.now ≡ None) }
 {
@@ -22,23 +22,11 @@ pub fn check_two<const N: usize>(src: &[u8], case: CheckCase) -> bool
     is_low(larger(front, back))
 }
 
-/// Whether every byte of a source of 64 bytes has a value, for the tests of `locate`: a loop keeps all
-/// that it takes in registers where the policy is not known.
-#[inline(always)]
-pub fn check_block(src: &[u8], case: CheckCase) -> bool
-    requires whole { length src.now ≡ 64 }
-    ensures { IsTrue result ↔ (first_invalid case src.now ≡ None) }
-{
-    let front = reach(u8x32::from_slice(src), case);
-    let back = reach(u8x32::from_slice(&src[32..]), case);
-    is_low_by_signs(larger(front, back), 122 + hidden_zero(case))
-}
-
 // How many bytes are read at a time, and how many of these blocks one test is for: with more of them an
 // invalid byte is found later.
 const BLOCK: usize = 64;
 
-const RUN: usize = 8;
+const RUN: usize = 4;
 
 // What is below 6 in each lane exactly where each byte of so many blocks from `at` on has a value.
 #[inline(always)]

@@ -35,20 +35,6 @@ where
     encode_at::<N, TWICE>(src, dst, src.len() - N, upper);
 }
 
-// Writes the text of at most 16 bytes.
-#[inline(always)]
-fn encode_few(src: &[u8], dst: &mut [u8], upper: bool)
-    requires twice { length dst.old ≡ 2 * length src.now }
-    requires few { length src.now ≤ 16 }
-    ensures { dst.new ≡ text upper src.now }
-{
-    match src.len() {
-        0..8 => scalar::write_text(src, dst, upper),
-        16 => encode_one::<16, 32>(src, dst, upper),
-        _ => encode_two::<8, 16>(src, dst, upper),
-    }
-}
-
 /// Writes the text of `src` into the whole of `dst`.
 #[inline(always)]
 pub fn encode(src: &[u8], dst: &mut [u8], upper: bool)
@@ -56,7 +42,8 @@ pub fn encode(src: &[u8], dst: &mut [u8], upper: bool)
     ensures { dst.new ≡ text upper src.now }
 {
     match src.len() {
-        0..=16 => encode_few(src, dst, upper),
+        0..8 => scalar::write_text(src, dst, upper),
+        8..=16 => encode_two::<8, 16>(src, dst, upper),
         32 => encode_one::<32, 64>(src, dst, upper),
         17..=31 => encode_two::<16, 32>(src, dst, upper),
         33..=64 => encode_two::<32, 64>(src, dst, upper),

@@ -1,25 +1,22 @@
--- The source is valid where its blocks and what is behind them are.
-use Rattle.std.proofs.Common.{◌+◌, ◌*◌, ◌/◌, arith, length}
-use std.Logic.{↔_trans}
-use Rattle.hex_core.specs.Search.{AllValid}
-use Rattle.hex_core.proofs.BlockLemmas.{part_fails, rest_none, valid_over}
-use Rattle.hex_core.proofs.SearchLemmas.{part_is_valid}
+-- One more entry is looked up, and all were at the end.
+use Rattle.std.proofs.Common.{arith}
+use borrow.Author.Count.{below_more}
+use Rattle.hex_core.proofs.PositionLemmas.{position_none}
+use Rattle.hex_core.proofs.SearchLemmas.{has_value, lacks}
+use Rattle.hex_core.proofs.TableLemmas.{admitted-entry, valid-kept, valid-more, value-entry}
 use Rattle.hex_core.proofs.scalar.check.Goals as goal
 
-pub passes-preserved : goal.passes-preserved
-passes-preserved c =
-    let case = c.args.case in let s = c.args.src.now in let start = 64 * c.passes.i in
-    let block = ↔_trans c.is_block_valid.ensures (part_is_valid case s start (start + 64) (omega arith)) in
-    λ k low lt. valid_over case s 0 start start (start + 64) (omega arith) c.passes.invariant (block.0 c.if-not-is_block_valid.false) k low (omega arith)
+pub loop-byte-preserved : goal.loop-byte-preserved
+loop-byte-preserved c =
+    let case = c.args.case in let at = c.loop-byte.byte-index in let table = c.values_of-values.ensures in
+    record {
+      so_far = λ both. let parts = valid-more c.loop-byte.valid _ both in
+          below_more _ _ (c.loop-byte.invariant.so_far parts.0) (admitted-entry case _ _ table (c.type_inv.src at).fits parts.1);
+      kept = λ all. valid-kept c.loop-byte.valid _ (c.loop-byte.invariant.kept all) (value-entry case _ _ table (c.type_inv.src at).fits (all at c.loop-byte-test.true)).1;
+    }
 
 pub returns : goal.returns
-returns c =
-    let case = c.args.case in let s = c.args.src.now in let start = 64 * (length s / 64) in
-    let front : AllValid case s 0 start = λ k low lt. c.passes.invariant k low (omega arith) in
-    ↔_trans c.is_block_valid-2.ensures (rest_none case s start (omega arith) front)
-
-pub returns-then-not-is_block_valid : goal.returns-then-not-is_block_valid
-returns-then-not-is_block_valid c =
-    let case = c.args.case in let s = c.args.src.now in let start = 64 * c.passes.i in
-    let block = ↔_trans c.is_block_valid.ensures (part_is_valid case s start (start + 64) (omega arith)) in
-    part_fails case s start (start + 64) (omega arith) block c.if-not-is_block_valid.true
+returns c = (
+  λ valid. position_none (lacks c.args.case) c.args.src.now (λ k h. c.loop-byte.invariant.so_far valid k (omega arith)),
+  λ none. c.loop-byte.invariant.kept (λ k h. has_value c.args.case c.args.src.now k none h),
+)
