@@ -28,12 +28,6 @@ block_inside len block i some lt =
     let product : suc i * block ≤ len = (le-div_iff_mul-le some).0 (omega arith) in
     omega (arith, product)
 
--- a block before the last of k
-pub block_among : (k block i : ℕ) → i < k → i * block + block ≤ k * block
-block_among k block i lt =
-    let product : suc i * block ≤ k * block = mul-le-mul_right block (omega arith) in
-    omega (arith, product)
-
 -- where the whole blocks end: with the source, or less than a block before its end
 pub blocks_end : (len block : ℕ) → len % block ≡ 0 → len / block * block ≡ len
 blocks_end len block e = mul_comm (len / block) block ∙ omega (arith, mod-add-div len block)
@@ -76,14 +70,6 @@ module _ (c : CheckCase) (s : List ℕ) where
       let past = blocks_past (length s) block some in (
         λ back. first_invalid_none c s (valid_over 0 (length s / block * block) (length s - block) (length s) (omega (arith, past)) front back),
         valid_range (length s - block) (length s) (omega arith),
-      )
-
-  -- what is behind a valid front
-  pub rest_none : (done : ℕ) → done ≤ length s → AllValid c s 0 done → (first_invalid c (slice_range s done (length s)) ≡ None) ↔ (first_invalid c s ≡ None)
-  rest_none done inside front =
-      let part = part_is_valid c s done (length s) (omega arith) in (
-        λ none. first_invalid_none c s (valid_over 0 done done (length s) (omega arith) front (part.0 none)),
-        λ none. part.1 (valid_range done (length s) (omega arith) none),
       )
 
   -- a range behind a valid front is valid exactly where all of it is

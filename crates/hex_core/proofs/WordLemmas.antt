@@ -8,19 +8,25 @@ use Rattle.hex_core.specs.Text.{SpellsAt}
 use Rattle.hex_core.proofs.SpellsLemmas.{SpellsBelow, spelled_along}
 use Rattle.hex_core.proofs.TableLemmas.{IsEntry}
 
--- one more byte behind them
-shifted_byte : (k w b : ℕ) → b < 256 → k < 6 → byte_at (suc k) (256 * w + b) ≡ byte_at k w
-shifted_byte zero w b h lt = omega arith
-shifted_byte (suc zero) w b h lt = omega arith
-shifted_byte (suc (suc zero)) w b h lt = omega arith
-shifted_byte (suc (suc (suc zero))) w b h lt = omega arith
-shifted_byte (suc (suc (suc (suc zero)))) w b h lt = omega arith
-shifted_byte (suc (suc (suc (suc (suc zero))))) w b h lt = omega arith
-shifted_byte (suc (suc (suc (suc (suc (suc k)))))) w b h lt = absurd (omega arith)
+-- a number of i bytes, and one more byte behind them: where they stand then, and how great it is; and its lowest bytes taken out
+record Step (i w b left : ℕ) : Type 0 where
+  shifted : i < 6 → byte_at (suc i) (256 * w + b) ≡ byte_at i w
+  small : w < 256 ^ i → (256 * w + b < 256 ^ (i + 1)) × (256 * w + b < 2 ^ 64)
+  taken : left ≡ w / 256 ^ i → (left % 256 ≡ byte_at i w) × (left / 256 ≡ w / 256 ^ (i + 1))
+
+step : (i w b left : ℕ) → i < 7 → b < 256 → Step i w b left
+step zero w b left lt h = record { shifted = λ few. omega arith; small = λ under. (omega arith, omega arith); taken = λ is. (omega arith, omega arith) }
+step (suc zero) w b left lt h = record { shifted = λ few. omega arith; small = λ under. (omega arith, omega arith); taken = λ is. (omega arith, omega arith) }
+step (suc (suc zero)) w b left lt h = record { shifted = λ few. omega arith; small = λ under. (omega arith, omega arith); taken = λ is. (omega arith, omega arith) }
+step (suc (suc (suc zero))) w b left lt h = record { shifted = λ few. omega arith; small = λ under. (omega arith, omega arith); taken = λ is. (omega arith, omega arith) }
+step (suc (suc (suc (suc zero)))) w b left lt h = record { shifted = λ few. omega arith; small = λ under. (omega arith, omega arith); taken = λ is. (omega arith, omega arith) }
+step (suc (suc (suc (suc (suc zero))))) w b left lt h = record { shifted = λ few. omega arith; small = λ under. (omega arith, omega arith); taken = λ is. (omega arith, omega arith) }
+step (suc (suc (suc (suc (suc (suc zero)))))) w b left lt h = record { shifted = λ few. omega arith; small = λ under. (omega arith, omega arith); taken = λ is. (omega arith, omega arith) }
+step (suc (suc (suc (suc (suc (suc (suc i))))))) w b left lt h = absurd (omega arith)
 
 bytes_more : (i w b : ℕ) → b < 256 → i < 7 → bytes_high_first (suc i) (256 * w + b) ≡ bytes_high_first i w ++ b ∷ []
 bytes_more zero w b h lt = ap (λ x. x ∷ []) (omega arith)
-bytes_more (suc i) w b h lt = ap₂ (λ x r. x ∷ r) (shifted_byte i w b h (omega arith)) (bytes_more i w b h (omega arith))
+bytes_more (suc i) w b h lt = ap₂ (λ x r. x ∷ r) ((step i w b 0 (omega arith) h).shifted (omega arith)) (bytes_more i w b h (omega arith))
 
 pub length-bytes : (i w : ℕ) → length (bytes_high_first i w) ≡ i
 length-bytes zero w = refl
@@ -43,27 +49,13 @@ word_more c table s i w v (first, second) few packed below =
 
 -- how great it is
 pub word_small : (i w b : ℕ) → w < 256 ^ i → b < 256 → i < 7 → (256 * w + b < 256 ^ (i + 1)) × (256 * w + b < 2 ^ 64)
-word_small zero w b h small few = (omega arith, omega arith)
-word_small (suc zero) w b h small few = (omega arith, omega arith)
-word_small (suc (suc zero)) w b h small few = (omega arith, omega arith)
-word_small (suc (suc (suc zero))) w b h small few = (omega arith, omega arith)
-word_small (suc (suc (suc (suc zero)))) w b h small few = (omega arith, omega arith)
-word_small (suc (suc (suc (suc (suc zero))))) w b h small few = (omega arith, omega arith)
-word_small (suc (suc (suc (suc (suc (suc zero)))))) w b h small few = (omega arith, omega arith)
-word_small (suc (suc (suc (suc (suc (suc (suc i))))))) w b h small few = absurd (omega arith)
+word_small i w b small h few = (step i w b 0 few h).small small
 
 -- ---- bytes taken out of it
 
 -- the lowest byte of what is left, and what is left behind it
 pub byte_left : (i w left : ℕ) → i < 7 → left ≡ w / 256 ^ i → (left % 256 ≡ byte_at i w) × (left / 256 ≡ w / 256 ^ (i + 1))
-byte_left zero w left lt is = (omega arith, omega arith)
-byte_left (suc zero) w left lt is = (omega arith, omega arith)
-byte_left (suc (suc zero)) w left lt is = (omega arith, omega arith)
-byte_left (suc (suc (suc zero))) w left lt is = (omega arith, omega arith)
-byte_left (suc (suc (suc (suc zero)))) w left lt is = (omega arith, omega arith)
-byte_left (suc (suc (suc (suc (suc zero))))) w left lt is = (omega arith, omega arith)
-byte_left (suc (suc (suc (suc (suc (suc zero)))))) w left lt is = (omega arith, omega arith)
-byte_left (suc (suc (suc (suc (suc (suc (suc i))))))) w left lt is = absurd (omega arith)
+byte_left i w left few = (step i w 0 left few (omega arith)).taken
 
 -- a list of them, from the end
 pub are_bytes : (n w : ℕ) (bytes : List ℕ) → length bytes ≡ n → ((k : ℕ) → k < n → get_or bytes (n - 1 - k) 0 ≡ byte_at k w) → bytes ≡ bytes_high_first n w

@@ -30,12 +30,3 @@ abbrev pub DecodesAt : CheckCase → List ℕ → List ℕ → List ℕ → ℕ 
 DecodesAt c s old new at size done =
     (IsTrue done ↔ AllValid c s (2 * at) (2 * at + 2 * size))
     × OnTrue done (DecodesRange c s old new at (at + size)) × OnFalse done (new ≡ old)
-
--- the bytes from one place up to another were decoded, in whole blocks, up to one whose digits are not
--- valid
-pub record DecodesBlocks (c : CheckCase) (size : ℕ) (s old new : List ℕ) (start done : ℕ) : Type 0 where
-  pub inside : (start ≤ done) × (done ≤ length old)
-  pub whole : (i : ℕ) × (done ≡ start + i * size)
-  pub valid : AllValid c s (2 * start) (2 * done)
-  pub stopped : 2 * done + 2 * size ≤ length s → ¬ AllValid c s (2 * done) (2 * done + 2 * size)
-  pub decoded : DecodesRange c s old new start done

@@ -6,7 +6,7 @@ ghost use Rattle.hex_core.specs.Calls.{DecodesWhole};
 ghost use Rattle.hex_core.specs.Search.{first_invalid};
 ghost use Rattle.hex_core.specs.Text.{Spells};
 
-use crate::blocks::check::{check_ends, check_long, check_two};
+use crate::blocks::check::{check_more, check_two};
 use crate::blocks::decode::{decode_four, decode_long, decode_one, decode_three, decode_two};
 use crate::digit::CheckCase;
 use crate::nibbles::Ranged;
@@ -22,11 +22,7 @@ pub fn check(src: &[u8], case: CheckCase) -> bool
         16..=32 => check_two::<16>(src, case),
         33..=64 => check_two::<32>(src, case),
         65..=128 => check_two::<64>(src, case),
-        129..=192 => check_ends::<2, 1>(src, case),
-        193..=256 => check_ends::<2, 2>(src, case),
-        257..=320 => check_ends::<3, 2>(src, case),
-        321..=384 => check_ends::<3, 3>(src, case),
-        _ => check_long(src, case),
+        _ => check_more(src, case),
     }
 }
 
@@ -51,15 +47,30 @@ pub fn decode(src: &[u8], dst: &mut [u8], case: CheckCase) -> bool
     requires { length src.now ≡ 2 * length dst.old }
     ensures { DecodesWhole case src.now dst.old dst.new result }
 {
+    if src.len() <= 32 {
+        return decode_few(src, dst, case);
+    }
     match src.len() {
-        0..16 => decode_short(src, dst, case),
+        64 => decode_one::<64, 32>(src, dst, case),
+        0..64 => decode_two::<32, 16>(src, dst, case),
+        65..=128 => decode_two::<64, 32>(src, dst, case),
+        129..=256 => decode_more(src, dst, case),
+        _ => decode_long(src, dst, case),
+    }
+}
+
+// The same of at most 32 digits, apart: one `match` for all would be a jump through a table.
+#[inline(always)]
+fn decode_few(src: &[u8], dst: &mut [u8], case: CheckCase) -> bool
+    requires twice { length src.now ≡ 2 * length dst.old }
+    requires few { length src.now ≤ 32 }
+    ensures { DecodesWhole case src.now dst.old dst.new result }
+{
+    match src.len() {
         16 => decode_one::<16, 8>(src, dst, case),
         32 => decode_one::<32, 16>(src, dst, case),
-        64 => decode_one::<64, 32>(src, dst, case),
-        17..32 => decode_two::<16, 8>(src, dst, case),
-        33..64 => decode_two::<32, 16>(src, dst, case),
-        65..=128 => decode_two::<64, 32>(src, dst, case),
-        _ => decode_more(src, dst, case),
+        0..16 => decode_short(src, dst, case),
+        _ => decode_two::<16, 8>(src, dst, case),
     }
 }
 
@@ -77,17 +88,18 @@ fn decode_short(src: &[u8], dst: &mut [u8], case: CheckCase) -> bool
     }
 }
 
-// The same of more than 128 digits, of which up to 256 are held in registers.
+// The same of 129 to 256 digits, held in registers.
 #[inline(never)]
 fn decode_more(src: &[u8], dst: &mut [u8], case: CheckCase) -> bool
     requires twice { length src.now ≡ 2 * length dst.old }
     requires more { 128 < length src.now }
+    requires most { length src.now ≤ 256 }
     ensures { DecodesWhole case src.now dst.old dst.new result }
 {
-    match src.len() {
-        0..=192 => decode_three::<64, 32>(src, dst, case),
-        193..=256 => decode_four::<64, 32>(src, dst, case),
-        _ => decode_long(src, dst, case),
+    if src.len() <= 192 {
+        decode_three::<64, 32>(src, dst, case)
+    } else {
+        decode_four::<64, 32>(src, dst, case)
     }
 }
 

@@ -3,8 +3,10 @@
 ghost use Rattle.std.specs.Prelude.{◌≡◌};
 
 use crate::digit::CheckCase;
+use crate::lanes::first_letter;
 
-/// Returns 0, which the compiler knows only where it knows the policy.
+/// Returns 0, which the compiler knows only where it knows the policy: it does not ask what all entries
+/// of a table have in common.
 ///
 /// A number that it knows it reads anew in each turn of a loop, and of a product by such a number it
 /// makes a shift and a sum. One to which this is added it keeps in a register.
@@ -12,5 +14,5 @@ use crate::digit::CheckCase;
 pub fn hidden_zero(case: CheckCase) -> u8
     ensures { result ≡ 0 }
 {
-    case as u8 >> 2
+    first_letter(case) >> 7
 }

@@ -13,7 +13,6 @@ ghost use Rattle.hex_core.specs.Lanes.{Admits, AreChecked, AreMarked, AreNibbles
 ghost use Rattle.hex_core.specs.Text.{text};
 
 use crate::digit::CheckCase;
-use crate::hidden::hidden_zero;
 use crate::vector::{
     Interleave, Lanes, LookUp, Pack, Shift, averages, either, high_bits, masked, saturating_add,
     saturating_differences, saturating_sub, sign_flipped, smaller, with_bits, wrapping_differences,
@@ -231,9 +230,9 @@ fn fold_of(case: CheckCase) -> u8
     FOLDS[case as u8 as usize]
 }
 
-// The first letter that the policy reads, once folded.
+/// The first letter that the policy reads, once folded.
 #[inline(always)]
-fn first_letter(case: CheckCase) -> u8
+pub(crate) fn first_letter(case: CheckCase) -> u8
     ensures { result ≡ first_letter case }
 {
     FIRST_LETTERS[case as u8 as usize]
@@ -255,9 +254,8 @@ pub(crate) fn reach<const N: usize>(v: Simd<u8, N>, case: CheckCase) -> Simd<u8,
     ensures lanes { result ≡ map (reach case) v.entry }
     ensures low { AreLow result ↔ AllValid case v.entry 0 N }
 {
-    let hidden = hidden_zero(case);
-    let digits = wrapping_sub(v, b'0' + hidden);
-    smaller(saturating_sub(digits, 4 + hidden), letters(v, case))
+    let digits = saturating_sub(wrapping_sub(v, b'0'), 4);
+    smaller(digits, letters(v, case))
 }
 
 /// A mask whose bit i says whether lane i has a value.

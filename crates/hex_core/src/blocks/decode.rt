@@ -1,6 +1,6 @@
 //! Decoding by blocks: nibbles in registers, and the stores of their bytes.
 
-ghost use Rattle.std.specs.Prelude.{◌≡◌, ◌+◌, ◌-◌, ◌*◌, ◌≤◌, length};
+ghost use Rattle.std.specs.Prelude.{◌≡◌, ◌+◌, ◌-◌, ◌*◌, ◌<◌, ◌≤◌, length};
 ghost use Rattle.std.specs.Simd.Lanes.{put_chunk};
 ghost use Rattle.hex_core.specs.Arithmetic.{packed};
 ghost use Rattle.hex_core.specs.Blocks.{NibblesFrom};
@@ -8,7 +8,7 @@ ghost use Rattle.hex_core.specs.Calls.{DecodesWhole};
 ghost use Rattle.hex_core.specs.Lanes.{AreSmall};
 ghost use Rattle.hex_core.specs.Shapes.{EndsCover, Halves};
 
-use crate::blocks::check::check_long;
+use crate::blocks::check::check_more;
 use crate::digit::CheckCase;
 use crate::kernel::{self, put};
 use crate::lanes::saturated;
@@ -145,14 +145,14 @@ where
     true
 }
 
-/// Decodes a source of 64 digits or more: all of it is tested before the first store.
-#[inline(always)]
+/// Decodes a source of more than 128 digits: all of it is tested before the first store.
+#[inline(never)]
 pub fn decode_long(src: &[u8], dst: &mut [u8], case: CheckCase) -> bool
-    requires least { 64 ≤ length src.now }
+    requires more { 128 < length src.now }
     requires twice { length src.now ≡ 2 * length dst.old }
     ensures { DecodesWhole case src.now dst.old dst.new result }
 {
-    let valid = check_long(src, case);
+    let valid = check_more(src, case);
     if valid {
         kernel::write::<Ranged, 64, 32>(src, dst, case);
     }

@@ -3,4 +3,4 @@ use Rattle.hex_core.specs.Search.{AllValid}
 use Rattle.hex_core.proofs.blocks.check.check_long.Given as goal
 
 abbrev pub invariant-turns : goal.invariant-turns
-invariant-turns l = AllValid l.fn.case l.src 0 (l.i * 256)
+invariant-turns l = AllValid l.fn.case l.src 0 (l.i * 512)
