@@ -1,9 +1,8 @@
 -- Blocks of a source, and what decoding them makes of a destination.
-use Rattle.std.proofs.Common.{◌≡◌, ℕ, suc, ◌+◌, ◌-◌, ◌*◌, ◌/◌, ◌%◌, ◌<◌, ◌≤◌, ◌↔◌, Bool, false, List, length, map, get_or, inl, inr, refl, sym, ap, ap₂, subst, ◌∙◌, Option, Some, None, Fits, w8, arith}
-use Rattle.std.specs.Prelude.{IfSome, IsSome, IsTrue, slice_index, slice_range}
-use Rattle.std.proofs.Math.Nat.{le-div_iff_mul-le, lt-div-mul-add, mod-add-div, mul_comm, mul-le-mul_right}
+use Rattle.std.proofs.Common.{◌≡◌, ℕ, suc, ◌+◌, ◌-◌, ◌*◌, ◌/◌, ◌%◌, ◌<◌, ◌≤◌, ◌↔◌, Bool, false, List, length, get_or, inl, inr, refl, sym, ap, ap₂, subst, ◌∙◌, Option, Some, None, arith}
+use Rattle.std.specs.Prelude.{IfSome, IsSome, IsTrue, slice_index}
+use Rattle.std.proofs.Math.Nat.{le-div_iff_mul-le, lt-div-mul-add, mod-add-div, mul_comm}
 use Rattle.std.proofs.lemmas.Bool.{cases_lt, iff_false}
-use Rattle.std.proofs.lemmas.List.{length-map}
 use Rattle.std.proofs.lemmas.Simd.{get_or-chunk, get_or-put_chunk_above, get_or-put_chunk_at, get_or-put_chunk_below, length-chunk, length-put_chunk}
 use lib.Lanes.{chunk, put_chunk}
 use std.Logic.{↔_trans}
@@ -15,9 +14,8 @@ use Rattle.hex_core.specs.Search.{AllValid, first_invalid}
 use Rattle.hex_core.specs.Lanes.{AreChecked, AreSmall, AreValues, IsNibble}
 use Rattle.hex_core.specs.Text.{Spells}
 use Rattle.hex_core.proofs.ByteLemmas.{value_is, value_small}
-use Rattle.hex_core.proofs.LaneLemmas.{mapped_at}
 use Rattle.hex_core.proofs.PairLemmas.{length-packed, packed_at}
-use Rattle.hex_core.proofs.SearchLemmas.{none_valid, first_invalid_none, part_is_valid}
+use Rattle.hex_core.proofs.SearchLemmas.{none_valid, first_invalid_none}
 use Rattle.hex_core.proofs.SpellsLemmas.{spelled_along}
 
 -- ---- places of blocks of any width

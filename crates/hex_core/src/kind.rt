@@ -9,7 +9,7 @@ ghost use Rattle.hex_core.specs.Text.{text};
 use crate::blocks::encode;
 use crate::digit::CheckCase;
 use crate::nibbles::{Hashed, Saturating};
-use crate::{by_length, kernel, scalar, sixteen};
+use crate::{kernel, plain, scalar, sixteen};
 
 /// What a plan is called, and what its bodies are chosen by.
 #[derive(Clone, Copy)]
@@ -29,7 +29,7 @@ impl Kind {
         ensures { IsTrue result ↔ (first_invalid case src.now ≡ None) }
     {
         match (self, src.len()) {
-            (Kind::Plain, _) => by_length::check(src, case),
+            (Kind::Plain, _) => plain::check(src, case),
             (Kind::Scalar, _) | (_, 0..16) => scalar::check(src, case),
             (Kind::Sse41 | Kind::Neon, _) | (_, 16..32) => sixteen::check(src, case),
             (Kind::Avx2, _) | (_, 32..64) => kernel::check::<Hashed, 32>(src, case),
@@ -62,7 +62,7 @@ impl Kind {
         ensures { DecodesWhole case src.now dst.old dst.new result }
     {
         match (self, src.len()) {
-            (Kind::Plain, _) => by_length::decode(src, dst, case),
+            (Kind::Plain, _) => plain::decode(src, dst, case),
             (Kind::Scalar, _) | (_, 0..16) => scalar::decode(src, dst, case),
             (Kind::Sse41 | Kind::Neon, _) | (_, 16..32) => {
                 kernel::decode::<Saturating, 16, 8>(src, dst, case)

@@ -2,7 +2,6 @@
 #![tactic(auto)]
 
 mod blocks;
-mod by_length;
 pub mod digit;
 pub mod error;
 mod hidden;
@@ -13,6 +12,7 @@ pub mod laws;
 pub mod lend;
 mod nibbles;
 mod owned;
+mod plain;
 pub mod plan;
 mod scalar;
 mod search;
@@ -27,7 +27,7 @@ pub mod probe {
     pub use crate::search::{Probe, covered, locate};
 }
 
-pub use crate::by_length::decode_valid;
 pub use crate::digit::{CheckCase, digit_value};
 pub use crate::error::Error;
+pub use crate::plain::decode_valid;
 pub use crate::plan::{Backend, Probe, SliceProbe, backends, covered, locate};

@@ -1,8 +1,9 @@
-//! Loops over blocks of a source, and forms that hold a whole short source in registers.
+//! Forms over blocks for the plain plan: they hold a whole short source in registers, and test many
+//! blocks at once.
 //!
 //! `N` is the number of lanes of a vector, and `HALF` is half of it: as many digits spell as many
-//! bytes. Where a length is no multiple of a block, the last block ends with the source and
-//! overlaps the one before: what both cover is read twice, or written twice with equal bytes.
+//! bytes. A last block ends with the source and may overlap the one before: what both cover is read
+//! twice, or written twice with equal bytes.
 
 pub mod check;
 pub mod decode;

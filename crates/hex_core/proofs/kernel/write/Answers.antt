@@ -1,4 +1,4 @@
-use Rattle.std.proofs.Common.{◌+◌, ◌-◌, ◌*◌, ◌/◌, length, refl, arith}
+use Rattle.std.proofs.Common.{◌-◌, ◌/◌, length, arith}
 use Rattle.hex_core.proofs.BlockLemmas.{blocks_past, blocks_within, decodes_over, decodes_whole}
 use Rattle.hex_core.proofs.kernel.write.Goals as goal
 

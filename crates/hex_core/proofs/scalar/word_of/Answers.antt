@@ -1,6 +1,5 @@
 -- Each turn keeps the byte of one more pair.
-use Rattle.std.proofs.Common.{◌≡◌, ℕ, ◌<◌, ◌+◌, ◌*◌, ◌/◌, length, get_or, None, arith}
-use Rattle.hex_core.specs.Search.{first_invalid}
+use Rattle.std.proofs.Common.{◌≡◌, ℕ, ◌<◌, ◌+◌, ◌*◌, ◌/◌, length, get_or, arith}
 use Rattle.hex_core.proofs.SearchLemmas.{has_value}
 use Rattle.hex_core.proofs.TableLemmas.{pair_entries, value-entry}
 use Rattle.hex_core.proofs.WordLemmas.{length-bytes, word_more, word_small}

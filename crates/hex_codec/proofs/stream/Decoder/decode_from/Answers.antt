@@ -1,7 +1,6 @@
 use Rattle.std.proofs.Common.{rules, arith, ap, ◌≡◌, ◌++◌, ◌-◌, ◌/◌, ◌%◌, ℕ, List, [], false, length, length-drop, refl, take, drop, take-append-drop, IsTrue}
 use Rattle.std.specs.Prelude.{slice_range}
 use Rattle.std.specs.Option.{option_to_list}
-use Rattle.std.proofs.lemmas.Bool.Decides.{nat_tests}
 use Rattle.std.proofs.lemmas.List.{length-take-le}
 use Rattle.std.proofs.lemmas.List.Folds.{drop_split}
 use Rattle.hex_core.proofs.BlockLemmas.{valid_range}

@@ -1,5 +1,6 @@
 //! The plan of the calls that name none: blocks in registers where a source is short, and blocks of 64
-//! digits above.
+//! digits above. Which blocks serve which length follows from times over all lengths; bench/README.md
+//! says what each arm is worth.
 
 ghost use Rattle.std.specs.Prelude.{◌≡◌, ◌↔◌, ◌*◌, ◌<◌, ◌≤◌, IsTrue, None, length};
 ghost use Rattle.hex_core.specs.Calls.{DecodesWhole};
@@ -83,7 +84,6 @@ fn decode_short(src: &[u8], dst: &mut [u8], case: CheckCase) -> bool
 {
     match src.len() {
         8..16 => decode_two::<8, 4>(src, dst, case),
-        4..8 => decode_two::<4, 2>(src, dst, case),
         _ => scalar::decode(src, dst, case),
     }
 }
