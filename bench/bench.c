@@ -3,8 +3,9 @@
 // It is compiled with -DRUST where the Rust crate's library is linked, and then with SAME_WIDTH, the
 // kernel whose vectors are as wide as this build's; and with -DOWNED where hex_core has
 // `decode_owned`; and with BINDINGS, HEX and DATA_ENCODING where those crates for Rust are linked.
-// Usage: bench [SIDE PLAN NAME BYTES], which makes one call of those below, once, and times nothing:
-// counts.sh counts its instructions.
+// Usage: bench [sweep | SIDE PLAN NAME BYTES]. A sweep times three calls at many lengths, and prints
+// their ratios alone. The four words make one call of those below, once, and time nothing: counts.sh
+// counts its instructions.
 #include "common.h"
 
 #include <stdbool.h>
@@ -15,14 +16,19 @@
 
 // The rounds of a size are spread over the whole run, since a shared machine has slow seconds.
 #define PASSES 20
+// A sweep, with few calls, has time for more.
+#define SWEEP_PASSES 160
 // How far below the last one a pass begins: twenty go round a page.
 #define PLACE 208
+#define PAGE 4096
 #define ROUNDS 12
 #define TURNS_NS 30000
 #define LARGEST 65536
 
-static const size_t sizes[] = {8, 16, 32, 64, 72, 100, 150, 256, 1024, 4096, LARGEST};
-#define SIZES (sizeof sizes / sizeof *sizes)
+// The lengths in decoded bytes: those of the tables, in whose place a sweep puts its own.
+#define MOST_SIZES 160
+static size_t sizes[MOST_SIZES] = {8, 16, 32, 64, 72, 100, 150, 256, 1024, 4096, LARGEST};
+static size_t sizes_len = 11;
 
 // What a call works on. One that checks, and one that decodes into memory of its own, is given no
 // room to write into.
@@ -38,11 +44,13 @@ struct task {
 // The calls, each of one plan, of one kernel, or of neither: "plain" and "public".
 #define PLAIN(X) \
     X(READS, own, plain, check, CHECK) \
+    X(READS, own, plain, first_invalid, CHECK) \
     X(WRITES, own, plain, encode_into, ENCODE) \
     X(WRITES, own, plain, encode_slice, ENCODE) \
     X(WRITES, own, plain, decode_into, DECODE) \
     X(WRITES, own, plain, decode_slice, DECODE) \
-    X(READS, own, plain, decode_vec, DECODE_VEC)
+    X(READS, own, plain, decode_vec, DECODE_VEC) \
+    OWNED_OF(X, plain)
 
 #ifdef OWNED
 #define OWNED_OF(X, plan) X(WRITES, own, plan, decode_owned, DECODE)
@@ -227,12 +235,13 @@ static const char *const rust_plans[] = {"public", "scalar", "sse41", "avx2", "a
 #define RUST_PLANS (sizeof rust_plans / sizeof *rust_plans)
 
 static bool rust_has[RUST_PLANS];
-static double least[SIZES][CALLS];
+static bool is_left_out[CALLS];
+static double least[MOST_SIZES][CALLS];
 static volatile size_t sink;
 
 // The same bytes, and their text in lowercase, in uppercase and in both.
 static uint8_t bytes[LARGEST], lower[2 * LARGEST], upper[2 * LARGEST], mixed[2 * LARGEST];
-static uint8_t out[3 * LARGEST] __attribute__((aligned(64)));
+static uint8_t out[3 * LARGEST + PAGE] __attribute__((aligned(64)));
 
 // The text in both cases, but that its last byte is no digit. That of fewer bytes is its end.
 static uint8_t refused[2 * LARGEST] __attribute__((aligned(64)));
@@ -401,14 +410,15 @@ static double spent(const struct call *call, const struct task *task, long turns
 // enough for the clock not to count, and run once before they are timed: a processor may first have
 // to wake its wide vectors. Behind these some are slower for a while, which else would always meet
 // the same calls, so each round has another order.
-static void measure(enum kind kind, size_t at_size) {
+static void measure(enum kind kind, size_t at_size, size_t place) {
     struct task tasks[CALLS];
     size_t order[CALLS], count = 0;
     long turns[CALLS];
     for (size_t at = 0; at < CALLS; at++) {
-        if (calls[at].kind == kind && is_there(&calls[at])) {
+        if (calls[at].kind == kind && is_there(&calls[at]) && !is_left_out[at]) {
             order[count++] = at;
             tasks[at] = task_of(&calls[at], sizes[at_size]);
+            tasks[at].dst += place;
             turns[at] = 1;
             while (spent(&calls[at], &tasks[at], turns[at]) < TURNS_NS) {
                 turns[at] *= 2;
@@ -431,11 +441,12 @@ static void measure(enum kind kind, size_t at_size) {
 
 // The same from another place of the stack on, so many bytes below. A call with a buffer there took up to
 // a seventh longer from some places, and one place held for a whole run. A likely cause is that a load
-// waits for a store whose address has the same low twelve bits.
+// waits for a store whose address has the same low twelve bits. So the output too begins so far on in
+// a page, at a multiple of 64: else it and each source would have these bits in common.
 static void measure_below(size_t bytes, enum kind kind, size_t at_size) {
     volatile char room[bytes];
     room[0] = 0;
-    measure(kind, at_size);
+    measure(kind, at_size, bytes % PAGE / 64 * 64);
     (void)room[0];
 }
 
@@ -470,7 +481,7 @@ static void print_forms(const char *title, const char *name, enum kind kind) {
     printf("\n%s: ns\n   bytes", title);
     heads(pieces, FORMS);
     printf(" | / ungrouped\n");
-    for (size_t at_size = 0; at_size < SIZES; at_size++) {
+    for (size_t at_size = 0; at_size < sizes_len; at_size++) {
         printf("%8zu", sizes[at_size]);
         for (size_t at = 0; at < FORMS; at++) {
             cell(" %8.1f", time_of(at_size, false, pieces[at], name, kind));
@@ -502,14 +513,14 @@ static void print_over(const char *title, struct column top, struct column botto
     size_t count = 0;
     printf("\n%s\n   bytes", title);
     for (size_t at = 0; at < TABLES; at++) {
-        if (tables[at].plain && time_in(SIZES - 1, top, &tables[at]) > 0
-            && time_in(SIZES - 1, bottom, &tables[at]) > 0) {
+        if (tables[at].plain && time_in(sizes_len - 1, top, &tables[at]) > 0
+            && time_in(sizes_len - 1, bottom, &tables[at]) > 0) {
             shown[count++] = &tables[at];
             printf(" %15s", tables[at].plain);
         }
     }
     printf("\n");
-    for (size_t at_size = 0; at_size < SIZES; at_size++) {
+    for (size_t at_size = 0; at_size < sizes_len; at_size++) {
         printf("%8zu", sizes[at_size]);
         for (size_t at = 0; at < count; at++) {
             double under = time_in(at_size, bottom, shown[at]);
@@ -521,23 +532,26 @@ static void print_over(const char *title, struct column top, struct column botto
 }
 #endif
 
-// Digits of which the last is none over digits, for each call that decodes them.
-static void print_refused(void) {
-    printf("\na refused decode: time over that of an accepted one\n   bytes");
+// Digits of which the last is none, for each call that decodes them: over digits, or ours over the
+// Rust crate's public call, which is given the same.
+static void print_refused(const char *title, bool is_over_rust) {
+    printf("\n%s\n   bytes", title);
     for (size_t at = 0; at < CALLS; at++) {
-        if (calls[at].kind == REFUSED) {
+        if (calls[at].kind == REFUSED && !(is_over_rust && calls[at].is_rust)) {
             printf(" %8s:%-12s", calls[at].plan, calls[at].name);
         }
     }
     printf("\n");
-    for (size_t at_size = 0; at_size < SIZES; at_size++) {
+    for (size_t at_size = 0; at_size < sizes_len; at_size++) {
         printf("%8zu", sizes[at_size]);
         for (size_t at = 0; at < CALLS; at++) {
             const struct call *call = &calls[at];
-            if (call->kind == REFUSED) {
+            if (call->kind == REFUSED && !(is_over_rust && call->is_rust)) {
+                double under = is_over_rust
+                    ? time_of(at_size, true, "public", "decode", REFUSED)
+                    : time_of(at_size, call->is_rust, call->plan, call->name, DECODE);
                 printf("             ");
-                cell(" %8.2f", least[at_size][at]
-                    / time_of(at_size, call->is_rust, call->plan, call->name, DECODE));
+                cell(" %8.2f", least[at_size][at] / under);
             }
         }
         printf("\n");
@@ -554,7 +568,7 @@ static void print_times(const struct table *table) {
     heads(rust_plans, RUST_PLANS);
 #endif
     printf("\n");
-    for (size_t at_size = 0; at_size < SIZES; at_size++) {
+    for (size_t at_size = 0; at_size < sizes_len; at_size++) {
         if (!is_measured(table->kind, sizes[at_size])) {
             continue;
         }
@@ -578,10 +592,10 @@ static void print_times(const struct table *table) {
 #define QUOTED(word) #word
 #define NAME_OF(word) QUOTED(word)
 
-static void ratio(const struct table *table, size_t at_size, const char *own, const char *rust) {
+static double ratio(const struct table *table, size_t at_size, const char *own, const char *rust) {
     double ours = time_of(at_size, false, own, table->name, table->kind);
     double theirs = time_of(at_size, true, rust, table->rust, table->kind);
-    cell(" %8.2f", theirs > 0 ? ours / theirs : 0);
+    return theirs > 0 ? ours / theirs : 0;
 }
 
 // The plans over the kernel whose vectors are as wide as this build's, and over the kernels of the
@@ -596,7 +610,7 @@ static void print_ratios(const struct table *table) {
     printf(" | / same");
     heads(own_plans, has_plans ? RUST_PLANS : 1);
     printf("\n");
-    for (size_t at_size = 0; at_size < SIZES; at_size++) {
+    for (size_t at_size = 0; at_size < sizes_len; at_size++) {
         if (!is_measured(table->kind, sizes[at_size])) {
             continue;
         }
@@ -604,12 +618,12 @@ static void print_ratios(const struct table *table) {
         if (has_plans) {
             printf(" |         ");
             for (size_t at = 0; at < OWN_PLANS; at++) {
-                ratio(table, at_size, own_plans[at], NAME_OF(SAME_WIDTH));
+                cell(" %8.2f", ratio(table, at_size, own_plans[at], NAME_OF(SAME_WIDTH)));
             }
         }
         printf(" |       ");
         for (size_t at = 0; at < (has_plans ? RUST_PLANS : 1); at++) {
-            ratio(table, at_size, own_plans[at], rust_plans[at]);
+            cell(" %8.2f", ratio(table, at_size, own_plans[at], rust_plans[at]));
         }
         printf("\n");
     }
@@ -663,21 +677,13 @@ static int call_once(char **words) {
     return 2;
 }
 
-int main(int count, char **words) {
-    fill();
-    if (count == 5) {
-        return call_once(words);
-    }
-#ifdef RUST
-    ask_rust();
-#else
-    printf("No Rust crate was given, so there are no ratios: --rust PATH gives one.\n");
-#endif
-    for (size_t at_size = 0; at_size < SIZES; at_size++) {
+// Checks all calls at each length, and then times them.
+static void run(int passes) {
+    for (size_t at_size = 0; at_size < sizes_len; at_size++) {
         check_all(sizes[at_size]);
     }
-    for (int pass = 0; pass < PASSES; pass++) {
-        for (size_t at_size = 0; at_size < SIZES; at_size++) {
+    for (int pass = 0; pass < passes; pass++) {
+        for (size_t at_size = 0; at_size < sizes_len; at_size++) {
             for (enum kind kind = 0; kind < KINDS; kind++) {
                 if (is_measured(kind, sizes[at_size])) {
                     measure_below(PLACE * (pass + 1), kind, at_size);
@@ -685,6 +691,77 @@ int main(int count, char **words) {
             }
         }
     }
+}
+
+#ifdef RUST
+// The calls of a sweep.
+static const struct table swept[] = {
+    {"check", "check", "hex_check", CHECK},
+    {"encode_into", "encode", "hex_encode_into", ENCODE},
+    {"decode_into", "decode", "hex_decode_into", DECODE},
+};
+#define SWEPT (sizeof swept / sizeof *swept)
+
+static bool is_swept(const struct call *call) {
+    for (size_t at = 0; at < SWEPT; at++) {
+        if (call->kind == swept[at].kind
+            && strcmp(call->plan, call->is_rust ? NAME_OF(SAME_WIDTH) : "plain") == 0
+            && strcmp(call->name, call->is_rust ? swept[at].rust : swept[at].name) == 0) {
+            return true;
+        }
+    }
+    return false;
+}
+
+// Every length to 64, since short calls have ways of their own, every second to 160, every fourth to
+// 320, and eight more.
+static void set_swept_sizes(void) {
+    static const size_t more[] = {384, 512, 1024, 2048, 4096, 8192, 16384, LARGEST};
+    sizes_len = 0;
+    for (size_t size = 1; size <= 320; size += size < 64 ? 1 : size < 160 ? 2 : 4) {
+        sizes[sizes_len++] = size;
+    }
+    memcpy(sizes + sizes_len, more, sizeof more);
+    sizes_len += sizeof more / sizeof *more;
+}
+
+// Prints a line for each length: its bytes, and the plain calls' ratios.
+static int sweep(void) {
+    set_swept_sizes();
+    for (size_t at = 0; at < CALLS; at++) {
+        is_left_out[at] = !is_swept(&calls[at]);
+    }
+    run(SWEEP_PASSES);
+    printf("the plain calls: time over the Rust crate's %s\n   bytes", NAME_OF(SAME_WIDTH));
+    for (size_t at = 0; at < SWEPT; at++) {
+        printf(" %15s", swept[at].plain);
+    }
+    printf("\n");
+    for (size_t at_size = 0; at_size < sizes_len; at_size++) {
+        printf("%8zu", sizes[at_size]);
+        for (size_t at = 0; at < SWEPT; at++) {
+            printf(" %15.3f", ratio(&swept[at], at_size, "plain", NAME_OF(SAME_WIDTH)));
+        }
+        printf("\n");
+    }
+    return 0;
+}
+#endif
+
+int main(int count, char **words) {
+    fill();
+    if (count == 5) {
+        return call_once(words);
+    }
+#ifdef RUST
+    ask_rust();
+    if (count == 2) {
+        return sweep();
+    }
+#else
+    printf("No Rust crate was given, so there are no ratios: --rust PATH gives one.\n");
+#endif
+    run(PASSES);
     for (size_t at = 0; at < TABLES; at++) {
         print_times(&tables[at]);
 #ifdef RUST
@@ -702,7 +779,10 @@ int main(int count, char **words) {
         (struct column){true, "data_encoding"});
 #endif
 #endif
-    print_refused();
+    print_refused("a refused decode: time over that of an accepted one", false);
+#ifdef RUST
+    print_refused("a refused decode of ours: time over that of the Rust crate's public call", true);
+#endif
     print_forms("Hex::write_to into a slice", "write_to", PADDED);
     print_forms("grouped::read, ungrouped: hex_decode", "read", GROUPED);
     return 0;

@@ -1,6 +1,6 @@
 #!/bin/sh
 # Counts by valgrind how many instructions our loops and the Rust crate's run for 64 digits of a long
-# source: what a call of 8,192 bytes runs more than one of 4,096. Ours is the plan `avx2`, as in the plain
+# source: what a call of 8,192 bytes runs more than one of 4,096. Ours are the plain
 # calls. Behind them are those for 32 bytes of padded text, in pieces and in none.
 # Usage: bench/counts.sh BENCH WIDTH, as run.sh calls it: the program that it built, and the kernel whose
 # vectors are as wide as those of this build.
@@ -31,7 +31,9 @@ for call in check first_invalid encode decode decode_owned; do
     # The Rust crate has no such call: its check stands beside it.
     theirs=$call
     [ "$call" != first_invalid ] || theirs=check
-    printf '%14s %8s %8s\n' "$call" "$(counts own avx2 "$call")" "$(counts rust "$width" "$theirs")"
+    ours=$call
+    case $call in encode | decode) ours=${call}_into ;; esac
+    printf '%14s %8s %8s\n' "$call" "$(counts own plain "$ours")" "$(counts rust "$width" "$theirs")"
 done
 
 # The padded text, whose puts are counted too.

@@ -1,12 +1,12 @@
 #!/bin/sh
-# Makes of two outputs of run.sh, of the default build and of that for x86-64-v3, a picture, and the
-# tables of README.md, which it prints, with both builds in a cell. Of two outputs of
-# scripts/compare.sh, of the same builds, it prints the table of README.md, of programs.
-# Usage: bench/report.sh DEFAULT V3 PICTURE.svg [PROGRAMS PROGRAMS_V3]
+# Makes of two outputs of run.sh, of the default build and of that for x86-64-v3, the tables of
+# README.md, which it prints, with both builds in a cell. Of two outputs of run.sh --sweep, of the same
+# builds, it makes a picture and a table, and of two of scripts/compare.sh the table of programs.
+# Usage: bench/report.sh DEFAULT V3 SWEEP SWEEP_V3 PICTURE.svg [PROGRAMS PROGRAMS_V3]
 set -eu
 
-if [ $# -ne 3 ] && [ $# -ne 5 ]; then
-    echo "usage: bench/report.sh DEFAULT V3 PICTURE.svg [PROGRAMS PROGRAMS_V3]" >&2
+if [ $# -ne 5 ] && [ $# -ne 7 ]; then
+    echo "usage: bench/report.sh DEFAULT V3 SWEEP SWEEP_V3 PICTURE.svg [PROGRAMS PROGRAMS_V3]" >&2
     exit 2
 fi
 here=$(cd "$(dirname "$0")" && pwd)
@@ -20,8 +20,8 @@ ratios() {
             of["encode_slice"] = "hex_encode 1"
             of["decode_slice"] = "hex_decode 1"
             if (over == "kernel") {
-                of["decode_owned"] = "decode_owned 4"
-                of["first_invalid"] = "first_invalid 4"
+                of["decode_owned"] = "decode_owned 1"
+                of["first_invalid"] = "first_invalid 1"
             } else
                 of["decode_vec"] = "hex_decode_vec 1"
         }
@@ -35,15 +35,12 @@ ratios() {
         }' "$2"
 }
 
-# builds OVER DEFAULT V3: these lines of both builds, with 0 and 1 before them.
-builds() {
-    ratios "$1" "$2" | sed 's/^/0 /'
-    ratios "$1" "$3" | sed 's/^/1 /'
-}
-
-# table OVER DEFAULT V3: a row for each call.
+# table OVER DEFAULT V3: a row for each call, of these lines with 0 and 1 before them.
 table() {
-    builds "$@" | awk '
+    {
+        ratios "$1" "$2" | sed 's/^/0 /'
+        ratios "$1" "$3" | sed 's/^/1 /'
+    } | awk '
         !(($2, $3) in cell) && !($2 in seen) { seen[$2] = 1; calls[++calls_len] = $2 }
         !($3 in sized) { sized[$3] = 1; sizes[++sizes_len] = $3 }
         { cell[$2, $3] = cell[$2, $3] ($1 ? "/" : "") $4 }
@@ -67,20 +64,25 @@ table() {
         }'
 }
 
-printf "Over the Rust crate's kernel of the same width:\n\n"
+awk -f "$here/picture.awk" "$3" "$4" >"$5"
+
+printf "The plain calls over the Rust crate's kernel of the same width:\n\n"
+awk -f "$here/sweep.awk" "$3" "$4"
+
+printf "\nOver the Rust crate's kernel of the same width:\n\n"
 table kernel "$1" "$2"
 printf "\nOver the Rust crate's public call:\n\n"
 table public "$1" "$2"
 
-builds kernel "$1" "$2" |
-    awk -v calls='hex_check hex_encode hex_decode decode_owned' -f "$here/picture.awk" >"$3"
+printf "\nThe named plans over the Rust crate's kernels of the same names:\n\n"
+awk -f "$here/plans.awk" "$1" "$2"
 
 awk -f "$here/sections.awk" "$1" "$2"
 
 printf "\nGrouped digits over ungrouped ones:\n\n"
 awk -f "$here/groups.awk" "$1" "$2"
 
-if [ $# -eq 5 ]; then
+if [ $# -eq 7 ]; then
     echo
-    awk -f "$here/programs.awk" "$4" "$5"
+    awk -f "$here/programs.awk" "$6" "$7"
 fi

@@ -2,10 +2,12 @@
 # Builds the crates as a static library of thin exported functions, times its calls beside the Rust
 # crate's in one run, then reading digest lists beside loops in C, and digits in chunks beside one
 # call, and prints nanoseconds and ratios; README.md says what the columns mean.
-# Usage: bench/run.sh [--cpu=x86-64-v3] [--rust PATH] [--counts]
+# Usage: bench/run.sh [--cpu=x86-64-v3] [--rust PATH] [--counts | --sweep]
 # PATH is a checkout of the Rust crate faster-hex 1.0.0. With --counts it counts instructions, by
-# counts.sh, in place of timing. RT, CC and RUSTC name other commands, CRATES another folder of crates
-# than that of Debian's packages, and BENCH_BUILD another one than the user's cache to build in.
+# counts.sh, in place of timing. With --sweep it times three plain calls alone, at 160 lengths beside
+# that crate's kernel with vectors as wide as the build's, and prints the ratios, and what they come
+# to. RT, CC and RUSTC name other commands, CRATES another folder of crates than that of Debian's
+# packages, and BENCH_BUILD another one than the user's cache to build in.
 set -eu
 
 here=$(cd "$(dirname "$0")" && pwd)
@@ -16,7 +18,7 @@ rustc=${RUSTC:-rustc}
 
 cpu=
 rust=
-counts=
+mode=
 while [ $# -gt 0 ]; do
     case $1 in
     --cpu=*) cpu=$1 ;;
@@ -25,9 +27,9 @@ while [ $# -gt 0 ]; do
         rust=${2:?"--rust needs a path"}
         shift
         ;;
-    --counts) counts=1 ;;
+    --counts | --sweep) mode=$1 ;;
     *)
-        echo "usage: bench/run.sh [--cpu=x86-64-v3] [--rust PATH] [--counts]" >&2
+        echo "usage: bench/run.sh [--cpu=x86-64-v3] [--rust PATH] [--counts | --sweep]" >&2
         exit 2
         ;;
     esac
@@ -35,6 +37,10 @@ while [ $# -gt 0 ]; do
 done
 if [ -n "$rust" ] && [ ! -f "$rust/src/fuzzing.rs" ]; then
     echo "$rust has no src/fuzzing.rs: it is no checkout of faster-hex 1.0.0" >&2
+    exit 2
+fi
+if [ "$mode" = --sweep ] && [ -z "$rust" ]; then
+    echo "--sweep needs --rust PATH" >&2
     exit 2
 fi
 
@@ -104,11 +110,14 @@ cp "$own/out/libhex_bench.a" "$build/libhex_bench.a"
 aligned "$build/libhex_bench.a"
 set -- "$build/libhex_bench.a"
 
-# The calls of the bindings, over the library for C of this build, and of other crates for Rust.
+# The calls of the bindings, over the library for C of this build, and of other crates for Rust. A sweep
+# times none of them.
 bindings=
 folder=$top/crates/faster_hex_c/out
 [ -z "$cpu" ] || folder=$folder/${cpu#--cpu=}
-if [ -n "$backend" ]; then
+if [ "$mode" = --sweep ]; then
+    :
+elif [ -n "$backend" ]; then
     echo 'Left out, since scripts/build.sh makes no such library: the bindings for Rust, hex, data-encoding.'
 elif command -v "$rustc" >/dev/null; then
     # shellcheck disable=SC2086
@@ -179,9 +188,17 @@ done
 
 sed -n 's/^model name[^:]*: /Run on /p' /proc/cpuinfo | head -n 1
 echo "Built by $("$rt" version), $(sed -n 's/.* \(cpu=[^ ]*\).*/\1/p' "$build/log" | tail -n 1)."
-if [ -n "$counts" ]; then
-    exec "$here/counts.sh" "$build/bench" "${width:-}"
-fi
-"$build/bench"
-"$build/lists"
-"$build/chunks"
+case $mode in
+--counts) "$here/counts.sh" "$build/bench" "${width:-}" ;;
+--sweep)
+    "$build/bench" sweep >"$build/sweep"
+    cat "$build/sweep"
+    echo
+    awk -f "$here/sweep.awk" "$build/sweep"
+    ;;
+*)
+    "$build/bench"
+    "$build/lists"
+    "$build/chunks"
+    ;;
+esac

@@ -1,6 +1,6 @@
 # Makes of two outputs of run.sh, one of each build, tables with a row for each call, in whose cells
 # stand the two builds' ratios: of the bindings over the plain call, of the plain call over other crates,
-# and of a refused decode over an accepted one.
+# and of a refused decode over an accepted one and over the Rust crate's.
 
 BEGIN {
     sizes_len = split("8 64 256 4096 65536", sizes)
@@ -10,6 +10,7 @@ BEGIN {
     title["the plain call over hex"] = "The plain call over other crates"
     title["the plain call over data-encoding"] = "The plain call over other crates"
     title["a refused decode"] = "A refused decode over an accepted one"
+    title["a refused decode of ours"] = "A refused decode over that of the Rust crate's public call"
     behind["the plain call over hex"] = " over `hex`"
     behind["the plain call over data-encoding"] = " over `data-encoding`"
     name["plain:decode_into"] = "`hex_decode_into`"

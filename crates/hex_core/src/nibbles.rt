@@ -46,10 +46,9 @@ where
     Lanes: LookUp<N> + Shift<N>,
 {
     #[inline(always)]
-    fn nibbles(v: Simd<u8, N>, case: CheckCase) -> Simd<u8, N>
-        ensures { AreValues case v.entry result }
+    fn nibbles(v: Simd<u8, N>, _case: CheckCase) -> Simd<u8, N>
+        ensures { AreValues _case v.entry result }
     {
-        let _ = case;
         hashed_values(v)
     }
 
@@ -66,10 +65,9 @@ pub struct Ranged;
 
 impl<const N: usize> Nibbles<N> for Ranged {
     #[inline(always)]
-    fn nibbles(v: Simd<u8, N>, case: CheckCase) -> Simd<u8, N>
-        ensures { AreValues case v.entry result }
+    fn nibbles(v: Simd<u8, N>, _case: CheckCase) -> Simd<u8, N>
+        ensures { AreValues _case v.entry result }
     {
-        let _ = case;
         valid_nibbles(v)
     }
 
