@@ -1,5 +1,5 @@
 -- The arithmetic of the lanes, on one byte, one pair or one list. No public promise rests on it.
-use Rattle.std.specs.Prelude.{◌≡◌, ℕ, ◌+◌, ◌-◌, ◌*◌, ◌/◌, ◌%◌, ◌<◌, min, bit_or, List, [], ◌∷◌, EachIndex, slice_index}
+use Rattle.std.specs.Prelude.{◌≡◌, ℕ, ◌+◌, ◌-◌, ◌*◌, ◌/◌, ◌%◌, ◌<◌, min, bit_and, bit_or, List, [], ◌∷◌, EachIndex, slice_index}
 use Rattle.hex_core.specs.declared.digit.CheckCase.{CheckCase}
 use Rattle.hex_core.specs.declared.digit.CheckCase.TheVariants as policy
 
@@ -45,7 +45,7 @@ reach c b = min (wrapping_sub b 48 - 4) (letter c b)
 
 -- the value of a byte that has one, which is the same under every policy that reads it
 abbrev pub valid_nibble : ℕ → ℕ
-valid_nibble b = min (wrapping_sub b 48) (wrapping_sub (bit_or b 0x20) 87)
+valid_nibble b = min (bit_and b 0x4f) (wrapping_sub (bit_and b 0x4f) 55)
 
 -- the byte of a word of two nibbles: 4097 is 2 ^ 12 + 1, so bits 8 to 15 become those of the first nibble over those of the second
 abbrev pub pair_byte : ℕ → ℕ

@@ -341,15 +341,14 @@ where
     sign_flipped(saturating_differences(sign_flipped(v), offsets))
 }
 
-/// The same by the ranges of digits and letters.
+/// The same by what a digit and a letter have in common once the bits that tell them apart are gone: then
+/// a digit is its value, and a letter is 55 more.
 #[inline(always)]
 pub(crate) fn valid_nibbles<const N: usize>(v: Simd<u8, N>) -> Simd<u8, N>
     ensures { (case : CheckCase) → AreValues case v.entry result }
 {
-    smaller(
-        wrapping_sub(v, b'0'),
-        wrapping_sub(with_bits(v, 0x20), b'a' - 10),
-    )
+    let common = masked(v, 0x4f);
+    smaller(common, wrapping_sub(common, 55))
 }
 
 // The digits below 16, in order.

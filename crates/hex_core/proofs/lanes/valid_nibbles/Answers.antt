@@ -4,4 +4,4 @@ use Rattle.hex_core.proofs.lanes.valid_nibbles.Goals as goal
 
 pub returns : goal.returns
 returns g c =
-    ranged_values c.args.v c.smaller.result c.fits-v.1 (simp (c.smaller.ensures, c.wrapping_sub.ensures, c.wrapping_sub-2.ensures, c.with_bits.ensures, map-map, zip2-map))
+    ranged_values c.args.v c.smaller.result c.fits-v.1 (simp (c.smaller.ensures, c.wrapping_sub.ensures, c.masked-common.ensures, map-map, zip2-map))
