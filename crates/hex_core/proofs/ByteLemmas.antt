@@ -163,13 +163,13 @@ nibble_value None n e = tt
 pub nibbles_values : (c : CheckCase) (v r : List ℕ) → AreNibbles c v r → AreValues c v r
 nibbles_values c v r are i h = nibble_value (value c (get_or v i 0)) (get_or r i 0) (are i h)
 
-pub ranged_values : (v r : List ℕ) → Each1 (Fits w8) v → r ≡ map valid_nibble v → (c : CheckCase) → AreValues c v r
-ranged_values v r fits is c i h =
+pub valid_values : (v r : List ℕ) → Each1 (Fits w8) v → r ≡ map valid_nibble v → (c : CheckCase) → AreValues c v r
+valid_values v r fits is c i h =
     let b = get_or v i 0 in
     let test = agree_below_at (λ x. value_test (value c x) (valid_nibble x)) always 256 b (maps_are_right c).3 (lane_below v fits i) in
     rw (mapped_at valid_nibble v i is h) (value_by (value c b) (valid_nibble b) test)
 
--- a nibble is below 16, and a reach below 6, exactly where there is a value
+-- a nibble is below 16 exactly where there is a value
 mark_of : (c : CheckCase) (b n m : ℕ) (o : Option ℕ) → value c b ≡ o → IsNibble o n → m ≡ saturating_add n 112 → (m < 128) ↔ IsSome o
 mark_of c b n m (Some v) e is mark = let small : v < 16 = value_small c b v e in (λ lt. refl, λ s. omega (arith, mark, is, small))
 mark_of c b n m None e is mark = (λ lt. absurd (omega arith), λ s. cc)
@@ -177,15 +177,6 @@ mark_of c b n m None e is mark = (λ lt. absurd (omega arith), λ s. cc)
 pub saturating_marks : (c : CheckCase) (v n r : List ℕ) → AreNibbles c v n → length n ≡ length v → r ≡ map (λ x. saturating_add x 112) n → AreChecked c v r
 saturating_marks c v n r are same is i h =
     mark_of c (get_or v i 0) (get_or n i 0) (get_or r i 0) _ refl (are i h) (mapped_at (λ x. saturating_add x 112) n i is (omega arith))
-
-pub ranged_marks : (c : CheckCase) (v e r : List ℕ) → Each1 (Fits w8) v → e ≡ map (reach c) v → r ≡ map (λ x. saturating_add x 122) e → AreChecked c v r
-ranged_marks c v e r fits lanes is i h =
-    let b = get_or v i 0 in
-    let low = agree_below_at (λ x. ltb (reach c x) 6) (has c) 256 b (maps_are_right c).0 (lane_below v fits i) in
-    let mark : get_or r i 0 ≡ saturating_add (reach c b) 122 = mapped_at (λ x. saturating_add (reach c x) 122) v i (is ∙ mapped _ (reach c) v lanes) h in (
-      λ lt. sym low ∙ lt-ltb (reach c b) 6 (omega (arith, lt, mark)),
-      λ s. let under = ltb-true (reach c b) 6 (low ∙ s) in omega (arith, under, mark),
-    )
 
 -- the values of bytes that have one
 pub value_is : (o : Option ℕ) (n : ℕ) → IsSome o → IfSome o (λ v. n ≡ v) → o ≡ Some n

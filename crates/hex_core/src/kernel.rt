@@ -13,7 +13,7 @@ ghost use Rattle.hex_core.specs.Text.{Spells, text};
 
 use crate::digit::CheckCase;
 use crate::lanes::encoded;
-use crate::nibbles::Nibbles;
+use crate::nibbles::{Marks, Nibbles};
 use crate::vector::{Interleave, Lanes, LookUp, Pack, has_no_sign};
 use std::simd::prelude::*;
 
@@ -21,7 +21,7 @@ use std::simd::prelude::*;
 #[inline(always)]
 fn is_valid_at<M, const N: usize>(src: &[u8], at: usize, case: CheckCase) -> bool
 where
-    M: Nibbles<N>,
+    M: Marks<N>,
     requires lanes { N ≤ 64 }
     requires inside { at + N ≤ length src.now }
     ensures { IsTrue result ↔ AllValid case src.now at (at + N) }
@@ -33,7 +33,7 @@ where
 #[inline(never)]
 pub fn check<M, const N: usize>(src: &[u8], case: CheckCase) -> bool
 where
-    M: Nibbles<N>,
+    M: Marks<N>,
     requires { HasBlock N src.now }
     ensures { IsTrue result ↔ (first_invalid case src.now ≡ None) }
 {
@@ -116,7 +116,7 @@ where
     }
 }
 
-// How many blocks are written in a turn: so many read once what the compiler knows.
+// How many blocks are written in a turn. Numbers that the compiler knows are read once a turn.
 const TURN: usize = 4;
 
 /// Writes the bytes that a block or more of valid digits spells over the whole of `dst`.
@@ -152,7 +152,7 @@ pub fn decode<M, const N: usize, const HALF: usize>(
     case: CheckCase,
 ) -> bool
 where
-    M: Nibbles<N>,
+    M: Marks<N> + Nibbles<N>,
     Lanes: Pack<N, HALF>,
     requires sizes { Halves N HALF src.now dst.old }
     requires block { HasBlock N src.now }
@@ -165,7 +165,7 @@ where
     valid
 }
 
-// Writes the text of `N` bytes from `at` on.
+/// Writes the text of `N` bytes from `at` on.
 #[inline(always)]
 pub fn encode_at<const N: usize, const TWICE: usize>(
     src: &[u8],

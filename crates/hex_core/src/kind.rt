@@ -1,4 +1,4 @@
-//! The plans: which body each of them takes for a source of how many bytes.
+//! The plans: the body that each of them takes, by the length of the source.
 
 ghost use Rattle.std.specs.Prelude.{◌≡◌, ◌*◌, ◌↔◌, IsTrue, None, length};
 ghost use Rattle.hex_core.specs.Calls.{DecodesOwned, DecodesWhole};
@@ -81,7 +81,7 @@ impl Kind {
     {
         match self {
             Kind::Scalar | Kind::Sse41 => self.decode(src, dst, case),
-            // Each by its name, so that no block asks for it.
+            // The plan is named in each arm, so that the compiler knows it in the loop over blocks.
             Kind::Avx2 => Kind::Avx2.decode_by_blocks::<32>(src, dst, case),
             Kind::Neon => Kind::Neon.decode_by_blocks::<32>(src, dst, case),
             Kind::Avx512 => Kind::Avx512.decode_by_blocks::<64>(src, dst, case),

@@ -341,8 +341,8 @@ where
     sign_flipped(saturating_differences(sign_flipped(v), offsets))
 }
 
-/// The same by what a digit and a letter have in common once the bits that tell them apart are gone: then
-/// a digit is its value, and a letter is 55 more.
+/// The same as [`hashed_values`], without a hash: once the bits that tell both cases apart are gone, a
+/// digit is its value, and a letter is 55 more.
 #[inline(always)]
 pub(crate) fn valid_nibbles<const N: usize>(v: Simd<u8, N>) -> Simd<u8, N>
     ensures { (case : CheckCase) → AreValues case v.entry result }

@@ -3,17 +3,18 @@
 ghost use Rattle.hex_core.specs.Lanes.{AreChecked, AreValues};
 
 use crate::digit::CheckCase;
-use crate::lanes::{hashed_checks, hashed_values, reach, saturated, valid_nibbles};
+use crate::lanes::{hashed_checks, hashed_values, saturated, valid_nibbles};
 use crate::vector::{Lanes, LookUp, Shift, saturating_add};
 use std::simd::prelude::*;
 
-/// A map from bytes to nibbles and marks, lane by lane.
+/// A map from bytes to nibbles, lane by lane: the value of each lane that has one.
 pub trait Nibbles<const N: usize> {
-    /// Returns nibbles: the value of each lane that has one.
     fn nibbles(v: Simd<u8, N>, case: CheckCase) -> Simd<u8, N>
         ensures { AreValues case v.entry result };
+}
 
-    /// Returns marks: the sign bit of each is clear exactly where its lane has a value.
+/// Its marks: the sign bit of each is clear exactly where its lane has a value.
+pub trait Marks<const N: usize> {
     fn marks(v: Simd<u8, N>, case: CheckCase) -> Simd<u8, N>
         ensures { AreChecked case v.entry result };
 }
@@ -28,7 +29,9 @@ impl<const N: usize> Nibbles<N> for Saturating {
     {
         saturated(v, case)
     }
+}
 
+impl<const N: usize> Marks<N> for Saturating {
     #[inline(always)]
     fn marks(v: Simd<u8, N>, case: CheckCase) -> Simd<u8, N>
         ensures { AreChecked case v.entry result }
@@ -51,7 +54,12 @@ where
     {
         hashed_values(v)
     }
+}
 
+impl<const N: usize> Marks<N> for Hashed
+where
+    Lanes: LookUp<N> + Shift<N>,
+{
     #[inline(always)]
     fn marks(v: Simd<u8, N>, case: CheckCase) -> Simd<u8, N>
         ensures { AreChecked case v.entry result }
@@ -60,22 +68,14 @@ where
     }
 }
 
-/// By the ranges of digits and letters: a short computation for nibbles, and another one for marks.
-pub struct Ranged;
+/// By what digits and letters have in common, for digits that are known to be valid: it has no marks.
+pub struct Valid;
 
-impl<const N: usize> Nibbles<N> for Ranged {
+impl<const N: usize> Nibbles<N> for Valid {
     #[inline(always)]
     fn nibbles(v: Simd<u8, N>, _case: CheckCase) -> Simd<u8, N>
         ensures { AreValues _case v.entry result }
     {
         valid_nibbles(v)
-    }
-
-    #[inline(always)]
-    fn marks(v: Simd<u8, N>, case: CheckCase) -> Simd<u8, N>
-        ensures { AreChecked case v.entry result }
-    {
-        // 6 becomes 128.
-        saturating_add(reach(v, case), 122)
     }
 }

@@ -1,6 +1,6 @@
-//! The plan of the calls that name none: blocks in registers where a source is short, and blocks of 64
+//! The plan of the calls without a plan: blocks in registers where a source is short, and blocks of 64
 //! digits above. Which blocks serve which length follows from times over all lengths; bench/README.md
-//! says what each arm is worth.
+//! says what each choice is worth.
 
 ghost use Rattle.std.specs.Prelude.{◌≡◌, ◌↔◌, ◌*◌, ◌<◌, ◌≤◌, IsTrue, None, length};
 ghost use Rattle.hex_core.specs.Calls.{DecodesWhole};
@@ -10,7 +10,7 @@ ghost use Rattle.hex_core.specs.Text.{Spells};
 use crate::blocks::check::{check_more, check_two};
 use crate::blocks::decode::{decode_four, decode_long, decode_one, decode_three, decode_two};
 use crate::digit::CheckCase;
-use crate::nibbles::Ranged;
+use crate::nibbles::Valid;
 use crate::{kernel, scalar};
 
 /// Returns whether every byte of `src` has a value under `case`.
@@ -121,6 +121,6 @@ pub fn decode_valid(src: &[u8], dst: &mut [u8], case: CheckCase)
     if src.len() < 256 {
         decode(src, dst, case);
     } else {
-        kernel::write::<Ranged, 64, 32>(src, dst, case);
+        kernel::write::<Valid, 64, 32>(src, dst, case);
     }
 }

@@ -21,7 +21,7 @@ pub use self::slice_probe::SliceProbe;
 #[derive(Clone, Copy)]
 pub struct Backend(pub(crate) Kind);
 
-/// Returns all five plans, whatever the machine: scalar, sse41, avx2, avx512, neon, in this order.
+/// Returns five plans, whatever the machine: scalar, sse41, avx2, avx512, neon, in this order.
 ///
 /// ```rust
 /// let [scalar, ..] = backends();
@@ -40,7 +40,7 @@ pub fn backends() -> [Backend; 5]
 }
 
 impl Backend {
-    /// Returns the plan of the calls that name none. It is none of those that [`backends`] lists: its
+    /// Returns the plan of the calls without a plan. It is none of those that [`backends`] lists: its
     /// blocks are chosen for each length, by what was measured. Its name is `plain`.
     ///
     /// ```rust

@@ -1,4 +1,4 @@
-//! The plain bodies: a table look-up a digit.
+//! A table look-up a digit.
 
 ghost use Rattle.std.specs.Prelude.{◌≡◌, ◌≢◌, ◌+◌, ◌*◌, ◌/◌, ◌%◌, ◌<◌, ◌≤◌, ◌↔◌, IsTrue, MatchOption, None, length};
 ghost use Rattle.std.specs.Int.{bytes_high_first};

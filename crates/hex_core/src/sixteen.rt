@@ -1,4 +1,4 @@
-//! Checking under the plans of 16 lanes.
+//! Checking in 16 lanes: a counted source, of which one mask tests a block.
 
 ghost use Rattle.std.specs.Prelude.{◌≡◌, ◌↔◌, ◌+◌, ◌*◌, ◌≤◌, ◌<◌, IsTrue, None, length, slice_index};
 ghost use Rattle.hex_core.specs.Search.{AllValid, first_invalid};

@@ -190,8 +190,8 @@ fn eighths<const N: usize>(v: Simd<u32, N>) -> Simd<u32, N>
 /// width, so it is written once for each width, below.
 pub struct Lanes;
 
-/// The nibbles of each pair of lanes become one byte, the first of a pair its high half. By the policy a
-/// number is hidden from the compiler.
+/// The nibbles of each pair of lanes become one byte, the first of a pair its high half. The policy is
+/// there for [`hidden_zero`].
 pub trait Pack<const N: usize, const HALF: usize> {
     fn pack(v: Simd<u8, N>, case: CheckCase) -> Simd<u8, HALF>
         requires { AreSmall v }

@@ -55,12 +55,15 @@ fn is_accepted(src: &[u8], case: CheckCase, bytes: &[u8], to: &mut Destination) 
             return false;
         }
     }
-    true
+    read.leaves(Backend::plain(), bytes, to)
 }
 
 // How many digits each plan, in their order, decodes at a time into a buffer that is given up; 0
 // where it decodes all of them at once.
 const OWNED_BLOCKS: [usize; 5] = [0, 0, 64, 128, 64];
+
+// The same of the plan that is not listed.
+const PLAIN_BLOCK: usize = 128;
 
 // How many bytes such decoding has stored where the first invalid byte is at this place.
 fn stored_before(place: usize, block: usize) -> usize {
@@ -68,8 +71,21 @@ fn stored_before(place: usize, block: usize) -> usize {
     blocks.saturating_mul(block / 2)
 }
 
-// Whether each plan refuses a source and finds its first invalid byte at this place, where `bytes`
-// are those of the pairs before it.
+// Whether a plan with these blocks refuses a source and finds its first invalid byte at this place, where
+// `bytes` are those of the pairs before it.
+fn is_refused_by(
+    plan: Backend,
+    block: usize,
+    read: &Read<'_>,
+    place: usize,
+    bytes: &[u8],
+    to: &mut Destination,
+) -> bool {
+    let stored = bytes.get(..stored_before(place, block)).unwrap_or_default();
+    read.leaves(plan, stored, to) && plan.first_invalid(read.src, read.case) == Some(place)
+}
+
+// The same of all plans.
 fn is_refused(
     src: &[u8],
     case: CheckCase,
@@ -83,12 +99,11 @@ fn is_refused(
         is_valid: false,
     };
     for (plan, block) in backends().into_iter().zip(OWNED_BLOCKS) {
-        let stored = bytes.get(..stored_before(place, block)).unwrap_or_default();
-        if !read.leaves(plan, stored, to) || plan.first_invalid(src, case) != Some(place) {
+        if !is_refused_by(plan, block, &read, place, bytes, to) {
             return false;
         }
     }
-    true
+    is_refused_by(Backend::plain(), PLAIN_BLOCK, &read, place, bytes, to)
 }
 
 // Whether each plan refuses a source, and leaves what the answer says of it in a buffer that is given

@@ -75,7 +75,7 @@ fn check_long(src: &[u8], case: CheckCase) -> bool
     is_low(larger(front, reach(u8x64::from_slice(&src[last..]), case)))
 }
 
-// Whether every byte of a source of so many bytes has a value, by as few blocks as cover it.
+// Whether every byte of a source of 129 to 512 bytes has a value, by as few blocks as cover it.
 #[inline(never)]
 fn check_some(src: &[u8], case: CheckCase) -> bool
     requires least { 128 < length src.now }

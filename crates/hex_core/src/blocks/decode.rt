@@ -12,7 +12,7 @@ use crate::blocks::check::check_more;
 use crate::digit::CheckCase;
 use crate::kernel::{self, put};
 use crate::lanes::saturated;
-use crate::nibbles::Ranged;
+use crate::nibbles::Valid;
 use crate::vector::{Lanes, Pack, either, is_small};
 use std::simd::prelude::*;
 
@@ -154,7 +154,7 @@ pub fn decode_long(src: &[u8], dst: &mut [u8], case: CheckCase) -> bool
 {
     let valid = check_more(src, case);
     if valid {
-        kernel::write::<Ranged, 64, 32>(src, dst, case);
+        kernel::write::<Valid, 64, 32>(src, dst, case);
     }
     valid
 }
