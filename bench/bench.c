@@ -41,7 +41,7 @@ struct task {
     size_t room;
 };
 
-// The calls, each of one plan, of one kernel, or of neither: "plain" and "public".
+// The calls, each of one plan, of one kernel, or of the Rust crate's choice: "public".
 #define PLAIN(X) \
     X(READS, own, plain, check, CHECK) \
     X(READS, own, plain, first_invalid, CHECK) \
