@@ -185,8 +185,8 @@ where
 }
 
 /// Writes the text of a block or more over the whole of `dst`.
-#[inline(never)]
-pub fn encode<const N: usize, const TWICE: usize>(src: &[u8], dst: &mut [u8], upper: bool)
+#[inline(always)]
+pub fn encode_blocks<const N: usize, const TWICE: usize>(src: &[u8], dst: &mut [u8], upper: bool)
 where
     Lanes: Interleave<N, TWICE> + LookUp<TWICE>,
     requires lanes { TWICE ≡ 2 * N }
@@ -200,4 +200,18 @@ where
     if src.len() % N != 0 {
         encode_at::<N, TWICE>(src, dst, src.len() - N, upper);
     }
+}
+
+/// The same in a body of its own, where the compiler does not know `upper`: a table that it knows is read
+/// anew in each turn.
+#[inline(never)]
+pub fn encode<const N: usize, const TWICE: usize>(src: &[u8], dst: &mut [u8], upper: bool)
+where
+    Lanes: Interleave<N, TWICE> + LookUp<TWICE>,
+    requires lanes { TWICE ≡ 2 * N }
+    requires twice { length dst.old ≡ 2 * length src.now }
+    requires block { HasBlock N src.now }
+    ensures { dst.new ≡ text upper src.now }
+{
+    encode_blocks::<N, TWICE>(src, dst, upper);
 }
