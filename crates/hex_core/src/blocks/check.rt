@@ -42,24 +42,10 @@ fn reach_of(src: &[u8], at: usize, count: usize, case: CheckCase) -> u8x64
     farthest
 }
 
-// Whether every byte of a source of `K` to `K + L` blocks has a value, by one test of its first `K` and
-// its last `L`.
+/// Whether every byte of a source of a block or more has a value: by runs, and then by one test of the
+/// whole blocks that are left and of the block that the source ends with.
 #[inline(never)]
-fn check_ends<const K: usize, const L: usize>(src: &[u8], case: CheckCase) -> bool
-    requires less { L ≤ K }
-    requires least { K * 64 ≤ length src.now }
-    requires most { length src.now ≤ K * 64 + L * 64 }
-    ensures { IsTrue result ↔ (first_invalid case src.now ≡ None) }
-{
-    let front = reach_of(src, 0, K, case);
-    let back = reach_of(src, src.len() - L * BLOCK, L, case);
-    is_low(larger(front, back))
-}
-
-// Whether every byte of a source of a block or more has a value: by runs, and then by one test of the
-// whole blocks that are left and of the block that the source ends with.
-#[inline(never)]
-fn check_long(src: &[u8], case: CheckCase) -> bool
+pub fn check_more(src: &[u8], case: CheckCase) -> bool
     requires { 64 ≤ length src.now }
     ensures { IsTrue result ↔ (first_invalid case src.now ≡ None) }
 {
@@ -73,34 +59,4 @@ fn check_long(src: &[u8], case: CheckCase) -> bool
     let done = runs * (RUN * BLOCK);
     let front = reach_of(src, done, (last - done).div_ceil(BLOCK), case);
     is_low(larger(front, reach(u8x64::from_slice(&src[last..]), case)))
-}
-
-// Whether every byte of a source of 129 to 512 bytes has a value, by as few blocks as cover it.
-#[inline(never)]
-fn check_some(src: &[u8], case: CheckCase) -> bool
-    requires least { 128 < length src.now }
-    requires most { length src.now ≤ 512 }
-    ensures { IsTrue result ↔ (first_invalid case src.now ≡ None) }
-{
-    match src.len() {
-        0..=192 => check_ends::<2, 1>(src, case),
-        193..=256 => check_ends::<2, 2>(src, case),
-        257..=320 => check_ends::<3, 2>(src, case),
-        321..=384 => check_ends::<3, 3>(src, case),
-        385..=448 => check_ends::<4, 3>(src, case),
-        _ => check_ends::<4, 4>(src, case),
-    }
-}
-
-/// Whether every byte of a source of more than 128 bytes has a value.
-#[inline(always)]
-pub fn check_more(src: &[u8], case: CheckCase) -> bool
-    requires { 128 < length src.now }
-    ensures { IsTrue result ↔ (first_invalid case src.now ≡ None) }
-{
-    if src.len() <= 512 {
-        check_some(src, case)
-    } else {
-        check_long(src, case)
-    }
 }
