@@ -6,11 +6,8 @@ use Rattle.std.proofs.lemmas.List.{length-take-le}
 use Rattle.std.proofs.lemmas.Nat.{div-add-mod', div-mul-add, le-div, mod-mul-add, mod_below}
 use Rattle.std.proofs.Math.Nat.{add-div_left, div-eq_of_lt, div-mul-le_self, mul-div_cancel, zero-div, zero-mod}
 use Rattle.hex_core.proofs.PositionLemmas.{least_is, least_none, least_told}
-use Rattle.hex_codec.specs.declared.group.Group.{Group}
-use Rattle.hex_codec.specs.Grouped.{piece_count, piece_len}
-use Rattle.hex_codec.specs.declared.unseparate.Front.{Front}
+use Rattle.hex_codec.specs.Grouped.{piece_count}
 use Rattle.hex_codec.specs.GroupedText.{byte_count, digits_in, grouped_len, refusal_of_count}
-use Rattle.hex_codec.specs.Unseparate.{UnseparatesFront}
 use Rattle.hex_codec.proofs.PartLemmas.{parted, unparted}
 
 -- ---- lengths
@@ -112,11 +109,6 @@ module _ (every : ℕ) where
   even-digits count s whole =
       let size : length s / (2 * every + 1) ≡ count = rw whole (mul-div_cancel count (omega arith)) in
       omega (arith, digits-of s, whole, size, lines count)
-
--- so a text has no fewer bytes, and a front that was copied
-pub fewer : {tested : ℕ} (group : Group) (text new : List ℕ) (front : Front) → UnseparatesFront tested group text new front → front.digits ≤ front.len
-fewer group text new front bare =
-    omega (arith, ap length bare.copied, digits-of (piece_len group) (take front.len text), length-take-le front.len text bare.inside, length-take-le front.digits new bare.room)
 
 -- ---- texts that are read
 

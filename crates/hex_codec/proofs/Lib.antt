@@ -1,5 +1,4 @@
 mod AppendWalk
-mod ClearLemmas
 mod CountLemmas
 mod EncodeWalk
 pub mod GroupLemmas

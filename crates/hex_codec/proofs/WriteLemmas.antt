@@ -12,13 +12,12 @@ use Rattle.hex_core.proofs.JoinLemmas.{spells-joined}
 use Rattle.hex_core.proofs.PositionLemmas.{none_joined}
 use Rattle.hex_core.proofs.SearchLemmas.{lacks}
 use Rattle.hex_codec.specs.declared.group.Group.{Group}
-use Rattle.hex_codec.specs.declared.unseparate.Front.{Front}
 use Rattle.hex_codec.specs.GroupCalls.{ReadsWhole}
 use Rattle.hex_codec.specs.Grouped.{piece_len, separator}
 use Rattle.hex_codec.specs.GroupedText.{GroupSpells, digits_in, grouped_len, separators_in}
-use Rattle.hex_codec.specs.Unseparate.{UnseparatesAll, UnseparatesFront, WritesFront}
+use Rattle.hex_codec.specs.Fronts.{IsFront, WritesFront}
 use Rattle.hex_codec.proofs.CountLemmas.{even-digits, length-digits}
-use Rattle.hex_codec.proofs.PartLemmas.{joined, parted, unparted}
+use Rattle.hex_codec.proofs.PartLemmas.{front-inside, joined, parted, unparted}
 
 -- a text of the right length is read where its separators are the group's and its digits spell what is left
 pub reads : {c : CheckCase} {group : Group} {s new : List ℕ} (n : ℕ) → length s ≡ grouped_len (piece_len group) n
@@ -28,12 +27,16 @@ reads {c} {group} {s} n long separated spelled =
     record { long = long ∙ ap (grouped_len (piece_len group)) (omega (arith, spelled.twice, size)); separated = separated; spelled = spelled }
 
 -- so it is where all its digits are decoded
-pub reads-all : {group : Group} {s digits : List ℕ} (c : CheckCase) (old new : List ℕ) (done : Bool) → length s ≡ grouped_len (piece_len group) (length old)
-    → UnseparatesAll group s digits → DecodesWhole c (take (2 * length old) digits) old new done → ReadsWhole c group s old new done
-reads-all c old new false long all answer = answer.1
-reads-all {group} {s} c old new true long all answer =
-    let size = length-digits (piece_len group) (length old) s group.is_group.0 long in
-    reads (length old) long all.separated (rw (rw size at all.copied) at answer.1)
+pub reads-all : (c : CheckCase) (group : Group) (s old new : List ℕ) (done : Bool) → length s ≡ grouped_len (piece_len group) (length old)
+    → All (λ b. b ≡ separator group) (separators_in (piece_len group) s) → DecodesWhole c (digits_in (piece_len group) s) old new done
+    → ReadsWhole c group s old new done
+reads-all c group s old new false long separated answer = answer.1
+reads-all c group s old new true long separated answer = reads (length old) long separated answer.1
+
+-- valid digits are decoded
+pub decoded : {c : CheckCase} {s new : List ℕ} (old : List ℕ) (done : Bool) → first_invalid c s ≡ None → DecodesWhole c s old new done → Spells c s new
+decoded old true valid answer = answer.1
+decoded old false valid answer = absurd (answer.0 valid)
 
 -- ---- behind a front
 
@@ -69,39 +72,48 @@ writes-all {c} {group} {s} {dst} {at} {done} so_far end =
     let none = drop_all 0 (digits_in (piece_len group) (drop at s)) (omega (arith, so_far.rest.0)) in
     rw (take_all done dst end, append-nil dst) at (so_far.spelled [] (rw none (record { twice = refl; each = λ i lt. absurd (omega arith) })))
 
--- ---- whole parts
+-- ---- fronts
 
--- what is known of digits that were copied from behind those that were decoded
-pub record Copied (group : Group) (s new : List ℕ) (at left : ℕ) (front : Front) : Type 0 where
-  pub inside : at + front.len ≤ length s
-  pub cut : digits_in (piece_len group) (drop at s) ≡ take front.digits new ++ digits_in (piece_len group) (drop front.len (drop at s))
-  pub size : length (take front.digits new) ≡ front.digits
-  pub even : front.digits % 2 ≡ 0
-  pub room : front.digits ≤ 2 * left
+-- the digits of a front, and those behind it
+pub fronted : (every : ℕ) (s front : List ℕ) → IsFront every s front → digits_in every s ≡ digits_in every front ++ digits_in every (drop (length front) s)
+fronted every s front part = elim part.whole [
+  | inl whole ↦ joined (take (2 * every)) every (length front) s (front-inside every s front part) whole ∙ rw (← part.is) refl
+  | inr all ↦
+      let is : front ≡ s = part.is ∙ take_all (length front) s (omega (arith, all)) in
+      rw (drop_all (length front) s (omega (arith, all)), (unparted every [] (omega arith)).0, append-nil (digits_in every front), is) refl
+]
 
-pub copied : {tested : ℕ} {c : CheckCase} {group : Group} {s dst new : List ℕ} {at done : ℕ} {front : Front} → WritesFront c group s dst at done
-    → at ≤ length s → UnseparatesFront tested group (take (length s - at) (drop at s)) new front → Copied group s new at (length dst - done) front
-copied {tested} {c} {group} {s} {dst} {new} {at} {done} {front} so_far reached bare =
+-- what is known of a front behind digits that were decoded
+pub record Fronted (c : CheckCase) (group : Group) (s front : List ℕ) (at left : ℕ) : Type 0 where
+  pub inside : at + length front ≤ length s
+  pub cut : digits_in (piece_len group) (drop at s) ≡ digits_in (piece_len group) front ++ digits_in (piece_len group) (drop (length front) (drop at s))
+  pub even : length (digits_in (piece_len group) front) % 2 ≡ 0
+  pub room : length (digits_in (piece_len group) front) ≤ 2 * left
+  pub valid : first_invalid c (digits_in (piece_len group) front) ≡ None
+
+pub fronts : (c : CheckCase) (group : Group) (s dst front : List ℕ) (at done : ℕ) → WritesFront c group s dst at done → at ≤ length s
+    → IsFront (piece_len group) (take (length s - at) (drop at s)) front → Fronted c group s front at (length dst - done)
+fronts c group s dst front at done so_far reached here =
     let every = piece_len group in
     let rest = drop at s in
-    let next : UnseparatesFront tested group rest new front = rw (take_rest s at) at bare in
-    let cut : digits_in every rest ≡ take front.digits new ++ digits_in every (drop front.len rest) = rw next.copied
-    (joined (take (2 * every)) every front.len rest next.inside next.whole) in
-    let size = length-take-le front.digits new next.room in
-    let lengths = ap length cut ∙ length-append (take front.digits new) (digits_in every (drop front.len rest)) in
-    let whole = even-digits every next.whole.count (take front.len rest) (length-take-le front.len rest next.inside ∙ next.whole.lines) in
+    let part : IsFront every rest front = rw (take_rest s at) at here in
+    let next = digits_in every front in
+    let behind = digits_in every (drop (length front) rest) in
+    let cut = fronted every rest front part in
+    let lengths = ap length cut ∙ length-append next behind in
+    let even : length next % 2 ≡ 0 = elim part.whole [
+      | inl whole ↦ omega (arith, even-digits every whole.count front whole.lines)
+      | inr all ↦ 
+          let is : front ≡ rest = part.is ∙ take_all (length front) rest (omega (arith, all)) in
+          omega (arith, ap (λ l. length (digits_in every l)) is, so_far.rest.0)
+    ] in
     record {
-      inside = omega (arith, next.inside, length-drop at s, reached);
+      inside = omega (arith, front-inside every rest front part, length-drop at s, reached);
       cut = cut;
-      size = size;
-      even = omega (arith, ap length next.copied, size, whole);
-      room = omega (arith, lengths, size, so_far.rest.0);
+      even = even;
+      room = omega (arith, lengths, so_far.rest.0);
+      valid = next-valid next behind so_far cut;
     }
-
-pub copied-valid : {c : CheckCase} {group : Group} {s dst new : List ℕ} {at done left : ℕ} {front : Front} → WritesFront c group s dst at done
-    → Copied group s new at left front → first_invalid c (take front.digits new) ≡ None
-copied-valid {c} {group} {s} {dst} {new} {at} {done} {left} {front} so_far known =
-    next-valid (take front.digits new) (digits_in (piece_len group) (drop front.len (drop at s))) so_far known.cut
 
 -- ---- one part
 

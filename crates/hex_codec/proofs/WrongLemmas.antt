@@ -5,7 +5,7 @@ use Rattle.std.specs.List.{range_with_len}
 use Rattle.std.proofs.Math.Nat.{mod-eq_of_lt, mul-add-mod_self_right}
 use Rattle.std.proofs.lemmas.Bool.{cases_lt, eq-eqb, ne_eqb}
 use Rattle.std.proofs.lemmas.Bool.Decides.{nat_tests}
-use Rattle.std.proofs.lemmas.List.{drop-drop, get_or-drop, get_or-take, take_all, take_rest}
+use Rattle.std.proofs.lemmas.List.{drop-drop, drop_all, get_or-drop, get_or-take, take_all, take_rest}
 use Rattle.std.proofs.lemmas.List.Elements.{All-cons, All-nil}
 use Rattle.std.proofs.lemmas.List.Quantifiers.{position-Some}
 use Rattle.hex_core.specs.declared.digit.CheckCase.{CheckCase}
@@ -16,8 +16,8 @@ use Rattle.hex_core.proofs.SearchLemmas.{lacks}
 use Rattle.hex_codec.specs.declared.group.Group.{Group}
 use Rattle.hex_codec.specs.Grouped.{piece_len, separator}
 use Rattle.hex_codec.specs.GroupedText.{GroupSpells, digits_in, first_wrong, is_wrong, separators_in}
-use Rattle.hex_codec.specs.Unseparate.{ClearsFront, IsWhole}
-use Rattle.hex_codec.proofs.PartLemmas.{one_separator, parted, unparted}
+use Rattle.hex_codec.specs.Fronts.{ClearsFront, IsFront, IsWhole}
+use Rattle.hex_codec.proofs.PartLemmas.{front-inside, one_separator, parted, unparted}
 
 pub same-byte : (x y : ℕ) → not (x == y) ≡ false → x ≡ y
 same-byte x y e = grind (arith, nat_tests, e)
@@ -153,6 +153,27 @@ module _ (c : CheckCase) (group : Group) where
     inside = inside;
     rest = before.rest ∙ ap (option_map (λ i. at + i)) next ∙ further at len _ ∙ rw (drop-drop len at s) refl;
   }
+
+  -- a front that is whole parts, or all of the text
+  front-clear : (s front : List ℕ) → IsFront (piece_len group) s front → first_wrong c group front ≡ None
+      → first_wrong c group s ≡ option_map (λ i. length front + i) (first_wrong c group (drop (length front) s))
+  front-clear s front part none = elim part.whole [
+    | inl whole ↦ whole-clear s (length front) (front-inside (piece_len group) s front part) whole (λ k lt.
+        let clear = none_told (is_wrong c group front) (length front) none k lt in
+        let same : get_or front k 0 ≡ get_or s k 0 = ap (λ l. get_or l k 0) part.is ∙ get_or-take (length front) s k 0 lt in
+        rw same at clear)
+    | inr all ↦
+        let is : front ≡ s = part.is ∙ take_all (length front) s (omega (arith, all)) in
+        rw (drop_all (length front) s (omega (arith, all)), ← is) none
+  ]
+
+  -- so one more front has no wrong byte
+  pub clears-front : (s front : List ℕ) (at : ℕ) → ClearsFront c group s at → IsFront (piece_len group) (take (length s - at) (drop at s)) front
+      → first_wrong c group front ≡ None → ClearsFront c group s (at + length front)
+  clears-front s front at before here none =
+      let part : IsFront (piece_len group) (drop at s) front = rw (take_rest s at) at here in
+      clears-more s at (length front) before (omega (arith, front-inside (piece_len group) (drop at s) front part, length-drop at s, before.inside))
+      (front-clear (drop at s) front part none)
 
 -- the digits of the part behind a front
 module _ (c : CheckCase) (group : Group) (s digits : List ℕ) (at every : ℕ) (before : ClearsFront c group s at) (same : every ≡ piece_len group)

@@ -1,11 +1,10 @@
 pub mod Append
 pub mod Calls
-pub mod Clear
 pub mod Failure
+pub mod Fronts
 pub mod GroupCalls
 pub mod GroupLaws
 pub mod Grouped
 pub mod GroupedText
 pub mod Groups
 pub mod Stream
-pub mod Unseparate

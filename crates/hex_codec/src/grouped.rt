@@ -1,10 +1,11 @@
 //! Grouped digits: pieces with a separator between two, read into bytes.
 //!
-//! All of a text is tested before the first store. Digits are stripped of their separators into a
-//! buffer, and tested and decoded there, where all of them find room. A longer text is tested where it
-//! stands. Then the digits of pieces of up to 16 bytes are stripped and decoded, as many as find room.
+//! All of a text is tested before the first store. The digits of up to 256 bytes are taken out of their
+//! separators into a buffer, and tested and decoded there. A longer text goes through the buffer twice:
+//! it is tested first, and then decoded. Pieces that find no room in it are decoded where they stand.
 
-ghost use Rattle.std.specs.Prelude.{◌≡◌, ◌*◌, ◌/◌, ◌≤◌, ◌<◌, None, length, take};
+ghost use Rattle.std.specs.Prelude.{◌≡◌, ◌*◌, ◌≤◌, ◌<◌, None, length, take};
+ghost use Rattle.std.specs.Bool.{OnTrue};
 ghost use Rattle.std.specs.Borrow.{sem};
 ghost use Rattle.hex_core.specs.Loan.{LendsAnswer};
 ghost use Rattle.hex_core.specs.Search.{first_invalid};
@@ -12,13 +13,12 @@ ghost use Rattle.hex_core.specs.Text.{Spells};
 ghost use Rattle.hex_codec.specs.Grouped.{piece_len};
 ghost use Rattle.hex_codec.specs.GroupedText.{byte_count, digits_in, first_wrong, grouped_len};
 ghost use Rattle.hex_codec.specs.GroupCalls.{CountsBytes, Reads, ReadsFront, ReadsOrNames, ReadsWhole};
-ghost use Rattle.hex_codec.specs.Unseparate.{ClearsFront, ValidDigits, WritesFront};
+ghost use Rattle.hex_codec.specs.Fronts.{ClearsFront, ValidDigits, WritesFront};
 
-use crate::clear::clear_front;
 pub use crate::group::Group;
-use crate::unseparate::{Front, NONE, SHORT, unseparate, unseparate_all};
+use crate::pieces::{BYTES, ROOM, are_separators, front_of, take_digits};
 use hex_core::lend::lend_accepted;
-use hex_core::{Backend, CheckCase, decode_valid};
+use hex_core::{Backend, CheckCase};
 
 /// Why a grouped text was not read.
 ///
@@ -48,12 +48,6 @@ pub enum GroupFault {
         byte: u8,
     },
 }
-
-// How much of a text is copied together.
-const LARGE: usize = 12_288;
-
-// How long a text is that is read with the least room.
-const SHORTEST: usize = 64;
 
 // How many bytes have a grouped text of this length.
 #[inline(always)]
@@ -99,14 +93,35 @@ fn first_digits(src: &[u8], every: usize) -> &[u8]
     }
 }
 
-// The first invalid digit.
-fn invalid_digit(digits: &[u8], case: CheckCase) -> Option<usize>
-    ensures { result ≡ first_invalid case digits.now }
+// Whether no byte of a front is wrong.
+fn is_clear(front: &[u8], group: Group, case: CheckCase, buffer: &mut [u8; ROOM]) -> bool
+    requires { length (digits_in (piece_len group) front.now) ≤ 512 }
+    ensures { OnTrue result (first_wrong case group front.now ≡ None) }
 {
-    if Backend::plain().check(digits, case) {
-        return None;
+    if !are_separators(front, group) {
+        return false;
     }
-    Backend::plain().first_invalid(digits, case)
+    let count = take_digits(front, group, buffer);
+    Backend::plain().check(&buffer[..count], case)
+}
+
+// How long a front without a wrong byte is, of as many pieces as find room in a buffer together.
+fn clear_front(src: &[u8], group: Group, case: CheckCase) -> usize
+    ensures { ClearsFront case group src.now result }
+{
+    let mut at = 0;
+    if group.every() > BYTES {
+        return at;
+    }
+    let mut buffer = [0; ROOM];
+    while at < src.len() {
+        let front = front_of(&src[at..], group);
+        if !is_clear(front, group, case, &mut buffer) {
+            return at;
+        }
+        at += front.len();
+    }
+    at
 }
 
 // The first wrong byte behind a front that has none, a part at a time.
@@ -117,7 +132,7 @@ fn first_wrong_behind(src: &[u8], front: usize, group: Group, case: CheckCase) -
     let mut at = front;
     while at < src.len() {
         let digits = first_digits(&src[at..], group.every());
-        if let Some(index) = invalid_digit(digits, case) {
+        if let Some(index) = Backend::plain().first_invalid(digits, case) {
             return Some(at + index);
         }
         let end = at + digits.len();
@@ -139,128 +154,66 @@ fn first_wrong(src: &[u8], group: Group, case: CheckCase) -> Option<usize>
     first_wrong_behind(src, clear_front(src, group, case), group, case)
 }
 
-// Writes the bytes of the digits of whole parts, where pieces are short, and returns the front that
-// has them.
-fn write_front(src: &[u8], dst: &mut [u8], group: Group, case: CheckCase) -> Front
-    requires { ValidDigits case group src.now (length dst.old) }
-    ensures { WritesFront case group src.now dst.new result.len (result.digits / 2) }
+// Writes the bytes of a text by way of a buffer, as many pieces at a time as find room in it.
+fn write_fronts(src: &[u8], dst: &mut [u8], group: Group, case: CheckCase)
+    requires every { piece_len group ≤ BYTES }
+    requires digits { ValidDigits case group src.now (length dst.old) }
+    ensures { Spells case (digits_in (piece_len group) src.now) dst.new }
 {
-    let mut done = NONE;
-    if group.every() > SHORT {
-        return done;
-    }
-    let mut buffer = [0; LARGE];
-    'fronts: loop {
-        let front = unseparate(&src[done.len..], group, &mut buffer);
-        if front.len == 0 {
-            return done;
-        }
-        let end = done.digits + front.digits;
-        decode_valid(
-            &buffer[..front.digits],
-            &mut dst[done.digits / 2..end / 2],
-            case,
-        );
-        done.len += front.len;
-        done.digits = end;
+    let mut buffer = [0; ROOM];
+    let mut at = 0;
+    let mut done = 0;
+    while at < src.len() {
+        let front = front_of(&src[at..], group);
+        let digits = take_digits(front, group, &mut buffer);
+        let end = done + digits / 2;
+        Backend::plain().decode(&buffer[..digits], &mut dst[done..end], case);
+        at += front.len();
+        done = end;
     }
 }
 
-// Writes the bytes of the digits behind a front whose bytes are written, a part at a time.
-fn write_behind(src: &[u8], dst: &mut [u8], front: Front, group: Group, case: CheckCase)
-    requires digits { ValidDigits case group src.now (length dst.old) }
-    requires front { WritesFront case group src.now dst.old front.len (front.digits / 2) }
+// The same where its pieces stand, one by one.
+fn write_pieces(src: &[u8], dst: &mut [u8], group: Group, case: CheckCase)
+    requires { ValidDigits case group src.now (length dst.old) }
     ensures { Spells case (digits_in (piece_len group) src.now) dst.new }
 {
-    let mut at = front.len;
-    let mut done = front.digits / 2;
+    let mut at = 0;
+    let mut done = 0;
     while done < dst.len() {
         let count = group.every().min(dst.len() - done);
-        decode_valid(&src[at..at + 2 * count], &mut dst[done..done + count], case);
+        Backend::plain().decode(&src[at..at + 2 * count], &mut dst[done..done + count], case);
         done += count;
         at += 2 * count + 1;
     }
 }
 
-// Writes the bytes of the digits of a text.
+// Writes the bytes of a text.
 fn write_bytes(src: &[u8], dst: &mut [u8], group: Group, case: CheckCase)
     requires { ValidDigits case group src.now (length dst.old) }
     ensures { Spells case (digits_in (piece_len group) src.now) dst.new }
 {
-    let front = write_front(src, dst, group, case);
-    write_behind(src, dst, front, group, case);
-}
-
-// Reads a text by way of a buffer that has room for all of its digits, or returns false where a
-// byte is wrong or pieces are long.
-#[inline(always)]
-fn read_through(
-    src: &[u8],
-    dst: &mut [u8],
-    buffer: &mut [u8],
-    group: Group,
-    case: CheckCase,
-) -> bool
-    requires long { length src.now ≡ grouped_len (piece_len group) (length dst.old) }
-    requires room { length src.now ≤ length buffer.old }
-    ensures { ReadsWhole case group src.now dst.old dst.new result }
-{
-    unseparate_all(src, group, buffer)
-        && Backend::plain().decode(&buffer[..2 * dst.len()], dst, case)
-}
-
-// The same by way of a buffer of this size.
-#[inline(always)]
-fn read_with<const N: usize>(src: &[u8], dst: &mut [u8], group: Group, case: CheckCase) -> bool
-    requires long { length src.now ≡ grouped_len (piece_len group) (length dst.old) }
-    requires room { length src.now ≤ N }
-    requires size { N ≤ LARGE }
-    ensures { ReadsWhole case group src.now dst.old dst.new result }
-{
-    let mut buffer = [0; N];
-    read_through(src, dst, &mut buffer, group, case)
-}
-
-// The same by way of no larger buffer than the text needs, or false where none is large enough.
-#[inline(always)]
-fn read_short(src: &[u8], dst: &mut [u8], group: Group, case: CheckCase) -> bool
-    requires { length src.now ≡ grouped_len (piece_len group) (length dst.old) }
-    ensures { ReadsWhole case group src.now dst.old dst.new result }
-{
-    if src.len() <= SHORTEST {
-        return read_with::<SHORTEST>(src, dst, group, case);
-    }
-    read_longer(src, dst, group, case)
-}
-
-// The same in a body of its own, since a short text would pay for the room of all of its buffers.
-#[inline(never)]
-fn read_longer(src: &[u8], dst: &mut [u8], group: Group, case: CheckCase) -> bool
-    requires { length src.now ≡ grouped_len (piece_len group) (length dst.old) }
-    ensures { ReadsWhole case group src.now dst.old dst.new result }
-{
-    match src.len() {
-        0..=192 => read_with::<192>(src, dst, group, case),
-        193..=768 => read_with::<768>(src, dst, group, case),
-        769..=3_072 => read_with::<3_072>(src, dst, group, case),
-        3_073..=LARGE => read_with::<LARGE>(src, dst, group, case),
-        _ => false,
+    if group.every() <= BYTES {
+        write_fronts(src, dst, group, case);
+    } else {
+        write_pieces(src, dst, group, case);
     }
 }
 
-// Reads a text, or returns the first wrong byte.
-fn read_whole(src: &[u8], dst: &mut [u8], group: Group, case: CheckCase) -> Option<usize>
+// Reads a text by way of a buffer, or returns false where its digits find no room or a byte is wrong.
+fn read_at_once(src: &[u8], dst: &mut [u8], group: Group, case: CheckCase) -> bool
     requires { length src.now ≡ grouped_len (piece_len group) (length dst.old) }
-    ensures { ReadsOrNames case group src.now dst.old dst.new result }
+    ensures { ReadsWhole case group src.now dst.old dst.new result }
 {
-    if read_short(src, dst, group, case) {
-        return None;
+    if dst.len() > BYTES || !are_separators(src, group) {
+        return false;
     }
-    read_in_passes(src, dst, group, case)
+    let mut buffer = [0; ROOM];
+    let count = take_digits(src, group, &mut buffer);
+    Backend::plain().decode(&buffer[..count], dst, case)
 }
 
-// The same in a pass that tests all and another that writes.
-#[inline(never)]
+// Reads a text in a pass that tests all and another that writes, or returns the first wrong byte.
 fn read_in_passes(src: &[u8], dst: &mut [u8], group: Group, case: CheckCase) -> Option<usize>
     requires { length src.now ≡ grouped_len (piece_len group) (length dst.old) }
     ensures { ReadsOrNames case group src.now dst.old dst.new result }
@@ -270,6 +223,17 @@ fn read_in_passes(src: &[u8], dst: &mut [u8], group: Group, case: CheckCase) -> 
     }
     write_bytes(src, dst, group, case);
     None
+}
+
+// Reads a text, or returns the first wrong byte.
+fn read_whole(src: &[u8], dst: &mut [u8], group: Group, case: CheckCase) -> Option<usize>
+    requires { length src.now ≡ grouped_len (piece_len group) (length dst.old) }
+    ensures { ReadsOrNames case group src.now dst.old dst.new result }
+{
+    if read_at_once(src, dst, group, case) {
+        return None;
+    }
+    read_in_passes(src, dst, group, case)
 }
 
 // How many bytes a text of this length spells, or what its length refuses.

@@ -2,16 +2,15 @@
 #![tactic(auto)]
 
 pub mod chunks;
-mod clear;
 pub mod decode;
 pub mod encode;
 mod group;
 pub mod grouped;
 pub mod heapless_08;
 pub mod laws;
+pub mod pieces;
 pub mod stream;
 pub mod strings;
-mod unseparate;
 
 pub use crate::decode::{
     hex_check, hex_check_with_case, hex_decode, hex_decode_array, hex_decode_array_with_case,

@@ -1,6 +1,6 @@
 -- No byte before this place is wrong.
 use Rattle.std.proofs.Common.{◌-◌, length}
-use Rattle.hex_codec.specs.Unseparate.{ClearsFront}
+use Rattle.hex_codec.specs.Fronts.{ClearsFront}
 use Rattle.hex_codec.proofs.grouped.first_wrong_behind.Given as goal
 
 abbrev pub invariant-loop-at : goal.invariant-loop-at

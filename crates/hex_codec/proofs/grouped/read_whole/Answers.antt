@@ -3,11 +3,11 @@ use Rattle.std.proofs.Common.{sym}
 use Rattle.hex_codec.proofs.WrongLemmas.{spells-clear}
 use Rattle.hex_codec.proofs.grouped.read_whole.Goals as goal
 
-pub returns-then-read_short : goal.returns-then-read_short
-returns-then-read_short c = (sym (spells-clear c.if-read_short.ensures), c.if-read_short.ensures)
+pub returns-then-read_at_once : goal.returns-then-read_at_once
+returns-then-read_at_once c = (sym (spells-clear c.if-read_at_once.ensures), c.if-read_at_once.ensures)
 
 pub read_in_passes-requires : goal.read_in_passes-requires
-read_in_passes-requires c = rw c.if-read_short.ensures c.requires
+read_in_passes-requires c = rw c.if-read_at_once.ensures c.requires
 
 pub returns : goal.returns
-returns c = rw c.if-read_short.ensures at c.read_in_passes.ensures
+returns c = rw c.if-read_at_once.ensures at c.read_in_passes.ensures
