@@ -1,10 +1,7 @@
 -- A piece's text is the next of those of all pieces.
-use Rattle.std.proofs.Common.{◌≡◌, Bool, ℕ, ◌+◌, ◌-◌, ◌*◌, ◌≤◌, ◌<◌, zero, suc, min, List, [], ◌∷◌, ◌++◌, length, take, drop, refl, sym, ap, ◌∙◌, arith, append_assoc, append-nil, length-append, length-drop, take-append-drop}
-use Rattle.std.proofs.Math.Seq.{drop-append_seam, take-add, take-append_seam}
-use Rattle.std.proofs.Math.ListN.{length-set, set}
-use Rattle.std.proofs.lemmas.List.{drop_all, length-take-le, take_all, take_more_set}
-use Rattle.std.proofs.lemmas.Slice.{take-put_mid}
-use borrow.Rule.Slice.PartMut.{put_mid}
+use Rattle.std.proofs.Common.{◌≡◌, Bool, ℕ, ◌-◌, ◌*◌, ◌≤◌, ◌<◌, zero, suc, min, List, [], ◌∷◌, ◌++◌, length, take, drop, refl, sym, ap, ◌∙◌, arith, append_assoc, append-nil, length-append}
+use Rattle.std.proofs.Math.Seq.{drop-append_seam, take-append_seam}
+use Rattle.std.proofs.lemmas.List.{drop_all, take_all}
 use Rattle.hex_core.specs.Text.{text}
 use Rattle.hex_codec.specs.declared.group.Group.{Group}
 use Rattle.hex_codec.specs.Grouped.{grouped, piece_len, separated, separator}
@@ -34,13 +31,6 @@ piece-alone group upper bytes short some =
     piece-next group upper bytes bytes [] (sym (append-nil bytes)) (omega (arith, short)) some
     ∙ ap (λ l. (separator group ∷ text upper bytes) ++ l) (separated-none group upper) ∙ append-nil (separator group ∷ text upper bytes)
 
--- a separator and a text, written behind what stands there
-pub write-next : (out shown : List ℕ) (to end n sep : ℕ) → end ≡ to + 1 + length shown → end ≤ length out
-    → take end (put_mid (to + 1) n (set out to sep) shown) ≡ take to out ++ (sep ∷ shown)
-write-next out shown to end n sep is fits =
-    take-put_mid (to + 1) n (set out to sep) shown end is (omega (arith, fits, is, length-set out to sep))
-    ∙ (ap (λ l. l ++ shown) (take_more_set out to sep (omega arith)) ∙ append_assoc (take to out) (sep ∷ []) shown)
-
 -- some whole pieces, or all that is left, and those behind them
 chunk-next : (group : Group) (upper : Bool) (count : ℕ) (all chunk rest : List ℕ) → all ≡ chunk ++ rest → length chunk ≡ min (count * piece_len group) (length all)
     → separated group upper all ≡ separated group upper chunk ++ separated group upper rest
@@ -49,31 +39,6 @@ chunk-next group upper count all chunk [] parts size =
 chunk-next group upper count all chunk (b ∷ rest) parts size =
     let long = ap length parts ∙ length-append chunk (b ∷ rest) in
     ap (separated group upper) parts ∙ separated-append group upper count chunk (b ∷ rest) (omega (arith, size, long))
-
--- whole pieces, and what is behind them in the list
-pub behind-whole : (group : Group) (upper : Bool) (count at : ℕ) (bytes : List ℕ) → at ≡ count * piece_len group → at ≤ length bytes
-    → separated group upper (take at bytes) ++ separated group upper (drop at bytes) ≡ separated group upper bytes
-behind-whole group upper count at bytes whole inside =
-    let size : length (take at bytes) ≡ count * piece_len group = length-take-le at bytes inside ∙ whole in
-    sym (separated-append group upper count (take at bytes) (drop at bytes) size) ∙ ap (separated group upper) (take-append-drop at bytes)
-
--- so many bytes more, behind whole pieces
-pub bytes-more : (group : Group) (upper : Bool) (count at n : ℕ) (bytes : List ℕ) → at ≡ count * piece_len group → at ≤ length bytes
-    → separated group upper (take at bytes) ++ separated group upper (take n (drop at bytes)) ≡ separated group upper (take (at + n) bytes)
-bytes-more group upper count at n bytes whole inside =
-    let size : length (take at bytes) ≡ count * piece_len group = length-take-le at bytes inside ∙ whole in
-    sym (separated-append group upper count (take at bytes) (take n (drop at bytes)) size) ∙ ap (separated group upper) (sym (take-add at n bytes))
-
--- one whole piece more
-pub one-more : (group : Group) (upper : Bool) (count at : ℕ) (bytes : List ℕ) → at ≡ count * piece_len group → at + piece_len group ≤ length bytes
-    → separated group upper (take at bytes) ++ (separator group ∷ text upper (take (piece_len group) (drop at bytes))) ≡ separated group upper (take (at + piece_len group) bytes)
-one-more group upper count at bytes whole inside =
-    let every = piece_len group in
-    let some : 0 < every = group.is_group.0 in
-    let piece = take every (drop at bytes) in
-    let long : length piece ≡ every = length-take-le every (drop at bytes) (omega (arith, length-drop at bytes)) in
-    let one = sym (piece-alone group upper piece (omega (arith, long)) (omega (arith, long, some))) in
-    ap (λ l. separated group upper (take at bytes) ++ l) one ∙ bytes-more group upper count at every bytes whole (omega arith)
 
 -- there is a separator before the first piece
 pub separated-some : (group : Group) (upper : Bool) (bytes : List ℕ) → 0 < length bytes → 0 < length (separated group upper bytes)

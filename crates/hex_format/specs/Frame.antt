@@ -1,10 +1,9 @@
 -- The padded text of a list of bytes.
-use Rattle.std.specs.Prelude.{◌≡◌, ◌<◌, ℕ, ◌+◌, ◌-◌, ◌*◌, ◌/◌, ◌%◌, nat_le, Bool, false, List, [], ◌++◌, length, map, slice_index, drop, take, codes, encode_utf8, Option, Some, None, if◌then◌else◌}
-use Rattle.std.specs.List.{repeat}
-use Rattle.std.specs.Simd.Lanes.{chunk, put_chunk}
+use Rattle.std.specs.Prelude.{ℕ, ◌-◌, ◌*◌, ◌/◌, Bool, false, List, [], ◌∷◌, ◌++◌, length, codes, encode_utf8, Option, Some, None, if◌then◌else◌}
+use Rattle.std.specs.List.{flat_map, repeat}
 use Rattle.hex_core.specs.Text.{text}
 use Rattle.hex_codec.specs.declared.group.Group.{Group}
-use Rattle.hex_codec.specs.Grouped.{grouped, piece_count, piece_len, separated, separator}
+use Rattle.hex_codec.specs.Grouped.{grouped, piece_count, piece_len, pieces, separator}
 use Rattle.hex_format.specs.declared.format.Align.{Align}
 use Rattle.hex_format.specs.declared.format.Align.TheVariants.{Left, Right, Center}
 use Rattle.hex_format.specs.declared.format.Hex.{Hex}
@@ -51,40 +50,9 @@ left_padding Left padding = 0
 left_padding Right padding = padding
 left_padding Center padding = padding / 2
 
--- these n bytes were written over the front of a buffer, and what is behind them is as it was
-abbrev pub WritesFront : ℕ → List ℕ → List ℕ → List ℕ → Type 0
-WritesFront n bytes old new = (n ≡ length bytes) × (new ≡ bytes ++ drop n old)
-
--- a buffer has the separator wherever a text of whole pieces has one
-abbrev pub HasSeparators : Group → List ℕ → Type 0
-HasSeparators group buffer = (i : ℕ)
-    → i * (1 + 2 * piece_len group) < length buffer
-    → slice_index buffer (i * (1 + 2 * piece_len group)) ≡ separator group
-
--- the digit at a place among sixteen, or the separator where the place is 128
-abbrev pub placed : ℕ → List ℕ → ℕ → ℕ
-placed sep digits at = if nat_le 128 at then sep else slice_index digits (at % 16)
-
--- a front, a back, and over what these have in common a middle
-abbrev pub joined_parts : List ℕ → List ℕ → List ℕ → List ℕ → List ℕ
-joined_parts front middle back buffer =
-    let last = length buffer - 16 in
-    put_chunk (last / 2) (put_chunk last (put_chunk 0 buffer front) back) middle
-
--- the text of sixteen bytes, its digits moved by three vectors of places: the first sixteen, those in the
--- middle and the last sixteen, each from the lane of its number modulo 16
-abbrev pub placed_text : ℕ → List ℕ → List ℕ → List ℕ → List ℕ → List ℕ → List ℕ
-placed_text sep digits front middle back buffer =
-    let inner = chunk 16 8 digits ++ chunk 8 8 digits in
-    joined_parts (map (placed sep (take 16 digits)) front) (map (placed sep inner) middle) (map (placed sep (drop 16 digits)) back) buffer
-
--- places that make of sixteen bytes the text of their pieces, so long, each behind a separator
-abbrev pub ArePlaces : ℕ → ℕ → List ℕ → List ℕ → List ℕ → Type 0
-ArePlaces every size front middle back = (group : Group) (upper : Bool) (bytes buffer : List ℕ)
-    → piece_len group ≡ every
-    → length bytes ≡ 16
-    → length buffer ≡ size
-    → placed_text (separator group) (text upper bytes) front middle back buffer ≡ separated group upper bytes
+-- each piece of a text behind a separator
+abbrev pub behind_separators : Group → List ℕ → List ℕ
+behind_separators group digits = flat_map (λ piece. separator group ∷ piece) (pieces (2 * piece_len group) digits)
 
 -- this many fill characters, in UTF-8
 abbrev pub fills : HexFlags → ℕ → List ℕ

@@ -3,22 +3,27 @@
 ghost use Rattle.std.specs.Prelude.{◌≡◌, ◌-◌, ◌*◌, ◌^◌, ◌<◌, ◌≤◌, ℕ, drop, length};
 ghost use Rattle.hex_core.specs.Text.{text};
 ghost use Rattle.hex_codec.specs.Grouped.{grouped, piece_len, separated};
-ghost use Rattle.hex_format.specs.Frame.{HasSeparators, digits_by};
+ghost use Rattle.hex_format.specs.Frame.{digits_by};
 ghost use Rattle.hex_format.specs.Sink.{Puts};
 
 use crate::separate::write_pieces;
 use crate::sink::{Sink, WriteFault, put_all};
 use hex_codec::Group;
 use hex_codec::chunks::encoded;
+use hex_codec::pieces::AT_ONCE;
 
 /// How many source bytes are encoded at a time.
 pub const CHUNK: usize = 512;
 
 /// Up to how many source bytes smaller buffers serve, so that a digest or a line of a dump does not
 /// pay for the large one.
-pub const SHORT: usize = 64;
+pub const SHORT: usize = 128;
 
-pub const MIDDLE: usize = 256;
+// What the digits of so many bytes, and their pieces with separators, find room in. Whoever copies a
+// piece may copy some bytes more.
+const DIGITS: usize = 2 * CHUNK + AT_ONCE;
+
+const PIECES: usize = 3 * CHUNK + AT_ONCE;
 
 /// Puts the digits of `bytes`, grouped where there is a group.
 pub fn put_digits<S: Sink>(
@@ -43,10 +48,6 @@ fn put_text<S: Sink>(sink: &mut S, upper: bool, bytes: &[u8]) -> Result<(), Writ
 {
     if bytes.len() <= SHORT {
         let mut buffer = [0; 2 * SHORT];
-        return put_all(sink, encoded(bytes, upper, &mut buffer));
-    }
-    if bytes.len() <= MIDDLE {
-        let mut buffer = [0; 2 * MIDDLE];
         return put_all(sink, encoded(bytes, upper, &mut buffer));
     }
     let mut buffer = [0; 2 * CHUNK];
@@ -81,38 +82,20 @@ fn put_grouped<S: Sink>(
     ensures { Puts (S.state sink.old) (S.state sink.new) result (grouped group upper bytes.now) }
 {
     if bytes.len() <= SHORT {
-        let mut buffer = [group.sep(); 3 * SHORT];
-        return put_at_once(sink, upper, group, bytes, &mut buffer);
+        let mut digits = [0; 2 * SHORT + AT_ONCE];
+        let mut pieces = [0; 3 * SHORT + AT_ONCE];
+        let end = write_pieces(bytes, upper, group, &mut digits, &mut pieces);
+        return put_all(sink, &pieces[end.min(1)..end]);
     }
-    if bytes.len() <= MIDDLE {
-        let mut buffer = [group.sep(); 3 * MIDDLE];
-        return put_at_once(sink, upper, group, bytes, &mut buffer);
-    }
-    let mut buffer = [group.sep(); 3 * CHUNK];
+    let mut digits = [0; DIGITS];
+    let mut pieces = [0; PIECES];
     // No separator stands before the first piece.
     let mut from = 1;
-    for pieces in bytes.chunks(bytes_at_once(group)) {
-        put_pieces(sink, upper, group, pieces, from, &mut buffer)?;
+    for part in bytes.chunks(bytes_at_once(group)) {
+        put_pieces(sink, upper, group, part, from, &mut digits, &mut pieces)?;
         from = 0;
     }
     Ok(())
-}
-
-// Puts the grouped text of `bytes` where the buffer has room for all of it.
-fn put_at_once<S: Sink>(
-    sink: &mut S,
-    upper: bool,
-    group: Group,
-    bytes: &[u8],
-    buffer: &mut [u8],
-) -> Result<(), WriteFault>
-    requires counts { (S.state sink.old).failures < 2 ^ 64 - 1 }
-    requires room { 3 * length bytes.now ≤ length buffer.old }
-    requires separators { HasSeparators group buffer.old }
-    ensures { Puts (S.state sink.old) (S.state sink.new) result (grouped group upper bytes.now) }
-{
-    let end = write_pieces(bytes, upper, group, buffer);
-    put_all(sink, &buffer[end.min(1)..end])
 }
 
 // How many bytes are put at a time: as many whole pieces as a chunk has, or a longer one.
@@ -129,30 +112,27 @@ fn bytes_at_once(group: Group) -> usize
     }
 }
 
-// Puts the text of some pieces from a byte on, each behind a separator. The buffer keeps its separators:
-// those of a piece that is longer than a chunk lie before its digits and behind a chunk's.
+// Puts the text of some pieces from a byte on, each behind a separator.
 fn put_pieces<S: Sink>(
     sink: &mut S,
     upper: bool,
     group: Group,
     bytes: &[u8],
     from: usize,
-    buffer: &mut [u8],
+    digits: &mut [u8; DIGITS],
+    pieces: &mut [u8; PIECES],
 ) -> Result<(), WriteFault>
     requires counts { (S.state sink.old).failures < 2 ^ 64 - 1 }
     requires some { 0 < length bytes.now }
     requires start { from ≤ 1 }
     requires one { CHUNK < length bytes.now → length bytes.now ≤ piece_len group }
-    requires room { length buffer.old ≡ 3 * CHUNK }
-    requires separators { HasSeparators group buffer.old }
-    ensures puts { Puts (S.state sink.old) (S.state sink.new) result
+    ensures { Puts (S.state sink.old) (S.state sink.new) result
         (drop from (separated group upper bytes.now)) }
-    ensures separators { HasSeparators group buffer.new }
 {
     if bytes.len() <= CHUNK {
-        let end = write_pieces(bytes, upper, group, buffer);
-        return put_all(sink, &buffer[from..end]);
+        let end = write_pieces(bytes, upper, group, digits, pieces);
+        return put_all(sink, &pieces[from..end]);
     }
-    put_all(sink, &buffer[from..1])?;
-    put_chunks(sink, upper, bytes, &mut buffer[1..1 + 2 * CHUNK])
+    put_all(sink, &[group.sep()][from..])?;
+    put_chunks(sink, upper, bytes, digits)
 }

@@ -8,7 +8,7 @@ ghost use Rattle.hex_core.specs.Text.{lowercase, text};
 ghost use Rattle.hex_format.specs.Frame.{frame, hex_bytes, left_padding, padding_of, plain_flags, separators_by, sign_and_prefix};
 ghost use Rattle.hex_format.specs.Sink.{Puts};
 
-use crate::digits::{CHUNK, MIDDLE, SHORT, put_digits};
+use crate::digits::{CHUNK, SHORT, put_digits};
 pub use crate::sink::{Sink, SinkFault, SliceSink, WriteFault, WriterSink, put_all};
 use hex_codec::Group;
 use hex_codec::chunks::encoded;
@@ -143,10 +143,6 @@ impl fmt::Display for Hex<'_> {
     fn fmt<W: fmt::Write>(&self, f: &mut fmt::Formatter<W>) -> fmt::Result {
         if self.bytes.len() <= SHORT {
             let mut buffer = [0; 2 * SHORT];
-            return write_ascii(f, encoded(self.bytes, false, &mut buffer));
-        }
-        if self.bytes.len() <= MIDDLE {
-            let mut buffer = [0; 2 * MIDDLE];
             return write_ascii(f, encoded(self.bytes, false, &mut buffer));
         }
         let mut buffer = [0; 2 * CHUNK];

@@ -1,7 +1,6 @@
 //! Sinks, and a view of bytes that is written into them as a padded text of hex digits.
 #![tactic(auto)]
 
-mod blocks;
 mod digits;
 pub mod format;
 pub mod laws;

@@ -1,9 +1,0 @@
-use Rattle.std.proofs.Common.{rules, ◌≡◌, length, refl}
-use Rattle.hex_codec.proofs.ListLemmas.{entries}
-use Rattle.hex_format.proofs.SeparatorLemmas.{separated-entries}
-use Rattle.hex_format.proofs.blocks.ByPiecesSeparateBlock1633.separate.Goals as goal
-
-pub returns : goal.returns
-returns c =
-    let long : length c.args.bytes.now ≡ 32 = search rules in
-    rw (c.encode_32-digits.ensures, c.requires.every, separated-entries c.args.group 16 66 c.args.out.now c.requires.separators c.requires.every c.requires.long, entries c.args.bytes.now 32 long) refl
