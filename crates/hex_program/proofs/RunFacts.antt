@@ -3,36 +3,36 @@ use Rattle.std.specs.Prelude.{◌≡◌, ℕ, List, Option, Result, Ok, Err}
 use Rattle.std.proofs.Common.{arith, refl, ap, inl, inr}
 use Rattle.std.specs.Io.KnownBytes.{Keeps}
 use Rattle.std.proofs.KnownBytes.{Appends-kept, Keeps-trans}
-use Rattle.hex_core.specs.declared.error.Error.{Error}
+use Rattle.hex_operations.specs.declared.operation.Op.{Op}
 use Rattle.hex_format.specs.Sink.{SinkState}
 use Rattle.hex_operations.specs.declared.operation.RunFault.{RunFault}
 use Rattle.hex_operations.specs.declared.operation.RunFault.TheVariants as fault
 use Rattle.hex_program.specs.declared.failure.Failure.{Failure}
 use Rattle.hex_program.specs.Input.{ReadsAll}
-use Rattle.hex_operations.specs.Operations.{RunsBy}
+use Rattle.hex_operations.specs.Operations.{Runs}
 use Rattle.hex_program.specs.Failures.{EndsRun, status_after}
-use Rattle.hex_program.specs.Serving.{ServesBy}
+use Rattle.hex_program.specs.Serving.{ServesOp}
 
 -- a fault of the surroundings is neither done nor a refusal
-pub served_at_three : (Outputs : List ℕ → List ℕ → Type 0) (refusal_of : List ℕ → Option Error) (left left' held held' : Option (List ℕ)) (status : ℕ) → status ≡ 3 → ServesBy Outputs refusal_of left left' held held' status
-served_at_three Outputs refusal_of left left' held held' status three = record {
+pub served_at_three : (op : Op) (left left' held held' : Option (List ℕ)) (status : ℕ) → status ≡ 3 → ServesOp op left left' held held' status
+served_at_three op left left' held held' status three = record {
   done = λ is_zero. absurd (omega (arith, three, is_zero));
   refused = λ is_one. absurd (omega (arith, three, is_one));
   statuses = inr (inr three);
 }
 
 -- all of an input was read, run and flushed: the operation is served with the status of the end
-pub serves_run : (Outputs : List ℕ → List ℕ → Type 0) (refusal_of : List ℕ → Option Error) (needs : Type 0) (input : List ℕ) (left left' held' : Option (List ℕ)) (old new : SinkState) (ran : Result (Unit {0}) RunFault) (ended : Result (Unit {0}) Failure)
-    → ReadsAll left left' input → RunsBy (Outputs input) (refusal_of input) needs old new ran → Keeps new.taken held' → EndsRun ran ended → ServesBy Outputs refusal_of left left' old.taken held' (status_after ended)
-serves_run Outputs refusal_of needs input left left' held' old new (Ok done) (Ok well) all runs kept ends = record {
+pub serves_run : (op : Op) (input : List ℕ) (left left' held' : Option (List ℕ)) (old new : SinkState) (ran : Result (Unit {0}) RunFault) (ended : Result (Unit {0}) Failure)
+    → ReadsAll left left' input → Runs op input old new ran → Keeps new.taken held' → EndsRun ran ended → ServesOp op left left' old.taken held' (status_after ended)
+serves_run op input left left' held' old new (Ok done) (Ok well) all runs kept ends = record {
   done = λ is_zero. record { input = input; output = runs.0; read = all; is_output = runs.1; written = Appends-kept old.taken new.taken held' runs.0 runs.2.0 kept };
   refused = λ is_one. absurd (omega (arith, is_one));
   statuses = inl refl;
 }
-serves_run Outputs refusal_of needs input left left' held' old new (Ok done) (Err failure) all runs kept ends = served_at_three Outputs refusal_of left left' old.taken held' _ (ap (λ f. status_after (Err f)) ends)
-serves_run Outputs refusal_of needs input left left' held' old new (Err (fault.Codec e)) ended all runs kept ends = rw ends (record {
+serves_run op input left left' held' old new (Ok done) (Err failure) all runs kept ends = served_at_three op left left' old.taken held' _ (ap (λ f. status_after (Err f)) ends)
+serves_run op input left left' held' old new (Err (fault.Codec e)) ended all runs kept ends = rw ends (record {
   done = λ is_zero. absurd (omega (arith, is_zero));
   refused = λ is_one. record { input = input; refusal = e; read = all; is_refusal = runs.0; kept = Keeps-trans old.taken new.taken held' runs.1.0 kept };
   statuses = inr (inl refl);
 })
-serves_run Outputs refusal_of needs input left left' held' old new (Err why) ended all runs kept ends = served_at_three Outputs refusal_of left left' old.taken held' _ (ap status_after ends)
+serves_run op input left left' held' old new (Err why) ended all runs kept ends = served_at_three op left left' old.taken held' _ (ap status_after ends)

@@ -1,4 +1,3 @@
-pub mod Decoding
 pub mod Failures
 pub mod Input
 pub mod Serving

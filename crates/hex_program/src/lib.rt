@@ -2,7 +2,6 @@
 //! and two outputs that are handed in, and its stored vectors.
 #![tactic(auto)]
 
-pub mod decoding;
 pub mod failure;
 pub mod input;
 mod plain_run;
@@ -12,7 +11,6 @@ pub mod unretried;
 pub mod vector_run;
 pub mod vectors;
 
-pub use crate::decoding::read_decoded;
 pub use crate::failure::Failure;
 pub use crate::input::{INPUT_LIMIT, read_input};
 pub use crate::plain_vectors::{PLAIN_VECTORS, PlainVector, Statement};

@@ -3,17 +3,15 @@
 ghost use Rattle.std.specs.Prelude.{◌≡◌, ◌⊎◌, map, IfErr};
 ghost use Rattle.std.specs.Io.KnownBytes.{Keeps};
 ghost use Rattle.hex_program.specs.Failures.{EndsRun, status_after, status_of};
-ghost use Rattle.hex_program.specs.Serving.{NamesNothing, Serves, ServesDecoding, ServesOp};
+ghost use Rattle.hex_program.specs.Serving.{NamesNothing, Serves, ServesOp};
 
-use crate::decoding::read_decoded;
 use crate::failure::Failure;
 use crate::input::read_input;
 use crate::plain_vectors::{PLAIN_VECTORS, PlainVector};
 use crate::vector_run::{VectorFault, run_vectors};
 use crate::vectors::{VECTORS, Vector};
 use arrayvec::ArrayString;
-use hex_core::CheckCase;
-use hex_format::{WriterSink, put_all};
+use hex_format::WriterSink;
 use hex_operations::operation::{Op, RunFault, run_in};
 use std::alloc::{Allocator, Global};
 use std::fmt;
@@ -57,7 +55,7 @@ fn write_line<E: Write>(err: &mut E, line: &[u8]) {
 }
 
 // Reads the input, runs an operation over it and flushes the output.
-fn serve_run<A: Allocator, R: Read, W: Write>(
+fn serve_op<A: Allocator, R: Read, W: Write>(
     alloc: &A,
     op: Op,
     input: &mut R,
@@ -75,46 +73,6 @@ fn serve_run<A: Allocator, R: Read, W: Write>(
     let mut out = sink.into_inner();
     let ended = finish(&mut out, ran);
     (ended, out)
-}
-
-// Decodes the input as it is read, puts the bytes and flushes the output.
-fn serve_decoding<A: Allocator, R: Read, W: Write>(
-    alloc: &A,
-    case: CheckCase,
-    input: &mut R,
-    out: W,
-) -> (Result<(), Failure>, W)
-    ensures { ServesDecoding case (R.remaining input.old) (R.remaining input.new)
-        (W.contents out) (W.contents result.1) (status_after result.0) }
-{
-    let bytes = match read_decoded(alloc, input, case) {
-        Ok(bytes) => bytes,
-        Err(failure) => return (Err(failure), out),
-    };
-    let mut sink = WriterSink::new(out);
-    let ran = put_all(&mut sink, bytes.as_slice()).map_err(RunFault::Write);
-    let mut out = sink.into_inner();
-    let ended = finish(&mut out, ran);
-    (ended, out)
-}
-
-// Serves an operation. Its output is that of `run`; a decoding keeps no digits, which are twice as
-// long as their bytes.
-fn serve_op<A: Allocator, R: Read, W: Write>(
-    alloc: &A,
-    op: Op,
-    input: &mut R,
-    out: W,
-) -> (Result<(), Failure>, W)
-    ensures { ServesOp op (R.remaining input.old) (R.remaining input.new)
-        (W.contents out) (W.contents result.1) (status_after result.0) }
-{
-    match op {
-        Op::Encode | Op::EncodeUpper => serve_run(alloc, op, input, out),
-        Op::Decode => serve_decoding(alloc, CheckCase::None, input, out),
-        Op::DecodeLower => serve_decoding(alloc, CheckCase::Lower, input, out),
-        Op::DecodeUpper => serve_decoding(alloc, CheckCase::Upper, input, out),
-    }
 }
 
 // Runs stored vectors, which reads no input, and returns how many failed.
