@@ -31,7 +31,3 @@ AreValues c bytes nibbles = EachIndex bytes (λ i. IfSome (value c (slice_index 
 -- each check is below 128 exactly where its byte has a value
 abbrev pub AreChecked : CheckCase → List ℕ → List ℕ → Type 0
 AreChecked c bytes checked = EachIndex bytes (λ i. (slice_index checked i < 128) ↔ IsSome (value c (slice_index bytes i)))
-
--- each mark is 0 exactly where the mark before is and its byte has a value
-abbrev pub AreMarked : CheckCase → List ℕ → List ℕ → List ℕ → Type 0
-AreMarked c before bytes marks = EachIndex bytes (λ i. (slice_index marks i ≡ 0) ↔ ((slice_index before i ≡ 0) × IsSome (value c (slice_index bytes i))))

@@ -9,12 +9,12 @@ ghost use Rattle.hex_core.specs.Arithmetic.{AreLow, first_letter, fold_of, lette
 ghost use Rattle.hex_core.specs.Digit.{digit, value};
 ghost use Rattle.hex_core.specs.Search.{AllValid};
 ghost use Rattle.hex_core.specs.Hash.{Hashed, check_row};
-ghost use Rattle.hex_core.specs.Lanes.{Admits, AreChecked, AreMarked, AreNibbles, ArePacked, AreSmall, AreValues};
+ghost use Rattle.hex_core.specs.Lanes.{Admits, AreChecked, AreNibbles, ArePacked, AreSmall, AreValues};
 ghost use Rattle.hex_core.specs.Text.{text};
 
 use crate::digit::CheckCase;
 use crate::vector::{
-    Interleave, Lanes, LookUp, Pack, Shift, averages, either, high_bits, masked, saturating_add,
+    Interleave, Lanes, LookUp, Pack, Shift, averages, high_bits, masked, saturating_add,
     saturating_differences, saturating_sub, sign_flipped, smaller, with_bits, wrapping_differences,
     wrapping_sub, zero_bits,
 };
@@ -58,23 +58,6 @@ pub fn admitted_64(bytes: &[u8; 64], case: CheckCase) -> u64
     ensures { Admits case bytes.now result }
 {
     admitted(u8x64::from_array(*bytes), case)
-}
-
-/// Returns a mark for each byte: 0 exactly where its mark before is 0 and the byte has a value under
-/// `case`. So one look at the marks tells of many blocks.
-///
-/// ```rust
-/// let mut bytes = [b'7'; 64];
-/// assert_eq!(rt; marked_64(&[0; 64], &bytes, CheckCase::None), [0; 64]);
-/// bytes[63] = b'g';
-/// assert!(rt; marked_64(&[0; 64], &bytes, CheckCase::None)[63] != 0);
-/// ```
-#[inline(always)]
-pub fn marked_64(marks: &[u8; 64], bytes: &[u8; 64], case: CheckCase) -> [u8; 64]
-    ensures { AreMarked case marks.now bytes.now result }
-{
-    let lacking = saturating_sub(reach(u8x64::from_array(*bytes), case), 5);
-    either(u8x64::from_array(*marks), lacking).to_array()
 }
 
 /// Returns for each byte its value under `case`, or at least 16 where it has none.

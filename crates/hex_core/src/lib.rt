@@ -29,5 +29,4 @@ pub mod probe {
 
 pub use crate::digit::{CheckCase, digit_value};
 pub use crate::error::Error;
-pub use crate::plain::decode_valid;
 pub use crate::plan::{Backend, Probe, SliceProbe, backends, covered, locate};

@@ -5,13 +5,11 @@
 ghost use Rattle.std.specs.Prelude.{◌≡◌, ◌↔◌, ◌*◌, ◌<◌, ◌≤◌, IsTrue, None, length};
 ghost use Rattle.hex_core.specs.Calls.{DecodesWhole};
 ghost use Rattle.hex_core.specs.Search.{first_invalid};
-ghost use Rattle.hex_core.specs.Text.{Spells};
 
 use crate::blocks::check::{check_more, check_two};
 use crate::blocks::decode::{decode_four, decode_long, decode_one, decode_three, decode_two};
 use crate::digit::CheckCase;
-use crate::nibbles::Valid;
-use crate::{kernel, scalar};
+use crate::scalar;
 
 /// Returns whether every byte of `src` has a value under `case`.
 #[inline(always)]
@@ -100,27 +98,5 @@ fn decode_more(src: &[u8], dst: &mut [u8], case: CheckCase) -> bool
         decode_three::<64, 32>(src, dst, case)
     } else {
         decode_four::<64, 32>(src, dst, case)
-    }
-}
-
-/// Writes the bytes that `src` spells over the whole of `dst`. From 256 digits on it tests none.
-///
-/// The caller shows that each byte of `src` has a value under `case`, and that `src` is exactly twice
-/// as long as `dst`, in bytes.
-///
-/// ```rust
-/// let mut bytes = [0xa5; 2];
-/// decode_valid(b"00aB", &mut bytes, CheckCase::None);
-/// assert_eq!(rt; bytes, [0, 0xab]);
-/// ```
-pub fn decode_valid(src: &[u8], dst: &mut [u8], case: CheckCase)
-    requires twice { length src.now ≡ 2 * length dst.old }
-    requires valid { first_invalid case src.now ≡ None }
-    ensures { Spells case src.now dst.new }
-{
-    if src.len() < 256 {
-        decode(src, dst, case);
-    } else {
-        kernel::write::<Valid, 64, 32>(src, dst, case);
     }
 }
