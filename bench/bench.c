@@ -101,6 +101,12 @@ struct task {
     X(WRITES, own, by_16, read, GROUPED) \
     X(WRITES, own, by_1000, read, GROUPED)
 
+// The loops in C that do the same.
+#define IN_C(X, plan) \
+    X(WRITES, own, plan, write_in_c, PADDED) \
+    X(WRITES, own, plan, read_in_c, GROUPED)
+#define LOOPS_IN_C(X) IN_C(X, by_1) IN_C(X, by_2) IN_C(X, by_4) IN_C(X, by_8) IN_C(X, by_16)
+
 // The calls of the crate for Rust over the library for C, which are the plain ones.
 #ifdef BINDINGS
 #define BINDINGS_CALLS(X) \
@@ -129,7 +135,7 @@ struct task {
 #endif
 
 #define OWN_CALLS(X) \
-    PIECES(X) READS_OF(X) BINDINGS_CALLS(X) PLAIN(X) PLAN(X, scalar) PLAN(X, sse41) PLAN(X, avx2) PLAN(X, avx512) PLAN(X, neon)
+    PIECES(X) READS_OF(X) LOOPS_IN_C(X) BINDINGS_CALLS(X) PLAIN(X) PLAN(X, scalar) PLAN(X, sse41) PLAN(X, avx2) PLAN(X, avx512) PLAN(X, neon)
 
 #ifdef RUST
 #define RUST_CALLS(X) PUBLIC(X) KERNEL(X, scalar) KERNEL(X, sse41) KERNEL(X, avx2) KERNEL(X, avx512)
@@ -476,11 +482,11 @@ static void heads(const char *const *names, size_t count) {
     }
 }
 
-// The text in its forms, written or read, and each over the ungrouped one.
-static void print_forms(const char *title, const char *name, enum kind kind) {
+// The text in its forms, written or read, each over the ungrouped one and over the loop in C.
+static void print_forms(const char *title, const char *name, const char *in_c, enum kind kind) {
     printf("\n%s: ns\n   bytes", title);
     heads(pieces, FORMS);
-    printf(" | / ungrouped\n");
+    printf(" | / ungrouped | / the loop in C\n");
     for (size_t at_size = 0; at_size < sizes_len; at_size++) {
         printf("%8zu", sizes[at_size]);
         for (size_t at = 0; at < FORMS; at++) {
@@ -490,6 +496,11 @@ static void print_forms(const char *title, const char *name, enum kind kind) {
         double whole = time_of(at_size, false, pieces[0], name, kind);
         for (size_t at = 1; at < FORMS; at++) {
             cell(" %8.2f", time_of(at_size, false, pieces[at], name, kind) / whole);
+        }
+        printf(" |");
+        for (size_t at = 1; at < FORMS; at++) {
+            double loop = time_of(at_size, false, pieces[at], in_c, kind);
+            cell(" %8.2f", loop > 0 ? time_of(at_size, false, pieces[at], name, kind) / loop : 0);
         }
         printf("\n");
     }
@@ -783,7 +794,7 @@ int main(int count, char **words) {
 #ifdef RUST
     print_refused("a refused decode of ours: time over that of the Rust crate's public call", true);
 #endif
-    print_forms("Hex::write_to into a slice", "write_to", PADDED);
-    print_forms("grouped::read, ungrouped: hex_decode", "read", GROUPED);
+    print_forms("Hex::write_to into a slice", "write_to", "write_in_c", PADDED);
+    print_forms("grouped::read, ungrouped: hex_decode", "read", "read_in_c", GROUPED);
     return 0;
 }

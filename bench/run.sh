@@ -181,9 +181,11 @@ fi
 # The kit's library has the allocator that a vector takes.
 kit=$(dirname "$("$rt" doc)")
 for program in bench lists chunks; do
+    loops=
+    [ "$program" != bench ] || loops=$here/loops.c
     # shellcheck disable=SC2086
-    "$cc" -std=gnu11 -O2 -Wall -Wextra $flags -o "$build/$program" "$here/$program.c" "$@" \
-        "$kit/c/liblibc_c.a"
+    "$cc" -std=gnu11 -O2 -Wall -Wextra $flags -o "$build/$program" "$here/$program.c" \
+        ${loops:+"$loops"} "$@" "$kit/c/liblibc_c.a"
 done
 
 sed -n 's/^model name[^:]*: /Run on /p' /proc/cpuinfo | head -n 1

@@ -1,0 +1,83 @@
+// The loops that a user would have written for grouped digits: one that writes, by two look-ups a
+// byte and a separator between two pieces, and for reading one that tests all and one that stores.
+#include <stdbool.h>
+#include <stddef.h>
+#include <stdint.h>
+
+static const uint8_t digits[] = "0123456789abcdef";
+
+// The value of each digit, and 255 for any other byte.
+static uint8_t values[256];
+
+static __attribute__((constructor)) void fill(void) {
+    for (int i = 0; i < 256; i++) {
+        values[i] = 255;
+    }
+    for (int i = 0; i < 16; i++) {
+        values[digits[i]] = i;
+        values[(uint8_t)"0123456789ABCDEF"[i]] = i;
+    }
+}
+
+// How many bytes a piece from here on has.
+static inline size_t least(size_t every, size_t left) {
+    return every < left ? every : left;
+}
+
+static inline __attribute__((always_inline)) size_t write_in_c(const uint8_t *src, size_t len, uint8_t *dst, size_t every) {
+    uint8_t *to = dst;
+    for (size_t at = 0; at < len; at += every) {
+        if (at != 0) {
+            *to++ = ':';
+        }
+        size_t count = least(every, len - at);
+        for (size_t i = 0; i < count; i++) {
+            *to++ = digits[src[at + i] >> 4];
+            *to++ = digits[src[at + i] & 15];
+        }
+    }
+    return to - dst;
+}
+
+static inline __attribute__((always_inline)) bool is_right_in_c(const uint8_t *src, size_t len, size_t every) {
+    for (size_t at = 0; at < len; at += 2 * every + 1) {
+        size_t count = least(2 * every, len - at);
+        for (size_t i = 0; i < count; i++) {
+            if (values[src[at + i]] > 15) {
+                return false;
+            }
+        }
+        if (at + count < len && src[at + count] != ':') {
+            return false;
+        }
+    }
+    return true;
+}
+
+static inline __attribute__((always_inline)) size_t read_in_c(const uint8_t *src, size_t len, uint8_t *dst, size_t every) {
+    if (!is_right_in_c(src, len, every)) {
+        return 0;
+    }
+    uint8_t *to = dst;
+    for (size_t at = 0; at < len; at += 2 * every + 1) {
+        size_t count = least(2 * every, len - at);
+        for (size_t i = 0; i < count; i += 2) {
+            *to++ = values[src[at + i]] << 4 | values[src[at + i + 1]];
+        }
+    }
+    return to - dst;
+}
+
+// With a number of bytes that the compiler knows, as in a loop for one format.
+#define LOOP(every, name) \
+    size_t own_by_##every##_##name(const uint8_t *src, size_t len, uint8_t *dst, size_t room); \
+    size_t own_by_##every##_##name(const uint8_t *src, size_t len, uint8_t *dst, size_t room) { \
+        (void)room; \
+        return name(src, len, dst, every); \
+    }
+#define LOOPS(every) LOOP(every, write_in_c) LOOP(every, read_in_c)
+LOOPS(1)
+LOOPS(2)
+LOOPS(4)
+LOOPS(8)
+LOOPS(16)
