@@ -3,7 +3,8 @@
 ghost use Rattle.std.specs.Prelude.{◌<◌};
 
 use crate::limited_sink::{CAPACITY, LimitedSink, Mode};
-use crate::terms::{Buffers, Destination, Given, group, growths, invalid, is_either, is_stopped};
+use crate::terms::{Buffers, Destination, Given, group, growths, invalid, is_either, is_stopped, policy};
+use crate::wholes::{Values, put_nibble};
 use hex_codec::Group;
 use hex_codec::grouped::{GroupFault, read, read_into};
 use hex_core::CheckCase;
@@ -87,6 +88,61 @@ pub fn group_row(
         Some(group) => Some(is_grouped(given, group, &mut buffers.destination, want)),
         None => None,
     }
+}
+
+// Whether a byte is right at its place: the separator, or a digit, whose value is put among the bytes.
+fn is_right(
+    group: Group,
+    (place, byte): (usize, u8),
+    value: Option<u8>,
+    bytes: &mut [u8],
+) -> Option<bool> {
+    let digits = group.every().checked_mul(2)?;
+    let line = digits.checked_add(1)?;
+    if place.checked_rem(line)? == digits {
+        return Some(byte == group.sep());
+    }
+    let Some(value) = value else {
+        return Some(false);
+    };
+    let separators = place.checked_div(line)?;
+    put_nibble(bytes, place.wrapping_sub(separators), value)?;
+    Some(true)
+}
+
+/// `each-grouped EVERY BYTE POLICY FROM TEXT`: the bytes, and the values of the digits. Its turn is a
+/// place of the text and a byte that is put there: 256 times the place behind `FROM`, and the byte.
+pub fn each_grouped_row(
+    row: &mut Words<'_>,
+    answer: &mut Words<'_>,
+    buffers: &mut Buffers,
+) -> Option<bool> {
+    let (turn, byte) = (row.turn() / 256, (row.turn() % 256) as u8);
+    let group = group(row)?;
+    let case = policy(row);
+    let place = row.take_number().checked_add(turn)?;
+    row.take_bytes(&mut buffers.given);
+    answer.take_bytes(&mut buffers.wanted);
+    let value = Values::read(answer).get(byte);
+    *buffers.given.get_mut(place)? = byte;
+    let is_right = is_right(
+        group,
+        (place, byte),
+        value,
+        buffers.wanted.as_mut_slice(),
+    )?;
+    let bytes = buffers.wanted.as_slice();
+    let given = Given {
+        case,
+        number: bytes.len(),
+        src: buffers.given.as_slice(),
+    };
+    let want: Reading<'_> = if is_right {
+        Ok(bytes)
+    } else {
+        Err(GroupFault::InvalidByte { index: place, byte })
+    };
+    Some(is_grouped(given, group, &mut buffers.destination, want))
 }
 
 // Reads what is wrong with a line.

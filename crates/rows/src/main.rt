@@ -21,8 +21,8 @@ use hex_core::CheckCase;
 use row_reader::{Bytes, Calls, Words, is, judge};
 use std::io::{self, BufReader};
 
-// `each-byte` and `each-pair`, which have arguments in their turn, bytes with their digits, appends one
-// after another, digits in chunks, streams, grouped texts, lists.
+// `each-byte`, `each-pair` and `each-grouped`, which have arguments in their turn, bytes with their
+// digits, appends one after another, digits in chunks, streams, grouped texts, lists.
 fn turned(
     call: &[u8],
     row: &mut Words<'_>,
@@ -43,6 +43,8 @@ fn turned(
         streamed::stream_row(row, answer, to)
     } else if is(call, b"group") {
         lists::group_row(row, answer, to)
+    } else if is(call, b"each-grouped") {
+        lists::each_grouped_row(row, answer, to)
     } else if is(call, b"list") {
         lists::list_row(row, answer, to)
     } else if is(call, b"relist") {

@@ -187,14 +187,15 @@ impl Range {
     }
 }
 
-// The values that an answer gives to bytes, by at most three ranges.
+/// The values that an answer gives to bytes, by at most three ranges.
 #[derive(Clone, Copy)]
-struct Values {
+pub struct Values {
     ranges: [Range; 3],
 }
 
 impl Values {
-    fn read(answer: &mut Words<'_>) -> Values {
+    /// Reads what is left of an answer.
+    pub fn read(answer: &mut Words<'_>) -> Values {
         let mut ranges = [Range::EMPTY; 3];
         for range in &mut ranges {
             if answer.are_read() {
@@ -205,7 +206,8 @@ impl Values {
         Values { ranges }
     }
 
-    fn get(self, byte: u8) -> Option<u8> {
+    /// Returns the value of a byte.
+    pub fn get(self, byte: u8) -> Option<u8> {
         let [first, second, third] = self.ranges;
         first
             .value(byte)
@@ -214,8 +216,8 @@ impl Values {
     }
 }
 
-// Puts a nibble at the place of its digit.
-fn put_nibble(bytes: &mut [u8], place: usize, nibble: u8) -> Option<()> {
+/// Puts a nibble at the place of its digit.
+pub fn put_nibble(bytes: &mut [u8], place: usize, nibble: u8) -> Option<()> {
     if let Some(byte) = bytes.get_mut(place / 2) {
         *byte = if place % 2 == 0 {
             nibble.checked_mul(16)?.checked_add(*byte % 16)?
