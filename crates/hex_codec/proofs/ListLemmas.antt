@@ -4,9 +4,7 @@ use Rattle.std.proofs.Math.Seq.{take-append-add}
 use Rattle.std.proofs.lemmas.Grind.{common_steps, same_number_lists}
 use Rattle.std.proofs.lemmas.List.{length-take-le, take-append-le}
 use Rattle.std.proofs.lemmas.List.FromFn.{get_or-map-range_with_len, length-map-range_with_len}
-use Rattle.std.proofs.lemmas.Simd.{put_chunk_is}
 use Rattle.std.specs.List.{range_with_len}
-use Rattle.std.specs.Simd.Lanes.{put_chunk}
 use borrow.Rule.Slice.PartMut.{put_mid}
 
 -- a list by its entries
@@ -24,9 +22,6 @@ written-front a r xs ys rest inside fits =
 
 pub take-front_put : (a k r : ℕ) (xs ys : List ℕ) → a ≤ length xs → r ≤ length ys → take (a + r) (put_mid a k xs ys) ≡ take a xs ++ take r ys
 take-front_put a k r xs ys inside fits = written-front a r xs ys _ inside fits
-
-pub take-front_chunk : (a r : ℕ) (xs ys : List ℕ) → a + length ys ≤ length xs → r ≤ length ys → take (a + r) (put_chunk a xs ys) ≡ take a xs ++ take r ys
-take-front_chunk a r xs ys inside fits = rw (put_chunk_is a xs ys inside) (written-front a r xs ys _ (omega arith) fits)
 
 -- a list whose end was written
 pub put-behind : (a : ℕ) (xs ys : List ℕ) → a ≤ length xs → length ys ≡ length xs - a → put_mid a (length xs - a) xs ys ≡ take a xs ++ ys

@@ -103,7 +103,7 @@ fronts c group s dst front at done so_far reached here =
     let lengths = ap length cut ∙ length-append next behind in
     let even : length next % 2 ≡ 0 = elim part.whole [
       | inl whole ↦ omega (arith, even-digits every whole.count front whole.lines)
-      | inr all ↦ 
+      | inr all ↦
           let is : front ≡ rest = part.is ∙ take_all (length front) rest (omega (arith, all)) in
           omega (arith, ap (λ l. length (digits_in every l)) is, so_far.rest.0)
     ] in

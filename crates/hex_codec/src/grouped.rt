@@ -66,22 +66,6 @@ fn byte_count(len: usize, every: usize) -> Option<usize>
     Some(len / part * every + last / 2)
 }
 
-// The same by a divisor that is known, where pieces have a usual length: to divide by another takes
-// about as long as to decode a short text.
-fn byte_count_of(len: usize, every: usize) -> Option<usize>
-    requires { 0 < every }
-    ensures { result ≡ byte_count every len }
-{
-    match every {
-        1 => byte_count(len, 1),
-        2 => byte_count(len, 2),
-        4 => byte_count(len, 4),
-        8 => byte_count(len, 8),
-        16 => byte_count(len, 16),
-        _ => byte_count(len, every),
-    }
-}
-
 // The digits before the first separator, or all bytes where there is none.
 fn first_digits(src: &[u8], every: usize) -> &[u8]
     ensures { result.now ≡ take (2 * every) src.now }
@@ -240,7 +224,7 @@ fn read_whole(src: &[u8], dst: &mut [u8], group: Group, case: CheckCase) -> Opti
 fn required(len: usize, room: usize, group: Group) -> Result<usize, GroupFault>
     ensures { CountsBytes (piece_len group) len room result }
 {
-    let Some(required) = byte_count_of(len, group.every()) else {
+    let Some(required) = byte_count(len, group.every()) else {
         return Err(GroupFault::BadLength);
     };
     if room < required {

@@ -1,17 +1,15 @@
 -- Sources in a row: what they spell, and the first invalid byte of them all.
-use Rattle.std.proofs.Common.{◌≡◌, ◌∙◌, inl, inr, ℕ, ◌+◌, ◌-◌, ◌*◌, ◌/◌, List, ◌++◌, length, length-append, length-drop, get_or, Option, Some, None, refl, sym, ap, arith}
-use Rattle.std.specs.Prelude.{option_map}
+use Rattle.std.proofs.Common.{◌≡◌, ◌∙◌, inl, inr, ℕ, ◌+◌, ◌-◌, ◌*◌, ◌/◌, List, ◌++◌, length, length-append, length-drop, get_or, Some, None, refl, sym, ap, arith}
 use Rattle.std.proofs.lemmas.Bool.{cases_lt}
 use Rattle.std.proofs.lemmas.List.{get_or-append_right, get_or-drop, get_or_append_left}
 use Rattle.hex_core.specs.declared.digit.CheckCase.{CheckCase}
-use Rattle.hex_core.specs.declared.error.Error.{Error}
 use Rattle.hex_core.specs.declared.error.Error.TheVariants.{InvalidChar}
 use Rattle.hex_core.specs.Laws.{FirstInvalidOfJoined, JoinedSourcesSpellJoined, PartsSpellParts}
 use Rattle.hex_core.specs.Refusal.{first_bad_char}
 use Rattle.hex_core.specs.Search.{first_invalid}
 use Rattle.hex_core.proofs.PositionLemmas.{none_joined, position-joined}
 use Rattle.hex_core.proofs.RefusalLemmas.{bad_char_names_first}
-use Rattle.hex_core.proofs.SearchLemmas.{first_is_first, lacks}
+use Rattle.hex_core.proofs.SearchLemmas.{lacks}
 use Rattle.hex_core.proofs.SpellsLemmas.{front_spells, spelled_along}
 
 -- a byte of the second of two sources
@@ -60,14 +58,6 @@ valid-both c a b first second = (none_joined (lacks c) a b).1 (first, second)
 
 pub valid-parts : (c : CheckCase) (a b : List ℕ) → first_invalid c (a ++ b) ≡ None → (first_invalid c a ≡ None) × (first_invalid c b ≡ None)
 valid-parts c a b = (none_joined (lacks c) a b).0
-
--- the first bad character stays where digits follow it
-pub bad-front : (c : CheckCase) (a b : List ℕ) (e : Error) → first_bad_char c a ≡ Some e → first_bad_char c (a ++ b) ≡ Some e
-bad-front c a b e is = by_first (first_invalid c a) refl is
-  where
-    by_first : (o : Option ℕ) → first_invalid c a ≡ o → option_map (λ f. InvalidChar f (get_or a f 0)) o ≡ Some e → first_bad_char c (a ++ b) ≡ Some e
-    by_first (Some f) at named = rw (invalid-joined c a b, at, get_or_append_left a b 0 f (first_is_first c a f at).0) named
-    by_first None at named = absurd (cc named)
 
 -- and moves behind digits that are valid
 pub bad-behind : (c : CheckCase) (a b : List ℕ) (i byte : ℕ) → first_invalid c a ≡ None → first_bad_char c b ≡ Some (InvalidChar i byte) → first_bad_char c (a ++ b) ≡ Some (InvalidChar (length a + i) byte)

@@ -59,8 +59,16 @@ most-fuel group upper (suc fuel) (b ∷ bytes) fits =
     let every = piece_len group in let all = b ∷ bytes in let piece = take every all in let rest = drop every all in
     let next = ap length (separated-next group upper all (omega arith)) in
     let left = length-drop every all in
-    omega (arith, next, length-append (text upper piece) (separated group upper rest), length-text upper piece, length-take every all, left, group.is_group.0,
-      most-fuel group upper fuel rest (omega (arith, left, fits, group.is_group.0)))
+    omega (
+      arith,
+      next,
+      length-append (text upper piece) (separated group upper rest),
+      length-text upper piece,
+      length-take every all,
+      left,
+      group.is_group.0,
+      most-fuel group upper fuel rest (omega (arith, left, fits, group.is_group.0)),
+    )
 
 pub length-most : (group : Group) (upper : Bool) (bytes : List ℕ) → length (separated group upper bytes) ≤ 3 * length bytes
 length-most group upper bytes = most-fuel group upper (length bytes) bytes (omega arith)
@@ -84,8 +92,16 @@ lays-room group digits new at to before more =
     let left = length-drop at digits in
     let next = ap length (behind-next group rest (omega (arith, left, more))) in
     let all = ap length before.laid in
-    omega (arith, all, length-append (take to new) (behind_separators group rest), length-take-le to new before.size, next,
-      length-append (take n rest) (behind_separators group (drop n rest)), length-take n rest, left)
+    omega (
+      arith,
+      all,
+      length-append (take to new) (behind_separators group rest),
+      length-take-le to new before.size,
+      next,
+      length-append (take n rest) (behind_separators group (drop n rest)),
+      length-take n rest,
+      left,
+    )
 
 -- one piece more
 pub lays-more : (group : Group) (digits new new' : List ℕ) (at to len : ℕ) → LaysFront group digits new at to → at < length digits

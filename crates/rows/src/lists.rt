@@ -3,7 +3,9 @@
 ghost use Rattle.std.specs.Prelude.{◌<◌};
 
 use crate::limited_sink::{CAPACITY, LimitedSink, Mode};
-use crate::terms::{Buffers, Destination, Given, group, growths, invalid, is_either, is_stopped, policy};
+use crate::terms::{
+    Buffers, Destination, Given, group, growths, invalid, is_either, is_stopped, policy,
+};
 use crate::wholes::{Values, put_nibble};
 use hex_codec::Group;
 use hex_codec::grouped::{GroupFault, read, read_into};
@@ -125,12 +127,7 @@ pub fn each_grouped_row(
     answer.take_bytes(&mut buffers.wanted);
     let value = Values::read(answer).get(byte);
     *buffers.given.get_mut(place)? = byte;
-    let is_right = is_right(
-        group,
-        (place, byte),
-        value,
-        buffers.wanted.as_mut_slice(),
-    )?;
+    let is_right = is_right(group, (place, byte), value, buffers.wanted.as_mut_slice())?;
     let bytes = buffers.wanted.as_slice();
     let given = Given {
         case,

@@ -14,22 +14,25 @@ overflow_add-at-in-loop-at c = record { fits = omega (arith, c.loop-at-test.true
 
 pub loop-at-preserved : goal.loop-at-preserved
 loop-at-preserved c =
-    let before = c.loop-at.invariant in let n = 2 * c.min-piece.result in
-    (before.0 + 1, omega (arith, before.1), λ j lt. elim (cases_lt j before.0) [
-      | inl past ↦ before.2 j past
-      | inr now ↦
-          let is : j * (n + 1) + n ≡ c.loop-at.at = let same : j ≡ before.0 = omega arith in rw same (sym before.1) in
-          rw is (c.if-text-at.false ∙ c.sep.ensures)
-    ])
+    let before = c.loop-at.invariant in let n = 2 * c.min-piece.result in (
+      before.0 + 1,
+      omega (arith, before.1),
+      λ j lt. elim (cases_lt j before.0) [
+        | inl past ↦ before.2 j past
+        | inr now ↦
+            let is : j * (n + 1) + n ≡ c.loop-at.at = let same : j ≡ before.0 = omega arith in rw same (sym before.1) in
+            rw is (c.if-text-at.false ∙ c.sep.ensures)
+      ],
+    )
 
 pub returns : goal.returns
 returns c =
     let every = piece_len c.args.group in let text = c.args.text.now in let done = c.loop-at.invariant in let n = 2 * c.min-piece.result in
     from-places every (length text) (λ b. b ≡ separator c.args.group) text (omega arith)
     (λ j lt.
-      let same : n ≡ 2 * every = omega (arith, c.min-piece.ensures, c.every.ensures, lt) in
-      rw (← same) (done.2 j (elim (cases_lt j done.0) [
-        | inl past ↦ past
-        | inr behind ↦ absurd (omega (arith, mul-le-mul_right (n + 1) behind, done.1, c.loop-at-test.false, rw (← same) at lt))
-      ])))
+    let same : n ≡ 2 * every = omega (arith, c.min-piece.ensures, c.every.ensures, lt) in
+    rw (← same) (done.2 j (elim (cases_lt j done.0) [
+      | inl past ↦ past
+      | inr behind ↦ absurd (omega (arith, mul-le-mul_right (n + 1) behind, done.1, c.loop-at-test.false, rw (← same) at lt))
+    ])))
     (cases_lt (2 * every) (length text))

@@ -1,5 +1,5 @@
 -- The digits stand behind the separator.
-use Rattle.std.proofs.Common.{rules, ◌≡◌, ◌-◌, ◌++◌, length, take, refl, ◌∙◌, arith}
+use Rattle.std.proofs.Common.{rules, ◌≡◌, ◌-◌, length, refl, ◌∙◌, arith}
 use Rattle.std.proofs.Math.ListN.{length-set, set}
 use Rattle.std.proofs.lemmas.List.{take_more_set}
 use Rattle.hex_codec.proofs.ListLemmas.{take-front_put}

@@ -1,5 +1,5 @@
 -- One piece more stands behind a separator, and so does the last one.
-use Rattle.std.proofs.Common.{rules, ◌≡◌, ◌≤◌, ◌<◌, ◌+◌, ◌-◌, ◌*◌, min, ℕ, length, take, refl, ◌∙◌, arith}
+use Rattle.std.proofs.Common.{rules, ◌≡◌, ◌<◌, ◌+◌, ◌-◌, ◌*◌, min, length, take, arith}
 use Rattle.std.proofs.lemmas.List.{length-take-le}
 use borrow.Rule.Slice.PartMut.{put_mid}
 use Rattle.hex_codec.specs.Grouped.{piece_len}
