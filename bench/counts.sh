@@ -1,7 +1,6 @@
 #!/bin/sh
 # Counts by valgrind how many instructions our loops and the Rust crate's run for 64 digits of a long
-# source: what a call of 8,192 bytes runs more than one of 4,096. Ours are the plain
-# calls. Behind them are those for 32 bytes of padded text, in pieces and in none.
+# source: what a call of 8,192 bytes runs more than one of 4,096. Ours are the plain calls.
 # Usage: bench/counts.sh BENCH WIDTH, as run.sh calls it: the program that it built, and the kernel whose
 # vectors are as wide as those of this build.
 set -eu
@@ -34,10 +33,4 @@ for call in check first_invalid encode decode decode_owned; do
     ours=$call
     case $call in encode | decode) ours=${call}_into ;; esac
     printf '%14s %8s %8s\n' "$call" "$(counts own plain "$ours")" "$(counts rust "$width" "$theirs")"
-done
-
-# The padded text, whose puts are counted too.
-printf '\ninstructions for 32 bytes written\n%14s %8s\n' pieces ours
-for pieces in ungrouped by_1 by_2 by_4 by_8 by_16; do
-    printf '%14s %8s\n' "$pieces" "$(counts own "$pieces" write_to)"
 done

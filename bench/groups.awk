@@ -1,5 +1,6 @@
-# Makes of two outputs of run.sh, one of each build, a table of grouped digits over ungrouped ones: a
-# row for writing and for reading in pieces of each length, and in each cell the builds.
+# Makes of two outputs of run.sh, one of each build, a table of grouped digits over ungrouped ones, and
+# one over the loops in C: a row for writing and for reading in pieces of each length, and in each cell
+# the builds.
 
 BEGIN {
     sizes_len = split("8 64 256 1024 65536", sizes)
@@ -18,22 +19,30 @@ FNR == 1 { build++ }
 
 what != "" && $1 in wanted {
     split($0, part, "|")
-    split(part[2], ratio)
-    for (form = 1; form <= forms_len; form++)
-        cell[what, form, $1] = cell[what, form, $1] (build > 1 ? "/" : "") ratio[form]
+    for (over = 2; over <= 3; over++) {
+        split(part[over], ratio)
+        for (form = 1; form <= forms_len; form++)
+            cell[over, what, form, $1] = cell[over, what, form, $1] (build > 1 ? "/" : "") ratio[form]
+    }
 }
 
 END {
-    print "Decoded bytes | 8 | 64 | 256 | 1,024 | 65,536\n---|---|---|---|---|---"
-    row("write")
-    row("read")
+    table(2)
+    print "\nGrouped digits over the loops in C:\n"
+    table(3)
 }
 
-function row(what, form, at) {
+function table(over) {
+    print "Decoded bytes | 8 | 64 | 256 | 1,024 | 65,536\n---|---|---|---|---|---"
+    row(over, "write")
+    row(over, "read")
+}
+
+function row(over, what, form, at) {
     for (form = 1; form <= forms_len; form++) {
         printf "%s, groups of %s", what, forms[form]
         for (at = 1; at <= sizes_len; at++)
-            printf " | %s", cell[what, form, sizes[at]]
+            printf " | %s", cell[over, what, form, sizes[at]]
         print ""
     }
 }
