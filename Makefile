@@ -4,8 +4,8 @@
 # `make install PREFIX=DIR` puts into DIR the program with its page, and the library with its header,
 # its file for pkg-config and the crate for Rust; with DESTDIR below that folder, as a package wants
 # it. `make uninstall` takes the same files away. `make vendor DIR=DIR` copies the library for Rattle
-# into the repository at DIR, with JSON=no and LISTS=no without what these name. `make -s` prints
-# nothing where all goes well.
+# into the repository at DIR, with JSON=no the crates that have no JSON. `make -s` prints nothing
+# where all goes well.
 VERSION = 1.0.0
 PREFIX ?= /usr/local
 CPU = x86-64-v2
@@ -72,7 +72,7 @@ uninstall:
 	rm -rf $(TO)/share/faster_hex
 
 vendor:
-	scripts/vendor.sh $(if $(filter no,$(JSON)),--no-json) $(if $(filter no,$(LISTS)),--no-lists) "$(DIR)"
+	scripts/vendor.sh $(if $(filter no,$(JSON)),--no-json) "$(DIR)"
 
 clean:
 	rm -rf crates/*/out

@@ -55,7 +55,7 @@ tar -C "$top" -c --exclude=out crates crates.txt | tar -C "$build" -x
 echo 'hex_bench staticlib: faster_hex hex_core' >>"$build/crates.txt"
 
 # What the repository's own checks left saves a first run most of the proving.
-for crate in hex_core hex_codec hex_format hex_json hex_lists faster_hex; do
+for crate in hex_core hex_codec hex_format faster_hex; do
     kept=$build/crates/$crate/out
     if [ ! -e "$kept" ] && [ -e "$top/crates/$crate/out" ]; then
         cp -R "$top/crates/$crate/out" "$kept" || rm -rf "$kept"

@@ -1,9 +1,9 @@
 #!/bin/sh
 # Runs all that the gate can't: the built program (statuses.sh), the examples in C, C++ and Rust
-# (link.sh), refused growths (growths.sh), lists beside sha256sum (digests.sh), an installed copy
-# (install.sh), the library for C under sanitizers and between guarded pages (library.sh), and the
-# bindings under the Rust crate's own tests and beside it (swap.sh). Prints what each prints, and
-# `N passed, M failed` at the end; its status is then 1 where one failed.
+# (link.sh), an installed copy (install.sh), the library for C under sanitizers and between guarded
+# pages (library.sh), the bindings under the Rust crate's own tests and beside it (swap.sh), and refused
+# growths (growths.sh). Prints what each prints, and `N passed, M failed` at the end; its status is then
+# 1 where one failed.
 # Usage: scripts/check.sh [--rust PATH], after `make` and `make lib`, as `make check` and
 # `make check RUST=PATH` do it. PATH is a checkout of the Rust crate faster-hex 1.0.0.
 set -eu
@@ -37,7 +37,6 @@ part link.sh
 part install.sh
 part library.sh
 part swap.sh "$@"
-part digests.sh
 part growths.sh
 
 echo "$passed passed, $failed failed"

@@ -1,5 +1,5 @@
 #!/bin/sh
-# Runs the examples of the doc comments of the libraries, of callers and of refusing_allocator, and
+# Runs the examples of the doc comments of the libraries, of callers and of test_kit, and
 # those of CALLING.md, as they stand there: each is a test of a crate that this script makes outside
 # the repository, and that `rt try --test` runs and nothing proves. Run it after each change of one.
 # Then runs README.md's program over a copy of the library as scripts/vendor.sh makes it.
@@ -35,8 +35,7 @@ case $#:${1-} in
 esac
 
 cd "$(dirname "$0")/.."
-libraries='hex_core hex_codec hex_format hex_lists hex_json faster_hex hex_operations hex_program
-    callers refusing_allocator'
+libraries='hex_core hex_codec hex_format faster_hex hex_operations hex_program callers test_kit'
 made=$folder
 if [ -z "$made" ]; then
     made=$(mktemp -d)
@@ -113,14 +112,12 @@ write_page_tests() {
 }
 
 # vendored: whether scripts/vendor.sh copies faster_hex as it is, and README.md's program does what it
-# should over a copy without JSON and lists, which is another one.
+# should over the copy; and which crates a copy without JSON has.
 vendored() {
     mine=$made/mine
     scripts/vendor.sh --no-proofs "$mine"
     diff -r crates/faster_hex/src "$mine/crates/faster_hex/src" || true
     grep '^faster_hex:' crates.txt | grep -vxF -f "$mine/crates.txt" || true
-    rm -r "$mine"
-    scripts/vendor.sh --no-json --no-lists --no-proofs "$mine"
     mkdir -p "$mine/crates/readme/src"
     blocks README.md
     printf '//! The program of README.md.\n#![tactic(auto)]\n\n' \
@@ -130,6 +127,11 @@ vendored() {
         && [ "$(cat "$made/printed")" = 00abcd ] || {
         cat "$made/said" "$made/printed"
         echo 'the program of README.md does otherwise over a copy of scripts/vendor.sh'
+    }
+    rm -r "$mine"
+    scripts/vendor.sh --no-json --no-proofs "$mine"
+    [ "$(echo $(ls "$mine/crates"))" = 'hex_codec hex_core hex_format' ] || {
+        echo "without JSON scripts/vendor.sh copies $(echo $(ls "$mine/crates"))"
     }
 }
 

@@ -1,26 +1,23 @@
 #!/bin/sh
 # Copies the library into another Rattle repository: the crate `faster_hex`, those that it stands on,
 # their lines of crates.txt and the license. What an earlier copy has there of these crates is replaced.
-# Usage: scripts/vendor.sh [--no-json] [--no-lists] [--no-proofs] FOLDER, as
-# `make vendor DIR=FOLDER JSON=no LISTS=no` does it. Without JSON, or without checksum lists, the copy of
-# `faster_hex` does not name that crate. Proofs that `rt` has kept here in out/ are copied too, so that
-# they are not made again, but with --no-proofs.
+# Usage: scripts/vendor.sh [--no-json] [--no-proofs] FOLDER, as `make vendor DIR=FOLDER JSON=no` does it.
+# Without JSON it copies the crates that have none, and not `faster_hex` itself. Proofs that `rt` has kept
+# here in out/ are copied too, so that they are not made again, but with --no-proofs.
 set -eu
 
-json=yes
-lists=yes
+crates='hex_core hex_codec hex_format faster_hex'
 parts='src specs proofs out'
 while [ $# -gt 0 ]; do
     case $1 in
-    --no-json) json= ;;
-    --no-lists) lists= ;;
+    --no-json) crates='hex_core hex_codec hex_format' ;;
     --no-proofs) parts='src specs proofs' ;;
     *) break ;;
     esac
     shift
 done
 if [ $# -ne 1 ] || [ -z "$1" ]; then
-    echo "usage: scripts/vendor.sh [--no-json] [--no-lists] [--no-proofs] FOLDER" >&2
+    echo "usage: scripts/vendor.sh [--no-json] [--no-proofs] FOLDER" >&2
     exit 2
 fi
 mkdir -p "$1/crates"
@@ -31,20 +28,6 @@ if [ "$to" = "$(pwd)" ]; then
     exit 2
 fi
 
-# without: what is read, without the lines and the names of the crates that are left out.
-without() {
-    if [ -z "$json" ]; then
-        sed '/^pub use hex_json::{$/,/^};$/d; 2,/^#!\[/{ /^\/\/!/d; }; /^faster_hex:/s/ hex_json//'
-    else
-        cat
-    fi | if [ -z "$lists" ]; then
-        sed '/^pub use hex_lists::/d; /^faster_hex:/s/ hex_lists//'
-    else
-        cat
-    fi
-}
-
-crates="$(grep '^faster_hex:' crates.txt | without | sed 's/.*: //') faster_hex"
 touch "$to/crates.txt"
 for crate in $crates; do
     mkdir -p "$to/crates/$crate"
@@ -54,7 +37,6 @@ for crate in $crates; do
     done
     cp LICENSE "$to/crates/$crate/"
     grep -v "^$crate:" "$to/crates.txt" >"$to/crates.new" || true
-    grep "^$crate:" crates.txt | without >>"$to/crates.new"
+    grep "^$crate:" crates.txt >>"$to/crates.new"
     mv "$to/crates.new" "$to/crates.txt"
 done
-without <crates/faster_hex/src/lib.rt >"$to/crates/faster_hex/src/lib.rt"

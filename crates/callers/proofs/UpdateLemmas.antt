@@ -5,8 +5,8 @@ use Rattle.std.proofs.lemmas.List.{length-map, length-set, map-set}
 use Rattle.std.proofs.lemmas.List.Folds.{flat_map-map, position_or_len-set}
 use Rattle.hex_core.specs.declared.digit.CheckCase.{CheckCase}
 use Rattle.hex_core.specs.Text.{lowercase, text}
-use Rattle.hex_lists.specs.declared.digests.Entry.{Entry}
-use Rattle.hex_lists.specs.Lists.{LineIs, Lists, first_bad_name, is_bad_name, line_of, lines_of, list_of}
+use Rattle.hex_format.specs.declared.digests.Entry.{Entry}
+use Rattle.hex_format.specs.Lists.{LineIs, Lists, first_bad_name, is_bad_name, line_of, lines_of, list_of}
 use Rattle.callers.specs.Updates.{updated, with_digest}
 
 -- an entry with another digest

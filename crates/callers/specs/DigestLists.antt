@@ -7,12 +7,12 @@ use Rattle.std.specs.declared.vec.Vec.{Vec}
 use Rattle.hex_core.specs.declared.digit.CheckCase.TheVariants as policy
 use Rattle.hex_core.specs.Text.{lowercase, text, with_front}
 use Rattle.hex_format.specs.Sink.{SinkState, Stops, Takes}
-use Rattle.hex_lists.specs.declared.digests.Entry.{Entry}
-use Rattle.hex_lists.specs.declared.digests.ListFault.{ListFault}
-use Rattle.hex_lists.specs.declared.digests.ListFault.TheVariants.{Line, OutOfMemory}
-use Rattle.hex_lists.specs.declared.writing.ListWriteFault.{ListWriteFault}
-use Rattle.hex_lists.specs.declared.writing.ListWriteFault.TheVariants.{BadName, Write}
-use Rattle.hex_lists.specs.Lists.{FirstFault, Lists, is_bad_name, lines_of}
+use Rattle.hex_format.specs.declared.digests.Entry.{Entry}
+use Rattle.hex_format.specs.declared.digests.ListFault.{ListFault}
+use Rattle.hex_format.specs.declared.digests.ListFault.TheVariants.{Line, OutOfMemory}
+use Rattle.hex_format.specs.declared.writing.ListWriteFault.{ListWriteFault}
+use Rattle.hex_format.specs.declared.writing.ListWriteFault.TheVariants.{BadName, Write}
+use Rattle.hex_format.specs.Lists.{FirstFault, Lists, is_bad_name, lines_of}
 use Rattle.callers.specs.declared.digest.Digest.{Digest}
 
 -- an entry's name, if its digest is this one

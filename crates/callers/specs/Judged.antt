@@ -5,9 +5,9 @@ use Rattle.hex_core.specs.declared.digit.CheckCase.TheVariants as policy
 use Rattle.hex_core.specs.declared.error.Error.{Error}
 use Rattle.hex_core.specs.Refusal.{decode_refusal}
 use Rattle.hex_core.specs.Text.{Spells, with_front}
-use Rattle.hex_lists.specs.declared.digests.Entry.{Entry}
-use Rattle.hex_lists.specs.declared.digests.ListFault.{ListFault}
-use Rattle.hex_lists.specs.Lists.{Lists, ReadFailure}
+use Rattle.hex_format.specs.declared.digests.Entry.{Entry}
+use Rattle.hex_format.specs.declared.digests.ListFault.{ListFault}
+use Rattle.hex_format.specs.Lists.{Lists, ReadFailure}
 
 -- a destination is written exactly where nothing is refused, and else it stays; whether it was
 abbrev pub WritesUnless : {E : Type 0} → Option E → List ℕ → List ℕ → List ℕ → Bool → Type 0

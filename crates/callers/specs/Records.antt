@@ -4,9 +4,9 @@ use Rattle.std.specs.Option.{option_or}
 use Rattle.std.specs.declared.vec.Vec.{Vec}
 use Rattle.serde_json.specs.Data.{Data}
 use Rattle.serde_json.specs.Find.{get}
-use Rattle.hex_json.specs.declared.adapters.AdapterError.{AdapterError}
-use Rattle.hex_json.specs.Adapters.{ReadFailure, Reads, Writes, array_read_refusal}
-use Rattle.hex_json.specs.WireFormats.{nopfx_ignorecase, nopfx_lowercase, withpfx_ignorecase}
+use Rattle.faster_hex.specs.declared.adapters.AdapterError.{AdapterError}
+use Rattle.faster_hex.specs.Adapters.{ReadFailure, Reads, Writes, array_read_refusal}
+use Rattle.faster_hex.specs.WireFormats.{nopfx_ignorecase, nopfx_lowercase, withpfx_ignorecase}
 use Rattle.callers.specs.declared.json.Record.{Record}
 use Rattle.callers.specs.declared.json.RecordError.{RecordError}
 use Rattle.callers.specs.declared.json.RecordError.TheVariants.{NoId, BadId, NoKey, BadKey}

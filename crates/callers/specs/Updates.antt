@@ -4,7 +4,7 @@ use Rattle.std.specs.List.{flat_map}
 use Rattle.hex_core.specs.declared.digit.CheckCase.TheVariants as policy
 use Rattle.hex_core.specs.Text.{lowercase, text}
 use Rattle.hex_format.specs.Sink.{SinkState, Stops, Takes}
-use Rattle.hex_lists.specs.Lists.{ReadFailure, lines_of}
+use Rattle.hex_format.specs.Lists.{ReadFailure, lines_of}
 use Rattle.callers.specs.declared.updates.UpdateFault.{UpdateFault}
 use Rattle.callers.specs.declared.updates.UpdateFault.TheVariants.{Read, NoLine, Write}
 

@@ -7,7 +7,7 @@ use crate::digest::Digest;
 use faster_hex::digests::{self, Entry, ListFault, ListWriteFault};
 use faster_hex::{CheckCase, Sink, SliceSink};
 use hex_core::laws::{a_new_front_is_the_front, a_slice_holds_bytes};
-use hex_lists::laws::{
+use hex_format::laws::{
     a_faulty_source_is_no_list, a_source_lists_one_list, reading_inverts_writing,
 };
 use std::alloc::{AllocError, Global};

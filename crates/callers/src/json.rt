@@ -4,8 +4,8 @@ ghost use Rattle.std.specs.Prelude.{◌≡◌, ◌≤◌, None, Some, IfOk, IsFa
 ghost use Rattle.serde_json.specs.Data.{Data};
 ghost use Rattle.serde_json.specs.Find.{get};
 ghost use Rattle.serde_json.specs.View.{view};
-ghost use Rattle.hex_json.specs.Adapters.{Reads, WriteFailure, WritesOption};
-ghost use Rattle.hex_json.specs.WireFormats as wire;
+ghost use Rattle.faster_hex.specs.Adapters.{Reads, WriteFailure, WritesOption};
+ghost use Rattle.faster_hex.specs.WireFormats as wire;
 ghost use Rattle.callers.specs.Records.{HasFields, ReadsRecord, ReadsSignature, ShowsRecord, id_refusal};
 
 use faster_hex::laws::{

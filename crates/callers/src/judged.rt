@@ -8,8 +8,8 @@ ghost use Rattle.hex_core.specs.Laws.{AreBytes};
 ghost use Rattle.hex_core.specs.Refusal.{array_refusal};
 ghost use Rattle.hex_core.specs.Search.{first_invalid};
 ghost use Rattle.hex_core.specs.Text.{Spells, lowercase, text};
-ghost use Rattle.hex_lists.specs.declared.digests.Entry.{Entry};
-ghost use Rattle.hex_lists.specs.Lists.{Lists};
+ghost use Rattle.hex_format.specs.declared.digests.Entry.{Entry};
+ghost use Rattle.hex_format.specs.Lists.{Lists};
 ghost use Rattle.callers.specs.Judged.{CountsEntries, ReadsTag, WritesUnless};
 
 use faster_hex::digests::{self, ListFault};
@@ -23,7 +23,7 @@ use hex_core::laws::{
     a_strict_policy_accepts_the_texts_of_its_case, either_case_is_the_lowercased_source,
     the_first_invalid_byte_is_the_first, what_lies_behind_the_blocks_stays,
 };
-use hex_lists::laws::{a_faulty_source_is_no_list, a_source_lists_one_list};
+use hex_format::laws::{a_faulty_source_is_no_list, a_source_lists_one_list};
 use std::alloc::{AllocError, Global};
 
 /// Whether a text is the digits of some bytes, in either case.

@@ -5,7 +5,7 @@ ghost use Rattle.callers.specs.Updates.{Updates};
 
 use faster_hex::digests::{self, ListFault, ListWriteFault};
 use faster_hex::{CheckCase, Sink};
-use hex_lists::laws::{what_was_read_can_be_written, writing_inverts_strict_reading};
+use hex_format::laws::{what_was_read_can_be_written, writing_inverts_strict_reading};
 use std::alloc::Global;
 
 /// Why a list was not written with another digest.

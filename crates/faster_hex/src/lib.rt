@@ -22,6 +22,21 @@
 //! ```
 #![tactic(auto)]
 
+pub mod adapters;
+pub mod laws;
+mod modules;
+mod option_modules;
+
+pub use crate::adapters::AdapterError;
+pub use crate::modules::withpfx_ignorecase::{array, deserialize, deserialize_bounded, serialize};
+pub use crate::modules::{
+    nopfx_ignorecase, nopfx_lowercase, nopfx_uppercase, withpfx_ignorecase, withpfx_lowercase,
+    withpfx_uppercase,
+};
+pub use crate::option_modules::{
+    option_nopfx_ignorecase, option_nopfx_lowercase, option_nopfx_uppercase,
+    option_withpfx_ignorecase, option_withpfx_lowercase, option_withpfx_uppercase,
+};
 pub use hex_codec::{
     Group, decode, encode, grouped, heapless_08, hex_append, hex_append_into, hex_append_upper,
     hex_check, hex_check_with_case, hex_decode, hex_decode_array, hex_decode_array_with_case,
@@ -32,15 +47,8 @@ pub use hex_core::{
     Backend, CheckCase, Error, Probe, SliceProbe, backends, covered, digit_value, locate,
 };
 pub use hex_format::{
-    Align, Hex, HexFlags, Sink, SinkFault, SliceSink, WriteFault, WriterSink, format, sink,
+    Align, Hex, HexFlags, Sink, SinkFault, SliceSink, WriteFault, WriterSink, digests, format, sink,
 };
-pub use hex_json::{
-    AdapterError, adapters, array, deserialize, deserialize_bounded, laws, nopfx_ignorecase,
-    nopfx_lowercase, nopfx_uppercase, option_nopfx_ignorecase, option_nopfx_lowercase,
-    option_nopfx_uppercase, option_withpfx_ignorecase, option_withpfx_lowercase,
-    option_withpfx_uppercase, serialize, withpfx_ignorecase, withpfx_lowercase, withpfx_uppercase,
-};
-pub use hex_lists::digests;
 
 /// Digits that are larger than memory: a decoder that is fed chunks of any length, and readers that
 /// are decoded and encoded into sinks.

@@ -5,3 +5,8 @@ pub mod PutsLemmas
 mod Repeats
 mod SeparateLemmas
 mod StreamLemmas
+mod EntryLemmas
+mod FaultLemmas
+mod LineLemmas
+mod NameLemmas
+mod ReadBack

@@ -4,3 +4,6 @@ pub mod Sinks
 pub mod SinkLaws
 pub mod FrameLaws
 pub mod Streams
+pub mod Lists
+pub mod ListCalls
+pub mod ListLaws

@@ -6,8 +6,8 @@ use crate::plain_vectors::{PlainVector, Statement};
 use crate::vector_run::{FILL, LONGEST, VectorFault, is_fill, put_line};
 use hex_codec::{Group, GroupFault, grouped};
 use hex_core::CheckCase;
+use hex_format::digests::{self, Entry, ListFault};
 use hex_format::{Hex, HexFlags, Sink, SliceSink};
-use hex_lists::digests::{self, Entry, ListFault};
 use std::alloc::{AllocError, Allocator};
 
 // Whether the grouped text of some bytes fills a slice, and is this one.

@@ -2,7 +2,7 @@
 
 use hex_codec::GroupFault;
 use hex_core::CheckCase;
-use hex_lists::digests::Entry;
+use hex_format::digests::Entry;
 
 /// What a stored vector states of its call.
 #[derive(Clone, Copy, PartialEq, Eq)]

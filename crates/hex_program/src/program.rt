@@ -168,7 +168,7 @@ pub fn serve_in<A: Allocator, R: Read, W: Write, E: Write>(
 /// | Status | When | Written to `err`, as one line |
 /// |---|---|---|
 /// | 0 | done | nothing |
-/// | 1 | the input is refused, and then nothing went to `out` | the [`Error`](faster_hex::Error)'s text |
+/// | 1 | the input is refused, and then nothing went to `out` | the [`Error`](hex_core::Error)'s text |
 /// | 1 | a stored vector failed | nothing |
 /// | 2 | no word, several, or another one; nothing was read, nothing went to `out` | the usage |
 /// | 3 | a fault of the surroundings | `read failed`, `write failed`, `out of memory` |

@@ -3,13 +3,13 @@
 
 use crate::seen::{is_bytes, is_option};
 use crate::terms::{Answer, Buffers, answer, has_bytes, value, wire_format};
+use faster_hex::AdapterError;
+use faster_hex::adapters::{WireFormat, read, read_option, text_of};
 use hex_core::Error;
-use hex_json::AdapterError;
-use hex_json::adapters::{WireFormat, read, read_option, text_of};
-use refusing_allocator::Refusing;
-use row_reader::Words;
 use serde_json::Value;
 use std::alloc::{Allocator, Global};
+use test_kit::Words;
+use test_kit::refusing::Refusing;
 
 // Reads a bound: a number, or `unbounded`.
 fn bound(row: &mut Words<'_>) -> Option<usize> {

@@ -1,5 +1,5 @@
 //! Rows of calls of the JSON adapters and their answers: reads them from standard input, and prints
-//! those that are answered otherwise and how many there are. `row_reader` says how a row is written.
+//! those that are answered otherwise and how many there are. `test_kit` says how a row is written.
 #![tactic(auto)]
 
 mod growths;
@@ -13,8 +13,8 @@ mod writings;
 
 use crate::readings::Reading;
 use crate::terms::{Buffers, refusal};
-use row_reader::{Calls, Words, judge};
 use std::io::{self, BufReader};
+use test_kit::{Calls, Words, judge};
 
 // `print REFUSAL`: whether it prints the text that the answer is.
 fn print_row(row: &mut Words<'_>, wanted: &mut Words<'_>, buffers: &Buffers) -> Option<bool> {

@@ -1,7 +1,7 @@
 //! The six modules of bytes, each call by the module's format.
 
 use crate::terms::Format;
-use hex_json::{
+use faster_hex::{
     AdapterError, nopfx_ignorecase, nopfx_lowercase, nopfx_uppercase, withpfx_ignorecase,
     withpfx_lowercase, withpfx_uppercase,
 };

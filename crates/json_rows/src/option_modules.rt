@@ -1,7 +1,7 @@
 //! The six modules of bytes or none, each call by the module's format.
 
 use crate::terms::Format;
-use hex_json::{
+use faster_hex::{
     AdapterError, option_nopfx_ignorecase, option_nopfx_lowercase, option_nopfx_uppercase,
     option_withpfx_ignorecase, option_withpfx_lowercase, option_withpfx_uppercase,
 };

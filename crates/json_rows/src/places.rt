@@ -5,11 +5,11 @@ ghost use Rattle.std.specs.Prelude.{◌<◌};
 use crate::seen::{is_array, is_bytes, is_option, is_option_array};
 use crate::terms::{Answer, Format, wire_format};
 use crate::{modules, option_modules};
-use hex_json::AdapterError;
-use hex_json::adapters::{self, WireFormat};
-use row_reader::Words;
+use faster_hex::AdapterError;
+use faster_hex::adapters::{self, WireFormat};
 use serde_json::Value;
 use std::alloc::Global;
+use test_kit::Words;
 
 /// Whose calls a row names.
 #[derive(Clone, Copy)]
@@ -56,7 +56,7 @@ impl Place {
     /// Whether a value is read so.
     pub fn reads(self, alloc: Global, value: &Value, want: Answer<'_>) -> bool {
         match self {
-            Place::Root => is_bytes(hex_json::deserialize(alloc, value), want),
+            Place::Root => is_bytes(faster_hex::deserialize(alloc, value), want),
             Place::Module(format) => is_bytes(modules::read(format, alloc, value), want),
             Place::OptionModule(format) => {
                 is_option(option_modules::read(format, alloc, value), want)
@@ -77,7 +77,7 @@ impl Place {
     ) -> bool {
         let max = Some(MAX);
         match self {
-            Place::Root => is_bytes(hex_json::deserialize_bounded::<MAX>(alloc, value), want),
+            Place::Root => is_bytes(faster_hex::deserialize_bounded::<MAX>(alloc, value), want),
             Place::Module(format) => {
                 is_bytes(modules::read_bounded::<MAX>(format, alloc, value), want)
             }
@@ -99,7 +99,7 @@ impl Place {
         requires { N < 600 }
     {
         match self {
-            Place::Root => is_array(hex_json::array::deserialize::<N>(value), want),
+            Place::Root => is_array(faster_hex::array::deserialize::<N>(value), want),
             Place::Module(format) => is_array(modules::read_array::<N>(format, value), want),
             Place::OptionModule(format) => {
                 is_option_array(option_modules::read_array::<N>(format, value), want)
@@ -114,7 +114,7 @@ impl Place {
     /// What is written for some bytes or none, or `None` where the calls know no none.
     pub fn write(self, alloc: Global, src: Option<&[u8]>) -> Option<Result<Value, AdapterError>> {
         Some(match self {
-            Place::Root => hex_json::serialize(alloc, src?),
+            Place::Root => faster_hex::serialize(alloc, src?),
             Place::Module(format) => modules::write(format, alloc, src?),
             Place::OptionModule(format) => option_modules::write(format, alloc, src),
             Place::Adapters(format) => adapters::write(alloc, format, src?),
@@ -129,7 +129,7 @@ impl Place {
         src: Option<&[u8]>,
     ) -> Option<Result<Value, AdapterError>> {
         match self {
-            Place::Root => Some(hex_json::array::serialize(alloc, src?)),
+            Place::Root => Some(faster_hex::array::serialize(alloc, src?)),
             Place::Module(format) => Some(modules::write_array(format, alloc, src?)),
             Place::OptionModule(format) => Some(option_modules::write_array(format, alloc, src)),
             Place::Adapters(_) | Place::OptionAdapters(_) => None,

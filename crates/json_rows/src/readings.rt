@@ -4,9 +4,9 @@ ghost use Rattle.std.specs.Prelude.{◌<◌};
 
 use crate::places::Place;
 use crate::terms::{Answer, Buffers, answer, field_of, json, value};
-use row_reader::Words;
 use serde_json::Value;
 use std::alloc::Global;
+use test_kit::Words;
 
 /// How a row has a value read.
 #[derive(Clone, Copy, PartialEq, Eq)]

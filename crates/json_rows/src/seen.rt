@@ -3,7 +3,7 @@
 ghost use Rattle.std.specs.Prelude.{◌<◌};
 
 use crate::terms::Answer;
-use hex_json::AdapterError;
+use faster_hex::AdapterError;
 use std::alloc::Allocator;
 
 /// Whether a reading of bytes answers so.

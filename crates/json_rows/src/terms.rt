@@ -1,12 +1,12 @@
 //! What rows are made of: formats, modules, JSON values and answers.
 
+use faster_hex::AdapterError;
+use faster_hex::adapters::WireFormat;
 use hex_core::{CheckCase, Error};
-use hex_json::AdapterError;
-use hex_json::adapters::WireFormat;
-use row_reader::{Bytes, Words, is};
 use serde_json::Value;
 use std::alloc::Global;
 use std::str;
+use test_kit::{Bytes, Words, is};
 
 /// What a reading answers: some bytes or none, or the refusal. A call that knows no none answers
 /// with some.

@@ -2,10 +2,10 @@
 
 use crate::places::Place;
 use crate::terms::{Buffers, has_bytes};
-use hex_json::AdapterError;
-use row_reader::{Bytes, Words};
+use faster_hex::AdapterError;
 use serde_json::Value;
 use std::alloc::Global;
+use test_kit::{Bytes, Words};
 
 // Whether this JSON text is written.
 fn is_json(alloc: Global, got: Result<Value, AdapterError>, wanted: &Bytes) -> bool {

@@ -2,8 +2,8 @@
 
 use crate::terms::{Buffers, growths, is_end, word};
 use hex_program::program::serve_in;
-use refusing_allocator::Refusing;
-use row_reader::Words;
+use test_kit::Words;
+use test_kit::refusing::Refusing;
 
 /// `granted COUNT WORD INPUT`: each growth behind so many is refused; or, where `once` is true,
 /// `refused PLACE WORD INPUT`: the growth behind so many is refused alone. How many are asked for,

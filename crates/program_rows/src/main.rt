@@ -1,5 +1,5 @@
 //! Rows of runs of the program and how they end: reads them from standard input, and prints those
-//! that end otherwise and how many there are. `row_reader` says how a row is written.
+//! that end otherwise and how many there are. `test_kit` says how a row is written.
 #![tactic(auto)]
 
 mod codecs;
@@ -14,8 +14,8 @@ mod terms;
 mod vectors;
 
 use crate::terms::Buffers;
-use row_reader::{Calls, Words, is, judge};
 use std::io::{self, BufReader};
+use test_kit::{Calls, Words, is, judge};
 
 // A row of the whole program.
 fn program_row(call: &[u8], row: Words<'_>, answer: Words<'_>, buffers: &mut Buffers) -> bool {

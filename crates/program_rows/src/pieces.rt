@@ -3,10 +3,10 @@
 use crate::terms::{Buffers, is_message};
 use hex_format::WriterSink;
 use hex_program::{Failure, Op, RunFault, run, serve};
-use row_reader::Words;
 use std::alloc::Global;
 use std::io;
 use std::io::Read;
+use test_kit::Words;
 
 // Gives its bytes in order, at most so many a read.
 #[derive(Drop)]

@@ -5,8 +5,8 @@ use crate::terms::{Buffers, answer, failures, growths, operation};
 use hex_format::{Sink, SliceSink, WriterSink};
 use hex_program::operation::run_in;
 use hex_program::run;
-use refusing_allocator::Refusing;
-use row_reader::Words;
+use test_kit::Words;
+use test_kit::refusing::Refusing;
 
 // How many bytes a slice has at most.
 const ROOM: usize = 1_025;

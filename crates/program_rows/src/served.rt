@@ -3,7 +3,7 @@
 use crate::streams::Narrow;
 use crate::terms::{Buffers, is_end, word};
 use hex_program::serve;
-use row_reader::{Bytes, Words};
+use test_kit::{Bytes, Words};
 
 // Reads a word of the program, where it is one of so many.
 fn word_of<'a>(row: &mut Words<'_>, bytes: &'a mut Bytes, is_there: bool) -> &'a str {

@@ -3,9 +3,9 @@
 use crate::terms::{Buffers, byte, field, is_end, name, written};
 use hex_codec::GroupFault;
 use hex_core::CheckCase;
-use hex_lists::digests::Entry;
+use hex_format::digests::Entry;
 use hex_program::{PLAIN_VECTORS, PlainVector, Statement, serve_vectors};
-use row_reader::Words;
+use test_kit::Words;
 
 // Reads `bad-length` or `invalid INDEX BYTE`.
 fn fault(fields: &mut Words<'_>) -> GroupFault {

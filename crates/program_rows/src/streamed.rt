@@ -4,7 +4,7 @@
 use crate::streams::{Narrow, Repeated};
 use crate::terms::{Buffers, is_message, word};
 use hex_program::serve;
-use row_reader::Words;
+use test_kit::Words;
 
 // Whether a run ended so.
 fn is_end(status: u8, out: &Narrow, message: &[u8], answer: Words<'_>) -> bool {

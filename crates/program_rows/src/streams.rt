@@ -1,8 +1,8 @@
 //! Readers and writers that fail where a row wants it.
 
-use row_reader::Words;
 use std::io;
 use std::io::{ErrorKind, Read, Write};
+use test_kit::Words;
 
 /// Gives this many times one byte, then a newline and a failure where it is told to, and ends.
 #[derive(Drop)]

@@ -3,9 +3,9 @@
 use hex_core::Error;
 use hex_format::{SinkFault, WriteFault};
 use hex_program::{Op, RunFault};
-use row_reader::Words;
-use row_reader::notation::{self, Bytes};
 use std::alloc::Global;
+use test_kit::Words;
+use test_kit::notation::{self, Bytes};
 
 /// What a row is read into, and what takes memory for its run.
 #[derive(Drop)]

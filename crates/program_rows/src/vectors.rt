@@ -5,8 +5,8 @@ use crate::terms::{Buffers, field, is_end, name, refusal, written};
 use hex_core::{CheckCase, Error};
 use hex_format::SliceSink;
 use hex_program::{Call, Op, VECTORS, Vector, run_vectors_under, serve_vectors};
-use row_reader::Words;
 use std::alloc::Global;
+use test_kit::Words;
 
 // How many vectors a row has at most.
 const MOST: usize = 5;

@@ -3,7 +3,7 @@
 use crate::terms::{Buffers, Given, refusal};
 use hex_codec::stream::Decoder;
 use hex_core::Error;
-use row_reader::Words;
+use test_kit::Words;
 
 // The most chunks of a cutting, more than twice as many as the longest source has digits.
 const CHUNKS: usize = 24_000;

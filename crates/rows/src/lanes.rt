@@ -8,7 +8,7 @@ use hex_core::lanes::{
     admitted_16, admitted_32, admitted_64, encode_8, encode_16, encode_32, nibbles_hashed_32,
     nibbles_hashed_64, nibbles_saturating_16, pack_16, pack_32, pack_64,
 };
-use row_reader::is;
+use test_kit::is;
 
 // The mask whose bits from the lowest on are the letters.
 fn mask(letters: &[u8]) -> u64 {

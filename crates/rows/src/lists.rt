@@ -10,11 +10,11 @@ use crate::wholes::{Values, put_nibble};
 use hex_codec::Group;
 use hex_codec::grouped::{GroupFault, read, read_into};
 use hex_core::CheckCase;
+use hex_format::digests::{self, Entry, LineFault, ListFault, ListWriteFault};
 use hex_format::{Sink, SinkFault, SliceSink, WriteFault};
-use hex_lists::digests::{self, Entry, LineFault, ListFault, ListWriteFault};
-use refusing_allocator::Refusing;
-use row_reader::{Bytes, Words};
 use std::alloc::{Allocator, Global};
+use test_kit::refusing::Refusing;
+use test_kit::{Bytes, Words};
 
 // What reading a grouped text answers.
 type Reading<'a> = Result<&'a [u8], GroupFault>;

@@ -1,5 +1,5 @@
 //! Rows of calls and their answers: reads them from standard input, and prints those that are
-//! answered otherwise and how many there are. `row_reader` says how a row is written.
+//! answered otherwise and how many there are. `test_kit` says how a row is written.
 #![tactic(auto)]
 
 mod feeds;
@@ -18,8 +18,8 @@ mod wholes;
 use crate::strings::Appended;
 use crate::terms::{Buffers, Destination, Given, Grown, front, is_either, judged, policy, source};
 use hex_core::CheckCase;
-use row_reader::{Bytes, Calls, Words, is, judge};
 use std::io::{self, BufReader};
+use test_kit::{Bytes, Calls, Words, is, judge};
 
 // `each-byte`, `each-pair` and `each-grouped`, which have arguments in their turn, bytes with their
 // digits, appends one after another, digits in chunks, streams, grouped texts, lists.

@@ -7,8 +7,8 @@ use hex_codec::{
     hex_decode_array, hex_decode_array_with_case, hex_decode_vec, hex_decode_vec_with_case,
 };
 use hex_core::Error;
-use refusing_allocator::Refusing;
 use std::alloc::{Allocator, Global};
+use test_kit::refusing::Refusing;
 
 // Whether an array answers so.
 fn is_array<const N: usize>(got: Result<[u8; N], Error>, want: Answer<'_>) -> bool

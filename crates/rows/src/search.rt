@@ -4,8 +4,8 @@
 use crate::terms::{is_either, policy, refusal};
 use arrayvec::ArrayString;
 use hex_core::{Backend, CheckCase, Probe, SliceProbe, backends, covered, digit_value, locate};
-use row_reader::Words;
 use std::fmt::Write;
+use test_kit::Words;
 
 /// `value POLICY BYTE`.
 pub fn value_row(row: &mut Words<'_>, answer: &mut Words<'_>) -> bool {

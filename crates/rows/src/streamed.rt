@@ -7,8 +7,8 @@ use crate::terms::{Buffers, growths, is_either, policy, refusal};
 use hex_core::CheckCase;
 use hex_format::streams::{StreamFault, decode_stream, encode_stream};
 use hex_format::{Sink, SinkFault, WriteFault};
-use row_reader::Words;
 use std::io::{self, ErrorKind, Read};
+use test_kit::Words;
 
 // The byte at a place of some bytes again and again.
 fn byte_at(pattern: &[u8], place: usize) -> u8 {

@@ -7,9 +7,9 @@ use hex_codec::{
     heapless_08, hex_append, hex_append_into, hex_append_upper, hex_string, hex_string_upper,
 };
 use hex_core::Error;
-use refusing_allocator::Refusing;
-use row_reader::{Bytes, Words};
 use std::alloc::{Allocator, Global};
+use test_kit::refusing::Refusing;
+use test_kit::{Bytes, Words};
 
 // The most appends of a row that follow one another.
 const APPENDS: usize = 8;

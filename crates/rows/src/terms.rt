@@ -2,8 +2,8 @@
 
 use hex_codec::Group;
 use hex_core::{CheckCase, Error};
-use row_reader::{Bytes, Words};
 use std::alloc::Global;
+use test_kit::{Bytes, Words};
 
 /// What a destination holds before a call, and what stands beside it. No policy reads it.
 pub const FILL: u8 = 0xa5;

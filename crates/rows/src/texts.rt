@@ -7,8 +7,8 @@ use crate::terms::{Buffers, Destination, group, is_stopped};
 use arrayvec::ArrayString;
 use hex_codec::Group;
 use hex_format::{Align, Hex, HexFlags, Sink, SinkFault, SliceSink, WriteFault};
-use row_reader::{Bytes, Words};
 use std::fmt::Write;
+use test_kit::{Bytes, Words};
 
 // Where a text stands in its width, by the letters of its flags.
 fn align(letters: &[u8]) -> Align {

@@ -7,7 +7,7 @@ use crate::terms::{
 };
 use hex_codec::{hex_check_with_case, hex_decode_with_case};
 use hex_core::{Backend, CheckCase, Error, backends};
-use row_reader::{Bytes, Words};
+use test_kit::{Bytes, Words};
 
 // A source, its policy, and whether it is to be accepted.
 #[derive(Clone, Copy)]

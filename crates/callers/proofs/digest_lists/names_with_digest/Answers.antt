@@ -4,7 +4,7 @@ use Rattle.std.specs.Cmp.Lexicographic.{pointwise}
 use Rattle.std.specs.List.{filter_map}
 use Rattle.std.proofs.lemmas.List.{take_more}
 use Rattle.std.proofs.lemmas.List.Elements.{filter_map-append}
-use Rattle.hex_lists.specs.declared.digests.Entry.{Entry}
+use Rattle.hex_format.specs.declared.digests.Entry.{Entry}
 use Rattle.callers.specs.DigestLists.{name_for}
 use Rattle.callers.proofs.digest_lists.names_with_digest.Goals as goal
 use Rattle.callers.proofs.digest_lists.names_with_digest.Goals.{else-eq-via-then-eq+else-is_err, else-eq-via-else-eq}

@@ -4,9 +4,9 @@ use Rattle.std.specs.Borrow.{Bor}
 use Rattle.std.specs.List.{AllZip}
 use Rattle.hex_core.specs.declared.digit.CheckCase.TheVariants as policy
 use Rattle.hex_core.specs.Text.{lowercase}
-use Rattle.hex_lists.specs.declared.digests.Entry.{Entry}
-use Rattle.hex_lists.specs.Lists.{Lists, first_bad_name, list_of}
-use Rattle.hex_lists.specs.ListLaws.{SameEntry}
+use Rattle.hex_format.specs.declared.digests.Entry.{Entry}
+use Rattle.hex_format.specs.Lists.{Lists, first_bad_name, list_of}
+use Rattle.hex_format.specs.ListLaws.{SameEntry}
 use Rattle.callers.specs.DigestLists.{line_for}
 use Rattle.callers.proofs.PartsLemmas.{front-fits}
 use Rattle.callers.proofs.digest_lists.stored_digest.Goals as goal

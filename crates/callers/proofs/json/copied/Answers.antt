@@ -6,11 +6,11 @@ use Rattle.std.proofs.lemmas.Result.{MatchResult-weaker}
 use Rattle.serde_json.specs.Data.{Data}
 use Rattle.serde_json.specs.View.{view}
 use Rattle.hex_core.specs.declared.error.Error.TheVariants as codec
-use Rattle.hex_json.specs.declared.adapters.AdapterError.{AdapterError}
-use Rattle.hex_json.specs.declared.adapters.AdapterError.TheVariants.{Codec}
-use Rattle.hex_json.specs.AdapterLaws.{wire_formats}
-use Rattle.hex_json.specs.Adapters.{ReadFailure, Reads, WriteFailure, Writes, read_refusal}
-use Rattle.hex_json.specs.WireFormats as wire
+use Rattle.faster_hex.specs.declared.adapters.AdapterError.{AdapterError}
+use Rattle.faster_hex.specs.declared.adapters.AdapterError.TheVariants.{Codec}
+use Rattle.faster_hex.specs.AdapterLaws.{wire_formats}
+use Rattle.faster_hex.specs.Adapters.{ReadFailure, Reads, WriteFailure, Writes, read_refusal}
+use Rattle.faster_hex.specs.WireFormats as wire
 use Rattle.callers.proofs.json.copied.Goals as goal
 
 -- what was written and is not refused is not read for want of memory alone

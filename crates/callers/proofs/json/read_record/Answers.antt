@@ -1,7 +1,7 @@
 -- An identifier that is read is not refused, so the key's refusal is the record's.
 use Rattle.std.proofs.Common.{rules, ◌≡◌, None, length}
-use Rattle.hex_json.specs.Adapters.{array_read_refusal}
-use Rattle.hex_json.specs.WireFormats as wire
+use Rattle.faster_hex.specs.Adapters.{array_read_refusal}
+use Rattle.faster_hex.specs.WireFormats as wire
 use Rattle.callers.proofs.json.read_record.Goals as goal
 use Rattle.callers.proofs.json.read_record.Goals.{In_ok-id}
 

@@ -4,9 +4,9 @@ use Rattle.std.proofs.lemmas.List.Elements.{All-get_or}
 use Rattle.std.proofs.lemmas.Result.{MatchResult-at_ok}
 use Rattle.serde_json.specs.Data.{Data}
 use Rattle.serde_json.specs.View.{view}
-use Rattle.hex_json.specs.AdapterLaws.{ReadsOneList, wire_formats}
-use Rattle.hex_json.specs.Adapters.{Reads, Writes, array_read_refusal}
-use Rattle.hex_json.specs.WireFormats as wire
+use Rattle.faster_hex.specs.AdapterLaws.{ReadsOneList, wire_formats}
+use Rattle.faster_hex.specs.Adapters.{Reads, Writes, array_read_refusal}
+use Rattle.faster_hex.specs.WireFormats as wire
 use Rattle.callers.specs.declared.json.Record.{Record}
 use Rattle.callers.specs.declared.json.RecordError.{RecordError}
 use Rattle.callers.specs.Records.{IsReadAs, ReadsRecord, record_refusal}

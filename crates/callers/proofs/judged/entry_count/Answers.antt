@@ -2,7 +2,7 @@
 use Rattle.std.proofs.Common.{arith}
 use Rattle.std.proofs.lemmas.List.Elements.{length_all_zip}
 use Rattle.hex_core.specs.declared.digit.CheckCase.TheVariants as policy
-use Rattle.hex_lists.specs.ListLaws.{SameEntry}
+use Rattle.hex_format.specs.ListLaws.{SameEntry}
 use Rattle.callers.proofs.judged.entry_count.Goals as goal
 
 pub returns : goal.returns

@@ -5,11 +5,11 @@ use Rattle.std.proofs.lemmas.List.{length-map}
 use Rattle.hex_core.specs.declared.digit.CheckCase.TheVariants as policy
 use Rattle.hex_core.specs.Text.{lowercase}
 use Rattle.hex_format.specs.Sink.{SinkState, Stops}
-use Rattle.hex_lists.specs.declared.digests.Entry.{Entry}
-use Rattle.hex_lists.specs.declared.writing.ListWriteFault.{ListWriteFault}
-use Rattle.hex_lists.specs.declared.writing.ListWriteFault.TheVariants.{BadName, Write}
-use Rattle.hex_lists.specs.Lists.{first_bad_name, line_of, lines_of, list_of}
-use Rattle.hex_lists.specs.ListCalls.{WritesList}
+use Rattle.hex_format.specs.declared.digests.Entry.{Entry}
+use Rattle.hex_format.specs.declared.writing.ListWriteFault.{ListWriteFault}
+use Rattle.hex_format.specs.declared.writing.ListWriteFault.TheVariants.{BadName, Write}
+use Rattle.hex_format.specs.Lists.{first_bad_name, line_of, lines_of, list_of}
+use Rattle.hex_format.specs.ListCalls.{WritesList}
 use Rattle.callers.specs.Updates.{updated}
 use Rattle.callers.proofs.UpdateLemmas.{names-stay, redigested-lines}
 use Rattle.callers.proofs.updates.replace_digest.Given as given

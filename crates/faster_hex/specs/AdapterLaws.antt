@@ -1,0 +1,79 @@
+-- Facts on the adapters that the definitions imply.
+use Rattle.std.specs.Prelude.{◌≡◌, ◌≢◌, ◌≤◌, ◌↔◌, ℕ, List, [], ◌∷◌, length, All, Option, Some, None, MatchOption, ⊤}
+use Rattle.serde_json.specs.Data.{Data, string}
+use Rattle.hex_core.specs.Digit.{strict}
+use Rattle.hex_core.specs.Laws.{AreBytes}
+use Rattle.faster_hex.specs.declared.adapters.WireFormat.{WireFormat}
+use Rattle.faster_hex.specs.declared.adapters.AdapterError.TheVariants.{OverBound}
+use Rattle.faster_hex.specs.Adapters.{ReadFailure, Reads, ReadsOption, Writes, WritesOption, array_read_refusal, read_refusal, wire_text}
+use Rattle.faster_hex.specs.WireFormats.{nopfx_ignorecase, nopfx_lowercase, nopfx_uppercase, withpfx_ignorecase, withpfx_lowercase, withpfx_uppercase}
+
+-- the six formats
+abbrev pub wire_formats : List WireFormat
+wire_formats = withpfx_ignorecase ∷ nopfx_ignorecase ∷ withpfx_lowercase ∷ nopfx_lowercase ∷ withpfx_uppercase ∷ nopfx_uppercase ∷ []
+
+-- a value is read as at most one list, whatever the bound
+abbrev pub ReadsOneList : Type 0
+ReadsOneList = (p : WireFormat) (max other : Option ℕ) (d : Data) (bytes others : List ℕ)
+    → Reads p max d bytes
+    → Reads p other d others
+    → bytes ≡ others
+
+-- nothing is refused exactly where a list is read
+abbrev pub ReadsWhatIsNotRefused : Type 0
+ReadsWhatIsNotRefused = (p : WireFormat) (max : Option ℕ) (d : Data)
+    → (read_refusal p max d ≡ None) ↔ ((bytes : List ℕ) × Reads p max d bytes)
+
+-- into an array, exactly where a list of its length is read
+abbrev pub ReadsArrayOfItsLength : Type 0
+ReadsArrayOfItsLength = (p : WireFormat) (n : ℕ) (d : Data)
+    → (array_read_refusal p n d ≡ None) ↔ ((bytes : List ℕ) × Reads p None d bytes × (length bytes ≡ n))
+
+-- a bounded read takes exactly what the unbounded one takes with at most so many bytes
+abbrev pub BoundedReadsWhatFits : Type 0
+BoundedReadsWhatFits = (p : WireFormat) (max : ℕ) (d : Data) (bytes : List ℕ)
+    → Reads p (Some max) d bytes ↔ (Reads p None d bytes × (length bytes ≤ max))
+
+-- a read without a bound does not fail for one, and no more does one into an array
+abbrev pub UnboundedHasNoBound : Type 0
+UnboundedHasNoBound = (p : WireFormat) (d : Data) (max actual : ℕ)
+    → ReadFailure p None d (OverBound max actual)
+    → ⊥
+
+abbrev pub ArrayHasNoBound : Type 0
+ArrayHasNoBound = (p : WireFormat) (n : ℕ) (d : Data) (max actual : ℕ)
+    → array_read_refusal p n d ≢ Some (OverBound max actual)
+
+-- what one of the six formats writes, it reads as the same bytes
+abbrev pub ReadingInvertsWriting : Type 0
+ReadingInvertsWriting = (bytes : List ℕ) (d : Data)
+    → AreBytes bytes
+    → All (λ p. Writes p bytes d → Reads p None d bytes) wire_formats
+
+-- and none as none
+abbrev pub OptionReadingInvertsWriting : Type 0
+OptionReadingInvertsWriting = (bytes : Option (List ℕ)) (d : Data)
+    → MatchOption bytes ⊤ AreBytes
+    → All (λ p. WritesOption p bytes d → ReadsOption p None d bytes) wire_formats
+
+-- no value is written for none and for a list, the empty one too
+abbrev pub WritesNoneApart : Type 0
+WritesNoneApart = (p : WireFormat) (d : Data) (bytes : List ℕ)
+    → WritesOption p None d
+    → WritesOption p (Some bytes) d
+    → ⊥
+
+-- no value is read as none and as a list
+abbrev pub ReadsNoneApart : Type 0
+ReadsNoneApart = (p : WireFormat) (max : Option ℕ) (d : Data) (bytes : List ℕ)
+    → ReadsOption p max d None
+    → ReadsOption p max d (Some bytes)
+    → ⊥
+
+-- by a format that reads the letters alone that it writes, a value that is read as a list is the one
+-- that is written for it
+abbrev pub WritingInvertsStrictReading : Type 0
+WritingInvertsStrictReading = (p : WireFormat) (d : Data) (bytes : List ℕ)
+    → p.case ≡ strict p.upper
+    → Reads p None d bytes
+    → d ≡ string (wire_text p bytes)

@@ -1,0 +1,367 @@
+//! What the JSON adapters share: their error, a format, and the one way of reading and writing that
+//! all twelve modules take.
+//!
+//! A caller with a format or an allocator of its own takes these functions; any other the modules.
+
+ghost use Rattle.std.specs.Prelude.{◌≡◌, ◌<◌, ◌^◌, ◌/◌, None, Some, Ok, Err, length, option_map, string_bytes, MatchResult};
+ghost use Rattle.serde_json.specs.View.{view};
+ghost use Rattle.faster_hex.specs.AdapterMessage.{adapter_error_text};
+ghost use Rattle.faster_hex.specs.Adapters.{AnswersArrayRead, AnswersOptionArrayRead, AnswersOptionRead, AnswersOptionWrite, AnswersRead, AnswersWrite, ReadFailure, Within, WriteFailure, payload_in, prefix, wire_text};
+
+use hex_codec::decode::{hex_decode_array_with_case, hex_decode_vec_with_case};
+use hex_codec::strings::prefixed_string;
+use hex_core::{CheckCase, Error};
+use serde_json::Value;
+use std::alloc::{Allocator, Global};
+use std::{error, fmt};
+
+/// An error of reading or writing bytes as a JSON text.
+///
+/// [`Display`](fmt::Display) prints exactly these texts:
+///
+/// | Case | Text |
+/// |---|---|
+/// | `NotText` | `expected a string` |
+/// | `InvalidPrefix` | `invalid prefix` |
+/// | `InvalidLength` | `invalid length` |
+/// | `OverBound` | `expected at most 2 decoded bytes, got 3` |
+/// | `Codec` | that of the [`Error`] |
+///
+/// ```rust
+/// use serde_json::Value;
+///
+/// let refused = faster_hex::deserialize(rt.alloc(), &Value::Null).err();
+/// assert_eq!(rt; refused, Some(AdapterError::NotText));
+/// ```
+#[derive(Clone, Copy, Debug, PartialEq, Eq)]
+pub enum AdapterError {
+    /// The value is no text.
+    NotText,
+    /// The text does not begin with `0x`, where the format asks for it.
+    InvalidPrefix,
+    /// The text has an odd number of bytes behind the prefix.
+    InvalidLength,
+    /// There are more digits than a bounded read takes.
+    OverBound {
+        /// How many bytes the read takes at most.
+        max: usize,
+        /// How many bytes the digits would decode to.
+        actual: usize,
+    },
+    /// A digit is refused, or memory, or a text's length. A place in it counts from the first
+    /// digit, without the prefix.
+    Codec(Error),
+}
+
+impl fmt::Display for AdapterError {
+    ghost output = { λ e. Some (adapter_error_text e) };
+
+    fn fmt<W: fmt::Write>(&self, f: &mut fmt::Formatter<W>) -> fmt::Result {
+        match self {
+            AdapterError::NotText => write!(f, "expected a string"),
+            AdapterError::InvalidPrefix => write!(f, "invalid prefix"),
+            AdapterError::InvalidLength => write!(f, "invalid length"),
+            AdapterError::OverBound { max, actual } => {
+                write!(f, "expected at most {max} decoded bytes, got {actual}")
+            }
+            AdapterError::Codec(e) => write!(f, "{e}"),
+        }
+    }
+}
+
+impl error::Error for AdapterError {}
+
+/// How bytes stand in a JSON text. Each of the six modules has one, which reads what it writes.
+///
+/// ```rust
+/// let format = WireFormat {
+///     prefixed: true,
+///     upper: true,
+///     case: CheckCase::Upper,
+/// };
+/// assert_eq!(rt; format, WireFormat::WITHPFX_UPPERCASE);
+/// ```
+#[derive(Clone, Copy, Debug, PartialEq, Eq)]
+pub struct WireFormat {
+    /// Whether `0x` stands before the digits.
+    pub prefixed: bool,
+    /// Whether digits are written in uppercase.
+    pub upper: bool,
+    /// Which letters are read.
+    pub case: CheckCase,
+}
+
+impl WireFormat {
+    /// The format of [`withpfx_ignorecase`](crate::withpfx_ignorecase).
+    pub const WITHPFX_IGNORECASE: WireFormat = WireFormat {
+        prefixed: true,
+        upper: false,
+        case: CheckCase::None,
+    };
+
+    /// The format of [`nopfx_ignorecase`](crate::nopfx_ignorecase).
+    pub const NOPFX_IGNORECASE: WireFormat = WireFormat {
+        prefixed: false,
+        upper: false,
+        case: CheckCase::None,
+    };
+
+    /// The format of [`withpfx_lowercase`](crate::withpfx_lowercase).
+    pub const WITHPFX_LOWERCASE: WireFormat = WireFormat {
+        prefixed: true,
+        upper: false,
+        case: CheckCase::Lower,
+    };
+
+    /// The format of [`nopfx_lowercase`](crate::nopfx_lowercase).
+    pub const NOPFX_LOWERCASE: WireFormat = WireFormat {
+        prefixed: false,
+        upper: false,
+        case: CheckCase::Lower,
+    };
+
+    /// The format of [`withpfx_uppercase`](crate::withpfx_uppercase).
+    pub const WITHPFX_UPPERCASE: WireFormat = WireFormat {
+        prefixed: true,
+        upper: true,
+        case: CheckCase::Upper,
+    };
+
+    /// The format of [`nopfx_uppercase`](crate::nopfx_uppercase).
+    pub const NOPFX_UPPERCASE: WireFormat = WireFormat {
+        prefixed: false,
+        upper: true,
+        case: CheckCase::Upper,
+    };
+
+    /// Returns what stands before the digits: `0x`, or nothing.
+    ///
+    /// ```rust
+    /// let prefix = WireFormat::WITHPFX_LOWERCASE.prefix();
+    /// assert_eq!(rt; prefix, b"0x".as_slice());
+    /// ```
+    pub fn prefix(self) -> &'static [u8]
+        ensures { result.now ≡ prefix self }
+    {
+        if self.prefixed { b"0x" } else { b"" }
+    }
+}
+
+// The payload of a value, an even number of bytes.
+fn payload_of(format: WireFormat, value: &Value) -> Result<&[u8], AdapterError>
+    ensures { MatchResult result
+        (λ payload. payload_in format (view value.now) ≡ Ok payload.now)
+        (λ e. payload_in format (view value.now) ≡ Err e) }
+{
+    let Some(text) = value.as_str() else {
+        return Err(AdapterError::NotText);
+    };
+    let Some(payload) = text.as_bytes().strip_prefix(format.prefix()) else {
+        return Err(AdapterError::InvalidPrefix);
+    };
+    if payload.len() % 2 == 1 {
+        return Err(AdapterError::InvalidLength);
+    }
+    Ok(payload)
+}
+
+// The payload of a value, of at most so many bytes where a bound is given.
+fn bounded_payload(
+    format: WireFormat,
+    max: Option<usize>,
+    value: &Value,
+) -> Result<&[u8], AdapterError>
+    ensures { MatchResult result
+        (λ payload. (payload_in format (view value.now) ≡ Ok payload.now)
+        × Within max (length payload.now / 2))
+        (λ e. ReadFailure format max (view value.now) e) }
+{
+    let payload = payload_of(format, value)?;
+    let actual = payload.len() / 2;
+    match max {
+        Some(max) if actual > max => Err(AdapterError::OverBound { max, actual }),
+        _ => Ok(payload),
+    }
+}
+
+/// Returns the bytes that the payload of a JSON text spells: the digits behind the format's prefix,
+/// two a byte. They are at most `max`, where that is given. The text itself is not copied.
+///
+/// An empty payload is read as no bytes, whatever the bound, and takes no memory. Any other takes
+/// memory once, for exactly the bytes.
+///
+/// # Errors
+///
+/// In this order:
+///
+/// 1. `NotText` where the value is no text;
+/// 2. `InvalidPrefix` where the text does not begin with the format's prefix;
+/// 3. `InvalidLength` where an odd number of bytes stands behind the prefix;
+/// 4. `OverBound` where more than `2 * max` bytes stand there, with `max` and half their number;
+/// 5. `Codec(OutOfMemory)` where the memory was refused;
+/// 6. `Codec(InvalidChar)` with the first byte that the format does not read, and its place,
+///    counted in bytes from the first digit.
+///
+/// ```rust
+/// use serde_json::Value;
+///
+/// let value = Value::from_str(rt.alloc(), r#""Ab01""#)?;
+/// let bytes = read(rt.alloc(), WireFormat::NOPFX_IGNORECASE, None, &value)?;
+/// assert_eq!(rt; bytes.as_slice(), [0xab, 1].as_slice());
+/// ```
+pub fn read<A: Allocator + Drop>(
+    alloc: A,
+    format: WireFormat,
+    max: Option<usize>,
+    value: &Value,
+) -> Result<Vec<u8, A>, AdapterError>
+    ensures { AnswersRead format max value.now result }
+{
+    let payload = bounded_payload(format, max, value)?;
+    hex_decode_vec_with_case(alloc, payload, format.case).map_err(AdapterError::Codec)
+}
+
+/// Returns the `N` bytes that the payload of a JSON text spells. No memory is taken.
+///
+/// # Errors
+///
+/// In this order:
+///
+/// 1. `NotText`, `InvalidPrefix` and `InvalidLength` as at [`read`];
+/// 2. `Codec(LengthMismatch)` where other than `2 * N` bytes stand behind the prefix, with `N` and
+///    half their number;
+/// 3. `Codec(InvalidChar)` as at [`read`].
+///
+/// ```rust
+/// use serde_json::Value;
+///
+/// let value = Value::from_str(rt.alloc(), r#""Ab01""#)?;
+/// let bytes = read_array(WireFormat::NOPFX_IGNORECASE, &value)?;
+/// assert_eq!(rt; bytes, [0xab, 1]);
+/// ```
+pub fn read_array<const N: usize>(
+    format: WireFormat,
+    value: &Value,
+) -> Result<[u8; N], AdapterError>
+    ensures { AnswersArrayRead format N value.now result }
+{
+    hex_decode_array_with_case(payload_of(format, value)?, format.case).map_err(AdapterError::Codec)
+}
+
+/// Reads `null` as none, and any other value as [`read`] does.
+///
+/// # Errors
+///
+/// Those of [`read`], in its order, and none for `null`.
+///
+/// ```rust
+/// use serde_json::Value;
+///
+/// let format = WireFormat::WITHPFX_IGNORECASE;
+/// assert!(rt; read_option(rt.alloc(), format, None, &Value::Null)?.is_none());
+/// ```
+pub fn read_option<A: Allocator + Drop>(
+    alloc: A,
+    format: WireFormat,
+    max: Option<usize>,
+    value: &Value,
+) -> Result<Option<Vec<u8, A>>, AdapterError>
+    ensures { AnswersOptionRead format max value.now result }
+{
+    if value.is_null() {
+        return Ok(None);
+    }
+    Ok(Some(read(alloc, format, max, value)?))
+}
+
+/// Reads `null` as none, and any other value as [`read_array`] does.
+///
+/// # Errors
+///
+/// Those of [`read_array`], in its order, and none for `null`.
+///
+/// ```rust
+/// use serde_json::Value;
+///
+/// let format = WireFormat::WITHPFX_IGNORECASE;
+/// assert_eq!(rt; read_option_array::<2>(format, &Value::Null), Ok(None));
+/// ```
+pub fn read_option_array<const N: usize>(
+    format: WireFormat,
+    value: &Value,
+) -> Result<Option<[u8; N]>, AdapterError>
+    ensures { AnswersOptionArrayRead format N value.now result }
+{
+    if value.is_null() {
+        return Ok(None);
+    }
+    Ok(Some(read_array(format, value)?))
+}
+
+/// Returns the text that a format writes for some bytes: its prefix, and two digits a byte.
+///
+/// Memory is taken at most once, for the text's exact length, and not at all where that is 0.
+///
+/// # Errors
+///
+/// In this order:
+///
+/// 1. `Codec(Overflow)` where the text's length is no `usize`;
+/// 2. `Codec(OutOfMemory)` where the memory was refused.
+///
+/// ```rust
+/// let text = text_of(rt.alloc(), WireFormat::WITHPFX_UPPERCASE, &[0xab, 1])?;
+/// assert_eq!(rt; text.as_str(), "0xAB01");
+/// ```
+#[tactic(auto, using(crate::proofs::AdapterLemmas::wire_length))]
+pub fn text_of<A: Allocator + Drop>(
+    alloc: A,
+    format: WireFormat,
+    src: &[u8],
+) -> Result<String<A>, AdapterError>
+    ensures { MatchResult result
+        (λ string. (length (wire_text format src.now) < 2 ^ 64)
+        × (string_bytes string ≡ wire_text format src.now))
+        (λ e. WriteFailure format src.now e) }
+{
+    prefixed_string(alloc, format.prefix(), src, format.upper).map_err(AdapterError::Codec)
+}
+
+/// Returns bytes as the JSON text that a format writes.
+///
+/// # Errors
+///
+/// Those of [`text_of`], which makes the text.
+///
+/// ```rust
+/// let value = write(rt.alloc(), WireFormat::WITHPFX_UPPERCASE, &[0xab, 1])?;
+/// assert_eq!(rt; value.as_str(), Some("0xAB01"));
+/// ```
+pub fn write(alloc: Global, format: WireFormat, src: &[u8]) -> Result<Value, AdapterError>
+    ensures { AnswersWrite format src.now result }
+{
+    Ok(Value::String(text_of(alloc, format, src)?))
+}
+
+/// Returns none as `null`, for which no memory is taken, and bytes as [`write`] does.
+///
+/// # Errors
+///
+/// Those of [`write`], and none for none.
+///
+/// ```rust
+/// let value = write_option(rt.alloc(), WireFormat::WITHPFX_UPPERCASE, None)?;
+/// assert!(rt; value.is_null());
+/// ```
+pub fn write_option(
+    alloc: Global,
+    format: WireFormat,
+    src: Option<&[u8]>,
+) -> Result<Value, AdapterError>
+    ensures { AnswersOptionWrite format (option_map (λ s. s.now) src.entry) result }
+{
+    match src {
+        Some(bytes) => write(alloc, format, bytes),
+        None => Ok(Value::Null),
+    }
+}

@@ -1,0 +1,369 @@
+//! The six modules of bytes or none, which is `null`.
+
+ghost use Rattle.std.specs.Prelude.{None, Some, option_map};
+ghost use Rattle.faster_hex.specs.Adapters.{AnswersOptionArrayRead, AnswersOptionRead, AnswersOptionWrite};
+ghost use Rattle.faster_hex.specs.WireFormats as wire;
+
+use crate::adapters::{AdapterError, WireFormat, read_option, read_option_array, write_option};
+use serde_json::Value;
+use std::alloc::Global;
+
+/// Bytes as [`withpfx_ignorecase`](crate::withpfx_ignorecase) reads and writes them, and none as `null`.
+///
+/// ```rust
+/// let value = option_withpfx_ignorecase::serialize(rt.alloc(), Some(&[0xab, 1]))?;
+/// assert_eq!(rt; value.as_str(), Some("0xab01"));
+/// let bytes = option_withpfx_ignorecase::deserialize(rt.alloc(), &value)?;
+/// assert!(rt; bytes.is_some_and(|bytes| bytes.as_slice() == [0xab, 1].as_slice()));
+/// let bounded = option_withpfx_ignorecase::deserialize_bounded::<2>(rt.alloc(), &value)?;
+/// assert!(rt; bounded.is_some());
+/// let value = option_withpfx_ignorecase::array::serialize(rt.alloc(), Some(&[0xab, 1]))?;
+/// let array = option_withpfx_ignorecase::array::deserialize(&value)?;
+/// assert_eq!(rt; array, Some([0xab, 1]));
+/// let none = option_withpfx_ignorecase::serialize(rt.alloc(), None)?;
+/// assert!(rt; none.is_null());
+/// assert!(rt; option_withpfx_ignorecase::deserialize(rt.alloc(), &none)?.is_none());
+/// ```
+pub mod option_withpfx_ignorecase {
+    use super::*;
+
+    /// Writes none as `null`, which takes no memory and has no error, and bytes as
+    /// [`withpfx_ignorecase::serialize`](crate::withpfx_ignorecase::serialize) does.
+    pub fn serialize(alloc: Global, src: Option<&[u8]>) -> Result<Value, AdapterError>
+        ensures { AnswersOptionWrite wire.withpfx_ignorecase (option_map (λ s. s.now) src.entry) result }
+    {
+        write_option(alloc, WireFormat::WITHPFX_IGNORECASE, src)
+    }
+
+    /// Reads `null` as none, and any other value as
+    /// [`withpfx_ignorecase::deserialize`](crate::withpfx_ignorecase::deserialize) does.
+    pub fn deserialize(alloc: Global, value: &Value) -> Result<Option<Vec<u8>>, AdapterError>
+        ensures { AnswersOptionRead wire.withpfx_ignorecase None value.now result }
+    {
+        read_option(alloc, WireFormat::WITHPFX_IGNORECASE, None, value)
+    }
+
+    /// Reads at most `MAX` bytes, and else as [`deserialize`] does.
+    pub fn deserialize_bounded<const MAX: usize>(
+        alloc: Global,
+        value: &Value,
+    ) -> Result<Option<Vec<u8>>, AdapterError>
+        ensures { AnswersOptionRead wire.withpfx_ignorecase (Some MAX) value.now result }
+    {
+        read_option(alloc, WireFormat::WITHPFX_IGNORECASE, Some(MAX), value)
+    }
+
+    /// The same text or `null`, read as an array or none.
+    pub mod array {
+        pub use super::serialize;
+        use super::*;
+
+        /// Reads `null` as none, and any other value as
+        /// [`withpfx_ignorecase::array::deserialize`](crate::withpfx_ignorecase::array::deserialize) does.
+        pub fn deserialize<const N: usize>(value: &Value) -> Result<Option<[u8; N]>, AdapterError>
+            ensures { AnswersOptionArrayRead wire.withpfx_ignorecase N value.now result }
+        {
+            read_option_array(WireFormat::WITHPFX_IGNORECASE, value)
+        }
+    }
+}
+
+/// Bytes as [`nopfx_ignorecase`](crate::nopfx_ignorecase) reads and writes them, and none as `null`.
+///
+/// ```rust
+/// let value = option_nopfx_ignorecase::serialize(rt.alloc(), Some(&[0xab, 1]))?;
+/// assert_eq!(rt; value.as_str(), Some("ab01"));
+/// let bytes = option_nopfx_ignorecase::deserialize(rt.alloc(), &value)?;
+/// assert!(rt; bytes.is_some_and(|bytes| bytes.as_slice() == [0xab, 1].as_slice()));
+/// let bounded = option_nopfx_ignorecase::deserialize_bounded::<2>(rt.alloc(), &value)?;
+/// assert!(rt; bounded.is_some());
+/// let value = option_nopfx_ignorecase::array::serialize(rt.alloc(), Some(&[0xab, 1]))?;
+/// let array = option_nopfx_ignorecase::array::deserialize(&value)?;
+/// assert_eq!(rt; array, Some([0xab, 1]));
+/// let none = option_nopfx_ignorecase::serialize(rt.alloc(), None)?;
+/// assert!(rt; none.is_null());
+/// assert!(rt; option_nopfx_ignorecase::deserialize(rt.alloc(), &none)?.is_none());
+/// ```
+pub mod option_nopfx_ignorecase {
+    use super::*;
+
+    /// Writes none as `null`, which takes no memory and has no error, and bytes as
+    /// [`nopfx_ignorecase::serialize`](crate::nopfx_ignorecase::serialize) does.
+    pub fn serialize(alloc: Global, src: Option<&[u8]>) -> Result<Value, AdapterError>
+        ensures { AnswersOptionWrite wire.nopfx_ignorecase (option_map (λ s. s.now) src.entry) result }
+    {
+        write_option(alloc, WireFormat::NOPFX_IGNORECASE, src)
+    }
+
+    /// Reads `null` as none, and any other value as
+    /// [`nopfx_ignorecase::deserialize`](crate::nopfx_ignorecase::deserialize) does.
+    pub fn deserialize(alloc: Global, value: &Value) -> Result<Option<Vec<u8>>, AdapterError>
+        ensures { AnswersOptionRead wire.nopfx_ignorecase None value.now result }
+    {
+        read_option(alloc, WireFormat::NOPFX_IGNORECASE, None, value)
+    }
+
+    /// Reads at most `MAX` bytes, and else as [`deserialize`] does.
+    pub fn deserialize_bounded<const MAX: usize>(
+        alloc: Global,
+        value: &Value,
+    ) -> Result<Option<Vec<u8>>, AdapterError>
+        ensures { AnswersOptionRead wire.nopfx_ignorecase (Some MAX) value.now result }
+    {
+        read_option(alloc, WireFormat::NOPFX_IGNORECASE, Some(MAX), value)
+    }
+
+    /// The same text or `null`, read as an array or none.
+    pub mod array {
+        pub use super::serialize;
+        use super::*;
+
+        /// Reads `null` as none, and any other value as
+        /// [`nopfx_ignorecase::array::deserialize`](crate::nopfx_ignorecase::array::deserialize) does.
+        pub fn deserialize<const N: usize>(value: &Value) -> Result<Option<[u8; N]>, AdapterError>
+            ensures { AnswersOptionArrayRead wire.nopfx_ignorecase N value.now result }
+        {
+            read_option_array(WireFormat::NOPFX_IGNORECASE, value)
+        }
+    }
+}
+
+/// Bytes as [`withpfx_lowercase`](crate::withpfx_lowercase) reads and writes them, and none as `null`.
+///
+/// ```rust
+/// let value = option_withpfx_lowercase::serialize(rt.alloc(), Some(&[0xab, 1]))?;
+/// assert_eq!(rt; value.as_str(), Some("0xab01"));
+/// let bytes = option_withpfx_lowercase::deserialize(rt.alloc(), &value)?;
+/// assert!(rt; bytes.is_some_and(|bytes| bytes.as_slice() == [0xab, 1].as_slice()));
+/// let bounded = option_withpfx_lowercase::deserialize_bounded::<2>(rt.alloc(), &value)?;
+/// assert!(rt; bounded.is_some());
+/// let value = option_withpfx_lowercase::array::serialize(rt.alloc(), Some(&[0xab, 1]))?;
+/// let array = option_withpfx_lowercase::array::deserialize(&value)?;
+/// assert_eq!(rt; array, Some([0xab, 1]));
+/// let none = option_withpfx_lowercase::serialize(rt.alloc(), None)?;
+/// assert!(rt; none.is_null());
+/// assert!(rt; option_withpfx_lowercase::deserialize(rt.alloc(), &none)?.is_none());
+/// ```
+pub mod option_withpfx_lowercase {
+    use super::*;
+
+    /// Writes none as `null`, which takes no memory and has no error, and bytes as
+    /// [`withpfx_lowercase::serialize`](crate::withpfx_lowercase::serialize) does.
+    pub fn serialize(alloc: Global, src: Option<&[u8]>) -> Result<Value, AdapterError>
+        ensures { AnswersOptionWrite wire.withpfx_lowercase (option_map (λ s. s.now) src.entry) result }
+    {
+        write_option(alloc, WireFormat::WITHPFX_LOWERCASE, src)
+    }
+
+    /// Reads `null` as none, and any other value as
+    /// [`withpfx_lowercase::deserialize`](crate::withpfx_lowercase::deserialize) does.
+    pub fn deserialize(alloc: Global, value: &Value) -> Result<Option<Vec<u8>>, AdapterError>
+        ensures { AnswersOptionRead wire.withpfx_lowercase None value.now result }
+    {
+        read_option(alloc, WireFormat::WITHPFX_LOWERCASE, None, value)
+    }
+
+    /// Reads at most `MAX` bytes, and else as [`deserialize`] does.
+    pub fn deserialize_bounded<const MAX: usize>(
+        alloc: Global,
+        value: &Value,
+    ) -> Result<Option<Vec<u8>>, AdapterError>
+        ensures { AnswersOptionRead wire.withpfx_lowercase (Some MAX) value.now result }
+    {
+        read_option(alloc, WireFormat::WITHPFX_LOWERCASE, Some(MAX), value)
+    }
+
+    /// The same text or `null`, read as an array or none.
+    pub mod array {
+        pub use super::serialize;
+        use super::*;
+
+        /// Reads `null` as none, and any other value as
+        /// [`withpfx_lowercase::array::deserialize`](crate::withpfx_lowercase::array::deserialize) does.
+        pub fn deserialize<const N: usize>(value: &Value) -> Result<Option<[u8; N]>, AdapterError>
+            ensures { AnswersOptionArrayRead wire.withpfx_lowercase N value.now result }
+        {
+            read_option_array(WireFormat::WITHPFX_LOWERCASE, value)
+        }
+    }
+}
+
+/// Bytes as [`nopfx_lowercase`](crate::nopfx_lowercase) reads and writes them, and none as `null`.
+///
+/// ```rust
+/// let value = option_nopfx_lowercase::serialize(rt.alloc(), Some(&[0xab, 1]))?;
+/// assert_eq!(rt; value.as_str(), Some("ab01"));
+/// let bytes = option_nopfx_lowercase::deserialize(rt.alloc(), &value)?;
+/// assert!(rt; bytes.is_some_and(|bytes| bytes.as_slice() == [0xab, 1].as_slice()));
+/// let bounded = option_nopfx_lowercase::deserialize_bounded::<2>(rt.alloc(), &value)?;
+/// assert!(rt; bounded.is_some());
+/// let value = option_nopfx_lowercase::array::serialize(rt.alloc(), Some(&[0xab, 1]))?;
+/// let array = option_nopfx_lowercase::array::deserialize(&value)?;
+/// assert_eq!(rt; array, Some([0xab, 1]));
+/// let none = option_nopfx_lowercase::serialize(rt.alloc(), None)?;
+/// assert!(rt; none.is_null());
+/// assert!(rt; option_nopfx_lowercase::deserialize(rt.alloc(), &none)?.is_none());
+/// ```
+pub mod option_nopfx_lowercase {
+    use super::*;
+
+    /// Writes none as `null`, which takes no memory and has no error, and bytes as
+    /// [`nopfx_lowercase::serialize`](crate::nopfx_lowercase::serialize) does.
+    pub fn serialize(alloc: Global, src: Option<&[u8]>) -> Result<Value, AdapterError>
+        ensures { AnswersOptionWrite wire.nopfx_lowercase (option_map (λ s. s.now) src.entry) result }
+    {
+        write_option(alloc, WireFormat::NOPFX_LOWERCASE, src)
+    }
+
+    /// Reads `null` as none, and any other value as
+    /// [`nopfx_lowercase::deserialize`](crate::nopfx_lowercase::deserialize) does.
+    pub fn deserialize(alloc: Global, value: &Value) -> Result<Option<Vec<u8>>, AdapterError>
+        ensures { AnswersOptionRead wire.nopfx_lowercase None value.now result }
+    {
+        read_option(alloc, WireFormat::NOPFX_LOWERCASE, None, value)
+    }
+
+    /// Reads at most `MAX` bytes, and else as [`deserialize`] does.
+    pub fn deserialize_bounded<const MAX: usize>(
+        alloc: Global,
+        value: &Value,
+    ) -> Result<Option<Vec<u8>>, AdapterError>
+        ensures { AnswersOptionRead wire.nopfx_lowercase (Some MAX) value.now result }
+    {
+        read_option(alloc, WireFormat::NOPFX_LOWERCASE, Some(MAX), value)
+    }
+
+    /// The same text or `null`, read as an array or none.
+    pub mod array {
+        pub use super::serialize;
+        use super::*;
+
+        /// Reads `null` as none, and any other value as
+        /// [`nopfx_lowercase::array::deserialize`](crate::nopfx_lowercase::array::deserialize) does.
+        pub fn deserialize<const N: usize>(value: &Value) -> Result<Option<[u8; N]>, AdapterError>
+            ensures { AnswersOptionArrayRead wire.nopfx_lowercase N value.now result }
+        {
+            read_option_array(WireFormat::NOPFX_LOWERCASE, value)
+        }
+    }
+}
+
+/// Bytes as [`withpfx_uppercase`](crate::withpfx_uppercase) reads and writes them, and none as `null`.
+///
+/// ```rust
+/// let value = option_withpfx_uppercase::serialize(rt.alloc(), Some(&[0xab, 1]))?;
+/// assert_eq!(rt; value.as_str(), Some("0xAB01"));
+/// let bytes = option_withpfx_uppercase::deserialize(rt.alloc(), &value)?;
+/// assert!(rt; bytes.is_some_and(|bytes| bytes.as_slice() == [0xab, 1].as_slice()));
+/// let bounded = option_withpfx_uppercase::deserialize_bounded::<2>(rt.alloc(), &value)?;
+/// assert!(rt; bounded.is_some());
+/// let value = option_withpfx_uppercase::array::serialize(rt.alloc(), Some(&[0xab, 1]))?;
+/// let array = option_withpfx_uppercase::array::deserialize(&value)?;
+/// assert_eq!(rt; array, Some([0xab, 1]));
+/// let none = option_withpfx_uppercase::serialize(rt.alloc(), None)?;
+/// assert!(rt; none.is_null());
+/// assert!(rt; option_withpfx_uppercase::deserialize(rt.alloc(), &none)?.is_none());
+/// ```
+pub mod option_withpfx_uppercase {
+    use super::*;
+
+    /// Writes none as `null`, which takes no memory and has no error, and bytes as
+    /// [`withpfx_uppercase::serialize`](crate::withpfx_uppercase::serialize) does.
+    pub fn serialize(alloc: Global, src: Option<&[u8]>) -> Result<Value, AdapterError>
+        ensures { AnswersOptionWrite wire.withpfx_uppercase (option_map (λ s. s.now) src.entry) result }
+    {
+        write_option(alloc, WireFormat::WITHPFX_UPPERCASE, src)
+    }
+
+    /// Reads `null` as none, and any other value as
+    /// [`withpfx_uppercase::deserialize`](crate::withpfx_uppercase::deserialize) does.
+    pub fn deserialize(alloc: Global, value: &Value) -> Result<Option<Vec<u8>>, AdapterError>
+        ensures { AnswersOptionRead wire.withpfx_uppercase None value.now result }
+    {
+        read_option(alloc, WireFormat::WITHPFX_UPPERCASE, None, value)
+    }
+
+    /// Reads at most `MAX` bytes, and else as [`deserialize`] does.
+    pub fn deserialize_bounded<const MAX: usize>(
+        alloc: Global,
+        value: &Value,
+    ) -> Result<Option<Vec<u8>>, AdapterError>
+        ensures { AnswersOptionRead wire.withpfx_uppercase (Some MAX) value.now result }
+    {
+        read_option(alloc, WireFormat::WITHPFX_UPPERCASE, Some(MAX), value)
+    }
+
+    /// The same text or `null`, read as an array or none.
+    pub mod array {
+        pub use super::serialize;
+        use super::*;
+
+        /// Reads `null` as none, and any other value as
+        /// [`withpfx_uppercase::array::deserialize`](crate::withpfx_uppercase::array::deserialize) does.
+        pub fn deserialize<const N: usize>(value: &Value) -> Result<Option<[u8; N]>, AdapterError>
+            ensures { AnswersOptionArrayRead wire.withpfx_uppercase N value.now result }
+        {
+            read_option_array(WireFormat::WITHPFX_UPPERCASE, value)
+        }
+    }
+}
+
+/// Bytes as [`nopfx_uppercase`](crate::nopfx_uppercase) reads and writes them, and none as `null`.
+///
+/// ```rust
+/// let value = option_nopfx_uppercase::serialize(rt.alloc(), Some(&[0xab, 1]))?;
+/// assert_eq!(rt; value.as_str(), Some("AB01"));
+/// let bytes = option_nopfx_uppercase::deserialize(rt.alloc(), &value)?;
+/// assert!(rt; bytes.is_some_and(|bytes| bytes.as_slice() == [0xab, 1].as_slice()));
+/// let bounded = option_nopfx_uppercase::deserialize_bounded::<2>(rt.alloc(), &value)?;
+/// assert!(rt; bounded.is_some());
+/// let value = option_nopfx_uppercase::array::serialize(rt.alloc(), Some(&[0xab, 1]))?;
+/// let array = option_nopfx_uppercase::array::deserialize(&value)?;
+/// assert_eq!(rt; array, Some([0xab, 1]));
+/// let none = option_nopfx_uppercase::serialize(rt.alloc(), None)?;
+/// assert!(rt; none.is_null());
+/// assert!(rt; option_nopfx_uppercase::deserialize(rt.alloc(), &none)?.is_none());
+/// ```
+pub mod option_nopfx_uppercase {
+    use super::*;
+
+    /// Writes none as `null`, which takes no memory and has no error, and bytes as
+    /// [`nopfx_uppercase::serialize`](crate::nopfx_uppercase::serialize) does.
+    pub fn serialize(alloc: Global, src: Option<&[u8]>) -> Result<Value, AdapterError>
+        ensures { AnswersOptionWrite wire.nopfx_uppercase (option_map (λ s. s.now) src.entry) result }
+    {
+        write_option(alloc, WireFormat::NOPFX_UPPERCASE, src)
+    }
+
+    /// Reads `null` as none, and any other value as
+    /// [`nopfx_uppercase::deserialize`](crate::nopfx_uppercase::deserialize) does.
+    pub fn deserialize(alloc: Global, value: &Value) -> Result<Option<Vec<u8>>, AdapterError>
+        ensures { AnswersOptionRead wire.nopfx_uppercase None value.now result }
+    {
+        read_option(alloc, WireFormat::NOPFX_UPPERCASE, None, value)
+    }
+
+    /// Reads at most `MAX` bytes, and else as [`deserialize`] does.
+    pub fn deserialize_bounded<const MAX: usize>(
+        alloc: Global,
+        value: &Value,
+    ) -> Result<Option<Vec<u8>>, AdapterError>
+        ensures { AnswersOptionRead wire.nopfx_uppercase (Some MAX) value.now result }
+    {
+        read_option(alloc, WireFormat::NOPFX_UPPERCASE, Some(MAX), value)
+    }
+
+    /// The same text or `null`, read as an array or none.
+    pub mod array {
+        pub use super::serialize;
+        use super::*;
+
+        /// Reads `null` as none, and any other value as
+        /// [`nopfx_uppercase::array::deserialize`](crate::nopfx_uppercase::array::deserialize) does.
+        pub fn deserialize<const N: usize>(value: &Value) -> Result<Option<[u8; N]>, AdapterError>
+            ensures { AnswersOptionArrayRead wire.nopfx_uppercase N value.now result }
+        {
+            read_option_array(WireFormat::NOPFX_UPPERCASE, value)
+        }
+    }
+}

@@ -1,0 +1,199 @@
+//! Digest lists: a line for each entry, of the digits of its digest, its mark and its name.
+
+ghost use Rattle.std.specs.Prelude.{◌≡◌, ◌≢◌, ◌≤◌, ◌*◌, ◌==◌, ◌&&◌, ◌||◌, false, [], None, Some, MatchOption, MatchResult, length, take};
+ghost use Rattle.hex_core.specs.Calls.{Answers};
+ghost use Rattle.hex_core.specs.Search.{first_invalid};
+ghost use Rattle.hex_format.specs.Lists.{LineIs, Lists, ReadFailureAt, fault_in, line_fault, mark};
+ghost use Rattle.hex_format.specs.ListCalls.{ReadsList};
+
+use crate::lines::line_end;
+pub use crate::writing::{ListWriteFault, write_to};
+use hex_core::{Backend, CheckCase};
+use std::alloc::{Allocator, Global};
+
+/// One line of a list.
+#[derive(Clone, Copy, Debug, PartialEq, Eq)]
+pub struct Entry<'a, const N: usize> {
+    /// The digest.
+    pub digest: [u8; N],
+    /// Whether the mark is `*`, which says that the file was read as binary; else it is a space.
+    pub binary: bool,
+    /// The file's name. One that was read has one byte or more, and no newline, and [`write_to`]
+    /// refuses any other. No other byte means anything here, so a carriage return before the newline
+    /// belongs to the name.
+    pub name: &'a [u8],
+}
+
+/// What is wrong with a line, the first of these that is.
+#[derive(Clone, Copy, Debug, PartialEq, Eq)]
+pub enum LineFault {
+    /// The line is too short for the digits, a space, a mark and a name: without its newline it has
+    /// fewer than `2 * N + 3` bytes.
+    ShortLine,
+    /// A byte among the digits is none, or a letter whose case the policy does not read.
+    InvalidByte {
+        /// The place of the first such byte in the line, from 0, in bytes.
+        index: usize,
+        /// That byte.
+        byte: u8,
+    },
+    /// The byte behind the digits is no space, or the next one is neither a space nor `*`.
+    BadMark,
+}
+
+/// Why a list was not read.
+#[derive(Clone, Copy, Debug, PartialEq, Eq)]
+pub enum ListFault {
+    /// A line is not one of a list.
+    Line {
+        /// The number of the first such line, from 1.
+        line: usize,
+        /// What is wrong with it.
+        why: LineFault,
+    },
+    /// Memory for the entries was refused.
+    OutOfMemory,
+}
+
+/// Returns the entries of a list, in the order of its lines, in memory of the global allocator.
+///
+/// Each line is `2 * N` digits, a space, then a space or `*`, a name and a newline, which the last
+/// line may lack. The digits' letters are those that `case` reads. An empty source is the list of
+/// no entries. The names are slices of `src`.
+///
+/// # Errors
+///
+/// The lines are read in their order, and the first event ends the call:
+///
+/// - [`ListFault::Line`] for a line that is none of a list, with its number and its first fault;
+/// - [`ListFault::OutOfMemory`] where memory for an entry was refused. It is asked for only after
+///   the entry's line was read without a fault.
+///
+/// ```rust
+/// let list = b"ab01  a.txt\nCD02 *b\n";
+/// let entries = read::<2>(rt.alloc(), list, CheckCase::None)?;
+/// assert_eq!(rt; entries.len(), 2);
+/// assert_eq!(rt; entries[1].digest, [0xcd, 2]);
+/// assert_eq!(rt; entries[1].name, b"b".as_slice());
+/// let refused = read::<2>(rt.alloc(), list, CheckCase::Lower).err();
+/// let why = LineFault::InvalidByte {
+///     index: 0,
+///     byte: b'C',
+/// };
+/// assert_eq!(rt; refused, Some(ListFault::Line { line: 2, why }));
+/// ```
+pub fn read<'a, const N: usize>(
+    alloc: Global,
+    src: &'a [u8],
+    case: CheckCase,
+) -> Result<Vec<Entry<'a, N>>, ListFault>
+    ensures { ReadsList case N src.entry.now result }
+{
+    read_in(alloc, src, case)
+}
+
+/// Returns the entries of a list as [`read`] does, in memory of any allocator.
+///
+/// # Errors
+///
+/// Those of [`read`], at the same events.
+///
+/// ```rust
+/// let entries = read_in::<_, 0>(rt.alloc(), b"  x", CheckCase::None)?;
+/// assert_eq!(rt; entries[0].name, b"x".as_slice());
+/// ```
+pub fn read_in<'a, A: Allocator + Drop, const N: usize>(
+    alloc: A,
+    src: &'a [u8],
+    case: CheckCase,
+) -> Result<Vec<Entry<'a, N>, A>, ListFault>
+    ensures { ReadsList case N src.entry.now result }
+{
+    let mut entries = Vec::new(alloc);
+    read_lines(&mut entries, src, case)?;
+    Ok(entries)
+}
+
+// Reads the lines of a source. Those that were read before an error stay.
+fn read_lines<'a, A: Allocator, const N: usize>(
+    entries: &mut Vec<Entry<'a, N>, A>,
+    src: &'a [u8],
+    case: CheckCase,
+) -> Result<(), ListFault>
+    requires { entries.old.items ≡ [] }
+    ensures { MatchResult result
+        (λ _. Lists case src.entry.now entries.new.items)
+        (λ e. ReadFailureAt case N src.entry.now (length entries.new.items) e) }
+{
+    let mut at = 0;
+    let mut line = 1;
+    while at < src.len() {
+        let rest = &src[at..];
+        let end = line_end(rest);
+        match read_line(&rest[..end], case) {
+            Ok(entry) => {
+                if entries.push(entry).is_err() {
+                    return Err(ListFault::OutOfMemory);
+                }
+            }
+            Err(why) => return Err(ListFault::Line { line, why }),
+        }
+        line += 1;
+        at += end + 1;
+    }
+    Ok(())
+}
+
+// Reads one line, without its newline.
+fn read_line<'a, const N: usize>(line: &'a [u8], case: CheckCase) -> Result<Entry<'a, N>, LineFault>
+    ensures { Answers (line_fault case N line.entry.now) (λ e. LineIs case line.entry.now e) result }
+{
+    // No product is formed before the line is known to be as long.
+    if line.len().saturating_sub(1) / 2 <= N {
+        return Err(LineFault::ShortLine);
+    }
+    let mut digest = [0; N];
+    if !Backend::plain().decode(&line[..2 * N], &mut digest, case) {
+        return Err(invalid_digit::<N>(line, case));
+    }
+    match mark_in(line[2 * N], line[2 * N + 1]) {
+        None => Err(LineFault::BadMark),
+        Some(binary) => Ok(Entry {
+            digest,
+            binary,
+            name: &line[2 * N + 2..],
+        }),
+    }
+}
+
+// The first invalid byte among a line's digits, of which one is invalid.
+#[cold]
+fn invalid_digit<const N: usize>(line: &[u8], case: CheckCase) -> LineFault
+    requires long { 2 * N ≤ length line.now }
+    requires some { first_invalid case (take (2 * N) line.now) ≢ None }
+    ensures { fault_in N line.now (first_invalid case (take (2 * N) line.now)) ≡ Some result }
+{
+    let index = Backend::plain()
+        .first_invalid(&line[..2 * N], case)
+        .unwrap();
+    LineFault::InvalidByte {
+        index,
+        byte: line[index],
+    }
+}
+
+// Whether two bytes behind some digits say that a file is binary, where they are a space and a mark.
+fn mark_in(space: u8, next: u8) -> Option<bool>
+    ensures { MatchOption result
+        ((space == 32 && (next == 32 || next == 42)) ≡ false)
+        (λ binary. (space ≡ 32) × (next ≡ mark binary)) }
+{
+    if space != b' ' {
+        return None;
+    }
+    match next {
+        b' ' => Some(false),
+        b'*' => Some(true),
+        _ => None,
+    }
+}

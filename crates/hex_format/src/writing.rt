@@ -1,0 +1,169 @@
+//! Writing digest lists.
+
+ghost use Rattle.std.specs.Prelude.{◌≡◌, ◌+◌, ◌-◌, ◌*◌, ◌^◌, ◌<◌, ◌≤◌, ◌++◌, ◌∷◌, [], length};
+ghost use Rattle.hex_core.specs.Text.{text};
+ghost use Rattle.hex_format.specs.Sink.{Puts};
+ghost use Rattle.hex_format.specs.ListCalls.{WritesList};
+ghost use Rattle.hex_format.specs.Lists.{first_bad_name, is_bad_name, line_of, list_of, mark};
+
+use crate::digests::Entry;
+use crate::{Hex, HexFlags, Sink, WriteFault, put_all};
+use hex_core::Backend;
+
+// Up to how many bytes a digest has whose digits and mark are put at once.
+const SHORT: usize = 64;
+
+/// Why a list was not written to its end.
+#[derive(Clone, Copy, Debug, PartialEq, Eq)]
+pub enum ListWriteFault {
+    /// A name is empty or holds a newline, so no line of a list can end with it.
+    BadName {
+        /// The place of the first entry with such a name, from 0.
+        entry: usize,
+    },
+    /// A put failed.
+    Write(WriteFault),
+}
+
+/// Puts the list of some entries into `sink`: for each one the digits of its digest, a space, its
+/// mark, its name and a newline. The digits' letters are in the case that `upper` says.
+///
+/// At `Ok` the sink has taken exactly the list more, and has counted no failure. No memory is
+/// taken, and number and size of the puts are open. [`read`](crate::digests::read) reads what was
+/// written as the same entries, under the policy of its case or either.
+///
+/// # Errors
+///
+/// - [`ListWriteFault::BadName`] exactly where some name is empty or holds a newline, with the first
+///   such entry; nothing is put then;
+/// - [`ListWriteFault::Write`] where a put failed, which ends the call at once. The sink has then
+///   taken a beginning of the list, and has counted one failure more.
+///
+/// ```rust
+/// use hex_format::digests::{Entry, ListWriteFault, write_to};
+///
+/// let mut buffer = [0; 8];
+/// let mut sink = SliceSink::new(&mut buffer);
+/// let entry = Entry {
+///     digest: [0xab, 1],
+///     binary: true,
+///     name: b"b",
+/// };
+/// write_to(&[entry], &mut sink, true)?;
+/// assert_eq!(rt; sink.written(), b"AB01 *b\n".as_slice());
+///
+/// for name in [b"".as_slice(), b"\n", b"a\n", b"a\nb"] {
+///     let bad = Entry { name, ..entry };
+///     let mut room = [0; 40];
+///     let mut sink = SliceSink::new(&mut room);
+///     let first = write_to(&[bad], &mut sink, false);
+///     let second = write_to(&[entry, bad], &mut sink, false);
+///     let third = write_to(&[entry, entry, bad, bad], &mut sink, false);
+///     assert_eq!(rt; first, Err(ListWriteFault::BadName { entry: 0 }));
+///     assert_eq!(rt; second, Err(ListWriteFault::BadName { entry: 1 }));
+///     assert_eq!(rt; third, Err(ListWriteFault::BadName { entry: 2 }));
+///     assert!(rt; sink.written().is_empty() && sink.failures() == 0);
+/// }
+/// ```
+pub fn write_to<S: Sink, const N: usize>(
+    entries: &[Entry<'_, N>],
+    sink: &mut S,
+    upper: bool,
+) -> Result<(), ListWriteFault>
+    requires { (S.state sink.old).failures < 2 ^ 64 - 1 }
+    ensures { WritesList upper entries.now (S.state sink.old) (S.state sink.new) result }
+{
+    if let Some(entry) = bad_name(entries) {
+        return Err(ListWriteFault::BadName { entry });
+    }
+    put_lines(entries, sink, upper).map_err(ListWriteFault::Write)
+}
+
+// Whether no line of a list can end with a name.
+fn is_bad(name: &[u8]) -> bool
+    ensures { result ≡ is_bad_name name.now }
+{
+    name.is_empty() || name.contains(&b'\n')
+}
+
+// The first entry with a bad name.
+fn bad_name<const N: usize>(entries: &[Entry<'_, N>]) -> Option<usize>
+    ensures { result ≡ first_bad_name entries.now }
+{
+    'entries: for i in 0..entries.len() {
+        if is_bad(entries[i].name) {
+            return Some(i);
+        }
+    }
+    None
+}
+
+// The mark of an entry.
+fn mark_of(binary: bool) -> u8
+    ensures { result ≡ mark binary }
+{
+    if binary { b'*' } else { b' ' }
+}
+
+// Writes the text of a digest, a space and the mark into the front of the buffer, and returns it.
+fn front_text<'b>(digest: &[u8], binary: bool, upper: bool, buffer: &'b mut [u8]) -> &'b [u8]
+    requires { 2 * length digest.now + 2 ≤ length buffer.old }
+    ensures { result.now ≡ text upper digest.now ++ (32 ∷ mark binary ∷ []) }
+{
+    let end = 2 * digest.len();
+    Backend::plain().encode(digest, &mut buffer[..end], upper);
+    buffer[end..end + 2].copy_from_slice(&[b' ', mark_of(binary)]);
+    &buffer[..end + 2]
+}
+
+// Puts the text of a digest, a space and the mark: one put where the digest is short.
+fn put_front<S: Sink>(
+    digest: &[u8],
+    binary: bool,
+    sink: &mut S,
+    upper: bool,
+) -> Result<(), WriteFault>
+    requires { (S.state sink.old).failures < 2 ^ 64 - 1 }
+    ensures { Puts (S.state sink.old) (S.state sink.new) result
+        (text upper digest.now ++ (32 ∷ mark binary ∷ [])) }
+{
+    if digest.len() <= SHORT {
+        let mut buffer = [0; 2 * SHORT + 2];
+        return put_all(sink, front_text(digest, binary, upper, &mut buffer));
+    }
+    let flags = HexFlags {
+        upper,
+        ..HexFlags::default()
+    };
+    Hex::new(digest).write_to(sink, &flags)?;
+    put_all(sink, &[b' ', mark_of(binary)])
+}
+
+// Puts an entry's line, with its newline.
+fn put_line<S: Sink, const N: usize>(
+    entry: &Entry<'_, N>,
+    sink: &mut S,
+    upper: bool,
+) -> Result<(), WriteFault>
+    requires { (S.state sink.old).failures < 2 ^ 64 - 1 }
+    ensures { Puts (S.state sink.old) (S.state sink.new) result (line_of upper entry.now ++ (10 ∷ [])) }
+{
+    put_front(&entry.digest, entry.binary, sink, upper)?;
+    put_all(sink, entry.name)?;
+    put_all(sink, b"\n")
+}
+
+// Puts the line of each entry.
+fn put_lines<S: Sink, const N: usize>(
+    entries: &[Entry<'_, N>],
+    sink: &mut S,
+    upper: bool,
+) -> Result<(), WriteFault>
+    requires { (S.state sink.old).failures < 2 ^ 64 - 1 }
+    ensures { Puts (S.state sink.old) (S.state sink.new) result (list_of upper entries.now) }
+{
+    for entry in entries {
+        put_line(entry, sink, upper)?;
+    }
+    Ok(())
+}

@@ -1,5 +1,0 @@
-mod EntryLemmas
-mod FaultLemmas
-mod LineLemmas
-mod NameLemmas
-mod ReadBack

@@ -1,0 +1,163 @@
+//! An allocator for tests: it grants as many allocations as a test allows, and refuses each later
+//! one.
+//!
+//! A test lends it to what is tested, as `&alloc`. One handle then serves each collection of the
+//! test, and can be asked afterwards how many allocations were made.
+
+use std::alloc::{AllocError, Allocator};
+use std::cell::Cell;
+
+/// Passes the first `left` allocations on to `inner` and refuses each later one, or, made by
+/// [`once`](Refusing::once), the next one alone.
+///
+/// Each block that a collection takes counts as one allocation: its first one, each larger one that
+/// it grows into, and each smaller one that it shrinks into. To give a block back counts as none,
+/// and is never refused.
+///
+/// ```rust
+/// let alloc = Refusing::new(rt.alloc(), 0);
+/// let mut bytes = Vec::new(&alloc);
+/// assert!(rt; bytes.push(7u8).is_err() && bytes.is_empty());
+/// assert_eq!(rt; (alloc.left(), alloc.asked()), (0, 1));
+/// alloc.set_left(2);
+/// bytes.push(7)?;
+/// assert_eq!(rt; bytes.len(), 1);
+/// assert_eq!(rt; (alloc.left(), alloc.asked()), (1, 2));
+/// ```
+#[derive(Drop)]
+pub struct Refusing<B: Allocator> {
+    inner: B,
+    counts: Counts,
+}
+
+// One struct and not two fields of `Refusing`, so that one borrow reaches both counts.
+#[derive(Drop)]
+struct Counts {
+    left: Cell<u64>,
+    asked: Cell<u64>,
+    // How many it grants behind one that it refuses.
+    behind: u64,
+}
+
+impl<B: Allocator> Refusing<B> {
+    /// An allocator that grants `left` allocations, whose memory `inner` gives.
+    ///
+    /// ```rust
+    /// let alloc = Refusing::new(rt.alloc(), 1);
+    /// let _ = String::with_capacity(&alloc, 9)?;
+    /// assert_eq!(rt; (alloc.left(), alloc.asked()), (0, 1));
+    /// assert!(rt; String::with_capacity(&alloc, 9).is_err());
+    /// assert_eq!(rt; (alloc.left(), alloc.asked()), (0, 2));
+    /// let _ = String::with_capacity(&alloc, 0)?;
+    /// assert_eq!(rt; (alloc.left(), alloc.asked()), (0, 2));
+    /// ```
+    pub fn new(inner: B, left: u64) -> Refusing<B> {
+        Refusing::with_behind(inner, left, 0)
+    }
+
+    /// An allocator that grants `left` allocations, refuses one, and grants those behind it.
+    ///
+    /// ```rust
+    /// let alloc = Refusing::once(rt.alloc(), 1);
+    /// let _ = String::with_capacity(&alloc, 9)?;
+    /// assert!(rt; String::with_capacity(&alloc, 9).is_err());
+    /// let _ = String::with_capacity(&alloc, 9)?;
+    /// let _ = String::with_capacity(&alloc, 9)?;
+    /// assert_eq!(rt; alloc.asked(), 4);
+    /// ```
+    pub fn once(inner: B, left: u64) -> Refusing<B> {
+        Refusing::with_behind(inner, left, u64::MAX)
+    }
+
+    // One that grants `left` allocations, and after each that it refuses `behind` more.
+    fn with_behind(inner: B, left: u64, behind: u64) -> Refusing<B> {
+        Refusing {
+            inner,
+            counts: Counts {
+                left: Cell::new(left),
+                asked: Cell::new(0),
+                behind,
+            },
+        }
+    }
+
+    /// How many allocations it still grants.
+    ///
+    /// It falls by one with each that is granted, also where `inner` then has no memory. So the
+    /// difference of two answers is the number granted between them.
+    ///
+    /// ```rust
+    /// let alloc = Refusing::new(rt.alloc(), 3);
+    /// let mut bytes = Vec::with_capacity(&alloc, 1)?;
+    /// let mut text = String::from_str(&alloc, "ab")?;
+    /// bytes.push(1u8)?;
+    /// assert_eq!(rt; alloc.left(), 1);
+    /// bytes.push(2)?;
+    /// assert_eq!(rt; alloc.left(), 0);
+    /// ```
+    pub fn left(&self) -> u64 {
+        self.counts.left.get()
+    }
+
+    /// From now on grants `left` allocations and refuses the rest.
+    ///
+    /// ```rust
+    /// let alloc = Refusing::new(rt.alloc(), 2);
+    /// let bytes = Vec::<u8, _>::with_capacity(&alloc, 2)?;
+    /// let mut text = String::from_str(&alloc, "ab")?;
+    /// let long = "more than there is room for, however much a text takes at once";
+    /// assert!(rt; text.push_str(long).is_err() && text.as_str() == "ab");
+    /// alloc.set_left(1);
+    /// text.push_str(long)?;
+    /// assert_eq!(rt; (text.len(), bytes.len()), (64, 0));
+    /// assert_eq!(rt; (alloc.left(), alloc.asked()), (0, 4));
+    /// ```
+    pub fn set_left(&self, left: u64) {
+        self.counts.left.set(left);
+    }
+
+    /// How many allocations it was asked for since it was made, those that it refused among them.
+    ///
+    /// ```rust
+    /// let alloc = Refusing::new(rt.alloc(), 1);
+    /// let mut bytes = Vec::with_capacity(&alloc, 9)?;
+    /// bytes.push(7u8)?;
+    /// bytes.shrink_to_fit();
+    /// assert_eq!(rt; (bytes.capacity(), alloc.asked()), (9, 2));
+    /// alloc.set_left(1);
+    /// bytes.shrink_to_fit();
+    /// assert_eq!(rt; (bytes.capacity(), alloc.asked()), (1, 3));
+    /// assert_eq!(rt; (bytes.len(), alloc.left()), (1, 0));
+    /// ```
+    pub fn asked(&self) -> u64 {
+        self.counts.asked.get()
+    }
+}
+
+// Counts one allocation that is asked for, and returns whether it is granted.
+fn grants(counts: &Counts) -> bool {
+    // No clause knows what a cell holds, so a plain `+` could not be shown to fit.
+    counts.asked.set(counts.asked.get().saturating_add(1));
+    let left = counts.left.get();
+    counts
+        .left
+        .set(left.checked_sub(1).unwrap_or(counts.behind));
+    left > 0
+}
+
+// `grow` and `shrink` are the trait's own, which call `allocate`: those of `inner` would grow a
+// block with no count.
+unsafe impl<B: Allocator> Allocator for Refusing<B> {
+    ghost dealloc_token = { λ heap ty ptr. B.dealloc_token heap.inner ty ptr };
+
+    fn allocate(&self, size: usize, align: usize) -> Result<*mut u8, AllocError> {
+        if !grants(&self.counts) {
+            return Err(AllocError);
+        }
+        self.inner.allocate(size, align)
+    }
+
+    unsafe fn deallocate(&self, ptr: *mut u8, size: usize, align: usize) {
+        self.inner.deallocate(ptr, size, align);
+    }
+}
