@@ -10,8 +10,9 @@
  * - Calls may run in many threads at once, over one source too, where no destination overlaps what
  *   another call reads or writes. No call keeps a pointer, takes memory or has a state.
  * - The library asks for no symbol but memcpy, memmove and memset, and may be part of a shared one.
- * - The answer says all that can go wrong. After a refusal the destination is as it was, and else
- *   what stands behind the written bytes is. The stack has to have room for the call.
+ * - The answer says all that can go wrong. A call that refuses writes nothing. Any other writes to the
+ *   front of the destination, and the bytes behind that stay as they were.
+ * - The stack has to have room for the call.
  *
  * What a call answers and writes is proved where `len` and `room` are below 2^63. That encoding answers
  * FASTER_HEX_OVERFLOW from there on, and that all calls stay inside source and destination, take no
@@ -30,7 +31,8 @@
 #define FASTER_HEX_VERSION "1.0.0"
 
 /* How many digits n bytes have, and how many bytes n digits spell. As constants they give the length
- * of an array. Above SIZE_MAX / 2 bytes the former is no size_t, and the call answers so. */
+ * of an array. Twice a number above SIZE_MAX / 2 is too large for a size_t, and the macro wraps around:
+ * for as many bytes faster_hex_encode answers FASTER_HEX_OVERFLOW. */
 #define FASTER_HEX_ENCODED_LEN(n) ((size_t)2 * (n))
 #define FASTER_HEX_DECODED_LEN(n) ((size_t)(n) / 2)
 
