@@ -22,8 +22,8 @@ use Rattle.hex_core.specs.contracts.digit.CheckCase as CC
 use Rattle.hex_core.proofs.digit.CheckCase.TheLaws as CL
 use Rattle.hex_core.specs.contracts.error.Error as ER
 use Rattle.hex_core.proofs.error.Error.TheLaws as EL
-use Rattle.hex_core.specs.contracts.plan.Backend as BA
-use Rattle.hex_core.proofs.plan.Backend.TheLaws as BL
+use Rattle.hex_core.specs.contracts.backend.Backend as BA
+use Rattle.hex_core.proofs.backend.Backend.TheLaws as BL
 use Rattle.hex_core.specs.declared.digit.CheckCase.TheVariants as policy
 use Rattle.hex_core.specs.declared.error.Error.{Error}
 

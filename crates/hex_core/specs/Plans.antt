@@ -1,9 +1,9 @@
 -- The plans by name.
 use Rattle.std.specs.Prelude.{◌≡◌, ℕ, ◌*◌, ◌/◌, List, [], ◌∷◌, ◌||◌, if◌then◌else◌, take, unwrap_or, option_map, bytes_eq, codes}
 use Rattle.hex_core.specs.declared.digit.CheckCase.{CheckCase}
-use Rattle.hex_core.specs.declared.plan.Backend.{Backend}
-use Rattle.hex_core.specs.declared.kind.Kind.{Kind}
-use Rattle.hex_core.specs.declared.kind.Kind.TheVariants.{Scalar, Sse41, Avx2, Avx512, Neon, Plain}
+use Rattle.hex_core.specs.declared.backend.Backend.{Backend}
+use Rattle.hex_core.specs.declared.backend.Kind.{Kind}
+use Rattle.hex_core.specs.declared.backend.Kind.TheVariants.{Scalar, Sse41, Avx2, Avx512, Neon, Plain}
 use Rattle.hex_core.specs.Search.{first_invalid}
 use Rattle.hex_core.specs.Text.{Spells, with_front}
 

@@ -3,7 +3,7 @@
 ghost use Rattle.std.specs.Prelude.{◌≡◌};
 
 use crate::digit::CheckCase;
-use crate::lanes::first_letter;
+use crate::digit_lanes::first_letter;
 
 /// Returns 0, which the compiler knows only where it knows the policy. Else it sees an entry of a table,
 /// and does not ask whether all entries give 0.

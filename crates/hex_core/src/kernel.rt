@@ -12,7 +12,7 @@ ghost use Rattle.hex_core.specs.Shapes.{Halves, HasBlock, HasRoom};
 ghost use Rattle.hex_core.specs.Text.{Spells, text};
 
 use crate::digit::CheckCase;
-use crate::lanes::encoded;
+use crate::digit_lanes::encoded;
 use crate::nibbles::{Marks, Nibbles};
 use crate::vector::{Interleave, Lanes, LookUp, Pack, has_no_sign};
 use std::simd::prelude::*;
@@ -31,7 +31,7 @@ where
 
 /// Returns whether every byte of a block or more has a value under `case`.
 #[inline(never)]
-pub fn check<M, const N: usize>(src: &[u8], case: CheckCase) -> bool
+pub fn check_blocks<M, const N: usize>(src: &[u8], case: CheckCase) -> bool
 where
     M: Marks<N>,
     requires { HasBlock N src.now }
@@ -116,12 +116,16 @@ where
     }
 }
 
-// How many blocks are written in a turn. Numbers that the compiler knows are read once a turn.
-const TURN: usize = 4;
+// How many blocks are written in a run. Numbers that the compiler knows are read once a turn.
+const WRITE_RUN: usize = 4;
 
 /// Writes the bytes that a block or more of valid digits spells over the whole of `dst`.
 #[inline(never)]
-pub fn write<M, const N: usize, const HALF: usize>(src: &[u8], dst: &mut [u8], case: CheckCase)
+pub fn write_blocks<M, const N: usize, const HALF: usize>(
+    src: &[u8],
+    dst: &mut [u8],
+    case: CheckCase,
+)
 where
     M: Nibbles<N>,
     Lanes: Pack<N, HALF>,
@@ -131,9 +135,9 @@ where
     ensures { Spells case src.now dst.new }
 {
     let mut at = 0;
-    'turns: while dst.len() - at >= TURN * HALF {
-        write_run::<M, N, HALF>(src, dst, at, TURN, case);
-        at += TURN * HALF;
+    'turns: while dst.len() - at >= WRITE_RUN * HALF {
+        write_run::<M, N, HALF>(src, dst, at, WRITE_RUN, case);
+        at += WRITE_RUN * HALF;
     }
     let rest = (dst.len() - at) / HALF;
     write_run::<M, N, HALF>(src, dst, at, rest, case);
@@ -146,7 +150,7 @@ where
 /// Decodes a block or more over the whole of `dst`, or returns false and writes nothing: all is checked
 /// before the first store.
 #[inline(always)]
-pub fn decode<M, const N: usize, const HALF: usize>(
+pub fn decode_blocks<M, const N: usize, const HALF: usize>(
     src: &[u8],
     dst: &mut [u8],
     case: CheckCase,
@@ -158,9 +162,9 @@ where
     requires block { HasBlock N src.now }
     ensures { DecodesWhole case src.now dst.old dst.new result }
 {
-    let valid = check::<M, N>(src, case);
+    let valid = check_blocks::<M, N>(src, case);
     if valid {
-        write::<M, N, HALF>(src, dst, case);
+        write_blocks::<M, N, HALF>(src, dst, case);
     }
     valid
 }
@@ -205,7 +209,7 @@ where
 /// The same in a body of its own, where the compiler does not know `upper`: a table that it knows is read
 /// anew in each turn.
 #[inline(never)]
-pub fn encode<const N: usize, const TWICE: usize>(src: &[u8], dst: &mut [u8], upper: bool)
+pub fn encode_apart<const N: usize, const TWICE: usize>(src: &[u8], dst: &mut [u8], upper: bool)
 where
     Lanes: Interleave<N, TWICE> + LookUp<TWICE>,
     requires lanes { TWICE ≡ 2 * N }

@@ -1,30 +1,38 @@
 //! Hex digits, errors and the plans that encode and decode: the base of `faster_hex`.
 #![tactic(auto)]
 
+mod backend;
 mod blocks;
+mod bodies;
 pub mod digit;
+mod digit_lanes;
 pub mod error;
 mod hidden;
 mod kernel;
-mod kind;
 pub mod lanes;
 pub mod laws;
 pub mod lend;
+mod masks;
 mod nibbles;
 mod owned;
 mod plain;
-pub mod plan;
 mod scalar;
 mod search;
-mod sixteen;
+mod slice_probe;
 mod slices;
 mod tables;
 mod vector;
 
 /// Counted sources, and what is found through their counted calls.
 pub mod probe {
-    pub use crate::plan::SliceProbe;
     pub use crate::search::{Probe, covered, locate};
+    pub use crate::slice_probe::SliceProbe;
+}
+
+/// The plans, and the sources that are searched under them.
+pub mod plan {
+    pub use crate::backend::{Backend, backends};
+    pub use crate::probe::{Probe, SliceProbe, covered, locate};
 }
 
 pub use crate::digit::{CheckCase, digit_value};

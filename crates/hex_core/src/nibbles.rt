@@ -3,7 +3,7 @@
 ghost use Rattle.hex_core.specs.Lanes.{AreChecked, AreValues};
 
 use crate::digit::CheckCase;
-use crate::lanes::{hashed_checks, hashed_values, saturated, valid_nibbles};
+use crate::digit_lanes::{hashed_checks, hashed_values, saturated, valid_nibbles};
 use crate::vector::{Lanes, LookUp, Shift, saturating_add};
 use std::simd::prelude::*;
 

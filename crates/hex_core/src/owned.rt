@@ -4,10 +4,10 @@ ghost use Rattle.std.specs.Prelude.{◌≡◌, ◌*◌, ◌≤◌, length};
 ghost use Rattle.hex_core.specs.Calls.{DecodesOwned};
 ghost use Rattle.hex_core.specs.Shapes.{DecodesAt, HasRoom, InBlocks};
 
+use crate::backend::Backend;
 use crate::digit::CheckCase;
-use crate::kind::Kind;
 
-impl Kind {
+impl Backend {
     // Decodes so many bytes from `at` on, or returns false and writes nothing.
     #[inline(always)]
     fn decode_at(self, src: &[u8], dst: &mut [u8], at: usize, size: usize, case: CheckCase) -> bool

@@ -12,7 +12,7 @@ use crate::tables::{NIL, digit_pairs_of, values_of};
 /// Returns whether every byte of `src` has a value under `case`. All are looked up, since a branch a byte
 /// costs more.
 #[inline(never)]
-pub fn check(src: &[u8], case: CheckCase) -> bool
+pub fn check_by_table(src: &[u8], case: CheckCase) -> bool
     ensures { IsTrue result ↔ (first_invalid case src.now ≡ None) }
 {
     let values = values_of(case);
@@ -83,7 +83,7 @@ fn put_word(word: u64, dst: &mut [u8])
 
 // Decodes fewer than 16 digits in one pass: their bytes are stored once every pair is known to be valid.
 #[inline(always)]
-fn decode_short(src: &[u8], dst: &mut [u8], case: CheckCase) -> bool
+fn decode_as_word(src: &[u8], dst: &mut [u8], case: CheckCase) -> bool
     requires twice { length src.now ≡ 2 * length dst.old }
     requires few { length src.now < 16 }
     ensures { DecodesWhole case src.now dst.old dst.new result }
@@ -97,23 +97,23 @@ fn decode_short(src: &[u8], dst: &mut [u8], case: CheckCase) -> bool
 
 /// Writes the bytes that `src` spells into the whole of `dst`, or returns false and writes nothing.
 #[inline(always)]
-pub fn decode(src: &[u8], dst: &mut [u8], case: CheckCase) -> bool
+pub fn decode_by_table(src: &[u8], dst: &mut [u8], case: CheckCase) -> bool
     requires { length src.now ≡ 2 * length dst.old }
     ensures { DecodesWhole case src.now dst.old dst.new result }
 {
     if src.len() < 16 {
-        return decode_short(src, dst, case);
+        return decode_as_word(src, dst, case);
     }
-    decode_long(src, dst, case)
+    decode_in_passes(src, dst, case)
 }
 
 // The same of 16 digits or more.
 #[inline(never)]
-fn decode_long(src: &[u8], dst: &mut [u8], case: CheckCase) -> bool
+fn decode_in_passes(src: &[u8], dst: &mut [u8], case: CheckCase) -> bool
     requires { length src.now ≡ 2 * length dst.old }
     ensures { DecodesWhole case src.now dst.old dst.new result }
 {
-    let valid = check(src, case);
+    let valid = check_by_table(src, case);
     if valid {
         write_bytes(src, dst, case);
     }
@@ -122,7 +122,7 @@ fn decode_long(src: &[u8], dst: &mut [u8], case: CheckCase) -> bool
 
 /// Writes the text of `src` into the whole of `dst`.
 #[inline(never)]
-pub fn write_text(src: &[u8], dst: &mut [u8], upper: bool)
+pub fn encode_by_table(src: &[u8], dst: &mut [u8], upper: bool)
     requires { length dst.old ≡ 2 * length src.now }
     ensures { dst.new ≡ text upper src.now }
 {

@@ -8,8 +8,8 @@ ghost use Rattle.hex_core.specs.Search.{tested_blocks};
 use crate::digit::CheckCase;
 use crate::tables::has_value;
 
-// How many bytes each test that `locate` makes takes.
-const BLOCK: usize = 64;
+/// How many bytes each test that `locate` makes takes.
+pub const SEARCH_BLOCK: usize = 64;
 
 /// A counted source: bytes that are seen through `look` and `test` alone, and a policy.
 ///
@@ -69,9 +69,9 @@ pub trait Probe {
         ensures counted { Adds 0 1 (state self.old) (state self.new) };
 }
 
-// How many blocks are tested in a turn: with a branch back behind each of them, a source that only the
+// How many blocks are tested in a run: with a branch back behind each of them, a source that only the
 // second cache holds took a sixth longer, and a third with vectors of 32 bytes.
-const TESTS: usize = 4;
+const TEST_RUN: usize = 4;
 
 // Tests so many whole blocks from block `first` on, up to the first one that does not pass.
 #[inline(always)]
@@ -84,7 +84,7 @@ fn test_at<P: Probe>(p: &mut P, first: usize, count: usize) -> Option<usize>
     ensures { TestsAt first count (P.state p.old) (P.state p.new) result }
 {
     for block in 0..count {
-        if !p.test(BLOCK * (first + block), BLOCK) {
+        if !p.test(SEARCH_BLOCK * (first + block), SEARCH_BLOCK) {
             return Some(first + block);
         }
     }
@@ -102,22 +102,22 @@ fn test_blocks<P: Probe>(p: &mut P) -> usize
     ensures start { result ≡ looks_from (P.state p.old) }
     ensures counted { Adds 0 (steps_in (P.state p.old)).tests (P.state p.old) (P.state p.new) }
 {
-    let whole = p.len() / BLOCK;
+    let whole = p.len() / SEARCH_BLOCK;
     let mut at = 0;
-    while whole - at >= TESTS {
-        if let Some(i) = test_at(p, at, TESTS) {
-            return BLOCK * i;
+    while whole - at >= TEST_RUN {
+        if let Some(i) = test_at(p, at, TEST_RUN) {
+            return SEARCH_BLOCK * i;
         }
-        at += TESTS;
+        at += TEST_RUN;
     }
     match test_at(p, at, whole - at) {
-        Some(i) => BLOCK * i,
-        None => BLOCK * whole,
+        Some(i) => SEARCH_BLOCK * i,
+        None => SEARCH_BLOCK * whole,
     }
 }
 
-// How many bytes are looked at in a turn: a branch back behind each of them takes half of the time.
-const TURN: usize = 16;
+// How many bytes are looked at in a run: a branch back behind each of them takes half of the time.
+const LOOK_RUN: usize = 16;
 
 // Looks at so many bytes from `start` on, up to the first one without a value.
 #[inline(always)]
@@ -149,11 +149,11 @@ fn look_from<P: Probe>(p: &mut P, start: usize) -> Option<usize>
 {
     let len = p.len();
     let mut at = start;
-    while len - at >= TURN {
-        if let Some(i) = look_at(p, at, TURN) {
+    while len - at >= LOOK_RUN {
+        if let Some(i) = look_at(p, at, LOOK_RUN) {
             return Some(i);
         }
-        at += TURN;
+        at += LOOK_RUN;
     }
     look_at(p, at, len - at)
 }
@@ -188,7 +188,11 @@ pub fn locate<P: Probe>(p: &mut P) -> Option<usize>
     ensures few_looks { (P.state p.new).looks ≤ (P.state p.old).looks + 64 }
 {
     // The bytes of one block are few enough to look at.
-    let start = if p.len() > BLOCK { test_blocks(p) } else { 0 };
+    let start = if p.len() > SEARCH_BLOCK {
+        test_blocks(p)
+    } else {
+        0
+    };
     look_from(p, start)
 }
 

@@ -1,40 +1,20 @@
 //! The slice calls under a plan: decoding and encoding into the front of a destination, of any
 //! length, and the loan of that front.
 
-ghost use Rattle.std.specs.Prelude.{◌≡◌, ◌≢◌, ◌*◌, ◌<◌, ◌≤◌, ℕ, None, Some, length, MatchResult};
+ghost use Rattle.std.specs.Prelude.{◌≡◌, ◌*◌, ◌<◌, ◌≤◌, ℕ, Some, length, MatchResult};
 ghost use Rattle.std.specs.Borrow.{sem};
 ghost use Rattle.hex_core.specs.declared.digit.CheckCase.{CheckCase};
 ghost use Rattle.hex_core.specs.Calls.{Answers, Decodes, DecodesFront, Encodes, EncodesFront};
 ghost use Rattle.hex_core.specs.Loan.{LendsAnswer};
-ghost use Rattle.hex_core.specs.Refusal.{decode_refusal, encode_refusal, first_bad_char};
-ghost use Rattle.hex_core.specs.Search.{first_invalid};
+ghost use Rattle.hex_core.specs.Refusal.{decode_refusal, encode_refusal};
 ghost use Rattle.hex_core.specs.Text.{text};
 
+use crate::backend::Backend;
 use crate::digit::CheckCase;
 use crate::error::Error;
 use crate::lend::lend_accepted;
-use crate::plan::{Backend, SliceProbe};
-use crate::search::locate;
 
 impl Backend {
-    /// Returns the first place of `src` whose byte has no value under `case`, from 0 and in bytes,
-    /// or `None` where each byte has one, whatever its length.
-    ///
-    /// It is [`locate`] over a [`SliceProbe`], whose counts are not kept: the contract says the
-    /// place, and nothing of the steps.
-    ///
-    /// ```rust
-    /// let [scalar, ..] = backends();
-    /// assert_eq!(rt; scalar.first_invalid(b"00ff0g", CheckCase::None), Some(5));
-    /// assert_eq!(rt; scalar.first_invalid(b"00FF", CheckCase::Upper), None);
-    /// ```
-    #[inline(always)]
-    pub fn first_invalid(self, src: &[u8], case: CheckCase) -> Option<usize>
-        ensures { result ≡ first_invalid case src.now }
-    {
-        locate(&mut SliceProbe::new(self, src, case))
-    }
-
     // How many bytes so many digits spell, or what their number refuses in this room.
     #[inline(always)]
     fn decoded_len(src: &[u8], room: usize) -> Result<usize, Error>
@@ -50,32 +30,6 @@ impl Backend {
             return Err(Error::OutputTooSmall { required });
         }
         Ok(required)
-    }
-
-    /// Returns the first byte of `src` that has no value under `case`, as an
-    /// [`Error::InvalidChar`] with its place in bytes.
-    ///
-    /// The caller shows that there is one: a check or a decoding answered false.
-    ///
-    /// ```rust
-    /// let error = Backend::plain().first_error(b"00fg", CheckCase::None);
-    /// let first = Error::InvalidChar {
-    ///     index: 3,
-    ///     byte: b'g',
-    /// };
-    /// assert_eq!(rt; error, first);
-    /// ```
-    #[cold]
-    #[inline(never)]
-    pub fn first_error(self, src: &[u8], case: CheckCase) -> Error
-        requires { first_invalid case src.now ≢ None }
-        ensures { first_bad_char case src.now ≡ Some result }
-    {
-        let index = self.first_invalid(src, case).unwrap();
-        Error::InvalidChar {
-            index,
-            byte: src[index],
-        }
     }
 
     // How many bytes the text of `src` takes, or what encoding it into this room refuses.

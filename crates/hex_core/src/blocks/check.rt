@@ -6,7 +6,7 @@ ghost use Rattle.hex_core.specs.Search.{AllValid, first_invalid};
 ghost use Rattle.hex_core.specs.Shapes.{EndsCover};
 
 use crate::digit::CheckCase;
-use crate::lanes::reach;
+use crate::digit_lanes::reach;
 use crate::vector::{is_low, larger};
 use std::simd::prelude::*;
 
@@ -24,9 +24,9 @@ pub fn check_two<const N: usize>(src: &[u8], case: CheckCase) -> bool
 
 // How many bytes are read at a time, and how many of these blocks one test is for: with more of them an
 // invalid byte is found later.
-const BLOCK: usize = 64;
+const CHECK_BLOCK: usize = 64;
 
-const RUN: usize = 8;
+const CHECK_RUN: usize = 8;
 
 // What is below 6 in each lane exactly where each byte of so many blocks from `at` on has a value.
 #[inline(always)]
@@ -36,7 +36,7 @@ fn reach_of(src: &[u8], at: usize, count: usize, case: CheckCase) -> u8x64
 {
     let mut farthest = u8x64::splat(0);
     'turns: for i in 0..count {
-        let block = u8x64::from_slice(&src[at + i * BLOCK..]);
+        let block = u8x64::from_slice(&src[at + i * CHECK_BLOCK..]);
         farthest = larger(farthest, reach(block, case));
     }
     farthest
@@ -45,18 +45,18 @@ fn reach_of(src: &[u8], at: usize, count: usize, case: CheckCase) -> u8x64
 /// Whether every byte of a source of a block or more has a value: by runs, and then by one test of the
 /// whole blocks that are left and of the block that the source ends with.
 #[inline(never)]
-pub fn check_more(src: &[u8], case: CheckCase) -> bool
+pub fn check_runs(src: &[u8], case: CheckCase) -> bool
     requires { 64 ≤ length src.now }
     ensures { IsTrue result ↔ (first_invalid case src.now ≡ None) }
 {
-    let last = src.len() - BLOCK;
-    let runs = last / (RUN * BLOCK);
+    let last = src.len() - CHECK_BLOCK;
+    let runs = last / (CHECK_RUN * CHECK_BLOCK);
     'turns: for i in 0..runs {
-        if !is_low(reach_of(src, i * (RUN * BLOCK), RUN, case)) {
+        if !is_low(reach_of(src, i * (CHECK_RUN * CHECK_BLOCK), CHECK_RUN, case)) {
             return false;
         }
     }
-    let done = runs * (RUN * BLOCK);
-    let front = reach_of(src, done, (last - done).div_ceil(BLOCK), case);
+    let done = runs * (CHECK_RUN * CHECK_BLOCK);
+    let front = reach_of(src, done, (last - done).div_ceil(CHECK_BLOCK), case);
     is_low(larger(front, reach(u8x64::from_slice(&src[last..]), case)))
 }

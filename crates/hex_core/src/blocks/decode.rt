@@ -8,10 +8,10 @@ ghost use Rattle.hex_core.specs.Calls.{DecodesWhole};
 ghost use Rattle.hex_core.specs.Lanes.{AreSmall};
 ghost use Rattle.hex_core.specs.Shapes.{EndsCover, Halves};
 
-use crate::blocks::check::check_more;
+use crate::blocks::check::check_runs;
 use crate::digit::CheckCase;
-use crate::kernel::{self, put};
-use crate::lanes::saturated;
+use crate::digit_lanes::saturated;
+use crate::kernel::{put, write_blocks};
 use crate::nibbles::Valid;
 use crate::vector::{Lanes, Pack, either, is_small};
 use std::simd::prelude::*;
@@ -152,9 +152,9 @@ pub fn decode_long(src: &[u8], dst: &mut [u8], case: CheckCase) -> bool
     requires twice { length src.now ≡ 2 * length dst.old }
     ensures { DecodesWhole case src.now dst.old dst.new result }
 {
-    let valid = check_more(src, case);
+    let valid = check_runs(src, case);
     if valid {
-        kernel::write::<Valid, 64, 32>(src, dst, case);
+        write_blocks::<Valid, 64, 32>(src, dst, case);
     }
     valid
 }

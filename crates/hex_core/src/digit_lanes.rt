@@ -1,0 +1,178 @@
+//! The digits in a vector, lane by lane: which lanes have a value, what it is, and the text of bytes.
+
+ghost use Rattle.std.specs.Prelude.{◌≡◌, ◌↔◌, ℕ, ◌≤◌, ◌<◌, EachIndex, is_some, map, slice_index};
+ghost use Rattle.hex_core.specs.declared.digit.CheckCase.{CheckCase};
+ghost use Rattle.std.specs.Simd.Lanes.{mask_l};
+ghost use Rattle.hex_core.specs.Arithmetic.{AreLow, first_letter, fold_of, letter, reach};
+ghost use Rattle.hex_core.specs.Digit.{digit, value};
+ghost use Rattle.hex_core.specs.Search.{AllValid};
+ghost use Rattle.hex_core.specs.Hash.{Hashed, check_row};
+ghost use Rattle.hex_core.specs.Lanes.{AreChecked, AreNibbles, AreValues};
+ghost use Rattle.hex_core.specs.Text.{text};
+
+use crate::digit::CheckCase;
+use crate::vector::{
+    Interleave, Lanes, LookUp, Shift, averages, high_bits, masked, saturating_add,
+    saturating_differences, saturating_sub, sign_flipped, smaller, with_bits, wrapping_differences,
+    wrapping_sub, zero_bits,
+};
+use std::simd::prelude::*;
+
+// Both tables are in the order of the policies. A look-up leaves the kernels without a branch.
+static FOLDS: [u8; 3] = [0x20, 0, 0];
+
+static FIRST_LETTERS: [u8; 3] = [b'a', b'a', b'A'];
+
+// The bit that makes a letter lowercase, where the policy reads both cases.
+#[inline(always)]
+fn fold_of(case: CheckCase) -> u8
+    ensures { result ≡ fold_of case }
+{
+    FOLDS[case as u8 as usize]
+}
+
+/// The first letter that the policy reads, once folded.
+#[inline(always)]
+pub fn first_letter(case: CheckCase) -> u8
+    ensures { result ≡ first_letter case }
+{
+    FIRST_LETTERS[case as u8 as usize]
+}
+
+// How far each lane is past the first letter that the policy reads, once folded.
+#[inline(always)]
+fn letters<const N: usize>(v: Simd<u8, N>, case: CheckCase) -> Simd<u8, N>
+    ensures { result ≡ map (letter case) v.entry }
+{
+    wrapping_sub(with_bits(v, fold_of(case)), first_letter(case))
+}
+
+/// How far each lane reaches past the first four digits, or past the first letter: below 6 exactly where
+/// it has a value. One bound for both leaves the comparison to the end of a test of more blocks than
+/// one.
+#[inline(always)]
+pub fn reach<const N: usize>(v: Simd<u8, N>, case: CheckCase) -> Simd<u8, N>
+    ensures lanes { result ≡ map (reach case) v.entry }
+    ensures low { AreLow result ↔ AllValid case v.entry 0 N }
+{
+    let digits = saturating_sub(wrapping_sub(v, b'0'), 4);
+    smaller(digits, letters(v, case))
+}
+
+/// A mask whose bit i says whether lane i has a value.
+#[inline(always)]
+pub fn admitted<const N: usize>(v: Simd<u8, N>, case: CheckCase) -> u64
+    requires { N ≤ 64 }
+    ensures { result ≡ mask_l (map (λ b. is_some (value case b)) v.entry) }
+{
+    zero_bits(saturating_sub(reach(v, case), 5))
+}
+
+/// The value of each lane, or at least 16.
+#[inline(always)]
+pub fn saturated<const N: usize>(v: Simd<u8, N>, case: CheckCase) -> Simd<u8, N>
+    ensures { AreNibbles case v.entry result }
+{
+    // Less 58, the byte behind `9`, the digits are the ten greatest bytes, 246 to 255. A step down
+    // by 6 that stays at 0 leaves of them 240 to 249, the ten that wrap to 0 to 9.
+    let digits = wrapping_sub(saturating_sub(wrapping_sub(v, b'9' + 1), 6), 240);
+    smaller(digits, saturating_add(letters(v, case), 10))
+}
+
+// The row of each table is for slots 0 to 15. An offset is stored as what is taken away.
+const HASH_ROW: [u8; 16] = [1, 1, 1, 1, 1, 1, 1, 11, 11, 11, 15, 15, 15, 15, 15, 15];
+
+const VALUE_ROW: [u8; 16] = [
+    128, 128, 128, 128, 48, 55, 128, 87, 128, 48, 128, 128, 128, 128, 128, 128,
+];
+
+// One row for each policy, in the order of the policies.
+static CHECK_ROWS: [[u8; 16]; 3] = [
+    [
+        128, 128, 128, 128, 48, 65, 128, 97, 128, 55, 128, 128, 128, 128, 128, 128,
+    ],
+    [
+        128, 128, 128, 128, 48, 128, 128, 97, 128, 55, 128, 128, 128, 128, 128, 128,
+    ],
+    [
+        128, 128, 128, 128, 48, 65, 128, 128, 128, 55, 128, 128, 128, 128, 128, 128,
+    ],
+];
+
+#[inline(always)]
+fn check_row(case: CheckCase) -> u8x16
+    ensures { result ≡ check_row case }
+{
+    u8x16::from_array(CHECK_ROWS[case as u8 as usize])
+}
+
+// The slot of each lane in both rows. It depends on a lane's neighbour above its low four bits,
+// which a look-up leaves out.
+#[inline(always)]
+fn hashes<const N: usize>(v: Simd<u8, N>) -> Simd<u8, N>
+where
+    Lanes: LookUp<N> + Shift<N>,
+    ensures { EachIndex v.entry (λ i. Hashed (slice_index v.entry i) (slice_index result i)) }
+{
+    averages(
+        Lanes::shift(v),
+        Lanes::look_up(u8x16::from_array(HASH_ROW), v),
+    )
+}
+
+/// The value of each lane that has one, which is the same under each policy that reads it.
+#[inline(always)]
+pub fn hashed_values<const N: usize>(v: Simd<u8, N>) -> Simd<u8, N>
+where
+    Lanes: LookUp<N> + Shift<N>,
+    ensures { (case : CheckCase) → AreValues case v.entry result }
+{
+    let offsets = Lanes::look_up(u8x16::from_array(VALUE_ROW), hashes(v));
+    wrapping_differences(v, offsets)
+}
+
+/// A check of each lane: it is below 128 exactly where the lane has a value, whatever stands beside it.
+#[inline(always)]
+pub fn hashed_checks<const N: usize>(v: Simd<u8, N>, case: CheckCase) -> Simd<u8, N>
+where
+    Lanes: LookUp<N> + Shift<N>,
+    ensures { AreChecked case v.entry result }
+{
+    let offsets = Lanes::look_up(check_row(case), hashes(v));
+    sign_flipped(saturating_differences(sign_flipped(v), offsets))
+}
+
+/// The same as [`hashed_values`], without a hash: once the bits that tell both cases apart are gone, a
+/// digit is its value, and a letter is 55 more.
+#[inline(always)]
+pub fn valid_nibbles<const N: usize>(v: Simd<u8, N>) -> Simd<u8, N>
+    ensures { (case : CheckCase) → AreValues case v.entry result }
+{
+    let common = masked(v, 0x4f);
+    smaller(common, wrapping_sub(common, 55))
+}
+
+// The digits below 16, in order.
+#[inline(always)]
+fn digits(upper: bool) -> u8x16
+    ensures { (n : ℕ) → n < 16 → slice_index result n ≡ digit upper n }
+{
+    if upper {
+        u8x16::from_array(*b"0123456789ABCDEF")
+    } else {
+        u8x16::from_array(*b"0123456789abcdef")
+    }
+}
+
+/// The text of the lanes.
+#[inline(always)]
+pub fn encoded<const N: usize, const TWICE: usize>(v: Simd<u8, N>, upper: bool) -> Simd<u8, TWICE>
+where
+    Lanes: Interleave<N, TWICE> + LookUp<TWICE>,
+    ensures { result ≡ text upper v.entry }
+{
+    Lanes::look_up(
+        digits(upper),
+        Lanes::interleave(high_bits(v), masked(v, 0x0f)),
+    )
+}

@@ -1,0 +1,133 @@
+//! A slice as a counted source, and the search for its first invalid byte under a plan.
+
+ghost use Rattle.std.specs.Prelude.{◌≡◌, ◌≢◌, None, Some};
+ghost use Rattle.hex_core.specs.Probe.{fresh_probe};
+ghost use Rattle.hex_core.specs.Refusal.{first_bad_char};
+ghost use Rattle.hex_core.specs.Search.{first_invalid};
+
+use crate::backend::Backend;
+use crate::digit::CheckCase;
+use crate::error::Error;
+use crate::search::{Probe, SEARCH_BLOCK, locate};
+
+/// A slice as a counted source, whose tests are checks under a plan.
+///
+/// Its block is 64 bytes.
+///
+/// ```rust
+/// let [scalar, ..] = backends();
+/// let probe = SliceProbe::new(scalar, b"00ff0g", CheckCase::None);
+/// assert_eq!(rt; (probe.len(), probe.block()), (6, 64));
+/// ```
+#[derive(Drop)]
+pub struct SliceProbe<'a> {
+    backend: Backend,
+    src: &'a [u8],
+    case: CheckCase,
+    looks: usize,
+    tests: usize,
+}
+
+impl<'a> SliceProbe<'a> {
+    /// Returns a probe over `src` under `case`, with both counts 0.
+    ///
+    /// ```rust
+    /// let [scalar, ..] = backends();
+    /// let mut probe = SliceProbe::new(scalar, b"00ff0g", CheckCase::None);
+    /// assert_eq!(rt; locate(&mut probe), Some(5));
+    /// ```
+    pub fn new(backend: Backend, src: &'a [u8], case: CheckCase) -> Self
+        ensures { ⟦<SliceProbe<'a> as Probe>⟧.state result ≡ fresh_probe src.now case 64 }
+    {
+        SliceProbe {
+            backend,
+            src,
+            case,
+            looks: 0,
+            tests: 0,
+        }
+    }
+}
+
+impl<'a> Probe for SliceProbe<'a> {
+    ghost state = { λ p. record { source = p.src.now; policy = p.case; block = 64; looks = p.looks; tests = p.tests } };
+
+    fn len(&self) -> usize {
+        self.src.len()
+    }
+
+    fn case(&self) -> CheckCase {
+        self.case
+    }
+
+    fn block(&self) -> usize {
+        SEARCH_BLOCK
+    }
+
+    fn looks(&self) -> usize {
+        self.looks
+    }
+
+    fn tests(&self) -> usize {
+        self.tests
+    }
+
+    #[inline(always)]
+    fn look(&mut self, i: usize) -> u8 {
+        self.looks += 1;
+        self.src[i]
+    }
+
+    #[inline(always)]
+    fn test(&mut self, start: usize, width: usize) -> bool {
+        self.tests += 1;
+        let part = &self.src[start..start + width];
+        self.backend.check(part, self.case)
+    }
+}
+
+impl Backend {
+    /// Returns the first place of `src` whose byte has no value under `case`, from 0 and in bytes,
+    /// or `None` where each byte has one, whatever its length.
+    ///
+    /// It is [`locate`] over a [`SliceProbe`], whose counts are not kept: the contract says the
+    /// place, and nothing of the steps.
+    ///
+    /// ```rust
+    /// let [scalar, ..] = backends();
+    /// assert_eq!(rt; scalar.first_invalid(b"00ff0g", CheckCase::None), Some(5));
+    /// assert_eq!(rt; scalar.first_invalid(b"00FF", CheckCase::Upper), None);
+    /// ```
+    #[inline(always)]
+    pub fn first_invalid(self, src: &[u8], case: CheckCase) -> Option<usize>
+        ensures { result ≡ first_invalid case src.now }
+    {
+        locate(&mut SliceProbe::new(self, src, case))
+    }
+
+    /// Returns the first byte of `src` that has no value under `case`, as an
+    /// [`Error::InvalidChar`] with its place in bytes.
+    ///
+    /// The caller shows that there is one: a check or a decoding answered false.
+    ///
+    /// ```rust
+    /// let error = Backend::plain().first_error(b"00fg", CheckCase::None);
+    /// let first = Error::InvalidChar {
+    ///     index: 3,
+    ///     byte: b'g',
+    /// };
+    /// assert_eq!(rt; error, first);
+    /// ```
+    #[cold]
+    #[inline(never)]
+    pub fn first_error(self, src: &[u8], case: CheckCase) -> Error
+        requires { first_invalid case src.now ≢ None }
+        ensures { first_bad_char case src.now ≡ Some result }
+    {
+        let index = self.first_invalid(src, case).unwrap();
+        Error::InvalidChar {
+            index,
+            byte: src[index],
+        }
+    }
+}
