@@ -4,19 +4,18 @@
 //! separators into a buffer, and tested and decoded there. A longer text goes through the buffer twice:
 //! it is tested first, and then decoded. Pieces that find no room in it are decoded where they stand.
 
-ghost use Rattle.std.specs.Prelude.{◌≡◌, ◌*◌, ◌≤◌, ◌<◌, None, length, take};
-ghost use Rattle.std.specs.Bool.{OnTrue};
+ghost use Rattle.std.specs.Prelude.{◌≡◌, ◌≤◌, ◌<◌, length};
 ghost use Rattle.std.specs.Borrow.{sem};
 ghost use Rattle.hex_core.specs.Loan.{LendsAnswer};
-ghost use Rattle.hex_core.specs.Search.{first_invalid};
 ghost use Rattle.hex_core.specs.Text.{Spells};
 ghost use Rattle.hex_codec.specs.Grouped.{piece_len};
-ghost use Rattle.hex_codec.specs.GroupedText.{byte_count, digits_in, first_wrong, grouped_len};
+ghost use Rattle.hex_codec.specs.GroupedText.{byte_count, digits_in, grouped_len};
 ghost use Rattle.hex_codec.specs.GroupCalls.{CountsBytes, Reads, ReadsFront, ReadsOrNames, ReadsWhole};
-ghost use Rattle.hex_codec.specs.Fronts.{ClearsFront, ValidDigits, WritesFront};
+ghost use Rattle.hex_codec.specs.Fronts.{ValidDigits};
 
 pub use crate::group::Group;
-use crate::pieces::{BYTES, ROOM, are_separators, front_of, take_digits};
+use crate::group_search::first_wrong;
+use crate::pieces::{FRONT_BYTES, FRONT_ROOM, are_separators, front_of, take_digits};
 use hex_core::lend::lend_accepted;
 use hex_core::{Backend, CheckCase};
 
@@ -66,85 +65,13 @@ fn byte_count(len: usize, every: usize) -> Option<usize>
     Some(len / part * every + last / 2)
 }
 
-// The digits before the first separator, or all bytes where there is none.
-fn first_digits(src: &[u8], every: usize) -> &[u8]
-    ensures { result.now ≡ take (2 * every) src.now }
-{
-    if every > src.len() / 2 {
-        src
-    } else {
-        &src[..2 * every]
-    }
-}
-
-// Whether no byte of a front is wrong.
-fn is_clear(front: &[u8], group: Group, case: CheckCase, buffer: &mut [u8; ROOM]) -> bool
-    requires { length (digits_in (piece_len group) front.now) ≤ 512 }
-    ensures { OnTrue result (first_wrong case group front.now ≡ None) }
-{
-    if !are_separators(front, group) {
-        return false;
-    }
-    let count = take_digits(front, group, buffer);
-    Backend::plain().check(&buffer[..count], case)
-}
-
-// How long a front without a wrong byte is, of as many pieces as find room in a buffer together.
-fn clear_front(src: &[u8], group: Group, case: CheckCase) -> usize
-    ensures { ClearsFront case group src.now result }
-{
-    let mut at = 0;
-    if group.every() > BYTES {
-        return at;
-    }
-    let mut buffer = [0; ROOM];
-    while at < src.len() {
-        let front = front_of(&src[at..], group);
-        if !is_clear(front, group, case, &mut buffer) {
-            return at;
-        }
-        at += front.len();
-    }
-    at
-}
-
-// The first wrong byte behind a front that has none, a part at a time.
-fn first_wrong_behind(src: &[u8], front: usize, group: Group, case: CheckCase) -> Option<usize>
-    requires { ClearsFront case group src.now front }
-    ensures { result ≡ first_wrong case group src.now }
-{
-    let mut at = front;
-    while at < src.len() {
-        let digits = first_digits(&src[at..], group.every());
-        if let Some(index) = Backend::plain().first_invalid(digits, case) {
-            return Some(at + index);
-        }
-        let end = at + digits.len();
-        if end == src.len() {
-            return None;
-        }
-        if src[end] != group.sep() {
-            return Some(end);
-        }
-        at = end + 1;
-    }
-    None
-}
-
-// The first wrong byte.
-fn first_wrong(src: &[u8], group: Group, case: CheckCase) -> Option<usize>
-    ensures { result ≡ first_wrong case group src.now }
-{
-    first_wrong_behind(src, clear_front(src, group, case), group, case)
-}
-
 // Writes the bytes of a text by way of a buffer, as many pieces at a time as find room in it.
-fn write_fronts(src: &[u8], dst: &mut [u8], group: Group, case: CheckCase)
-    requires every { piece_len group ≤ BYTES }
+fn decode_fronts(src: &[u8], dst: &mut [u8], group: Group, case: CheckCase)
+    requires every { piece_len group ≤ FRONT_BYTES }
     requires digits { ValidDigits case group src.now (length dst.old) }
     ensures { Spells case (digits_in (piece_len group) src.now) dst.new }
 {
-    let mut buffer = [0; ROOM];
+    let mut buffer = [0; FRONT_ROOM];
     let mut at = 0;
     let mut done = 0;
     while at < src.len() {
@@ -158,7 +85,7 @@ fn write_fronts(src: &[u8], dst: &mut [u8], group: Group, case: CheckCase)
 }
 
 // The same where its pieces stand, one by one.
-fn write_pieces(src: &[u8], dst: &mut [u8], group: Group, case: CheckCase)
+fn decode_pieces(src: &[u8], dst: &mut [u8], group: Group, case: CheckCase)
     requires { ValidDigits case group src.now (length dst.old) }
     ensures { Spells case (digits_in (piece_len group) src.now) dst.new }
 {
@@ -173,14 +100,14 @@ fn write_pieces(src: &[u8], dst: &mut [u8], group: Group, case: CheckCase)
 }
 
 // Writes the bytes of a text.
-fn write_bytes(src: &[u8], dst: &mut [u8], group: Group, case: CheckCase)
+fn decode_valid(src: &[u8], dst: &mut [u8], group: Group, case: CheckCase)
     requires { ValidDigits case group src.now (length dst.old) }
     ensures { Spells case (digits_in (piece_len group) src.now) dst.new }
 {
-    if group.every() <= BYTES {
-        write_fronts(src, dst, group, case);
+    if group.every() <= FRONT_BYTES {
+        decode_fronts(src, dst, group, case);
     } else {
-        write_pieces(src, dst, group, case);
+        decode_pieces(src, dst, group, case);
     }
 }
 
@@ -189,10 +116,10 @@ fn read_at_once(src: &[u8], dst: &mut [u8], group: Group, case: CheckCase) -> bo
     requires { length src.now ≡ grouped_len (piece_len group) (length dst.old) }
     ensures { ReadsWhole case group src.now dst.old dst.new result }
 {
-    if dst.len() > BYTES || !are_separators(src, group) {
+    if dst.len() > FRONT_BYTES || !are_separators(src, group) {
         return false;
     }
-    let mut buffer = [0; ROOM];
+    let mut buffer = [0; FRONT_ROOM];
     let count = take_digits(src, group, &mut buffer);
     Backend::plain().decode(&buffer[..count], dst, case)
 }
@@ -205,7 +132,7 @@ fn read_in_passes(src: &[u8], dst: &mut [u8], group: Group, case: CheckCase) -> 
     if let Some(index) = first_wrong(src, group, case) {
         return Some(index);
     }
-    write_bytes(src, dst, group, case);
+    decode_valid(src, dst, group, case);
     None
 }
 

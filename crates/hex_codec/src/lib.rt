@@ -5,6 +5,7 @@ pub mod chunks;
 pub mod decode;
 pub mod encode;
 mod group;
+mod group_search;
 pub mod grouped;
 pub mod heapless_08;
 pub mod laws;

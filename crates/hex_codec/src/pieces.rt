@@ -10,13 +10,13 @@ use crate::group::Group;
 use std::simd::prelude::*;
 
 /// How many bytes one copy takes, however few of them are wanted.
-pub const AT_ONCE: usize = 16;
+pub const COPY_BLOCK: usize = 16;
 
 /// Of so many bytes the digits are taken out of their separators together.
-pub const BYTES: usize = 256;
+pub const FRONT_BYTES: usize = 256;
 
 /// What their digits, and the bytes copied behind the last of them, find room in.
-pub const ROOM: usize = 2 * BYTES + AT_ONCE;
+pub const FRONT_ROOM: usize = 2 * FRONT_BYTES + COPY_BLOCK;
 
 /// Copies the first `len` bytes of a slice over those of another. What stands behind them may change.
 #[inline(always)]
@@ -27,7 +27,7 @@ pub fn copy_piece(from: &[u8], to: &mut [u8], len: usize)
     requires to { 16 ≤ length to.old }
     ensures { take len to.new ≡ take len from.now }
 {
-    if len <= AT_ONCE {
+    if len <= COPY_BLOCK {
         u8x16::from_slice(from).copy_to_slice(to);
     } else {
         copy_exactly(&from[..len], to);
@@ -42,7 +42,7 @@ fn copy_front(from: &[u8], to: &mut [u8], len: usize)
     requires to { 16 ≤ length to.old }
     ensures { take len to.new ≡ take len from.now }
 {
-    if from.len() >= AT_ONCE {
+    if from.len() >= COPY_BLOCK {
         copy_piece(from, to, len);
     } else {
         copy_exactly(&from[..len], to);
@@ -96,9 +96,9 @@ pub fn are_separators(text: &[u8], group: Group) -> bool
 /// As many whole pieces with their separators as a buffer has room for, or all of a text that has no
 /// more.
 pub fn front_of(text: &[u8], group: Group) -> &[u8]
-    requires { piece_len group ≤ BYTES }
+    requires { piece_len group ≤ FRONT_BYTES }
     ensures { IsFront (piece_len group) text.now result.now }
 {
-    let len = BYTES / group.every() * (2 * group.every() + 1);
+    let len = FRONT_BYTES / group.every() * (2 * group.every() + 1);
     if len < text.len() { &text[..len] } else { text }
 }

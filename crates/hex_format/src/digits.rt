@@ -10,7 +10,7 @@ use crate::separate::write_pieces;
 use crate::sink::{Sink, WriteFault, put_all};
 use hex_codec::Group;
 use hex_codec::chunks::encoded;
-use hex_codec::pieces::AT_ONCE;
+use hex_codec::pieces::COPY_BLOCK;
 
 /// How many source bytes are encoded at a time.
 pub const CHUNK: usize = 512;
@@ -21,9 +21,9 @@ pub const SHORT: usize = 128;
 
 // What the digits of so many bytes, and their pieces with separators, find room in. Whoever copies a
 // piece may copy some bytes more.
-const DIGITS: usize = 2 * CHUNK + AT_ONCE;
+const DIGITS: usize = 2 * CHUNK + COPY_BLOCK;
 
-const PIECES: usize = 3 * CHUNK + AT_ONCE;
+const PIECES: usize = 3 * CHUNK + COPY_BLOCK;
 
 /// Puts the digits of `bytes`, grouped where there is a group.
 pub fn put_digits<S: Sink>(
@@ -82,8 +82,8 @@ fn put_grouped<S: Sink>(
     ensures { Puts (S.state sink.old) (S.state sink.new) result (grouped group upper bytes.now) }
 {
     if bytes.len() <= SHORT {
-        let mut digits = [0; 2 * SHORT + AT_ONCE];
-        let mut pieces = [0; 3 * SHORT + AT_ONCE];
+        let mut digits = [0; 2 * SHORT + COPY_BLOCK];
+        let mut pieces = [0; 3 * SHORT + COPY_BLOCK];
         let end = write_pieces(bytes, upper, group, &mut digits, &mut pieces);
         return put_all(sink, &pieces[end.min(1)..end]);
     }

@@ -1,7 +1,7 @@
 -- No byte before this place is wrong.
 use Rattle.std.proofs.Common.{◌-◌, length}
 use Rattle.hex_codec.specs.Fronts.{ClearsFront}
-use Rattle.hex_codec.proofs.grouped.clear_front.Given as goal
+use Rattle.hex_codec.proofs.group_search.clear_front.Given as goal
 
 abbrev pub invariant-loop-at : goal.invariant-loop-at
 invariant-loop-at l = ClearsFront l.case l.group l.src l.at

@@ -1,7 +1,7 @@
 -- The first wrong byte is one of the next part, or stands behind it.
 use Rattle.std.proofs.Common.{sym, ◌∙◌}
 use Rattle.hex_codec.proofs.WrongLemmas.{digit-behind, none-behind, part-behind, separator-behind}
-use Rattle.hex_codec.proofs.grouped.first_wrong_behind.Goals as goal
+use Rattle.hex_codec.proofs.group_search.first_wrong_behind.Goals as goal
 
 pub returns-in-Some : goal.returns-in-Some
 returns-in-Some c = sym (digit-behind _ _ _ _ _ _ c.loop-at.invariant c.every.ensures c.first_digits-digits.ensures c.in-Some.index

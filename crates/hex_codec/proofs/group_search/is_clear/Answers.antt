@@ -1,7 +1,7 @@
 -- Nothing is wrong in a front whose digits are valid and whose separators are the group's.
 use Rattle.std.proofs.lemmas.Bool.{OnTrue_from}
 use Rattle.hex_codec.proofs.WrongLemmas.{none-wrong}
-use Rattle.hex_codec.proofs.grouped.is_clear.Goals as goal
+use Rattle.hex_codec.proofs.group_search.is_clear.Goals as goal
 
 pub returns : goal.returns
 returns c = OnTrue_from _ _ (λ t.

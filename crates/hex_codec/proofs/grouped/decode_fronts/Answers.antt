@@ -5,7 +5,7 @@ use Rattle.hex_codec.specs.Grouped.{piece_len}
 use Rattle.hex_codec.specs.GroupedText.{digits_in}
 use Rattle.hex_codec.proofs.PartLemmas.{unparted}
 use Rattle.hex_codec.proofs.WriteLemmas.{decoded, fronts, writes-all, writes-more}
-use Rattle.hex_codec.proofs.grouped.write_fronts.Goals as goal
+use Rattle.hex_codec.proofs.grouped.decode_fronts.Goals as goal
 
 pub slice_bounds-decode-end-in-loop-at : goal.slice_bounds-decode-end-in-loop-at
 slice_bounds-decode-end-in-loop-at c =

@@ -1,7 +1,7 @@
 -- The bytes of the digits before this place have been written.
 use Rattle.std.proofs.Common.{◌≤◌, ◌-◌, length}
 use Rattle.hex_codec.specs.Fronts.{WritesFront}
-use Rattle.hex_codec.proofs.grouped.write_fronts.Given as goal
+use Rattle.hex_codec.proofs.grouped.decode_fronts.Given as goal
 
 abbrev pub invariant-loop-at : goal.invariant-loop-at
 invariant-loop-at l = record {

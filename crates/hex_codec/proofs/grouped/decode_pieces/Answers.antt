@@ -2,7 +2,7 @@
 use Rattle.std.proofs.Common.{rules, ◌≡◌, ◌+◌, ◌-◌, ◌*◌, drop, arith}
 use Rattle.std.proofs.lemmas.List.{length-take-le}
 use Rattle.hex_codec.proofs.WriteLemmas.{decoded, part, part-valid, writes-all, writes-more}
-use Rattle.hex_codec.proofs.grouped.write_pieces.Goals as goal
+use Rattle.hex_codec.proofs.grouped.decode_pieces.Goals as goal
 
 pub overflow_add-at : goal.overflow_add-at
 overflow_add-at c =

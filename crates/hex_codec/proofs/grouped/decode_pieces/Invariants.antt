@@ -1,7 +1,7 @@
 -- The bytes of the digits before this place have been written.
 use Rattle.std.proofs.Common.{◌-◌, length}
 use Rattle.hex_codec.specs.Fronts.{WritesFront}
-use Rattle.hex_codec.proofs.grouped.write_pieces.Given as goal
+use Rattle.hex_codec.proofs.grouped.decode_pieces.Given as goal
 
 abbrev pub invariant-loop-done : goal.invariant-loop-done
 invariant-loop-done l = WritesFront l.case l.group l.src l.dst l.at l.done

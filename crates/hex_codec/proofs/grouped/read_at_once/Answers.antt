@@ -7,7 +7,7 @@ use Rattle.hex_codec.proofs.grouped.read_at_once.Goals as goal
 
 pub take_digits-count-requires : goal.take_digits-count-requires
 take_digits-count-requires c =
-    omega (arith, length-digits (piece_len c.args.group) (length c.args.dst.now) c.args.src.now c.args.group.is_group.0 c.requires, c.if-dst-gt-BYTES.false)
+    omega (arith, length-digits (piece_len c.args.group) (length c.args.dst.now) c.args.src.now c.args.group.is_group.0 c.requires, c.if-dst-gt-FRONT_BYTES.false)
 
 pub decode-requires : goal.decode-requires
 decode-requires c =
