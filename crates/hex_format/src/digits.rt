@@ -13,17 +13,17 @@ use hex_codec::chunks::encoded;
 use hex_codec::pieces::COPY_BLOCK;
 
 /// How many source bytes are encoded at a time.
-pub const CHUNK: usize = 512;
+pub const ENCODE_CHUNK: usize = 512;
 
 /// Up to how many source bytes smaller buffers serve, so that a digest or a line of a dump does not
 /// pay for the large one.
-pub const SHORT: usize = 128;
+pub const SHORT_SOURCE: usize = 128;
 
 // What the digits of so many bytes, and their pieces with separators, find room in. Whoever copies a
 // piece may copy some bytes more.
-const DIGITS: usize = 2 * CHUNK + COPY_BLOCK;
+const DIGIT_ROOM: usize = 2 * ENCODE_CHUNK + COPY_BLOCK;
 
-const PIECES: usize = 3 * CHUNK + COPY_BLOCK;
+const PIECE_ROOM: usize = 3 * ENCODE_CHUNK + COPY_BLOCK;
 
 /// Puts the digits of `bytes`, grouped where there is a group.
 pub fn put_digits<S: Sink>(
@@ -46,11 +46,11 @@ fn put_text<S: Sink>(sink: &mut S, upper: bool, bytes: &[u8]) -> Result<(), Writ
     requires { (S.state sink.old).failures < 2 ^ 64 - 1 }
     ensures { Puts (S.state sink.old) (S.state sink.new) result (text upper bytes.now) }
 {
-    if bytes.len() <= SHORT {
-        let mut buffer = [0; 2 * SHORT];
+    if bytes.len() <= SHORT_SOURCE {
+        let mut buffer = [0; 2 * SHORT_SOURCE];
         return put_all(sink, encoded(bytes, upper, &mut buffer));
     }
-    let mut buffer = [0; 2 * CHUNK];
+    let mut buffer = [0; 2 * ENCODE_CHUNK];
     put_chunks(sink, upper, bytes, &mut buffer)
 }
 
@@ -81,14 +81,14 @@ fn put_grouped<S: Sink>(
     requires { (S.state sink.old).failures < 2 ^ 64 - 1 }
     ensures { Puts (S.state sink.old) (S.state sink.new) result (grouped group upper bytes.now) }
 {
-    if bytes.len() <= SHORT {
-        let mut digits = [0; 2 * SHORT + COPY_BLOCK];
-        let mut pieces = [0; 3 * SHORT + COPY_BLOCK];
+    if bytes.len() <= SHORT_SOURCE {
+        let mut digits = [0; 2 * SHORT_SOURCE + COPY_BLOCK];
+        let mut pieces = [0; 3 * SHORT_SOURCE + COPY_BLOCK];
         let end = write_pieces(bytes, upper, group, &mut digits, &mut pieces);
         return put_all(sink, &pieces[end.min(1)..end]);
     }
-    let mut digits = [0; DIGITS];
-    let mut pieces = [0; PIECES];
+    let mut digits = [0; DIGIT_ROOM];
+    let mut pieces = [0; PIECE_ROOM];
     // No separator stands before the first piece.
     let mut from = 1;
     for part in bytes.chunks(bytes_at_once(group)) {
@@ -102,11 +102,11 @@ fn put_grouped<S: Sink>(
 fn bytes_at_once(group: Group) -> usize
     ensures whole { (count : ℕ) × (result ≡ count * piece_len group) }
     ensures some { 0 < result }
-    ensures one { CHUNK < result → result ≡ piece_len group }
+    ensures one { ENCODE_CHUNK < result → result ≡ piece_len group }
 {
     let every = group.every();
-    if every <= CHUNK {
-        CHUNK / every * every
+    if every <= ENCODE_CHUNK {
+        ENCODE_CHUNK / every * every
     } else {
         every
     }
@@ -119,17 +119,17 @@ fn put_pieces<S: Sink>(
     group: Group,
     bytes: &[u8],
     from: usize,
-    digits: &mut [u8; DIGITS],
-    pieces: &mut [u8; PIECES],
+    digits: &mut [u8; DIGIT_ROOM],
+    pieces: &mut [u8; PIECE_ROOM],
 ) -> Result<(), WriteFault>
     requires counts { (S.state sink.old).failures < 2 ^ 64 - 1 }
     requires some { 0 < length bytes.now }
     requires start { from ≤ 1 }
-    requires one { CHUNK < length bytes.now → length bytes.now ≤ piece_len group }
+    requires one { ENCODE_CHUNK < length bytes.now → length bytes.now ≤ piece_len group }
     ensures { Puts (S.state sink.old) (S.state sink.new) result
         (drop from (separated group upper bytes.now)) }
 {
-    if bytes.len() <= CHUNK {
+    if bytes.len() <= ENCODE_CHUNK {
         let end = write_pieces(bytes, upper, group, digits, pieces);
         return put_all(sink, &pieces[from..end]);
     }

@@ -8,7 +8,7 @@ ghost use Rattle.hex_core.specs.Text.{lowercase, text};
 ghost use Rattle.hex_format.specs.Frame.{frame, hex_bytes, left_padding, padding_of, plain_flags, separators_by, sign_and_prefix};
 ghost use Rattle.hex_format.specs.Sink.{Puts};
 
-use crate::digits::{CHUNK, SHORT, put_digits};
+use crate::digits::{ENCODE_CHUNK, SHORT_SOURCE, put_digits};
 pub use crate::sink::{Sink, SinkFault, SliceSink, WriteFault, WriterSink, put_all};
 use hex_codec::Group;
 use hex_codec::chunks::encoded;
@@ -17,7 +17,7 @@ use std::{fmt, str};
 // How many copies of a padding character are put at a time, and how long one is at most.
 const COPIES: usize = 64;
 
-const LONGEST: usize = 4;
+const LONGEST_CHARACTER: usize = 4;
 
 /// Where the fill characters of a padded text stand.
 #[derive(Clone, Copy, Debug, PartialEq, Eq)]
@@ -126,7 +126,7 @@ impl<'a> Hex<'a> {
             put_copies(sink, b"0", padding)?;
             put_digits(sink, flags.upper, flags.group, self.bytes)
         } else {
-            let mut buffer = [0; LONGEST];
+            let mut buffer = [0; LONGEST_CHARACTER];
             let fill = flags.fill.encode_utf8(&mut buffer).as_bytes();
             let left = before_text(flags.align, padding);
             put_copies(sink, fill, left)?;
@@ -141,12 +141,12 @@ impl fmt::Display for Hex<'_> {
     ghost output = { λ hex. Some (text lowercase (hex_bytes hex)) };
 
     fn fmt<W: fmt::Write>(&self, f: &mut fmt::Formatter<W>) -> fmt::Result {
-        if self.bytes.len() <= SHORT {
-            let mut buffer = [0; 2 * SHORT];
+        if self.bytes.len() <= SHORT_SOURCE {
+            let mut buffer = [0; 2 * SHORT_SOURCE];
             return write_ascii(f, encoded(self.bytes, false, &mut buffer));
         }
-        let mut buffer = [0; 2 * CHUNK];
-        for chunk in self.bytes.chunks(CHUNK) {
+        let mut buffer = [0; 2 * ENCODE_CHUNK];
+        for chunk in self.bytes.chunks(ENCODE_CHUNK) {
             let digits = encoded(chunk, false, &mut buffer);
             write_ascii(f, digits)?;
         }
@@ -224,13 +224,13 @@ fn copy_into(piece: &[u8], count: usize, block: &mut [u8])
 // Puts `count` copies of a piece, a block of them at a time.
 fn put_copies<S: Sink>(sink: &mut S, piece: &[u8], count: usize) -> Result<(), WriteFault>
     requires counts { (S.state sink.old).failures < 2 ^ 64 - 1 }
-    requires short { length piece.now ≤ LONGEST }
+    requires short { length piece.now ≤ LONGEST_CHARACTER }
     ensures { Puts (S.state sink.old) (S.state sink.new) result (repeat count piece.now) }
 {
     if count == 0 {
         return Ok(());
     }
-    let mut buffer = [0; COPIES * LONGEST];
+    let mut buffer = [0; COPIES * LONGEST_CHARACTER];
     put_by_blocks(sink, piece, count, &mut buffer)
 }
 

@@ -7,21 +7,21 @@ ghost use Rattle.std.specs.Simd.Lanes.{chunk, mask_l};
 use std::simd::prelude::*;
 
 // How many bytes are looked at at a time.
-const BLOCK: usize = 32;
+const LINE_BLOCK: usize = 32;
 
 /// Returns where the first line of a source ends: at its newline, or at the end.
 pub fn line_end(src: &[u8]) -> usize
     ensures end { result ≡ position_or_len (λ b. b == 10) src.now }
     ensures inside { result ≤ length src.now }
 {
-    let whole = src.len() / BLOCK;
+    let whole = src.len() / LINE_BLOCK;
     'turns: for i in 0..whole {
-        let before = before_newline(src, BLOCK * i);
-        if before < BLOCK {
-            return BLOCK * i + before;
+        let before = before_newline(src, LINE_BLOCK * i);
+        if before < LINE_BLOCK {
+            return LINE_BLOCK * i + before;
         }
     }
-    let done = BLOCK * whole;
+    let done = LINE_BLOCK * whole;
     done + line_end_by_bytes(&src[done..])
 }
 
@@ -36,12 +36,12 @@ fn newline_bits(block: u8x32) -> u64
 // How many bytes of the block at a place stand before its first newline: all where it has none.
 #[inline(always)]
 fn before_newline(src: &[u8], at: usize) -> usize
-    requires { at + BLOCK ≤ length src.now }
-    ensures { result ≡ position_or_len (λ b. b == 10) (chunk at BLOCK src.now) }
+    requires { at + LINE_BLOCK ≤ length src.now }
+    ensures { result ≡ position_or_len (λ b. b == 10) (chunk at LINE_BLOCK src.now) }
 {
     let newlines = newline_bits(u8x32::from_slice(&src[at..]));
     if newlines == 0 {
-        BLOCK
+        LINE_BLOCK
     } else {
         newlines.trailing_zeros() as usize
     }

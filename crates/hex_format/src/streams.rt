@@ -13,7 +13,7 @@ use hex_core::{CheckCase, Error};
 use std::io::{self, ErrorKind, Read};
 
 // How many bytes a chunk has; its digits are twice as many.
-const CHUNK: usize = 4_096;
+const STREAM_CHUNK: usize = 4_096;
 
 /// Why a stream was not decoded or encoded to its end.
 #[derive(Clone, Copy, Debug, PartialEq, Eq)]
@@ -61,8 +61,8 @@ pub fn decode_stream<R: Read, S: Sink>(
     ensures { DecodesStream case (R.remaining reader.old) (R.remaining reader.new)
         (S.state sink.old) (S.state sink.new) result }
 {
-    let mut chunk = [0; 2 * CHUNK];
-    let mut bytes = [0; CHUNK];
+    let mut chunk = [0; 2 * STREAM_CHUNK];
+    let mut bytes = [0; STREAM_CHUNK];
     let mut decoder = Decoder::new(case);
     'reads: loop {
         let count = match read_again(reader, &mut chunk) {
@@ -109,8 +109,8 @@ pub fn encode_stream<R: Read, S: Sink>(
     ensures { EncodesStream upper (R.remaining reader.old) (R.remaining reader.new)
         (S.state sink.old) (S.state sink.new) result }
 {
-    let mut chunk = [0; CHUNK];
-    let mut text = [0; 2 * CHUNK];
+    let mut chunk = [0; STREAM_CHUNK];
+    let mut text = [0; 2 * STREAM_CHUNK];
     let mut total: usize = 0;
     'reads: loop {
         let count = match read_again(reader, &mut chunk) {

@@ -11,7 +11,7 @@ use crate::{Hex, HexFlags, Sink, WriteFault, put_all};
 use hex_core::Backend;
 
 // Up to how many bytes a digest has whose digits and mark are put at once.
-const SHORT: usize = 64;
+const SHORT_DIGEST: usize = 64;
 
 /// Why a list was not written to its end.
 #[derive(Clone, Copy, Debug, PartialEq, Eq)]
@@ -127,8 +127,8 @@ fn put_front<S: Sink>(
     ensures { Puts (S.state sink.old) (S.state sink.new) result
         (text upper digest.now ++ (32 ∷ mark binary ∷ [])) }
 {
-    if digest.len() <= SHORT {
-        let mut buffer = [0; 2 * SHORT + 2];
+    if digest.len() <= SHORT_DIGEST {
+        let mut buffer = [0; 2 * SHORT_DIGEST + 2];
         return put_all(sink, front_text(digest, binary, upper, &mut buffer));
     }
     let flags = HexFlags {

@@ -24,12 +24,12 @@ behind s at inside before =
     let none = further s at (at + r) before (λ k high lt. (let e : at + (k - at) ≡ k = omega arith in rw e at (sym (ap newline (get_or-drop at s (k - at) 0)) ∙ fails_before_first newline (drop at s) (k - at) 0 (omega arith)))) in
     sym (position_or_len_is newline s (at + r) 0 (omega (arith, most, length-drop at s)) none (λ lt. sym (ap newline (get_or-drop at s r 0)) ∙ passes_at_first newline (drop at s) 0 (omega (arith, lt, length-drop at s))))
 
-pub returns-then-before-lt-BLOCK-clause-end : goal.returns-then-before-lt-BLOCK-clause-end
-returns-then-before-lt-BLOCK-clause-end c =
+pub returns-then-before-lt-LINE_BLOCK-clause-end : goal.returns-then-before-lt-LINE_BLOCK-clause-end
+returns-then-before-lt-LINE_BLOCK-clause-end c =
     let s = c.args.src.now in let at = 32 * c.turns.i in
     let r = c.before_newline-before.result in
     let none = further s at (at + r) c.turns.invariant (run_in_chunk_fails newline s at 32 r 0 (omega arith) c.before_newline-before.ensures) in
-    sym (position_or_len_is newline s (at + r) 0 (omega arith) none (λ _. run_in_chunk_stops newline s at 32 r 0 (omega arith) c.before_newline-before.ensures c.if-before-lt-BLOCK.true))
+    sym (position_or_len_is newline s (at + r) 0 (omega arith) none (λ _. run_in_chunk_stops newline s at 32 r 0 (omega arith) c.before_newline-before.ensures c.if-before-lt-LINE_BLOCK.true))
 
 pub turns-preserved : goal.turns-preserved
 turns-preserved c =

@@ -21,8 +21,8 @@ loop-chunk-preserved g c =
           (so_far.0 ++ shown, has_written_append _ _ _ _ _ _ so_far.1 (search rules), append_assoc so_far.0 shown (text lowercase rest) ∙ whole),
     )
 
-pub returns-then-self-le-SHORT-clause-writes : goal.returns-then-self-le-SHORT-clause-writes
-returns-then-self-le-SHORT-clause-writes g c = λ plain done. rw c.encoded.ensures.text at (c.write_ascii.ensures plain done)
+pub returns-then-self-le-SHORT_SOURCE-clause-writes : goal.returns-then-self-le-SHORT_SOURCE-clause-writes
+returns-then-self-le-SHORT_SOURCE-clause-writes g c = λ plain done. rw c.encoded.ensures.text at (c.write_ascii.ensures plain done)
 
 pub returns-clause-writes : goal.returns-clause-writes
 returns-clause-writes g c = λ plain done.
