@@ -89,7 +89,7 @@ pub fn digits_in(input: &[u8]) -> &[u8]
 }
 
 // Puts the text of some bytes, and a newline.
-fn put_text<S: Sink>(bytes: &[u8], upper: bool, sink: &mut S) -> Result<(), WriteFault>
+fn put_text_line<S: Sink>(bytes: &[u8], upper: bool, sink: &mut S) -> Result<(), WriteFault>
     requires { (S.state sink.old).failures < 2 ^ 64 - 1 }
     ensures { Puts (S.state sink.old) (S.state sink.new) result (text upper bytes.now ++ 10 ∷ []) }
 {
@@ -104,15 +104,15 @@ fn put_text<S: Sink>(bytes: &[u8], upper: bool, sink: &mut S) -> Result<(), Writ
 }
 
 // Encodes the input. No memory is taken.
-fn encode<S: Sink>(input: &[u8], upper: bool, sink: &mut S) -> Result<(), RunFault>
+fn run_encoding<S: Sink>(input: &[u8], upper: bool, sink: &mut S) -> Result<(), RunFault>
     requires { (S.state sink.old).failures < 2 ^ 64 - 1 }
     ensures { RunsEncoding upper input.now (S.state sink.old) (S.state sink.new) result }
 {
-    put_text(input, upper, sink).map_err(RunFault::Write)
+    put_text_line(input, upper, sink).map_err(RunFault::Write)
 }
 
 // Puts the bytes that the input spells, or refuses it. All are collected before the first put.
-fn decode<A: Allocator + Drop, S: Sink>(
+fn run_decoding<A: Allocator + Drop, S: Sink>(
     alloc: A,
     input: &[u8],
     case: CheckCase,
@@ -139,11 +139,11 @@ pub fn run_in<A: Allocator + Drop, S: Sink>(
     ensures { Runs op input.now (S.state sink.old) (S.state sink.new) result }
 {
     match op {
-        Op::Encode => encode(input, false, sink),
-        Op::EncodeUpper => encode(input, true, sink),
-        Op::Decode => decode(alloc, input, CheckCase::None, sink),
-        Op::DecodeLower => decode(alloc, input, CheckCase::Lower, sink),
-        Op::DecodeUpper => decode(alloc, input, CheckCase::Upper, sink),
+        Op::Encode => run_encoding(input, false, sink),
+        Op::EncodeUpper => run_encoding(input, true, sink),
+        Op::Decode => run_decoding(alloc, input, CheckCase::None, sink),
+        Op::DecodeLower => run_decoding(alloc, input, CheckCase::Lower, sink),
+        Op::DecodeUpper => run_decoding(alloc, input, CheckCase::Upper, sink),
     }
 }
 

@@ -12,7 +12,7 @@ use std::io::Read;
 pub const INPUT_LIMIT: usize = 16_777_216;
 
 /// How many bytes one read asks for.
-pub const CHUNK: usize = 65_536;
+pub const READ_CHUNK: usize = 65_536;
 
 /// Reads all of an input of at most [`INPUT_LIMIT`] bytes. No error is retried.
 ///
@@ -36,10 +36,10 @@ pub fn read_input<A: Allocator + Drop, R: Read>(
         → IfSome (R.remaining input.old) (λ bytes. input_limit < length bytes)) }
     ensures err { IfErr result (λ f. status_of f ≡ 3) }
 {
-    let mut chunk = [0u8; CHUNK];
+    let mut chunk = [0u8; READ_CHUNK];
     let mut all = Vec::new(alloc);
     // Room for any input, so that none of it is moved. Where it is not granted, the vector grows.
-    let _ = all.reserve_exact(INPUT_LIMIT + CHUNK);
+    let _ = all.reserve_exact(INPUT_LIMIT + READ_CHUNK);
     'reads: while all.len() <= INPUT_LIMIT {
         match input.read(&mut chunk) {
             Ok(0) => return Ok(all),

@@ -2,21 +2,25 @@
 //! and two outputs that are handed in, and its stored vectors.
 #![tactic(auto)]
 
+pub mod codec_run;
 pub mod failure;
 pub mod input;
-mod plain_run;
+pub mod plain_run;
 pub mod plain_vectors;
 pub mod program;
 pub mod unretried;
+mod vector_lines;
 pub mod vector_run;
 pub mod vectors;
 
+pub use crate::codec_run::{Codec, run_vectors_under};
 pub use crate::failure::Failure;
 pub use crate::input::{INPUT_LIMIT, read_input};
+pub use crate::plain_run::VectorFault;
 pub use crate::plain_vectors::{PLAIN_VECTORS, PlainVector, Statement};
 pub use crate::program::{refuse, serve, serve_vectors};
 pub use crate::unretried::Unretried;
-pub use crate::vector_run::{Codec, VectorFault, run_vectors, run_vectors_under};
+pub use crate::vector_run::run_vectors;
 pub use crate::vectors::{Call, VECTORS, Vector};
 pub use hex_operations::{Op, RunFault, run};
 

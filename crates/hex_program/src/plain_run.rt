@@ -2,18 +2,28 @@
 
 ghost use Rattle.std.specs.Prelude.{◌≡◌, ◌<◌, ◌≤◌, ◌-◌, ◌^◌, length, IfOk, OnOk};
 
+use crate::codec_run::{FILL, LONGEST_DESTINATION, is_fill};
 use crate::plain_vectors::{PlainVector, Statement};
-use crate::vector_run::{FILL, LONGEST, VectorFault, is_fill, put_line};
+use crate::vector_lines::put_line;
 use hex_codec::{Group, GroupFault, grouped};
 use hex_core::CheckCase;
 use hex_format::digests::{self, Entry, ListFault};
-use hex_format::{Hex, HexFlags, Sink, SliceSink};
+use hex_format::{Hex, HexFlags, Sink, SliceSink, WriteFault};
 use std::alloc::{AllocError, Allocator};
+
+/// Why a run of stored vectors ended early.
+#[derive(Clone, Copy, Debug, PartialEq, Eq)]
+pub enum VectorFault {
+    /// A put failed.
+    Write(WriteFault),
+    /// A vector could not be run for want of memory.
+    OutOfMemory,
+}
 
 // Whether the grouped text of some bytes fills a slice, and is this one.
 fn writes_grouped(bytes: &[u8], group: Option<Group>, text: &[u8]) -> bool {
-    let mut buffer = [FILL; LONGEST];
-    if group.is_none() || LONGEST < text.len() {
+    let mut buffer = [FILL; LONGEST_DESTINATION];
+    if group.is_none() || LONGEST_DESTINATION < text.len() {
         return false;
     }
     let flags = HexFlags {
@@ -27,11 +37,11 @@ fn writes_grouped(bytes: &[u8], group: Option<Group>, text: &[u8]) -> bool {
 
 // Whether a grouped text is refused for this fault, and leaves so much room as it was.
 fn refuses_grouped(text: &[u8], group: Option<Group>, room: usize, fault: GroupFault) -> bool {
-    let mut buffer = [FILL; LONGEST];
+    let mut buffer = [FILL; LONGEST_DESTINATION];
     let Some(group) = group else {
         return false;
     };
-    if LONGEST < room {
+    if LONGEST_DESTINATION < room {
         return false;
     }
     let refused = match grouped::read(text, &mut buffer[..room], group, CheckCase::None) {
@@ -65,8 +75,8 @@ fn reads_entry<A: Allocator>(
 
 // Whether the list of one entry fills a slice, and is this one.
 fn writes_entry(entry: Entry<'_, 2>, upper: bool, list: &[u8]) -> bool {
-    let mut buffer = [FILL; LONGEST];
-    if LONGEST < list.len() {
+    let mut buffer = [FILL; LONGEST_DESTINATION];
+    if LONGEST_DESTINATION < list.len() {
         return false;
     }
     let mut sink = SliceSink::new(&mut buffer[..list.len()]);
@@ -74,8 +84,8 @@ fn writes_entry(entry: Entry<'_, 2>, upper: bool, list: &[u8]) -> bool {
     done && *sink.written() == *list
 }
 
-// Whether a vector passes. Want of memory is no answer.
-fn passes<A: Allocator>(alloc: &A, states: Statement<'_>) -> Result<bool, AllocError> {
+// Whether a statement is met. Want of memory is no answer.
+fn is_met<A: Allocator>(alloc: &A, states: Statement<'_>) -> Result<bool, AllocError> {
     match states {
         Statement::WritesGrouped {
             bytes,
@@ -114,7 +124,7 @@ pub fn run_plain<A: Allocator, S: Sink>(
 {
     let mut failed = 0;
     'table: for vector in table {
-        let Ok(passed) = passes(alloc, vector.states) else {
+        let Ok(passed) = is_met(alloc, vector.states) else {
             return Err(VectorFault::OutOfMemory);
         };
         if let Err(fault) = put_line(sink, "plain", vector.name, passed) {

@@ -7,8 +7,9 @@ ghost use Rattle.hex_program.specs.Serving.{NamesNothing, Serves, ServesOp};
 
 use crate::failure::Failure;
 use crate::input::read_input;
+use crate::plain_run::VectorFault;
 use crate::plain_vectors::{PLAIN_VECTORS, PlainVector};
-use crate::vector_run::{VectorFault, run_vectors};
+use crate::vector_run::run_vectors;
 use crate::vectors::{VECTORS, Vector};
 use arrayvec::ArrayString;
 use hex_format::WriterSink;

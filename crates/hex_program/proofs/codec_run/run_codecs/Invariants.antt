@@ -1,6 +1,6 @@
 -- At most each vector has failed under each codec so far, and no put has.
 use Rattle.std.proofs.Common.{◌≡◌, ◌≤◌, ◌*◌, length}
-use Rattle.hex_program.proofs.vector_run.run_codecs.Given as goal
+use Rattle.hex_program.proofs.codec_run.run_codecs.Given as goal
 
 abbrev pub invariant-codecs : goal.invariant-codecs
 invariant-codecs g l =
