@@ -4,9 +4,9 @@
 
 mod codecs;
 mod granted;
-mod pieces;
 mod runs;
 mod served;
+mod short_reads;
 mod statements;
 mod streamed;
 mod streams;
@@ -34,7 +34,7 @@ fn program_row(call: &[u8], row: Words<'_>, answer: Words<'_>, buffers: &mut Buf
     }
 }
 
-// A row of an operation, or of a decoding in pieces.
+// A row of an operation, or of a decoding by short reads.
 fn operation_row(call: &[u8], row: Words<'_>, answer: Words<'_>, buffers: &mut Buffers) -> bool {
     if is(call, b"run") {
         runs::run_row(row, answer, buffers)
@@ -42,10 +42,10 @@ fn operation_row(call: &[u8], row: Words<'_>, answer: Words<'_>, buffers: &mut B
         runs::run_in_row(row, answer, buffers)
     } else if is(call, b"run-into") {
         runs::run_into_row(row, answer, buffers)
-    } else if is(call, b"pieces") {
-        pieces::pieces_row(row, answer, buffers)
+    } else if is(call, b"reads") {
+        short_reads::reads_row(row, answer, buffers)
     } else if is(call, b"edge") {
-        pieces::edge_row(row, answer, buffers)
+        short_reads::edge_row(row, answer, buffers)
     } else {
         vector_row(call, row, answer, buffers)
     }

@@ -2,11 +2,11 @@
 
 ghost use Rattle.std.specs.Prelude.{◌<◌};
 
+use crate::each_byte::{Values, put_nibble};
 use crate::limited_sink::{CAPACITY, LimitedSink, Mode};
 use crate::terms::{
     Buffers, Destination, Given, group, growths, invalid, is_either, is_stopped, policy,
 };
-use crate::wholes::{Values, put_nibble};
 use hex_codec::Group;
 use hex_codec::grouped::{GroupFault, read, read_into};
 use hex_core::CheckCase;
@@ -119,10 +119,10 @@ pub fn each_grouped_row(
     answer: &mut Words<'_>,
     buffers: &mut Buffers,
 ) -> Option<bool> {
-    let (turn, byte) = (row.turn() / 256, (row.turn() % 256) as u8);
+    let (offset, byte) = (row.turn() / 256, (row.turn() % 256) as u8);
     let group = group(row)?;
     let case = policy(row);
-    let place = row.take_number().checked_add(turn)?;
+    let place = row.take_number().checked_add(offset)?;
     row.take_bytes(&mut buffers.given);
     answer.take_bytes(&mut buffers.wanted);
     let value = Values::read(answer).get(byte);

@@ -2,11 +2,12 @@
 //! answered otherwise and how many there are. `test_kit` says how a row is written.
 #![tactic(auto)]
 
+mod each_byte;
 mod feeds;
 mod lanes;
 mod limited_sink;
 mod lists;
-mod owned;
+mod returned;
 mod search;
 mod slices;
 mod streamed;
@@ -30,9 +31,9 @@ fn turned(
     to: &mut Buffers,
 ) -> Option<bool> {
     if is(call, b"each-byte") {
-        wholes::each_byte_row(row, answer, to)
+        each_byte::each_byte_row(row, answer, to)
     } else if is(call, b"each-pair") {
-        wholes::each_pair_row(row, answer, to)
+        each_byte::each_pair_row(row, answer, to)
     } else if is(call, b"both") {
         Some(wholes::both_row(row, answer, to))
     } else if is(call, b"appends") {
@@ -90,7 +91,7 @@ fn fits(
     } else if is(call, b"encode") {
         Some(slices::all_encode(given, to, want))
     } else if is(call, b"array") {
-        owned::is_array_read(given, want)
+        returned::is_array_read(given, want)
     } else if is(call, b"fixed") {
         strings::is_fixed_written(given, want)
     } else {
@@ -145,7 +146,7 @@ fn grown_row(
     let given = Given::read_behind(&mut row, &mut buffers.given, buffers.from);
     let want = Grown::read(&mut answer, &mut buffers.wanted);
     let is_answered = if is(call, b"vector") {
-        owned::is_vector_read(buffers.alloc, given, want)
+        returned::is_vector_read(buffers.alloc, given, want)
     } else {
         strings::is_string_written(buffers.alloc, given, want)
     };

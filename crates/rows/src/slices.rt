@@ -91,12 +91,12 @@ pub fn all_encode(given: Given<'_>, to: &mut Destination, want: Answer<'_>) -> b
 }
 
 /// Returns whether each call of a check says so.
-pub fn all_check(src: &[u8], case: CheckCase, passes: bool) -> bool {
+pub fn all_check(src: &[u8], case: CheckCase, is_valid: bool) -> bool {
     for plan in backends() {
-        if plan.check(src, case) != passes {
+        if plan.check(src, case) != is_valid {
             return false;
         }
     }
-    hex_check_with_case(src, case) == passes
-        && (case != CheckCase::None || hex_check(src) == passes)
+    hex_check_with_case(src, case) == is_valid
+        && (case != CheckCase::None || hex_check(src) == is_valid)
 }

@@ -1,4 +1,4 @@
-//! Rows of the calls that decode into an array or a vector.
+//! Rows of the calls that return an array or a vector.
 
 ghost use Rattle.std.specs.Prelude.{◌<◌};
 

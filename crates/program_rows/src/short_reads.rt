@@ -1,4 +1,4 @@
-//! Rows of decodings that are read in pieces, beside `run` over the whole input.
+//! Rows of decodings whose input comes in short reads, beside `run` over the whole input.
 
 use crate::terms::{Buffers, is_message};
 use hex_format::WriterSink;
@@ -10,12 +10,12 @@ use test_kit::Words;
 
 // Gives its bytes in order, at most so many a read.
 #[derive(Drop)]
-struct Pieces<'a> {
+struct ShortReads<'a> {
     rest: &'a [u8],
     every: usize,
 }
 
-impl<'a> Read for Pieces<'a> {
+impl<'a> Read for ShortReads<'a> {
     fn read(&mut self, buf: &mut [u8]) -> io::Result<usize> {
         let n = self.every.min(self.rest.len()).min(buf.len());
         let (given, rest) = self.rest.split_at(n);
@@ -37,12 +37,12 @@ fn is_told(alloc: Global, ran: Result<(), RunFault>, status: u8, message: &[u8])
     }
 }
 
-// Whether an input that is read in pieces is served as an operation runs over all of it.
+// Whether an input that comes in short reads is served as an operation runs over all of it.
 fn is_served(alloc: Global, word: &str, op: Op, source: &[u8], every: usize) -> bool {
     let mut sink = WriterSink::new(Vec::new(alloc));
     let ran = run(alloc, op, source, &mut sink);
     let whole = sink.into_inner();
-    let mut input = Pieces {
+    let mut input = ShortReads {
         rest: source,
         every,
     };
@@ -57,8 +57,8 @@ fn is_alike(answer: Words<'_>) -> bool {
     answer.takes(b"alike") && answer.are_read()
 }
 
-/// `pieces INPUT EVERY`: each decoding, by reads of so many bytes at most.
-pub fn pieces_row(row: Words<'_>, answer: Words<'_>, buffers: &mut Buffers) -> bool {
+/// `reads INPUT EVERY`: each decoding, by reads of so many bytes at most.
+pub fn reads_row(row: Words<'_>, answer: Words<'_>, buffers: &mut Buffers) -> bool {
     let (mut row, alloc) = (row, buffers.alloc);
     row.take_bytes(&mut buffers.input);
     let every = row.take_number();
