@@ -60,7 +60,7 @@ where
 
 /// Writes the bytes of nibbles from `at` on.
 #[inline(always)]
-pub fn put<const N: usize, const HALF: usize>(
+pub fn pack_at<const N: usize, const HALF: usize>(
     nibbles: Simd<u8, N>,
     case: CheckCase,
     dst: &mut [u8],
@@ -91,7 +91,7 @@ where
     requires valid { first_invalid case src.now ≡ None }
     ensures { DecodesRange case src.now dst.old dst.new at (at + HALF) }
 {
-    put(values_at::<M, N>(src, 2 * at, case), case, dst, at);
+    pack_at(values_at::<M, N>(src, 2 * at, case), case, dst, at);
 }
 
 // The same of so many blocks.
@@ -116,7 +116,7 @@ where
     }
 }
 
-// How many blocks are written in a run. Numbers that the compiler knows are read once a turn.
+// How many blocks a run has. Each number that the compiler knows is read once a run.
 const WRITE_RUN: usize = 4;
 
 /// Writes the bytes that a block or more of valid digits spells over the whole of `dst`.

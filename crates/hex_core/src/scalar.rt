@@ -69,7 +69,7 @@ fn word_of(src: &[u8], case: CheckCase) -> Option<u64>
 
 // Writes the last bytes of a number over the whole of `dst`. A copy of so few bytes would be a call.
 #[inline(always)]
-fn put_word(word: u64, dst: &mut [u8])
+fn write_word(word: u64, dst: &mut [u8])
     requires { length dst.old < 8 }
     ensures { dst.new ≡ bytes_high_first (length dst.old) word }
 {
@@ -91,7 +91,7 @@ fn decode_as_word(src: &[u8], dst: &mut [u8], case: CheckCase) -> bool
     let Some(word) = word_of(src, case) else {
         return false;
     };
-    put_word(word, dst);
+    write_word(word, dst);
     true
 }
 

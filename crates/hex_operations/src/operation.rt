@@ -3,7 +3,7 @@
 ghost use Rattle.std.specs.Prelude.{◌≡◌, ◌++◌, ◌∷◌, [], ◌<◌, ◌-◌, ◌^◌, map};
 ghost use Rattle.hex_core.specs.Text.{text};
 ghost use Rattle.hex_format.specs.Sink.{Puts};
-ghost use Rattle.hex_operations.specs.Operations.{Runs, RunsDecoding, RunsEncoding, op_of_word, op_of_words, without_newline};
+ghost use Rattle.hex_operations.specs.Operations.{Runs, RunsDecoding, op_of_word, op_of_words, without_newline};
 
 use hex_codec::hex_decode_vec_with_case;
 use hex_core::{CheckCase, Error};
@@ -88,7 +88,7 @@ pub fn digits_in(input: &[u8]) -> &[u8]
     }
 }
 
-// Puts the text of some bytes, and a newline.
+// Puts the text of some bytes, and a newline. No memory is taken.
 fn put_text_line<S: Sink>(bytes: &[u8], upper: bool, sink: &mut S) -> Result<(), WriteFault>
     requires { (S.state sink.old).failures < 2 ^ 64 - 1 }
     ensures { Puts (S.state sink.old) (S.state sink.new) result (text upper bytes.now ++ 10 ∷ []) }
@@ -101,14 +101,6 @@ fn put_text_line<S: Sink>(bytes: &[u8], upper: bool, sink: &mut S) -> Result<(),
     };
     Hex::new(bytes).write_to(sink, &flags)?;
     put_all(sink, b"\n")
-}
-
-// Encodes the input. No memory is taken.
-fn run_encoding<S: Sink>(input: &[u8], upper: bool, sink: &mut S) -> Result<(), RunFault>
-    requires { (S.state sink.old).failures < 2 ^ 64 - 1 }
-    ensures { RunsEncoding upper input.now (S.state sink.old) (S.state sink.new) result }
-{
-    put_text_line(input, upper, sink).map_err(RunFault::Write)
 }
 
 // Puts the bytes that the input spells, or refuses it. All are collected before the first put.
@@ -139,8 +131,8 @@ pub fn run_in<A: Allocator + Drop, S: Sink>(
     ensures { Runs op input.now (S.state sink.old) (S.state sink.new) result }
 {
     match op {
-        Op::Encode => run_encoding(input, false, sink),
-        Op::EncodeUpper => run_encoding(input, true, sink),
+        Op::Encode => put_text_line(input, false, sink).map_err(RunFault::Write),
+        Op::EncodeUpper => put_text_line(input, true, sink).map_err(RunFault::Write),
         Op::Decode => run_decoding(alloc, input, CheckCase::None, sink),
         Op::DecodeLower => run_decoding(alloc, input, CheckCase::Lower, sink),
         Op::DecodeUpper => run_decoding(alloc, input, CheckCase::Upper, sink),

@@ -11,7 +11,7 @@ ghost use Rattle.hex_core.specs.Shapes.{EndsCover, Halves};
 use crate::blocks::check::check_runs;
 use crate::digit::CheckCase;
 use crate::digit_lanes::saturated;
-use crate::kernel::{put, write_blocks};
+use crate::kernel::{pack_at, write_blocks};
 use crate::nibbles::Valid;
 use crate::vector::{Lanes, Pack, either, is_small};
 use std::simd::prelude::*;
@@ -27,7 +27,7 @@ fn nibbles_at<const N: usize>(src: &[u8], at: usize, case: CheckCase) -> Simd<u8
 
 // Writes the bytes of two blocks of nibbles, one at each end of a range.
 #[inline(always)]
-fn put_two<const N: usize, const HALF: usize>(
+fn pack_two<const N: usize, const HALF: usize>(
     front: Simd<u8, N>,
     back: Simd<u8, N>,
     case: CheckCase,
@@ -44,8 +44,8 @@ where
     ensures { dst.new ≡ put_chunk (end - HALF) (put_chunk start dst.old (packed front.entry))
         (packed back.entry) }
 {
-    put(front, case, dst, start);
-    put(back, case, dst, end - HALF);
+    pack_at(front, case, dst, start);
+    pack_at(back, case, dst, end - HALF);
 }
 
 /// Decodes a source of `N` digits: all of it is tested before the first store.
@@ -65,7 +65,7 @@ where
     if !is_small(nibbles) {
         return false;
     }
-    put(nibbles, case, dst, 0);
+    pack_at(nibbles, case, dst, 0);
     true
 }
 
@@ -88,7 +88,7 @@ where
         return false;
     }
     let end = dst.len();
-    put_two(front, back, case, dst, 0, end);
+    pack_two(front, back, case, dst, 0, end);
     true
 }
 
@@ -113,8 +113,8 @@ where
         return false;
     }
     let end = dst.len();
-    put_two(first, second, case, dst, 0, N);
-    put(last, case, dst, end - HALF);
+    pack_two(first, second, case, dst, 0, N);
+    pack_at(last, case, dst, end - HALF);
     true
 }
 
@@ -140,8 +140,8 @@ where
         return false;
     }
     let end = dst.len();
-    put_two(first, second, case, dst, 0, N);
-    put_two(third, last, case, dst, end - N, end);
+    pack_two(first, second, case, dst, 0, N);
+    pack_two(third, last, case, dst, end - N, end);
     true
 }
 

@@ -9,5 +9,5 @@ pub returns : goal.returns
 returns c =
     let s = c.args.src.now in
     let half : length s / 2 ≡ length c.args.dst.now = omega arith in
-    let spells = subst (Spells c.args.case s) (ap (λ k. bytes_high_first k c.in-Some.word) half ∙ sym c.put_word.ensures) c.in-Some.ensures in
+    let spells = subst (Spells c.args.case s) (ap (λ k. bytes_high_first k c.in-Some.word) half ∙ sym c.write_word.ensures) c.in-Some.ensures in
     (valid-spelled c.args.case s _ spells, spells)

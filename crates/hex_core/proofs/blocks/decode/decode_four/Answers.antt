@@ -10,13 +10,13 @@ returns-then-not-is_small g c =
     c.nibbles_at-first.ensures c.nibbles_at-second.ensures c.nibbles_at-third.ensures c.nibbles_at-last.ensures (omega arith) (omega arith) (omega arith) in
     (iff_false test c.if-not-is_small.true, refl)
 
-pub put_two-requires : goal.put_two-requires
-put_two-requires g c =
+pub pack_two-requires : goal.pack_two-requires
+pack_two-requires g c =
     let small = c.either.ensures.small.0 (c.either-3.ensures.small.0 (c.is_small.ensures.0 c.if-not-is_small.false)).0 in
     (omega arith, (small.0, (small.1, (omega arith, omega arith))))
 
-pub put_two-requires-2 : goal.put_two-requires-2
-put_two-requires-2 g c =
+pub pack_two-requires-2 : goal.pack_two-requires-2
+pack_two-requires-2 g c =
     let small = c.either-2.ensures.small.0 (c.either-3.ensures.small.0 (c.is_small.ensures.0 c.if-not-is_small.false)).1 in
     (omega arith, (small.0, (small.1, (omega arith, omega arith))))
 
@@ -26,9 +26,9 @@ returns g c =
     let first = c.nibbles_at-first.ensures in let second = c.nibbles_at-second.ensures in let third = c.nibbles_at-third.ensures in let last = c.nibbles_at-last.ensures in
     let test = pairs_tested c.is_small.ensures c.either-3.ensures.small c.either.ensures.small c.either-2.ensures.small first second third last (omega arith) (omega arith) (omega arith) in
     let small = c.either-3.ensures.small.0 (c.is_small.ensures.0 c.if-not-is_small.false) in
-    let mid = c.put_two.new.dst in
+    let mid = c.pack_two.new.dst in
     let front : DecodesRange case s old mid 0 n =
-    pair_decodes (n - w) w first second (c.either.ensures.small.0 small.0) c.put_two.ensures (omega arith) refl (omega arith) (omega arith) (omega arith) (omega arith) (omega arith) in
-    let back : DecodesRange case s mid c.put_two-2.new.dst (end - n) end =
-    pair_decodes (end - w) w third last (c.either-2.ensures.small.0 small.1) c.put_two-2.ensures (omega arith) (omega arith) (omega arith) (omega arith) (omega arith) (omega arith) (omega arith) in
+    pair_decodes (n - w) w first second (c.either.ensures.small.0 small.0) c.pack_two.ensures (omega arith) refl (omega arith) (omega arith) (omega arith) (omega arith) (omega arith) in
+    let back : DecodesRange case s mid c.pack_two-2.new.dst (end - n) end =
+    pair_decodes (end - w) w third last (c.either-2.ensures.small.0 small.1) c.pack_two-2.ensures (omega arith) (omega arith) (omega arith) (omega arith) (omega arith) (omega arith) (omega arith) in
     (test.0 c.if-not-is_small.false, decodes_whole (decodes_over front back (omega arith) (omega arith) (omega arith)) (omega arith) (omega arith))

@@ -13,5 +13,5 @@ pub returns : goal.returns
 returns g c =
     let low = c.is_small.ensures.0 c.if-not-is_small.false in (
       (valid_whole c.args.case c.args.src.now g.row.N (omega arith)).0 ((small_valid g.row.N c.nibbles_at-nibbles.ensures (omega arith)).0 low),
-      decodes_whole (block_decodes {end = g.row.HALF} g.row.HALF c.nibbles_at-nibbles.ensures low c.put.ensures (omega arith) refl (omega arith) (omega arith)) (omega arith) (omega arith),
+      decodes_whole (block_decodes {end = g.row.HALF} g.row.HALF c.nibbles_at-nibbles.ensures low c.pack_at.ensures (omega arith) refl (omega arith) (omega arith)) (omega arith) (omega arith),
     )

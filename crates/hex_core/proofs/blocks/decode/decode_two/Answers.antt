@@ -15,5 +15,5 @@ returns g c =
     let small = c.either.ensures.small.0 (c.is_small.ensures.0 c.if-not-is_small.false) in (
       (pair_tested c.is_small.ensures c.either.ensures.small front back (omega arith) (omega arith)).0 c.if-not-is_small.false,
       decodes_whole {n = end}
-          (pair_decodes (end - w) w front back small c.put_two.ensures (omega arith) refl (omega arith) (omega arith) (omega arith) (omega arith) (omega arith)) (omega arith) (omega arith),
+          (pair_decodes (end - w) w front back small c.pack_two.ensures (omega arith) refl (omega arith) (omega arith) (omega arith) (omega arith) (omega arith)) (omega arith) (omega arith),
     )

@@ -1,6 +1,6 @@
 use Rattle.std.proofs.Common.{◌≡◌, ℕ, ◌-◌, ◌/◌, ◌^◌, ◌<◌, get_or, length}
 use Rattle.std.specs.Int.{byte_at}
-use Rattle.hex_core.proofs.scalar.put_word.Given as goal
+use Rattle.hex_core.proofs.scalar.write_word.Given as goal
 
 -- the last bytes are written, and the others are left
 abbrev pub invariant-bytes : goal.invariant-bytes
