@@ -1,25 +1,11 @@
 -- The walk of `hex_append` and of `hex_append_upper`: both pass on what `append_in` answers, with the lender in the other place.
-use Rattle.hex_core.proofs.WalkKit.{refl, ℕ, Bool, List, [], ◌∷◌, length, Ura, named, erased, sep, emp, id⊢, Lft, ftrue, flft, Logic, ‵, ◌⊛◌, raw, some, later, ◌$◌, ◌∵◌, !, qed, move, keep, drop, split, join, fjoin, use1, use2, await, pick, suffices, frame, done, stop, addr, and_then, no_more, returns, enter, alloc_all, pass_all, free_all, look_at, get, sets, lands_as, fact, tables, u8, bool, yes, no, Is, shows, bool_vals, bool_Makes, RattleType, plain, shr_slice_of, ShrSlice, Room, shr_slice_vals, shr_slice_Tells, nothing, owned, peeks, heard, calls_at, Lasts, lasts, triple_of, framed, says, Stays, stay_dropped, ends_at, Goes-dropped, Result, proved}
+use Rattle.hex_core.proofs.WalkKit.{refl, ℕ, Bool, List, [], ◌∷◌, length, Result, Ura, Callee, Fn, Ty, named, erased, mut, ty_ref, place, deref, local, value_local, copy, addr_of, seq, assign, call, return, vbool, sep, emp, id⊢, Lft, ftrue, flft, Model, Closed, Logic, sem, ‵, ◌⊛◌, raw, some, later, ◌$◌, ◌∵◌, !, qed, move, keep, drop, split, join, fjoin, use1, use2, await, pick, suffices, frame, done, stop, addr, and_then, no_more, returns, enter, alloc_all, pass_all, free_all, look_at, get, through, sets, lands_as, ◌⊑◌, fact, Running, tables, u8, bool, yes, no, Is, shows, lone, param, bool_vals, bool_Makes, RattleType, MutRef, NamedLft, mut_vals, mut_Tells, plain, mut_ref_to, shr_slice_of, ShrSlice, Room, shr_slice_vals, shr_slice_Tells, nothing, owned, peeks, heard, calls_at, Clauses, Lasts, closing, lasts, Meets, triple_of, framed, Goes-dropped, Goes-spent_ref, Stays, ends_at, says, stay_dropped, proved}
 use borrow.Table.Str.{str_laws}
-use contract.BorrowLft.{◌⊑◌}
-use contract.Running.{Running}
 use denote.Bor.{Bor}
 use denote.Enum.Laws as enum_laws
-use denote.Memory.{lone}
 use denote.Param.Laws as param_laws
-use denote.Param.{param}
-use denote.Ref.{MutRef, NamedLft, mut_vals, mut_Tells}
-use denote.Signature.{mut_ref_to}
 use denote.Text.{str-field, str-laws}
-use denote.Triple.Clauses.{Clauses, closing}
-use denote.Triple.Spec.{Meets}
-use denote.Triple.Walked.{Goes-spent_ref}
-use mir.Syntax.{Callee, Dict, Fn, Ty, ty_ref, mut, place, deref, local, value_local, copy, seq, call, assign, addr_of, return}
-use mir.Val.{vbool}
-use prog.Model.{Model}
-use prog.Wp.{Closed}
-use types.ByLocal.{through}
-use types.Logic.{sem}
+use mir.Syntax.{Dict}
 use Rattle.std.specs.Io.BufRead.{Rests}
 use Rattle.std.specs.contracts.result.Result as RS
 use Rattle.std.proofs.result.Result.TheLaws as RL

@@ -1,23 +1,13 @@
 -- The walk of `hex_encode` and of `hex_encode_upper`: both hand on what encoding under the plain plan lends.
-use Rattle.hex_core.proofs.WalkKit.{refl, Bool, true, false, List, [], ◌∷◌, length, Ura, named, erased, id⊢, ftrue, flft, Logic, ‵, ◌⊛◌, raw, some, later, ◌$◌, ◌∵◌, !, qed, move, keep, drop, split, join, fsplit3, fjoin, use1, use2, await, pick, suffices, frame, done, whole, sub, agg, stop, fld, hop, from, addr, true_lit, false_lit, and_then, no_more, returns, enter, alloc_all, pass_all, free_all, look_at, look_in_at, get, get_in, sets, lands_as, fact, tables, u8, bool, bool_vals, bool_Makes, yes, no, Is, shows, owns, plain as plain_slot, mut_slice_of, shr_slice_of, ShrSlice, MutSlice, Room, shr_slice_vals, shr_slice_Tells, mut_slice_vals, mut_slice_Tells, nothing, owned, peeks, heard, calls_at, Lasts, lasts, triple_of, framed, says, Stays, stay_dropped, ends_at, Goes-dropped, Goes-spent_slice, proved}
-use base.Logic.{emp, sep}
-use contract.Running.{Running}
-use denote.Memory.{lone}
-use denote.Triple.Clauses.{Clauses, closing}
-use denote.Triple.Spec.{Meets}
-use mir.Syntax.{Callee, Fn, Opd as Operand, w8, ty_int, ty_ref, mut, place, deref, field, local, value_local, copy, opd_true, opd_false, seq, call, assign, addr_of, aggregate, return}
-use mir.Val.{vbool}
-use prog.Model.{Model}
-use prog.Wired.{Wired}
-use prog.Wp.{Closed, Env}
+use Rattle.hex_core.proofs.WalkKit.{◌≡◌, refl, Bool, true, false, List, [], ◌∷◌, length, w8, Ura, Callee, Fn, named, erased, mut, ty_int, ty_ref, place, deref, field, local, value_local, copy, addr_of, aggregate, seq, assign, call, return, vbool, sep, emp, id⊢, ftrue, flft, Model, Wired, Closed, Env, Logic, sem, ‵, ◌⊛◌, raw, some, later, ◌$◌, ◌∵◌, !, qed, move, keep, drop, split, join, fsplit3, fjoin, use1, use2, await, pick, suffices, frame, done, whole, sub, agg, stop, fld, hop, from, addr, true_lit, false_lit, and_then, no_more, returns, enter, alloc_all, pass_all, free_all, look_at, look_in_at, get, get_in, sets, lands_as, fact, Running, tables, u8, bool, yes, no, Is, shows, lone, bool_vals, bool_Makes, owns, plain as plain_slot, mut_slice_of, shr_slice_of, ShrSlice, MutSlice, Room, shr_slice_vals, shr_slice_Tells, mut_slice_vals, mut_slice_Tells, nothing, owned, peeks, heard, calls_at, Clauses, Lasts, closing, lasts, Meets, triple_of, framed, Goes-dropped, Goes-spent_slice, Stays, ends_at, says, stay_dropped, proved}
+use mir.Syntax.{Opd as Operand, opd_true, opd_false}
 use types.Kit.{Item}
 use types.Run.{Opd}
-use types.Logic.{sem}
 use Rattle.hex_core.proofs.Lent.{Plan, plan_lawful, plan_makes, Lent, Answer, lent_lawful}
 use Rattle.hex_core.specs.Calls.{EncodesFront}
 use Rattle.hex_core.specs.Loan.{LendsAnswer}
 use Rattle.hex_core.specs.Plans.{name_of}
-use Rattle.std.specs.Prelude.{◌≡◌, codes}
+use Rattle.std.specs.Prelude.{codes}
 use Rattle.hex_core.specs.contracts.backend.Backend.plain as p
 use Rattle.hex_core.proofs.backend.Backend.plain.Symbol as p_symbol
 use Rattle.hex_core.proofs.backend.Backend.plain.Met as p_met

@@ -1,17 +1,11 @@
 -- The types that the slice calls pass, with their laws, and how a loan is handed on.
-use Rattle.hex_core.proofs.WalkKit.{◌≡◌, refl, ap, List, [], ◌∷◌, ℕ, ◌^◌, ◌<◌, take, Ura, w64, Val, vint, Lifetime, Lft, Logic, RattleType, MutBor, MutSlice, Is, u8, usize, Result, Ok, Err, IfOk, IsOkAnd}
-use mathlib.Core.Path.{◌∙◌}
-use mathlib.Core.List.{◌++◌}
-use mir.Val.{of_list}
+use Rattle.hex_core.proofs.WalkKit.{◌≡◌, refl, ap, ◌∙◌, ℕ, ◌^◌, ◌<◌, List, [], ◌∷◌, ◌++◌, take, w64, MutBor, Result, Ok, Err, IfOk, IsOkAnd, Ura, Lifetime, Val, of_list, vint, Lft, Logic, u8, usize, no, Is, Lawful, Makes, Tells, layout, param, RattleType, NamedLft, MutSlice}
 use types.Match.{live}
 use denote.Enum.Laws as enum_laws
-use denote.Laws.{Tells, Makes, Lawful}
-use denote.Exit.{no}
-use denote.Param.{layout, param, arg}
+use denote.Param.{arg}
 use mir.Raw.{raw}
 use denote.Param.Laws as param_laws
 use denote.Param.Shared.{copy_shared, mut_slice_shared}
-use denote.Ref.{NamedLft}
 use denote.Struct.Field.{u8-field, u64-field, mut_slice_field}
 use denote.Struct.Laws as struct_laws
 use denote.Struct.Members.{Lone}

@@ -13,7 +13,6 @@ pub mod PositionLemmas
 pub mod ProbeLemmas
 pub mod SearchLemmas
 pub mod Lent
-pub mod LentAgain
 pub mod RefusalLemmas
 pub mod ShiftLemmas
 pub mod SliceWalk

@@ -1,27 +1,7 @@
 -- The walk of `decode_slice` and of `encode_slice`: a call writes into the destination, and its front is lent.
-use Rattle.hex_core.proofs.WalkKit.{◌≡◌, refl, ℕ, ◌≤◌, List, [], ◌∷◌, length, Ura, named, erased, Val, emp, sep, id⊢, ftrue, flft, fact, fact_i, Logic, ‵, ◌⊛◌, raw, some, later, ◌$◌, ◌∵◌, !, qed, move, keep, drop, rewrite, split, split3, join, fsplit3, fjoin, use0, use1, use2, await, pick, suffices, frame, done, whole, sub, agg, stop, fld, hop, from, addr, and_then, no_more, returns, enter, alloc_all, pass_all, free_all, look_at, look_in_at, get, get_in, sets, lands_as, tables, u8, yes, no, Is, shows, owns, plain, mut_slice_of, shr_slice_of, Fml, MutBor, RattleType, ShrSlice, MutSlice, Room, shr_slice_vals, shr_slice_Tells, mut_slice_vals, mut_slice_Tells, nothing, owned, peeks, heard, calls_at, Lasts, lasts, triple_of, framed, says, Stays, stay_dropped, ends_at, Goes-dropped, Goes-spent_slice, Err, IfOk, IfErr, proved}
-use base.Fraction.{full_share}
-use base.Fml.{GName}
-use contract.BorrowLft.{◌⊑◌, ⊑_static}
-use contract.Running.{Running}
-use denote.Exit.{Last}
-use denote.Laws.{Tells, Makes}
-use denote.Memory.{lone}
-use denote.Param.{layouts}
-use denote.Triple.Clauses.{Clauses, Ended, closing}
-use denote.Triple.Spec.{Meets}
-use denote.Triple.Walked.{Silent}
+use Rattle.hex_core.proofs.WalkKit.{◌≡◌, refl, ap, sym, ℕ, ◌≤◌, List, [], ◌∷◌, length, w8, MutBor, Err, IfOk, IfErr, Ura, Callee, Fn, Local, Rv, Ty, a_type, named, erased, mut, ty_int, ty_ref, place, deref, field, local, value_local, copy, addr_of, aggregate, seq, assign, call, return, Val, WT, has_ty, sep, emp, id⊢, Fml, GName, ftrue, flft, full_share, Model, Wired, Closed, Logic, sem, ‵, ◌⊛◌, raw, some, given, later, ◌$◌, ◌∵◌, !, qed, move, keep, drop, rewrite, split, split3, join, fsplit, fsplit3, fjoin, feq_i, use0, use1, use2, use3, await, pick, learn, suffices, frame, done, whole, sub, agg, stop, fld, hop, from, addr, and_then, no_more, returns, enter, alloc_all, pass_all, free_all, look_at, look_in_at, get, get_in, sets, lands_as, lft_new, lft_end, ◌⊑◌, ⊑_static, fact, fact_i, Running, tables, kept_f, sl_relend, sl_relent_backˡ, BareSlice, u8, Last, yes, no, Is, Makes, Tells, shows, lone, layouts, RattleType, owns, plain, mut_slice_of, shr_slice_of, ShrSlice, MutSlice, Room, slice_val, shr_slice_vals, shr_slice_Tells, mut_slice_vals, mut_slice_Tells, nothing, owned, peeks, heard, calls_at, Clauses, Ended, Lasts, closing, lasts, Meets, triple_of, framed, Goes-dropped, Goes-spent_slice, Silent, Stays, ends_at, says, stay_dropped, proved}
 use lib.Dec.{T}
-use mir.Syntax.{Callee, Fn, Local, Rv, Ty, a_type, w8, ty_int, ty_ref, mut, place, deref, field, local, value_local, copy, seq, call, assign, addr_of, aggregate, return}
-use mir.Val.{has_ty, WT}
-use prog.Model.{Model}
-use prog.Wired.{Wired}
-use prog.Wp.{Closed}
-use types.Kit.{use3, fsplit, feq_l}
-use types.Logic.{sem}
-use types.Tokens.{lft_new, lft_end}
 use Rattle.hex_core.proofs.Lent.{Plan, plan_vals, plan_tells, plan_lawful, plan_makes, Counted, counted_lawful, Lent, Answer, lent_lawful, LendsFront, Passed, passed_laws}
-use Rattle.hex_core.proofs.LentAgain.{Slice, Kept, lends_again, comes_back}
 use Rattle.hex_core.proofs.SliceWalk.{Leaves, inside, same_loan}
 use Rattle.hex_core.specs.Loan.{LendsAnswer}
 use Rattle.hex_core.specs.contracts.error.Error as ER
@@ -122,9 +102,9 @@ module _ (X : RattleType) (τ : Ty) (val : X.Denot → Val) (Wrote : X.Denot →
       -- [the source; the destination; the two tokens; the locals]
       sets ! (addr ! (from ! (fld ! refl (hop ! (look_in_at ! 3 (sub ! 0 refl (whole !))) (stop !))))) refl (tt, tt) $
       sets ! (agg ! (and_then ! (get ! refl) (and_then ! (get_in ! (fld ! refl (stop !)) (sub ! 1 refl (whole !))) (no_more !)))) refl (tt, (tt, (record { fits = rm.0 }, tt))) $
-      lft_new ! tt (λ α. move ! (2 ∷ 4 ∷ []) $
-      use2 𝓛 (later (some (λ (δ : GName). ‵ (Slice 𝓛 u8 κ (α ∷ []) q b o γ xs (named 1) (α ∷ []) δ xs) ⊛ ‵ (Kept 𝓛 u8 κ (α ∷ []) q b o γ xs δ))))
-      (lends_again 𝓛 u8 κ (α ∷ []) q b o γ xs (named 1) (named 1) rm) $ await ! tt $ pick ! (λ δ. split ! $
+      lft_new ! tt (λ α. move ! (2 ∷ []) $ fsplit ! $ fsplit ! $ drop ! $ fjoin ! $ move ! (0 ∷ 4 ∷ []) $
+      use2 𝓛 (later (some (λ (δ : GName). ‵ ((BareSlice erased (α ∷ []) u8).own_val (record dst { ghost_name = δ })) ⊛ kept_f 𝓛 u8 κ q (α ∷ []) γ δ xs b o))) (sl_relend 𝓛 u8 κ q (α ∷ []) b o γ xs) $ await ! tt $
+      pick ! (λ δ. split ! $ fsplit ! $ feq_i ! (List Val) (mut_slice_vals dst) (mut_slice_vals dst) refl $ fjoin ! $ fjoin ! $
       -- [the slice for the call; what is kept; the token for the call; the source; its token; the locals]
       let G = triple_of 𝓛 Writing.signature (closing 𝓛 Writing (writes 𝓛)) in
       let z : G.Ghost = (((κ₀, (α ∷ [], tt)), (q₀, (full_share, tt)), tt, (plan, (src, (record dst { ghost_name = δ }, (x, tt)))), (plan_vs, (shr_slice_vals src, (mut_slice_vals dst, (x_vs, tt))))), tt) in
@@ -137,18 +117,18 @@ module _ (X : RattleType) (τ : Ty) (val : X.Denot → Val) (Wrote : X.Denot →
       peeks ! Counted (Is Counted) (shows 𝓛 Counted) u (v ∷ []) (λ is_u. lands_as ! refl refl ((counted_lawful 𝓛).typed u (v ∷ []) is_u).0 $
       move ! (4 ∷ []) $ pick ! (λ ws. split ! $ move ! (1 ∷ []) $ heard ! _ (λ wrote.
       let new = ws.1.1.0 in
-      fsplit3 ! $ move ! (2 ∷ []) $ fsplit ! $ fsplit ! $ fsplit ! $ move ! (1 ∷ []) $ feq_l ! (λ count.
+      let written : MutBor (List ℕ) = record dst { now = new } in
+      fsplit3 ! $ move ! (2 ∷ []) $ fsplit ! $ fsplit ! $ fsplit ! $
+      -- [the last list; as many; the borrow for the call; nothing, three times; the number; the call's token is over; the token of the source; nothing; what was kept; the locals]
+      move ! (7 ∷ 10 ∷ 0 ∷ []) $ use3 𝓛 (later (given (length new ≡ length xs) (‵ ((BareSlice erased κ u8).own_val written) ⊛ ‵ (flft κ q)))) (sl_relent_backˡ 𝓛 u8 κ q (α ∷ []) b o γ δ xs new) $ await ! tt $
+      learn ! (λ count. split ! $ fsplit ! $ feq_i ! (List Val) (mut_slice_vals dst) (mut_slice_vals written) (ap (λ (k : ℕ). slice_val (b, o) k ∷ []) (sym count)) $ fjoin ! $ fjoin ! $
       let left = leaves x s xs new u count wrote in
-      -- [the last list; the borrow for the call; nothing, three times; the number; the call's token is over; the token of the source; nothing; what was kept; the locals]
-      move ! (6 ∷ 9 ∷ 0 ∷ []) $ use3 𝓛 (later (‵ (Slice 𝓛 u8 κ (α ∷ []) q b o γ xs (named 1) κ γ new) ⊛ ‵ (flft κ q)))
-      (comes_back 𝓛 u8 κ (α ∷ []) q b o γ xs (named 1) δ new count rm) $ await ! tt $ split ! $
-      -- [the destination; its token; the borrow; nothing, three times; the number; the token of the source; nothing; the locals]
+      -- [the destination; its token; as many; the borrow; nothing, three times; the number; the token of the source; nothing; the locals]
       sets ! (addr ! (from ! (fld ! refl (hop ! (look_in_at ! 3 (sub ! 0 refl (whole !))) (stop !))))) refl (tt, tt) $
       sets ! (agg ! (and_then ! (get ! refl) (and_then ! (get_in ! (fld ! refl (stop !)) (sub ! 1 refl (whole !))) (no_more !)))) refl (tt, (tt, (record { fits = rm.0 }, tt))) $
-      let written : MutBor (List ℕ) = record dst { now = new } in
       let G' = triple_of 𝓛 (h.signature Refusal) (h.spec Refusal 𝓛 𝓜.mem 𝓡.returns) in
       let z' : G'.Ghost = (((κ, (κ₀, tt)), (q, (q₀, tt)), tt, (written, (u, tt)), (mut_slice_vals dst, (v ∷ [], tt))), tt) in
-      nothing ! $ move ! (7 ∷ 0 ∷ []) $ fjoin ! $ move ! (1 ∷ 0 ∷ []) $ fjoin ! $ nothing ! $ move ! (7 ∷ 0 ∷ []) $ join ! $ move ! (2 ∷ 0 ∷ []) $ join ! $ join ! $
+      nothing ! $ move ! (8 ∷ 0 ∷ []) $ fjoin ! $ move ! (1 ∷ 0 ∷ []) $ fjoin ! $ nothing ! $ move ! (8 ∷ 0 ∷ []) $ join ! $ move ! (2 ∷ 0 ∷ []) $ join ! $ join ! $
       use0 𝓛 (raw (fact 𝓤 (IfOk u (λ n. n ≤ length new)))) (fact_i 𝓤 _ (emp 𝓤) (inside xs new u left)) $
       use0 𝓛 (raw (fact 𝓤 (κ₀ ⊑ Refusal.lives))) (fact_i 𝓤 _ (emp 𝓤) (⊑_static κ₀)) $ join ! $ move ! (1 ∷ 0 ∷ []) $ use2 𝓛 (raw (G'.pre z')) (id⊢ 𝓤 _) $
       calls_at ! framed_calls G' (h_met.met 𝓤 𝓛 𝓜 𝓡 lends Refusal (passed_laws ER.the_row EL.the_row_laws refl)) z' (and_then ! (get ! refl) (and_then ! (get ! refl) (no_more !))) (λ w.

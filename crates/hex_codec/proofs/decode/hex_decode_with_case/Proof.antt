@@ -1,10 +1,10 @@
 -- `hex_decode_with_case` decodes under the plain plan.
-use Rattle.hex_core.proofs.WalkKit.{refl, [], ◌∷◌, length, named, id⊢, ftrue, flft, ‵, ◌⊛◌, raw, some, later, ◌$◌, ◌∵◌, !, qed, move, keep, drop, split, join, fjoin, use1, use2, await, pick, suffices, frame, done, whole, sub, agg, stop, fld, hop, from, addr, and_then, no_more, returns, enter, alloc_all, pass_all, free_all, look_at, look_in_at, get, get_in, sets, lands_as, fact, tables, u8, yes, no, Is, shows, owns, plain, mut_slice_of, shr_slice_of, ShrSlice, MutSlice, Room, shr_slice_vals, shr_slice_Tells, mut_slice_vals, mut_slice_Tells, nothing, owned, peeks, heard, calls_at, Lasts, lasts, triple_of, framed, says, Stays, stay_dropped, ends_at, Goes-dropped, Goes-spent_slice, proved}
+use Rattle.hex_core.proofs.WalkKit.{◌≡◌, refl, [], ◌∷◌, length, named, id⊢, ftrue, flft, ‵, ◌⊛◌, raw, some, later, ◌$◌, ◌∵◌, !, qed, move, keep, drop, split, join, fjoin, use1, use2, await, pick, suffices, frame, done, whole, sub, agg, stop, fld, hop, from, addr, and_then, no_more, returns, enter, alloc_all, pass_all, free_all, look_at, look_in_at, get, get_in, sets, lands_as, fact, tables, u8, yes, no, Is, shows, owns, plain, mut_slice_of, shr_slice_of, ShrSlice, MutSlice, Room, shr_slice_vals, shr_slice_Tells, mut_slice_vals, mut_slice_Tells, nothing, owned, peeks, heard, calls_at, Lasts, lasts, triple_of, framed, Goes-dropped, Goes-spent_slice, Stays, ends_at, says, stay_dropped, proved}
 use Rattle.hex_core.proofs.Lent.{Plan, plan_lawful, plan_makes, Policy, policy_vals, policy_tells, policy_lawful, Lent, Answer, lent_lawful}
 use Rattle.hex_core.specs.Calls.{DecodesFront}
 use Rattle.hex_core.specs.Loan.{LendsAnswer}
 use Rattle.hex_core.specs.Plans.{name_of}
-use Rattle.std.specs.Prelude.{◌≡◌, codes}
+use Rattle.std.specs.Prelude.{codes}
 use Rattle.hex_core.specs.contracts.backend.Backend.plain as p
 use Rattle.hex_core.proofs.backend.Backend.plain.Met as p_met
 use Rattle.hex_core.specs.contracts.backend.Backend.decode_slice as h
@@ -32,7 +32,7 @@ hex_decode_with_case_spec 𝓤 𝓛 𝓜 𝓡 wired =
     let P = triple_of 𝓛 p.signature (p.spec 𝓛 𝓜.mem 𝓡.returns) in
     let y : P.Ghost = ((tt, tt, tt, tt, tt), tt) in
     nothing ! $ nothing ! $ join ! $ nothing ! $ move ! (1 ∷ 0 ∷ []) $ use2 𝓛 (raw (P.pre y)) (id⊢ 𝓤 _) $
-    calls_at ! framed_calls P (p_met.met 𝓤 𝓛 𝓜 𝓡 (code.calls-hex_core::backend::Backend::plain 𝓡.env wired)) y (no_more !) (λ v.
+    calls_at ! framed_calls P (p_met.met 𝓤 𝓛 𝓜 𝓡 (code.calls-hex_core::plan::Backend::plain 𝓡.env wired)) y (no_more !) (λ v.
     use1 𝓛 (later (some (λ (plan : Plan.Denot). (‵ ftrue ⊛ ‵ (Plan.own_val plan (v ∷ []))) ⊛ some (λ (ws : Lasts p.ended y.0.0 y.0.3). ‵ (lasts p.ended y.0.0 y.0.3 ws) ⊛ raw (fact 𝓤 (name_of plan ≡ codes "plain")))))) (id⊢ 𝓤 _) $
     await ! tt $ pick ! (λ plan. split ! $ split ! $ drop ! $ peeks ! Plan (Is Plan) (shows 𝓛 Plan) plan (v ∷ []) (λ is_plan. lands_as ! refl refl ((plan_lawful 𝓛).typed plan (v ∷ []) is_plan).0 $
     drop ! $ pick ! (λ ws. split ! $ drop ! $ drop ! $
@@ -41,7 +41,7 @@ hex_decode_with_case_spec 𝓤 𝓛 𝓜 𝓡 wired =
     let G = triple_of 𝓛 h.signature (h.spec 𝓛 𝓜.mem 𝓡.returns) in
     let z : G.Ghost = ((κs, qs, tt, (plan, a), ((v ∷ []), (shr_slice_vals src, (mut_slice_vals dst, (policy_vals case, tt))))), tt) in
     move ! (1 ∷ []) $ owned ! Plan _ (plan_makes 𝓛) plan (v ∷ []) is_plan $ fjoin ! $ move ! (1 ∷ 0 ∷ []) $ join ! $ use2 𝓛 (raw (G.pre z)) (id⊢ 𝓤 _) $
-    calls_at ! framed_calls G (h_met.met 𝓤 𝓛 𝓜 𝓡 (code.calls-hex_core::backend::Backend::decode_slice 𝓡.env wired)) z (and_then ! (get ! refl) (and_then ! (get ! refl) (and_then ! (get ! refl) (and_then ! (get ! refl) (no_more !))))) (λ w.
+    calls_at ! framed_calls G (h_met.met 𝓤 𝓛 𝓜 𝓡 (code.calls-hex_core::plan::Backend::decode_slice 𝓡.env wired)) z (and_then ! (get ! refl) (and_then ! (get ! refl) (and_then ! (get ! refl) (and_then ! (get ! refl) (no_more !))))) (λ w.
     use1 𝓛 (later (some (λ (r : Answer). ((‵ (flft κ₀ q₀) ⊛ ‵ (flft κ q) ⊛ ‵ ftrue) ⊛ ‵ ((Lent (named 1) κ).own_val r (w ∷ []))) ⊛ some (λ (ws : Lasts h.ended z.0.0 z.0.3). ‵ (lasts h.ended z.0.0 z.0.3 ws)
     ⊛ (‵ (LendsAnswer dst r) ⊛ raw (fact 𝓤 (DecodesFront case s (length xs) r))))))) (id⊢ 𝓤 _) $
     await ! tt $ pick ! (λ r. split ! $ split ! $ move ! (1 ∷ []) $ peeks ! (Lent (named 1) κ) (Is (Lent (named 1) κ)) (shows 𝓛 (Lent (named 1) κ)) r (w ∷ []) (λ is. lands_as ! refl refl ((lent_lawful 𝓛 (named 1) κ).typed r (w ∷ []) is).0 $

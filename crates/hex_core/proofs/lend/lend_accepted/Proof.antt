@@ -1,25 +1,14 @@
 -- `lend_accepted` lends the first bytes of a slice, or hands on the refusal.
-use Rattle.hex_core.proofs.WalkKit.{◌≡◌, refl, sym, subst, arith, ℕ, ◌^◌, ◌<◌, ◌≤◌, List, [], ◌∷◌, lit<, length, take, Ura, named, w64, Val, vint, ent, id⊢, ftrue, flft, Logic, fact, ‵, ◌⊛◌, raw, some, later, ◌$◌, ◌∵◌, !, qed, move, keep, drop, rewrite, split, split3, join, fsplit3, fjoin, use1, use2, await, pick, suffices, frame, done, whole, sub, agg, stop, fld, hop, from, addr, of_opd, and_then, no_more, returns, enter, alloc_all, pass_all, free_all, look_at, look_in_at, get, get_in, sets, tables, u8, no, Is, RattleType, owns, MutBor, plain, mut_slice_of, MutSlice, Room, slice_val, mut_slice_vals, mut_slice_Tells, nothing, heard, Stays, stay_dropped, ends_at, Goes-spent_slice, Result, Ok, Err, IfOk}
-use contract.BorrowLft.{◌⊑◌}
+use Rattle.hex_core.proofs.WalkKit.{◌≡◌, refl, sym, subst, ℕ, ◌^◌, ◌<◌, ◌≤◌, arith, lit<, List, [], ◌∷◌, length, take, w64, MutBor, Result, Ok, Err, IfOk, Ura, Body, Fn, a_type, named, place, copy, rv_opd, seq, assign, return, Val, vint, ent, id⊢, ftrue, flft, fobs, fres, coded_list, Model, Env, WpFn, Logic, ‵, ◌⊛◌, raw, some, later, at_ret, ◌$◌, ◌∵◌, !, qed, move, keep, drop, rewrite, split, split3, join, fsplit, fsplit3, fjoin, use1, use2, await, updating, now, pick, suffices, frame, done, whole, sub, agg, stop, fld, hop, from, addr, of_opd, lit, and_then, no_more, first, exec, returns, enter, alloc_all, pass_all, free_all, look_at, look_in_at, get, get_in, sets, env, ◌⊑◌, fact, Running, tables, u8, no, Is, layouts, param, RattleType, owns, plain, mut_slice_of, MutSlice, Room, slice_val, mut_slice_vals, mut_slice_Tells, nothing, heard, Goes, Goes-spent_slice, Stays, ends_at, stay_dropped, walk_of, proved_at}
 use contract.Lifetimes.{AllOutlive, Lfts, Shares}
-use contract.Running.{Running, MachineTables}
+use contract.Running.{MachineTables}
 use mir.MapTy.{inst_fn}
-use mir.Syntax.{Body, Fn, a_type, seq, assign, place, rv_opd, copy, return}
-use base.Fml.{fobs, fres}
-use base.Stored.{coded_list}
-use prog.Model.{Model}
-use prog.Wp.{WpFn, Env}
-use types.ByLocal.{get_tag, sets_last, env}
-use types.Kit.{at_ret, fsplit, updating, now}
+use types.ByLocal.{get_tag, sets_last}
 use types.Match.{by_variants, vrt, in_variant}
-use types.Run.{lit, first, exec}
 use denote.Follow.{follows_by}
 use denote.FollowSlice.{heres_id}
-use denote.Param.{layouts, param}
 use denote.Param.Laws.{Laws, param_laws}
 use denote.Triple.Statement.{Contract}
-use denote.Triple.Walked.{Goes, walk_of}
-use Rattle.std.proofs.raw_atomic.Walks.{proved_at}
 use Rattle.std.proofs.mem.Facts.{says_two}
 use Rattle.hex_core.proofs.Fronts.{front_lent, lends_front}
 use Rattle.hex_core.proofs.Lent.{CountedBy, LentBy, counted_ok, counted_err, err_val}

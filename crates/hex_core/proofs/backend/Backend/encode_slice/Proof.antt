@@ -1,6 +1,5 @@
 -- `encode_slice` encodes, and then lends the front.
-use mir.Val.{vbool}
-use Rattle.hex_core.proofs.WalkKit.{refl, bool, bool_Tells, bool_Makes}
+use Rattle.hex_core.proofs.WalkKit.{refl, vbool, bool, bool_Tells, bool_Makes}
 use Rattle.hex_core.proofs.SliceWalk.{encode_answer, encode_leaves}
 use Rattle.hex_core.proofs.WriteWalk.{writes_and_lends}
 use Rattle.hex_core.specs.Calls.{Encodes, EncodesFront}
