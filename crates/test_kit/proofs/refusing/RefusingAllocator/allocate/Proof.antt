@@ -1,36 +1,5 @@
 -- It asks the counts, and then refuses or answers what the inner allocator answers. Assumes `Logic`.
-use Rattle.std.proofs.Common.{◌≡◌, ℕ, ◌+◌, true, false, List, [], ◌∷◌, Ok, Err, refl, ap, w64}
-use Rattle.std.proofs.alloc.Calls.{Al, α, seen, Answer, answer_val, Answer-typed, Answer-Ok, Answer-err, Takes, at_takes, Answered, Takes-goes, Takes-gives, answers}
-use Rattle.std.proofs.raw_atomic.Walks.{proved}
-use Rattle.std.proofs.VecSteps.Shapes.{after}
-use mathlib.Core.Bool.{Bool}
-use mir.Syntax.{Args, a_type, dnil, dcons}
-use mir.Val.{Val, vint, vptr}
-use mir.MapTy.{inst_fn}
-use base.Logic.{id⊢}
-use base.Fml.{ftrue, fsep, flft}
-use prog.Memory.{size, align, capped, up}
-use contract.BorrowLft.{◌⊑◌, ⊑_trans}
-use contract.Monad.{fact}
-use contract.Running.{tables}
-use types.Kit.{‵, raw, ◌⊛◌, some, later, at_ret, Sq, prop, ◌$◌, ◌∵◌, !, qed, move, keep, drop, use0, use1, use2, split, join, pick, fsplit, fjoin, feq_i, feq_l, suffices, await, done}
-use types.Part.{agg}
-use types.Run.{lit, stop, fld, addr, un, no_more, and_then, first, branches, skips, exec, returns, returns_within, enter}
-use types.ByLocal.{alloc_all, pass_all, free_all, look_at, get, through, sets, lands_as, env}
-use denote.Builtin.{bool, usize, RefOf}
-use denote.Exit.{yes}
-use denote.Opens.{unhide}
-use denote.Param.{bounded, param}
-use denote.Plain.{uint_vals, uint_Tells}
-use denote.RattleType.{owns}
-use denote.RawPtr.{block_ptr}
-use denote.Ref.{shr_vals}
-use denote.Signature.{plain, types_at}
-use denote.Steps.{heard, nothing, only}
-use denote.Triple.Call.{calls_at}
-use denote.Triple.Spec.{triple_of}
-use denote.Triple.Table.{framed}
-use denote.Triple.Walked.{Stays, stay_dropped, walk_of, ends_at, Goes-dropped}
+use Rattle.test_kit.proofs.RefusingKit.{◌≡◌, ℕ, ◌+◌, Bool, true, false, List, [], ◌∷◌, Ok, Err, refl, ap, w64, Args, a_type, dnil, dcons, Val, vint, vptr, inst_fn, id⊢, ftrue, fsep, flft, size, align, capped, up, ‵, raw, ◌⊛◌, some, later, at_ret, Sq, prop, ◌$◌, ◌∵◌, !, qed, move, keep, drop, use0, use1, use2, split, join, pick, fsplit, fjoin, feq_i, feq_l, suffices, await, done, agg, lit, stop, fld, addr, un, no_more, and_then, first, branches, skips, exec, returns, returns_within, enter, alloc_all, pass_all, free_all, look_at, get, through, sets, lands_as, env, ◌⊑◌, ⊑_trans, fact, tables, bool, usize, RefOf, yes, unhide, bounded, param, uint_vals, uint_Tells, owns, block_ptr, shr_vals, plain, types_at, heard, nothing, only, calls_at, triple_of, framed, Stays, stay_dropped, walk_of, ends_at, Goes-dropped, Al, α, seen, Answer, answer_val, Answer-typed, Answer-Ok, Answer-err, Takes, at_takes, Answered, Takes-goes, Takes-gives, answers, proved, after}
 use Rattle.test_kit.proofs.refusing.grants.Met as grants
 use Rattle.test_kit.specs.contracts.refusing.Refusing as refusing
 use Rattle.test_kit.specs.contracts.refusing.grants as asked

@@ -1,34 +1,5 @@
 -- It gives the block back to the inner allocator, and leaves the counts as they are. Assumes `Logic`.
-use Rattle.std.proofs.Common.{◌≡◌, ℕ, ◌+◌, List, [], ◌∷◌, refl, w64}
-use Rattle.std.proofs.alloc.Calls.{Al, α, seen, token, Gives, at_gives, Gives-goes, Gives-Gives}
-use Rattle.std.proofs.raw_atomic.Walks.{proved}
-use mir.Syntax.{Args, a_type, dnil, dcons}
-use mir.Val.{Val, vunit, vint, vptr}
-use mir.MapTy.{inst_fn}
-use base.Logic.{id⊢, never, fst∗}
-use base.Fml.{ftrue, fsep, flft}
-use prog.Memory.{size, align, capped, up}
-use prog.Wp.{WpFn}
-use types.Logic.{sem}
-use contract.BorrowLft.{◌⊑◌, ⊑_trans}
-use contract.Monad.{fact}
-use contract.Running.{tables}
-use types.Kit.{‵, raw, ◌⊛◌, later, given, prop, ◌$◌, ◌∵◌, !, qed, move, keep, use1, split, split3, join, learn, fsplit, fjoin, feq_i, regoal, suffices, await, done}
-use types.Run.{unit_lit, stop, fld, addr, no_more, and_then, of_opd, returns, enter}
-use types.ByLocal.{alloc_all, pass_all, free_all, look_at, get, through, sets, lands_as}
-use denote.Builtin.{usize, RawPtr, RefOf}
-use denote.Exit.{yes}
-use denote.Opens.{unhide}
-use denote.Param.{bounded, param}
-use denote.Plain.{uint_vals, uint_Tells}
-use denote.RattleType.{owns}
-use denote.RawPtr.{Ptr, block_ptr, null_ptr, ptr_val, in_a_block, rawptr_vals, rawptr_Tells, room_for}
-use denote.Ref.{shr_vals}
-use denote.Signature.{plain, types_at}
-use denote.Steps.{heard, nothing}
-use denote.Triple.Call.{calls_at}
-use denote.Triple.Table.{framed}
-use denote.Triple.Walked.{Stays, stay_dropped, walk_of, ends_at, Goes-dropped}
+use Rattle.test_kit.proofs.RefusingKit.{◌≡◌, ℕ, ◌+◌, List, [], ◌∷◌, refl, w64, Args, a_type, dnil, dcons, Val, vunit, vint, vptr, inst_fn, id⊢, never, fst∗, ftrue, fsep, flft, size, align, capped, up, WpFn, sem, ‵, raw, ◌⊛◌, later, given, prop, ◌$◌, ◌∵◌, !, qed, move, keep, use1, split, split3, join, learn, fsplit, fjoin, feq_i, regoal, suffices, await, done, unit_lit, stop, fld, addr, no_more, and_then, of_opd, returns, enter, alloc_all, pass_all, free_all, look_at, get, through, sets, lands_as, ◌⊑◌, ⊑_trans, fact, tables, usize, RawPtr, RefOf, yes, unhide, bounded, param, uint_vals, uint_Tells, owns, Ptr, block_ptr, null_ptr, ptr_val, in_a_block, rawptr_vals, rawptr_Tells, room_for, shr_vals, plain, types_at, heard, nothing, calls_at, framed, Stays, stay_dropped, walk_of, ends_at, Goes-dropped, Al, α, seen, token, Gives, at_gives, Gives-goes, Gives-Gives, proved}
 use Rattle.test_kit.specs.contracts.refusing.Refusing as refusing
 use Rattle.test_kit.specs.contracts.refusing.RefusingAllocator.deallocate as F
 use Rattle.test_kit.proofs.refusing.RefusingAllocator.deallocate.Statement.{statement}
