@@ -3,7 +3,7 @@ use Rattle.hex_core.proofs.WalkKit.{◌≡◌, refl, Bool, true, false, List, []
 use mir.Syntax.{Opd as Operand, opd_true, opd_false}
 use types.Kit.{Item}
 use types.Run.{Opd}
-use Rattle.hex_core.proofs.Lent.{Plan, plan_lawful, plan_makes, Lent, Answer, lent_lawful}
+use Rattle.hex_core.proofs.Lent.{Plan, plan_lawful, Lent, Answer, lent_lawful}
 use Rattle.hex_core.specs.Calls.{EncodesFront}
 use Rattle.hex_core.specs.Loan.{LendsAnswer}
 use Rattle.hex_core.specs.Plans.{name_of}
@@ -76,13 +76,13 @@ hands_on 𝓤 𝓛 𝓜 𝓡 upper k closed plain encode =
     calls_at ! framed_calls P (p_met.met 𝓤 𝓛 𝓜 𝓡 plain) y (no_more !) (λ v.
     use1 𝓛 (later (some (λ (plan : Plan.Denot). (‵ ftrue ⊛ ‵ (Plan.own_val plan (v ∷ []))) ⊛ some (λ (ws : Lasts p.ended y.0.0 y.0.3). ‵ (lasts p.ended y.0.0 y.0.3 ws) ⊛ raw (fact 𝓤 (name_of plan ≡ codes "plain")))))) (id⊢ 𝓤 _) $
     await ! tt $ pick ! (λ plan. split ! $ split ! $ drop ! $ peeks ! Plan (Is Plan) (shows 𝓛 Plan) plan (v ∷ []) (λ is_plan. lands_as ! refl refl ((plan_lawful 𝓛).typed plan (v ∷ []) is_plan).0 $
-    drop ! $ pick ! (λ ws. split ! $ drop ! $ drop ! $
+    move ! (1 ∷ []) $ pick ! (λ ws. split ! $ drop ! $ drop ! $
     sets ! (addr ! (from ! (fld ! refl (hop ! (look_in_at ! 2 (sub ! 0 refl (whole !))) (stop !))))) refl (tt, tt) $
     sets ! (agg ! (and_then ! (get ! refl) (and_then ! (get_in ! (fld ! refl (stop !)) (sub ! 1 refl (whole !))) (no_more !)))) refl (tt, (tt, (record { fits = rm.0 }, tt))) $
     let G = triple_of 𝓛 h.signature (h.spec 𝓛 𝓜.mem 𝓡.returns) in
     let z : G.Ghost = ((κs, qs, tt, (plan, (src, (dst, (upper, tt)))), ((v ∷ []), (shr_slice_vals src, (mut_slice_vals dst, (bool_vals upper, tt))))), tt) in
-    move ! (1 ∷ []) $ fsplit3 ! $ move ! (2 ∷ []) $ owned ! bool _ (bool_Makes 𝓛) upper (bool_vals upper) refl $ fjoin ! $ move ! (2 ∷ 0 ∷ []) $ fjoin ! $ move ! (1 ∷ 0 ∷ []) $ fjoin ! $
-    owned ! Plan _ (plan_makes 𝓛) plan (v ∷ []) is_plan $ fjoin ! $ move ! (1 ∷ 0 ∷ []) $ join ! $ use2 𝓛 (raw (G.pre z)) (id⊢ 𝓤 _) $
+    move ! (2 ∷ []) $ fsplit3 ! $ move ! (2 ∷ []) $ owned ! bool _ (bool_Makes 𝓛) upper (bool_vals upper) refl $ fjoin ! $ move ! (2 ∷ 0 ∷ []) $ fjoin ! $ move ! (1 ∷ 0 ∷ []) $ fjoin ! $
+    move ! (1 ∷ 0 ∷ []) $ fjoin ! $ move ! (1 ∷ 0 ∷ []) $ join ! $ use2 𝓛 (raw (G.pre z)) (id⊢ 𝓤 _) $
     calls_at ! framed_calls G (h_met.met 𝓤 𝓛 𝓜 𝓡 encode) z (and_then ! (get ! refl) (and_then ! (get ! refl) (and_then ! (get ! refl) (and_then ! (choice ! upper) (no_more !))))) (λ w.
     use1 𝓛 (later (some (λ (r : Answer). ((‵ (flft κ₀ q₀) ⊛ ‵ (flft κ q) ⊛ ‵ ftrue) ⊛ ‵ ((Lent (named 1) κ).own_val r (w ∷ []))) ⊛ some (λ (ws : Lasts h.ended z.0.0 z.0.3). ‵ (lasts h.ended z.0.0 z.0.3 ws)
     ⊛ (‵ (LendsAnswer dst r) ⊛ raw (fact 𝓤 (EncodesFront upper s (length xs) r))))))) (id⊢ 𝓤 _) $

@@ -34,9 +34,6 @@ plan_tells = struct_laws.tells BA.the_type BL.the_laws
 pub plan_lawful : {M : Type 1} {𝓤 : Ura M} (𝓛 : Logic 𝓤) → Lawful 𝓛 Plan
 plan_lawful = struct_laws.lawful BA.the_type BL.the_laws
 
-pub plan_makes : {M : Type 1} {𝓤 : Ura M} (𝓛 : Logic 𝓤) → Makes 𝓛 Plan (Is Plan)
-plan_makes = struct_laws.makes BA.the_type BL.the_plain
-
 -- a policy
 abbrev pub Policy : RattleType
 Policy = CC.the_row

@@ -1,7 +1,7 @@
 -- The walk of `decode_slice` and of `encode_slice`: a call writes into the destination, and its front is lent.
-use Rattle.hex_core.proofs.WalkKit.{◌≡◌, refl, ap, sym, ℕ, ◌≤◌, List, [], ◌∷◌, length, w8, MutBor, Err, IfOk, IfErr, Ura, Callee, Fn, Local, Rv, Ty, a_type, named, erased, mut, ty_int, ty_ref, place, deref, field, local, value_local, copy, addr_of, aggregate, seq, assign, call, return, Val, WT, has_ty, sep, emp, id⊢, Fml, GName, ftrue, flft, full_share, Model, Wired, Closed, Logic, sem, ‵, ◌⊛◌, raw, some, given, later, ◌$◌, ◌∵◌, !, qed, move, keep, drop, rewrite, split, split3, join, fsplit, fsplit3, fjoin, feq_i, use0, use1, use2, use3, await, pick, learn, suffices, frame, done, whole, sub, agg, stop, fld, hop, from, addr, and_then, no_more, returns, enter, alloc_all, pass_all, free_all, look_at, look_in_at, get, get_in, sets, lands_as, lft_new, lft_end, ◌⊑◌, ⊑_static, fact, fact_i, Running, tables, kept_f, sl_relend, sl_relent_backˡ, BareSlice, u8, Last, yes, no, Is, Makes, Tells, shows, lone, layouts, RattleType, owns, plain, mut_slice_of, shr_slice_of, ShrSlice, MutSlice, Room, slice_val, shr_slice_vals, shr_slice_Tells, mut_slice_vals, mut_slice_Tells, nothing, owned, peeks, heard, calls_at, Clauses, Ended, Lasts, closing, lasts, Meets, triple_of, framed, Goes-dropped, Goes-spent_slice, Silent, Stays, ends_at, says, stay_dropped, proved}
+use Rattle.hex_core.proofs.WalkKit.{◌≡◌, refl, ap, sym, ℕ, ◌≤◌, List, [], ◌∷◌, length, w8, MutBor, Err, IfOk, IfErr, Ura, Callee, Fn, Local, Rv, Ty, a_type, named, erased, mut, ty_int, ty_ref, place, deref, field, local, value_local, copy, addr_of, aggregate, seq, assign, call, return, Val, WT, has_ty, sep, emp, id⊢, Fml, GName, ftrue, flft, full_share, Model, Wired, Closed, Logic, sem, ‵, ◌⊛◌, raw, some, given, later, ◌$◌, ◌∵◌, !, qed, move, keep, drop, rewrite, split, split3, join, fsplit, fsplit3, fjoin, feq_i, use0, use1, use2, use3, await, now, pick, learn, suffices, frame, done, whole, sub, agg, stop, fld, hop, from, addr, and_then, no_more, returns, enter, alloc_all, pass_all, free_all, look_at, look_in_at, get, get_in, sets, lands_as, lft_new, lft_end, ◌⊑◌, ⊑_static, fact, fact_i, Running, tables, kept_f, sl_relend, sl_relent_backˡ, BareSlice, u8, Last, yes, no, Is, Tells, shows, lone, layouts, RattleType, owns, plain, mut_slice_of, shr_slice_of, ShrSlice, MutSlice, Room, slice_val, shr_slice_vals, shr_slice_Tells, mut_slice_vals, mut_slice_Tells, nothing, peeks, heard, calls_at, Clauses, Ended, Lasts, closing, lasts, Meets, triple_of, framed, Goes-dropped, Goes-spent_slice, Silent, Stays, ends_at, says, stay_dropped, proved}
 use lib.Dec.{T}
-use Rattle.hex_core.proofs.Lent.{Plan, plan_vals, plan_tells, plan_lawful, plan_makes, Counted, counted_lawful, Lent, Answer, lent_lawful, LendsFront, Passed, passed_laws}
+use Rattle.hex_core.proofs.Lent.{Plan, plan_vals, plan_tells, plan_lawful, Counted, counted_lawful, Lent, Answer, lent_lawful, LendsFront, Passed, passed_laws}
 use Rattle.hex_core.proofs.SliceWalk.{Leaves, inside, same_loan}
 use Rattle.hex_core.specs.Loan.{LendsAnswer}
 use Rattle.hex_core.specs.contracts.error.Error as ER
@@ -78,12 +78,12 @@ module _ (X : RattleType) (τ : Ty) (val : X.Denot → Val) (Wrote : X.Denot →
       → ((x : X.Denot) (s old new : List ℕ) (u : Counted.Denot) (r : Answer) → Wrote x s old new u → LendsFront new u r
       → IfErr u (λ e. r ≡ Err e) → Answered x s (length old) r)
       → {M : Type 1} (𝓤 : Ura M) (𝓛 : Logic 𝓤) (𝓜 : Model 𝓤 𝓛.H) (𝓡 : Running 𝓤 𝓛.H 𝓜)
-      (good : (x : X.Denot) → Is X x (val x ∷ []) → T (has_ty τ (val x)) × WT (val x)) (makes : Makes 𝓛 X (Is X))
+      (good : (x : X.Denot) → Is X x (val x ∷ []) → T (has_ty τ (val x)) × WT (val x))
       (silent : Silent 𝓛 2 (plain (λ _. X)) yes) (last : (x : X.Denot) → Last (X.exit yes) x) (k g : Callee)
       → Closed 𝓤 𝓛.H (tables 𝓤 𝓛.H 𝓜 𝓡 𝓡.env).C (tables 𝓤 𝓛.H 𝓜 𝓡 𝓡.env).Λ k (function g) → Wired 𝓡.env h_symbol.code
       → Meets 𝓛 Writing.signature ((tables 𝓤 𝓛.H 𝓜 𝓡 𝓡.env).C g) (closing 𝓛 Writing (writes 𝓛))
       → Meets 𝓛 Lending.signature ((tables 𝓤 𝓛.H 𝓜 𝓡 𝓡.env).C k) (closing 𝓛 Lending (lends_front 𝓛))
-  writes_and_lends tells leaves answers 𝓤 𝓛 𝓜 𝓡 good makes silent last k g closed lends met =
+  writes_and_lends tells leaves answers 𝓤 𝓛 𝓜 𝓡 good silent last k g closed lends met =
       proved 𝓛 Lending stayed (lends_front 𝓛) 𝓜 𝓡
       (Goes-dropped 𝓛 2 (plain (λ _. Plan)) yes (λ κs x f. refl), (Goes-dropped 𝓛 2 (shr_slice_of (0 ∷ []) tt (plain (λ _. u8))) yes (λ κs x f. refl), (Goes-spent_slice 𝓛 2 (1 ∷ []) tt (plain (λ _. u8)), (Goes-dropped 𝓛 2 (plain (λ _. X)) yes silent, tt))))
       k (function g) closed
@@ -97,18 +97,18 @@ module _ (X : RattleType) (τ : Ty) (val : X.Denot → Val) (Wrote : X.Denot →
       let rs : Room u8 (length s) = are.1.0.0.1 in let rm : Room u8 (length xs) = are.1.1.0.0.1 in
       let framed_calls = framed 𝓤 𝓛.H 𝓜 (tables 𝓤 𝓛.H 𝓜 𝓡 𝓡.env) in
       qed 𝓛 (((‵ (flft κ₀ q₀) ⊛ ‵ (flft κ q) ⊛ ‵ ftrue) ⊛ ‵ (owns (Plan ∷ ShrSlice (named 0) κ₀ u8 ∷ MutSlice (named 1) κ u8 ∷ X ∷ []) a (plan_vs, (shr_slice_vals src, (mut_slice_vals dst, (x_vs, tt)))))) ∷ ‵ ftrue ∷ []) ∵
-      split ! $ split3 ! $ move ! (3 ∷ []) $ fsplit3 ! $ move ! (2 ∷ []) $ fsplit3 ! $ keep ! (4 ∷ 0 ∷ 5 ∷ 6 ∷ []) $
+      split ! $ split3 ! $ move ! (3 ∷ []) $ fsplit3 ! $ move ! (2 ∷ []) $ fsplit3 ! $ keep ! (4 ∷ 0 ∷ 5 ∷ 6 ∷ 3 ∷ 1 ∷ []) $
       enter ! _ _ _ _ _ $ alloc_all ! (λ l. pass_all ! refl (((plan_lawful 𝓛).typed plan plan_vs are.0).0, ((tt, (tt, (record { fits = rs.0 }, tt))), ((tt, (tt, (record { fits = rm.0 }, tt))), (good x are.1.1.1.0, tt)))) $
-      -- [the source; the destination; the two tokens; the locals]
+      -- [the source; the destination; the two tokens; the plan; the last argument; the locals]
       sets ! (addr ! (from ! (fld ! refl (hop ! (look_in_at ! 3 (sub ! 0 refl (whole !))) (stop !))))) refl (tt, tt) $
       sets ! (agg ! (and_then ! (get ! refl) (and_then ! (get_in ! (fld ! refl (stop !)) (sub ! 1 refl (whole !))) (no_more !)))) refl (tt, (tt, (record { fits = rm.0 }, tt))) $
       lft_new ! tt (λ α. move ! (2 ∷ []) $ fsplit ! $ fsplit ! $ drop ! $ fjoin ! $ move ! (0 ∷ 4 ∷ []) $
       use2 𝓛 (later (some (λ (δ : GName). ‵ ((BareSlice erased (α ∷ []) u8).own_val (record dst { ghost_name = δ })) ⊛ kept_f 𝓛 u8 κ q (α ∷ []) γ δ xs b o))) (sl_relend 𝓛 u8 κ q (α ∷ []) b o γ xs) $ await ! tt $
       pick ! (λ δ. split ! $ fsplit ! $ feq_i ! (List Val) (mut_slice_vals dst) (mut_slice_vals dst) refl $ fjoin ! $ fjoin ! $
-      -- [the slice for the call; what is kept; the token for the call; the source; its token; the locals]
+      -- [the slice for the call; what is kept; the token for the call; the source; its token; the plan; the last argument; the locals]
       let G = triple_of 𝓛 Writing.signature (closing 𝓛 Writing (writes 𝓛)) in
       let z : G.Ghost = (((κ₀, (α ∷ [], tt)), (q₀, (full_share, tt)), tt, (plan, (src, (record dst { ghost_name = δ }, (x, tt)))), (plan_vs, (shr_slice_vals src, (mut_slice_vals dst, (x_vs, tt))))), tt) in
-      nothing ! $ owned ! X _ makes x x_vs are.1.1.1.0 $ fjoin ! $ move ! (1 ∷ 0 ∷ []) $ fjoin ! $ move ! (3 ∷ 0 ∷ []) $ fjoin ! $ owned ! Plan _ (plan_makes 𝓛) plan plan_vs are.0 $ fjoin ! $
+      nothing ! $ move ! (7 ∷ 0 ∷ []) $ fjoin ! $ move ! (1 ∷ 0 ∷ []) $ fjoin ! $ move ! (3 ∷ 0 ∷ []) $ fjoin ! $ move ! (4 ∷ 0 ∷ []) $ fjoin ! $
       nothing ! $ move ! (3 ∷ 0 ∷ []) $ join ! $ move ! (3 ∷ 0 ∷ []) $ join ! $ join ! $ nothing ! $ move ! (1 ∷ 0 ∷ []) $ use2 𝓛 (raw (G.pre z)) (id⊢ 𝓤 _) $
       calls_at ! framed_calls G met z (and_then ! (get ! refl) (and_then ! (get ! refl) (and_then ! (get ! refl) (and_then ! (get ! refl) (no_more !))))) (λ v.
       use1 𝓛 (later (some (λ (u : Counted.Denot). ((‵ (flft κ₀ q₀) ⊛ ‵ (flft (α ∷ []) full_share) ⊛ ‵ ftrue) ⊛ ‵ (Counted.own_val u (v ∷ [])))

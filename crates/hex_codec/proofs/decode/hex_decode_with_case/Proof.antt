@@ -1,6 +1,6 @@
 -- `hex_decode_with_case` decodes under the plain plan.
-use Rattle.hex_core.proofs.WalkKit.{◌≡◌, refl, [], ◌∷◌, length, named, id⊢, ftrue, flft, ‵, ◌⊛◌, raw, some, later, ◌$◌, ◌∵◌, !, qed, move, keep, drop, split, join, fjoin, use1, use2, await, pick, suffices, frame, done, whole, sub, agg, stop, fld, hop, from, addr, and_then, no_more, returns, enter, alloc_all, pass_all, free_all, look_at, look_in_at, get, get_in, sets, lands_as, fact, tables, u8, yes, no, Is, shows, owns, plain, mut_slice_of, shr_slice_of, ShrSlice, MutSlice, Room, shr_slice_vals, shr_slice_Tells, mut_slice_vals, mut_slice_Tells, nothing, owned, peeks, heard, calls_at, Lasts, lasts, triple_of, framed, Goes-dropped, Goes-spent_slice, Stays, ends_at, says, stay_dropped, proved}
-use Rattle.hex_core.proofs.Lent.{Plan, plan_lawful, plan_makes, Policy, policy_vals, policy_tells, policy_lawful, Lent, Answer, lent_lawful}
+use Rattle.hex_core.proofs.WalkKit.{◌≡◌, refl, [], ◌∷◌, length, named, id⊢, ftrue, flft, ‵, ◌⊛◌, raw, some, later, ◌$◌, ◌∵◌, !, qed, move, keep, drop, split, join, fjoin, use1, use2, await, pick, suffices, frame, done, whole, sub, agg, stop, fld, hop, from, addr, and_then, no_more, returns, enter, alloc_all, pass_all, free_all, look_at, look_in_at, get, get_in, sets, lands_as, fact, tables, u8, yes, no, Is, shows, owns, plain, mut_slice_of, shr_slice_of, ShrSlice, MutSlice, Room, shr_slice_vals, shr_slice_Tells, mut_slice_vals, mut_slice_Tells, nothing, peeks, heard, calls_at, Lasts, lasts, triple_of, framed, Goes-dropped, Goes-spent_slice, Stays, ends_at, says, stay_dropped, proved}
+use Rattle.hex_core.proofs.Lent.{Plan, plan_lawful, Policy, policy_vals, policy_tells, policy_lawful, Lent, Answer, lent_lawful}
 use Rattle.hex_core.specs.Calls.{DecodesFront}
 use Rattle.hex_core.specs.Loan.{LendsAnswer}
 use Rattle.hex_core.specs.Plans.{name_of}
@@ -35,12 +35,12 @@ hex_decode_with_case_spec 𝓤 𝓛 𝓜 𝓡 wired =
     calls_at ! framed_calls P (p_met.met 𝓤 𝓛 𝓜 𝓡 (code.calls-hex_core::plan::Backend::plain 𝓡.env wired)) y (no_more !) (λ v.
     use1 𝓛 (later (some (λ (plan : Plan.Denot). (‵ ftrue ⊛ ‵ (Plan.own_val plan (v ∷ []))) ⊛ some (λ (ws : Lasts p.ended y.0.0 y.0.3). ‵ (lasts p.ended y.0.0 y.0.3 ws) ⊛ raw (fact 𝓤 (name_of plan ≡ codes "plain")))))) (id⊢ 𝓤 _) $
     await ! tt $ pick ! (λ plan. split ! $ split ! $ drop ! $ peeks ! Plan (Is Plan) (shows 𝓛 Plan) plan (v ∷ []) (λ is_plan. lands_as ! refl refl ((plan_lawful 𝓛).typed plan (v ∷ []) is_plan).0 $
-    drop ! $ pick ! (λ ws. split ! $ drop ! $ drop ! $
+    move ! (1 ∷ []) $ pick ! (λ ws. split ! $ drop ! $ drop ! $
     sets ! (addr ! (from ! (fld ! refl (hop ! (look_in_at ! 2 (sub ! 0 refl (whole !))) (stop !))))) refl (tt, tt) $
     sets ! (agg ! (and_then ! (get ! refl) (and_then ! (get_in ! (fld ! refl (stop !)) (sub ! 1 refl (whole !))) (no_more !)))) refl (tt, (tt, (record { fits = rm.0 }, tt))) $
     let G = triple_of 𝓛 h.signature (h.spec 𝓛 𝓜.mem 𝓡.returns) in
     let z : G.Ghost = ((κs, qs, tt, (plan, a), ((v ∷ []), (shr_slice_vals src, (mut_slice_vals dst, (policy_vals case, tt))))), tt) in
-    move ! (1 ∷ []) $ owned ! Plan _ (plan_makes 𝓛) plan (v ∷ []) is_plan $ fjoin ! $ move ! (1 ∷ 0 ∷ []) $ join ! $ use2 𝓛 (raw (G.pre z)) (id⊢ 𝓤 _) $
+    move ! (0 ∷ 2 ∷ []) $ fjoin ! $ move ! (1 ∷ 0 ∷ []) $ join ! $ use2 𝓛 (raw (G.pre z)) (id⊢ 𝓤 _) $
     calls_at ! framed_calls G (h_met.met 𝓤 𝓛 𝓜 𝓡 (code.calls-hex_core::plan::Backend::decode_slice 𝓡.env wired)) z (and_then ! (get ! refl) (and_then ! (get ! refl) (and_then ! (get ! refl) (and_then ! (get ! refl) (no_more !))))) (λ w.
     use1 𝓛 (later (some (λ (r : Answer). ((‵ (flft κ₀ q₀) ⊛ ‵ (flft κ q) ⊛ ‵ ftrue) ⊛ ‵ ((Lent (named 1) κ).own_val r (w ∷ []))) ⊛ some (λ (ws : Lasts h.ended z.0.0 z.0.3). ‵ (lasts h.ended z.0.0 z.0.3 ws)
     ⊛ (‵ (LendsAnswer dst r) ⊛ raw (fact 𝓤 (DecodesFront case s (length xs) r))))))) (id⊢ 𝓤 _) $

@@ -1,6 +1,6 @@
 -- `read` reads, and then lends the front.
-use Rattle.hex_core.proofs.WalkKit.{◌≡◌, refl, ap, sym, ℕ, ◌≤◌, List, [], ◌∷◌, length, MutBor, Err, IfOk, IfErr, Lifetime, named, erased, Val, emp, id⊢, Fml, Lft, GName, ftrue, flft, full_share, ‵, ◌⊛◌, raw, some, given, later, ◌$◌, ◌∵◌, !, qed, move, keep, drop, rewrite, split, split3, join, fsplit, fsplit3, fjoin, feq_i, use0, use1, use2, use3, await, pick, learn, suffices, frame, done, whole, sub, agg, stop, fld, hop, from, addr, and_then, no_more, returns, enter, alloc_all, pass_all, free_all, look_at, look_in_at, get, get_in, sets, lands_as, lft_new, lft_end, ◌⊑◌, ⊑_static, fact, fact_i, tables, kept_f, sl_relend, sl_relent_backˡ, BareSlice, u8, yes, no, Is, shows, RattleType, owns, plain, mut_slice_of, shr_slice_of, ShrSlice, MutSlice, Room, slice_val, shr_slice_vals, shr_slice_Tells, mut_slice_vals, mut_slice_Tells, nothing, owned, peeks, heard, calls_at, Lasts, lasts, triple_of, framed, Goes-dropped, Goes-spent_slice, Stays, ends_at, says, stay_dropped, proved}
-use Rattle.hex_core.proofs.Lent.{Policy, policy_vals, policy_tells, policy_lawful, policy_makes, CountedBy, counted_lawful_by, LentBy, lent_lawful_by, LendsFront, Passed, passed_laws}
+use Rattle.hex_core.proofs.WalkKit.{◌≡◌, refl, ap, sym, ℕ, ◌≤◌, List, [], ◌∷◌, length, MutBor, Err, IfOk, IfErr, Lifetime, named, erased, Val, emp, id⊢, Fml, Lft, GName, ftrue, flft, full_share, ‵, ◌⊛◌, raw, some, given, later, ◌$◌, ◌∵◌, !, qed, move, keep, drop, rewrite, split, split3, join, fsplit, fsplit3, fjoin, feq_i, use0, use1, use2, use3, await, now, pick, learn, suffices, frame, done, whole, sub, agg, stop, fld, hop, from, addr, and_then, no_more, returns, enter, alloc_all, pass_all, free_all, look_at, look_in_at, get, get_in, sets, lands_as, lft_new, lft_end, ◌⊑◌, ⊑_static, fact, fact_i, tables, kept_f, sl_relend, sl_relent_backˡ, BareSlice, u8, yes, no, Is, shows, RattleType, owns, plain, mut_slice_of, shr_slice_of, ShrSlice, MutSlice, Room, slice_val, shr_slice_vals, shr_slice_Tells, mut_slice_vals, mut_slice_Tells, nothing, peeks, heard, calls_at, Lasts, lasts, triple_of, framed, Goes-dropped, Goes-spent_slice, Stays, ends_at, says, stay_dropped, proved}
+use Rattle.hex_core.proofs.Lent.{Policy, policy_vals, policy_tells, policy_lawful, CountedBy, counted_lawful_by, LentBy, lent_lawful_by, LendsFront, Passed, passed_laws}
 use Rattle.hex_core.proofs.SliceWalk.{inside, same_loan}
 use Rattle.hex_core.specs.Loan.{LendsAnswer}
 use denote.Struct.Laws as struct_laws
@@ -45,18 +45,18 @@ read_spec 𝓤 𝓛 𝓜 𝓡 wired =
     let rs : Room u8 (length s) = are.0.0.1 in let rm : Room u8 (length xs) = are.1.0.0.1 in
     let framed_calls = framed 𝓤 𝓛.H 𝓜 (tables 𝓤 𝓛.H 𝓜 𝓡 𝓡.env) in
     qed 𝓛 (((‵ (flft κ₀ q₀) ⊛ ‵ (flft κ q) ⊛ ‵ ftrue) ⊛ ‵ (owns (ShrSlice (named 0) κ₀ u8 ∷ MutSlice (named 1) κ u8 ∷ GR.the_row ∷ Policy ∷ []) a (shr_slice_vals src, (mut_slice_vals dst, (group_vs, (case_vs, tt)))))) ∷ ‵ ftrue ∷ []) ∵
-    split ! $ split3 ! $ move ! (3 ∷ []) $ fsplit3 ! $ keep ! (0 ∷ 1 ∷ 3 ∷ 4 ∷ []) $
+    split ! $ split3 ! $ move ! (3 ∷ []) $ fsplit3 ! $ move ! (2 ∷ []) $ fsplit3 ! $ keep ! (3 ∷ 4 ∷ 5 ∷ 6 ∷ 0 ∷ 1 ∷ []) $
     enter ! _ _ _ _ _ $ alloc_all ! (λ l. pass_all ! refl ((tt, (tt, (record { fits = rs.0 }, tt))), ((tt, (tt, (record { fits = rm.0 }, tt))), (((struct_laws.lawful GR.the_type GL.the_laws 𝓛).typed group group_vs are.1.1.0).0, (((policy_lawful 𝓛).typed case case_vs are.1.1.1.0).0, tt)))) $
-    -- [the source; the destination; the two tokens; the locals]
+    -- [the source; the destination; the two tokens; the group; the policy; the locals]
     sets ! (addr ! (from ! (fld ! refl (hop ! (look_in_at ! 2 (sub ! 0 refl (whole !))) (stop !))))) refl (tt, tt) $
     sets ! (agg ! (and_then ! (get ! refl) (and_then ! (get_in ! (fld ! refl (stop !)) (sub ! 1 refl (whole !))) (no_more !)))) refl (tt, (tt, (record { fits = rm.0 }, tt))) $
     lft_new ! tt (λ α. move ! (2 ∷ []) $ fsplit ! $ fsplit ! $ drop ! $ fjoin ! $ move ! (0 ∷ 4 ∷ []) $
     use2 𝓛 (later (some (λ (δ : GName). ‵ ((BareSlice erased (α ∷ []) u8).own_val (record dst { ghost_name = δ })) ⊛ kept_f 𝓛 u8 κ q (α ∷ []) γ δ xs b o))) (sl_relend 𝓛 u8 κ q (α ∷ []) b o γ xs) $ await ! tt $
     pick ! (λ δ. split ! $ fsplit ! $ feq_i ! (List Val) (mut_slice_vals dst) (mut_slice_vals dst) refl $ fjoin ! $ fjoin ! $
-    -- [the slice for the call; what is kept; the token for the call; the source; its token; the locals]
+    -- [the slice for the call; what is kept; the token for the call; the source; its token; the group; the policy; the locals]
     let G = triple_of 𝓛 g.signature (g.spec 𝓛 𝓜.mem 𝓡.returns) in
     let z : G.Ghost = (((κ₀, (α ∷ [], tt)), (q₀, (full_share, tt)), tt, (src, (record dst { ghost_name = δ }, (group, (case, tt)))), (shr_slice_vals src, (mut_slice_vals dst, (group_vs, (case_vs, tt))))), tt) in
-    nothing ! $ owned ! Policy _ (policy_makes 𝓛) case case_vs are.1.1.1.0 $ fjoin ! $ owned ! GR.the_row _ (struct_laws.makes GR.the_type GL.the_plain 𝓛) group group_vs are.1.1.0 $ fjoin ! $ move ! (1 ∷ 0 ∷ []) $ fjoin ! $ move ! (3 ∷ 0 ∷ []) $ fjoin ! $
+    nothing ! $ move ! (7 ∷ 0 ∷ []) $ fjoin ! $ move ! (6 ∷ 0 ∷ []) $ fjoin ! $ move ! (1 ∷ 0 ∷ []) $ fjoin ! $ move ! (3 ∷ 0 ∷ []) $ fjoin ! $
     nothing ! $ move ! (3 ∷ 0 ∷ []) $ join ! $ move ! (3 ∷ 0 ∷ []) $ join ! $ join ! $ nothing ! $ move ! (1 ∷ 0 ∷ []) $ use2 𝓛 (raw (G.pre z)) (id⊢ 𝓤 _) $
     calls_at ! framed_calls G (g_met.met 𝓤 𝓛 𝓜 𝓡 (code.calls-hex_codec::grouped::read_into 𝓡.env wired)) z (and_then ! (get ! refl) (and_then ! (get ! refl) (and_then ! (get ! refl) (and_then ! (get ! refl) (no_more !))))) (λ v.
     use1 𝓛 (later (some (λ (u : Counted.Denot). ((‵ (flft κ₀ q₀) ⊛ ‵ (flft (α ∷ []) full_share) ⊛ ‵ ftrue) ⊛ ‵ (Counted.own_val u (v ∷ [])))
