@@ -1,34 +1,24 @@
 -- The walk of `hex_append` and of `hex_append_upper`: both pass on what `append_in` answers, with the lender in the other place.
-use Rattle.hex_core.proofs.WalkKit.{refl, ℕ, Bool, List, [], ◌∷◌, length, Result, Ura, Callee, Fn, Ty, named, erased, mut, ty_ref, place, deref, local, value_local, copy, addr_of, seq, assign, call, return, vbool, sep, emp, id⊢, Lft, ftrue, flft, Model, Closed, Logic, sem, ‵, ◌⊛◌, raw, some, later, ◌$◌, ◌∵◌, !, qed, move, keep, drop, split, join, fjoin, use1, use2, await, pick, suffices, frame, done, stop, addr, and_then, no_more, returns, enter, alloc_all, pass_all, free_all, look_at, get, through, sets, lands_as, ◌⊑◌, fact, Running, tables, u8, bool, yes, no, Is, shows, lone, param, bool_vals, bool_Makes, RattleType, MutRef, NamedLft, mut_vals, mut_Tells, plain, mut_ref_to, shr_slice_of, ShrSlice, Room, shr_slice_vals, shr_slice_Tells, nothing, owned, peeks, heard, calls_at, Clauses, Lasts, closing, lasts, Meets, triple_of, framed, Goes-dropped, Goes-spent_ref, Stays, ends_at, says, stay_dropped, proved}
+use Rattle.hex_core.proofs.WalkKit.{refl, Bool, [], ◌∷◌, length, Ura, Callee, Fn, Ty, named, erased, mut, ty_ref, place, deref, local, value_local, copy, addr_of, seq, assign, call, return, vbool, sep, emp, id⊢, Lft, ftrue, flft, Model, Closed, Logic, sem, ‵, ◌⊛◌, raw, ◌$◌, ◌∵◌, !, qed, move, keep, split, join, fjoin, use1, suffices, done, stop, addr, and_then, no_more, returns, enter, alloc_all, pass_all, free_all, look_at, get, through, sets, lands_as, ◌⊑◌, fact, Running, tables, u8, bool, yes, no, Is, shows, lone, layout, param, bool_vals, bool_Makes, RattleType, MutRef, NamedLft, mut_vals, mut_Tells, plain, mut_ref_to, shr_slice_of, ShrSlice, Room, shr_slice_vals, shr_slice_Tells, nothing, owned, peeks, Clauses, closing, Meets, Goes-dropped, Goes-spent_ref, Stays, ends_at, stay_dropped, proved}
 use borrow.Table.Str.{str_laws}
-use denote.Bor.{Bor}
-use denote.Enum.Laws as enum_laws
-use denote.Param.Laws as param_laws
+use denote.Param.Laws.{field_told}
 use denote.Text.{str-field, str-laws}
 use mir.Syntax.{Dict}
 use Rattle.std.specs.Io.BufRead.{Rests}
-use Rattle.std.specs.contracts.result.Result as RS
-use Rattle.std.proofs.result.Result.TheLaws as RL
 use Rattle.std.specs.contracts.string.String as S
-use Rattle.hex_core.specs.contracts.error.Error as E
-use Rattle.hex_core.proofs.error.Error.TheLaws as EL
+use Rattle.hex_core.proofs.Lent.{Known, Refusal, ResultOf, calls, typed}
 use Rattle.std.specs.declared.alloc.Allocator.{Ghosts}
 use Rattle.hex_codec.proofs.EncodeWalk.{choice, passed}
 use Rattle.hex_codec.specs.Append.{AnswersSuffix, AppendsDigits}
 use Rattle.hex_codec.specs.contracts.strings.append_in as h
 use Rattle.hex_codec.specs.contracts.strings.hex_append as f
 
--- the answer's text, borrowed for the second lifetime
-abbrev slot : Lft → NamedLft
-slot κ = record { mir = named 1; lft = κ }
+abbrev Text : NamedLft → Known
+Text slot = record { row = (str-field slot).row; laws = str_laws slot; told = field_told (str-field slot) (str-laws slot) }
 
--- the answer
-abbrev Answer : Lft → RattleType
-Answer κ = RS.the_row (str-field (slot κ)).row E.the_row
-
--- its laws
-abbrev AnswerLaws : (κ : Lft) → enum_laws.Laws (RS.the_type (str-field (slot κ)).row E.the_row)
-AnswerLaws κ = RL.the_laws (str-field (slot κ)).row E.the_row (str_laws (slot κ)) EL.the_row_laws (param_laws.field_told (str-field (slot κ)) (str-laws (slot κ))) EL.the_told
+-- the answer, whose text is borrowed for the second lifetime
+abbrev Answer : Lft → Known
+Answer κ = ResultOf (Text (record { mir = named 1; lft = κ })) Refusal
 
 -- the two bodies, at a string's type as a reference names it and as it lies
 abbrev pub function : Ty → Ty → Callee → Bool → Fn
@@ -38,7 +28,7 @@ function σ ρ appends upper = record {
   ty_params = [];
   givens = 0;
   params = 2;
-  locals = local (lone (Answer []).mir) value_local ∷ local (lone (ShrSlice (named 0) [] u8).mir) value_local
+  locals = local (layout (Answer []).row) value_local ∷ local (lone (ShrSlice (named 0) [] u8).mir) value_local
       ∷ local (ty_ref (named 1) mut σ) value_local ∷ local (ty_ref erased mut σ) value_local ∷ [];
   body = seq (assign (place 3 []) (addr_of (place 2 (deref ρ ∷ []))))
       (seq (call appends (copy (place 3 []) ∷ copy (place 1 []) ∷ passed upper ∷ []) (place 0 [])) return);
@@ -85,22 +75,12 @@ module _ {M : Type 1} (𝓤 : Ura M) (𝓛 : Logic 𝓤) (𝓜 : Model 𝓤 𝓛
       move ! (2 ∷ 0 ∷ []) $ join ! $ move ! (1 ∷ 0 ∷ []) $ join ! $ move ! (1 ∷ 0 ∷ []) $ join ! $
       enter ! _ _ _ _ _ $ alloc_all ! (λ l. pass_all ! refl ((tt, (tt, (record { fits = rm.0 }, tt))), ((tt, tt), tt)) $
       sets ! (addr ! (through ! refl (stop !))) refl (tt, tt) $
-      let G = triple_of 𝓛 (h.signature A g d dd) (h.spec A g d dd 𝓛 𝓜.mem 𝓡.returns) in
-      let z : G.Ghost = (((κ₁, (κ₀, (κ₂, tt))), (q₁, (q₀, (q₂, tt))), bounds, (dst, (src, (upper, tt))), (mut_vals dst, (shr_slice_vals src, (bool_vals upper, tt)))), tt) in
-      use2 𝓛 (raw (G.pre z)) (id⊢ 𝓤 _) $
-      calls_at ! (framed 𝓤 𝓛.H 𝓜 (tables 𝓤 𝓛.H 𝓜 𝓡 𝓡.env)) G met z
-      (and_then ! (get ! refl) (and_then ! (get ! refl) (and_then ! (choice ! upper) (no_more !)))) (λ w.
-      use1 𝓛 (later (some (λ (r : Result (Bor (List ℕ)) E.the_row.Denot). ((‵ (flft κ₁ q₁) ⊛ ‵ (flft κ₀ q₀) ⊛ ‵ (flft κ₂ q₂) ⊛ ‵ ftrue) ⊛ ‵ ((Answer κ₁).own_val r (w ∷ [])))
-      ⊛ some (λ (ws : Lasts (h.ended A g d dd) z.0.0 z.0.3). ‵ (lasts (h.ended A g d dd) z.0.0 z.0.3 ws)
-      ⊛ (‵ (Rests Owner dst (λ new. AppendsDigits upper src.now r dst.now new))
-      ⊛ raw (fact 𝓤 (AnswersSuffix (λ suffix. suffix.now) upper src.now dst.now r))))))) (id⊢ 𝓤 _) $
-      await ! tt $ pick ! (λ r. split ! $ split ! $ move ! (1 ∷ []) $
-      peeks ! (Answer κ₁) (Is (Answer κ₁)) (shows 𝓛 (Answer κ₁)) r (w ∷ []) (λ is-r.
-      lands_as ! refl refl ((enum_laws.lawful (RS.the_type (str-field (slot κ₁)).row E.the_row) (AnswerLaws κ₁) 𝓛 tt).typed r (w ∷ []) is-r).0 $
-      move ! (2 ∷ []) $ pick ! (λ ws. split ! $ drop ! $ split ! $ move ! (1 ∷ []) $ heard ! _ (λ answer.
-      -- [the loan; the result; the tokens]
-      returns ! (look_at ! 0 refl) $ free_all ! refl $
-      move ! (2 ∷ []) $ split ! $ move ! (1 ∷ []) $ split ! $ move ! (2 ∷ 1 ∷ []) $ join ! $ move ! (1 ∷ 0 ∷ []) $ join ! $
-      keep ! (2 ∷ 0 ∷ 1 ∷ []) $
+      calls ! 𝓜 𝓡 (h.ended A g d dd) (h.clauses A g d dd 𝓛 𝓜.mem 𝓡.returns) met
+      (((κ₁, (κ₀, (κ₂, tt))), (q₁, (q₀, (q₂, tt))), bounds, (dst, (src, (upper, tt))), (mut_vals dst, (shr_slice_vals src, (bool_vals upper, tt)))), tt) (id⊢ 𝓤 _)
+      (and_then ! (get ! refl) (and_then ! (get ! refl) (and_then ! (choice ! upper) (no_more !)))) (λ w r ws.
+      peeks ! (Answer κ₁).row _ (shows 𝓛 (Answer κ₁).row) r (w ∷ []) (λ is-r. lands_as ! refl refl (typed (Answer κ₁) 𝓛 r w is-r) $
+      -- [the result; the tokens; what is said of the arguments; the promises; the locals]
+      returns ! (look_at ! 0 refl) $ free_all ! refl $ move ! (1 ∷ []) $ use1 𝓛 (‵ (flft κ₁ q₁) ⊛ ‵ (flft κ₀ q₀) ⊛ ‵ (flft κ₂ q₂) ⊛ ‵ ftrue) (id⊢ 𝓤 _) $
+      split ! $ move ! (1 ∷ []) $ split ! $ move ! (2 ∷ 1 ∷ []) $ join ! $ move ! (1 ∷ 0 ∷ []) $ join ! $ keep ! (1 ∷ 0 ∷ 3 ∷ []) $
       suffices ! _ (ends_at 𝓛 (f.ended A g d dd) stayed (clauses upper) ((κs, qs, bounds, a, (shr_slice_vals src, (mut_vals dst, tt))), g₀) w r (tt, (tt, tt)) (tt, (tt, tt))) $
-      nothing ! $ nothing ! $ fjoin ! $ nothing ! $ fjoin ! $ join ! $ move ! (1 ∷ 0 ∷ []) $ join ! $ frame ! $ says ! answer $ done !)))))))
+      nothing ! $ nothing ! $ fjoin ! $ nothing ! $ fjoin ! $ join ! $ move ! (1 ∷ 0 ∷ []) $ join ! $ done !))))

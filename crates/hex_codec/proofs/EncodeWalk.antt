@@ -1,19 +1,14 @@
 -- The walk of `hex_encode` and of `hex_encode_upper`: both hand on what encoding under the plain plan lends.
-use Rattle.hex_core.proofs.WalkKit.{◌≡◌, refl, Bool, true, false, List, [], ◌∷◌, length, w8, Ura, Callee, Fn, named, erased, mut, ty_int, ty_ref, place, deref, field, local, value_local, copy, addr_of, aggregate, seq, assign, call, return, vbool, sep, emp, id⊢, ftrue, flft, Model, Wired, Closed, Env, Logic, sem, ‵, ◌⊛◌, raw, some, later, ◌$◌, ◌∵◌, !, qed, move, keep, drop, split, join, fsplit3, fjoin, use1, use2, await, pick, suffices, frame, done, whole, sub, agg, stop, fld, hop, from, addr, true_lit, false_lit, and_then, no_more, returns, enter, alloc_all, pass_all, free_all, look_at, look_in_at, get, get_in, sets, lands_as, fact, Running, tables, u8, bool, yes, no, Is, shows, lone, bool_vals, bool_Makes, owns, plain as plain_slot, mut_slice_of, shr_slice_of, ShrSlice, MutSlice, Room, shr_slice_vals, shr_slice_Tells, mut_slice_vals, mut_slice_Tells, nothing, owned, peeks, heard, calls_at, Clauses, Lasts, closing, lasts, Meets, triple_of, framed, Goes-dropped, Goes-spent_slice, Stays, ends_at, says, stay_dropped, proved}
+use Rattle.hex_core.proofs.WalkKit.{refl, Bool, true, false, List, [], ◌∷◌, length, w8, Ura, Callee, Fn, Operand, named, erased, mut, ty_int, ty_ref, place, deref, field, local, value_local, copy, addr_of, aggregate, seq, assign, call, return, vbool, sep, emp, id⊢, ftrue, flft, Model, Wired, Closed, Env, Logic, sem, Item, ‵, ◌⊛◌, ◌$◌, ◌∵◌, !, qed, move, keep, drop, split, join, fsplit3, fjoin, suffices, done, whole, sub, agg, stop, fld, hop, from, addr, true_lit, false_lit, and_then, no_more, returns, enter, alloc_all, pass_all, free_all, look_at, look_in_at, get, get_in, sets, lands_as, fact, Running, tables, u8, bool, yes, no, shows, lone, layout, bool_vals, bool_Makes, owns, plain as plain_slot, mut_slice_of, shr_slice_of, ShrSlice, MutSlice, Room, shr_slice_vals, shr_slice_Tells, mut_slice_vals, mut_slice_Tells, nothing, owned, peeks, Clauses, closing, Meets, Goes-dropped, Goes-spent_slice, Stays, ends_at, stay_dropped, proved, EncodesFront, LendsAnswer}
 use mir.Syntax.{Opd as Operand, opd_true, opd_false}
-use types.Kit.{Item}
 use types.Run.{Opd}
-use Rattle.hex_core.proofs.Lent.{Plan, plan_lawful, Lent, Answer, lent_lawful}
-use Rattle.hex_core.specs.Calls.{EncodesFront}
-use Rattle.hex_core.specs.Loan.{LendsAnswer}
-use Rattle.hex_core.specs.Plans.{name_of}
-use Rattle.std.specs.Prelude.{codes}
-use Rattle.hex_core.specs.contracts.backend.Backend.plain as p
-use Rattle.hex_core.proofs.backend.Backend.plain.Symbol as p_symbol
-use Rattle.hex_core.proofs.backend.Backend.plain.Met as p_met
-use Rattle.hex_core.specs.contracts.backend.Backend.encode_slice as h
-use Rattle.hex_core.proofs.backend.Backend.encode_slice.Symbol as h_symbol
-use Rattle.hex_core.proofs.backend.Backend.encode_slice.Met as h_met
+use Rattle.hex_core.proofs.Lent.{Lent, Plan, Refusal, calls, typed}
+use Rattle.hex_core.specs.contracts.plan.Backend.plain as p
+use Rattle.hex_core.proofs.plan.Backend.plain.Symbol as p_symbol
+use Rattle.hex_core.proofs.plan.Backend.plain.Met as p_met
+use Rattle.hex_core.specs.contracts.plan.Backend.encode_slice as h
+use Rattle.hex_core.proofs.plan.Backend.encode_slice.Symbol as h_symbol
+use Rattle.hex_core.proofs.plan.Backend.encode_slice.Met as h_met
 use Rattle.hex_codec.specs.contracts.encode.hex_encode as f
 
 -- the choice of letters, as a call passes it
@@ -34,8 +29,8 @@ function upper = record {
   ty_params = [];
   givens = 0;
   params = 2;
-  locals = local (lone (Lent (named 1) []).mir) value_local ∷ local (lone (ShrSlice (named 0) [] u8).mir) value_local
-      ∷ local (lone (MutSlice (named 1) [] u8).mir) value_local ∷ local (lone Plan.mir) value_local
+  locals = local (layout (Lent Refusal (named 1) []).row) value_local ∷ local (lone (ShrSlice (named 0) [] u8).mir) value_local
+      ∷ local (lone (MutSlice (named 1) [] u8).mir) value_local ∷ local (layout Plan.row) value_local
       ∷ local (ty_ref erased mut (ty_int w8)) value_local ∷ local (lone (MutSlice erased [] u8).mir) value_local ∷ [];
   body = seq (call p_symbol.name [] (place 3 []))
       (seq (assign (place 4 []) (addr_of (place 2 (field 0 ∷ deref (ty_int w8) ∷ []))))
@@ -69,26 +64,19 @@ hands_on 𝓤 𝓛 𝓜 𝓡 upper k closed plain encode =
     let rs : Room u8 (length s) = are.0.0.1 in let rm : Room u8 (length xs) = are.1.0.0.1 in
     qed 𝓛 (((‵ (flft κ₀ q₀) ⊛ ‵ (flft κ q) ⊛ ‵ ftrue) ⊛ ‵ (owns (ShrSlice (named 0) κ₀ u8 ∷ MutSlice (named 1) κ u8 ∷ []) a (shr_slice_vals src, (mut_slice_vals dst, tt)))) ∷ ‵ ftrue ∷ []) ∵
     split ! $ enter ! _ _ _ _ _ $ alloc_all ! (λ l. pass_all ! refl ((tt, (tt, (record { fits = rs.0 }, tt))), ((tt, (tt, (record { fits = rm.0 }, tt))), tt)) $
-    let framed_calls = framed 𝓤 𝓛.H 𝓜 (tables 𝓤 𝓛.H 𝓜 𝓡 𝓡.env) in
-    let P = triple_of 𝓛 p.signature (p.spec 𝓛 𝓜.mem 𝓡.returns) in
-    let y : P.Ghost = ((tt, tt, tt, tt, tt), tt) in
-    nothing ! $ nothing ! $ join ! $ nothing ! $ move ! (1 ∷ 0 ∷ []) $ use2 𝓛 (raw (P.pre y)) (id⊢ 𝓤 _) $
-    calls_at ! framed_calls P (p_met.met 𝓤 𝓛 𝓜 𝓡 plain) y (no_more !) (λ v.
-    use1 𝓛 (later (some (λ (plan : Plan.Denot). (‵ ftrue ⊛ ‵ (Plan.own_val plan (v ∷ []))) ⊛ some (λ (ws : Lasts p.ended y.0.0 y.0.3). ‵ (lasts p.ended y.0.0 y.0.3 ws) ⊛ raw (fact 𝓤 (name_of plan ≡ codes "plain")))))) (id⊢ 𝓤 _) $
-    await ! tt $ pick ! (λ plan. split ! $ split ! $ drop ! $ peeks ! Plan (Is Plan) (shows 𝓛 Plan) plan (v ∷ []) (λ is_plan. lands_as ! refl refl ((plan_lawful 𝓛).typed plan (v ∷ []) is_plan).0 $
-    move ! (1 ∷ []) $ pick ! (λ ws. split ! $ drop ! $ drop ! $
+    nothing ! $ nothing ! $ join ! $ nothing ! $ move ! (1 ∷ 0 ∷ []) $
+    calls ! 𝓜 𝓡 p.ended (p.clauses 𝓛 𝓜.mem 𝓡.returns) (p_met.met 𝓤 𝓛 𝓜 𝓡 plain) ((tt, tt, tt, tt, tt), tt) (id⊢ 𝓤 _) (no_more !) (λ v plan ws.
+    peeks ! Plan.row _ (shows 𝓛 Plan.row) plan (v ∷ []) (λ is_plan. lands_as ! refl refl (typed Plan 𝓛 plan v is_plan) $ move ! (1 ∷ 2 ∷ 3 ∷ []) $ drop ! $ drop ! $ drop ! $
+    -- [the plan; the tokens; the arguments; the locals]
     sets ! (addr ! (from ! (fld ! refl (hop ! (look_in_at ! 2 (sub ! 0 refl (whole !))) (stop !))))) refl (tt, tt) $
     sets ! (agg ! (and_then ! (get ! refl) (and_then ! (get_in ! (fld ! refl (stop !)) (sub ! 1 refl (whole !))) (no_more !)))) refl (tt, (tt, (record { fits = rm.0 }, tt))) $
-    let G = triple_of 𝓛 h.signature (h.spec 𝓛 𝓜.mem 𝓡.returns) in
-    let z : G.Ghost = ((κs, qs, tt, (plan, (src, (dst, (upper, tt)))), ((v ∷ []), (shr_slice_vals src, (mut_slice_vals dst, (bool_vals upper, tt))))), tt) in
     move ! (2 ∷ []) $ fsplit3 ! $ move ! (2 ∷ []) $ owned ! bool _ (bool_Makes 𝓛) upper (bool_vals upper) refl $ fjoin ! $ move ! (2 ∷ 0 ∷ []) $ fjoin ! $ move ! (1 ∷ 0 ∷ []) $ fjoin ! $
-    move ! (1 ∷ 0 ∷ []) $ fjoin ! $ move ! (1 ∷ 0 ∷ []) $ join ! $ use2 𝓛 (raw (G.pre z)) (id⊢ 𝓤 _) $
-    calls_at ! framed_calls G (h_met.met 𝓤 𝓛 𝓜 𝓡 encode) z (and_then ! (get ! refl) (and_then ! (get ! refl) (and_then ! (get ! refl) (and_then ! (choice ! upper) (no_more !))))) (λ w.
-    use1 𝓛 (later (some (λ (r : Answer). ((‵ (flft κ₀ q₀) ⊛ ‵ (flft κ q) ⊛ ‵ ftrue) ⊛ ‵ ((Lent (named 1) κ).own_val r (w ∷ []))) ⊛ some (λ (ws : Lasts h.ended z.0.0 z.0.3). ‵ (lasts h.ended z.0.0 z.0.3 ws)
-    ⊛ (‵ (LendsAnswer dst r) ⊛ raw (fact 𝓤 (EncodesFront upper s (length xs) r))))))) (id⊢ 𝓤 _) $
-    await ! tt $ pick ! (λ r. split ! $ split ! $ move ! (1 ∷ []) $ peeks ! (Lent (named 1) κ) (Is (Lent (named 1) κ)) (shows 𝓛 (Lent (named 1) κ)) r (w ∷ []) (λ is. lands_as ! refl refl ((lent_lawful 𝓛 (named 1) κ).typed r (w ∷ []) is).0 $
-    move ! (2 ∷ []) $ pick ! (λ ws. split ! $ drop ! $ split ! $ move ! (1 ∷ []) $ heard ! _ (λ answer.
-    -- [the loan; the result; the tokens; the locals]
-    returns ! (look_at ! 0 refl) $ free_all ! refl $ keep ! (1 ∷ 2 ∷ 0 ∷ []) $
+    move ! (1 ∷ 0 ∷ []) $ fjoin ! $ move ! (1 ∷ 0 ∷ []) $ join ! $
+    calls ! 𝓜 𝓡 h.ended (h.clauses 𝓛 𝓜.mem 𝓡.returns) (h_met.met 𝓤 𝓛 𝓜 𝓡 encode)
+    ((κs, qs, tt, (plan, (src, (dst, (upper, tt)))), ((v ∷ []), (shr_slice_vals src, (mut_slice_vals dst, (bool_vals upper, tt))))), tt) (id⊢ 𝓤 _)
+    (and_then ! (get ! refl) (and_then ! (get ! refl) (and_then ! (get ! refl) (and_then ! (choice ! upper) (no_more !))))) (λ w r ws.
+    let Front = Lent Refusal (named 1) κ in peeks ! Front.row _ (shows 𝓛 Front.row) r (w ∷ []) (λ is. lands_as ! refl refl (typed Front 𝓛 r w is) $
+    -- [the result; the tokens; what is said of the arguments; the promises; the locals]
+    returns ! (look_at ! 0 refl) $ free_all ! refl $ keep ! (0 ∷ 1 ∷ 3 ∷ []) $
     suffices ! _ (ends_at 𝓛 f.ended stayed (clauses 𝓛 upper) ((κs, qs, bounds, a, (shr_slice_vals src, (mut_slice_vals dst, tt))), g₀) w r (tt, (tt, tt)) (tt, (tt, tt))) $
-    nothing ! $ nothing ! $ fjoin ! $ nothing ! $ fjoin ! $ join ! $ move ! (1 ∷ 0 ∷ []) $ join ! $ frame ! $ says ! answer $ done !)))))))))))
+    nothing ! $ nothing ! $ fjoin ! $ nothing ! $ fjoin ! $ join ! $ move ! (1 ∷ 0 ∷ []) $ join ! $ done !))))))

@@ -16,7 +16,6 @@ ghost use Rattle.hex_codec.specs.Fronts.{ValidDigits};
 pub use crate::group::Group;
 use crate::group_search::first_wrong;
 use crate::pieces::{FRONT_BYTES, FRONT_ROOM, are_separators, front_of, take_digits};
-use hex_core::lend::lend_accepted;
 use hex_core::{Backend, CheckCase};
 
 /// Why a grouped text was not read.
@@ -229,6 +228,8 @@ pub fn read<'a>(
     ensures* lends { sem 𝓛 (LendsAnswer dst.entry result) }
     ensures answer { ReadsFront case group src.now (length dst.old) result }
 {
-    let answer = read_into(src, dst, group, case);
-    lend_accepted(dst, answer)
+    match read_into(src, dst, group, case) {
+        Ok(written) => Ok(&mut dst[..written]),
+        Err(fault) => Err(fault),
+    }
 }

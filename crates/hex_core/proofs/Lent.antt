@@ -1,121 +1,81 @@
--- The types that the slice calls pass, with their laws, and how a loan is handed on.
-use Rattle.hex_core.proofs.WalkKit.{◌≡◌, refl, ap, ◌∙◌, ℕ, ◌^◌, ◌<◌, List, [], ◌∷◌, ◌++◌, take, w64, MutBor, Result, Ok, Err, IfOk, IsOkAnd, Ura, Lifetime, Val, of_list, vint, Lft, Logic, u8, usize, no, Is, Lawful, Makes, Tells, layout, param, RattleType, NamedLft, MutSlice}
-use types.Match.{live}
-use denote.Enum.Laws as enum_laws
-use denote.Param.{arg}
-use mir.Raw.{raw}
-use denote.Param.Laws as param_laws
+-- The types that the slice calls pass, with their laws.
+use Rattle.hex_core.proofs.WalkKit.{refl, ap, subst, List, [], ◌∷◌, Ura, Body, Callee, Lifetime, Operand, Place, seq, call, Val, WT, has_ty, ent, sep, id⊢, Lft, Model, Env, Logic, Item, Post, lands, runs, mean, ‵, ◌⊛◌, raw, some, later, Seq, ◌$◌, move, split, use1, use2, await, pick, Opds, Running, tables, u8, usize, bool, Is, layout, RattleType, NamedLft, type_at, MutSlice, only, calls_at, Clauses, Ended, Lasts, at_exit, closing, lasts, Res, alive, Meets, triple_of, framed}
+use lib.Dec.{T}
+use denote.Param.Laws.{Laws, Told, of_field, field_told, param_laws}
 use denote.Param.Shared.{copy_shared, mut_slice_shared}
-use denote.Struct.Field.{u8-field, u64-field, mut_slice_field}
-use denote.Struct.Laws as struct_laws
-use denote.Struct.Members.{Lone}
+use denote.Struct.Field.{u8-field, u64-field, bool-field, mut_slice_field}
+use denote.Struct.Laws.{u8-copy, u64-laws, u64-copy, bool-laws, bool-copy, mut_slice_laws}
 use Rattle.std.specs.contracts.result.Result as RS
 use Rattle.std.proofs.result.Result.TheLaws as RL
-use Rattle.std.proofs.ResultValues.{ok_val}
+use Rattle.hex_core.specs.contracts.plan.Backend as BA
+use Rattle.hex_core.proofs.plan.Backend.TheLaws as BL
 use Rattle.hex_core.specs.contracts.digit.CheckCase as CC
 use Rattle.hex_core.proofs.digit.CheckCase.TheLaws as CL
 use Rattle.hex_core.specs.contracts.error.Error as ER
 use Rattle.hex_core.proofs.error.Error.TheLaws as EL
-use Rattle.hex_core.specs.contracts.backend.Backend as BA
-use Rattle.hex_core.proofs.backend.Backend.TheLaws as BL
-use Rattle.hex_core.specs.declared.digit.CheckCase.TheVariants as policy
-use Rattle.hex_core.specs.declared.error.Error.{Error}
 
--- a plan
-abbrev pub Plan : RattleType
-Plan = BA.the_row
+-- a type whose values tell their one machine value, with its laws
+pub record Known : Type 2 where
+  pub row : RattleType
+  pub laws : Laws row
+  pub told : Told row
 
-abbrev pub plan_vals : Plan.Denot → List Val
-plan_vals = struct_laws.vals BA.the_type BL.the_laws
+abbrev pub vals : (R : Known) → R.row.Denot → List Val
+vals R x = R.told.val x ∷ []
 
-abbrev pub plan_tells : Tells Plan (Is Plan) plan_vals
-plan_tells = struct_laws.tells BA.the_type BL.the_laws
+-- a machine value is of its type
+pub typed : (R : Known) {M : Type 1} {𝓤 : Ura M} (𝓛 : Logic 𝓤) (x : R.row.Denot) (v : Val) → Is R.row x (v ∷ []) → T (has_ty (layout R.row) v) × WT v
+typed R 𝓛 x v is = (((param_laws 0 R.row R.laws).lawful 𝓛).typed x (v ∷ []) is).0
 
-pub plan_lawful : {M : Type 1} {𝓤 : Ura M} (𝓛 : Logic 𝓤) → Lawful 𝓛 Plan
-plan_lawful = struct_laws.lawful BA.the_type BL.the_laws
+-- and it is the one that is told
+pub told_typed : (R : Known) {M : Type 1} {𝓤 : Ura M} (𝓛 : Logic 𝓤) (x : R.row.Denot) (v : Val) → Is R.row x (v ∷ []) → T (has_ty (layout R.row) (R.told.val x)) × WT (R.told.val x)
+told_typed R 𝓛 x v is = subst (λ (w : Val). T (has_ty (layout R.row) w) × WT w) (ap only (R.told.tells x (v ∷ []) is)) (typed R 𝓛 x v is)
 
--- a policy
-abbrev pub Policy : RattleType
-Policy = CC.the_row
+abbrev pub Plan : Known
+Plan = record { row = BA.the_row; laws = BL.the_row_laws; told = BL.the_told }
 
-abbrev pub policy_vals : Policy.Denot → List Val
-policy_vals = enum_laws.vals CC.the_type CL.the_laws
+abbrev pub Policy : Known
+Policy = record { row = CC.the_row; laws = CL.the_row_laws; told = CL.the_told }
 
-abbrev pub policy_tells : Tells Policy (Is Policy) policy_vals
-policy_tells = enum_laws.tells CC.the_type CL.the_laws
+abbrev pub Refusal : Known
+Refusal = record { row = ER.the_row; laws = EL.the_row_laws; told = EL.the_told }
 
-pub policy_lawful : {M : Type 1} {𝓤 : Ura M} (𝓛 : Logic 𝓤) → Lawful 𝓛 Policy
-policy_lawful 𝓛 = enum_laws.lawful CC.the_type CL.the_laws 𝓛 tt
+-- a choice of letters
+abbrev pub Letters : Known
+Letters = record { row = bool; laws = of_field bool-field bool-laws refl (copy_shared bool-field bool-copy); told = field_told bool-field bool-laws }
 
-pub policy_makes : {M : Type 1} {𝓤 : Ura M} (𝓛 : Logic 𝓤) → Makes 𝓛 Policy (Is Policy)
-policy_makes = enum_laws.makes CC.the_type CL.the_plain
+abbrev Number : Known
+Number = record { row = usize; laws = of_field u64-field u64-laws refl (copy_shared u64-field u64-copy); told = field_told u64-field u64-laws }
 
-pub policy_none : Is Policy policy.None (policy_vals policy.None)
-policy_none = enum_laws.owes CC.the_type CL.the_laws policy.None tt
+abbrev Bytes : NamedLft → Known
+Bytes slot = record {
+  row = MutSlice slot.mir slot.lft u8;
+  laws = of_field (mut_slice_field slot u8 tt) (mut_slice_laws slot u8 tt) refl (mut_slice_shared slot u8 tt (copy_shared u8-field u8-copy));
+  told = field_told (mut_slice_field slot u8 tt) (mut_slice_laws slot u8 tt);
+}
 
--- how many bytes were written, or the refusal, and the lent front, or the refusal
-abbrev pub CountedBy : RattleType → RattleType
-CountedBy E = RS.the_row usize E
+abbrev pub ResultOf : Known → Known → Known
+ResultOf X E = record { row = RS.the_row X.row E.row; laws = RL.the_row_laws X.row E.row X.laws E.laws; told = RL.the_told X.row E.row X.laws E.laws X.told E.told }
 
-abbrev pub LentBy : RattleType → Lifetime → Lft → RattleType
-LentBy E ℓ κ = RS.the_row (MutSlice ℓ κ u8) E
+-- how many bytes were written, or the refusal
+abbrev pub Counted : Known → Known
+Counted = ResultOf Number
 
-module _ (E : RattleType) (laws : param_laws.Laws E) (told : param_laws.Told E) where
-  pub counted_lawful_by : {M : Type 1} {𝓤 : Ura M} (𝓛 : Logic 𝓤) → Lawful 𝓛 (CountedBy E)
-  counted_lawful_by 𝓛 = enum_laws.lawful (RS.the_type usize E)
-      (RL.the_laws usize E (param_laws.of_field u64-field struct_laws.u64-laws refl (copy_shared u64-field struct_laws.u64-copy)) laws (param_laws.field_told u64-field struct_laws.u64-laws) told) 𝓛 tt
+-- the lent front, or the refusal
+abbrev pub Lent : Known → Lifetime → Lft → Known
+Lent E ℓ κ = ResultOf (Bytes (record { mir = ℓ; lft = κ })) E
 
-  pub lent_lawful_by : {M : Type 1} {𝓤 : Ura M} (𝓛 : Logic 𝓤) (ℓ : Lifetime) (κ : Lft) → Lawful 𝓛 (LentBy E ℓ κ)
-  lent_lawful_by 𝓛 ℓ κ =
-      let slot : NamedLft = record { mir = ℓ; lft = κ } in
-      enum_laws.lawful (RS.the_type (MutSlice ℓ κ u8) E)
-      (RL.the_laws (MutSlice ℓ κ u8) E
-      (param_laws.of_field (mut_slice_field slot u8 tt) (struct_laws.mut_slice_laws slot u8 tt) refl (mut_slice_shared slot u8 tt (copy_shared u8-field struct_laws.u8-copy))) laws
-      (param_laws.field_told (mut_slice_field slot u8 tt) (struct_laws.mut_slice_laws slot u8 tt)) told) 𝓛 tt
-
--- the same two of the codec's errors
-abbrev pub Counted : RattleType
-Counted = CountedBy ER.the_row
-
-pub counted_lawful : {M : Type 1} {𝓤 : Ura M} (𝓛 : Logic 𝓤) → Lawful 𝓛 Counted
-counted_lawful = counted_lawful_by ER.the_row EL.the_row_laws EL.the_told
-
-abbrev pub Lent : Lifetime → Lft → RattleType
-Lent = LentBy ER.the_row
-
-pub lent_lawful : {M : Type 1} {𝓤 : Ura M} (𝓛 : Logic 𝓤) (ℓ : Lifetime) (κ : Lft) → Lawful 𝓛 (Lent ℓ κ)
-lent_lawful = lent_lawful_by ER.the_row EL.the_row_laws EL.the_told
-
-abbrev pub Answer : Type 0
-Answer = Result (MutBor (List ℕ)) Error
-
--- where a number was accepted, what is lent is that many bytes of the list
-abbrev pub LendsFront : {E : Type 0} → List ℕ → Result ℕ E → Result (MutBor (List ℕ)) E → Type 0
-LendsFront xs u r = IfOk u (λ n. IsOkAnd r (λ p. p.now ≡ take n xs))
-
--- a type of errors as a call passes it
-abbrev pub Passed : RattleType → RattleType
-Passed E = arg (raw (layout E)) no E
-
-abbrev pub passed_laws : (E : RattleType) → param_laws.Laws E → raw (raw (layout E)) ≡ raw (layout E) → param_laws.Laws (Passed E)
-passed_laws E laws = param_laws.arg_laws (raw (layout E)) no E laws
-
-abbrev pub err_val : Val → Val
-err_val v = live 1 (of_list (v ∷ []))
-
-one_value : (P : List Val → Type 0) (vs : List Val) → Lone vs → P vs → (v : Val) × P (v ∷ [])
-one_value P [] lone p = absurd lone
-one_value P (v ∷ []) lone p = (v, p)
-one_value P (v ∷ u ∷ us) lone p = absurd lone
-
--- the machine value of a number, and of a refusal
-pub counted_ok : (E : RattleType) (n : ℕ) (vs : List Val) → Is (CountedBy (param 0 E)) (Ok n) vs → (vs ≡ ok_val (vint w64 n) ∷ []) × (n < 2 ^ 64)
-counted_ok E n vs p =
-    let number = p.1.1.1.1.0 in
-    (p.1.0 ∙ ap (λ (us : List Val). live 0 (of_list us) ∷ []) (p.1.1.1.0 ∙ ap (λ (us : List Val). us ++ []) number.0), number.1)
-
-pub counted_err : (E : RattleType) → param_laws.Laws E → (e : E.Denot) (vs : List Val) → Is (CountedBy (param 0 E)) (Err e) vs → (v : Val) × ((vs ≡ err_val v ∷ []) × Is E e (v ∷ []))
-counted_err E laws e vs p =
-    let is = p.1.1.1.1.0 in
-    let one = one_value (λ us. (p.0 ≡ us ++ []) × Is E e us) p.1.1.0.0 (laws.single e p.1.1.0.0 is) (p.1.1.1.0, is) in
-    (one.0, (p.1.0 ∙ ap (λ (us : List Val). live 1 (of_list us) ∷ []) one.1.0, one.1.1))
+-- a call, from the tokens with what the arguments own, and what the callee asks. It gives back the result, the tokens, what is said of
+-- the arguments at its end, and what it promises
+module _ {M : Type 1} {𝓤 : Ura M} {𝓛 : Logic 𝓤} {K : Type 0} {Γ : List (Item 𝓤)} {i j : Item 𝓤} {E : Env 𝓤 𝓛.H} {f : Callee} {xs : List Operand} {d : Place} {rest : Body} {q : Post 𝓤 𝓛.H} where
+  pub calls : K → (𝓜 : Model 𝓤 𝓛.H) (𝓡 : Running 𝓤 𝓛.H 𝓜) (T : Ended) (c : Clauses 𝓤 T) → let 𝓣 = tables 𝓤 𝓛.H 𝓜 𝓡 𝓡.env in let G = triple_of 𝓛 T.signature (closing 𝓛 T c) in
+      Meets 𝓛 T.signature (𝓣.C f) (closing 𝓛 T c) → (z : G.Ghost) → ent 𝓤 (sep 𝓤 (mean 𝓛 i) (mean 𝓛 j)) (G.pre z) → Opds K 𝓛 (raw (G.pre z) ∷ Γ) E xs (G.args z)
+      → ((w : Val) (r : Res T.signature z.0.0) (ws : Lasts T z.0.0 z.0.3) → Seq K 𝓛 (‵ ((type_at T.signature.result z.0.0).own_val r (w ∷ [])) ∷ raw (alive 𝓛 T.signature z.0.0 z.0.1) ∷ ‵ (lasts T z.0.0 z.0.3 ws)
+      ∷ raw ((c z.0.0 z.0.3).ensures z.1 r (at_exit T z.0.0 z.0.3 ws)) ∷ Γ) (lands 𝓣.C 𝓣.Λ E d w rest q))
+      → Seq K 𝓛 (i ∷ j ∷ Γ) (runs 𝓣.C 𝓣.Λ E (seq (call f xs d) rest) q)
+  calls t 𝓜 𝓡 T c met z asked opds k =
+      let G = triple_of 𝓛 T.signature (closing 𝓛 T c) in
+      use2 𝓛 (raw (G.pre z)) asked $ calls_at t (framed 𝓤 𝓛.H 𝓜 (tables 𝓤 𝓛.H 𝓜 𝓡 𝓡.env)) G met z opds (λ w.
+      use1 𝓛 (later (some (λ (r : Res T.signature z.0.0). (raw (alive 𝓛 T.signature z.0.0 z.0.1) ⊛ ‵ ((type_at T.signature.result z.0.0).own_val r (w ∷ [])))
+      ⊛ some (λ (ws : Lasts T z.0.0 z.0.3). ‵ (lasts T z.0.0 z.0.3 ws) ⊛ raw ((c z.0.0 z.0.3).ensures z.1 r (at_exit T z.0.0 z.0.3 ws)))))) (id⊢ 𝓤 _) $
+      await t tt $ pick t (λ r. split t $ split t $ move t (2 ∷ []) $ pick t (λ ws. split t $ move t (3 ∷ 2 ∷ []) $ k w r ws)))

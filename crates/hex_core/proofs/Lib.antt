@@ -22,4 +22,4 @@ pub mod TextBlockLemmas
 pub mod TextLemmas
 pub mod WalkKit
 mod WordLemmas
-mod WriteWalk
+pub mod WriteWalk

@@ -11,7 +11,6 @@ mod hidden;
 mod kernel;
 pub mod lanes;
 pub mod laws;
-pub mod lend;
 mod masks;
 mod nibbles;
 mod owned;

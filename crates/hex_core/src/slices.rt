@@ -12,7 +12,6 @@ ghost use Rattle.hex_core.specs.Text.{text};
 use crate::backend::Backend;
 use crate::digit::CheckCase;
 use crate::error::Error;
-use crate::lend::lend_accepted;
 
 impl Backend {
     // How many bytes so many digits spell, or what their number refuses in this room.
@@ -139,8 +138,10 @@ impl Backend {
         ensures* lends { sem 𝓛 (LendsAnswer dst.entry result) }
         ensures answer { DecodesFront case src.now (length dst.old) result }
     {
-        let answer = self.decode_into(src, dst, case);
-        lend_accepted(dst, answer)
+        match self.decode_into(src, dst, case) {
+            Ok(written) => Ok(&mut dst[..written]),
+            Err(error) => Err(error),
+        }
     }
 
     /// Encodes all of `src` into the front of `dst`, in uppercase where `upper` is true, and
@@ -170,7 +171,9 @@ impl Backend {
         ensures* lends { sem 𝓛 (LendsAnswer dst.entry result) }
         ensures answer { EncodesFront upper src.now (length dst.old) result }
     {
-        let answer = self.encode_into(src, dst, upper);
-        lend_accepted(dst, answer)
+        match self.encode_into(src, dst, upper) {
+            Ok(written) => Ok(&mut dst[..written]),
+            Err(error) => Err(error),
+        }
     }
 }

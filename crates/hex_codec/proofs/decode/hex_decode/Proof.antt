@@ -1,12 +1,13 @@
 -- `hex_decode` reads both cases.
-use Rattle.hex_core.proofs.WalkKit.{refl, lit<, [], ◌∷◌, length, named, id⊢, ftrue, flft, ‵, ◌⊛◌, raw, some, later, ◌$◌, ◌∵◌, !, qed, move, keep, drop, split, join, fsplit3, fjoin, use1, use2, await, pick, suffices, frame, done, whole, sub, agg, stop, fld, hop, from, addr, lit, and_then, no_more, returns, enter, alloc_all, pass_all, free_all, look_at, look_in_at, get, get_in, sets, lands_as, fact, tables, u8, yes, Is, shows, owns, plain, shr_slice_of, ShrSlice, MutSlice, Room, shr_slice_vals, shr_slice_Tells, mut_slice_vals, mut_slice_Tells, nothing, owned, peeks, heard, calls_at, Lasts, lasts, triple_of, framed, Goes-dropped, Goes-spent_slice, ends_at, says, proved}
-use Rattle.hex_core.proofs.Lent.{Policy, policy_vals, policy_makes, policy_none, Lent, Answer, lent_lawful}
-use Rattle.hex_core.specs.Calls.{DecodesFront}
-use Rattle.hex_core.specs.Loan.{LendsAnswer}
+use Rattle.hex_core.proofs.WalkKit.{refl, lit<, [], ◌∷◌, length, named, id⊢, ftrue, flft, ‵, ◌⊛◌, ◌$◌, ◌∵◌, !, qed, move, keep, split, join, fsplit3, fjoin, suffices, done, whole, sub, agg, stop, fld, hop, from, addr, lit, and_then, no_more, returns, enter, alloc_all, pass_all, free_all, look_at, look_in_at, get, get_in, sets, lands_as, u8, yes, shows, owns, plain, shr_slice_of, ShrSlice, MutSlice, Room, shr_slice_vals, shr_slice_Tells, mut_slice_vals, mut_slice_Tells, nothing, owned, peeks, Goes-dropped, Goes-spent_slice, ends_at, proved}
+use Rattle.hex_core.proofs.Lent.{Lent, calls, Policy, Refusal, typed, vals}
 use Rattle.hex_codec.proofs.EncodeWalk.{stayed}
 use Rattle.hex_codec.specs.contracts.decode.hex_decode_with_case as h
 use Rattle.hex_codec.proofs.decode.hex_decode_with_case.Met as h_met
+use Rattle.hex_core.specs.contracts.digit.CheckCase as CC
+use Rattle.hex_core.proofs.digit.CheckCase.TheLaws as CL
 use Rattle.hex_core.specs.declared.digit.CheckCase.TheVariants as policy
+use denote.Enum.Laws as enum_laws
 use Rattle.hex_codec.specs.contracts.decode.hex_decode as f
 use Rattle.hex_codec.proofs.decode.hex_decode.Statement.{statement}
 use Rattle.hex_codec.proofs.decode.hex_decode.Code as code
@@ -26,15 +27,12 @@ hex_decode_spec 𝓤 𝓛 𝓜 𝓡 wired =
     sets ! (addr ! (from ! (fld ! refl (hop ! (look_in_at ! 2 (sub ! 0 refl (whole !))) (stop !))))) refl (tt, tt) $
     sets ! (agg ! (and_then ! (get ! refl) (and_then ! (get_in ! (fld ! refl (stop !)) (sub ! 1 refl (whole !))) (no_more !)))) refl (tt, (tt, (record { fits = rm.0 }, tt))) $
     sets ! (agg ! (and_then ! (lit ! tt) (no_more !))) refl (tt, (record { fits = lit< tt }, tt)) $
-    let G = triple_of 𝓛 h.signature (h.spec 𝓛 𝓜.mem 𝓡.returns) in
-    let z : G.Ghost = ((κs, qs, tt, (src, (dst, (policy.None, tt))), (shr_slice_vals src, (mut_slice_vals dst, (policy_vals policy.None, tt)))), tt) in
-    move ! (1 ∷ []) $ fsplit3 ! $ move ! (2 ∷ []) $ owned ! Policy _ (policy_makes 𝓛) policy.None (policy_vals policy.None) policy_none $ fjoin ! $ move ! (2 ∷ 0 ∷ []) $ fjoin ! $ move ! (1 ∷ 0 ∷ []) $ fjoin ! $ move ! (1 ∷ 0 ∷ []) $ join ! $ use2 𝓛 (raw (G.pre z)) (id⊢ 𝓤 _) $
-    calls_at ! (framed 𝓤 𝓛.H 𝓜 (tables 𝓤 𝓛.H 𝓜 𝓡 𝓡.env)) G (h_met.met 𝓤 𝓛 𝓜 𝓡 (code.calls-hex_codec::decode::hex_decode_with_case 𝓡.env wired)) z (and_then ! (get ! refl) (and_then ! (get ! refl) (and_then ! (get ! refl) (no_more !)))) (λ w.
-    use1 𝓛 (later (some (λ (r : Answer). ((‵ (flft κ₀ q₀) ⊛ ‵ (flft κ q) ⊛ ‵ ftrue) ⊛ ‵ ((Lent (named 1) κ).own_val r (w ∷ []))) ⊛ some (λ (ws : Lasts h.ended z.0.0 z.0.3). ‵ (lasts h.ended z.0.0 z.0.3 ws)
-    ⊛ (‵ (LendsAnswer dst r) ⊛ raw (fact 𝓤 (DecodesFront policy.None s (length xs) r))))))) (id⊢ 𝓤 _) $
-    await ! tt $ pick ! (λ r. split ! $ split ! $ move ! (1 ∷ []) $ peeks ! (Lent (named 1) κ) (Is (Lent (named 1) κ)) (shows 𝓛 (Lent (named 1) κ)) r (w ∷ []) (λ is. lands_as ! refl refl ((lent_lawful 𝓛 (named 1) κ).typed r (w ∷ []) is).0 $
-    move ! (2 ∷ []) $ pick ! (λ ws. split ! $ drop ! $ split ! $ move ! (1 ∷ []) $ heard ! _ (λ answer.
-    -- [the loan; the result; the tokens; the locals]
-    returns ! (look_at ! 0 refl) $ free_all ! refl $ keep ! (1 ∷ 2 ∷ 0 ∷ []) $
+    move ! (1 ∷ []) $ fsplit3 ! $ move ! (2 ∷ []) $ owned ! Policy.row _ (enum_laws.makes CC.the_type CL.the_plain 𝓛) policy.None (vals Policy policy.None) (enum_laws.owes CC.the_type CL.the_laws policy.None tt) $
+    fjoin ! $ move ! (2 ∷ 0 ∷ []) $ fjoin ! $ move ! (1 ∷ 0 ∷ []) $ fjoin ! $ move ! (1 ∷ 0 ∷ []) $ join ! $
+    calls ! 𝓜 𝓡 h.ended (h.clauses 𝓛 𝓜.mem 𝓡.returns) (h_met.met 𝓤 𝓛 𝓜 𝓡 (code.calls-hex_codec::decode::hex_decode_with_case 𝓡.env wired))
+    ((κs, qs, tt, (src, (dst, (policy.None, tt))), (shr_slice_vals src, (mut_slice_vals dst, (vals Policy policy.None, tt)))), tt) (id⊢ 𝓤 _) (and_then ! (get ! refl) (and_then ! (get ! refl) (and_then ! (get ! refl) (no_more !)))) (λ w r ws.
+    let Front = Lent Refusal (named 1) κ in peeks ! Front.row _ (shows 𝓛 Front.row) r (w ∷ []) (λ is. lands_as ! refl refl (typed Front 𝓛 r w is) $
+    -- [the result; the tokens; what is said of the arguments; the promises; the locals]
+    returns ! (look_at ! 0 refl) $ free_all ! refl $ keep ! (0 ∷ 1 ∷ 3 ∷ []) $
     suffices ! _ (ends_at 𝓛 f.ended stayed c ((κs, qs, bounds, a, (shr_slice_vals src, (mut_slice_vals dst, tt))), g₀) w r (tt, (tt, tt)) (tt, (tt, tt))) $
-    nothing ! $ nothing ! $ fjoin ! $ nothing ! $ fjoin ! $ join ! $ move ! (1 ∷ 0 ∷ []) $ join ! $ frame ! $ says ! answer $ done !)))))))
+    nothing ! $ nothing ! $ fjoin ! $ nothing ! $ fjoin ! $ join ! $ move ! (1 ∷ 0 ∷ []) $ join ! $ done !))))
