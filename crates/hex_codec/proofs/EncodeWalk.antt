@@ -1,6 +1,6 @@
 -- The walk of `hex_encode` and of `hex_encode_upper`: both hand on what encoding under the plain plan lends.
 use Rattle.hex_core.proofs.WalkKit.{refl, Bool, true, false, List, [], ◌∷◌, length, w8, Ura, Callee, Fn, Operand, named, erased, mut, ty_int, ty_ref, place, deref, field, local, value_local, copy, addr_of, aggregate, seq, assign, call, return, vbool, sep, emp, id⊢, ftrue, flft, Model, Wired, Closed, Env, Logic, sem, Item, ‵, ◌⊛◌, ◌$◌, ◌∵◌, !, qed, move, keep, drop, split, join, fsplit3, fjoin, suffices, done, whole, sub, agg, stop, fld, hop, from, addr, true_lit, false_lit, and_then, no_more, returns, enter, alloc_all, pass_all, free_all, look_at, look_in_at, get, get_in, sets, lands_as, fact, Running, tables, u8, bool, yes, no, shows, lone, layout, bool_vals, bool_Makes, owns, plain as plain_slot, mut_slice_of, shr_slice_of, ShrSlice, MutSlice, Room, shr_slice_vals, shr_slice_Tells, mut_slice_vals, mut_slice_Tells, nothing, owned, peeks, Clauses, closing, Meets, Goes-dropped, Goes-spent_slice, Stays, ends_at, stay_dropped, proved, EncodesFront, LendsAnswer}
-use mir.Syntax.{Opd as Operand, opd_true, opd_false}
+use mir.Syntax.{opd_true, opd_false}
 use types.Run.{Opd}
 use Rattle.hex_core.proofs.Lent.{Lent, Plan, Refusal, calls, typed}
 use Rattle.hex_core.specs.contracts.plan.Backend.plain as p
