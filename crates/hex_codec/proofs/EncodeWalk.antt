@@ -3,12 +3,12 @@ use Rattle.hex_core.proofs.WalkKit.{refl, Bool, true, false, List, [], ◌∷◌
 use mir.Syntax.{opd_true, opd_false}
 use types.Run.{Opd}
 use Rattle.hex_core.proofs.Lent.{Lent, Plan, Refusal, calls, typed}
-use Rattle.hex_core.specs.contracts.plan.Backend.plain as p
-use Rattle.hex_core.proofs.plan.Backend.plain.Symbol as p_symbol
-use Rattle.hex_core.proofs.plan.Backend.plain.Met as p_met
-use Rattle.hex_core.specs.contracts.plan.Backend.encode_slice as h
-use Rattle.hex_core.proofs.plan.Backend.encode_slice.Symbol as h_symbol
-use Rattle.hex_core.proofs.plan.Backend.encode_slice.Met as h_met
+use Rattle.hex_core.specs.contracts.backend.Backend.plain as p
+use Rattle.hex_core.proofs.backend.Backend.plain.Symbol as p_symbol
+use Rattle.hex_core.proofs.backend.Backend.plain.Met as p_met
+use Rattle.hex_core.specs.contracts.backend.Backend.encode_slice as h
+use Rattle.hex_core.proofs.backend.Backend.encode_slice.Symbol as h_symbol
+use Rattle.hex_core.proofs.backend.Backend.encode_slice.Met as h_met
 use Rattle.hex_codec.specs.contracts.encode.hex_encode as f
 
 -- the choice of letters, as a call passes it

@@ -7,8 +7,8 @@ use denote.Struct.Field.{u8-field, u64-field, bool-field, mut_slice_field}
 use denote.Struct.Laws.{u8-copy, u64-laws, u64-copy, bool-laws, bool-copy, mut_slice_laws}
 use Rattle.std.specs.contracts.result.Result as RS
 use Rattle.std.proofs.result.Result.TheLaws as RL
-use Rattle.hex_core.specs.contracts.plan.Backend as BA
-use Rattle.hex_core.proofs.plan.Backend.TheLaws as BL
+use Rattle.hex_core.specs.contracts.backend.Backend as BA
+use Rattle.hex_core.proofs.backend.Backend.TheLaws as BL
 use Rattle.hex_core.specs.contracts.digit.CheckCase as CC
 use Rattle.hex_core.proofs.digit.CheckCase.TheLaws as CL
 use Rattle.hex_core.specs.contracts.error.Error as ER
