@@ -1,4 +1,4 @@
-# Makes of outputs of ../scripts/compare.sh, one of each build, a table of the ratios of fhex: a row
+# Makes of outputs of compare.sh, one of each build, a table of the ratios of fhex: a row
 # for each program and direction, and in each cell the builds.
 
 BEGIN {

@@ -1,6 +1,6 @@
 // Times fhex beside basenc, xxd and cat as processes, from file to file, all in turn in one run. It
 // prints the least time of each, the ratios, the page faults at the smallest and the largest size,
-// and what one takes. scripts/compare.sh makes the files, and first checks what the programs write.
+// and what one takes. compare.sh makes the files, and first checks what the programs write.
 // Usage: programs ROUNDS FOLDER COLUMNS FHEX BASENC XXD CAT SIZE..
 // COLUMNS is an option of xxd. A program is a path, or - where it is not there. The sizes ascend.
 // The inputs are FOLDER/bytes.SIZE, and FOLDER/digits.SIZE where that size is decoded too.

@@ -1,7 +1,7 @@
 #!/bin/sh
 # Makes of two outputs of run.sh, of the default build and of that for x86-64-v3, the tables of
 # README.md, which it prints, with both builds in a cell. Of two outputs of run.sh --sweep, of the same
-# builds, it makes a picture and a table, and of two of scripts/compare.sh the table of programs.
+# builds, it makes a picture and a table, and of two of bench/compare.sh the table of programs.
 # Usage: bench/report.sh DEFAULT V3 SWEEP SWEEP_V3 PICTURE.svg [PROGRAMS PROGRAMS_V3]
 set -eu
 

@@ -2,7 +2,7 @@
 # Times fhex beside basenc, xxd and cat, each as a process from file to file, for 8 to 16,777,216
 # bytes. First it checks that outputs agree. It prints microseconds, ratios and page faults;
 # bench/README.md says what to make of them.
-# Usage: scripts/compare.sh [rounds], after `make`. It takes about a minute for its 100 rounds, and 100 MB
+# Usage: bench/compare.sh [rounds], after `make`. It takes about a minute for its 100 rounds, and 100 MB
 # of files in TMPDIR. FHEX names another program to compare, as crates/fhex/out/x86-64-v3/fhex after
 # `make CPU=x86-64-v3`, and CC another C compiler.
 set -eu
