@@ -37,7 +37,7 @@ lib:
 test:
 	scripts/header.sh
 	scripts/test-rows --carried
-	scripts/examples.sh
+	scripts/examples
 	RT_JOBS=$(JOBS) rt ci
 
 check: build lib
@@ -48,7 +48,7 @@ deep: build lib
 	scripts/wrong-bodies
 	scripts/test-wrong-bodies
 	scripts/test-rows
-	scripts/examples.sh --prove
+	scripts/examples --prove
 	$(CHECK)
 	scripts/random-rows
 

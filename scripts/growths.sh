@@ -13,7 +13,7 @@ set -eu
 cd "$(dirname "$0")/.."
 made=$(mktemp -d)
 trap 'rm -rf "$made"' EXIT
-scripts/examples.sh --write "$made"
+scripts/examples --write "$made"
 own=$made/crates/doc_examples
 examples=$(cat "$own"/src/*.rt | grep -c '^#\[test\]$')
 passed=0
