@@ -19,7 +19,7 @@ HEADER = crates/faster_hex_c/faster_hex.h
 BINDINGS = bindings/rust
 TO = $(DESTDIR)$(PREFIX)
 CHECK = FHEX=$(abspath $(PROGRAM)) FASTER_HEX_LIB=$(abspath $(dir $(LIBRARY))) \
-	scripts/check.sh $(if $(RUST),--rust $(RUST))
+	scripts/check $(if $(RUST),--rust $(RUST))
 # How many tasks of the gate run at a time. Each has one job, since a second one reads all libraries
 # once more: a crate over serde_json took 118 seconds of processor by four jobs, and 81 by one.
 JOBS := $(shell n=$$(nproc); echo $$((n < 4 ? n : 4)))

@@ -1,7 +1,7 @@
 /* Tries the calls of faster_hex.h beside models of a few lines: between guarded pages at all lengths
  * from 0 to 300, with NULL, with sources too long for any text, with source and destination that touch,
  * at all alignments, and in threads.
- * scripts/library.sh builds and runs it. Prints a line for each thing that failed, and
+ * `scripts/check library` builds and runs it. Prints a line for each thing that failed, and
  * `N passed, M failed` at the end.
  * Usage: library [threads] */
 #include <pthread.h>
@@ -33,8 +33,7 @@ struct job {
 };
 
 static struct faster_hex_answer told(size_t number, uint8_t status, uint8_t byte) {
-    struct faster_hex_answer answer = { number, status, byte };
-    return answer;
+    return (struct faster_hex_answer){ number, status, byte };
 }
 
 static struct faster_hex_answer run(const struct job *it) {
@@ -67,9 +66,9 @@ static bool is_group(size_t every, uint8_t sep) {
 /* The models write behind no text whose length is a size_t: the tests' lengths are short. */
 static struct faster_hex_answer model_encode(const struct job *it, size_t every) {
     const char *digits = it->upper ? "0123456789ABCDEF" : "0123456789abcdef";
-    size_t required = 2 * it->len + (it->len == 0 ? 0 : (it->len - 1) / every), at = 0, i;
+    size_t required = 2 * it->len + (it->len == 0 ? 0 : (it->len - 1) / every), at = 0;
     if (it->room < required) return told(required, FASTER_HEX_OUTPUT_TOO_SMALL, 0);
-    for (i = 0; i < it->len; i++) {
+    for (size_t i = 0; i < it->len; i++) {
         if (i > 0 && i % every == 0) it->dst[at++] = it->sep;
         it->dst[at++] = (uint8_t)digits[it->src[i] / 16];
         it->dst[at++] = (uint8_t)digits[it->src[i] % 16];
@@ -83,8 +82,7 @@ static bool separates(size_t at, size_t every) {
 }
 
 static struct faster_hex_answer model_search(const struct job *it, uint8_t policy, size_t every) {
-    size_t i;
-    for (i = 0; i < it->len; i++) {
+    for (size_t i = 0; i < it->len; i++) {
         bool wrong = separates(i, every) ? it->src[i] != it->sep : value(policy, it->src[i]) < 0;
         if (wrong) return told(i, FASTER_HEX_INVALID_CHAR, it->src[i]);
     }
@@ -93,21 +91,19 @@ static struct faster_hex_answer model_search(const struct job *it, uint8_t polic
 
 static struct faster_hex_answer model_decode(const struct job *it, uint8_t policy, size_t every,
                                              uint8_t bad_length) {
-    size_t required = 0, digits = 0, i;
-    struct faster_hex_answer answer;
-    for (i = 0; i < it->len; i++) digits += !separates(i, every);
+    size_t digits = 0, at = 0;
+    for (size_t i = 0; i < it->len; i++) digits += !separates(i, every);
     if (digits % 2 == 1 || (it->len > 0 && separates(it->len - 1, every))) return told(0, bad_length, 0);
-    required = digits / 2;
-    if (it->room < required) return told(required, FASTER_HEX_OUTPUT_TOO_SMALL, 0);
-    answer = model_search(it, policy, every);
+    if (it->room < digits / 2) return told(digits / 2, FASTER_HEX_OUTPUT_TOO_SMALL, 0);
+    struct faster_hex_answer answer = model_search(it, policy, every);
     if (answer.status != FASTER_HEX_DONE) return answer;
-    for (i = 0, digits = 0; i < it->len; i++) {
+    for (size_t i = 0; i < it->len; i++) {
         int digit = value(policy, it->src[i]);
         if (separates(i, every)) continue;
-        it->dst[digits / 2] = (uint8_t)(digits % 2 ? it->dst[digits / 2] * 16 + digit : digit);
-        digits++;
+        it->dst[at / 2] = (uint8_t)(at % 2 ? it->dst[at / 2] * 16 + digit : digit);
+        at++;
     }
-    return told(required, FASTER_HEX_DONE, 0);
+    return told(digits / 2, FASTER_HEX_DONE, 0);
 }
 
 static struct faster_hex_answer model(const struct job *it) {
@@ -138,16 +134,14 @@ struct memory {
 /* Whether the call answers what its model does, and leaves the memory that has its destination, and
  * maybe its source, as the model leaves it. */
 static bool agrees(const struct job *it, struct memory around) {
-    struct faster_hex_answer answer, wanted;
-    bool same;
     uint8_t *before = around.kept, *after = around.kept + around.size;
     memcpy(before, around.start, around.size);
-    answer = run(it);
+    struct faster_hex_answer answer = run(it);
     memcpy(after, around.start, around.size);
     memcpy(around.start, before, around.size);
-    wanted = model(it);
-    same = answer.number == wanted.number && answer.status == wanted.status && answer.byte == wanted.byte &&
-           memcmp(around.start, after, around.size) == 0;
+    struct faster_hex_answer wanted = model(it);
+    bool same = answer.number == wanted.number && answer.status == wanted.status &&
+                answer.byte == wanted.byte && memcmp(around.start, after, around.size) == 0;
     memcpy(around.start, before, around.size);
     if (!same) {
         printf("failed: %s of %lu bytes into %lu: status %u, number %lu, and not %u, %lu\n", NAMES[it->call],
@@ -168,8 +162,7 @@ static void count(bool holds) {
  * four that is none. `turn` tells the texts of a length apart. */
 static void fill(const struct job *it, uint8_t *text, unsigned turn) {
     static const char *const letters[] = { "0123456789aBcDeF", "0123456789abcdef", "0123456789ABCDEF" };
-    size_t i;
-    for (i = 0; i < it->len; i++) {
+    for (size_t i = 0; i < it->len; i++) {
         unsigned mixed = (unsigned)(i * 73 + i / 7 + turn * 31);
         if (it->call == ENCODE || it->call == ENCODE_GROUPED) text[i] = (uint8_t)mixed;
         else if (it->call == DECODE_GROUPED && it->every != 0 && separates(i, it->every)) text[i] = it->sep;
@@ -198,6 +191,14 @@ static struct job job_of(enum call call, size_t len, unsigned turn) {
     return it;
 }
 
+/* Whether the call agrees over these places, once its source is filled. */
+static bool tries(struct job it, uint8_t *src, uint8_t *dst, unsigned turn, struct memory around) {
+    it.src = src;
+    it.dst = dst;
+    fill(&it, src, turn);
+    return agrees(&it, around);
+}
+
 /* Pages between two that nobody may touch. */
 static struct memory guarded(void) {
     size_t page = (size_t)sysconf(_SC_PAGESIZE);
@@ -214,21 +215,18 @@ static struct memory guarded(void) {
 /* Source and destination each at the front or at the end of guarded pages; the source's can't be
  * written while the call runs. */
 static void between_guards(struct memory from, struct memory to) {
-    size_t len;
-    for (len = 0; len <= LONGEST; len++) {
+    for (size_t len = 0; len <= LONGEST; len++) {
         bool holds = true;
-        unsigned turn, call;
-        for (call = 0; call < CALLS; call++) {
-            for (turn = 0; turn < 60; turn++) {
-                struct job it = job_of((enum call)call, len, turn);
-                uint8_t *src = turn & 1 ? from.start + from.size - len : from.start;
-                it.src = src;
-                it.dst = turn & 2 ? to.start + to.size - it.room : to.start;
-                fill(&it, src, turn);
-                mprotect(from.start, from.size, PROT_READ);
-                holds = agrees(&it, to) && holds;
-                mprotect(from.start, from.size, PROT_READ | PROT_WRITE);
-            }
+        for (unsigned at = 0; at < CALLS * 60; at++) {
+            unsigned turn = at % 60;
+            struct job it = job_of((enum call)(at / 60), len, turn);
+            uint8_t *src = turn & 1 ? from.start + from.size - len : from.start;
+            it.src = src;
+            it.dst = turn & 2 ? to.start + to.size - it.room : to.start;
+            fill(&it, src, turn);
+            mprotect(from.start, from.size, PROT_READ);
+            holds = agrees(&it, to) && holds;
+            mprotect(from.start, from.size, PROT_READ | PROT_WRITE);
         }
         count(holds);
     }
@@ -236,10 +234,9 @@ static void between_guards(struct memory from, struct memory to) {
 
 /* NULL where a length is 0: as the source, as the destination, as both. */
 static void with_null(struct memory to) {
-    unsigned call, turn;
-    for (call = 0; call < CALLS; call++) {
+    for (unsigned call = 0; call < CALLS; call++) {
         bool holds = true;
-        for (turn = 0; turn < 60; turn++) {
+        for (unsigned turn = 0; turn < 60; turn++) {
             struct job it = job_of((enum call)call, 0, turn);
             it.dst = turn % 2 ? to.start : NULL;
             it.room = turn % 2 ? 5 : 0;
@@ -261,8 +258,7 @@ static bool is_told(struct faster_hex_answer answer, size_t number, uint8_t stat
 /* Sources whose digits no size_t counts, and the longest of all others. None of them is read. */
 static void too_long(struct memory to) {
     const size_t lengths[] = { SIZE_MAX / 2 + 1, SIZE_MAX / 2 + 2, SIZE_MAX - 1, SIZE_MAX };
-    unsigned i;
-    for (i = 0; i < 16; i++) {
+    for (unsigned i = 0; i < 16; i++) {
         size_t len = lengths[i / 4];
         bool upper = i % 2;
         uint8_t *dst = i % 4 < 2 ? NULL : to.start;
@@ -279,19 +275,13 @@ static void too_long(struct memory to) {
 
 /* Source and destination that touch, in either order, in one piece of memory. */
 static void touching(struct memory both) {
-    unsigned call, turn;
-    for (call = ENCODE; call < CALLS; call++) {
+    for (unsigned call = ENCODE; call < CALLS; call++) {
         bool holds = true;
-        size_t len;
-        for (len = 0; len <= LONGEST; len++) {
-            for (turn = 0; turn < 16; turn++) {
-                struct job it = job_of((enum call)call, len, turn);
-                uint8_t *src = both.start + (turn & 1 ? it.room : 0);
-                it.src = src;
-                it.dst = both.start + (turn & 1 ? 0 : len);
-                fill(&it, src, turn);
-                holds = agrees(&it, both) && holds;
-            }
+        for (unsigned at = 0; at < (LONGEST + 1) * 16; at++) {
+            unsigned turn = at % 16;
+            struct job it = job_of((enum call)call, at / 16, turn);
+            uint8_t *src = both.start + (turn & 1 ? it.room : 0), *dst = both.start + (turn & 1 ? 0 : it.len);
+            holds = tries(it, src, dst, turn, both) && holds;
         }
         count(holds);
     }
@@ -299,19 +289,12 @@ static void touching(struct memory both) {
 
 /* Each place of source and destination beside a multiple of 64. */
 static void aligned(struct memory from, struct memory to) {
-    size_t source, destination;
-    for (source = 0; source < 64; source++) {
+    for (unsigned source = 0; source < 64; source++) {
         bool holds = true;
-        for (destination = 0; destination < 64; destination++) {
-            unsigned call;
-            for (call = 0; call < CALLS; call++) {
-                unsigned turn = (unsigned)(source + destination);
-                struct job it = job_of((enum call)call, 130 + turn % 3, turn);
-                it.src = from.start + source;
-                it.dst = to.start + destination;
-                fill(&it, from.start + source, turn);
-                holds = agrees(&it, to) && holds;
-            }
+        for (unsigned at = 0; at < 64 * CALLS; at++) {
+            unsigned destination = at / CALLS, turn = source + destination;
+            struct job it = job_of((enum call)(at % CALLS), 130 + turn % 3, turn);
+            holds = tries(it, from.start + source, to.start + destination, turn, to) && holds;
         }
         count(holds);
     }
@@ -327,15 +310,13 @@ static pthread_barrier_t barrier;
 
 static void *works(void *given) {
     struct worker *worker = given;
-    unsigned turn, call;
     pthread_barrier_wait(&barrier);
-    for (turn = 0; turn < TURNS; turn++) {
-        for (call = 0; call < CALLS; call++) {
-            struct job it = job_of((enum call)call, LONGEST, turn % 12);
-            it.src = shared[call][turn % 12];
-            it.dst = worker->to.start;
-            worker->holds = agrees(&it, worker->to) && worker->holds;
-        }
+    for (unsigned at = 0; at < TURNS * CALLS; at++) {
+        unsigned call = at % CALLS, turn = at / CALLS % 12;
+        struct job it = job_of((enum call)call, LONGEST, turn);
+        it.src = shared[call][turn];
+        it.dst = worker->to.start;
+        worker->holds = agrees(&it, worker->to) && worker->holds;
     }
     return NULL;
 }
@@ -345,22 +326,17 @@ static void in_threads(void) {
     static uint8_t room[THREADS][2 * LONGEST + LONGEST + 8];
     struct worker workers[THREADS];
     pthread_t threads[THREADS];
-    unsigned i, call, turn;
-    for (call = 0; call < CALLS; call++) {
-        for (turn = 0; turn < 12; turn++) {
-            struct job it = job_of((enum call)call, LONGEST, turn);
-            fill(&it, shared[call][turn], turn);
-        }
+    for (unsigned at = 0; at < CALLS * 12; at++) {
+        struct job it = job_of((enum call)(at / 12), LONGEST, at % 12);
+        fill(&it, shared[at / 12][at % 12], at % 12);
     }
     pthread_barrier_init(&barrier, NULL, THREADS);
-    for (i = 0; i < THREADS; i++) {
-        workers[i].to.start = room[i];
-        workers[i].to.size = sizeof room[i];
-        workers[i].to.kept = malloc(2 * sizeof room[i]);
-        workers[i].holds = workers[i].to.kept != NULL;
+    for (unsigned i = 0; i < THREADS; i++) {
+        uint8_t *kept = malloc(2 * sizeof room[i]);
+        workers[i] = (struct worker){ { room[i], sizeof room[i], kept }, kept != NULL };
         if (pthread_create(&threads[i], NULL, works, &workers[i]) != 0) exit(2);
     }
-    for (i = 0; i < THREADS; i++) {
+    for (unsigned i = 0; i < THREADS; i++) {
         pthread_join(threads[i], NULL);
         count(workers[i].holds);
         free(workers[i].to.kept);

@@ -1,5 +1,5 @@
 //! Calls the bindings and the Rust crate on the same random inputs, and compares answers, texts of
-//! errors and whole destinations. `scripts/swap.sh` builds and runs it. Prints the first input of each
+//! errors and whole destinations. `scripts/check swap` builds and runs it. Prints the first input of each
 //! kind of call on which the two differ, and `N passed, M failed` at the end, of the kinds.
 //! Usage: beside ROUNDS SEED
 
