@@ -42,12 +42,10 @@ versions() {
 }
 
 status=0
-[ -s "$made/declared" ] || echo 'nothing is declared'
+[ -s "$made/declared" ] || { echo 'nothing is declared' && status=1; }
 diff "$made/declared" "$made/exported" || status=1
 wanted=$(sed -n 's/^VERSION = //p' ../../Makefile)
-versions | while read -r place version; do
-    [ "$version" = "$wanted" ] || echo "$place: version $version, and not $wanted as in the Makefile"
-done >"$made/versions"
-cat "$made/versions"
-[ ! -s "$made/versions" ] || status=1
+versions | awk -v wanted="$wanted" '
+    $2 != wanted { print $1 ": version " $2 ", and not " wanted " as in the Makefile"; wrong = 1 }
+    END { exit wrong }' || status=1
 exit "$status"
