@@ -2,7 +2,8 @@
 // least time of each and the ratios. First it checks that each call answers what it should.
 // It is compiled with -DRUST where the Rust crate's library is linked, and then with SAME_WIDTH, the
 // kernel whose vectors are as wide as this build's; and with -DOWNED where hex_core has
-// `decode_owned`; and with BINDINGS, HEX and DATA_ENCODING where those crates for Rust are linked.
+// `decode_owned`; with BINDINGS, HEX and DATA_ENCODING where those crates for Rust are linked; and with
+// SHARED where a shared library can be loaded.
 // Usage: bench [sweep | SIDE PLAN NAME BYTES]. A sweep times three calls at many lengths, and prints
 // their ratios alone. The four words make one call of those below, once, and time nothing: counts.sh
 // counts its instructions.
@@ -118,6 +119,16 @@ struct task {
 #define BINDINGS_CALLS(X)
 #endif
 
+// Those of the shared library.
+#ifdef SHARED
+#define SHARED_CALLS(X) \
+    X(READS, own, shared, check, CHECK) \
+    X(WRITES, own, shared, encode_into, ENCODE) \
+    X(WRITES, own, shared, decode_into, DECODE)
+#else
+#define SHARED_CALLS(X)
+#endif
+
 // Those of other crates for Rust that do the same.
 #define PEER(X, crate) \
     X(WRITES, rust, crate, encode, ENCODE) \
@@ -135,7 +146,7 @@ struct task {
 #endif
 
 #define OWN_CALLS(X) \
-    PIECES(X) READS_OF(X) LOOPS_IN_C(X) BINDINGS_CALLS(X) PLAIN(X) PLAN(X, scalar) PLAN(X, sse41) PLAN(X, avx2) PLAN(X, avx512) PLAN(X, neon)
+    PIECES(X) READS_OF(X) LOOPS_IN_C(X) BINDINGS_CALLS(X) SHARED_CALLS(X) PLAIN(X) PLAN(X, scalar) PLAN(X, sse41) PLAN(X, avx2) PLAN(X, avx512) PLAN(X, neon)
 
 #ifdef RUST
 #define RUST_CALLS(X) PUBLIC(X) KERNEL(X, scalar) KERNEL(X, sse41) KERNEL(X, avx2) KERNEL(X, avx512)
@@ -234,6 +245,9 @@ static const struct table tables[] = {
 static const char *const own_plans[] = {"plain", "scalar", "sse41", "avx2", "avx512", "neon",
 #ifdef BINDINGS
     "bindings",
+#endif
+#ifdef SHARED
+    "shared",
 #endif
 };
 static const char *const rust_plans[] = {"public", "scalar", "sse41", "avx2", "avx512"};
@@ -506,7 +520,7 @@ static void print_forms(const char *title, const char *name, const char *in_c, e
     }
 }
 
-#ifdef BINDINGS
+#if defined BINDINGS || defined SHARED
 // Calls of ours and of others, told by their plan.
 struct column {
     bool is_rust;
@@ -760,6 +774,12 @@ static int sweep(void) {
 #endif
 
 int main(int count, char **words) {
+#ifdef SHARED
+    bool shared_is_there(void);
+    if (!shared_is_there()) {
+        return 2;
+    }
+#endif
     fill();
     if (count == 5) {
         return call_once(words);
@@ -789,6 +809,13 @@ int main(int count, char **words) {
     print_over("the plain call over data-encoding: time over that crate's", plain,
         (struct column){true, "data_encoding"});
 #endif
+#endif
+#ifdef SHARED
+    struct column shared = {false, "shared"};
+    print_over("the shared library: time over the Rust crate's public call", shared,
+        (struct column){true, "public"});
+    print_over("the shared library: time over the Rust crate's avx2", shared,
+        (struct column){true, "avx2"});
 #endif
     print_refused("a refused decode: time over that of an accepted one", false);
 #ifdef RUST

@@ -178,14 +178,22 @@ if [ -n "$rust" ]; then
     flags="$flags -DRUST -DSAME_WIDTH=$width"
 fi
 
+# An installed copy, whose shared library the loader chooses.
+installed=
+if [ -n "$rust" ] && [ -z "$cpu$mode" ]; then
+    installed=$build/installed
+    make -s -C "$top" install PREFIX="$installed" DESTDIR=
+    flags="$flags -DSHARED -I$installed/include"
+fi
+
 # The kit's library has the allocator that a vector takes.
 kit=$(dirname "$("$rt" doc)")
 for program in bench lists chunks; do
-    loops=
-    [ "$program" != bench ] || loops=$here/loops.c
+    beside=
+    [ "$program" != bench ] || beside="$here/loops.c ${installed:+$here/shared.c}"
     # shellcheck disable=SC2086
-    "$cc" -std=gnu11 -O2 -Wall -Wextra $flags -o "$build/$program" "$here/$program.c" \
-        ${loops:+"$loops"} "$@" "$kit/c/liblibc_c.a"
+    "$cc" -std=gnu11 -O2 -Wall -Wextra $flags -o "$build/$program" "$here/$program.c" $beside "$@" \
+        "$kit/c/liblibc_c.a"
 done
 
 sed -n 's/^model name[^:]*: /Run on /p' /proc/cpuinfo | head -n 1
@@ -199,7 +207,7 @@ case $mode in
     awk -f "$here/sweep.awk" "$build/sweep"
     ;;
 *)
-    "$build/bench"
+    LD_LIBRARY_PATH=${installed:+$installed/lib} "$build/bench"
     "$build/lists"
     "$build/chunks"
     ;;

@@ -30,15 +30,22 @@
 #define FASTER_HEX_VERSION_PATCH 0
 #define FASTER_HEX_VERSION "1.0.0"
 
+/* A number as a size_t, by the cast that each language likes. */
+#ifdef __cplusplus
+#define FASTER_HEX_SIZE(n) static_cast<size_t>(n)
+#else
+#define FASTER_HEX_SIZE(n) ((size_t)(n))
+#endif
+
 /* How many digits n bytes have, and how many bytes n digits spell. As constants they give the length
  * of an array. Twice a number above SIZE_MAX / 2 is too large for a size_t, and the macro wraps around:
  * for as many bytes faster_hex_encode answers FASTER_HEX_OVERFLOW. */
-#define FASTER_HEX_ENCODED_LEN(n) ((size_t)2 * (n))
-#define FASTER_HEX_DECODED_LEN(n) ((size_t)(n) / 2)
+#define FASTER_HEX_ENCODED_LEN(n) (FASTER_HEX_SIZE(2) * (n))
+#define FASTER_HEX_DECODED_LEN(n) (FASTER_HEX_SIZE(n) / 2)
 
 /* The same for groups of `every` bytes, which may not be 0. Each separator is one byte. */
 #define FASTER_HEX_GROUPED_LEN(n, every) \
-    (FASTER_HEX_ENCODED_LEN(n) + ((n) == 0 ? (size_t)0 : ((size_t)(n) - 1) / (every)))
+    (FASTER_HEX_ENCODED_LEN(n) + ((n) == 0 ? FASTER_HEX_SIZE(0) : (FASTER_HEX_SIZE(n) - 1) / (every)))
 
 #ifdef __cplusplus
 extern "C" {
