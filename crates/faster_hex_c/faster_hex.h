@@ -1,5 +1,8 @@
-/* Bytes to hex digits and back. Link libfaster_hex.a, which `make lib` builds and `make install`
- * puts beside this header: cc prog.c $(pkg-config --cflags --libs faster_hex)
+/* Bytes to hex digits and back. Link libfaster_hex.so, or libfaster_hex.a, which `make install` puts
+ * beside this header: cc prog.c $(pkg-config --cflags --libs faster_hex)
+ *
+ * The library runs on processors of the kind x86-64-v2, or of that which `make CPU=..` named. It does
+ * not test for it: on a lesser one an unknown instruction ends the program by SIGILL.
  *
  * Of every call, where it does not say otherwise:
  *
