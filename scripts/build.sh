@@ -8,7 +8,9 @@
 #
 # It calls `rattle` and not `rt`, which has no word for this: a library is built as its statements, so
 # that the crate above does not load its proofs, by several jobs, and beside another one where neither
-# uses the other. They stand in out/statements, since `rt` writes over what it finds in out/rlib.
+# uses the other. They stand in out/statements, since `rt` writes over what it finds in out/rlib. In clean
+# clones on four processors, beside other work, `rt run` and `rt lib` took 951 s of processor and 726 s
+# on the clock for what this does in 828 and 379.
 set -eu
 LC_ALL=C
 export LC_ALL
