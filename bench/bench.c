@@ -814,8 +814,6 @@ int main(int count, char **words) {
     struct column shared = {false, "shared"};
     print_over("the shared library: time over the Rust crate's public call", shared,
         (struct column){true, "public"});
-    print_over("the shared library: time over the Rust crate's avx2", shared,
-        (struct column){true, "avx2"});
 #endif
     print_refused("a refused decode: time over that of an accepted one", false);
 #ifdef RUST

@@ -2,12 +2,13 @@
 # Builds the crates as a static library of thin exported functions, times its calls beside the Rust
 # crate's in one run, then reading digest lists beside loops in C, and digits in chunks beside one
 # call, and prints nanoseconds and ratios; README.md says what the columns mean.
-# Usage: bench/run.sh [--cpu=x86-64-v3] [--rust PATH] [--counts | --sweep]
-# PATH is a checkout of the Rust crate faster-hex 1.0.0. With --counts it counts instructions, by
-# counts.sh, in place of timing. With --sweep it times three plain calls alone, at 160 lengths beside
-# that crate's kernel with vectors as wide as the build's, and prints the ratios, and what they come
-# to. RT, CC and RUSTC name other commands, CRATES another folder of crates than that of Debian's
-# packages, and BENCH_BUILD another one than the user's cache to build in.
+# Usage: bench/run.sh [--cpu=x86-64-v3] [--rust PATH] [--no-avx512] [--counts | --sweep]
+# PATH is a checkout of the Rust crate faster-hex 1.0.0. With --no-avx512 it chooses as where AVX2 is
+# the widest. With --counts it counts instructions, by counts.sh, in place of timing. With --sweep it
+# times three plain calls alone, at 160 lengths beside that crate's kernel with vectors as wide as the
+# build's, and prints the ratios, and what they come to. RT, CC and RUSTC name other commands, CRATES
+# another folder of crates than that of Debian's packages, and BENCH_BUILD another one than the user's
+# cache to build in.
 set -eu
 
 here=$(cd "$(dirname "$0")" && pwd)
@@ -18,6 +19,7 @@ rustc=${RUSTC:-rustc}
 
 cpu=
 rust=
+widest=
 mode=
 while [ $# -gt 0 ]; do
     case $1 in
@@ -27,9 +29,10 @@ while [ $# -gt 0 ]; do
         rust=${2:?"--rust needs a path"}
         shift
         ;;
+    --no-avx512) widest=avx2 ;;
     --counts | --sweep) mode=$1 ;;
     *)
-        echo "usage: bench/run.sh [--cpu=x86-64-v3] [--rust PATH] [--counts | --sweep]" >&2
+        echo "usage: bench/run.sh [--cpu=x86-64-v3] [--rust PATH] [--no-avx512] [--counts | --sweep]" >&2
         exit 2
         ;;
     esac
@@ -156,6 +159,7 @@ if [ -n "$rust" ]; then
     rm -rf "$build/rust/src"
     cp -R "$rust/src" "$build/rust/src"
     chmod -R u+w "$build/rust/src"
+    [ -z "$widest" ] || sed -i 's/xcr0 & 0xe6 == 0xe6/false/' "$build/rust/src/lib.rs"
     cat "$here/rust/calls.rs.in" >>"$build/rust/src/fuzzing.rs"
     [ -z "$bindings" ] || cat "$build/rust/beside.rs" >>"$build/rust/src/fuzzing.rs"
     for plan in scalar:Scalar sse41:Sse41 avx2:Avx2 avx512:Avx512; do

@@ -1,5 +1,6 @@
 // The calls of the installed shared library by the names of bench.c, of the build that the loader takes.
 // They are looked up, since bench.c is linked with the archive too.
+#define _GNU_SOURCE
 #include <dlfcn.h>
 #include <faster_hex.h>
 #include <stdio.h>
