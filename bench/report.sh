@@ -1,12 +1,13 @@
 #!/bin/sh
 # Makes of two outputs of run.sh, of the default build and of that for x86-64-v3, the tables of
 # README.md, which it prints, with both builds in a cell. Of two outputs of run.sh --sweep, of the same
-# builds, it makes a picture and a table, and of two of bench/compare.sh the table of programs.
-# Usage: bench/report.sh DEFAULT V3 SWEEP SWEEP_V3 PICTURE.svg [PROGRAMS PROGRAMS_V3]
+# builds, it makes a picture and a table, of NO_AVX512, which run.sh --no-avx512 printed, the table of the
+# shared library, and of two of bench/compare.sh the table of programs.
+# Usage: bench/report.sh DEFAULT V3 NO_AVX512 SWEEP SWEEP_V3 PICTURE.svg [PROGRAMS PROGRAMS_V3]
 set -eu
 
-if [ $# -ne 5 ] && [ $# -ne 7 ]; then
-    echo "usage: bench/report.sh DEFAULT V3 SWEEP SWEEP_V3 PICTURE.svg [PROGRAMS PROGRAMS_V3]" >&2
+if [ $# -ne 6 ] && [ $# -ne 8 ]; then
+    echo "usage: bench/report.sh DEFAULT V3 NO_AVX512 SWEEP SWEEP_V3 PICTURE.svg [PROGRAMS PROGRAMS_V3]" >&2
     exit 2
 fi
 here=$(cd "$(dirname "$0")" && pwd)
@@ -64,15 +65,17 @@ table() {
         }'
 }
 
-awk -f "$here/picture.awk" "$3" "$4" >"$5"
+awk -f "$here/picture.awk" "$4" "$5" >"$6"
 
 printf "The plain calls over the Rust crate's kernel of the same width:\n\n"
-awk -f "$here/sweep.awk" "$3" "$4"
+awk -f "$here/sweep.awk" "$4" "$5"
 
 printf "\nOver the Rust crate's kernel of the same width:\n\n"
 table kernel "$1" "$2"
 printf "\nOver the Rust crate's public call:\n\n"
 table public "$1" "$2"
+
+awk -v only='the shared library' -f "$here/sections.awk" "$1" "$3"
 
 printf "\nThe named plans over the Rust crate's kernels of the same names:\n\n"
 awk -f "$here/plans.awk" "$1" "$2"
@@ -82,7 +85,7 @@ awk -f "$here/sections.awk" "$1" "$2"
 printf "\nGrouped digits over ungrouped ones:\n\n"
 awk -f "$here/groups.awk" "$1" "$2"
 
-if [ $# -eq 7 ]; then
+if [ $# -eq 8 ]; then
     echo
-    awk -f "$here/programs.awk" "$6" "$7"
+    awk -f "$here/programs.awk" "$7" "$8"
 fi
