@@ -125,7 +125,10 @@ pub fn hex_decode_array_with_case<const N: usize>(
     check_case: CheckCase,
 ) -> Result<[u8; N], Error> {
     if src.len() % 2 == 0 && src.len() / 2 != N {
-        return Err(Error::LengthMismatch { expected: N, actual: src.len() / 2 });
+        return Err(Error::LengthMismatch {
+            expected: N,
+            actual: src.len() / 2,
+        });
     }
     let mut bytes = [0; N];
     library::decode(src, &mut bytes, check_case)?;

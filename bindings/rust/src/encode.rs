@@ -8,11 +8,7 @@ use crate::{library, Error};
 
 /// Writes the digits of `src` to the front of `dst` and returns them, for the calls of this crate.
 #[inline]
-pub(crate) fn encode<'a>(
-    src: &[u8],
-    dst: &'a mut [u8],
-    upper: bool,
-) -> Result<&'a mut str, Error> {
+pub(crate) fn encode<'a>(src: &[u8], dst: &'a mut [u8], upper: bool) -> Result<&'a mut str, Error> {
     let written = library::encode(src, dst, upper)?;
     // SAFETY: what was written is ASCII.
     Ok(unsafe { str::from_utf8_unchecked_mut(&mut dst[..written]) })
@@ -123,10 +119,15 @@ fn new_string(src: &[u8], upper: bool) -> String {
     text
 }
 
+/// Appends the digits of `src` to `dst` and returns them, for the calls of this crate.
 #[cfg(feature = "alloc")]
-fn append<'a>(src: &[u8], dst: &'a mut String, upper: bool) -> &'a mut str {
+pub(crate) fn append<'a>(src: &[u8], dst: &'a mut String, upper: bool) -> &'a mut str {
     let start = dst.len();
-    let end = src.len().checked_mul(2).and_then(|len| start.checked_add(len)).expect(OVERFLOW);
+    let end = src
+        .len()
+        .checked_mul(2)
+        .and_then(|len| start.checked_add(len))
+        .expect(OVERFLOW);
     // SAFETY: what is put behind the text is ASCII at every moment, first zeros and then digits.
     let bytes = unsafe { dst.as_mut_vec() };
     bytes.resize(end, b'0');

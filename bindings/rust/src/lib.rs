@@ -1,5 +1,5 @@
 //! The calls of the Rust crate `faster-hex` 1.0.0, under its names and signatures, over
-//! `libfaster_hex.a`: what decodes, encodes and tests here is proved.
+//! `libfaster_hex`: what decodes, encodes and tests here is proved.
 //!
 //! ```
 //! use faster_hex::{hex_decode, hex_encode};
@@ -13,26 +13,49 @@
 //! # Ok::<(), faster_hex::Error>(())
 //! ```
 //!
-//! Strings and vectors want the feature `alloc`, which `std`, the default, brings along. README.md
-//! says how the library is found, and what the original has and this crate has not.
+//! Strings and vectors want the feature `alloc`, which `std`, the default, brings along. With the
+//! feature `serde`, `#[serde(with = "faster_hex::nopfx_lowercase")]` on a field writes bytes as text and
+//! reads them, as eleven other modules and the crate's root do in their formats. README.md says how the
+//! library is found, and what the original has and this crate has not.
+//!
+//! # Processors
+//!
+//! The library is built for x86-64-v2, which has SSE4.2. With `std`, the first call asks the processor,
+//! and on less each call panics before the library runs. Without `std` nothing can ask: there the program
+//! has to know that it runs on such processors, or be linked to what `make lib CPU=x86-64` builds for all.
+//! Nothing asks either for what a build for more takes, as `CPU=x86-64-v3`.
 #![no_std]
 #![warn(missing_docs)]
 
 #[cfg(feature = "alloc")]
 extern crate alloc;
+#[cfg(feature = "std")]
+extern crate std;
 
+#[cfg(feature = "serde")]
+mod adapters;
 mod decode;
 mod encode;
 mod error;
 mod format;
 mod library;
+mod processor;
 
-#[cfg(feature = "alloc")]
-pub use crate::decode::{hex_decode_vec, hex_decode_vec_with_case};
+#[cfg(feature = "serde")]
+pub use crate::adapters::withpfx_ignorecase::{array, deserialize, deserialize_bounded, serialize};
+#[cfg(feature = "serde")]
+pub use crate::adapters::{
+    nopfx_ignorecase, nopfx_lowercase, nopfx_uppercase, option_nopfx_ignorecase,
+    option_nopfx_lowercase, option_nopfx_uppercase, option_withpfx_ignorecase,
+    option_withpfx_lowercase, option_withpfx_uppercase, withpfx_ignorecase, withpfx_lowercase,
+    withpfx_uppercase,
+};
 pub use crate::decode::{
     hex_check, hex_check_with_case, hex_decode, hex_decode_array, hex_decode_array_with_case,
     hex_decode_with_case, CheckCase,
 };
+#[cfg(feature = "alloc")]
+pub use crate::decode::{hex_decode_vec, hex_decode_vec_with_case};
 #[cfg(feature = "alloc")]
 pub use crate::encode::{hex_append, hex_append_upper, hex_string, hex_string_upper};
 pub use crate::encode::{hex_encode, hex_encode_upper};

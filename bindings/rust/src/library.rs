@@ -1,6 +1,7 @@
-//! Safe calls over those of `faster_hex.h`. All that is unsafe here but the views of text as `str`.
+//! Safe calls over those of `faster_hex.h`. All that is unsafe here but the views of text as `str`. Each
+//! runs the library on a processor that it is built for, or not at all.
 
-use crate::{CheckCase, Error};
+use crate::{processor, CheckCase, Error};
 
 /// `struct faster_hex_answer`.
 #[repr(C)]
@@ -43,8 +44,13 @@ fn result_of(answer: Answer) -> Result<usize, Error> {
     match answer.status {
         0 => Ok(answer.number),
         1 => Err(Error::OddLength),
-        2 => Err(Error::OutputTooSmall { required: answer.number }),
-        3 => Err(Error::InvalidChar { index: answer.number, byte: answer.byte }),
+        2 => Err(Error::OutputTooSmall {
+            required: answer.number,
+        }),
+        3 => Err(Error::InvalidChar {
+            index: answer.number,
+            byte: answer.byte,
+        }),
         _ => Err(Error::Overflow),
     }
 }
@@ -52,6 +58,9 @@ fn result_of(answer: Answer) -> Result<usize, Error> {
 /// Whether every byte is a digit by the policy.
 #[inline]
 pub fn check(src: &[u8], case: CheckCase) -> bool {
+    if !processor::suffices() {
+        return processor::ask(move || check(src, case));
+    }
     // SAFETY: the pointer is good for reading the slice's length, and the library only reads there.
     unsafe {
         match case {
@@ -64,6 +73,9 @@ pub fn check(src: &[u8], case: CheckCase) -> bool {
 /// Writes the digits of `src` to the front of `dst`, which are ASCII, and returns how many.
 #[inline]
 pub fn encode(src: &[u8], dst: &mut [u8], upper: bool) -> Result<usize, Error> {
+    if !processor::suffices() {
+        return processor::ask(move || encode(src, dst, upper));
+    }
     // SAFETY: both pointers are good for their slices' lengths, and a slice that is lent to be
     // written overlaps no other.
     let answer =
@@ -74,6 +86,9 @@ pub fn encode(src: &[u8], dst: &mut [u8], upper: bool) -> Result<usize, Error> {
 /// Writes the bytes that `src` spells to the front of `dst`, and returns how many.
 #[inline]
 pub fn decode(src: &[u8], dst: &mut [u8], case: CheckCase) -> Result<usize, Error> {
+    if !processor::suffices() {
+        return processor::ask(move || decode(src, dst, case));
+    }
     // SAFETY: as in `encode`.
     let answer = unsafe {
         faster_hex_decode_with_case(

@@ -1,0 +1,324 @@
+//! Bytes as texts in the data of the crate `serde`: what the twelve modules share, and the modules.
+
+use alloc::{borrow::Cow, string::String};
+use core::{fmt, str};
+
+use serde::de::{self, Deserialize, Deserializer, Unexpected, Visitor};
+use serde::ser::{self, Serialize, Serializer};
+
+use crate::encode::{append, encode};
+use crate::{hex_decode_array_with_case, hex_decode_vec_with_case, CheckCase, Error};
+
+/// Up to which length a text takes no memory: `0x` and the digits of 65 bytes.
+const SHORT: usize = 132;
+
+/// How bytes stand in a text: what is before the digits, and which letters are digits.
+#[derive(Clone, Copy)]
+struct WireFormat {
+    prefix: &'static str,
+    case: CheckCase,
+}
+
+impl WireFormat {
+    fn write<S: Serializer>(self, bytes: &[u8], serializer: S) -> Result<S::Ok, S::Error> {
+        let (front, upper) = (self.prefix.len(), self.case == CheckCase::Upper);
+        let len = bytes
+            .len()
+            .checked_mul(2)
+            .and_then(|len| len.checked_add(front));
+        let len = len.ok_or_else(|| ser::Error::custom(Error::Overflow))?;
+        if len > SHORT {
+            let mut text = String::with_capacity(len);
+            text.push_str(self.prefix);
+            append(bytes, &mut text, upper);
+            return serializer.serialize_str(&text);
+        }
+        let mut room = [0; SHORT];
+        room[..front].copy_from_slice(self.prefix.as_bytes());
+        encode(bytes, &mut room[front..], upper).map_err(ser::Error::custom)?;
+        serializer.serialize_str(str::from_utf8(&room[..len]).map_err(ser::Error::custom)?)
+    }
+
+    /// What stands behind the prefix, which is even.
+    fn digits<E: de::Error>(self, text: &str) -> Result<&[u8], E> {
+        let digits = text
+            .strip_prefix(self.prefix)
+            .ok_or_else(|| E::custom("invalid prefix"))?;
+        if digits.len() % 2 == 1 {
+            return Err(E::custom("invalid length"));
+        }
+        Ok(digits.as_bytes())
+    }
+
+    fn read<E: de::Error, T>(self, text: &Text<'_>, max: usize) -> Result<T, E>
+    where
+        T: FromIterator<u8>,
+    {
+        let digits = self.digits::<E>(&text.0)?;
+        let len = digits.len() / 2;
+        if len > max {
+            return Err(E::custom(format_args!(
+                "expected at most {max} decoded bytes, got {len}"
+            )));
+        }
+        let bytes = hex_decode_vec_with_case(digits, self.case).map_err(E::custom)?;
+        Ok(bytes.into_iter().collect())
+    }
+
+    fn read_array<E: de::Error, const N: usize>(self, text: &Text<'_>) -> Result<[u8; N], E> {
+        hex_decode_array_with_case(self.digits::<E>(&text.0)?, self.case).map_err(E::custom)
+    }
+}
+
+/// Bytes that are written by a format where a serializer asks for a value.
+struct Written<'a>(WireFormat, &'a [u8]);
+
+impl Serialize for Written<'_> {
+    fn serialize<S: Serializer>(&self, serializer: S) -> Result<S::Ok, S::Error> {
+        self.0.write(self.1, serializer)
+    }
+}
+
+/// A text that is read as a `String` is, and borrowed where the source lends it. It is decoded after the
+/// deserializer is done, so that the latter adds no place to a refusal.
+struct Text<'de>(Cow<'de, str>);
+
+impl<'de> Deserialize<'de> for Text<'de> {
+    fn deserialize<D: Deserializer<'de>>(deserializer: D) -> Result<Self, D::Error> {
+        deserializer.deserialize_string(TextVisitor)
+    }
+}
+
+struct TextVisitor;
+
+impl<'de> Visitor<'de> for TextVisitor {
+    type Value = Text<'de>;
+
+    fn expecting(&self, f: &mut fmt::Formatter<'_>) -> fmt::Result {
+        f.write_str("a string")
+    }
+
+    fn visit_borrowed_str<E: de::Error>(self, text: &'de str) -> Result<Text<'de>, E> {
+        Ok(Text(text.into()))
+    }
+
+    fn visit_str<E: de::Error>(self, text: &str) -> Result<Text<'de>, E> {
+        self.visit_string(text.into())
+    }
+
+    fn visit_string<E: de::Error>(self, text: String) -> Result<Text<'de>, E> {
+        Ok(Text(text.into()))
+    }
+
+    fn visit_bytes<E: de::Error>(self, bytes: &[u8]) -> Result<Text<'de>, E> {
+        match str::from_utf8(bytes) {
+            Ok(text) => self.visit_str(text),
+            Err(_) => Err(E::invalid_value(Unexpected::Bytes(bytes), &self)),
+        }
+    }
+}
+
+/// Two modules a line: their names, the prefix, the case, what `[0x12, 0xab]` is written as, and what
+/// documentation says of the format.
+macro_rules! modules {
+    ($($name:ident $option:ident $prefix:literal $case:ident $shown:literal $about:literal;)*) => { $(
+        #[doc = $about]
+        ///
+        /// ```
+        /// use serde::{Deserialize, Serialize};
+        ///
+        /// #[derive(Serialize, Deserialize)]
+        /// struct Record {
+        #[doc = concat!("    #[serde(with = \"faster_hex::", stringify!($name), "\")]")]
+        ///     bytes: Vec<u8>,
+        #[doc = concat!("    #[serde(with = \"faster_hex::", stringify!($name), "::array\")]")]
+        ///     id: [u8; 2],
+        /// }
+        ///
+        /// let record = Record { bytes: vec![], id: [0x12, 0xab] };
+        /// let json = serde_json::to_string(&record)?;
+        #[doc = concat!("assert_eq!(json, r#\"{\"bytes\":\"", $prefix, "\",\"id\":\"", $shown, "\"}\"#);")]
+        /// assert_eq!(serde_json::from_str::<Record>(&json)?.id, record.id);
+        /// # Ok::<(), serde_json::Error>(())
+        /// ```
+        pub mod $name {
+            use super::{CheckCase, Deserialize, Deserializer, Serializer, Text, WireFormat};
+
+            pub(super) const FORMAT: WireFormat =
+                WireFormat { prefix: $prefix, case: CheckCase::$case };
+
+            /// Writes the bytes as a string. `data` is looked at once. Up to 65 bytes take no memory.
+            ///
+            /// # Errors
+            ///
+            /// [`Error::Overflow`](crate::Error::Overflow) as the serializer's error, and that of writing.
+            ///
+            /// # Panics
+            ///
+            /// Where the text would be longer than `isize::MAX` bytes.
+            pub fn serialize<S, T>(data: T, serializer: S) -> Result<S::Ok, S::Error>
+            where
+                S: Serializer,
+                T: AsRef<[u8]>,
+            {
+                FORMAT.write(data.as_ref(), serializer)
+            }
+
+            /// Reads a string and collects its bytes.
+            ///
+            /// # Errors
+            ///
+            /// In this order: what the deserializer refuses, another prefix, an odd number of digits, and
+            /// the first byte that is no digit of the format, whose place counts from the prefix's end.
+            pub fn deserialize<'de, D, T>(deserializer: D) -> Result<T, D::Error>
+            where
+                D: Deserializer<'de>,
+                T: FromIterator<u8>,
+            {
+                deserialize_bounded::<{ usize::MAX }, D, T>(deserializer)
+            }
+
+            /// Reads a string of at most `MAX` bytes and collects them.
+            ///
+            /// # Errors
+            ///
+            /// Those of [`deserialize`]. More than `MAX` bytes are refused before they are decoded.
+            pub fn deserialize_bounded<'de, const MAX: usize, D, T>(
+                deserializer: D,
+            ) -> Result<T, D::Error>
+            where
+                D: Deserializer<'de>,
+                T: FromIterator<u8>,
+            {
+                FORMAT.read(&Text::deserialize(deserializer)?, MAX)
+            }
+
+            /// The same for arrays.
+            pub mod array {
+                use super::{Deserialize, Deserializer, Text, FORMAT};
+
+                pub use super::serialize;
+
+                /// Reads a string of exactly `N` bytes.
+                ///
+                /// # Errors
+                ///
+                /// Those of [`deserialize`](super::deserialize). Another number of bytes is refused
+                /// before they are decoded.
+                pub fn deserialize<'de, D, const N: usize>(deserializer: D) -> Result<[u8; N], D::Error>
+                where
+                    D: Deserializer<'de>,
+                {
+                    FORMAT.read_array(&Text::deserialize(deserializer)?)
+                }
+            }
+        }
+
+        #[doc = concat!("Optional bytes by [`", stringify!($name), "`](crate::", stringify!($name), ").")]
+        ///
+        /// ```
+        /// use serde::{Deserialize, Serialize};
+        ///
+        /// #[derive(Serialize, Deserialize)]
+        /// struct Record {
+        #[doc = concat!("    #[serde(default, with = \"faster_hex::", stringify!($option), "\")]")]
+        ///     bytes: Option<Vec<u8>>,
+        /// }
+        ///
+        /// let json = serde_json::to_string(&Record { bytes: Some(vec![0x12, 0xab]) })?;
+        #[doc = concat!("assert_eq!(json, r#\"{\"bytes\":\"", $shown, "\"}\"#);")]
+        /// assert_eq!(serde_json::from_str::<Record>("{}")?.bytes, None);
+        /// # Ok::<(), serde_json::Error>(())
+        /// ```
+        pub mod $option {
+            use super::$name::FORMAT;
+            use super::{Deserialize, Deserializer, Serializer, Text, Written};
+
+            /// Writes the bytes as a string that is there, or that none is. `data` is looked at once.
+            ///
+            /// # Errors
+            ///
+            /// Those of the same call for bytes that are there.
+            ///
+            /// # Panics
+            ///
+            /// Where the text would be longer than `isize::MAX` bytes.
+            pub fn serialize<S, T>(data: &Option<T>, serializer: S) -> Result<S::Ok, S::Error>
+            where
+                S: Serializer,
+                T: AsRef<[u8]>,
+            {
+                match data {
+                    Some(data) => serializer.serialize_some(&Written(FORMAT, data.as_ref())),
+                    None => serializer.serialize_none(),
+                }
+            }
+
+            /// Reads that there is no string, or a string, and collects its bytes.
+            ///
+            /// # Errors
+            ///
+            /// Those of the same call for bytes that are there. A string that is refused is not `None`.
+            pub fn deserialize<'de, D, T>(deserializer: D) -> Result<Option<T>, D::Error>
+            where
+                D: Deserializer<'de>,
+                T: FromIterator<u8>,
+            {
+                deserialize_bounded::<{ usize::MAX }, D, T>(deserializer)
+            }
+
+            /// The same for strings of at most `MAX` bytes.
+            ///
+            /// # Errors
+            ///
+            /// As [`deserialize`] has them.
+            pub fn deserialize_bounded<'de, const MAX: usize, D, T>(
+                deserializer: D,
+            ) -> Result<Option<T>, D::Error>
+            where
+                D: Deserializer<'de>,
+                T: FromIterator<u8>,
+            {
+                let text = Option::<Text>::deserialize(deserializer)?;
+                text.map(|text| FORMAT.read(&text, MAX)).transpose()
+            }
+
+            /// The same for arrays.
+            pub mod array {
+                use super::{Deserialize, Deserializer, Text, FORMAT};
+
+                pub use super::serialize;
+
+                /// Reads that there is no string, or a string of exactly `N` bytes.
+                ///
+                /// # Errors
+                ///
+                /// As [`deserialize`](super::deserialize) has them.
+                pub fn deserialize<'de, D, const N: usize>(
+                    deserializer: D,
+                ) -> Result<Option<[u8; N]>, D::Error>
+                where
+                    D: Deserializer<'de>,
+                {
+                    let text = Option::<Text>::deserialize(deserializer)?;
+                    text.map(|text| FORMAT.read_array(&text)).transpose()
+                }
+            }
+        }
+    )* };
+}
+
+modules! {
+    withpfx_ignorecase option_withpfx_ignorecase "0x" None "0x12ab"
+        "`0x` and then digits: lowercase is written, either case is read. The crate's root has these calls.";
+    nopfx_ignorecase option_nopfx_ignorecase "" None "12ab"
+        "Digits alone: lowercase is written, either case is read.";
+    withpfx_lowercase option_withpfx_lowercase "0x" Lower "0x12ab"
+        "`0x` and then digits, in lowercase.";
+    nopfx_lowercase option_nopfx_lowercase "" Lower "12ab"
+        "Digits alone, in lowercase.";
+    withpfx_uppercase option_withpfx_uppercase "0x" Upper "0x12AB"
+        "`0x` and then digits, in uppercase.";
+    nopfx_uppercase option_nopfx_uppercase "" Upper "12AB"
+        "Digits alone, in uppercase.";
+}
