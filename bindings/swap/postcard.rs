@@ -1,0 +1,13 @@
+//! Takes the place of the crate `postcard` for scripts/swap.sh, where that one is not there: the two calls
+//! that tests make, over `bincode`, another binary format that tags what is optional.
+
+pub use bincode::{deserialize as from_bytes, Error};
+
+pub fn to_slice<'a, T>(value: &T, room: &'a mut [u8]) -> Result<&'a mut [u8], Error>
+where
+    T: serde::Serialize + ?Sized,
+{
+    let len = bincode::serialized_size(value)? as usize;
+    bincode::serialize_into(&mut *room, value)?;
+    Ok(&mut room[..len])
+}
