@@ -21,9 +21,10 @@
 //! # Processors
 //!
 //! The library is built for x86-64-v2, which has SSE4.2. With `std`, the first call asks the processor,
-//! and on less each call panics before the library runs. Without `std` nothing can ask: there the program
-//! has to know that it runs on such processors, or be linked to what `make lib CPU=x86-64` builds for all.
-//! Nothing asks either for what a build for more takes, as `CPU=x86-64-v3`.
+//! and on less each call panics before the library runs; a program that is compiled for no less does not
+//! ask. Without `std` nothing can ask: there the program has to know that it runs on such processors, or
+//! be linked to what `make lib CPU=x86-64` builds for all. Nothing asks either for what a build for more
+//! takes, as `CPU=x86-64-v3`.
 #![no_std]
 #![warn(missing_docs)]
 

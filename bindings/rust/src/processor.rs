@@ -5,10 +5,17 @@ use core::sync::atomic::{AtomicBool, Ordering::Relaxed};
 /// Whether the processor was asked and has it.
 static SUFFICES: AtomicBool = AtomicBool::new(false);
 
+/// Whether the whole program is compiled for no less, so that nothing has to be asked.
+const COMPILED_FOR: bool = cfg!(all(
+    target_feature = "sse4.2",
+    target_feature = "popcnt",
+    target_feature = "cmpxchg16b"
+));
+
 /// Whether a call of the library may run. Without `std` nothing can be asked.
 #[inline]
 pub fn suffices() -> bool {
-    cfg!(not(feature = "std")) || SUFFICES.load(Relaxed)
+    cfg!(not(feature = "std")) || COMPILED_FOR || SUFFICES.load(Relaxed)
 }
 
 /// Asks the processor before a call, and panics where it has less than x86-64-v2. Only this is slow,
