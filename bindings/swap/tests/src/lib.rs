@@ -1,1 +1,1 @@
-#![doc = include_str!("examples.md")]
+//! The tests of the Rust crate stand in `tests`.

@@ -1,5 +1,5 @@
-//! Takes the place of the crate `postcard` for scripts/swap.sh, where that one is not there: the two calls
-//! that tests make, over `bincode`, another binary format that tags what is optional.
+//! Takes the place of the crate `postcard`, which Debian has not: the two calls that tests make, over
+//! `bincode`, another binary format that tags what is optional.
 
 pub use bincode::{deserialize as from_bytes, Error};
 
