@@ -42,5 +42,6 @@ int main(int count, char **words) {
     std::puts(groups.c_str());
     told = faster_hex_decode_grouped(groups.data(), groups.size(), bytes, sizeof bytes,
                                      FASTER_HEX_UPPERCASE, 1, ':');
-    std::printf("%zu bytes, the last 0x%02x\n", told.number, (unsigned char)bytes[told.number - 1]);
+    std::printf("%zu bytes, the last 0x%02x\n", told.number,
+                static_cast<unsigned char>(bytes[told.number - 1]));
 }
