@@ -8,6 +8,7 @@ ghost use Rattle.hex_core.specs.Search.{first_invalid};
 ghost use Rattle.hex_core.specs.Text.{text};
 
 use crate::backend::{Backend, Kind};
+use crate::blocks::decode::{decode_four, decode_two};
 use crate::digit::CheckCase;
 use crate::kernel::{check_blocks, decode_blocks, encode_apart};
 use crate::masks::check_by_masks;
@@ -78,9 +79,9 @@ impl Backend {
         match (self.0, src.len()) {
             (Kind::Plain, _) => decode_by_length(src, dst, case),
             (Kind::Scalar, _) | (_, 0..16) => decode_by_table(src, dst, case),
-            (Kind::Sse41 | Kind::Neon, _) | (_, 16..32) => {
-                decode_blocks::<Saturating, 16, 8>(src, dst, case)
-            }
+            (_, 16..32) => decode_two::<16, 8>(src, dst, case),
+            (Kind::Sse41 | Kind::Neon, 32..=64) => decode_four::<16, 8>(src, dst, case),
+            (Kind::Sse41 | Kind::Neon, _) => decode_blocks::<Saturating, 16, 8>(src, dst, case),
             (Kind::Avx2, _) | (_, 32..64) => decode_blocks::<Hashed, 32, 16>(src, dst, case),
             (Kind::Avx512, _) => decode_blocks::<Hashed, 64, 32>(src, dst, case),
         }

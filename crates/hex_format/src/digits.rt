@@ -134,5 +134,5 @@ fn put_pieces<S: Sink>(
         return put_all(sink, &pieces[from..end]);
     }
     put_all(sink, &[group.sep()][from..])?;
-    put_chunks(sink, upper, bytes, digits)
+    put_chunks(sink, upper, bytes, &mut digits[..2 * ENCODE_CHUNK])
 }

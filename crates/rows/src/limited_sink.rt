@@ -19,6 +19,8 @@ pub enum Mode {
     RefusesTheRest,
     /// What fits, and none where the limit is reached.
     ThenTakesNone,
+    /// What fits; a piece of more than 1,024 bytes is refused.
+    RefusesLong,
 }
 
 impl Mode {
@@ -26,7 +28,9 @@ impl Mode {
     pub fn fault(self) -> WriteFault {
         match self {
             Mode::OneByte | Mode::ThenTakesNone => WriteFault::TookNothing,
-            Mode::ThenRefuses | Mode::RefusesTheRest => WriteFault::Sink(SinkFault),
+            Mode::ThenRefuses | Mode::RefusesTheRest | Mode::RefusesLong => {
+                WriteFault::Sink(SinkFault)
+            }
         }
     }
 }
@@ -82,6 +86,7 @@ impl Sink for LimitedSink {
         let is_refused = match self.mode {
             Mode::ThenRefuses => self.used == self.limit,
             Mode::RefusesTheRest => count < piece.len(),
+            Mode::RefusesLong => piece.len() > 1024,
             Mode::OneByte | Mode::ThenTakesNone => false,
         };
         self.bytes[self.used..self.used + count].copy_from_slice(&piece[..count]);

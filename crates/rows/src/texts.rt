@@ -154,6 +154,8 @@ fn mode(row: &mut Words<'_>) -> Mode {
         Mode::ThenRefuses
     } else if row.takes(b"refuses-the-rest") {
         Mode::RefusesTheRest
+    } else if row.takes(b"refuses-long") {
+        Mode::RefusesLong
     } else {
         row.wants(b"then-takes-none");
         Mode::ThenTakesNone
