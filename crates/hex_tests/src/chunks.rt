@@ -1,11 +1,11 @@
-//! Digits in chunks: each cutting of a short source is answered as one call over it, where no odd
-//! length stands before an invalid byte.
+//! Digits in chunks: each cutting of a short source is answered alike.
 
-use hex_codec::hex_decode_into;
 use hex_codec::stream::Decoder;
 use hex_core::{CheckCase, Error};
 
 const SOURCE: [u8; 12] = *b"00aBcD91fFe7";
+
+const BYTES: [u8; 6] = [0x00, 0xab, 0xcd, 0x91, 0xff, 0xe7];
 
 // Feeds a source in chunks, which end where a bit of `cuts` is set.
 fn fed(src: &[u8], cuts: usize, bytes: &mut [u8]) -> Result<usize, Error> {
@@ -27,33 +27,41 @@ fn fed(src: &[u8], cuts: usize, bytes: &mut [u8]) -> Result<usize, Error> {
     Ok(written)
 }
 
-// Whether a cutting is answered as one call over the source is, and with the same bytes.
-fn agrees(src: &[u8], cuts: usize) -> bool {
-    let mut whole = [0xa5; 6];
-    let mut parts = [0xa5; 6];
-    let one = hex_decode_into(src, &mut whole, CheckCase::None);
-    fed(src, cuts, &mut parts) == one && (one.is_err() || whole == parts)
+// Whether a cutting is answered so, and, where it is not refused, with the first bytes and no more.
+fn is_answered(src: &[u8], cuts: usize, want: Result<usize, Error>) -> bool {
+    let mut bytes = [0xa5; 6];
+    if fed(src, cuts, &mut bytes) != want {
+        return false;
+    }
+    let (front, behind) = bytes.split_at(want.unwrap_or(6).min(6));
+    want.is_err() || (BYTES.starts_with(front) && behind.iter().all(|byte| *byte == 0xa5))
 }
 
 // Whether each cutting is.
-fn all_agree(src: &[u8]) -> bool {
-    (0..2048).all(|cuts| agrees(src, cuts))
+fn all_answer(src: &[u8], want: Result<usize, Error>) -> bool {
+    (0..2048).all(|cuts| is_answered(src, cuts, want))
 }
 
 #[test]
-fn each_cutting_of_each_length_is_one_call(rt: HostRuntime) {
+fn each_cutting_of_each_length_is_decoded(rt: HostRuntime) {
     for len in 0..13 {
-        assert!(rt; all_agree(&SOURCE[..len]), "{len} digits");
+        let want = if len % 2 == 0 {
+            Ok(len / 2)
+        } else {
+            Err(Error::OddLength)
+        };
+        assert!(rt; all_answer(&SOURCE[..len], want), "{len} digits");
     }
 }
 
-// Whether each cutting is, where the byte at a place is no digit.
+// Whether each cutting names the byte at a place, which is no digit.
 fn all_name(place: usize) -> bool {
     let mut source = SOURCE;
     if let Some(byte) = source.get_mut(place) {
         *byte = b'g';
     }
-    all_agree(&source)
+    let index = place;
+    all_answer(&source, Err(Error::InvalidChar { index, byte: b'g' }))
 }
 
 #[test]

@@ -2,6 +2,7 @@
 //! 0, and each put is one of them.
 
 use crate::failing::{Failing, is_its_error};
+use arrayvec::ArrayVec;
 use hex_format::{Hex, HexFlags, Sink, SinkFault, WriteFault, WriterSink};
 use std::alloc::Global;
 use std::io::{self, ErrorKind, Write};
@@ -63,11 +64,23 @@ fn kept(call: usize) -> Option<ErrorKind> {
     }
 }
 
-// A writer that answers its calls in turn, and counts them, each flush too.
+// A writer that answers its calls in turn, counts them, each flush too, and holds what it took.
 #[derive(Drop)]
 struct Scripted {
     calls: usize,
     is_given_all: bool,
+    held: ArrayVec<u8, 16>,
+}
+
+impl Scripted {
+    // One whose next call is this one of the script.
+    fn at(calls: usize) -> Scripted {
+        Scripted {
+            calls,
+            is_given_all: true,
+            held: ArrayVec::new(),
+        }
+    }
 }
 
 impl Write for Scripted {
@@ -76,7 +89,12 @@ impl Write for Scripted {
         self.calls = call.saturating_add(1);
         self.is_given_all = self.is_given_all && buf == piece(call);
         match told(call) {
-            Ok(count) => Ok(count.min(buf.len())),
+            Ok(count) => {
+                let taken = buf.get(..count).unwrap_or(buf);
+                let is_held = self.held.try_extend_from_slice(taken).is_ok();
+                self.is_given_all = self.is_given_all && is_held;
+                Ok(taken.len())
+            }
             Err(kind) => Err(io::Error::from(kind)),
         }
     }
@@ -110,10 +128,7 @@ fn is_put(sink: &mut WriterSink<Scripted>, call: usize) -> bool {
 
 // Whether each of the first puts does, with one call of the writer, which is given the whole piece.
 fn are_put(count: usize) -> bool {
-    let mut sink = WriterSink::new(Scripted {
-        calls: 0,
-        is_given_all: true,
-    });
+    let mut sink = WriterSink::new(Scripted::at(0));
     let mut are_put = true;
     for call in 0..count {
         are_put = is_put(&mut sink, call) && are_put;
@@ -129,17 +144,16 @@ fn a_put_is_one_write_whatever_the_writer_answered(rt: HostRuntime) {
     }
 }
 
-// Whether a text whose first byte alone is taken ends with the error behind it, and no third write.
+// Whether a text whose first byte alone is taken ends with the error behind it, no third write, and
+// this byte held.
 fn ends_at_the_error() -> bool {
-    let mut sink = WriterSink::new(Scripted {
-        calls: 10,
-        is_given_all: true,
-    });
+    let mut sink = WriterSink::new(Scripted::at(10));
     let answer = Hex::new(&[0xab]).write_to(&mut sink, &HexFlags::default());
-    answer == Err(WriteFault::Sink(SinkFault))
+    let is_told = answer == Err(WriteFault::Sink(SinkFault))
         && sink.failures() == 1
-        && kept_kind(&sink) == Some(AGAIN)
-        && sink.into_inner().calls == 12
+        && kept_kind(&sink) == Some(AGAIN);
+    let writer = sink.into_inner();
+    is_told && writer.calls == 12 && writer.held.as_slice() == b"a".as_slice()
 }
 
 #[test]

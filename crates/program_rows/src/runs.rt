@@ -1,6 +1,6 @@
 //! Rows of one operation over a sink.
 
-use crate::streams::Narrow;
+use crate::streams::{Narrow, Output};
 use crate::terms::{Buffers, answer, failures, growths, operation};
 use hex_format::{Sink, SliceSink, WriterSink};
 use hex_program::operation::run_in;
@@ -48,16 +48,17 @@ pub fn run_in_row(row: Words<'_>, wanted: Words<'_>, buffers: &mut Buffers) -> b
     is_so && row.are_read() && wanted.are_read()
 }
 
-/// `run-into WORD INPUT WRITER`: the answer over a writer, as `stuck`, and how many bytes it took.
+/// `run-into WORD INPUT WRITER`: the answer over a writer, as `stuck`, and what it took.
 pub fn run_into_row(row: Words<'_>, wanted: Words<'_>, buffers: &mut Buffers) -> bool {
     let (mut row, mut wanted, alloc) = (row, wanted, buffers.alloc);
     let op = operation(&mut row, &mut buffers.first);
     row.take_bytes(&mut buffers.input);
-    let mut sink = WriterSink::new(Narrow::read_from(&mut row));
     let want = answer(&mut wanted);
-    let taken = wanted.take_number();
+    wanted.take_bytes(&mut buffers.output);
+    let output = Output::once(buffers.output.as_slice());
+    let mut sink = WriterSink::new(Narrow::read_from(&mut row, output));
     let got = run(alloc, op, buffers.input.as_slice(), &mut sink);
     let failures_told = sink.failures() == failures(want);
-    let is_so = got == want && failures_told && sink.into_inner().taken == taken;
+    let is_so = got == want && failures_told && sink.into_inner().is_filled();
     is_so && row.are_read() && wanted.are_read()
 }

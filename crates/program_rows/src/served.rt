@@ -1,6 +1,6 @@
 //! Rows of the whole program over an input of the row's own.
 
-use crate::streams::Narrow;
+use crate::streams::{Narrow, Output};
 use crate::terms::{Buffers, is_end, word};
 use hex_program::serve;
 use test_kit::{Bytes, Words};
@@ -29,23 +29,24 @@ pub fn serve_row(row: Words<'_>, answer: Words<'_>, buffers: &mut Buffers) -> bo
     is_end(answer, &mut buffers.output, ended) && is_left && row.are_read()
 }
 
-/// `tell COUNT WORDS INPUT ROOM`: the status where the message is not flushed, and how many bytes of
-/// it are taken.
+/// `tell COUNT WORDS INPUT ROOM`: the status where the message is not flushed, and what of it is
+/// taken.
 pub fn tell_row(row: Words<'_>, answer: Words<'_>, buffers: &mut Buffers) -> bool {
     let (mut row, mut answer, alloc) = (row, answer, buffers.alloc);
     let count = row.take_number();
     let first = word_of(&mut row, &mut buffers.first, count > 0);
     let second = word_of(&mut row, &mut buffers.second, count > 1);
     row.take_bytes(&mut buffers.input);
-    let mut err = Narrow::read_from(&mut row);
+    let status = answer.take_number();
+    answer.take_bytes(&mut buffers.output);
+    let mut err = Narrow::read_from(&mut row, Output::once(buffers.output.as_slice()));
     err.flush_fails = true;
-    let (status, taken) = (answer.take_number(), answer.take_number());
     let both = [first, second];
     let Some(words) = both.get(..count) else {
         return false;
     };
     let mut source = buffers.input.as_slice();
     let (got, _, err) = serve(alloc, words, &mut source, Vec::new(alloc), err);
-    let is_so = usize::from(got) == status && err.taken == taken;
+    let is_so = usize::from(got) == status && err.is_filled();
     is_so && row.are_read() && answer.are_read()
 }

@@ -1,8 +1,7 @@
-//! Rows of decodings whose input comes in short reads, beside `run` over the whole input.
+//! Rows of decodings whose input comes in short reads.
 
-use crate::terms::{Buffers, is_message};
-use hex_format::WriterSink;
-use hex_program::{Failure, Op, RunFault, run, serve};
+use crate::terms::{Buffers, answer, is_message, word};
+use hex_program::{Failure, RunFault, serve};
 use std::alloc::Global;
 use std::io;
 use std::io::Read;
@@ -25,9 +24,9 @@ impl<'a> Read for ShortReads<'a> {
     }
 }
 
-// Whether a run of the program that ended with this message and status tells what `run` answered.
-fn is_told(alloc: Global, ran: Result<(), RunFault>, status: u8, message: &[u8]) -> bool {
-    let Err(fault) = ran else {
+// Whether a run of the program that ended with this message and status tells this answer.
+fn is_told(alloc: Global, want: Result<(), RunFault>, status: u8, message: &[u8]) -> bool {
+    let Err(fault) = want else {
         return status == 0 && message.is_empty();
     };
     let failure = Failure::of_run(fault);
@@ -37,37 +36,35 @@ fn is_told(alloc: Global, ran: Result<(), RunFault>, status: u8, message: &[u8])
     }
 }
 
-// Whether an input that comes in short reads is served as an operation runs over all of it.
-fn is_served(alloc: Global, word: &str, op: Op, source: &[u8], every: usize) -> bool {
-    let mut sink = WriterSink::new(Vec::new(alloc));
-    let ran = run(alloc, op, source, &mut sink);
-    let whole = sink.into_inner();
+// Serves an input that comes in short reads. Returns its output where it tells this answer.
+fn served(
+    alloc: Global,
+    word: &str,
+    (source, every): (&[u8], usize),
+    want: Result<(), RunFault>,
+) -> Option<Vec<u8>> {
     let mut input = ShortReads {
         rest: source,
         every,
     };
     let (out, err) = (Vec::new(alloc), Vec::new(alloc));
     let (status, out, err) = serve(alloc, &[word], &mut input, out, err);
-    is_told(alloc, ran, status, err.as_slice()) && out.as_slice() == whole.as_slice()
+    is_told(alloc, want, status, err.as_slice()).then_some(out)
 }
 
-// Reads the answer `alike`.
-fn is_alike(answer: Words<'_>) -> bool {
-    let mut answer = answer;
-    answer.takes(b"alike") && answer.are_read()
-}
-
-/// `reads INPUT EVERY`: each decoding, by reads of so many bytes at most.
-pub fn reads_row(row: Words<'_>, answer: Words<'_>, buffers: &mut Buffers) -> bool {
-    let (mut row, alloc) = (row, buffers.alloc);
+/// `reads WORD INPUT EVERY`: the answer and the output, by reads of so many bytes at most.
+pub fn reads_row(row: Words<'_>, wanted: Words<'_>, buffers: &mut Buffers) -> bool {
+    let (mut row, mut wanted, alloc) = (row, wanted, buffers.alloc);
+    let word = word(&mut row, &mut buffers.first);
     row.take_bytes(&mut buffers.input);
     let every = row.take_number();
-    let source = buffers.input.as_slice();
-    row.are_read()
-        && is_alike(answer)
-        && is_served(alloc, "decode-lower", Op::DecodeLower, source, every)
-        && is_served(alloc, "decode-upper", Op::DecodeUpper, source, every)
-        && is_served(alloc, "decode", Op::Decode, source, every)
+    let want = answer(&mut wanted);
+    wanted.take_bytes(&mut buffers.output);
+    let is_so = match served(alloc, word, (buffers.input.as_slice(), every), want) {
+        Some(out) => out.as_slice() == buffers.output.as_slice(),
+        None => false,
+    };
+    is_so && row.are_read() && wanted.are_read()
 }
 
 // Zeros, with a byte at a place and so many zeros behind it.
@@ -78,17 +75,25 @@ fn edge(alloc: Global, place: usize, behind: usize, byte: u8) -> Option<Vec<u8>>
     Some(source)
 }
 
-/// `edge PLACE BEHIND BYTE EVERY`: a decoding of zeros with a byte at a place and so many zeros
-/// behind it.
-pub fn edge_row(row: Words<'_>, answer: Words<'_>, buffers: &Buffers) -> bool {
-    let (mut row, alloc) = (row, buffers.alloc);
+// Whether these are so many zero bytes.
+fn are_zeros(bytes: &[u8], count: usize) -> bool {
+    bytes.len() == count && bytes.iter().all(|byte| *byte == 0)
+}
+
+/// `edge PLACE BEHIND BYTE EVERY`: the answer of a decoding of digits `0` with a byte at a place and
+/// so many digits behind it, and how many bytes 0 are its output.
+pub fn edge_row(row: Words<'_>, wanted: Words<'_>, buffers: &Buffers) -> bool {
+    let (mut row, mut wanted, alloc) = (row, wanted, buffers.alloc);
     let (place, behind) = (row.take_number(), row.take_number());
     let (byte, every) = (row.take_byte(), row.take_number());
-    if !row.are_read() || !is_alike(answer) {
+    let want = answer(&mut wanted);
+    let count = wanted.take_number();
+    let Some(source) = edge(alloc, place, behind, byte) else {
         return false;
-    }
-    match edge(alloc, place, behind, byte) {
-        Some(source) => is_served(alloc, "decode", Op::Decode, source.as_slice(), every),
+    };
+    let is_so = match served(alloc, "decode", (source.as_slice(), every), want) {
+        Some(out) => are_zeros(out.as_slice(), count),
         None => false,
-    }
+    };
+    is_so && row.are_read() && wanted.are_read()
 }

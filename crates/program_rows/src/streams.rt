@@ -50,35 +50,75 @@ impl Read for Repeated {
     }
 }
 
+/// The bytes that a writer is to take: so many, a unit again and again, and an end at the last.
+#[derive(Clone, Copy)]
+pub struct Output<'a> {
+    /// How many bytes there are.
+    pub count: usize,
+    /// What comes again and again.
+    pub unit: &'a [u8],
+    /// The last bytes.
+    pub end: &'a [u8],
+}
+
+impl<'a> Output<'a> {
+    /// These bytes and no more.
+    pub fn once(unit: &'a [u8]) -> Output<'a> {
+        Output {
+            count: unit.len(),
+            unit,
+            end: &[],
+        }
+    }
+
+    // Whether this byte stands at a place.
+    fn has(self, place: usize, byte: u8) -> bool {
+        let start = self.count.saturating_sub(self.end.len());
+        let wanted = match place.checked_sub(start) {
+            Some(at) => self.end.get(at),
+            None => self.unit.get(place.checked_rem(self.unit.len()).unwrap_or(0)),
+        };
+        wanted.copied() == Some(byte)
+    }
+}
+
 /// Takes this many bytes, one a write, and then fails once, or takes nothing where it is stuck. It
-/// counts what it took and how often it was flushed.
+/// compares what it takes with what is wanted, and counts it and how often it was flushed.
 #[derive(Drop)]
-pub struct Narrow {
-    /// How many bytes it took.
-    pub taken: usize,
+pub struct Narrow<'a> {
     /// How often it was flushed.
     pub flushes: usize,
     /// Whether its flush fails.
     pub flush_fails: bool,
+    wanted: Output<'a>,
+    taken: usize,
+    is_other: bool,
     room: usize,
     stuck: bool,
 }
 
-impl Narrow {
+impl<'a> Narrow<'a> {
     /// Reads how many bytes are taken: a number, `all`, `unflushed` for all and a flush that fails,
     /// or `stuck` for none and no error.
-    pub fn read_from(row: &mut Words<'_>) -> Narrow {
+    pub fn read_from(row: &mut Words<'_>, wanted: Output<'a>) -> Narrow<'a> {
         let stuck = row.takes(b"stuck");
         let flush_fails = !stuck && row.takes(b"unflushed");
         let is_all = stuck || flush_fails || row.takes(b"all");
         let room = room(row, is_all);
         Narrow {
-            taken: 0,
             flushes: 0,
             flush_fails,
+            wanted,
+            taken: 0,
+            is_other: false,
             room,
             stuck,
         }
+    }
+
+    /// Whether it took exactly the bytes that are wanted.
+    pub fn is_filled(&self) -> bool {
+        !self.is_other && self.taken == self.wanted.count
     }
 }
 
@@ -91,16 +131,22 @@ fn room(row: &mut Words<'_>, is_all: bool) -> usize {
     }
 }
 
-impl Write for Narrow {
+impl<'a> Write for Narrow<'a> {
     fn write(&mut self, buf: &[u8]) -> io::Result<usize> {
         if self.room == 0 {
             self.room = usize::MAX;
             return Err(io::Error::from(ErrorKind::Interrupted));
         }
-        let n = if self.stuck { 0 } else { buf.len().min(1) };
-        self.taken = self.taken.saturating_add(n);
-        self.room -= n;
-        Ok(n)
+        let Some(byte) = buf.first() else {
+            return Ok(0);
+        };
+        if self.stuck {
+            return Ok(0);
+        }
+        self.is_other = self.is_other || !self.wanted.has(self.taken, *byte);
+        self.taken = self.taken.saturating_add(1);
+        self.room -= 1;
+        Ok(1)
     }
 
     fn flush(&mut self) -> io::Result<()> {

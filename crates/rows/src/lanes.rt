@@ -48,12 +48,12 @@ fn are_saturated(bytes: &[u8], case: CheckCase, want: &[u8]) -> Option<bool> {
     Some(bytes.len() == 16 && nibbles.as_slice() == want)
 }
 
-// Whether the nibbles are the wanted ones, each with a check below 128, but where the byte is
-// refused, which is wanted as 255.
+// Whether the nibbles are the wanted ones, each with a check below 128, but where 255 is wanted,
+// which is a check of 128 or more and any nibble.
 fn are_hashed(nibbles: &[u8], checks: &[u8], want: &[u8]) -> bool {
     for ((nibble, check), want) in nibbles.iter().zip(checks).zip(want) {
-        let value = if *check < 128 { *nibble } else { 255 };
-        if value != *want {
+        let is_refused = *want == 255;
+        if (*check >= 128) != is_refused || (!is_refused && nibble != want) {
             return false;
         }
     }
@@ -152,7 +152,7 @@ fn are_written(bytes: &[u8], upper: bool, digits: &[u8]) -> Option<bool> {
 /// - `admit`: of each byte `y` or `n`.
 /// - `saturate`: the nibbles of 16 bytes.
 /// - `hash`: the checks of 32 or 64 bytes.
-/// - `nibbles`: their nibbles, and 255 where the check refuses the byte.
+/// - `nibbles`: their nibbles, and 255 where the check is 128 or more, which refuses the byte.
 /// - `pack`: the bytes of these nibbles, for any policy.
 /// - `write`: the digits of 8, 16 or 32 bytes.
 pub fn is_made(call: &[u8], bytes: &[u8], case: CheckCase, want: &[u8]) -> Option<bool> {
