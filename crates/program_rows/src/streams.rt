@@ -76,7 +76,9 @@ impl<'a> Output<'a> {
         let start = self.count.saturating_sub(self.end.len());
         let wanted = match place.checked_sub(start) {
             Some(at) => self.end.get(at),
-            None => self.unit.get(place.checked_rem(self.unit.len()).unwrap_or(0)),
+            None => self
+                .unit
+                .get(place.checked_rem(self.unit.len()).unwrap_or(0)),
         };
         wanted.copied() == Some(byte)
     }
