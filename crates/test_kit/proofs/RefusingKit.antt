@@ -15,7 +15,7 @@ pub use types.ByLocal.{alloc_all, pass_all, free_all, look_at, get, through, set
 pub use contract.BorrowLft.{◌⊑◌, ⊑_trans}
 pub use contract.Monad.{fact}
 pub use contract.Running.{tables}
-pub use denote.Builtin.{bool, usize, RawPtr, RefOf}
+pub use denote.Builtin.{bool, unit, usize, RawPtr, RefOf}
 pub use denote.Exit.{yes}
 pub use denote.Opens.{unhide}
 pub use denote.Param.{bounded, param}

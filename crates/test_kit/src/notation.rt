@@ -16,7 +16,7 @@ use crate::formula::Formula;
 use arrayvec::ArrayVec;
 
 /// How many bytes a word can write.
-pub const ROOM: usize = 10_200;
+pub const ROOM: usize = 140_000;
 
 /// The bytes that a word wrote.
 pub type Bytes = ArrayVec<u8, ROOM>;

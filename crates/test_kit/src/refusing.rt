@@ -30,11 +30,12 @@ pub struct Refusing<B: Allocator> {
     counts: Counts,
 }
 
-// One struct and not two fields of `Refusing`, so that one borrow reaches both counts.
+// One struct and not fields of `Refusing`, so that one borrow reaches all counts.
 #[derive(Drop)]
 struct Counts {
     left: Cell<u64>,
     asked: Cell<u64>,
+    held: Cell<u64>,
     // How many it grants behind one that it refuses.
     behind: u64,
 }
@@ -76,6 +77,7 @@ impl<B: Allocator> Refusing<B> {
             counts: Counts {
                 left: Cell::new(left),
                 asked: Cell::new(0),
+                held: Cell::new(0),
                 behind,
             },
         }
@@ -132,6 +134,22 @@ impl<B: Allocator> Refusing<B> {
     pub fn asked(&self) -> u64 {
         self.counts.asked.get()
     }
+
+    /// Returns whether it was asked for so many allocations, and each block that it granted was given
+    /// back.
+    ///
+    /// ```rust
+    /// let alloc = Refusing::new(rt.alloc(), 2);
+    /// let mut bytes = Vec::with_capacity(&alloc, 9)?;
+    /// bytes.push(7u8)?;
+    /// bytes.shrink_to_fit();
+    /// assert!(rt; !alloc.is_settled(2));
+    /// drop(bytes);
+    /// assert!(rt; alloc.is_settled(2) && !alloc.is_settled(1));
+    /// ```
+    pub fn is_settled(&self, asked: u64) -> bool {
+        self.asked() == asked && self.counts.held.get() == 0
+    }
 }
 
 // Counts one allocation that is asked for, and returns whether it is granted.
@@ -139,10 +157,19 @@ fn grants(counts: &Counts) -> bool {
     // No clause knows what a cell holds, so a plain `+` could not be shown to fit.
     counts.asked.set(counts.asked.get().saturating_add(1));
     let left = counts.left.get();
+    let is_granted = left > 0;
     counts
         .left
         .set(left.checked_sub(1).unwrap_or(counts.behind));
-    left > 0
+    counts
+        .held
+        .set(counts.held.get().saturating_add(u64::from(is_granted)));
+    is_granted
+}
+
+// Counts a block that is given back.
+fn releases(counts: &Counts) {
+    counts.held.set(counts.held.get().saturating_sub(1));
 }
 
 // `grow` and `shrink` are the trait's own, which call `allocate`: those of `inner` would grow a
@@ -158,6 +185,7 @@ unsafe impl<B: Allocator> Allocator for Refusing<B> {
     }
 
     unsafe fn deallocate(&self, ptr: *mut u8, size: usize, align: usize) {
+        releases(&self.counts);
         self.inner.deallocate(ptr, size, align);
     }
 }
