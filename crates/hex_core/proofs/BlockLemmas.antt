@@ -1,8 +1,10 @@
 -- Blocks of a source, and what decoding them makes of a destination.
-use Rattle.std.proofs.Common.{◌≡◌, ℕ, suc, ◌+◌, ◌-◌, ◌*◌, ◌/◌, ◌%◌, ◌<◌, ◌≤◌, ◌↔◌, Bool, false, List, length, get_or, inl, inr, refl, sym, ap, ap₂, subst, ◌∙◌, Option, Some, None, arith}
+use Rattle.std.proofs.Common.{◌≡◌, ℕ, suc, ◌+◌, ◌-◌, ◌*◌, ◌/◌, ◌%◌, ◌<◌, ◌≤◌, ◌↔◌, Bool, false, List, length, min, get_or, inl, inr, refl, sym, ap, ap₂, subst, ◌∙◌, Option, Some, None, arith}
 use Rattle.std.specs.Prelude.{IfSome, IsSome, IsTrue, slice_index}
-use Rattle.std.proofs.Math.Nat.{le-div_iff_mul-le, lt-div-mul-add, mod-add-div, mul_comm}
+use Rattle.std.specs.Int.{div_ceil}
+use Rattle.std.proofs.Math.Nat.{div-lt_iff_lt-mul, le-div_iff_mul-le, lt-div-mul-add, lt_of_mul-lt-mul_right, mod-add-div, mul_comm}
 use Rattle.std.proofs.lemmas.Bool.{cases_lt, iff_false}
+use Rattle.std.proofs.lemmas.Grind.{div_ceil_times}
 use Rattle.std.proofs.lemmas.Simd.{get_or-chunk, get_or-put_chunk_above, get_or-put_chunk_at, get_or-put_chunk_below, length-chunk, length-put_chunk}
 use lib.Lanes.{chunk, put_chunk}
 use std.Logic.{↔_trans}
@@ -10,12 +12,12 @@ use Rattle.hex_core.specs.declared.digit.CheckCase.{CheckCase}
 use Rattle.hex_core.specs.Arithmetic.{AreUnsigned, packed}
 use Rattle.hex_core.specs.Blocks.{DecodesRange, NibblesFrom}
 use Rattle.hex_core.specs.Digit.{value}
-use Rattle.hex_core.specs.Search.{AllValid, first_invalid}
+use Rattle.hex_core.specs.Search.{AllValid, covering_to, first_invalid}
 use Rattle.hex_core.specs.Lanes.{AreChecked, AreSmall, AreValues, IsNibble}
 use Rattle.hex_core.specs.Text.{Spells}
 use Rattle.hex_core.proofs.ByteLemmas.{value_is, value_small}
 use Rattle.hex_core.proofs.PairLemmas.{length-packed, packed_at}
-use Rattle.hex_core.proofs.SearchLemmas.{none_valid, first_invalid_none}
+use Rattle.hex_core.proofs.SearchLemmas.{first_invalid_none, first_is_first, none_valid, valid_before, valid_misses}
 use Rattle.hex_core.proofs.SpellsLemmas.{spelled_along}
 
 -- ---- places of blocks of any width
@@ -35,6 +37,11 @@ blocks_within len block i some le = (le-div_iff_mul-le some).0 le
 
 pub blocks_past : (len block : ℕ) → 0 < block → len < len / block * block + block
 blocks_past len block some = lt-div-mul-add some
+
+-- the tests that cover a source of whole blocks without an invalid byte
+pub covers_whole : (len block : ℕ) (o : Option ℕ) → o ≡ None → len % block ≡ 0 → covering_to block len o ≡ len / block
+covers_whole len block (Some f) none whole = cc
+covers_whole len block None none whole = omega (arith, whole)
 
 -- ---- ranges that are valid
 
@@ -69,6 +76,30 @@ module _ (c : CheckCase) (s : List ℕ) where
         λ back. first_invalid_none c s (valid_over 0 (length s / block * block) (length s - block) (length s) (omega (arith, past)) front back),
         valid_range (length s - block) (length s) (omega arith),
       )
+
+  -- the tests that cover the source end with the block of its first invalid byte
+  covers_at : (block i f : ℕ) → 0 < block → f < length s → i * block ≤ f → f < i * block + block → min (div_ceil (length s) block) (f / block + 1) ≡ i + 1
+  covers_at block i f some there low high =
+      let least : i ≤ f / block = (le-div_iff_mul-le some).1 low in
+      let most : f / block < i + 1 = (div-lt_iff_lt-mul some).1 (omega arith) in
+      let more : i * block < div_ceil (length s) block * block = omega (arith, (div_ceil_times (length s) block some).0) in
+      let inside : i < div_ceil (length s) block = lt_of_mul-lt-mul_right block more in
+      omega arith
+
+  -- that is a block that does not pass, or the last one, where the source ends inside it
+  pub covers_failed : (block i : ℕ) (o : Option ℕ) → first_invalid c s ≡ o → 0 < block → i * block + block ≤ length s → AllValid c s 0 (i * block) → ¬ AllValid c s (i * block) (i * block + block) → covering_to block (length s) o ≡ i + 1
+  covers_failed block i (Some f) e some inside valid fails =
+      covers_at block i f some (first_is_first c s f e).0 (valid_misses c s f 0 (i * block) e valid (omega arith)) (elim (cases_lt f (i * block + block)) [
+        | inl lt ↦ lt
+        | inr past ↦ absurd (fails (λ k a b. valid_before c s f e k (omega arith) (omega arith)))
+      ])
+  covers_failed block i None e some inside valid fails = absurd (fails (valid_range (i * block) (i * block + block) inside e))
+
+  pub covers_end : (block : ℕ) (o : Option ℕ) → first_invalid c s ≡ o → 0 < block → 0 < length s % block → AllValid c s 0 (length s / block * block) → covering_to block (length s) o ≡ length s / block + 1
+  covers_end block (Some f) e some rest valid =
+      let there = (first_is_first c s f e).0 in
+      covers_at block (length s / block) f some there (valid_misses c s f 0 (length s / block * block) e valid (omega arith)) (omega (arith, blocks_past (length s) block some))
+  covers_end block None e some rest valid = omega arith
 
   -- a range behind a valid front is valid exactly where all of it is
   pub behind_valid : (done end : ℕ) → done ≤ end → AllValid c s 0 done → AllValid c s done end ↔ AllValid c s 0 end

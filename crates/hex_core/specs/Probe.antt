@@ -1,7 +1,7 @@
 -- What a counted source shows, and what its calls change of that.
 use Rattle.std.specs.Prelude.{◌≡◌, ℕ, ◌+◌, ◌-◌, ◌*◌, ◌/◌, ◌<◌, ◌≤◌, List, length, min, MatchOption, Option, Some, None}
 use Rattle.hex_core.specs.declared.digit.CheckCase.{CheckCase}
-use Rattle.hex_core.specs.Search.{AllValid, Steps, first_invalid, steps, tested_blocks}
+use Rattle.hex_core.specs.Search.{AllValid, Steps, covering_to, first_invalid, steps, tested_blocks}
 
 -- what a probe shows: its source, its policy and its block, which is how many bytes the widest test
 -- takes; and how many looks and tests were made
@@ -34,6 +34,10 @@ invalid_in p = first_invalid p.policy p.source
 
 abbrev pub steps_in : ProbeState → Steps
 steps_in p = steps p.policy p.source
+
+-- how many tests cover its source, up to that byte
+abbrev pub covering_in : ProbeState → ℕ
+covering_in p = covering_to p.block (length p.source) (invalid_in p)
 
 -- looking at so many bytes behind a front that is valid: each byte up to the source's first invalid
 -- one is one look, or each of them is, and they are valid too

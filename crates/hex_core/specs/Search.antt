@@ -1,5 +1,6 @@
 -- The first byte of a source that has no value, and what it takes to find it.
 use Rattle.std.specs.Prelude.{ℕ, ◌+◌, ◌-◌, ◌*◌, ◌/◌, ◌%◌, ◌<◌, ◌≤◌, nat_lt, if◌then◌else◌, Option, Some, None, List, length, min, position, is_none, slice_index, IsSome}
+use Rattle.std.specs.Int.{div_ceil}
 use Rattle.hex_core.specs.declared.digit.CheckCase.{CheckCase}
 use Rattle.hex_core.specs.Digit.{value}
 
@@ -24,6 +25,12 @@ pub record Steps : Type 0 where
 abbrev pub steps_to : ℕ → Option ℕ → Steps
 steps_to len (Some f) = record { tests = min (tested_blocks len) (f / 64 + 1); looks = f % 64 + 1 }
 steps_to len None = record { tests = tested_blocks len; looks = len - 64 * tested_blocks len }
+
+-- how many tests of blocks that cover a source of this length are made: those up to this first
+-- invalid byte, or to the end where there is none
+abbrev pub covering_to : ℕ → ℕ → Option ℕ → ℕ
+covering_to block len (Some f) = min (div_ceil len block) (f / block + 1)
+covering_to block len None = div_ceil len block
 
 -- the steps in a source: those up to its own first invalid byte
 abbrev pub steps : CheckCase → List ℕ → Steps

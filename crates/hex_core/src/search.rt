@@ -1,8 +1,7 @@
 //! Counted sources, and the search for the first invalid byte through their counted calls.
 
 ghost use Rattle.std.specs.Prelude.{◌≡◌, ℕ, None, ◌+◌, ◌*◌, ◌/◌, ◌^◌, ◌<◌, ◌≤◌, ◌↔◌, IsTrue, length, slice_index};
-ghost use Rattle.std.specs.Int.{div_ceil};
-ghost use Rattle.hex_core.specs.Probe.{Adds, LooksAt, ProbeState, TestsAt, ValidIn, invalid_in, looks_from, steps_in};
+ghost use Rattle.hex_core.specs.Probe.{Adds, LooksAt, ProbeState, TestsAt, ValidIn, covering_in, invalid_in, looks_from, steps_in};
 ghost use Rattle.hex_core.specs.Search.{tested_blocks};
 
 use crate::digit::CheckCase;
@@ -198,9 +197,9 @@ pub fn locate<P: Probe>(p: &mut P) -> Option<usize>
 
 /// Returns whether each byte of the source has a value under the policy, by tests alone.
 ///
-/// The whole blocks are tested in order, until one does not pass. Where the length is no multiple
-/// of the block, one more block is tested, which ends with the source and overlaps the one before.
-/// So there are at most as many tests as blocks that cover the source, and no look.
+/// The blocks that cover the source are tested in order, until one does not pass. So the tests are
+/// as many as blocks up to that of the first byte without a value, or, where each has one, as the
+/// length divided by the block and rounded up. There is no look.
 ///
 /// The block is at least 1 and at most as long as the source, and the count of tests plus that
 /// length is a `usize`.
@@ -217,8 +216,7 @@ pub fn covered<P: Probe>(p: &mut P) -> bool
     requires most { (P.state p.old).block ≤ length (P.state p.old).source }
     requires tests { (P.state p.old).tests + length (P.state p.old).source < 2 ^ 64 }
     ensures valid { IsTrue result ↔ (invalid_in (P.state p.old) ≡ None) }
-    ensures counted { (n : ℕ) × Adds 0 n (P.state p.old) (P.state p.new)
-        × (n ≤ div_ceil (length (P.state p.old).source) (P.state p.old).block) }
+    ensures counted { Adds 0 (covering_in (P.state p.old)) (P.state p.old) (P.state p.new) }
 {
     let len = p.len();
     let block = p.block();
