@@ -1,6 +1,6 @@
 -- What stands in a buffer whose front was written, and then the front of the rest; and what is refused of
 -- two parts that one call would not refuse.
-use Rattle.std.proofs.Common.{◌≡◌, ◌≢◌, ◌∙◌, ℕ, ◌+◌, ◌-◌, ◌/◌, ◌^◌, ◌<◌, ◌≤◌, List, ◌++◌, length, length-append, length-drop, take, drop, Option, None, Some, refl, ap, sym, arith}
+use Rattle.std.proofs.Common.{◌≡◌, ◌≢◌, ◌∙◌, ℕ, ◌+◌, ◌-◌, ◌/◌, ◌%◌, ◌==◌, ◌^◌, if◌then◌else◌, ◌<◌, ◌≤◌, List, ◌++◌, length, length-append, length-drop, take, drop, Option, None, Some, refl, ap, sym, arith}
 use Rattle.std.specs.Option.{option_or}
 use Rattle.std.proofs.Math.Seq.{drop-append_seam}
 use Rattle.std.proofs.lemmas.Bool.Decides.{nat_tests}
@@ -9,8 +9,9 @@ use Rattle.std.proofs.lemmas.List.{take_rest}
 use borrow.Rule.Slice.PartMut.{put_mid}
 use Rattle.hex_core.specs.declared.digit.CheckCase.{CheckCase}
 use Rattle.hex_core.specs.declared.error.Error.{Error}
+use Rattle.hex_core.specs.declared.error.Error.TheVariants.{OddLength}
 use Rattle.hex_core.specs.Laws.{FirstInvalidOfJoined}
-use Rattle.hex_core.specs.Refusal.{decode_refusal, source_refusal}
+use Rattle.hex_core.specs.Refusal.{decode_refusal}
 use Rattle.hex_core.specs.Search.{first_invalid}
 use Rattle.hex_core.specs.Text.{with_front}
 use Rattle.hex_codec.specs.Stream.{feed_refusal, pairs_more}
@@ -53,5 +54,5 @@ feed-refused law c fed src behind room done rest e few part is refused none =
     let valid : first_invalid c (fed ++ src) ≡ None = none-first _ _ (sym (law c (fed ++ src) behind) ∙ all.1) in
     absurd (cc (refused, refused-byte c fed src rest few fits ∙ valid-fed c (fed ++ src) valid))
 
-pub end-refused : (c : CheckCase) (s : List ℕ) (room : ℕ) (e : Error) → source_refusal c s ≡ Some e → decode_refusal c s room ≢ None
+pub end-refused : (c : CheckCase) (s : List ℕ) (room : ℕ) (e : Error) → (if length s % 2 == 1 then Some OddLength else None) ≡ Some e → decode_refusal c s room ≢ None
 end-refused c s room e refused none = grind (arith, nat_tests, refused, none)

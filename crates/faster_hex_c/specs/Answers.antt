@@ -1,20 +1,19 @@
 -- What the exported calls answer.
-use Rattle.std.specs.Prelude.{◌≡◌, ℕ, ◌^◌, ◌==◌, nat_le, nat_lt, if◌then◌else◌, Bool, List, length, slice_index}
-use Rattle.std.specs.Prelude.{Option, Some, None, MatchOption, Result, Ok, Err, MatchResult}
+use Rattle.std.specs.Prelude.{◌≡◌, ℕ, ◌==◌, if◌then◌else◌, Bool, List, length, slice_index}
+use Rattle.std.specs.Prelude.{Option, Some, None, MatchOption, Result, Ok, Err}
 use Rattle.hex_core.specs.declared.digit.CheckCase.{CheckCase}
 use Rattle.hex_core.specs.declared.digit.CheckCase.TheVariants as policy
 use Rattle.hex_core.specs.declared.error.Error.{Error}
 use Rattle.hex_core.specs.declared.error.Error.TheVariants.{InvalidChar, OutputTooSmall, OddLength, Overflow}
-use Rattle.hex_core.specs.Calls.{Decodes, Encodes}
+use Rattle.hex_core.specs.Calls.{Decodes, Encodes, Fills}
+use Rattle.hex_core.specs.Refusal.{room_refusal}
 use Rattle.hex_core.specs.Search.{first_invalid}
-use Rattle.hex_core.specs.Text.{with_front}
 use Rattle.hex_codec.specs.declared.group.Group.{Group}
 use Rattle.hex_codec.specs.declared.grouped.GroupFault.{GroupFault}
 use Rattle.hex_codec.specs.declared.grouped.GroupFault.TheVariants as fault
 use Rattle.hex_codec.specs.GroupCalls.{Reads}
-use Rattle.hex_codec.specs.Grouped.{grouped, piece_len, separator}
+use Rattle.hex_codec.specs.Grouped.{MakesGroup, grouped, piece_len}
 use Rattle.hex_codec.specs.GroupedText.{grouped_len}
-use Rattle.hex_codec.specs.Groups.{IsGroup}
 use Rattle.faster_hex_c.specs.declared.Answer.{Answer}
 
 -- the policy that a number names
@@ -29,12 +28,13 @@ policy_of n =
 abbrev pub no_policy : Answer
 no_policy = record { number = 0; status = 5; byte = 0 }
 
--- the answer that tells a result; the last case is that of a length which is no `usize`
+-- the answer that tells a result; the errors of the last case never come of a call into a destination
 abbrev pub answer_of : Result ℕ Error → Answer
 answer_of (Ok written) = record { number = written; status = 0; byte = 0 }
 answer_of (Err OddLength) = record { number = 0; status = 1; byte = 0 }
 answer_of (Err (OutputTooSmall required)) = record { number = required; status = 2; byte = 0 }
 answer_of (Err (InvalidChar index byte)) = record { number = index; status = 3; byte = byte }
+answer_of (Err Overflow) = record { number = 0; status = 4; byte = 0 }
 answer_of (Err e) = record { number = 0; status = 4; byte = 0 }
 
 -- the answer that tells the first invalid byte of a source, if there is one
@@ -58,11 +58,6 @@ DecodesBy n s old new answer = MatchOption (policy_of n) ((answer ≡ no_policy)
 abbrev pub FindsInvalid : ℕ → List ℕ → Answer → Type 0
 FindsInvalid n s answer = MatchOption (policy_of n) (answer ≡ no_policy) (λ c. answer ≡ answer_for s (first_invalid c s))
 
--- the group that two numbers make, where they make one
-abbrev pub MadeOf : ℕ → ℕ → Option Group → Type 0
-MadeOf every sep made = MatchOption made (IsGroup every sep → ⊥)
-    (λ group. IsGroup every sep × (piece_len group ≡ every) × (separator group ≡ sep))
-
 -- the answer for numbers that make none
 abbrev pub no_group : Answer
 no_group = record { number = 0; status = 6; byte = 0 }
@@ -74,25 +69,15 @@ group_answer_of (Err (fault.OutputTooSmall required)) = record { number = requir
 group_answer_of (Err (fault.InvalidByte index byte)) = record { number = index; status = 3; byte = byte }
 group_answer_of (Err fault.BadLength) = record { number = 0; status = 7; byte = 0 }
 
--- what writing so many bytes into this room refuses: a length that is no `usize`, then too little room
-abbrev pub room_refusal : ℕ → ℕ → Option Error
-room_refusal len room =
-    if nat_le (2 ^ 64) len then Some Overflow
-    else if nat_lt room len then Some (OutputTooSmall len)
-    else None
-
--- grouped writing into the front of a destination: the length of the text, which stands over the old
--- bytes; or the refusal, and the destination as it was
+-- grouped writing into the front of a destination: the grouped text
 abbrev pub WritesGrouped : Group → Bool → List ℕ → List ℕ → List ℕ → Result ℕ Error → Type 0
-WritesGrouped group upper bytes old new result = MatchResult result
-    (λ n. (room_refusal (grouped_len (piece_len group) (length bytes)) (length old) ≡ None)
-    × (n ≡ grouped_len (piece_len group) (length bytes)) × (new ≡ with_front old (grouped group upper bytes)))
-    (λ e. (room_refusal (grouped_len (piece_len group) (length bytes)) (length old) ≡ Some e) × (new ≡ old))
+WritesGrouped group upper bytes old new result =
+    Fills (room_refusal (grouped_len (piece_len group) (length bytes)) (length old)) (λ string. string ≡ grouped group upper bytes) old new result
 
 -- by the group that two numbers make; where they make none the destination is as it was
 abbrev pub ByGroup : ℕ → ℕ → List ℕ → List ℕ → Answer → (Group → Type 0) → Type 0
 ByGroup every sep old new answer Holds =
-    (made : Option Group) × MadeOf every sep made × MatchOption made ((answer ≡ no_group) × (new ≡ old)) Holds
+    (made : Option Group) × MakesGroup every sep made × MatchOption made ((answer ≡ no_group) × (new ≡ old)) Holds
 
 -- grouped writing by such a group, and its answer
 abbrev pub EncodesGrouped : ℕ → ℕ → Bool → List ℕ → List ℕ → List ℕ → Answer → Type 0

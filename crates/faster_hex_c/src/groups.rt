@@ -37,7 +37,8 @@ fn write_front(bytes: &[u8], flags: &HexFlags, dst: &mut [u8]) -> Result<(), Wri
 // Writes the grouped text of some bytes into the front of a slice that has room for it.
 fn write_groups(bytes: &[u8], dst: &mut [u8], upper: bool, group: Group)
     requires { grouped_len (piece_len group) (length bytes.now) ≤ length dst.old }
-    ensures { dst.new ≡ with_front dst.old (grouped group upper bytes.now) }
+    ensures written { dst.new ≡ with_front dst.old (grouped group upper bytes.now) }
+    ensures long { length (grouped group upper bytes.now) ≡ grouped_len (piece_len group) (length bytes.now) }
 {
     a_bare_text_is_its_digits();
     a_grouped_text_is_digits_and_separators();

@@ -2,7 +2,6 @@ mod AppendWalk
 mod CountLemmas
 mod EncodeWalk
 pub mod GroupLemmas
-pub mod GroupLoan
 mod GroupTextLemmas
 pub mod ListLemmas
 mod ReadBack

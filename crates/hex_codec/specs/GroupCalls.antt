@@ -1,10 +1,9 @@
 -- What reading a grouped text answers and leaves.
-use Rattle.std.specs.Prelude.{◌≡◌, ℕ, Bool, List, length, Option, Some, None, is_none, Result, MatchResult}
+use Rattle.std.specs.Prelude.{◌≡◌, ℕ, Bool, List, length, Option, Some, None, is_none, Result}
 use Rattle.std.specs.Bool.{MatchBool}
 use Rattle.std.specs.Borrow.{MutBor}
 use Rattle.hex_core.specs.declared.digit.CheckCase.{CheckCase}
-use Rattle.hex_core.specs.Calls.{Answers}
-use Rattle.hex_core.specs.Text.{with_front}
+use Rattle.hex_core.specs.Calls.{Answers, Fills}
 use Rattle.hex_codec.specs.declared.group.Group.{Group}
 use Rattle.hex_codec.specs.declared.grouped.GroupFault.{GroupFault}
 use Rattle.hex_codec.specs.GroupedText.{GroupSpells, byte_count, first_wrong, group_refusal, refusal_of_count}
@@ -21,13 +20,9 @@ ReadsWhole c group s old new done = MatchBool done (GroupSpells c group s new) (
 abbrev pub ReadsOrNames : CheckCase → Group → List ℕ → List ℕ → List ℕ → Option ℕ → Type 0
 ReadsOrNames c group s old new result = (result ≡ first_wrong c group s) × ReadsWhole c group s old new (is_none result)
 
--- reading into the front of a destination: the number of bytes, which are what the text spells and
--- stand over the old ones; or the refusal, and the destination as it was
+-- reading into the front of a destination: what the text spells
 abbrev pub Reads : CheckCase → Group → List ℕ → List ℕ → List ℕ → Result ℕ GroupFault → Type 0
-Reads c group s old new result = MatchResult result
-    (λ n. (group_refusal c group s (length old) ≡ None)
-    × ((bytes : List ℕ) × GroupSpells c group s bytes × (n ≡ length bytes) × (new ≡ with_front old bytes)))
-    (λ e. (group_refusal c group s (length old) ≡ Some e) × (new ≡ old))
+Reads c group s old new result = Fills (group_refusal c group s (length old)) (GroupSpells c group s) old new result
 
 -- reading that lends the written front of this much room: what the text spells, or the refusal
 abbrev pub ReadsFront : CheckCase → Group → List ℕ → ℕ → Result (MutBor (List ℕ)) GroupFault → Type 0

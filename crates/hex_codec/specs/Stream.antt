@@ -1,11 +1,11 @@
 -- Decoding digits that come in chunks.
-use Rattle.std.specs.Prelude.{◌≡◌, ℕ, ◌+◌, ◌-◌, ◌*◌, ◌/◌, ◌^◌, nat_le, nat_lt, if◌then◌else◌, List, ◌++◌, length, take, drop, slice_index, Option, Some, None, option_map, Result, MatchResult}
+use Rattle.std.specs.Prelude.{◌≡◌, ℕ, ◌+◌, ◌-◌, ◌*◌, ◌/◌, ◌%◌, ◌^◌, ◌==◌, nat_le, nat_lt, if◌then◌else◌, List, ◌++◌, length, take, drop, slice_index, Option, Some, None, option_map, Result, MatchResult}
 use Rattle.std.specs.Option.{option_to_list}
 use Rattle.hex_core.specs.declared.digit.CheckCase.{CheckCase}
 use Rattle.hex_core.specs.declared.error.Error.{Error}
-use Rattle.hex_core.specs.declared.error.Error.TheVariants.{InvalidChar, Overflow, OutputTooSmall}
+use Rattle.hex_core.specs.declared.error.Error.TheVariants.{InvalidChar, OddLength, Overflow, OutputTooSmall}
 use Rattle.hex_core.specs.Calls.{Answers}
-use Rattle.hex_core.specs.Refusal.{first_bad_char, source_refusal}
+use Rattle.hex_core.specs.Refusal.{first_bad_char}
 use Rattle.hex_core.specs.Search.{first_invalid}
 use Rattle.hex_core.specs.Text.{Spells, with_front}
 use Rattle.hex_codec.specs.declared.stream.Decoder.{Decoder}
@@ -87,4 +87,4 @@ DecodesPairs decoder src digits old new result = MatchResult result
 -- the end of a decoding: what was written is what all that was fed spells, or a digit waits
 abbrev pub Finished : {T : Type 0} → Decoder → Result T Error → Type 0
 Finished decoder result = (fed written : List ℕ) → HasFed decoder fed written
-    → Answers (source_refusal (policy_of decoder) fed) (λ _. Spells (policy_of decoder) fed written) result
+    → Answers (if length fed % 2 == 1 then Some OddLength else None) (λ _. Spells (policy_of decoder) fed written) result

@@ -1,11 +1,8 @@
 -- What the walks of the slice calls say of a destination that a call has written.
-use Rattle.std.proofs.Common.{◌≡◌, sym, ap, ◌∙◌, subst, ℕ, ◌+◌, ◌≤◌, Bool, List, length, drop, MutBor, Result, Ok, Err, MatchResult, arith}
+use Rattle.std.proofs.Common.{◌≡◌, sym, ap, ◌∙◌, subst, ℕ, ◌+◌, ◌≤◌, List, length, drop, MutBor, Option, Result, Ok, Err, MatchResult, arith}
 use Rattle.std.proofs.lemmas.List.{length-append, length-drop}
-use Rattle.hex_core.proofs.TextLemmas.{length-text}
-use Rattle.hex_core.specs.declared.digit.CheckCase.{CheckCase}
-use Rattle.hex_core.specs.declared.error.Error.{Error}
-use Rattle.hex_core.specs.Calls.{Decodes, DecodesFront, Encodes, EncodesFront}
-use Rattle.hex_core.specs.Text.{Spells, text, with_front}
+use Rattle.hex_core.specs.Calls.{Answers, Fills}
+use Rattle.hex_core.specs.Text.{with_front}
 
 -- a call leaves a front of so many bytes in its destination, and this is answered where that front is lent; or the
 -- destination is as it was, and this is answered of the refusal
@@ -20,10 +17,6 @@ front_fits old new bytes is same =
     let e : length new ≡ length bytes + length (drop (length bytes) old) = ap length is ∙ length-append bytes (drop (length bytes) old) in
     let d = length-drop (length bytes) old in omega (arith, e, d, same)
 
-pub decode_writes : (c : CheckCase) (s old new : List ℕ) (u : Result ℕ Error) → Decodes c s old new u → Writes (DecodesFront c s (length old)) old new u
-decode_writes c s old new (Ok n) h = (h.2.0, omega (arith, h.2.1.twice, h.1), h.2.2, λ front e. (h.0, subst (Spells c s) (sym e) h.2.1))
-decode_writes c s old new (Err e) h = (h.1, h.0)
-
-pub encode_writes : (upper : Bool) (s old new : List ℕ) (u : Result ℕ Error) → Encodes upper s old new u → Writes (EncodesFront upper s (length old)) old new u
-encode_writes upper s old new (Ok n) h = (text upper s, length-text upper s ∙ sym h.1, h.2, λ front e. (h.0, e))
-encode_writes upper s old new (Err e) h = (h.1, h.0)
+pub fills_writes : {E : Type 0} (refusal : Option E) (Is : List ℕ → Type 0) (old new : List ℕ) (u : Result ℕ E) → Fills refusal Is old new u → Writes (Answers refusal (λ front. Is front.now)) old new u
+fills_writes refusal Is old new (Ok n) h = (h.1.0, sym h.1.2, h.1.3, λ front e. (h.0, subst Is (sym e) h.1.1))
+fills_writes refusal Is old new (Err e) h = (h.1, h.0)

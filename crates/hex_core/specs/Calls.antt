@@ -1,5 +1,5 @@
 -- What a call answers and what it leaves: one word for each kind of call.
-use Rattle.std.specs.Prelude.{◌≡◌, ◌≢◌, ℕ, ◌*◌, ◌/◌, Bool, List, length, Result, MatchResult, Option, Some, None}
+use Rattle.std.specs.Prelude.{◌≡◌, ◌≢◌, ℕ, Bool, List, length, Result, MatchResult, Option, Some, None}
 use Rattle.std.specs.Bool.{MatchBool}
 use Rattle.std.specs.Borrow.{MutBor}
 use Rattle.hex_core.specs.declared.digit.CheckCase.{CheckCase}
@@ -13,20 +13,20 @@ use Rattle.hex_core.specs.Text.{Spells, text, with_front}
 abbrev pub Answers : {T E : Type 0} → Option E → (T → Type 0) → Result T E → Type 0
 Answers refusal Holds result = MatchResult result (λ value. (refusal ≡ None) × Holds value) (λ e. refusal ≡ Some e)
 
--- decoding into the front of a destination: the number of bytes, which are what the source spells
--- and stand over the old ones; or the refusal, and the destination as it was
-abbrev pub Decodes : CheckCase → List ℕ → List ℕ → List ℕ → Result ℕ Error → Type 0
-Decodes c s old new result = MatchResult result
-    (λ n. (decode_refusal c s (length old) ≡ None) × (n ≡ length s / 2)
-    × ((bytes : List ℕ) × Spells c s bytes × (new ≡ with_front old bytes)))
-    (λ e. (decode_refusal c s (length old) ≡ Some e) × (new ≡ old))
+-- writing into the front of a destination: the number of bytes, of which this holds and which stand
+-- over the old ones; or the refusal, and the destination as it was
+abbrev pub Fills : {E : Type 0} → Option E → (List ℕ → Type 0) → List ℕ → List ℕ → Result ℕ E → Type 0
+Fills refusal Is old new result = MatchResult result
+    (λ n. (refusal ≡ None) × ((bytes : List ℕ) × Is bytes × (n ≡ length bytes) × (new ≡ with_front old bytes)))
+    (λ e. (refusal ≡ Some e) × (new ≡ old))
 
--- encoding likewise: the number of digits, which are the text
+-- decoding into the front of a destination: what the source spells
+abbrev pub Decodes : CheckCase → List ℕ → List ℕ → List ℕ → Result ℕ Error → Type 0
+Decodes c s old new result = Fills (decode_refusal c s (length old)) (Spells c s) old new result
+
+-- encoding likewise: the text
 abbrev pub Encodes : Bool → List ℕ → List ℕ → List ℕ → Result ℕ Error → Type 0
-Encodes upper bytes old new result = MatchResult result
-    (λ n. (encode_refusal bytes (length old) ≡ None) × (n ≡ 2 * length bytes)
-    × (new ≡ with_front old (text upper bytes)))
-    (λ e. (encode_refusal bytes (length old) ≡ Some e) × (new ≡ old))
+Encodes upper bytes old new result = Fills (encode_refusal bytes (length old)) (λ digits. digits ≡ text upper bytes) old new result
 
 -- decoding that lends the written front of this much room: what the source spells, or the refusal
 abbrev pub DecodesFront : CheckCase → List ℕ → ℕ → Result (MutBor (List ℕ)) Error → Type 0

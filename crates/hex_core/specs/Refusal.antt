@@ -36,9 +36,13 @@ abbrev pub OwnedFailure : CheckCase → List ℕ → Error → Type 0
 OwnedFailure c s OutOfMemory = (length s % 2 ≡ 0) × (0 < length s)
 OwnedFailure c s e = source_refusal c s ≡ Some e
 
--- what encoding into this room refuses: a text whose length is no `usize`, then too little room
-abbrev pub encode_refusal : List ℕ → ℕ → Option Error
-encode_refusal bytes room =
-    if nat_le (2 ^ 64) (2 * length bytes) then Some Overflow
-    else if nat_lt room (2 * length bytes) then Some (OutputTooSmall (2 * length bytes))
+-- what writing so many bytes into this room refuses: a length that is no `usize`, then too little room
+abbrev pub room_refusal : ℕ → ℕ → Option Error
+room_refusal len room =
+    if nat_le (2 ^ 64) len then Some Overflow
+    else if nat_lt room len then Some (OutputTooSmall len)
     else None
+
+-- what encoding into this room refuses: its text has two digits for each byte
+abbrev pub encode_refusal : List ℕ → ℕ → Option Error
+encode_refusal bytes room = room_refusal (2 * length bytes) room

@@ -1,6 +1,7 @@
 -- The bytes of the second part stand behind those of the first.
 use Rattle.std.proofs.Common.{arith, rules, ◌≤◌, ◌++◌, ◌-◌, ◌/◌, ℕ, List, [], append-nil, length, length-append, take, drop}
 use Rattle.std.proofs.lemmas.Result.{MatchResult-from_err}
+use Rattle.hex_core.specs.declared.digit.CheckCase.TheVariants as policy
 use Rattle.hex_codec.proofs.StreamLemmas.{count-but}
 use Rattle.callers.proofs.PartsLemmas.{end-refused, feed-refused, parts-written, rest-long}
 use Rattle.callers.proofs.parts.decode_parts.Goals as goal
@@ -41,6 +42,5 @@ returns-in_err-finish c =
     let first = c.args.first.now in let second = c.args.second.now in
     let one = c.in_ok-front.ensures.feeds [] [] c.new-decoder.ensures.fresh in
     let two = c.in_ok-back.ensures.feeds first one.1.0 one.1.3 in
-    let both = end-refused _ (first ++ second) (length c.args.buffer.now) _ (c.in_err-finish.ensures (first ++ second) (one.1.0 ++ two.1.0) two.1.3) in
-    MatchResult-from_err c.from_residual-in_err-finish.result _ _ c.from_residual-in_err-finish.ensures.0 (λ _.
-    rw (c.in_ok-back.ensures.policy, c.in_ok-front.ensures.policy, c.new-decoder.ensures.policy) at both)
+    let odd = c.in_err-finish.ensures (first ++ second) (one.1.0 ++ two.1.0) two.1.3 in
+    MatchResult-from_err c.from_residual-in_err-finish.result _ _ c.from_residual-in_err-finish.ensures.0 (λ _. end-refused policy.None (first ++ second) (length c.args.buffer.now) _ odd)

@@ -1,12 +1,12 @@
 -- `read` reads, and then lends the front.
 use Rattle.hex_core.proofs.WalkKit.{refl, List, [], ◌∷◌, length, named, erased, Val, id⊢, GName, ftrue, flft, full_share, ‵, ◌⊛◌, some, later, Sq, prop, ◌$◌, ◌∵◌, !, qed, move, keep, drop, split, split3, join, fsplit, fsplit3, fjoin, feq_i, use1, use2, await, pick, suffices, frame, done, whole, sub, agg, stop, fld, hop, from, addr, and_then, no_more, enter, alloc_all, pass_all, look_in_at, get, get_in, sets, lft_new, lft_end, kept_f, sl_relend, BareSlice, u8, yes, no, owns, plain, mut_slice_of, shr_slice_of, ShrSlice, MutSlice, Room, shr_slice_vals, shr_slice_Tells, mut_slice_vals, mut_slice_Tells, nothing, heard, Goes-dropped, Goes-spent_slice, Stays, ends_at, says, stay_dropped, walk_of, proved, LendsAnswer}
 use Rattle.hex_core.proofs.Lent.{Known, Lent, Policy, calls, typed, vals}
+use Rattle.hex_core.proofs.SliceWalk.{fills_writes}
 use Rattle.hex_core.proofs.WriteWalk.{front_or_refusal}
 use Rattle.hex_codec.specs.contracts.group.Group as GR
 use Rattle.hex_codec.proofs.group.Group.TheLaws as GL
 use Rattle.hex_codec.specs.contracts.grouped.GroupFault as FR
 use Rattle.hex_codec.proofs.grouped.GroupFault.TheLaws as FL
-use Rattle.hex_codec.proofs.GroupLoan.{read_writes}
 use Rattle.hex_codec.specs.GroupCalls.{Reads, ReadsFront}
 use Rattle.hex_codec.specs.contracts.grouped.read_into as g
 use Rattle.hex_codec.proofs.grouped.read_into.Met as g_met
@@ -60,5 +60,5 @@ read_spec 𝓤 𝓛 𝓜 𝓡 wired =
     -- [the call's token is over; the token of the source; nothing; the number; the arguments at the end; what is said; what was kept; the locals]
     move ! (2 ∷ 5 ∷ []) $ drop ! $ heard ! (Reads case group s xs new u) (λ reads. move ! (3 ∷ []) $ fsplit ! $ drop ! $ fsplit ! $ fsplit ! $ fsplit ! $
     move ! (1 ∷ 2 ∷ 3 ∷ []) $ drop ! $ drop ! $ drop ! $ move ! (1 ∷ 4 ∷ 0 ∷ 3 ∷ []) $
-    front_or_refusal Fault _ _ _ _ 𝓛 _ _ _ _ _ _ _ _ ! 2 l κ₀ κ q₀ q α δ dst new (ReadsFront case group s (length xs)) u (read_writes case group s xs new u reads) rm
+    front_or_refusal Fault _ _ _ _ 𝓛 _ _ _ _ _ _ _ _ ! 2 l κ₀ κ q₀ q α δ dst new (ReadsFront case group s (length xs)) u (fills_writes _ _ xs new u reads) rm
     (λ n. addr ! (from ! (fld ! refl (hop ! (look_in_at ! 2 (sub ! 0 refl (whole !))) (stop !))))) ends))))))

@@ -1,7 +1,7 @@
 -- `encode_slice` encodes, and then lends the front.
 use Rattle.hex_core.proofs.WalkKit.{refl, Encodes, EncodesFront}
 use Rattle.hex_core.proofs.Lent.{Letters}
-use Rattle.hex_core.proofs.SliceWalk.{encode_writes}
+use Rattle.hex_core.proofs.SliceWalk.{fills_writes}
 use Rattle.hex_core.proofs.WriteWalk.{writes_and_lends}
 use Rattle.hex_core.proofs.backend.Backend.encode_into.Met as g_met
 use Rattle.hex_core.proofs.backend.Backend.encode_slice.Statement.{statement}
@@ -9,5 +9,5 @@ use Rattle.hex_core.proofs.backend.Backend.encode_slice.Code as code
 
 pub encode_slice_spec : {M : Type 1} → statement M
 encode_slice_spec 𝓤 𝓛 𝓜 𝓡 wired =
-    writes_and_lends Letters Encodes EncodesFront encode_writes 𝓤 𝓛 𝓜 𝓡 (λ κs x f. refl) (λ x. tt) _ _
+    writes_and_lends Letters Encodes EncodesFront (λ upper s old. fills_writes _ _ old) 𝓤 𝓛 𝓜 𝓡 (λ κs x f. refl) (λ x. tt) _ _
     (code.unfolded 𝓤 𝓛.H 𝓜 𝓡 wired) (g_met.met 𝓤 𝓛 𝓜 𝓡 (code.calls-hex_core::backend::Backend::encode_into 𝓡.env wired))
