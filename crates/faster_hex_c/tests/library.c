@@ -212,8 +212,17 @@ static struct memory guarded(void) {
     return memory;
 }
 
+/* Makes a call that its model refuses once more, where no byte of its destination can be written: one
+ * that stores, even if it puts back what stood there, ends the program. */
+static void refuses_unwritten(const struct job *it, struct memory to) {
+    if (model(it).status == FASTER_HEX_DONE) return;
+    mprotect(to.start, to.size, PROT_READ);
+    run(it);
+    mprotect(to.start, to.size, PROT_READ | PROT_WRITE);
+}
+
 /* Source and destination each at the front or at the end of guarded pages; the source's can't be
- * written while the call runs. */
+ * written while the call runs, nor the destination's where it refuses. */
 static void between_guards(struct memory from, struct memory to) {
     for (size_t len = 0; len <= LONGEST; len++) {
         bool holds = true;
@@ -226,6 +235,7 @@ static void between_guards(struct memory from, struct memory to) {
             fill(&it, src, turn);
             mprotect(from.start, from.size, PROT_READ);
             holds = agrees(&it, to) && holds;
+            refuses_unwritten(&it, to);
             mprotect(from.start, from.size, PROT_READ | PROT_WRITE);
         }
         count(holds);

@@ -10,7 +10,7 @@ use std::{error, fmt};
 /// A refused slice call leaves its whole destination as it was, and a refused append its string's
 /// text. Each call's documentation says which cases it returns, and in which order it tests them.
 ///
-/// [`Display`](fmt::Display) prints exactly these texts:
+/// [`Display`](fmt::Display) prints exactly these texts, which a width or a fill does not change:
 ///
 /// | Case | Text |
 /// |---|---|

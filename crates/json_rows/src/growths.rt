@@ -74,7 +74,7 @@ pub fn read_row(
     } else {
         reading.is_so(&refusing)
     };
-    Some(is_so && refusing.asked() == asked)
+    Some(is_so && refusing.is_settled(asked))
 }
 
 // Whether a writing gives this text at its exact length, or wants memory where that is none.
@@ -99,5 +99,5 @@ pub fn text_row(
     let is_written = has_bytes(wanted, b"no-memory", &mut buffers.wanted);
     let want = is_written.then_some(buffers.wanted.as_slice());
     let is_so = is_text(text_of(&refusing, format, buffers.given.as_slice()), want);
-    Some(is_so && refusing.asked() == asked)
+    Some(is_so && refusing.is_settled(asked))
 }

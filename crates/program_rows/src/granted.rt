@@ -23,5 +23,5 @@ pub fn row(once: bool, row: Words<'_>, answer: Words<'_>, buffers: &mut Buffers)
     let (out, err) = (Vec::new(alloc), Vec::new(alloc));
     let ended = serve_in(&refusing, &[word], &mut source, out, err);
     let is_end = is_end(answer, &mut buffers.output, ended);
-    row.are_read() && is_end && refusing.asked() == asked
+    row.are_read() && is_end && refusing.is_settled(asked)
 }

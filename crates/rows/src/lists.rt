@@ -226,7 +226,7 @@ fn is_read_in<const N: usize>(
     let asked = growths(answer);
     let refusing = Refusing::new(alloc, given.granted());
     let got = digests::read_in::<_, N>(&refusing, given.src, given.case);
-    is_list(got, answer, bytes) && refusing.asked() == asked
+    is_list(got, answer, bytes) && refusing.is_settled(asked)
 }
 
 // Whether the call that names no allocator does so, where memory is not wanted.

@@ -68,10 +68,10 @@ pub fn is_array_read(given: Given<'_>, want: Answer<'_>) -> Option<bool> {
     }
 }
 
-// Whether a vector answers so.
+// Whether a vector answers so, in no more room than it needs.
 fn is_vector<A: Allocator + Drop>(got: Result<Vec<u8, A>, Error>, want: Answer<'_>) -> bool {
     match got {
-        Ok(bytes) => are_answer(bytes.as_slice(), want),
+        Ok(bytes) => { bytes.capacity() == bytes.len() && are_answer(bytes.as_slice(), want) }
         Err(e) => is_answer(e, want),
     }
 }
@@ -80,13 +80,13 @@ fn is_vector<A: Allocator + Drop>(got: Result<Vec<u8, A>, Error>, want: Answer<'
 fn is_read_by_case(alloc: Global, given: Given<'_>, want: Grown<'_>) -> bool {
     let refusing = Refusing::new(alloc, given.granted());
     let got = hex_decode_vec_with_case(&refusing, given.src, given.case);
-    is_vector(got, want.answer) && refusing.asked() == want.asked
+    is_vector(got, want.answer) && refusing.is_settled(want.asked)
 }
 
 // Whether the call that names none does so.
 fn is_read_plainly(alloc: Global, given: Given<'_>, want: Grown<'_>) -> bool {
     let refusing = Refusing::new(alloc, given.granted());
-    is_vector(hex_decode_vec(&refusing, given.src), want.answer) && refusing.asked() == want.asked
+    is_vector(hex_decode_vec(&refusing, given.src), want.answer) && refusing.is_settled(want.asked)
 }
 
 /// Returns whether each call of a vector answers so, where so many growths are granted.

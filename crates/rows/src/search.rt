@@ -80,11 +80,15 @@ pub fn all_cover(src: &[u8], case: CheckCase, answer: &mut Words<'_>) -> bool {
     true
 }
 
-/// `print REFUSAL`.
+/// `print REFUSAL`: the text, which a width leaves as it is.
 pub fn print_row(row: &mut Words<'_>, answer: &mut Words<'_>) -> bool {
     let error = refusal(row);
     let mut text: ArrayString<100> = ArrayString::new();
-    write!(text, "{error}").is_ok() && text.as_str().as_bytes() == answer.take_rest()
+    let mut padded: ArrayString<100> = ArrayString::new();
+    write!(text, "{error}").is_ok()
+        && write!(padded, "{error:>60}").is_ok()
+        && text.as_str() == padded.as_str()
+        && text.as_str().as_bytes() == answer.take_rest()
 }
 
 /// Returns whether `plans` answers the name of each plan, in their order.

@@ -82,7 +82,7 @@ pub fn is_string_written(alloc: Global, given: Given<'_>, want: Grown<'_>) -> bo
     } else {
         is_string(hex_string(&refusing, given.src), want.answer)
     };
-    is_written && refusing.asked() == want.asked
+    is_written && refusing.is_settled(want.asked)
 }
 
 // Whether the call that lends the suffix answers so.
