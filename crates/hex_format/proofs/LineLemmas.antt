@@ -6,11 +6,10 @@ use Rattle.std.proofs.lemmas.List.{drop-drop, drop_all, length_push, take_all, t
 use Rattle.std.proofs.lemmas.Bool.{cases_lt}
 use Rattle.std.proofs.lemmas.List.Splits.{length-slice_split, slice_split_first, slice_split_none}
 use Rattle.std.proofs.lemmas.List.Sums.{fails_before_first, prefix_len-le-length}
-use Rattle.std.proofs.lemmas.Slice.Zip.{AllZip-long}
 use Rattle.hex_core.specs.declared.digit.CheckCase.{CheckCase}
 use Rattle.hex_format.specs.declared.digests.Entry.{Entry}
 use Rattle.hex_format.specs.declared.digests.LineFault.{LineFault}
-use Rattle.hex_format.specs.Lists.{ClearBefore, ClearLines, FirstFault, LineIs, line_fault, lines_of, without_empty_end}
+use Rattle.hex_format.specs.Lists.{ClearBefore, ClearFirst, FirstFault, LineIs, line_fault, lines_of, without_empty_end}
 
 -- the test of a newline
 abbrev pub newline : ℕ → Bool
@@ -87,12 +86,12 @@ pub fault-here : (N : ℕ) (c : CheckCase) (s rest : List ℕ) (line : ℕ) (ent
 fault-here N c s rest line entries here after why step some r = record
     { before = r.done; here = here; after = after; clear = rw step at r.clear; count = r.count; fault = some }
 
--- the next line, where it has no fault, is one more such line
+-- where the lines before one have no fault, and it has none, the first line has none
+clear-first : (c : CheckCase) (n : ℕ) (s : List ℕ) (done : List (List ℕ)) (here : List ℕ) (after : List (List ℕ)) → ClearBefore c n s done (here ∷ after) → line_fault c n here ≡ None → ClearFirst c n s
+clear-first c n s [] here after clear none = record { first = here; rest = after; lines = clear.0; clear = none }
+clear-first c n s (line ∷ done) here after clear none = record { first = line; rest = done ++ here ∷ after; lines = clear.0; clear = clear.1.0 }
+
+-- where the next line has no fault, the first line has none
 pub clear-here : (N : ℕ) (c : CheckCase) (s rest : List ℕ) (line : ℕ) (entries : List (Entry N)) (here : List ℕ) (after : List (List ℕ))
-    → lines_of rest ≡ here ∷ after → line_fault c N here ≡ None → ReadSoFar c s rest line entries → ClearLines c N s (length entries + 1)
-clear-here N c s rest line entries here after step none r = record {
-  done = r.done ++ here ∷ [];
-  rest = after;
-  clear = clear-more c N s r.done here after (rw step at r.clear) none;
-  long = rw (length_push, AllZip-long (LineIs c) r.done entries r.entries_of);
-}
+    → lines_of rest ≡ here ∷ after → line_fault c N here ≡ None → ReadSoFar c s rest line entries → ClearFirst c N s
+clear-here N c s rest line entries here after step none r = clear-first c N s r.done here after (rw step at r.clear) none

@@ -70,22 +70,18 @@ pub record FirstFault (c : CheckCase) (n : ℕ) (s : List ℕ) (line : ℕ) (why
   pub count : line ≡ length before + 1
   pub fault : line_fault c n here ≡ Some why
 
--- a source has so many lines or more, and these first ones have no fault
-pub record ClearLines (c : CheckCase) (n : ℕ) (s : List ℕ) (count : ℕ) : Type 0 where
-  pub done : List (List ℕ)
+-- a source has a first line, and that has no fault
+pub record ClearFirst (c : CheckCase) (n : ℕ) (s : List ℕ) : Type 0 where
+  pub first : List ℕ
   pub rest : List (List ℕ)
-  pub clear : ClearBefore c n s done rest
-  pub long : length done ≡ count
+  pub lines : lines_of s ≡ first ∷ rest
+  pub clear : line_fault c n first ≡ None
 
--- why a source is not read behind so many entries: for its first line with a fault, or for want of
--- memory, which is asked for once the next line, too, is known to have none
-abbrev pub ReadFailureAt : CheckCase → ℕ → List ℕ → ℕ → ListFault → Type 0
-ReadFailureAt c n s count (Line line why) = FirstFault c n s line why
-ReadFailureAt c n s count OutOfMemory = ClearLines c n s (count + 1)
-
--- why a source is not read, behind some number of entries
+-- why a source is not read: for its first line with a fault, or for want of memory, which is not asked
+-- for before the first line is known to have none
 abbrev pub ReadFailure : CheckCase → ℕ → List ℕ → ListFault → Type 0
-ReadFailure c n s e = (count : ℕ) × ReadFailureAt c n s count e
+ReadFailure c n s (Line line why) = FirstFault c n s line why
+ReadFailure c n s OutOfMemory = ClearFirst c n s
 
 -- whether no line can end with a name: it is empty, or holds a newline
 abbrev pub is_bad_name : List ℕ → Bool

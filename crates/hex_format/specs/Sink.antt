@@ -1,7 +1,7 @@
 -- What puts do to what a sink shows.
 use Rattle.std.specs.Prelude.{◌≡◌, ℕ, zero, suc, ◌+◌, ◌<◌, ◌≤◌, List, [], ◌∷◌, ◌++◌, length, take, drop, Option, Result, Ok, Err, MatchResult, option_map, unwrap_or}
 use Rattle.std.specs.Borrow.{GName}
-use Rattle.std.specs.Io.KnownBytes.{Appends, Keeps}
+use Rattle.std.specs.Io.KnownBytes.{Appends}
 use Rattle.hex_format.specs.declared.sink.SinkFault.{SinkFault}
 
 -- what a sink shows: the bytes that it has taken, where it tells them; how many puts failed; and
@@ -51,10 +51,6 @@ Takes old new bs = Appends old.taken new.taken bs × (new.failures ≡ old.failu
 -- or they ended early: a beginning of bs was taken, one put failed, and not all of bs fits
 abbrev pub Stops : SinkState → SinkState → List ℕ → Type 0
 Stops old new bs = AppendsBeginning old new bs × (new.failures ≡ old.failures + 1) × (room old < length bs)
-
--- nothing was put
-abbrev pub PutsNothing : SinkState → SinkState → Type 0
-PutsNothing old new = Keeps old.taken new.taken × (new.failures ≡ old.failures) × (new.free ≡ old.free) × (new.loan ≡ old.loan)
 
 -- some puts in a row: at `Ok` they took all of bs, at `Err` they ended early
 abbrev pub Puts : {E : Type 0} → SinkState → SinkState → Result (Unit {0}) E → List ℕ → Type 0

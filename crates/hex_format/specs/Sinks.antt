@@ -1,5 +1,5 @@
 -- What the sinks of this crate show.
-use Rattle.std.specs.Prelude.{◌≡◌, ◌<◌, ℕ, ◌-◌, min, List, [], length, take, drop, Option, Some, None, IsSome, Result, MatchResult}
+use Rattle.std.specs.Prelude.{◌≡◌, ℕ, ◌-◌, ◌==◌, nat_lt, ◌&&◌, if◌then◌else◌, min, List, [], length, take, drop, Option, Some, None, IsSome, Result, Ok, Err, MatchResult, OnErr}
 use Rattle.std.specs.Borrow.{MutBor}
 use Rattle.std.specs.Io.KnownBytes.{Keeps}
 use Rattle.std.specs.declared.io.Error.{Error}
@@ -45,16 +45,12 @@ IsFreshOver contents writer sink = (writer_of sink ≡ writer) × (kept_error si
 abbrev pub fresh_state : MutBor (List ℕ) → SinkState
 fresh_state buf = record { taken = Some []; failures = 0; free = Some buf.now; loan = Some buf.ghost_name }
 
--- a slice's sink has taken nothing, and all of this buffer, which it is lent, is free
-abbrev pub IsFresh : SliceSink → MutBor (List ℕ) → Type 0
-IsFresh sink buf = (written_bytes sink ≡ []) × (free_len sink ≡ length buf.now) × (sink.buf.now ≡ buf.now) × (slice_state sink ≡ fresh_state buf)
-
--- a put into a slice's sink takes what fits; it is refused exactly where nothing is free and the piece
--- has some bytes, and takes nothing then
+-- a put into a slice's sink is refused where nothing is free and the piece has some bytes, and takes
+-- nothing then; else it takes what fits
 abbrev pub TakesWhatFits : SliceSink → SliceSink → Result ℕ SinkFault → List ℕ → Type 0
-TakesWhatFits old new result piece = MatchResult result
-    (λ n. (n ≡ min (length piece) (free_len old)) × (free_len new ≡ free_len old - n) × (0 < length piece → 0 < free_len old))
-    (λ _. (0 < length piece) × (free_len old ≡ 0) × (written_bytes new ≡ written_bytes old) × (free_len new ≡ 0))
+TakesWhatFits old new result piece =
+    (result ≡ (if free_len old == 0 && nat_lt 0 (length piece) then Err (record {}) else Ok (min (length piece) (free_len old))))
+    × OnErr result (written_bytes new ≡ written_bytes old)
 
 -- a put into a writer's sink is one put, by what its writer tells to hold
 abbrev pub PutsIntoWriter : {W : Type 0} → (W → Option (List ℕ)) → WriterSink W → WriterSink W → Result ℕ SinkFault → List ℕ → Type 0

@@ -35,15 +35,17 @@ pub record WroteBefore (c : CheckCase) (digits : List ℕ) (old new : SinkState)
   pub short : length chunk ≤ 8192
   pub wrote : Wrote c fed (Takes old new)
 
--- the answer for the digits that were read: at `Ok` they are all that there were, and the sink took
--- the bytes that they spell; where a read failed or the last one has no partner, those of the whole
--- pairs, and where a put failed a beginning of these; where they are refused for more, those of the
--- chunks before
+-- the answer for the digits that were read
 abbrev pub Decodes : CheckCase → List ℕ → Option (List ℕ) → SinkState → SinkState → Result ℕ StreamFault → Type 0
+-- at `Ok` they are all that there were, and the sink took the bytes that they spell
 Decodes c digits left old new (Ok count) = (bytes : List ℕ) × Spells c digits bytes × (count ≡ length bytes) × Takes old new bytes × IsAtEnd left
+-- where a read failed it took those of the whole pairs
 Decodes c digits left old new (Err Read) = Wrote c digits (Takes old new)
+-- where the last digit has no partner, too
 Decodes c digits left old new (Err (Codec OddLength)) = Wrote c digits (Takes old new) × RefusedFor c digits left OddLength
+-- where the digits are refused for more, those of the chunks before
 Decodes c digits left old new (Err (Codec e)) = WroteBefore c digits old new × RefusedFor c digits left e
+-- where a put failed, a beginning of those of the whole pairs
 Decodes c digits left old new (Err (Write _)) = Wrote c digits (Stops old new)
 
 -- some digits were read, and they were decoded
@@ -59,13 +61,15 @@ Finishes c fed written (Err _) = ⊥
 abbrev pub Ends : Decoder → Result ℕ StreamFault → Type 0
 Ends decoder result = (fed written : List ℕ) → HasFed decoder fed written → Finishes (policy_of decoder) fed written result
 
--- the answer for the bytes that were read: at `Ok` they are all that there were, and their number;
--- at `Ok` and where a read failed the sink took their text, and where a put failed a beginning of it;
--- no other refusal comes than that of more bytes than a `usize` counts
+-- the answer for the bytes that were read
 abbrev pub Encodes : Bool → List ℕ → Option (List ℕ) → SinkState → SinkState → Result ℕ StreamFault → Type 0
+-- at `Ok` they are all that there were, and their number, and the sink took their text
 Encodes upper bytes left old new (Ok count) = (count ≡ length bytes) × Takes old new (text upper bytes) × IsAtEnd left
+-- where a read failed it took their text
 Encodes upper bytes left old new (Err Read) = Takes old new (text upper bytes)
+-- where they are more than a `usize` counts, too; no other refusal comes
 Encodes upper bytes left old new (Err (Codec e)) = (e ≡ Overflow) × (2 ^ 64 ≤ length bytes) × Takes old new (text upper bytes)
+-- where a put failed, a beginning of it
 Encodes upper bytes left old new (Err (Write _)) = Stops old new (text upper bytes)
 
 -- some bytes were read, and they were encoded

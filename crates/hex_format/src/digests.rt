@@ -3,7 +3,7 @@
 ghost use Rattle.std.specs.Prelude.{◌≡◌, ◌≢◌, ◌≤◌, ◌*◌, ◌==◌, ◌&&◌, ◌||◌, false, [], None, Some, MatchOption, MatchResult, length, take};
 ghost use Rattle.hex_core.specs.Calls.{Answers};
 ghost use Rattle.hex_core.specs.Search.{first_invalid};
-ghost use Rattle.hex_format.specs.Lists.{LineIs, Lists, ReadFailureAt, fault_in, line_fault, mark};
+ghost use Rattle.hex_format.specs.Lists.{LineIs, Lists, ReadFailure, fault_in, line_fault, mark};
 ghost use Rattle.hex_format.specs.ListCalls.{ReadsList};
 
 use crate::lines::line_end;
@@ -123,7 +123,7 @@ fn read_lines<'a, A: Allocator, const N: usize>(
     requires { entries.old.items ≡ [] }
     ensures { MatchResult result
         (λ _. Lists case src.entry.now entries.new.items)
-        (λ e. ReadFailureAt case N src.entry.now (length entries.new.items) e) }
+        (λ e. ReadFailure case N src.entry.now e) }
 {
     let mut at = 0;
     let mut line = 1;

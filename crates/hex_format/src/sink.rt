@@ -122,11 +122,11 @@ pub struct SliceSink<'a> {
 }
 
 impl<'a> SliceSink<'a> {
-    ghost use Rattle.hex_format.specs.Sinks.{IsFresh, written_bytes};
+    ghost use Rattle.hex_format.specs.Sinks.{fresh_state, slice_state, written_bytes};
 
     /// A sink that has taken nothing, has all of `buf` free and counts no failure.
     pub fn new(buf: &'a mut [u8]) -> SliceSink<'a>
-        ensures { IsFresh result buf.entry }
+        ensures { slice_state result ≡ fresh_state buf.entry }
     {
         SliceSink {
             buf,

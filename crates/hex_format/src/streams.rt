@@ -1,9 +1,9 @@
 //! Decoding and encoding all that a reader gives, through constant memory.
 
-ghost use Rattle.std.specs.Prelude.{◌<◌, ◌-◌, ◌^◌, IsErr};
-ghost use Rattle.std.specs.Bool.{OnTrue};
+ghost use Rattle.std.specs.Prelude.{◌≡◌, ◌<◌, ◌-◌, ◌^◌, ◌↔◌, IsErrAnd, IsTrue};
 ghost use Rattle.std.specs.Io.{ReadsAtMost};
 ghost use Rattle.std.specs.Io.KnownBytes.{ReadConsumes};
+ghost use Rattle.std.specs.IoError.{error_kind};
 ghost use Rattle.hex_format.specs.Streams.{DecodesStream, EncodesStream, Ends};
 
 use crate::sink::{Sink, WriteFault, put_all};
@@ -155,7 +155,7 @@ fn read_again<R: Read>(reader: &mut R, buf: &mut [u8]) -> io::Result<usize>
 
 // Whether a read gave nothing, and only because it was interrupted.
 fn was_interrupted(answer: &io::Result<usize>) -> bool
-    ensures { OnTrue result (IsErr answer.now) }
+    ensures { IsTrue result ↔ IsErrAnd answer.now (λ e. error_kind e ≡ ErrorKind.Interrupted) }
 {
     matches!(answer, Err(error) if error.kind() == ErrorKind::Interrupted)
 }

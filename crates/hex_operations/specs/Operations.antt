@@ -7,7 +7,7 @@ use Rattle.hex_core.specs.declared.digit.CheckCase.TheVariants as policy
 use Rattle.hex_core.specs.declared.error.Error.{Error}
 use Rattle.hex_core.specs.Text.{Spells, lowercase, text, uppercase}
 use Rattle.hex_core.specs.Refusal.{source_refusal}
-use Rattle.hex_format.specs.Sink.{PutsNothing, SinkState, Stops, Takes}
+use Rattle.hex_format.specs.Sink.{SinkState, Stops, Takes}
 use Rattle.hex_operations.specs.declared.operation.Op.{Op}
 use Rattle.hex_operations.specs.declared.operation.Op.TheVariants.{Encode, EncodeUpper, Decode, DecodeLower, DecodeUpper}
 use Rattle.hex_operations.specs.declared.operation.RunFault.{RunFault}
@@ -53,15 +53,11 @@ op_refusal = by_op (λ upper input. None) (λ case input. source_refusal case (w
 abbrev pub NeedsMemory : List ℕ → Type 0
 NeedsMemory digits = (length digits % 2 ≡ 0) × (0 < length digits)
 
--- an operation needs memory: encoding never does
-abbrev pub OpNeedsMemory : Op → List ℕ → Type 0
-OpNeedsMemory = by_op (λ upper input. ⊥) (λ case input. NeedsMemory (without_newline input))
-
 -- what a fault of a run tells, by its outputs, its refusal and whether it needs memory
 abbrev pub FailureBy : (List ℕ → Type 0) → Option Error → Type 0 → SinkState → SinkState → RunFault → Type 0
-FailureBy is_output refusal needs old new (fault.Codec e) = (refusal ≡ Some e) × PutsNothing old new
+FailureBy is_output refusal needs old new (fault.Codec e) = (refusal ≡ Some e) × (new ≡ old)
 FailureBy is_output refusal needs old new (fault.Write why) = (output : List ℕ) × is_output output × Stops old new output
-FailureBy is_output refusal needs old new fault.OutOfMemory = needs × PutsNothing old new
+FailureBy is_output refusal needs old new fault.OutOfMemory = needs × (new ≡ old)
 
 -- a run, told by its outputs, its refusal and whether it needs memory: at `Ok` the sink took exactly
 -- an output more and no put failed, at `Err` what the fault tells
@@ -70,7 +66,7 @@ RunsBy is_output refusal needs old new result = MatchResult result
     (λ _. (output : List ℕ) × is_output output × Takes old new output)
     (λ why. FailureBy is_output refusal needs old new why)
 
--- encoding this input, and decoding it
+-- encoding this input, which is never refused and needs no memory, and decoding it
 abbrev pub RunsEncoding : Bool → List ℕ → SinkState → SinkState → Result (Unit {0}) RunFault → Type 0
 RunsEncoding upper input = RunsBy (λ output. output ≡ text upper input ++ 10 ∷ []) None ⊥
 
@@ -80,4 +76,4 @@ RunsDecoding case input =
 
 -- an operation's run over this input, with what the sink shows before and after it
 abbrev pub Runs : Op → List ℕ → SinkState → SinkState → Result (Unit {0}) RunFault → Type 0
-Runs op input = RunsBy (IsOutput op input) (op_refusal op input) (OpNeedsMemory op input)
+Runs = by_op RunsEncoding RunsDecoding

@@ -1,4 +1,4 @@
--- The failures of `fhex`: their statuses, their texts, and which one a run and a flush end in.
+-- The failures of `fhex`: their statuses, their texts, and which one a run ends in.
 use Rattle.std.specs.Prelude.{◌≡◌, ℕ, List, codes, Result, Ok, Err, IfErr}
 use Rattle.hex_core.specs.Message.{error_text}
 use Rattle.hex_operations.specs.declared.operation.RunFault.{RunFault}
@@ -27,8 +27,8 @@ failure_of (fault.Codec e) = Codec e
 failure_of (fault.Write why) = WriteFailed
 failure_of fault.OutOfMemory = OutOfMemory
 
--- how a program ends after a run and a flush: well only where both went well, and else with the
--- run's own failure, or the flush's
+-- how a program ends after a run: a fault of the run is its failure, and behind a run that went well
+-- it has none but a failed write
 abbrev pub EndsRun : Result (Unit {0}) RunFault → Result (Unit {0}) Failure → Type 0
 EndsRun (Ok done) ended = IfErr ended (λ failure. failure ≡ WriteFailed)
 EndsRun (Err why) ended = ended ≡ Err (failure_of why)

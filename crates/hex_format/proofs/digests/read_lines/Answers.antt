@@ -1,13 +1,12 @@
 -- The next line is read, or is the first one with a fault.
-use Rattle.std.proofs.Common.{rules, ◌≡◌, [], ◌∷◌, ◌++◌, arith}
+use Rattle.std.proofs.Common.{◌≡◌, [], ◌∷◌, ◌++◌, arith}
 use Rattle.hex_format.proofs.LineLemmas.{clear-here, fault-here, line-at, read-more}
 use Rattle.hex_format.proofs.digests.read_lines.Goals as goal
 
 pub returns-then-is_err : goal.returns-then-is_err
 returns-then-is_err g c =
     let step = line-at c.args.src.now c.loop-at.at c.line_end-end.result c.loop-at-test.true c.line_end-end.ensures.end in
-    let items : c.push.new.self.items ≡ c.loop-at.entries.items = search rules in
-    rw items (clear-here _ _ _ _ _ _ _ _ step c.in-Ok.ensures.0 c.loop-at.invariant.so_far)
+    clear-here _ _ _ _ _ _ _ _ step c.in-Ok.ensures.0 c.loop-at.invariant.so_far
 
 pub returns-in-Err : goal.returns-in-Err
 returns-in-Err g c =
