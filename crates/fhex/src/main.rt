@@ -1,13 +1,10 @@
 //! `fhex`: turns standard input into hex digits, or hex digits back into bytes.
 #![tactic(auto)]
 
-use hex_program::{Failure, Unretried, refuse, serve};
-use std::io::{BufWriter, ErrorKind};
+use hex_program::{Failure, refuse, serve_buffered};
+use std::env;
+use std::io::ErrorKind;
 use std::process::ExitCode;
-use std::{env, io};
-
-// How many bytes are kept back before standard output is written to.
-const OUTPUT_BUFFER: usize = 65_536;
 
 // The program's words, without its name.
 fn words(rt: &HostRuntime) -> Result<Vec<String>, Failure> {
@@ -30,19 +27,13 @@ fn run(rt: &HostRuntime, words: &[String]) -> Result<u8, Failure> {
             return Err(Failure::OutOfMemory);
         }
     }
-    let stdout = Unretried { inner: rt.stdout() };
-    let Ok(out) = BufWriter::with_capacity(rt.alloc(), OUTPUT_BUFFER, stdout) else {
-        return Err(Failure::OutOfMemory);
-    };
-    let (status, out, _) = serve(
+    let (status, _, _) = serve_buffered(
         rt.alloc(),
         texts.as_slice(),
         &mut rt.stdin(),
-        out,
+        rt.stdout(),
         rt.stderr(),
-    );
-    // A writer that is let go tries once more to write what a failed write left.
-    let _ = out.into_parts();
+    )?;
     Ok(status)
 }
 

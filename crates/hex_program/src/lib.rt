@@ -19,7 +19,7 @@ pub use crate::input::{INPUT_LIMIT, read_input};
 pub use crate::plain_run::VectorFault;
 pub use crate::plain_vectors::{PLAIN_VECTORS, PlainVector, Statement};
 pub use crate::program::{refuse, serve, serve_vectors};
-pub use crate::unretried::Unretried;
+pub use crate::unretried::{Unretried, serve_buffered};
 pub use crate::vector_run::run_vectors;
 pub use crate::vectors::{Call, VECTORS, Vector};
 pub use hex_operations::{Op, RunFault, run};

@@ -1,12 +1,19 @@
-//! A writer for behind a buffer, whose interrupted writes no buffer tries again.
+//! All of `fhex` with its output behind a buffer, which tries no write again.
 
-ghost use Rattle.std.specs.Prelude.{◌≢◌, IfErr};
+ghost use Rattle.std.specs.Prelude.{List, ℕ, ◌≡◌, ◌≢◌, IfErr, MatchResult, map};
 ghost use Rattle.std.specs.Io.{WritesAtMost};
-ghost use Rattle.std.specs.Io.KnownBytes.{WriteAppends};
+ghost use Rattle.std.specs.Io.KnownBytes.{WriteAppends, append_known};
 ghost use Rattle.std.specs.IoError.{error_kind};
+ghost use Rattle.hex_program.specs.Serving.{Serves};
 
+use crate::failure::Failure;
+use crate::program::serve;
+use std::alloc::Global;
 use std::io;
-use std::io::{ErrorKind, Write};
+use std::io::{BufWriter, ErrorKind, Read, Write};
+
+/// How many bytes of the output are kept back before it is written to.
+pub const OUTPUT_BUFFER: usize = 65_536;
 
 /// A writer that tells an interrupted write as another error. `BufWriter` tries an interrupted write
 /// of what it kept back again, and a direct one not.
@@ -33,4 +40,42 @@ impl<W: Write> Write for Unretried<W> {
     fn flush(&mut self) -> io::Result<()> {
         self.inner.flush()
     }
+}
+
+/// Runs [`serve`] with [`OUTPUT_BUFFER`] bytes of the output kept back. No write is tried again, and
+/// what a failed one left is let go.
+///
+/// # Errors
+///
+/// [`Failure::OutOfMemory`] where there is no memory for the buffer; nothing was read then.
+///
+/// ```rust
+/// let mut input: &[u8] = b"hello";
+/// let (out, err) = (Vec::new(rt.alloc()), Vec::new(rt.alloc()));
+/// let (status, out, _) = serve_buffered(rt.alloc(), &["encode"], &mut input, out, err)?;
+/// assert_eq!(rt; status, 0);
+/// assert_eq!(rt; out.as_slice(), b"68656c6c6f\n".as_slice());
+/// ```
+pub fn serve_buffered<R: Read, W: Write + Drop, E: Write + Drop>(
+    alloc: Global,
+    words: &[&str],
+    input: &mut R,
+    out: W,
+    err: E,
+) -> Result<(u8, W, E), Failure>
+    // What the writer holds at the end may lack some bytes that were kept back.
+    ensures { MatchResult result
+        (λ ended. (kept : List ℕ) × Serves (map (λ w. w.now) words.now)
+            (R.remaining input.old) (R.remaining input.new)
+            (W.contents out) (append_known (W.contents ended.1) kept) ended.0)
+        (λ failure. (failure ≡ Failure.OutOfMemory) × (R.remaining input.new ≡ R.remaining input.old)) }
+{
+    let inner = Unretried { inner: out };
+    let Ok(out) = BufWriter::with_capacity(alloc, OUTPUT_BUFFER, inner) else {
+        return Err(Failure::OutOfMemory);
+    };
+    let (status, out, err) = serve(alloc, words, input, out, err);
+    // A writer that is let go tries once more to write what a failed write left.
+    let (unretried, _) = out.into_parts();
+    Ok((status, unretried.inner, err))
 }
