@@ -66,8 +66,8 @@ pub fn serve_buffered<R: Read, W: Write + Drop, E: Write + Drop>(
     // What the writer holds at the end may lack some bytes that were kept back.
     ensures { MatchResult result
         (λ ended. (kept : List ℕ) × Serves (map (λ w. w.now) words.now)
-            (R.remaining input.old) (R.remaining input.new)
-            (W.contents out) (append_known (W.contents ended.1) kept) ended.0)
+        (R.remaining input.old) (R.remaining input.new)
+        (W.contents out) (append_known (W.contents ended.1) kept) ended.0)
         (λ failure. (failure ≡ Failure.OutOfMemory) × (R.remaining input.new ≡ R.remaining input.old)) }
 {
     let inner = Unretried { inner: out };

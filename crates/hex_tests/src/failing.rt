@@ -1,5 +1,7 @@
-//! A writer that fails with one error, and what is seen of an error.
+//! A writer that fails with one error, what is seen of an error, and writes that fail so behind
+//! `Unretried`.
 
+use hex_program::Unretried;
 use std::alloc::Global;
 use std::io::{self, ErrorKind, Write};
 
@@ -41,4 +43,27 @@ pub fn is_its_error(alloc: Global, error: &io::Error, code: i32) -> bool {
         Err(_) => false,
     };
     is_shown && error.kind() == ErrorKind::TimedOut && error.raw_os_error().is_none()
+}
+
+// Whether a write that fails otherwise is told with its own error, and a flush is passed on.
+fn is_passed_on(alloc: Global, code: i32) -> bool {
+    let inner = Failing { code, flushes: 0 };
+    let mut out = Unretried { inner };
+    let is_told = match out.write(b"a") {
+        Ok(_) => false,
+        Err(error) => is_its_error(alloc, &error, code),
+    };
+    let is_flushed = match out.flush() {
+        Ok(()) => code == 0,
+        Err(error) => code != 0 && is_its_error(alloc, &error, code),
+    };
+    is_told && is_flushed && out.inner.flushes == 1
+}
+
+// The code 11 is that of a write that would block.
+#[test]
+fn another_error_and_a_flush_are_passed_on(rt: HostRuntime) {
+    for code in [0, 5, 11, 28, 32] {
+        assert!(rt; is_passed_on(rt.alloc(), code));
+    }
 }

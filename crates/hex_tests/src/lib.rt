@@ -1,6 +1,6 @@
 //! Tests of what no row of `rows`, `json_rows` or `program_rows` and no example of a doc comment
 //! says: writes through an answer, digits in chunks, equal hashes, a writer that answers by a script,
-//! and one that is interrupted or fails.
+//! one that fails, and what is too long for a row.
 #![tactic(auto)]
 
 #[cfg(test)]
@@ -12,6 +12,6 @@ mod failing;
 #[cfg(test)]
 mod hashes;
 #[cfg(test)]
-mod interrupted;
+mod long;
 #[cfg(test)]
 mod writer_rows;

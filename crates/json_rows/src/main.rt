@@ -35,6 +35,8 @@ fn row(row: &mut Words<'_>, wanted: &mut Words<'_>, buffers: &mut Buffers) -> Op
         writings::write_row(false, row, wanted, buffers)
     } else if row.takes(b"write-array") {
         writings::write_row(true, row, wanted, buffers)
+    } else if row.takes(b"long") {
+        writings::long_row(row, wanted, buffers)
     } else if row.takes(b"print") {
         print_row(row, wanted, buffers)
     } else if row.takes(b"granted-read") {

@@ -1,4 +1,5 @@
-//! Rows of writings: of bytes, of none, and beside the reading of an array.
+//! Rows of writings: of bytes, of none, beside the reading of an array, and of long lists that are read
+//! again.
 
 use crate::places::Place;
 use crate::terms::{Buffers, has_bytes};
@@ -36,4 +37,16 @@ pub fn write_row(
         place.write(alloc, src)?
     };
     Some(is_json(alloc, got, &buffers.wanted))
+}
+
+/// Returns whether `long PLACE COUNT` answers so: `alike` where so many bytes are written, and read as
+/// they were.
+pub fn long_row(row: &mut Words<'_>, wanted: &mut Words<'_>, buffers: &Buffers) -> Option<bool> {
+    let (place, alloc) = (Place::from_row(row), buffers.alloc);
+    let bytes = Vec::from_elem(alloc, 0xab, row.take_number()).ok()?;
+    let value = place.write(alloc, Some(bytes.as_slice()))?.ok()?;
+    let want = Ok(Some(bytes.as_slice()));
+    let is_read = place.reads(alloc, &value, want);
+    let is_within = place.reads_within::<{ usize::MAX }>(alloc, &value, want);
+    Some(wanted.takes(b"alike") && is_read && is_within)
 }

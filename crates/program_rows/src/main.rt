@@ -24,7 +24,9 @@ fn program_row(call: &[u8], row: Words<'_>, answer: Words<'_>, buffers: &mut Buf
     } else if is(call, b"tell") {
         served::tell_row(row, answer, buffers)
     } else if is(call, b"stream") {
-        streamed::row(row, answer, buffers)
+        streamed::row(false, row, answer, buffers)
+    } else if is(call, b"buffered") {
+        streamed::row(true, row, answer, buffers)
     } else if is(call, b"granted") {
         granted::row(false, row, answer, buffers)
     } else if is(call, b"refused") {

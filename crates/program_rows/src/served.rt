@@ -29,8 +29,8 @@ pub fn serve_row(row: Words<'_>, answer: Words<'_>, buffers: &mut Buffers) -> bo
     is_end(answer, &mut buffers.output, ended) && is_left && row.are_read()
 }
 
-/// `tell COUNT WORDS INPUT ROOM`: the status where the message is not flushed, and what of it is
-/// taken.
+/// `tell COUNT WORDS INPUT ROOM`: the status where the message is not flushed, what of it is taken, and
+/// how often it was to be flushed.
 pub fn tell_row(row: Words<'_>, answer: Words<'_>, buffers: &mut Buffers) -> bool {
     let (mut row, mut answer, alloc) = (row, answer, buffers.alloc);
     let count = row.take_number();
@@ -47,6 +47,7 @@ pub fn tell_row(row: Words<'_>, answer: Words<'_>, buffers: &mut Buffers) -> boo
     };
     let mut source = buffers.input.as_slice();
     let (got, _, err) = serve(alloc, words, &mut source, Vec::new(alloc), err);
-    let is_so = usize::from(got) == status && err.is_filled();
+    let flushes = answer.take_number();
+    let is_so = usize::from(got) == status && err.is_filled() && err.flushes == flushes;
     is_so && row.are_read() && answer.are_read()
 }

@@ -4,30 +4,39 @@ use std::io;
 use std::io::{ErrorKind, Read, Write};
 use test_kit::Words;
 
-/// Gives this many times one byte, then a newline and a failure where it is told to, and ends.
+/// Gives this many times one byte, then a newline and a failure where it is told to, and ends. A read
+/// behind its end fails.
 #[derive(Drop)]
 pub struct Repeated {
     byte: u8,
     left: usize,
     newline: bool,
     fails: bool,
+    failure: ErrorKind,
 }
 
 impl Repeated {
-    /// Reads `BYTE COUNT END`, where the last is `ends`, `newline` or `fails`.
+    /// Reads `BYTE COUNT END`, where the last is `ends`, `newline`, `fails` or `blocks`.
     pub fn read_from(row: &mut Words<'_>) -> Repeated {
         let byte = row.take_byte();
         let left = row.take_number();
         let newline = row.takes(b"newline");
-        let fails = !newline && row.takes(b"fails");
+        let blocks = !newline && row.takes(b"blocks");
+        let fails = blocks || (!newline && row.takes(b"fails"));
         if !newline && !fails {
             row.wants(b"ends");
         }
+        let failure = if blocks {
+            ErrorKind::WouldBlock
+        } else {
+            ErrorKind::Interrupted
+        };
         Repeated {
             byte,
             left,
             newline,
             fails,
+            failure,
         }
     }
 }
@@ -41,9 +50,10 @@ impl Read for Repeated {
         }
         if self.left == 0 && self.fails {
             self.fails = false;
-            return Err(io::Error::from(ErrorKind::Interrupted));
+            return Err(io::Error::from(self.failure));
         }
         let n = self.left.min(buf.len());
+        self.fails = self.fails || n == 0;
         buf[..n].fill(self.byte);
         self.left -= n;
         Ok(n)
@@ -84,8 +94,8 @@ impl<'a> Output<'a> {
     }
 }
 
-/// Takes this many bytes, one a write, and then fails once, or takes nothing where it is stuck. It
-/// compares what it takes with what is wanted, and counts it and how often it was flushed.
+/// Takes this many bytes, one a write, and then fails once, or first takes nothing where it is stuck.
+/// It compares what it takes with what is wanted, and counts it and how often it was flushed.
 #[derive(Drop)]
 pub struct Narrow<'a> {
     /// How often it was flushed.
@@ -101,7 +111,7 @@ pub struct Narrow<'a> {
 
 impl<'a> Narrow<'a> {
     /// Reads how many bytes are taken: a number, `all`, `unflushed` for all and a flush that fails,
-    /// or `stuck` for none and no error.
+    /// or `stuck` for none and no error in the first write.
     pub fn read_from(row: &mut Words<'_>, wanted: Output<'a>) -> Narrow<'a> {
         let stuck = row.takes(b"stuck");
         let flush_fails = !stuck && row.takes(b"unflushed");
@@ -143,6 +153,7 @@ impl<'a> Write for Narrow<'a> {
             return Ok(0);
         };
         if self.stuck {
+            self.stuck = false;
             return Ok(0);
         }
         self.is_other = self.is_other || !self.wanted.has(self.taken, *byte);

@@ -27,7 +27,7 @@ fn repeats(pattern: &[u8], place: usize, piece: &[u8]) -> bool {
 }
 
 // A reader of some bytes again and again, with another byte at one place. It is interrupted `halts`
-// times before each read, and behind its last byte it fails once if `fails` is true.
+// times before each read, and behind its last byte it would block once if `fails` is true.
 #[derive(Drop)]
 struct Giving<'a> {
     pattern: &'a [u8],
@@ -86,7 +86,7 @@ impl Read for Giving<'_> {
         let count = buf.len().min(self.every).min(self.len - self.place);
         if self.place == self.len && self.fails && !self.has_failed {
             self.has_failed = true;
-            return Err(io::Error::from(ErrorKind::Other));
+            return Err(io::Error::from(ErrorKind::WouldBlock));
         }
         for i in 0..count {
             buf[i] = self.byte(self.place.wrapping_add(i));
