@@ -42,5 +42,5 @@ returns g c =
     let before = g.R.Read.remaining c.args.input.now in let left = g.R.Read.remaining c.decode_stream.new.reader in
     let sink = c.decode_stream.new.sink in
     let all = received (record { ref_ptr = c.args.buffer.ref_ptr; ghost_name = _; now = c.args.buffer.now }) sink before left c.decode_stream.result
-    (subst (λ start. DecodesStream policy.None before left start (slice_state sink) c.decode_stream.result) c.new-sink.ensures.3 c.decode_stream.ensures) in
+    (subst (λ start. DecodesStream policy.None before left start (slice_state sink) c.decode_stream.result) c.new-sink.ensures c.decode_stream.ensures) in
     subst (λ new. ReadsDigits before left c.args.buffer.now new c.decode_stream.result) (search (rules, all.1)) all.0
