@@ -33,8 +33,8 @@ pub record ServesOp (op : Op) (left left' held held' : Option (List ℕ)) (statu
   pub refused : status ≡ 1 → Refused op left left' held held'
   pub statuses : (status ≡ 0) ⊎ (status ≡ 1) ⊎ (status ≡ 3)
 
--- the program, by its words: an operation; the stored vectors, for which nothing is read; or nothing
--- that there is, and then nothing was read, and nothing was written to the output
+-- the program, by its words: an operation; the stored vectors, for which nothing is read; or words
+-- that name nothing, for which nothing is read or written to the output
 pub record Serves (words : List (List ℕ)) (left left' held held' : Option (List ℕ)) (status : ℕ) : Type 0 where
   pub operation : (op : Op) → op_of_words words ≡ Some op → ServesOp op left left' held held' status
   pub vectors : words ≡ codes "vectors" ∷ [] → left' ≡ left
