@@ -1,5 +1,5 @@
 -- What a counted source shows, and what its calls change of that.
-use Rattle.std.specs.Prelude.{◌≡◌, ℕ, ◌+◌, ◌-◌, ◌*◌, ◌/◌, ◌<◌, ◌≤◌, List, length, min, MatchOption, Option, Some, None}
+use Rattle.std.specs.Prelude.{◌≡◌, ℕ, ◌+◌, ◌-◌, ◌*◌, ◌/◌, ◌<◌, ◌≤◌, List, length, min, Option, Some, None}
 use Rattle.hex_core.specs.declared.digit.CheckCase.{CheckCase}
 use Rattle.hex_core.specs.Search.{AllValid, Steps, covering_to, first_invalid, steps, tested_blocks}
 
@@ -39,13 +39,6 @@ steps_in p = steps p.policy p.source
 abbrev pub covering_in : ProbeState → ℕ
 covering_in p = covering_to p.block (length p.source) (invalid_in p)
 
--- looking at so many bytes behind a front that is valid: each byte up to the source's first invalid
--- one is one look, or each of them is, and they are valid too
-abbrev pub LooksAt : ℕ → ℕ → ProbeState → ProbeState → Option ℕ → Type 0
-LooksAt start count old new result = MatchOption result
-    (ValidIn old 0 (start + count) × Adds count 0 old new)
-    (λ i. (i < start + count) × (invalid_in old ≡ Some i) × Adds (i + 1 - start) 0 old new)
-
 -- where the looks begin, in a source of this length with this first invalid byte: at the block of
 -- that byte, or behind the whole blocks
 abbrev pub looks_behind : ℕ → Option ℕ → ℕ
@@ -54,10 +47,3 @@ looks_behind len None = 64 * tested_blocks len
 
 abbrev pub looks_from : ProbeState → ℕ
 looks_from p = looks_behind (length p.source) (invalid_in p)
-
--- testing so many blocks behind a front of blocks that is valid: it ends at the block where the looks
--- begin, with all the tests that there are, or each of them was one test, and they are valid too
-abbrev pub TestsAt : ℕ → ℕ → ProbeState → ProbeState → Option ℕ → Type 0
-TestsAt first count old new result = MatchOption result
-    (ValidIn old 0 (64 * (first + count)) × Adds 0 count old new)
-    (λ i. ValidIn old 0 (64 * i) × (64 * i ≡ looks_from old) × (first ≤ (steps_in old).tests) × Adds 0 ((steps_in old).tests - first) old new)

@@ -1,8 +1,7 @@
 //! Counted sources, and the search for the first invalid byte through their counted calls.
 
 ghost use Rattle.std.specs.Prelude.{◌≡◌, ℕ, None, ◌+◌, ◌*◌, ◌/◌, ◌^◌, ◌<◌, ◌≤◌, ◌↔◌, IsTrue, length, slice_index};
-ghost use Rattle.hex_core.specs.Probe.{Adds, LooksAt, ProbeState, TestsAt, ValidIn, covering_in, invalid_in, looks_from, steps_in};
-ghost use Rattle.hex_core.specs.Search.{tested_blocks};
+ghost use Rattle.hex_core.specs.Probe.{Adds, ProbeState, ValidIn, covering_in, invalid_in, looks_from, steps_in};
 
 use crate::digit::CheckCase;
 use crate::tables::has_value;
@@ -68,28 +67,6 @@ pub trait Probe {
         ensures counted { Adds 0 1 (state self.old) (state self.new) };
 }
 
-// How many blocks are tested in a run: with a branch back behind each of them, a source that only the
-// second cache holds took a sixth longer, and a third with vectors of 32 bytes.
-const TEST_RUN: usize = 4;
-
-// Tests so many whole blocks from block `first` on, up to the first one that does not pass.
-#[inline(always)]
-fn test_at<P: Probe>(p: &mut P, first: usize, count: usize) -> Option<usize>
-    requires block { (P.state p.old).block ≡ 64 }
-    requires valid { ValidIn (P.state p.old) 0 (64 * first) }
-    requires inside { first + count ≤ tested_blocks (length (P.state p.old).source) }
-    requires reachable { length (P.state p.old).source < 2 ^ 64 }
-    requires countable { (P.state p.old).tests + count < 2 ^ 64 }
-    ensures { TestsAt first count (P.state p.old) (P.state p.new) result }
-{
-    for block in 0..count {
-        if !p.test(SEARCH_BLOCK * (first + block), SEARCH_BLOCK) {
-            return Some(first + block);
-        }
-    }
-    None
-}
-
 // Tests the whole blocks in order, and returns where the looks begin: at the first block that does
 // not pass, or behind the last one.
 #[inline(always)]
@@ -102,38 +79,12 @@ fn test_blocks<P: Probe>(p: &mut P) -> usize
     ensures counted { Adds 0 (steps_in (P.state p.old)).tests (P.state p.old) (P.state p.new) }
 {
     let whole = p.len() / SEARCH_BLOCK;
-    let mut at = 0;
-    while whole - at >= TEST_RUN {
-        if let Some(i) = test_at(p, at, TEST_RUN) {
-            return SEARCH_BLOCK * i;
-        }
-        at += TEST_RUN;
-    }
-    match test_at(p, at, whole - at) {
-        Some(i) => SEARCH_BLOCK * i,
-        None => SEARCH_BLOCK * whole,
-    }
-}
-
-// How many bytes are looked at in a run: a branch back behind each of them takes half of the time.
-const LOOK_RUN: usize = 16;
-
-// Looks at so many bytes from `start` on, up to the first one without a value.
-#[inline(always)]
-fn look_at<P: Probe>(p: &mut P, start: usize, count: usize) -> Option<usize>
-    requires valid { ValidIn (P.state p.old) 0 start }
-    requires inside { start + count ≤ length (P.state p.old).source }
-    requires reachable { start + count < 2 ^ 64 }
-    requires countable { (P.state p.old).looks + count < 2 ^ 64 }
-    ensures { LooksAt start count (P.state p.old) (P.state p.new) result }
-{
-    let case = p.case();
-    for i in 0..count {
-        if !has_value(p.look(start + i), case) {
-            return Some(start + i);
+    for block in 0..whole {
+        if !p.test(SEARCH_BLOCK * block, SEARCH_BLOCK) {
+            return SEARCH_BLOCK * block;
         }
     }
-    None
+    SEARCH_BLOCK * whole
 }
 
 // Looks at byte after byte from `start` on, up to the first one without a value. It makes at most
@@ -146,15 +97,13 @@ fn look_from<P: Probe>(p: &mut P, start: usize) -> Option<usize>
     ensures place { result ≡ invalid_in (P.state p.old) }
     ensures counted { Adds (steps_in (P.state p.old)).looks 0 (P.state p.old) (P.state p.new) }
 {
-    let len = p.len();
-    let mut at = start;
-    while len - at >= LOOK_RUN {
-        if let Some(i) = look_at(p, at, LOOK_RUN) {
+    let case = p.case();
+    for i in start..p.len() {
+        if !has_value(p.look(i), case) {
             return Some(i);
         }
-        at += LOOK_RUN;
     }
-    look_at(p, at, len - at)
+    None
 }
 
 /// Returns the first place of the source whose byte has no value under the policy, from 0 and in

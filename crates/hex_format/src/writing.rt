@@ -1,6 +1,6 @@
 //! Writing digest lists.
 
-ghost use Rattle.std.specs.Prelude.{◌≡◌, ◌+◌, ◌-◌, ◌*◌, ◌^◌, ◌<◌, ◌≤◌, ◌++◌, ◌∷◌, [], length};
+ghost use Rattle.std.specs.Prelude.{◌≡◌, ◌-◌, ◌^◌, ◌<◌, ◌++◌, ◌∷◌, [], length};
 ghost use Rattle.hex_core.specs.Text.{text};
 ghost use Rattle.hex_format.specs.Sink.{Puts};
 ghost use Rattle.hex_format.specs.ListCalls.{WritesList};
@@ -8,10 +8,6 @@ ghost use Rattle.hex_format.specs.Lists.{first_bad_name, is_bad_name, line_of, l
 
 use crate::digests::Entry;
 use crate::{Hex, HexFlags, Sink, WriteFault, put_all};
-use hex_core::Backend;
-
-// Up to how many bytes a digest has whose digits and mark are put at once.
-const SHORT_DIGEST: usize = 64;
 
 /// Why a list was not written to its end.
 #[derive(Clone, Copy, Debug, PartialEq, Eq)]
@@ -105,18 +101,7 @@ fn mark_of(binary: bool) -> u8
     if binary { b'*' } else { b' ' }
 }
 
-// Writes the text of a digest, a space and the mark into the front of the buffer, and returns it.
-fn front_text<'b>(digest: &[u8], binary: bool, upper: bool, buffer: &'b mut [u8]) -> &'b [u8]
-    requires { 2 * length digest.now + 2 ≤ length buffer.old }
-    ensures { result.now ≡ text upper digest.now ++ (32 ∷ mark binary ∷ []) }
-{
-    let end = 2 * digest.len();
-    Backend::plain().encode(digest, &mut buffer[..end], upper);
-    buffer[end..end + 2].copy_from_slice(&[b' ', mark_of(binary)]);
-    &buffer[..end + 2]
-}
-
-// Puts the text of a digest, a space and the mark: one put where the digest is short.
+// Puts the text of a digest, a space and the mark.
 fn put_front<S: Sink>(
     digest: &[u8],
     binary: bool,
@@ -127,10 +112,6 @@ fn put_front<S: Sink>(
     ensures { Puts (S.state sink.old) (S.state sink.new) result
         (text upper digest.now ++ (32 ∷ mark binary ∷ [])) }
 {
-    if digest.len() <= SHORT_DIGEST {
-        let mut buffer = [0; 2 * SHORT_DIGEST + 2];
-        return put_all(sink, front_text(digest, binary, upper, &mut buffer));
-    }
     let flags = HexFlags {
         upper,
         ..HexFlags::default()

@@ -1,23 +1,25 @@
-use Rattle.std.proofs.Common.{◌≡◌, ◌+◌, ◌-◌, ◌*◌, ◌/◌, refl, subst, arith}
+use Rattle.std.proofs.Common.{◌≡◌, ◌+◌, ◌*◌, ◌/◌, refl, arith}
 use Rattle.std.proofs.lemmas.Bool.Decides.{nat_tests}
-use Rattle.hex_core.specs.Probe.{Adds, ValidIn, looks_from, steps_in}
+use Rattle.hex_core.specs.Probe.{ValidIn}
 use Rattle.hex_core.proofs.ProbeLemmas.{adds_then, valid_same}
-use Rattle.hex_core.proofs.SearchLemmas.{stops_at_end}
-use Rattle.hex_core.proofs.search.test_blocks.Given as given
+use Rattle.hex_core.proofs.SearchLemmas.{stops_at_block, stops_at_end}
 use Rattle.hex_core.proofs.search.test_blocks.Goals as goal
 
--- behind all blocks, where each passed
-at_end : (g : given.Over) (c : goal.In-None g) → (64 * (c.len-whole.result / 64) ≡ looks_from (g.P.Probe.state c.args.p.now)) × Adds 0 (steps_in (g.P.Probe.state c.args.p.now)).tests (g.P.Probe.state c.args.p.now) (g.P.Probe.state c.test_at-2.new.p)
-at_end g c =
-    let p = g.P.Probe.state c.args.p.now in let q = g.P.Probe.state c.loop-at.p in
-    let whole = (c.len-whole.result / 64) in let kept = c.loop-at.invariant in
-    let all : c.loop-at.at + (whole - c.loop-at.at) ≡ whole = omega (arith, kept.inside) in
-    let valid = (valid_same p q 0 (64 * whole) kept.counted.2).0 (subst (λ n. ValidIn q 0 (64 * n)) all c.in-None.ensures.0) in
-    let stops = stops_at_end p.policy p.source whole _ refl (grind (arith, nat_tests)) valid in
-    (stops.0, adds_then p q (g.P.Probe.state c.test_at-2.new.p) 0 c.loop-at.at 0 (whole - c.loop-at.at) 0 _ refl (omega (arith, stops.1, all)) kept.counted c.in-None.ensures.1)
+pub returns-then-not-test : goal.returns-then-not-test
+returns-then-not-test g c =
+    let p = g.P.Probe.state c.args.p.now in let at = c.loop-block.block in let kept = c.loop-block.invariant in
+    let fails : ¬ ValidIn p (64 * at) (64 * at + 64) = λ valid.
+    let passed = c.test.ensures.valid.1 ((valid_same p (g.P.Probe.state c.loop-block.p) (64 * at) (64 * at + 64) kept.counted.2).1 valid) in cc in
+    let stops = stops_at_block p.policy p.source at (c.len-whole.result / 64) _ refl (grind (arith, nat_tests)) (omega arith) kept.valid fails in
+    record {
+      valid = kept.valid;
+      start = stops.0;
+      counted = adds_then p (g.P.Probe.state c.loop-block.p) (g.P.Probe.state c.test.new.self) 0 at 0 1 0 _ refl (omega (arith, stops.1)) kept.counted c.test.ensures.counted;
+    }
 
-pub returns-in-None-clause-start : goal.returns-in-None-clause-start
-returns-in-None-clause-start g c = (at_end g c).0
-
-pub returns-in-None-clause-counted : goal.returns-in-None-clause-counted
-returns-in-None-clause-counted g c = (at_end g c).1
+pub returns : goal.returns
+returns g c =
+    let p = g.P.Probe.state c.args.p.now in let kept = c.loop-block.invariant in
+    let all : c.loop-block.block ≡ c.len-whole.result / 64 = omega arith in
+    let stops = stops_at_end p.policy p.source c.loop-block.block _ refl (grind (arith, nat_tests)) kept.valid in
+    record { valid = rw (← all) kept.valid; start = rw (← all) stops.0; counted = rw stops.1 kept.counted }

@@ -14,4 +14,4 @@ pub returns : goal.returns
 returns g c =
     Puts-then _ _ _ _ _ _
     (rw (c.default.ensures, c.new.ensures, frame-plain (record plain_flags { upper = c.args.upper }) c.args.digest.now refl refl refl) at c.in_ok-write_to.ensures)
-    (rw c.mark_of.ensures at c.put_all-2.ensures)
+    (rw c.mark_of.ensures at c.put_all.ensures)
