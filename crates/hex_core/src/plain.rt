@@ -12,7 +12,7 @@ use crate::blocks::decode::{decode_four, decode_long, decode_one, decode_three, 
 use crate::blocks::encode::{encode_one, encode_two};
 use crate::digit::CheckCase;
 use crate::kernel::{encode_apart, encode_blocks};
-use crate::scalar::{check_by_table, decode_by_table, encode_by_table};
+use crate::scalar::{check_by_table, encode_by_table};
 
 /// Returns whether every byte of `src` has a value under `case`.
 #[inline(always)]
@@ -85,7 +85,9 @@ fn decode_short(src: &[u8], dst: &mut [u8], case: CheckCase) -> bool
 {
     match src.len() {
         8..16 => decode_two::<8, 4>(src, dst, case),
-        _ => decode_by_table(src, dst, case),
+        4..8 => decode_two::<4, 2>(src, dst, case),
+        2..4 => decode_one::<2, 1>(src, dst, case),
+        _ => true,
     }
 }
 

@@ -198,6 +198,26 @@ pub trait Pack<const N: usize, const HALF: usize> {
         ensures { result ≡ packed v.entry };
 }
 
+impl Pack<2, 1> for Lanes {
+    #[inline(always)]
+    fn pack(v: u8x2, case: CheckCase) -> u8x1
+        requires { AreSmall v }
+        ensures { result ≡ packed v }
+    {
+        pair_bytes(u16x1::from_le_bytes(v), case)
+    }
+}
+
+impl Pack<4, 2> for Lanes {
+    #[inline(always)]
+    fn pack(v: u8x4, case: CheckCase) -> u8x2
+        requires { AreSmall v }
+        ensures { result ≡ packed v }
+    {
+        pair_bytes(u16x2::from_le_bytes(v), case)
+    }
+}
+
 impl Pack<8, 4> for Lanes {
     #[inline(always)]
     fn pack(v: u8x8, case: CheckCase) -> u8x4
