@@ -1,14 +1,12 @@
 -- Lengths of grouped texts, and what reading one needs.
-use Rattle.std.proofs.Common.{◌≡◌, inl, inr, ℕ, zero, suc, ◌+◌, ◌-◌, ◌*◌, ◌/◌, ◌%◌, ◌<◌, ◌≤◌, ◌==◌, sym, ap, ◌∙◌, arith, Some, None, List, length, take, drop, length-append, length-drop}
+use Rattle.std.proofs.Common.{◌≡◌, inl, inr, ℕ, zero, suc, ◌+◌, ◌-◌, ◌*◌, ◌/◌, ◌%◌, ◌<◌, ◌≤◌, ◌==◌, sym, ap, ◌∙◌, arith, Some, None}
 use Rattle.std.proofs.lemmas.Bool.{cases_lt, eq-eqb, eqb-true, ne_eqb}
 use Rattle.std.proofs.lemmas.Bool.Decides.{nat_tests}
-use Rattle.std.proofs.lemmas.List.{length-take-le}
 use Rattle.std.proofs.lemmas.Nat.{div-add-mod', div-mul-add, le-div, mod-mul-add, mod_below}
-use Rattle.std.proofs.Math.Nat.{add-div_left, div-eq_of_lt, div-mul-le_self, mul-div_cancel, zero-div, zero-mod}
+use Rattle.std.proofs.Math.Nat.{div-le_self, div-mul-le_self, zero-div, zero-mod}
 use Rattle.hex_core.proofs.PositionLemmas.{least_is, least_none, least_told}
 use Rattle.hex_codec.specs.Grouped.{piece_count}
-use Rattle.hex_codec.specs.GroupedText.{byte_count, digits_in, grouped_len, refusal_of_count}
-use Rattle.hex_codec.proofs.PartLemmas.{parted, unparted}
+use Rattle.hex_codec.specs.GroupedText.{byte_count, grouped_len, refusal_of_count}
 
 -- ---- lengths
 
@@ -55,6 +53,10 @@ module _ (every : ℕ) where
     | inr h ↦ let none : n ≡ 0 = omega arith in rw (none, zero-div every, zero-mod every) (omega arith)
   ]
 
+  -- at most three bytes for each, and one fewer
+  pub len-most : (n : ℕ) → 0 < every → grouped_len every n ≤ 3 * n - 1
+  len-most n pos = omega (arith, len-closed n pos, div-le_self (n - 1) every)
+
   -- more bytes have a longer text
   pub rising : (k n : ℕ) → 0 < every → k < n → grouped_len every k < grouped_len every n
   rising k n pos h =
@@ -73,42 +75,6 @@ module _ (every : ℕ) where
   -- what a number of bytes tells of the length
   pub count-told : (len n : ℕ) → byte_count every len ≡ Some n → grouped_len every n ≡ len
   count-told len n e = eqb-true (grouped_len every n) len (least_told (λ k. grouped_len every k == len) (len + 1) n e).here
-
-  -- ---- digits
-
-  -- each byte of a text is a digit, but one of each whole part
-  digits-fuel : (fuel : ℕ) (s : List ℕ) → length s ≤ fuel → length (digits_in every s) + length s / (2 * every + 1) ≡ length s
-  digits-fuel zero s fits = omega (arith, ap length (unparted every s (omega arith)).0, div-eq_of_lt {n = length s} {m = 2 * every + 1} (omega arith))
-  digits-fuel (suc fuel) s fits = elim (cases_lt (length s) (2 * every + 1)) [
-    | inl short ↦ omega (arith, ap length (unparted every s (omega arith)).0, div-eq_of_lt short)
-    | inr long ↦
-        let line = 2 * every + 1 in
-        let left = length-drop line s in
-        let cut = ap length (parted every s (omega arith)).digits ∙ length-append (take (2 * every) s) (digits_in every (drop line s)) in
-        let sum : length s ≡ line + length (drop line s) = omega (arith, left) in
-        let count = ap (λ n. n / line) sum ∙ add-div_left (length (drop line s)) {k = line} (omega arith) in
-        omega (arith, cut, length-take-le (2 * every) s (omega arith), digits-fuel fuel (drop line s) (omega (arith, left)), left, count)
-  ]
-
-  digits-of : (s : List ℕ) → length (digits_in every s) + length s / (2 * every + 1) ≡ length s
-  digits-of s = digits-fuel (length s) s (omega arith)
-
-  -- two for each byte
-  pub length-digits : (n : ℕ) (s : List ℕ) → 0 < every → length s ≡ grouped_len every n → length (digits_in every s) ≡ 2 * n
-  length-digits n s pos long = elim (cases_lt 0 n) [
-    | inl some ↦
-        let c = cut every n pos some in
-        let size = long ∙ len-cut n c in
-        let count = ap (λ k. k / (2 * every + 1)) size ∙ div-mul-add c.whole (2 * every + 1) (2 * c.last) (omega (arith, c.fits)) in
-        omega (arith, digits-of s, size, count, lines c.whole, c.sum)
-    | inr none ↦ omega (arith, digits-of s, long, len-closed n pos, div-eq_of_lt {n = n - 1} {m = every} (omega arith))
-  ]
-
-  -- and those of whole parts
-  pub even-digits : (count : ℕ) (s : List ℕ) → length s ≡ count * (2 * every + 1) → length (digits_in every s) ≡ 2 * (count * every)
-  even-digits count s whole =
-      let size : length s / (2 * every + 1) ≡ count = rw whole (mul-div_cancel count (omega arith)) in
-      omega (arith, digits-of s, whole, size, lines count)
 
 -- ---- texts that are read
 

@@ -1,14 +1,17 @@
--- The pieces of a list, and the texts of them.
-use Rattle.std.proofs.Common.{◌≡◌, ◌⊎◌, inl, inr, ℕ, zero, suc, ◌+◌, ◌-◌, ◌*◌, ◌/◌, ◌%◌, ◌<◌, ◌≤◌, Bool, refl, ap, ◌∙◌, arith, List, [], ◌∷◌, ◌++◌, length, take, drop, map, length-append, length-take, length-drop}
+-- The pieces of a list, and the grouped text of them.
+use Rattle.std.proofs.Common.{◌≡◌, ◌⊎◌, inl, inr, ℕ, zero, suc, ◌+◌, ◌-◌, ◌*◌, ◌/◌, ◌%◌, ◌<◌, ◌≤◌, Bool, refl, sym, ap, ◌∙◌, arith, List, [], ◌∷◌, ◌++◌, length, take, drop, map, append-nil, append_assoc, length-append, length-drop}
 use Rattle.std.proofs.Math.Nat.{add-div_left, add-mod_left, zero-div, zero-mod, div-eq_of_lt, mod-eq_of_lt}
+use Rattle.std.proofs.Math.Seq.{drop-append_seam, take-append_seam}
 use Rattle.std.proofs.lemmas.Bool.{cases_lt}
-use Rattle.std.proofs.lemmas.List.{drop-drop}
-use Rattle.std.proofs.lemmas.Grind.{common_steps, flat_map-append}
-use Rattle.std.specs.List.{flat_map, join_by, range_with_len}
+use Rattle.std.proofs.lemmas.List.{drop-drop, drop_all, length-take-le, take_all}
+use Rattle.std.proofs.lemmas.Grind.{common_steps}
+use Rattle.std.proofs.lemmas.Nat.{div-add-mod'}
+use Rattle.std.specs.List.{join_by, range_with_len}
 use Rattle.hex_core.specs.Text.{text}
 use Rattle.hex_core.proofs.TextLemmas.{length-text}
 use Rattle.hex_codec.specs.declared.group.Group.{Group}
-use Rattle.hex_codec.specs.Grouped.{grouped, piece_count, piece_len, pieces, separated, separator}
+use Rattle.hex_codec.specs.Grouped.{grouped, piece_count, piece_len, pieces, separator}
+use Rattle.hex_codec.specs.GroupedText.{grouped_len}
 
 -- ---- pieces
 
@@ -43,68 +46,81 @@ pieces-next every bytes pos some =
     rw (count, first) (ap (λ l. take every bytes ∷ l) (map-next (λ i. take every (drop (i * every) bytes)) (λ i. take every (drop (i * every) back))
     (λ i. let at : (i + 1) * every ≡ every + i * every = grind arith in rw (at, drop-drop (i * every) every bytes) refl) 0 _))
 
--- whole pieces, and those behind them
-pub pieces-append : (every count : ℕ) (front back : List ℕ) → 0 < every → length front ≡ count * every
-    → pieces every (front ++ back) ≡ pieces every front ++ pieces every back
-pieces-append every zero [] back pos whole = rw (no_pieces every) refl
-pieces-append every zero (b ∷ front) back pos whole = absurd (omega arith)
-pieces-append every (suc count) front back pos whole =
-    let size : length front ≡ every + count * every = omega (arith, whole) in
-    let first : take every (front ++ back) ≡ take every front = grind (arith, common_steps, size, pos) in
-    let behind : drop every (front ++ back) ≡ drop every front ++ back = grind (arith, common_steps, size, pos) in
-    let rest = pieces-append every count (drop every front) back pos (omega (arith, length-drop every front, size)) in
-    let next = pieces-next every front pos (omega (arith, size, pos)) in
-    rw (pieces-next every (front ++ back) pos (omega (arith, length-append front back, size, pos)), first, behind, rest, next) refl
-
--- ---- their texts
-
--- the text of the first piece behind its separator, and those of the pieces behind it
-pub separated-next : (group : Group) (upper : Bool) (bytes : List ℕ) → 0 < length bytes
-    → separated group upper bytes ≡ separator group ∷ (text upper (take (piece_len group) bytes) ++ separated group upper (drop (piece_len group) bytes))
-separated-next group upper bytes some =
-    ap (flat_map (λ piece. separator group ∷ text upper piece)) (pieces-next (piece_len group) bytes group.is_group.0 some)
-
-pub separated-none : (group : Group) (upper : Bool) → separated group upper [] ≡ []
-separated-none group upper = ap (flat_map (λ piece. separator group ∷ text upper piece)) (no_pieces (piece_len group))
-
--- the grouped text is that without the first separator
-pub grouped-separated : (group : Group) (upper : Bool) (bytes : List ℕ) → grouped group upper bytes ≡ drop 1 (separated group upper bytes)
-grouped-separated group upper bytes = joined (pieces (piece_len group) bytes)
-  where
-    joined : (parts : List (List ℕ)) → join_by (text upper) (separator group ∷ []) parts ≡ drop 1 (flat_map (λ piece. separator group ∷ text upper piece) parts)
-    joined [] = refl
-    joined (piece ∷ parts) = refl
-
--- whole pieces, and what is behind them
-pub separated-append : (group : Group) (upper : Bool) (count : ℕ) (front back : List ℕ) → length front ≡ count * piece_len group
-    → separated group upper (front ++ back) ≡ separated group upper front ++ separated group upper back
-separated-append group upper count front back whole =
-    let shown : List ℕ → List ℕ = λ piece. separator group ∷ text upper piece in
-    let every = piece_len group in
-    ap (flat_map shown) (pieces-append every count front back group.is_group.0 whole) ∙ flat_map-append shown (pieces every front) (pieces every back)
-
 -- ---- lengths
 
--- a separator for each piece, and two digits for each byte
-length-separated : (group : Group) (upper : Bool) (fuel : ℕ) (bytes : List ℕ) → length bytes ≤ fuel
-    → length (separated group upper bytes) ≡ 2 * length bytes + piece_count (piece_len group) (length bytes)
-length-separated group upper fuel [] fits = rw (separated-none group upper, zero-div (piece_len group), zero-mod (piece_len group)) refl
-length-separated group upper zero (b ∷ bytes) fits = absurd (omega arith)
-length-separated group upper (suc fuel) (b ∷ bytes) fits =
-    let every = piece_len group in
-    let all = b ∷ bytes in
-    let back = drop every all in
-    let behind : length back ≡ length all - every = length-drop every all in
-    let rest = length-separated group upper fuel back (omega (arith, behind, group.is_group.0)) in
-    let count = count-next every (length all) group.is_group.0 (omega arith) in
-    rw (separated-next group upper all (omega arith), length-append (text upper (take every all)) (separated group upper back), length-text upper (take every all), rest, count)
-    (omega (arith, length-take every all, behind, ap (piece_count every) behind))
+-- at most one piece has no separator
+pub len-last : (every n : ℕ) → 0 < every → n ≤ every → grouped_len every n ≡ 2 * n
+len-last every zero pos fits = rw (zero-div every, zero-mod every) refl
+len-last every (suc n) pos fits =
+    let none : suc n - every ≡ 0 = omega (arith, fits) in
+    let rest : piece_count every (suc n - every) ≡ 0 = rw (none, zero-div every, zero-mod every) refl in
+    omega (arith, count-next every (suc n) pos (omega arith), rest)
 
--- and no separator before the first piece
-pub length-grouped : (group : Group) (upper : Bool) (bytes : List ℕ)
-    → length (grouped group upper bytes) ≡ 2 * length bytes + (piece_count (piece_len group) (length bytes) - 1)
-length-grouped group upper [] = rw (grouped-separated group upper [], separated-none group upper, zero-div (piece_len group), zero-mod (piece_len group)) refl
-length-grouped group upper (b ∷ bytes) =
-    let all = b ∷ bytes in
-    let one = count-next (piece_len group) (length all) group.is_group.0 (omega arith) in
-    rw (grouped-separated group upper all, length-drop 1 (separated group upper all), length-separated group upper (length all) all (omega arith)) (omega (arith, one))
+-- a piece, its separator, and those behind it
+pub len-more : (every n : ℕ) → 0 < every → every < n → grouped_len every n ≡ 2 * every + 1 + grouped_len every (n - every)
+len-more every n pos more = omega (arith, count-next every n pos (omega arith), count-next every (n - every) pos (omega arith), more)
+
+-- ---- texts
+
+module _ (group : Group) (upper : Bool) where
+  abbrev every : ℕ
+  every = piece_len group
+
+  abbrev shown : List (List ℕ) → List ℕ
+  shown parts = join_by (text upper) (separator group ∷ []) parts
+
+  pub grouped-last : (bytes : List ℕ) → length bytes ≤ every → grouped group upper bytes ≡ text upper bytes
+  grouped-last [] fits = ap shown (no_pieces every)
+  grouped-last (b ∷ bytes) fits =
+      let all = b ∷ bytes in
+      let one : pieces every all ≡ all ∷ [] =
+      pieces-next every all group.is_group.0 (omega arith) ∙ rw (take_all every all fits, drop_all every all fits, no_pieces every) refl in
+      ap shown one ∙ append-nil (text upper all)
+
+  pub grouped-more : (bytes : List ℕ) → every < length bytes
+      → grouped group upper bytes ≡ text upper (take every bytes) ++ (separator group ∷ grouped group upper (drop every bytes))
+  grouped-more bytes long =
+      let pos = group.is_group.0 in
+      let next = pieces-next every bytes pos (omega (arith, long)) in
+      let behind = pieces-next every (drop every bytes) pos (omega (arith, long, length-drop every bytes)) in
+      ap shown (next ∙ ap (λ l. take every bytes ∷ l) behind) ∙ ap (λ l. text upper (take every bytes) ++ (separator group ∷ shown l)) (sym behind)
+
+  length-fuel : (fuel : ℕ) (bytes : List ℕ) → length bytes ≤ fuel → (every < length bytes) ⊎ (length bytes ≤ every)
+      → length (grouped group upper bytes) ≡ grouped_len every (length bytes)
+  length-fuel fuel bytes fits (inr short) =
+      ap length (grouped-last bytes short) ∙ length-text upper bytes ∙ sym (len-last every (length bytes) group.is_group.0 short)
+  length-fuel zero bytes fits (inl long) = absurd (omega arith)
+  length-fuel (suc fuel) bytes fits (inl long) =
+      let back = drop every bytes in
+      let left = length-drop every bytes in
+      let rest = length-fuel fuel back (omega (arith, left, group.is_group.0, fits, long)) (cases_lt every (length back)) in
+      let sum = ap length (grouped-more bytes long) ∙ length-append (text upper (take every bytes)) (separator group ∷ grouped group upper back) in
+      omega (arith, sum, length-text upper (take every bytes), length-take-le every bytes (omega (arith, long)), rest ∙ ap (grouped_len every) left, len-more every (length bytes) group.is_group.0 long)
+
+  pub length-grouped : (bytes : List ℕ) → length (grouped group upper bytes) ≡ grouped_len every (length bytes)
+  length-grouped bytes = length-fuel (length bytes) bytes (omega arith) (cases_lt every (length bytes))
+
+  -- whole pieces, and those behind them
+  joined-count : (count : ℕ) (front back : List ℕ) → length front ≡ suc count * every → 0 < length back
+      → grouped group upper (front ++ back) ≡ grouped group upper front ++ (separator group ∷ grouped group upper back)
+  joined-count zero front back whole more =
+      let size : every ≡ length front = omega (arith, whole) in
+      let first : take every (front ++ back) ≡ front = rw size (take-append_seam front back) in
+      let behind : drop every (front ++ back) ≡ back = rw size (drop-append_seam front back) in
+      rw (grouped-more (front ++ back) (omega (arith, length-append front back, whole, more)), first, behind, grouped-last front (omega (arith, whole))) refl
+  joined-count (suc count) front back whole more =
+      let pos = group.is_group.0 in
+      let size : length front ≡ every + (every + count * every) = omega (arith, whole) in
+      let first : take every (front ++ back) ≡ take every front = grind (arith, common_steps, size, pos) in
+      let behind : drop every (front ++ back) ≡ drop every front ++ back = grind (arith, common_steps, size, pos) in
+      let rest = joined-count count (drop every front) back (omega (arith, length-drop every front, size)) more in
+      rw (grouped-more (front ++ back) (omega (arith, length-append front back, size, pos, more)), first, behind, rest, grouped-more front (omega (arith, size, pos)))
+      (sym (append_assoc (text upper (take every front)) (separator group ∷ grouped group upper (drop every front)) (separator group ∷ grouped group upper back)))
+
+  pub joined-pieces : (front back : List ℕ) → length front % every ≡ 0 → 0 < length front → 0 < length back
+      → grouped group upper (front ++ back) ≡ grouped group upper front ++ (separator group ∷ grouped group upper back)
+  joined-pieces front back whole some more = from_count (length front / every) (omega (arith, whole, div-add-mod' (length front) every))
+    where
+      from_count : (count : ℕ) → length front ≡ count * every → grouped group upper (front ++ back) ≡ grouped group upper front ++ (separator group ∷ grouped group upper back)
+      from_count zero is = absurd (omega (arith, is, some))
+      from_count (suc count) is = joined-count count front back is more

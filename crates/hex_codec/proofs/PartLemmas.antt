@@ -1,33 +1,22 @@
--- Parts of a text, and those behind them.
-use Rattle.std.proofs.Common.{◌≡◌, ◌⊎◌, inl, inr, ℕ, zero, suc, min, ◌-◌, ◌+◌, ◌*◌, ◌<◌, ◌≤◌, List, [], ◌∷◌, ◌++◌, length, take, drop, refl, sym, ap, ◌∙◌, arith, All, length-take, append-nil, length-append, length-drop, take-append-drop, get_or, ◌-◌}
-use Rattle.std.proofs.lemmas.Grind.{flat_map-append}
-use Rattle.std.proofs.lemmas.Bool.{cases_lt}
-use Rattle.std.proofs.lemmas.List.{get_or-drop, drop-take, drop_all, drop_more, length-take-le, take_all, take-take}
+-- The parts of a text, and what it spells by them.
+use Rattle.std.proofs.Common.{◌≡◌, ℕ, suc, ◌+◌, ◌-◌, ◌*◌, ◌/◌, ◌%◌, ◌<◌, ◌≤◌, List, [], ◌∷◌, ◌++◌, length, take, drop, refl, sym, ap, ◌∙◌, arith, All, append-nil, get_or, length-append, length-drop, take-append-drop}
+use Rattle.std.proofs.lemmas.List.{drop-take, drop_all, drop_more, length-take-le, take_all, take-take}
 use Rattle.std.proofs.lemmas.List.Elements.{All-cons, All-nil}
 use Rattle.std.specs.List.{flat_map}
-use Rattle.hex_codec.specs.GroupedText.{digits_in, parts, separators_in}
-use Rattle.hex_codec.specs.Fronts.{IsFront, IsWhole, TakesFront}
-use Rattle.hex_codec.proofs.GroupLemmas.{no_pieces, pieces-append, pieces-next}
-
--- what each part makes, of whole parts and those behind them
-pub joined : (f : List ℕ → List ℕ) (every n : ℕ) (s : List ℕ) → n ≤ length s → IsWhole every n
-    → flat_map f (parts every s) ≡ flat_map f (parts every (take n s)) ++ flat_map f (parts every (drop n s))
-joined f every n s inside whole =
-    ap (λ l. flat_map f (parts every l)) (sym (take-append-drop n s))
-    ∙ ap (flat_map f) (pieces-append (2 * every + 1) whole.count (take n s) (drop n s) (omega arith) (length-take-le n s inside ∙ whole.lines))
-    ∙ flat_map-append f (parts every (take n s)) (parts every (drop n s))
-
--- one part
-pub one_part : (every : ℕ) (s : List ℕ) → 0 < length s → length s ≤ 2 * every + 1 → parts every s ≡ s ∷ []
-one_part every s some fits =
-    pieces-next (2 * every + 1) s (omega arith) some ∙ rw (take_all (2 * every + 1) s fits, drop_all (2 * every + 1) s fits, no_pieces (2 * every + 1)) refl
+use Rattle.hex_core.specs.declared.digit.CheckCase.{CheckCase}
+use Rattle.hex_core.specs.Text.{Spells}
+use Rattle.hex_core.proofs.JoinLemmas.{spells-joined, spells-parts}
+use Rattle.hex_codec.specs.declared.group.Group.{Group}
+use Rattle.hex_codec.specs.Grouped.{piece_len, separator}
+use Rattle.hex_codec.specs.GroupedText.{GroupSpells, digits_in, grouped_len, parts, separators_in}
+use Rattle.hex_codec.proofs.GroupLemmas.{len-last, len-more, no_pieces, pieces-next}
 
 -- the first part of a text, and those behind it
-pub record Parted (every : ℕ) (s : List ℕ) : Type 0 where
+record Parted (every : ℕ) (s : List ℕ) : Type 0 where
   pub digits : digits_in every s ≡ take (2 * every) s ++ digits_in every (drop (2 * every + 1) s)
   pub separators : separators_in every s ≡ drop (2 * every) (take (2 * every + 1) s) ++ separators_in every (drop (2 * every + 1) s)
 
-pub parted : (every : ℕ) (s : List ℕ) → 0 < length s → Parted every s
+parted : (every : ℕ) (s : List ℕ) → 0 < length s → Parted every s
 parted every s some =
     let line = 2 * every + 1 in
     let next = pieces-next line s (omega arith) some in
@@ -37,102 +26,71 @@ parted every s some =
     }
 
 -- a text without a separator is its digits
-pub unparted : (every : ℕ) (s : List ℕ) → length s ≤ 2 * every → (digits_in every s ≡ s) × (separators_in every s ≡ [])
+unparted : (every : ℕ) (s : List ℕ) → length s ≤ 2 * every → (digits_in every s ≡ s) × (separators_in every s ≡ [])
 unparted every [] fits = let none = no_pieces (2 * every + 1) in (rw none refl, rw none refl)
 unparted every (b ∷ s) fits =
     let all = b ∷ s in
-    let one = one_part every all (omega arith) (omega arith) in
+    let line = 2 * every + 1 in
+    let one : parts every all ≡ all ∷ [] =
+    pieces-next line all (omega arith) (omega arith) ∙ rw (take_all line all (omega (arith, fits)), drop_all line all (omega (arith, fits)), no_pieces line) refl in
     (rw (one, append-nil (take (2 * every) all)) (take_all (2 * every) all fits), rw (one, append-nil (drop (2 * every) all)) (drop_all (2 * every) all fits))
 
--- the digits of one part, and its separator
-pub part-digits : (every : ℕ) (s : List ℕ) → 2 * every < length s → digits_in every (take (2 * every + 1) s) ≡ take (2 * every) s
-part-digits every s long =
-    let size = length-take-le (2 * every + 1) s (omega arith) in
-    rw (one_part every (take (2 * every + 1) s) (omega (arith, size)) (omega (arith, size)), append-nil (take (2 * every) (take (2 * every + 1) s)))
-    (take-take (2 * every) (2 * every + 1) s (omega arith))
-
-pub one_separator : (n : ℕ) (s : List ℕ) → n < length s → drop n (take (n + 1) s) ≡ get_or s n 0 ∷ []
+one_separator : (n : ℕ) (s : List ℕ) → n < length s → drop n (take (n + 1) s) ≡ get_or s n 0 ∷ []
 one_separator n s long = rw (drop-take n 1 s, drop_more s n 0 long) refl
 
--- where each byte behind the digits of a whole part has a property, each separator has it
-pub from-places : (every fuel : ℕ) (P : ℕ → Type 0) (s : List ℕ) → length s ≤ fuel
-    → ((j : ℕ) → j * (2 * every + 1) + 2 * every < length s → P (get_or s (j * (2 * every + 1) + 2 * every) 0))
-    → (2 * every < length s) ⊎ (length s ≤ 2 * every) → All P (separators_in every s)
-from-places every fuel P s fits each (inr short) = rw (unparted every s short).1 (All-nil P)
-from-places every zero P s fits each (inl long) = absurd (omega arith)
-from-places every (suc fuel) P s fits each (inl long) =
-    let n = 2 * every in
-    let rest = drop (n + 1) s in
-    let left = length-drop (n + 1) s in
-    let here : 0 * (n + 1) + n ≡ n = omega arith in
-    let behind = from-places every fuel P rest (omega (arith, left)) (λ j lt.
-    let next : suc j * (n + 1) + n ≡ n + 1 + (j * (n + 1) + n) = grind arith in
-    rw (get_or-drop (n + 1) s (j * (n + 1) + n) 0, ← next) (each (suc j) (omega (arith, lt, left, next)))) (cases_lt n (length rest)) in
-    rw ((parted every s (omega (arith, long))).separators, one_separator n s long) (All-cons P (get_or s n 0) (separators_in every rest) (rw here at (each 0 (omega (arith, long)))) behind)
+module _ (c : CheckCase) (group : Group) where
+  abbrev every : ℕ
+  every = piece_len group
 
--- ---- fronts
+  -- a text of at most a piece spells what its digits spell
+  pub spells-last : (s bytes : List ℕ) → length bytes ≤ every → Spells c s bytes → GroupSpells c group s bytes
+  spells-last s bytes fits h =
+      let is = unparted every s (omega (arith, h.twice, fits)) in
+      record { long = h.twice ∙ sym (len-last every (length bytes) group.is_group.0 fits); separated = rw is.1 (All-nil _); spelled = rw is.0 h }
 
-pub front-inside : (every : ℕ) (s front : List ℕ) → IsFront every s front → length front ≤ length s
-front-inside every s front part = omega (arith, ap length part.is, length-take (length front) s)
+  pub last-spelled : (s bytes : List ℕ) → length bytes ≤ every → GroupSpells c group s bytes → Spells c s bytes
+  last-spelled s bytes fits h =
+      rw (unparted every s (omega (arith, h.long, len-last every (length bytes) group.is_group.0 fits, fits))).0 at h.spelled
 
--- ---- digits that are taken
+  -- a longer one spells what its first part spells, and what is behind its separator
+  pub spells-more : (s x y : List ℕ) → length x ≡ every → 0 < length y → Spells c (take (2 * every) s) x → get_or s (2 * every) 0 ≡ separator group
+      → GroupSpells c group (drop (2 * every + 1) s) y → GroupSpells c group s (x ++ y)
+  spells-more s x y size some first mark rest =
+      let sum = length-append x y in
+      let cut : length (x ++ y) - every ≡ length y = omega (arith, sum, size) in
+      let len = len-more every (length (x ++ y)) group.is_group.0 (omega (arith, sum, size, some)) ∙ ap (λ n. 2 * every + 1 + grouped_len every n) cut in
+      let left = length-drop (2 * every + 1) s in
+      let long : 2 * every + 1 < length s = omega (arith, left, rest.long, some) in
+      let part = parted every s (omega (arith, long)) in
+      record {
+        long = omega (arith, left, rest.long, len, long);
+        separated = rw (part.separators, one_separator (2 * every) s (omega (arith, long))) (All-cons (λ b. b ≡ separator group) _ _ mark rest.separated);
+        spelled = rw part.digits (spells-joined c (take (2 * every) s) _ x y first rest.spelled);
+      }
 
-pub none-taken : (every : ℕ) (text new : List ℕ) → TakesFront every text new 0 0
-none-taken every text new =
-    let none = (unparted every [] (omega arith)).0 in
-    record { inside = omega arith; whole = record { count = 0; lines = omega arith }; size = rw none refl; copied = sym none }
+  pub record First (s bytes : List ℕ) : Type 0 where
+    pub long : 2 * every < length s
+    pub digits : Spells c (take (2 * every) s) (take every bytes)
+    pub mark : get_or s (2 * every) 0 ≡ separator group
+    pub rest : GroupSpells c group (drop (2 * every + 1) s) (drop every bytes)
 
--- those of one more piece stand behind those before them
-pub takes-more : (every : ℕ) (text new new' : List ℕ) (at to n : ℕ) → TakesFront every text new at to → n ≡ 2 * every → at + n < length text
-    → take (to + n) new' ≡ take to new ++ take n (drop at text) → TakesFront every text new' (at + (n + 1)) (to + n)
-takes-more every text new new' at to n before piece inside put =
-    let rest = drop at text in
-    let left = length-drop at text in
-    let all = take (at + (n + 1)) text in
-    let within : at ≤ length all = omega (arith, length-take-le (at + (n + 1)) text (omega (arith, inside))) in
-    let long : 2 * every < length rest = omega (arith, left, inside, piece) in
-    let next : digits_in every all ≡ digits_in every (take at text) ++ take n rest =
-    joined (take (2 * every)) every at all within before.whole
-    ∙ rw (take-take at (at + (n + 1)) text (omega arith), drop-take at (n + 1) text, piece, part-digits every rest long) refl in
-    record {
-      inside = omega (arith, inside);
-      whole = record { count = before.whole.count + 1; lines = grind (arith, before.whole.lines, piece) };
-      size = rw (next, length-append (digits_in every (take at text)) (take n rest), length-take-le n rest (omega (arith, long, piece)), ← before.size) refl;
-      copied = put ∙ rw (before.copied, ← next) refl;
-    }
-
--- how many are left
-pub digits-left : (every : ℕ) (text new : List ℕ) (at to : ℕ) → TakesFront every text new at to
-    → digits_in every text ≡ take to new ++ digits_in every (drop at text)
-digits-left every text new at to before = joined (take (2 * every)) every at text before.inside before.whole ∙ rw before.copied refl
-
--- where a text has more than a piece's digits, they find room where all do
-pub room-more : (every count : ℕ) (text new : List ℕ) (at to : ℕ) → TakesFront every text new at to → count ≡ min every (length text) → 2 * count < length text - at
-    → (count ≡ every) × (to + 2 * count ≤ length (digits_in every text))
-room-more every count text new at to before least more =
-    let rest = drop at text in
-    let is : count ≡ every = omega (arith, least, more) in
-    let long : 2 * every < length rest = omega (arith, length-drop at text, more, is) in
-    let cut = ap length (digits-left every text new at to before) ∙ length-append (take to new) (digits_in every rest) in
-    let next = ap length (parted every rest (omega (arith, long))).digits ∙ length-append (take (2 * every) rest) (digits_in every (drop (2 * every + 1) rest)) in
-    (is, omega (arith, cut, next, before.size, ap length before.copied, length-take-le (2 * every) rest (omega (arith, long)), is))
-
-pub last-left : (every : ℕ) (text new : List ℕ) (at to : ℕ) → TakesFront every text new at to → length text ≤ at + 2 * every
-    → (digits_in every text ≡ take to new ++ drop at text) × (length (digits_in every text) ≡ to + (length text - at))
-last-left every text new at to before short =
-    let rest = drop at text in
-    let left = length-drop at text in
-    let all : digits_in every text ≡ take to new ++ rest = digits-left every text new at to before ∙ rw (unparted every rest (omega (arith, left, short))).0 refl in
-    (all, omega (arith, ap length all ∙ length-append (take to new) rest, before.size, ap length before.copied, left))
-
--- the digits of so many parts and a last one
-pub few-digits : (every count : ℕ) (s : List ℕ) → length s ≤ count * (2 * every + 1) → length (digits_in every s) ≤ count * (2 * every)
-few-digits every zero s fits = omega (arith, ap length (unparted every s (omega (arith, fits))).0, fits)
-few-digits every (suc count) s fits = elim (cases_lt (2 * every) (length s)) [
-  | inl long ↦
-      let rest = drop (2 * every + 1) s in
-      let next = ap length (parted every s (omega (arith, long))).digits ∙ length-append (take (2 * every) s) (digits_in every rest) in
-      let behind = few-digits every count rest (omega (arith, fits, length-drop (2 * every + 1) s)) in
-      omega (arith, next, behind, length-take-le (2 * every) s (omega (arith, long)))
-  | inr short ↦ omega (arith, ap length (unparted every s short).0, short)
-]
+  pub first-part : (s bytes : List ℕ) → every < length bytes → GroupSpells c group s bytes → First s bytes
+  first-part s bytes more h =
+      let len = len-more every (length bytes) group.is_group.0 more in
+      let long : 2 * every < length s = omega (arith, h.long, len) in
+      let part = parted every s (omega (arith, long)) in
+      let size = length-take-le (2 * every) s (omega (arith, long)) in
+      let half : length (take (2 * every) s) / 2 ≡ every = omega (arith, size) in
+      let both = spells-parts c (take (2 * every) s) (digits_in every (drop (2 * every + 1) s)) bytes (omega (arith, size)) (rw part.digits at h.spelled) in
+      let marks : All (λ b. b ≡ separator group) (get_or s (2 * every) 0 ∷ separators_in every (drop (2 * every + 1) s)) =
+      rw (part.separators, one_separator (2 * every) s long) at h.separated in
+      record {
+        long = long;
+        digits = rw half at both.0;
+        mark = marks 0 0 (omega arith);
+        rest = record {
+          long = rw (length-drop (2 * every + 1) s, length-drop every bytes) (omega (arith, h.long, len));
+          separated = λ k d lt. marks (suc k) d (omega arith);
+          spelled = rw half at both.1;
+        };
+      }

@@ -1,149 +1,170 @@
--- Bytes that are written behind others.
-use Rattle.std.proofs.Common.{rules, ◌≡◌, ◌⊎◌, inl, inr, ℕ, min, ◌+◌, ◌-◌, ◌*◌, ◌%◌, ◌<◌, ◌≤◌, Bool, true, false, refl, sym, ap, ◌∙◌, arith, All, None, List, [], ◌++◌, length, take, drop, append-nil, append_assoc, length-append, length-drop}
+-- What the passes over the pieces of a grouped text keep.
+use Rattle.std.proofs.Common.{rules, ◌≡◌, inl, inr, Bool, ℕ, ◌+◌, ◌-◌, ◌*◌, ◌<◌, ◌≤◌, refl, sym, ap, ◌∙◌, arith, Option, Some, None, List, [], ◌∷◌, ◌++◌, length, take, drop, get_or, option_map, append_assoc, length-drop}
+use Rattle.std.proofs.Math.ListN.{length-set, set}
 use Rattle.std.proofs.lemmas.Bool.{cases_lt}
-use Rattle.std.proofs.lemmas.List.{drop-drop, drop_all, length-take-le, places, take_all, take_rest}
+use Rattle.std.proofs.lemmas.List.{drop-drop, get_or-drop, length-take-le, places, take_more_set}
 use Rattle.std.proofs.lemmas.Slice.{take-put_mid}
 use borrow.Rule.Slice.PartMut.{put_mid}
 use Rattle.hex_core.specs.declared.digit.CheckCase.{CheckCase}
-use Rattle.hex_core.specs.Calls.{DecodesWhole}
 use Rattle.hex_core.specs.Search.{first_invalid}
-use Rattle.hex_core.specs.Text.{Spells}
-use Rattle.hex_core.proofs.JoinLemmas.{spells-joined}
-use Rattle.hex_core.proofs.PositionLemmas.{none_joined}
-use Rattle.hex_core.proofs.SearchLemmas.{lacks}
+use Rattle.hex_core.specs.Text.{Spells, text}
+use Rattle.hex_core.proofs.TextLemmas.{length-text}
 use Rattle.hex_codec.specs.declared.group.Group.{Group}
-use Rattle.hex_codec.specs.GroupCalls.{ReadsWhole}
-use Rattle.hex_codec.specs.Grouped.{piece_len, separator}
-use Rattle.hex_codec.specs.GroupedText.{GroupSpells, digits_in, grouped_len, separators_in}
-use Rattle.hex_codec.specs.Fronts.{IsFront, WritesFront}
-use Rattle.hex_codec.proofs.CountLemmas.{even-digits, length-digits}
-use Rattle.hex_codec.proofs.PartLemmas.{front-inside, joined, parted, unparted}
+use Rattle.hex_codec.specs.Grouped.{grouped, piece_len, separator}
+use Rattle.hex_codec.specs.GroupedText.{GroupSpells, first_wrong, grouped_len}
+use Rattle.hex_codec.proofs.GroupLemmas.{grouped-last, grouped-more, len-last, len-more}
+use Rattle.hex_codec.proofs.ListLemmas.{put-behind}
+use Rattle.hex_codec.proofs.PartLemmas.{spells-last, spells-more}
+use Rattle.hex_codec.proofs.WrongLemmas.{Clear, clear-last, clear-part, digit-wrong, last-wrong, part-clear, separator-wrong}
 
--- a text of the right length is read where its separators are the group's and its digits spell what is left
-pub reads : {c : CheckCase} {group : Group} {s new : List ℕ} (n : ℕ) → length s ≡ grouped_len (piece_len group) n
-    → All (λ b. b ≡ separator group) (separators_in (piece_len group) s) → Spells c (digits_in (piece_len group) s) new → GroupSpells c group s new
-reads {c} {group} {s} n long separated spelled =
-    let size = length-digits (piece_len group) n s group.is_group.0 long in
-    record { long = long ∙ ap (grouped_len (piece_len group)) (omega (arith, spelled.twice, size)); separated = separated; spelled = spelled }
+-- ---- testing
 
--- so it is where all its digits are decoded
-pub reads-all : (c : CheckCase) (group : Group) (s old new : List ℕ) (done : Bool) → length s ≡ grouped_len (piece_len group) (length old)
-    → All (λ b. b ≡ separator group) (separators_in (piece_len group) s) → DecodesWhole c (digits_in (piece_len group) s) old new done
-    → ReadsWhole c group s old new done
-reads-all c group s old new false long separated answer = answer.1
-reads-all c group s old new true long separated answer = reads (length old) long separated answer.1
+module _ (c : CheckCase) (group : Group) where
+  abbrev every : ℕ
+  every = piece_len group
 
--- valid digits are decoded
-pub decoded : {c : CheckCase} {s new : List ℕ} (old : List ℕ) (done : Bool) → first_invalid c s ≡ None → DecodesWhole c s old new done → Spells c s new
-decoded old true valid answer = answer.1
-decoded old false valid answer = absurd (answer.0 valid)
+  abbrev n : ℕ
+  n = 2 * every
 
--- ---- behind a front
+  -- no byte before a place is wrong, and behind it is the text of this many bytes
+  pub record Tests (s : List ℕ) (at left : ℕ) : Type 0 where
+    pub long : length s ≡ at + grouped_len every left
+    pub rest : first_wrong c group s ≡ option_map (λ i. at + i) (first_wrong c group (drop at s))
 
--- the digits that come next are valid
-next-valid : {c : CheckCase} {group : Group} {s old : List ℕ} {at done : ℕ} (next rest : List ℕ) → WritesFront c group s old at done
-    → digits_in (piece_len group) (drop at s) ≡ next ++ rest → first_invalid c next ≡ None
-next-valid {c} next rest so_far cut = ((none_joined (lacks c) next rest).0 (rw cut at so_far.rest.1)).0
+  further : (a b : ℕ) (o : Option ℕ) → option_map (λ i. a + i) (option_map (λ i. b + i) o) ≡ option_map (λ i. a + b + i) o
+  further a b None = refl
+  further a b (Some i) = ap Some (omega arith)
 
--- the bytes of the next digits are written behind those before them
-pub writes-more : {c : CheckCase} {group : Group} {s old : List ℕ} {at done : ℕ} (next part : List ℕ) (more end : ℕ)
-    → WritesFront c group s old at done
-    → digits_in (piece_len group) (drop at s) ≡ next ++ digits_in (piece_len group) (drop more (drop at s))
-    → length next ≡ 2 * (end - done) → done ≤ end → end ≤ length old → Spells c next part
-    → WritesFront c group s (put_mid done (end - done) old part) (at + more) end
-writes-more {c} {group} {s} {old} {at} {done} next part more end so_far cut size fits room spelled =
-    let rest = digits_in (piece_len group) (drop more (drop at s)) in
-    let valid = (none_joined (lacks c) next rest).0 (rw cut at so_far.rest.1) in
-    let long : length part ≡ end - done = omega (arith, spelled.twice, size) in
-    let same : length (put_mid done (end - done) old part) ≡ length old = search (rules, places, long, room) in
-    let lengths = ap length cut ∙ length-append next rest in
-    record {
-      inside = rw same room;
-      rest = rw (same, ← drop-drop more at s) (omega (arith, lengths, so_far.rest.0, size), valid.1);
-      spelled = λ bytes h.
-          rw (take-put_mid done (end - done) old part end (omega (arith, long)) so_far.inside, append_assoc (take done old) part bytes)
-          (so_far.spelled (part ++ bytes) (rw cut (spells-joined c next rest part bytes spelled (rw (← drop-drop more at s) at h))));
-    }
+  -- there is a separator behind the next piece
+  pub inside : (s : List ℕ) (at left : ℕ) → length s ≡ at + grouped_len every left → every < left → at + n < length s
+  inside s at left long more = omega (arith, long, len-more every left group.is_group.0 more)
 
--- and at last those of all
-pub writes-all : {c : CheckCase} {group : Group} {s dst : List ℕ} {at done : ℕ} → WritesFront c group s dst at done → length dst ≤ done
-    → Spells c (digits_in (piece_len group) s) dst
-writes-all {c} {group} {s} {dst} {at} {done} so_far end =
-    let none = drop_all 0 (digits_in (piece_len group) (drop at s)) (omega (arith, so_far.rest.0)) in
-    rw (take_all done dst end, append-nil dst) at (so_far.spelled [] (rw none (record { twice = refl; each = λ i lt. absurd (omega arith) })))
+  reached : (s : List ℕ) (at left : ℕ) → length s ≡ at + grouped_len every left → every < left → n < length (drop at s)
+  reached s at left long more = omega (arith, inside s at left long more, length-drop at s)
 
--- ---- fronts
+  mark-at : (s : List ℕ) (at : ℕ) → get_or (drop at s) n 0 ≡ get_or s (at + n) 0
+  mark-at s at = get_or-drop at s n 0
 
--- the digits of a front, and those behind it
-pub fronted : (every : ℕ) (s front : List ℕ) → IsFront every s front → digits_in every s ≡ digits_in every front ++ digits_in every (drop (length front) s)
-fronted every s front part = elim part.whole [
-  | inl whole ↦ joined (take (2 * every)) every (length front) s (front-inside every s front part) whole ∙ rw (← part.is) refl
-  | inr all ↦
-      let is : front ≡ s = part.is ∙ take_all (length front) s (omega (arith, all)) in
-      rw (drop_all (length front) s (omega (arith, all)), (unparted every [] (omega arith)).0, append-nil (digits_in every front), is) refl
-]
+  pub tests-digit : (s : List ℕ) (at left i : ℕ) → Tests s at left → first_invalid c (take n (drop at s)) ≡ Some i → first_wrong c group s ≡ Some (at + i)
+  tests-digit s at left i so_far first = so_far.rest ∙ ap (option_map (λ i. at + i)) (digit-wrong c group (drop at s) i first)
 
--- what is known of a front behind digits that were decoded
-pub record Fronted (c : CheckCase) (group : Group) (s front : List ℕ) (at left : ℕ) : Type 0 where
-  pub inside : at + length front ≤ length s
-  pub cut : digits_in (piece_len group) (drop at s) ≡ digits_in (piece_len group) front ++ digits_in (piece_len group) (drop (length front) (drop at s))
-  pub even : length (digits_in (piece_len group) front) % 2 ≡ 0
-  pub room : length (digits_in (piece_len group) front) ≤ 2 * left
-  pub valid : first_invalid c (digits_in (piece_len group) front) ≡ None
+  pub tests-mark : (s : List ℕ) (at left : ℕ) → Tests s at left → every < left → first_invalid c (take n (drop at s)) ≡ None
+      → (get_or s (at + n) 0 ≡ separator group → ⊥) → first_wrong c group s ≡ Some (at + n)
+  tests-mark s at left so_far more valid differs =
+      so_far.rest ∙ ap (option_map (λ i. at + i))
+      (separator-wrong c group (drop at s) (reached s at left so_far.long more) valid (λ e. differs (sym (mark-at s at) ∙ e)))
 
-pub fronts : (c : CheckCase) (group : Group) (s dst front : List ℕ) (at done : ℕ) → WritesFront c group s dst at done → at ≤ length s
-    → IsFront (piece_len group) (take (length s - at) (drop at s)) front → Fronted c group s front at (length dst - done)
-fronts c group s dst front at done so_far reached here =
-    let every = piece_len group in
-    let rest = drop at s in
-    let part : IsFront every rest front = rw (take_rest s at) at here in
-    let next = digits_in every front in
-    let behind = digits_in every (drop (length front) rest) in
-    let cut = fronted every rest front part in
-    let lengths = ap length cut ∙ length-append next behind in
-    let even : length next % 2 ≡ 0 = elim part.whole [
-      | inl whole ↦ omega (arith, even-digits every whole.count front whole.lines)
-      | inr all ↦
-          let is : front ≡ rest = part.is ∙ take_all (length front) rest (omega (arith, all)) in
-          omega (arith, ap (λ l. length (digits_in every l)) is, so_far.rest.0)
-    ] in
-    record {
-      inside = omega (arith, front-inside every rest front part, length-drop at s, reached);
-      cut = cut;
-      even = even;
-      room = omega (arith, lengths, so_far.rest.0);
-      valid = next-valid next behind so_far cut;
-    }
+  pub tests-more : (s : List ℕ) (at left : ℕ) → Tests s at left → every < left → first_invalid c (take n (drop at s)) ≡ None
+      → get_or s (at + n) 0 ≡ separator group → Tests s (at + n + 1) (left - every)
+  tests-more s at left so_far more valid mark =
+      let place : at + (n + 1) ≡ at + n + 1 = omega arith in
+      record {
+        long = omega (arith, so_far.long, len-more every left group.is_group.0 more);
+        rest = so_far.rest
+            ∙ ap (option_map (λ i. at + i)) (part-clear c group (drop at s) (reached s at left so_far.long more) valid (mark-at s at ∙ mark))
+            ∙ further at (n + 1) _ ∙ rw (drop-drop (n + 1) at s, place) refl;
+      }
 
--- ---- one part
+  -- two digits for each byte of the last piece
+  pub last-size : (s : List ℕ) (at left : ℕ) → length s ≡ at + grouped_len every left → left ≤ every → length (drop at s) ≡ 2 * left
+  last-size s at left long short = omega (arith, long, len-last every left group.is_group.0 short, length-drop at s)
 
--- the digits of the next part, where so many bytes are left
-abbrev pub Next : ℕ → ℕ → List ℕ → Type 0
-Next every count s = (2 * count ≤ length s) × (digits_in every s ≡ take (2 * count) s ++ digits_in every (drop (2 * count + 1) s))
+  pub tests-last : (s : List ℕ) (at left : ℕ) (o : Option ℕ) → Tests s at left → left ≤ every → first_invalid c (drop at s) ≡ o
+      → first_wrong c group s ≡ option_map (λ i. at + i) o
+  tests-last s at left o so_far short first =
+      so_far.rest ∙ ap (option_map (λ i. at + i)) (last-wrong c group (drop at s) o (omega (arith, last-size s at left so_far.long short, short)) first)
 
-next : (every n : ℕ) (s : List ℕ) → 0 < n → length (digits_in every s) ≡ 2 * n → (2 * every < length s) ⊎ (length s ≤ 2 * every)
-    → Next every (min every n) s
-next every n s some size (inl long) =
-    let parts_of = (parted every s (omega arith)).digits in
-    let lengths = ap length parts_of ∙ length-append (take (2 * every) s) (digits_in every (drop (2 * every + 1) s)) in
-    let count : min every n ≡ every = omega (arith, lengths, length-take-le (2 * every) s (omega arith), size) in
-    rw count (omega arith, parts_of)
-next every n s some size (inr short) =
-    let one = (unparted every s short).0 in
-    let whole : length s ≡ 2 * n = sym (ap length one) ∙ size in
-    let count : min every n ≡ n = omega (arith, whole, short) in
-    let none = drop_all (2 * n + 1) s (omega (arith, whole)) in
-    rw (count, one, none, (unparted every [] (omega arith)).0, append-nil (take (2 * n) s), take_all (2 * n) s (omega (arith, whole))) (omega (arith, whole), refl)
+  -- ---- reading
 
-pub part : {c : CheckCase} {group : Group} {s dst : List ℕ} {at done every count : ℕ} → WritesFront c group s dst at done → done < length dst
-    → every ≡ piece_len group → count ≡ min every (length dst - done)
-    → (at + 2 * count ≤ length s) × Next (piece_len group) count (drop at s)
-part {c} {group} {s} {dst} {at} {done} so_far some same counted =
-    let left = length dst - done in
-    let found = next (piece_len group) left (drop at s) (omega arith) so_far.rest.0 (cases_lt (2 * piece_len group) (length (drop at s))) in
-    rw (counted, same) (omega (arith, found.0, length-drop at s, some, group.is_group.0), found)
+  -- the bytes before a place are written: with those that the rest spells they are what all spells
+  pub record ReadsRest (s new : List ℕ) (at done : ℕ) : Type 0 where
+    pub room : done ≤ length new
+    pub long : length s ≡ at + grouped_len every (length new - done)
+    pub clear : first_wrong c group (drop at s) ≡ None
+    pub spells : (bytes : List ℕ) → GroupSpells c group (drop at s) bytes → GroupSpells c group s (take done new ++ bytes)
 
-pub part-valid : {c : CheckCase} {group : Group} {s dst : List ℕ} {at done : ℕ} (count : ℕ) → WritesFront c group s dst at done
-    → Next (piece_len group) count (drop at s) → first_invalid c (take (2 * count) (drop at s)) ≡ None
-part-valid {c} {group} {s} {dst} {at} {done} count so_far known =
-    next-valid (take (2 * count) (drop at s)) (digits_in (piece_len group) (drop (2 * count + 1) (drop at s))) so_far known.1
+  pub next-clear : (s new : List ℕ) (at done : ℕ) → ReadsRest s new at done → every < length new - done → Clear c group (drop at s)
+  next-clear s new at done so_far more = clear-part c group (drop at s) (reached s at (length new - done) so_far.long more) so_far.clear
+
+  some-bytes : (s bytes : List ℕ) → GroupSpells c group s bytes → 0 < length s → 0 < length bytes
+  some-bytes s bytes h some = elim (cases_lt 0 (length bytes)) [
+    | inl more ↦ more
+    | inr none ↦ absurd (omega (arith, h.long, len-last every (length bytes) group.is_group.0 (omega (arith, none)), some, none))
+  ]
+
+  pub reads-more : (s old part : List ℕ) (at done : ℕ) → ReadsRest s old at done → every < length old - done
+      → Spells c (take n (drop at s)) part → ReadsRest s (put_mid done every old part) (at + n + 1) (done + every)
+  reads-more s old part at done so_far more digits =
+      let front = length-take-le n (drop at s) (omega (arith, reached s at (length old - done) so_far.long more)) in
+      let size : length part ≡ every = omega (arith, digits.twice, front) in
+      let next = next-clear s old at done so_far more in
+      let same : length (put_mid done every old part) ≡ length old = search (rules, places, size, so_far.room, more, arith) in
+      let place : at + (n + 1) ≡ at + n + 1 = omega arith in
+      let behind : drop (n + 1) (drop at s) ≡ drop (at + n + 1) s = rw (drop-drop (n + 1) at s, place) refl in
+      let len = len-more every (length old - done) group.is_group.0 more in
+      let cut : length old - (done + every) ≡ length old - done - every = omega arith in
+      let left : length s ≡ at + n + 1 + grouped_len every (length old - (done + every)) = rw cut (omega (arith, so_far.long, len)) in
+      record {
+        room = rw same (omega (arith, more));
+        long = rw same left;
+        clear = rw behind at next.rest;
+        spells = λ bytes h.
+            rw (take-put_mid done every old part (done + every) (omega (arith, size)) so_far.room, append_assoc (take done old) part bytes)
+            (so_far.spells (part ++ bytes) (spells-more c group (drop at s) part bytes size
+            (some-bytes _ bytes h (omega (arith, length-drop (at + n + 1) s, left, more))) digits next.mark (rw behind h)));
+      }
+
+  pub reads-last : (s old part : List ℕ) (at done : ℕ) → ReadsRest s old at done → length old - done ≤ every → Spells c (drop at s) part
+      → GroupSpells c group s (put_mid done (length old - done) old part)
+  reads-last s old part at done so_far short digits =
+      let size : length part ≡ length old - done = omega (arith, digits.twice, last-size s at (length old - done) so_far.long short) in
+      rw (put-behind done old part so_far.room size) (so_far.spells part (spells-last c group (drop at s) part (omega (arith, size, short)) digits))
+
+-- ---- writing
+
+module _ (group : Group) (upper : Bool) where
+  abbrev each : ℕ
+  each = piece_len group
+
+  -- the texts of the pieces before a place are written, each with its separator
+  pub record WritesRest (bytes new : List ℕ) (at done : ℕ) : Type 0 where
+    pub inside : at ≤ length bytes
+    pub room : length new ≡ done + grouped_len each (length bytes - at)
+    pub so_far : take done new ++ grouped group upper (drop at bytes) ≡ grouped group upper bytes
+
+  joined-mark : (a b : List ℕ) (mark : ℕ) (c : List ℕ) → ((a ++ b) ++ (mark ∷ [])) ++ c ≡ a ++ (b ++ (mark ∷ c))
+  joined-mark a b mark c = append_assoc (a ++ b) (mark ∷ []) c ∙ append_assoc a b (mark ∷ c)
+
+  pub writes-more : (bytes old : List ℕ) (at done : ℕ) → WritesRest bytes old at done → each < length bytes - at
+      → WritesRest bytes (set (put_mid done (2 * each) old (text upper (take each (drop at bytes)))) (done + 2 * each) (separator group)) (at + each) (done + 2 * each + 1)
+  writes-more bytes old at done before more =
+      let rest = drop at bytes in
+      let part = text upper (take each rest) in
+      let put = put_mid done (2 * each) old part in
+      let left = length-drop at bytes in
+      let long : each < length rest = omega (arith, left, more) in
+      let size : length part ≡ 2 * each = omega (arith, length-text upper (take each rest), length-take-le each rest (omega (arith, long))) in
+      let len = len-more each (length bytes - at) group.is_group.0 more in
+      let cut : length bytes - (at + each) ≡ length bytes - at - each = omega arith in
+      let same : length put ≡ length old = search (rules, places, size, before.room, len, arith) in
+      let last : done + 2 * each < length put = omega (arith, same, before.room, len) in
+      let behind = grouped group upper (drop each rest) in
+      let whole : take done old ++ (part ++ (separator group ∷ behind)) ≡ grouped group upper bytes = rw (grouped-more group upper rest long) at before.so_far in
+      record {
+        inside = omega (arith, more);
+        room = length-set put (done + 2 * each) (separator group) ∙ same ∙ rw cut (omega (arith, before.room, len));
+        so_far = rw (
+            take_more_set put (done + 2 * each) (separator group) last,
+            take-put_mid done (2 * each) old part (done + 2 * each) (omega (arith, size)) (omega (arith, before.room)),
+            ← drop-drop each at bytes,
+        ) (joined-mark (take done old) part (separator group) behind ∙ whole);
+      }
+
+  pub writes-last : (bytes old : List ℕ) (at done : ℕ) → WritesRest bytes old at done → length bytes - at ≤ each
+      → put_mid done (length old - done) old (text upper (drop at bytes)) ≡ grouped group upper bytes
+  writes-last bytes old at done before short =
+      let rest = drop at bytes in
+      let fits : length rest ≤ each = omega (arith, length-drop at bytes, short) in
+      let len = len-last each (length bytes - at) group.is_group.0 short in
+      put-behind done old (text upper rest) (omega (arith, before.room)) (omega (arith, length-text upper rest, length-drop at bytes, before.room, len))
+      ∙ (rw (grouped-last group upper rest fits) at before.so_far)

@@ -1,7 +1,7 @@
 -- Grouped texts: the texts of a list's pieces, with a separator between two.
 use Rattle.std.specs.Prelude.{◌≡◌, ℕ, ◌*◌, Bool, List, [], ◌∷◌, length, take, drop, map, Option, MatchOption}
 use Rattle.std.specs.Int.{div_ceil}
-use Rattle.std.specs.List.{flat_map, join_by, range_with_len}
+use Rattle.std.specs.List.{join_by, range_with_len}
 use Rattle.hex_core.specs.Text.{text}
 use Rattle.hex_codec.specs.declared.group.Group.{Group}
 use Rattle.hex_codec.specs.Groups.{IsGroup}
@@ -29,7 +29,3 @@ pieces every bytes = map (λ i. take every (drop (i * every) bytes)) (range_with
 -- the grouped text of a list: the texts of its pieces, joined by the separator
 abbrev pub grouped : Group → Bool → List ℕ → List ℕ
 grouped group upper bytes = join_by (text upper) (separator group ∷ []) (pieces (piece_len group) bytes)
-
--- the same with a separator before each piece, the first one too
-abbrev pub separated : Group → Bool → List ℕ → List ℕ
-separated group upper bytes = flat_map (λ piece. separator group ∷ text upper piece) (pieces (piece_len group) bytes)

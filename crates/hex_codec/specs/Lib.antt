@@ -1,7 +1,6 @@
 pub mod Append
 pub mod Calls
 pub mod Failure
-pub mod Fronts
 pub mod GroupCalls
 pub mod GroupLaws
 pub mod Grouped

@@ -1,7 +1,6 @@
 //! The digits of a chunk, in a buffer on the stack.
 
 ghost use Rattle.std.specs.Prelude.{◌≡◌, ◌*◌, ◌≤◌, length};
-ghost use Rattle.std.specs.Str.{IsAscii};
 ghost use Rattle.hex_core.specs.Text.{text};
 
 use hex_core::Backend;
@@ -14,25 +13,6 @@ pub const CHUNK: usize = 256;
 /// How many digits a whole chunk has.
 pub const CHUNK_DIGITS: usize = 512;
 
-/// Returns the text of some bytes, written into the front of the buffer.
-///
-/// The caller shows that the buffer holds it: `2 * bytes.len()` bytes.
-///
-/// ```rust
-/// let mut buffer = [0; 8];
-/// let text = encoded(&[0xab, 1], true, &mut buffer);
-/// assert_eq!(rt; text, b"AB01".as_slice());
-/// ```
-pub fn encoded<'b>(bytes: &[u8], upper: bool, buffer: &'b mut [u8]) -> &'b [u8]
-    requires { 2 * length bytes.now ≤ length buffer.old }
-    ensures text { result.now ≡ text upper bytes.now }
-    ensures ascii { IsAscii result.now }
-{
-    let text = &mut buffer[..2 * bytes.len()];
-    Backend::plain().encode(bytes, text, upper);
-    text
-}
-
 /// Returns the digits of a chunk of at most [`CHUNK`] bytes, written into the front of `buffer`.
 ///
 /// ```rust
@@ -44,5 +24,7 @@ pub fn chunk_text<'a>(buffer: &'a mut [u8; CHUNK_DIGITS], chunk: &[u8], upper: b
     ensures text { result.now ≡ text upper chunk.now }
     ensures len { length result.now ≡ 2 * length chunk.now }
 {
-    unsafe { str::from_utf8_unchecked(encoded(chunk, upper, buffer)) }
+    let digits = &mut buffer[..2 * chunk.len()];
+    Backend::plain().encode(chunk, digits, upper);
+    unsafe { str::from_utf8_unchecked(digits) }
 }

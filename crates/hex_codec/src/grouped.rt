@@ -1,22 +1,17 @@
-//! Grouped digits: pieces with a separator between two, read into bytes.
+//! Grouped digits: pieces with a separator between two, read into bytes and written from them.
 //!
-//! All of a text is tested before the first store. The digits of up to 256 bytes are taken out of their
-//! separators into a buffer, and tested and decoded there. A longer text goes through the buffer twice:
-//! it is tested first, and then decoded. Pieces that find no room in it are decoded where they stand.
+//! All of a text is tested before the first store.
 
-ghost use Rattle.std.specs.Prelude.{◌≡◌, ◌≤◌, ◌<◌, length};
+ghost use Rattle.std.specs.Prelude.{◌≡◌, ◌≤◌, ◌<◌, ◌^◌, MatchOption, length};
 ghost use Rattle.std.specs.Borrow.{sem};
 ghost use Rattle.hex_core.specs.Loan.{LendsAnswer};
-ghost use Rattle.hex_core.specs.Text.{Spells};
 ghost use Rattle.hex_codec.specs.Grouped.{piece_len};
-ghost use Rattle.hex_codec.specs.GroupedText.{byte_count, digits_in, grouped_len};
-ghost use Rattle.hex_codec.specs.GroupCalls.{CountsBytes, Reads, ReadsFront, ReadsOrNames, ReadsWhole};
-ghost use Rattle.hex_codec.specs.Fronts.{ValidDigits};
+ghost use Rattle.hex_codec.specs.GroupedText.{byte_count, grouped_len};
+ghost use Rattle.hex_codec.specs.GroupCalls.{CountsBytes, Reads, ReadsFront, WritesGrouped};
 
 pub use crate::group::Group;
-use crate::group_search::first_wrong;
-use crate::pieces::{FRONT_BYTES, FRONT_ROOM, are_separators, front_of, take_digits};
-use hex_core::{Backend, CheckCase};
+use crate::pieces::{first_wrong, read_pieces, write_pieces};
+use hex_core::{CheckCase, Error};
 
 /// Why a grouped text was not read.
 ///
@@ -62,88 +57,6 @@ fn byte_count(len: usize, every: usize) -> Option<usize>
         return None;
     }
     Some(len / part * every + last / 2)
-}
-
-// Writes the bytes of a text by way of a buffer, as many pieces at a time as find room in it.
-fn decode_fronts(src: &[u8], dst: &mut [u8], group: Group, case: CheckCase)
-    requires every { piece_len group ≤ FRONT_BYTES }
-    requires digits { ValidDigits case group src.now (length dst.old) }
-    ensures { Spells case (digits_in (piece_len group) src.now) dst.new }
-{
-    let mut buffer = [0; FRONT_ROOM];
-    let mut at = 0;
-    let mut done = 0;
-    while at < src.len() {
-        let front = front_of(&src[at..], group);
-        let digits = take_digits(front, group, &mut buffer);
-        let end = done + digits / 2;
-        Backend::plain().decode(&buffer[..digits], &mut dst[done..end], case);
-        at += front.len();
-        done = end;
-    }
-}
-
-// The same where its pieces stand, one by one.
-fn decode_pieces(src: &[u8], dst: &mut [u8], group: Group, case: CheckCase)
-    requires { ValidDigits case group src.now (length dst.old) }
-    ensures { Spells case (digits_in (piece_len group) src.now) dst.new }
-{
-    let mut at = 0;
-    let mut done = 0;
-    while done < dst.len() {
-        let count = group.every().min(dst.len() - done);
-        Backend::plain().decode(&src[at..at + 2 * count], &mut dst[done..done + count], case);
-        done += count;
-        at += 2 * count + 1;
-    }
-}
-
-// Writes the bytes of a text.
-fn decode_valid(src: &[u8], dst: &mut [u8], group: Group, case: CheckCase)
-    requires { ValidDigits case group src.now (length dst.old) }
-    ensures { Spells case (digits_in (piece_len group) src.now) dst.new }
-{
-    if group.every() <= FRONT_BYTES {
-        decode_fronts(src, dst, group, case);
-    } else {
-        decode_pieces(src, dst, group, case);
-    }
-}
-
-// Reads a text by way of a buffer, or returns false where its digits find no room or a byte is wrong.
-fn read_at_once(src: &[u8], dst: &mut [u8], group: Group, case: CheckCase) -> bool
-    requires { length src.now ≡ grouped_len (piece_len group) (length dst.old) }
-    ensures { ReadsWhole case group src.now dst.old dst.new result }
-{
-    if dst.len() > FRONT_BYTES || !are_separators(src, group) {
-        return false;
-    }
-    let mut buffer = [0; FRONT_ROOM];
-    let count = take_digits(src, group, &mut buffer);
-    Backend::plain().decode(&buffer[..count], dst, case)
-}
-
-// Reads a text in a pass that tests all and another that writes, or returns the first wrong byte.
-fn read_in_passes(src: &[u8], dst: &mut [u8], group: Group, case: CheckCase) -> Option<usize>
-    requires { length src.now ≡ grouped_len (piece_len group) (length dst.old) }
-    ensures { ReadsOrNames case group src.now dst.old dst.new result }
-{
-    if let Some(index) = first_wrong(src, group, case) {
-        return Some(index);
-    }
-    decode_valid(src, dst, group, case);
-    None
-}
-
-// Reads a text, or returns the first wrong byte.
-fn read_whole(src: &[u8], dst: &mut [u8], group: Group, case: CheckCase) -> Option<usize>
-    requires { length src.now ≡ grouped_len (piece_len group) (length dst.old) }
-    ensures { ReadsOrNames case group src.now dst.old dst.new result }
-{
-    if read_at_once(src, dst, group, case) {
-        return None;
-    }
-    read_in_passes(src, dst, group, case)
 }
 
 // How many bytes a text of this length spells, or what its length refuses.
@@ -194,12 +107,13 @@ pub fn read_into(
     ensures { Reads case group src.now dst.old dst.new result }
 {
     let count = required(src.len(), dst.len(), group)?;
-    if let Some(index) = read_whole(src, &mut dst[..count], group, case) {
+    if let Some(index) = first_wrong(src, count, group, case) {
         return Err(GroupFault::InvalidByte {
             index,
             byte: src[index],
         });
     }
+    read_pieces(src, &mut dst[..count], group, case);
     Ok(count)
 }
 
@@ -232,4 +146,45 @@ pub fn read<'a>(
         Ok(written) => Ok(&mut dst[..written]),
         Err(fault) => Err(fault),
     }
+}
+
+// How long the grouped text of so many bytes is, where that is a `usize`.
+#[inline(always)]
+fn grouped_len(len: usize, every: usize) -> Option<usize>
+    requires { 0 < every }
+    ensures { MatchOption result (2 ^ 64 ≤ grouped_len every len)
+        (λ n. (n ≡ grouped_len every len) × (n < 2 ^ 64)) }
+{
+    let digits = len.checked_mul(2)?;
+    digits.checked_add(len.div_ceil(every).saturating_sub(1))
+}
+
+/// Writes the grouped text of `src` into the front of `dst`, and returns how long it is: two digits
+/// for each byte, and a separator fewer than pieces. The bytes behind it stay as they were. The empty
+/// source gives 0 and changes nothing.
+///
+/// # Errors
+///
+/// In this order, each of which leaves all of `dst` as it was:
+///
+/// 1. [`Error::Overflow`] where that length is no `usize`;
+/// 2. [`Error::OutputTooSmall`] where `dst` has fewer bytes.
+///
+/// ```rust
+/// let group = Group::new(2, b':').ok_or("no group")?;
+/// let mut buffer = [0; 8];
+/// let written = write_into(&[0, 1, 0xab], &mut buffer, group, true)?;
+/// assert_eq!(rt; &buffer[..written], b"0001:AB");
+/// ```
+pub fn write_into(src: &[u8], dst: &mut [u8], group: Group, upper: bool) -> Result<usize, Error>
+    ensures { WritesGrouped group upper src.now dst.old dst.new result }
+{
+    let Some(required) = grouped_len(src.len(), group.every()) else {
+        return Err(Error::Overflow);
+    };
+    if dst.len() < required {
+        return Err(Error::OutputTooSmall { required });
+    }
+    write_pieces(src, &mut dst[..required], group, upper);
+    Ok(required)
 }

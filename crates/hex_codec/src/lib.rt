@@ -1,15 +1,14 @@
 //! Encoding and decoding hex digits: slices, arrays, vectors, strings and texts of a fixed capacity.
 #![tactic(auto)]
 
-pub mod chunks;
+mod chunks;
 pub mod decode;
 pub mod encode;
 mod group;
-mod group_search;
 pub mod grouped;
 pub mod heapless_08;
 pub mod laws;
-pub mod pieces;
+mod pieces;
 pub mod stream;
 pub mod strings;
 

@@ -1,104 +1,126 @@
-//! The digits of a grouped text, without its separators.
+//! Passes over the pieces of a grouped text: one that tests all of it, one that reads it, and one that
+//! writes it. The last piece, which no separator follows, stands behind each loop.
 
-ghost use Rattle.std.specs.Prelude.{◌≡◌, ◌+◌, ◌≤◌, All, length, take};
-ghost use Rattle.std.specs.Bool.{OnTrue};
-ghost use Rattle.hex_codec.specs.Fronts.{IsFront};
-ghost use Rattle.hex_codec.specs.Grouped.{piece_len, separator};
-ghost use Rattle.hex_codec.specs.GroupedText.{digits_in, separators_in};
+ghost use Rattle.std.specs.Prelude.{◌≡◌, ◌*◌, ◌%◌, ◌↔◌, IsTrue, None, length};
+ghost use Rattle.hex_core.specs.Search.{first_invalid};
+ghost use Rattle.hex_core.specs.Text.{Spells, text};
+ghost use Rattle.hex_codec.specs.Grouped.{grouped, piece_len};
+ghost use Rattle.hex_codec.specs.GroupedText.{GroupSpells, first_wrong, grouped_len};
 
+use crate::decode::hex_decode_into;
 use crate::group::Group;
-use std::simd::prelude::*;
+use hex_core::few::{are_pairs, write_bytes, write_digits};
+use hex_core::{Backend, CheckCase};
 
-/// How many bytes one copy takes, however few of them are wanted.
-pub const COPY_BLOCK: usize = 16;
+// A call for fewer bytes takes longer than looking up their digits where they stand.
+const CALLED: usize = 8;
 
-/// Of so many bytes the digits are taken out of their separators together.
-pub const FRONT_BYTES: usize = 256;
-
-/// What their digits, and the bytes copied behind the last of them, find room in.
-pub const FRONT_ROOM: usize = 2 * FRONT_BYTES + COPY_BLOCK;
-
-/// Copies the first `len` bytes of a slice over those of another. What stands behind them may change.
+// Whether all digits of a piece have a value.
 #[inline(always)]
-pub fn copy_piece(from: &[u8], to: &mut [u8], len: usize)
-    requires len { len ≤ length from.now }
-    requires from { 16 ≤ length from.now }
-    requires room { len ≤ length to.old }
-    requires to { 16 ≤ length to.old }
-    ensures { take len to.new ≡ take len from.now }
+fn is_valid(digits: &[u8], case: CheckCase) -> bool
+    requires { length digits.now % 2 ≡ 0 }
+    ensures { IsTrue result ↔ (first_invalid case digits.now ≡ None) }
 {
-    if len <= COPY_BLOCK {
-        u8x16::from_slice(from).copy_to_slice(to);
-    } else {
-        copy_exactly(&from[..len], to);
+    if digits.len() < 2 * CALLED {
+        return are_pairs(digits, case);
     }
+    Backend::plain().check(digits, case)
 }
 
-// The same where a source may end before.
+// The first invalid digit of a piece.
 #[inline(always)]
-fn copy_front(from: &[u8], to: &mut [u8], len: usize)
-    requires len { len ≤ length from.now }
-    requires room { len ≤ length to.old }
-    requires to { 16 ≤ length to.old }
-    ensures { take len to.new ≡ take len from.now }
+fn first_invalid(digits: &[u8], case: CheckCase) -> Option<usize>
+    requires { length digits.now % 2 ≡ 0 }
+    ensures { result ≡ first_invalid case digits.now }
 {
-    if from.len() >= COPY_BLOCK {
-        copy_piece(from, to, len);
-    } else {
-        copy_exactly(&from[..len], to);
+    if is_valid(digits, case) {
+        return None;
     }
+    Backend::plain().first_invalid(digits, case)
 }
 
-// In a body of its own, since the call of `memcpy` would keep a loop of short pieces from its registers.
-#[inline(never)]
-fn copy_exactly(from: &[u8], to: &mut [u8])
-    requires { length from.now ≤ length to.old }
-    ensures { take (length from.now) to.new ≡ from.now }
+// Writes the bytes that a piece's digits spell, which are valid.
+#[inline(always)]
+fn read_piece(digits: &[u8], bytes: &mut [u8], case: CheckCase)
+    requires twice { length digits.now ≡ 2 * length bytes.old }
+    requires valid { first_invalid case digits.now ≡ None }
+    ensures { Spells case digits.now bytes.new }
 {
-    to[..from.len()].copy_from_slice(from);
+    if bytes.len() < CALLED {
+        return write_bytes(digits, bytes, case);
+    }
+    let _ = hex_decode_into(digits, bytes, case);
 }
 
-/// Copies the digits of a text to the front of a buffer, and returns how many they are. What stands
-/// between its pieces is not looked at.
-pub fn take_digits(text: &[u8], group: Group, digits: &mut [u8]) -> usize
-    requires { length (digits_in (piece_len group) text.now) + 16 ≤ length digits.old }
-    ensures copied { take result digits.new ≡ digits_in (piece_len group) text.now }
-    ensures count { result ≡ length (digits_in (piece_len group) text.now) }
+// Writes the digits of a piece.
+#[inline(always)]
+fn write_piece(bytes: &[u8], digits: &mut [u8], upper: bool)
+    requires { length digits.old ≡ 2 * length bytes.now }
+    ensures { digits.new ≡ text upper bytes.now }
 {
-    let piece = 2 * group.every().min(text.len());
+    if bytes.len() < CALLED {
+        return write_digits(bytes, digits, upper);
+    }
+    Backend::plain().encode(bytes, digits, upper);
+}
+
+/// Returns the first wrong byte of a text that is as long as that of `count` bytes.
+pub fn first_wrong(src: &[u8], count: usize, group: Group, case: CheckCase) -> Option<usize>
+    requires { length src.now ≡ grouped_len (piece_len group) count }
+    ensures { result ≡ first_wrong case group src.now }
+{
+    let every = group.every();
     let mut at = 0;
-    let mut to = 0;
-    while text.len() - at > piece {
-        copy_front(&text[at..], &mut digits[to..], piece);
-        at += piece + 1;
-        to += piece;
-    }
-    let last = text.len() - at;
-    copy_front(&text[at..], &mut digits[to..], last);
-    to + last
-}
-
-/// Whether each byte between two pieces of a text is the separator.
-pub fn are_separators(text: &[u8], group: Group) -> bool
-    ensures { OnTrue result (All (λ b. b ≡ separator group) (separators_in (piece_len group) text.now)) }
-{
-    let piece = 2 * group.every().min(text.len());
-    let mut at = piece;
-    while at < text.len() {
-        if text[at] != group.sep() {
-            return false;
+    let mut left = count;
+    'pieces: while left > every {
+        let end = at + 2 * every;
+        if let Some(index) = first_invalid(&src[at..end], case) {
+            return Some(at + index);
         }
-        at += piece + 1;
+        if src[end] != group.sep() {
+            return Some(end);
+        }
+        at = end + 1;
+        left -= every;
     }
-    true
+    match first_invalid(&src[at..], case) {
+        Some(index) => Some(at + index),
+        None => None,
+    }
 }
 
-/// As many whole pieces with their separators as a buffer has room for, or all of a text that has no
-/// more.
-pub fn front_of(text: &[u8], group: Group) -> &[u8]
-    requires { piece_len group ≤ FRONT_BYTES }
-    ensures { IsFront (piece_len group) text.now result.now }
+/// Writes the bytes that a text spells, which has no wrong byte, over the whole of `dst`.
+pub fn read_pieces(src: &[u8], dst: &mut [u8], group: Group, case: CheckCase)
+    requires long { length src.now ≡ grouped_len (piece_len group) (length dst.old) }
+    requires clear { first_wrong case group src.now ≡ None }
+    ensures { GroupSpells case group src.now dst.new }
 {
-    let len = FRONT_BYTES / group.every() * (2 * group.every() + 1);
-    if len < text.len() { &text[..len] } else { text }
+    let every = group.every();
+    let mut at = 0;
+    let mut done = 0;
+    'pieces: while dst.len() - done > every {
+        let end = at + 2 * every;
+        read_piece(&src[at..end], &mut dst[done..done + every], case);
+        at = end + 1;
+        done += every;
+    }
+    read_piece(&src[at..], &mut dst[done..], case);
+}
+
+/// Writes the grouped text of `src` over the whole of `dst`.
+pub fn write_pieces(src: &[u8], dst: &mut [u8], group: Group, upper: bool)
+    requires { length dst.old ≡ grouped_len (piece_len group) (length src.now) }
+    ensures { dst.new ≡ grouped group upper src.now }
+{
+    let every = group.every();
+    let mut at = 0;
+    let mut done = 0;
+    'pieces: while src.len() - at > every {
+        let end = done + 2 * every;
+        write_piece(&src[at..at + every], &mut dst[done..end], upper);
+        dst[end] = group.sep();
+        at += every;
+        done = end + 1;
+    }
+    write_piece(&src[at..], &mut dst[done..], upper);
 }

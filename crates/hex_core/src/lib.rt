@@ -28,6 +28,11 @@ pub mod probe {
     pub use crate::slice_probe::SliceProbe;
 }
 
+/// Look-ups of a few digits, inlined where a call would take longer than they do.
+pub mod few {
+    pub use crate::scalar::{are_pairs, write_bytes, write_digits};
+}
+
 /// The plans, and the sources that are searched under them.
 pub mod plan {
     pub use crate::backend::{Backend, backends};

@@ -32,9 +32,15 @@ fn packed(high: u8, low: u8) -> u8
     16 * high + low
 }
 
-// Writes the bytes that a valid source spells into the whole of `dst`.
-#[inline(never)]
-fn write_bytes(src: &[u8], dst: &mut [u8], case: CheckCase)
+/// Writes the bytes that a valid source spells into the whole of `dst`.
+///
+/// ```rust
+/// let mut bytes = [0; 2];
+/// write_bytes(b"00aB", &mut bytes, CheckCase::None);
+/// assert_eq!(rt; bytes, [0, 0xab]);
+/// ```
+#[inline(always)]
+pub fn write_bytes(src: &[u8], dst: &mut [u8], case: CheckCase)
     requires twice { length src.now ≡ 2 * length dst.old }
     requires valid { first_invalid case src.now ≡ None }
     ensures { Spells case src.now dst.new }
@@ -65,6 +71,21 @@ fn word_of(src: &[u8], case: CheckCase) -> Option<u64>
         word = 256 * word + packed(high, low) as u64;
     }
     Some(word)
+}
+
+/// Returns whether each of fewer than 16 digits, two for each byte, has a value under `case`.
+///
+/// ```rust
+/// assert!(rt; are_pairs(b"00aB", CheckCase::None));
+/// assert!(rt; !are_pairs(b"00aB", CheckCase::Lower));
+/// ```
+#[inline(always)]
+pub fn are_pairs(src: &[u8], case: CheckCase) -> bool
+    requires few { length src.now < 16 }
+    requires pairs { length src.now % 2 ≡ 0 }
+    ensures { IsTrue result ↔ (first_invalid case src.now ≡ None) }
+{
+    word_of(src, case).is_some()
 }
 
 // Writes the last bytes of a number over the whole of `dst`. A copy of so few bytes would be a call.
@@ -123,6 +144,21 @@ fn decode_in_passes(src: &[u8], dst: &mut [u8], case: CheckCase) -> bool
 /// Writes the text of `src` into the whole of `dst`.
 #[inline(never)]
 pub fn encode_by_table(src: &[u8], dst: &mut [u8], upper: bool)
+    requires { length dst.old ≡ 2 * length src.now }
+    ensures { dst.new ≡ text upper src.now }
+{
+    write_digits(src, dst, upper);
+}
+
+/// Writes the text of `src` into the whole of `dst`.
+///
+/// ```rust
+/// let mut digits = [0; 4];
+/// write_digits(&[0, 0xab], &mut digits, true);
+/// assert_eq!(rt; &digits, b"00AB");
+/// ```
+#[inline(always)]
+pub fn write_digits(src: &[u8], dst: &mut [u8], upper: bool)
     requires { length dst.old ≡ 2 * length src.now }
     ensures { dst.new ≡ text upper src.now }
 {

@@ -1,4 +1,4 @@
--- The front is as long as the number of bytes, and the first wrong byte is inside the source.
+-- The text is as long as that of the count, and the first wrong byte is inside the source.
 use Rattle.std.proofs.Common.{sym, ◌∙◌, length}
 use Rattle.std.proofs.lemmas.List.{length-take-le}
 use Rattle.hex_codec.specs.Grouped.{piece_len}
@@ -6,11 +6,15 @@ use Rattle.hex_codec.proofs.CountLemmas.{fitting}
 use Rattle.hex_codec.proofs.WrongLemmas.{wrong-inside}
 use Rattle.hex_codec.proofs.grouped.read_into.Goals as goal
 
-pub read_whole-requires : goal.read_whole-requires
-read_whole-requires c =
+pub first_wrong-requires : goal.first_wrong-requires
+first_wrong-requires c =
+    (fitting (piece_len c.args.group) (length c.args.src.now) (length c.args.dst.now) c.in_ok-count.count c.in_ok-count.ensures.0 c.in_ok-count.ensures.1).1
+
+pub bounds-src-index : goal.bounds-src-index
+bounds-src-index c = wrong-inside c.args.case c.args.group c.args.src.now c.in-Some.index (sym c.first_wrong.ensures ∙ c.in-Some.is)
+
+pub read_pieces-requires-clause-long : goal.read_pieces-requires-clause-long
+read_pieces-requires-clause-long c =
     let old = c.args.dst.now in let count = c.in_ok-count.count in
     let is = fitting (piece_len c.args.group) (length c.args.src.now) (length old) count c.in_ok-count.ensures.0 c.in_ok-count.ensures.1 in
     rw (length-take-le count old is.0) is.1
-
-pub bounds-src-index : goal.bounds-src-index
-bounds-src-index c = wrong-inside c.args.case c.args.group c.args.src.now c.in-Some.index (sym c.read_whole.ensures.0 ∙ c.in-Some.is)
