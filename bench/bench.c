@@ -28,8 +28,8 @@
 
 // The lengths in decoded bytes: those of the tables, in whose place a sweep puts its own.
 #define MOST_SIZES 160
-static size_t sizes[MOST_SIZES] = {8, 16, 32, 64, 72, 100, 150, 256, 1024, 4096, LARGEST};
-static size_t sizes_len = 11;
+static size_t sizes[MOST_SIZES] = {6, 8, 16, 20, 32, 64, 72, 100, 150, 256, 1024, 4096, LARGEST};
+static size_t sizes_len = 13;
 
 // What a call works on. One that checks, and one that decodes into memory of its own, is given no
 // room to write into.
@@ -82,15 +82,15 @@ struct task {
     X(WRITES, rust, plan, decode, DECODE) \
     X(WRITES, rust, plan, decode_owned, DECODE)
 
-// The padded text into a slice, ungrouped and in pieces of so many bytes.
+// Writing the text ungrouped, by hex_encode_into, and in pieces of so many bytes.
 #define PIECES(X) \
-    X(WRITES, own, ungrouped, write_to, PADDED) \
-    X(WRITES, own, by_1, write_to, PADDED) \
-    X(WRITES, own, by_2, write_to, PADDED) \
-    X(WRITES, own, by_4, write_to, PADDED) \
-    X(WRITES, own, by_8, write_to, PADDED) \
-    X(WRITES, own, by_16, write_to, PADDED) \
-    X(WRITES, own, by_1000, write_to, PADDED)
+    X(WRITES, own, ungrouped, write, PADDED) \
+    X(WRITES, own, by_1, write, PADDED) \
+    X(WRITES, own, by_2, write, PADDED) \
+    X(WRITES, own, by_4, write, PADDED) \
+    X(WRITES, own, by_8, write, PADDED) \
+    X(WRITES, own, by_16, write, PADDED) \
+    X(WRITES, own, by_1000, write, PADDED)
 
 // Reading the same text ungrouped, by hex_decode, and in pieces of so many bytes.
 #define READS_OF(X) \
@@ -819,7 +819,7 @@ int main(int count, char **words) {
 #ifdef RUST
     print_refused("a refused decode of ours: time over that of the Rust crate's public call", true);
 #endif
-    print_forms("Hex::write_to into a slice", "write_to", "write_in_c", PADDED);
+    print_forms("grouped::write_into, ungrouped: hex_encode_into", "write", "write_in_c", PADDED);
     print_forms("grouped::read, ungrouped: hex_decode", "read", "read_in_c", GROUPED);
     return 0;
 }

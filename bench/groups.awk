@@ -3,7 +3,7 @@
 # the builds.
 
 BEGIN {
-    sizes_len = split("8 64 256 1024 65536", sizes)
+    sizes_len = split("6 8 16 20 32 64 1024 65536", sizes)
     for (at = 1; at <= sizes_len; at++)
         wanted[sizes[at]] = 1
     forms_len = split("1 2 4 8 16", forms)
@@ -11,7 +11,7 @@ BEGIN {
 
 FNR == 1 { build++ }
 
-/^Hex::write_to / { what = "write"; next }
+/^grouped::write_into,/ { what = "write"; next }
 
 /^grouped::read,/ { what = "read"; next }
 
@@ -33,7 +33,7 @@ END {
 }
 
 function table(over) {
-    print "Decoded bytes | 8 | 64 | 256 | 1,024 | 65,536\n---|---|---|---|---|---"
+    print "Decoded bytes | 6 | 8 | 16 | 20 | 32 | 64 | 1,024 | 65,536\n---|---|---|---|---|---|---|---|---"
     row(over, "write")
     row(over, "read")
 }

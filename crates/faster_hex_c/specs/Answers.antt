@@ -1,19 +1,17 @@
 -- What the exported calls answer.
-use Rattle.std.specs.Prelude.{◌≡◌, ℕ, ◌==◌, if◌then◌else◌, Bool, List, length, slice_index}
+use Rattle.std.specs.Prelude.{◌≡◌, ℕ, ◌==◌, if◌then◌else◌, Bool, List, slice_index}
 use Rattle.std.specs.Prelude.{Option, Some, None, MatchOption, Result, Ok, Err}
 use Rattle.hex_core.specs.declared.digit.CheckCase.{CheckCase}
 use Rattle.hex_core.specs.declared.digit.CheckCase.TheVariants as policy
 use Rattle.hex_core.specs.declared.error.Error.{Error}
 use Rattle.hex_core.specs.declared.error.Error.TheVariants.{InvalidChar, OutputTooSmall, OddLength, Overflow}
-use Rattle.hex_core.specs.Calls.{Decodes, Encodes, Fills}
-use Rattle.hex_core.specs.Refusal.{room_refusal}
+use Rattle.hex_core.specs.Calls.{Decodes, Encodes}
 use Rattle.hex_core.specs.Search.{first_invalid}
 use Rattle.hex_codec.specs.declared.group.Group.{Group}
 use Rattle.hex_codec.specs.declared.grouped.GroupFault.{GroupFault}
 use Rattle.hex_codec.specs.declared.grouped.GroupFault.TheVariants as fault
-use Rattle.hex_codec.specs.GroupCalls.{Reads}
-use Rattle.hex_codec.specs.Grouped.{MakesGroup, grouped, piece_len}
-use Rattle.hex_codec.specs.GroupedText.{grouped_len}
+use Rattle.hex_codec.specs.GroupCalls.{Reads, WritesGrouped}
+use Rattle.hex_codec.specs.Grouped.{MakesGroup}
 use Rattle.faster_hex_c.specs.declared.Answer.{Answer}
 
 -- the policy that a number names
@@ -68,11 +66,6 @@ group_answer_of (Ok written) = record { number = written; status = 0; byte = 0 }
 group_answer_of (Err (fault.OutputTooSmall required)) = record { number = required; status = 2; byte = 0 }
 group_answer_of (Err (fault.InvalidByte index byte)) = record { number = index; status = 3; byte = byte }
 group_answer_of (Err fault.BadLength) = record { number = 0; status = 7; byte = 0 }
-
--- grouped writing into the front of a destination: the grouped text
-abbrev pub WritesGrouped : Group → Bool → List ℕ → List ℕ → List ℕ → Result ℕ Error → Type 0
-WritesGrouped group upper bytes old new result =
-    Fills (room_refusal (grouped_len (piece_len group) (length bytes)) (length old)) (λ string. string ≡ grouped group upper bytes) old new result
 
 -- by the group that two numbers make; where they make none the destination is as it was
 abbrev pub ByGroup : ℕ → ℕ → List ℕ → List ℕ → Answer → (Group → Type 0) → Type 0

@@ -3,16 +3,13 @@
 //! a pointer is good.
 #![tactic(auto)]
 
-ghost use Rattle.std.specs.Prelude.{◌≡◌, ◌↔◌, ◌≤◌, ◌<◌, ◌^◌, IsTrue, IsOk, None, MatchOption, OnOk, length};
+ghost use Rattle.std.specs.Prelude.{◌≡◌, ◌↔◌, IsTrue, None};
 ghost use Rattle.hex_core.specs.declared.digit.CheckCase.TheVariants as policy;
 ghost use Rattle.hex_core.specs.Search.{first_invalid};
 ghost use Rattle.faster_hex_c.specs.Answers.{DecodesBy, DecodesTo, EncodesTo, FindsInvalid, answer_of, policy_of};
 ghost use Rattle.faster_hex_c.specs.Answers.{DecodesGrouped, EncodesGrouped, group_answer_of};
 
-mod groups;
-
-use crate::groups::encode_grouped;
-use hex_codec::grouped::read_into;
+use hex_codec::grouped::{read_into, write_into};
 use hex_codec::{Group, GroupFault, hex_check, hex_decode_into, hex_encode_into};
 use hex_core::{Backend, CheckCase, Error};
 
@@ -175,7 +172,7 @@ pub extern "C" fn faster_hex_encode_grouped(
     ensures { EncodesGrouped every sep upper src.now dst.old dst.new result }
 {
     match Group::new(every, sep) {
-        Some(group) => answer_of(encode_grouped(src, dst, upper, group)),
+        Some(group) => answer_of(write_into(src, dst, group, upper)),
         None => NO_GROUP,
     }
 }

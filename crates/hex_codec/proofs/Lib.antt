@@ -1,5 +1,5 @@
 mod AppendWalk
-mod CountLemmas
+pub mod CountLemmas
 mod EncodeWalk
 pub mod GroupLemmas
 mod GroupTextLemmas

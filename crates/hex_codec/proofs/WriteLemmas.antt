@@ -36,7 +36,7 @@ module _ (c : CheckCase) (group : Group) where
   further a b (Some i) = ap Some (omega arith)
 
   -- there is a separator behind the next piece
-  pub inside : (s : List ℕ) (at left : ℕ) → length s ≡ at + grouped_len every left → every < left → at + n < length s
+  inside : (s : List ℕ) (at left : ℕ) → length s ≡ at + grouped_len every left → every < left → at + n < length s
   inside s at left long more = omega (arith, long, len-more every left group.is_group.0 more)
 
   reached : (s : List ℕ) (at left : ℕ) → length s ≡ at + grouped_len every left → every < left → n < length (drop at s)

@@ -1,9 +1,7 @@
 mod ChunkFacts
 pub mod FrameFacts
-mod GroupFacts
 pub mod PutsLemmas
 mod Repeats
-mod SeparateLemmas
 mod StreamLemmas
 mod EntryLemmas
 mod FaultLemmas

@@ -1,9 +1,9 @@
 -- The padded text of a list of bytes.
-use Rattle.std.specs.Prelude.{ℕ, ◌-◌, ◌*◌, ◌/◌, Bool, false, List, [], ◌∷◌, ◌++◌, length, codes, encode_utf8, Option, Some, None, if◌then◌else◌}
-use Rattle.std.specs.List.{flat_map, repeat}
+use Rattle.std.specs.Prelude.{ℕ, ◌-◌, ◌*◌, ◌/◌, Bool, false, List, [], ◌++◌, length, codes, encode_utf8, Option, Some, None, if◌then◌else◌}
+use Rattle.std.specs.List.{repeat}
 use Rattle.hex_core.specs.Text.{text}
 use Rattle.hex_codec.specs.declared.group.Group.{Group}
-use Rattle.hex_codec.specs.Grouped.{grouped, piece_count, piece_len, pieces, separator}
+use Rattle.hex_codec.specs.Grouped.{grouped, piece_count, piece_len}
 use Rattle.hex_format.specs.declared.format.Align.{Align}
 use Rattle.hex_format.specs.declared.format.Align.TheVariants.{Left, Right, Center}
 use Rattle.hex_format.specs.declared.format.Hex.{Hex}
@@ -49,10 +49,6 @@ abbrev pub left_padding : Align → ℕ → ℕ
 left_padding Left padding = 0
 left_padding Right padding = padding
 left_padding Center padding = padding / 2
-
--- each piece of a text behind a separator
-abbrev pub behind_separators : Group → List ℕ → List ℕ
-behind_separators group digits = flat_map (λ piece. separator group ∷ piece) (pieces (2 * piece_len group) digits)
 
 -- this many fill characters, in UTF-8
 abbrev pub fills : HexFlags → ℕ → List ℕ

@@ -1,16 +1,15 @@
 //! Puts of digits: the text of some bytes, with separators between its pieces where it is grouped.
 
-ghost use Rattle.std.specs.Prelude.{◌≡◌, ◌-◌, ◌*◌, ◌^◌, ◌<◌, ◌≤◌, ℕ, drop, length};
+ghost use Rattle.std.specs.Prelude.{◌≡◌, ◌-◌, ◌*◌, ◌%◌, ◌^◌, ◌<◌, ◌≤◌, ◌∷◌, ◌++◌, [], length, min};
+ghost use Rattle.std.specs.Str.{IsAscii};
 ghost use Rattle.hex_core.specs.Text.{text};
-ghost use Rattle.hex_codec.specs.Grouped.{grouped, piece_len, separated};
+ghost use Rattle.hex_codec.specs.Grouped.{grouped, piece_len, separator};
 ghost use Rattle.hex_format.specs.Frame.{digits_by};
 ghost use Rattle.hex_format.specs.Sink.{Puts};
 
-use crate::separate::write_pieces;
 use crate::sink::{Sink, WriteFault, put_all};
-use hex_codec::Group;
-use hex_codec::chunks::encoded;
-use hex_codec::pieces::COPY_BLOCK;
+use hex_codec::grouped::write_into;
+use hex_codec::{Group, hex_encode_into};
 
 /// How many source bytes are encoded at a time.
 pub const ENCODE_CHUNK: usize = 512;
@@ -19,11 +18,15 @@ pub const ENCODE_CHUNK: usize = 512;
 /// pay for the large one.
 pub const SHORT_SOURCE: usize = 128;
 
-// What the digits of so many bytes, and their pieces with separators, find room in. Whoever copies a
-// piece may copy some bytes more.
-const DIGIT_ROOM: usize = 2 * ENCODE_CHUNK + COPY_BLOCK;
-
-const PIECE_ROOM: usize = 3 * ENCODE_CHUNK + COPY_BLOCK;
+/// Returns the text of `bytes`, written into the front of a buffer that has room for it.
+pub fn encoded<'b>(bytes: &[u8], upper: bool, buffer: &'b mut [u8]) -> &'b [u8]
+    requires { 2 * length bytes.now ≤ length buffer.old }
+    ensures text { result.now ≡ text upper bytes.now }
+    ensures ascii { IsAscii result.now }
+{
+    let end = hex_encode_into(bytes, buffer, upper).unwrap();
+    &buffer[..end]
+}
 
 /// Puts the digits of `bytes`, grouped where there is a group.
 pub fn put_digits<S: Sink>(
@@ -54,7 +57,7 @@ fn put_text<S: Sink>(sink: &mut S, upper: bool, bytes: &[u8]) -> Result<(), Writ
     put_chunks(sink, upper, bytes, &mut buffer)
 }
 
-// Puts the text of `bytes`, as many at a time as the buffer has room for.
+// Puts the text of `bytes`, a chunk at a time.
 fn put_chunks<S: Sink>(
     sink: &mut S,
     upper: bool,
@@ -62,10 +65,10 @@ fn put_chunks<S: Sink>(
     buffer: &mut [u8],
 ) -> Result<(), WriteFault>
     requires counts { (S.state sink.old).failures < 2 ^ 64 - 1 }
-    requires room { 2 ≤ length buffer.old }
+    requires room { 2 * ENCODE_CHUNK ≤ length buffer.old }
     ensures { Puts (S.state sink.old) (S.state sink.new) result (text upper bytes.now) }
 {
-    for chunk in bytes.chunks(buffer.len() / 2) {
+    for chunk in bytes.chunks(ENCODE_CHUNK) {
         put_all(sink, encoded(chunk, upper, buffer))?;
     }
     Ok(())
@@ -82,25 +85,22 @@ fn put_grouped<S: Sink>(
     ensures { Puts (S.state sink.old) (S.state sink.new) result (grouped group upper bytes.now) }
 {
     if bytes.len() <= SHORT_SOURCE {
-        let mut digits = [0; 2 * SHORT_SOURCE + COPY_BLOCK];
-        let mut pieces = [0; 3 * SHORT_SOURCE + COPY_BLOCK];
-        let end = write_pieces(bytes, upper, group, &mut digits, &mut pieces);
-        return put_all(sink, &pieces[end.min(1)..end]);
+        let mut buffer = [0; 3 * SHORT_SOURCE];
+        return put_last(sink, upper, group, bytes, &mut buffer);
     }
-    let mut digits = [0; DIGIT_ROOM];
-    let mut pieces = [0; PIECE_ROOM];
-    // No separator stands before the first piece.
-    let mut from = 1;
-    for part in bytes.chunks(bytes_at_once(group)) {
-        put_pieces(sink, upper, group, part, from, &mut digits, &mut pieces)?;
-        from = 0;
+    let mut buffer = [0; 3 * ENCODE_CHUNK];
+    let size = bytes_at_once(group);
+    let mut at = 0;
+    'parts: while bytes.len() - at > size {
+        put_before(sink, upper, group, &bytes[at..at + size], &mut buffer)?;
+        at += size;
     }
-    Ok(())
+    put_last(sink, upper, group, &bytes[at..], &mut buffer)
 }
 
 // How many bytes are put at a time: as many whole pieces as a chunk has, or a longer one.
 fn bytes_at_once(group: Group) -> usize
-    ensures whole { (count : ℕ) × (result ≡ count * piece_len group) }
+    ensures whole { result % piece_len group ≡ 0 }
     ensures some { 0 < result }
     ensures one { ENCODE_CHUNK < result → result ≡ piece_len group }
 {
@@ -112,27 +112,45 @@ fn bytes_at_once(group: Group) -> usize
     }
 }
 
-// Puts the text of some pieces from a byte on, each behind a separator.
-fn put_pieces<S: Sink>(
+// Puts the grouped text of whole pieces that fit a chunk, or of a longer one, and a separator.
+fn put_before<S: Sink>(
     sink: &mut S,
     upper: bool,
     group: Group,
     bytes: &[u8],
-    from: usize,
-    digits: &mut [u8; DIGIT_ROOM],
-    pieces: &mut [u8; PIECE_ROOM],
+    buffer: &mut [u8; 3 * ENCODE_CHUNK],
 ) -> Result<(), WriteFault>
     requires counts { (S.state sink.old).failures < 2 ^ 64 - 1 }
     requires some { 0 < length bytes.now }
-    requires start { from ≤ 1 }
     requires one { ENCODE_CHUNK < length bytes.now → length bytes.now ≤ piece_len group }
     ensures { Puts (S.state sink.old) (S.state sink.new) result
-        (drop from (separated group upper bytes.now)) }
+        (grouped group upper bytes.now ++ (separator group ∷ [])) }
 {
-    if bytes.len() <= ENCODE_CHUNK {
-        let end = write_pieces(bytes, upper, group, digits, pieces);
-        return put_all(sink, &pieces[from..end]);
+    if bytes.len() > ENCODE_CHUNK {
+        put_chunks(sink, upper, bytes, buffer)?;
+        return put_all(sink, &[group.sep()]);
     }
-    put_all(sink, &[group.sep()][from..])?;
-    put_chunks(sink, upper, bytes, &mut digits[..2 * ENCODE_CHUNK])
+    let end = write_into(bytes, buffer, group, upper).unwrap();
+    buffer[end] = group.sep();
+    put_all(sink, &buffer[..end + 1])
+}
+
+// The same without a separator.
+fn put_last<S: Sink>(
+    sink: &mut S,
+    upper: bool,
+    group: Group,
+    bytes: &[u8],
+    buffer: &mut [u8],
+) -> Result<(), WriteFault>
+    requires counts { (S.state sink.old).failures < 2 ^ 64 - 1 }
+    requires room { 3 * min (length bytes.now) ENCODE_CHUNK ≤ length buffer.old }
+    requires one { ENCODE_CHUNK < length bytes.now → length bytes.now ≤ piece_len group }
+    ensures { Puts (S.state sink.old) (S.state sink.new) result (grouped group upper bytes.now) }
+{
+    if bytes.len() > ENCODE_CHUNK {
+        return put_chunks(sink, upper, bytes, buffer);
+    }
+    let end = write_into(bytes, buffer, group, upper).unwrap();
+    put_all(sink, &buffer[..end])
 }

@@ -8,10 +8,9 @@ ghost use Rattle.hex_core.specs.Text.{lowercase, text};
 ghost use Rattle.hex_format.specs.Frame.{frame, hex_bytes, left_padding, padding_of, plain_flags, separators_by, sign_and_prefix};
 ghost use Rattle.hex_format.specs.Sink.{Puts};
 
-use crate::digits::{ENCODE_CHUNK, SHORT_SOURCE, put_digits};
+use crate::digits::{ENCODE_CHUNK, SHORT_SOURCE, encoded, put_digits};
 pub use crate::sink::{Sink, SinkFault, SliceSink, WriteFault, WriterSink, put_all};
 use hex_codec::Group;
-use hex_codec::chunks::encoded;
 use std::{fmt, str};
 
 // How many copies of a padding character are put at a time, and how long one is at most.

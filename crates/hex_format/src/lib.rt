@@ -7,7 +7,6 @@ mod digits;
 pub mod format;
 pub mod laws;
 mod lines;
-mod separate;
 pub mod sink;
 pub mod streams;
 mod writing;

@@ -6,8 +6,8 @@ ghost use Rattle.std.specs.Io.KnownBytes.{ReadConsumes};
 ghost use Rattle.std.specs.IoError.{error_kind};
 ghost use Rattle.hex_format.specs.Streams.{DecodesStream, EncodesStream, Ends};
 
+use crate::digits::encoded;
 use crate::sink::{Sink, WriteFault, put_all};
-use hex_codec::chunks::encoded;
 use hex_codec::stream::Decoder;
 use hex_core::{CheckCase, Error};
 use std::io::{self, ErrorKind, Read};

@@ -90,13 +90,18 @@ impl<'a> Cursor<'a> {
             return None;
         }
         let added = self.added(base)?;
+        let more = if self.takes(b'+') {
+            self.added(base)?
+        } else {
+            0
+        };
         if !self.takes(b']') {
             return None;
         }
         if is_falling {
-            start.checked_sub(added)
+            start.checked_sub(added)?.checked_add(more)
         } else {
-            start.checked_add(added)
+            start.checked_add(added)?.checked_add(more)
         }
     }
 

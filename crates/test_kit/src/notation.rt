@@ -9,7 +9,8 @@
 //! A row that stands for several has a turn for each, counted from 0. `[30+1]` is the byte 0x30 in
 //! the first turn and 0x31 in the next; where a number stands, `[30+2]` is 30, 32 and so on, and
 //! `[30-2]` is 30, 28. What is added stays for 64 turns in `[30+2/64]`, and is taken modulo 64 in
-//! `[30+2%64]`. A number is decimal, and where a byte stands the first two are hexadecimal.
+//! `[30+2%64]`. Another addend may follow: `[2+2+1/3]` are the lengths of texts in groups of 3 bytes. A
+//! number is decimal, and where a byte stands start and step are hexadecimal.
 
 use crate::cursor::Cursor;
 use crate::formula::Formula;

@@ -1,60 +1,49 @@
--- The pieces of a turn are the next of all pieces; no separator is put before the first one.
-use Rattle.std.proofs.Common.{◌≡◌, ℕ, ◌<◌, ◌≤◌, min, [], ◌++◌, refl, ◌∙◌, arith, rules, length-append}
-use Rattle.std.specs.Slice.Iter.{chunks_rest, chunks_size}
-use Rattle.hex_codec.specs.Grouped.{separated}
-use Rattle.hex_format.proofs.GroupFacts.{grouped-end, next-chunk}
-use Rattle.hex_format.proofs.PutsLemmas.{Puts-err, Stops-stop, Stops-then, Takes-none, Takes-then}
+-- The text of a part with the separator behind it is the next of the whole text.
+use Rattle.std.proofs.Common.{◌≡◌, Bool, ℕ, ◌+◌, ◌-◌, ◌%◌, ◌<◌, List, [], ◌∷◌, ◌++◌, length, take, drop, sym, ap, ◌∙◌, arith, append_assoc, length-drop, take-append-drop}
+use Rattle.std.proofs.lemmas.List.{drop-drop, length-take-le, take_rest}
+use Rattle.hex_codec.specs.declared.group.Group.{Group}
+use Rattle.hex_codec.specs.Grouped.{grouped, piece_len, separator}
+use Rattle.hex_codec.proofs.GroupLemmas.{joined-pieces}
+use Rattle.hex_format.proofs.PutsLemmas.{Puts-err, Puts-then, Stops-stop, Stops-then, Takes-then}
 use Rattle.hex_format.proofs.digits.put_grouped.Goals as goal
 
--- a turn has some bytes, and where they are many they are one piece
-few-some : (n size left : ℕ) → n ≡ min size left → 0 < size → 0 < left → 0 < n
-few-some n size left is every some = omega arith
+part-next : (group : Group) (upper : Bool) (bytes done whole : List ℕ) (at size : ℕ) → size % piece_len group ≡ 0 → 0 < size → size < length bytes - at
+    → done ++ grouped group upper (drop at bytes) ≡ whole
+    → done ++ ((grouped group upper (take size (drop at bytes)) ++ (separator group ∷ [])) ++ grouped group upper (drop (at + size) bytes)) ≡ whole
+part-next group upper bytes done whole at size pieces some more so_far =
+    let rest = drop at bytes in
+    let left = length-drop at bytes in
+    let front = length-take-le size rest (omega (arith, left, more)) in
+    let cut : grouped group upper rest ≡ grouped group upper (take size rest) ++ (separator group ∷ grouped group upper (drop size rest)) =
+    ap (grouped group upper) (sym (take-append-drop size rest))
+    ∙ joined-pieces group upper (take size rest) (drop size rest) (rw front pieces) (omega (arith, front, some)) (omega (arith, length-drop size rest, left, more)) in
+    rw (← drop-drop size at bytes, append_assoc (grouped group upper (take size rest)) (separator group ∷ []) (grouped group upper (drop size rest))) (rw cut at so_far)
 
-one-piece : (n size left every : ℕ) → n ≡ min size left → (512 < size → size ≡ every) → 512 < n → n ≤ every
-one-piece n size left every is one many = let whole = one (omega arith) in omega (arith, is, whole)
+taken : (at size : ℕ) → at + size - at ≡ size
+taken at size = omega arith
 
-pub loop-part-init : goal.loop-part-init
-loop-part-init g c =
-    let at_once = c.bytes_at_once.ensures in
-    let is : chunks_size c.into_iter-part-iterator.result ≡ c.bytes_at_once.result = search rules in
-    (rw is at_once.some, tt, (at_once.whole.0, is ∙ at_once.whole.1), rw is at_once.one, ([], Takes-none (g.S.Sink.state c.args.sink.now), refl, search rules))
+pub parts-preserved : goal.parts-preserved
+parts-preserved g c =
+    let st = g.S.Sink.state in let group = c.args.group in let upper = c.args.upper in let bytes = c.args.bytes.now in
+    let at = c.parts.at in let size = c.bytes_at_once-size.result in let so_far = c.parts.invariant.1 in
+    let shown = grouped group upper (take size (drop at bytes)) ++ (separator group ∷ []) in
+    let whole = part-next group upper bytes so_far.0 (grouped group upper bytes) at size c.bytes_at_once-size.ensures.whole c.bytes_at_once-size.ensures.some c.parts-test.true so_far.2 in
+    let put = rw (taken at size) at c.in_ok-put_before.ensures in
+    let both = Takes-then (st c.args.sink.now) (st c.parts.sink) (st c.put_before.new.sink) so_far.0 shown so_far.1 put in
+    (omega (arith, c.parts-test.true), (so_far.0 ++ shown, both, append_assoc so_far.0 shown (grouped group upper (drop (at + size) bytes)) ∙ whole))
 
-pub put_pieces-requires : goal.put_pieces-requires
-put_pieces-requires g c =
-    let last = c.loop-part.invariant in let steps = c.in-Some.ensures.steps in record {
-      counts = omega (arith, c.requires, last.4.1.1);
-      some = few-some _ _ _ steps.1.1 last.0 steps.1.2;
-      start = omega (arith, last.4.2);
-      one = one-piece _ _ _ _ steps.1.1 last.3;
-    }
-
-pub loop-part-preserved : goal.loop-part-preserved
-loop-part-preserved g c =
-    let st = g.S.Sink.state in let group = c.args.group in let upper = c.args.upper in
-    let steps = c.in-Some.ensures.steps in let last = c.loop-part.invariant in let so_far = last.4 in
-    let pieces = c.in-Some.part.now in let rest = chunks_rest c.next.new.self in
-    let some = few-some _ _ _ steps.1.1 last.0 steps.1.2 in
-    let next = next-chunk group upper last.2.0 c.args.bytes.now so_far.0 (chunks_rest c.loop-part.part-iterator) pieces rest c.loop-part.from steps.1.0 (rw last.2.1 at steps.1.1) some so_far.2 so_far.3 in
-    let taken = Takes-then (st c.args.sink.now) (st c.loop-part.sink) (st c.put_pieces.new.sink) _ _ so_far.1 c.in_ok-put_pieces.ensures in (
-      search rules,
-      tt,
-      (last.2.0, steps.0 ∙ last.2.1),
-      rw steps.0 last.3,
-      (so_far.0 ++ separated group upper pieces, rw next.done_next at taken, omega (arith, length-append so_far.0 (separated group upper pieces), next.some), next.behind),
-    )
-
-pub returns-in_err-put_pieces : goal.returns-in_err-put_pieces
-returns-in_err-put_pieces g c =
-    let st = g.S.Sink.state in let group = c.args.group in let upper = c.args.upper in
-    let steps = c.in-Some.ensures.steps in let last = c.loop-part.invariant in let so_far = last.4 in
-    let pieces = c.in-Some.part.now in let rest = chunks_rest c.next.new.self in
-    let some = few-some _ _ _ steps.1.1 last.0 steps.1.2 in
-    let next = next-chunk group upper last.2.0 c.args.bytes.now so_far.0 (chunks_rest c.loop-part.part-iterator) pieces rest c.loop-part.from steps.1.0 (rw last.2.1 at steps.1.1) some so_far.2 so_far.3 in
-    let start = st c.args.sink.now in let middle = st c.loop-part.sink in let end = st c.put_pieces.new.sink in
-    let failed = Stops-then start middle end _ _ so_far.1 (Stops-stop middle end _ (separated group upper rest) c.in_err-put_pieces.ensures) in
-    Puts-err start end c.from_residual.result _ c.from_residual.ensures.0 (rw next.all at failed)
+pub returns-in_err-put_before : goal.returns-in_err-put_before
+returns-in_err-put_before g c =
+    let st = g.S.Sink.state in let group = c.args.group in let upper = c.args.upper in let bytes = c.args.bytes.now in
+    let at = c.parts.at in let size = c.bytes_at_once-size.result in let so_far = c.parts.invariant.1 in
+    let whole = part-next group upper bytes so_far.0 (grouped group upper bytes) at size c.bytes_at_once-size.ensures.whole c.bytes_at_once-size.ensures.some c.parts-test.true so_far.2 in
+    let start = st c.args.sink.now in let middle = st c.parts.sink in let end = st c.put_before.new.sink in
+    let stopped = rw (taken at size) at c.in_err-put_before.ensures in
+    let failed = Stops-then start middle end _ _ so_far.1 (Stops-stop middle end _ (grouped group upper (drop (at + size) bytes)) stopped) in
+    Puts-err start end c.from_residual.result _ c.from_residual.ensures.0 (rw whole at failed)
 
 pub returns : goal.returns
 returns g c =
-    let so_far = c.loop-part.invariant.4 in
-    rw (grouped-end c.args.group c.args.upper c.args.bytes.now so_far.0 (chunks_rest c.loop-part.part-iterator) c.in-None.ensures.steps.1.0 so_far.3) at so_far.1
+    let st = g.S.Sink.state in let bytes = c.args.bytes.now in let so_far = c.parts.invariant.1 in
+    let last = rw (take_rest bytes c.parts.at) at c.put_last-2.ensures in
+    rw so_far.2 at (Puts-then (st c.args.sink.now) (st c.parts.sink) (st c.put_last-2.new.sink) c.put_last-2.result so_far.0 _ so_far.1 last)
