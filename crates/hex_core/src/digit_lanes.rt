@@ -31,9 +31,9 @@ fn fold_of(case: CheckCase) -> u8
     FOLDS[case as u8 as usize]
 }
 
-/// The first letter that the policy reads, once folded.
+// The first letter that the policy reads, once folded.
 #[inline(always)]
-pub fn first_letter(case: CheckCase) -> u8
+fn first_letter(case: CheckCase) -> u8
     ensures { result ≡ first_letter case }
 {
     FIRST_LETTERS[case as u8 as usize]

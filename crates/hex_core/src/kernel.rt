@@ -60,19 +60,14 @@ where
 
 /// Writes the bytes of nibbles from `at` on.
 #[inline(always)]
-pub fn pack_at<const N: usize, const HALF: usize>(
-    nibbles: Simd<u8, N>,
-    case: CheckCase,
-    dst: &mut [u8],
-    at: usize,
-)
+pub fn pack_at<const N: usize, const HALF: usize>(nibbles: Simd<u8, N>, dst: &mut [u8], at: usize)
 where
     Lanes: Pack<N, HALF>,
     requires small { AreSmall nibbles }
     requires room { at + HALF ≤ length dst.old }
     ensures { dst.new ≡ put_chunk at dst.old (packed nibbles.entry) }
 {
-    Lanes::pack(nibbles, case).copy_to_slice(&mut dst[at..]);
+    Lanes::pack(nibbles).copy_to_slice(&mut dst[at..]);
 }
 
 // Writes the bytes from `at` on that `N` valid digits spell.
@@ -91,33 +86,8 @@ where
     requires valid { first_invalid case src.now ≡ None }
     ensures { DecodesRange case src.now dst.old dst.new at (at + HALF) }
 {
-    pack_at(values_at::<M, N>(src, 2 * at, case), case, dst, at);
+    pack_at(values_at::<M, N>(src, 2 * at, case), dst, at);
 }
-
-// The same of so many blocks.
-#[inline(always)]
-fn write_run<M, const N: usize, const HALF: usize>(
-    src: &[u8],
-    dst: &mut [u8],
-    at: usize,
-    count: usize,
-    case: CheckCase,
-)
-where
-    M: Nibbles<N>,
-    Lanes: Pack<N, HALF>,
-    requires half { N ≡ 2 * HALF }
-    requires room { HasRoom at (count * HALF) src.now dst.old }
-    requires valid { first_invalid case src.now ≡ None }
-    ensures { DecodesRange case src.now dst.old dst.new at (at + count * HALF) }
-{
-    'turns: for i in 0..count {
-        write_at::<M, N, HALF>(src, dst, at + i * HALF, case);
-    }
-}
-
-// How many blocks a run has. Each number that the compiler knows is read once a run.
-const WRITE_RUN: usize = 4;
 
 /// Writes the bytes that a block or more of valid digits spells over the whole of `dst`.
 #[inline(never)]
@@ -134,14 +104,10 @@ where
     requires valid { first_invalid case src.now ≡ None }
     ensures { Spells case src.now dst.new }
 {
-    let mut at = 0;
-    'turns: while dst.len() - at >= WRITE_RUN * HALF {
-        write_run::<M, N, HALF>(src, dst, at, WRITE_RUN, case);
-        at += WRITE_RUN * HALF;
+    'turns: for i in 0..dst.len() / HALF {
+        write_at::<M, N, HALF>(src, dst, i * HALF, case);
     }
-    let rest = (dst.len() - at) / HALF;
-    write_run::<M, N, HALF>(src, dst, at, rest, case);
-    if at + rest * HALF < dst.len() {
+    if dst.len() % HALF != 0 {
         let last = dst.len() - HALF;
         write_at::<M, N, HALF>(src, dst, last, case);
     }

@@ -118,7 +118,7 @@ pub fn pack_16(nibbles: &[u8; 16]) -> [u8; 8]
     requires { AreSmall nibbles.now }
     ensures { ArePacked nibbles.now result }
 {
-    Lanes::pack(u8x16::from_array(*nibbles), CheckCase::None).to_array()
+    Lanes::pack(u8x16::from_array(*nibbles)).to_array()
 }
 
 /// The same as [`pack_16`], of 32 nibbles.
@@ -133,7 +133,7 @@ pub fn pack_32(nibbles: &[u8; 32]) -> [u8; 16]
     requires { AreSmall nibbles.now }
     ensures { ArePacked nibbles.now result }
 {
-    Lanes::pack(u8x32::from_array(*nibbles), CheckCase::None).to_array()
+    Lanes::pack(u8x32::from_array(*nibbles)).to_array()
 }
 
 /// The same as [`pack_16`], of 64 nibbles.
@@ -148,7 +148,7 @@ pub fn pack_64(nibbles: &[u8; 64]) -> [u8; 32]
     requires { AreSmall nibbles.now }
     ensures { ArePacked nibbles.now result }
 {
-    Lanes::pack(u8x64::from_array(*nibbles), CheckCase::None).to_array()
+    Lanes::pack(u8x64::from_array(*nibbles)).to_array()
 }
 
 /// Returns the text of 8 bytes, in uppercase where `upper` is true.

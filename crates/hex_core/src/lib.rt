@@ -7,7 +7,6 @@ mod bodies;
 pub mod digit;
 mod digit_lanes;
 pub mod error;
-mod hidden;
 mod kernel;
 pub mod lanes;
 pub mod laws;

@@ -7,8 +7,6 @@ ghost use Rattle.hex_core.specs.Hash.{average, shifted};
 ghost use Rattle.hex_core.specs.Lanes.{AreSmall};
 ghost use Rattle.hex_core.specs.Lookup.{entry};
 
-use crate::digit::CheckCase;
-use crate::hidden::hidden_zero;
 use std::simd::prelude::*;
 
 /// The difference of each lane, modulo 256.
@@ -134,14 +132,12 @@ pub fn is_small<const N: usize>(v: Simd<u8, N>) -> bool
 // What brings the byte of two nibbles into the high half of their word, when it is multiplied.
 const FACTOR: u16 = 4097;
 
-// The byte of each word of two nibbles, the high one in the word's low byte. Of a product whose factor it
-// knows the compiler makes a shift and a sum, which take longer in a long loop.
+// The byte of each word of two nibbles, the high one in the word's low byte.
 #[inline(always)]
-fn pair_bytes<const N: usize>(v: Simd<u16, N>, case: CheckCase) -> Simd<u8, N>
+fn pair_bytes<const N: usize>(v: Simd<u16, N>) -> Simd<u8, N>
     ensures { result ≡ map pair_byte v.entry }
 {
-    let factor = FACTOR + hidden_zero(case) as u16;
-    ((v * Simd::splat(factor)) >> Simd::splat(8)).cast::<u8>()
+    ((v * Simd::splat(FACTOR)) >> Simd::splat(8)).cast::<u8>()
 }
 
 /// Each lane with its sign bit turned, so that signed bytes are in the order of unsigned ones.
@@ -190,71 +186,70 @@ fn eighths<const N: usize>(v: Simd<u32, N>) -> Simd<u32, N>
 /// width, so it is written once for each width, below.
 pub struct Lanes;
 
-/// The nibbles of each pair of lanes become one byte, the first of a pair its high half. The policy is
-/// there for [`hidden_zero`].
+/// The nibbles of each pair of lanes become one byte, the first of a pair its high half.
 pub trait Pack<const N: usize, const HALF: usize> {
-    fn pack(v: Simd<u8, N>, case: CheckCase) -> Simd<u8, HALF>
+    fn pack(v: Simd<u8, N>) -> Simd<u8, HALF>
         requires { AreSmall v }
         ensures { result ≡ packed v.entry };
 }
 
 impl Pack<2, 1> for Lanes {
     #[inline(always)]
-    fn pack(v: u8x2, case: CheckCase) -> u8x1
+    fn pack(v: u8x2) -> u8x1
         requires { AreSmall v }
         ensures { result ≡ packed v }
     {
-        pair_bytes(u16x1::from_le_bytes(v), case)
+        pair_bytes(u16x1::from_le_bytes(v))
     }
 }
 
 impl Pack<4, 2> for Lanes {
     #[inline(always)]
-    fn pack(v: u8x4, case: CheckCase) -> u8x2
+    fn pack(v: u8x4) -> u8x2
         requires { AreSmall v }
         ensures { result ≡ packed v }
     {
-        pair_bytes(u16x2::from_le_bytes(v), case)
+        pair_bytes(u16x2::from_le_bytes(v))
     }
 }
 
 impl Pack<8, 4> for Lanes {
     #[inline(always)]
-    fn pack(v: u8x8, case: CheckCase) -> u8x4
+    fn pack(v: u8x8) -> u8x4
         requires { AreSmall v }
         ensures { result ≡ packed v }
     {
-        pair_bytes(u16x4::from_le_bytes(v), case)
+        pair_bytes(u16x4::from_le_bytes(v))
     }
 }
 
 impl Pack<16, 8> for Lanes {
     #[inline(always)]
-    fn pack(v: u8x16, case: CheckCase) -> u8x8
+    fn pack(v: u8x16) -> u8x8
         requires { AreSmall v }
         ensures { result ≡ packed v }
     {
-        pair_bytes(u16x8::from_le_bytes(v), case)
+        pair_bytes(u16x8::from_le_bytes(v))
     }
 }
 
 impl Pack<32, 16> for Lanes {
     #[inline(always)]
-    fn pack(v: u8x32, case: CheckCase) -> u8x16
+    fn pack(v: u8x32) -> u8x16
         requires { AreSmall v }
         ensures { result ≡ packed v }
     {
-        pair_bytes(u16x16::from_le_bytes(v), case)
+        pair_bytes(u16x16::from_le_bytes(v))
     }
 }
 
 impl Pack<64, 32> for Lanes {
     #[inline(always)]
-    fn pack(v: u8x64, case: CheckCase) -> u8x32
+    fn pack(v: u8x64) -> u8x32
         requires { AreSmall v }
         ensures { result ≡ packed v }
     {
-        pair_bytes(u16x32::from_le_bytes(v), case)
+        pair_bytes(u16x32::from_le_bytes(v))
     }
 }
 

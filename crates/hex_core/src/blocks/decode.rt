@@ -30,7 +30,6 @@ fn nibbles_at<const N: usize>(src: &[u8], at: usize, case: CheckCase) -> Simd<u8
 fn pack_two<const N: usize, const HALF: usize>(
     front: Simd<u8, N>,
     back: Simd<u8, N>,
-    case: CheckCase,
     dst: &mut [u8],
     start: usize,
     end: usize,
@@ -44,8 +43,8 @@ where
     ensures { dst.new ≡ put_chunk (end - HALF) (put_chunk start dst.old (packed front.entry))
         (packed back.entry) }
 {
-    pack_at(front, case, dst, start);
-    pack_at(back, case, dst, end - HALF);
+    pack_at(front, dst, start);
+    pack_at(back, dst, end - HALF);
 }
 
 /// Decodes a source of `N` digits: all of it is tested before the first store.
@@ -65,7 +64,7 @@ where
     if !is_small(nibbles) {
         return false;
     }
-    pack_at(nibbles, case, dst, 0);
+    pack_at(nibbles, dst, 0);
     true
 }
 
@@ -88,7 +87,7 @@ where
         return false;
     }
     let end = dst.len();
-    pack_two(front, back, case, dst, 0, end);
+    pack_two(front, back, dst, 0, end);
     true
 }
 
@@ -113,8 +112,8 @@ where
         return false;
     }
     let end = dst.len();
-    pack_two(first, second, case, dst, 0, N);
-    pack_at(last, case, dst, end - HALF);
+    pack_two(first, second, dst, 0, N);
+    pack_at(last, dst, end - HALF);
     true
 }
 
@@ -140,8 +139,8 @@ where
         return false;
     }
     let end = dst.len();
-    pack_two(first, second, case, dst, 0, N);
-    pack_two(third, last, case, dst, end - N, end);
+    pack_two(first, second, dst, 0, N);
+    pack_two(third, last, dst, end - N, end);
     true
 }
 

@@ -8,7 +8,7 @@ pub overflow_shr-result : goal.overflow_shr-result
 overflow_shr-result g c = shifts_fit_splat 16 _ g.row.N 8 (omega arith)
 
 pub overflow_cast-result : goal.overflow_cast-result
-overflow_cast-result g c = rw (c.hidden_zero.ensures, splat_twice (λ a b. a * b % 2 ^ 16) (λ a b. a / 2 ^ b) c.args.v g.row.N 4097 8 c.fits-v.0) (pair_bytes_fit c.args.v)
+overflow_cast-result g c = rw (splat_twice (λ a b. a * b % 2 ^ 16) (λ a b. a / 2 ^ b) c.args.v g.row.N 4097 8 c.fits-v.0) (pair_bytes_fit c.args.v)
 
 pub returns : goal.returns
-returns g c = map-id _ ∙ rw c.hidden_zero.ensures (splat_twice (λ a b. a * b % 2 ^ 16) (λ a b. a / 2 ^ b) c.args.v g.row.N 4097 8 c.fits-v.0)
+returns g c = map-id _ ∙ (splat_twice (λ a b. a * b % 2 ^ 16) (λ a b. a / 2 ^ b) c.args.v g.row.N 4097 8 c.fits-v.0)
