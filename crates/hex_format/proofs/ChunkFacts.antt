@@ -1,14 +1,13 @@
 -- A chunk's digits are the next of those of all bytes, and what a buffer's front holds of them.
-use Rattle.std.proofs.Common.{◌≡◌, Bool, ℕ, List, [], ◌∷◌, ◌++◌, length, drop, take, sym, ◌∙◌, arith, append-nil}
-use Rattle.std.specs.Prelude.{Result, Ok}
+use Rattle.std.proofs.Common.{◌≡◌, ◌<◌, ◌≤◌, Bool, ℕ, List, [], ◌∷◌, ◌++◌, length, drop, take, ap, sym, ◌∙◌, arith, append-nil}
+use Rattle.std.specs.Prelude.{Option, Result, Ok}
 use Rattle.std.proofs.Math.Seq.{take-append_seam}
-use Rattle.hex_core.specs.declared.error.Error.{Error}
-use Rattle.hex_core.specs.Calls.{Encodes}
+use Rattle.hex_core.specs.Calls.{Fills}
 use Rattle.hex_core.specs.Text.{text}
-use Rattle.hex_core.proofs.TextLemmas.{length-text, text-append}
+use Rattle.hex_core.proofs.TextLemmas.{text-append}
 use Rattle.hex_codec.specs.declared.group.Group.{Group}
-use Rattle.hex_codec.specs.GroupCalls.{WritesGrouped}
-use Rattle.hex_codec.specs.Grouped.{grouped}
+use Rattle.hex_codec.specs.Grouped.{grouped, piece_len}
+use Rattle.hex_codec.proofs.CountLemmas.{len-most}
 use Rattle.hex_codec.proofs.GroupLemmas.{length-grouped}
 
 -- the text so far and a chunk's, before that of the rest
@@ -21,16 +20,14 @@ pub text-end : (upper : Bool) (done whole rest : List ℕ) → done ++ text uppe
 text-end upper done whole [] so_far none = sym (append-nil done) ∙ so_far
 text-end upper done whole (b ∷ rest) so_far none = absurd (omega arith)
 
--- the digits that were written are the front of the buffer, and so are those of groups
-pub encoded-front : (upper : Bool) (bytes old new : List ℕ) (r : Result ℕ Error) (n : ℕ) → r ≡ Ok n → Encodes upper bytes old new r → take n new ≡ text upper bytes
-encoded-front upper bytes old new r n is h =
-    let done : Encodes upper bytes old new (Ok n) = rw is at h in
-    let size : n ≡ length (text upper bytes) = done.1 ∙ sym (length-text upper bytes) in
-    rw (done.2, size) (take-append_seam (text upper bytes) (drop (length (text upper bytes)) old))
+-- what was written is the front of the buffer
+pub filled-front : {E : Type 0} (refusal : Option E) (front old new : List ℕ) (r : Result ℕ E) (n : ℕ) → r ≡ Ok n
+    → Fills refusal (λ bytes. bytes ≡ front) old new r → (n ≡ length front) × (take n new ≡ front)
+filled-front {E} refusal front old new r n is h =
+    let done : Fills refusal (λ bytes. bytes ≡ front) old new (Ok n) = rw is at h in
+    let size : n ≡ length front = done.1.2 ∙ ap length done.1.1 in
+    (size, rw (done.1.3, done.1.1, size) (take-append_seam front (drop (length front) old)))
 
-pub grouped-front : (group : Group) (upper : Bool) (bytes old new : List ℕ) (r : Result ℕ Error) (n : ℕ) → r ≡ Ok n
-    → WritesGrouped group upper bytes old new r → (n ≡ length (grouped group upper bytes)) × (take n new ≡ grouped group upper bytes)
-grouped-front group upper bytes old new r n is h =
-    let done : WritesGrouped group upper bytes old new (Ok n) = rw is at h in
-    let size : n ≡ length (grouped group upper bytes) = done.1 ∙ sym (length-grouped group upper bytes) in
-    (size, rw (done.2, size) (take-append_seam (grouped group upper bytes) (drop (length (grouped group upper bytes)) old)))
+-- the grouped text of a chunk leaves room for one byte more
+pub leaves-room : (group : Group) (upper : Bool) (bytes : List ℕ) → 0 < length bytes → length bytes ≤ 512 → length (grouped group upper bytes) < 1536
+leaves-room group upper bytes some few = omega (arith, length-grouped group upper bytes, len-most (piece_len group) (length bytes) group.is_group.0)
