@@ -44,7 +44,7 @@ index-requires c =
 pub unreachable-requires : goal.unreachable-requires
 unreachable-requires c =
     let fault = rw c.in-Err-Line.field-0-is at c.in-Err-Line.ensures in
-    c.a_faulty_source_is_no_list.ensures 32 policy.Lower _ _ _ _ fault.1 (stored (goal.at.unreachable-requires c).In-Some)
+    c.a_faulty_source_is_no_list.ensures 32 policy.Lower _ _ _ _ fault (stored (goal.at.unreachable-requires c).In-Some)
 
 pub returns-in-Ok : goal.returns-in-Ok
 returns-in-Ok c =
