@@ -15,7 +15,7 @@ use Rattle.hex_codec.specs.GroupedText.{GroupSpells, first_wrong, grouped_len}
 use Rattle.hex_codec.proofs.GroupLemmas.{grouped-last, grouped-more, len-last, len-more}
 use Rattle.hex_codec.proofs.ListLemmas.{put-behind}
 use Rattle.hex_codec.proofs.PartLemmas.{spells-last, spells-more}
-use Rattle.hex_codec.proofs.WrongLemmas.{Clear, clear-last, clear-part, digit-wrong, last-wrong, part-clear, separator-wrong}
+use Rattle.hex_codec.proofs.WrongLemmas.{Clear, clear-part, digit-wrong, last-wrong, part-clear, separator-wrong}
 
 -- ---- testing
 
@@ -154,9 +154,9 @@ module _ (group : Group) (upper : Bool) where
         inside = omega (arith, more);
         room = length-set put (done + 2 * each) (separator group) ∙ same ∙ rw cut (omega (arith, before.room, len));
         so_far = rw (
-            take_more_set put (done + 2 * each) (separator group) last,
-            take-put_mid done (2 * each) old part (done + 2 * each) (omega (arith, size)) (omega (arith, before.room)),
-            ← drop-drop each at bytes,
+          take_more_set put (done + 2 * each) (separator group) last,
+          take-put_mid done (2 * each) old part (done + 2 * each) (omega (arith, size)) (omega (arith, before.room)),
+          ← drop-drop each at bytes,
         ) (joined-mark (take done old) part (separator group) behind ∙ whole);
       }
 

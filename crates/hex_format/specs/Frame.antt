@@ -1,5 +1,5 @@
 -- The padded text of a list of bytes.
-use Rattle.std.specs.Prelude.{ℕ, ◌-◌, ◌*◌, ◌/◌, Bool, false, List, [], ◌++◌, length, codes, encode_utf8, Option, Some, None, if◌then◌else◌}
+use Rattle.std.specs.Prelude.{ℕ, ◌-◌, ◌/◌, Bool, false, List, [], ◌++◌, length, codes, encode_utf8, Option, Some, None, if◌then◌else◌}
 use Rattle.std.specs.List.{repeat}
 use Rattle.hex_core.specs.Text.{text}
 use Rattle.hex_codec.specs.declared.group.Group.{Group}

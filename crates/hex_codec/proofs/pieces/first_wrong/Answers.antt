@@ -1,5 +1,5 @@
 -- The first wrong byte is one of the next part, or stands behind it.
-use Rattle.std.proofs.Common.{◌≡◌, ℕ, ◌+◌, ◌-◌, ◌*◌, ◌≤◌, length, drop, sym, ◌∙◌, arith, Some, None}
+use Rattle.std.proofs.Common.{◌≡◌, ℕ, ◌+◌, ◌-◌, ◌*◌, ◌≤◌, sym, ◌∙◌, arith, Some, None}
 use Rattle.std.proofs.lemmas.List.{take_rest}
 use Rattle.hex_codec.proofs.WriteLemmas.{last-size, tests-digit, tests-last, tests-mark, tests-more}
 use Rattle.hex_codec.proofs.pieces.first_wrong.Goals as goal

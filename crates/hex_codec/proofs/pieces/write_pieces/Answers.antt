@@ -1,7 +1,6 @@
 -- The text of the next piece stands behind those before it.
-use Rattle.std.proofs.Common.{◌≡◌, ℕ, ◌+◌, ◌-◌, ◌*◌, ◌≤◌, ◌∙◌, ap, length, drop, take, arith, sym}
+use Rattle.std.proofs.Common.{◌≡◌, ℕ, ◌+◌, ◌-◌, ◌*◌, arith}
 use Rattle.std.proofs.lemmas.List.{take_rest}
-use Rattle.hex_core.specs.Text.{text}
 use Rattle.hex_codec.proofs.WriteLemmas.{writes-last, writes-more}
 use Rattle.hex_codec.proofs.pieces.write_pieces.Goals as goal
 

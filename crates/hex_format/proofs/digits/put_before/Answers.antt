@@ -1,5 +1,5 @@
 -- A part that is longer than a chunk is one piece, whose text is its digits.
-use Rattle.std.proofs.Common.{◌≡◌, ◌<◌, ◌∷◌, [], length, arith}
+use Rattle.std.proofs.Common.{◌<◌, ◌∷◌, [], length, arith}
 use Rattle.std.proofs.lemmas.List.{take_more_set}
 use Rattle.hex_codec.specs.Grouped.{grouped, separator}
 use Rattle.hex_codec.proofs.GroupLemmas.{grouped-last}

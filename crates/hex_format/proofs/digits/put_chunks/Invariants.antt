@@ -1,5 +1,5 @@
 -- The digits before those of the chunks that are left have been taken, and no put has failed.
-use Rattle.std.proofs.Common.{◌≡◌, ℕ, List, ◌++◌, length}
+use Rattle.std.proofs.Common.{◌≡◌, ℕ, List, ◌++◌}
 use Rattle.std.specs.Slice.Iter.{chunks_rest, chunks_size}
 use Rattle.hex_core.specs.Text.{text}
 use Rattle.hex_format.specs.Sink.{Takes}
