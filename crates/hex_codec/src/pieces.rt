@@ -1,7 +1,7 @@
 //! Passes over the pieces of a grouped text: one that tests all of it, one that reads it, and one that
 //! writes it. The last piece, which no separator follows, stands behind each loop.
 
-ghost use Rattle.std.specs.Prelude.{◌≡◌, ◌*◌, ◌%◌, ◌↔◌, IsTrue, None, length};
+ghost use Rattle.std.specs.Prelude.{◌≡◌, ◌*◌, ◌%◌, None, length};
 ghost use Rattle.hex_core.specs.Search.{first_invalid};
 ghost use Rattle.hex_core.specs.Text.{Spells, text};
 ghost use Rattle.hex_codec.specs.Grouped.{grouped, piece_len};
@@ -15,25 +15,24 @@ use hex_core::{Backend, CheckCase};
 // A call for fewer bytes takes longer than looking up their digits where they stand.
 const CALLED: usize = 8;
 
-// Whether all digits of a piece have a value.
-#[inline(always)]
-fn is_valid(digits: &[u8], case: CheckCase) -> bool
-    requires { length digits.now % 2 ≡ 0 }
-    ensures { IsTrue result ↔ (first_invalid case digits.now ≡ None) }
-{
-    if digits.len() < 2 * CALLED {
-        return are_pairs(digits, case);
-    }
-    Backend::plain().check(digits, case)
-}
-
 // The first invalid digit of a piece.
 #[inline(always)]
 fn first_invalid(digits: &[u8], case: CheckCase) -> Option<usize>
     requires { length digits.now % 2 ≡ 0 }
     ensures { result ≡ first_invalid case digits.now }
 {
-    if is_valid(digits, case) {
+    if digits.len() < 2 * CALLED && are_pairs(digits, case) {
+        return None;
+    }
+    first_of_many(digits, case)
+}
+
+// The same of more digits, or where one of few is invalid. Its body would fill the loop.
+#[inline(never)]
+fn first_of_many(digits: &[u8], case: CheckCase) -> Option<usize>
+    ensures { result ≡ first_invalid case digits.now }
+{
+    if Backend::plain().check(digits, case) {
         return None;
     }
     Backend::plain().first_invalid(digits, case)
