@@ -35,6 +35,8 @@ fn packed(high: u8, low: u8) -> u8
 /// Writes the bytes that a valid source spells into the whole of `dst`.
 ///
 /// ```rust
+/// use hex_core::few::write_bytes;
+///
 /// let mut bytes = [0; 2];
 /// write_bytes(b"00aB", &mut bytes, CheckCase::None);
 /// assert_eq!(rt; bytes, [0, 0xab]);
@@ -76,6 +78,8 @@ fn word_of(src: &[u8], case: CheckCase) -> Option<u64>
 /// Returns whether each of fewer than 16 digits, two for each byte, has a value under `case`.
 ///
 /// ```rust
+/// use hex_core::few::are_pairs;
+///
 /// assert!(rt; are_pairs(b"00aB", CheckCase::None));
 /// assert!(rt; !are_pairs(b"00aB", CheckCase::Lower));
 /// ```
@@ -153,6 +157,8 @@ pub fn encode_by_table(src: &[u8], dst: &mut [u8], upper: bool)
 /// Writes the text of `src` into the whole of `dst`.
 ///
 /// ```rust
+/// use hex_core::few::write_digits;
+///
 /// let mut digits = [0; 4];
 /// write_digits(&[0, 0xab], &mut digits, true);
 /// assert_eq!(rt; &digits, b"00AB");
