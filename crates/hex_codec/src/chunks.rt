@@ -14,11 +14,6 @@ pub const CHUNK: usize = 256;
 pub const CHUNK_DIGITS: usize = 512;
 
 /// Returns the digits of a chunk of at most [`CHUNK`] bytes, written into the front of `buffer`.
-///
-/// ```rust
-/// let mut buffer = [0; CHUNK_DIGITS];
-/// assert_eq!(rt; chunk_text(&mut buffer, &[0xab, 1], false), "ab01");
-/// ```
 pub fn chunk_text<'a>(buffer: &'a mut [u8; CHUNK_DIGITS], chunk: &[u8], upper: bool) -> &'a str
     requires { 2 * length chunk.now ≤ CHUNK_DIGITS }
     ensures text { result.now ≡ text upper chunk.now }

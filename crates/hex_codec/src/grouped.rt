@@ -174,7 +174,7 @@ fn grouped_len(len: usize, every: usize) -> Option<usize>
 /// let group = Group::new(2, b':').ok_or("no group")?;
 /// let mut buffer = [0; 8];
 /// let written = write_into(&[0, 1, 0xab], &mut buffer, group, true)?;
-/// assert_eq!(rt; &buffer[..written], b"0001:AB");
+/// assert_eq!(rt; &buffer[..written], b"0001:AB".as_slice());
 /// ```
 pub fn write_into(src: &[u8], dst: &mut [u8], group: Group, upper: bool) -> Result<usize, Error>
     ensures { WritesGrouped group upper src.now dst.old dst.new result }
