@@ -106,12 +106,13 @@ pub fn read_pieces(src: &[u8], dst: &mut [u8], group: Group, case: CheckCase)
     read_piece(&src[at..], &mut dst[done..], case);
 }
 
-/// Writes the grouped text of `src` over the whole of `dst`.
-pub fn write_pieces(src: &[u8], dst: &mut [u8], group: Group, upper: bool)
-    requires { length dst.old ≡ grouped_len (piece_len group) (length src.now) }
+// Writes the grouped text of `src` over the whole of `dst`.
+#[inline(always)]
+fn write_by(src: &[u8], dst: &mut [u8], every: usize, group: Group, upper: bool)
+    requires every { every ≡ piece_len group }
+    requires room { length dst.old ≡ grouped_len (piece_len group) (length src.now) }
     ensures { dst.new ≡ grouped group upper src.now }
 {
-    let every = group.every();
     let mut at = 0;
     let mut done = 0;
     'pieces: while src.len() - at > every {
@@ -122,4 +123,17 @@ pub fn write_pieces(src: &[u8], dst: &mut [u8], group: Group, upper: bool)
         done = end + 1;
     }
     write_piece(&src[at..], &mut dst[done..], upper);
+}
+
+/// Writes the grouped text of `src` over the whole of `dst`. A piece whose length the compiler knows is
+/// written without a loop.
+pub fn write_pieces(src: &[u8], dst: &mut [u8], group: Group, upper: bool)
+    requires { length dst.old ≡ grouped_len (piece_len group) (length src.now) }
+    ensures { dst.new ≡ grouped group upper src.now }
+{
+    match group.every() {
+        1 => write_by(src, dst, 1, group, upper),
+        4 => write_by(src, dst, 4, group, upper),
+        every => write_by(src, dst, every, group, upper),
+    }
 }

@@ -1,7 +1,7 @@
 -- The texts of the pieces before this place are written, each with its separator.
 use Rattle.std.proofs.Common.{◌-◌, length}
 use Rattle.hex_codec.proofs.WriteLemmas.{WritesRest}
-use Rattle.hex_codec.proofs.pieces.write_pieces.Given as goal
+use Rattle.hex_codec.proofs.pieces.write_by.Given as goal
 
 abbrev pub invariant-pieces : goal.invariant-pieces
 invariant-pieces l = WritesRest l.group l.upper l.src l.dst l.at l.done
