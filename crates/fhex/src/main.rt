@@ -13,19 +13,17 @@ fn words(rt: &HostRuntime) -> Result<Vec<String>, Failure> {
         Err(e) if e.kind() == ErrorKind::OutOfMemory => return Err(Failure::OutOfMemory),
         Err(_) => return Err(Failure::ReadFailed),
     };
-    match arguments.skip(1).collect(rt.alloc()) {
-        Ok(words) => Ok(words),
-        Err(_) => Err(Failure::OutOfMemory),
-    }
+    let words = arguments.skip(1).collect(rt.alloc());
+    words.map_err(|_| Failure::OutOfMemory)
 }
 
-// The status of a run over these words and the standard streams.
-fn run(rt: &HostRuntime, words: &[String]) -> Result<u8, Failure> {
+// The status of a run over the program's words and the standard streams.
+fn run(rt: &HostRuntime) -> Result<u8, Failure> {
+    let words = words(rt)?;
     let mut texts = Vec::new(rt.alloc());
-    for word in words {
-        if texts.push(word.as_str()).is_err() {
-            return Err(Failure::OutOfMemory);
-        }
+    for word in words.as_slice() {
+        let pushed = texts.push(word.as_str());
+        pushed.map_err(|_| Failure::OutOfMemory)?;
     }
     let (status, _, _) = serve_buffered(
         rt.alloc(),
@@ -38,12 +36,8 @@ fn run(rt: &HostRuntime, words: &[String]) -> Result<u8, Failure> {
 }
 
 fn main(rt: HostRuntime) -> ExitCode {
-    let status = match words(&rt) {
-        Ok(words) => run(&rt, words.as_slice()),
-        Err(failure) => Err(failure),
-    };
-    match status {
+    match run(&rt) {
         Ok(status) => ExitCode::from(status),
-        Err(failure) => ExitCode::from(refuse(&mut rt.stderr(), failure)),
+        Err(failure) => ExitCode::from(refuse(rt.stderr(), failure).0),
     }
 }

@@ -1,4 +1,2 @@
-pub mod Failures
-pub mod Input
+pub mod Operations
 pub mod Serving
-pub mod Vectors

@@ -1,14 +1,49 @@
--- What all of `fhex` does with its words and with what it reads.
-use Rattle.std.specs.Prelude.{◌≡◌, ◌≢◌, ◌⊎◌, List, ℕ, [], ◌∷◌, codes, Option, Some, None}
-use Rattle.std.specs.Io.KnownBytes.{Appends, Keeps}
+-- What all of `fhex` does with its words and with what it reads, and how it ends.
+use Rattle.std.specs.Prelude.{◌≡◌, ◌≢◌, ◌⊎◌, ◌≤◌, List, ℕ, [], ◌∷◌, length, codes, Option, Some, None, Result, Ok, Err, IfErr}
+use Rattle.std.specs.Io.KnownBytes.{Appends, Consumes, IsAtEnd, Keeps}
+use Rattle.hex_core.specs.Message.{error_text}
 use Rattle.hex_core.specs.declared.error.Error.{Error}
-use Rattle.hex_operations.specs.declared.operation.Op.{Op}
-use Rattle.hex_program.specs.Input.{ReadsAll}
-use Rattle.hex_operations.specs.Operations.{IsOutput, op_of_words, op_refusal}
+use Rattle.hex_program.specs.Operations.{IsOutput, op_of_words, op_refusal}
+use Rattle.hex_program.specs.declared.operation.Op.{Op}
+use Rattle.hex_program.specs.declared.operation.RunFault.{RunFault}
+use Rattle.hex_program.specs.declared.operation.RunFault.TheVariants as fault
+use Rattle.hex_program.specs.declared.failure.Failure.{Failure}
+use Rattle.hex_program.specs.declared.failure.Failure.TheVariants.{Codec, Usage, ReadFailed, WriteFailed, OutOfMemory, InputTooLong}
 
--- the program's words name neither an operation nor the stored vectors
-abbrev pub NamesNothing : List (List ℕ) → Type 0
-NamesNothing words = (op_of_words words ≡ None) × (words ≢ codes "vectors" ∷ [])
+-- the exit status of a failure
+abbrev pub status_of : Failure → ℕ
+status_of (Codec e) = 1
+status_of Usage = 2
+status_of _ = 3
+
+-- what a failure prints, byte for byte
+abbrev pub failure_text : Failure → List ℕ
+failure_text (Codec e) = error_text e
+failure_text Usage = codes "usage: fhex encode|encode-upper|decode|decode-lower|decode-upper|vectors"
+failure_text ReadFailed = codes "read failed"
+failure_text WriteFailed = codes "write failed"
+failure_text OutOfMemory = codes "out of memory"
+failure_text InputTooLong = codes "input too long"
+
+-- how a program ends after a run: behind one that went well it has no failure but a failed write
+abbrev pub EndsRun : Result (Unit {0}) RunFault → Result (Unit {0}) Failure → Type 0
+EndsRun (Ok done) ended = IfErr ended (λ failure. failure ≡ WriteFailed)
+EndsRun (Err (fault.Codec e)) ended = ended ≡ Err (Codec e)
+EndsRun (Err (fault.Write why)) ended = ended ≡ Err WriteFailed
+EndsRun (Err fault.OutOfMemory) ended = ended ≡ Err OutOfMemory
+
+-- the exit status of a program that ended so
+abbrev pub status_after : Result (Unit {0}) Failure → ℕ
+status_after (Ok done) = 0
+status_after (Err failure) = status_of failure
+
+-- how long an input may be, in bytes
+abbrev pub input_limit : ℕ
+input_limit = 16777216
+
+-- all of an input was read, and it is no longer than the limit
+abbrev pub ReadsAll : Option (List ℕ) → Option (List ℕ) → List ℕ → Type 0
+ReadsAll left left' input = Consumes left left' input × IsAtEnd left' × (length input ≤ input_limit)
 
 -- the input was read, and the operation's output was written more
 pub record Served (op : Op) (left left' held held' : Option (List ℕ)) : Type 0 where
@@ -26,16 +61,15 @@ pub record Refused (op : Op) (left left' held held' : Option (List ℕ)) : Type 
   pub is_refusal : op_refusal op input ≡ Some refusal
   pub kept : Keeps held held'
 
--- how a program ends that an operation's word started: status 0 where it is done, 1 where the input is
--- refused, 3 for a fault of the surroundings
+-- how an operation's program ends: 0 where it is done, 1 where the input is refused, 3 for another fault
 pub record ServesOp (op : Op) (left left' held held' : Option (List ℕ)) (status : ℕ) : Type 0 where
   pub done : status ≡ 0 → Served op left left' held held'
   pub refused : status ≡ 1 → Refused op left left' held held'
   pub statuses : (status ≡ 0) ⊎ (status ≡ 1) ⊎ (status ≡ 3)
 
 -- the program, by its words: an operation; the stored vectors, for which nothing is read; or words
--- that name nothing, for which nothing is read or written to the output
+-- that name neither, for which nothing is read or written to the output
 pub record Serves (words : List (List ℕ)) (left left' held held' : Option (List ℕ)) (status : ℕ) : Type 0 where
   pub operation : (op : Op) → op_of_words words ≡ Some op → ServesOp op left left' held held' status
   pub vectors : words ≡ codes "vectors" ∷ [] → left' ≡ left
-  pub usage : NamesNothing words → (left' ≡ left) × (held' ≡ held) × (status ≡ 2)
+  pub usage : (op_of_words words ≡ None) × (words ≢ codes "vectors" ∷ []) → (left' ≡ left) × (held' ≡ held) × (status ≡ 2)

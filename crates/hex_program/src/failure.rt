@@ -1,10 +1,9 @@
 //! Why `fhex` does not end well: the exit status and the line of each failure.
 
-ghost use Rattle.std.specs.Prelude.{◌≡◌, ◌⊎◌, Some};
-ghost use Rattle.hex_program.specs.Failures.{failure_of, failure_text, status_of};
+ghost use Rattle.std.specs.Prelude.{◌≡◌, Some};
+ghost use Rattle.hex_program.specs.Serving.{failure_text, status_of};
 
 use hex_core::Error;
-use hex_operations::RunFault;
 use std::fmt;
 
 /// Why `fhex` does not end well. Displayed, it is the line that goes to standard error.
@@ -25,14 +24,8 @@ pub enum Failure {
 }
 
 impl Failure {
-    /// Returns the exit status: 1 for a refused input, 2 for wrong words, 3 for a fault of the
-    /// surroundings.
-    ///
-    /// ```rust
-    /// assert_eq!(rt; Failure::Codec(Error::OddLength).status(), 1);
-    /// assert_eq!(rt; Failure::Usage.status(), 2);
-    /// ```
-    pub fn status(self) -> u8
+    // The exit status: 1 for a refused input, 2 for wrong words, 3 for a fault of the surroundings.
+    pub(crate) fn status(self) -> u8
         ensures { result ≡ status_of self }
     {
         match self {
@@ -42,23 +35,6 @@ impl Failure {
             | Failure::WriteFailed
             | Failure::OutOfMemory
             | Failure::InputTooLong => 3,
-        }
-    }
-
-    /// Returns the failure of a program whose run met this fault.
-    ///
-    /// ```rust
-    /// let failure = Failure::of_run(RunFault::OutOfMemory);
-    /// assert_eq!(rt; failure, Failure::OutOfMemory);
-    /// ```
-    pub fn of_run(fault: RunFault) -> Failure
-        ensures fault { result ≡ failure_of fault }
-        ensures status { (status_of result ≡ 1) ⊎ (status_of result ≡ 3) }
-    {
-        match fault {
-            RunFault::Codec(e) => Failure::Codec(e),
-            RunFault::Write(_) => Failure::WriteFailed,
-            RunFault::OutOfMemory => Failure::OutOfMemory,
         }
     }
 }

@@ -1,8 +1,7 @@
 //! The input, which is read to its end before an operation runs over it.
 
 ghost use Rattle.std.specs.Prelude.{◌≡◌, ◌<◌, length, IfOk, IfErr, IfSome};
-ghost use Rattle.hex_program.specs.Failures.{status_of};
-ghost use Rattle.hex_program.specs.Input.{ReadsAll, input_limit};
+ghost use Rattle.hex_program.specs.Serving.{ReadsAll, input_limit, status_of};
 
 use crate::failure::Failure;
 use std::alloc::Allocator;

@@ -1,19 +1,15 @@
 //! All of `fhex` over what is handed in: words, an input and two outputs.
 
-ghost use Rattle.std.specs.Prelude.{◌≡◌, ◌⊎◌, map, IfErr};
+ghost use Rattle.std.specs.Prelude.{◌≡◌, ◌⊎◌, map};
 ghost use Rattle.std.specs.Io.KnownBytes.{Keeps};
-ghost use Rattle.hex_program.specs.Failures.{EndsRun, status_after, status_of};
-ghost use Rattle.hex_program.specs.Serving.{NamesNothing, Serves, ServesOp};
+ghost use Rattle.hex_program.specs.Serving.{EndsRun, Serves, ServesOp, status_after, status_of};
 
 use crate::failure::Failure;
 use crate::input::read_input;
-use crate::plain_run::VectorFault;
-use crate::plain_vectors::{PLAIN_VECTORS, PlainVector};
-use crate::vector_run::run_vectors;
-use crate::vectors::{VECTORS, Vector};
+use crate::operation::{Op, RunFault, run_in};
+use crate::vectors::{VECTORS, Vector, run_vectors};
 use arrayvec::ArrayString;
-use hex_format::WriterSink;
-use hex_operations::operation::{Op, RunFault, run_in};
+use hex_format::{WriterSink, put_all};
 use std::alloc::{Allocator, Global};
 use std::fmt;
 use std::io::{Read, Write};
@@ -21,38 +17,34 @@ use std::io::{Read, Write};
 // The longest message, in bytes, with its newline.
 const MESSAGE: usize = 128;
 
-// Flushes the output of a run that has put all of it.
+// Ends a run: flushes its output, or tells its fault as the program does.
 fn finish<W: Write>(out: &mut W, ran: Result<(), RunFault>) -> Result<(), Failure>
     ensures ended { EndsRun ran result }
     ensures kept { Keeps (W.contents out.old) (W.contents out.new) }
 {
-    ran.map_err(Failure::of_run)?;
-    out.flush().map_err(|_| Failure::WriteFailed)
+    match ran {
+        Ok(()) => out.flush().map_err(|_| Failure::WriteFailed),
+        Err(RunFault::Codec(e)) => Err(Failure::Codec(e)),
+        Err(RunFault::Write(_)) => Err(Failure::WriteFailed),
+        Err(RunFault::OutOfMemory) => Err(Failure::OutOfMemory),
+    }
 }
 
-/// Writes the line of a failure to `err` and returns the failure's status. A fault of `err` does
-/// not change it.
-pub fn refuse<E: Write>(err: &mut E, failure: Failure) -> u8
-    ensures { result ≡ status_of failure }
+/// Writes the line of a failure to `err`, and returns the failure's status and `err`. A fault of `err`
+/// does not change the status, and ends the line. No error is retried.
+pub fn refuse<E: Write>(err: E, failure: Failure) -> (u8, E)
+    ensures { result.0 ≡ status_of failure }
 {
     let mut line = ArrayString::<MESSAGE>::new();
-    if fmt::Write::write_fmt(&mut line, format_args!("{failure}\n")).is_ok() {
-        write_line(err, line.as_bytes());
+    // No message is longer, so all of it is written.
+    let _ = fmt::Write::write_fmt(&mut line, format_args!("{failure}\n"));
+    let mut sink = WriterSink::new(err);
+    let put = put_all(&mut sink, line.as_bytes());
+    let mut err = sink.into_inner();
+    if put.is_ok() {
+        let _ = err.flush();
     }
-    failure.status()
-}
-
-// Writes a line as far as the writer takes it. No error is retried.
-fn write_line<E: Write>(err: &mut E, line: &[u8]) {
-    let mut at = 0;
-    'writes: while at < line.len() {
-        match err.write(&line[at..]) {
-            Ok(0) => return,
-            Ok(n) => at += n,
-            Err(_) => return,
-        }
-    }
-    let _ = err.flush();
+    (failure.status(), err)
 }
 
 // Reads the input, runs an operation over it and flushes the output.
@@ -76,69 +68,8 @@ fn serve_op<A: Allocator, R: Read, W: Write>(
     (ended, out)
 }
 
-// Runs stored vectors, which reads no input, and returns how many failed.
-fn check_vectors<A: Allocator, W: Write>(
-    alloc: &A,
-    table: &[Vector<'_>],
-    plain: &[PlainVector<'_>],
-    out: W,
-) -> (Result<usize, Failure>, W)
-    ensures { IfErr result.0 (λ failure. (failure ≡ Failure.WriteFailed) ⊎ (failure ≡ Failure.OutOfMemory)) }
-{
-    let mut sink = WriterSink::new(out);
-    let ran = run_vectors(alloc, table, plain, &mut sink);
-    let mut out = sink.into_inner();
-    let ended = match ran {
-        Ok(failed) if out.flush().is_ok() => Ok(failed),
-        Err(VectorFault::OutOfMemory) => Err(Failure::OutOfMemory),
-        _ => Err(Failure::WriteFailed),
-    };
-    (ended, out)
-}
-
-/// Runs stored vectors, those of `table` under each plan and those of `plain` once, writes a line
-/// each and the totals to `out`, flushes it and returns the exit status: 0 where none failed, else
-/// 1.
-///
-/// A failed write or flush is status 3, and `write failed` goes to `err`; want of memory for a vector
-/// is status 3 likewise, and `out of memory`.
-pub fn serve_vectors<A: Allocator, W: Write, E: Write>(
-    alloc: &A,
-    table: &[Vector<'_>],
-    plain: &[PlainVector<'_>],
-    out: W,
-    err: E,
-) -> (u8, W, E)
-    ensures { (result.0 ≡ 0) ⊎ (result.0 ≡ 1) ⊎ (result.0 ≡ 3) }
-{
-    let mut err = err;
-    let (ended, out) = check_vectors(alloc, table, plain, out);
-    let status = match ended {
-        Ok(0) => 0,
-        Ok(_) => 1,
-        Err(failure) => refuse(&mut err, failure),
-    };
-    (status, out, err)
-}
-
-// Serves words that name no operation: the stored vectors, or nothing.
-fn serve_other_words<A: Allocator, W: Write, E: Write>(
-    alloc: &A,
-    words: &[&str],
-    out: W,
-    err: E,
-) -> (u8, W, E)
-    ensures { NamesNothing (map (λ w. w.now) words.now)
-        → (W.contents result.1 ≡ W.contents out) × (result.0 ≡ 2) }
-{
-    let mut err = err;
-    match words {
-        ["vectors"] => serve_vectors(alloc, &VECTORS, &PLAIN_VECTORS, out, err),
-        _ => (refuse(&mut err, Failure::Usage), out, err),
-    }
-}
-
-/// [`serve`] over any allocator, so that a test can refuse its growths.
+/// [`serve`] over any allocator, so that a test can refuse its growths. The word `vectors`, whose
+/// calls fix their own, names nothing here.
 pub fn serve_in<A: Allocator, R: Read, W: Write, E: Write>(
     alloc: &A,
     words: &[&str],
@@ -149,13 +80,45 @@ pub fn serve_in<A: Allocator, R: Read, W: Write, E: Write>(
     ensures { Serves (map (λ w. w.now) words.now) (R.remaining input.old) (R.remaining input.new)
         (W.contents out) (W.contents result.1) result.0 }
 {
-    let Some(op) = Op::from_words(words) else {
-        return serve_other_words(alloc, words, out, err);
+    let (ended, out) = match Op::from_words(words) {
+        Some(op) => serve_op(alloc, op, input, out),
+        None => (Err(Failure::Usage), out),
     };
-    let mut err = err;
-    match serve_op(alloc, op, input, out) {
-        (Ok(()), out) => (0, out, err),
-        (Err(failure), out) => (refuse(&mut err, failure), out, err),
+    match ended {
+        Ok(()) => (0, out, err),
+        Err(failure) => {
+            let (status, err) = refuse(err, failure);
+            (status, out, err)
+        }
+    }
+}
+
+/// Writes the lines of [`run_vectors`] over `table` to `out`, flushes it and returns the exit status:
+/// 0 where no vector failed, else 1.
+///
+/// A failed write or flush is status 3, and `write failed` goes to `err`; want of memory is status 3
+/// likewise, and `out of memory`.
+pub fn serve_vectors<W: Write, E: Write>(
+    alloc: Global,
+    table: &[Vector<'_>],
+    out: W,
+    err: E,
+) -> (u8, W, E)
+    ensures { (result.0 ≡ 0) ⊎ (result.0 ≡ 1) ⊎ (result.0 ≡ 3) }
+{
+    let Ok(report) = run_vectors(alloc, table) else {
+        let (status, err) = refuse(err, Failure::OutOfMemory);
+        return (status, out, err);
+    };
+    let mut sink = WriterSink::new(out);
+    let put = put_all(&mut sink, report.lines.as_bytes()).map_err(RunFault::Write);
+    let mut out = sink.into_inner();
+    match finish(&mut out, put) {
+        Ok(()) => (u8::from(report.failed > 0), out, err),
+        Err(failure) => {
+            let (status, err) = refuse(err, failure);
+            (status, out, err)
+        }
     }
 }
 
@@ -196,5 +159,8 @@ pub fn serve<R: Read, W: Write, E: Write>(
     ensures { Serves (map (λ w. w.now) words.now) (R.remaining input.old) (R.remaining input.new)
         (W.contents out) (W.contents result.1) result.0 }
 {
-    serve_in(&alloc, words, input, out, err)
+    match words {
+        ["vectors"] => serve_vectors(alloc, &VECTORS, out, err),
+        _ => serve_in(&alloc, words, input, out, err),
+    }
 }

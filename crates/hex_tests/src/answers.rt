@@ -1,7 +1,8 @@
-//! What is written through the answer of a call that lends the front of its destination.
+//! What is written through the answer of a call that lends the front of its destination, and the default
+//! policy.
 
 use hex_codec::{hex_decode, hex_encode};
-use hex_core::Error;
+use hex_core::{CheckCase, Error};
 use std::alloc::{AllocError, Global};
 
 // Whether a call answers these bytes. Writes a mark over the answer from a place on.
@@ -67,4 +68,10 @@ fn outlives_its_source(alloc: Global) -> Result<bool, AllocError> {
 #[test]
 fn decoded_prefix_borrows_only_the_destination_and_is_mutable(rt: HostRuntime) {
     assert!(rt; outlives_its_source(rt.alloc()) == Ok(true));
+}
+
+// The last line of the Rust crate's `errors_have_stable_precedence_and_do_not_write`.
+#[test]
+fn either_case_is_read_by_default(rt: HostRuntime) {
+    assert!(rt; CheckCase::default() == CheckCase::None);
 }

@@ -1,18 +1,18 @@
-//! A writer that fails with one error, what is seen of an error, and writes that fail so behind
-//! `Unretried`.
+//! A writer that fails with one error, behind a sink and behind `Unretried`.
 
+use hex_format::{Sink, SinkFault, WriterSink};
 use hex_program::Unretried;
 use std::alloc::Global;
 use std::io::{self, ErrorKind, Write};
 
 const WORDS: &str = "no more is taken";
 
-/// Fails each write with the error of this code, or, where that is 0, with one of some words. Counts
-/// its flushes, and fails them too where there is a code.
+// Fails each write with the error of this code, or, where that is 0, with one of some words. Counts
+// its flushes, and fails them too where there is a code.
 #[derive(Drop)]
-pub struct Failing {
-    pub code: i32,
-    pub flushes: u64,
+struct Failing {
+    code: i32,
+    flushes: u64,
 }
 
 impl Write for Failing {
@@ -33,15 +33,12 @@ impl Write for Failing {
     }
 }
 
-/// Returns whether an error is the one that such a writer fails with.
-pub fn is_its_error(alloc: Global, error: &io::Error, code: i32) -> bool {
+// Whether an error is the one that such a writer fails with.
+fn is_its_error(alloc: Global, error: &io::Error, code: i32) -> bool {
     if code != 0 {
         return error.raw_os_error() == Some(code);
     }
-    let is_shown = match format!(in alloc; "{error}") {
-        Ok(text) => text.as_str() == WORDS,
-        Err(_) => false,
-    };
+    let is_shown = format!(in alloc; "{error}").is_ok_and(|text| text.as_str() == WORDS);
     is_shown && error.kind() == ErrorKind::TimedOut && error.raw_os_error().is_none()
 }
 
@@ -65,5 +62,23 @@ fn is_passed_on(alloc: Global, code: i32) -> bool {
 fn another_error_and_a_flush_are_passed_on(rt: HostRuntime) {
     for code in [0, 5, 11, 28, 32] {
         assert!(rt; is_passed_on(rt.alloc(), code));
+    }
+}
+
+// Whether a put keeps the error itself that its writer failed with.
+fn keeps_error(alloc: Global, code: i32) -> bool {
+    let mut sink = WriterSink::new(Failing { code, flushes: 0 });
+    let answer = sink.put(b"a");
+    let is_kept = match sink.last_error() {
+        Some(error) => is_its_error(alloc, error, code),
+        None => false,
+    };
+    is_kept && answer == Err(SinkFault)
+}
+
+#[test]
+fn a_put_keeps_the_code_and_the_words_of_an_error(rt: HostRuntime) {
+    for code in [0, 5, 28, 32] {
+        assert!(rt; keeps_error(rt.alloc(), code));
     }
 }

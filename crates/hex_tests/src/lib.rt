@@ -1,17 +1,15 @@
 //! Tests of what no row of `rows`, `json_rows` or `program_rows` and no example of a doc comment
-//! says: writes through an answer, digits in chunks, equal hashes, a writer that answers by a script,
-//! one that fails, and what is too long for a row.
+//! says: writes through an answer, stored vectors that are wrong, a writer that answers by a script, one
+//! that fails, and what is too long for a row.
 #![tactic(auto)]
 
 #[cfg(test)]
 mod answers;
 #[cfg(test)]
-mod chunks;
-#[cfg(test)]
 mod failing;
-#[cfg(test)]
-mod hashes;
 #[cfg(test)]
 mod long;
 #[cfg(test)]
-mod writer_rows;
+mod vectors;
+#[cfg(test)]
+mod writers;

@@ -2,73 +2,89 @@
 
 use std::io;
 use std::io::{ErrorKind, Read, Write};
-use test_kit::Words;
+use test_kit::{Bytes, Words};
 
-/// Gives this many times one byte, then a newline and a failure where it is told to, and ends. A read
-/// behind its end fails.
+/// Gives this many times one byte, then some bytes and a failure where it is told to, and ends. A
+/// read gives at most so many bytes, and one behind its end fails.
 #[derive(Drop)]
-pub struct Repeated {
+pub struct Input<'a> {
     byte: u8,
-    left: usize,
-    newline: bool,
-    fails: bool,
-    failure: ErrorKind,
+    count: usize,
+    behind: &'a [u8],
+    failure: Option<ErrorKind>,
+    every: usize,
 }
 
-impl Repeated {
-    /// Reads `BYTE COUNT END`, where the last is `ends`, `newline`, `fails` or `blocks`.
-    pub fn read_from(row: &mut Words<'_>) -> Repeated {
+impl<'a> Input<'a> {
+    /// Reads `BYTE COUNT BEHIND END`, where the last is `ends`, `fails` or `blocks`.
+    pub fn read_from(row: &mut Words<'_>, bytes: &'a mut Bytes) -> Input<'a> {
         let byte = row.take_byte();
-        let left = row.take_number();
-        let newline = row.takes(b"newline");
-        let blocks = !newline && row.takes(b"blocks");
-        let fails = blocks || (!newline && row.takes(b"fails"));
-        if !newline && !fails {
-            row.wants(b"ends");
-        }
-        let failure = if blocks {
-            ErrorKind::WouldBlock
+        let count = row.take_number();
+        row.take_bytes(bytes);
+        let failure = if row.takes(b"fails") {
+            Some(ErrorKind::Interrupted)
+        } else if row.takes(b"blocks") {
+            Some(ErrorKind::WouldBlock)
         } else {
-            ErrorKind::Interrupted
+            row.wants(b"ends");
+            None
         };
-        Repeated {
+        Input {
             byte,
-            left,
-            newline,
-            fails,
+            count,
+            behind: bytes.as_slice(),
             failure,
+            every: usize::MAX,
+        }
+    }
+
+    /// Returns how many bytes behind the repeated ones are left.
+    pub fn left(&self) -> usize {
+        self.behind.len()
+    }
+
+    /// Returns one of these bytes, which come in reads of at most so many.
+    pub fn by_reads(behind: &'a [u8], every: usize) -> Input<'a> {
+        Input {
+            byte: 0,
+            count: 0,
+            behind,
+            failure: None,
+            every,
         }
     }
 }
 
-impl Read for Repeated {
+impl<'a> Read for Input<'a> {
     fn read(&mut self, buf: &mut [u8]) -> io::Result<usize> {
-        if self.left == 0 && self.newline {
-            self.newline = false;
-            self.byte = b'\n';
-            self.left = 1;
+        let room = self.every.min(buf.len());
+        let repeated = self.count.min(room);
+        if repeated > 0 {
+            buf[..repeated].fill(self.byte);
+            self.count -= repeated;
+            return Ok(repeated);
         }
-        if self.left == 0 && self.fails {
-            self.fails = false;
-            return Err(io::Error::from(self.failure));
+        let (given, behind) = self.behind.split_at(self.behind.len().min(room));
+        if given.is_empty() {
+            let failure = self.failure.take();
+            let Some(kind) = failure else {
+                self.failure = Some(ErrorKind::Interrupted);
+                return Ok(0);
+            };
+            return Err(io::Error::from(kind));
         }
-        let n = self.left.min(buf.len());
-        self.fails = self.fails || n == 0;
-        buf[..n].fill(self.byte);
-        self.left -= n;
-        Ok(n)
+        buf[..given.len()].copy_from_slice(given);
+        self.behind = behind;
+        Ok(given.len())
     }
 }
 
 /// The bytes that a writer is to take: so many, a unit again and again, and an end at the last.
 #[derive(Clone, Copy)]
 pub struct Output<'a> {
-    /// How many bytes there are.
-    pub count: usize,
-    /// What comes again and again.
-    pub unit: &'a [u8],
-    /// The last bytes.
-    pub end: &'a [u8],
+    count: usize,
+    unit: &'a [u8],
+    end: &'a [u8],
 }
 
 impl<'a> Output<'a> {
@@ -81,14 +97,29 @@ impl<'a> Output<'a> {
         }
     }
 
+    /// Reads `COUNT UNIT LAST`.
+    pub fn read_from(
+        answer: &mut Words<'_>,
+        unit: &'a mut Bytes,
+        end: &'a mut Bytes,
+    ) -> Output<'a> {
+        let count = answer.take_number();
+        answer.take_bytes(unit);
+        answer.take_bytes(end);
+        Output {
+            count,
+            unit: unit.as_slice(),
+            end: end.as_slice(),
+        }
+    }
+
     // Whether this byte stands at a place.
     fn has(self, place: usize, byte: u8) -> bool {
         let start = self.count.saturating_sub(self.end.len());
+        let turned = place.checked_rem(self.unit.len()).unwrap_or(0);
         let wanted = match place.checked_sub(start) {
             Some(at) => self.end.get(at),
-            None => self
-                .unit
-                .get(place.checked_rem(self.unit.len()).unwrap_or(0)),
+            None => self.unit.get(turned),
         };
         wanted.copied() == Some(byte)
     }
@@ -115,8 +146,11 @@ impl<'a> Narrow<'a> {
     pub fn read_from(row: &mut Words<'_>, wanted: Output<'a>) -> Narrow<'a> {
         let stuck = row.takes(b"stuck");
         let flush_fails = !stuck && row.takes(b"unflushed");
-        let is_all = stuck || flush_fails || row.takes(b"all");
-        let room = room(row, is_all);
+        let room = if stuck || flush_fails || row.takes(b"all") {
+            usize::MAX
+        } else {
+            row.take_number()
+        };
         Narrow {
             flushes: 0,
             flush_fails,
@@ -131,15 +165,6 @@ impl<'a> Narrow<'a> {
     /// Whether it took exactly the bytes that are wanted.
     pub fn is_filled(&self) -> bool {
         !self.is_other && self.taken == self.wanted.count
-    }
-}
-
-// Reads how many bytes there is room for, where that is not told yet.
-fn room(row: &mut Words<'_>, is_all: bool) -> usize {
-    if is_all {
-        usize::MAX
-    } else {
-        row.take_number()
     }
 }
 

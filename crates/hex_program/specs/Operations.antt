@@ -8,10 +8,10 @@ use Rattle.hex_core.specs.declared.error.Error.{Error}
 use Rattle.hex_core.specs.Text.{Spells, lowercase, text, uppercase}
 use Rattle.hex_core.specs.Refusal.{source_refusal}
 use Rattle.hex_format.specs.Sink.{SinkState, Stops, Takes}
-use Rattle.hex_operations.specs.declared.operation.Op.{Op}
-use Rattle.hex_operations.specs.declared.operation.Op.TheVariants.{Encode, EncodeUpper, Decode, DecodeLower, DecodeUpper}
-use Rattle.hex_operations.specs.declared.operation.RunFault.{RunFault}
-use Rattle.hex_operations.specs.declared.operation.RunFault.TheVariants as fault
+use Rattle.hex_program.specs.declared.operation.Op.{Op}
+use Rattle.hex_program.specs.declared.operation.Op.TheVariants.{Encode, EncodeUpper, Decode, DecodeLower, DecodeUpper}
+use Rattle.hex_program.specs.declared.operation.RunFault.{RunFault}
+use Rattle.hex_program.specs.declared.operation.RunFault.TheVariants as fault
 
 -- the operation that a word names
 abbrev pub op_of_word : List ℕ → Option Op
@@ -49,31 +49,19 @@ IsOutput = by_op (λ upper input output. output ≡ text upper input ++ 10 ∷ [
 abbrev pub op_refusal : Op → List ℕ → Option Error
 op_refusal = by_op (λ upper input. None) (λ case input. source_refusal case (without_newline input))
 
--- decoding these digits needs memory: their length is even and above 0
-abbrev pub NeedsMemory : List ℕ → Type 0
-NeedsMemory digits = (length digits % 2 ≡ 0) × (0 < length digits)
+-- whether an operation may want memory: in decoding, where the digits are even in number, and not none
+abbrev pub MayWantMemory : Op → List ℕ → Type 0
+MayWantMemory = by_op (λ upper input. ⊥) (λ case input. let digits = length (without_newline input) in (digits % 2 ≡ 0) × (0 < digits))
 
--- what a fault of a run tells, by its outputs, its refusal and whether it needs memory
-abbrev pub FailureBy : (List ℕ → Type 0) → Option Error → Type 0 → SinkState → SinkState → RunFault → Type 0
-FailureBy is_output refusal needs old new (fault.Codec e) = (refusal ≡ Some e) × (new ≡ old)
-FailureBy is_output refusal needs old new (fault.Write why) = (output : List ℕ) × is_output output × Stops old new output
-FailureBy is_output refusal needs old new fault.OutOfMemory = needs × (new ≡ old)
+-- what a fault of an operation's run tells, with what the sink shows before and after it
+abbrev pub FailsRun : Op → List ℕ → SinkState → SinkState → RunFault → Type 0
+FailsRun op input old new (fault.Codec e) = (op_refusal op input ≡ Some e) × (new ≡ old)
+FailsRun op input old new (fault.Write why) = (output : List ℕ) × IsOutput op input output × Stops old new output
+FailsRun op input old new fault.OutOfMemory = MayWantMemory op input × (new ≡ old)
 
--- a run, told by its outputs, its refusal and whether it needs memory: at `Ok` the sink took exactly
--- an output more and no put failed, at `Err` what the fault tells
-abbrev pub RunsBy : (List ℕ → Type 0) → Option Error → Type 0 → SinkState → SinkState → Result (Unit {0}) RunFault → Type 0
-RunsBy is_output refusal needs old new result = MatchResult result
-    (λ _. (output : List ℕ) × is_output output × Takes old new output)
-    (λ why. FailureBy is_output refusal needs old new why)
-
--- encoding this input, which is never refused and needs no memory, and decoding it
-abbrev pub RunsEncoding : Bool → List ℕ → SinkState → SinkState → Result (Unit {0}) RunFault → Type 0
-RunsEncoding upper input = RunsBy (λ output. output ≡ text upper input ++ 10 ∷ []) None ⊥
-
-abbrev pub RunsDecoding : CheckCase → List ℕ → SinkState → SinkState → Result (Unit {0}) RunFault → Type 0
-RunsDecoding case input =
-    let digits = without_newline input in RunsBy (Spells case digits) (source_refusal case digits) (NeedsMemory digits)
-
--- an operation's run over this input, with what the sink shows before and after it
+-- an operation's run over this input: at `Ok` the sink took exactly the output more and no put failed,
+-- at `Err` what the fault tells
 abbrev pub Runs : Op → List ℕ → SinkState → SinkState → Result (Unit {0}) RunFault → Type 0
-Runs = by_op RunsEncoding RunsDecoding
+Runs op input old new result = MatchResult result
+    (λ _. (output : List ℕ) × IsOutput op input output × Takes old new output)
+    (λ why. FailsRun op input old new why)

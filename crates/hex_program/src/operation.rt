@@ -3,7 +3,7 @@
 ghost use Rattle.std.specs.Prelude.{◌≡◌, ◌++◌, ◌∷◌, [], ◌<◌, ◌-◌, ◌^◌, map};
 ghost use Rattle.hex_core.specs.Text.{text};
 ghost use Rattle.hex_format.specs.Sink.{Puts};
-ghost use Rattle.hex_operations.specs.Operations.{Runs, RunsDecoding, op_of_word, op_of_words, without_newline};
+ghost use Rattle.hex_program.specs.Operations.{Runs, op_of_word, op_of_words, without_newline};
 
 use hex_codec::hex_decode_vec_with_case;
 use hex_core::{CheckCase, Error};
@@ -46,13 +46,8 @@ impl Op {
         }
     }
 
-    /// Returns the operation that the program's words name: there has to be one word.
-    ///
-    /// ```rust
-    /// assert_eq!(rt; Op::from_words(&["decode"]), Some(Op::Decode));
-    /// assert_eq!(rt; Op::from_words(&["encode", "decode"]), None);
-    /// ```
-    pub fn from_words(words: &[&str]) -> Option<Op>
+    // Returns the operation that the program's words name: there has to be one word.
+    pub(crate) fn from_words(words: &[&str]) -> Option<Op>
         ensures { result ≡ op_of_words (map (λ w. w.now) words.now) }
     {
         match words {
@@ -73,13 +68,8 @@ pub enum RunFault {
     OutOfMemory,
 }
 
-/// Returns the input without one final newline, where it has one.
-///
-/// ```rust
-/// assert_eq!(rt; digits_in(b"00ff\n"), b"00ff".as_slice());
-/// assert_eq!(rt; digits_in(b"00ff\n\n"), b"00ff\n".as_slice());
-/// ```
-pub fn digits_in(input: &[u8]) -> &[u8]
+// Returns the input without one final newline, where it has one.
+fn digits_in(input: &[u8]) -> &[u8]
     ensures { result.now ≡ without_newline input.now }
 {
     match input {
@@ -103,23 +93,6 @@ fn put_text_line<S: Sink>(bytes: &[u8], upper: bool, sink: &mut S) -> Result<(),
     put_all(sink, b"\n")
 }
 
-// Puts the bytes that the input spells, or refuses it. All are collected before the first put.
-fn run_decoding<A: Allocator + Drop, S: Sink>(
-    alloc: A,
-    input: &[u8],
-    case: CheckCase,
-    sink: &mut S,
-) -> Result<(), RunFault>
-    requires { (S.state sink.old).failures < 2 ^ 64 - 1 }
-    ensures { RunsDecoding case input.now (S.state sink.old) (S.state sink.new) result }
-{
-    match hex_decode_vec_with_case(alloc, digits_in(input), case) {
-        Ok(bytes) => put_all(sink, bytes.as_slice()).map_err(RunFault::Write),
-        Err(Error::OutOfMemory) => Err(RunFault::OutOfMemory),
-        Err(e) => Err(RunFault::Codec(e)),
-    }
-}
-
 /// [`run`] over any allocator, so that a test can refuse its growths.
 pub fn run_in<A: Allocator + Drop, S: Sink>(
     alloc: A,
@@ -130,12 +103,18 @@ pub fn run_in<A: Allocator + Drop, S: Sink>(
     requires { (S.state sink.old).failures < 2 ^ 64 - 1 }
     ensures { Runs op input.now (S.state sink.old) (S.state sink.new) result }
 {
-    match op {
-        Op::Encode => put_text_line(input, false, sink).map_err(RunFault::Write),
-        Op::EncodeUpper => put_text_line(input, true, sink).map_err(RunFault::Write),
-        Op::Decode => run_decoding(alloc, input, CheckCase::None, sink),
-        Op::DecodeLower => run_decoding(alloc, input, CheckCase::Lower, sink),
-        Op::DecodeUpper => run_decoding(alloc, input, CheckCase::Upper, sink),
+    let case = match op {
+        Op::Encode => return put_text_line(input, false, sink).map_err(RunFault::Write),
+        Op::EncodeUpper => return put_text_line(input, true, sink).map_err(RunFault::Write),
+        Op::Decode => CheckCase::None,
+        Op::DecodeLower => CheckCase::Lower,
+        Op::DecodeUpper => CheckCase::Upper,
+    };
+    // All bytes are collected before the first put.
+    match hex_decode_vec_with_case(alloc, digits_in(input), case) {
+        Ok(bytes) => put_all(sink, bytes.as_slice()).map_err(RunFault::Write),
+        Err(Error::OutOfMemory) => Err(RunFault::OutOfMemory),
+        Err(e) => Err(RunFault::Codec(e)),
     }
 }
 
