@@ -1,4 +1,4 @@
-use Rattle.std.proofs.Common.{◌≡◌, ◌+◌, ◌*◌, ◌-◌, ◌/◌, ◌%◌, length, arith}
+use Rattle.std.proofs.Common.{◌≡◌, ◌/◌, ◌%◌, length, arith}
 use Rattle.hex_core.proofs.BlockLemmas.{block_inside, blocks_end, blocks_past, decodes_next, decodes_over, decodes_whole}
 use Rattle.std.proofs.lemmas.Bool.Decides.{nat_tests}
 use Rattle.hex_core.proofs.kernel.write_blocks.Goals as goal

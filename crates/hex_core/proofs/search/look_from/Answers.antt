@@ -1,5 +1,4 @@
-use Rattle.std.proofs.Common.{◌≡◌, ◌+◌, ◌<◌, is_some, length, refl, sym, ◌∙◌, ap, arith}
-use Rattle.hex_core.specs.Probe.{ValidIn}
+use Rattle.std.proofs.Common.{◌<◌, is_some, length, refl, sym, ◌∙◌, ap, arith}
 use Rattle.hex_core.proofs.ProbeLemmas.{adds_none, adds_then}
 use Rattle.hex_core.proofs.SearchLemmas.{first_invalid_is, first_invalid_none, looks_ended, looks_found, looks_near, read_along, valid_more}
 use Rattle.hex_core.proofs.search.look_from.Goals as goal
