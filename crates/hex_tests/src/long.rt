@@ -1,9 +1,11 @@
-//! Texts and pieces that are longer than a row can write.
+//! Texts, lists and pieces that are longer than a row can write.
 
+use hex_core::CheckCase;
+use hex_format::digests::{read, write_to};
 use hex_format::{Hex, Sink, WriterSink};
 use std::alloc::Global;
 
-// How many bytes are printed or put.
+// How many bytes are printed or put, and how many lines are read.
 const MANY: usize = 300_000;
 
 // Whether a view prints its digits alone, with the flag `#` too.
@@ -20,6 +22,23 @@ fn is_printed(alloc: Global) -> Option<bool> {
 #[test]
 fn a_long_view_prints_its_digits_alone(rt: HostRuntime) {
     assert!(rt; is_printed(rt.alloc()) == Some(true));
+}
+
+// Whether a list is read, and its entries are written as it stands.
+fn is_listed(alloc: Global) -> Option<bool> {
+    let mut list = Vec::new(alloc);
+    for _ in 0..MANY {
+        list.extend_from_slice(b"0a  n\n").ok()?;
+    }
+    let entries = read::<1>(alloc, list.as_slice(), CheckCase::None).ok()?;
+    let mut sink = WriterSink::new(Vec::new(alloc));
+    write_to(entries.as_slice(), &mut sink, false).ok()?;
+    Some(entries.len() == MANY && sink.into_inner().as_slice() == list.as_slice())
+}
+
+#[test]
+fn a_long_list_is_read_and_written(rt: HostRuntime) {
+    assert!(rt; is_listed(rt.alloc()) == Some(true));
 }
 
 // Whether a put hands a long piece over in one write, of which a `Vec` takes all.

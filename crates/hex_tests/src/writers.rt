@@ -11,7 +11,7 @@ type Told = Result<usize, ErrorKind>;
 // those with an error, and those of some bytes that took none; and the error that it keeps, the last one.
 type Put = (&'static [u8], Told, u64, Option<ErrorKind>);
 
-static PUTS: [Put; 14] = [
+static PUTS: [Put; 16] = [
     (b"", Ok(0), 0, None),
     (b"abc", Ok(1), 0, None),
     (b"bc", Ok(0), 1, None),
@@ -26,6 +26,8 @@ static PUTS: [Put; 14] = [
     (b"", Err(Interrupted), 6, Some(Interrupted)),
     (b"gh", Ok(1), 6, Some(Interrupted)),
     (b"h", Ok(1), 6, Some(Interrupted)),
+    (b"ab", Ok(1), 6, Some(Interrupted)),
+    (b"b", Err(BrokenPipe), 7, Some(BrokenPipe)),
 ];
 
 // A writer that answers its calls in turn, and counts them, each flush too.
@@ -97,12 +99,15 @@ fn a_put_is_one_write_whatever_the_writer_answered(rt: HostRuntime) {
     assert!(rt; are_put());
 }
 
-// Whether a text whose first byte alone is taken ends with the error behind it, and no third write.
+// Whether a text whose first byte alone is taken ends with the error behind it, and no third write: the
+// second one is of the other byte, so one is held.
 fn ends_at_the_error() -> bool {
-    let mut sink = WriterSink::new(writer_at(10));
+    let mut sink = WriterSink::new(writer_at(14));
     let answer = Hex::new(&[0xab]).write_to(&mut sink, &HexFlags::default());
     let is_told = answer == Err(WriteFault::Sink(SinkFault)) && sink.failures() == 1;
-    is_told && kept_kind(&sink) == Some(Interrupted) && sink.into_inner().calls == 12
+    let is_kept = kept_kind(&sink) == Some(BrokenPipe);
+    let writer = sink.into_inner();
+    is_told && is_kept && writer.is_given_all && writer.calls == 16
 }
 
 #[test]
