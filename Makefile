@@ -74,7 +74,6 @@ deep: build lib
 	scripts/test-rows
 	scripts/examples --prove
 	$(CHECK)
-	scripts/random-rows
 
 # The loader takes the shared library of the widest build that the processor runs.
 install: build lib
