@@ -84,7 +84,7 @@ uninstall:
 	$(INSTALL) --remove
 
 vendor:
-	scripts/vendor.sh $(if $(filter no,$(JSON)),--no-json) "$(DIR)"
+	scripts/vendor $(if $(filter no,$(JSON)),--no-json) "$(DIR)"
 
 clean:
 	rm -rf crates/*/out

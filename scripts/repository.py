@@ -1,0 +1,60 @@
+#!/usr/bin/env python3
+"""repository: the crates of this repository, as crates.txt lists them, and copies of them.
+
+repository.py uses NAME     prints what crates.txt says that a crate uses
+repository.py below NAME..  prints these crates and the libraries of the repository that they use, the lowest
+                            first"""
+import re
+import shutil
+import sys
+from pathlib import Path
+
+TOP = Path(__file__).resolve().parent.parent
+
+
+def lines_of(top=TOP):
+    """The lines of a crates.txt, by the names of their crates."""
+    lines = (Path(top) / "crates.txt").read_text().splitlines()
+    return {re.match(r"\w+", it)[0]: it for it in lines if re.match(r"\w+.*:", it)}
+
+
+def uses(name, top=TOP):
+    """The names of the crates that a crate uses, of this repository or not."""
+    return lines_of(top)[name].partition(":")[2].split()
+
+
+def below(names, top=TOP):
+    """These crates and the libraries of the repository that they use, the lowest first."""
+    found, listed = [], lines_of(top)
+    for name in names:
+        used = [it for it in uses(name, top) if it in listed]
+        found += [it for it in (*below(used, top), name) if it not in found]
+    return found
+
+
+def copy(names, to, parts=None, top=TOP):
+    """Copies crates and their lines of crates.txt into the repository at a folder: these parts of each crate, or
+    all but out/."""
+    with (Path(to) / "crates.txt").open("a") as listed:
+        listed.writelines(f"{lines_of(top)[it]}\n" for it in names)
+    for name in names:
+        of, mine = Path(top) / "crates" / name, Path(to) / "crates" / name
+        mine.mkdir(parents=True, exist_ok=True)
+        for part in of.iterdir():
+            if part.name not in parts if parts else part.name == "out":
+                continue
+            if part.is_dir():
+                shutil.copytree(part, mine / part.name, symlinks=True)
+            else:
+                shutil.copy(part, mine)
+
+
+def main():
+    words = {"uses": lambda names: uses(*names), "below": below}
+    if len(sys.argv) < 3 or sys.argv[1] not in words:
+        sys.exit(__doc__)
+    print(*words[sys.argv[1]](sys.argv[2:]), sep="\n")
+
+
+if __name__ == "__main__":
+    main()
