@@ -1,8 +1,11 @@
-// The loops that a user would have written for grouped digits: one that writes, by two look-ups a
-// byte and a separator between two pieces, and for reading one that tests all and one that stores.
+// The loops that a user would have written: for grouped digits one that writes, by two look-ups a byte and
+// a separator between two pieces, and for reading one that tests all and one that stores; and for digest
+// lists one that finds each line's end by `memchr`.
 #include <stdbool.h>
 #include <stddef.h>
 #include <stdint.h>
+#include <stdlib.h>
+#include <string.h>
 
 static const uint8_t digits[] = "0123456789abcdef";
 
@@ -70,14 +73,59 @@ static inline __attribute__((always_inline)) size_t read_in_c(const uint8_t *src
 
 // With a number of bytes that the compiler knows, as in a loop for one format.
 #define LOOP(every, name) \
-    size_t own_by_##every##_##name(const uint8_t *src, size_t len, uint8_t *dst, size_t room); \
-    size_t own_by_##every##_##name(const uint8_t *src, size_t len, uint8_t *dst, size_t room) { \
+    size_t c_by_##every##_##name(const uint8_t *src, size_t len, uint8_t *dst, size_t room) { \
         (void)room; \
-        return name(src, len, dst, every); \
+        return name##_in_c(src, len, dst, every); \
     }
-#define LOOPS(every) LOOP(every, write_in_c) LOOP(every, read_in_c)
+#define LOOPS(every) LOOP(every, write) LOOP(every, read)
 LOOPS(1)
 LOOPS(2)
 LOOPS(4)
 LOOPS(8)
 LOOPS(16)
+
+#define DIGEST 32
+
+// As large as an entry of `digests::read`.
+struct entry {
+    uint8_t digest[DIGEST];
+    const uint8_t *name;
+    size_t name_len;
+    bool binary;
+};
+
+size_t own_digest(const uint8_t *src, size_t len, uint8_t *dst, size_t room);
+
+// Writes an entry for each line, each so many behind the one before it, and answers how many there are.
+static size_t entries_of(const uint8_t *at, const uint8_t *end, struct entry *entry, size_t step) {
+    const uint8_t *newline;
+    size_t lines = 0;
+    while ((newline = memchr(at, '\n', end - at)) != NULL) {
+        if (newline - at < 2 * DIGEST + 2 || own_digest(at, 2 * DIGEST, entry->digest, DIGEST) != DIGEST) {
+            return 0;
+        }
+        entry->name = at + 2 * DIGEST + 2;
+        entry->name_len = newline - entry->name;
+        entry->binary = entry->name[-1] == '*';
+        entry += step;
+        at = newline + 1;
+        lines++;
+    }
+    return lines;
+}
+
+// Keeps no entry: each is written over the one before it.
+size_t c_lists_read(const uint8_t *src, size_t len, uint8_t *dst, size_t room) {
+    struct entry entry;
+    (void)dst, (void)room;
+    return entries_of(src, src + len, &entry, 0);
+}
+
+// Keeps all entries, in memory that it asks for once: no line is shorter than its digits.
+size_t c_lists_keep(const uint8_t *src, size_t len, uint8_t *dst, size_t room) {
+    struct entry *entries = malloc(len / (2 * DIGEST) * sizeof *entries);
+    (void)dst, (void)room;
+    size_t lines = entries ? entries_of(src, src + len, entries, 1) : 0;
+    free(entries);
+    return lines;
+}

@@ -1,0 +1,144 @@
+"""The calls that bench/run times, and the exported functions by which bench.c makes them. A function is given
+a source and a destination, and answers how many bytes it wrote, or entries it read; a test answers 1, and
+whatever is refused 0."""
+import collections
+
+# Of each call what it works on, its plan or crate, its name, what its answer is, and its words.
+PLAIN = """
+CHECK plain check test hex_check(src)
+CHECK plain first_invalid place Backend::plain().first_invalid(src, CheckCase::None)
+ENCODE plain encode_slice list hex_encode(src, dst)
+ENCODE plain encode_into count hex_encode_into(src, dst, false)
+DECODE plain decode_slice list hex_decode(src, dst)
+DECODE plain decode_into count hex_decode_into(src, dst, CheckCase::None)
+DECODE plain decode_owned whole Backend::plain().decode_owned(src, dst, CheckCase::None)
+VECTOR plain decode_vec list hex_decode_vec(alloc, src)
+REFUSED plain refuse list hex_decode(src, dst)
+WRITE by_0 write count hex_encode_into(src, dst, false)
+READ by_0 read list hex_decode(src, dst)
+CHUNKS by_all decode count hex_decode_into(src, dst, CheckCase::None)
+LIST lists read list digests::read::<32>(alloc, src, CheckCase::None)
+NEW_LIST lists read_anew list digests::read::<32>(alloc, src, CheckCase::None)
+"""
+# In pieces of so many bytes, and in chunks of so many digits.
+GROUPED = """
+WRITE by_{n} write number write_by(src, dst, {n})
+READ by_{n} read number read_by(src, dst, {n})
+"""
+FED = "CHUNKS by_{n} feed number fed(src, dst, {n})"
+CALLED = "CHUNKS by_{n} decode number called(src, dst, {n})"
+PLAN = """
+CHECK {plan} check test {value}.check(src, CheckCase::None)
+ENCODE {plan} encode fixed {value}.encode(src, dst, false)
+DECODE {plan} decode whole {value}.decode(src, dst, CheckCase::None)
+"""
+KERNEL = PLAN + "DECODE {plan} decode_owned whole {value}.decode_owned(src, dst, CheckCase::None)"
+# Of crates with the Rust crate's names, and of others.
+SLICES = """
+CHECK {plan} check test {value}::hex_check(src)
+ENCODE {plan} encode list {value}::hex_encode(src, dst)
+DECODE {plan} decode list {value}::hex_decode(src, dst)
+REFUSED {plan} refuse list {value}::hex_decode(src, dst)
+"""
+VECTOR = "VECTOR {plan} decode_vec list {value}::hex_decode_vec(src)"
+PEERS = {
+    "hex": """
+ENCODE hex encode whole ::hex::encode_to_slice(src, dst).is_ok()
+DECODE hex decode whole ::hex::decode_to_slice(src, dst).is_ok()
+""",
+    "data_encoding": """
+ENCODE data_encoding encode fixed ::data_encoding::HEXLOWER_PERMISSIVE.encode_mut(src, dst)
+DECODE data_encoding decode count ::data_encoding::HEXLOWER_PERMISSIVE.decode_mut(src, dst)
+""",
+}
+# Of loops.c and shared.c.
+LOOPS = """
+WRITE by_{n} write
+READ by_{n} read
+"""
+LIST_LOOPS = """
+LIST lists read
+NEW_LIST lists keep
+"""
+SHARED = """
+CHECK shared check
+ENCODE shared encode
+DECODE shared decode
+"""
+PLANS = "scalar sse41 avx2 avx512 neon".split()
+PIECES = 1, 2, 4, 8, 16
+
+ANSWERS = {
+    "test": "{} as usize",
+    "place": "match {} {{ Some(_) => 0, None => 1 }}",
+    "list": "match {} {{ Ok(list) => list.len(), Err(_) => 0 }}",
+    "count": "{}.unwrap_or(0)",
+    "number": "{}",
+    "whole": "if {} {{ dst.len() }} else {{ 0 }}",
+    "fixed": "{}; dst.len()",
+}
+# What a plan's call in Rattle asks of the lengths.
+FITS = {
+    "whole": "\n    requires { length src.now ≡ 2 * length dst.old }\n",
+    "fixed": "\n    requires { length dst.old ≡ 2 * length src.now }\n",
+}
+RATTLE = """
+#[unsafe(no_mangle)]
+pub extern "C" fn {name}({alloc}src: &[u8], dst: &mut [u8]) -> usize {fits}{{
+    {body}
+}}
+"""
+RUST = """
+#[unsafe(no_mangle)]
+pub unsafe extern "C" fn {name}(src: *const u8, len: usize, dst: *mut u8, room: usize) -> usize {{
+    let (src, dst) = slices(src, len, dst, room);
+    {body}
+}}
+"""
+
+
+class Call(collections.namedtuple("Call", "kind side plan name answer words", defaults=["number", ""])):
+    def symbol(self):
+        return f"{self.side}_{self.plan}_{self.name}"
+
+    def exported(self, form):
+        """The exported function of the call, in Rattle or in Rust."""
+        alloc = "alloc: Global, " if "alloc" in self.words else ""
+        parts = {"alloc": alloc, "fits": FITS.get(self.answer, ""), "body": ANSWERS[self.answer].format(self.words)}
+        return form.format(name=self.symbol(), **parts)
+
+
+def calls(side, table, **words):
+    """The calls of a table, where these words stand in the brackets."""
+    rows = table.format(**words).strip().split("\n")
+    return [Call(kind, side, *rest) for kind, *rest in (row.split(" ", 4) for row in rows)]
+
+
+def own_calls():
+    """Those of this repository's libraries for Rattle."""
+    found = calls("own", PLAIN)
+    for table, numbers in (GROUPED, PIECES), (FED, (65536, 63, 7, 1)), (CALLED, (64, 8, 2)):
+        found += [it for n in numbers for it in calls("own", table, n=n)]
+    for index, plan in enumerate(PLANS):
+        found += calls("own", PLAN, plan=plan, value=f"backends()[{index}]")
+    return found
+
+
+def rust_calls():
+    """Those of the Rust crate: its public ones, and those of each of its kernels."""
+    found = calls("rust", SLICES + VECTOR, plan="public", value="crate")
+    for plan in PLANS[:4]:
+        found += calls("rust", KERNEL, plan=plan, value=f"Backend(Kind::{plan.capitalize()})")
+    return found
+
+
+def c_calls():
+    return calls("c", LIST_LOOPS) + [it for n in PIECES for it in calls("c", LOOPS, n=n)]
+
+
+def header(found, width):
+    """The list of calls for bench.c; a sweep times three, and the kernel of this width beside them."""
+    swept = [f"own_plain_{it}" for it in ("check", "encode_into", "decode_into")]
+    swept += [f"rust_{width}_{it}" for it in ("check", "encode", "decode")]
+    row = "CALL({0.kind}, {0.side}, {0.plan}, {0.name}, {1})\n"
+    return "".join(row.format(it, int(it.symbol() in swept)) for it in found)
