@@ -57,7 +57,8 @@ struct task {
 // one depends on what else the machine does.
 #define CALL(kind, side, plan, name, swept) \
     size_t side##_##plan##_##name(const uint8_t *src, size_t len, uint8_t *dst, size_t room); \
-    static __attribute__((noinline)) size_t side##_##plan##_##name##_loop(const struct task *task, long turns) { \
+    static __attribute__((noinline)) size_t side##_##plan##_##name##_loop( \
+        const struct task *task, long turns) { \
         struct task its = *task; \
         size_t sum = 0; \
         for (long i = 0; i < turns; i++) { \
@@ -273,8 +274,8 @@ static void print(const char *table) {
         const struct call *call = &calls[at];
         const size_t *sizes = sizes_of(call->kind);
         for (size_t size = 0; sizes[size] && !is_left_out[at]; size++) {
-            printf("%s\t%s %s %s\t%zu\t%.2f\n", table ? table : call->table, call->side, call->plan, call->name,
-                sizes[size], least[at][size]);
+            printf("%s\t%s %s %s\t%zu\t%.2f\n", table ? table : call->table, call->side, call->plan,
+                call->name, sizes[size], least[at][size]);
         }
     }
 }
@@ -299,7 +300,8 @@ static void leave_out(bool is_sweep, bool is_shared) {
         bool rust_has(const char *name);
         is_left_out[at] = !strcmp(call->side, "rust") && !rust_has(call->plan);
 #endif
-        is_left_out[at] |= (is_sweep && !call->is_swept) || (is_shared && !(is_beside && call->kind <= DECODE));
+        is_left_out[at] |= is_sweep && !call->is_swept;
+        is_left_out[at] |= is_shared && !(is_beside && call->kind <= DECODE);
     }
 }
 

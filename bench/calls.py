@@ -104,8 +104,8 @@ class Call(collections.namedtuple("Call", "kind side plan name answer words", de
     def exported(self, form):
         """The exported function of the call, in Rattle or in Rust."""
         alloc = "alloc: Global, " if "alloc" in self.words else ""
-        parts = {"alloc": alloc, "fits": FITS.get(self.answer, ""), "body": ANSWERS[self.answer].format(self.words)}
-        return form.format(name=self.symbol(), **parts)
+        body, fits = ANSWERS[self.answer].format(self.words), FITS.get(self.answer, "")
+        return form.format(name=self.symbol(), alloc=alloc, fits=fits, body=body)
 
 
 def calls(side, table, **words):

@@ -2,8 +2,7 @@
 """repository: the crates of this repository, as crates.txt lists them, and copies of them.
 
 repository.py uses NAME     prints what crates.txt says that a crate uses
-repository.py below NAME..  prints these crates and the libraries of the repository that they use, the lowest
-                            first"""
+repository.py below NAME..  prints these crates and the libraries of the repository below them, lowest first"""
 import re
 import shutil
 import sys
@@ -33,8 +32,8 @@ def below(names, top=TOP):
 
 
 def copy(names, to, parts=None, top=TOP):
-    """Copies crates and their lines of crates.txt into the repository at a folder: these parts of each crate, or
-    all but out/."""
+    """Copies crates and their lines of crates.txt into the repository at a folder: these parts of each, or all
+    but out/."""
     with (Path(to) / "crates.txt").open("a") as listed:
         listed.writelines(f"{lines_of(top)[it]}\n" for it in names)
     for name in names:
