@@ -3,8 +3,8 @@
 // First it checks that each call answers what it should.
 // bench/run writes the list of calls, calls.h. It compiles with -DRUST where the Rust crate is linked, and
 // then with KERNEL, the name of that crate's kernel whose vectors are as wide as this build's.
-// Usage: bench [sweep | shared | once SIDE PLAN NAME BYTES]. A sweep times three calls at many lengths, and
-// `shared` those of the shared library beside the Rust crate's public ones. The last makes one call.
+// Usage: bench [sweep | shared | CALL BYTES]. A sweep times three calls at many lengths, and `shared` those of
+// the shared library beside the Rust crate's public ones. The last makes one call, by its number in that list.
 #include <malloc.h>
 #include <stdbool.h>
 #include <stdint.h>
@@ -30,6 +30,7 @@
 #define LINES 100000
 #define DIGITS 64
 
+enum mode { ALL, SWEEP, SHARED };
 enum kind { CHECK, ENCODE, DECODE, VECTOR, REFUSED, WRITE, READ, CHUNKS, LIST, NEW_LIST, KINDS };
 
 // The lengths in decoded bytes, which a sweep puts its own in place of; those that are decoded in chunks,
@@ -55,7 +56,7 @@ struct task {
 
 // A loop for each call, so that the call is a direct one: how well a processor foresees an indirect
 // one depends on what else the machine does.
-#define CALL(kind, side, plan, name, swept) \
+#define CALL(kind, side, plan, name, modes) \
     size_t side##_##plan##_##name(const uint8_t *src, size_t len, uint8_t *dst, size_t room); \
     static __attribute__((noinline)) size_t side##_##plan##_##name##_loop( \
         const struct task *task, long turns) { \
@@ -75,12 +76,12 @@ struct call {
     const char *side;
     const char *plan;
     const char *name;
-    bool is_swept;
+    int modes;
     size_t (*loop)(const struct task *task, long turns);
 };
 
-#define CALL(kind, side, plan, name, swept) \
-    {kind, #kind, #side, #plan, #name, swept, side##_##plan##_##name##_loop},
+#define CALL(kind, side, plan, name, modes) \
+    {kind, #kind, #side, #plan, #name, modes, side##_##plan##_##name##_loop},
 static const struct call calls[] = {
 #include "calls.h"
 };
@@ -291,47 +292,34 @@ static void set_swept_sizes(void) {
     memcpy(plain_sizes + count, more, sizeof more);
 }
 
-// Leaves out the kernels that the processor does not run, and what a word does not ask for.
-static void leave_out(bool is_sweep, bool is_shared) {
+// Leaves out the kernels that the processor does not run, and what is not of the mode.
+static void leave_out(enum mode mode) {
     for (size_t at = 0; at < CALLS; at++) {
-        const struct call *call = &calls[at];
-        bool is_beside = !strcmp(call->plan, "shared") || !strcmp(call->plan, "public");
+        is_left_out[at] = (calls[at].modes & mode) != mode;
 #ifdef RUST
         bool rust_has(const char *name);
-        is_left_out[at] = !strcmp(call->side, "rust") && !rust_has(call->plan);
+        is_left_out[at] |= !strcmp(calls[at].side, "rust") && !rust_has(calls[at].plan);
 #endif
-        is_left_out[at] |= is_sweep && !call->is_swept;
-        is_left_out[at] |= is_shared && !(is_beside && call->kind <= DECODE);
     }
-}
-
-// Makes the one call that is named.
-static int call_once(char **words) {
-    for (size_t at = 0; at < CALLS; at++) {
-        const struct call *call = &calls[at];
-        if (!strcmp(words[0], call->side) && !strcmp(words[1], call->plan) && !strcmp(words[2], call->name)) {
-            struct task task = task_of(call, strtoul(words[3], NULL, 10));
-            sink = call->loop(&task, 1);
-            return 0;
-        }
-    }
-    return 2;
 }
 
 int main(int count, char **words) {
-    bool is_sweep = count == 2 && !strcmp(words[1], "sweep");
+    enum mode mode = count != 2 ? ALL : !strcmp(words[1], "sweep") ? SWEEP : SHARED;
     fill();
-    if (count == 6) {
-        return call_once(words + 2);
+    if (count == 3) {
+        const struct call *call = &calls[strtoul(words[1], NULL, 10)];
+        struct task task = task_of(call, strtoul(words[2], NULL, 10));
+        sink = call->loop(&task, 1);
+        return 0;
     }
-    if (is_sweep) {
+    if (mode == SWEEP) {
         set_swept_sizes();
     }
-    leave_out(is_sweep, count == 2 && !is_sweep);
-    run(is_sweep ? SWEEP_PASSES : PASSES);
+    leave_out(mode);
+    run(mode == SWEEP ? SWEEP_PASSES : PASSES);
 #ifdef RUST
     printf("# kernel %s\n", KERNEL);
 #endif
-    print(is_sweep ? "SWEEP" : NULL);
+    print(mode == SWEEP ? "SWEEP" : NULL);
     return 0;
 }

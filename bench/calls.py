@@ -137,8 +137,11 @@ def c_calls():
 
 
 def header(found, width):
-    """The list of calls for bench.c; a sweep times three, and the kernel of this width beside them."""
+    """The list of calls for bench.c, with the modes that each is of. A sweep times three, and the kernel of this
+    width beside them."""
     swept = [f"own_plain_{it}" for it in ("check", "encode_into", "decode_into")]
     swept += [f"rust_{width}_{it}" for it in ("check", "encode", "decode")]
+    shared = [f"{it}_{name}" for it in ("own_shared", "rust_public") for name in ("check", "encode", "decode")]
+    modes = lambda symbol: " | ".join(["ALL", *["SWEEP"] * (symbol in swept), *["SHARED"] * (symbol in shared)])
     row = "CALL({0.kind}, {0.side}, {0.plan}, {0.name}, {1})\n"
-    return "".join(row.format(it, int(it.symbol() in swept)) for it in found)
+    return "".join(row.format(it, modes(it.symbol())) for it in found)
