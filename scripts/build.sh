@@ -1,68 +1,60 @@
 #!/bin/sh
-# Proves a program or a static library and the libraries below it from nothing, compiles it, and puts
-# it into crates/NAME/out, or for another processor than the default one into a folder there, named as
-# the processor is. What the last run proved is not proved again where its files, and those of the
-# crates below, are the same. What is said of each crate goes to build.log beside what is made, of
-# which the end is printed where something fails.
-# Usage: scripts/build.sh NAME CPU, where CPU is x86-64-v2, the default processor, or another one.
+# Proves a crate and those below it, lowest first, and builds of it the program crates/NAME/out/NAME, or
+# for each processor of ARCHITECTURE, x86_64 or aarch64, the static library
+# crates/NAME/out/ARCHITECTURE/PROCESSOR.a. What the last run proved is not proved again where its files,
+# and those of the crates below, are the same. What is said of each crate goes to build.log beside what is
+# made, of which the end is printed where something fails.
+# Usage: scripts/build.sh NAME [ARCHITECTURE]
 #
 # It calls `rattle` and not `rt`, which has no word for this: a library is built as its statements, so
-# that the crate above does not load its proofs, by several jobs, and beside another one where neither
-# uses the other. They stand in out/statements, since `rt` writes over what it finds in out/rlib. In clean
-# clones on four processors, beside other work, `rt run` and `rt lib` took 951 s of processor and 726 s
-# on the clock for what this does in 828 and 379.
+# that the crate above does not load its proofs. They stand in out/statements, since `rt` writes over
+# what it finds in out/rlib.
 set -eu
-LC_ALL=C
-export LC_ALL
+export LC_ALL=C
 
-if [ $# -ne 2 ]; then
-    echo "usage: scripts/build.sh NAME CPU" >&2
-    exit 2
-fi
 target=$1
-cpu=$2
+architecture=${2:-x86_64}
+for tool in rt rattle; do
+    if ! command -v "$tool" >/dev/null; then
+        echo "build.sh: there is no $tool on PATH: it is in the folder bin of the Rattle toolchain" >&2
+        exit 1
+    fi
+done
 cd "$(dirname "$0")/.."
 top=$PWD
 kit=$(dirname "$(rt doc)")
-processors=$(nproc)
-into=out
-[ "$cpu" = x86-64-v2 ] || into=out/$cpu
+version=$(rt version)
 
 # uses NAME: what crates.txt says that a crate uses.
 uses() {
     sed -n -E "s/^$1( staticlib)?:(.*)/\2/p" crates.txt
 }
 
-# below NAME: the crates of this repository that a crate uses, lowest first, and itself.
+# below NAME: the crates of this repository that a crate uses, and itself, lowest first.
 below() {
-    for used in $(uses "$1"); do
-        [ ! -d "crates/$used" ] || below "$used"
-    done
-    echo "$1"
+    {
+        for used in $(uses "$1"); do
+            [ ! -d "crates/$used" ] || below "$used"
+        done
+        echo "$1"
+    } | awk '!seen[$0]++'
 }
 
-# made_of NAME WORD: a sum of the toolchain, the word, the files of a crate, and the sums of what it uses.
-made_of() {
-    {
-        rt version
-        echo "$2 $(uses "$1")"
-        find "crates/$1/src" "crates/$1/specs" "crates/$1/proofs" -type f 2>/dev/null | sort |
-            tr '\n' '\0' | xargs -0 cksum
-        for used in $(uses "$1"); do
-            [ ! -d "crates/$used" ] || cat "crates/$used/out/statements/made-of"
-        done
-    } | cksum
+# sum_of NAME: a sum of the toolchain, and of a crate and those below it.
+sum_of() {
+    for it in $(below "$1"); do
+        echo "$version $it: $(uses "$it")"
+        find "crates/$it" -name out -prune -o \( -name '*.rt' -o -name '*.antt' \) -print | sort | xargs cksum
+    done | cksum
 }
 
 # jobs_of NAME: one for each 500 lines, since each reads all libraries anew; at most four.
 jobs_of() {
-    lines=$(find "crates/$1/src" -name '*.rt' -exec cat {} + | wc -l)
-    count=$((1 + lines / 500))
-    [ "$count" -lt "$processors" ] || count=$processors
-    echo $((count < 4 ? count : 4))
+    find "crates/$1/src" -name '*.rt' -exec cat {} + | awk -v most="$(nproc)" '
+        END { jobs = 1 + int(NR / 500); if (most > 4) most = 4; print jobs < most ? jobs : most }'
 }
 
-# prove NAME ROOT WORD..: has `rattle` prove a crate and build what the words ask for.
+# prove NAME ROOT WORD..: has `rattle` prove a crate, and build what the words ask for.
 prove() {
     name=$1
     root=$2
@@ -75,74 +67,55 @@ prove() {
     for used in $(below "$name"); do
         set -- "$@" -L "dependency=$top/crates/$used/out/statements"
     done
-    count=$(jobs_of "$name")
     (cd "crates/$name" && rattle build --crate-name "$name" "$root" "$@" -L "dependency=$kit/rlibs" \
         --antt-project "$kit/rattle/logic/antt-project.json" --logic-built "$kit/logic_built" \
-        --links "$name=" --jobs "$count")
+        --links "$name=" --jobs "$(jobs_of "$name")")
 }
 
-# build NAME: makes what is asked for of a crate, or else the library as its statements.
+# build CRATE: of the target a program or its libraries, and of another one its statements.
 build() {
     if [ "$1" != "$target" ]; then
         prove "$1" src/lib.rt --statements -o "out/statements/$1.rlib"
     elif [ -f "crates/$1/src/main.rt" ]; then
-        prove "$1" src/main.rt --toolchain "$kit/toolchain" --cpu "$cpu" -o "$into/$1.o" &&
-            "$kit/bin/rattle-link" --target x86_64-unknown-linux-gnu --toolchain "$kit/toolchain" \
-                -o "crates/$1/$into/$1" "crates/$1/$into/$1.o" "$kit/c/libos_c.a" "$kit/c/liblibc_c.a"
+        prove "$1" src/main.rt --toolchain "$kit/toolchain" -o "out/program/$1.o"
+        "$kit/bin/rattle-link" --target x86_64-unknown-linux-gnu --toolchain "$kit/toolchain" \
+            -o "crates/$1/out/$1" "crates/$1/out/program/$1.o" "$kit/c/libos_c.a" "$kit/c/liblibc_c.a"
     else
-        prove "$1" src/lib.rt --crate-type staticlib --toolchain "$kit/toolchain" --cpu "$cpu" \
-            -o "$into/lib$1.a"
+        processors='x86-64 x86-64-v2 x86-64-v3'
+        [ "$architecture" = x86_64 ] || processors=generic
+        # What the first run proves the others take.
+        for processor in $processors; do
+            prove "$1" src/lib.rt --crate-type staticlib --target "$architecture-unknown-linux-gnu" \
+                --cpu "$processor" --toolchain "$kit/toolchain" --incremental "out/$architecture/proved" \
+                -o "out/$architecture/$processor.a"
+        done
     fi
 }
 
-# begin CRATE OUT SUM: builds a crate beside what goes on, and keeps its sum where that goes well.
-begin() {
-    (
-        if ! build "$1" >"$2/build.log" 2>&1; then
-            tail -n 40 "$2/build.log" >&2
-            exit 1
-        fi
-        echo "$3" >"$2/made-of"
-    ) &
-    begun="$begun $1"
-    tasks="$tasks $!"
-}
-
-# finish: waits for all that was begun, and then ends the script where one of them failed.
-finish() {
-    failed=
-    for task in $tasks; do
-        wait "$task" || failed=1
-    done
-    [ -z "$failed" ] || exit 1
-    begun=
-    tasks=
-}
-
+log=/dev/null
+trap 'tail -n 40 "$log" >&2' EXIT
+all=$(below "$target" | wc -l)
+number=0
 anew=
-begun=
-tasks=
-for crate in $(below "$target" | awk '!seen[$0]++'); do
-    for used in $(uses "$crate"); do
-        case " $begun " in *" $used "*) finish ;; esac
-    done
-    word=statements
+for crate in $(below "$target"); do
+    number=$((number + 1))
     out=crates/$crate/out/statements
-    made=$out/$crate.rlib/format
     if [ "$crate" = "$target" ]; then
-        word=$cpu
-        out=crates/$crate/$into
-        made=$out/$crate
-        [ -f "crates/$crate/src/main.rt" ] || made=$out/lib$crate.a
+        out=crates/$crate/out/$architecture
+        [ ! -f "crates/$crate/src/main.rt" ] || out=crates/$crate/out/program
     fi
-    now=$(made_of "$crate" "$word")
-    if [ -z "$anew" ] && [ -f "$made" ] && [ "$now" = "$(cat "$out/made-of" 2>/dev/null)" ]; then
+    sum=$(sum_of "$crate")
+    if [ -z "$anew" ] && [ "$sum" = "$(cat "$out/made-of" 2>/dev/null)" ]; then
         continue
     fi
     # Statements fit only those that they were built over.
     anew=1
-    rm -rf "crates/$crate/out/statements" "$made"
+    rm -rf "$out"
     mkdir -p "$out"
-    begin "$crate" "$out" "$now"
+    log=$out/build.log
+    build "$crate" >"$log" 2>&1
+    log=/dev/null
+    echo "$sum" >"$out/made-of"
+    echo "[$number/$all] $crate proved"
 done
-finish
+[ ! -f "crates/$target/src/main.rt" ] || echo "$target is crates/$target/out/$target"

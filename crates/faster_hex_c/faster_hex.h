@@ -1,8 +1,7 @@
 /* Bytes to hex digits and back. Link libfaster_hex.so, or libfaster_hex.a, which `make install` puts
  * beside this header: cc prog.c $(pkg-config --cflags --libs faster_hex)
  *
- * The library runs on processors of the kind x86-64-v2, or of that which `make CPU=..` named. It does
- * not test for it: on a lesser one an unknown instruction ends the program by SIGILL.
+ * The library for x86-64 runs on every such processor, and takes wider instructions where it has them.
  *
  * Of every call, where it does not say otherwise:
  *
@@ -11,7 +10,8 @@
  * - Source and destination may touch, and may not overlap.
  * - Both may begin at any address: no alignment is asked for.
  * - Calls may run in many threads at once, over one source too, where no destination overlaps what
- *   another call reads or writes. No call keeps a pointer, takes memory or has a state.
+ *   another call reads or writes. No call keeps a pointer, takes memory or changes a state: one byte says
+ *   what the processor has, written as the library is loaded.
  * - The library asks for no symbol but memcpy, memmove and memset, and may be part of a shared one.
  * - The answer says all that can go wrong. A call that refuses writes nothing. Any other writes to the
  *   front of the destination, and the bytes behind that stay as they were.
@@ -19,7 +19,7 @@
  *
  * What a call answers and writes is proved where `len` and `room` are below 2^63. That encoding answers
  * FASTER_HEX_OVERFLOW from there on, and that all calls stay inside source and destination, take no
- * memory, have no state and may run in threads, is shown by `make check`.
+ * memory, change no state and may run in threads, is shown by `make check`.
  */
 #ifndef FASTER_HEX_H
 #define FASTER_HEX_H
