@@ -1,93 +1,105 @@
 #!/bin/sh
-# Puts what `make` and `make lib` built into PREFIX, the libraries into LIBDIR, both below DESTDIR; or
-# takes the same files away. Of the shared libraries one is built for CPU, as the archive is, and one for
-# x86-64-v3. The loader of the C library takes the latter where the processor runs it.
-# Usage: PREFIX=.. LIBDIR=.. DESTDIR=.. VERSION=.. OUT=.. scripts/install.sh [--remove], as `make install`
-# and `make uninstall` do it. OUT is the folder of the build for CPU.
+# Puts what `make` and `make lib` built into PREFIX, the libraries into LIBDIR, both below DESTDIR, and
+# notes in share/faster_hex/installed each file, and each folder that was not there; or takes away what is
+# noted there, of the folders those that are empty then.
+# Usage: PREFIX=.. LIBDIR=.. DESTDIR=.. VERSION=.. TARGET=.. scripts/install.sh [--remove], as `make
+# install` and `make uninstall` do it. TARGET is x86_64, or aarch64, which has no program.
 # The first command that fails has said why, and ends it: so none that may fail stands in a condition.
 set -eu
+export LC_ALL=C
 
 cd "$(dirname "$0")/.."
-remove=${1:-}
 : "${PREFIX:?names no folder}" "${LIBDIR:?names no folder}"
+PREFIX=$(realpath -ms "$PREFIX")
+LIBDIR=$(realpath -ms "$LIBDIR")
+share=$PREFIX/share
+rust=$share/faster_hex/rust
+cmake=$LIBDIR/cmake/faster_hex
+c=crates/faster_hex_c
+noted=$DESTDIR$share/faster_hex/installed
 made=$(mktemp)
 trap 'rm -f "$made"' EXIT
 
-PREFIX=$(realpath -ms "$PREFIX")
-LIBDIR=$(realpath -ms "$LIBDIR")
-c=crates/faster_hex_c
-wide=$LIBDIR/glibc-hwcaps/x86-64-v3
-share=$PREFIX/share
-rust=$share/faster_hex/rust
+# missing FOLDER: itself and the folders above it, as far as they are not there, each with a slash.
+missing() {
+    if [ "$1" != / ] && [ ! -d "$DESTDIR$1" ]; then
+        missing "$(dirname "$1")"
+        echo "$1/"
+    fi
+}
 
-# make_way FOLDER NAME: takes a file away, `to`, and makes the folder where one is to be put there.
+# make_way FOLDER NAME: notes a file, `to`, makes its folder, and takes away what stands in its place.
 make_way() {
     to=$DESTDIR$1/$2
+    missing "$1" >>"$noted"
+    echo "$1/$2" >>"$noted"
+    install -d "$DESTDIR$1"
     rm -f "$to"
-    [ -n "$remove" ] || install -d "$DESTDIR$1"
 }
 
 # put FOLDER MODE FILE [NAME]
 put() {
     make_way "$1" "${4:-${3##*/}}"
-    [ -n "$remove" ] || install -m "$2" "$3" "$to"
+    install -m "$2" "$3" "$to"
 }
 
 # link FOLDER NAME TARGET
 link() {
     make_way "$1" "$2"
-    [ -n "$remove" ] || ln -s "$3" "$to"
+    ln -s "$3" "$to"
 }
 
-# put_shared FOLDER OUT: a shared library, and the names by which the loader and compilers ask for it.
-put_shared() {
-    put "$1" 755 "$c/$2/libfaster_hex.so.$VERSION"
-    link "$1" libfaster_hex.so.1 "libfaster_hex.so.$VERSION"
-    link "$1" libfaster_hex.so libfaster_hex.so.1
-}
+if [ "${1:-}" = --remove ]; then
+    sort -ru "$noted" >"$made"
+    while IFS= read -r path; do
+        case $path in
+        */) [ ! -d "$DESTDIR$path" ] || rmdir --ignore-fail-on-non-empty "$DESTDIR$path" ;;
+        *) rm -f "$DESTDIR$path" ;;
+        esac
+    done <"$made"
+    exit
+fi
 
-# A program finds the library where it was linked, but in the system's folders, which the loader searches.
-libs="-L\"\${libdir}\" -lfaster_hex"
-case $LIBDIR in
-/lib* | /usr/lib*) ;;
-*) libs="$libs -Wl,-rpath,\"\${libdir}\"" ;;
-esac
+missing "$share/faster_hex" >"$made"
+install -d "$DESTDIR$share/faster_hex"
+cat "$made" >>"$noted"
+echo "$share/faster_hex/installed" >>"$noted"
 
-put "$PREFIX/bin" 755 "crates/fhex/$OUT/fhex"
+out=$c/out/$TARGET
+if [ "$TARGET" = x86_64 ]; then
+    out=$c/out
+    put "$PREFIX/bin" 755 crates/fhex/out/fhex
+    put "$share/man/man1" 644 docs/fhex.1
+fi
 put "$PREFIX/include" 644 $c/faster_hex.h
-put "$LIBDIR" 644 "$c/$OUT/libfaster_hex.a"
-put_shared "$LIBDIR" "$OUT"
-put_shared "$wide" out/x86-64-v3
+put "$LIBDIR" 644 "$out/libfaster_hex.a"
+put "$LIBDIR" 755 "$out/libfaster_hex.so.$VERSION"
+link "$LIBDIR" libfaster_hex.so.1 "libfaster_hex.so.$VERSION"
+link "$LIBDIR" libfaster_hex.so libfaster_hex.so.1
 {
     printf '%s\n' "prefix=$PREFIX" "libdir=$LIBDIR" "version=$VERSION"
     cat bindings/faster_hex.pc.in
-    echo "Libs: $libs"
 } >"$made"
 put "$LIBDIR/pkgconfig" 644 "$made" faster_hex.pc
 {
-    printf 'set(faster_hex_%s [[%s]])\n' prefix "$PREFIX" libdir "$LIBDIR"
+    echo "set(faster_hex_up [[$(realpath -ms --relative-to="$cmake" "$PREFIX")]])"
     cat bindings/cmake/faster_hexConfig.cmake.in
 } >"$made"
-put "$LIBDIR/cmake/faster_hex" 644 "$made" faster_hexConfig.cmake
+put "$cmake" 644 "$made" faster_hexConfig.cmake
 {
     echo "set(PACKAGE_VERSION $VERSION)"
     cat bindings/cmake/faster_hexConfigVersion.cmake.in
 } >"$made"
-put "$LIBDIR/cmake/faster_hex" 644 "$made" faster_hexConfigVersion.cmake
-put "$share/man/man1" 644 docs/fhex.1
+put "$cmake" 644 "$made" faster_hexConfigVersion.cmake
 put "$share/man/man3" 644 docs/faster_hex.3
+for call in $(sed -n 's/^[^*].* \(faster_hex_[a-z_]*\)(.*/\1/p' $c/faster_hex.h); do
+    link "$share/man/man3" "$call.3" faster_hex.3
+done
 put "$share/doc/faster_hex" 644 LICENSE
-for file in bindings/rust/Cargo.toml bindings/rust/build.rs bindings/rust/README.md; do
-    put "$rust" 644 "$file"
+for file in Cargo.toml README.md build.rs; do
+    put "$rust" 644 "bindings/rust/$file"
 done
 for file in bindings/rust/src/*.rs; do
     put "$rust/src" 644 "$file"
 done
-
-# The folders that are nobody else's.
-if [ -n "$remove" ]; then
-    for folder in "$wide" "$LIBDIR/glibc-hwcaps" "$LIBDIR/cmake/faster_hex" "$rust/src" "$rust" \
-        "$share/faster_hex" "$share/doc/faster_hex"; do
-        [ ! -d "$DESTDIR$folder" ] || rmdir --ignore-fail-on-non-empty "$DESTDIR$folder"
-    done
-fi
+sort -u -o "$noted" "$noted"
