@@ -72,14 +72,12 @@ prove() {
         --links "$name=" --jobs "$(jobs_of "$name")")
 }
 
-# build CRATE: of the target a program or its libraries, and of another one its statements.
+# build CRATE: of the target a program, not yet linked, or its libraries, and of another one its statements.
 build() {
     if [ "$1" != "$target" ]; then
         prove "$1" src/lib.rt --statements -o "out/statements/$1.rlib"
     elif [ -f "crates/$1/src/main.rt" ]; then
         prove "$1" src/main.rt --toolchain "$kit/toolchain" -o "out/program/$1.o"
-        "$kit/bin/rattle-link" --target x86_64-unknown-linux-gnu --toolchain "$kit/toolchain" \
-            -o "crates/$1/out/$1" "crates/$1/out/program/$1.o" "$kit/c/libos_c.a" "$kit/c/liblibc_c.a"
     else
         processors='x86-64 x86-64-v2 x86-64-v3'
         [ "$architecture" = x86_64 ] || processors=generic
@@ -118,4 +116,9 @@ for crate in $(below "$target"); do
     echo "$sum" >"$out/made-of"
     echo "[$number/$all] $crate proved"
 done
-[ ! -f "crates/$target/src/main.rt" ] || echo "$target is crates/$target/out/$target"
+if [ -f "crates/$target/src/main.rt" ]; then
+    "$kit/bin/rattle-link" --target x86_64-unknown-linux-gnu --toolchain "$kit/toolchain" \
+        -o "crates/$target/out/$target" "crates/$target/out/program/$target.o" \
+        "$kit/c/libos_c.a" "$kit/c/liblibc_c.a"
+    echo "$target is crates/$target/out/$target"
+fi
