@@ -24,6 +24,8 @@ cd "$(dirname "$0")/.."
 top=$PWD
 kit=$(dirname "$(rt doc)")
 version=$(rt version)
+kind=$architecture
+[ ! -f "crates/$target/src/main.rt" ] || kind=program
 
 # uses NAME: what crates.txt says that a crate uses.
 uses() {
@@ -76,7 +78,7 @@ prove() {
 build() {
     if [ "$1" != "$target" ]; then
         prove "$1" src/lib.rt --statements -o "out/statements/$1.rlib"
-    elif [ -f "crates/$1/src/main.rt" ]; then
+    elif [ "$kind" = program ]; then
         prove "$1" src/main.rt --toolchain "$kit/toolchain" -o "out/program/$1.o"
     else
         processors='x86-64 x86-64-v2 x86-64-v3'
@@ -98,10 +100,7 @@ anew=
 for crate in $(below "$target"); do
     number=$((number + 1))
     out=crates/$crate/out/statements
-    if [ "$crate" = "$target" ]; then
-        out=crates/$crate/out/$architecture
-        [ ! -f "crates/$crate/src/main.rt" ] || out=crates/$crate/out/program
-    fi
+    [ "$crate" != "$target" ] || out=crates/$crate/out/$kind
     sum=$(sum_of "$crate")
     if [ -z "$anew" ] && [ "$sum" = "$(cat "$out/made-of" 2>/dev/null)" ]; then
         continue
@@ -116,7 +115,7 @@ for crate in $(below "$target"); do
     echo "$sum" >"$out/made-of"
     echo "[$number/$all] $crate proved"
 done
-if [ -f "crates/$target/src/main.rt" ]; then
+if [ "$kind" = program ]; then
     "$kit/bin/rattle-link" --target x86_64-unknown-linux-gnu --toolchain "$kit/toolchain" \
         -o "crates/$target/out/$target" "crates/$target/out/program/$target.o" \
         "$kit/c/libos_c.a" "$kit/c/liblibc_c.a"

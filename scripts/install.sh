@@ -17,8 +17,6 @@ rust=$share/faster_hex/rust
 cmake=$LIBDIR/cmake/faster_hex
 c=crates/faster_hex_c
 noted=$DESTDIR$share/faster_hex/installed
-made=$(mktemp)
-trap 'rm -f "$made"' EXIT
 
 # missing FOLDER: itself and the folders above it, as far as they are not there, each with a slash.
 missing() {
@@ -37,9 +35,9 @@ make_way() {
     rm -f "$to"
 }
 
-# put FOLDER MODE FILE [NAME]
+# put FOLDER MODE FILE
 put() {
-    make_way "$1" "${4:-${3##*/}}"
+    make_way "$1" "${3##*/}"
     install -m "$2" "$3" "$to"
 }
 
@@ -49,21 +47,29 @@ link() {
     ln -s "$3" "$to"
 }
 
+# fill FOLDER NAME TEMPLATE LINE..: puts a file of these lines and a template.
+fill() {
+    make_way "$1" "$2"
+    template=$3
+    shift 3
+    printf '%s\n' "$@" | cat - "$template" >"$to"
+    chmod 644 "$to"
+}
+
 if [ "${1:-}" = --remove ]; then
-    sort -ru "$noted" >"$made"
-    while IFS= read -r path; do
+    paths=$(sort -ru "$noted")
+    printf '%s\n' "$paths" | while IFS= read -r path; do
         case $path in
         */) [ ! -d "$DESTDIR$path" ] || rmdir --ignore-fail-on-non-empty "$DESTDIR$path" ;;
         *) rm -f "$DESTDIR$path" ;;
         esac
-    done <"$made"
+    done
     exit
 fi
 
-missing "$share/faster_hex" >"$made"
+made=$(missing "$share/faster_hex")
 install -d "$DESTDIR$share/faster_hex"
-cat "$made" >>"$noted"
-echo "$share/faster_hex/installed" >>"$noted"
+printf '%s\n' ${made:+"$made"} "$share/faster_hex/installed" >>"$noted"
 
 out=$c/out/$TARGET
 if [ "$TARGET" = x86_64 ]; then
@@ -76,21 +82,12 @@ put "$LIBDIR" 644 "$out/libfaster_hex.a"
 put "$LIBDIR" 755 "$out/libfaster_hex.so.$VERSION"
 link "$LIBDIR" libfaster_hex.so.1 "libfaster_hex.so.$VERSION"
 link "$LIBDIR" libfaster_hex.so libfaster_hex.so.1
-{
-    printf '%s\n' "prefix=$PREFIX" "libdir=$LIBDIR" "version=$VERSION"
-    cat bindings/faster_hex.pc.in
-} >"$made"
-put "$LIBDIR/pkgconfig" 644 "$made" faster_hex.pc
-{
-    echo "set(faster_hex_up [[$(realpath -ms --relative-to="$cmake" "$PREFIX")]])"
-    cat bindings/cmake/faster_hexConfig.cmake.in
-} >"$made"
-put "$cmake" 644 "$made" faster_hexConfig.cmake
-{
-    echo "set(PACKAGE_VERSION $VERSION)"
-    cat bindings/cmake/faster_hexConfigVersion.cmake.in
-} >"$made"
-put "$cmake" 644 "$made" faster_hexConfigVersion.cmake
+fill "$LIBDIR/pkgconfig" faster_hex.pc bindings/faster_hex.pc.in \
+    "prefix=$PREFIX" "libdir=$LIBDIR" "version=$VERSION"
+fill "$cmake" faster_hexConfig.cmake bindings/cmake/faster_hexConfig.cmake.in \
+    "set(faster_hex_up [[$(realpath -ms --relative-to="$cmake" "$PREFIX")]])"
+fill "$cmake" faster_hexConfigVersion.cmake bindings/cmake/faster_hexConfigVersion.cmake.in \
+    "set(PACKAGE_VERSION $VERSION)"
 put "$share/man/man3" 644 docs/faster_hex.3
 for call in $(sed -n 's/^[^*].* \(faster_hex_[a-z_]*\)(.*/\1/p' $c/faster_hex.h); do
     link "$share/man/man3" "$call.3" faster_hex.3
