@@ -69,9 +69,10 @@ prove() {
     for used in $(below "$name"); do
         set -- "$@" -L "dependency=$top/crates/$used/out/statements"
     done
+    jobs=$(jobs_of "$name")
     (cd "crates/$name" && rattle build --crate-name "$name" "$root" "$@" -L "dependency=$kit/rlibs" \
         --antt-project "$kit/rattle/logic/antt-project.json" --logic-built "$kit/logic_built" \
-        --links "$name=" --jobs "$(jobs_of "$name")")
+        --links "$name=" --jobs "$jobs")
 }
 
 # build CRATE: of the target a program, not yet linked, or its libraries, and of another one its statements.
