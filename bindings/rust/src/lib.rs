@@ -17,14 +17,6 @@
 //! feature `serde`, `#[serde(with = "faster_hex::nopfx_lowercase")]` on a field writes bytes as text and
 //! reads them, as eleven other modules and the crate's root do in their formats. README.md says how the
 //! library is found, and what the original has and this crate has not.
-//!
-//! # Processors
-//!
-//! The library is built for x86-64-v2, which has SSE4.2. With `std`, the first call asks the processor,
-//! and on less each call panics before the library runs; a program that is compiled for no less does not
-//! ask. Without `std` nothing can ask: there the program has to know that it runs on such processors, or
-//! be linked to what `make lib CPU=x86-64` builds for all. Nothing asks either for what a build for more
-//! takes, as `CPU=x86-64-v3`.
 #![no_std]
 #![warn(missing_docs)]
 
@@ -40,7 +32,6 @@ mod encode;
 mod error;
 mod format;
 mod library;
-mod processor;
 
 #[cfg(feature = "serde")]
 pub use crate::adapters::withpfx_ignorecase::{array, deserialize, deserialize_bounded, serialize};

@@ -1,7 +1,6 @@
-//! Safe calls over those of `faster_hex.h`. All that is unsafe here but the views of text as `str`. Each
-//! runs the library on a processor that it is built for, or not at all.
+//! Safe calls over those of `faster_hex.h`. All that is unsafe here but the views of text as `str`.
 
-use crate::{processor, CheckCase, Error};
+use crate::{CheckCase, Error};
 
 /// `struct faster_hex_answer`.
 #[repr(C)]
@@ -21,6 +20,7 @@ extern "C" {
         room: usize,
         upper: bool,
     ) -> Answer;
+    fn faster_hex_decode(src: *const u8, len: usize, dst: *mut u8, room: usize) -> Answer;
     fn faster_hex_decode_with_case(
         src: *const u8,
         len: usize,
@@ -39,28 +39,35 @@ const fn number_of(case: CheckCase) -> u8 {
     }
 }
 
-/// What an answer tells. Its statuses of a policy and of groups come from no call here.
+/// What an answer tells.
+#[inline]
 fn result_of(answer: Answer) -> Result<usize, Error> {
     match answer.status {
         0 => Ok(answer.number),
-        1 => Err(Error::OddLength),
-        2 => Err(Error::OutputTooSmall {
+        _ => Err(error_of(answer)),
+    }
+}
+
+/// Its statuses of a policy and of groups come from no call here. Not inlined, so that a call that is
+/// answered passes one test.
+#[cold]
+fn error_of(answer: Answer) -> Error {
+    match answer.status {
+        1 => Error::OddLength,
+        2 => Error::OutputTooSmall {
             required: answer.number,
-        }),
-        3 => Err(Error::InvalidChar {
+        },
+        3 => Error::InvalidChar {
             index: answer.number,
             byte: answer.byte,
-        }),
-        _ => Err(Error::Overflow),
+        },
+        _ => Error::Overflow,
     }
 }
 
 /// Whether every byte is a digit by the policy.
 #[inline]
 pub fn check(src: &[u8], case: CheckCase) -> bool {
-    if !processor::suffices() {
-        return processor::ask(move || check(src, case));
-    }
     // SAFETY: the pointer is good for reading the slice's length, and the library only reads there.
     unsafe {
         match case {
@@ -73,31 +80,21 @@ pub fn check(src: &[u8], case: CheckCase) -> bool {
 /// Writes the digits of `src` to the front of `dst`, which are ASCII, and returns how many.
 #[inline]
 pub fn encode(src: &[u8], dst: &mut [u8], upper: bool) -> Result<usize, Error> {
-    if !processor::suffices() {
-        return processor::ask(move || encode(src, dst, upper));
-    }
+    let (from, len, to, room) = (src.as_ptr(), src.len(), dst.as_mut_ptr(), dst.len());
     // SAFETY: both pointers are good for their slices' lengths, and a slice that is lent to be
     // written overlaps no other.
-    let answer =
-        unsafe { faster_hex_encode(src.as_ptr(), src.len(), dst.as_mut_ptr(), dst.len(), upper) };
-    result_of(answer)
+    result_of(unsafe { faster_hex_encode(from, len, to, room, upper) })
 }
 
 /// Writes the bytes that `src` spells to the front of `dst`, and returns how many.
 #[inline]
 pub fn decode(src: &[u8], dst: &mut [u8], case: CheckCase) -> Result<usize, Error> {
-    if !processor::suffices() {
-        return processor::ask(move || decode(src, dst, case));
-    }
+    let (from, len, to, room) = (src.as_ptr(), src.len(), dst.as_mut_ptr(), dst.len());
     // SAFETY: as in `encode`.
-    let answer = unsafe {
-        faster_hex_decode_with_case(
-            src.as_ptr(),
-            src.len(),
-            dst.as_mut_ptr(),
-            dst.len(),
-            number_of(case),
-        )
-    };
-    result_of(answer)
+    result_of(unsafe {
+        match case {
+            CheckCase::None => faster_hex_decode(from, len, to, room),
+            _ => faster_hex_decode_with_case(from, len, to, room, number_of(case)),
+        }
+    })
 }
