@@ -1,4 +1,13 @@
-//! The six modules of bytes: each reads and writes them by its one format.
+//! Six modules, each of which reads and writes bytes as JSON text in one format. The example of a module has
+//! all its calls. Their errors, in the order in which they are tested; `InvalidPrefix` comes only in the
+//! modules whose names begin with `withpfx_`:
+//!
+//! Call | Errors
+//! ---|---
+//! `serialize` | `Codec(Overflow)`, `Codec(OutOfMemory)`
+//! `deserialize` | `NotText`, `InvalidPrefix`, `InvalidLength`, `Codec(OutOfMemory)`, `Codec(InvalidChar)`
+//! `deserialize_bounded` | the same, and `OverBound` after `InvalidLength`
+//! `array::deserialize` | `NotText`, `InvalidPrefix`, `InvalidLength`, `Codec(LengthMismatch)`, `Codec(InvalidChar)`
 
 ghost use Rattle.std.specs.Prelude.{None, Some};
 ghost use Rattle.faster_hex.specs.Adapters.{AnswersArrayRead, AnswersRead, AnswersWrite};
@@ -8,8 +17,8 @@ use crate::adapters::{AdapterError, WireFormat, read, read_array, write};
 use serde_json::Value;
 use std::alloc::Global;
 
-/// `0x` and then digits: lowercase is written, either letter case is read. The crate's root has
-/// these calls too.
+/// `0x`, then digits: writes lowercase, reads both letter cases. The root of the crate has these calls
+/// too.
 ///
 /// ```rust
 /// let value = withpfx_ignorecase::serialize(rt.alloc(), &[0xab, 1])?;
@@ -25,16 +34,16 @@ use std::alloc::Global;
 pub mod withpfx_ignorecase {
     use super::*;
 
-    /// Returns the bytes as a JSON text: `0x` and two lowercase digits a byte, so `"0x"` for none.
+    /// Returns the bytes as JSON text: `0x` and two lowercase digits for each byte; `"0x"` for no bytes.
     ///
-    /// Memory is taken once, for the text's exact length.
+    /// Allocates once, exactly the length of the text.
     ///
     /// # Errors
     ///
     /// In this order:
     ///
-    /// 1. `Codec(Overflow)` where the text's length, `2 + 2 * src.len()`, is no `usize`;
-    /// 2. `Codec(OutOfMemory)` where the memory was refused.
+    /// 1. `Codec(Overflow)` if the length of the text, `2 + 2 * src.len()`, exceeds `usize`;
+    /// 2. `Codec(OutOfMemory)` if the allocation failed.
     ///
     /// ```rust
     /// let value = faster_hex::serialize(rt.alloc(), &[0xab, 1])?;
@@ -46,21 +55,20 @@ pub mod withpfx_ignorecase {
         write(alloc, WireFormat::WITHPFX_IGNORECASE, src)
     }
 
-    /// Returns the bytes that a JSON text of `0x` and digits spells: two digits a byte, letters of
-    /// either case. The text itself is not copied.
+    /// Decodes JSON text of `0x` and digits of either case, two for each byte. The text is not copied.
     ///
-    /// `"0x"` is read as no bytes and takes no memory. Any other text takes memory once, for exactly
-    /// the bytes, after its length is judged and before any digit is.
+    /// `"0x"` is no bytes and allocates nothing. Any other text allocates once, exactly the bytes, after
+    /// its length is tested and before its digits are.
     ///
     /// # Errors
     ///
     /// In this order:
     ///
-    /// 1. `NotText` where the value is no text;
-    /// 2. `InvalidPrefix` where the text does not begin with `0x` (`0X` is none);
-    /// 3. `InvalidLength` where an odd number of bytes stands behind the prefix;
-    /// 4. `Codec(OutOfMemory)` where the memory was refused;
-    /// 5. `Codec(InvalidChar)` with the first byte that is no digit, and its place, counted in bytes
+    /// 1. `NotText` if the value is not a text;
+    /// 2. `InvalidPrefix` if the text does not begin with `0x` (`0X` is refused);
+    /// 3. `InvalidLength` if an odd number of bytes follows the prefix;
+    /// 4. `Codec(OutOfMemory)` if the allocation failed;
+    /// 5. `Codec(InvalidChar)` with the first byte that is not a digit, and its index, counted in bytes
     ///    from the first digit.
     ///
     /// ```rust
@@ -76,14 +84,14 @@ pub mod withpfx_ignorecase {
         read(alloc, WireFormat::WITHPFX_IGNORECASE, None, value)
     }
 
-    /// Reads as [`deserialize`] does, but at most `MAX` bytes. It bounds the bytes that are returned,
-    /// not the JSON text that they are read from. A bound of 0 takes `"0x"`.
+    /// Like [`deserialize`], but at most `MAX` bytes. The bound limits the bytes returned, not the JSON
+    /// text. A bound of 0 accepts `"0x"`.
     ///
     /// # Errors
     ///
-    /// Those of [`deserialize`], in its order; and behind `InvalidLength`, before memory is taken and
-    /// any digit judged, `OverBound` where more than `2 * MAX` bytes stand behind the prefix, with
-    /// `MAX` and half their number.
+    /// Those of [`deserialize`], in its order; and after `InvalidLength`, before anything is allocated
+    /// and any digit tested, `OverBound` if more than `2 * MAX` bytes follow the prefix, with `MAX` and
+    /// half their number.
     ///
     /// ```rust
     /// use serde_json::Value;
@@ -102,22 +110,22 @@ pub mod withpfx_ignorecase {
         read(alloc, WireFormat::WITHPFX_IGNORECASE, Some(MAX), value)
     }
 
-    /// The same text, read as an array.
+    /// The same text, as an array.
     pub mod array {
         pub use super::serialize;
         use super::*;
 
-        /// Reads exactly `N` bytes of a JSON text of `0x` and digits. No memory is taken. `"0x"` is
-        /// read where `N` is 0 alone.
+        /// Decodes exactly `N` bytes from JSON text of `0x` and digits. Allocates nothing. Accepts `"0x"`
+        /// only if `N` is 0.
         ///
         /// # Errors
         ///
         /// In this order:
         ///
         /// 1. `NotText`, `InvalidPrefix` and `InvalidLength` as at [`deserialize`](super::deserialize);
-        /// 2. `Codec(LengthMismatch)` where other than `2 * N` bytes stand behind the prefix, with `N`
-        ///    and half their number;
-        /// 3. `Codec(InvalidChar)` with the first byte that is no digit, and its place, counted in
+        /// 2. `Codec(LengthMismatch)` if other than `2 * N` bytes follow the prefix, with `N` and half
+        ///    their number;
+        /// 3. `Codec(InvalidChar)` with the first byte that is not a digit, and its index, counted in
         ///    bytes from the first digit.
         ///
         /// ```rust
@@ -134,7 +142,7 @@ pub mod withpfx_ignorecase {
     }
 }
 
-/// Digits with nothing before them: lowercase is written, either letter case is read.
+/// Digits without a prefix: writes lowercase, reads both letter cases.
 ///
 /// ```rust
 /// let value = nopfx_ignorecase::serialize(rt.alloc(), &[0xab, 1])?;
@@ -150,22 +158,22 @@ pub mod withpfx_ignorecase {
 pub mod nopfx_ignorecase {
     use super::*;
 
-    /// Writes two lowercase digits a byte, as [`crate::serialize`] does but with no prefix, so that the
-    /// empty text takes no memory.
+    /// Writes two lowercase digits for each byte, like [`crate::serialize`] but without a prefix. The empty
+    /// text allocates nothing.
     pub fn serialize(alloc: Global, src: &[u8]) -> Result<Value, AdapterError>
         ensures { AnswersWrite wire.nopfx_ignorecase src.now result }
     {
         write(alloc, WireFormat::NOPFX_IGNORECASE, src)
     }
 
-    /// Reads as [`crate::deserialize`] does, but asks for no prefix.
+    /// Like [`crate::deserialize`], without a prefix.
     pub fn deserialize(alloc: Global, value: &Value) -> Result<Vec<u8>, AdapterError>
         ensures { AnswersRead wire.nopfx_ignorecase None value.now result }
     {
         read(alloc, WireFormat::NOPFX_IGNORECASE, None, value)
     }
 
-    /// Reads at most `MAX` bytes, as [`crate::deserialize_bounded`] does, but asks for no prefix.
+    /// Like [`crate::deserialize_bounded`], without a prefix.
     pub fn deserialize_bounded<const MAX: usize>(
         alloc: Global,
         value: &Value,
@@ -175,12 +183,12 @@ pub mod nopfx_ignorecase {
         read(alloc, WireFormat::NOPFX_IGNORECASE, Some(MAX), value)
     }
 
-    /// The same text, read as an array.
+    /// The same text, as an array.
     pub mod array {
         pub use super::serialize;
         use super::*;
 
-        /// Reads exactly `N` bytes, as [`crate::array::deserialize`] does, but asks for no prefix.
+        /// Like [`crate::array::deserialize`], without a prefix.
         pub fn deserialize<const N: usize>(value: &Value) -> Result<[u8; N], AdapterError>
             ensures { AnswersArrayRead wire.nopfx_ignorecase N value.now result }
         {
@@ -189,8 +197,7 @@ pub mod nopfx_ignorecase {
     }
 }
 
-/// `0x` and then digits: lowercase is written, lowercase alone is read. A letter in uppercase is an
-/// `InvalidChar`.
+/// `0x`, then digits: writes and reads lowercase only. An uppercase letter is an `InvalidChar`.
 ///
 /// ```rust
 /// let value = withpfx_lowercase::serialize(rt.alloc(), &[0xab, 1])?;
@@ -206,21 +213,21 @@ pub mod nopfx_ignorecase {
 pub mod withpfx_lowercase {
     use super::*;
 
-    /// Writes `0x` and two lowercase digits a byte, as [`crate::serialize`] does.
+    /// Writes `0x` and two lowercase digits for each byte, like [`crate::serialize`].
     pub fn serialize(alloc: Global, src: &[u8]) -> Result<Value, AdapterError>
         ensures { AnswersWrite wire.withpfx_lowercase src.now result }
     {
         write(alloc, WireFormat::WITHPFX_LOWERCASE, src)
     }
 
-    /// Reads as [`crate::deserialize`] does, in this letter case alone.
+    /// Like [`crate::deserialize`], in this letter case only.
     pub fn deserialize(alloc: Global, value: &Value) -> Result<Vec<u8>, AdapterError>
         ensures { AnswersRead wire.withpfx_lowercase None value.now result }
     {
         read(alloc, WireFormat::WITHPFX_LOWERCASE, None, value)
     }
 
-    /// Reads at most `MAX` bytes, as [`crate::deserialize_bounded`] does.
+    /// Like [`crate::deserialize_bounded`], in this letter case only.
     pub fn deserialize_bounded<const MAX: usize>(
         alloc: Global,
         value: &Value,
@@ -230,12 +237,12 @@ pub mod withpfx_lowercase {
         read(alloc, WireFormat::WITHPFX_LOWERCASE, Some(MAX), value)
     }
 
-    /// The same text, read as an array.
+    /// The same text, as an array.
     pub mod array {
         pub use super::serialize;
         use super::*;
 
-        /// Reads exactly `N` bytes, as [`crate::array::deserialize`] does.
+        /// Like [`crate::array::deserialize`], in this letter case only.
         pub fn deserialize<const N: usize>(value: &Value) -> Result<[u8; N], AdapterError>
             ensures { AnswersArrayRead wire.withpfx_lowercase N value.now result }
         {
@@ -244,8 +251,7 @@ pub mod withpfx_lowercase {
     }
 }
 
-/// Digits with nothing before them: lowercase is written, lowercase alone is read. A letter in uppercase is an
-/// `InvalidChar`.
+/// Digits without a prefix: writes and reads lowercase only. An uppercase letter is an `InvalidChar`.
 ///
 /// ```rust
 /// let value = nopfx_lowercase::serialize(rt.alloc(), &[0xab, 1])?;
@@ -261,22 +267,22 @@ pub mod withpfx_lowercase {
 pub mod nopfx_lowercase {
     use super::*;
 
-    /// Writes two lowercase digits a byte, as [`crate::serialize`] does but with no prefix, so that the
-    /// empty text takes no memory.
+    /// Writes two lowercase digits for each byte, like [`crate::serialize`] but without a prefix. The empty
+    /// text allocates nothing.
     pub fn serialize(alloc: Global, src: &[u8]) -> Result<Value, AdapterError>
         ensures { AnswersWrite wire.nopfx_lowercase src.now result }
     {
         write(alloc, WireFormat::NOPFX_LOWERCASE, src)
     }
 
-    /// Reads as [`crate::deserialize`] does, but asks for no prefix.
+    /// Like [`crate::deserialize`], without a prefix.
     pub fn deserialize(alloc: Global, value: &Value) -> Result<Vec<u8>, AdapterError>
         ensures { AnswersRead wire.nopfx_lowercase None value.now result }
     {
         read(alloc, WireFormat::NOPFX_LOWERCASE, None, value)
     }
 
-    /// Reads at most `MAX` bytes, as [`crate::deserialize_bounded`] does, but asks for no prefix.
+    /// Like [`crate::deserialize_bounded`], without a prefix.
     pub fn deserialize_bounded<const MAX: usize>(
         alloc: Global,
         value: &Value,
@@ -286,12 +292,12 @@ pub mod nopfx_lowercase {
         read(alloc, WireFormat::NOPFX_LOWERCASE, Some(MAX), value)
     }
 
-    /// The same text, read as an array.
+    /// The same text, as an array.
     pub mod array {
         pub use super::serialize;
         use super::*;
 
-        /// Reads exactly `N` bytes, as [`crate::array::deserialize`] does, but asks for no prefix.
+        /// Like [`crate::array::deserialize`], without a prefix.
         pub fn deserialize<const N: usize>(value: &Value) -> Result<[u8; N], AdapterError>
             ensures { AnswersArrayRead wire.nopfx_lowercase N value.now result }
         {
@@ -300,8 +306,7 @@ pub mod nopfx_lowercase {
     }
 }
 
-/// `0x` and then digits: uppercase is written, uppercase alone is read. A letter in lowercase is an
-/// `InvalidChar`.
+/// `0x`, then digits: writes and reads uppercase only. A lowercase letter is an `InvalidChar`.
 ///
 /// ```rust
 /// let value = withpfx_uppercase::serialize(rt.alloc(), &[0xab, 1])?;
@@ -317,21 +322,21 @@ pub mod nopfx_lowercase {
 pub mod withpfx_uppercase {
     use super::*;
 
-    /// Writes `0x` and two uppercase digits a byte, as [`crate::serialize`] does.
+    /// Writes `0x` and two uppercase digits for each byte, like [`crate::serialize`].
     pub fn serialize(alloc: Global, src: &[u8]) -> Result<Value, AdapterError>
         ensures { AnswersWrite wire.withpfx_uppercase src.now result }
     {
         write(alloc, WireFormat::WITHPFX_UPPERCASE, src)
     }
 
-    /// Reads as [`crate::deserialize`] does, in this letter case alone.
+    /// Like [`crate::deserialize`], in this letter case only.
     pub fn deserialize(alloc: Global, value: &Value) -> Result<Vec<u8>, AdapterError>
         ensures { AnswersRead wire.withpfx_uppercase None value.now result }
     {
         read(alloc, WireFormat::WITHPFX_UPPERCASE, None, value)
     }
 
-    /// Reads at most `MAX` bytes, as [`crate::deserialize_bounded`] does.
+    /// Like [`crate::deserialize_bounded`], in this letter case only.
     pub fn deserialize_bounded<const MAX: usize>(
         alloc: Global,
         value: &Value,
@@ -341,12 +346,12 @@ pub mod withpfx_uppercase {
         read(alloc, WireFormat::WITHPFX_UPPERCASE, Some(MAX), value)
     }
 
-    /// The same text, read as an array.
+    /// The same text, as an array.
     pub mod array {
         pub use super::serialize;
         use super::*;
 
-        /// Reads exactly `N` bytes, as [`crate::array::deserialize`] does.
+        /// Like [`crate::array::deserialize`], in this letter case only.
         pub fn deserialize<const N: usize>(value: &Value) -> Result<[u8; N], AdapterError>
             ensures { AnswersArrayRead wire.withpfx_uppercase N value.now result }
         {
@@ -355,8 +360,7 @@ pub mod withpfx_uppercase {
     }
 }
 
-/// Digits with nothing before them: uppercase is written, uppercase alone is read. A letter in lowercase is an
-/// `InvalidChar`.
+/// Digits without a prefix: writes and reads uppercase only. A lowercase letter is an `InvalidChar`.
 ///
 /// ```rust
 /// let value = nopfx_uppercase::serialize(rt.alloc(), &[0xab, 1])?;
@@ -372,22 +376,22 @@ pub mod withpfx_uppercase {
 pub mod nopfx_uppercase {
     use super::*;
 
-    /// Writes two uppercase digits a byte, as [`crate::serialize`] does but with no prefix, so that the
-    /// empty text takes no memory.
+    /// Writes two uppercase digits for each byte, like [`crate::serialize`] but without a prefix. The empty
+    /// text allocates nothing.
     pub fn serialize(alloc: Global, src: &[u8]) -> Result<Value, AdapterError>
         ensures { AnswersWrite wire.nopfx_uppercase src.now result }
     {
         write(alloc, WireFormat::NOPFX_UPPERCASE, src)
     }
 
-    /// Reads as [`crate::deserialize`] does, but asks for no prefix.
+    /// Like [`crate::deserialize`], without a prefix.
     pub fn deserialize(alloc: Global, value: &Value) -> Result<Vec<u8>, AdapterError>
         ensures { AnswersRead wire.nopfx_uppercase None value.now result }
     {
         read(alloc, WireFormat::NOPFX_UPPERCASE, None, value)
     }
 
-    /// Reads at most `MAX` bytes, as [`crate::deserialize_bounded`] does, but asks for no prefix.
+    /// Like [`crate::deserialize_bounded`], without a prefix.
     pub fn deserialize_bounded<const MAX: usize>(
         alloc: Global,
         value: &Value,
@@ -397,12 +401,12 @@ pub mod nopfx_uppercase {
         read(alloc, WireFormat::NOPFX_UPPERCASE, Some(MAX), value)
     }
 
-    /// The same text, read as an array.
+    /// The same text, as an array.
     pub mod array {
         pub use super::serialize;
         use super::*;
 
-        /// Reads exactly `N` bytes, as [`crate::array::deserialize`] does, but asks for no prefix.
+        /// Like [`crate::array::deserialize`], without a prefix.
         pub fn deserialize<const N: usize>(value: &Value) -> Result<[u8; N], AdapterError>
             ensures { AnswersArrayRead wire.nopfx_uppercase N value.now result }
         {

@@ -1,4 +1,6 @@
-//! The six modules of bytes or none, which is `null`.
+//! Six modules, each of which reads and writes `Option`s in the format of one module of bytes, with `null` for
+//! `None`. `null` has no error. Any other value has the errors of that module, in its order. The example of a
+//! module has all its calls.
 
 ghost use Rattle.std.specs.Prelude.{None, Some, option_map};
 ghost use Rattle.faster_hex.specs.Adapters.{AnswersOptionArrayRead, AnswersOptionRead, AnswersOptionWrite};
@@ -8,7 +10,7 @@ use crate::adapters::{AdapterError, WireFormat, read_option, read_option_array, 
 use serde_json::Value;
 use std::alloc::Global;
 
-/// Bytes as [`withpfx_ignorecase`](crate::withpfx_ignorecase) reads and writes them, and none as `null`.
+/// `Some` in the format of [`withpfx_ignorecase`](crate::withpfx_ignorecase), and `None` as `null`.
 ///
 /// ```rust
 /// let value = option_withpfx_ignorecase::serialize(rt.alloc(), Some(&[0xab, 1]))?;
@@ -27,23 +29,23 @@ use std::alloc::Global;
 pub mod option_withpfx_ignorecase {
     use super::*;
 
-    /// Writes none as `null`, which takes no memory and has no error, and bytes as
-    /// [`withpfx_ignorecase::serialize`](crate::withpfx_ignorecase::serialize) does.
+    /// Writes `None` as `null`, without allocating and without error, and `Some` like
+    /// [`withpfx_ignorecase::serialize`](crate::withpfx_ignorecase::serialize).
     pub fn serialize(alloc: Global, src: Option<&[u8]>) -> Result<Value, AdapterError>
         ensures { AnswersOptionWrite wire.withpfx_ignorecase (option_map (λ s. s.now) src.entry) result }
     {
         write_option(alloc, WireFormat::WITHPFX_IGNORECASE, src)
     }
 
-    /// Reads `null` as none, and any other value as
-    /// [`withpfx_ignorecase::deserialize`](crate::withpfx_ignorecase::deserialize) does.
+    /// Reads `null` as `None`, and any other value like
+    /// [`withpfx_ignorecase::deserialize`](crate::withpfx_ignorecase::deserialize).
     pub fn deserialize(alloc: Global, value: &Value) -> Result<Option<Vec<u8>>, AdapterError>
         ensures { AnswersOptionRead wire.withpfx_ignorecase None value.now result }
     {
         read_option(alloc, WireFormat::WITHPFX_IGNORECASE, None, value)
     }
 
-    /// Reads at most `MAX` bytes, and else as [`deserialize`] does.
+    /// Like [`deserialize`], but at most `MAX` bytes.
     pub fn deserialize_bounded<const MAX: usize>(
         alloc: Global,
         value: &Value,
@@ -53,13 +55,13 @@ pub mod option_withpfx_ignorecase {
         read_option(alloc, WireFormat::WITHPFX_IGNORECASE, Some(MAX), value)
     }
 
-    /// The same text or `null`, read as an array or none.
+    /// The same text or `null`, as an array or `None`.
     pub mod array {
         pub use super::serialize;
         use super::*;
 
-        /// Reads `null` as none, and any other value as
-        /// [`withpfx_ignorecase::array::deserialize`](crate::withpfx_ignorecase::array::deserialize) does.
+        /// Reads `null` as `None`, and any other value like
+        /// [`withpfx_ignorecase::array::deserialize`](crate::withpfx_ignorecase::array::deserialize).
         pub fn deserialize<const N: usize>(value: &Value) -> Result<Option<[u8; N]>, AdapterError>
             ensures { AnswersOptionArrayRead wire.withpfx_ignorecase N value.now result }
         {
@@ -68,7 +70,7 @@ pub mod option_withpfx_ignorecase {
     }
 }
 
-/// Bytes as [`nopfx_ignorecase`](crate::nopfx_ignorecase) reads and writes them, and none as `null`.
+/// `Some` in the format of [`nopfx_ignorecase`](crate::nopfx_ignorecase), and `None` as `null`.
 ///
 /// ```rust
 /// let value = option_nopfx_ignorecase::serialize(rt.alloc(), Some(&[0xab, 1]))?;
@@ -87,23 +89,23 @@ pub mod option_withpfx_ignorecase {
 pub mod option_nopfx_ignorecase {
     use super::*;
 
-    /// Writes none as `null`, which takes no memory and has no error, and bytes as
-    /// [`nopfx_ignorecase::serialize`](crate::nopfx_ignorecase::serialize) does.
+    /// Writes `None` as `null`, without allocating and without error, and `Some` like
+    /// [`nopfx_ignorecase::serialize`](crate::nopfx_ignorecase::serialize).
     pub fn serialize(alloc: Global, src: Option<&[u8]>) -> Result<Value, AdapterError>
         ensures { AnswersOptionWrite wire.nopfx_ignorecase (option_map (λ s. s.now) src.entry) result }
     {
         write_option(alloc, WireFormat::NOPFX_IGNORECASE, src)
     }
 
-    /// Reads `null` as none, and any other value as
-    /// [`nopfx_ignorecase::deserialize`](crate::nopfx_ignorecase::deserialize) does.
+    /// Reads `null` as `None`, and any other value like
+    /// [`nopfx_ignorecase::deserialize`](crate::nopfx_ignorecase::deserialize).
     pub fn deserialize(alloc: Global, value: &Value) -> Result<Option<Vec<u8>>, AdapterError>
         ensures { AnswersOptionRead wire.nopfx_ignorecase None value.now result }
     {
         read_option(alloc, WireFormat::NOPFX_IGNORECASE, None, value)
     }
 
-    /// Reads at most `MAX` bytes, and else as [`deserialize`] does.
+    /// Like [`deserialize`], but at most `MAX` bytes.
     pub fn deserialize_bounded<const MAX: usize>(
         alloc: Global,
         value: &Value,
@@ -113,13 +115,13 @@ pub mod option_nopfx_ignorecase {
         read_option(alloc, WireFormat::NOPFX_IGNORECASE, Some(MAX), value)
     }
 
-    /// The same text or `null`, read as an array or none.
+    /// The same text or `null`, as an array or `None`.
     pub mod array {
         pub use super::serialize;
         use super::*;
 
-        /// Reads `null` as none, and any other value as
-        /// [`nopfx_ignorecase::array::deserialize`](crate::nopfx_ignorecase::array::deserialize) does.
+        /// Reads `null` as `None`, and any other value like
+        /// [`nopfx_ignorecase::array::deserialize`](crate::nopfx_ignorecase::array::deserialize).
         pub fn deserialize<const N: usize>(value: &Value) -> Result<Option<[u8; N]>, AdapterError>
             ensures { AnswersOptionArrayRead wire.nopfx_ignorecase N value.now result }
         {
@@ -128,7 +130,7 @@ pub mod option_nopfx_ignorecase {
     }
 }
 
-/// Bytes as [`withpfx_lowercase`](crate::withpfx_lowercase) reads and writes them, and none as `null`.
+/// `Some` in the format of [`withpfx_lowercase`](crate::withpfx_lowercase), and `None` as `null`.
 ///
 /// ```rust
 /// let value = option_withpfx_lowercase::serialize(rt.alloc(), Some(&[0xab, 1]))?;
@@ -147,23 +149,23 @@ pub mod option_nopfx_ignorecase {
 pub mod option_withpfx_lowercase {
     use super::*;
 
-    /// Writes none as `null`, which takes no memory and has no error, and bytes as
-    /// [`withpfx_lowercase::serialize`](crate::withpfx_lowercase::serialize) does.
+    /// Writes `None` as `null`, without allocating and without error, and `Some` like
+    /// [`withpfx_lowercase::serialize`](crate::withpfx_lowercase::serialize).
     pub fn serialize(alloc: Global, src: Option<&[u8]>) -> Result<Value, AdapterError>
         ensures { AnswersOptionWrite wire.withpfx_lowercase (option_map (λ s. s.now) src.entry) result }
     {
         write_option(alloc, WireFormat::WITHPFX_LOWERCASE, src)
     }
 
-    /// Reads `null` as none, and any other value as
-    /// [`withpfx_lowercase::deserialize`](crate::withpfx_lowercase::deserialize) does.
+    /// Reads `null` as `None`, and any other value like
+    /// [`withpfx_lowercase::deserialize`](crate::withpfx_lowercase::deserialize).
     pub fn deserialize(alloc: Global, value: &Value) -> Result<Option<Vec<u8>>, AdapterError>
         ensures { AnswersOptionRead wire.withpfx_lowercase None value.now result }
     {
         read_option(alloc, WireFormat::WITHPFX_LOWERCASE, None, value)
     }
 
-    /// Reads at most `MAX` bytes, and else as [`deserialize`] does.
+    /// Like [`deserialize`], but at most `MAX` bytes.
     pub fn deserialize_bounded<const MAX: usize>(
         alloc: Global,
         value: &Value,
@@ -173,13 +175,13 @@ pub mod option_withpfx_lowercase {
         read_option(alloc, WireFormat::WITHPFX_LOWERCASE, Some(MAX), value)
     }
 
-    /// The same text or `null`, read as an array or none.
+    /// The same text or `null`, as an array or `None`.
     pub mod array {
         pub use super::serialize;
         use super::*;
 
-        /// Reads `null` as none, and any other value as
-        /// [`withpfx_lowercase::array::deserialize`](crate::withpfx_lowercase::array::deserialize) does.
+        /// Reads `null` as `None`, and any other value like
+        /// [`withpfx_lowercase::array::deserialize`](crate::withpfx_lowercase::array::deserialize).
         pub fn deserialize<const N: usize>(value: &Value) -> Result<Option<[u8; N]>, AdapterError>
             ensures { AnswersOptionArrayRead wire.withpfx_lowercase N value.now result }
         {
@@ -188,7 +190,7 @@ pub mod option_withpfx_lowercase {
     }
 }
 
-/// Bytes as [`nopfx_lowercase`](crate::nopfx_lowercase) reads and writes them, and none as `null`.
+/// `Some` in the format of [`nopfx_lowercase`](crate::nopfx_lowercase), and `None` as `null`.
 ///
 /// ```rust
 /// let value = option_nopfx_lowercase::serialize(rt.alloc(), Some(&[0xab, 1]))?;
@@ -207,23 +209,23 @@ pub mod option_withpfx_lowercase {
 pub mod option_nopfx_lowercase {
     use super::*;
 
-    /// Writes none as `null`, which takes no memory and has no error, and bytes as
-    /// [`nopfx_lowercase::serialize`](crate::nopfx_lowercase::serialize) does.
+    /// Writes `None` as `null`, without allocating and without error, and `Some` like
+    /// [`nopfx_lowercase::serialize`](crate::nopfx_lowercase::serialize).
     pub fn serialize(alloc: Global, src: Option<&[u8]>) -> Result<Value, AdapterError>
         ensures { AnswersOptionWrite wire.nopfx_lowercase (option_map (λ s. s.now) src.entry) result }
     {
         write_option(alloc, WireFormat::NOPFX_LOWERCASE, src)
     }
 
-    /// Reads `null` as none, and any other value as
-    /// [`nopfx_lowercase::deserialize`](crate::nopfx_lowercase::deserialize) does.
+    /// Reads `null` as `None`, and any other value like
+    /// [`nopfx_lowercase::deserialize`](crate::nopfx_lowercase::deserialize).
     pub fn deserialize(alloc: Global, value: &Value) -> Result<Option<Vec<u8>>, AdapterError>
         ensures { AnswersOptionRead wire.nopfx_lowercase None value.now result }
     {
         read_option(alloc, WireFormat::NOPFX_LOWERCASE, None, value)
     }
 
-    /// Reads at most `MAX` bytes, and else as [`deserialize`] does.
+    /// Like [`deserialize`], but at most `MAX` bytes.
     pub fn deserialize_bounded<const MAX: usize>(
         alloc: Global,
         value: &Value,
@@ -233,13 +235,13 @@ pub mod option_nopfx_lowercase {
         read_option(alloc, WireFormat::NOPFX_LOWERCASE, Some(MAX), value)
     }
 
-    /// The same text or `null`, read as an array or none.
+    /// The same text or `null`, as an array or `None`.
     pub mod array {
         pub use super::serialize;
         use super::*;
 
-        /// Reads `null` as none, and any other value as
-        /// [`nopfx_lowercase::array::deserialize`](crate::nopfx_lowercase::array::deserialize) does.
+        /// Reads `null` as `None`, and any other value like
+        /// [`nopfx_lowercase::array::deserialize`](crate::nopfx_lowercase::array::deserialize).
         pub fn deserialize<const N: usize>(value: &Value) -> Result<Option<[u8; N]>, AdapterError>
             ensures { AnswersOptionArrayRead wire.nopfx_lowercase N value.now result }
         {
@@ -248,7 +250,7 @@ pub mod option_nopfx_lowercase {
     }
 }
 
-/// Bytes as [`withpfx_uppercase`](crate::withpfx_uppercase) reads and writes them, and none as `null`.
+/// `Some` in the format of [`withpfx_uppercase`](crate::withpfx_uppercase), and `None` as `null`.
 ///
 /// ```rust
 /// let value = option_withpfx_uppercase::serialize(rt.alloc(), Some(&[0xab, 1]))?;
@@ -267,23 +269,23 @@ pub mod option_nopfx_lowercase {
 pub mod option_withpfx_uppercase {
     use super::*;
 
-    /// Writes none as `null`, which takes no memory and has no error, and bytes as
-    /// [`withpfx_uppercase::serialize`](crate::withpfx_uppercase::serialize) does.
+    /// Writes `None` as `null`, without allocating and without error, and `Some` like
+    /// [`withpfx_uppercase::serialize`](crate::withpfx_uppercase::serialize).
     pub fn serialize(alloc: Global, src: Option<&[u8]>) -> Result<Value, AdapterError>
         ensures { AnswersOptionWrite wire.withpfx_uppercase (option_map (λ s. s.now) src.entry) result }
     {
         write_option(alloc, WireFormat::WITHPFX_UPPERCASE, src)
     }
 
-    /// Reads `null` as none, and any other value as
-    /// [`withpfx_uppercase::deserialize`](crate::withpfx_uppercase::deserialize) does.
+    /// Reads `null` as `None`, and any other value like
+    /// [`withpfx_uppercase::deserialize`](crate::withpfx_uppercase::deserialize).
     pub fn deserialize(alloc: Global, value: &Value) -> Result<Option<Vec<u8>>, AdapterError>
         ensures { AnswersOptionRead wire.withpfx_uppercase None value.now result }
     {
         read_option(alloc, WireFormat::WITHPFX_UPPERCASE, None, value)
     }
 
-    /// Reads at most `MAX` bytes, and else as [`deserialize`] does.
+    /// Like [`deserialize`], but at most `MAX` bytes.
     pub fn deserialize_bounded<const MAX: usize>(
         alloc: Global,
         value: &Value,
@@ -293,13 +295,13 @@ pub mod option_withpfx_uppercase {
         read_option(alloc, WireFormat::WITHPFX_UPPERCASE, Some(MAX), value)
     }
 
-    /// The same text or `null`, read as an array or none.
+    /// The same text or `null`, as an array or `None`.
     pub mod array {
         pub use super::serialize;
         use super::*;
 
-        /// Reads `null` as none, and any other value as
-        /// [`withpfx_uppercase::array::deserialize`](crate::withpfx_uppercase::array::deserialize) does.
+        /// Reads `null` as `None`, and any other value like
+        /// [`withpfx_uppercase::array::deserialize`](crate::withpfx_uppercase::array::deserialize).
         pub fn deserialize<const N: usize>(value: &Value) -> Result<Option<[u8; N]>, AdapterError>
             ensures { AnswersOptionArrayRead wire.withpfx_uppercase N value.now result }
         {
@@ -308,7 +310,7 @@ pub mod option_withpfx_uppercase {
     }
 }
 
-/// Bytes as [`nopfx_uppercase`](crate::nopfx_uppercase) reads and writes them, and none as `null`.
+/// `Some` in the format of [`nopfx_uppercase`](crate::nopfx_uppercase), and `None` as `null`.
 ///
 /// ```rust
 /// let value = option_nopfx_uppercase::serialize(rt.alloc(), Some(&[0xab, 1]))?;
@@ -327,23 +329,23 @@ pub mod option_withpfx_uppercase {
 pub mod option_nopfx_uppercase {
     use super::*;
 
-    /// Writes none as `null`, which takes no memory and has no error, and bytes as
-    /// [`nopfx_uppercase::serialize`](crate::nopfx_uppercase::serialize) does.
+    /// Writes `None` as `null`, without allocating and without error, and `Some` like
+    /// [`nopfx_uppercase::serialize`](crate::nopfx_uppercase::serialize).
     pub fn serialize(alloc: Global, src: Option<&[u8]>) -> Result<Value, AdapterError>
         ensures { AnswersOptionWrite wire.nopfx_uppercase (option_map (λ s. s.now) src.entry) result }
     {
         write_option(alloc, WireFormat::NOPFX_UPPERCASE, src)
     }
 
-    /// Reads `null` as none, and any other value as
-    /// [`nopfx_uppercase::deserialize`](crate::nopfx_uppercase::deserialize) does.
+    /// Reads `null` as `None`, and any other value like
+    /// [`nopfx_uppercase::deserialize`](crate::nopfx_uppercase::deserialize).
     pub fn deserialize(alloc: Global, value: &Value) -> Result<Option<Vec<u8>>, AdapterError>
         ensures { AnswersOptionRead wire.nopfx_uppercase None value.now result }
     {
         read_option(alloc, WireFormat::NOPFX_UPPERCASE, None, value)
     }
 
-    /// Reads at most `MAX` bytes, and else as [`deserialize`] does.
+    /// Like [`deserialize`], but at most `MAX` bytes.
     pub fn deserialize_bounded<const MAX: usize>(
         alloc: Global,
         value: &Value,
@@ -353,13 +355,13 @@ pub mod option_nopfx_uppercase {
         read_option(alloc, WireFormat::NOPFX_UPPERCASE, Some(MAX), value)
     }
 
-    /// The same text or `null`, read as an array or none.
+    /// The same text or `null`, as an array or `None`.
     pub mod array {
         pub use super::serialize;
         use super::*;
 
-        /// Reads `null` as none, and any other value as
-        /// [`nopfx_uppercase::array::deserialize`](crate::nopfx_uppercase::array::deserialize) does.
+        /// Reads `null` as `None`, and any other value like
+        /// [`nopfx_uppercase::array::deserialize`](crate::nopfx_uppercase::array::deserialize).
         pub fn deserialize<const N: usize>(value: &Value) -> Result<Option<[u8; N]>, AdapterError>
             ensures { AnswersOptionArrayRead wire.nopfx_uppercase N value.now result }
         {
