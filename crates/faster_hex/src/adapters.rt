@@ -194,11 +194,11 @@ fn bounded_payload(
 ///
 /// In this order:
 ///
-/// 1. `NotText` where the value is no text;
-/// 2. `InvalidPrefix` where the text does not begin with the format's prefix;
-/// 3. `InvalidLength` where an odd number of bytes stands behind the prefix;
-/// 4. `OverBound` where more than `2 * max` bytes stand there, with `max` and half their number;
-/// 5. `Codec(OutOfMemory)` where the memory was refused;
+/// 1. `NotText` if the value is no text;
+/// 2. `InvalidPrefix` if the text does not begin with the format's prefix;
+/// 3. `InvalidLength` if an odd number of bytes stands behind the prefix;
+/// 4. `OverBound` if more than `2 * max` bytes stand there, with `max` and half their number;
+/// 5. `Codec(OutOfMemory)` if the allocation failed;
 /// 6. `Codec(InvalidChar)` with the first byte that the format does not read, and its place,
 ///    counted in bytes from the first digit.
 ///
@@ -228,7 +228,7 @@ pub fn read<A: Allocator + Drop>(
 /// In this order:
 ///
 /// 1. `NotText`, `InvalidPrefix` and `InvalidLength` as at [`read`];
-/// 2. `Codec(LengthMismatch)` where other than `2 * N` bytes stand behind the prefix, with `N` and
+/// 2. `Codec(LengthMismatch)` if other than `2 * N` bytes stand behind the prefix, with `N` and
 ///    half their number;
 /// 3. `Codec(InvalidChar)` as at [`read`].
 ///
@@ -306,8 +306,8 @@ pub fn read_option_array<const N: usize>(
 ///
 /// In this order:
 ///
-/// 1. `Codec(Overflow)` where the text's length is no `usize`;
-/// 2. `Codec(OutOfMemory)` where the memory was refused.
+/// 1. `Codec(Overflow)` if the text's length exceeds `usize`;
+/// 2. `Codec(OutOfMemory)` if the allocation failed.
 ///
 /// ```rust
 /// let text = text_of(rt.alloc(), WireFormat::WITHPFX_UPPERCASE, &[0xab, 1])?;

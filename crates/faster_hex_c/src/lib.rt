@@ -38,7 +38,7 @@ pub struct Answer {
     /// takes, with status 3 the place of the first invalid byte, from 0, and else 0.
     pub number: usize,
     /// 0 where nothing is refused; 1 for an odd length, 2 for too little room, 3 for an invalid
-    /// byte, 4 for a text whose length is no `usize`, 5 for a number that names no policy, 6 for
+    /// byte, 4 for a text whose length exceeds `usize`, 5 for a number that names no policy, 6 for
     /// numbers that make no group, and 7 for a length that no grouped text has.
     pub status: u8,
     /// With status 3 the first invalid byte, and else 0.

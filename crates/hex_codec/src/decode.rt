@@ -58,8 +58,8 @@ pub fn hex_check_with_case(src: &[u8], case: CheckCase) -> bool
 /// In this order, each of which leaves all of `dst` as it was, also where the bad byte stands
 /// behind a long good beginning:
 ///
-/// 1. [`Error::OddLength`] where `src` has an odd number of bytes;
-/// 2. [`Error::OutputTooSmall`] where `dst` has fewer than `src.len() / 2` bytes;
+/// 1. [`Error::OddLength`] if `src` has an odd number of bytes;
+/// 2. [`Error::OutputTooSmall`] if `dst` has fewer than `src.len() / 2` bytes;
 /// 3. [`Error::InvalidChar`] with the first byte of `src` that is no digit, and its place in bytes.
 ///
 /// ```rust
@@ -114,8 +114,8 @@ pub fn hex_decode_with_case<'a>(
 ///
 /// In this order, each of which leaves all of `dst` as it was:
 ///
-/// 1. [`Error::OddLength`] where `src` has an odd number of bytes;
-/// 2. [`Error::OutputTooSmall`] where `dst` has fewer than `src.len() / 2` bytes;
+/// 1. [`Error::OddLength`] if `src` has an odd number of bytes;
+/// 2. [`Error::OutputTooSmall`] if `dst` has fewer than `src.len() / 2` bytes;
 /// 3. [`Error::InvalidChar`] with the first byte of `src` that `case` does not read, and its place.
 ///
 /// ```rust
@@ -140,8 +140,8 @@ pub fn hex_decode_into(src: &[u8], dst: &mut [u8], case: CheckCase) -> Result<us
 ///
 /// In this order:
 ///
-/// 1. [`Error::OddLength`] where `src` has an odd number of bytes;
-/// 2. [`Error::LengthMismatch`] where `src.len() / 2` is not `N`, with both numbers;
+/// 1. [`Error::OddLength`] if `src` has an odd number of bytes;
+/// 2. [`Error::LengthMismatch`] if `src.len() / 2` is not `N`, with both numbers;
 /// 3. [`Error::InvalidChar`] with the first byte of `src` that is no digit, and its place in bytes.
 ///
 /// ```rust
@@ -201,8 +201,8 @@ pub fn hex_decode_array_with_case<const N: usize>(
 ///
 /// In this order:
 ///
-/// 1. [`Error::OddLength`] where `src` has an odd number of bytes, whatever memory does;
-/// 2. [`Error::OutOfMemory`] where the memory is refused;
+/// 1. [`Error::OddLength`] if `src` has an odd number of bytes, whatever memory does;
+/// 2. [`Error::OutOfMemory`] if the memory is refused;
 /// 3. [`Error::InvalidChar`] with the first byte of `src` that is no digit, and its place in bytes.
 ///
 /// ```rust

@@ -22,8 +22,8 @@ use hex_core::{Backend, Error};
 ///
 /// In this order, each of which leaves all of `dst` as it was:
 ///
-/// 1. [`Error::Overflow`] where `2 * src.len()` is no `usize`;
-/// 2. [`Error::OutputTooSmall`] where `dst` has fewer than `2 * src.len()` bytes.
+/// 1. [`Error::Overflow`] if `2 * src.len()` exceeds `usize`;
+/// 2. [`Error::OutputTooSmall`] if `dst` has fewer than `2 * src.len()` bytes.
 ///
 /// ```rust
 /// let mut buffer = [0; 10];
@@ -69,8 +69,8 @@ pub fn hex_encode_upper<'a>(src: &[u8], dst: &'a mut [u8]) -> Result<&'a mut [u8
 ///
 /// In this order, each of which leaves all of `dst` as it was:
 ///
-/// 1. [`Error::Overflow`] where `2 * src.len()` is no `usize`;
-/// 2. [`Error::OutputTooSmall`] where `dst` has fewer than `2 * src.len()` bytes.
+/// 1. [`Error::Overflow`] if `2 * src.len()` exceeds `usize`;
+/// 2. [`Error::OutputTooSmall`] if `dst` has fewer than `2 * src.len()` bytes.
 ///
 /// ```rust
 /// let mut buffer = [b'-'; 5];

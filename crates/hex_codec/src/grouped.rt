@@ -86,8 +86,8 @@ fn required(len: usize, room: usize, group: Group) -> Result<usize, GroupFault>
 ///
 /// In this order, each of which leaves all of `dst` as it was:
 ///
-/// 1. [`GroupFault::BadLength`] where no number of bytes has a grouped text of `src.len()` bytes;
-/// 2. [`GroupFault::OutputTooSmall`] where `dst` has fewer bytes than that number;
+/// 1. [`GroupFault::BadLength`] if no number of bytes has a grouped text of `src.len()` bytes;
+/// 2. [`GroupFault::OutputTooSmall`] if `dst` has fewer bytes than that number;
 /// 3. [`GroupFault::InvalidByte`] with the first byte of `src` that is wrong at its place, a digit
 ///    that `case` does not read or another separator, and its index in bytes.
 ///
@@ -167,8 +167,8 @@ fn grouped_len(len: usize, every: usize) -> Option<usize>
 ///
 /// In this order, each of which leaves all of `dst` as it was:
 ///
-/// 1. [`Error::Overflow`] where that length is no `usize`;
-/// 2. [`Error::OutputTooSmall`] where `dst` has fewer bytes.
+/// 1. [`Error::Overflow`] if that length exceeds `usize`;
+/// 2. [`Error::OutputTooSmall`] if `dst` has fewer bytes.
 ///
 /// ```rust
 /// let group = Group::new(2, b':').ok_or("no group")?;

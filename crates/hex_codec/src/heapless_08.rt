@@ -19,8 +19,8 @@ use hex_core::Error;
 ///
 /// In this order:
 ///
-/// 1. [`Error::Overflow`] where `2 * src.len()` is no `usize`;
-/// 2. [`Error::OutputTooSmall`] with `2 * src.len()` where that is more than `N`.
+/// 1. [`Error::Overflow`] if `2 * src.len()` exceeds `usize`;
+/// 2. [`Error::OutputTooSmall`] with `2 * src.len()` if that is more than `N`.
 ///
 /// ```rust
 /// let text = heapless_08::hex_string::<4>(&[0xab, 1])?;

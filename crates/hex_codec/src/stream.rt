@@ -79,7 +79,7 @@ impl Decoder {
     /// In this order, each of which leaves `dst` and the decoder as they were, so that it may be fed
     /// again:
     ///
-    /// 1. [`Error::Overflow`] where all digits together are more than a `usize` counts;
+    /// 1. [`Error::Overflow`] if all digits together are more than a `usize` counts;
     /// 2. [`Error::OutputTooSmall`] with the room that this feed takes;
     /// 3. [`Error::InvalidChar`] with the first byte that is no digit, and its place in all that was
     ///    fed, also where it would wait for a partner.

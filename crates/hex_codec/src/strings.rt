@@ -23,8 +23,8 @@ use std::str;
 ///
 /// In this order:
 ///
-/// 1. [`Error::Overflow`] where `2 * src.len()` is no `usize`;
-/// 2. [`Error::OutOfMemory`] where the memory was refused, so never where `src` is empty.
+/// 1. [`Error::Overflow`] if `2 * src.len()` exceeds `usize`;
+/// 2. [`Error::OutOfMemory`] if the allocation failed, so never where `src` is empty.
 ///
 /// ```rust
 /// let text = hex_string(rt.alloc(), &[0, 0xab, 0xff])?;
@@ -64,8 +64,8 @@ pub fn hex_string_upper<A: Allocator + Drop>(alloc: A, src: &[u8]) -> Result<Str
 ///
 /// In this order, each of which leaves the text of `dst` as it was:
 ///
-/// 1. [`Error::Overflow`] where `dst.len() + 2 * src.len()` is no `usize`;
-/// 2. [`Error::OutOfMemory`] where the memory was refused, so never where `src` is empty.
+/// 1. [`Error::Overflow`] if `dst.len() + 2 * src.len()` exceeds `usize`;
+/// 2. [`Error::OutOfMemory`] if the allocation failed, so never where `src` is empty.
 ///
 /// ```rust
 /// let mut text = String::from_str(rt.alloc(), "id: ")?;
@@ -104,8 +104,8 @@ pub fn hex_append_into<A: Allocator>(
 ///
 /// In this order, each of which leaves the text of `dst` as it was:
 ///
-/// 1. [`Error::Overflow`] where `dst.len() + 2 * src.len()` is no `usize`;
-/// 2. [`Error::OutOfMemory`] where the memory was refused, so never where `src` is empty.
+/// 1. [`Error::Overflow`] if `dst.len() + 2 * src.len()` exceeds `usize`;
+/// 2. [`Error::OutOfMemory`] if the allocation failed, so never where `src` is empty.
 ///
 /// ```rust
 /// let mut text = String::from_str(rt.alloc(), "hash: ")?;
@@ -160,8 +160,8 @@ fn string_of<A: Allocator + Drop>(alloc: A, src: &[u8], upper: bool) -> Result<S
 ///
 /// In this order:
 ///
-/// 1. [`Error::Overflow`] where `prefix.len() + 2 * src.len()` is no `usize`;
-/// 2. [`Error::OutOfMemory`] where the memory was refused.
+/// 1. [`Error::Overflow`] if `prefix.len() + 2 * src.len()` exceeds `usize`;
+/// 2. [`Error::OutOfMemory`] if the allocation failed.
 ///
 /// ```rust
 /// let text = prefixed_string(rt.alloc(), b"0x", &[0xab], false)?;
