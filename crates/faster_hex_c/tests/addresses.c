@@ -42,7 +42,7 @@ static void end(size_t number) {
 }
 
 #ifdef PLANTED
-static struct faster_hex_answer planted(const uint8_t *src, size_t len) {
+__attribute__((noinline)) static struct faster_hex_answer planted(const uint8_t *src, size_t len) {
     static const uint8_t values['g'] = { ['a'] = 10, ['b'] = 11 };
     size_t sum = 0;
     for (size_t at = 0; at < len; at++) sum += values[src[at]];
