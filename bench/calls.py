@@ -51,19 +51,19 @@ ENCODE data_encoding encode fixed ::data_encoding::HEXLOWER_PERMISSIVE.encode_mu
 DECODE data_encoding decode count ::data_encoding::HEXLOWER_PERMISSIVE.decode_mut(src, dst)
 """,
 }
-# Of loops.c and shared.c.
+# Of c.c.
 LOOPS = """
-WRITE by_{n} write
-READ by_{n} read
+WRITE by_{n} write number write_by(src, len, dst, {n})
+READ by_{n} read number read_by(src, len, dst, {n})
 """
 LIST_LOOPS = """
-LIST lists read
-NEW_LIST lists keep
+LIST lists read number read_list(src, len)
+NEW_LIST lists keep number keep_list(src, len)
 """
 SHARED = """
-CHECK shared check
-ENCODE shared encode
-DECODE shared decode
+CHECK shared check number check(src, len)
+ENCODE shared encode number encode(src, len, dst, room, false).number
+DECODE shared decode number decode(src, len, dst, room).number
 """
 PLANS = "scalar sse41 avx2 avx512 neon".split()
 PIECES = 1, 2, 4, 8, 16
@@ -95,14 +95,20 @@ pub unsafe extern "C" fn {name}(src: *const u8, len: usize, dst: *mut u8, room: 
     {body}
 }}
 """
+C = """
+size_t {name}(const uint8_t *src, size_t len, uint8_t *dst, size_t room) {{
+    (void)dst, (void)room;
+    return {body};
+}}
+"""
 
 
-class Call(collections.namedtuple("Call", "kind side plan name answer words", defaults=["number", ""])):
+class Call(collections.namedtuple("Call", "kind side plan name answer words")):
     def symbol(self):
         return f"{self.side}_{self.plan}_{self.name}"
 
     def exported(self, form):
-        """The exported function of the call, in Rattle or in Rust."""
+        """The exported function of the call, in Rattle, Rust or C."""
         alloc = "alloc: Global, " if "alloc" in self.words else ""
         body, fits = ANSWERS[self.answer].format(self.words), FITS.get(self.answer, "")
         return form.format(name=self.symbol(), alloc=alloc, fits=fits, body=body)
@@ -132,16 +138,21 @@ def rust_calls():
     return found
 
 
-def c_calls():
-    return calls("c", LIST_LOOPS) + [it for n in PIECES for it in calls("c", LOOPS, n=n)]
+def c_calls(is_shared):
+    """The loops in C, and the calls of the shared library."""
+    found = calls("c", LIST_LOOPS) + [it for n in PIECES for it in calls("c", LOOPS, n=n)]
+    return found + (calls("c", SHARED) if is_shared else [])
 
 
 def header(found, width):
-    """The list of calls for bench.c, with the modes that each is of. A sweep times three, and the kernel of this
-    width beside them."""
-    swept = [f"own_plain_{it}" for it in ("check", "encode_into", "decode_into")]
-    swept += [f"rust_{width}_{it}" for it in ("check", "encode", "decode")]
-    shared = [f"{it}_{name}" for it in ("own_shared", "rust_public") for name in ("check", "encode", "decode")]
-    modes = lambda symbol: " | ".join(["ALL", *["SWEEP"] * (symbol in swept), *["SHARED"] * (symbol in shared)])
-    row = "CALL({0.kind}, {0.side}, {0.plan}, {0.name}, {1})\n"
-    return "".join(row.format(it, modes(it.symbol())) for it in found)
+    """The list of calls for bench.c, with the modes that each is of. A sweep times three, and the kernel of
+    this width beside them."""
+    names = "check", "encode", "decode"
+    swept = ["own_plain_check", "own_plain_encode_into", "own_plain_decode_into"]
+    swept += [f"rust_{width}_{it}" for it in names]
+    shared = [f"{side}_{it}" for side in ("c_shared", "rust_public") for it in names]
+    lines = []
+    for call in found:
+        modes = ["ALL"] + ["SWEEP"] * (call.symbol() in swept) + ["SHARED"] * (call.symbol() in shared)
+        lines.append(f"CALL({', '.join(call[:4])}, {' | '.join(modes)})\n")
+    return "".join(lines)

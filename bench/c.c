@@ -1,11 +1,15 @@
 // The loops that a user would have written: for grouped digits one that writes, by two look-ups a byte and
 // a separator between two pieces, and for reading one that tests all and one that stores; and for digest
-// lists one that finds each line's end by `memchr`.
+// lists one that finds each line's end by `memchr`. Then the calls of the shared library. bench/run writes
+// the functions that make them, c_calls.h, where the number of bytes of a piece is a constant.
 #include <stdbool.h>
 #include <stddef.h>
 #include <stdint.h>
+#include <stdio.h>
 #include <stdlib.h>
 #include <string.h>
+
+#define INLINE static inline __attribute__((always_inline))
 
 static const uint8_t digits[] = "0123456789abcdef";
 
@@ -27,7 +31,7 @@ static inline size_t least(size_t every, size_t left) {
     return every < left ? every : left;
 }
 
-static inline __attribute__((always_inline)) size_t write_in_c(const uint8_t *src, size_t len, uint8_t *dst, size_t every) {
+INLINE size_t write_by(const uint8_t *src, size_t len, uint8_t *dst, size_t every) {
     uint8_t *to = dst;
     for (size_t at = 0; at < len; at += every) {
         if (at != 0) {
@@ -42,7 +46,7 @@ static inline __attribute__((always_inline)) size_t write_in_c(const uint8_t *sr
     return to - dst;
 }
 
-static inline __attribute__((always_inline)) bool is_right_in_c(const uint8_t *src, size_t len, size_t every) {
+INLINE bool is_right(const uint8_t *src, size_t len, size_t every) {
     for (size_t at = 0; at < len; at += 2 * every + 1) {
         size_t count = least(2 * every, len - at);
         for (size_t i = 0; i < count; i++) {
@@ -57,8 +61,8 @@ static inline __attribute__((always_inline)) bool is_right_in_c(const uint8_t *s
     return true;
 }
 
-static inline __attribute__((always_inline)) size_t read_in_c(const uint8_t *src, size_t len, uint8_t *dst, size_t every) {
-    if (!is_right_in_c(src, len, every)) {
+INLINE size_t read_by(const uint8_t *src, size_t len, uint8_t *dst, size_t every) {
+    if (!is_right(src, len, every)) {
         return 0;
     }
     uint8_t *to = dst;
@@ -70,19 +74,6 @@ static inline __attribute__((always_inline)) size_t read_in_c(const uint8_t *src
     }
     return to - dst;
 }
-
-// With a number of bytes that the compiler knows, as in a loop for one format.
-#define LOOP(every, name) \
-    size_t c_by_##every##_##name(const uint8_t *src, size_t len, uint8_t *dst, size_t room) { \
-        (void)room; \
-        return name##_in_c(src, len, dst, every); \
-    }
-#define LOOPS(every) LOOP(every, write) LOOP(every, read)
-LOOPS(1)
-LOOPS(2)
-LOOPS(4)
-LOOPS(8)
-LOOPS(16)
 
 #define DIGEST 32
 
@@ -115,17 +106,38 @@ static size_t entries_of(const uint8_t *at, const uint8_t *end, struct entry *en
 }
 
 // Keeps no entry: each is written over the one before it.
-size_t c_lists_read(const uint8_t *src, size_t len, uint8_t *dst, size_t room) {
+static size_t read_list(const uint8_t *src, size_t len) {
     struct entry entry;
-    (void)dst, (void)room;
     return entries_of(src, src + len, &entry, 0);
 }
 
 // Keeps all entries, in memory that it asks for once: no line is shorter than its digits.
-size_t c_lists_keep(const uint8_t *src, size_t len, uint8_t *dst, size_t room) {
+static size_t keep_list(const uint8_t *src, size_t len) {
     struct entry *entries = malloc(len / (2 * DIGEST) * sizeof *entries);
-    (void)dst, (void)room;
     size_t lines = entries ? entries_of(src, src + len, entries, 1) : 0;
     free(entries);
     return lines;
 }
+
+#ifdef SHARED_LIBRARY
+#include <dlfcn.h>
+#include <faster_hex.h>
+
+static __typeof__(faster_hex_check) *check;
+static __typeof__(faster_hex_encode) *encode;
+static __typeof__(faster_hex_decode) *decode;
+
+// They are looked up, since bench is linked with an archive of the same names too.
+static __attribute__((constructor)) void load(void) {
+    void *library = dlopen(SHARED_LIBRARY, RTLD_NOW);
+    check = library ? dlsym(library, "faster_hex_check") : NULL;
+    encode = library ? dlsym(library, "faster_hex_encode") : NULL;
+    decode = library ? dlsym(library, "faster_hex_decode") : NULL;
+    if (!check || !encode || !decode) {
+        fprintf(stderr, "%s\n", dlerror());
+        exit(2);
+    }
+}
+#endif
+
+#include "c_calls.h"
