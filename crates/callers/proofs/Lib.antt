@@ -1,4 +1,1 @@
-mod DumpLemmas
-mod FrontLemmas
-mod PartsLemmas
-mod UpdateLemmas
+mod SinkLemmas

@@ -1,9 +1,3 @@
-pub mod Records
+pub mod Chunks
 pub mod DigestLists
-pub mod Dump
-pub mod Updates
-pub mod Judged
-pub mod Lines
-pub mod Parts
-pub mod Received
-pub mod Fields
+pub mod Records

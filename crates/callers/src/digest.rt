@@ -1,16 +1,20 @@
 //! A digest as a type of its own, with one spelling, proved.
 
-ghost use Rattle.std.specs.Prelude.{◌≡◌, MatchOption, MatchResult, Some, IfOk, IsSome, string_bytes};
+ghost use Rattle.std.specs.Prelude.{◌≡◌, MatchResult, Ok, Some, IfOk, length};
+ghost use Rattle.std.specs.Cmp.Lexicographic.{slice_cmp};
+ghost use Rattle.std.specs.Ordering.{nat_cmp};
 ghost use Rattle.hex_core.specs.declared.digit.CheckCase.TheVariants as policy;
 ghost use Rattle.hex_core.specs.Refusal.{array_refusal};
 ghost use Rattle.hex_core.specs.Text.{Spells, lowercase, text};
+ghost use Rattle.callers.specs.declared.digest.Digest.{Digest};
 
-use faster_hex::{CheckCase, Error, Hex, hex_decode_array_with_case};
+use faster_hex::{CheckCase, Error, Hex, hex_decode_array_with_case, hex_encode_into};
 use hex_core::laws::{
-    a_slice_holds_bytes, a_source_is_accepted_where_its_list_has_room, a_text_spells_one_list,
-    decoding_inverts_encoding, encoding_inverts_strict_decoding,
+    a_new_front_is_the_front, a_slice_holds_bytes, a_source_is_accepted_where_its_list_has_room,
+    a_text_is_ascii_and_twice_as_long, a_text_spells_one_list, decoding_inverts_encoding,
+    encoding_inverts_strict_decoding, texts_compare_as_their_lists,
 };
-use std::alloc::{AllocError, Allocator};
+use std::cmp::Ordering;
 use std::fmt;
 
 /// A digest of 32 bytes, which is written as 64 lowercase digits and in no other way.
@@ -29,20 +33,62 @@ pub struct Digest {
 }
 
 impl Digest {
-    /// Returns the digest that a text spells.
+    /// Returns the digest that a text spells, whose own text it is.
     ///
     /// # Errors
     ///
     /// In this order: [`Error::OddLength`] for an odd number of bytes, [`Error::LengthMismatch`] for
     /// another even number than 64, and [`Error::InvalidChar`] for the first byte that is no
     /// lowercase digit.
-    pub fn parse(text: &[u8]) -> Result<Digest, Error>
-        ensures { MatchResult result
-            (λ digest. Spells policy.Lower text.now digest.bytes)
-            (λ e. array_refusal policy.Lower text.now 32 ≡ Some e) }
+    pub fn parse(digits: &[u8]) -> Result<Digest, Error>
+        ensures answer { MatchResult result
+            (λ digest. Spells policy.Lower digits.now digest.bytes)
+            (λ e. array_refusal policy.Lower digits.now 32 ≡ Some e) }
+        ensures canonical { IfOk result (λ digest. text lowercase digest.bytes ≡ digits.now) }
+        ensures only { (digest : Digest) → Spells policy.Lower digits.now digest.bytes
+            → length digest.bytes ≡ 32 → result ≡ Ok digest }
     {
-        let bytes = hex_decode_array_with_case(text, CheckCase::Lower)?;
+        a_source_is_accepted_where_its_list_has_room();
+        a_text_spells_one_list();
+        encoding_inverts_strict_decoding();
+        let bytes = hex_decode_array_with_case(digits, CheckCase::Lower)?;
         Ok(Digest { bytes })
+    }
+
+    /// Writes the digest's 64 digits over a line, which [`Digest::parse`] reads as the digest.
+    ///
+    /// ```rust
+    /// let mut line = [0; 64];
+    /// Digest { bytes: [0xab; 32] }.write(&mut line);
+    /// assert!(rt; Digest::parse(&line).is_ok_and(|digest| digest.bytes == [0xab; 32]));
+    /// ```
+    pub fn write(&self, line: &mut [u8; 64])
+        ensures written { line.new ≡ text lowercase self.now.bytes }
+        ensures spelled { Spells policy.Lower line.new self.now.bytes }
+    {
+        a_slice_holds_bytes(&self.bytes);
+        a_new_front_is_the_front();
+        a_text_is_ascii_and_twice_as_long();
+        decoding_inverts_encoding();
+        hex_encode_into(&self.bytes, line, false).unwrap();
+    }
+
+    /// Compares two digests as their texts compare, without writing these: a table may keep bytes
+    /// and a file digits, in one order.
+    ///
+    /// ```rust
+    /// use std::cmp::Ordering;
+    ///
+    /// let [low, high] = [[9; 32], [10; 32]].map(|bytes| Digest { bytes });
+    /// assert_eq!(rt; low.cmp_text(&high), Ordering::Less);
+    /// ```
+    pub fn cmp_text(&self, other: &Digest) -> Ordering
+        ensures { result ≡ slice_cmp nat_cmp (text lowercase self.now.bytes) (text lowercase other.now.bytes) }
+    {
+        a_slice_holds_bytes(&self.bytes);
+        a_slice_holds_bytes(&other.bytes);
+        texts_compare_as_their_lists();
+        self.bytes.cmp(&other.bytes)
     }
 }
 
@@ -52,30 +98,4 @@ impl fmt::Display for Digest {
     fn fmt<W: fmt::Write>(&self, f: &mut fmt::Formatter<W>) -> fmt::Result {
         Hex::new(&self.bytes).fmt(f)
     }
-}
-
-/// Prints a digest and parses what was printed, which is never refused.
-pub fn parsed_again<A: Allocator>(alloc: A, digest: &Digest) -> Result<Digest, AllocError>
-    ensures { IfOk result (λ same. same ≡ digest.now) }
-{
-    a_slice_holds_bytes(&digest.bytes);
-    decoding_inverts_encoding();
-    a_text_spells_one_list();
-    a_source_is_accepted_where_its_list_has_room();
-    let printed = digest.to_string(alloc)?;
-    Ok(Digest::parse(printed.as_bytes()).unwrap())
-}
-
-/// Parses a text and prints the digest, where there is one: the same text.
-pub fn printed_again<A: Allocator>(alloc: A, text: &[u8]) -> Result<Option<String<A>>, AllocError>
-    ensures { IfOk result (λ answer. MatchOption answer
-        (IsSome (array_refusal policy.Lower text.now 32))
-        (λ printed. string_bytes printed ≡ text.now)) }
-{
-    encoding_inverts_strict_decoding();
-    let Ok(digest) = Digest::parse(text) else {
-        return Ok(None);
-    };
-    let again = digest.to_string(alloc)?;
-    Ok(Some(again))
 }

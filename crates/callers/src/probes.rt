@@ -1,35 +1,27 @@
-//! A counted source of a caller's own, and the search through it, each proved.
+//! A counted source of a caller's own, and searches, each proved.
 
 ghost use Rattle.std.specs.Prelude.{◌≡◌, ◌++◌};
 ghost use Rattle.hex_core.specs.Search.{first_invalid, steps};
 
-use faster_hex::{CheckCase, Probe, hex_check_with_case, locate};
-use hex_core::laws::the_first_invalid_byte_is_the_first;
+use faster_hex::{Backend, CheckCase, Probe, hex_check_with_case, locate};
+use hex_core::laws::{
+    the_first_invalid_byte_is_the_first, the_first_invalid_byte_of_a_joined_source,
+};
 
-// How many bytes the widest test takes, as `locate` wants it.
-const BLOCK: usize = 64;
-
-// Two parts that are read as one source, as a ring buffer holds its bytes.
+// A sector of a disk, which counts how often it is read.
 #[derive(Drop)]
-struct TwoParts<'a> {
-    front: &'a [u8],
-    back: &'a [u8],
+struct Sector {
+    bytes: [u8; 512],
     case: CheckCase,
     looks: usize,
     tests: usize,
 }
 
-impl<'a> Probe for TwoParts<'a> {
-    ghost state = { λ p. record {
-      source = p.front.now ++ p.back.now;
-      policy = p.case;
-      block = 64;
-      looks = p.looks;
-      tests = p.tests;
-    } };
+impl Probe for Sector {
+    ghost state = { λ p. record { source = p.bytes; policy = p.case; block = 64; looks = p.looks; tests = p.tests } };
 
     fn len(&self) -> usize {
-        self.front.len() + self.back.len()
+        self.bytes.len()
     }
 
     fn case(&self) -> CheckCase {
@@ -37,7 +29,7 @@ impl<'a> Probe for TwoParts<'a> {
     }
 
     fn block(&self) -> usize {
-        BLOCK
+        64
     }
 
     fn looks(&self) -> usize {
@@ -50,20 +42,13 @@ impl<'a> Probe for TwoParts<'a> {
 
     fn look(&mut self, i: usize) -> u8 {
         self.looks += 1;
-        match self.front.get(i) {
-            Some(byte) => *byte,
-            None => self.back[i - self.front.len()],
-        }
+        self.bytes[i]
     }
 
     fn test(&mut self, start: usize, width: usize) -> bool {
         the_first_invalid_byte_is_the_first();
         self.tests += 1;
-        let end = start + width;
-        let seam = self.front.len();
-        let front = &self.front[start.min(seam)..end.min(seam)];
-        let back = &self.back[start.saturating_sub(seam)..end.saturating_sub(seam)];
-        hex_check_with_case(front, self.case) && hex_check_with_case(back, self.case)
+        hex_check_with_case(&self.bytes[start..start + width], self.case)
     }
 }
 
@@ -78,30 +63,47 @@ pub struct Found {
     pub looks: usize,
 }
 
-/// Finds the first byte without a value in two parts that are read as one source, and counts the
-/// steps that it takes.
+/// Finds the first byte without a value in a sector, and counts the steps that it takes.
 ///
 /// ```rust
-/// let found = find_in_two_parts(b"00f", b"f0g", CheckCase::None);
-/// assert_eq!(rt; found.place, Some(5));
-/// assert_eq!(rt; (found.tests, found.looks), (0, 6));
+/// let mut bytes = [b'0'; 512];
+/// bytes[66] = b'g';
+/// let found = find_in_sector(bytes, CheckCase::None);
+/// assert_eq!(rt; found.place, Some(66));
+/// assert_eq!(rt; (found.tests, found.looks), (2, 3));
 /// ```
-pub fn find_in_two_parts(front: &[u8], back: &[u8], case: CheckCase) -> Found
-    ensures place { result.place ≡ first_invalid case (front.now ++ back.now) }
-    ensures tests { result.tests ≡ (steps case (front.now ++ back.now)).tests }
-    ensures looks { result.looks ≡ (steps case (front.now ++ back.now)).looks }
+pub fn find_in_sector(bytes: [u8; 512], case: CheckCase) -> Found
+    ensures place { result.place ≡ first_invalid case bytes }
+    ensures tests { result.tests ≡ (steps case bytes).tests }
+    ensures looks { result.looks ≡ (steps case bytes).looks }
 {
-    let mut parts = TwoParts {
-        front,
-        back,
+    let mut sector = Sector {
+        bytes,
         case,
         looks: 0,
         tests: 0,
     };
-    let place = locate(&mut parts);
+    let place = locate(&mut sector);
     Found {
         place,
-        tests: parts.tests(),
-        looks: parts.looks(),
+        tests: sector.tests(),
+        looks: sector.looks(),
+    }
+}
+
+/// The place of the first byte without a value in two parts that are read as one source, as a ring
+/// buffer holds its bytes.
+///
+/// ```rust
+/// assert_eq!(rt; find_in_two_parts(b"00f", b"f0g", CheckCase::None), Some(5));
+/// ```
+pub fn find_in_two_parts(front: &[u8], back: &[u8], case: CheckCase) -> Option<usize>
+    ensures { result ≡ first_invalid case (front.now ++ back.now) }
+{
+    the_first_invalid_byte_of_a_joined_source();
+    let plain = Backend::plain();
+    match plain.first_invalid(front, case) {
+        Some(place) => Some(place),
+        None => Some(front.len() + plain.first_invalid(back, case)?),
     }
 }

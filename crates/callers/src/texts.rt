@@ -1,13 +1,17 @@
 //! Callers that keep digits as text, each proved.
 
 ghost use Rattle.std.specs.Prelude.{◌≡◌, ◌+◌, ◌*◌, ◌≤◌, ◌++◌, MatchResult, length, string_bytes, string_len, string_capacity};
+ghost use Rattle.std.specs.Str.{str_to_ascii_lowercase};
+ghost use Rattle.hex_core.specs.declared.digit.CheckCase.TheVariants as policy;
+ghost use Rattle.hex_core.specs.Refusal.{OwnedFailure};
 ghost use Rattle.hex_core.specs.Text.{lowercase, text};
 
-use faster_hex::{hex_append_into, hex_encode};
+use faster_hex::{Error, hex_append_into, hex_decode_vec, hex_encode, hex_string};
 use hex_core::laws::{
-    a_text_is_ascii_and_twice_as_long, the_text_of_a_joined_list_is_the_texts_joined,
+    a_text_is_ascii_and_twice_as_long, either_case_is_the_lowercased_source,
+    the_text_of_a_joined_list_is_the_texts_joined,
 };
-use std::alloc::{AllocError, Allocator};
+use std::alloc::{AllocError, Allocator, Global};
 use std::str;
 
 /// Appends the digits of two parts to a text that has room for both, which can't fail: they are
@@ -43,4 +47,19 @@ pub fn append_identifier<A: Allocator>(
     let mut buffer = [0; 32];
     let digits = hex_encode(id, &mut buffer).unwrap();
     line.push_str(str::from_utf8(digits).unwrap())
+}
+
+/// Digits of either case as a new text in lowercase, by way of their bytes.
+///
+/// ```rust
+/// assert_eq!(rt; lowercased(rt.alloc(), b"00aBcD")?.as_str(), "00abcd");
+/// ```
+pub fn lowercased(alloc: Global, digits: &[u8]) -> Result<String, Error>
+    ensures { MatchResult result
+        (λ text. string_bytes text ≡ str_to_ascii_lowercase digits.now)
+        (λ e. OwnedFailure policy.None digits.now e) }
+{
+    either_case_is_the_lowercased_source();
+    let bytes = hex_decode_vec(alloc, digits)?;
+    hex_string(alloc, &bytes)
 }

@@ -1,0 +1,18 @@
+-- What is written as a list is read as its entry.
+use Rattle.std.proofs.Common.{rules, ◌≡◌, ◌∷◌, [], length, refl, subst}
+use Rattle.hex_core.specs.Text.{lowercase}
+use Rattle.hex_format.specs.Lists.{list_of}
+use Rattle.hex_format.specs.Sink.{Takes}
+use Rattle.hex_format.specs.Sinks.{slice_state}
+use Rattle.callers.specs.DigestLists.{entry_of}
+use Rattle.callers.proofs.SinkLemmas.{taken-over}
+use Rattle.callers.proofs.digest_lists.write_checksum.Goals as goal
+
+pub returns : goal.returns
+returns c =
+    let e = entry_of c.args.digest.now c.args.name in
+    let size : length e.digest ≡ 32 = search rules in
+    let read = (c.reading_inverts_writing.ensures 32 lowercase (e ∷ []) ((size, c.a_slice_holds_bytes.ensures), tt) c.in_ok-write_to.ensures.0).0 in
+    let takes = subst (λ start. Takes start (slice_state c.write_to.new.sink) (list_of lowercase (e ∷ []))) c.new-sink.ensures c.in_ok-write_to.ensures.1 in
+    let front = taken-over (record { ref_ptr = c.args.buffer.ref_ptr; ghost_name = _; now = c.args.buffer.now }) c.write_to.new.sink (list_of lowercase (e ∷ [])) takes in
+    (list_of lowercase (e ∷ []), refl, read, search rules, search (rules, front, takes.2.1))

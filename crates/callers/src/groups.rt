@@ -1,0 +1,142 @@
+//! Callers that read and write digits in groups, each proved.
+
+ghost use Rattle.std.specs.Prelude.{◌≡◌, ◌↔◌, ◌<◌, ◌-◌, ◌%◌, ◌^◌, ◌++◌, ◌∷◌, [], ℕ, List, Some, IsTrue, length};
+ghost use Rattle.hex_core.specs.declared.digit.CheckCase.TheVariants as policy;
+ghost use Rattle.hex_core.specs.Calls.{Fills};
+ghost use Rattle.hex_core.specs.Refusal.{room_refusal};
+ghost use Rattle.hex_core.specs.Text.{lowercase};
+ghost use Rattle.hex_codec.specs.Grouped.{grouped, piece_len, separator};
+ghost use Rattle.hex_codec.specs.GroupedText.{GroupSpells, group_refusal, grouped_len};
+ghost use Rattle.hex_format.specs.Sink.{Puts};
+
+use faster_hex::format::put_all;
+use faster_hex::grouped::{GroupFault, read_into, write_into};
+use faster_hex::{CheckCase, Error, Group, Hex, HexFlags, Sink, WriteFault};
+use hex_codec::laws::{
+    a_grouped_text_is_digits_and_separators, a_grouped_text_is_read_where_it_spells_a_list,
+    grouping_inverts_strict_reading, reading_inverts_grouping,
+    whole_pieces_are_joined_by_the_separator,
+};
+use hex_core::laws::{a_new_front_is_the_front, a_slice_holds_bytes};
+use hex_format::laws::{a_bare_text_is_its_digits, puts_in_a_row_are_one};
+
+/// A hardware address of six bytes in groups, as `00:00:5E:00:53:AF` is one in groups of one byte:
+/// the six bytes that the text spells, where it spells six.
+///
+/// ```rust
+/// let address = read_address(b"00:00:5E:00:53:AF", Group::new(1, b':').unwrap());
+/// assert_eq!(rt; address, Some([0, 0, 0x5e, 0, 0x53, 0xaf]));
+/// ```
+pub fn read_address(text: &[u8], group: Group) -> Option<[u8; 6]>
+    ensures { (bytes : List ℕ) → ((result ≡ Some bytes)
+        ↔ (GroupSpells policy.None group text.now bytes × (length bytes ≡ 6))) }
+{
+    a_grouped_text_is_read_where_it_spells_a_list();
+    a_new_front_is_the_front();
+    let mut address = [0; 6];
+    match read_into(text, &mut address, group, CheckCase::None) {
+        Ok(6) => Some(address),
+        _ => None,
+    }
+}
+
+/// How long the text of such an address is.
+///
+/// ```rust
+/// assert_eq!(rt; address_len(Group::new(2, b'.').unwrap()), 14);
+/// ```
+pub fn address_len(group: Group) -> usize
+    ensures { (address : List ℕ) → length address ≡ 6 → length (grouped group lowercase address) ≡ result }
+{
+    a_grouped_text_is_digits_and_separators();
+    11 + 6_usize.div_ceil(group.every())
+}
+
+/// Writes such an address into the front of a line, and returns how long its text is, which
+/// [`read_address`] reads as the same.
+///
+/// # Errors
+///
+/// [`Error::OutputTooSmall`] where it does not fit, and nothing is written.
+///
+/// ```rust
+/// let mut line = [b' '; 16];
+/// let group = Group::new(2, b'.').unwrap();
+/// assert_eq!(rt; write_address(&[0, 0, 0x5e, 0, 0x53, 0xaf], group, &mut line)?, 14);
+/// assert_eq!(rt; &line, b"0000.5e00.53af  ");
+/// ```
+pub fn write_address(address: &[u8; 6], group: Group, line: &mut [u8]) -> Result<usize, Error>
+    ensures { Fills (room_refusal (grouped_len (piece_len group) 6) (length line.old))
+        (λ text. (text ≡ grouped group lowercase address.now) × GroupSpells policy.None group text address.now)
+        line.old line.new result }
+{
+    a_slice_holds_bytes(address);
+    reading_inverts_grouping();
+    write_into(address, line, group, false)
+}
+
+/// Reads a line in the one spelling that is written for its bytes, in lowercase, into the front of a
+/// buffer, and returns their number.
+///
+/// ```rust
+/// let mut buffer = [0; 4];
+/// let group = Group::new(1, b'-').unwrap();
+/// assert_eq!(rt; read_canonical(b"0a-0b", group, &mut buffer), Ok(2));
+/// assert!(rt; read_canonical(b"0A-0B", group, &mut buffer).is_err());
+/// ```
+pub fn read_canonical(line: &[u8], group: Group, buffer: &mut [u8]) -> Result<usize, GroupFault>
+    ensures { Fills (group_refusal policy.Lower group line.now (length buffer.old))
+        (λ bytes. grouped group lowercase bytes ≡ line.now) buffer.old buffer.new result }
+{
+    grouping_inverts_strict_reading();
+    read_into(line, buffer, group, CheckCase::Lower)
+}
+
+/// Writes the grouped text of two parts, of which the first is whole pieces, into any sink.
+pub fn write_two_parts<S: Sink>(
+    front: &[u8],
+    back: &[u8],
+    group: Group,
+    sink: &mut S,
+) -> Result<(), WriteFault>
+    requires counts { (S.state sink.old).failures < 2 ^ 64 - 1 }
+    requires whole { length front.now % piece_len group ≡ 0 }
+    requires both { (0 < length front.now) × (0 < length back.now) }
+    ensures { Puts (S.state sink.old) (S.state sink.new) result (grouped group lowercase (front.now ++ back.now)) }
+{
+    puts_in_a_row_are_one();
+    whole_pieces_are_joined_by_the_separator();
+    put_first_part(front, group, sink)?;
+    put_grouped(back, group, sink)
+}
+
+/// Whether a put into a sink has failed so far.
+pub fn has_failed<S: Sink>(sink: &S) -> bool
+    ensures { IsTrue result ↔ (0 < (S.state sink.now).failures) }
+{
+    sink.failures() > 0
+}
+
+// Puts the grouped text of a part, and the separator behind it.
+fn put_first_part<S: Sink>(part: &[u8], group: Group, sink: &mut S) -> Result<(), WriteFault>
+    requires { (S.state sink.old).failures < 2 ^ 64 - 1 }
+    ensures { Puts (S.state sink.old) (S.state sink.new) result
+        (grouped group lowercase part.now ++ (separator group ∷ [])) }
+{
+    puts_in_a_row_are_one();
+    put_grouped(part, group, sink)?;
+    put_all(sink, &[group.sep()])
+}
+
+// Puts the grouped text of some bytes.
+fn put_grouped<S: Sink>(bytes: &[u8], group: Group, sink: &mut S) -> Result<(), WriteFault>
+    requires { (S.state sink.old).failures < 2 ^ 64 - 1 }
+    ensures { Puts (S.state sink.old) (S.state sink.new) result (grouped group lowercase bytes.now) }
+{
+    a_bare_text_is_its_digits();
+    let flags = HexFlags {
+        group: Some(group),
+        ..HexFlags::default()
+    };
+    Hex::new(bytes).write_to(sink, &flags)
+}
