@@ -2,8 +2,9 @@
 use Rattle.std.proofs.Common.{◌≡◌, ℕ, zero, suc, ◌+◌, ◌*◌, ◌/◌, ◌%◌, ◌<◌, Bool, true, false, ◌||◌, cond, T, eqb, eqb-true, leb, ltb, List, [], ◌∷◌, ◌++◌, map, length, get_or, bit_and, refl, ap, sym, ◌∙◌, subst, Fits, w8, arith}
 use Rattle.std.proofs.lemmas.Bool.{agree_below, agree_below_at}
 use Rattle.std.proofs.lemmas.List.{ext_get_or, get_or-map, get_or_append_left, length-map}
-use Rattle.std.proofs.lemmas.Simd.{SwzOk, SwzOk-from_Each1, get_or-swz_l, length-swz_l, swz_l}
-use lib.Lanes.{Each1, pick_l}
+use Rattle.std.specs.List.{range_with_len}
+use Rattle.std.proofs.lemmas.Simd.{SwzOk, SwzOk-from_Each1, get_or-swz_l, length-swz_l, pick_l_left, pick_l_whole, swz_l}
+use lib.Lanes.{Each1, all_below, pick_l}
 use mir.Val.{zeroes}
 use Rattle.hex_core.specs.Lookup.{entry}
 use Rattle.hex_core.proofs.ByteLemmas.{always}
@@ -61,3 +62,7 @@ repeats entries ks n long many all i h =
 pub look_up_repeated : (b n : ℕ) (row ks v js : List ℕ) → (length v ≡ n) × Each1 (Fits w8) v → js ≡ map slot v → n ≡ b * 16 → length row ≡ 16 → length ks ≡ n
     → agree_below (λ i. eqb (get_or ks i 0) (i % 16)) always n ≡ true → swz_l w8 16 (pick_l 0 (row ++ row) ks) 0 js ≡ map (entry row) v
 look_up_repeated b n row ks v js f is e long many all = look_up_is b n row (pick_l 0 (row ++ row) ks) v js f is e (repeats row ks n long many all)
+
+-- fewer lanes that fill a vector, of which the front is kept
+pub look_up_front : (n : ℕ) (row v : List ℕ) → length v ≡ n → all_below n (range_with_len 0 n) ≡ true → map (entry row) (pick_l 0 (v ++ v) (range_with_len 0 n)) ≡ map (entry row) v
+look_up_front n row v long inside = ap (map (entry row)) (pick_l_left 0 v v n (range_with_len 0 n) long (subst T (sym inside) tt) ∙ pick_l_whole 0 v n long)

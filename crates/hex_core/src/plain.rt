@@ -1,6 +1,6 @@
 //! The plan of the calls without a plan: blocks in registers where a source is short, and blocks of 64
 //! digits above. Which blocks serve which length follows from times over all lengths; bench/README.md
-//! says what each choice is worth.
+//! says what each choice is worth. No table is indexed by a byte of the source, which may be secret.
 
 ghost use Rattle.std.specs.Prelude.{◌≡◌, ◌↔◌, ◌*◌, ◌<◌, ◌≤◌, IsTrue, None, length};
 ghost use Rattle.hex_core.specs.Calls.{DecodesWhole};
@@ -12,7 +12,6 @@ use crate::blocks::decode::{decode_four, decode_long, decode_one, decode_three, 
 use crate::blocks::encode::{encode_one, encode_two};
 use crate::digit::CheckCase;
 use crate::kernel::{encode_apart, encode_blocks};
-use crate::scalar::{check_by_table, encode_by_table};
 
 /// Returns whether every byte of `src` has a value under `case`.
 #[inline(always)]
@@ -37,7 +36,9 @@ fn check_short(src: &[u8], case: CheckCase) -> bool
     match src.len() {
         8..16 => check_two::<8>(src, case),
         4..8 => check_two::<4>(src, case),
-        _ => check_by_table(src, case),
+        2..4 => check_two::<2>(src, case),
+        1 => check_two::<1>(src, case),
+        _ => true,
     }
 }
 
@@ -114,12 +115,27 @@ pub fn encode_by_length(src: &[u8], dst: &mut [u8], upper: bool)
     ensures { dst.new ≡ text upper src.now }
 {
     match src.len() {
-        0..8 => encode_by_table(src, dst, upper),
+        0..8 => encode_short(src, dst, upper),
         8..=16 => encode_two::<8, 16>(src, dst, upper),
         32 => encode_one::<32, 64>(src, dst, upper),
         17..=31 => encode_two::<16, 32>(src, dst, upper),
         33..=64 => encode_two::<32, 64>(src, dst, upper),
         65..=512 => encode_blocks::<32, 64>(src, dst, upper),
         _ => encode_apart::<32, 64>(src, dst, upper),
+    }
+}
+
+// The same of fewer than 8 bytes.
+#[inline(always)]
+fn encode_short(src: &[u8], dst: &mut [u8], upper: bool)
+    requires twice { length dst.old ≡ 2 * length src.now }
+    requires few { length src.now < 8 }
+    ensures { dst.new ≡ text upper src.now }
+{
+    match src.len() {
+        4..8 => encode_two::<4, 8>(src, dst, upper),
+        2..4 => encode_two::<2, 4>(src, dst, upper),
+        1 => encode_one::<1, 2>(src, dst, upper),
+        _ => (),
     }
 }

@@ -259,6 +259,33 @@ pub trait Interleave<const N: usize, const TWICE: usize> {
         ensures { result ≡ interleaved first.entry second.entry };
 }
 
+impl Interleave<1, 2> for Lanes {
+    #[inline(always)]
+    fn interleave(first: u8x1, second: u8x1) -> u8x2
+        ensures { result ≡ interleaved first second }
+    {
+        first.shuffle(second, [0, 1])
+    }
+}
+
+impl Interleave<2, 4> for Lanes {
+    #[inline(always)]
+    fn interleave(first: u8x2, second: u8x2) -> u8x4
+        ensures { result ≡ interleaved first second }
+    {
+        first.shuffle(second, [0, 2, 1, 3])
+    }
+}
+
+impl Interleave<4, 8> for Lanes {
+    #[inline(always)]
+    fn interleave(first: u8x4, second: u8x4) -> u8x8
+        ensures { result ≡ interleaved first second }
+    {
+        first.shuffle(second, [0, 4, 1, 5, 2, 6, 3, 7])
+    }
+}
+
 impl Interleave<8, 16> for Lanes {
     #[inline(always)]
     fn interleave(first: u8x8, second: u8x8) -> u8x16
@@ -302,10 +329,40 @@ impl Interleave<32, 64> for Lanes {
     }
 }
 
-/// Each lane is looked up in a row of sixteen.
+/// Each lane is looked up in a row of sixteen. Fewer lanes than a row has fill a vector of sixteen.
 pub trait LookUp<const N: usize> {
     fn look_up(row: u8x16, at: Simd<u8, N>) -> Simd<u8, N>
         ensures { result ≡ map (entry row) at.entry };
+}
+
+impl LookUp<2> for Lanes {
+    #[inline(always)]
+    fn look_up(row: u8x16, at: u8x2) -> u8x2
+        ensures { result ≡ map (entry row) at }
+    {
+        let over = at.swizzle([0, 1, 0, 1, 0, 1, 0, 1, 0, 1, 0, 1, 0, 1, 0, 1]);
+        Lanes::look_up(row, over).extract::<0, 2>()
+    }
+}
+
+impl LookUp<4> for Lanes {
+    #[inline(always)]
+    fn look_up(row: u8x16, at: u8x4) -> u8x4
+        ensures { result ≡ map (entry row) at }
+    {
+        let over = at.swizzle([0, 1, 2, 3, 0, 1, 2, 3, 0, 1, 2, 3, 0, 1, 2, 3]);
+        Lanes::look_up(row, over).extract::<0, 4>()
+    }
+}
+
+impl LookUp<8> for Lanes {
+    #[inline(always)]
+    fn look_up(row: u8x16, at: u8x8) -> u8x8
+        ensures { result ≡ map (entry row) at }
+    {
+        let over = at.swizzle([0, 1, 2, 3, 4, 5, 6, 7, 0, 1, 2, 3, 4, 5, 6, 7]);
+        Lanes::look_up(row, over).extract::<0, 8>()
+    }
 }
 
 impl LookUp<16> for Lanes {
