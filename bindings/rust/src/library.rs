@@ -48,8 +48,8 @@ fn result_of(answer: Answer) -> Result<usize, Error> {
     }
 }
 
-/// Its statuses of a policy and of groups come from no call here. Not inlined, so that a call that is
-/// answered passes one test.
+/// The error of a refusal. The calls here get no status about policies or groups. Apart and cold, so that a
+/// call that succeeds passes one test.
 #[cold]
 fn error_of(answer: Answer) -> Error {
     match answer.status {
