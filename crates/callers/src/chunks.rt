@@ -20,7 +20,8 @@ use std::io::Read;
 ///
 /// ```rust
 /// let (mut front, mut back) = ([0xa5; 2], [0xa5; 3]);
-/// assert_eq!(rt; decode_parts(b"00a", b"BcD", &mut front, &mut back)?, (1, 2));
+/// let counts = decode_parts(b"00a", b"BcD", &mut front, &mut back)?;
+/// assert_eq!(rt; counts, (1, 2));
 /// assert_eq!(rt; (front, back), ([0, 0xa5], [0xab, 0xcd, 0xa5]));
 /// ```
 pub fn decode_parts(
@@ -49,6 +50,8 @@ pub fn decode_parts(
 /// pairs of all its digits spell.
 ///
 /// ```rust
+/// use faster_hex::stream::Decoder;
+///
 /// let mut decoder = Decoder::new(CheckCase::None);
 /// decoder.feed(b"6", &mut [])?;
 /// let mut buffer = [b'.'; 4];

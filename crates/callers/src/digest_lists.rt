@@ -60,7 +60,7 @@ pub fn write_checksum(
 /// let digest = "2cf24dba5fb0a30e26e83b2ac5b9e29e1b161e5c1fa7425e73043362938b9824";
 /// let file = format!(in rt.alloc(); "{digest}  a.txt\n")?;
 /// let read = read_checksum(rt.alloc(), file.as_bytes())?.ok_or("no digest")?;
-/// assert_eq!(rt; read.bytes[..2], [0x2c, 0xf2]);
+/// assert_eq!(rt; read.bytes[0], 0x2c);
 /// ```
 pub fn read_checksum(alloc: Global, file: &[u8]) -> Result<Option<Digest>, ListFault>
     ensures { ReadsChecksum file.now result }

@@ -62,7 +62,8 @@ pub fn address_len(group: Group) -> usize
 /// ```rust
 /// let mut line = [b' '; 16];
 /// let group = Group::new(2, b'.').unwrap();
-/// assert_eq!(rt; write_address(&[0, 0, 0x5e, 0, 0x53, 0xaf], group, &mut line)?, 14);
+/// let count = write_address(&[0, 0, 0x5e, 0, 0x53, 0xaf], group, &mut line)?;
+/// assert_eq!(rt; count, 14);
 /// assert_eq!(rt; &line, b"0000.5e00.53af  ");
 /// ```
 pub fn write_address(address: &[u8; 6], group: Group, line: &mut [u8]) -> Result<usize, Error>

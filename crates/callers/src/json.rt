@@ -51,7 +51,8 @@ pub fn record_id(fields: &Value) -> Result<Option<[u8; 4]>, AdapterError>
 /// ```rust
 /// let id = write_id(rt.alloc(), &[0xab, 1, 0, 0xff])?;
 /// let record = serde_json::json!(in rt.alloc(); {"id": id})?;
-/// assert_eq!(rt; record.to_string(rt.alloc())?.as_str(), r#"{"id":"0xab0100ff"}"#);
+/// let text = record.to_string(rt.alloc())?;
+/// assert_eq!(rt; text.as_str(), r#"{"id":"0xab0100ff"}"#);
 /// ```
 pub fn write_id(alloc: Global, id: &[u8; 4]) -> Result<Value, AdapterError>
     ensures { MatchResult result
