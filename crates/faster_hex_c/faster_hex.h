@@ -1,25 +1,25 @@
-/* Bytes to hex digits and back. Link libfaster_hex.so, or libfaster_hex.a, which `make install` puts
- * beside this header: cc prog.c $(pkg-config --cflags --libs faster_hex)
+/* Converts bytes to hex digits and back. Link libfaster_hex.so or libfaster_hex.a, which `make install`
+ * puts beside this header: cc prog.c $(pkg-config --cflags --libs faster_hex)
  *
- * The library for x86-64 runs on every such processor, and takes wider instructions where it has them.
+ * The library for x86-64 runs on every x86-64 processor, and uses AVX2 or SSE4.2 if there is one.
  *
- * Of every call, where it does not say otherwise:
+ * For every call, unless it says otherwise:
  *
- * - A source is `len` bytes at `src`, a destination `room` bytes at `dst`. A pointer may be NULL
- *   where its length is 0; nothing else outside of source and destination is read or written.
- * - Source and destination may touch, and may not overlap.
- * - Both may begin at any address: no alignment is asked for.
- * - Calls may run in many threads at once, over one source too, where no destination overlaps what
- *   another call reads or writes. No call keeps a pointer, takes memory or changes a state: one byte says
- *   what the processor has, written as the library is loaded.
- * - The library asks for no symbol but memcpy, memmove and memset, and may be part of a shared one.
- * - The answer says all that can go wrong. A call that refuses writes nothing. Any other writes to the
- *   front of the destination, and the bytes behind that stay as they were.
- * - The stack has to have room for the call.
+ * - The source is `len` bytes at `src`, the destination `room` bytes at `dst`. A pointer may be NULL if its
+ *   length is 0. Nothing else is read or written.
+ * - Source and destination may be adjacent, but not overlap. No alignment is required.
+ * - Calls may run in many threads at once, on the same source too, if no destination overlaps what another
+ *   call reads or writes. No call keeps a pointer, allocates memory or changes any state. One byte records
+ *   what the processor supports, and is written when the library is loaded.
+ * - The library needs no symbol but memcpy, memmove and memset, and may be linked into a shared library.
+ * - The answer reports every error that a call can detect. A call that refuses writes nothing. Any other
+ *   call writes to the front of the destination and leaves the rest unchanged.
+ * - Encoding, and decoding or checking valid digits, uses no address and no branch that depends on the bytes,
+ *   but in the grouped calls. `make check` tests this for the x86-64-v2 and x86-64-v3 code; it is not proved.
  *
- * What a call answers and writes is proved where `len` and `room` are below 2^63. That encoding answers
- * FASTER_HEX_OVERFLOW from there on, and that all calls stay inside source and destination, take no
- * memory, change no state and may run in threads, is shown by `make check`.
+ * What a call answers and writes is proved for `len` and `room` below 2^63. `make check` tests that encoding
+ * answers FASTER_HEX_OVERFLOW from there on, and that all calls stay inside source and destination, allocate
+ * nothing, change no state and may run in threads.
  */
 #ifndef FASTER_HEX_H
 #define FASTER_HEX_H
@@ -33,20 +33,19 @@
 #define FASTER_HEX_VERSION_PATCH 0
 #define FASTER_HEX_VERSION "1.0.0"
 
-/* A number as a size_t, by the cast that each language likes. */
+/* A number as a size_t, by the cast of each language. */
 #ifdef __cplusplus
 #define FASTER_HEX_SIZE(n) static_cast<size_t>(n)
 #else
 #define FASTER_HEX_SIZE(n) ((size_t)(n))
 #endif
 
-/* How many digits n bytes have, and how many bytes n digits spell. As constants they give the length
- * of an array. Twice a number above SIZE_MAX / 2 is too large for a size_t, and the macro wraps around:
- * for as many bytes faster_hex_encode answers FASTER_HEX_OVERFLOW. */
+/* The number of digits for n bytes, and of bytes for n digits. With constants they give the length of an
+ * array. Above SIZE_MAX / 2 the first one wraps around; faster_hex_encode answers FASTER_HEX_OVERFLOW. */
 #define FASTER_HEX_ENCODED_LEN(n) (FASTER_HEX_SIZE(2) * (n))
 #define FASTER_HEX_DECODED_LEN(n) (FASTER_HEX_SIZE(n) / 2)
 
-/* The same for groups of `every` bytes, which may not be 0. Each separator is one byte. */
+/* The length of n bytes as digits in groups of `every` bytes, which must not be 0. */
 #define FASTER_HEX_GROUPED_LEN(n, every) \
     (FASTER_HEX_ENCODED_LEN(n) + ((n) == 0 ? FASTER_HEX_SIZE(0) : (FASTER_HEX_SIZE(n) - 1) / (every)))
 
@@ -67,60 +66,52 @@ enum {
     FASTER_HEX_UPPERCASE = 2
 };
 
-/* A status: whether all was done, and else the first of these that is wrong, in the order in which
- * the call names them. */
+/* A status: done, or the first error in the order that the call lists. */
 enum {
-    FASTER_HEX_DONE = 0,             /* number: how many bytes were written */
-    FASTER_HEX_ODD_LENGTH = 1,       /* the last digit has no partner */
-    FASTER_HEX_OUTPUT_TOO_SMALL = 2, /* number: how much room it takes */
-    FASTER_HEX_INVALID_CHAR = 3,     /* number: the place of the first invalid byte, from 0 */
-    FASTER_HEX_OVERFLOW = 4,         /* the length of the text is no size_t */
-    FASTER_HEX_UNKNOWN_POLICY = 5,   /* the number names no policy */
-    FASTER_HEX_NOT_A_GROUP = 6,      /* a group of 0 bytes, or a separator that is no ASCII or a digit */
-    FASTER_HEX_BAD_LENGTH = 7        /* no number of bytes has a grouped text of this length */
+    FASTER_HEX_DONE = 0,             /* number: the bytes written */
+    FASTER_HEX_ODD_LENGTH = 1,       /* an odd number of digits */
+    FASTER_HEX_OUTPUT_TOO_SMALL = 2, /* number: the room required */
+    FASTER_HEX_INVALID_CHAR = 3,     /* number: the index of the first invalid byte */
+    FASTER_HEX_OVERFLOW = 4,         /* the length of the text exceeds size_t */
+    FASTER_HEX_UNKNOWN_POLICY = 5,   /* not a policy */
+    FASTER_HEX_NOT_A_GROUP = 6,      /* 0 bytes, or a separator that is a digit or not ASCII */
+    FASTER_HEX_BAD_LENGTH = 7        /* no grouped text has this length */
 };
 
 struct faster_hex_answer {
-    size_t number;  /* as the status says, and else 0 */
+    size_t number;  /* as the status says, otherwise 0 */
     uint8_t status;
-    uint8_t byte;   /* of FASTER_HEX_INVALID_CHAR that byte, and else 0 */
+    uint8_t byte;   /* for FASTER_HEX_INVALID_CHAR that byte, otherwise 0 */
 };
 
-/* Whether every byte is a digit of either case, whatever the length. NULL is no bytes; any alignment,
- * and any number of threads. */
+/* Whether all bytes are digits of either case; any length. */
 bool faster_hex_check(const void *src, size_t len);
 
-/* FASTER_HEX_UNKNOWN_POLICY, then FASTER_HEX_INVALID_CHAR where a byte is no digit by the policy, and
- * else FASTER_HEX_DONE with number 0. The length may be odd. NULL, alignment and threads as above. */
+/* Finds the first byte that is not a digit under the policy: FASTER_HEX_UNKNOWN_POLICY, then
+ * FASTER_HEX_INVALID_CHAR, otherwise FASTER_HEX_DONE with number 0; any length. */
 struct faster_hex_answer faster_hex_first_invalid(const void *src, size_t len, uint8_t policy);
 
-/* Writes 2 * len digits to the front of the destination: FASTER_HEX_OVERFLOW, then
- * FASTER_HEX_OUTPUT_TOO_SMALL. No zero byte is written behind them. Source and destination may not
- * overlap; either may be NULL where its length is 0; any alignment; threads over other destinations. */
+/* Writes 2 * len digits, without a terminating zero: FASTER_HEX_OVERFLOW, then FASTER_HEX_OUTPUT_TOO_SMALL. */
 struct faster_hex_answer faster_hex_encode(const void *src, size_t len,
                                            void *dst, size_t room, bool upper);
 
-/* Writes the len / 2 bytes that digits of either case spell to the front of the destination:
- * FASTER_HEX_ODD_LENGTH, then FASTER_HEX_OUTPUT_TOO_SMALL, then FASTER_HEX_INVALID_CHAR. Overlap,
- * NULL, alignment and threads as at faster_hex_encode. */
+/* Decodes digits of either case to len / 2 bytes: FASTER_HEX_ODD_LENGTH, then FASTER_HEX_OUTPUT_TOO_SMALL,
+ * then FASTER_HEX_INVALID_CHAR. */
 struct faster_hex_answer faster_hex_decode(const void *src, size_t len,
                                            void *dst, size_t room);
 
-/* The same by a policy: FASTER_HEX_UNKNOWN_POLICY before the others. Overlap, NULL, alignment and
- * threads as at faster_hex_encode. */
+/* The same under a policy: FASTER_HEX_UNKNOWN_POLICY comes before the others. */
 struct faster_hex_answer faster_hex_decode_with_case(const void *src, size_t len,
                                                      void *dst, size_t room, uint8_t policy);
 
-/* Writes the digits in groups of `every` bytes, the last of them possibly shorter, with `sep` between
- * two, as in 00:1b:21 or 0001 1b21: FASTER_HEX_NOT_A_GROUP, then FASTER_HEX_OVERFLOW, then
- * FASTER_HEX_OUTPUT_TOO_SMALL. Overlap, NULL, alignment and threads as at faster_hex_encode. */
+/* Writes the digits in groups of `every` bytes, the last possibly shorter, with `sep` between groups, as in
+ * 00:1b:21 or 0001 1b21: FASTER_HEX_NOT_A_GROUP, then FASTER_HEX_OVERFLOW, then
+ * FASTER_HEX_OUTPUT_TOO_SMALL. */
 struct faster_hex_answer faster_hex_encode_grouped(const void *src, size_t len, void *dst, size_t room,
                                                    bool upper, size_t every, uint8_t sep);
 
-/* Writes the bytes that such a text spells: FASTER_HEX_UNKNOWN_POLICY, then FASTER_HEX_NOT_A_GROUP,
- * then FASTER_HEX_BAD_LENGTH, then FASTER_HEX_OUTPUT_TOO_SMALL, then FASTER_HEX_INVALID_CHAR, which
- * another byte than `sep` between two groups is too. Overlap, NULL, alignment and threads as at
- * faster_hex_encode. */
+/* Decodes such a text: FASTER_HEX_UNKNOWN_POLICY, then FASTER_HEX_NOT_A_GROUP, then FASTER_HEX_BAD_LENGTH,
+ * then FASTER_HEX_OUTPUT_TOO_SMALL, then FASTER_HEX_INVALID_CHAR, also for a wrong separator. */
 struct faster_hex_answer faster_hex_decode_grouped(const void *src, size_t len, void *dst, size_t room,
                                                    uint8_t policy, size_t every, uint8_t sep);
 
