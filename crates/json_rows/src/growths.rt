@@ -2,27 +2,22 @@
 //! how often they asked.
 
 use crate::seen::{is_bytes, is_option};
-use crate::terms::{Answer, Buffers, answer, has_bytes, value, wire_format};
+use crate::terms::{Answer, answer, has_bytes, value, wire_format};
 use faster_hex::AdapterError;
 use faster_hex::adapters::{WireFormat, read, read_option, text_of};
 use hex_core::Error;
 use serde_json::Value;
 use std::alloc::{Allocator, Global};
-use test_kit::Words;
 use test_kit::refusing::Refusing;
+use test_kit::{Row, Words};
 
 // Reads a bound: a number, or `unbounded`.
-fn bound(row: &mut Words<'_>) -> Option<usize> {
+fn bound(row: &mut Words) -> Option<usize> {
     if row.takes(b"unbounded") {
         None
     } else {
         Some(row.take_number())
     }
-}
-
-// Reads how many growths there are.
-fn growths(words: &mut Words<'_>) -> u64 {
-    words.take_number() as u64
 }
 
 // A reading by a format, with an allocator that grants so many growths.
@@ -49,20 +44,15 @@ impl Reading<'_> {
 
 /// Returns whether `granted-read FORMAT GRANTED MAX JSON` answers so, or `granted-read-option` where
 /// `is_option` is true: how often it asked, and the answer.
-pub fn read_row(
-    is_option: bool,
-    row: &mut Words<'_>,
-    wanted: &mut Words<'_>,
-    buffers: &mut Buffers,
-) -> Option<bool> {
-    let format = wire_format(row);
-    let refusing = Refusing::new(buffers.alloc, growths(row));
-    let max = bound(row);
-    row.take_bytes(&mut buffers.given);
-    let asked = growths(wanted);
+pub fn read_row(is_option: bool, row: &mut Row) -> Option<bool> {
+    let format = wire_format(&mut row.call);
+    let refusing = Refusing::new(row.alloc, row.call.take_growths());
+    let max = bound(&mut row.call);
+    row.call.take_bytes(&mut row.given);
+    let asked = row.answer.take_growths();
     let found = if is_option { b"some".as_slice() } else { b"ok" };
-    let want = answer(wanted, found, &mut buffers.wanted);
-    let value = value(buffers.alloc, buffers.given.as_slice())?;
+    let want = answer(&mut row.answer, found, &mut row.wanted);
+    let value = value(row.alloc, row.given.as_slice())?;
     let reading = Reading {
         format,
         max,
@@ -87,17 +77,13 @@ fn is_text<A: Allocator + Drop>(got: Result<String<A>, AdapterError>, want: Opti
 
 /// Returns whether `granted-text FORMAT GRANTED BYTES` answers so: how often it asked, and the text,
 /// or `no-memory`.
-pub fn text_row(
-    row: &mut Words<'_>,
-    wanted: &mut Words<'_>,
-    buffers: &mut Buffers,
-) -> Option<bool> {
-    let format = wire_format(row);
-    let refusing = Refusing::new(buffers.alloc, growths(row));
-    row.take_bytes(&mut buffers.given);
-    let asked = growths(wanted);
-    let is_written = has_bytes(wanted, b"no-memory", &mut buffers.wanted);
-    let want = is_written.then_some(buffers.wanted.as_slice());
-    let is_so = is_text(text_of(&refusing, format, buffers.given.as_slice()), want);
+pub fn text_row(row: &mut Row) -> Option<bool> {
+    let format = wire_format(&mut row.call);
+    let refusing = Refusing::new(row.alloc, row.call.take_growths());
+    row.call.take_bytes(&mut row.given);
+    let asked = row.answer.take_growths();
+    let is_written = has_bytes(&mut row.answer, b"no-memory", &mut row.wanted);
+    let want = is_written.then_some(row.wanted.as_slice());
+    let is_so = is_text(text_of(&refusing, format, row.given.as_slice()), want);
     Some(is_so && refusing.is_settled(asked))
 }

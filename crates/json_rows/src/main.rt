@@ -12,53 +12,55 @@ mod terms;
 mod writings;
 
 use crate::readings::Reading;
-use crate::terms::{Buffers, refusal};
+use crate::terms::refusal;
 use std::io::{self, BufReader};
-use test_kit::{Calls, Words, judge};
+use test_kit::{Calls, Row, judge};
 
 // `print REFUSAL`: whether it prints the text that the answer is.
-fn print_row(row: &mut Words<'_>, wanted: &mut Words<'_>, buffers: &Buffers) -> Option<bool> {
-    let error = refusal(row);
-    let text = format!(in buffers.alloc; "{error}").ok()?;
-    Some(text.as_str().as_bytes() == wanted.take_rest())
+fn print_row(row: &mut Row) -> Option<bool> {
+    let error = refusal(&mut row.call);
+    let text = format!(in row.alloc; "{error}").ok()?;
+    Some(text.as_str().as_bytes() == row.answer.take_rest())
 }
 
 // A row of any call.
-fn row(row: &mut Words<'_>, wanted: &mut Words<'_>, buffers: &mut Buffers) -> Option<bool> {
-    if row.takes(b"read") {
-        readings::read_row(Reading::Whole, row, wanted, buffers)
-    } else if row.takes(b"read-within") {
-        readings::read_row(Reading::Within, row, wanted, buffers)
-    } else if row.takes(b"read-array") {
-        readings::read_row(Reading::Array, row, wanted, buffers)
-    } else if row.takes(b"write") {
-        writings::write_row(false, row, wanted, buffers)
-    } else if row.takes(b"write-array") {
-        writings::write_row(true, row, wanted, buffers)
-    } else if row.takes(b"long") {
-        writings::long_row(row, wanted, buffers)
-    } else if row.takes(b"print") {
-        print_row(row, wanted, buffers)
-    } else if row.takes(b"granted-read") {
-        growths::read_row(false, row, wanted, buffers)
-    } else if row.takes(b"granted-read-option") {
-        growths::read_row(true, row, wanted, buffers)
-    } else if row.takes(b"granted-text") {
-        growths::text_row(row, wanted, buffers)
+fn row(row: &mut Row) -> Option<bool> {
+    if row.call.takes(b"read") {
+        readings::read_row(Reading::Whole, row)
+    } else if row.call.takes(b"read-within") {
+        readings::read_row(Reading::Within, row)
+    } else if row.call.takes(b"read-array") {
+        readings::read_row(Reading::Array, row)
+    } else if row.call.takes(b"write") {
+        writings::write_row(false, row)
+    } else if row.call.takes(b"write-array") {
+        writings::write_row(true, row)
+    } else if row.call.takes(b"long") {
+        writings::long_row(row)
+    } else if row.call.takes(b"print") {
+        print_row(row)
+    } else if row.call.takes(b"granted-read") {
+        growths::read_row(false, row)
+    } else if row.call.takes(b"granted-read-option") {
+        growths::read_row(true, row)
+    } else if row.call.takes(b"granted-text") {
+        growths::text_row(row)
     } else {
         None
     }
 }
 
-impl Calls for Buffers {
-    fn is_answered(&mut self, mut call: Words<'_>, mut answer: Words<'_>) -> Option<bool> {
-        let is_answered = row(&mut call, &mut answer, self)?;
-        (call.are_read() && answer.are_read()).then_some(is_answered)
+// The calls of the adapters.
+#[derive(Drop)]
+struct Adapters;
+
+impl Calls for Adapters {
+    fn is_answered(&mut self, line: &mut Row) -> bool {
+        row(line) == Some(true)
     }
 }
 
 fn main(rt: HostRuntime) -> io::Result<()> {
-    let mut buffers = Buffers::new(rt.alloc());
     let input = BufReader::new(rt.alloc(), rt.stdin())?;
-    judge(&mut buffers, rt.alloc(), input, &mut rt.stdout())
+    judge(&mut Adapters, rt.alloc(), input, &mut rt.stdout())
 }

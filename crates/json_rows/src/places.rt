@@ -3,7 +3,7 @@
 ghost use Rattle.std.specs.Prelude.{◌<◌};
 
 use crate::seen::{is_array, is_bytes, is_option, is_option_array};
-use crate::terms::{Answer, Format, wire_format};
+use crate::terms::{Answer, Format, known, wire_format};
 use crate::{modules, option_modules};
 use faster_hex::AdapterError;
 use faster_hex::adapters::{self, WireFormat};
@@ -28,7 +28,7 @@ pub enum Place {
 
 impl Place {
     /// Reads whose calls a row names.
-    pub fn from_row(row: &mut Words<'_>) -> Place {
+    pub fn from_row(row: &mut Words) -> Place {
         if row.takes(b"root") {
             return Place::Root;
         }
@@ -39,9 +39,15 @@ impl Place {
             return Place::OptionAdapters(wire_format(row));
         }
         let name = row.next();
-        match name.strip_prefix(b"option_") {
-            Some(name) => Place::OptionModule(Format::named(name, row)),
-            None => Place::Module(Format::named(name, row)),
+        let (is_option, format) = match name.strip_prefix(b"option_") {
+            Some(name) => (true, Format::from_word(name)),
+            None => (false, Format::from_word(name)),
+        };
+        let format = known(format, row);
+        if is_option {
+            Place::OptionModule(format)
+        } else {
+            Place::Module(format)
         }
     }
 

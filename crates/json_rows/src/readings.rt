@@ -3,10 +3,10 @@
 ghost use Rattle.std.specs.Prelude.{◌<◌};
 
 use crate::places::Place;
-use crate::terms::{Answer, Buffers, answer, field_of, json, value};
+use crate::terms::{Answer, answer, field_of, json, value};
 use serde_json::Value;
 use std::alloc::Global;
-use test_kit::Words;
+use test_kit::Row;
 
 /// How a row has a value read.
 #[derive(Clone, Copy, PartialEq, Eq)]
@@ -62,22 +62,17 @@ impl Counted<'_> {
 }
 
 /// Returns whether a reading answers so.
-pub fn read_row(
-    reading: Reading,
-    row: &mut Words<'_>,
-    wanted: &mut Words<'_>,
-    buffers: &mut Buffers,
-) -> Option<bool> {
-    let (place, alloc) = (Place::from_row(row), buffers.alloc);
+pub fn read_row(reading: Reading, row: &mut Row) -> Option<bool> {
+    let (place, alloc) = (Place::from_row(&mut row.call), row.alloc);
     let count = if reading == Reading::Whole {
         0
     } else {
-        row.take_number()
+        row.call.take_number()
     };
-    let name = json(row, &mut buffers.given);
-    let want = answer(wanted, place.found(), &mut buffers.wanted);
-    let whole = value(alloc, buffers.given.as_slice())?;
-    let value = field_of(&whole, name)?;
+    let name = json(row);
+    let want = answer(&mut row.answer, place.found(), &mut row.wanted);
+    let whole = value(alloc, row.given.as_slice())?;
+    let value = field_of(&whole, name.then_some(row.first.as_slice()))?;
     if reading == Reading::Whole {
         return Some(place.reads(alloc, value, want));
     }

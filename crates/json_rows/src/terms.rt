@@ -2,15 +2,19 @@
 
 use faster_hex::AdapterError;
 use faster_hex::adapters::WireFormat;
-use hex_core::{CheckCase, Error};
 use serde_json::Value;
 use std::alloc::Global;
 use std::str;
-use test_kit::{Bytes, Words, is};
+use test_kit::{Bytes, Row, Words};
 
 /// What a reading answers: some bytes or none, or the refusal. A call that knows no none answers
 /// with some.
 pub type Answer<'a> = Result<Option<&'a [u8]>, AdapterError>;
+
+// Whether a word is this one.
+fn is(word: &[u8], this: &[u8]) -> bool {
+    word == this
+}
 
 /// A format that modules are named by.
 #[derive(Clone, Copy)]
@@ -24,19 +28,8 @@ pub enum Format {
 }
 
 impl Format {
-    /// Reads a format, whose name this is.
-    pub fn named(name: &[u8], row: &mut Words<'_>) -> Format {
-        match Format::from_word(name) {
-            Some(format) => format,
-            None => {
-                row.misread();
-                Format::NopfxUppercase
-            }
-        }
-    }
-
-    // The format of this name.
-    fn from_word(word: &[u8]) -> Option<Format> {
+    /// The format of this name.
+    pub fn from_word(word: &[u8]) -> Option<Format> {
         if is(word, b"withpfx_ignorecase") {
             Some(Format::WithpfxIgnorecase)
         } else if is(word, b"nopfx_ignorecase") {
@@ -65,37 +58,25 @@ impl Format {
     }
 }
 
-// Reads a policy: `any`, `lower` or `upper`.
-fn policy(row: &mut Words<'_>) -> CheckCase {
-    if row.takes(b"any") {
-        CheckCase::None
-    } else if row.takes(b"lower") {
-        CheckCase::Lower
-    } else {
-        row.wants(b"upper");
-        CheckCase::Upper
+/// Returns a format, or any where it is not known, and the row was misread.
+pub fn known(format: Option<Format>, row: &mut Words) -> Format {
+    if format.is_none() {
+        row.misread();
     }
-}
-
-// Reads the word `yes`, or else the word `no`.
-fn is_either(row: &mut Words<'_>, yes: &[u8], no: &[u8]) -> bool {
-    let is_yes = row.takes(yes);
-    if !is_yes {
-        row.wants(no);
-    }
-    is_yes
+    format.unwrap_or(Format::NopfxUppercase)
 }
 
 /// Reads a format: the name of one of the six, or `own`, then `0x` or `plain`, the letters that are
 /// written, and those that are read.
-pub fn wire_format(row: &mut Words<'_>) -> WireFormat {
+pub fn wire_format(row: &mut Words) -> WireFormat {
     if !row.takes(b"own") {
-        return Format::named(row.next(), row).wire();
+        let format = Format::from_word(row.next());
+        return known(format, row).wire();
     }
     WireFormat {
-        prefixed: is_either(row, b"0x", b"plain"),
-        upper: is_either(row, b"upper", b"lower"),
-        case: policy(row),
+        prefixed: row.is_either(b"0x", b"plain"),
+        upper: row.is_either(b"upper", b"lower"),
+        case: row.take_policy(),
     }
 }
 
@@ -104,19 +85,20 @@ pub fn value(alloc: Global, json: &[u8]) -> Option<Value> {
     Value::from_str(alloc, str::from_utf8(json).ok()?).ok()
 }
 
-/// Reads a JSON text into `bytes`, or `field NAME OBJECT`, where the object is written as it is.
-/// Returns the name, if there is one.
-pub fn json<'a>(row: &mut Words<'a>, bytes: &mut Bytes) -> Option<&'a [u8]> {
-    if !row.takes(b"field") {
-        row.take_bytes(bytes);
-        return None;
+/// Reads a JSON text, or `field NAME OBJECT`, where the object is written as it is. Returns whether
+/// there is a name, which `first` then holds.
+pub fn json(row: &mut Row) -> bool {
+    let is_field = row.call.takes(b"field");
+    if !is_field {
+        row.call.take_bytes(&mut row.given);
+        return false;
     }
-    let name = row.next();
-    bytes.clear();
-    if bytes.try_extend_from_slice(row.next()).is_err() {
-        row.misread();
+    row.call.take_bytes(&mut row.first);
+    row.given.clear();
+    if row.given.try_extend_from_slice(row.call.next()).is_err() {
+        row.call.misread();
     }
-    Some(name)
+    true
 }
 
 /// Returns the value of the field of this name, or the whole value where there is no name.
@@ -127,25 +109,9 @@ pub fn field_of<'a>(value: &'a Value, name: Option<&[u8]>) -> Option<&'a Value> 
     }
 }
 
-// Reads a refusal by the codec.
-fn codec_refusal(answer: &mut Words<'_>) -> Error {
-    if answer.takes(b"invalid") {
-        let index = answer.take_number();
-        let byte = answer.take_byte();
-        Error::InvalidChar { index, byte }
-    } else if answer.takes(b"mismatch") {
-        let expected = answer.take_number();
-        let actual = answer.take_number();
-        Error::LengthMismatch { expected, actual }
-    } else {
-        answer.wants(b"no-memory");
-        Error::OutOfMemory
-    }
-}
-
 /// Reads a refusal: `not-text`, `invalid-prefix`, `invalid-length`, `over-bound MAX ACTUAL`, `invalid INDEX
 /// BYTE`, `mismatch EXPECTED ACTUAL` or `no-memory`.
-pub fn refusal(answer: &mut Words<'_>) -> AdapterError {
+pub fn refusal(answer: &mut Words) -> AdapterError {
     if answer.takes(b"not-text") {
         AdapterError::NotText
     } else if answer.takes(b"invalid-prefix") {
@@ -157,12 +123,12 @@ pub fn refusal(answer: &mut Words<'_>) -> AdapterError {
         let actual = answer.take_number();
         AdapterError::OverBound { max, actual }
     } else {
-        AdapterError::Codec(codec_refusal(answer))
+        AdapterError::Codec(answer.take_refusal())
     }
 }
 
 /// Reads an answer: bytes behind the word `found`, `none`, or a refusal.
-pub fn answer<'a>(answer: &mut Words<'_>, found: &[u8], bytes: &'a mut Bytes) -> Answer<'a> {
+pub fn answer<'a>(answer: &mut Words, found: &[u8], bytes: &'a mut Bytes) -> Answer<'a> {
     if answer.takes(found) {
         answer.take_bytes(bytes);
         Ok(Some(bytes.as_slice()))
@@ -174,32 +140,10 @@ pub fn answer<'a>(answer: &mut Words<'_>, found: &[u8], bytes: &'a mut Bytes) ->
 }
 
 /// Reads bytes, or `word` in place of them. Returns whether there are any.
-pub fn has_bytes(words: &mut Words<'_>, word: &[u8], bytes: &mut Bytes) -> bool {
+pub fn has_bytes(words: &mut Words, word: &[u8], bytes: &mut Bytes) -> bool {
     let is_word = words.takes(word);
     if !is_word {
         words.take_bytes(bytes);
     }
     !is_word
-}
-
-/// What a row is read into, and where its call takes memory from.
-#[derive(Drop)]
-pub struct Buffers {
-    /// The bytes of the row.
-    pub given: Bytes,
-    /// The bytes of its answer.
-    pub wanted: Bytes,
-    /// Where its call takes memory from.
-    pub alloc: Global,
-}
-
-impl Buffers {
-    /// Returns buffers that hold nothing.
-    pub fn new(alloc: Global) -> Buffers {
-        Buffers {
-            given: Bytes::new(),
-            wanted: Bytes::new(),
-            alloc,
-        }
-    }
 }

@@ -7,41 +7,30 @@ mod served;
 mod streams;
 mod terms;
 
-use crate::terms::Buffers;
 use std::io::{self, BufReader};
-use test_kit::{Calls, Words, is, judge};
+use test_kit::{Calls, Row, judge};
 
-fn program_row(call: &[u8], row: Words<'_>, answer: Words<'_>, buffers: &mut Buffers) -> bool {
-    if is(call, b"serve") {
-        served::row(false, row, answer, buffers)
-    } else if is(call, b"reads") {
-        served::row(true, row, answer, buffers)
-    } else if is(call, b"tell") {
-        served::tell_row(row, answer, buffers)
-    } else if is(call, b"stream") {
-        served::stream_row(false, row, answer, buffers)
-    } else if is(call, b"buffered") {
-        served::stream_row(true, row, answer, buffers)
-    } else if is(call, b"granted") {
-        served::granted_row(false, row, answer, buffers)
-    } else if is(call, b"refused") {
-        served::granted_row(true, row, answer, buffers)
-    } else if is(call, b"run") {
-        runs::row(false, row, answer, buffers)
-    } else {
-        is(call, b"run-in") && runs::row(true, row, answer, buffers)
-    }
-}
+// The program, whose runs rows name.
+#[derive(Drop)]
+struct Program;
 
-impl Calls for Buffers {
-    fn is_answered(&mut self, row: Words<'_>, answer: Words<'_>) -> Option<bool> {
-        let mut row = row;
-        Some(program_row(row.next(), row, answer, self))
+impl Calls for Program {
+    fn is_answered(&mut self, row: &mut Row) -> bool {
+        match row.call.one_of(b"serve reads tell stream buffered granted refused run run-in") {
+            0 => served::row(false, row),
+            1 => served::row(true, row),
+            2 => served::tell_row(row),
+            3 => served::stream_row(false, row),
+            4 => served::stream_row(true, row),
+            5 => served::granted_row(false, row),
+            6 => served::granted_row(true, row),
+            7 => runs::row(false, row),
+            _ => runs::row(true, row),
+        }
     }
 }
 
 fn main(rt: HostRuntime) -> io::Result<()> {
-    let mut buffers = Buffers::new(rt.alloc());
     let input = BufReader::new(rt.alloc(), rt.stdin())?;
-    judge(&mut buffers, rt.alloc(), input, &mut rt.stdout())
+    judge(&mut Program, rt.alloc(), input, &mut rt.stdout())
 }

@@ -17,7 +17,7 @@ pub struct Input<'a> {
 
 impl<'a> Input<'a> {
     /// Reads `BYTE COUNT BEHIND END`, where the last is `ends`, `fails` or `blocks`.
-    pub fn read_from(row: &mut Words<'_>, bytes: &'a mut Bytes) -> Input<'a> {
+    pub fn read_from(row: &mut Words, bytes: &'a mut Bytes) -> Input<'a> {
         let byte = row.take_byte();
         let count = row.take_number();
         row.take_bytes(bytes);
@@ -98,11 +98,7 @@ impl<'a> Output<'a> {
     }
 
     /// Reads `COUNT UNIT LAST`.
-    pub fn read_from(
-        answer: &mut Words<'_>,
-        unit: &'a mut Bytes,
-        end: &'a mut Bytes,
-    ) -> Output<'a> {
+    pub fn read_from(answer: &mut Words, unit: &'a mut Bytes, end: &'a mut Bytes) -> Output<'a> {
         let count = answer.take_number();
         answer.take_bytes(unit);
         answer.take_bytes(end);
@@ -143,7 +139,7 @@ pub struct Narrow<'a> {
 impl<'a> Narrow<'a> {
     /// Reads how many bytes are taken: a number, `all`, `unflushed` for all and a flush that fails,
     /// or `stuck` for none and no error in the first write.
-    pub fn read_from(row: &mut Words<'_>, wanted: Output<'a>) -> Narrow<'a> {
+    pub fn read_from(row: &mut Words, wanted: Output<'a>) -> Narrow<'a> {
         let stuck = row.takes(b"stuck");
         let flush_fails = !stuck && row.takes(b"unflushed");
         let room = if stuck || flush_fails || row.takes(b"all") {

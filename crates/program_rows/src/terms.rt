@@ -1,41 +1,11 @@
 //! What rows are made of: words of the program, inputs, and how a run ends.
 
-use hex_core::Error;
 use hex_format::{SinkFault, WriteFault};
 use hex_program::{Op, RunFault};
-use std::alloc::Global;
 use test_kit::{Bytes, Words};
 
-/// What a row is read into, and what takes memory for its run.
-#[derive(Drop)]
-pub struct Buffers {
-    /// The allocator.
-    pub alloc: Global,
-    /// The first word of the program.
-    pub first: Bytes,
-    /// The second one.
-    pub second: Bytes,
-    /// The input.
-    pub input: Bytes,
-    /// The output that is wanted.
-    pub output: Bytes,
-}
-
-impl Buffers {
-    /// Returns buffers that hold nothing.
-    pub fn new(alloc: Global) -> Buffers {
-        Buffers {
-            alloc,
-            first: Bytes::new(),
-            second: Bytes::new(),
-            input: Bytes::new(),
-            output: Bytes::new(),
-        }
-    }
-}
-
 /// Reads a word of the program.
-pub fn word<'a>(row: &mut Words<'_>, bytes: &'a mut Bytes) -> &'a str {
+pub fn word<'a>(row: &mut Words, bytes: &'a mut Bytes) -> &'a str {
     row.take_bytes(bytes);
     match str::from_utf8(bytes.as_slice()) {
         Ok(word) => word,
@@ -47,7 +17,7 @@ pub fn word<'a>(row: &mut Words<'_>, bytes: &'a mut Bytes) -> &'a str {
 }
 
 /// Reads a word that names an operation.
-pub fn operation(row: &mut Words<'_>, bytes: &mut Bytes) -> Op {
+pub fn operation(row: &mut Words, bytes: &mut Bytes) -> Op {
     let op = Op::from_word(word(row, bytes));
     if op.is_none() {
         row.misread();
@@ -64,29 +34,17 @@ pub fn is_message(message: &[u8], wanted: &[u8]) -> bool {
 }
 
 /// Reads a status, an output and a message, and returns whether a run ended so.
-pub fn is_end(answer: Words<'_>, bytes: &mut Bytes, ended: (u8, Vec<u8>, Vec<u8>)) -> bool {
-    let mut answer = answer;
+pub fn is_end(answer: &mut Words, bytes: &mut Bytes, ended: (u8, Vec<u8>, Vec<u8>)) -> bool {
     let (status, output, message) = ended;
     let is_status = answer.take_number() == usize::from(status);
     answer.take_bytes(bytes);
     let is_output = bytes.as_slice() == output.as_slice();
     let is_message = is_message(message.as_slice(), answer.take_rest());
-    answer.are_read() && is_status && is_output && is_message
-}
-
-// Reads why an input is refused: `odd-length`, or `invalid INDEX BYTE`.
-fn refusal(answer: &mut Words<'_>) -> Error {
-    if answer.takes(b"odd-length") {
-        return Error::OddLength;
-    }
-    answer.wants(b"invalid");
-    let index = answer.take_number();
-    let byte = answer.take_byte();
-    Error::InvalidChar { index, byte }
+    is_status && is_output && is_message
 }
 
 /// Reads what a run answers: `put`, `full`, `stuck`, `no-memory`, or why its input is refused.
-pub fn answer(words: &mut Words<'_>) -> Result<(), RunFault> {
+pub fn answer(words: &mut Words) -> Result<(), RunFault> {
     if words.takes(b"put") {
         Ok(())
     } else if words.takes(b"full") {
@@ -96,6 +54,6 @@ pub fn answer(words: &mut Words<'_>) -> Result<(), RunFault> {
     } else if words.takes(b"no-memory") {
         Err(RunFault::OutOfMemory)
     } else {
-        Err(RunFault::Codec(refusal(words)))
+        Err(RunFault::Codec(words.take_refusal()))
     }
 }

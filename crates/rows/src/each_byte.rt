@@ -1,6 +1,6 @@
 //! Rows of each byte at each place of a source, and of each pair of bytes.
 
-use crate::terms::{Answer, Buffers, Destination, are_answer, is_answer, policy};
+use crate::terms::{Answer, Buffers, Destination, are_answer, is_answer};
 use crate::wholes::{is_accepted, is_refused};
 use hex_codec::{hex_check_with_case, hex_decode_with_case};
 use hex_core::{CheckCase, Error};
@@ -22,7 +22,7 @@ impl Range {
     };
 
     // Reads the first and the last byte and the first value.
-    fn read(answer: &mut Words<'_>) -> Range {
+    fn read(answer: &mut Words) -> Range {
         let (first, last) = (answer.take_byte(), answer.take_byte());
         match u8::try_from(answer.take_number()) {
             Ok(value) => Range { first, last, value },
@@ -50,7 +50,7 @@ pub struct Values {
 
 impl Values {
     /// Reads what is left of an answer.
-    pub fn read(answer: &mut Words<'_>) -> Values {
+    pub fn read(answer: &mut Words) -> Values {
         let mut ranges = [Range::EMPTY; 3];
         for range in &mut ranges {
             if answer.are_read() {
@@ -101,13 +101,9 @@ fn is_put(
 
 /// `each-byte POLICY DIGITS`: the bytes, and the values of the digits. Its turn is a place of the
 /// source and a byte that is put there: 256 times the place, and the byte.
-pub fn each_byte_row(
-    row: &mut Words<'_>,
-    answer: &mut Words<'_>,
-    buffers: &mut Buffers,
-) -> Option<bool> {
+pub fn each_byte_row(row: &mut Words, answer: &mut Words, buffers: &mut Buffers) -> Option<bool> {
     let (place, byte) = (row.turn() / 256, (row.turn() % 256) as u8);
-    let case = policy(row);
+    let case = row.take_policy();
     row.take_bytes(&mut buffers.given);
     answer.take_bytes(&mut buffers.wanted);
     let value = Values::read(answer).get(byte);
@@ -158,14 +154,10 @@ fn decodes_pairs(
 
 /// `each-pair POLICY LENGTH`: the values of the digits. Its turn is a pair of bytes, which the
 /// source repeats.
-pub fn each_pair_row(
-    row: &mut Words<'_>,
-    answer: &mut Words<'_>,
-    buffers: &mut Buffers,
-) -> Option<bool> {
+pub fn each_pair_row(row: &mut Words, answer: &mut Words, buffers: &mut Buffers) -> Option<bool> {
     let turn = row.turn();
     let pair = [(turn / 256 % 256) as u8, (turn % 256) as u8];
-    let case = policy(row);
+    let case = row.take_policy();
     let count = row.take_number() / 2;
     let values = Values::read(answer);
     buffers.given.clear();

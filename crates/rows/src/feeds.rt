@@ -1,6 +1,6 @@
 //! Rows of digits that are fed in chunks, whose lengths look random.
 
-use crate::terms::{Buffers, Given, refusal};
+use crate::terms::{Buffers, Given};
 use hex_codec::stream::Decoder;
 use hex_core::Error;
 use test_kit::Words;
@@ -93,17 +93,13 @@ fn stands(fed: &Fed, len: usize) -> bool {
 /// `feed POLICY SEED DIGITS`: the bytes of the whole pairs before the first invalid byte, or of all,
 /// and behind them the refusal, if there is one. A cutting that is refused has written those of its
 /// chunks before.
-pub fn feed_row(
-    row: &mut Words<'_>,
-    answer: &mut Words<'_>,
-    buffers: &mut Buffers,
-) -> Option<bool> {
+pub fn feed_row(row: &mut Words, answer: &mut Words, buffers: &mut Buffers) -> Option<bool> {
     let given = Given::read(row, &mut buffers.given);
     answer.take_bytes(&mut buffers.wanted);
     let want = if answer.are_read() {
         Ok(())
     } else {
-        Err(refusal(answer))
+        Err(answer.take_refusal())
     };
     let (to, wanted) = (&mut buffers.destination, buffers.wanted.as_slice());
     let fed = feed_all(given, to.lend(given.src.len() / 2))?;

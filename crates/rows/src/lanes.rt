@@ -8,7 +8,6 @@ use hex_core::lanes::{
     admitted_16, admitted_32, admitted_64, encode_8, encode_16, encode_32, nibbles_hashed_32,
     nibbles_hashed_64, nibbles_saturating_16, pack_16, pack_32, pack_64,
 };
-use test_kit::is;
 
 // The mask whose bits from the lowest on are the letters.
 fn mask(letters: &[u8]) -> u64 {
@@ -155,20 +154,14 @@ fn are_written(bytes: &[u8], upper: bool, digits: &[u8]) -> Option<bool> {
 /// - `nibbles`: their nibbles, and 255 where the check is 128 or more, which refuses the byte.
 /// - `pack`: the bytes of these nibbles, for any policy.
 /// - `write`: the digits of 8, 16 or 32 bytes.
-pub fn is_made(call: &[u8], bytes: &[u8], case: CheckCase, want: &[u8]) -> Option<bool> {
-    if is(call, b"admit") {
-        are_admitted(bytes, case, want)
-    } else if is(call, b"saturate") {
-        are_saturated(bytes, case, want)
-    } else if is(call, b"hash") {
-        are_nibbles_of(bytes, case, true, want)
-    } else if is(call, b"nibbles") {
-        are_nibbles_of(bytes, case, false, want)
-    } else if is(call, b"pack") {
-        are_packed(bytes, want)
-    } else if is(call, b"write") {
-        are_written(bytes, case == CheckCase::Upper, want)
-    } else {
-        None
+pub fn is_made(call: usize, bytes: &[u8], case: CheckCase, want: &[u8]) -> Option<bool> {
+    match call {
+        28 => are_admitted(bytes, case, want),
+        29 => are_saturated(bytes, case, want),
+        30 => are_nibbles_of(bytes, case, true, want),
+        31 => are_nibbles_of(bytes, case, false, want),
+        32 => are_packed(bytes, want),
+        33 => are_written(bytes, case == CheckCase::Upper, want),
+        _ => None,
     }
 }

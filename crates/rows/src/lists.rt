@@ -4,9 +4,7 @@ ghost use Rattle.std.specs.Prelude.{◌<◌};
 
 use crate::each_byte::{Values, put_nibble};
 use crate::limited_sink::{CAPACITY, LimitedSink, Mode};
-use crate::terms::{
-    Buffers, Destination, Given, group, growths, invalid, is_either, is_stopped, policy,
-};
+use crate::terms::{Buffers, Destination, Given, group, invalid, is_stopped};
 use hex_codec::Group;
 use hex_codec::grouped::{GroupFault, read, read_into};
 use hex_core::CheckCase;
@@ -44,7 +42,7 @@ fn counts(given: Given<'_>, group: Group, dst: &mut [u8], want: Reading<'_>) -> 
 }
 
 // Reads the refusal of a grouped text.
-fn group_fault(answer: &mut Words<'_>) -> GroupFault {
+fn group_fault(answer: &mut Words) -> GroupFault {
     if answer.takes(b"bad-length") {
         GroupFault::BadLength
     } else if answer.takes(b"too-small") {
@@ -58,7 +56,7 @@ fn group_fault(answer: &mut Words<'_>) -> GroupFault {
 
 // Reads the answer: bytes behind `ok`, or a refusal, `bad-length`, `too-small 3` or `invalid 4 -`, and
 // `kept` behind it.
-fn reading<'a>(answer: &mut Words<'_>, bytes: &'a mut Bytes) -> Reading<'a> {
+fn reading<'a>(answer: &mut Words, bytes: &'a mut Bytes) -> Reading<'a> {
     if answer.takes(b"ok") {
         answer.take_bytes(bytes);
         return Ok(bytes.as_slice());
@@ -78,11 +76,7 @@ fn is_grouped(given: Given<'_>, group: Group, to: &mut Destination, want: Readin
 }
 
 /// `group EVERY BYTE POLICY ROOM TEXT`.
-pub fn group_row(
-    row: &mut Words<'_>,
-    answer: &mut Words<'_>,
-    buffers: &mut Buffers,
-) -> Option<bool> {
+pub fn group_row(row: &mut Words, answer: &mut Words, buffers: &mut Buffers) -> Option<bool> {
     let group = group(row);
     let given = Given::read(row, &mut buffers.given);
     let want = reading(answer, &mut buffers.wanted);
@@ -115,13 +109,13 @@ fn is_right(
 /// `each-grouped EVERY BYTE POLICY FROM TEXT`: the bytes, and the values of the digits. Its turn is a
 /// place of the text and a byte that is put there: 256 times the place behind `FROM`, and the byte.
 pub fn each_grouped_row(
-    row: &mut Words<'_>,
-    answer: &mut Words<'_>,
+    row: &mut Words,
+    answer: &mut Words,
     buffers: &mut Buffers,
 ) -> Option<bool> {
     let (offset, byte) = (row.turn() / 256, (row.turn() % 256) as u8);
     let group = group(row)?;
-    let case = policy(row);
+    let case = row.take_policy();
     let place = row.take_number().checked_add(offset)?;
     row.take_bytes(&mut buffers.given);
     answer.take_bytes(&mut buffers.wanted);
@@ -143,7 +137,7 @@ pub fn each_grouped_row(
 }
 
 // Reads what is wrong with a line.
-fn line_fault(answer: &mut Words<'_>) -> LineFault {
+fn line_fault(answer: &mut Words) -> LineFault {
     if answer.takes(b"short") {
         LineFault::ShortLine
     } else if answer.takes(b"mark") {
@@ -156,7 +150,7 @@ fn line_fault(answer: &mut Words<'_>) -> LineFault {
 
 // Reads why a list is refused: `no-memory`, or `line 2` and what is wrong with it, as `short`, `mark`
 // or `invalid 2 g`.
-fn list_fault(answer: &mut Words<'_>) -> ListFault {
+fn list_fault(answer: &mut Words) -> ListFault {
     if answer.takes(b"no-memory") {
         return ListFault::OutOfMemory;
     }
@@ -167,24 +161,24 @@ fn list_fault(answer: &mut Words<'_>) -> ListFault {
 }
 
 // Whether the next word writes these bytes.
-fn are_next(want: &[u8], answer: &mut Words<'_>, bytes: &mut Bytes) -> bool {
+fn are_next(want: &[u8], answer: &mut Words, bytes: &mut Bytes) -> bool {
     answer.take_bytes(bytes);
     bytes.as_slice() == want
 }
 
 // Whether the next words are the digest, the mark and the name of an entry.
-fn is_entry<const N: usize>(entry: &Entry<'_, N>, answer: &mut Words<'_>, bytes: &mut Bytes) -> bool
+fn is_entry<const N: usize>(entry: &Entry<'_, N>, answer: &mut Words, bytes: &mut Bytes) -> bool
     requires { N < 10000 }
 {
     let is_digest = are_next(entry.digest.as_slice(), answer, bytes);
-    let is_binary = is_either(answer, b"*", b"text");
+    let is_binary = answer.is_either(b"*", b"text");
     are_next(entry.name, answer, bytes) && is_digest && is_binary == entry.binary
 }
 
 // Whether the answer is `ok` and these entries.
 fn are_entries<const N: usize>(
     entries: &[Entry<'_, N>],
-    answer: &mut Words<'_>,
+    answer: &mut Words,
     bytes: &mut Bytes,
 ) -> bool
     requires { N < 10000 }
@@ -203,7 +197,7 @@ fn are_entries<const N: usize>(
 // Whether a list was read so, where all words of the answer are read by it.
 fn is_list<A: Allocator + Drop, const N: usize>(
     got: Result<Vec<Entry<'_, N>, A>, ListFault>,
-    answer: &mut Words<'_>,
+    answer: &mut Words,
     bytes: &mut Bytes,
 ) -> bool
     requires { N < 10000 }
@@ -218,12 +212,12 @@ fn is_list<A: Allocator + Drop, const N: usize>(
 fn is_read_in<const N: usize>(
     alloc: Global,
     given: Given<'_>,
-    answer: &mut Words<'_>,
+    answer: &mut Words,
     bytes: &mut Bytes,
 ) -> bool
     requires { N < 10000 }
 {
-    let asked = growths(answer);
+    let asked = answer.take_growths();
     let refusing = Refusing::new(alloc, given.granted());
     let got = digests::read_in::<_, N>(&refusing, given.src, given.case);
     is_list(got, answer, bytes) && refusing.is_settled(asked)
@@ -233,30 +227,30 @@ fn is_read_in<const N: usize>(
 fn is_read_globally<const N: usize>(
     alloc: Global,
     given: Given<'_>,
-    answer: Words<'_>,
+    answer: &mut Words,
     bytes: &mut Bytes,
 ) -> bool
     requires { N < 10000 }
 {
-    let mut answer = answer;
-    growths(&mut answer);
+    answer.take_growths();
     if answer.takes(b"no-memory") {
         return true;
     }
     let got = digests::read::<N>(alloc, given.src, given.case);
-    is_list(got, &mut answer, bytes)
+    is_list(got, answer, bytes)
 }
 
 // Whether both calls read a list so.
 fn is_read<const N: usize>(
     alloc: Global,
     given: Given<'_>,
-    answer: &mut Words<'_>,
+    answer: &mut Words,
     bytes: &mut Bytes,
 ) -> Option<bool>
     requires { N < 10000 }
 {
-    let is_read = is_read_globally::<N>(alloc, given, *answer, bytes);
+    let is_read = is_read_globally::<N>(alloc, given, answer, bytes);
+    answer.start(answer.turn());
     Some(is_read && is_read_in::<N>(alloc, given, answer, bytes))
 }
 
@@ -265,7 +259,7 @@ fn is_read_by(
     len: usize,
     alloc: Global,
     given: Given<'_>,
-    answer: &mut Words<'_>,
+    answer: &mut Words,
     bytes: &mut Bytes,
 ) -> Option<bool> {
     match len {
@@ -279,11 +273,7 @@ fn is_read_by(
 }
 
 /// `list LENGTH POLICY GRANTED LIST`: how many growths it asks for, and the entries.
-pub fn list_row(
-    row: &mut Words<'_>,
-    answer: &mut Words<'_>,
-    buffers: &mut Buffers,
-) -> Option<bool> {
+pub fn list_row(row: &mut Words, answer: &mut Words, buffers: &mut Buffers) -> Option<bool> {
     let len = row.take_number();
     let list = Given::read(row, &mut buffers.given);
     is_read_by(len, buffers.alloc, list, answer, &mut buffers.wanted)
@@ -364,11 +354,7 @@ impl Relisted<'_> {
 }
 
 /// `relist LENGTH CASE ROOM LIST`: the list as its entries are written.
-pub fn relist_row(
-    row: &mut Words<'_>,
-    answer: &mut Words<'_>,
-    buffers: &mut Buffers,
-) -> Option<bool> {
+pub fn relist_row(row: &mut Words, answer: &mut Words, buffers: &mut Buffers) -> Option<bool> {
     let len = row.take_number();
     let given = Given::read(row, &mut buffers.given);
     let is_stopped = is_stopped(answer, &mut buffers.wanted);

@@ -1,15 +1,14 @@
 //! Rows of digit values, of the counted search for the first invalid byte, and of the texts that
 //! errors print.
 
-use crate::terms::{is_either, policy, refusal};
 use arrayvec::ArrayString;
 use hex_core::{Backend, CheckCase, Probe, SliceProbe, backends, covered, digit_value, locate};
 use std::fmt::Write;
 use test_kit::Words;
 
 /// `value POLICY BYTE`.
-pub fn value_row(row: &mut Words<'_>, answer: &mut Words<'_>) -> bool {
-    let case = policy(row);
+pub fn value_row(row: &mut Words, answer: &mut Words) -> bool {
+    let case = row.take_policy();
     let got = digit_value(row.take_byte(), case);
     let want = place(answer);
     match got {
@@ -44,7 +43,7 @@ fn all_locate(src: &[u8], case: CheckCase, place: Option<usize>, counts: (usize,
 }
 
 // Reads a number, or `none`.
-fn place(answer: &mut Words<'_>) -> Option<usize> {
+fn place(answer: &mut Words) -> Option<usize> {
     if answer.takes(b"none") {
         None
     } else {
@@ -53,7 +52,7 @@ fn place(answer: &mut Words<'_>) -> Option<usize> {
 }
 
 /// Returns whether each plan finds the place, the tests and the looks of an answer.
-pub fn all_find(src: &[u8], case: CheckCase, answer: &mut Words<'_>) -> bool {
+pub fn all_find(src: &[u8], case: CheckCase, answer: &mut Words) -> bool {
     let place = place(answer);
     let counts = (answer.take_number(), answer.take_number());
     all_locate(src, case, place, counts)
@@ -69,8 +68,8 @@ fn covers(plan: Backend, src: &[u8], case: CheckCase, is_clear: bool, tests: usi
 }
 
 /// Returns whether each plan covers a source as an answer says: whether all pass, and the tests.
-pub fn all_cover(src: &[u8], case: CheckCase, answer: &mut Words<'_>) -> bool {
-    let is_clear = is_either(answer, b"yes", b"no");
+pub fn all_cover(src: &[u8], case: CheckCase, answer: &mut Words) -> bool {
+    let is_clear = answer.is_either(b"yes", b"no");
     let tests = answer.take_number();
     for plan in backends() {
         if !covers(plan, src, case, is_clear, tests) {
@@ -81,8 +80,8 @@ pub fn all_cover(src: &[u8], case: CheckCase, answer: &mut Words<'_>) -> bool {
 }
 
 /// `print REFUSAL`: the text, which a width leaves as it is.
-pub fn print_row(row: &mut Words<'_>, answer: &mut Words<'_>) -> bool {
-    let error = refusal(row);
+pub fn print_row(row: &mut Words, answer: &mut Words) -> bool {
+    let error = row.take_refusal();
     let mut text: ArrayString<100> = ArrayString::new();
     let mut padded: ArrayString<100> = ArrayString::new();
     write!(text, "{error}").is_ok()
@@ -92,7 +91,7 @@ pub fn print_row(row: &mut Words<'_>, answer: &mut Words<'_>) -> bool {
 }
 
 /// Returns whether `plans` answers the name of each plan, in their order.
-pub fn are_plans(answer: &mut Words<'_>) -> bool {
+pub fn are_plans(answer: &mut Words) -> bool {
     for plan in backends() {
         if !answer.takes(plan.name().as_bytes()) {
             return false;

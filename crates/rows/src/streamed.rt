@@ -3,7 +3,7 @@
 
 ghost use Rattle.std.specs.Prelude.{◌≡◌, ◌<◌, ◌≤◌, ◌^◌, ◌-◌, None};
 
-use crate::terms::{Buffers, growths, is_either, policy, refusal};
+use crate::terms::Buffers;
 use hex_core::CheckCase;
 use hex_format::streams::{StreamFault, decode_stream, encode_stream};
 use hex_format::{Sink, SinkFault, WriteFault};
@@ -46,7 +46,7 @@ struct Giving<'a> {
 
 impl<'a> Giving<'a> {
     // Reads `LENGTH PUT EVERY HALTS END`, where PUT is `-` or a place and a byte.
-    fn from_row(row: &mut Words<'_>, pattern: &'a [u8]) -> Giving<'a> {
+    fn from_row(row: &mut Words, pattern: &'a [u8]) -> Giving<'a> {
         let len = row.take_number();
         let put = if row.takes(b"-") {
             None
@@ -61,7 +61,7 @@ impl<'a> Giving<'a> {
             every: row.take_number(),
             halts: row.take_number(),
             halted: 0,
-            fails: is_either(row, b"fails", b"ends"),
+            fails: row.is_either(b"fails", b"ends"),
             has_failed: false,
             again: false,
         }
@@ -147,7 +147,7 @@ impl Sink for Taking<'_> {
 }
 
 // Reads the answer: `ok` and a number, `read`, `full`, or why the digits are refused.
-fn answer(words: &mut Words<'_>) -> Result<usize, StreamFault> {
+fn answer(words: &mut Words) -> Result<usize, StreamFault> {
     if words.takes(b"ok") {
         Ok(words.take_number())
     } else if words.takes(b"read") {
@@ -155,7 +155,7 @@ fn answer(words: &mut Words<'_>) -> Result<usize, StreamFault> {
     } else if words.takes(b"full") {
         Err(StreamFault::Write(WriteFault::Sink(SinkFault)))
     } else {
-        Err(StreamFault::Codec(refusal(words)))
+        Err(StreamFault::Codec(words.take_refusal()))
     }
 }
 
@@ -164,16 +164,12 @@ fn answer(words: &mut Words<'_>) -> Result<usize, StreamFault> {
 /// at most so many, before each of which so many are interrupted, and then the end or a failed read;
 /// into a sink of so much room that has counted so many failures. The answer, and how many bytes the
 /// sink has taken, which repeat those that stand behind.
-pub fn stream_row(
-    row: &mut Words<'_>,
-    wanted: &mut Words<'_>,
-    buffers: &mut Buffers,
-) -> Option<bool> {
-    let is_decoded = is_either(row, b"decode", b"encode");
-    let case = policy(row);
+pub fn stream_row(row: &mut Words, wanted: &mut Words, buffers: &mut Buffers) -> Option<bool> {
+    let is_decoded = row.is_either(b"decode", b"encode");
+    let case = row.take_policy();
     row.take_bytes(&mut buffers.given);
     let mut reader = Giving::from_row(row, buffers.given.as_slice());
-    let (room, failures) = (row.take_number(), growths(row));
+    let (room, failures) = (row.take_number(), row.take_growths());
     if failures == u64::MAX {
         return None;
     }

@@ -2,7 +2,7 @@
 
 ghost use Rattle.std.specs.Prelude.{◌<◌};
 
-use crate::terms::{Answer, Buffers, Given, Grown, are_answer, is_answer, policy, source};
+use crate::terms::{Answer, Buffers, Given, Grown, are_answer, is_answer, source};
 use hex_codec::{
     heapless_08, hex_append, hex_append_into, hex_append_upper, hex_string, hex_string_upper,
 };
@@ -134,8 +134,8 @@ pub struct Appended<'a> {
 impl<'a> Appended<'a> {
     /// Reads the capacity and the text before the call, and the text after it.
     pub fn read(
-        row: &mut Words<'_>,
-        answer: &mut Words<'_>,
+        row: &mut Words,
+        answer: &mut Words,
         before: &'a mut Bytes,
         after: &'a mut Bytes,
     ) -> Appended<'a> {
@@ -183,8 +183,8 @@ impl<'a> Appended<'a> {
 // Whether the appends that are left of a row follow one another in a string so.
 fn follow(
     text: &mut String<&Refusing<Global>>,
-    row: &mut Words<'_>,
-    answer: &mut Words<'_>,
+    row: &mut Words,
+    answer: &mut Words,
     (given, wanted): (&mut Bytes, &mut Bytes),
 ) -> bool {
     for _ in 0..APPENDS {
@@ -192,7 +192,7 @@ fn follow(
             break;
         }
         let next = Given {
-            case: policy(row),
+            case: row.take_policy(),
             number: 0,
             src: source(row, given, 0),
         };
@@ -206,11 +206,7 @@ fn follow(
 
 /// `appends CAPACITY TEXT CASE BYTES CASE BYTES ..`: the suffix that each answers, and the text behind
 /// the last one. None of them asks for a growth.
-pub fn appends_row(
-    row: &mut Words<'_>,
-    answer: &mut Words<'_>,
-    buffers: &mut Buffers,
-) -> Option<bool> {
+pub fn appends_row(row: &mut Words, answer: &mut Words, buffers: &mut Buffers) -> Option<bool> {
     let refusing = Refusing::new(buffers.alloc, 1);
     let capacity = row.take_number();
     row.take_bytes(&mut buffers.before);

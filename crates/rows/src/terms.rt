@@ -96,7 +96,7 @@ impl Buffers {
 
     /// Reads `at FROM SHIFT`, which may stand before a call: how many bytes stand before its source,
     /// and how many more before its destination.
-    pub fn place(&mut self, row: &mut Words<'_>) {
+    pub fn place(&mut self, row: &mut Words) {
         let is_placed = row.takes(b"at");
         self.from = if is_placed { row.take_number() } else { 0 };
         self.destination.shift = if is_placed { row.take_number() } else { 0 };
@@ -113,27 +113,6 @@ fn is_filled(bytes: &[u8]) -> bool {
     true
 }
 
-/// Reads a policy: `any`, `lower` or `upper`.
-pub fn policy(row: &mut Words<'_>) -> CheckCase {
-    if row.takes(b"any") {
-        CheckCase::None
-    } else if row.takes(b"lower") {
-        CheckCase::Lower
-    } else {
-        row.wants(b"upper");
-        CheckCase::Upper
-    }
-}
-
-/// Reads the word `yes`, or else the word `no`.
-pub fn is_either(words: &mut Words<'_>, yes: &[u8], no: &[u8]) -> bool {
-    let is_yes = words.takes(yes);
-    if !is_yes {
-        words.wants(no);
-    }
-    is_yes
-}
-
 // Moves the first bytes, `len` of them, behind so many that no policy reads, and lends them there.
 fn moved(bytes: &mut [u8], len: usize, from: usize) -> &[u8] {
     let end = len.saturating_add(from);
@@ -147,7 +126,7 @@ fn moved(bytes: &mut [u8], len: usize, from: usize) -> &[u8] {
 
 /// Reads a source, before which stand `from` bytes that no policy reads, at most as many as a guard
 /// has, and behind which stand more of them.
-pub fn source<'a>(row: &mut Words<'_>, bytes: &'a mut Bytes, from: usize) -> &'a [u8] {
+pub fn source<'a>(row: &mut Words, bytes: &'a mut Bytes, from: usize) -> &'a [u8] {
     row.take_bytes(bytes);
     let len = bytes.len();
     if bytes.try_extend_from_slice(&[FILL; 2 * GUARD]).is_err() || GUARD < from {
@@ -169,15 +148,15 @@ pub struct Given<'a> {
 
 impl<'a> Given<'a> {
     /// Reads what is left of a row, whose source stands behind `from` bytes.
-    pub fn read_behind(row: &mut Words<'_>, bytes: &'a mut Bytes, from: usize) -> Given<'a> {
-        let case = policy(row);
+    pub fn read_behind(row: &mut Words, bytes: &'a mut Bytes, from: usize) -> Given<'a> {
+        let case = row.take_policy();
         let number = row.take_number();
         let src = source(row, bytes, from);
         Given { case, number, src }
     }
 
     /// Reads what is left of a row.
-    pub fn read(row: &mut Words<'_>, bytes: &'a mut Bytes) -> Given<'a> {
+    pub fn read(row: &mut Words, bytes: &'a mut Bytes) -> Given<'a> {
         Given::read_behind(row, bytes, 0)
     }
 
@@ -198,47 +177,18 @@ impl<'a> Given<'a> {
 }
 
 /// Reads `invalid`, and the place and the byte behind it.
-pub fn invalid(answer: &mut Words<'_>) -> (usize, u8) {
+pub fn invalid(answer: &mut Words) -> (usize, u8) {
     answer.wants(b"invalid");
     (answer.take_number(), answer.take_byte())
 }
 
-// Reads a refusal that names numbers.
-fn counted_refusal(answer: &mut Words<'_>) -> Error {
-    if answer.takes(b"too-small") {
-        let required = answer.take_number();
-        Error::OutputTooSmall { required }
-    } else if answer.takes(b"mismatch") {
-        let expected = answer.take_number();
-        let actual = answer.take_number();
-        Error::LengthMismatch { expected, actual }
-    } else {
-        let (index, byte) = invalid(answer);
-        Error::InvalidChar { index, byte }
-    }
-}
-
-/// Reads a refusal, as `invalid 5 67`, `too-small 4`, `mismatch 32 1`, `odd-length`, `overflow` or
-/// `no-memory`.
-pub fn refusal(answer: &mut Words<'_>) -> Error {
-    if answer.takes(b"odd-length") {
-        Error::OddLength
-    } else if answer.takes(b"overflow") {
-        Error::Overflow
-    } else if answer.takes(b"no-memory") {
-        Error::OutOfMemory
-    } else {
-        counted_refusal(answer)
-    }
-}
-
 /// Reads an answer: `ok` and bytes, or a refusal.
-pub fn answer<'a>(answer: &mut Words<'_>, bytes: &'a mut Bytes) -> Answer<'a> {
+pub fn answer<'a>(answer: &mut Words, bytes: &'a mut Bytes) -> Answer<'a> {
     if answer.takes(b"ok") {
         answer.take_bytes(bytes);
         Ok(bytes.as_slice())
     } else {
-        Err(refusal(answer))
+        Err(answer.take_refusal())
     }
 }
 
@@ -269,42 +219,28 @@ pub struct Grown<'a> {
 
 impl<'a> Grown<'a> {
     /// Reads how many growths are asked for, and an answer.
-    pub fn read(words: &mut Words<'_>, bytes: &'a mut Bytes) -> Grown<'a> {
-        let asked = growths(words);
+    pub fn read(words: &mut Words, bytes: &'a mut Bytes) -> Grown<'a> {
+        let asked = words.take_growths();
         let answer = answer(words, bytes);
         Grown { asked, answer }
     }
 }
 
-/// Reads how many growths are asked for.
-pub fn growths(words: &mut Words<'_>) -> u64 {
-    words.take_number() as u64
-}
-
-/// Returns whether a call is answered so, where no word of its row and of the answer is left.
-pub fn judged(is_answered: Option<bool>, row: Words<'_>, answer: Words<'_>) -> Option<bool> {
-    if row.are_read() && answer.are_read() {
-        is_answered
-    } else {
-        None
-    }
-}
-
 /// Reads how many bytes a piece has, and the separator. Returns their group, if they are one.
-pub fn group(row: &mut Words<'_>) -> Option<Group> {
+pub fn group(row: &mut Words) -> Option<Group> {
     let every = row.take_number();
     Group::new(every, row.take_byte())
 }
 
 /// Reads `ok` or `stopped`, and the bytes that are taken by then. Returns whether it was the latter.
-pub fn is_stopped(answer: &mut Words<'_>, bytes: &mut Bytes) -> bool {
-    let is_stopped = is_either(answer, b"stopped", b"ok");
+pub fn is_stopped(answer: &mut Words, bytes: &mut Bytes) -> bool {
+    let is_stopped = answer.is_either(b"stopped", b"ok");
     answer.take_bytes(bytes);
     is_stopped
 }
 
 /// Reads an answer, behind which stands `kept` where a call leaves its destination as it was.
-pub fn front<'a>(words: &mut Words<'_>, bytes: &'a mut Bytes) -> Answer<'a> {
+pub fn front<'a>(words: &mut Words, bytes: &'a mut Bytes) -> Answer<'a> {
     let front = answer(words, bytes);
     let _ = front.is_err() && words.takes(b"kept");
     front

@@ -26,7 +26,7 @@ fn first_char(bytes: &[u8]) -> Option<char> {
 }
 
 // Reads the character that a text is filled with, whose bytes `bytes` then holds.
-fn fill(row: &mut Words<'_>, bytes: &mut Bytes) -> char {
+fn fill(row: &mut Words, bytes: &mut Bytes) -> char {
     row.take_bytes(bytes);
     match first_char(bytes.as_slice()) {
         Some(fill) => fill,
@@ -38,7 +38,7 @@ fn fill(row: &mut Words<'_>, bytes: &mut Bytes) -> char {
 }
 
 // Reads the width, or `-` where there is none.
-fn width(row: &mut Words<'_>) -> Option<usize> {
+fn width(row: &mut Words) -> Option<usize> {
     if row.takes(b"-") {
         None
     } else {
@@ -47,7 +47,7 @@ fn width(row: &mut Words<'_>) -> Option<usize> {
 }
 
 // Reads the bytes of a piece and the separator, or `-` where there is none.
-fn pieces(row: &mut Words<'_>) -> Option<Group> {
+fn pieces(row: &mut Words) -> Option<Group> {
     if row.takes(b"-") {
         return None;
     }
@@ -60,20 +60,17 @@ fn pieces(row: &mut Words<'_>) -> Option<Group> {
 
 // Reads flags: the letters of a format string (`<` or `^`, `+`, `#`, `0` and `X`, or `-` for none of
 // them), the width, the fill, the bytes of a piece and the separator, each `-` where there is none.
-fn flags(row: &mut Words<'_>, bytes: &mut Bytes) -> HexFlags {
+fn flags(row: &mut Words, bytes: &mut Bytes) -> HexFlags {
     let letters = row.next();
-    let width = width(row);
-    let fill = fill(row, bytes);
-    let group = pieces(row);
     HexFlags {
         align: align(letters),
         plus: letters.contains(&b'+'),
         prefix: letters.contains(&b'#'),
         zero: letters.contains(&b'0'),
         upper: letters.contains(&b'X'),
-        width,
-        fill,
-        group,
+        width: width(row),
+        fill: fill(row, bytes),
+        group: pieces(row),
     }
 }
 
@@ -134,7 +131,7 @@ impl Padded<'_> {
 }
 
 /// `pad FLAGS BYTES`: the text.
-pub fn pad_row(row: &mut Words<'_>, answer: &mut Words<'_>, buffers: &mut Buffers) -> bool {
+pub fn pad_row(row: &mut Words, answer: &mut Words, buffers: &mut Buffers) -> bool {
     let flags = flags(row, &mut buffers.given);
     row.take_bytes(&mut buffers.given);
     answer.take_bytes(&mut buffers.wanted);
@@ -147,7 +144,7 @@ pub fn pad_row(row: &mut Words<'_>, answer: &mut Words<'_>, buffers: &mut Buffer
 }
 
 // Reads what a sink takes of a piece.
-fn mode(row: &mut Words<'_>) -> Mode {
+fn mode(row: &mut Words) -> Mode {
     if row.takes(b"one-byte") {
         Mode::OneByte
     } else if row.takes(b"then-refuses") {
@@ -163,7 +160,7 @@ fn mode(row: &mut Words<'_>) -> Mode {
 }
 
 // Reads what is written into: a slice, which `None` stands for, or a sink that fails in a way.
-fn sink(row: &mut Words<'_>) -> Option<Mode> {
+fn sink(row: &mut Words) -> Option<Mode> {
     if row.takes(b"slice") {
         None
     } else {
@@ -173,7 +170,7 @@ fn sink(row: &mut Words<'_>) -> Option<Mode> {
 
 /// `pad-into SINK ROOM FLAGS BYTES`: what the sink has taken, which is as much as there is room for
 /// where it is stopped, and else the whole text.
-pub fn pad_into_row(row: &mut Words<'_>, answer: &mut Words<'_>, buffers: &mut Buffers) -> bool {
+pub fn pad_into_row(row: &mut Words, answer: &mut Words, buffers: &mut Buffers) -> bool {
     let sink = sink(row);
     let room = row.take_number();
     let flags = flags(row, &mut buffers.given);
@@ -192,7 +189,7 @@ pub fn pad_into_row(row: &mut Words<'_>, answer: &mut Words<'_>, buffers: &mut B
 }
 
 /// `show BYTES`: the text as `{}` prints it.
-pub fn show_row(row: &mut Words<'_>, answer: &mut Words<'_>, buffers: &mut Buffers) -> bool {
+pub fn show_row(row: &mut Words, answer: &mut Words, buffers: &mut Buffers) -> bool {
     row.take_bytes(&mut buffers.given);
     answer.take_bytes(&mut buffers.wanted);
     let mut text: ArrayString<8400> = ArrayString::new();
@@ -201,7 +198,7 @@ pub fn show_row(row: &mut Words<'_>, answer: &mut Words<'_>, buffers: &mut Buffe
 }
 
 /// `separates EVERY BYTE`: whether that is a group.
-pub fn separates_row(row: &mut Words<'_>, answer: &mut Words<'_>) -> bool {
+pub fn separates_row(row: &mut Words, answer: &mut Words) -> bool {
     let (every, byte) = (row.take_number(), row.take_byte());
     match Group::new(every, byte) {
         Some(group) => answer.takes(b"yes") && group.every() == every && group.sep() == byte,

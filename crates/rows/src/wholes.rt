@@ -1,7 +1,7 @@
 //! Rows of calls into exactly as much room as their answer takes.
 
 use crate::slices;
-use crate::terms::{Buffers, Destination, Given, is_either, policy, source};
+use crate::terms::{Buffers, Destination, Given, source};
 use hex_core::{Backend, CheckCase, backends};
 use test_kit::{Bytes, Words};
 
@@ -107,7 +107,7 @@ pub fn is_refused(
 fn all_store(
     src: &[u8],
     case: CheckCase,
-    answer: &mut Words<'_>,
+    answer: &mut Words,
     wanted: &mut Bytes,
     to: &mut Destination,
 ) -> bool {
@@ -131,7 +131,7 @@ fn all_store(
 pub fn all_own(
     src: &[u8],
     case: CheckCase,
-    answer: &mut Words<'_>,
+    answer: &mut Words,
     wanted: &mut Bytes,
     to: &mut Destination,
 ) -> bool {
@@ -140,7 +140,7 @@ pub fn all_own(
         answer.take_bytes(wanted);
         return is_refused(src, case, place, wanted.as_slice(), to);
     }
-    if is_either(answer, b"ok", b"refused") {
+    if answer.is_either(b"ok", b"refused") {
         answer.take_bytes(wanted);
         return is_accepted(src, case, wanted.as_slice(), to);
     }
@@ -188,8 +188,8 @@ fn all_read(text: &[u8], bytes: &[u8], case: CheckCase, to: &mut Destination) ->
 
 /// `both CASE BYTES`: the text, which stands where it was written to when it is read, and the bytes are
 /// then written to where they stood.
-pub fn both_row(row: &mut Words<'_>, answer: &mut Words<'_>, buffers: &mut Buffers) -> bool {
-    let case = policy(row);
+pub fn both_row(row: &mut Words, answer: &mut Words, buffers: &mut Buffers) -> bool {
+    let case = row.take_policy();
     let bytes = source(row, &mut buffers.given, buffers.from);
     let to = &mut buffers.destination;
     let text = source(answer, &mut buffers.wanted, to.shift);

@@ -13,15 +13,77 @@ pub mod refusing;
 mod words;
 
 pub use crate::notation::Bytes;
-pub use crate::words::{Words, is};
+pub use crate::words::Words;
+use crate::words::first_word;
 use std::alloc::Global;
 use std::io::{self, BufRead, Write};
 
+/// A row: its words, what they are read into, and where its call takes memory from.
+#[derive(Drop)]
+pub struct Row {
+    /// The words of the call.
+    pub call: Words,
+    /// The words of the answer.
+    pub answer: Words,
+    /// The bytes that the call is given.
+    pub given: Bytes,
+    /// The bytes that are wanted of it.
+    pub wanted: Bytes,
+    /// Other bytes of the call.
+    pub first: Bytes,
+    /// More of them.
+    pub second: Bytes,
+    /// Where the call takes memory from.
+    pub alloc: Global,
+}
+
+impl Row {
+    // A row without words.
+    fn new(alloc: Global) -> Row {
+        Row {
+            call: Words::new(),
+            answer: Words::new(),
+            given: Bytes::new(),
+            wanted: Bytes::new(),
+            first: Bytes::new(),
+            second: Bytes::new(),
+            alloc,
+        }
+    }
+
+    // Holds the row of a line. Returns how many turns it stands for.
+    fn hold(&mut self, line: &str) -> usize {
+        let (call, answer) = line.split_once(" = ").unwrap_or((line, ""));
+        let call = call.as_bytes();
+        let word = first_word(call);
+        let turns = notation::number(word, 0);
+        let begin = if turns.is_none() {
+            0
+        } else {
+            word.len().saturating_add(1)
+        };
+        self.call.hold(call.get(begin..).unwrap_or_default());
+        self.answer.hold(answer.as_bytes());
+        turns.unwrap_or(1)
+    }
+
+    // Goes back to the first words, for a turn.
+    fn start(&mut self, turn: usize) {
+        self.call.start(turn);
+        self.answer.start(turn);
+    }
+
+    // Whether no word is left on either side, and none was misread.
+    fn is_read(&self) -> bool {
+        self.call.are_read() && self.answer.are_read()
+    }
+}
+
 /// The calls that rows may name.
 pub trait Calls {
-    /// Returns whether the call that `row` names, with the arguments behind its name, answers
-    /// `answer`, or `None` where either can't be read.
-    fn is_answered(&mut self, row: Words<'_>, answer: Words<'_>) -> Option<bool>;
+    /// Returns whether the call of a row is answered so. A row of which a word is then left, or was
+    /// misread, is not.
+    fn is_answered(&mut self, row: &mut Row) -> bool;
 }
 
 // How many rows were judged, and how many of them are answered otherwise.
@@ -31,25 +93,19 @@ struct Counts {
     otherwise: u64,
 }
 
-// How many rows a line stands for, and the words of its call.
-fn turns(call: &[u8]) -> (usize, &[u8]) {
-    let mut words = Words::new(call, 0);
-    match words.number() {
-        Some(count) => (count, words.rest()),
-        None => (1, call),
-    }
-}
-
-// Judges the rows of a line, and returns the first turn that is answered otherwise.
-fn turn_missed<C: Calls>(calls: &mut C, line: &str, counts: &mut Counts) -> Option<usize> {
+// Judges so many turns of a row, and returns the first one that is answered otherwise.
+fn turn_missed<C: Calls>(
+    calls: &mut C,
+    row: &mut Row,
+    turns: usize,
+    counts: &mut Counts,
+) -> Option<usize> {
     let mut missed = None;
-    let (call, answer) = line.split_once(" = ").unwrap_or((line, ""));
-    let (count, call) = turns(call.as_bytes());
-    let answer = answer.as_bytes();
-    for turn in 0..count {
-        let is_answered = calls.is_answered(Words::new(call, turn), Words::new(answer, turn));
+    for turn in 0..turns {
+        row.start(turn);
+        let is_answered = calls.is_answered(row);
         counts.rows = counts.rows.saturating_add(1);
-        if is_answered != Some(true) {
+        if !is_answered || !row.is_read() {
             counts.otherwise = counts.otherwise.saturating_add(1);
             missed = missed.or(Some(turn));
         }
@@ -74,6 +130,7 @@ pub fn judge<C: Calls, R: BufRead + Drop, W: Write>(
     input: R,
     output: &mut W,
 ) -> io::Result<()> {
+    let mut row = Row::new(alloc);
     let mut counts = Counts {
         rows: 0,
         otherwise: 0,
@@ -83,7 +140,8 @@ pub fn judge<C: Calls, R: BufRead + Drop, W: Write>(
         if is_comment(line.as_bytes()) {
             continue;
         }
-        if let Some(turn) = turn_missed(calls, line.as_str(), &mut counts) {
+        let turns = row.hold(line.as_str());
+        if let Some(turn) = turn_missed(calls, &mut row, turns, &mut counts) {
             writeln!(output, "line {number}, turn {turn}: {}", line.as_str())?;
         }
     }

@@ -1,62 +1,79 @@
 //! The words of a row, read one after another.
 
 use crate::notation::{self, Bytes};
+use arrayvec::ArrayVec;
+use hex_core::{CheckCase, Error};
 
-/// Returns whether a word is this one.
-pub fn is(word: &[u8], this: &[u8]) -> bool {
-    word == this
+// The longest side of a row.
+const SIDE: usize = 4_000;
+
+/// Returns the first word of a text, which a space ends.
+pub fn first_word(text: &[u8]) -> &[u8] {
+    let end = text.iter().position(|byte| *byte == b' ');
+    text.get(..end.unwrap_or(text.len())).unwrap_or_default()
+}
+
+// Returns the place of a word among these names, which have a space between two.
+fn place_among(word: &[u8], names: &[u8]) -> Option<usize> {
+    let mut from: usize = 0;
+    for place in 0..names.len() {
+        let name = first_word(names.get(from..).unwrap_or_default());
+        if name == word {
+            return Some(place);
+        }
+        from = from.saturating_add(name.len()).saturating_add(1);
+    }
+    None
 }
 
 /// One side of a row: its words, with one space between two, as one turn reads them.
-#[derive(Clone, Copy)]
-pub struct Words<'a> {
-    rest: &'a [u8],
+///
+/// A word that can't be read as what a call takes it for is noted, so that the row is told.
+#[derive(Drop)]
+pub struct Words {
+    text: ArrayVec<u8, SIDE>,
+    at: usize,
     turn: usize,
     is_misread: bool,
 }
 
-impl<'a> Words<'a> {
-    /// Returns the words of `side`, as they are read in `turn`.
-    pub fn new(side: &'a [u8], turn: usize) -> Words<'a> {
+impl Words {
+    /// Returns a side without words.
+    pub fn new() -> Words {
         Words {
-            rest: side,
-            turn,
+            text: ArrayVec::new(),
+            at: 0,
+            turn: 0,
             is_misread: false,
         }
     }
 
+    /// Holds the words of a side in place of its own, and none where they are too long.
+    pub fn hold(&mut self, side: &[u8]) {
+        self.text.clear();
+        let _ = self.text.try_extend_from_slice(side).is_ok();
+    }
+
+    /// Goes back to the first word, for a turn.
+    pub fn start(&mut self, turn: usize) {
+        self.at = 0;
+        self.turn = turn;
+        self.is_misread = false;
+    }
+
     /// Takes the next word. Returns an empty one where none is left.
-    pub fn next(&mut self) -> &'a [u8] {
-        let side = self.rest;
-        let end = side
-            .iter()
-            .position(|byte| *byte == b' ')
-            .unwrap_or(side.len());
-        self.rest = side.get(end.saturating_add(1)..).unwrap_or_default();
-        side.get(..end).unwrap_or_default()
-    }
-
-    /// Takes the next word as a number. Returns `None` where it is none.
-    pub fn number(&mut self) -> Option<usize> {
-        notation::number(self.next(), self.turn)
-    }
-
-    /// Takes the next word as bytes, which `bytes` then holds. Returns `None` where it is none.
-    pub fn bytes(&mut self, bytes: &mut Bytes) -> Option<()> {
-        notation::write(self.next(), self.turn, bytes)
-    }
-
-    /// Takes the next word as one byte. Returns `None` where it is none.
-    pub fn byte(&mut self) -> Option<u8> {
-        notation::byte(self.next(), self.turn)
+    pub fn next(&mut self) -> &[u8] {
+        let word = first_word(self.text.get(self.at..).unwrap_or_default());
+        self.at = self.at.saturating_add(word.len()).saturating_add(1);
+        word
     }
 
     /// Takes the next word, where it is this one. Returns whether it was.
     pub fn takes(&mut self, word: &[u8]) -> bool {
-        let mut behind = *self;
-        let is_next = behind.next() == word;
-        if is_next {
-            *self = behind;
+        let at = self.at;
+        let is_next = self.next() == word;
+        if !is_next {
+            self.at = at;
         }
         is_next
     }
@@ -68,52 +85,92 @@ impl<'a> Words<'a> {
 
     /// Takes the next word, which is to be this one, or else was misread.
     pub fn wants(&mut self, word: &[u8]) {
-        if !self.takes(word) {
+        let is_next = self.next() == word;
+        self.is_misread = self.is_misread || !is_next;
+    }
+
+    /// Takes the next word, which is to be one of these, with a space between two. Returns its
+    /// place among them, or how many bytes they have where it was misread.
+    pub fn one_of(&mut self, names: &[u8]) -> usize {
+        let place = place_among(self.next(), names);
+        if place.is_none() {
             self.misread();
         }
+        place.unwrap_or(names.len())
+    }
+
+    /// Takes the next word, which is to be one of these two. Returns whether it was the first.
+    pub fn is_either(&mut self, yes: &[u8], no: &[u8]) -> bool {
+        let is_yes = self.takes(yes);
+        if !is_yes {
+            self.wants(no);
+        }
+        is_yes
     }
 
     /// Takes the next word as a number, or 0 where it was misread.
     pub fn take_number(&mut self) -> usize {
-        match self.number() {
-            Some(number) => number,
-            None => {
-                self.misread();
-                0
-            }
-        }
+        let turn = self.turn;
+        let number = notation::number(self.next(), turn);
+        self.is_misread = self.is_misread || number.is_none();
+        number.unwrap_or(0)
+    }
+
+    /// Takes the next word as how many growths there are, or 0 where it was misread.
+    pub fn take_growths(&mut self) -> u64 {
+        self.take_number() as u64
     }
 
     /// Takes the next word as one byte, or 0 where it was misread.
     pub fn take_byte(&mut self) -> u8 {
-        match self.byte() {
-            Some(byte) => byte,
-            None => {
-                self.misread();
-                0
-            }
-        }
+        let turn = self.turn;
+        let byte = notation::byte(self.next(), turn);
+        self.is_misread = self.is_misread || byte.is_none();
+        byte.unwrap_or(0)
     }
 
     /// Takes the next word as bytes, which `bytes` then holds where it was not misread.
     pub fn take_bytes(&mut self, bytes: &mut Bytes) {
-        if self.bytes(bytes).is_none() {
-            self.misread();
+        let turn = self.turn;
+        let written = notation::write(self.next(), turn, bytes);
+        self.is_misread = self.is_misread || written.is_none();
+    }
+
+    /// Takes the next word as a policy: `any`, `lower` or `upper`.
+    pub fn take_policy(&mut self) -> CheckCase {
+        match self.one_of(b"any lower upper") {
+            0 => CheckCase::None,
+            1 => CheckCase::Lower,
+            _ => CheckCase::Upper,
         }
     }
 
-    /// Takes so many bytes, whatever they are, and the space behind them.
-    pub fn take(&mut self, count: usize) -> &'a [u8] {
-        match self.rest.split_at_checked(count) {
-            Some((taken, behind)) => {
-                self.rest = behind.get(1..).unwrap_or_default();
-                taken
-            }
-            None => {
-                self.misread();
-                &[]
-            }
+    /// Takes the next words as a refusal: `odd-length`, `overflow`, `no-memory`, `too-small 4`,
+    /// `mismatch 32 1` or `invalid 5 67`.
+    pub fn take_refusal(&mut self) -> Error {
+        match self.one_of(b"odd-length overflow no-memory too-small mismatch invalid") {
+            0 => Error::OddLength,
+            1 => Error::Overflow,
+            2 => Error::OutOfMemory,
+            3 => Error::OutputTooSmall {
+                required: self.take_number(),
+            },
+            4 => Error::LengthMismatch {
+                expected: self.take_number(),
+                actual: self.take_number(),
+            },
+            _ => Error::InvalidChar {
+                index: self.take_number(),
+                byte: self.take_byte(),
+            },
         }
+    }
+
+    /// Takes all words that are left, as they are written.
+    pub fn take_rest(&mut self) -> &[u8] {
+        let rest = self.text.get(self.at..).unwrap_or_default();
+        self.at = self.text.len();
+        rest
     }
 
     /// Returns the turn that the words are read in.
@@ -121,20 +178,8 @@ impl<'a> Words<'a> {
         self.turn
     }
 
-    /// Returns the words that are left, as they are written.
-    pub fn rest(&self) -> &'a [u8] {
-        self.rest
-    }
-
-    /// Takes all words that are left, as they are written.
-    pub fn take_rest(&mut self) -> &'a [u8] {
-        let rest = self.rest;
-        self.rest = &[];
-        rest
-    }
-
     /// Returns whether no word is left, and none was misread.
     pub fn are_read(&self) -> bool {
-        self.rest.is_empty() && !self.is_misread
+        self.at >= self.text.len() && !self.is_misread
     }
 }
