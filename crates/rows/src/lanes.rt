@@ -1,4 +1,5 @@
-//! Rows of the lanes: what each block of them answers.
+//! Rows of the lanes: what each block of them answers. Each call is one for every width, and the bytes
+//! say which.
 
 ghost use Rattle.std.specs.Prelude.{IsTrue};
 ghost use Rattle.hex_core.specs.Lanes.{AreSmall};
@@ -8,160 +9,131 @@ use hex_core::lanes::{
     admitted_16, admitted_32, admitted_64, encode_8, encode_16, encode_32, nibbles_hashed_32,
     nibbles_hashed_64, nibbles_saturating_16, pack_16, pack_32, pack_64,
 };
+use test_kit::Row;
 
-// The mask whose bits from the lowest on are the letters.
-fn mask(letters: &[u8]) -> u64 {
-    let mut mask = 0;
-    for letter in letters.iter().rev() {
-        mask = (mask << 1) | u64::from(*letter == b'y');
-    }
-    mask
+// Lends the bytes of a block of as many lanes, or else of zeros.
+macro_rules! block {
+    ($bytes:expr, $lanes:literal) => {
+        $bytes.first_chunk().unwrap_or(&[0; $lanes])
+    };
 }
 
-fn is_admitted_16(bytes: &[u8], case: CheckCase, want: u64) -> Option<bool> {
-    Some(u64::from(admitted_16(bytes.first_chunk()?, case)) == want)
-}
-
-fn is_admitted_32(bytes: &[u8], case: CheckCase, want: u64) -> Option<bool> {
-    Some(u64::from(admitted_32(bytes.first_chunk()?, case)) == want)
-}
-
-fn is_admitted_64(bytes: &[u8], case: CheckCase, want: u64) -> Option<bool> {
-    Some(admitted_64(bytes.first_chunk()?, case) == want)
-}
-
-fn are_admitted(bytes: &[u8], case: CheckCase, letters: &[u8]) -> Option<bool> {
-    if letters.len() != bytes.len() {
-        return None;
-    }
-    match bytes.len() {
-        16 => is_admitted_16(bytes, case, mask(letters)),
-        32 => is_admitted_32(bytes, case, mask(letters)),
-        64 => is_admitted_64(bytes, case, mask(letters)),
-        _ => None,
-    }
-}
-
-fn are_saturated(bytes: &[u8], case: CheckCase, want: &[u8]) -> Option<bool> {
-    let nibbles = nibbles_saturating_16(bytes.first_chunk()?, case);
-    Some(bytes.len() == 16 && nibbles.as_slice() == want)
-}
-
-// Whether the nibbles are the wanted ones, each with a check below 128, but where 255 is wanted,
-// which is a check of 128 or more and any nibble.
-fn are_hashed(nibbles: &[u8], checks: &[u8], want: &[u8]) -> bool {
-    for ((nibble, check), want) in nibbles.iter().zip(checks).zip(want) {
-        let is_refused = *want == 255;
-        if (*check >= 128) != is_refused || (!is_refused && nibble != want) {
+// `admit`: of each byte `y` or `n`.
+fn are_admitted(bytes: &[u8], case: CheckCase, letters: &[u8]) -> bool {
+    let mask = match bytes.len() {
+        16 => u64::from(admitted_16(block!(bytes, 16), case)),
+        32 => u64::from(admitted_32(block!(bytes, 32), case)),
+        64 => admitted_64(block!(bytes, 64), case),
+        _ => return false,
+    };
+    for i in 0..64 {
+        let is_admitted = (mask >> i) & 1 == 1;
+        if is_admitted != (letters.get(i) == Some(&b'y')) {
             return false;
         }
     }
-    want.len() == nibbles.len() && want.len() == checks.len()
+    letters.len() == bytes.len()
 }
 
-// Whether these are the wanted checks where `is_check` is true, and else the wanted nibbles.
+// Whether the checks are the wanted ones where `is_check` is true; and else the nibbles, each with a check
+// below 128, but where 255 is wanted, which is a check of 128 or more and any nibble.
 fn are_of(nibbles: &[u8], checks: &[u8], is_check: bool, want: &[u8]) -> bool {
-    if is_check {
-        checks == want
-    } else {
-        are_hashed(nibbles, checks, want)
+    if nibbles.len() != want.len() || checks.len() != want.len() {
+        return false;
     }
-}
-
-fn are_of_32(bytes: &[u8], case: CheckCase, is_check: bool, want: &[u8]) -> Option<bool> {
-    let (nibbles, checks) = nibbles_hashed_32(bytes.first_chunk()?, case);
-    Some(are_of(&nibbles, &checks, is_check, want))
-}
-
-fn are_of_64(bytes: &[u8], case: CheckCase, is_check: bool, want: &[u8]) -> Option<bool> {
-    let (nibbles, checks) = nibbles_hashed_64(bytes.first_chunk()?, case);
-    Some(are_of(&nibbles, &checks, is_check, want))
-}
-
-// Whether 32 or 64 bytes have these nibbles, or these checks where `is_check` is true.
-fn are_nibbles_of(bytes: &[u8], case: CheckCase, is_check: bool, want: &[u8]) -> Option<bool> {
-    match bytes.len() {
-        32 => are_of_32(bytes, case, is_check, want),
-        64 => are_of_64(bytes, case, is_check, want),
-        _ => None,
+    for i in 0..want.len() {
+        let is_refused = want[i] == 255;
+        let is_right = if is_check {
+            checks[i] == want[i]
+        } else {
+            (checks[i] >= 128) == is_refused && (is_refused || nibbles[i] == want[i])
+        };
+        if !is_right {
+            return false;
+        }
     }
+    true
+}
+
+// `hash`: the checks of 32 or 64 bytes; `nibbles`, where `is_check` is false: their nibbles, and 255
+// where the check is 128 or more, which refuses the byte.
+fn are_hashed(bytes: &[u8], case: CheckCase, is_check: bool, want: &[u8]) -> bool {
+    if bytes.len() == 32 {
+        let (nibbles, checks) = nibbles_hashed_32(block!(bytes, 32), case);
+        return are_of(&nibbles, &checks, is_check, want);
+    }
+    let (nibbles, checks) = nibbles_hashed_64(block!(bytes, 64), case);
+    bytes.len() == 64 && are_of(&nibbles, &checks, is_check, want)
 }
 
 // Whether each nibble is below 16.
-fn are_nibbles(nibbles: &[u8]) -> bool
+fn are_small(nibbles: &[u8]) -> bool
     ensures { IsTrue result → AreSmall nibbles.now }
 {
     nibbles.iter().all(|nibble| *nibble < 16)
 }
 
-fn are_packed_16(nibbles: &[u8], bytes: &[u8]) -> Option<bool>
+fn are_packed_16(nibbles: &[u8], want: &[u8]) -> bool
     requires { AreSmall nibbles.now }
 {
-    Some(pack_16(nibbles.try_into().ok()?).as_slice() == bytes)
-}
-
-fn are_packed_32(nibbles: &[u8], bytes: &[u8]) -> Option<bool>
-    requires { AreSmall nibbles.now }
-{
-    Some(pack_32(nibbles.try_into().ok()?).as_slice() == bytes)
-}
-
-fn are_packed_64(nibbles: &[u8], bytes: &[u8]) -> Option<bool>
-    requires { AreSmall nibbles.now }
-{
-    Some(pack_64(nibbles.try_into().ok()?).as_slice() == bytes)
-}
-
-fn are_packed(nibbles: &[u8], bytes: &[u8]) -> Option<bool> {
-    if !are_nibbles(nibbles) {
-        return None;
-    }
-    match nibbles.len() {
-        16 => are_packed_16(nibbles, bytes),
-        32 => are_packed_32(nibbles, bytes),
-        64 => are_packed_64(nibbles, bytes),
-        _ => None,
+    match nibbles.try_into() {
+        Ok(block) => pack_16(block).as_slice() == want,
+        Err(_) => false,
     }
 }
 
-fn are_written_8(bytes: &[u8], upper: bool, digits: &[u8]) -> Option<bool> {
-    Some(encode_8(bytes.first_chunk()?, upper).as_slice() == digits)
+fn are_packed_32(nibbles: &[u8], want: &[u8]) -> bool
+    requires { AreSmall nibbles.now }
+{
+    match nibbles.try_into() {
+        Ok(block) => pack_32(block).as_slice() == want,
+        Err(_) => false,
+    }
 }
 
-fn are_written_16(bytes: &[u8], upper: bool, digits: &[u8]) -> Option<bool> {
-    Some(encode_16(bytes.first_chunk()?, upper).as_slice() == digits)
+fn are_packed_64(nibbles: &[u8], want: &[u8]) -> bool
+    requires { AreSmall nibbles.now }
+{
+    match nibbles.try_into() {
+        Ok(block) => pack_64(block).as_slice() == want,
+        Err(_) => false,
+    }
 }
 
-fn are_written_32(bytes: &[u8], upper: bool, digits: &[u8]) -> Option<bool> {
-    Some(encode_32(bytes.first_chunk()?, upper).as_slice() == digits)
+// `pack`: the bytes of these nibbles, for any policy.
+fn are_packed(nibbles: &[u8], want: &[u8]) -> bool {
+    are_small(nibbles)
+        && (are_packed_16(nibbles, want)
+            || are_packed_32(nibbles, want)
+            || are_packed_64(nibbles, want))
 }
 
-fn are_written(bytes: &[u8], upper: bool, digits: &[u8]) -> Option<bool> {
+// `write`: the digits of 8, 16 or 32 bytes.
+fn are_written(bytes: &[u8], upper: bool, want: &[u8]) -> bool {
     match bytes.len() {
-        8 => are_written_8(bytes, upper, digits),
-        16 => are_written_16(bytes, upper, digits),
-        32 => are_written_32(bytes, upper, digits),
-        _ => None,
+        8 => encode_8(block!(bytes, 8), upper).as_slice() == want,
+        16 => encode_16(block!(bytes, 16), upper).as_slice() == want,
+        32 => encode_32(block!(bytes, 32), upper).as_slice() == want,
+        _ => false,
     }
 }
 
-/// Returns whether a call of the lanes makes `want` of these bytes. Each is one for every width, and
-/// the bytes say which.
-///
-/// - `admit`: of each byte `y` or `n`.
-/// - `saturate`: the nibbles of 16 bytes.
-/// - `hash`: the checks of 32 or 64 bytes.
-/// - `nibbles`: their nibbles, and 255 where the check is 128 or more, which refuses the byte.
-/// - `pack`: the bytes of these nibbles, for any policy.
-/// - `write`: the digits of 8, 16 or 32 bytes.
-pub fn is_made(call: usize, bytes: &[u8], case: CheckCase, want: &[u8]) -> Option<bool> {
+/// `admit`, `saturate`, `hash`, `nibbles`, `pack` and `write`, whose number among the calls tells which,
+/// each of `POLICY BYTES`. `saturate` answers the nibbles of 16 bytes.
+pub fn row(call: usize, row: &mut Row) -> bool {
+    let case = row.call.take_policy();
+    row.call.take_bytes(&mut row.given);
+    row.answer.take_bytes(&mut row.wanted);
+    let (bytes, want) = (row.given.as_slice(), row.wanted.as_slice());
     match call {
         28 => are_admitted(bytes, case, want),
-        29 => are_saturated(bytes, case, want),
-        30 => are_nibbles_of(bytes, case, true, want),
-        31 => are_nibbles_of(bytes, case, false, want),
+        29 => {
+            let nibbles = nibbles_saturating_16(block!(bytes, 16), case);
+            bytes.len() == 16 && nibbles.as_slice() == want
+        }
+        30 => are_hashed(bytes, case, true, want),
+        31 => are_hashed(bytes, case, false, want),
         32 => are_packed(bytes, want),
-        33 => are_written(bytes, case == CheckCase::Upper, want),
-        _ => None,
+        _ => are_written(bytes, case == CheckCase::Upper, want),
     }
 }

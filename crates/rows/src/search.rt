@@ -1,78 +1,45 @@
 //! Rows of digit values, of the counted search for the first invalid byte, and of the texts that
 //! errors print.
 
+use crate::terms::{Destination, PLANS, number_or, plan, source};
 use arrayvec::ArrayString;
 use hex_core::{Backend, CheckCase, Probe, SliceProbe, backends, covered, digit_value, locate};
 use std::fmt::Write;
-use test_kit::Words;
+use test_kit::Row;
 
 /// `value POLICY BYTE`.
-pub fn value_row(row: &mut Words, answer: &mut Words) -> bool {
-    let case = row.take_policy();
-    let got = digit_value(row.take_byte(), case);
-    let want = place(answer);
-    match got {
-        Some(value) => want == Some(usize::from(value)),
-        None => want.is_none(),
-    }
+pub fn value_row(row: &mut Row) -> bool {
+    let case = row.call.take_policy();
+    let value = digit_value(row.call.take_byte(), case);
+    value.map(usize::from) == number_or(&mut row.answer, b"none")
 }
 
-// Whether the search under a plan finds this place, by so many tests and looks.
-fn locates(
-    plan: Backend,
-    src: &[u8],
-    case: CheckCase,
-    place: Option<usize>,
-    (tests, looks): (usize, usize),
-) -> bool {
+// What a search finds: a place, by how many tests and looks.
+type Found = (Option<usize>, usize, usize);
+
+// Whether the search under a plan finds this, or, where `is_cover` is true, a plan covers a source,
+// or finds that it can't.
+fn is_found(plan: Backend, src: &[u8], case: CheckCase, is_cover: bool, found: Found) -> bool {
+    let (place, tests, looks) = found;
     let mut probe = SliceProbe::new(plan, src, case);
-    locate(&mut probe) == place
-        && probe.tests() == tests
-        && probe.looks() == looks
-        && plan.first_invalid(src, case) == place
-}
-
-// Whether the search under each plan finds this place, by so many tests and looks.
-fn all_locate(src: &[u8], case: CheckCase, place: Option<usize>, counts: (usize, usize)) -> bool {
-    for plan in backends() {
-        if !locates(plan, src, case, place, counts) {
-            return false;
-        }
-    }
-    true
-}
-
-// Reads a number, or `none`.
-fn place(answer: &mut Words) -> Option<usize> {
-    if answer.takes(b"none") {
-        None
+    let is_so = if is_cover {
+        src.len() >= 64 && covered(&mut probe) == place.is_none()
     } else {
-        Some(answer.take_number())
-    }
+        locate(&mut probe) == place
+    };
+    let is_counted = probe.tests() == tests && probe.looks() == looks;
+    is_so && is_counted && plan.first_invalid(src, case) == place
 }
 
-/// Returns whether each plan finds the place, the tests and the looks of an answer.
-pub fn all_find(src: &[u8], case: CheckCase, answer: &mut Words) -> bool {
-    let place = place(answer);
-    let counts = (answer.take_number(), answer.take_number());
-    all_locate(src, case, place, counts)
-}
-
-// Whether a plan covers a source, or finds that it can't, by so many tests and no look.
-fn covers(plan: Backend, src: &[u8], case: CheckCase, is_clear: bool, tests: usize) -> bool {
-    let mut probe = SliceProbe::new(plan, src, case);
-    src.len() >= 64
-        && covered(&mut probe) == is_clear
-        && probe.tests() == tests
-        && probe.looks() == 0
-}
-
-/// Returns whether each plan covers a source as an answer says: whether all pass, and the tests.
-pub fn all_cover(src: &[u8], case: CheckCase, answer: &mut Words) -> bool {
-    let is_clear = answer.is_either(b"yes", b"no");
-    let tests = answer.take_number();
-    for plan in backends() {
-        if !covers(plan, src, case, is_clear, tests) {
+/// `find POLICY DIGITS`, or `cover`: the place of the first invalid byte, or `none`, the tests and the
+/// looks.
+pub fn find_row(is_cover: bool, row: &mut Row, to: &mut Destination) -> bool {
+    let case = row.call.take_policy();
+    let src = source(&mut row.call, &mut row.given, to.from);
+    let place = number_or(&mut row.answer, b"none");
+    let found = (place, row.answer.take_number(), row.answer.take_number());
+    for number in 0..PLANS {
+        if !is_found(plan(number), src, case, is_cover, found) {
             return false;
         }
     }
@@ -80,22 +47,20 @@ pub fn all_cover(src: &[u8], case: CheckCase, answer: &mut Words) -> bool {
 }
 
 /// `print REFUSAL`: the text, which a width leaves as it is.
-pub fn print_row(row: &mut Words, answer: &mut Words) -> bool {
-    let error = row.take_refusal();
+pub fn print_row(row: &mut Row) -> bool {
+    let error = row.call.take_refusal();
     let mut text: ArrayString<100> = ArrayString::new();
     let mut padded: ArrayString<100> = ArrayString::new();
     write!(text, "{error}").is_ok()
         && write!(padded, "{error:>60}").is_ok()
         && text.as_str() == padded.as_str()
-        && text.as_str().as_bytes() == answer.take_rest()
+        && text.as_str().as_bytes() == row.answer.take_rest()
 }
 
-/// Returns whether `plans` answers the name of each plan, in their order.
-pub fn are_plans(answer: &mut Words) -> bool {
+/// `plans`: the name of each plan, in their order.
+pub fn plans_row(row: &mut Row) -> bool {
     for plan in backends() {
-        if !answer.takes(plan.name().as_bytes()) {
-            return false;
-        }
+        row.answer.wants(plan.name().as_bytes());
     }
     true
 }

@@ -1,30 +1,14 @@
 //! Rows of streams that are decoded and encoded: what a reader gives, in which reads, and what a sink
 //! has taken at the end.
 
-ghost use Rattle.std.specs.Prelude.{◌≡◌, ◌<◌, ◌≤◌, ◌^◌, ◌-◌, None};
+ghost use Rattle.std.specs.Prelude.{◌≤◌};
 
-use crate::terms::Buffers;
+use crate::taking::{Mode, Taking, byte_at};
 use hex_core::CheckCase;
 use hex_format::streams::{StreamFault, decode_stream, encode_stream};
-use hex_format::{Sink, SinkFault, WriteFault};
+use hex_format::{SinkFault, WriteFault};
 use std::io::{self, ErrorKind, Read};
-use test_kit::Words;
-
-// The byte at a place of some bytes again and again.
-fn byte_at(pattern: &[u8], place: usize) -> u8 {
-    let i = place.checked_rem(pattern.len()).unwrap_or(0);
-    pattern.get(i).copied().unwrap_or(0)
-}
-
-// Whether a piece goes on with these bytes again and again from a place on.
-fn repeats(pattern: &[u8], place: usize, piece: &[u8]) -> bool {
-    for (i, byte) in piece.iter().enumerate() {
-        if *byte != byte_at(pattern, place.wrapping_add(i)) {
-            return false;
-        }
-    }
-    true
-}
+use test_kit::{Row, Words};
 
 // A reader of some bytes again and again, with another byte at one place. It is interrupted `halts`
 // times before each read, and behind its last byte it would block once if `fails` is true.
@@ -38,32 +22,30 @@ struct Giving<'a> {
     halts: usize,
     halted: usize,
     fails: bool,
-    // Whether it failed, and whether it was read again then.
-    has_failed: bool,
-    again: bool,
+    // How often it was read behind its last byte.
+    behind: u64,
     ghost in_len: { place ≤ len },
 }
 
 impl<'a> Giving<'a> {
     // Reads `LENGTH PUT EVERY HALTS END`, where PUT is `-` or a place and a byte.
-    fn from_row(row: &mut Words, pattern: &'a [u8]) -> Giving<'a> {
-        let len = row.take_number();
-        let put = if row.takes(b"-") {
+    fn read_from(words: &mut Words, pattern: &'a [u8]) -> Giving<'a> {
+        let len = words.take_number();
+        let put = if words.takes(b"-") {
             None
         } else {
-            Some((row.take_number(), row.take_byte()))
+            Some((words.take_number(), words.take_byte()))
         };
         Giving {
             pattern,
             put,
             place: 0,
             len,
-            every: row.take_number(),
-            halts: row.take_number(),
+            every: words.take_number(),
+            halts: words.take_number(),
             halted: 0,
-            fails: row.is_either(b"fails", b"ends"),
-            has_failed: false,
-            again: false,
+            fails: words.is_either(b"fails", b"ends"),
+            behind: 0,
         }
     }
 
@@ -77,71 +59,22 @@ impl<'a> Giving<'a> {
 
 impl Read for Giving<'_> {
     fn read(&mut self, buf: &mut [u8]) -> io::Result<usize> {
-        self.again = self.again || self.has_failed;
         if self.halted < self.halts {
             self.halted += 1;
             return Err(io::Error::from(ErrorKind::Interrupted));
         }
         self.halted = 0;
-        let count = buf.len().min(self.every).min(self.len - self.place);
-        if self.place == self.len && self.fails && !self.has_failed {
-            self.has_failed = true;
-            return Err(io::Error::from(ErrorKind::WouldBlock));
+        if self.place == self.len {
+            self.behind = self.behind.saturating_add(1);
+            if self.fails && self.behind == 1 {
+                return Err(io::Error::from(ErrorKind::WouldBlock));
+            }
         }
+        let count = buf.len().min(self.every).min(self.len - self.place);
         for i in 0..count {
             buf[i] = self.byte(self.place.wrapping_add(i));
         }
         self.place += count;
-        Ok(count)
-    }
-}
-
-// A sink that takes so many bytes and then refuses, and sees whether they are some bytes again and
-// again, and whether it was put to after it refused.
-#[derive(Drop)]
-struct Taking<'a> {
-    pattern: &'a [u8],
-    taken: usize,
-    room: usize,
-    failed: u64,
-    has_refused: bool,
-    is_right: bool,
-    ghost in_room: { taken ≤ room },
-}
-
-impl<'a> Taking<'a> {
-    // One that has counted so many failures already.
-    fn new(pattern: &'a [u8], room: usize, failed: u64) -> Taking<'a>
-        ensures { (⟦<Taking<'a> as Sink>⟧.state result).failures ≡ failed }
-    {
-        Taking {
-            pattern,
-            taken: 0,
-            room,
-            failed,
-            has_refused: false,
-            is_right: true,
-        }
-    }
-}
-
-impl Sink for Taking<'_> {
-    ghost state = { λ sink. record { taken = None; failures = sink.failed; free = None; loan = None } };
-
-    fn failures(&self) -> u64 {
-        self.failed
-    }
-
-    fn put(&mut self, piece: &[u8]) -> Result<usize, SinkFault> {
-        let count = piece.len().min(self.room - self.taken);
-        let is_right = repeats(self.pattern, self.taken, &piece[..count]);
-        self.is_right = self.is_right && is_right && !self.has_refused;
-        self.taken += count;
-        if count == 0 && !piece.is_empty() {
-            self.has_refused = true;
-            self.failed += 1;
-            return Err(SinkFault);
-        }
         Ok(count)
     }
 }
@@ -164,30 +97,26 @@ fn answer(words: &mut Words) -> Result<usize, StreamFault> {
 /// at most so many, before each of which so many are interrupted, and then the end or a failed read;
 /// into a sink of so much room that has counted so many failures. The answer, and how many bytes the
 /// sink has taken, which repeat those that stand behind.
-pub fn stream_row(row: &mut Words, wanted: &mut Words, buffers: &mut Buffers) -> Option<bool> {
-    let is_decoded = row.is_either(b"decode", b"encode");
-    let case = row.take_policy();
-    row.take_bytes(&mut buffers.given);
-    let mut reader = Giving::from_row(row, buffers.given.as_slice());
-    let (room, failures) = (row.take_number(), row.take_growths());
+pub fn stream_row(row: &mut Row) -> bool {
+    let is_decoded = row.call.is_either(b"decode", b"encode");
+    let case = row.call.take_policy();
+    row.call.take_bytes(&mut row.given);
+    let mut reader = Giving::read_from(&mut row.call, row.given.as_slice());
+    let (room, failures) = (row.call.take_number(), row.call.take_growths());
+    let want = answer(&mut row.answer);
+    let taken = row.answer.take_number();
+    row.answer.take_bytes(&mut row.wanted);
     if failures == u64::MAX {
-        return None;
+        return false;
     }
-    let want = answer(wanted);
-    let taken = wanted.take_number();
-    wanted.take_bytes(&mut buffers.wanted);
-    let mut sink = Taking::new(buffers.wanted.as_slice(), room, failures);
+    let mut sink = Taking::new(Mode::ThenRefuses, row.wanted.as_slice(), room, failures);
     let got = if is_decoded {
         decode_stream(&mut reader, &mut sink, case)
     } else {
         encode_stream(&mut reader, &mut sink, case == CheckCase::Upper)
     };
-    let counted = failures.wrapping_add(u64::from(sink.has_refused));
-    Some(
-        got == want
-            && sink.taken == taken
-            && sink.is_right
-            && sink.failed == counted
-            && !reader.again,
-    )
+    let is_full = matches!(got, Err(StreamFault::Write(_)));
+    got == want
+        && !(reader.fails && reader.behind > 1)
+        && sink.has_taken(taken, failures.wrapping_add(u64::from(is_full)))
 }

@@ -1,117 +1,69 @@
-//! Rows of the calls that encode into a string, new, appended to or of a fixed capacity.
+//! Rows of the calls that return a vector or a string, or append to one.
 
-ghost use Rattle.std.specs.Prelude.{◌<◌};
-
-use crate::terms::{Answer, Buffers, Given, Grown, are_answer, is_answer, source};
+use crate::terms::{Answer, Destination, Given, answer, is_answer};
 use hex_codec::{
-    heapless_08, hex_append, hex_append_into, hex_append_upper, hex_string, hex_string_upper,
+    hex_append, hex_append_into, hex_append_upper, hex_decode_vec, hex_decode_vec_with_case,
+    hex_string, hex_string_upper,
 };
-use hex_core::Error;
-use std::alloc::{Allocator, Global};
+use std::alloc::Global;
+use test_kit::Row;
 use test_kit::refusing::Refusing;
-use test_kit::{Bytes, Words};
 
-// The most appends of a row that follow one another.
-const APPENDS: usize = 8;
+// A string that is appended to.
+type Text<'r> = String<&'r Refusing<Global>>;
 
-// Whether a text of at most `N` digits answers so.
-fn is_fixed<const N: usize>(given: Given<'_>, want: Answer<'_>) -> bool
-    requires { N < 600 }
-{
+// Whether a vector is read so, in no more room than it needs, by the call that names no policy where
+// `is_plain` is true.
+fn is_read(alloc: &Refusing<Global>, given: Given<'_>, is_plain: bool, want: Answer<'_>) -> bool {
+    let got = if is_plain {
+        hex_decode_vec(alloc, given.src)
+    } else {
+        hex_decode_vec_with_case(alloc, given.src, given.case)
+    };
+    match got {
+        Ok(bytes) => bytes.capacity() == bytes.len() && want == Ok(bytes.as_slice()),
+        Err(e) => want == Err(e),
+    }
+}
+
+/// `vector POLICY GRANTED DIGITS`: how many growths it asks for, and the answer.
+pub fn vector_row(row: &mut Row, to: &mut Destination) -> bool {
+    let given = Given::read(&mut row.call, &mut row.given, to.from);
+    let asked = row.answer.take_growths();
+    let want = answer(&mut row.answer, &mut row.wanted);
+    let refusing = Refusing::new(row.alloc, given.number as u64);
+    let is_so = is_read(&refusing, given, false, want) && refusing.is_settled(asked);
+    if !given.is_plain() {
+        return is_so;
+    }
+    let refusing = Refusing::new(row.alloc, given.number as u64);
+    is_so && is_read(&refusing, given, true, want) && refusing.is_settled(asked)
+}
+
+// Whether a string is written so, in no more room than it needs.
+fn is_written(alloc: &Refusing<Global>, given: Given<'_>, want: Answer<'_>) -> bool {
     let got = if given.is_upper() {
-        heapless_08::hex_string_upper::<N>(given.src)
+        hex_string_upper(alloc, given.src)
     } else {
-        heapless_08::hex_string::<N>(given.src)
+        hex_string(alloc, given.src)
     };
     match got {
-        Ok(text) => are_answer(text.as_str().as_bytes(), want),
-        Err(e) => is_answer(e, want),
+        Ok(text) => text.capacity() == text.len() && want == Ok(text.as_str().as_bytes()),
+        Err(e) => want == Err(e),
     }
 }
 
-fn is_short(given: Given<'_>, want: Answer<'_>) -> Option<bool> {
-    match given.number {
-        0 => Some(is_fixed::<0>(given, want)),
-        1 => Some(is_fixed::<1>(given, want)),
-        2 => Some(is_fixed::<2>(given, want)),
-        3 => Some(is_fixed::<3>(given, want)),
-        4 => Some(is_fixed::<4>(given, want)),
-        8 => Some(is_fixed::<8>(given, want)),
-        15 => Some(is_fixed::<15>(given, want)),
-        16 => Some(is_fixed::<16>(given, want)),
-        _ => None,
-    }
+/// `string CASE GRANTED BYTES`: how many growths it asks for, and the answer.
+pub fn string_row(row: &mut Row, to: &mut Destination) -> bool {
+    let given = Given::read(&mut row.call, &mut row.given, to.from);
+    let asked = row.answer.take_growths();
+    let want = answer(&mut row.answer, &mut row.wanted);
+    let refusing = Refusing::new(row.alloc, given.number as u64);
+    is_written(&refusing, given, want) && refusing.is_settled(asked)
 }
 
-fn is_long(given: Given<'_>, want: Answer<'_>) -> Option<bool> {
-    match given.number {
-        17 => Some(is_fixed::<17>(given, want)),
-        31 => Some(is_fixed::<31>(given, want)),
-        32 => Some(is_fixed::<32>(given, want)),
-        33 => Some(is_fixed::<33>(given, want)),
-        127 => Some(is_fixed::<127>(given, want)),
-        128 => Some(is_fixed::<128>(given, want)),
-        129 => Some(is_fixed::<129>(given, want)),
-        513 => Some(is_fixed::<513>(given, want)),
-        _ => None,
-    }
-}
-
-/// Returns whether a text of as much capacity as the number says answers so.
-pub fn is_fixed_written(given: Given<'_>, want: Answer<'_>) -> Option<bool> {
-    if given.number < 17 {
-        is_short(given, want)
-    } else {
-        is_long(given, want)
-    }
-}
-
-// Whether a string answers so, in no more room than it needs.
-fn is_string<A: Allocator + Drop>(got: Result<String<A>, Error>, want: Answer<'_>) -> bool {
-    match got {
-        Ok(text) => { text.capacity() == text.len() && are_answer(text.as_str().as_bytes(), want) }
-        Err(e) => is_answer(e, want),
-    }
-}
-
-/// Returns whether a string answers so, where so many growths are granted.
-pub fn is_string_written(alloc: Global, given: Given<'_>, want: Grown<'_>) -> bool {
-    let refusing = Refusing::new(alloc, given.granted());
-    let is_written = if given.is_upper() {
-        is_string(hex_string_upper(&refusing, given.src), want.answer)
-    } else {
-        is_string(hex_string(&refusing, given.src), want.answer)
-    };
-    is_written && refusing.is_settled(want.asked)
-}
-
-// Whether the call that lends the suffix answers so.
-fn lends(given: Given<'_>, text: &mut String<&Refusing<Global>>, want: Answer<'_>) -> bool {
-    let got = if given.is_upper() {
-        hex_append_upper(given.src, text)
-    } else {
-        hex_append(given.src, text)
-    };
-    match got {
-        Ok(suffix) => are_answer(suffix.as_bytes(), want),
-        Err(e) => is_answer(e, want),
-    }
-}
-
-// Whether the call that answers nothing does so.
-fn appends(given: Given<'_>, text: &mut String<&Refusing<Global>>, want: Answer<'_>) -> bool {
-    match hex_append_into(given.src, text, given.is_upper()) {
-        Ok(()) => want.is_ok(),
-        Err(e) => is_answer(e, want),
-    }
-}
-
-// A string of this capacity that holds this text.
-fn with_text<'r>(
-    alloc: &'r Refusing<Global>,
-    capacity: usize,
-    text: &[u8],
-) -> Option<String<&'r Refusing<Global>>> {
+// A string of this capacity that holds this text, in the one growth that is granted.
+fn with_text<'r>(alloc: &'r Refusing<Global>, capacity: usize, text: &[u8]) -> Option<Text<'r>> {
     let text = str::from_utf8(text).ok()?;
     let mut string = String::with_capacity(alloc, capacity).ok()?;
     match string.push_str(text) {
@@ -120,100 +72,92 @@ fn with_text<'r>(
     }
 }
 
-/// A string that is appended to: its capacity, and its text before and after the call.
-#[derive(Clone, Copy)]
-pub struct Appended<'a> {
-    /// Its capacity before the call.
-    pub capacity: usize,
-    /// Its text before the call.
-    pub before: &'a [u8],
-    /// Its text after the call.
-    pub after: &'a [u8],
+// Whether the call that lends the suffix answers so.
+fn lends(given: Given<'_>, text: &mut Text<'_>, want: Answer<'_>) -> bool {
+    let got = if given.is_upper() {
+        hex_append_upper(given.src, text)
+    } else {
+        hex_append(given.src, text)
+    };
+    is_answer(got, want)
 }
 
-impl<'a> Appended<'a> {
-    /// Reads the capacity and the text before the call, and the text after it.
-    pub fn read(
-        row: &mut Words,
-        answer: &mut Words,
-        before: &'a mut Bytes,
-        after: &'a mut Bytes,
-    ) -> Appended<'a> {
-        let capacity = row.take_number();
-        row.take_bytes(before);
-        answer.take_bytes(after);
-        Appended {
-            capacity,
-            before: before.as_slice(),
-            after: after.as_slice(),
-        }
+// Whether the call that answers nothing does so.
+fn appends(given: Given<'_>, text: &mut Text<'_>, want: Answer<'_>) -> bool {
+    match hex_append_into(given.src, text, given.is_upper()) {
+        Ok(()) => want.is_ok(),
+        Err(e) => want == Err(e),
     }
+}
 
-    // Whether a string is the wanted one after the call, in no more room than a growth gave it.
-    fn is_after(self, text: &String<&Refusing<Global>>, want: Grown<'_>) -> bool {
-        let is_kept = want.asked == 0 || want.answer.is_err();
-        text.as_str().as_bytes() == self.after && (is_kept || text.capacity() == text.len())
-    }
+// What an append finds and leaves.
+#[derive(Clone, Copy)]
+struct Appended<'a> {
+    capacity: usize,
+    before: &'a [u8],
+    after: &'a [u8],
+    asked: u64,
+}
 
-    // Whether an append answers so and leaves the text afterwards: that of the call that lends the
-    // suffix where `is_lent` is true, and else that of the one that answers nothing.
-    fn is_left(self, alloc: Global, given: Given<'_>, want: Grown<'_>, is_lent: bool) -> bool {
+impl Appended<'_> {
+    // Whether an append answers so and leaves the text afterwards, in no more room than a growth gave
+    // it: the call that lends the suffix where `is_lent` is true, and else the one that answers nothing.
+    fn is_left(self, alloc: Global, given: Given<'_>, is_lent: bool, want: Answer<'_>) -> bool {
         let refusing = Refusing::new(alloc, 1);
         let Some(mut text) = with_text(&refusing, self.capacity, self.before) else {
             return false;
         };
         let before = refusing.asked();
-        refusing.set_left(given.granted());
+        refusing.set_left(given.number as u64);
         let is_answered = if is_lent {
-            lends(given, &mut text, want.answer)
+            lends(given, &mut text, want)
         } else {
-            appends(given, &mut text, want.answer)
+            appends(given, &mut text, want)
         };
-        let asked = refusing.asked().wrapping_sub(before);
-        is_answered && asked == want.asked && self.is_after(&text, want)
-    }
-
-    /// Returns whether each append answers so and leaves the text afterwards, where so many growths
-    /// are granted.
-    pub fn are_left(self, alloc: Global, given: Given<'_>, want: Grown<'_>) -> bool {
-        self.is_left(alloc, given, want, true) && self.is_left(alloc, given, want, false)
+        let is_kept = self.asked == 0 || want.is_err();
+        is_answered
+            && refusing.asked().wrapping_sub(before) == self.asked
+            && text.as_str().as_bytes() == self.after
+            && (is_kept || text.capacity() == text.len())
     }
 }
 
-// Whether the appends that are left of a row follow one another in a string so.
-fn follow(
-    text: &mut String<&Refusing<Global>>,
-    row: &mut Words,
-    answer: &mut Words,
-    (given, wanted): (&mut Bytes, &mut Bytes),
-) -> bool {
-    for _ in 0..APPENDS {
-        if row.are_read() {
-            break;
-        }
-        let next = Given {
-            case: row.take_policy(),
-            number: 0,
-            src: source(row, given, 0),
-        };
-        answer.take_bytes(wanted);
-        if !lends(next, text, Ok(wanted.as_slice())) {
-            return false;
-        }
-    }
-    true
+/// `append CASE GRANTED BYTES CAPACITY TEXT`: how many growths it asks for, the answer, and the text
+/// afterwards.
+pub fn append_row(row: &mut Row) -> bool {
+    let given = Given::read(&mut row.call, &mut row.given, 0);
+    let capacity = row.call.take_number();
+    row.call.take_bytes(&mut row.first);
+    let asked = row.answer.take_growths();
+    let want = answer(&mut row.answer, &mut row.wanted);
+    row.answer.take_bytes(&mut row.second);
+    let text = Appended {
+        capacity,
+        before: row.first.as_slice(),
+        after: row.second.as_slice(),
+        asked,
+    };
+    text.is_left(row.alloc, given, true, want) && text.is_left(row.alloc, given, false, want)
 }
 
-/// `appends CAPACITY TEXT CASE BYTES CASE BYTES ..`: the suffix that each answers, and the text behind
-/// the last one. None of them asks for a growth.
-pub fn appends_row(row: &mut Words, answer: &mut Words, buffers: &mut Buffers) -> Option<bool> {
-    let refusing = Refusing::new(buffers.alloc, 1);
-    let capacity = row.take_number();
-    row.take_bytes(&mut buffers.before);
-    let mut text = with_text(&refusing, capacity, buffers.before.as_slice())?;
+/// `appends CAPACITY TEXT CASE BYTES CASE BYTES CASE BYTES`: the suffix that each of three answers, and
+/// the text behind the last one. None of them asks for a growth.
+pub fn appends_row(row: &mut Row) -> bool {
+    let refusing = Refusing::new(row.alloc, 1);
+    let capacity = row.call.take_number();
+    row.call.take_bytes(&mut row.first);
+    let Some(mut text) = with_text(&refusing, capacity, row.first.as_slice()) else {
+        return false;
+    };
     let asked = refusing.asked();
-    let to = (&mut buffers.given, &mut buffers.wanted);
-    let is_answered = follow(&mut text, row, answer, to) && refusing.asked() == asked;
-    answer.take_bytes(&mut buffers.after);
-    Some(is_answered && text.as_str().as_bytes() == buffers.after.as_slice())
+    let mut is_right = true;
+    for _ in 0..3 {
+        let case = row.call.take_policy();
+        row.call.take_bytes(&mut row.given);
+        row.answer.take_bytes(&mut row.wanted);
+        let given = Given::new(case, 0, row.given.as_slice());
+        is_right = is_right && lends(given, &mut text, Ok(row.wanted.as_slice()));
+    }
+    row.answer.take_bytes(&mut row.second);
+    is_right && refusing.asked() == asked && text.as_str().as_bytes() == row.second.as_slice()
 }

@@ -1,12 +1,12 @@
-//! What rows are made of: policies, letter cases, answers, and the destination of a call.
+//! What rows are made of: where a call reads from and writes to, and what it answers.
 
 use hex_codec::Group;
-use hex_core::{CheckCase, Error};
-use std::alloc::Global;
+use hex_core::{Backend, CheckCase, Error, backends};
+use std::convert::AsSlice;
 use test_kit::{Bytes, Words};
 
-/// What a destination holds before a call, and what stands beside it. No policy reads it.
-pub const FILL: u8 = 0xa5;
+// What a destination holds before a call, and what stands beside it. No policy reads it.
+const FILL: u8 = 0xa5;
 
 // How many bytes stand on each side of a destination, and behind a source.
 const GUARD: usize = 64;
@@ -14,8 +14,13 @@ const GUARD: usize = 64;
 // The longest destination, with what stands beside it.
 const WHOLE: usize = 8_600;
 
-/// What a call that writes into a slice answers: the written front, or the refusal.
-pub type Answer<'a> = Result<&'a [u8], Error>;
+/// How many plans there are: those that are listed, and behind them the one that is not.
+pub const PLANS: usize = 6;
+
+/// Returns the plan of this number.
+pub fn plan(number: usize) -> Backend {
+    backends().get(number).copied().unwrap_or(Backend::plain())
+}
 
 /// Where a call writes to: so many bytes of a larger buffer, which is filled anew for each call.
 #[derive(Drop)]
@@ -24,9 +29,28 @@ pub struct Destination {
     room: usize,
     /// How many more bytes stand before it.
     pub shift: usize,
+    /// How many bytes stand before the source.
+    pub from: usize,
 }
 
 impl Destination {
+    /// Returns one that is filled.
+    pub fn new() -> Destination {
+        Destination {
+            whole: [FILL; WHOLE],
+            room: 0,
+            shift: 0,
+            from: 0,
+        }
+    }
+
+    /// Reads `at FROM SHIFT`, which may stand before a call.
+    pub fn place(&mut self, call: &mut Words) {
+        let is_placed = call.takes(b"at");
+        self.from = if is_placed { call.take_number() } else { 0 };
+        self.shift = if is_placed { call.take_number() } else { 0 };
+    }
+
     // Where the bytes that are lent begin.
     fn start(&self) -> usize {
         self.shift.saturating_add(GUARD)
@@ -46,60 +70,16 @@ impl Destination {
     /// Returns whether the bytes that were lent begin with `front`, and all else is as it was filled.
     pub fn holds(&self, front: &[u8]) -> bool {
         let behind = self.room.saturating_add(GUARD);
-        let Some((before, rest)) = self.whole.split_at_checked(self.start()) else {
-            return false;
-        };
-        let Some(rest) = rest.get(..behind) else {
-            return false;
-        };
-        is_filled(before) && rest.strip_prefix(front).is_some_and(is_filled)
-    }
-}
-
-/// What a row is read into, where its call writes to, and where it takes memory from.
-#[derive(Drop)]
-pub struct Buffers {
-    /// The bytes of the row.
-    pub given: Bytes,
-    /// The bytes of its answer.
-    pub wanted: Bytes,
-    /// A text that its call appends to.
-    pub before: Bytes,
-    /// The same text after the call.
-    pub after: Bytes,
-    /// How many bytes stand before its source.
-    pub from: usize,
-    /// Where its call writes to.
-    pub destination: Destination,
-    /// Where it takes memory from.
-    pub alloc: Global,
-}
-
-impl Buffers {
-    /// Returns buffers that hold nothing.
-    pub fn new(alloc: Global) -> Buffers {
-        let destination = Destination {
-            whole: [FILL; WHOLE],
-            room: 0,
-            shift: 0,
-        };
-        Buffers {
-            given: Bytes::new(),
-            wanted: Bytes::new(),
-            before: Bytes::new(),
-            after: Bytes::new(),
-            from: 0,
-            destination,
-            alloc,
-        }
+        let whole = self.whole.split_at_checked(self.start());
+        let (before, rest) = whole.unwrap_or_default();
+        let rest = rest.get(..behind).unwrap_or_default();
+        let kept = rest.get(front.len()..).unwrap_or_default();
+        !kept.is_empty() && rest.starts_with(front) && is_filled(before) && is_filled(kept)
     }
 
-    /// Reads `at FROM SHIFT`, which may stand before a call: how many bytes stand before its source,
-    /// and how many more before its destination.
-    pub fn place(&mut self, row: &mut Words) {
-        let is_placed = row.takes(b"at");
-        self.from = if is_placed { row.take_number() } else { 0 };
-        self.destination.shift = if is_placed { row.take_number() } else { 0 };
+    /// Returns whether nothing but an answer was written.
+    pub fn has(&self, answer: Answer<'_>) -> bool {
+        self.holds(answer.unwrap_or_default())
     }
 }
 
@@ -113,29 +93,26 @@ fn is_filled(bytes: &[u8]) -> bool {
     true
 }
 
-// Moves the first bytes, `len` of them, behind so many that no policy reads, and lends them there.
-fn moved(bytes: &mut [u8], len: usize, from: usize) -> &[u8] {
+/// Reads a source, before which stand `from` bytes that no policy reads, at most as many as a guard
+/// has, and behind which stand more of them.
+pub fn source<'a>(words: &mut Words, bytes: &'a mut Bytes, from: usize) -> &'a [u8] {
+    words.take_bytes(bytes);
+    let len = bytes.len();
     let end = len.saturating_add(from);
-    if bytes.len() < end {
+    if bytes.try_extend_from_slice(&[FILL; 2 * GUARD]).is_err()
+        || GUARD < from
+        || bytes.len() < end
+    {
+        words.misread();
         return &[];
     }
+    let bytes = bytes.as_mut_slice();
     bytes.copy_within(..len, from);
     bytes[..from].fill(FILL);
     &bytes[from..end]
 }
 
-/// Reads a source, before which stand `from` bytes that no policy reads, at most as many as a guard
-/// has, and behind which stand more of them.
-pub fn source<'a>(row: &mut Words, bytes: &'a mut Bytes, from: usize) -> &'a [u8] {
-    row.take_bytes(bytes);
-    let len = bytes.len();
-    if bytes.try_extend_from_slice(&[FILL; 2 * GUARD]).is_err() || GUARD < from {
-        row.misread();
-    }
-    moved(bytes.as_mut_slice(), len, from)
-}
-
-/// What most rows end with: a policy or a letter case, a number, and a source.
+/// What most rows have: a policy or a letter case, a number, and a source.
 #[derive(Clone, Copy)]
 pub struct Given<'a> {
     /// The policy, or the one that reads the letter case alone.
@@ -147,17 +124,15 @@ pub struct Given<'a> {
 }
 
 impl<'a> Given<'a> {
-    /// Reads what is left of a row, whose source stands behind `from` bytes.
-    pub fn read_behind(row: &mut Words, bytes: &'a mut Bytes, from: usize) -> Given<'a> {
-        let case = row.take_policy();
-        let number = row.take_number();
-        let src = source(row, bytes, from);
+    /// Returns all three.
+    pub fn new(case: CheckCase, number: usize, src: &'a [u8]) -> Given<'a> {
         Given { case, number, src }
     }
 
-    /// Reads what is left of a row.
-    pub fn read(row: &mut Words, bytes: &'a mut Bytes) -> Given<'a> {
-        Given::read_behind(row, bytes, 0)
+    /// Reads all three, the source behind `from` bytes.
+    pub fn read(words: &mut Words, bytes: &'a mut Bytes, from: usize) -> Given<'a> {
+        let (case, number) = (words.take_policy(), words.take_number());
+        Given::new(case, number, source(words, bytes, from))
     }
 
     /// Returns whether the letter case is `upper`.
@@ -169,79 +144,55 @@ impl<'a> Given<'a> {
     pub fn is_plain(self) -> bool {
         self.case == CheckCase::None
     }
+}
 
-    /// Returns the number as so many growths.
-    pub fn granted(self) -> u64 {
-        self.number as u64
+/// What a call answers: bytes, or a refusal.
+pub type Answer<'a, E = Error> = Result<&'a [u8], E>;
+
+/// Reads an answer: `ok` and bytes, or a refusal, behind which stands `kept` where a call leaves its
+/// destination as it was.
+pub fn answer<'a>(words: &mut Words, bytes: &'a mut Bytes) -> Answer<'a> {
+    if words.takes(b"ok") {
+        words.take_bytes(bytes);
+        return Ok(bytes.as_slice());
+    }
+    let refusal = words.take_refusal();
+    words.takes(b"kept");
+    Err(refusal)
+}
+
+/// Returns whether a call that answers bytes answers so.
+pub fn is_answer<T: AsSlice<u8> + Drop>(got: Result<T, Error>, want: Answer<'_>) -> bool {
+    match got {
+        Ok(bytes) => want == Ok(bytes.as_slice()),
+        Err(e) => want == Err(e),
     }
 }
 
-/// Reads `invalid`, and the place and the byte behind it.
-pub fn invalid(answer: &mut Words) -> (usize, u8) {
-    answer.wants(b"invalid");
-    (answer.take_number(), answer.take_byte())
+/// Returns whether a call that counts what it writes answers so.
+pub fn is_count(got: Result<usize, Error>, want: Answer<'_>) -> bool {
+    match got {
+        Ok(count) => want.is_ok() && count == want.unwrap_or_default().len(),
+        Err(e) => want == Err(e),
+    }
 }
 
-/// Reads an answer: `ok` and bytes, or a refusal.
-pub fn answer<'a>(answer: &mut Words, bytes: &'a mut Bytes) -> Answer<'a> {
-    if answer.takes(b"ok") {
-        answer.take_bytes(bytes);
-        Ok(bytes.as_slice())
+/// Reads a number, or a word that stands for none.
+pub fn number_or(words: &mut Words, none: &[u8]) -> Option<usize> {
+    if words.takes(none) {
+        None
     } else {
-        Err(answer.take_refusal())
+        Some(words.take_number())
     }
 }
 
-/// Returns whether the answer is bytes, and these.
-pub fn are_answer(bytes: &[u8], want: Answer<'_>) -> bool {
-    match want {
-        Ok(want) => bytes == want,
-        Err(_) => false,
+/// Reads how many bytes a piece has, and the separator. Returns their group, or `None` where they are
+/// none, and so were misread.
+pub fn group(words: &mut Words) -> Option<Group> {
+    let every = words.take_number();
+    let group = Group::new(every, words.take_byte());
+    if group.is_none() {
+        words.misread();
     }
-}
-
-/// Returns whether the answer is a refusal, and this one.
-pub fn is_answer(e: Error, want: Answer<'_>) -> bool {
-    match want {
-        Ok(_) => false,
-        Err(refusal) => e == refusal,
-    }
-}
-
-/// What a call that takes memory answers, and how many growths it asks for.
-#[derive(Clone, Copy)]
-pub struct Grown<'a> {
-    /// How many growths it asks for.
-    pub asked: u64,
-    /// Its answer.
-    pub answer: Answer<'a>,
-}
-
-impl<'a> Grown<'a> {
-    /// Reads how many growths are asked for, and an answer.
-    pub fn read(words: &mut Words, bytes: &'a mut Bytes) -> Grown<'a> {
-        let asked = words.take_growths();
-        let answer = answer(words, bytes);
-        Grown { asked, answer }
-    }
-}
-
-/// Reads how many bytes a piece has, and the separator. Returns their group, if they are one.
-pub fn group(row: &mut Words) -> Option<Group> {
-    let every = row.take_number();
-    Group::new(every, row.take_byte())
-}
-
-/// Reads `ok` or `stopped`, and the bytes that are taken by then. Returns whether it was the latter.
-pub fn is_stopped(answer: &mut Words, bytes: &mut Bytes) -> bool {
-    let is_stopped = answer.is_either(b"stopped", b"ok");
-    answer.take_bytes(bytes);
-    is_stopped
-}
-
-/// Reads an answer, behind which stands `kept` where a call leaves its destination as it was.
-pub fn front<'a>(words: &mut Words, bytes: &'a mut Bytes) -> Answer<'a> {
-    let front = answer(words, bytes);
-    let _ = front.is_err() && words.takes(b"kept");
-    front
+    group
 }

@@ -13,17 +13,6 @@ use std::cell::Cell;
 /// Each block that a collection takes counts as one allocation: its first one, each larger one that
 /// it grows into, and each smaller one that it shrinks into. To give a block back counts as none,
 /// and is never refused.
-///
-/// ```rust
-/// let alloc = Refusing::new(rt.alloc(), 0);
-/// let mut bytes = Vec::new(&alloc);
-/// assert!(rt; bytes.push(7u8).is_err() && bytes.is_empty());
-/// assert_eq!(rt; (alloc.left(), alloc.asked()), (0, 1));
-/// alloc.set_left(2);
-/// bytes.push(7)?;
-/// assert_eq!(rt; bytes.len(), 1);
-/// assert_eq!(rt; (alloc.left(), alloc.asked()), (1, 2));
-/// ```
 #[derive(Drop)]
 pub struct Refusing<B: Allocator> {
     inner: B,
@@ -46,11 +35,9 @@ impl<B: Allocator> Refusing<B> {
     /// ```rust
     /// let alloc = Refusing::new(rt.alloc(), 1);
     /// let _ = String::with_capacity(&alloc, 9)?;
-    /// assert_eq!(rt; (alloc.left(), alloc.asked()), (0, 1));
     /// assert!(rt; String::with_capacity(&alloc, 9).is_err());
-    /// assert_eq!(rt; (alloc.left(), alloc.asked()), (0, 2));
     /// let _ = String::with_capacity(&alloc, 0)?;
-    /// assert_eq!(rt; (alloc.left(), alloc.asked()), (0, 2));
+    /// assert_eq!(rt; alloc.asked(), 2);
     /// ```
     pub fn new(inner: B, left: u64) -> Refusing<B> {
         Refusing::with_behind(inner, left, 0)
@@ -63,8 +50,7 @@ impl<B: Allocator> Refusing<B> {
     /// let _ = String::with_capacity(&alloc, 9)?;
     /// assert!(rt; String::with_capacity(&alloc, 9).is_err());
     /// let _ = String::with_capacity(&alloc, 9)?;
-    /// let _ = String::with_capacity(&alloc, 9)?;
-    /// assert_eq!(rt; alloc.asked(), 4);
+    /// assert_eq!(rt; alloc.asked(), 3);
     /// ```
     pub fn once(inner: B, left: u64) -> Refusing<B> {
         Refusing::with_behind(inner, left, u64::MAX)
@@ -83,36 +69,15 @@ impl<B: Allocator> Refusing<B> {
         }
     }
 
-    /// How many allocations it still grants.
-    ///
-    /// It falls by one with each that is granted, also where `inner` then has no memory. So the
-    /// difference of two answers is the number granted between them.
-    ///
-    /// ```rust
-    /// let alloc = Refusing::new(rt.alloc(), 3);
-    /// let mut bytes = Vec::with_capacity(&alloc, 1)?;
-    /// let mut text = String::from_str(&alloc, "ab")?;
-    /// bytes.push(1u8)?;
-    /// assert_eq!(rt; alloc.left(), 1);
-    /// bytes.push(2)?;
-    /// assert_eq!(rt; alloc.left(), 0);
-    /// ```
-    pub fn left(&self) -> u64 {
-        self.counts.left.get()
-    }
-
     /// From now on grants `left` allocations and refuses the rest.
     ///
     /// ```rust
-    /// let alloc = Refusing::new(rt.alloc(), 2);
-    /// let bytes = Vec::<u8, _>::with_capacity(&alloc, 2)?;
-    /// let mut text = String::from_str(&alloc, "ab")?;
-    /// let long = "more than there is room for, however much a text takes at once";
-    /// assert!(rt; text.push_str(long).is_err() && text.as_str() == "ab");
+    /// let alloc = Refusing::new(rt.alloc(), 0);
+    /// let mut bytes = Vec::new(&alloc);
+    /// assert!(rt; bytes.push(7u8).is_err() && bytes.is_empty());
     /// alloc.set_left(1);
-    /// text.push_str(long)?;
-    /// assert_eq!(rt; (text.len(), bytes.len()), (64, 0));
-    /// assert_eq!(rt; (alloc.left(), alloc.asked()), (0, 4));
+    /// bytes.push(7)?;
+    /// assert_eq!(rt; bytes.len(), 1);
     /// ```
     pub fn set_left(&self, left: u64) {
         self.counts.left.set(left);
@@ -126,10 +91,6 @@ impl<B: Allocator> Refusing<B> {
     /// bytes.push(7u8)?;
     /// bytes.shrink_to_fit();
     /// assert_eq!(rt; (bytes.capacity(), alloc.asked()), (9, 2));
-    /// alloc.set_left(1);
-    /// bytes.shrink_to_fit();
-    /// assert_eq!(rt; (bytes.capacity(), alloc.asked()), (1, 3));
-    /// assert_eq!(rt; (bytes.len(), alloc.left()), (1, 0));
     /// ```
     pub fn asked(&self) -> u64 {
         self.counts.asked.get()
@@ -139,13 +100,11 @@ impl<B: Allocator> Refusing<B> {
     /// back.
     ///
     /// ```rust
-    /// let alloc = Refusing::new(rt.alloc(), 2);
-    /// let mut bytes = Vec::with_capacity(&alloc, 9)?;
-    /// bytes.push(7u8)?;
-    /// bytes.shrink_to_fit();
-    /// assert!(rt; !alloc.is_settled(2));
+    /// let alloc = Refusing::new(rt.alloc(), 1);
+    /// let bytes = Vec::<u8, _>::with_capacity(&alloc, 9)?;
+    /// assert!(rt; !alloc.is_settled(1));
     /// drop(bytes);
-    /// assert!(rt; alloc.is_settled(2) && !alloc.is_settled(1));
+    /// assert!(rt; alloc.is_settled(1) && !alloc.is_settled(2));
     /// ```
     pub fn is_settled(&self, asked: u64) -> bool {
         self.asked() == asked && self.counts.held.get() == 0

@@ -1,0 +1,202 @@
+//! A sink that takes what is put in five ways, four of which fail, and what is put into sinks.
+
+ghost use Rattle.std.specs.Prelude.{◌≡◌, ◌≤◌, ◌^◌, ◌-◌, ◌<◌, None};
+
+use crate::terms::Destination;
+use hex_format::digests::{self, Entry, ListWriteFault};
+use hex_format::{Hex, HexFlags, Sink, SinkFault, SliceSink, WriteFault};
+use test_kit::{Bytes, Words};
+
+/// What a sink takes of a piece, where its limit is the number of bytes that it takes in all.
+#[derive(Clone, Copy, PartialEq, Eq)]
+pub enum Mode {
+    /// One byte a put.
+    OneByte,
+    /// What fits; a put where the limit is reached is refused, also of an empty piece.
+    ThenRefuses,
+    /// What fits, and a piece that does not fit whole is refused.
+    RefusesTheRest,
+    /// What fits, and none where the limit is reached.
+    ThenTakesNone,
+    /// What fits; a piece of more than 1,024 bytes is refused.
+    RefusesLong,
+}
+
+/// The modes, in the order in which rows name them.
+pub const MODES: [Mode; 5] = [
+    Mode::OneByte,
+    Mode::ThenRefuses,
+    Mode::RefusesTheRest,
+    Mode::ThenTakesNone,
+    Mode::RefusesLong,
+];
+
+impl Mode {
+    // The fault that a put into a sink that fails in this way is told as.
+    fn fault(self) -> WriteFault {
+        match self {
+            Mode::OneByte | Mode::ThenTakesNone => WriteFault::TookNothing,
+            _ => WriteFault::Sink(SinkFault),
+        }
+    }
+}
+
+/// A sink that sees whether it takes some bytes again and again, and is not put to after a failure.
+#[derive(Drop)]
+pub struct Taking<'a> {
+    mode: Mode,
+    pattern: &'a [u8],
+    taken: usize,
+    limit: usize,
+    failed: u64,
+    has_failed: bool,
+    is_right: bool,
+    ghost in_limit: { taken ≤ limit },
+}
+
+impl<'a> Taking<'a> {
+    /// One that takes `limit` bytes in this way, and has counted so many failures already.
+    pub fn new(mode: Mode, pattern: &'a [u8], limit: usize, failed: u64) -> Taking<'a>
+        ensures { (⟦<Taking<'a> as Sink>⟧.state result).failures ≡ failed }
+    {
+        Taking {
+            mode,
+            pattern,
+            taken: 0,
+            limit,
+            failed,
+            has_failed: false,
+            is_right: true,
+        }
+    }
+
+    /// Whether it has taken so many bytes, all of them right, and counts so many failures.
+    pub fn has_taken(&self, count: usize, failures: u64) -> bool {
+        self.is_right && self.taken == count && self.failed == failures
+    }
+}
+
+/// Returns the byte at a place of some bytes again and again.
+pub fn byte_at(pattern: &[u8], place: usize) -> u8 {
+    let i = place.checked_rem(pattern.len()).unwrap_or(0);
+    pattern.get(i).copied().unwrap_or(0)
+}
+
+// Whether a piece goes on with these bytes again and again from a place on.
+fn repeats(pattern: &[u8], place: usize, piece: &[u8]) -> bool {
+    for i in 0..piece.len() {
+        if piece[i] != byte_at(pattern, place.wrapping_add(i)) {
+            return false;
+        }
+    }
+    true
+}
+
+impl Sink for Taking<'_> {
+    ghost state = { λ sink. record { taken = None; failures = sink.failed; free = None; loan = None } };
+
+    fn failures(&self) -> u64 {
+        self.failed
+    }
+
+    fn put(&mut self, piece: &[u8]) -> Result<usize, SinkFault> {
+        let fits = piece.len().min(self.limit - self.taken);
+        let count = if self.mode == Mode::OneByte {
+            fits.min(1)
+        } else {
+            fits
+        };
+        let is_refused = match self.mode {
+            Mode::ThenRefuses => self.taken == self.limit,
+            Mode::RefusesTheRest => count < piece.len(),
+            Mode::RefusesLong => piece.len() > 1024,
+            _ => false,
+        };
+        let is_right = repeats(self.pattern, self.taken, &piece[..count]);
+        self.is_right = self.is_right && is_right && !self.has_failed;
+        self.taken += count;
+        if is_refused || (count == 0 && !piece.is_empty()) {
+            self.has_failed = true;
+            self.failed += 1;
+        }
+        if is_refused {
+            Err(SinkFault)
+        } else {
+            Ok(count)
+        }
+    }
+}
+
+/// The text that a sink has taken, and whether it then fails.
+#[derive(Clone, Copy)]
+pub struct Taken<'a> {
+    /// The text.
+    pub text: &'a [u8],
+    /// Whether the sink then fails.
+    pub is_stopped: bool,
+}
+
+impl<'a> Taken<'a> {
+    /// Reads `ok` or `stopped`, and the text.
+    pub fn read(words: &mut Words, bytes: &'a mut Bytes) -> Taken<'a> {
+        let is_stopped = words.is_either(b"stopped", b"ok");
+        words.take_bytes(bytes);
+        let text = bytes.as_slice();
+        Taken { text, is_stopped }
+    }
+
+    // Whether writing ends so, with this fault where the sink fails.
+    fn is_ended(self, answer: Result<(), ListWriteFault>, fault: WriteFault) -> bool {
+        match answer {
+            Ok(()) => !self.is_stopped,
+            Err(got) => self.is_stopped && got == ListWriteFault::Write(fault),
+        }
+    }
+}
+
+/// What is put into a sink, by flags: the text of some bytes, or of a list, for which the letter case counts.
+#[derive(Clone, Copy)]
+pub enum Put<'a, const N: usize> {
+    /// Some bytes.
+    Padded(&'a [u8]),
+    /// The entries of a list.
+    List(&'a [Entry<'a, N>]),
+}
+
+impl<'a, const N: usize> Put<'a, N> {
+    // Puts it.
+    fn write_to<S: Sink>(self, sink: &mut S, flags: &HexFlags) -> Result<(), ListWriteFault>
+        requires fits { (S.state sink.old).failures < 2 ^ 64 - 1 }
+        requires sized { N < 10000 }
+    {
+        match self {
+            Put::Padded(bytes) => match Hex::new(bytes).write_to(sink, flags) {
+                Ok(()) => Ok(()),
+                Err(fault) => Err(ListWriteFault::Write(fault)),
+            },
+            Put::List(entries) => digests::write_to(entries, sink, flags.upper),
+        }
+    }
+
+    /// Whether a slice of so much room takes it so.
+    pub fn fills(self, flags: &HexFlags, room: usize, want: Taken<'_>, to: &mut Destination) -> bool
+        requires { N < 10000 }
+    {
+        let mut sink = SliceSink::new(to.lend(room));
+        let answer = self.write_to(&mut sink, flags);
+        want.is_ended(answer, WriteFault::Sink(SinkFault))
+            && sink.written() == want.text
+            && sink.failures() == u64::from(want.is_stopped)
+            && to.holds(want.text)
+    }
+
+    /// Whether a sink that takes so many bytes, in this way, takes it so.
+    pub fn is_taken(self, flags: &HexFlags, mode: Mode, room: usize, want: Taken<'_>) -> bool
+        requires { N < 10000 }
+    {
+        let mut sink = Taking::new(mode, want.text, room, 0);
+        let answer = self.write_to(&mut sink, flags);
+        want.is_ended(answer, mode.fault())
+            && sink.has_taken(want.text.len(), u64::from(want.is_stopped))
+    }
+}
