@@ -37,10 +37,10 @@ pub fn put_nibble(bytes: &mut [u8], place: usize, nibble: u8) {
     }
 }
 
-/// Reads a source, the bytes that are wanted and the values of the digits. Puts the byte of the turn, its
-/// remainder by 256, at a place of the source. Returns this byte and its value.
-pub fn put_byte(row: &mut Row, place: usize) -> (u8, Option<u8>) {
-    let byte = (row.call.turn() % 256) as u8;
+/// Reads `PLACE BYTE SOURCE`, the bytes that are wanted and the values of the digits, and puts the byte at
+/// its place of the source. Returns the place, the byte and its value.
+pub fn put_byte(row: &mut Row) -> (usize, u8, Option<u8>) {
+    let (place, byte) = (row.call.take_number(), row.call.take_byte());
     row.call.take_bytes(&mut row.given);
     row.answer.take_bytes(&mut row.wanted);
     match row.given.get_mut(place) {
@@ -48,15 +48,14 @@ pub fn put_byte(row: &mut Row, place: usize) -> (u8, Option<u8>) {
         None => row.call.misread(),
     }
     let [value, _] = values(&mut row.answer, [byte; 2]);
-    (byte, value)
+    (place, byte, value)
 }
 
-/// `each-byte POLICY DIGITS`: the bytes, and the values of the digits. Its turn is a place of the
-/// source and a byte that is put there: 256 times the place, and the byte.
+/// `each-byte POLICY PLACE BYTE DIGITS`: the bytes, and the values of the digits, one of which may be the
+/// byte. It is put at its place of the source.
 pub fn each_byte_row(row: &mut Row, to: &mut Destination) -> bool {
-    let place = row.call.turn() / 256;
     let case = row.call.take_policy();
-    let (_, value) = put_byte(row, place);
+    let (place, _, value) = put_byte(row);
     if let Some(value) = value {
         put_nibble(row.wanted.as_mut_slice(), place, value);
     }

@@ -55,31 +55,57 @@ pub fn group_row(row: &mut Row, to: &mut Destination) -> bool {
     is_read(given, group, to, want)
 }
 
-/// `each-grouped EVERY BYTE POLICY FROM TEXT`: the bytes, and the values of the digits. Its turn is a
-/// place of the text and a byte that is put there: 256 times the place behind `FROM`, and the byte.
+// The same answer for a text that has the first `count` bytes.
+fn first(want: Reading<'_>, count: usize) -> Reading<'_> {
+    match want {
+        Ok(bytes) => Ok(bytes.get(..count).unwrap_or_default()),
+        Err(fault) => Err(fault),
+    }
+}
+
+// Whether both calls read each beginning of a grouped text so that has this place and is one, into just
+// as much room.
+fn are_read(
+    given: Given<'_>,
+    group: Group,
+    place: usize,
+    to: &mut Destination,
+    want: Reading<'_>,
+) -> bool {
+    for count in 1..=given.number {
+        let separators = count
+            .saturating_sub(1)
+            .checked_div(group.every())
+            .unwrap_or(0);
+        let len = count.saturating_mul(2).saturating_add(separators);
+        let src = given.src.get(..len).unwrap_or_default();
+        let front = Given::new(given.case, count, src);
+        if place < len && !is_read(front, group, to, first(want, count)) {
+            return false;
+        }
+    }
+    true
+}
+
+/// `each-grouped EVERY SEPARATOR POLICY PLACE BYTE TEXT`: the bytes, and the values of the digits, one of
+/// which may be the byte. It is put at its place of the text, of which each beginning is then read.
 pub fn each_grouped_row(row: &mut Row, to: &mut Destination) -> bool {
     let Some(group) = group(&mut row.call) else {
         return false;
     };
     let case = row.call.take_policy();
-    let place = row.call.take_number().saturating_add(row.call.turn() / 256);
-    let (byte, value) = put_byte(row, place);
+    let (place, byte, value) = put_byte(row);
     let digits = group.every().saturating_mul(2);
     let line = digits.saturating_add(1);
     let is_separator = place.checked_rem(line) == Some(digits);
-    let separators = place.checked_div(line).unwrap_or(0);
     let is_right = if is_separator {
         byte == group.sep()
     } else {
         value.is_some()
     };
     if !is_separator {
-        let nibble = value.unwrap_or(0);
-        put_nibble(
-            row.wanted.as_mut_slice(),
-            place.saturating_sub(separators),
-            nibble,
-        );
+        let digit = place.saturating_sub(place.checked_div(line).unwrap_or(0));
+        put_nibble(row.wanted.as_mut_slice(), digit, value.unwrap_or(0));
     }
     let bytes = row.wanted.as_slice();
     let want: Reading<'_> = if is_right {
@@ -87,10 +113,6 @@ pub fn each_grouped_row(row: &mut Row, to: &mut Destination) -> bool {
     } else {
         Err(GroupFault::InvalidByte { index: place, byte })
     };
-    is_read(
-        Given::new(case, bytes.len(), row.given.as_slice()),
-        group,
-        to,
-        want,
-    )
+    let given = Given::new(case, bytes.len(), row.given.as_slice());
+    are_read(given, group, place, to, want)
 }

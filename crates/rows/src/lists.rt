@@ -50,7 +50,7 @@ fn is_list<A: Allocator + Drop, const N: usize>(
 ) -> bool
     requires { N < 10000 }
 {
-    answer.start(answer.turn());
+    answer.go_back();
     answer.take_growths();
     let entries = match got {
         Ok(entries) => entries,

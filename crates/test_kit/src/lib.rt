@@ -2,10 +2,11 @@
 //! refuses memory, in [`refusing`].
 //!
 //! A row is a line: the words of a call, ` = ` and the words of its answer. A number before the call
-//! says how many rows the line stands for, as [`notation`] has it. A line that is empty or begins
-//! with `#` says what the rows below it show.
+//! says how many rows the line stands for, as [`notation`] and [`choices`] have it. A line that is
+//! empty or begins with `#` says what the rows below it show.
 #![tactic(auto)]
 
+pub mod choices;
 mod cursor;
 pub mod formula;
 pub mod notation;
@@ -51,28 +52,6 @@ impl Row {
         }
     }
 
-    // Holds the row of a line. Returns how many turns it stands for.
-    fn hold(&mut self, line: &str) -> usize {
-        let (call, answer) = line.split_once(" = ").unwrap_or((line, ""));
-        let call = call.as_bytes();
-        let word = first_word(call);
-        let turns = notation::number(word, 0);
-        let begin = if turns.is_none() {
-            0
-        } else {
-            word.len().saturating_add(1)
-        };
-        self.call.hold(call.get(begin..).unwrap_or_default());
-        self.answer.hold(answer.as_bytes());
-        turns.unwrap_or(1)
-    }
-
-    // Goes back to the first words, for a turn.
-    fn start(&mut self, turn: usize) {
-        self.call.start(turn);
-        self.answer.start(turn);
-    }
-
     // Whether no word is left on either side, and none was misread.
     fn is_read(&self) -> bool {
         self.call.are_read() && self.answer.are_read()
@@ -93,16 +72,29 @@ struct Counts {
     otherwise: u64,
 }
 
-// Judges so many turns of a row, and returns the first one that is answered otherwise.
+// How many rows a line stands for, and the words of its call.
+fn turns(call: &[u8]) -> (usize, &[u8]) {
+    let word = first_word(call);
+    let behind = call.get(word.len().saturating_add(1)..);
+    match notation::number(word, 0) {
+        Some(count) => (count, behind.unwrap_or_default()),
+        None => (1, call),
+    }
+}
+
+// Judges the rows of a line, and returns the first turn that is answered otherwise.
 fn turn_missed<C: Calls>(
     calls: &mut C,
     row: &mut Row,
-    turns: usize,
+    line: &str,
     counts: &mut Counts,
 ) -> Option<usize> {
     let mut missed = None;
-    for turn in 0..turns {
-        row.start(turn);
+    let (call, answer) = line.split_once(" = ").unwrap_or((line, ""));
+    let (count, call) = turns(call.as_bytes());
+    for turn in 0..count {
+        row.call.hold(call, turn);
+        row.answer.hold(answer.as_bytes(), turn);
         let is_answered = calls.is_answered(row);
         counts.rows = counts.rows.saturating_add(1);
         if !is_answered || !row.is_read() {
@@ -140,8 +132,7 @@ pub fn judge<C: Calls, R: BufRead + Drop, W: Write>(
         if is_comment(line.as_bytes()) {
             continue;
         }
-        let turns = row.hold(line.as_str());
-        if let Some(turn) = turn_missed(calls, &mut row, turns, &mut counts) {
+        if let Some(turn) = turn_missed(calls, &mut row, line.as_str(), &mut counts) {
             writeln!(output, "line {number}, turn {turn}: {}", line.as_str())?;
         }
     }

@@ -2,7 +2,8 @@
 //!
 //! Bytes are parts behind one another, with a comma between two: `0*129,g`. A part is its own
 //! letters, and `\xhh` any byte; `#00abff` are the bytes of these digits. Behind a part `*3` repeats
-//! it, and `^100` repeats it up to 100 bytes. Behind the last part `&3:g` puts a `g` at place 3,
+//! it, `^100` repeats it up to 100 bytes, and `~4:` puts a `:` between the digits of each 4 bytes and the
+//! next. Several of these follow one another, as in `00ab^100~4:`. Behind the last part `&3:g` puts a `g` at place 3,
 //! and at the end of the word `%7` keeps the first seven bytes. A lone `-` is no byte at all.
 //! [`formula`](crate::formula) has the parts in parentheses, as `(73i+i/7)^100`.
 //!
@@ -24,7 +25,10 @@ pub type Bytes = ArrayVec<u8, ROOM>;
 
 // Whether a part goes on.
 fn is_inside(word: &Cursor<'_>) -> bool {
-    !matches!(word.peek(), None | Some(b',' | b'*' | b'^' | b'&' | b'%'))
+    !matches!(
+        word.peek(),
+        None | Some(b',' | b'*' | b'^' | b'~' | b'&' | b'%')
+    )
 }
 
 // Writes the bytes of a part once.
@@ -39,17 +43,6 @@ fn write_once(word: &mut Cursor<'_>, bytes: &mut Bytes) -> Option<()> {
     Some(())
 }
 
-// How many bytes a part that wrote `once` is to have.
-fn whole(word: &mut Cursor<'_>, once: usize) -> Option<usize> {
-    if word.takes(b'*') {
-        word.number()?.checked_mul(once)
-    } else if word.takes(b'^') {
-        word.number()
-    } else {
-        Some(once)
-    }
-}
-
 // Writes the bytes of a formula, as many as it says, once its first parenthesis is read.
 fn write_formula(word: &mut Cursor<'_>, bytes: &mut Bytes) -> Option<()> {
     let formula = Formula::read(word)?;
@@ -62,16 +55,59 @@ fn write_formula(word: &mut Cursor<'_>, bytes: &mut Bytes) -> Option<()> {
     Some(())
 }
 
+// Puts a byte behind the digits of each `every` bytes behind `from`, but for the last ones.
+fn separate(bytes: &mut Bytes, from: usize, every: usize, separator: u8) -> Option<()> {
+    let digits = every.saturating_mul(2);
+    let piece = digits.saturating_add(1);
+    let len = bytes.len().checked_sub(from)?;
+    let count = len.saturating_sub(1).checked_div(digits)?;
+    let end = bytes.len().checked_add(count)?;
+    repeat(bytes, 1, end)?;
+    // From the end, so that no digit is overwritten before it has moved.
+    for place in (from..end).rev() {
+        let offset = place.checked_sub(from)?;
+        let before = place.checked_sub(offset.checked_div(piece)?)?;
+        let digit = *bytes.get(before)?;
+        *bytes.get_mut(place)? = if offset.checked_rem(piece)? == digits {
+            separator
+        } else {
+            digit
+        };
+    }
+    Some(())
+}
+
+// Changes the part behind `from` as the next byte says. Returns whether that is one that does.
+fn is_changed(word: &mut Cursor<'_>, bytes: &mut Bytes, from: usize) -> Option<bool> {
+    let once = bytes.len().checked_sub(from)?;
+    if word.takes(b'*') {
+        let whole = word.number()?.checked_mul(once)?;
+        repeat(bytes, once, whole.checked_add(from)?)?;
+    } else if word.takes(b'^') {
+        repeat(bytes, once, word.number()?.checked_add(from)?)?;
+    } else if word.takes(b'~') {
+        let every = word.number()?;
+        separate(bytes, from, every, word.byte(false)?)?;
+    } else {
+        return Some(false);
+    }
+    Some(true)
+}
+
 // Writes a part, as often as it says.
 fn write_part(word: &mut Cursor<'_>, bytes: &mut Bytes) -> Option<()> {
-    if word.takes(b'(') {
-        return write_formula(word, bytes);
-    }
     let from = bytes.len();
-    write_once(word, bytes)?;
-    let once = bytes.len().checked_sub(from)?;
-    let end = whole(word, once)?.checked_add(from)?;
-    repeat(bytes, once, end)
+    if word.takes(b'(') {
+        write_formula(word, bytes)?;
+    } else {
+        write_once(word, bytes)?;
+    }
+    for _ in 0..ROOM {
+        if !is_changed(word, bytes, from)? {
+            break;
+        }
+    }
+    Some(())
 }
 
 // Puts one byte at a place.

@@ -1,11 +1,8 @@
 //! The words of a row, read one after another.
 
+use crate::choices::{self, Side};
 use crate::notation::{self, Bytes};
-use arrayvec::ArrayVec;
 use hex_core::{CheckCase, Error};
-
-// The longest side of a row.
-const SIDE: usize = 4_000;
 
 /// Returns the first word of a text, which a space ends.
 pub fn first_word(text: &[u8]) -> &[u8] {
@@ -31,7 +28,7 @@ fn place_among(word: &[u8], names: &[u8]) -> Option<usize> {
 /// A word that can't be read as what a call takes it for is noted, so that the row is told.
 #[derive(Drop)]
 pub struct Words {
-    text: ArrayVec<u8, SIDE>,
+    text: Side,
     at: usize,
     turn: usize,
     is_misread: bool,
@@ -41,24 +38,29 @@ impl Words {
     /// Returns a side without words.
     pub fn new() -> Words {
         Words {
-            text: ArrayVec::new(),
+            text: Side::new(),
             at: 0,
             turn: 0,
             is_misread: false,
         }
     }
 
-    /// Holds the words of a side in place of its own, and none where they are too long.
-    pub fn hold(&mut self, side: &[u8]) {
+    /// Holds the words of a side in place of its own, as they are read in `turn`.
+    pub fn hold(&mut self, side: &[u8], turn: usize) {
         self.text.clear();
-        let _ = self.text.try_extend_from_slice(side).is_ok();
-    }
-
-    /// Goes back to the first word, for a turn.
-    pub fn start(&mut self, turn: usize) {
         self.at = 0;
         self.turn = turn;
-        self.is_misread = false;
+        let is_held = if choices::are_in(side) {
+            choices::write(side, turn, &mut self.text).is_some()
+        } else {
+            self.text.try_extend_from_slice(side).is_ok()
+        };
+        self.is_misread = !is_held;
+    }
+
+    /// Goes back to the first word.
+    pub fn go_back(&mut self) {
+        self.at = 0;
     }
 
     /// Takes the next word. Returns an empty one where none is left.
