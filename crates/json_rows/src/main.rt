@@ -4,59 +4,41 @@
 
 mod growths;
 mod modules;
-mod option_modules;
-mod places;
 mod readings;
 mod seen;
 mod terms;
 mod writings;
 
-use crate::readings::Reading;
 use crate::terms::refusal;
 use std::io::{self, BufReader};
 use test_kit::{Calls, Row, judge};
 
 // `print REFUSAL`: whether it prints the text that the answer is.
-fn print_row(row: &mut Row) -> Option<bool> {
+fn is_printed(row: &mut Row) -> bool {
     let error = refusal(&mut row.call);
-    let text = format!(in row.alloc; "{error}").ok()?;
-    Some(text.as_str().as_bytes() == row.answer.take_rest())
-}
-
-// A row of any call.
-fn row(row: &mut Row) -> Option<bool> {
-    if row.call.takes(b"read") {
-        readings::read_row(Reading::Whole, row)
-    } else if row.call.takes(b"read-within") {
-        readings::read_row(Reading::Within, row)
-    } else if row.call.takes(b"read-array") {
-        readings::read_row(Reading::Array, row)
-    } else if row.call.takes(b"write") {
-        writings::write_row(false, row)
-    } else if row.call.takes(b"write-array") {
-        writings::write_row(true, row)
-    } else if row.call.takes(b"long") {
-        writings::long_row(row)
-    } else if row.call.takes(b"print") {
-        print_row(row)
-    } else if row.call.takes(b"granted-read") {
-        growths::read_row(false, row)
-    } else if row.call.takes(b"granted-read-option") {
-        growths::read_row(true, row)
-    } else if row.call.takes(b"granted-text") {
-        growths::text_row(row)
-    } else {
-        None
+    match format!(in row.alloc; "{error}") {
+        Ok(text) => text.as_str().as_bytes() == row.answer.take_rest(),
+        Err(_) => false,
     }
 }
 
-// The calls of the adapters.
 #[derive(Drop)]
 struct Adapters;
 
 impl Calls for Adapters {
-    fn is_answered(&mut self, line: &mut Row) -> bool {
-        row(line) == Some(true)
+    fn is_answered(&mut self, row: &mut Row) -> bool {
+        let kinds = b"read read-within read-array write write-array long print granted-read \
+            granted-read-option granted-text";
+        match row.call.one_of(kinds) {
+            3 => writings::is_written(row, false),
+            4 => writings::is_written(row, true),
+            5 => writings::is_alike(row),
+            6 => is_printed(row),
+            7 => growths::is_read(row, false),
+            8 => growths::is_read(row, true),
+            9 => growths::is_written(row),
+            kind => readings::is_answered(kind, row),
+        }
     }
 }
 

@@ -1,73 +1,119 @@
-//! The six modules of bytes, each call by the module's format.
+//! The calls of the modules and of the adapters.
 
-use crate::terms::Format;
+ghost use Rattle.std.specs.Prelude.{◌<◌};
+
+use crate::seen::{is_array, is_bytes, is_option, is_option_array};
+use crate::terms::{Answer, Place};
 use faster_hex::{
-    AdapterError, nopfx_ignorecase, nopfx_lowercase, nopfx_uppercase, withpfx_ignorecase,
-    withpfx_lowercase, withpfx_uppercase,
+    AdapterError, adapters, nopfx_ignorecase, nopfx_lowercase, nopfx_uppercase,
+    option_nopfx_ignorecase, option_nopfx_lowercase, option_nopfx_uppercase,
+    option_withpfx_ignorecase, option_withpfx_lowercase, option_withpfx_uppercase,
+    withpfx_ignorecase, withpfx_lowercase, withpfx_uppercase,
 };
 use serde_json::Value;
 use std::alloc::Global;
 
-/// The module's `deserialize`.
-pub fn read(format: Format, alloc: Global, value: &Value) -> Result<Vec<u8>, AdapterError> {
-    match format {
-        Format::WithpfxIgnorecase => withpfx_ignorecase::deserialize(alloc, value),
-        Format::NopfxIgnorecase => nopfx_ignorecase::deserialize(alloc, value),
-        Format::WithpfxLowercase => withpfx_lowercase::deserialize(alloc, value),
-        Format::NopfxLowercase => nopfx_lowercase::deserialize(alloc, value),
-        Format::WithpfxUppercase => withpfx_uppercase::deserialize(alloc, value),
-        Format::NopfxUppercase => nopfx_uppercase::deserialize(alloc, value),
+// What `$see` sees of a call of the module that has a number, or `$see_option` where there may be none.
+macro_rules! module {
+    ($number:expr, $see:ident($($call:tt)*), $see_option:ident($($option_call:tt)*)) => {
+        match $number {
+            0 => $see(faster_hex::$($call)*),
+            1 => $see(withpfx_ignorecase::$($call)*),
+            2 => $see_option(option_withpfx_ignorecase::$($option_call)*),
+            3 => $see(withpfx_lowercase::$($call)*),
+            4 => $see_option(option_withpfx_lowercase::$($option_call)*),
+            5 => $see(withpfx_uppercase::$($call)*),
+            6 => $see_option(option_withpfx_uppercase::$($option_call)*),
+            7 => $see(nopfx_ignorecase::$($call)*),
+            8 => $see_option(option_nopfx_ignorecase::$($option_call)*),
+            9 => $see(nopfx_lowercase::$($call)*),
+            10 => $see_option(option_nopfx_lowercase::$($option_call)*),
+            11 => $see(nopfx_uppercase::$($call)*),
+            _ => $see_option(option_nopfx_uppercase::$($option_call)*),
+        }
+    };
+}
+
+/// Whether a value is read so.
+pub fn reads(place: Place, alloc: Global, value: &Value, want: Answer<'_>) -> bool {
+    match place {
+        Place::By(format) => is_bytes(adapters::read(alloc, format, None, value), want),
+        Place::OptionBy(format) => {
+            is_option(adapters::read_option(alloc, format, None, value), want)
+        }
+        Place::Module(number) => module!(
+            number,
+            is_bytes(deserialize(alloc, value), want),
+            is_option(deserialize(alloc, value), want)
+        ),
     }
 }
 
-/// The module's `deserialize_bounded`.
-pub fn read_bounded<const MAX: usize>(
-    format: Format,
+/// Whether a value is read so within `MAX` bytes.
+pub fn reads_within<const MAX: usize>(
+    place: Place,
     alloc: Global,
     value: &Value,
-) -> Result<Vec<u8>, AdapterError> {
-    match format {
-        Format::WithpfxIgnorecase => withpfx_ignorecase::deserialize_bounded::<MAX>(alloc, value),
-        Format::NopfxIgnorecase => nopfx_ignorecase::deserialize_bounded::<MAX>(alloc, value),
-        Format::WithpfxLowercase => withpfx_lowercase::deserialize_bounded::<MAX>(alloc, value),
-        Format::NopfxLowercase => nopfx_lowercase::deserialize_bounded::<MAX>(alloc, value),
-        Format::WithpfxUppercase => withpfx_uppercase::deserialize_bounded::<MAX>(alloc, value),
-        Format::NopfxUppercase => nopfx_uppercase::deserialize_bounded::<MAX>(alloc, value),
+    want: Answer<'_>,
+) -> bool {
+    let max = Some(MAX);
+    match place {
+        Place::By(format) => is_bytes(adapters::read(alloc, format, max, value), want),
+        Place::OptionBy(format) => is_option(
+            adapters::read_option(alloc, format, max, value),
+            want,
+        ),
+        Place::Module(number) => module!(
+            number,
+            is_bytes(deserialize_bounded::<MAX>(alloc, value), want),
+            is_option(deserialize_bounded::<MAX>(alloc, value), want)
+        ),
     }
 }
 
-/// The module's `array::deserialize`.
-pub fn read_array<const N: usize>(format: Format, value: &Value) -> Result<[u8; N], AdapterError> {
-    match format {
-        Format::WithpfxIgnorecase => withpfx_ignorecase::array::deserialize::<N>(value),
-        Format::NopfxIgnorecase => nopfx_ignorecase::array::deserialize::<N>(value),
-        Format::WithpfxLowercase => withpfx_lowercase::array::deserialize::<N>(value),
-        Format::NopfxLowercase => nopfx_lowercase::array::deserialize::<N>(value),
-        Format::WithpfxUppercase => withpfx_uppercase::array::deserialize::<N>(value),
-        Format::NopfxUppercase => nopfx_uppercase::array::deserialize::<N>(value),
+/// Whether a value is read so as an array of `N` bytes.
+pub fn reads_array<const N: usize>(place: Place, value: &Value, want: Answer<'_>) -> bool
+    requires { N < 600 }
+{
+    match place {
+        Place::By(format) => is_array(adapters::read_array::<N>(format, value), want),
+        Place::OptionBy(format) => {
+            is_option_array(adapters::read_option_array::<N>(format, value), want)
+        }
+        Place::Module(number) => module!(
+            number,
+            is_array(array::deserialize::<N>(value), want),
+            is_option_array(array::deserialize::<N>(value), want)
+        ),
     }
 }
 
-/// The module's `serialize`.
-pub fn write(format: Format, alloc: Global, src: &[u8]) -> Result<Value, AdapterError> {
-    match format {
-        Format::WithpfxIgnorecase => withpfx_ignorecase::serialize(alloc, src),
-        Format::NopfxIgnorecase => nopfx_ignorecase::serialize(alloc, src),
-        Format::WithpfxLowercase => withpfx_lowercase::serialize(alloc, src),
-        Format::NopfxLowercase => nopfx_lowercase::serialize(alloc, src),
-        Format::WithpfxUppercase => withpfx_uppercase::serialize(alloc, src),
-        Format::NopfxUppercase => nopfx_uppercase::serialize(alloc, src),
+// What is written, where it is.
+fn made(got: Result<Value, AdapterError>) -> Option<Value> {
+    got.ok()
+}
+
+/// What is written for some bytes or none, or `None` where the call knows no none.
+pub fn write(place: Place, alloc: Global, src: Option<&[u8]>) -> Option<Value> {
+    match place {
+        Place::By(format) => adapters::write(alloc, format, src?).ok(),
+        Place::OptionBy(format) => adapters::write_option(alloc, format, src).ok(),
+        Place::Module(number) => module!(
+            number,
+            made(serialize(alloc, src?)),
+            made(serialize(alloc, src))
+        ),
     }
 }
 
-/// The module's `array::serialize`.
-pub fn write_array(format: Format, alloc: Global, src: &[u8]) -> Result<Value, AdapterError> {
-    match format {
-        Format::WithpfxIgnorecase => withpfx_ignorecase::array::serialize(alloc, src),
-        Format::NopfxIgnorecase => nopfx_ignorecase::array::serialize(alloc, src),
-        Format::WithpfxLowercase => withpfx_lowercase::array::serialize(alloc, src),
-        Format::NopfxLowercase => nopfx_lowercase::array::serialize(alloc, src),
-        Format::WithpfxUppercase => withpfx_uppercase::array::serialize(alloc, src),
-        Format::NopfxUppercase => nopfx_uppercase::array::serialize(alloc, src),
+/// What is written for an array or none. The adapters have no call of their own for it.
+pub fn write_array(place: Place, alloc: Global, src: Option<&[u8]>) -> Option<Value> {
+    match place {
+        Place::Module(number) => module!(
+            number,
+            made(array::serialize(alloc, src?)),
+            made(array::serialize(alloc, src))
+        ),
+        Place::By(_) | Place::OptionBy(_) => None,
     }
 }

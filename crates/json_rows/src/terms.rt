@@ -1,82 +1,76 @@
-//! What rows are made of: formats, modules, JSON values and answers.
+//! What rows are made of: modules, formats, JSON values and answers.
 
 use faster_hex::AdapterError;
 use faster_hex::adapters::WireFormat;
 use serde_json::Value;
 use std::alloc::Global;
-use std::str;
-use test_kit::{Bytes, Row, Words};
+use test_kit::{Bytes, Words};
 
 /// What a reading answers: some bytes or none, or the refusal. A call that knows no none answers
 /// with some.
 pub type Answer<'a> = Result<Option<&'a [u8]>, AdapterError>;
 
-// Whether a word is this one.
-fn is(word: &[u8], this: &[u8]) -> bool {
-    word == this
-}
-
-/// A format that modules are named by.
+/// Whose calls a row names.
 #[derive(Clone, Copy)]
-pub enum Format {
-    WithpfxIgnorecase,
-    NopfxIgnorecase,
-    WithpfxLowercase,
-    NopfxLowercase,
-    WithpfxUppercase,
-    NopfxUppercase,
+pub enum Place {
+    /// Those of the root or of a module.
+    Module(usize),
+    /// `by` and a format: the adapters that know no none.
+    By(WireFormat),
+    /// `option-by` and a format: those that do.
+    OptionBy(WireFormat),
 }
 
-impl Format {
-    /// The format of this name.
-    pub fn from_word(word: &[u8]) -> Option<Format> {
-        if is(word, b"withpfx_ignorecase") {
-            Some(Format::WithpfxIgnorecase)
-        } else if is(word, b"nopfx_ignorecase") {
-            Some(Format::NopfxIgnorecase)
-        } else if is(word, b"withpfx_lowercase") {
-            Some(Format::WithpfxLowercase)
-        } else if is(word, b"nopfx_lowercase") {
-            Some(Format::NopfxLowercase)
-        } else if is(word, b"withpfx_uppercase") {
-            Some(Format::WithpfxUppercase)
+// Reads the number of a module.
+fn module(call: &mut Words) -> usize {
+    let number = call.take_number();
+    if number > 12 {
+        call.misread();
+    }
+    number
+}
+
+impl Place {
+    /// Reads whose calls a row names. A module has its name, or `module` and its number.
+    pub fn read(call: &mut Words) -> Place {
+        let names = b"root withpfx_ignorecase option_withpfx_ignorecase withpfx_lowercase \
+            option_withpfx_lowercase withpfx_uppercase option_withpfx_uppercase nopfx_ignorecase \
+            option_nopfx_ignorecase nopfx_lowercase option_nopfx_lowercase nopfx_uppercase \
+            option_nopfx_uppercase";
+        if call.takes(b"by") {
+            Place::By(wire_format(call))
+        } else if call.takes(b"option-by") {
+            Place::OptionBy(wire_format(call))
+        } else if call.takes(b"module") {
+            Place::Module(module(call))
         } else {
-            is(word, b"nopfx_uppercase").then_some(Format::NopfxUppercase)
-        }
-    }
-
-    /// Returns the format as the adapters take it.
-    pub fn wire(self) -> WireFormat {
-        match self {
-            Format::WithpfxIgnorecase => WireFormat::WITHPFX_IGNORECASE,
-            Format::NopfxIgnorecase => WireFormat::NOPFX_IGNORECASE,
-            Format::WithpfxLowercase => WireFormat::WITHPFX_LOWERCASE,
-            Format::NopfxLowercase => WireFormat::NOPFX_LOWERCASE,
-            Format::WithpfxUppercase => WireFormat::WITHPFX_UPPERCASE,
-            Format::NopfxUppercase => WireFormat::NOPFX_UPPERCASE,
+            Place::Module(call.one_of(names))
         }
     }
 }
 
-/// Returns a format, or any where it is not known, and the row was misread.
-pub fn known(format: Option<Format>, row: &mut Words) -> Format {
-    if format.is_none() {
-        row.misread();
-    }
-    format.unwrap_or(Format::NopfxUppercase)
-}
-
-/// Reads a format: the name of one of the six, or `own`, then `0x` or `plain`, the letters that are
-/// written, and those that are read.
-pub fn wire_format(row: &mut Words) -> WireFormat {
-    if !row.takes(b"own") {
-        let format = Format::from_word(row.next());
-        return known(format, row).wire();
-    }
-    WireFormat {
-        prefixed: row.is_either(b"0x", b"plain"),
-        upper: row.is_either(b"upper", b"lower"),
-        case: row.take_policy(),
+/// Reads a format: the name of one of the six, or `format` and its number; or `own`, then `0x` or
+/// `plain`, the letters that are written, and those that are read.
+pub fn wire_format(call: &mut Words) -> WireFormat {
+    let names = b"withpfx_ignorecase withpfx_lowercase withpfx_uppercase nopfx_ignorecase \
+        nopfx_lowercase nopfx_uppercase own";
+    let number = if call.takes(b"format") {
+        call.take_number()
+    } else {
+        call.one_of(names)
+    };
+    match number {
+        0 => WireFormat::WITHPFX_IGNORECASE,
+        1 => WireFormat::WITHPFX_LOWERCASE,
+        2 => WireFormat::WITHPFX_UPPERCASE,
+        3 => WireFormat::NOPFX_IGNORECASE,
+        4 => WireFormat::NOPFX_LOWERCASE,
+        5 => WireFormat::NOPFX_UPPERCASE,
+        _ => WireFormat {
+            prefixed: call.is_either(b"0x", b"plain"),
+            upper: call.is_either(b"upper", b"lower"),
+            case: call.take_policy(),
+        },
     }
 }
 
@@ -85,32 +79,8 @@ pub fn value(alloc: Global, json: &[u8]) -> Option<Value> {
     Value::from_str(alloc, str::from_utf8(json).ok()?).ok()
 }
 
-/// Reads a JSON text, or `field NAME OBJECT`, where the object is written as it is. Returns whether
-/// there is a name, which `first` then holds.
-pub fn json(row: &mut Row) -> bool {
-    let is_field = row.call.takes(b"field");
-    if !is_field {
-        row.call.take_bytes(&mut row.given);
-        return false;
-    }
-    row.call.take_bytes(&mut row.first);
-    row.given.clear();
-    if row.given.try_extend_from_slice(row.call.next()).is_err() {
-        row.call.misread();
-    }
-    true
-}
-
-/// Returns the value of the field of this name, or the whole value where there is no name.
-pub fn field_of<'a>(value: &'a Value, name: Option<&[u8]>) -> Option<&'a Value> {
-    match name {
-        Some(name) => value.get(str::from_utf8(name).ok()?),
-        None => Some(value),
-    }
-}
-
-/// Reads a refusal: `not-text`, `invalid-prefix`, `invalid-length`, `over-bound MAX ACTUAL`, `invalid INDEX
-/// BYTE`, `mismatch EXPECTED ACTUAL` or `no-memory`.
+/// Reads a refusal: `not-text`, `invalid-prefix`, `invalid-length`, `over-bound MAX ACTUAL`, or one of
+/// the codec.
 pub fn refusal(answer: &mut Words) -> AdapterError {
     if answer.takes(b"not-text") {
         AdapterError::NotText
@@ -119,17 +89,18 @@ pub fn refusal(answer: &mut Words) -> AdapterError {
     } else if answer.takes(b"invalid-length") {
         AdapterError::InvalidLength
     } else if answer.takes(b"over-bound") {
-        let max = answer.take_number();
-        let actual = answer.take_number();
-        AdapterError::OverBound { max, actual }
+        AdapterError::OverBound {
+            max: answer.take_number(),
+            actual: answer.take_number(),
+        }
     } else {
         AdapterError::Codec(answer.take_refusal())
     }
 }
 
-/// Reads an answer: bytes behind the word `found`, `none`, or a refusal.
-pub fn answer<'a>(answer: &mut Words, found: &[u8], bytes: &'a mut Bytes) -> Answer<'a> {
-    if answer.takes(found) {
+/// Reads an answer: `ok` and bytes, `none`, or a refusal.
+pub fn answer<'a>(answer: &mut Words, bytes: &'a mut Bytes) -> Answer<'a> {
+    if answer.takes(b"ok") {
         answer.take_bytes(bytes);
         Ok(Some(bytes.as_slice()))
     } else if answer.takes(b"none") {
