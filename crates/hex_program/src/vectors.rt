@@ -35,7 +35,7 @@ macro_rules! vectors {
 }
 
 /// The stored vectors, in their order.
-pub(crate) static VECTORS: [Vector<'static>; 16] = vectors! {
+pub static VECTORS: [Vector<'static>; 16] = vectors! {
     "v01" Encode b"hello", Ok(10), b"68656c6c6f";
     "v02" EncodeUpper b"\x00\xab\xff", Ok(6), b"00ABFF";
     "v03" Encode b"\xab\xcd", Err(OutputTooSmall { required: 4 }), &[FILL; 3];

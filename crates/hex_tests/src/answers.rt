@@ -6,11 +6,7 @@ use hex_core::{CheckCase, Error};
 use std::alloc::{AllocError, Global};
 
 // Whether a call answers these bytes. Writes a mark over the answer from a place on.
-fn answers_and_marks(
-    got: Result<&mut [u8], Error>,
-    want: &[u8],
-    (place, mark): (usize, &[u8]),
-) -> bool {
+fn marks(got: Result<&mut [u8], Error>, want: &[u8], place: usize, mark: &[u8]) -> bool {
     let Ok(front) = got else {
         return false;
     };
@@ -23,34 +19,20 @@ fn answers_and_marks(
     is_answered
 }
 
-fn marks_decoded(buffer: &mut [u8; 5]) -> bool {
-    let is_answered = answers_and_marks(
-        hex_decode(b"00aBcD", buffer),
-        &[0, 0xab, 0xcd],
-        (0, &[0xff]),
-    );
-    is_answered && *buffer == [0xff, 0xab, 0xcd, 0xa5, 0xa5]
-}
-
-fn marks_encoded(buffer: &mut [u8; 8]) -> bool {
-    let is_answered = answers_and_marks(
-        hex_encode(&[0, 0xab, 0xcd], buffer),
-        b"00abcd",
-        (0, b"00ABCD"),
-    );
-    is_answered && *buffer == *b"00ABCD\xff\xff"
-}
-
-fn marks_nothing(buffer: &mut [u8; 5]) -> bool {
-    answers_and_marks(hex_decode(b"", buffer), b"", (0, b"")) && *buffer == [0xa5; 5]
+// Whether marks over a decoded front, an encoded one and an empty one leave what is behind them.
+fn are_marked(decoded: &mut [u8; 5], encoded: &mut [u8; 8], empty: &mut [u8; 5]) -> bool {
+    let bytes = [0, 0xab, 0xcd];
+    let is_decoded = marks(hex_decode(b"00aBcD", decoded), &bytes, 0, &[0xff]);
+    let is_encoded = marks(hex_encode(&bytes, encoded), b"00abcd", 0, b"00ABCD");
+    let is_empty = marks(hex_decode(b"", empty), b"", 0, b"");
+    let are_left = *decoded == [0xff, 0xab, 0xcd, 0xa5, 0xa5] && *empty == [0xa5; 5];
+    is_decoded && is_encoded && is_empty && are_left && *encoded == *b"00ABCD\xff\xff"
 }
 
 // The examples of the Rust crate's `decode.rs` and `encode.rs` that write through the answer.
 #[test]
 fn a_write_through_the_answer_stays_in_the_front(rt: HostRuntime) {
-    assert!(rt; marks_decoded(&mut [0xa5; 5]));
-    assert!(rt; marks_encoded(&mut [0xff; 8]));
-    assert!(rt; marks_nothing(&mut [0xa5; 5]));
+    assert!(rt; are_marked(&mut [0xa5; 5], &mut [0xff; 8], &mut [0xa5; 5]));
 }
 
 // Decodes a source that is let go before the answer is used.
@@ -60,7 +42,7 @@ fn outlives_its_source(alloc: Global) -> Result<bool, AllocError> {
         let source = String::from_str(alloc, "abcd")?;
         hex_decode(source.as_bytes(), &mut dst)
     };
-    let is_answered = answers_and_marks(written, &[0xab, 0xcd], (1, &[0xff]));
+    let is_answered = marks(written, &[0xab, 0xcd], 1, &[0xff]);
     Ok(is_answered && dst == [0xab, 0xff, 0xa5, 0xa5])
 }
 

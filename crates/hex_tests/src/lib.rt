@@ -1,15 +1,10 @@
 //! Tests of what no row of `rows`, `json_rows` or `program_rows` and no example of a doc comment
-//! says: writes through an answer, stored vectors that are wrong, a writer that answers by a script, one
-//! that fails, and what is too long for a row.
+//! says: writes through an answer, a writer that answers by a script, and what is too long for a row.
 #![tactic(auto)]
 
 #[cfg(test)]
 mod answers;
 #[cfg(test)]
-mod failing;
-#[cfg(test)]
 mod long;
-#[cfg(test)]
-mod vectors;
 #[cfg(test)]
 mod writers;

@@ -1,116 +1,155 @@
-//! A writer's sink over a writer that answers by a script, in which each put is one call.
+//! A writer that answers by a script, behind a sink and behind `Unretried`.
 
 use hex_format::{Hex, HexFlags, Sink, SinkFault, WriteFault, WriterSink};
-use std::io::ErrorKind::{self, BrokenPipe, Interrupted, WouldBlock};
-use std::io::{self, Write};
+use hex_program::Unretried;
+use std::alloc::Global;
+use std::io::{self, ErrorKind, Write};
+use test_kit::fakes::{Taker, Told, WORDS, Wanted};
 
-// How many bytes a writer takes, or its error.
-type Told = Result<usize, ErrorKind>;
+// How many bytes each put has, what they are, one piece behind another, and what the writer answers.
+const LENGTHS: [usize; 19] = [0, 3, 2, 2, 2, 0, 2, 1, 1, 1, 1, 0, 2, 1, 1, 1, 1, 2, 1];
 
-// A piece, what the writer answers, and what the sink then tells: how many puts have failed, which are
-// those with an error, and those of some bytes that took none; and the error that it keeps, the last one.
-type Put = (&'static [u8], Told, u64, Option<ErrorKind>);
+const PUT: &[u8] = b"abcbcbcdedeffffghhijkabb";
 
-static PUTS: [Put; 16] = [
-    (b"", Ok(0), 0, None),
-    (b"abc", Ok(1), 0, None),
-    (b"bc", Ok(0), 1, None),
-    (b"bc", Ok(2), 1, None),
-    (b"de", Err(WouldBlock), 2, Some(WouldBlock)),
-    (b"", Ok(0), 2, Some(WouldBlock)),
-    (b"de", Ok(2), 2, Some(WouldBlock)),
-    (b"f", Err(Interrupted), 3, Some(Interrupted)),
-    (b"f", Err(BrokenPipe), 4, Some(BrokenPipe)),
-    (b"f", Ok(0), 5, Some(BrokenPipe)),
-    (b"f", Ok(1), 5, Some(BrokenPipe)),
-    (b"", Err(Interrupted), 6, Some(Interrupted)),
-    (b"gh", Ok(1), 6, Some(Interrupted)),
-    (b"h", Ok(1), 6, Some(Interrupted)),
-    (b"ab", Ok(1), 6, Some(Interrupted)),
-    (b"b", Err(BrokenPipe), 7, Some(BrokenPipe)),
+const ANSWERS: [Told; 19] = [
+    Ok(0),
+    Ok(1),
+    Ok(0),
+    Ok(2),
+    Err(11),
+    Ok(0),
+    Ok(2),
+    Err(4),
+    Err(32),
+    Ok(0),
+    Ok(1),
+    Err(4),
+    Ok(1),
+    Ok(1),
+    Err(5),
+    Err(0),
+    Err(28),
+    Ok(1),
+    Err(32),
 ];
 
-// A writer that answers its calls in turn, and counts them, each flush too.
-#[derive(Drop)]
-struct Scripted {
-    calls: usize,
-    is_given_all: bool,
-}
+const TAKEN: &[u8] = b"abcdefgha";
 
-// One whose next call is this one of the script.
-fn writer_at(calls: usize) -> Scripted {
-    Scripted {
-        calls,
-        is_given_all: true,
+// Whether an error is the one of this code.
+fn is_its_error(alloc: Global, error: &io::Error, code: i32) -> bool {
+    if code != 0 {
+        return error.raw_os_error() == Some(code);
     }
+    let is_shown = format!(in alloc; "{error}").is_ok_and(|text| text.as_str() == WORDS);
+    is_shown && error.kind() == ErrorKind::TimedOut && error.raw_os_error().is_none()
 }
 
-impl Write for Scripted {
-    fn write(&mut self, buf: &[u8]) -> io::Result<usize> {
-        let Some((piece, told, _, _)) = PUTS.get(self.calls) else {
-            return Err(io::Error::from(ErrorKind::Other));
-        };
-        self.calls = self.calls.saturating_add(1);
-        self.is_given_all = self.is_given_all && buf == *piece;
-        match told {
-            Ok(count) => Ok((*count).min(buf.len())),
-            Err(kind) => Err(io::Error::from(*kind)),
+// What a sink is to tell: how many puts have failed, which are those with an error, and those of some
+// bytes that took none; and the code of the last error.
+#[derive(Clone, Copy)]
+struct State {
+    failures: u64,
+    kept: Option<i32>,
+}
+
+impl State {
+    // What it is to tell behind a put of this piece.
+    fn behind(self, piece: &[u8], told: Told) -> State {
+        let is_failed = told.is_err() || told == Ok(0) && !piece.is_empty();
+        State {
+            failures: self.failures.saturating_add(u64::from(is_failed)),
+            kept: told.err().or(self.kept),
         }
     }
 
-    fn flush(&mut self) -> io::Result<()> {
-        self.calls = self.calls.saturating_add(1);
-        Ok(())
+    // Whether a sink tells it.
+    fn is_told(self, alloc: Global, sink: &WriterSink<Taker<'_>>) -> bool {
+        let is_kept = match (sink.last_error(), self.kept) {
+            (Some(error), Some(code)) => is_its_error(alloc, error, code),
+            (error, code) => error.is_none() && code.is_none(),
+        };
+        is_kept && sink.failures() == self.failures
     }
 }
 
-// The kind of the error that a sink keeps.
-fn kept_kind(sink: &WriterSink<Scripted>) -> Option<ErrorKind> {
-    match sink.last_error() {
-        Some(error) => Some(error.kind()),
-        None => None,
-    }
-}
-
-// Whether a put answers as the writer did, and leaves this count of failures and this error.
-fn is_put(sink: &mut WriterSink<Scripted>, put: &Put) -> bool {
-    let (piece, told, failures, kept) = *put;
-    if sink.failures() == u64::MAX {
-        return false;
-    }
-    let is_answer = sink.put(piece) == told.map_err(|_| SinkFault);
-    is_answer && sink.failures() == failures && kept_kind(sink) == kept
-}
-
-// Whether each put does, with one call of the writer, which is given the whole piece.
-fn are_put() -> bool {
-    let mut sink = WriterSink::new(writer_at(0));
-    for put in &PUTS {
-        if !is_put(&mut sink, put) {
+// Whether each put answers as the writer does, with one call of it, which is given the whole piece.
+fn are_put(alloc: Global) -> bool {
+    let mut writer = Taker::new(Wanted::once(TAKEN));
+    writer.script = &ANSWERS;
+    let mut sink = WriterSink::new(writer);
+    let mut state = State {
+        failures: 0,
+        kept: None,
+    };
+    let mut at: usize = 0;
+    for i in 0..ANSWERS.len() {
+        let behind = at.saturating_add(LENGTHS[i]);
+        let piece = PUT.get(at..behind).unwrap_or_default();
+        at = behind;
+        state = state.behind(piece, ANSWERS[i]);
+        if sink.failures() == u64::MAX || sink.put(piece) != ANSWERS[i].map_err(|_| SinkFault) {
+            return false;
+        }
+        if !state.is_told(alloc, &sink) {
             return false;
         }
     }
     let writer = sink.into_inner();
-    writer.is_given_all && writer.calls == PUTS.len()
+    writer.is_filled()
+        && writer.script.is_empty()
+        && writer.given == PUT.len()
+        && state.failures == 10
 }
 
 #[test]
 fn a_put_is_one_write_whatever_the_writer_answered(rt: HostRuntime) {
-    assert!(rt; are_put());
+    assert!(rt; are_put(rt.alloc()));
 }
 
 // Whether a text whose first byte alone is taken ends with the error behind it, and no third write: the
 // second one is of the other byte, so one is held.
-fn ends_at_the_error() -> bool {
-    let mut sink = WriterSink::new(writer_at(14));
+fn ends_at_the_error(alloc: Global) -> bool {
+    let mut writer = Taker::new(Wanted::once(b"a"));
+    writer.script = &[Ok(1), Err(32)];
+    let mut sink = WriterSink::new(writer);
     let answer = Hex::new(&[0xab]).write_to(&mut sink, &HexFlags::default());
-    let is_told = answer == Err(WriteFault::Sink(SinkFault)) && sink.failures() == 1;
-    let is_kept = kept_kind(&sink) == Some(BrokenPipe);
+    let state = State {
+        failures: 1,
+        kept: Some(32),
+    };
+    let is_told = answer == Err(WriteFault::Sink(SinkFault)) && state.is_told(alloc, &sink);
     let writer = sink.into_inner();
-    is_told && is_kept && writer.is_given_all && writer.calls == 16
+    is_told && writer.is_filled() && writer.script.is_empty() && writer.given == 3
 }
 
 #[test]
 fn a_writer_that_fails_is_not_asked_again(rt: HostRuntime) {
-    assert!(rt; ends_at_the_error());
+    assert!(rt; ends_at_the_error(rt.alloc()));
+}
+
+// Whether a write that fails otherwise is told with its own error, and a flush is passed on.
+fn is_passed_on(alloc: Global, code: i32, flush: Result<(), i32>) -> bool {
+    let script = [Err(code)];
+    let mut inner = Taker::new(Wanted::once(b""));
+    inner.script = &script;
+    inner.flush = flush;
+    let mut out = Unretried { inner };
+    let is_told = match out.write(b"a") {
+        Ok(_) => false,
+        Err(error) => is_its_error(alloc, &error, code),
+    };
+    let is_flushed = match out.flush() {
+        Ok(()) => flush.is_ok(),
+        Err(error) => flush.is_err() && is_its_error(alloc, &error, code),
+    };
+    let is_once = out.inner.script.is_empty() && out.inner.flushes == 1;
+    is_told && is_flushed && is_once && out.inner.given == 1
+}
+
+#[test]
+fn another_error_and_a_flush_are_passed_on(rt: HostRuntime) {
+    for code in [0, 5, 11, 28, 32] {
+        assert!(rt; is_passed_on(rt.alloc(), code, Err(code)));
+        assert!(rt; is_passed_on(rt.alloc(), code, Ok(())));
+    }
 }

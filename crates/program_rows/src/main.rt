@@ -4,33 +4,31 @@
 
 mod runs;
 mod served;
-mod streams;
-mod terms;
+mod setup;
+mod vectors;
 
 use std::io::{self, BufReader};
-use test_kit::{Calls, Row, judge};
+use test_kit::{Bytes, Calls, Row, judge};
 
-// The program, whose runs rows name.
+// The end of the output that a row wants.
 #[derive(Drop)]
-struct Program;
+struct Program {
+    end: Bytes,
+}
 
 impl Calls for Program {
     fn is_answered(&mut self, row: &mut Row) -> bool {
-        match row.call.one_of(b"serve reads tell stream buffered granted refused run run-in") {
-            0 => served::row(false, row),
-            1 => served::row(true, row),
-            2 => served::tell_row(row),
-            3 => served::stream_row(false, row),
-            4 => served::stream_row(true, row),
-            5 => served::granted_row(false, row),
-            6 => served::granted_row(true, row),
-            7 => runs::row(false, row),
-            _ => runs::row(true, row),
+        match row.call.one_of(b"serve run vector stored") {
+            0 => served::is_answered(row, &mut self.end),
+            1 => runs::is_answered(row),
+            2 => vectors::is_answered(row, false),
+            _ => vectors::is_answered(row, true),
         }
     }
 }
 
 fn main(rt: HostRuntime) -> io::Result<()> {
+    let mut program = Program { end: Bytes::new() };
     let input = BufReader::new(rt.alloc(), rt.stdin())?;
-    judge(&mut Program, rt.alloc(), input, &mut rt.stdout())
+    judge(&mut program, rt.alloc(), input, &mut rt.stdout())
 }

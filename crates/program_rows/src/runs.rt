@@ -1,36 +1,47 @@
 //! Rows of one operation over a writer.
 
-use crate::streams::{Narrow, Output};
-use crate::terms::{answer, operation};
-use hex_format::{Sink, WriterSink};
+use crate::setup::{Setup, number_behind, operation};
+use hex_format::{Sink, SinkFault, WriteFault, WriterSink};
 use hex_program::operation::run_in;
 use hex_program::{RunFault, run};
-use test_kit::Row;
-use test_kit::refusing::Refusing;
+use test_kit::fakes::Wanted;
+use test_kit::{Row, Words};
 
-/// `run WORD INPUT ROOM`: the answer, and what the writer took; or `run-in GRANTED WORD INPUT ROOM`, with
-/// so many growths granted, and before them how many are asked for.
-pub fn row(is_granted: bool, row: &mut Row) -> bool {
-    let alloc = row.alloc;
-    let (granted, asked) = if is_granted {
-        (row.call.take_growths(), row.answer.take_growths())
+// Reads what a run answers: `put`, `full`, `stuck`, `no-memory`, or why its input is refused.
+fn answer(words: &mut Words) -> Result<(), RunFault> {
+    if words.takes(b"put") {
+        Ok(())
+    } else if words.takes(b"full") {
+        Err(RunFault::Write(WriteFault::Sink(SinkFault)))
+    } else if words.takes(b"stuck") {
+        Err(RunFault::Write(WriteFault::TookNothing))
+    } else if words.takes(b"no-memory") {
+        Err(RunFault::OutOfMemory)
     } else {
-        (0, 0)
-    };
-    let refusing = Refusing::new(alloc, granted);
+        Err(RunFault::Codec(words.take_refusal()))
+    }
+}
+
+/// Whether `run SETUP WORD INPUT` is answered `asks N ANSWER OUTPUT`: how many growths are asked for, where it
+/// is not none, and what the writer took.
+pub fn is_answered(row: &mut Row) -> bool {
+    let (setup, alloc) = (Setup::read(&mut row.call), row.alloc);
     let op = operation(&mut row.call, &mut row.first);
     row.call.take_bytes(&mut row.given);
+    let asked = number_behind(&mut row.answer, b"asks", 0) as u64;
     let want = answer(&mut row.answer);
     row.answer.take_bytes(&mut row.wanted);
-    let output = Output::once(row.wanted.as_slice());
-    let mut sink = WriterSink::new(Narrow::read_from(&mut row.call, output));
-    let input = row.given.as_slice();
-    let got = if is_granted {
-        run_in(&refusing, op, input, &mut sink)
+    let wanted = Wanted::once(row.wanted.as_slice());
+    let mut sink = WriterSink::new(setup.out.taker(wanted));
+    let refusing = setup.refusing(alloc);
+    let got = if setup.refuses() {
+        run_in(&refusing, op, row.given.as_slice(), &mut sink)
     } else {
-        run(alloc, op, input, &mut sink)
+        run(alloc, op, row.given.as_slice(), &mut sink)
     };
     let failures = u64::from(matches!(want, Err(RunFault::Write(_))));
-    let are_told = got == want && sink.failures() == failures;
-    are_told && refusing.is_settled(asked) && sink.into_inner().is_filled()
+    let is_refused = want == Err(RunFault::Write(WriteFault::Sink(SinkFault)));
+    let are_told = sink.failures() == failures && sink.last_error().is_some() == is_refused;
+    let is_settled = are_told && refusing.is_settled(asked);
+    got == want && is_settled && sink.into_inner().is_filled()
 }

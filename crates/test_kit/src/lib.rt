@@ -1,5 +1,5 @@
-//! Reads rows of calls and their answers, and says which are answered otherwise; and an allocator that
-//! refuses memory, in [`refusing`].
+//! Reads rows of calls and their answers, and says which are answered otherwise. Beside it an allocator
+//! that refuses memory, in [`refusing`], and a reader and a writer that fail, in [`fakes`].
 //!
 //! A row is a line: the words of a call, ` = ` and the words of its answer. A number before the call
 //! says how many rows the line stands for, as [`notation`] and [`choices`] have it. A line that is
@@ -8,6 +8,7 @@
 
 pub mod choices;
 mod cursor;
+pub mod fakes;
 pub mod formula;
 pub mod notation;
 pub mod refusing;

@@ -1,0 +1,163 @@
+//! A reader and a writer for tests, which fail where they are told to.
+
+use std::io::{self, ErrorKind, Read, Write};
+
+/// The words of an error that is none of the system's.
+pub const WORDS: &str = "no more is taken";
+
+/// What a call of a writer answers: how many bytes it takes at most, or the code of the system's error
+/// that it ends with; 0 stands for an error of [`WORDS`], which is told as a time-out.
+pub type Told = Result<usize, i32>;
+
+// The code of an interrupted call.
+const INTERRUPTED: i32 = 4;
+
+fn error(code: i32) -> io::Error {
+    if code == 0 {
+        io::Error::new(ErrorKind::TimedOut, WORDS)
+    } else {
+        io::Error::from_raw_os_error(code)
+    }
+}
+
+/// Gives one byte so many times, then some bytes and a failure where it is told to, and ends. A read
+/// behind its end fails.
+#[derive(Drop)]
+pub struct Giver<'a> {
+    /// The byte, and how often it is still to come.
+    pub many: (u8, usize),
+    /// The bytes that are left behind it.
+    pub behind: &'a [u8],
+    /// The failure.
+    pub failure: Option<ErrorKind>,
+    /// How many bytes a read gives at most.
+    pub every: usize,
+}
+
+impl Read for Giver<'_> {
+    fn read(&mut self, buf: &mut [u8]) -> io::Result<usize> {
+        let room = self.every.min(buf.len());
+        let (byte, count) = self.many;
+        let repeated = count.min(room);
+        if repeated > 0 {
+            buf[..repeated].fill(byte);
+            self.many = (byte, count - repeated);
+            return Ok(repeated);
+        }
+        let (given, behind) = self.behind.split_at(self.behind.len().min(room));
+        if given.is_empty() {
+            let failure = self.failure.take();
+            let Some(kind) = failure else {
+                self.failure = Some(ErrorKind::Interrupted);
+                return Ok(0);
+            };
+            return Err(io::Error::from(kind));
+        }
+        buf[..given.len()].copy_from_slice(given);
+        self.behind = behind;
+        Ok(given.len())
+    }
+}
+
+/// The bytes that a writer is to take: so many, a unit again and again, and an end at the last.
+#[derive(Clone, Copy)]
+pub struct Wanted<'a> {
+    /// How many.
+    pub count: usize,
+    /// The unit.
+    pub unit: &'a [u8],
+    /// The end.
+    pub end: &'a [u8],
+}
+
+impl<'a> Wanted<'a> {
+    /// Returns these bytes and no more.
+    pub fn once(end: &'a [u8]) -> Wanted<'a> {
+        Wanted {
+            count: end.len(),
+            unit: &[],
+            end,
+        }
+    }
+
+    // The byte at a place.
+    fn at(self, place: usize) -> Option<u8> {
+        let start = self.count.saturating_sub(self.end.len());
+        let turned = place.checked_rem(self.unit.len()).unwrap_or(0);
+        match place.checked_sub(start) {
+            Some(at) => self.end.get(at).copied(),
+            None => self.unit.get(turned).copied(),
+        }
+    }
+}
+
+/// Answers its first writes as it is told to. Each one behind them takes one byte, but for one that
+/// fails. It compares what it takes with what is wanted.
+#[derive(Drop)]
+pub struct Taker<'a> {
+    /// What the next writes answer.
+    pub script: &'a [Told],
+    /// How many bytes it takes behind them before the write that fails.
+    pub room: usize,
+    /// What a flush answers.
+    pub flush: Result<(), i32>,
+    /// How often it was flushed.
+    pub flushes: usize,
+    /// How many bytes its writes were given.
+    pub given: usize,
+    wanted: Wanted<'a>,
+    taken: usize,
+    is_other: bool,
+}
+
+impl<'a> Taker<'a> {
+    /// Returns one that takes one byte a write and never fails.
+    pub fn new(wanted: Wanted<'a>) -> Taker<'a> {
+        Taker {
+            script: &[],
+            room: usize::MAX,
+            flush: Ok(()),
+            flushes: 0,
+            given: 0,
+            wanted,
+            taken: 0,
+            is_other: false,
+        }
+    }
+
+    /// Whether it has taken exactly the bytes that are wanted.
+    pub fn is_filled(&self) -> bool {
+        !self.is_other && self.taken == self.wanted.count
+    }
+
+    // What the next write answers.
+    fn told(&mut self) -> Told {
+        if let Some((told, script)) = self.script.split_first() {
+            self.script = script;
+            return *told;
+        }
+        let room = self.room;
+        self.room = room.wrapping_sub(1);
+        if room == 0 { Err(INTERRUPTED) } else { Ok(1) }
+    }
+}
+
+impl Write for Taker<'_> {
+    fn write(&mut self, buf: &[u8]) -> io::Result<usize> {
+        self.given = self.given.saturating_add(buf.len());
+        let count = match self.told() {
+            Ok(count) => count.min(buf.len()),
+            Err(code) => return Err(error(code)),
+        };
+        for byte in &buf[..count] {
+            self.is_other = self.is_other || self.wanted.at(self.taken) != Some(*byte);
+            self.taken = self.taken.saturating_add(1);
+        }
+        Ok(count)
+    }
+
+    fn flush(&mut self) -> io::Result<()> {
+        self.flushes = self.flushes.saturating_add(1);
+        self.flush.map_err(error)
+    }
+}
