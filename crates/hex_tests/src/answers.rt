@@ -1,5 +1,4 @@
-//! What is written through the answer of a call that lends the front of its destination, and the default
-//! policy.
+//! Writes through an answer that lends the front of a destination, and the default policy.
 
 use hex_codec::{hex_decode, hex_encode};
 use hex_core::{CheckCase, Error};

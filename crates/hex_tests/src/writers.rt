@@ -106,8 +106,7 @@ fn a_put_is_one_write_whatever_the_writer_answered(rt: HostRuntime) {
     assert!(rt; are_put(rt.alloc()));
 }
 
-// Whether a text whose first byte alone is taken ends with the error behind it, and no third write: the
-// second one is of the other byte, so one is held.
+// Whether a text of which one byte is taken ends with the error behind it, and no third write.
 fn ends_at_the_error(alloc: Global) -> bool {
     let mut writer = Taker::new(Wanted::once(b"a"));
     writer.script = &[Ok(1), Err(32)];

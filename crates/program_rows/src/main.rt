@@ -10,7 +10,7 @@ mod vectors;
 use std::io::{self, BufReader};
 use test_kit::{Bytes, Calls, Row, judge};
 
-// The end of the output that a row wants.
+// What a row reads the end of an output into.
 #[derive(Drop)]
 struct Program {
     end: Bytes,

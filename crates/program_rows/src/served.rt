@@ -3,6 +3,7 @@
 use crate::setup::{Room, Setup, number_behind, word};
 use hex_program::program::serve_in;
 use hex_program::{serve, serve_buffered};
+use std::alloc::Global;
 use test_kit::fakes::{Taker, Wanted};
 use test_kit::{Bytes, Row, Words};
 
@@ -26,17 +27,14 @@ fn output<'a>(answer: &mut Words, unit: &'a mut Bytes, end: &'a mut Bytes) -> Wa
     }
 }
 
-// What is taken of a message and the newline behind it.
+// What is taken of a message: all, with the newline behind it, or so much as a row tells.
 fn message(text: &[u8], room: Room) -> Wanted<'_> {
-    let whole = if text.is_empty() {
-        0
-    } else {
-        text.len().saturating_add(1)
-    };
+    let is_whole = !text.is_empty() && room.count == usize::MAX;
+    let end: &[u8] = if is_whole { b"\n" } else { &[] };
     Wanted {
-        count: whole.min(room.count),
+        count: text.len().saturating_add(end.len()),
         unit: text,
-        end: if room.count < whole { &[] } else { b"\n" },
+        end,
     }
 }
 
@@ -45,39 +43,57 @@ fn is_done(taker: &Taker<'_>, is_flushed: bool) -> bool {
     taker.is_filled() && taker.flushes == usize::from(is_flushed)
 }
 
-/// Whether `serve SETUP WORDS INPUT` is answered `left N asks N STATUS OUTPUT MESSAGE`: how many bytes of
-/// the input are left, and how many growths are asked for, where it is not none; the message without
-/// its newline.
-pub fn is_answered(row: &mut Row, end: &mut Bytes) -> bool {
-    let (setup, alloc) = (Setup::read(&mut row.call), row.alloc);
-    let first = word_of(&mut row.call, &mut row.first, setup.words > 0);
-    let second = word_of(&mut row.call, &mut row.second, setup.words > 1);
-    let both = [first, second];
-    let Some(words) = both.get(..setup.words) else {
-        return false;
-    };
-    row.call.take_bytes(&mut row.given);
-    let mut input = setup.giver(row.given.as_slice());
-    let left = number_behind(&mut row.answer, b"left", 0);
-    let asked = number_behind(&mut row.answer, b"asks", 0) as u64;
-    let status = row.answer.take_number();
-    let out = output(&mut row.answer, &mut row.wanted, end);
-    let err = message(row.answer.take_rest(), setup.err);
-    let (taker, told) = (setup.out.taker(out), setup.err.taker(err));
+// How a run is to end: its status, what is taken of its output and its message, how many bytes of the
+// input are left, and how many growths are asked for.
+#[derive(Clone, Copy)]
+struct End<'a> {
+    status: usize,
+    out: Wanted<'a>,
+    err: Wanted<'a>,
+    left: usize,
+    asked: u64,
+}
+
+// Whether a run ends so.
+fn ends(setup: Setup, alloc: Global, words: &[&str], input: &[u8], want: End<'_>) -> bool {
+    let mut giver = setup.giver(input);
+    let (out, err) = (setup.out.taker(want.out), setup.err.taker(want.err));
     let refusing = setup.refusing(alloc);
     let ended = if setup.is_buffered {
-        serve_buffered(alloc, words, &mut input, taker, told)
+        serve_buffered(alloc, words, &mut giver, out, err)
     } else if setup.refuses() {
-        Ok(serve_in(&refusing, words, &mut input, taker, told))
+        Ok(serve_in(&refusing, words, &mut giver, out, err))
     } else {
-        Ok(serve(alloc, words, &mut input, taker, told))
+        Ok(serve(alloc, words, &mut giver, out, err))
     };
-    let Ok((got, taker, told)) = ended else {
+    let Ok((got, out, err)) = ended else {
         return false;
     };
     // Each is flushed behind all that it is to take, and not behind a failure.
-    let is_out = is_done(&taker, status == 0 || status == 3 && setup.out.is_unflushed);
-    let is_err = is_done(&told, err.count > 0 && !err.end.is_empty());
-    let is_end = is_out && is_err && usize::from(got) == status;
-    is_end && input.behind.len() == left && refusing.is_settled(asked)
+    let is_flush = want.status == 0 || want.status == 3 && setup.out.is_unflushed;
+    let is_told = is_done(&out, is_flush) && is_done(&err, !want.err.end.is_empty());
+    let is_end = is_told && usize::from(got) == want.status;
+    is_end && giver.behind.len() == want.left && refusing.is_settled(want.asked)
+}
+
+/// Whether `serve SETUP WORDS INPUT` is answered `left N asks N STATUS OUTPUT MESSAGE`, of which the first two
+/// are left out where they are 0.
+pub fn is_answered(row: &mut Row, end: &mut Bytes) -> bool {
+    let setup = Setup::read(&mut row.call);
+    let first = word_of(&mut row.call, &mut row.first, setup.words > 0);
+    let second = word_of(&mut row.call, &mut row.second, setup.words > 1);
+    row.call.take_bytes(&mut row.given);
+    let left = number_behind(&mut row.answer, b"left", 0);
+    let asked = number_behind(&mut row.answer, b"asks", 0) as u64;
+    let want = End {
+        status: row.answer.take_number(),
+        out: output(&mut row.answer, &mut row.wanted, end),
+        err: message(row.answer.take_rest(), setup.err),
+        left,
+        asked,
+    };
+    match [first, second].get(..setup.words) {
+        Some(words) => ends(setup, row.alloc, words, row.given.as_slice(), want),
+        None => false,
+    }
 }

@@ -77,7 +77,11 @@ impl Setup {
             refused: number_behind(call, b"refused", usize::MAX) as u64,
             is_buffered: call.takes(b"buffered"),
             every: number_behind(call, b"every", usize::MAX),
-            failure: failure(call),
+            failure: if call.takes(b"fails") {
+                Some(ErrorKind::Interrupted)
+            } else {
+                call.takes(b"blocks").then_some(ErrorKind::WouldBlock)
+            },
             many: many(call),
             out: Room::read(call, b"out"),
             err: Room::read(call, b"err"),
@@ -116,14 +120,6 @@ pub fn number_behind(words: &mut Words, word: &[u8], other: usize) -> usize {
         words.take_number()
     } else {
         other
-    }
-}
-
-fn failure(call: &mut Words) -> Option<ErrorKind> {
-    if call.takes(b"fails") {
-        Some(ErrorKind::Interrupted)
-    } else {
-        call.takes(b"blocks").then_some(ErrorKind::WouldBlock)
     }
 }
 

@@ -27,8 +27,7 @@ const FAILED: &[u8] = b"\
     plain v17 pass\nplain v18 pass\nplain v19 pass\nplain v20 pass\n\
     total 14 passed 9 failed 5\n";
 
-// Whether a run of this vector, and of a sound one behind it, ends so; where it fails, it is to print
-// what FAILED says.
+// Whether a run of this vector, and of a sound one behind it, ends so, and prints FAILED where it fails.
 fn ends(alloc: Global, vector: Vector<'_>, passes: bool) -> bool {
     let (out, err) = (Vec::new(alloc), Vec::new(alloc));
     let (status, out, err) = serve_vectors(alloc, &[vector, SOUND], out, err);
