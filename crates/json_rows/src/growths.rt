@@ -1,5 +1,4 @@
-//! Rows of the calls that take an allocator, which grants so many growths: what they answer, and
-//! how often they asked.
+//! Rows of the calls that take an allocator, which grants so many growths.
 
 use crate::seen::{is_bytes, is_option};
 use crate::terms::{answer, has_bytes, value, wire_format};

@@ -88,31 +88,31 @@ pub fn reads_array<const N: usize>(place: Place, value: &Value, want: Answer<'_>
     }
 }
 
-// What is written, where it is.
-fn made(got: Result<Value, AdapterError>) -> Option<Value> {
-    got.ok()
-}
+/// What a call writes, where there is such a call.
+pub type Written = Option<Result<Value, AdapterError>>;
 
-/// What is written for some bytes or none, or `None` where the call knows no none.
-pub fn write(place: Place, alloc: Global, src: Option<&[u8]>) -> Option<Value> {
+/// What is written for some bytes, or for none where the call knows it.
+pub fn write(place: Place, alloc: Global, src: Option<&[u8]>) -> Written {
+    let bytes = src.unwrap_or_default();
     match place {
-        Place::By(format) => adapters::write(alloc, format, src?).ok(),
-        Place::OptionBy(format) => adapters::write_option(alloc, format, src).ok(),
+        Place::By(format) => Some(adapters::write(alloc, format, bytes)),
+        Place::OptionBy(format) => Some(adapters::write_option(alloc, format, src)),
         Place::Module(number) => module!(
             number,
-            made(serialize(alloc, src?)),
-            made(serialize(alloc, src))
+            Some(serialize(alloc, bytes)),
+            Some(serialize(alloc, src))
         ),
     }
 }
 
-/// What is written for an array or none. The adapters have no call of their own for it.
-pub fn write_array(place: Place, alloc: Global, src: Option<&[u8]>) -> Option<Value> {
+/// The same for an array. The adapters have no call of their own for it.
+pub fn write_array(place: Place, alloc: Global, src: Option<&[u8]>) -> Written {
+    let bytes = src.unwrap_or_default();
     match place {
         Place::Module(number) => module!(
             number,
-            made(array::serialize(alloc, src?)),
-            made(array::serialize(alloc, src))
+            Some(array::serialize(alloc, bytes)),
+            Some(array::serialize(alloc, src))
         ),
         Place::By(_) | Place::OptionBy(_) => None,
     }

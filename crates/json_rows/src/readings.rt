@@ -1,8 +1,9 @@
 //! Rows of readings: of a value, within a bound, and as an array.
 
 use crate::modules::{reads, reads_array, reads_within};
-use crate::terms::{Place, answer, value};
+use crate::terms::{Answer, Place, answer, value};
 use serde_json::Value;
+use std::alloc::Global;
 use test_kit::Row;
 
 // A call with a number that is a constant of it.
@@ -13,6 +14,20 @@ macro_rules! counted {
             _ => false,
         }
     };
+}
+
+// Whether a value is read so within a bound.
+fn is_within(count: usize, place: Place, alloc: Global, value: &Value, want: Answer<'_>) -> bool {
+    counted!(
+        count,
+        reads_within(place, alloc, value, want),
+        0 1 2 3 4 16 32 33 64 129 300 18446744073709551615
+    )
+}
+
+// Whether a value is read so as an array of this length.
+fn is_array(length: usize, place: Place, value: &Value, want: Answer<'_>) -> bool {
+    counted!(length, reads_array(place, value, want), 0 1 2 3 4 16 32 33 64 129 300)
 }
 
 // The value of the field of this name, or the whole value where the name is empty.
@@ -49,11 +64,7 @@ pub fn is_answered(kind: usize, row: &mut Row) -> bool {
     };
     match kind {
         0 => reads(place, alloc, value, want),
-        1 => counted!(
-            count,
-            reads_within(place, alloc, value, want),
-            0 1 2 3 4 16 32 33 64 129 300 18446744073709551615
-        ),
-        _ => counted!(count, reads_array(place, value, want), 0 1 2 3 4 16 32 33 64 129 300),
+        1 => is_within(count, place, alloc, value, want),
+        _ => is_array(count, place, value, want),
     }
 }

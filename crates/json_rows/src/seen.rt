@@ -6,17 +6,6 @@ use crate::terms::Answer;
 use faster_hex::AdapterError;
 use std::alloc::Allocator;
 
-/// Whether a reading of bytes answers so.
-pub fn is_bytes<A: Allocator + Drop>(
-    got: Result<Vec<u8, A>, AdapterError>,
-    want: Answer<'_>,
-) -> bool {
-    match got {
-        Ok(bytes) => want == Ok(Some(bytes.as_slice())),
-        Err(e) => want == Err(e),
-    }
-}
-
 /// Whether a reading of bytes or none answers so.
 pub fn is_option<A: Allocator + Drop>(
     got: Result<Option<Vec<u8, A>>, AdapterError>,
@@ -29,14 +18,12 @@ pub fn is_option<A: Allocator + Drop>(
     }
 }
 
-/// Whether a reading of an array answers so.
-pub fn is_array<const N: usize>(got: Result<[u8; N], AdapterError>, want: Answer<'_>) -> bool
-    requires { N < 600 }
-{
-    match got {
-        Ok(bytes) => want == Ok(Some(bytes.as_slice())),
-        Err(e) => want == Err(e),
-    }
+/// Whether a reading of bytes answers so.
+pub fn is_bytes<A: Allocator + Drop>(
+    got: Result<Vec<u8, A>, AdapterError>,
+    want: Answer<'_>,
+) -> bool {
+    is_option(got.map(Some), want)
 }
 
 /// Whether a reading of an array or none answers so.
@@ -51,4 +38,11 @@ pub fn is_option_array<const N: usize>(
         Ok(None) => want == Ok(None),
         Err(e) => want == Err(e),
     }
+}
+
+/// Whether a reading of an array answers so.
+pub fn is_array<const N: usize>(got: Result<[u8; N], AdapterError>, want: Answer<'_>) -> bool
+    requires { N < 600 }
+{
+    is_option_array(got.map(Some), want)
 }

@@ -21,15 +21,6 @@ pub enum Place {
     OptionBy(WireFormat),
 }
 
-// Reads the number of a module.
-fn module(call: &mut Words) -> usize {
-    let number = call.take_number();
-    if number > 12 {
-        call.misread();
-    }
-    number
-}
-
 impl Place {
     /// Reads whose calls a row names. A module has its name, or `module` and its number.
     pub fn read(call: &mut Words) -> Place {
@@ -38,14 +29,33 @@ impl Place {
             option_nopfx_ignorecase nopfx_lowercase option_nopfx_lowercase nopfx_uppercase \
             option_nopfx_uppercase";
         if call.takes(b"by") {
-            Place::By(wire_format(call))
-        } else if call.takes(b"option-by") {
-            Place::OptionBy(wire_format(call))
-        } else if call.takes(b"module") {
-            Place::Module(module(call))
-        } else {
-            Place::Module(call.one_of(names))
+            return Place::By(wire_format(call));
         }
+        if call.takes(b"option-by") {
+            return Place::OptionBy(wire_format(call));
+        }
+        let number = number(call, b"module", names);
+        if number > 12 {
+            call.misread();
+        }
+        Place::Module(number)
+    }
+
+    /// Whether its calls know none.
+    pub fn knows_none(self) -> bool {
+        match self {
+            Place::Module(number) => number > 0 && number % 2 == 0,
+            place => matches!(place, Place::OptionBy(_)),
+        }
+    }
+}
+
+// Reads a number behind this word, or one of these names, which stands for its place.
+fn number(call: &mut Words, word: &[u8], names: &[u8]) -> usize {
+    if call.takes(word) {
+        call.take_number()
+    } else {
+        call.one_of(names)
     }
 }
 
@@ -54,12 +64,7 @@ impl Place {
 pub fn wire_format(call: &mut Words) -> WireFormat {
     let names = b"withpfx_ignorecase withpfx_lowercase withpfx_uppercase nopfx_ignorecase \
         nopfx_lowercase nopfx_uppercase own";
-    let number = if call.takes(b"format") {
-        call.take_number()
-    } else {
-        call.one_of(names)
-    };
-    match number {
+    match number(call, b"format", names) {
         0 => WireFormat::WITHPFX_IGNORECASE,
         1 => WireFormat::WITHPFX_LOWERCASE,
         2 => WireFormat::WITHPFX_UPPERCASE,

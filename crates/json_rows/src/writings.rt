@@ -1,15 +1,13 @@
-//! Rows of writings: of bytes, of none, beside the reading of an array, and of long lists that are read
-//! again.
+//! Rows of writings, and of long ones that are read again.
 
-use crate::modules::{reads, reads_within, write, write_array};
+use crate::modules::{Written, reads, reads_within, write, write_array};
 use crate::terms::{Place, has_bytes};
-use serde_json::Value;
 use std::alloc::Global;
 use test_kit::Row;
 
 // Whether this JSON text is written.
-fn is_json(alloc: Global, got: Option<Value>, want: &[u8]) -> bool {
-    let Some(value) = got else {
+fn is_json(alloc: Global, got: Written, want: &[u8]) -> bool {
+    let Some(Ok(value)) = got else {
         return false;
     };
     match value.to_string(alloc) {
@@ -23,6 +21,9 @@ pub fn is_written(row: &mut Row, is_array: bool) -> bool {
     let (place, alloc) = (Place::read(&mut row.call), row.alloc);
     let is_given = has_bytes(&mut row.call, b"none", &mut row.given);
     row.answer.take_bytes(&mut row.wanted);
+    if !is_given && !place.knows_none() {
+        return false;
+    }
     let src = is_given.then_some(row.given.as_slice());
     let got = if is_array {
         write_array(place, alloc, src)
@@ -39,7 +40,7 @@ pub fn is_alike(row: &mut Row) -> bool {
     let Ok(bytes) = Vec::from_elem(alloc, 0xab, count) else {
         return false;
     };
-    let Some(value) = write(place, alloc, Some(bytes.as_slice())) else {
+    let Some(Ok(value)) = write(place, alloc, Some(bytes.as_slice())) else {
         return false;
     };
     let want = Ok(Some(bytes.as_slice()));
