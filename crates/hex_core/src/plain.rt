@@ -125,8 +125,9 @@ pub fn encode_by_length(src: &[u8], dst: &mut [u8], upper: bool)
     }
 }
 
-// The same of fewer than 8 bytes.
-#[inline(always)]
+// The same of fewer than 8 bytes, apart: where it was inlined, the loop over longer sources stood elsewhere,
+// and a jump across 32 bytes took a tenth more.
+#[inline(never)]
 fn encode_short(src: &[u8], dst: &mut [u8], upper: bool)
     requires twice { length dst.old ≡ 2 * length src.now }
     requires few { length src.now < 8 }
