@@ -51,7 +51,7 @@ ENCODE data_encoding encode fixed ::data_encoding::HEXLOWER_PERMISSIVE.encode_mu
 DECODE data_encoding decode count ::data_encoding::HEXLOWER_PERMISSIVE.decode_mut(src, dst)
 """,
 }
-# Of c.c.
+# Of loops.c.
 LOOPS = """
 WRITE by_{n} write number write_by(src, len, dst, {n})
 READ by_{n} read number read_by(src, len, dst, {n})
