@@ -3,7 +3,7 @@
 ghost use Rattle.std.specs.Prelude.{◌≡◌, codes, map};
 ghost use Rattle.hex_core.specs.Plans.{name_of, plan_names};
 
-/// What a plan is called, and what its bodies are chosen by.
+/// The name of a plan, by which its bodies are chosen.
 #[derive(Clone, Copy)]
 pub enum Kind {
     Scalar,
@@ -14,14 +14,14 @@ pub enum Kind {
     Plain,
 }
 
-/// A plan: one way to check, encode and decode.
+/// A plan: one implementation of check, encode and decode.
 ///
-/// All plans give the same answers and leave the same bytes, what [`Backend::decode_owned`] leaves
-/// where it returns false aside.
+/// All plans return the same results and write the same bytes, except where
+/// [`Backend::decode_owned`] returns false.
 #[derive(Clone, Copy)]
 pub struct Backend(pub(crate) Kind);
 
-/// Returns five plans, whatever the machine: scalar, sse41, avx2, avx512, neon, in this order.
+/// Returns five plans, on every machine: scalar, sse41, avx2, avx512, neon, in this order.
 ///
 /// ```rust
 /// let [scalar, ..] = backends();
@@ -40,8 +40,8 @@ pub fn backends() -> [Backend; 5]
 }
 
 impl Backend {
-    /// Returns the plan of the calls without a plan. It is none of those that [`backends`] lists: its
-    /// blocks are chosen for each length, by what was measured. Its name is `plain`.
+    /// Returns the plan of the calls without a plan, which [`backends`] does not list. It chooses
+    /// its blocks for each length, as measured. Its name is `plain`.
     ///
     /// ```rust
     /// assert!(rt; Backend::plain().check(b"00aBc", CheckCase::None));

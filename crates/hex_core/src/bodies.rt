@@ -1,5 +1,4 @@
-//! The calls of a plan whose caller shows the ratio of the lengths, and the body that each of them takes,
-//! by the length of the source.
+//! The calls of a plan that require a ratio of lengths. The length of the source selects the body.
 
 ghost use Rattle.std.specs.Prelude.{◌≡◌, ◌*◌, ◌↔◌, IsTrue, None, length};
 ghost use Rattle.hex_core.specs.Calls.{DecodesOwned, DecodesWhole};
@@ -17,7 +16,7 @@ use crate::plain::{check_by_length, decode_by_length, encode_by_length};
 use crate::scalar::{check_by_table, decode_by_table, encode_by_table};
 
 impl Backend {
-    /// Returns whether every byte of `src` has a value under `case`, whatever its length.
+    /// Returns whether every byte of `src` is valid under `case`, whatever its length.
     ///
     /// ```rust
     /// assert!(rt; Backend::plain().check(b"00aBc", CheckCase::None));
@@ -36,9 +35,9 @@ impl Backend {
         }
     }
 
-    /// Writes the text of `src` over the whole of `dst`, in uppercase where `upper` is true.
+    /// Writes the digits of `src` over all of `dst`, in uppercase if `upper` is true.
     ///
-    /// The caller shows that `dst` is exactly twice as long as `src`, in bytes.
+    /// Requires `dst` to be exactly twice as long as `src`, in bytes.
     ///
     /// ```rust
     /// let mut digits = [0; 4];
@@ -59,10 +58,10 @@ impl Backend {
         }
     }
 
-    /// Writes the bytes that `src` spells over the whole of `dst`, and returns whether every byte
-    /// of `src` has a value under `case`. Where it returns false, `dst` is as it was.
+    /// Decodes `src` over all of `dst`, and returns whether every byte of `src` is valid under
+    /// `case`. If it returns false, `dst` is unchanged.
     ///
-    /// The caller shows that `src` is exactly twice as long as `dst`, in bytes.
+    /// Requires `src` to be exactly twice as long as `dst`, in bytes.
     ///
     /// ```rust
     /// let mut bytes = [0xa5; 2];
@@ -87,14 +86,14 @@ impl Backend {
         }
     }
 
-    /// Decodes as [`Backend::decode`] does, into a buffer that is given up where it returns false.
+    /// Like [`Backend::decode`], for a buffer that is discarded if it returns false.
     ///
-    /// Then `avx2` and `neon` have stored exactly the bytes of the whole blocks of 64 digits before
-    /// the first one with a byte that has no value, or of all whole blocks where that byte stands
-    /// behind them; `avx512` and the plain plan those of blocks of 128 digits; `scalar` and `sse41`
-    /// nothing. The bytes behind are as they were.
+    /// Then `avx2` and `neon` have written exactly the bytes of the whole blocks of 64 digits
+    /// before the one with the first invalid byte, or of all whole blocks if that byte comes after
+    /// them; `avx512` and the plain plan those of blocks of 128 digits; `scalar` and `sse41`
+    /// nothing. The bytes after them are unchanged.
     ///
-    /// The caller shows that `src` is exactly twice as long as `dst`, in bytes.
+    /// Requires `src` to be exactly twice as long as `dst`, in bytes.
     ///
     /// ```rust
     /// let [scalar, _, avx2, ..] = backends();
@@ -113,7 +112,7 @@ impl Backend {
     {
         match self.0 {
             Kind::Scalar | Kind::Sse41 => self.decode(src, dst, case),
-            // The plan is named in each arm, so that the compiler knows it in the loop over blocks.
+            // Each arm names the plan, so that the compiler knows it in the loop over blocks.
             Kind::Avx2 => Backend(Kind::Avx2).decode_by_blocks::<32>(src, dst, case),
             Kind::Neon => Backend(Kind::Neon).decode_by_blocks::<32>(src, dst, case),
             Kind::Avx512 => Backend(Kind::Avx512).decode_by_blocks::<64>(src, dst, case),

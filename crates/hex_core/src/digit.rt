@@ -1,13 +1,13 @@
-//! Hex digits: what a byte's value is under a policy.
+//! Hex digits, and their values under a policy.
 
 ghost use Rattle.std.specs.Prelude.{◌≡◌};
 ghost use Rattle.hex_core.specs.declared.digit.CheckCase.TheVariants as policy;
 ghost use Rattle.hex_core.specs.Digit.{value};
 
-/// Which letter cases are read when digits are checked or decoded.
+/// A policy: the letter cases that checking and decoding accept.
 ///
-/// Every policy reads `0` to `9`, and none reads a prefix, a blank, a separator or a byte from 0x80
-/// on. The default, `None`, reads both cases, also mixed.
+/// Every policy accepts `0` to `9`, and none a prefix, space, separator or byte above 0x7f. A byte
+/// is *valid* if the policy accepts it. The default, `None`, accepts both cases, also mixed.
 ///
 /// ```rust
 /// assert_eq!(rt; digit_value(b'b', CheckCase::Lower), Some(11));
@@ -15,25 +15,24 @@ ghost use Rattle.hex_core.specs.Digit.{value};
 /// ```
 #[derive(Clone, Copy, Debug, PartialEq, Eq, Hash)]
 pub enum CheckCase {
-    /// Reads `a` to `f` and `A` to `F`.
+    /// Accepts `a` to `f` and `A` to `F`.
     None,
-    /// Reads `a` to `f` alone.
+    /// Accepts only `a` to `f`.
     Lower,
-    /// Reads `A` to `F` alone.
+    /// Accepts only `A` to `F`.
     Upper,
 }
 
 impl Default for CheckCase {
     ghost is_default = { λ case. case ≡ policy.None };
 
-    /// Returns the policy that reads both cases, `None`.
+    /// Returns the policy that accepts both cases, `None`.
     fn default() -> CheckCase {
         CheckCase::None
     }
 }
 
-/// Returns the value of `byte` as a digit under `case`, from 0 to 15, or `None` where the policy
-/// does not read it.
+/// Returns the value of `byte` as a digit, from 0 to 15, or `None` if `case` does not accept it.
 ///
 /// ```rust
 /// assert_eq!(rt; digit_value(b'7', CheckCase::None), Some(7));

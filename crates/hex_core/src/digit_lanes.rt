@@ -1,4 +1,4 @@
-//! The digits in a vector, lane by lane: which lanes have a value, what it is, and the text of bytes.
+//! Digits in a vector, lane by lane: which are valid, their values, and the digits of bytes.
 
 ghost use Rattle.std.specs.Prelude.{◌≡◌, ◌↔◌, ℕ, ◌≤◌, ◌<◌, EachIndex, is_some, map, slice_index};
 ghost use Rattle.hex_core.specs.declared.digit.CheckCase.{CheckCase};
@@ -18,12 +18,12 @@ use crate::vector::{
 };
 use std::simd::prelude::*;
 
-// Both tables are in the order of the policies. A look-up leaves the kernels without a branch.
+// Both tables are in the order of the policies. A look-up avoids a branch in the kernels.
 static FOLDS: [u8; 3] = [0x20, 0, 0];
 
 static FIRST_LETTERS: [u8; 3] = [b'a', b'a', b'A'];
 
-// The bit that makes a letter lowercase, where the policy reads both cases.
+// The bit that makes a letter lowercase, if the policy accepts both cases.
 #[inline(always)]
 fn fold_of(case: CheckCase) -> u8
     ensures { result ≡ fold_of case }
@@ -31,7 +31,7 @@ fn fold_of(case: CheckCase) -> u8
     FOLDS[case as u8 as usize]
 }
 
-// The first letter that the policy reads, once folded.
+// The first letter that the policy accepts, folded.
 #[inline(always)]
 fn first_letter(case: CheckCase) -> u8
     ensures { result ≡ first_letter case }
@@ -39,7 +39,7 @@ fn first_letter(case: CheckCase) -> u8
     FIRST_LETTERS[case as u8 as usize]
 }
 
-// How far each lane is past the first letter that the policy reads, once folded.
+// Each lane minus the first letter that the policy accepts, once folded.
 #[inline(always)]
 fn letters<const N: usize>(v: Simd<u8, N>, case: CheckCase) -> Simd<u8, N>
     ensures { result ≡ map (letter case) v.entry }
@@ -47,9 +47,8 @@ fn letters<const N: usize>(v: Simd<u8, N>, case: CheckCase) -> Simd<u8, N>
     wrapping_sub(with_bits(v, fold_of(case)), first_letter(case))
 }
 
-/// How far each lane reaches past the first four digits, or past the first letter: below 6 exactly where
-/// it has a value. One bound for both leaves the comparison to the end of a test of more blocks than
-/// one.
+/// How far each lane is past the digit 4, or past the first letter: below 6 exactly if it is valid.
+/// With one bound for both, a test of many blocks compares only once, at its end.
 #[inline(always)]
 pub fn reach<const N: usize>(v: Simd<u8, N>, case: CheckCase) -> Simd<u8, N>
     ensures lanes { result ≡ map (reach case) v.entry }
@@ -59,7 +58,7 @@ pub fn reach<const N: usize>(v: Simd<u8, N>, case: CheckCase) -> Simd<u8, N>
     smaller(digits, letters(v, case))
 }
 
-/// A mask whose bit i says whether lane i has a value.
+/// A mask whose bit i is set if lane i is valid.
 #[inline(always)]
 pub fn admitted<const N: usize>(v: Simd<u8, N>, case: CheckCase) -> u64
     requires { N ≤ 64 }
@@ -73,13 +72,13 @@ pub fn admitted<const N: usize>(v: Simd<u8, N>, case: CheckCase) -> u64
 pub fn saturated<const N: usize>(v: Simd<u8, N>, case: CheckCase) -> Simd<u8, N>
     ensures { AreNibbles case v.entry result }
 {
-    // Less 58, the byte behind `9`, the digits are the ten greatest bytes, 246 to 255. A step down
-    // by 6 that stays at 0 leaves of them 240 to 249, the ten that wrap to 0 to 9.
+    // Minus 58, the byte after `9`, the digits are the ten greatest bytes, 246 to 255. Minus 6,
+    // saturating, they are 240 to 249, the only ten that wrap to 0 to 9.
     let digits = wrapping_sub(saturating_sub(wrapping_sub(v, b'9' + 1), 6), 240);
     smaller(digits, saturating_add(letters(v, case), 10))
 }
 
-// The row of each table is for slots 0 to 15. An offset is stored as what is taken away.
+// Each row is for slots 0 to 15. An offset is stored as the number to subtract.
 const HASH_ROW: [u8; 16] = [1, 1, 1, 1, 1, 1, 1, 11, 11, 11, 15, 15, 15, 15, 15, 15];
 
 const VALUE_ROW: [u8; 16] = [
@@ -106,8 +105,8 @@ fn check_row(case: CheckCase) -> u8x16
     u8x16::from_array(CHECK_ROWS[case as u8 as usize])
 }
 
-// The slot of each lane in both rows. It depends on a lane's neighbour above its low four bits,
-// which a look-up leaves out.
+// The slot of each lane in both rows. A neighbour changes only bits above the low four, which a
+// look-up ignores.
 #[inline(always)]
 fn hashes<const N: usize>(v: Simd<u8, N>) -> Simd<u8, N>
 where
@@ -120,7 +119,7 @@ where
     )
 }
 
-/// The value of each lane that has one, which is the same under each policy that reads it.
+/// The value of each valid lane, which is the same under each policy that accepts it.
 #[inline(always)]
 pub fn hashed_values<const N: usize>(v: Simd<u8, N>) -> Simd<u8, N>
 where
@@ -131,7 +130,7 @@ where
     wrapping_differences(v, offsets)
 }
 
-/// A check of each lane: it is below 128 exactly where the lane has a value, whatever stands beside it.
+/// A check of each lane, below 128 exactly if the lane is valid, whatever its neighbours are.
 #[inline(always)]
 pub fn hashed_checks<const N: usize>(v: Simd<u8, N>, case: CheckCase) -> Simd<u8, N>
 where
@@ -142,8 +141,8 @@ where
     sign_flipped(saturating_differences(sign_flipped(v), offsets))
 }
 
-/// The same as [`hashed_values`], without a hash: once the bits that tell both cases apart are gone, a
-/// digit is its value, and a letter is 55 more.
+/// The same as [`hashed_values`], without a hash: with the bits cleared that tell cases apart, a
+/// digit is its value, and a letter its value plus 55.
 #[inline(always)]
 pub fn valid_nibbles<const N: usize>(v: Simd<u8, N>) -> Simd<u8, N>
     ensures { (case : CheckCase) → AreValues case v.entry result }
@@ -152,7 +151,7 @@ pub fn valid_nibbles<const N: usize>(v: Simd<u8, N>) -> Simd<u8, N>
     smaller(common, wrapping_sub(common, 55))
 }
 
-// The digits below 16, in order.
+// The sixteen digits, in order.
 #[inline(always)]
 fn digits(upper: bool) -> u8x16
     ensures { (n : ℕ) → n < 16 → slice_index result n ≡ digit upper n }
@@ -164,7 +163,7 @@ fn digits(upper: bool) -> u8x16
     }
 }
 
-/// The text of the lanes.
+/// The digits of the lanes.
 #[inline(always)]
 pub fn encoded<const N: usize, const TWICE: usize>(v: Simd<u8, N>, upper: bool) -> Simd<u8, TWICE>
 where

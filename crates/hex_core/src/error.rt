@@ -7,10 +7,10 @@ use std::{error, fmt};
 
 /// An error from checked hexadecimal encoding or decoding.
 ///
-/// A refused slice call leaves its whole destination as it was, and a refused append its string's
-/// text. Each call's documentation says which cases it returns, and in which order it tests them.
+/// If a slice call fails, its whole destination is unchanged; if an append fails, its string's text
+/// is. Each call documents the errors that it returns, and the order of its tests.
 ///
-/// [`Display`](fmt::Display) prints exactly these texts, which a width or a fill does not change:
+/// [`Display`](fmt::Display) prints exactly these texts, and ignores width and fill:
 ///
 /// | Case | Text |
 /// |---|---|
@@ -28,30 +28,30 @@ use std::{error, fmt};
 /// ```
 #[derive(Clone, Copy, Debug, PartialEq, Eq, Hash)]
 pub enum Error {
-    /// A byte that is no hex digit, or a letter whose case the policy does not read.
+    /// A byte that is not a hex digit, or whose case the policy does not accept.
     InvalidChar {
-        /// The place of the first such byte in the source, from 0, in bytes.
+        /// The index of the first such byte in the source, in bytes.
         index: usize,
         /// That byte.
         byte: u8,
     },
-    /// The destination does not hold the whole output.
+    /// The destination cannot hold the whole output.
     OutputTooSmall {
-        /// How many bytes the whole output takes.
+        /// The whole output's length, in bytes.
         required: usize,
     },
-    /// An array's source decodes to another number of bytes than the array has.
+    /// The source does not decode to exactly the array's length.
     LengthMismatch {
-        /// How many bytes the array has.
+        /// The array's length, in bytes.
         expected: usize,
         /// How many bytes the source would decode to.
         actual: usize,
     },
-    /// The source has an odd number of bytes, so its last digit has no partner.
+    /// The source has an odd number of bytes.
     OddLength,
-    /// The length of the whole output is no `usize`.
+    /// The length of the whole output exceeds `usize`.
     Overflow,
-    /// Memory for the output was refused.
+    /// The allocation of the output failed.
     OutOfMemory,
 }
 

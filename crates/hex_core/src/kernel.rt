@@ -1,5 +1,5 @@
-//! Checking, decoding and encoding a block at a time, in any number of lanes and by any map. A source
-//! that is no multiple of a block ends with a last whole block, which overlaps the one before.
+//! Checks, decodes and encodes block by block, for any number of lanes and any map. If the length
+//! is not a multiple of a block, the last block overlaps the one before.
 
 ghost use Rattle.std.specs.Prelude.{◌≡◌, ◌↔◌, ◌+◌, ◌*◌, ◌≤◌, IsTrue, None, length};
 ghost use Rattle.std.specs.Simd.Lanes.{chunk, put_chunk};
@@ -17,7 +17,7 @@ use crate::nibbles::{Marks, Nibbles};
 use crate::vector::{Interleave, Lanes, LookUp, Pack, has_no_sign};
 use std::simd::prelude::*;
 
-// Whether each of `N` bytes from `at` on has a value.
+// Whether each of `N` bytes from index `at` is valid.
 #[inline(always)]
 fn is_valid_at<M, const N: usize>(src: &[u8], at: usize, case: CheckCase) -> bool
 where
@@ -29,7 +29,7 @@ where
     has_no_sign(M::marks(Simd::<u8, N>::from_slice(&src[at..]), case))
 }
 
-/// Returns whether every byte of a block or more has a value under `case`.
+/// Returns whether every byte of a block or more is valid under `case`.
 #[inline(never)]
 pub fn check_blocks<M, const N: usize>(src: &[u8], case: CheckCase) -> bool
 where
@@ -45,7 +45,7 @@ where
     src.len() % N == 0 || is_valid_at::<M, N>(src, src.len() - N, case)
 }
 
-// The values of `N` digits from `at` on, each of which has one.
+// The values of `N` valid digits from index `at`.
 #[inline(always)]
 fn values_at<M, const N: usize>(src: &[u8], at: usize, case: CheckCase) -> Simd<u8, N>
 where
@@ -58,7 +58,7 @@ where
     M::nibbles(Simd::<u8, N>::from_slice(&src[at..]), case)
 }
 
-/// Writes the bytes of nibbles from `at` on.
+/// Writes the bytes of nibbles at index `at`.
 #[inline(always)]
 pub fn pack_at<const N: usize, const HALF: usize>(nibbles: Simd<u8, N>, dst: &mut [u8], at: usize)
 where
@@ -70,7 +70,7 @@ where
     Lanes::pack(nibbles).copy_to_slice(&mut dst[at..]);
 }
 
-// Writes the bytes from `at` on that `N` valid digits spell.
+// Decodes `N` valid digits into `dst` from index `at`.
 #[inline(always)]
 fn write_at<M, const N: usize, const HALF: usize>(
     src: &[u8],
@@ -89,7 +89,7 @@ where
     pack_at(values_at::<M, N>(src, 2 * at, case), dst, at);
 }
 
-/// Writes the bytes that a block or more of valid digits spells over the whole of `dst`.
+/// Decodes a block or more of valid digits over all of `dst`.
 #[inline(never)]
 pub fn write_blocks<M, const N: usize, const HALF: usize>(
     src: &[u8],
@@ -113,8 +113,8 @@ where
     }
 }
 
-/// Decodes a block or more over the whole of `dst`, or returns false and writes nothing: all is checked
-/// before the first store.
+/// Decodes a block or more over all of `dst`, or returns false and writes nothing: it checks
+/// everything before the first store.
 #[inline(always)]
 pub fn decode_blocks<M, const N: usize, const HALF: usize>(
     src: &[u8],
@@ -135,7 +135,7 @@ where
     valid
 }
 
-/// Writes the text of `N` bytes from `at` on.
+/// Encodes `N` bytes from index `at`.
 #[inline(always)]
 pub fn encode_at<const N: usize, const TWICE: usize>(
     src: &[u8],
@@ -154,7 +154,7 @@ where
     text.copy_to_slice(&mut dst[2 * at..]);
 }
 
-/// Writes the text of a block or more over the whole of `dst`.
+/// Encodes a block or more over all of `dst`.
 #[inline(always)]
 pub fn encode_blocks<const N: usize, const TWICE: usize>(src: &[u8], dst: &mut [u8], upper: bool)
 where
@@ -172,8 +172,8 @@ where
     }
 }
 
-/// The same in a body of its own, where the compiler does not know `upper`: a table that it knows is read
-/// anew in each turn.
+/// The same in its own function, so that the compiler does not know `upper`: else it reloads the
+/// table in every iteration.
 #[inline(never)]
 pub fn encode_apart<const N: usize, const TWICE: usize>(src: &[u8], dst: &mut [u8], upper: bool)
 where

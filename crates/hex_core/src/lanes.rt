@@ -1,4 +1,4 @@
-//! Blocks of 16, 32 and 64 bytes, one lane a byte, and of 8 where digits are written.
+//! Blocks of 16, 32 and 64 bytes, one byte per lane, and of 8 for encoding.
 
 ghost use Rattle.std.specs.Prelude.{◌≡◌};
 ghost use Rattle.hex_core.specs.Lanes.{Admits, AreChecked, AreNibbles, ArePacked, AreSmall, AreValues};
@@ -9,7 +9,7 @@ use crate::digit_lanes::{admitted, encoded, hashed_checks, hashed_values, satura
 use crate::vector::{Lanes, Pack};
 use std::simd::prelude::*;
 
-/// Returns a mask whose bit `i` is set exactly where byte `i` has a value under `case`.
+/// Returns a mask whose bit `i` is set exactly if byte `i` is valid under `case`.
 ///
 /// ```rust
 /// assert_eq!(rt; admitted_16(b"0123456789ABCDEF", CheckCase::Lower), 0x03ff);
@@ -21,7 +21,7 @@ pub fn admitted_16(bytes: &[u8; 16], case: CheckCase) -> u16
     admitted(u8x16::from_array(*bytes), case) as u16
 }
 
-/// The same as [`admitted_16`], of 32 bytes.
+/// The same as [`admitted_16`], for 32 bytes.
 ///
 /// ```rust
 /// let mut bytes = [b'F'; 32];
@@ -35,7 +35,7 @@ pub fn admitted_32(bytes: &[u8; 32], case: CheckCase) -> u32
     admitted(u8x32::from_array(*bytes), case) as u32
 }
 
-/// The same as [`admitted_16`], of 64 bytes.
+/// The same as [`admitted_16`], for 64 bytes.
 ///
 /// ```rust
 /// let mut bytes = [b'g'; 64];
@@ -49,7 +49,7 @@ pub fn admitted_64(bytes: &[u8; 64], case: CheckCase) -> u64
     admitted(u8x64::from_array(*bytes), case)
 }
 
-/// Returns for each byte its value under `case`, or at least 16 where it has none.
+/// Returns the value of each byte under `case`, or at least 16 if it is invalid.
 ///
 /// ```rust
 /// let nibbles = nibbles_saturating_16(b"0123456789abcdef", CheckCase::None);
@@ -62,8 +62,8 @@ pub fn nibbles_saturating_16(bytes: &[u8; 16], case: CheckCase) -> [u8; 16]
     saturated(u8x16::from_array(*bytes), case).to_array()
 }
 
-/// Returns a nibble and a check for each byte: a check is below 128 exactly where its byte has a
-/// value under `case`, and there the nibble is that value. Nothing is said of other nibbles.
+/// Returns a nibble and a check for each byte: the check is below 128 exactly if the byte is valid
+/// under `case`, and then the nibble is its value. Other nibbles are unspecified.
 ///
 /// ```rust
 /// let mut bytes = [b'7'; 32];
@@ -84,7 +84,7 @@ pub fn nibbles_hashed_32(bytes: &[u8; 32], case: CheckCase) -> ([u8; 32], [u8; 3
     )
 }
 
-/// The same as [`nibbles_hashed_32`], of 64 bytes.
+/// The same as [`nibbles_hashed_32`], for 64 bytes.
 ///
 /// ```rust
 /// let mut bytes = [b'7'; 64];
@@ -105,9 +105,9 @@ pub fn nibbles_hashed_64(bytes: &[u8; 64], case: CheckCase) -> ([u8; 64], [u8; 6
     )
 }
 
-/// Returns the byte of each pair of nibbles: the first of a pair is its high half.
+/// Returns the byte of each pair of nibbles, the first nibble as the high half.
 ///
-/// The caller shows that every nibble is below 16.
+/// Requires every nibble to be below 16.
 ///
 /// ```rust
 /// let bytes = pack_16(&[0, 1, 2, 3, 4, 5, 6, 7, 8, 9, 10, 11, 12, 13, 14, 15]);
@@ -121,7 +121,7 @@ pub fn pack_16(nibbles: &[u8; 16]) -> [u8; 8]
     Lanes::pack(u8x16::from_array(*nibbles)).to_array()
 }
 
-/// The same as [`pack_16`], of 32 nibbles.
+/// The same as [`pack_16`], for 32 nibbles.
 ///
 /// ```rust
 /// let (nibbles, _) = nibbles_hashed_32(&[b'7'; 32], CheckCase::None);
@@ -136,7 +136,7 @@ pub fn pack_32(nibbles: &[u8; 32]) -> [u8; 16]
     Lanes::pack(u8x32::from_array(*nibbles)).to_array()
 }
 
-/// The same as [`pack_16`], of 64 nibbles.
+/// The same as [`pack_16`], for 64 nibbles.
 ///
 /// ```rust
 /// let (nibbles, _) = nibbles_hashed_64(&[b'7'; 64], CheckCase::None);
@@ -151,7 +151,7 @@ pub fn pack_64(nibbles: &[u8; 64]) -> [u8; 32]
     Lanes::pack(u8x64::from_array(*nibbles)).to_array()
 }
 
-/// Returns the text of 8 bytes, in uppercase where `upper` is true.
+/// Returns the digits of 8 bytes, in uppercase if `upper` is true.
 ///
 /// ```rust
 /// let text = encode_8(&[0x01, 0x23, 0x45, 0x67, 0x89, 0xab, 0xcd, 0xef], false);
@@ -164,7 +164,7 @@ pub fn encode_8(bytes: &[u8; 8], upper: bool) -> [u8; 16]
     encoded(u8x8::from_array(*bytes), upper).to_array()
 }
 
-/// Returns the text of 16 bytes, in uppercase where `upper` is true.
+/// Returns the digits of 16 bytes, in uppercase if `upper` is true.
 ///
 /// ```rust
 /// let text = encode_16(&[0xab; 16], true);
@@ -177,7 +177,7 @@ pub fn encode_16(bytes: &[u8; 16], upper: bool) -> [u8; 32]
     encoded(u8x16::from_array(*bytes), upper).to_array()
 }
 
-/// The same as [`encode_16`], of 32 bytes.
+/// The same as [`encode_16`], for 32 bytes.
 ///
 /// ```rust
 /// assert_eq!(rt; encode_32(&[0x77; 32], false), [b'7'; 64]);

@@ -21,18 +21,18 @@ mod slices;
 mod tables;
 mod vector;
 
-/// Counted sources, and what is found through their counted calls.
+/// Probes, which count the calls on a source, and their searches.
 pub mod probe {
     pub use crate::search::{Probe, covered, locate};
     pub use crate::slice_probe::SliceProbe;
 }
 
-/// Look-ups of a few digits, inlined where a call would take longer than they do.
+/// Look-ups of a few digits, inlined because a call would take longer.
 pub mod few {
     pub use crate::scalar::{are_pairs, write_bytes, write_digits};
 }
 
-/// The plans, and the sources that are searched under them.
+/// The plans, and probes that search under them.
 pub mod plan {
     pub use crate::backend::{Backend, backends};
     pub use crate::probe::{Probe, SliceProbe, covered, locate};

@@ -1,4 +1,4 @@
-//! Checking by masks: a counted source, of which one mask of 16 lanes tests a block.
+//! Checks by masks: a probe whose test of a block is one mask of 16 lanes.
 
 ghost use Rattle.std.specs.Prelude.{◌≡◌, ◌↔◌, ◌+◌, ◌*◌, ◌≤◌, ◌<◌, IsTrue, None, length, slice_index};
 ghost use Rattle.hex_core.specs.Search.{AllValid, first_invalid};
@@ -8,10 +8,10 @@ use crate::lanes::admitted_16;
 use crate::scalar::check_by_table;
 use crate::search::{Probe, covered};
 
-// How many bytes one mask tests, and so the widest test of the probe.
+// Bytes that one mask tests: the widest test of the probe.
 const MASK_BLOCK: usize = 16;
 
-// A slice as a counted source, whose tests of a whole block are one mask of 16 lanes.
+// A probe over a slice, whose test of a whole block is one mask of 16 lanes.
 #[derive(Drop)]
 struct MaskProbe<'a> {
     src: &'a [u8],
@@ -55,7 +55,7 @@ impl<'a> Probe for MaskProbe<'a> {
     }
 }
 
-// Whether each byte of at most a block has a value.
+// Whether each byte of at most a block is valid.
 #[inline(always)]
 fn is_valid(part: &[u8], case: CheckCase) -> bool
     ensures { IsTrue result ↔ (first_invalid case part.now ≡ None) }
@@ -66,7 +66,7 @@ fn is_valid(part: &[u8], case: CheckCase) -> bool
     }
 }
 
-/// Returns whether every byte of a block or more has a value under `case`, a mask for each block.
+/// Returns whether every byte of a block or more is valid under `case`, with a mask for each block.
 #[inline(never)]
 pub fn check_by_masks(src: &[u8], case: CheckCase) -> bool
     requires { MASK_BLOCK ≤ length src.now }

@@ -1,4 +1,4 @@
-//! Maps from digits to their values, each for vectors of a number of lanes.
+//! Maps from digits to their values, for vectors of several lengths.
 
 ghost use Rattle.hex_core.specs.Lanes.{AreChecked, AreValues};
 
@@ -7,19 +7,19 @@ use crate::digit_lanes::{hashed_checks, hashed_values, saturated, valid_nibbles}
 use crate::vector::{Lanes, LookUp, Shift, saturating_add};
 use std::simd::prelude::*;
 
-/// A map from bytes to nibbles, lane by lane: the value of each lane that has one.
+/// A map from bytes to nibbles, lane by lane: the value of each valid lane.
 pub trait Nibbles<const N: usize> {
     fn nibbles(v: Simd<u8, N>, case: CheckCase) -> Simd<u8, N>
         ensures { AreValues case v.entry result };
 }
 
-/// Its marks: the sign bit of each is clear exactly where its lane has a value.
+/// Its marks: the sign bit of a mark is clear exactly if its lane is valid.
 pub trait Marks<const N: usize> {
     fn marks(v: Simd<u8, N>, case: CheckCase) -> Simd<u8, N>
         ensures { AreChecked case v.entry result };
 }
 
-/// By saturating sums and differences, of any number of lanes.
+/// By saturating sums and differences, for any number of lanes.
 pub struct Saturating;
 
 impl<const N: usize> Nibbles<N> for Saturating {
@@ -41,7 +41,7 @@ impl<const N: usize> Marks<N> for Saturating {
     }
 }
 
-/// By a hash, which finds in rows of sixteen what is to be taken from a byte.
+/// By a hash, which finds in rows of sixteen what to subtract from a byte.
 pub struct Hashed;
 
 impl<const N: usize> Nibbles<N> for Hashed
@@ -68,7 +68,7 @@ where
     }
 }
 
-/// By what digits and letters have in common, for digits that are known to be valid: it has no marks.
+/// By the bits that digits and letters share, for digits known to be valid: it has no marks.
 pub struct Valid;
 
 impl<const N: usize> Nibbles<N> for Valid {

@@ -1,4 +1,4 @@
-//! Decoding into a buffer that is given up on a refusal: block by block, each by the plan's own decoder.
+//! Decodes block by block, with the plan's decoder, into a buffer that is discarded on failure.
 
 ghost use Rattle.std.specs.Prelude.{◌≡◌, ◌*◌, ◌≤◌, length};
 ghost use Rattle.hex_core.specs.Calls.{DecodesOwned};
@@ -8,7 +8,7 @@ use crate::backend::Backend;
 use crate::digit::CheckCase;
 
 impl Backend {
-    // Decodes so many bytes from `at` on, or returns false and writes nothing.
+    // Decodes `size` bytes at index `at`, or returns false and writes nothing.
     #[inline(always)]
     fn decode_at(self, src: &[u8], dst: &mut [u8], at: usize, size: usize, case: CheckCase) -> bool
         requires room { HasRoom at size src.now dst.old }
@@ -18,8 +18,8 @@ impl Backend {
         self.decode(&src[2 * at..2 * end], &mut dst[at..end], case)
     }
 
-    /// Writes the bytes that `src` spells into the whole of `dst`, or returns false and has stored the
-    /// whole blocks of `SIZE` bytes before the first invalid byte.
+    /// Decodes `src` over all of `dst`, or returns false after writing the whole blocks of `SIZE`
+    /// bytes before the first invalid byte.
     #[inline(always)]
     pub(crate) fn decode_by_blocks<const SIZE: usize>(
         self,

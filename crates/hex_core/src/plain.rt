@@ -1,6 +1,6 @@
-//! The plan of the calls without a plan: blocks in registers where a source is short, and blocks of 64
-//! digits above. Which blocks serve which length follows from times over all lengths; bench/README.md
-//! says what each choice is worth. No table is indexed by a byte of the source, which may be secret.
+//! The plan of the calls without a plan: a short source is held in registers, a longer one takes
+//! blocks of 64 digits. The blocks for each length were chosen by measurement; bench/README.md has
+//! the gains. No table is indexed by a byte of the source, which may be secret.
 
 ghost use Rattle.std.specs.Prelude.{◌≡◌, ◌↔◌, ◌*◌, ◌<◌, ◌≤◌, IsTrue, None, length};
 ghost use Rattle.hex_core.specs.Calls.{DecodesWhole};
@@ -13,7 +13,7 @@ use crate::blocks::encode::{encode_one, encode_two};
 use crate::digit::CheckCase;
 use crate::kernel::{encode_apart, encode_blocks};
 
-/// Returns whether every byte of `src` has a value under `case`.
+/// Returns whether every byte of `src` is valid under `case`.
 #[inline(always)]
 pub fn check_by_length(src: &[u8], case: CheckCase) -> bool
     ensures { IsTrue result ↔ (first_invalid case src.now ≡ None) }
@@ -27,7 +27,7 @@ pub fn check_by_length(src: &[u8], case: CheckCase) -> bool
     }
 }
 
-// The same of fewer than 16 bytes.
+// The same for fewer than 16 bytes.
 #[inline(never)]
 fn check_short(src: &[u8], case: CheckCase) -> bool
     requires { length src.now < 16 }
@@ -42,9 +42,8 @@ fn check_short(src: &[u8], case: CheckCase) -> bool
     }
 }
 
-/// Writes the bytes that `src` spells into the whole of `dst`, or returns false and writes nothing.
-/// From 16 to 128 digits are decoded where it is called, so that a length that is known there chooses
-/// nothing as it runs.
+/// Decodes `src` over all of `dst`, or returns false and writes nothing. 16 to 128 digits are
+/// decoded inline, so that a length known to the caller needs no choice at run time.
 #[inline(always)]
 pub fn decode_by_length(src: &[u8], dst: &mut [u8], case: CheckCase) -> bool
     requires { length src.now ≡ 2 * length dst.old }
@@ -62,7 +61,7 @@ pub fn decode_by_length(src: &[u8], dst: &mut [u8], case: CheckCase) -> bool
     }
 }
 
-// The same of at most 32 digits, apart: one `match` for all would be a jump through a table.
+// The same for at most 32 digits, apart: one `match` for all would be a jump table.
 #[inline(always)]
 fn decode_few(src: &[u8], dst: &mut [u8], case: CheckCase) -> bool
     requires twice { length src.now ≡ 2 * length dst.old }
@@ -77,7 +76,7 @@ fn decode_few(src: &[u8], dst: &mut [u8], case: CheckCase) -> bool
     }
 }
 
-// The same of fewer than 16 digits.
+// The same for fewer than 16 digits.
 #[inline(never)]
 fn decode_short(src: &[u8], dst: &mut [u8], case: CheckCase) -> bool
     requires twice { length src.now ≡ 2 * length dst.old }
@@ -92,7 +91,7 @@ fn decode_short(src: &[u8], dst: &mut [u8], case: CheckCase) -> bool
     }
 }
 
-// The same of 129 to 256 digits, held in registers.
+// The same for 129 to 256 digits, held in registers.
 #[inline(never)]
 fn decode_in_registers(src: &[u8], dst: &mut [u8], case: CheckCase) -> bool
     requires twice { length src.now ≡ 2 * length dst.old }
@@ -107,8 +106,8 @@ fn decode_in_registers(src: &[u8], dst: &mut [u8], case: CheckCase) -> bool
     }
 }
 
-/// Writes the text of `src` into the whole of `dst`: up to 512 bytes without a call, which would take a
-/// tenth of the time.
+/// Encodes `src` over all of `dst`. Up to 512 bytes need no call, which would take a tenth of the
+/// time.
 #[inline(always)]
 pub fn encode_by_length(src: &[u8], dst: &mut [u8], upper: bool)
     requires { length dst.old ≡ 2 * length src.now }
@@ -125,8 +124,8 @@ pub fn encode_by_length(src: &[u8], dst: &mut [u8], upper: bool)
     }
 }
 
-// The same of fewer than 8 bytes, apart: where it was inlined, the loop over longer sources stood elsewhere,
-// and a jump across 32 bytes took a tenth more.
+// The same for fewer than 8 bytes, apart: inlined, it moved the loop over longer sources, and a
+// jump across 32 bytes took a tenth more.
 #[inline(never)]
 fn encode_short(src: &[u8], dst: &mut [u8], upper: bool)
     requires twice { length dst.old ≡ 2 * length src.now }

@@ -1,4 +1,4 @@
-//! A table look-up a digit.
+//! A look-up per digit.
 
 ghost use Rattle.std.specs.Prelude.{◌≡◌, ◌≢◌, ◌+◌, ◌*◌, ◌/◌, ◌%◌, ◌<◌, ◌≤◌, ◌↔◌, IsTrue, MatchOption, None, length};
 ghost use Rattle.std.specs.Int.{bytes_high_first};
@@ -9,8 +9,8 @@ ghost use Rattle.hex_core.specs.Text.{Spells, text};
 use crate::digit::CheckCase;
 use crate::tables::{NIL, digit_pairs_of, values_of};
 
-/// Returns whether every byte of `src` has a value under `case`. All are looked up, since a branch a byte
-/// costs more.
+/// Returns whether every byte of `src` is valid under `case`. Looks up all of them: a branch for
+/// each byte costs more.
 #[inline(never)]
 pub fn check_by_table(src: &[u8], case: CheckCase) -> bool
     ensures { IsTrue result ↔ (first_invalid case src.now ≡ None) }
@@ -23,7 +23,7 @@ pub fn check_by_table(src: &[u8], case: CheckCase) -> bool
     valid
 }
 
-// The byte of two values.
+// The byte of two nibbles.
 fn packed(high: u8, low: u8) -> u8
     requires high { high < 16 }
     requires low { low < 16 }
@@ -32,7 +32,7 @@ fn packed(high: u8, low: u8) -> u8
     16 * high + low
 }
 
-/// Writes the bytes that a valid source spells into the whole of `dst`.
+/// Decodes a valid source over all of `dst`.
 ///
 /// ```rust
 /// use hex_core::few::write_bytes;
@@ -53,8 +53,8 @@ pub fn write_bytes(src: &[u8], dst: &mut [u8], case: CheckCase)
     }
 }
 
-// The bytes that fewer than 16 digits spell, in one number, of which the last byte is the lowest; or
-// none where a digit has no value.
+// Decodes fewer than 16 digits to one number, whose lowest byte is the last; or none if a digit is
+// invalid.
 #[inline(always)]
 fn word_of(src: &[u8], case: CheckCase) -> Option<u64>
     requires few { length src.now < 16 }
@@ -75,7 +75,7 @@ fn word_of(src: &[u8], case: CheckCase) -> Option<u64>
     Some(word)
 }
 
-/// Returns whether each of fewer than 16 digits, two for each byte, has a value under `case`.
+/// Returns whether fewer than 16 digits, two for each byte, are valid under `case`.
 ///
 /// ```rust
 /// use hex_core::few::are_pairs;
@@ -92,7 +92,7 @@ pub fn are_pairs(src: &[u8], case: CheckCase) -> bool
     word_of(src, case).is_some()
 }
 
-// Writes the last bytes of a number over the whole of `dst`. A copy of so few bytes would be a call.
+// Writes the last bytes of a number over all of `dst`. Copying so few bytes would be a call.
 #[inline(always)]
 fn write_word(word: u64, dst: &mut [u8])
     requires { length dst.old < 8 }
@@ -106,7 +106,7 @@ fn write_word(word: u64, dst: &mut [u8])
     }
 }
 
-// Decodes fewer than 16 digits in one pass: their bytes are stored once every pair is known to be valid.
+// Decodes fewer than 16 digits in one pass, and stores the bytes only if all pairs are valid.
 #[inline(always)]
 fn decode_as_word(src: &[u8], dst: &mut [u8], case: CheckCase) -> bool
     requires twice { length src.now ≡ 2 * length dst.old }
@@ -120,7 +120,7 @@ fn decode_as_word(src: &[u8], dst: &mut [u8], case: CheckCase) -> bool
     true
 }
 
-/// Writes the bytes that `src` spells into the whole of `dst`, or returns false and writes nothing.
+/// Decodes `src` over all of `dst`, or returns false and writes nothing.
 #[inline(always)]
 pub fn decode_by_table(src: &[u8], dst: &mut [u8], case: CheckCase) -> bool
     requires { length src.now ≡ 2 * length dst.old }
@@ -132,7 +132,7 @@ pub fn decode_by_table(src: &[u8], dst: &mut [u8], case: CheckCase) -> bool
     decode_in_passes(src, dst, case)
 }
 
-// The same of 16 digits or more.
+// The same for 16 digits or more.
 #[inline(never)]
 fn decode_in_passes(src: &[u8], dst: &mut [u8], case: CheckCase) -> bool
     requires { length src.now ≡ 2 * length dst.old }
@@ -145,7 +145,7 @@ fn decode_in_passes(src: &[u8], dst: &mut [u8], case: CheckCase) -> bool
     valid
 }
 
-/// Writes the text of `src` into the whole of `dst`.
+/// Encodes `src` over all of `dst`.
 #[inline(never)]
 pub fn encode_by_table(src: &[u8], dst: &mut [u8], upper: bool)
     requires { length dst.old ≡ 2 * length src.now }
@@ -154,7 +154,7 @@ pub fn encode_by_table(src: &[u8], dst: &mut [u8], upper: bool)
     write_digits(src, dst, upper);
 }
 
-/// Writes the text of `src` into the whole of `dst`.
+/// Encodes `src` over all of `dst`.
 ///
 /// ```rust
 /// use hex_core::few::write_digits;

@@ -1,4 +1,4 @@
-//! Counted sources, and the search for the first invalid byte through their counted calls.
+//! Probes, and the search for the first invalid byte through their counted calls.
 
 ghost use Rattle.std.specs.Prelude.{◌≡◌, ℕ, None, ◌+◌, ◌*◌, ◌/◌, ◌^◌, ◌<◌, ◌≤◌, ◌↔◌, IsTrue, length, slice_index};
 ghost use Rattle.hex_core.specs.Probe.{Adds, ProbeState, ValidIn, covering_in, invalid_in, looks_from, steps_in};
@@ -6,10 +6,10 @@ ghost use Rattle.hex_core.specs.Probe.{Adds, ProbeState, ValidIn, covering_in, i
 use crate::digit::CheckCase;
 use crate::tables::has_value;
 
-/// How many bytes each test that `locate` makes takes.
+/// Bytes in each test that `locate` makes.
 pub const SEARCH_BLOCK: usize = 64;
 
-/// A counted source: bytes that are seen through `look` and `test` alone, and a policy.
+/// A probe: a source seen only through `look` and `test`, which are counted, and a policy.
 ///
 /// Source, policy and block never change, and each of the two calls adds only to its own count.
 ///
@@ -21,44 +21,42 @@ pub const SEARCH_BLOCK: usize = 64;
 /// assert_eq!(rt; (probe.looks(), probe.tests()), (1, 1));
 /// ```
 pub trait Probe {
-    // What the probe shows: source, policy and block, and the counts of looks and of tests.
+    // The probe's source, policy and block, and its counts of looks and of tests.
     ghost state: { Self → ProbeState };
 
-    /// Returns how many bytes the source has.
+    /// Returns the source's length, in bytes.
     fn len(&self) -> usize
         ensures { result ≡ length (state self.now).source };
 
-    /// Returns the policy under which a byte has a value.
+    /// Returns the policy under which a byte is valid.
     fn case(&self) -> CheckCase
         ensures { result ≡ (state self.now).policy };
 
-    /// Returns the block: how many bytes the widest test takes.
+    /// Returns the block: the width of the widest test, in bytes.
     fn block(&self) -> usize
         ensures { result ≡ (state self.now).block };
 
-    /// Returns how many looks were made.
+    /// Returns the number of looks made.
     fn looks(&self) -> usize
         ensures { result ≡ (state self.now).looks };
 
-    /// Returns how many tests were made.
+    /// Returns the number of tests made.
     fn tests(&self) -> usize
         ensures { result ≡ (state self.now).tests };
 
     /// Returns byte `i` of the source and adds one look.
     ///
-    /// The place `i`, from 0 and in bytes, is inside the source, and the count of looks is below
-    /// `usize::MAX`.
+    /// Requires the index `i` to be inside the source, and the count of looks below `usize::MAX`.
     fn look(&mut self, i: usize) -> u8
         requires inside { i < length (state self.old).source }
         requires countable { (state self.old).looks < usize.MAX }
         ensures byte { result ≡ slice_index (state self.old).source i }
         ensures counted { Adds 1 0 (state self.old) (state self.new) };
 
-    /// Returns whether each byte of `start..start + width` has a value under the policy, and adds
-    /// one test.
+    /// Returns whether each byte of `start..start + width` is valid, and adds one test.
     ///
-    /// The range, in bytes, is inside the source, `width` is at most the block, and the count of
-    /// tests is below `usize::MAX`.
+    /// Requires the range, in bytes, to be inside the source, `width` to be at most the block, and
+    /// the count of tests below `usize::MAX`.
     fn test(&mut self, start: usize, width: usize) -> bool
         requires inside { start + width ≤ length (state self.old).source }
         requires narrow { width ≤ (state self.old).block }
@@ -67,8 +65,8 @@ pub trait Probe {
         ensures counted { Adds 0 1 (state self.old) (state self.new) };
 }
 
-// Tests the whole blocks in order, and returns where the looks begin: at the first block that does
-// not pass, or behind the last one.
+// Tests the whole blocks in order. Returns the start of the first block that fails, or the end of
+// the last one: the looks begin there.
 #[inline(always)]
 fn test_blocks<P: Probe>(p: &mut P) -> usize
     requires long { 64 < length (P.state p.old).source }
@@ -87,8 +85,8 @@ fn test_blocks<P: Probe>(p: &mut P) -> usize
     SEARCH_BLOCK * whole
 }
 
-// Looks at byte after byte from `start` on, up to the first one without a value. It makes at most
-// 64 looks, since the first invalid byte is within a block of `start`, or the end is.
+// Looks at each byte from `start` up to the first invalid one. Makes at most 64 looks, since the
+// first invalid byte, or the end, is within a block of `start`.
 #[inline(always)]
 fn look_from<P: Probe>(p: &mut P, start: usize) -> Option<usize>
     requires valid { ValidIn (P.state p.old) 0 start }
@@ -106,16 +104,16 @@ fn look_from<P: Probe>(p: &mut P, start: usize) -> Option<usize>
     None
 }
 
-/// Returns the first place of the source whose byte has no value under the policy, from 0 and in
-/// bytes, or `None` where each byte has one.
+/// Returns the index, in bytes, of the first byte that is invalid under the policy, or `None` if
+/// all are valid.
 ///
-/// A source of at most 64 bytes is looked at byte by byte from place 0. Of a longer one the whole
-/// blocks of 64 bytes are tested in order, until one does not pass; then it is looked at byte by
-/// byte, from that block on, or from the end of the whole blocks where each passed. So there are at
-/// most `len / 64` tests and at most 64 looks.
+/// If the source has at most 64 bytes, looks at each byte from index 0. Else tests whole blocks of
+/// 64 bytes in order until one fails, and then looks at each byte from that block on, or from the
+/// end of the whole blocks if all passed. So it makes at most `len / 64` tests and at most 64
+/// looks.
 ///
-/// The block is 64, and the count of tests plus the source's length, and the count of looks plus
-/// 64, are each a `usize`.
+/// Requires the block to be 64. The count of tests plus the length, and the count of looks plus 64,
+/// must each fit `usize`.
 ///
 /// ```rust
 /// let [scalar, ..] = backends();
@@ -135,7 +133,7 @@ pub fn locate<P: Probe>(p: &mut P) -> Option<usize>
         ≤ (P.state p.old).tests + length (P.state p.old).source / 64 }
     ensures few_looks { (P.state p.new).looks ≤ (P.state p.old).looks + 64 }
 {
-    // The bytes of one block are few enough to look at.
+    // One block is short enough to look at.
     let start = if p.len() > SEARCH_BLOCK {
         test_blocks(p)
     } else {
@@ -144,14 +142,14 @@ pub fn locate<P: Probe>(p: &mut P) -> Option<usize>
     look_from(p, start)
 }
 
-/// Returns whether each byte of the source has a value under the policy, by tests alone.
+/// Returns whether each byte of the source is valid under the policy, by tests alone.
 ///
-/// The blocks that cover the source are tested in order, until one does not pass. So the tests are
-/// as many as blocks up to that of the first byte without a value, or, where each has one, as the
-/// length divided by the block and rounded up. There is no look.
+/// Tests the blocks that cover the source in order, until one fails. So the number of tests is that
+/// of the blocks up to the first invalid byte's, or, if all are valid, the length divided by the
+/// block, rounded up. It makes no look.
 ///
-/// The block is at least 1 and at most as long as the source, and the count of tests plus that
-/// length is a `usize`.
+/// Requires the block to be at least 1 and at most the length; the count of tests plus the length
+/// must fit `usize`.
 ///
 /// ```rust
 /// let [scalar, ..] = backends();

@@ -1,4 +1,4 @@
-//! A slice as a counted source, and the search for its first invalid byte under a plan.
+//! A probe over a slice, and the search for its first invalid byte under a plan.
 
 ghost use Rattle.std.specs.Prelude.{◌≡◌, ◌≢◌, None, Some};
 ghost use Rattle.hex_core.specs.Probe.{fresh_probe};
@@ -10,7 +10,7 @@ use crate::digit::CheckCase;
 use crate::error::Error;
 use crate::search::{Probe, SEARCH_BLOCK, locate};
 
-/// A slice as a counted source, whose tests are checks under a plan.
+/// A probe over a slice, whose tests are a plan's checks.
 ///
 /// Its block is 64 bytes.
 ///
@@ -87,11 +87,11 @@ impl<'a> Probe for SliceProbe<'a> {
 }
 
 impl Backend {
-    /// Returns the first place of `src` whose byte has no value under `case`, from 0 and in bytes,
-    /// or `None` where each byte has one, whatever its length.
+    /// Returns the index of the first byte of `src` that is invalid under `case`, in bytes, or
+    /// `None` if all are valid, whatever the length.
     ///
-    /// It is [`locate`] over a [`SliceProbe`], whose counts are not kept: the contract says the
-    /// place, and nothing of the steps.
+    /// It is [`locate`] over a [`SliceProbe`], without the counts: the contract covers only the
+    /// index, not the steps.
     ///
     /// ```rust
     /// let [scalar, ..] = backends();
@@ -105,10 +105,10 @@ impl Backend {
         locate(&mut SliceProbe::new(self, src, case))
     }
 
-    /// Returns the first byte of `src` that has no value under `case`, as an
-    /// [`Error::InvalidChar`] with its place in bytes.
+    /// Returns the first byte of `src` that is invalid under `case`, as an [`Error::InvalidChar`]
+    /// with its index in bytes.
     ///
-    /// The caller shows that there is one: a check or a decoding answered false.
+    /// Requires one to exist, as after a check or a decoding that returned false.
     ///
     /// ```rust
     /// let error = Backend::plain().first_error(b"00fg", CheckCase::None);

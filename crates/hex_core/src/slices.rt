@@ -1,5 +1,5 @@
-//! The slice calls under a plan: decoding and encoding into the front of a destination, of any
-//! length, and the loan of that front.
+//! The slice calls under a plan, for any length: they write to the start of a destination, and can
+//! return the written part.
 
 ghost use Rattle.std.specs.Prelude.{◌≡◌, ◌*◌, ◌<◌, ◌≤◌, ℕ, Some, length, MatchResult};
 ghost use Rattle.std.specs.Borrow.{sem};
@@ -14,7 +14,7 @@ use crate::digit::CheckCase;
 use crate::error::Error;
 
 impl Backend {
-    // How many bytes so many digits spell, or what their number refuses in this room.
+    // The number of bytes that `src` decodes to, or its length's error in this room.
     #[inline(always)]
     fn decoded_len(src: &[u8], room: usize) -> Result<usize, Error>
         ensures { MatchResult result
@@ -31,19 +31,19 @@ impl Backend {
         Ok(required)
     }
 
-    // How many bytes the text of `src` takes, or what encoding it into this room refuses.
+    // The number of digits of `src`, or the error of encoding it into this room.
     #[inline(always)]
     fn encoded_len(src: &[u8], room: usize) -> Result<usize, Error>
         ensures { Answers (encode_refusal src.now room) (λ n. n ≡ 2 * length src.now) result }
     {
-        // No product is formed before it is known to be a `usize`.
+        // Multiplies only what is known to fit `usize`.
         if room / 2 < src.len() {
             return Err(Backend::no_room(src));
         }
         Ok(2 * src.len())
     }
 
-    // What encoding `src` refuses where its text has no room.
+    // The error of encoding `src` if its digits do not fit.
     #[cold]
     #[inline(never)]
     fn no_room(src: &[u8]) -> Error
@@ -55,17 +55,17 @@ impl Backend {
         }
     }
 
-    /// Decodes all of `src` into the front of `dst` and returns how many bytes it wrote,
-    /// `src.len() / 2`. The bytes behind them stay as they were.
+    /// Decodes all of `src` into the start of `dst` and returns the number of bytes written,
+    /// `src.len() / 2`. The bytes after them are unchanged.
     ///
     /// # Errors
     ///
-    /// In this order, each of which leaves all of `dst` as it was:
+    /// In this order; each leaves all of `dst` unchanged:
     ///
-    /// 1. [`Error::OddLength`] where `src` has an odd number of bytes;
-    /// 2. [`Error::OutputTooSmall`] where `dst` has fewer than `src.len() / 2` bytes;
-    /// 3. [`Error::InvalidChar`] with the first byte of `src` that `case` does not read, and its
-    ///    place in bytes.
+    /// 1. [`Error::OddLength`] if `src` has an odd number of bytes;
+    /// 2. [`Error::OutputTooSmall`] if `dst` has fewer than `src.len() / 2` bytes;
+    /// 3. [`Error::InvalidChar`] with the first byte of `src` that `case` does not accept, and its
+    ///    index in bytes.
     ///
     /// ```rust
     /// let mut buffer = [0xa5; 3];
@@ -84,15 +84,15 @@ impl Backend {
         Ok(required)
     }
 
-    /// Encodes all of `src` into the front of `dst`, in uppercase where `upper` is true, and
-    /// returns how many bytes it wrote, `2 * src.len()`. The bytes behind them stay as they were.
+    /// Encodes all of `src` into the start of `dst`, in uppercase if `upper` is true, and returns
+    /// the number of bytes written, `2 * src.len()`. The bytes after them are unchanged.
     ///
     /// # Errors
     ///
-    /// In this order, each of which leaves all of `dst` as it was:
+    /// In this order; each leaves all of `dst` unchanged:
     ///
-    /// 1. [`Error::Overflow`] where `2 * src.len()` is no `usize`;
-    /// 2. [`Error::OutputTooSmall`] where `dst` has fewer than `2 * src.len()` bytes.
+    /// 1. [`Error::Overflow`] if `2 * src.len()` exceeds `usize`;
+    /// 2. [`Error::OutputTooSmall`] if `dst` has fewer than `2 * src.len()` bytes.
     ///
     /// ```rust
     /// let mut buffer = [b'-'; 5];
@@ -109,17 +109,17 @@ impl Backend {
         Ok(written)
     }
 
-    /// Decodes all of `src` into the front of `dst` and returns that front, `src.len() / 2` bytes,
-    /// which borrows `dst` alone. The bytes behind it stay as they were.
+    /// Decodes all of `src` into the start of `dst` and returns the written part of `dst`,
+    /// `src.len() / 2` bytes, which borrows only `dst`. The bytes after it are unchanged.
     ///
     /// # Errors
     ///
-    /// In this order, each of which leaves all of `dst` as it was:
+    /// In this order; each leaves all of `dst` unchanged:
     ///
-    /// 1. [`Error::OddLength`] where `src` has an odd number of bytes;
-    /// 2. [`Error::OutputTooSmall`] where `dst` has fewer than `src.len() / 2` bytes;
-    /// 3. [`Error::InvalidChar`] with the first byte of `src` that `case` does not read, and its
-    ///    place in bytes.
+    /// 1. [`Error::OddLength`] if `src` has an odd number of bytes;
+    /// 2. [`Error::OutputTooSmall`] if `dst` has fewer than `src.len() / 2` bytes;
+    /// 3. [`Error::InvalidChar`] with the first byte of `src` that `case` does not accept, and its
+    ///    index in bytes.
     ///
     /// ```rust
     /// let [_, _, avx2, ..] = backends();
@@ -144,16 +144,16 @@ impl Backend {
         }
     }
 
-    /// Encodes all of `src` into the front of `dst`, in uppercase where `upper` is true, and
-    /// returns that front, `2 * src.len()` bytes, which borrows `dst` alone. The bytes behind it
-    /// stay as they were.
+    /// Encodes all of `src` into the start of `dst`, in uppercase if `upper` is true, and returns
+    /// the written part of `dst`, `2 * src.len()` bytes, which borrows only `dst`. The bytes after
+    /// it are unchanged.
     ///
     /// # Errors
     ///
-    /// In this order, each of which leaves all of `dst` as it was:
+    /// In this order; each leaves all of `dst` unchanged:
     ///
-    /// 1. [`Error::Overflow`] where `2 * src.len()` is no `usize`;
-    /// 2. [`Error::OutputTooSmall`] where `dst` has fewer than `2 * src.len()` bytes.
+    /// 1. [`Error::Overflow`] if `2 * src.len()` exceeds `usize`;
+    /// 2. [`Error::OutputTooSmall`] if `dst` has fewer than `2 * src.len()` bytes.
     ///
     /// ```rust
     /// let [_, _, avx2, ..] = backends();

@@ -6,7 +6,7 @@ ghost use Rattle.hex_core.specs.Text.{digits_table, value_table};
 
 use crate::digit::CheckCase;
 
-/// What a value table has for a byte with no value.
+/// The entry of an invalid byte in a value table.
 pub const NIL: u8 = 255;
 
 static VALUES: [u8; 256] = [
@@ -82,7 +82,7 @@ static DIGITS_UPPER: [u8; 512] = *b"\
     E0E1E2E3E4E5E6E7E8E9EAEBECEDEEEFF0F1F2F3F4F5F6F7F8F9FAFBFCFDFEFF\
 ";
 
-/// Returns the table of every byte's value under `case`, with [`NIL`] where there is none.
+/// Returns the table of all values under `case`, with [`NIL`] for invalid bytes.
 #[inline(always)]
 pub fn values_of(case: CheckCase) -> &'static [u8; 256]
     ensures { result.now ≡ value_table case }
@@ -94,7 +94,7 @@ pub fn values_of(case: CheckCase) -> &'static [u8; 256]
     }
 }
 
-/// Returns whether `byte` has a value under `case`, by one look-up.
+/// Returns whether `byte` is valid under `case`, by one look-up.
 #[inline(always)]
 pub fn has_value(byte: u8, case: CheckCase) -> bool
     ensures { result ≡ is_some (value case byte) }

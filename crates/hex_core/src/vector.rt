@@ -1,4 +1,4 @@
-//! Vectors: one operation a function, and what it makes of the lanes.
+//! Vectors: each function is one operation on all lanes.
 
 ghost use Rattle.std.specs.Prelude.{◌≡◌, ◌↔◌, ℕ, ◌-◌, ◌/◌, ◌^◌, ◌≤◌, ◌<◌, ◌==◌, EachIndex, IsTrue, max, min, map, slice_index, bit_and, bit_or, bit_xor};
 ghost use Rattle.std.specs.Simd.Lanes.{Each1, mask_l, zip2};
@@ -9,7 +9,7 @@ ghost use Rattle.hex_core.specs.Lookup.{entry};
 
 use std::simd::prelude::*;
 
-/// The difference of each lane, modulo 256.
+/// Subtracts `by`, modulo 256.
 #[inline(always)]
 pub fn wrapping_sub<const N: usize>(v: Simd<u8, N>, by: u8) -> Simd<u8, N>
     ensures { result ≡ map (λ x. wrapping_sub x by) v.entry }
@@ -17,7 +17,7 @@ pub fn wrapping_sub<const N: usize>(v: Simd<u8, N>, by: u8) -> Simd<u8, N>
     v - Simd::splat(by)
 }
 
-/// The difference of each lane, or 0.
+/// Subtracts `by`, down to 0.
 #[inline(always)]
 pub fn saturating_sub<const N: usize>(v: Simd<u8, N>, by: u8) -> Simd<u8, N>
     ensures { result ≡ map (λ x. x - by) v.entry }
@@ -25,8 +25,8 @@ pub fn saturating_sub<const N: usize>(v: Simd<u8, N>, by: u8) -> Simd<u8, N>
     v.saturating_sub(Simd::splat(by))
 }
 
-/// The sum of each lane, or 255. The compiler makes one instruction of this form, and three of a
-/// vector's own saturating sum.
+/// Adds `by`, up to 255. The compiler makes one instruction of this form, and three of a vector's
+/// own saturating sum.
 #[inline(always)]
 pub fn saturating_add<const N: usize>(v: Simd<u8, N>, by: u8) -> Simd<u8, N>
     ensures { result ≡ map (λ x. saturating_add x by) v.entry }
@@ -34,7 +34,7 @@ pub fn saturating_add<const N: usize>(v: Simd<u8, N>, by: u8) -> Simd<u8, N>
     v.simd_min(Simd::splat(255 - by)) + Simd::splat(by)
 }
 
-/// Each lane with these bits set.
+/// Sets these bits.
 #[inline(always)]
 pub fn with_bits<const N: usize>(v: Simd<u8, N>, bits: u8) -> Simd<u8, N>
     ensures { result ≡ map (λ x. bit_or x bits) v.entry }
@@ -42,7 +42,7 @@ pub fn with_bits<const N: usize>(v: Simd<u8, N>, bits: u8) -> Simd<u8, N>
     v | Simd::splat(bits)
 }
 
-/// Each lane with the other bits cleared.
+/// Clears the other bits.
 #[inline(always)]
 pub fn masked<const N: usize>(v: Simd<u8, N>, mask: u8) -> Simd<u8, N>
     ensures { result ≡ map (λ x. bit_and x mask) v.entry }
@@ -58,7 +58,7 @@ pub fn high_bits<const N: usize>(v: Simd<u8, N>) -> Simd<u8, N>
     v >> Simd::splat(4)
 }
 
-/// The smaller lane of each two.
+/// The smaller lane of each pair.
 #[inline(always)]
 pub fn smaller<const N: usize>(a: Simd<u8, N>, b: Simd<u8, N>) -> Simd<u8, N>
     ensures { result ≡ zip2 min a.entry b.entry }
@@ -66,7 +66,7 @@ pub fn smaller<const N: usize>(a: Simd<u8, N>, b: Simd<u8, N>) -> Simd<u8, N>
     a.simd_min(b)
 }
 
-/// The larger lane of each two, so that one test does for two vectors.
+/// The larger lane of each pair, so that one test covers two vectors.
 #[inline(always)]
 pub fn larger<const N: usize>(a: Simd<u8, N>, b: Simd<u8, N>) -> Simd<u8, N>
     ensures lanes { result ≡ zip2 max a.entry b.entry }
@@ -75,7 +75,7 @@ pub fn larger<const N: usize>(a: Simd<u8, N>, b: Simd<u8, N>) -> Simd<u8, N>
     a.simd_max(b)
 }
 
-/// The bits of both, so that one test does for two vectors.
+/// The bits of both, so that one test covers two vectors.
 #[inline(always)]
 pub fn either<const N: usize>(a: Simd<u8, N>, b: Simd<u8, N>) -> Simd<u8, N>
     ensures lanes { result ≡ zip2 bit_or a.entry b.entry }
@@ -84,7 +84,7 @@ pub fn either<const N: usize>(a: Simd<u8, N>, b: Simd<u8, N>) -> Simd<u8, N>
     a | b
 }
 
-/// A mask whose bit i says whether lane i is 0.
+/// A mask whose bit i is set if lane i is 0.
 #[inline(always)]
 pub fn zero_bits<const N: usize>(v: Simd<u8, N>) -> u64
     requires { N ≤ 64 }
@@ -93,8 +93,7 @@ pub fn zero_bits<const N: usize>(v: Simd<u8, N>) -> u64
     v.simd_eq(Simd::splat(0)).to_bitmask()
 }
 
-/// Whether each lane is 0. The compiler makes one test of this form, over as many registers as
-/// the vector has.
+/// Whether every lane is 0. The compiler makes one test of this form, for any number of registers.
 #[inline(always)]
 pub fn is_zero<const N: usize>(v: Simd<u8, N>) -> bool
     ensures { IsTrue result ↔ AreZero v.entry }
@@ -102,7 +101,7 @@ pub fn is_zero<const N: usize>(v: Simd<u8, N>) -> bool
     v.reduce_or() == 0
 }
 
-/// Whether no lane has its sign bit: each is below 128. One instruction reads the signs of a register.
+/// Whether every lane is below 128, by its sign bit. One instruction reads the signs of a register.
 #[inline(always)]
 pub fn has_no_sign<const N: usize>(v: Simd<u8, N>) -> bool
     requires { N ≤ 64 }
@@ -111,7 +110,7 @@ pub fn has_no_sign<const N: usize>(v: Simd<u8, N>) -> bool
     v.simd_ge(Simd::splat(0x80)).to_bitmask() == 0
 }
 
-/// Whether each lane is below 6.
+/// Whether every lane is below 6.
 #[inline(always)]
 pub fn is_low<const N: usize>(v: Simd<u8, N>) -> bool
     requires { N ≤ 64 }
@@ -121,7 +120,7 @@ pub fn is_low<const N: usize>(v: Simd<u8, N>) -> bool
     has_no_sign(saturating_add(v, 122))
 }
 
-/// Whether each lane is below 16.
+/// Whether every lane is below 16.
 #[inline(always)]
 pub fn is_small<const N: usize>(v: Simd<u8, N>) -> bool
     ensures { IsTrue result ↔ AreSmall v.entry }
@@ -129,10 +128,10 @@ pub fn is_small<const N: usize>(v: Simd<u8, N>) -> bool
     is_zero(masked(v, 0xf0))
 }
 
-// What brings the byte of two nibbles into the high half of their word, when it is multiplied.
+// Multiplying by it puts the byte of two nibbles into the high half of their word.
 const FACTOR: u16 = 4097;
 
-// The byte of each word of two nibbles, the high one in the word's low byte.
+// The byte of each word of two nibbles, whose low byte is the high nibble.
 #[inline(always)]
 fn pair_bytes<const N: usize>(v: Simd<u16, N>) -> Simd<u8, N>
     ensures { result ≡ map pair_byte v.entry }
@@ -140,7 +139,7 @@ fn pair_bytes<const N: usize>(v: Simd<u16, N>) -> Simd<u8, N>
     ((v * Simd::splat(FACTOR)) >> Simd::splat(8)).cast::<u8>()
 }
 
-/// Each lane with its sign bit turned, so that signed bytes are in the order of unsigned ones.
+/// Flips the sign bit of each lane, so that signed bytes sort like unsigned ones.
 #[inline(always)]
 pub fn sign_flipped<const N: usize>(v: Simd<u8, N>) -> Simd<u8, N>
     ensures { result ≡ map (λ x. bit_xor x 128) v.entry }
@@ -148,7 +147,7 @@ pub fn sign_flipped<const N: usize>(v: Simd<u8, N>) -> Simd<u8, N>
     v ^ Simd::splat(0x80)
 }
 
-/// The difference of each two lanes, or 0.
+/// Subtracts lane by lane, down to 0.
 #[inline(always)]
 pub fn saturating_differences<const N: usize>(a: Simd<u8, N>, b: Simd<u8, N>) -> Simd<u8, N>
     ensures { result ≡ zip2 (λ x y. x - y) a.entry b.entry }
@@ -156,7 +155,7 @@ pub fn saturating_differences<const N: usize>(a: Simd<u8, N>, b: Simd<u8, N>) ->
     a.saturating_sub(b)
 }
 
-/// The difference of each two lanes, modulo 256.
+/// Subtracts lane by lane, modulo 256.
 #[inline(always)]
 pub fn wrapping_differences<const N: usize>(a: Simd<u8, N>, b: Simd<u8, N>) -> Simd<u8, N>
     ensures { result ≡ zip2 wrapping_sub a.entry b.entry }
@@ -164,7 +163,7 @@ pub fn wrapping_differences<const N: usize>(a: Simd<u8, N>, b: Simd<u8, N>) -> S
     a - b
 }
 
-/// The average of each two lanes, rounded up.
+/// Averages lane by lane, rounding up.
 #[inline(always)]
 pub fn averages<const N: usize>(a: Simd<u8, N>, b: Simd<u8, N>) -> Simd<u8, N>
     ensures { result ≡ zip2 average a.entry b.entry }
@@ -173,7 +172,7 @@ pub fn averages<const N: usize>(a: Simd<u8, N>, b: Simd<u8, N>) -> Simd<u8, N>
     (sums >> Simd::splat(1)).cast::<u8>()
 }
 
-// Each word shifted right by three bits.
+// Shifts each word right by three bits.
 #[inline(always)]
 fn eighths<const N: usize>(v: Simd<u32, N>) -> Simd<u32, N>
     ensures lanes { result ≡ map (λ x. x / 8) v.entry }
@@ -182,11 +181,11 @@ fn eighths<const N: usize>(v: Simd<u32, N>) -> Simd<u32, N>
     v >> Simd::splat(3)
 }
 
-/// The widths of a vector. What moves lanes to other places has no form that is generic in the
-/// width, so it is written once for each width, below.
+/// Vector widths. An operation that moves lanes cannot be generic in the width, so it is written
+/// below for each width.
 pub struct Lanes;
 
-/// The nibbles of each pair of lanes become one byte, the first of a pair its high half.
+/// Makes one byte of each pair of nibbles, the first as its high half.
 pub trait Pack<const N: usize, const HALF: usize> {
     fn pack(v: Simd<u8, N>) -> Simd<u8, HALF>
         requires { AreSmall v }
@@ -253,7 +252,7 @@ impl Pack<64, 32> for Lanes {
     }
 }
 
-/// Two vectors are taken in turn, lane by lane.
+/// Interleaves two vectors, lane by lane.
 pub trait Interleave<const N: usize, const TWICE: usize> {
     fn interleave(first: Simd<u8, N>, second: Simd<u8, N>) -> Simd<u8, TWICE>
         ensures { result ≡ interleaved first.entry second.entry };
@@ -329,7 +328,7 @@ impl Interleave<32, 64> for Lanes {
     }
 }
 
-/// Each lane is looked up in a row of sixteen. Fewer lanes than a row has fill a vector of sixteen.
+/// Looks up each lane in a row of sixteen. Fewer lanes are repeated to fill a vector of sixteen.
 pub trait LookUp<const N: usize> {
     fn look_up(row: u8x16, at: Simd<u8, N>) -> Simd<u8, N>
         ensures { result ≡ map (entry row) at.entry };
@@ -401,8 +400,8 @@ impl LookUp<64> for Lanes {
     }
 }
 
-/// Each four lanes are shifted as one word, by three bits: the low bits of a lane's neighbour come
-/// in above its own.
+/// Shifts each four lanes right as one word, by three bits: the low bits of a neighbour come in
+/// above a lane's own.
 pub trait Shift<const N: usize> {
     fn shift(v: Simd<u8, N>) -> Simd<u8, N>
         ensures { EachIndex v.entry (λ i. slice_index result i ≡ shifted v.entry i) };

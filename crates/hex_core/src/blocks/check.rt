@@ -1,4 +1,4 @@
-//! Checking by the ranges of digits and letters, with one test for many vectors.
+//! Checks by the ranges of digits and letters, with one test for many vectors.
 
 ghost use Rattle.std.specs.Prelude.{◌≡◌, ◌↔◌, ◌+◌, ◌*◌, ◌<◌, ◌≤◌, IsTrue, None, length};
 ghost use Rattle.hex_core.specs.Arithmetic.{AreLow};
@@ -10,7 +10,7 @@ use crate::digit_lanes::reach;
 use crate::vector::{is_low, larger};
 use std::simd::prelude::*;
 
-/// Whether every byte of a source of `N` to `2 * N` bytes has a value.
+/// Returns whether `src`, `N` to `2 * N` bytes, is valid.
 #[inline(always)]
 pub fn check_two<const N: usize>(src: &[u8], case: CheckCase) -> bool
     requires lanes { N ≤ 64 }
@@ -22,13 +22,12 @@ pub fn check_two<const N: usize>(src: &[u8], case: CheckCase) -> bool
     is_low(larger(front, back))
 }
 
-// How many bytes are read at a time, and how many of these blocks one test is for: with more of them an
-// invalid byte is found later.
+// Bytes in a block, and blocks in one test: with more blocks, an invalid byte is found later.
 const CHECK_BLOCK: usize = 64;
 
 const CHECK_RUN: usize = 8;
 
-// What is below 6 in each lane exactly where each byte of so many blocks from `at` on has a value.
+// Every lane is below 6 exactly if every byte of `count` blocks from `at` on is valid.
 #[inline(always)]
 fn reach_of(src: &[u8], at: usize, count: usize, case: CheckCase) -> u8x64
     requires inside { at + count * 64 ≤ length src.now }
@@ -42,8 +41,8 @@ fn reach_of(src: &[u8], at: usize, count: usize, case: CheckCase) -> u8x64
     farthest
 }
 
-/// Whether every byte of a source of a block or more has a value: by runs, and then by one test of the
-/// whole blocks that are left and of the block that the source ends with.
+/// Returns whether `src`, a block or more, is valid. Tests run after run, and then the remaining
+/// whole blocks and the last block at once.
 #[inline(never)]
 pub fn check_runs(src: &[u8], case: CheckCase) -> bool
     requires { 64 ≤ length src.now }

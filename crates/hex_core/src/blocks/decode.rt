@@ -16,7 +16,7 @@ use crate::nibbles::Valid;
 use crate::vector::{Lanes, Pack, either, is_small};
 use std::simd::prelude::*;
 
-// The nibbles of `N` bytes from `at` on.
+// `N` nibbles from index `at`.
 #[inline(always)]
 fn nibbles_at<const N: usize>(src: &[u8], at: usize, case: CheckCase) -> Simd<u8, N>
     requires { at + N ≤ length src.now }
@@ -47,7 +47,7 @@ where
     pack_at(back, dst, end - HALF);
 }
 
-/// Decodes a source of `N` digits: all of it is tested before the first store.
+/// Decodes `N` digits. Tests all of them before the first store.
 #[inline(always)]
 pub fn decode_one<const N: usize, const HALF: usize>(
     src: &[u8],
@@ -68,7 +68,7 @@ where
     true
 }
 
-/// Decodes a source of `N` to `2 * N` digits: all of it is tested before the first store.
+/// Decodes `N` to `2 * N` digits. Tests all of them before the first store.
 #[inline(always)]
 pub fn decode_two<const N: usize, const HALF: usize>(
     src: &[u8],
@@ -91,7 +91,7 @@ where
     true
 }
 
-/// Decodes a source of `2 * N` to `3 * N` digits: all of it is tested before the first store.
+/// Decodes `2 * N` to `3 * N` digits. Tests all of them before the first store.
 #[inline(always)]
 pub fn decode_three<const N: usize, const HALF: usize>(
     src: &[u8],
@@ -117,7 +117,7 @@ where
     true
 }
 
-/// Decodes a source of `2 * N` to `4 * N` digits: all of it is tested before the first store.
+/// Decodes `2 * N` to `4 * N` digits. Tests all of them before the first store.
 #[inline(always)]
 pub fn decode_four<const N: usize, const HALF: usize>(
     src: &[u8],
@@ -144,7 +144,7 @@ where
     true
 }
 
-/// Decodes a source of more than 128 digits: all of it is tested before the first store.
+/// Decodes more than 128 digits. Tests all of them before the first store.
 #[inline(never)]
 pub fn decode_long(src: &[u8], dst: &mut [u8], case: CheckCase) -> bool
     requires more { 128 < length src.now }

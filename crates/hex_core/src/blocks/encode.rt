@@ -1,4 +1,4 @@
-//! Encoding by one block or two.
+//! Encoding with one block or two.
 
 ghost use Rattle.std.specs.Prelude.{◌≡◌, ◌*◌, length};
 ghost use Rattle.hex_core.specs.Shapes.{EndsCover};
@@ -7,7 +7,7 @@ ghost use Rattle.hex_core.specs.Text.{text};
 use crate::kernel::encode_at;
 use crate::vector::{Interleave, Lanes, LookUp};
 
-/// Writes the text of `N` bytes.
+/// Encodes `N` bytes.
 #[inline(always)]
 pub fn encode_one<const N: usize, const TWICE: usize>(src: &[u8], dst: &mut [u8], upper: bool)
 where
@@ -20,7 +20,7 @@ where
     encode_at::<N, TWICE>(src, dst, 0, upper);
 }
 
-/// Writes the text of `N` to `2 * N` bytes.
+/// Encodes `N` to `2 * N` bytes.
 #[inline(always)]
 pub fn encode_two<const N: usize, const TWICE: usize>(src: &[u8], dst: &mut [u8], upper: bool)
 where

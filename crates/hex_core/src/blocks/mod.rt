@@ -1,9 +1,8 @@
-//! Forms over blocks for the plain plan: they hold a whole short source in registers, and test many
-//! blocks at once.
+//! Code of the plain plan that holds a short source in registers, and tests many blocks at once.
 //!
-//! `N` is the number of lanes of a vector, and `HALF` is half of it: `N` digits spell `HALF` bytes.
-//! A last block ends with the source and may overlap the one before: what both cover is read
-//! twice, or written twice with equal bytes.
+//! A vector has `N` lanes, and `HALF` is half of that: `N` digits decode to `HALF` bytes. The last
+//! block ends with the source and may overlap the one before: the overlap is read twice, or written
+//! twice with equal bytes.
 
 pub mod check;
 pub mod decode;
