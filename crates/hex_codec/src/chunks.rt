@@ -6,14 +6,14 @@ ghost use Rattle.hex_core.specs.Text.{text};
 use hex_core::Backend;
 use std::str;
 
-/// A string that is lent hands out no room to write into, so its text grows by chunks of so many
-/// bytes, encoded into a buffer on the stack and copied once.
+/// A borrowed string does not expose its spare capacity, so its text grows by chunks of this many
+/// bytes, encoded on the stack and copied once.
 pub const CHUNK: usize = 256;
 
-/// How many digits a whole chunk has.
+/// The digits of a whole chunk.
 pub const CHUNK_DIGITS: usize = 512;
 
-/// Returns the digits of a chunk of at most [`CHUNK`] bytes, written into the front of `buffer`.
+/// Writes the digits of at most [`CHUNK`] bytes into the start of `buffer`, and returns them.
 pub fn chunk_text<'a>(buffer: &'a mut [u8; CHUNK_DIGITS], chunk: &[u8], upper: bool) -> &'a str
     requires { 2 * length chunk.now ≤ CHUNK_DIGITS }
     ensures text { result.now ≡ text upper chunk.now }

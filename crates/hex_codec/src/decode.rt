@@ -15,8 +15,8 @@ use std::alloc::Allocator;
 
 /// Returns whether every byte of `src` is a hex digit, of either letter case.
 ///
-/// It looks at bytes alone: an odd number of them passes, and so does the empty source. A call that
-/// decodes makes this test itself.
+/// Tests only bytes: an odd number of them passes, and so does an empty `src`. Calls that decode
+/// make this test themselves.
 ///
 /// ```rust
 /// assert!(rt; hex_check(b"00aBcD"));
@@ -30,9 +30,9 @@ pub fn hex_check(src: &[u8]) -> bool
     hex_check_with_case(src, CheckCase::None)
 }
 
-/// Returns whether every byte of `src` is a hex digit that `case` reads.
+/// Returns whether every byte of `src` is a hex digit that `case` accepts.
 ///
-/// Lengths are as at [`hex_check`].
+/// Lengths: see [`hex_check`].
 ///
 /// ```rust
 /// assert!(rt; hex_check_with_case(b"ab01", CheckCase::Lower));
@@ -45,22 +45,20 @@ pub fn hex_check_with_case(src: &[u8], case: CheckCase) -> bool
     Backend::plain().check(src, case)
 }
 
-/// Decodes all of `src` into the front of `dst`, reading letters of either case, and returns that
-/// front.
+/// Decodes all of `src` into the start of `dst`, accepting letters of either case, and returns the
+/// written part of `dst`.
 ///
-/// `src` holds an even number of hex digits, with no prefix, blank or separator between them; two
-/// digits make a byte, the high one first. The answer is the written prefix, `src.len() / 2` bytes
-/// long, and borrows `dst` alone; the bytes behind it stay as they were. The empty source gives an
-/// empty answer and changes nothing.
+/// `src` must be an even number of hex digits, without prefix, space or separator; two digits make
+/// a byte, the high one first. The result is `src.len() / 2` bytes long and borrows only `dst`; the
+/// bytes after it are unchanged. An empty `src` returns an empty slice and changes nothing.
 ///
 /// # Errors
 ///
-/// In this order, each of which leaves all of `dst` as it was, also where the bad byte stands
-/// behind a long good beginning:
+/// In this order; each leaves all of `dst` unchanged, even if the invalid byte comes late:
 ///
 /// 1. [`Error::OddLength`] if `src` has an odd number of bytes;
 /// 2. [`Error::OutputTooSmall`] if `dst` has fewer than `src.len() / 2` bytes;
-/// 3. [`Error::InvalidChar`] with the first byte of `src` that is no digit, and its place in bytes.
+/// 3. [`Error::InvalidChar`] with the first byte that is not a hex digit, and its index in bytes.
 ///
 /// ```rust
 /// let mut buffer = [0xa5; 5];
@@ -76,15 +74,15 @@ pub fn hex_decode<'a>(src: &[u8], dst: &'a mut [u8]) -> Result<&'a mut [u8], Err
     hex_decode_with_case(src, dst, CheckCase::None)
 }
 
-/// Decodes all of `src` into the front of `dst`, reading the letters that `case` admits, and
-/// returns that front.
+/// Decodes all of `src` into the start of `dst`, accepting the letters of `case`, and returns the
+/// written part of `dst`.
 ///
 /// Lengths, the borrow and the order of the errors are those of [`hex_decode`].
 ///
 /// # Errors
 ///
-/// Those of [`hex_decode`]. A letter that `case` does not read is an [`Error::InvalidChar`], and
-/// the first such byte is named, whatever stands behind it.
+/// Those of [`hex_decode`]. [`Error::InvalidChar`] has the first byte that `case` does not accept,
+/// whatever follows it.
 ///
 /// ```rust
 /// let mut buffer = [0; 2];
@@ -104,19 +102,19 @@ pub fn hex_decode_with_case<'a>(
     Backend::plain().decode_slice(src, dst, case)
 }
 
-/// Decodes all of `src` into the front of `dst`, by an explicit letter-case policy, and returns how
-/// many bytes it wrote, `src.len() / 2`.
+/// Decodes all of `src` into the start of `dst`, under a letter-case policy, and returns the number
+/// of bytes written, `src.len() / 2`.
 ///
-/// This is [`hex_decode_with_case`] without the borrow: a caller that proves what its buffer holds
-/// afterwards learns it from this form. The bytes behind the written ones stay as they were.
+/// This is [`hex_decode_with_case`] without the borrow: use it to prove what the buffer holds
+/// afterwards. The bytes after the written ones are unchanged.
 ///
 /// # Errors
 ///
-/// In this order, each of which leaves all of `dst` as it was:
+/// In this order; each leaves all of `dst` unchanged:
 ///
 /// 1. [`Error::OddLength`] if `src` has an odd number of bytes;
 /// 2. [`Error::OutputTooSmall`] if `dst` has fewer than `src.len() / 2` bytes;
-/// 3. [`Error::InvalidChar`] with the first byte of `src` that `case` does not read, and its place.
+/// 3. [`Error::InvalidChar`] with the first byte that `case` does not accept, and its index.
 ///
 /// ```rust
 /// let mut buffer = [0xa5; 4];
@@ -131,10 +129,10 @@ pub fn hex_decode_into(src: &[u8], dst: &mut [u8], case: CheckCase) -> Result<us
     Backend::plain().decode_into(src, dst, case)
 }
 
-/// Decodes exactly `N` bytes into an array, reading letters of either case. No memory is taken.
+/// Decodes exactly `N` bytes into an array, accepting letters of either case. Allocates nothing.
 ///
-/// `src` has to hold `2 * N` digits: a shorter source and a longer one are refused alike. Only
-/// `N == 0` takes the empty source.
+/// `src` must have `2 * N` digits: a shorter or longer source gives the same error. An empty `src`
+/// is accepted only if `N == 0`.
 ///
 /// # Errors
 ///
@@ -142,7 +140,7 @@ pub fn hex_decode_into(src: &[u8], dst: &mut [u8], case: CheckCase) -> Result<us
 ///
 /// 1. [`Error::OddLength`] if `src` has an odd number of bytes;
 /// 2. [`Error::LengthMismatch`] if `src.len() / 2` is not `N`, with both numbers;
-/// 3. [`Error::InvalidChar`] with the first byte of `src` that is no digit, and its place in bytes.
+/// 3. [`Error::InvalidChar`] with the first byte that is not a hex digit, and its index in bytes.
 ///
 /// ```rust
 /// assert_eq!(rt; hex_decode_array::<4>(b"0001aBff")?, [0, 1, 0xab, 0xff]);
@@ -155,12 +153,11 @@ pub fn hex_decode_array<const N: usize>(src: &[u8]) -> Result<[u8; N], Error>
     hex_decode_array_with_case(src, CheckCase::None)
 }
 
-/// Decodes exactly `N` bytes into an array, reading the letters that `case` admits. No memory is
-/// taken.
+/// Decodes exactly `N` bytes into an array, accepting the letters of `case`. Allocates nothing.
 ///
 /// # Errors
 ///
-/// Those of [`hex_decode_array`], in its order. A letter that `case` does not read is an
+/// Those of [`hex_decode_array`], in its order. A letter that `case` does not accept is an
 /// [`Error::InvalidChar`].
 ///
 /// ```rust
@@ -192,18 +189,18 @@ pub fn hex_decode_array_with_case<const N: usize>(
     }
 }
 
-/// Decodes all of `src` into a new vector, reading letters of either case.
+/// Decodes all of `src` into a new vector, accepting letters of either case.
 ///
-/// Memory is asked for once, `src.len() / 2` bytes, after an odd length is excluded and before any
-/// byte is tested; none is asked for where `src` is empty.
+/// Allocates once, `src.len() / 2` bytes, after its length is tested and before any byte is. An
+/// empty `src` allocates nothing.
 ///
 /// # Errors
 ///
 /// In this order:
 ///
-/// 1. [`Error::OddLength`] if `src` has an odd number of bytes, whatever memory does;
-/// 2. [`Error::OutOfMemory`] if the memory is refused;
-/// 3. [`Error::InvalidChar`] with the first byte of `src` that is no digit, and its place in bytes.
+/// 1. [`Error::OddLength`] if `src` has an odd number of bytes, even without memory;
+/// 2. [`Error::OutOfMemory`] if the allocation fails;
+/// 3. [`Error::InvalidChar`] with the first byte that is not a hex digit, and its index in bytes.
 ///
 /// ```rust
 /// let bytes = hex_decode_vec(rt.alloc(), b"00aBff")?;
@@ -215,13 +212,13 @@ pub fn hex_decode_vec<A: Allocator + Drop>(alloc: A, src: &[u8]) -> Result<Vec<u
     hex_decode_vec_with_case(alloc, src, CheckCase::None)
 }
 
-/// Decodes all of `src` into a new vector, reading the letters that `case` admits.
+/// Decodes all of `src` into a new vector, accepting the letters of `case`.
 ///
-/// Memory and the order of the errors are as at [`hex_decode_vec`].
+/// Allocates like [`hex_decode_vec`], with the same order of errors.
 ///
 /// # Errors
 ///
-/// Those of [`hex_decode_vec`], in its order. A letter that `case` does not read is an
+/// Those of [`hex_decode_vec`], in its order. A letter that `case` does not accept is an
 /// [`Error::InvalidChar`].
 ///
 /// ```rust
@@ -247,11 +244,10 @@ pub fn hex_decode_vec_with_case<A: Allocator + Drop>(
     Ok(bytes)
 }
 
-// A buffer of more bytes that is given up on a refusal is decoded block by block, in one pass over
-// the source.
+// A buffer longer than this, discarded on failure, is decoded block by block, in one pass.
 const OWNED: usize = 1024;
 
-// Decodes into the whole of a buffer that is given up on a refusal.
+// Decodes over all of a buffer that is discarded on failure.
 #[inline(always)]
 fn decode_whole(src: &[u8], dst: &mut [u8], case: CheckCase) -> Result<(), Error>
     requires { length src.now ≡ 2 * length dst.old }

@@ -1,5 +1,5 @@
-//! Encoding bytes as hex digits, into the front of a slice. The calls that make or grow a string
-//! are given out again from where they live.
+//! Encodes bytes as hex digits into the start of a slice. Re-exports the calls that make or extend
+//! a string.
 
 ghost use Rattle.std.specs.Prelude.{length};
 ghost use Rattle.std.specs.Borrow.{sem};
@@ -12,15 +12,15 @@ pub use crate::strings::{
 };
 use hex_core::{Backend, Error};
 
-/// Encodes all of `src` as lowercase digits into the front of `dst`, and returns that front.
+/// Encodes all of `src` as lowercase digits into the start of `dst`, and returns the written part.
 ///
-/// Each byte gives two ASCII digits, the high one first, in the order of the source; leading zero
-/// bytes are kept, and there is no prefix and no separator. The answer is the written prefix,
-/// `2 * src.len()` bytes long, and borrows `dst` alone; the bytes behind it stay as they were.
+/// Each byte gives two ASCII digits, the high one first, in source order, without prefix or
+/// separator; leading zero bytes are kept. The result is `2 * src.len()` bytes long and borrows
+/// only `dst`; the bytes after it are unchanged.
 ///
 /// # Errors
 ///
-/// In this order, each of which leaves all of `dst` as it was:
+/// In this order; each leaves all of `dst` unchanged:
 ///
 /// 1. [`Error::Overflow`] if `2 * src.len()` exceeds `usize`;
 /// 2. [`Error::OutputTooSmall`] if `dst` has fewer than `2 * src.len()` bytes.
@@ -38,9 +38,9 @@ pub fn hex_encode<'a>(src: &[u8], dst: &'a mut [u8]) -> Result<&'a mut [u8], Err
     Backend::plain().encode_slice(src, dst, false)
 }
 
-/// Encodes all of `src` as uppercase digits into the front of `dst`, and returns that front.
+/// Encodes all of `src` as uppercase digits into the start of `dst`, and returns the written part.
 ///
-/// All but the letters are as at [`hex_encode`].
+/// Otherwise like [`hex_encode`].
 ///
 /// # Errors
 ///
@@ -59,15 +59,15 @@ pub fn hex_encode_upper<'a>(src: &[u8], dst: &'a mut [u8]) -> Result<&'a mut [u8
     Backend::plain().encode_slice(src, dst, true)
 }
 
-/// Encodes all of `src` into the front of `dst`, in uppercase where `upper` is true, and returns
-/// how many bytes it wrote, `2 * src.len()`.
+/// Encodes all of `src` into the start of `dst`, in uppercase if `upper` is true, and returns the
+/// number of bytes written, `2 * src.len()`.
 ///
-/// This is [`hex_encode`] without the borrow: a caller that proves what its buffer holds afterwards
-/// learns it from this form. The bytes behind the written ones stay as they were.
+/// This is [`hex_encode`] without the borrow: use it to prove what the buffer holds afterwards. The
+/// bytes after the written ones are unchanged.
 ///
 /// # Errors
 ///
-/// In this order, each of which leaves all of `dst` as it was:
+/// In this order; each leaves all of `dst` unchanged:
 ///
 /// 1. [`Error::Overflow`] if `2 * src.len()` exceeds `usize`;
 /// 2. [`Error::OutputTooSmall`] if `dst` has fewer than `2 * src.len()` bytes.

@@ -4,7 +4,7 @@ ghost use Rattle.hex_codec.specs.Groups.{IsGroup};
 
 use hex_core::{CheckCase, digit_value};
 
-/// How digits are grouped: in pieces of so many bytes, the last of them possibly shorter, with one
+/// How digits are grouped: in pieces of `every` bytes, the last possibly shorter, with one
 /// separator between two pieces.
 ///
 /// ```rust
@@ -22,8 +22,8 @@ impl Group {
     ghost use Rattle.std.specs.Prelude.{◌≡◌};
     ghost use Rattle.hex_codec.specs.Grouped.{MakesGroup, piece_len, separator};
 
-    /// Returns pieces of `every` bytes with `sep` between them, or `None` where `every` is 0, or
-    /// `sep` is not ASCII or is a digit of either case.
+    /// Returns pieces of `every` bytes with `sep` between them, or `None` if `every` is 0, or if
+    /// `sep` is not ASCII or is a hex digit.
     ///
     /// ```rust
     /// assert!(rt; Group::new(2, b'-').is_some());
@@ -39,7 +39,7 @@ impl Group {
         Some(Group { every, sep })
     }
 
-    /// Returns how many bytes a piece has, the last one aside.
+    /// Returns the number of bytes in each piece but the last.
     ///
     /// ```rust
     /// let group = Group::new(4, b' ').ok_or("no group")?;
@@ -51,7 +51,7 @@ impl Group {
         self.every
     }
 
-    /// Returns the separator, an ASCII byte that is no digit.
+    /// Returns the separator, an ASCII byte other than a digit.
     ///
     /// ```rust
     /// let group = Group::new(4, b' ').ok_or("no group")?;

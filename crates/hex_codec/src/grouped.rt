@@ -1,6 +1,6 @@
-//! Grouped digits: pieces with a separator between two, read into bytes and written from them.
+//! Grouped digits: decodes and encodes pieces with a separator between two.
 //!
-//! All of a text is tested before the first store.
+//! Tests the whole text before the first store.
 
 ghost use Rattle.std.specs.Prelude.{◌≡◌, ◌≤◌, ◌<◌, ◌^◌, MatchOption, length};
 ghost use Rattle.std.specs.Borrow.{sem};
@@ -13,7 +13,7 @@ pub use crate::group::Group;
 use crate::pieces::{first_wrong, read_pieces, write_pieces};
 use hex_core::{CheckCase, Error};
 
-/// Why a grouped text was not read.
+/// An error of decoding grouped text.
 ///
 /// ```rust
 /// let group = Group::new(2, b':').ok_or("no group")?;
@@ -26,16 +26,16 @@ use hex_core::{CheckCase, Error};
 /// ```
 #[derive(Clone, Copy, Debug, PartialEq, Eq)]
 pub enum GroupFault {
-    /// No number of bytes has a grouped text of this length.
+    /// No bytes have a grouped text of this length.
     BadLength,
-    /// The destination has fewer bytes than the text spells.
+    /// The destination cannot hold the decoded bytes.
     OutputTooSmall {
-        /// How many bytes the text spells.
+        /// The number of decoded bytes.
         required: usize,
     },
-    /// A byte is wrong at its place: no digit that is read, or another separator.
+    /// A byte is wrong at its index: not an accepted digit, or not the separator.
     InvalidByte {
-        /// Its place in the text, in bytes.
+        /// Its index in the text, in bytes.
         index: usize,
         /// The byte.
         byte: u8,
@@ -59,7 +59,7 @@ fn byte_count(len: usize, every: usize) -> Option<usize>
     Some(len / part * every + last / 2)
 }
 
-// How many bytes a text of this length spells, or what its length refuses.
+// The number of bytes for a text of this length, or the length's error.
 fn required(len: usize, room: usize, group: Group) -> Result<usize, GroupFault>
     ensures { CountsBytes (piece_len group) len room result }
 {
@@ -72,24 +72,23 @@ fn required(len: usize, room: usize, group: Group) -> Result<usize, GroupFault>
     Ok(required)
 }
 
-/// Reads all of a grouped text into the front of `dst`, by an explicit letter-case policy, and
-/// returns how many bytes it wrote.
+/// Decodes all of a grouped text into the start of `dst`, under a letter-case policy, and returns
+/// the number of bytes written.
 ///
-/// The text is that of pieces of [`Group::every`] bytes, the last of them possibly shorter, with one
-/// [`Group::sep`] between two: for `n` bytes `2 * n` digits and a separator fewer than pieces. The
-/// bytes behind the written ones stay as they were. The empty source gives 0 and changes nothing.
+/// The text has pieces of [`Group::every`] bytes, the last possibly shorter, with one
+/// [`Group::sep`] between two: for `n` bytes, `2 * n` digits and one separator fewer than pieces.
+/// The bytes after the written ones are unchanged. An empty `src` returns 0 and changes nothing.
 ///
-/// This is [`read`] without the borrow: a caller that proves what its buffer holds afterwards learns
-/// it from this form.
+/// This is [`read`] without the borrow: use it to prove what the buffer holds afterwards.
 ///
 /// # Errors
 ///
-/// In this order, each of which leaves all of `dst` as it was:
+/// In this order; each leaves all of `dst` unchanged:
 ///
 /// 1. [`GroupFault::BadLength`] if no number of bytes has a grouped text of `src.len()` bytes;
 /// 2. [`GroupFault::OutputTooSmall`] if `dst` has fewer bytes than that number;
-/// 3. [`GroupFault::InvalidByte`] with the first byte of `src` that is wrong at its place, a digit
-///    that `case` does not read or another separator, and its index in bytes.
+/// 3. [`GroupFault::InvalidByte`] with the first byte of `src` that is wrong at its index, not a
+///    digit that `case` accepts or not the separator, and that index in bytes.
 ///
 /// ```rust
 /// let group = Group::new(2, b':').ok_or("no group")?;
@@ -117,14 +116,14 @@ pub fn read_into(
     Ok(count)
 }
 
-/// Reads all of a grouped text into the front of `dst`, by an explicit letter-case policy, and
-/// returns that front, which borrows `dst` alone.
+/// Decodes all of a grouped text into the start of `dst`, under a letter-case policy, and returns
+/// the written part of `dst`, which borrows only `dst`.
 ///
-/// The text and its length are as at [`read_into`]. The bytes behind the answer stay as they were.
+/// The text and its length are as for [`read_into`]. The bytes after the result are unchanged.
 ///
 /// # Errors
 ///
-/// Those of [`read_into`], in its order, each of which leaves all of `dst` as it was.
+/// Those of [`read_into`], in its order; each leaves all of `dst` unchanged.
 ///
 /// ```rust
 /// let group = Group::new(2, b':').ok_or("no group")?;
@@ -148,7 +147,7 @@ pub fn read<'a>(
     }
 }
 
-// How long the grouped text of so many bytes is, where that is a `usize`.
+// The length of the grouped text of `len` bytes, unless it exceeds `usize`.
 #[inline(always)]
 fn grouped_len(len: usize, every: usize) -> Option<usize>
     requires { 0 < every }
@@ -159,13 +158,13 @@ fn grouped_len(len: usize, every: usize) -> Option<usize>
     digits.checked_add(len.div_ceil(every).saturating_sub(1))
 }
 
-/// Writes the grouped text of `src` into the front of `dst`, and returns how long it is: two digits
-/// for each byte, and a separator fewer than pieces. The bytes behind it stay as they were. The empty
-/// source gives 0 and changes nothing.
+/// Writes the grouped text of `src` into the start of `dst`, and returns its length: two digits for
+/// each byte, and one separator fewer than pieces. The bytes after it are unchanged. An empty `src`
+/// returns 0 and changes nothing.
 ///
 /// # Errors
 ///
-/// In this order, each of which leaves all of `dst` as it was:
+/// In this order; each leaves all of `dst` unchanged:
 ///
 /// 1. [`Error::Overflow`] if that length exceeds `usize`;
 /// 2. [`Error::OutputTooSmall`] if `dst` has fewer bytes.

@@ -1,6 +1,6 @@
-//! Hex texts of a fixed capacity, which lie in the value itself and take no memory.
+//! Hex texts of a fixed capacity, stored in the value itself, without allocation.
 //!
-//! The name is that of the module of the Rust crate; the texts are those of `arrayvec`.
+//! The name is that of the Rust crate's module; the text type is that of `arrayvec`.
 
 ghost use Rattle.hex_core.specs.Text.{lowercase, uppercase};
 ghost use Rattle.hex_codec.specs.Calls.{EncodesWithin};
@@ -9,18 +9,17 @@ use crate::chunks::{CHUNK, CHUNK_DIGITS, chunk_text};
 use arrayvec::ArrayString;
 use hex_core::Error;
 
-/// Encodes all of `src` as a text of lowercase digits, `2 * src.len()` bytes long, with room for
-/// `N` bytes.
+/// Encodes all of `src` as a text of lowercase digits, `2 * src.len()` bytes long, with a capacity
+/// of `N` bytes.
 ///
-/// The empty source gives the empty text, also where `N` is 0. Room that is left stays free in the
-/// answer.
+/// An empty `src` gives an empty text, even if `N` is 0. Unused capacity stays free.
 ///
 /// # Errors
 ///
 /// In this order:
 ///
 /// 1. [`Error::Overflow`] if `2 * src.len()` exceeds `usize`;
-/// 2. [`Error::OutputTooSmall`] with `2 * src.len()` if that is more than `N`.
+/// 2. [`Error::OutputTooSmall`] with `2 * src.len()` if that exceeds `N`.
 ///
 /// ```rust
 /// let text = heapless_08::hex_string::<4>(&[0xab, 1])?;
@@ -34,8 +33,8 @@ pub fn hex_string<const N: usize>(src: &[u8]) -> Result<ArrayString<N>, Error>
     string_of(src, false)
 }
 
-/// Encodes all of `src` as a text of uppercase digits, `2 * src.len()` bytes long, with room for
-/// `N` bytes.
+/// Encodes all of `src` as a text of uppercase digits, `2 * src.len()` bytes long, with capacity
+/// `N`.
 ///
 /// # Errors
 ///

@@ -1,4 +1,4 @@
-//! Encoding and decoding hex digits: slices, arrays, vectors, strings and texts of a fixed capacity.
+//! Encodes and decodes hex digits: slices, arrays, vectors, strings and texts of a fixed capacity.
 #![tactic(auto)]
 
 mod chunks;

@@ -1,5 +1,5 @@
-//! Passes over the pieces of a grouped text: one that tests all of it, one that reads it, and one that
-//! writes it. The last piece, which no separator follows, stands behind each loop.
+//! Passes over the pieces of a grouped text: to test all of it, to decode it, and to encode it. The
+//! last piece, which no separator follows, comes after each loop.
 
 ghost use Rattle.std.specs.Prelude.{◌≡◌, ◌*◌, ◌%◌, None, length};
 ghost use Rattle.hex_core.specs.Search.{first_invalid};
@@ -12,7 +12,7 @@ use crate::group::Group;
 use hex_core::few::{are_pairs, write_bytes, write_digits};
 use hex_core::{Backend, CheckCase};
 
-// A call for fewer bytes takes longer than looking up their digits where they stand.
+// For fewer bytes, a call takes longer than inlined look-ups.
 const CALLED: usize = 8;
 
 // The first invalid digit of a piece.
@@ -27,7 +27,7 @@ fn first_invalid(digits: &[u8], case: CheckCase) -> Option<usize>
     first_of_many(digits, case)
 }
 
-// The same of more digits, or where one of few is invalid. Its body would fill the loop.
+// The same for more digits, or if one of few is invalid. Its body would fill the loop.
 #[inline(never)]
 fn first_of_many(digits: &[u8], case: CheckCase) -> Option<usize>
     ensures { result ≡ first_invalid case digits.now }
@@ -38,7 +38,7 @@ fn first_of_many(digits: &[u8], case: CheckCase) -> Option<usize>
     Backend::plain().first_invalid(digits, case)
 }
 
-// Writes the bytes that a piece's digits spell, which are valid.
+// Decodes the valid digits of a piece.
 #[inline(always)]
 fn read_piece(digits: &[u8], bytes: &mut [u8], case: CheckCase)
     requires twice { length digits.now ≡ 2 * length bytes.old }
@@ -63,7 +63,7 @@ fn write_piece(bytes: &[u8], digits: &mut [u8], upper: bool)
     Backend::plain().encode(bytes, digits, upper);
 }
 
-/// Returns the first wrong byte of a text that is as long as that of `count` bytes.
+/// Returns the first wrong index of a text that is as long as that of `count` bytes.
 pub fn first_wrong(src: &[u8], count: usize, group: Group, case: CheckCase) -> Option<usize>
     requires { length src.now ≡ grouped_len (piece_len group) count }
     ensures { result ≡ first_wrong case group src.now }
@@ -88,7 +88,7 @@ pub fn first_wrong(src: &[u8], count: usize, group: Group, case: CheckCase) -> O
     }
 }
 
-/// Writes the bytes that a text spells, which has no wrong byte, over the whole of `dst`.
+/// Decodes a text without a wrong byte over all of `dst`.
 pub fn read_pieces(src: &[u8], dst: &mut [u8], group: Group, case: CheckCase)
     requires long { length src.now ≡ grouped_len (piece_len group) (length dst.old) }
     requires clear { first_wrong case group src.now ≡ None }
@@ -106,7 +106,7 @@ pub fn read_pieces(src: &[u8], dst: &mut [u8], group: Group, case: CheckCase)
     read_piece(&src[at..], &mut dst[done..], case);
 }
 
-// Writes the grouped text of `src` over the whole of `dst`.
+// Writes the grouped text of `src` over all of `dst`.
 #[inline(always)]
 fn write_by(src: &[u8], dst: &mut [u8], every: usize, group: Group, upper: bool)
     requires every { every ≡ piece_len group }
@@ -125,8 +125,8 @@ fn write_by(src: &[u8], dst: &mut [u8], every: usize, group: Group, upper: bool)
     write_piece(&src[at..], &mut dst[done..], upper);
 }
 
-/// Writes the grouped text of `src` over the whole of `dst`. A piece whose length the compiler knows is
-/// written without a loop.
+/// Writes the grouped text of `src` over all of `dst`. A piece of a length known at compile time
+/// needs no loop.
 pub fn write_pieces(src: &[u8], dst: &mut [u8], group: Group, upper: bool)
     requires { length dst.old ≡ grouped_len (piece_len group) (length src.now) }
     ensures { dst.new ≡ grouped group upper src.now }

@@ -1,6 +1,6 @@
-//! Decoding digits that come in chunks of any length, as from a file or a socket.
+//! Decodes digits that come in chunks of any length, as from a file or a socket.
 //!
-//! Encoding by chunks keeps nothing: the text of a joined list is the texts joined.
+//! Encoding by chunks needs no state: the text of a joined list is the texts joined.
 //!
 //! ```rust
 //! let mut text = [0; 6];
@@ -19,10 +19,10 @@ use hex_core::{Backend, CheckCase, Error, digit_value};
 
 /// Decodes digits that are fed to it in chunks, each of which may end within a pair.
 ///
-/// It keeps its policy, how many digits it has been fed, and the digit that waits for its partner.
-/// What it writes, joined, is what all that it was fed spells, but for a digit that waits, whatever
-/// the chunks were. A refusal is that of what has come so far: a chunk `0g1` names its `g`, where one
-/// call over it tells the odd length. No memory is taken.
+/// It keeps its policy, the number of digits fed, and the digit that waits for its partner. Its
+/// outputs, joined, are the bytes of all digits fed, except for a digit that waits, whatever the
+/// chunks were. An error is about the digits so far: a chunk `0g1` gives the `g`, while one call
+/// gives the odd length. Allocates nothing.
 ///
 /// ```rust
 /// let mut decoder = Decoder::new(CheckCase::None);
@@ -37,16 +37,16 @@ pub struct Decoder {
     case: CheckCase,
     position: usize,
     waiting: Option<u8>,
-    // The digit that waits was tested as it came.
+    // The digit that waits was tested when it came.
     ghost tested: { ForSome waiting (λ digit. IsSome (value case digit)) },
-    // One waits exactly where so far an odd number came.
+    // A digit waits exactly if an odd number came so far.
     ghost paired: { position % 2 ≡ length (option_to_list waiting) },
 }
 
 impl Decoder {
     ghost use Rattle.hex_codec.specs.Stream.{DecodesPairs, Feeds, Finished, HasFed, bad_char_behind, policy_of, position_of, waiting_in};
 
-    /// A decoder that has been fed nothing, and reads the letters that `case` admits.
+    /// Returns a decoder that has been fed nothing and accepts the letters of `case`.
     pub fn new(case: CheckCase) -> Decoder
         ensures policy { policy_of result ≡ case }
         ensures fresh { HasFed result [] [] }
@@ -58,7 +58,7 @@ impl Decoder {
         }
     }
 
-    /// Returns how many digits it has been fed, and so the place of the next one.
+    /// Returns the number of digits fed, which is the index of the next one.
     ///
     /// ```rust
     /// let mut decoder = Decoder::new(CheckCase::None);
@@ -71,18 +71,17 @@ impl Decoder {
         self.position
     }
 
-    /// Takes more digits, writes the bytes of all pairs that are whole now to the front of `dst`,
-    /// and returns how many bytes that are. What stands behind them stays.
+    /// Takes more digits, decodes all pairs that are now whole into the start of `dst`, and returns
+    /// the number of bytes written. The bytes after them are unchanged.
     ///
     /// # Errors
     ///
-    /// In this order, each of which leaves `dst` and the decoder as they were, so that it may be fed
-    /// again:
+    /// In this order; each leaves `dst` and the decoder unchanged, so that it may be fed again:
     ///
-    /// 1. [`Error::Overflow`] if all digits together are more than a `usize` counts;
-    /// 2. [`Error::OutputTooSmall`] with the room that this feed takes;
-    /// 3. [`Error::InvalidChar`] with the first byte that is no digit, and its place in all that was
-    ///    fed, also where it would wait for a partner.
+    /// 1. [`Error::Overflow`] if the number of all digits exceeds `usize`;
+    /// 2. [`Error::OutputTooSmall`] with the number of bytes that this feed writes;
+    /// 3. [`Error::InvalidChar`] with the first byte that is not a hex digit, and its index in all
+    ///    digits fed, even if it would wait for a partner.
     ///
     /// ```rust
     /// let mut decoder = Decoder::new(CheckCase::None);
@@ -120,11 +119,11 @@ impl Decoder {
         Ok(required)
     }
 
-    /// Ends the decoding: all that was fed has to be whole pairs.
+    /// Ends the decoding: all digits fed must be whole pairs.
     ///
     /// # Errors
     ///
-    /// [`Error::OddLength`] where a digit waits for its partner. It is the last one that was fed, at
+    /// [`Error::OddLength`] if a digit waits for its partner. It is the last one fed, at index
     /// `position() - 1`.
     ///
     /// ```rust
@@ -141,7 +140,7 @@ impl Decoder {
         Ok(())
     }
 
-    // How many pairs so many more digits make whole.
+    // Pairs that so many more digits complete.
     fn whole_pairs(&self, digits: usize) -> usize
         ensures { result ≡ (length (waiting_in self.now) + digits) / 2 }
     {
@@ -152,7 +151,7 @@ impl Decoder {
         }
     }
 
-    // Decodes the pairs that are whole with more digits, and returns the digit that waits then.
+    // Decodes the pairs that more digits complete, and returns the digit that then waits.
     #[inline(always)]
     fn decode_pairs(&self, src: &[u8], dst: &mut [u8]) -> Result<Option<u8>, Error>
         requires counted { position_of self.now + length src.now < 2 ^ 64 }
@@ -173,7 +172,7 @@ impl Decoder {
         Ok(waiting)
     }
 
-    // Decodes the pairs that are whole from a place on, and returns the digit behind them.
+    // Decodes the whole pairs from an index, and returns the digit after them.
     #[inline(always)]
     fn decode_from(&self, src: &[u8], start: usize, dst: &mut [u8]) -> Result<Option<u8>, Error>
         requires inside { start ≤ length src.now }
@@ -186,7 +185,7 @@ impl Decoder {
         if !is_read(waiting, self.case) {
             return Err(self.error_in(src));
         }
-        // A feed of one digit has no pair of its own, and so makes no call.
+        // A feed of one digit has no pair of its own, and needs no call.
         if start == end {
             return Ok(waiting);
         }
@@ -197,7 +196,7 @@ impl Decoder {
         Ok(waiting)
     }
 
-    // The first invalid byte of a chunk that has one, by its place in all that was fed.
+    // The first invalid byte of a chunk that has one, with its index in all digits fed.
     #[cold]
     fn error_in(&self, src: &[u8]) -> Error
         requires invalid { first_invalid (policy_of self.now) src.now ≢ None }
@@ -212,7 +211,7 @@ impl Decoder {
     }
 }
 
-// The digit behind the whole pairs of a source, where it has one.
+// The digit after the whole pairs of a source, if it has one.
 #[inline(always)]
 fn digit_behind(src: &[u8], end: usize) -> Option<u8>
     requires { length src.now ≤ end + 1 }
@@ -225,7 +224,7 @@ fn digit_behind(src: &[u8], end: usize) -> Option<u8>
     }
 }
 
-// Whether a digit that is to wait has a value, where there is one.
+// Whether a digit that is to wait, if there is one, is valid.
 #[inline(always)]
 fn is_read(waiting: Option<u8>, case: CheckCase) -> bool
     ensures { IsTrue result ↔ ForSome waiting (λ digit. IsSome (value case digit)) }
@@ -236,7 +235,7 @@ fn is_read(waiting: Option<u8>, case: CheckCase) -> bool
     }
 }
 
-// The byte that two digits spell, of which the first has a value.
+// The byte of two digits, of which the first is valid.
 #[inline(always)]
 fn pair_byte(high: u8, low: u8, case: CheckCase) -> Option<u8>
     requires { IsSome (value case high) }

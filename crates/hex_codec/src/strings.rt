@@ -1,4 +1,4 @@
-//! Strings of hex digits: new ones, and ones that grow by the digits of more bytes.
+//! Strings of hex digits: makes new ones, and appends digits to existing ones.
 
 ghost use Rattle.std.specs.Prelude.{◌≡◌, ◌+◌, ◌*◌, ◌^◌, ◌<◌, ◌≤◌, ◌++◌, length, MatchResult, drop, IsUtf8, string_bytes, string_len, string_capacity};
 ghost use Rattle.std.specs.Borrow.{sem};
@@ -16,15 +16,14 @@ use std::str;
 
 /// Encodes all of `src` as a new string of lowercase digits, `2 * src.len()` bytes long.
 ///
-/// Memory is taken from `alloc` at most once, for exactly that length, and not at all where `src`
-/// is empty.
+/// Allocates at most once, exactly that length, and nothing if `src` is empty.
 ///
 /// # Errors
 ///
 /// In this order:
 ///
 /// 1. [`Error::Overflow`] if `2 * src.len()` exceeds `usize`;
-/// 2. [`Error::OutOfMemory`] if the allocation failed, so never where `src` is empty.
+/// 2. [`Error::OutOfMemory`] if the allocation fails, so never if `src` is empty.
 ///
 /// ```rust
 /// let text = hex_string(rt.alloc(), &[0, 0xab, 0xff])?;
@@ -38,7 +37,7 @@ pub fn hex_string<A: Allocator + Drop>(alloc: A, src: &[u8]) -> Result<String<A>
 
 /// Encodes all of `src` as a new string of uppercase digits, `2 * src.len()` bytes long.
 ///
-/// It takes memory as [`hex_string`] does.
+/// Allocates like [`hex_string`].
 ///
 /// # Errors
 ///
@@ -54,18 +53,18 @@ pub fn hex_string_upper<A: Allocator + Drop>(alloc: A, src: &[u8]) -> Result<Str
     string_of(alloc, src, true)
 }
 
-/// Appends the digits of all of `src` to `dst`, in uppercase where `upper` is true: `2 * src.len()`
-/// bytes behind the text that `dst` has.
+/// Appends the digits of all of `src` to `dst`, in uppercase if `upper` is true: `2 * src.len()`
+/// bytes after its text.
 ///
-/// This is [`hex_append`] without the borrow: a caller that proves what its string holds afterwards
-/// learns it from this form. It asks for memory as [`hex_append`] does.
+/// This is [`hex_append`] without the borrow: use it to prove what the string holds afterwards. It
+/// allocates like [`hex_append`].
 ///
 /// # Errors
 ///
-/// In this order, each of which leaves the text of `dst` as it was:
+/// In this order; each leaves the text of `dst` unchanged:
 ///
 /// 1. [`Error::Overflow`] if `dst.len() + 2 * src.len()` exceeds `usize`;
-/// 2. [`Error::OutOfMemory`] if the allocation failed, so never where `src` is empty.
+/// 2. [`Error::OutOfMemory`] if the allocation fails, so never if `src` is empty.
 ///
 /// ```rust
 /// let mut text = String::from_str(rt.alloc(), "id: ")?;
@@ -94,18 +93,18 @@ pub fn hex_append_into<A: Allocator>(
     Ok(())
 }
 
-/// Appends the lowercase digits of all of `src` to `dst`, and returns the `2 * src.len()` new bytes
-/// alone.
+/// Appends the lowercase digits of all of `src` to `dst`, and returns only the `2 * src.len()` new
+/// bytes.
 ///
-/// Where the spare capacity of `dst` suffices no memory is asked for, and else once, for exactly
-/// what is missing. A program that appends many times to one string reserves its room first.
+/// Allocates nothing if the spare capacity of `dst` suffices, and else once, exactly what is
+/// missing. To append many times to one string, reserve its capacity first.
 ///
 /// # Errors
 ///
-/// In this order, each of which leaves the text of `dst` as it was:
+/// In this order; each leaves the text of `dst` unchanged:
 ///
 /// 1. [`Error::Overflow`] if `dst.len() + 2 * src.len()` exceeds `usize`;
-/// 2. [`Error::OutOfMemory`] if the allocation failed, so never where `src` is empty.
+/// 2. [`Error::OutOfMemory`] if the allocation fails, so never if `src` is empty.
 ///
 /// ```rust
 /// let mut text = String::from_str(rt.alloc(), "hash: ")?;
@@ -120,14 +119,14 @@ pub fn hex_append<'a, A: Allocator>(src: &[u8], dst: &'a mut String<A>) -> Resul
     append_in(dst, src, false)
 }
 
-/// Appends the uppercase digits of all of `src` to `dst`, and returns the `2 * src.len()` new bytes
-/// alone.
+/// Appends the uppercase digits of all of `src` to `dst`, and returns only the `2 * src.len()` new
+/// bytes.
 ///
-/// The text that `dst` has keeps its letters. It asks for memory as [`hex_append`] does.
+/// The existing text keeps its letters. Allocates like [`hex_append`].
 ///
 /// # Errors
 ///
-/// Those of [`hex_append`], in the same order; each leaves the text of `dst` as it was.
+/// Those of [`hex_append`], in the same order; each leaves the text of `dst` unchanged.
 ///
 /// ```rust
 /// let mut text = String::from_str(rt.alloc(), "hash: ")?;
@@ -151,17 +150,16 @@ fn string_of<A: Allocator + Drop>(alloc: A, src: &[u8], upper: bool) -> Result<S
     prefixed_string(alloc, b"", src, upper)
 }
 
-/// Returns a new string of the digits of `src` behind a prefix of ASCII bytes.
+/// Returns a new string: a prefix of ASCII bytes and the digits of `src`.
 ///
-/// Memory is taken from `alloc` at most once, for exactly that length, and not at all where it is
-/// 0.
+/// Allocates at most once, exactly that length, and nothing if it is 0.
 ///
 /// # Errors
 ///
 /// In this order:
 ///
 /// 1. [`Error::Overflow`] if `prefix.len() + 2 * src.len()` exceeds `usize`;
-/// 2. [`Error::OutOfMemory`] if the allocation failed.
+/// 2. [`Error::OutOfMemory`] if the allocation fails.
 ///
 /// ```rust
 /// let text = prefixed_string(rt.alloc(), b"0x", &[0xab], false)?;
@@ -192,7 +190,7 @@ pub fn prefixed_string<A: Allocator + Drop>(
     Ok(unsafe { String::from_utf8_unchecked(string) })
 }
 
-// Writes a prefix and the digits of `src` behind it over all of some bytes.
+// Writes a prefix and then the digits of `src` over all of `bytes`.
 fn write_prefixed(bytes: &mut [u8], prefix: &[u8], src: &[u8], upper: bool)
     requires { length bytes.old ≡ length prefix.now + 2 * length src.now }
     ensures { bytes.new ≡ prefix.now ++ text upper src.now }
@@ -202,8 +200,8 @@ fn write_prefixed(bytes: &mut [u8], prefix: &[u8], src: &[u8], upper: bool)
     Backend::plain().encode(src, digits, upper);
 }
 
-// Appends the digits of `src` and returns them alone. `dst` stands first because a proof learns
-// what a lent value ends as only where the first parameter lends it.
+// Appends the digits of `src` and returns only them. `dst` comes first: only for the first
+// parameter does a proof learn the final value of what it borrows.
 fn append_in<'a, A: Allocator>(
     dst: &'a mut String<A>,
     src: &[u8],
@@ -213,13 +211,13 @@ fn append_in<'a, A: Allocator>(
         (λ new. AppendsDigits upper src.now result dst.old new)) }
     ensures answer { AnswersSuffix (λ suffix. suffix.now) upper src.now dst.old result }
 {
-    // The clause of `as_bytes` ties this length to the bytes; that of the string's `len` does not.
+    // The clause of `as_bytes` ties this length to the bytes; that of `len` does not.
     let start = dst.as_bytes().len();
     hex_append_into(src, dst, upper)?;
     Ok(text_from(dst, start))
 }
 
-// The text from the byte `start` on.
+// The text from byte `start`.
 fn text_from<A: Allocator>(string: &String<A>, start: usize) -> &str
     requires within { start ≤ string_len string.now }
     requires text { IsUtf8 (drop start (string_bytes string.now)) }
@@ -228,7 +226,7 @@ fn text_from<A: Allocator>(string: &String<A>, start: usize) -> &str
     unsafe { str::from_utf8_unchecked(&string.as_bytes()[start..]) }
 }
 
-// Appends the digits of `src`, for which `dst` has room already.
+// Appends the digits of `src`, for which `dst` has the capacity.
 fn append_reserved<A: Allocator>(dst: &mut String<A>, src: &[u8], upper: bool)
     requires { string_len dst.old + 2 * length src.now ≤ string_capacity dst.old }
     ensures { GrewBy upper src.now dst.old dst.new }
