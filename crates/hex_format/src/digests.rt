@@ -1,4 +1,4 @@
-//! Digest lists: a line for each entry, of the digits of its digest, its mark and its name.
+//! Digest lists: one line per entry, with the digits of its digest, its mark and its name.
 
 ghost use Rattle.std.specs.Prelude.{◌≡◌, ◌≢◌, ◌≤◌, ◌*◌, ◌==◌, ◌&&◌, ◌||◌, false, [], None, Some, MatchOption, MatchResult, length, take};
 ghost use Rattle.hex_core.specs.Calls.{Answers};
@@ -16,58 +16,57 @@ use std::alloc::{Allocator, Global};
 pub struct Entry<'a, const N: usize> {
     /// The digest.
     pub digest: [u8; N],
-    /// Whether the mark is `*`, which says that the file was read as binary; else it is a space.
+    /// Whether the mark, the byte before the name, is `*` (read as binary) or a space.
     pub binary: bool,
-    /// The file's name. One that was read has one byte or more, and no newline, and [`write_to`]
-    /// refuses any other. No other byte means anything here, so a carriage return before the newline
-    /// belongs to the name.
+    /// The file's name. [`read`] returns, and [`write_to`] accepts, only names of one byte or more
+    /// without a newline. No other byte is special: a trailing CR stays in the name.
     pub name: &'a [u8],
 }
 
-/// What is wrong with a line, the first of these that is.
+/// The first of these faults that a line has.
 #[derive(Clone, Copy, Debug, PartialEq, Eq)]
 pub enum LineFault {
-    /// The line is too short for the digits, a space, a mark and a name: without its newline it has
-    /// fewer than `2 * N + 3` bytes.
+    /// The line is too short for the digits, a space, a mark and a name: it has fewer than
+    /// `2 * N + 3` bytes before its newline.
     ShortLine,
-    /// A byte among the digits is none, or a letter whose case the policy does not read.
+    /// A byte among the digits is not a digit that the policy accepts.
     InvalidByte {
-        /// The place of the first such byte in the line, from 0, in bytes.
+        /// The index of the first such byte in the line, in bytes.
         index: usize,
         /// That byte.
         byte: u8,
     },
-    /// The byte behind the digits is no space, or the next one is neither a space nor `*`.
+    /// The byte after the digits is not a space, or the next is neither a space nor `*`.
     BadMark,
 }
 
-/// Why a list was not read.
+/// An error of reading a list.
 #[derive(Clone, Copy, Debug, PartialEq, Eq)]
 pub enum ListFault {
-    /// A line is not one of a list.
+    /// A line is malformed.
     Line {
         /// The number of the first such line, from 1.
         line: usize,
         /// What is wrong with it.
         why: LineFault,
     },
-    /// Memory for the entries was refused.
+    /// The allocation of an entry failed.
     OutOfMemory,
 }
 
-/// Returns the entries of a list, in the order of its lines, in memory of the global allocator.
+/// Returns the entries of a list, in the order of its lines, allocated by the global allocator.
 ///
 /// Each line is `2 * N` digits, a space, then a space or `*`, a name and a newline, which the last
-/// line may lack. The digits' letters are those that `case` reads. An empty source is the list of
-/// no entries. The names are slices of `src`.
+/// line may lack. `case` selects the letters accepted. An empty source has no entries. The names
+/// are slices of `src`.
 ///
 /// # Errors
 ///
-/// The lines are read in their order, and the first event ends the call:
+/// Lines are read in order, and the first error ends the call:
 ///
-/// - [`ListFault::Line`] for a line that is none of a list, with its number and its first fault;
-/// - [`ListFault::OutOfMemory`] where memory for an entry was refused. It is asked for only after
-///   the entry's line was read without a fault.
+/// - [`ListFault::Line`] for a malformed line, with its number and its first fault;
+/// - [`ListFault::OutOfMemory`] if an allocation fails. An entry is allocated only after its line
+///   was read without a fault.
 ///
 /// ```rust
 /// let list = b"ab01  a.txt\nCD02 *b\n";
@@ -92,7 +91,7 @@ pub fn read<'a, const N: usize>(
     read_in(alloc, src, case)
 }
 
-/// Returns the entries of a list as [`read`] does, in memory of any allocator.
+/// Like [`read`], but allocates with any allocator.
 ///
 /// # Errors
 ///
@@ -114,7 +113,7 @@ pub fn read_in<'a, A: Allocator + Drop, const N: usize>(
     Ok(entries)
 }
 
-// Reads the lines of a source. Those that were read before an error stay.
+// Reads the lines of a source. Entries read before an error stay.
 fn read_lines<'a, A: Allocator, const N: usize>(
     entries: &mut Vec<Entry<'a, N>, A>,
     src: &'a [u8],
@@ -148,7 +147,7 @@ fn read_lines<'a, A: Allocator, const N: usize>(
 fn read_line<'a, const N: usize>(line: &'a [u8], case: CheckCase) -> Result<Entry<'a, N>, LineFault>
     ensures { Answers (line_fault case N line.entry.now) (λ e. LineIs case line.entry.now e) result }
 {
-    // No product is formed before the line is known to be as long.
+    // Multiplies only after the line is known to be that long.
     if line.len().saturating_sub(1) / 2 <= N {
         return Err(LineFault::ShortLine);
     }
@@ -166,7 +165,7 @@ fn read_line<'a, const N: usize>(line: &'a [u8], case: CheckCase) -> Result<Entr
     }
 }
 
-// The first invalid byte among a line's digits, of which one is invalid.
+// The first invalid byte among a line's digits, one of which is invalid.
 #[cold]
 fn invalid_digit<const N: usize>(line: &[u8], case: CheckCase) -> LineFault
     requires long { 2 * N ≤ length line.now }
@@ -182,7 +181,7 @@ fn invalid_digit<const N: usize>(line: &[u8], case: CheckCase) -> LineFault
     }
 }
 
-// Whether two bytes behind some digits say that a file is binary, where they are a space and a mark.
+// Whether the two bytes after the digits mark a file as binary, if they are a space and a mark.
 fn mark_in(space: u8, next: u8) -> Option<bool>
     ensures { MatchOption result
         ((space == 32 && (next == 32 || next == 42)) ≡ false)

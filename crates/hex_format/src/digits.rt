@@ -1,4 +1,4 @@
-//! Puts of digits: the text of some bytes, with separators between its pieces where it is grouped.
+//! Puts of digits: the text of some bytes, with separators between pieces if grouped.
 
 ghost use Rattle.std.specs.Prelude.{◌≡◌, ◌-◌, ◌*◌, ◌%◌, ◌^◌, ◌<◌, ◌≤◌, ◌∷◌, ◌++◌, [], length, min};
 ghost use Rattle.std.specs.Str.{IsAscii};
@@ -11,14 +11,14 @@ use crate::sink::{Sink, WriteFault, put_all};
 use hex_codec::grouped::write_into;
 use hex_codec::{Group, hex_encode_into};
 
-/// How many source bytes are encoded at a time.
+/// Source bytes that are encoded at a time.
 pub const ENCODE_CHUNK: usize = 512;
 
-/// Up to how many source bytes smaller buffers serve, so that a digest or a line of a dump does not
-/// pay for the large one.
+/// The longest source, in bytes, for smaller buffers: a digest or a line of a dump does not pay for
+/// the large one.
 pub const SHORT_SOURCE: usize = 128;
 
-/// Returns the text of `bytes`, written into the front of a buffer that has room for it.
+/// Writes the text of `bytes` into the start of `buffer`, which has room, and returns it.
 pub fn encoded<'b>(bytes: &[u8], upper: bool, buffer: &'b mut [u8]) -> &'b [u8]
     requires { 2 * length bytes.now ≤ length buffer.old }
     ensures text { result.now ≡ text upper bytes.now }
@@ -28,7 +28,7 @@ pub fn encoded<'b>(bytes: &[u8], upper: bool, buffer: &'b mut [u8]) -> &'b [u8]
     &buffer[..end]
 }
 
-/// Puts the digits of `bytes`, grouped where there is a group.
+/// Puts the digits of `bytes`, grouped if there is a group.
 pub fn put_digits<S: Sink>(
     sink: &mut S,
     upper: bool,
@@ -98,7 +98,7 @@ fn put_grouped<S: Sink>(
     put_last(sink, upper, group, &bytes[at..], &mut buffer)
 }
 
-// How many bytes are put at a time: as many whole pieces as a chunk has, or a longer one.
+// Bytes that are put at a time: as many whole pieces as fit a chunk, or one longer piece.
 fn bytes_at_once(group: Group) -> usize
     ensures whole { result % piece_len group ≡ 0 }
     ensures some { 0 < result }

@@ -1,4 +1,4 @@
-//! A view of bytes that prints them as hex digits, and padded texts of it.
+//! A view of bytes that prints them as hex digits, with padding.
 
 ghost use Rattle.std.specs.Prelude.{◌≡◌, ◌-◌, ◌*◌, ◌^◌, ◌<◌, ◌≤◌, Some, length};
 ghost use Rattle.std.specs.Fmt.{WritesOnOk};
@@ -13,41 +13,41 @@ pub use crate::sink::{Sink, SinkFault, SliceSink, WriteFault, WriterSink, put_al
 use hex_codec::Group;
 use std::{fmt, str};
 
-// How many copies of a padding character are put at a time, and how long one is at most.
+// Copies of a padding character put at a time, and the longest character, in bytes.
 const COPIES: usize = 64;
 
 const LONGEST_CHARACTER: usize = 4;
 
-/// Where the fill characters of a padded text stand.
+/// Where the fill characters of a padded text go.
 #[derive(Clone, Copy, Debug, PartialEq, Eq)]
 pub enum Align {
-    /// The text stands left, the fill characters behind it.
+    /// The text is left-aligned, with the fill after it.
     Left,
-    /// The text stands right, the fill characters before it.
+    /// The text is right-aligned, with the fill before it.
     Right,
-    /// The text stands between the fill characters; an odd one is behind it.
+    /// The text is centered; an odd fill character goes after it.
     Center,
 }
 
 /// How [`Hex::write_to`] writes a view.
 ///
-/// The default is the plain text: no sign, no prefix, no width, lowercase digits. A width is then
-/// filled with spaces before the text.
+/// The default is the plain text: no sign, no prefix, no width, lowercase digits. If a width is
+/// set, spaces fill it before the text.
 #[derive(Clone, Copy, Debug, PartialEq, Eq)]
 pub struct HexFlags {
     /// Begin with `+`.
     pub plus: bool,
-    /// Write `0x` behind the sign, also in uppercase and for no bytes at all.
+    /// Write `0x` after the sign, also in uppercase and for no bytes.
     pub prefix: bool,
-    /// Fill up to the width with `0` between prefix and digits; `fill` and `align` are not read.
+    /// Fill up to the width with `0` between prefix and digits; ignores `fill` and `align`.
     pub zero: bool,
-    /// The least length of the text, in characters.
+    /// The minimum length of the text, in characters.
     pub width: Option<usize>,
     /// The character that fills up to the width.
     pub fill: char,
-    /// Where the fill characters stand.
+    /// Where the fill characters go.
     pub align: Align,
-    /// Write `A` to `F` in place of `a` to `f`.
+    /// Write `A` to `F` instead of `a` to `f`.
     pub upper: bool,
     /// Put a separator between pieces of the digits; padding is not grouped.
     pub group: Option<Group>,
@@ -70,7 +70,7 @@ impl Default for HexFlags {
     }
 }
 
-/// Bytes that print as their hex digits, two a byte, in their order. The bytes are borrowed.
+/// Borrowed bytes that print as their hex digits, two per byte, in order.
 ///
 /// ```rust
 /// let text = format!(in rt.alloc(); "{}", Hex::new(&[0, 0xab, 0xcd]))?;
@@ -82,7 +82,7 @@ pub struct Hex<'a> {
 }
 
 impl<'a> Hex<'a> {
-    /// A view of `bytes`. Nothing is copied or encoded yet.
+    /// Returns a view of `bytes`, without copying.
     pub fn new(bytes: &'a [u8]) -> Hex<'a>
         ensures { hex_bytes result ≡ bytes.entry.now }
     {
@@ -91,17 +91,17 @@ impl<'a> Hex<'a> {
 
     /// Puts the view's text into `sink`: sign, prefix and digits, padded as `flags` say.
     ///
-    /// At `Ok` the sink has taken exactly this text more, and has counted no failure; an empty text
-    /// is always `Ok`. Padding is added up to `flags.width` characters, so a text that is as long
-    /// has none. No memory is taken, and number and size of the puts are open.
+    /// On `Ok` the sink has taken exactly this text more, and counted no failure; an empty text is
+    /// always `Ok`. Padding fills up to `flags.width` characters; a text that long has none.
+    /// Allocates nothing. The number and size of the puts are unspecified.
     ///
     /// # Errors
     ///
-    /// A put that failed ends the call at once. The sink has then taken a beginning of the text,
-    /// which may end inside a fill character, and has counted one failure more.
+    /// The first failed put ends the call. The sink has then taken a leading part of the text,
+    /// which may end inside a fill character, and counted one more failure.
     ///
-    /// - [`WriteFault::Sink`] where the sink refused a piece;
-    /// - [`WriteFault::TookNothing`] where it took no byte of a piece that had some.
+    /// - [`WriteFault::Sink`] if the sink refused a piece;
+    /// - [`WriteFault::TookNothing`] if it took no byte of a nonempty piece.
     ///
     /// ```rust
     /// let mut buffer = [0; 10];
@@ -153,7 +153,7 @@ impl fmt::Display for Hex<'_> {
     }
 }
 
-// Writes ASCII bytes as the text that they are.
+// Writes ASCII bytes as text.
 fn write_ascii<W: fmt::Write>(f: &mut fmt::Formatter<W>, bytes: &[u8]) -> fmt::Result
     requires { IsAscii bytes.now }
     ensures { WritesOnOk W.write_str_gives f.old result bytes.now f.new }
@@ -173,7 +173,7 @@ fn sign_and_prefix(flags: &HexFlags) -> &'static [u8]
     }
 }
 
-// How many separators stand between the digits of `bytes`.
+// The number of separators between the digits of `bytes`.
 fn separators(group: Option<Group>, bytes: &[u8]) -> usize
     ensures { result ≡ separators_by group (length bytes.now) }
 {
@@ -183,8 +183,8 @@ fn separators(group: Option<Group>, bytes: &[u8]) -> usize
     }
 }
 
-// How many characters the text of `bytes` lacks of the width. The width is counted down, since a
-// sum of lengths may be no `usize`.
+// The number of padding characters for `bytes`. Subtracts from the width, since a sum of lengths
+// may exceed `usize`.
 fn padding_of_view(flags: &HexFlags, bytes: &[u8]) -> usize
     ensures { result ≡ padding_of flags.now bytes.now }
 {
@@ -198,7 +198,7 @@ fn padding_of_view(flags: &HexFlags, bytes: &[u8]) -> usize
     }
 }
 
-// How many of the padding's characters stand before the text.
+// The number of padding characters before the text.
 fn before_text(align: Align, padding: usize) -> usize
     ensures { result ≡ left_padding align padding }
 {
@@ -209,7 +209,7 @@ fn before_text(align: Align, padding: usize) -> usize
     }
 }
 
-// Writes copies of a piece behind one another into the whole of the block.
+// Fills the block with copies of a piece.
 fn copy_into(piece: &[u8], count: usize, block: &mut [u8])
     requires { length block.old ≡ count * length piece.now }
     ensures { block.new ≡ repeat count piece.now }
@@ -233,7 +233,7 @@ fn put_copies<S: Sink>(sink: &mut S, piece: &[u8], count: usize) -> Result<(), W
     put_by_blocks(sink, piece, count, &mut buffer)
 }
 
-// Puts copies of a short piece, at most as many at a time as a block of the buffer holds.
+// Puts copies of a short piece, at most as many at a time as fit the buffer.
 fn put_by_blocks<S: Sink>(
     sink: &mut S,
     piece: &[u8],

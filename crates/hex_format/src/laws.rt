@@ -1,5 +1,5 @@
-//! Laws of sinks and of digest lists, each as the contract of a function that does nothing: a caller that needs one in
-//! a proof calls it.
+//! Laws of sinks and of digest lists, each as the contract of a function that does nothing. A proof
+//! that needs one calls it.
 
 ghost use Rattle.hex_format.specs.FrameLaws.{BareTextsAreDigits};
 ghost use Rattle.hex_format.specs.ListLaws.{FaultyListsNothing, ListsOneList, ReadNamesAreGood, ReadingInvertsWriting, StrictLinesAreWritten, WritingInvertsStrictReading};
@@ -10,44 +10,44 @@ use hex_core::laws::{
     encoding_inverts_strict_decoding,
 };
 
-/// Puts in a row are one of the joined bytes, and so are puts of which the last one failed.
+/// Consecutive puts are one put of the joined bytes, also if the last one failed.
 pub fn puts_in_a_row_are_one()
     ensures taken { TakesInARow }
     ensures stopped { StopsInARow }
     ensures unput { StopsEarlier }
 {}
 
-/// A text without sign, prefix and width is its digits alone: the text of its bytes, or with a group
-/// their grouped text.
+/// A text without sign, prefix and width is only its digits: the text of its bytes, grouped if
+/// there is a group.
 pub fn a_bare_text_is_its_digits()
     ensures { BareTextsAreDigits }
 {}
 
-/// What is written as a list is read as the same entries, under the digits' own case or either.
+/// A written list is read as the same entries, under the digits' own case or either.
 pub fn reading_inverts_writing()
     ensures { ReadingInvertsWriting }
 {
     decoding_inverts_encoding();
 }
 
-/// A source that has a line with a fault is no list, whatever the entries, so reading never refuses
-/// a list but for want of memory.
+/// A source with a faulty line is no list of any entries, so reading a list fails only if memory
+/// runs out.
 pub fn a_faulty_source_is_no_list()
     ensures { FaultyListsNothing }
 {
     a_source_is_accepted_where_it_spells_a_list();
 }
 
-/// A source is the list of one list of entries at most: any two are as long, and entry by entry have
-/// the same digest, mark and name.
+/// A source lists at most one list of entries: two have the same length, and entry by entry the
+/// same digest, mark and name.
 pub fn a_source_lists_one_list()
     ensures { ListsOneList }
 {
     a_text_spells_one_list();
 }
 
-/// What a strict policy reads is written in its case as the source, line for line, with a newline
-/// behind the last one where it lacked it.
+/// Entries read under a strict policy are written in its case as the source, line for line, with a
+/// newline after the last if it had none.
 pub fn writing_inverts_strict_reading()
     ensures source { WritingInvertsStrictReading }
     ensures lines { StrictLinesAreWritten }
@@ -55,7 +55,7 @@ pub fn writing_inverts_strict_reading()
     encoding_inverts_strict_decoding();
 }
 
-/// What was read has no name that writing refuses.
+/// Writing refuses no name that reading returned.
 pub fn what_was_read_can_be_written()
     ensures { ReadNamesAreGood }
 {}

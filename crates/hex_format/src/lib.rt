@@ -1,5 +1,5 @@
-//! Sinks; a view of bytes that is written into them as a padded text of hex digits; readers that are
-//! encoded or decoded into them; and digest lists, as programs print and check them.
+//! Sinks; a view of bytes that prints as padded hex digits; encoding and decoding from readers into
+//! sinks; and digest lists, as programs print and check them.
 #![tactic(auto)]
 
 pub mod digests;

@@ -6,10 +6,10 @@ ghost use Rattle.std.specs.Simd.Lanes.{chunk, mask_l};
 
 use std::simd::prelude::*;
 
-// How many bytes are looked at at a time.
+// Bytes tested at a time.
 const LINE_BLOCK: usize = 32;
 
-/// Returns where the first line of a source ends: at its newline, or at the end.
+/// Returns the index of the first newline of a source, or its length.
 pub fn line_end(src: &[u8]) -> usize
     ensures end { result ≡ position_or_len (λ b. b == 10) src.now }
     ensures inside { result ≤ length src.now }
@@ -25,7 +25,7 @@ pub fn line_end(src: &[u8]) -> usize
     done + line_end_by_bytes(&src[done..])
 }
 
-// A mask whose bit i says whether lane i is a newline.
+// A mask whose bit i is set if lane i is a newline.
 #[inline(always)]
 fn newline_bits(block: u8x32) -> u64
     ensures { result ≡ mask_l (map (λ b. b == 10) block) }
@@ -33,7 +33,7 @@ fn newline_bits(block: u8x32) -> u64
     block.simd_eq(Simd::splat(b'\n')).to_bitmask()
 }
 
-// How many bytes of the block at a place stand before its first newline: all where it has none.
+// The number of bytes of the block at `at` before its first newline: all if it has none.
 #[inline(always)]
 fn before_newline(src: &[u8], at: usize) -> usize
     requires { at + LINE_BLOCK ≤ length src.now }
@@ -47,7 +47,7 @@ fn before_newline(src: &[u8], at: usize) -> usize
     }
 }
 
-// The same as `line_end`, a byte at a time.
+// The same as `line_end`, byte by byte.
 fn line_end_by_bytes(src: &[u8]) -> usize
     ensures end { result ≡ position_or_len (λ b. b == 10) src.now }
     ensures inside { result ≤ length src.now }

@@ -1,4 +1,4 @@
-//! Sinks, which take bytes a piece at a time, and two of them: over a slice and over a writer.
+//! Sinks, which take bytes piece by piece, and two of them: over a slice and over a writer.
 
 ghost use Rattle.std.specs.Prelude.{◌≡◌, ◌-◌, ◌^◌, ◌<◌, ◌≤◌, None, length};
 ghost use Rattle.std.specs.Option.{option_copied};
@@ -6,61 +6,61 @@ ghost use Rattle.hex_format.specs.Sink.{Puts, PutsPiece, SinkState};
 
 use std::io::{self, Write};
 
-/// The fault of a [`Sink`] that refused a piece. Why it did is the sink's to tell.
+/// The error of a [`Sink`] that refused a piece. Only the sink knows why.
 #[derive(Clone, Copy, Debug, PartialEq, Eq)]
 pub struct SinkFault;
 
-/// Where bytes go, a piece at a time, with a count of the puts that failed.
+/// A sink: takes bytes piece by piece, and counts the puts that failed.
 ///
-/// A put has failed where it returned `Err`, or took none of a nonempty piece.
+/// A put failed if it returned `Err`, or took none of a nonempty piece.
 ///
-/// What a call promises of the bytes that a sink has taken holds where the sink tells them, as a
-/// [`SliceSink`] does, and a [`WriterSink`] over a writer that does.
+/// What a call promises about the bytes taken holds if the sink's type models them, like
+/// [`SliceSink`], and [`WriterSink`] over a writer that does.
 pub trait Sink {
-    // What the sink shows: bytes taken, failed puts, and the free bytes of a buffer that it is lent,
-    // with the loan. A sink over anything else shows `None` for the last two.
+    // The sink's state: bytes taken, failed puts, and the free bytes of a borrowed buffer, with the
+    // borrow. Any other sink has `None` for the last two.
     ghost state: { Self → SinkState };
 
-    /// How many puts have failed so far.
+    /// Returns the number of failed puts.
     fn failures(&self) -> u64
         ensures { result ≡ (state self.now).failures };
 
-    /// Offers a piece and returns how many of its bytes were taken, from its front.
+    /// Offers a piece and returns how many of its first bytes were taken.
     ///
-    /// The count of failures grows by one exactly where this returns an error, or takes none of a
-    /// nonempty piece. The caller shows that the count has room for one more. A sink over a lent
-    /// buffer takes a nonempty piece whole where it fits.
+    /// Counts one more failure exactly if this returns an error, or takes none of a nonempty piece.
+    /// Requires the count to be below `u64::MAX`. A sink over a borrowed buffer takes all of a
+    /// nonempty piece if it fits.
     ///
     /// # Errors
     ///
-    /// [`SinkFault`] where the sink refuses; a beginning of the piece may have been taken.
+    /// [`SinkFault`] if the sink refuses; it may have taken a leading part of the piece.
     fn put(&mut self, piece: &[u8]) -> Result<usize, SinkFault>
         requires { (state self.old).failures < 2 ^ 64 - 1 }
         ensures { PutsPiece (state self.old) (state self.new) result piece.now };
 }
 
-/// Why a text was not written to its end. A beginning of it may have been taken, and nothing was
-/// put after the fault.
+/// Why a text was not written in full. A leading part may have been taken, and nothing was put
+/// after the fault.
 #[derive(Clone, Copy, Debug, PartialEq, Eq)]
 pub enum WriteFault {
     /// The sink refused a piece.
     Sink(SinkFault),
-    /// The sink took no byte of a piece that had some.
+    /// The sink took no byte of a nonempty piece.
     TookNothing,
 }
 
-/// Puts a piece into `sink`, and what a put leaves of it again, until all of it is taken.
+/// Puts a piece into `sink`, and then what is left of it, until all of it is taken.
 ///
-/// At `Ok` the sink has taken exactly the piece more, and has counted no failure. An empty piece
-/// is not put at all, and is always `Ok`.
+/// On `Ok` the sink has taken exactly the piece more, and counted no failure. An empty piece is not
+/// put at all, and is always `Ok`.
 ///
 /// # Errors
 ///
-/// A put that failed ends the call at once; the sink has then taken a beginning of the piece, and
-/// has counted one failure more.
+/// The first failed put ends the call; the sink has then taken a leading part of the piece, and
+/// counted one more failure.
 ///
-/// - [`WriteFault::Sink`] where the sink refused;
-/// - [`WriteFault::TookNothing`] where it took no byte.
+/// - [`WriteFault::Sink`] if the sink refused;
+/// - [`WriteFault::TookNothing`] if it took no byte.
 ///
 /// ```rust
 /// let mut buffer = [0; 3];
@@ -84,7 +84,7 @@ pub fn put_all<S: Sink>(sink: &mut S, piece: &[u8]) -> Result<(), WriteFault>
     Ok(())
 }
 
-/// A sink over a slice: it fills the slice from its front, and refuses once it is full.
+/// A sink over a slice: fills it from the start, and refuses once it is full.
 ///
 /// ```rust
 /// let mut buffer = [0; 3];
@@ -96,7 +96,7 @@ pub fn put_all<S: Sink>(sink: &mut S, piece: &[u8]) -> Result<(), WriteFault>
 /// assert_eq!(rt; sink.failures(), 1);
 /// ```
 ///
-/// What is put stands behind what was put before:
+/// Each put appends to what was put before:
 ///
 /// ```rust
 /// let mut buffer = [0; 1100];
@@ -124,7 +124,7 @@ pub struct SliceSink<'a> {
 impl<'a> SliceSink<'a> {
     ghost use Rattle.hex_format.specs.Sinks.{fresh_state, slice_state, written_bytes};
 
-    /// A sink that has taken nothing, has all of `buf` free and counts no failure.
+    /// Returns a sink that has taken nothing, with all of `buf` free and no failure.
     pub fn new(buf: &'a mut [u8]) -> SliceSink<'a>
         ensures { slice_state result ≡ fresh_state buf.entry }
     {
@@ -135,7 +135,7 @@ impl<'a> SliceSink<'a> {
         }
     }
 
-    /// The bytes taken so far, in the order in which they were put.
+    /// Returns the bytes taken so far, in order.
     pub fn written(&self) -> &[u8]
         ensures { result.now ≡ written_bytes self.now }
     {
@@ -152,15 +152,15 @@ impl Sink for SliceSink<'_> {
         self.refused
     }
 
-    /// Takes as much of `piece` as fits into the free rest of the slice.
+    /// Takes as much of `piece` as fits into the rest of the slice.
     ///
     /// # Errors
     ///
-    /// [`SinkFault`] exactly for a nonempty piece where nothing is free; nothing is taken then.
+    /// [`SinkFault`] exactly if `piece` is nonempty and the slice is full; nothing is taken then.
     fn put(&mut self, piece: &[u8]) -> Result<usize, SinkFault>
         requires { (slice_state self.old).failures < 2 ^ 64 - 1 }
         ensures puts { PutsPiece (slice_state self.old) (slice_state self.new) result piece.now }
-        // All that fits is taken. A refusal takes nothing.
+        // Takes all that fits. A refusal takes nothing.
         ensures fits { TakesWhatFits self.old self.new result piece.now }
     {
         let free = self.buf.len() - self.used;
@@ -175,7 +175,7 @@ impl Sink for SliceSink<'_> {
     }
 }
 
-/// A sink over a writer: each put is one `write`, and no kind of error is tried again.
+/// A sink over a writer: each put is one `write`, and no error is retried.
 ///
 /// ```rust
 /// let mut sink = WriterSink::new(Vec::with_capacity(rt.alloc(), 4)?);
@@ -194,7 +194,7 @@ pub struct WriterSink<W: Write> {
 impl<W: Write> WriterSink<W> {
     ghost use Rattle.hex_format.specs.Sinks.{IsFreshOver, kept_error, writer_of};
 
-    /// A sink that hands its pieces to `writer`, has met no error and counts no failure.
+    /// Returns a sink over `writer`, with no error and no failures.
     pub fn new(writer: W) -> WriterSink<W>
         ensures { IsFreshOver W.contents writer result }
     {
@@ -205,15 +205,15 @@ impl<W: Write> WriterSink<W> {
         }
     }
 
-    /// The last error that the writer returned, if it returned one. A `write` that took nothing
-    /// of a nonempty piece is a failure without an error.
+    /// Returns the writer's last error, if any. A `write` that took none of a nonempty piece is a
+    /// failure without an error.
     pub fn last_error(&self) -> Option<&io::Error>
         ensures { option_copied result ≡ kept_error self.now }
     {
         self.last_error.as_ref()
     }
 
-    /// Gives the writer back. It holds what it took; nothing is written or flushed here.
+    /// Returns the writer, with what it took; writes and flushes nothing.
     pub fn into_inner(self) -> W
         ensures { result ≡ writer_of self }
     {
@@ -230,15 +230,15 @@ impl<W: Write> Sink for WriterSink<W> {
         self.failed
     }
 
-    /// Hands `piece` to the writer in one `write`, and returns how much of it that took.
+    /// Passes `piece` to the writer in one `write`, and returns how many bytes it took.
     ///
     /// # Errors
     ///
-    /// [`SinkFault`] where the writer returned an error, which is kept; nothing is taken then.
+    /// [`SinkFault`] if the writer returned an error, which is kept; nothing is taken then.
     fn put(&mut self, piece: &[u8]) -> Result<usize, SinkFault>
         requires { (writer_state W.contents self.old).failures < 2 ^ 64 - 1 }
         ensures puts { PutsIntoWriter W.contents self.old self.new result piece.now }
-        // A refusal takes nothing and keeps an error: no clause can name the writer's.
+        // A refusal takes nothing and keeps an error: no clause can name which.
         ensures error { KeepsError W.contents self.old self.new result }
     {
         match self.writer.write(piece) {

@@ -1,4 +1,4 @@
-//! Decoding and encoding all that a reader gives, through constant memory.
+//! Decodes and encodes all that a reader gives, in constant memory.
 
 ghost use Rattle.std.specs.Prelude.{◌≡◌, ◌<◌, ◌-◌, ◌^◌, ◌↔◌, IsErrAnd, IsTrue};
 ghost use Rattle.std.specs.Io.{ReadsAtMost};
@@ -12,37 +12,37 @@ use hex_codec::stream::Decoder;
 use hex_core::{CheckCase, Error};
 use std::io::{self, ErrorKind, Read};
 
-// How many bytes a chunk has; its digits are twice as many.
+// Bytes in a chunk, which has twice as many digits.
 const STREAM_CHUNK: usize = 4_096;
 
-/// Why a stream was not decoded or encoded to its end.
+/// An error of decoding or encoding a stream.
 #[derive(Clone, Copy, Debug, PartialEq, Eq)]
 pub enum StreamFault {
     /// A read failed, and was not just interrupted.
     Read,
-    /// The digits are refused, or there are more bytes than a `usize` counts.
+    /// The digits are refused, or the number of bytes exceeds `usize`.
     Codec(Error),
     /// A put failed.
     Write(WriteFault),
 }
 
-/// Decodes all that a reader gives into a sink, and returns how many bytes the digits spell.
+/// Decodes all that a reader gives into a sink, and returns the number of decoded bytes.
 ///
-/// It takes no memory: two buffers on the stack serve a stream of any length. An interrupted read is
-/// tried again.
+/// Allocates nothing: two buffers on the stack serve a stream of any length. Retries interrupted
+/// reads.
 ///
 /// # Errors
 ///
-/// Each after the bytes of earlier chunks were put:
+/// Each comes after the bytes of earlier chunks were put:
 ///
-/// - [`StreamFault::Read`] where a read failed;
-/// - [`StreamFault::Codec`] with [`Error::InvalidChar`], which names the first byte of the stream
-///   that is no digit, by its place in the stream: what was put then are the bytes of the whole pairs
-///   of the chunks before, and nothing of its own chunk;
-/// - [`StreamFault::Codec`] with [`Error::OddLength`] where all are digits and the last one has no
-///   partner: what was put then are the bytes of all whole pairs;
-/// - [`StreamFault::Codec`] with [`Error::Overflow`] where more digits came than a `usize` counts;
-/// - [`StreamFault::Write`] where a put failed.
+/// - [`StreamFault::Read`] if a read failed;
+/// - [`StreamFault::Codec`] with [`Error::InvalidChar`], which has the first byte that is not a hex
+///   digit, and its index in the stream: then the bytes of the whole pairs of the chunks before
+///   were put, and nothing of its own chunk;
+/// - [`StreamFault::Codec`] with [`Error::OddLength`] if all are digits and the last one has no
+///   partner: then the bytes of all whole pairs were put;
+/// - [`StreamFault::Codec`] with [`Error::Overflow`] if the number of digits exceeds `usize`;
+/// - [`StreamFault::Write`] if a put failed.
 ///
 /// ```rust
 /// let mut input: &[u8] = b"68656C6c6f";
@@ -80,18 +80,18 @@ pub fn decode_stream<R: Read, S: Sink>(
     }
 }
 
-/// Writes the digits of all that a reader gives into a sink, and returns how many bytes it gave.
+/// Writes the digits of all that a reader gives into a sink, and returns the number of bytes read.
 ///
-/// It takes no memory: two buffers on the stack serve a stream of any length. An interrupted read is
-/// tried again.
+/// Allocates nothing: two buffers on the stack serve a stream of any length. Retries interrupted
+/// reads.
 ///
 /// # Errors
 ///
-/// Each after the digits of earlier chunks were put:
+/// Each comes after the digits of earlier chunks were put:
 ///
-/// - [`StreamFault::Read`] where a read failed;
-/// - [`StreamFault::Codec`] with [`Error::Overflow`] where more bytes came than a `usize` counts;
-/// - [`StreamFault::Write`] where a put failed.
+/// - [`StreamFault::Read`] if a read failed;
+/// - [`StreamFault::Codec`] with [`Error::Overflow`] if the number of bytes exceeds `usize`;
+/// - [`StreamFault::Write`] if a put failed.
 ///
 /// ```rust
 /// let mut input: &[u8] = b"hello";
@@ -129,7 +129,7 @@ pub fn encode_stream<R: Read, S: Sink>(
     }
 }
 
-// The answer at the end of a stream: how many bytes were decoded, or that a digit waits.
+// The result at the end of a stream: the number of decoded bytes, or the error of odd length.
 fn ended(decoder: Decoder) -> Result<usize, StreamFault>
     ensures { Ends decoder result }
 {
@@ -139,7 +139,7 @@ fn ended(decoder: Decoder) -> Result<usize, StreamFault>
     }
 }
 
-// One read, which is tried again where it was interrupted.
+// One read, retried if interrupted.
 fn read_again<R: Read>(reader: &mut R, buf: &mut [u8]) -> io::Result<usize>
     ensures bound { ReadsAtMost result buf.new }
     ensures bytes { ReadConsumes (R.remaining reader.old) (R.remaining reader.new) result buf.new }
@@ -153,7 +153,7 @@ fn read_again<R: Read>(reader: &mut R, buf: &mut [u8]) -> io::Result<usize>
     Err(io::Error::from(ErrorKind::Interrupted))
 }
 
-// Whether a read gave nothing, and only because it was interrupted.
+// Whether a read returned nothing because it was interrupted.
 fn was_interrupted(answer: &io::Result<usize>) -> bool
     ensures { IsTrue result ↔ IsErrAnd answer.now (λ e. error_kind e ≡ ErrorKind.Interrupted) }
 {

@@ -9,31 +9,31 @@ ghost use Rattle.hex_format.specs.Lists.{first_bad_name, is_bad_name, line_of, l
 use crate::digests::Entry;
 use crate::{Hex, HexFlags, Sink, WriteFault, put_all};
 
-/// Why a list was not written to its end.
+/// An error of writing a list.
 #[derive(Clone, Copy, Debug, PartialEq, Eq)]
 pub enum ListWriteFault {
-    /// A name is empty or holds a newline, so no line of a list can end with it.
+    /// A name is empty or has a newline, so it cannot end a line of a list.
     BadName {
-        /// The place of the first entry with such a name, from 0.
+        /// The index of the first entry with such a name.
         entry: usize,
     },
     /// A put failed.
     Write(WriteFault),
 }
 
-/// Puts the list of some entries into `sink`: for each one the digits of its digest, a space, its
-/// mark, its name and a newline. The digits' letters are in the case that `upper` says.
+/// Puts the list of `entries` into `sink`: for each, the digits of its digest, a space, its mark,
+/// its name and a newline. The digits are uppercase if `upper` is true.
 ///
-/// At `Ok` the sink has taken exactly the list more, and has counted no failure. No memory is
-/// taken, and number and size of the puts are open. [`read`](crate::digests::read) reads what was
-/// written as the same entries, under the policy of its case or either.
+/// On `Ok` the sink has taken exactly the list more, and counted no failure. Allocates nothing. The
+/// number and size of the puts are unspecified. [`read`](crate::digests::read) returns the same
+/// entries, under the policy of its case or either.
 ///
 /// # Errors
 ///
-/// - [`ListWriteFault::BadName`] exactly where some name is empty or holds a newline, with the first
+/// - [`ListWriteFault::BadName`] exactly if some name is empty or has a newline, with the first
 ///   such entry; nothing is put then;
-/// - [`ListWriteFault::Write`] where a put failed, which ends the call at once. The sink has then
-///   taken a beginning of the list, and has counted one failure more.
+/// - [`ListWriteFault::Write`] if a put failed, which ends the call. The sink has then taken a
+///   leading part of the list, and counted one more failure.
 ///
 /// ```rust
 /// use hex_format::digests::{Entry, ListWriteFault, write_to};
@@ -75,7 +75,7 @@ pub fn write_to<S: Sink, const N: usize>(
     put_lines(entries, sink, upper).map_err(ListWriteFault::Write)
 }
 
-// Whether no line of a list can end with a name.
+// Whether a name cannot end a line of a list.
 fn is_bad(name: &[u8]) -> bool
     ensures { result ≡ is_bad_name name.now }
 {
