@@ -1,7 +1,7 @@
-//! What the JSON adapters share: their error, a format, and the one way of reading and writing that
-//! all twelve modules take.
+//! What the JSON modules share: their error, a format, and the functions that all twelve modules
+//! call.
 //!
-//! A caller with a format or an allocator of its own takes these functions; any other the modules.
+//! Use these functions for a format or an allocator of your own, else the modules.
 
 ghost use Rattle.std.specs.Prelude.{◌≡◌, ◌<◌, ◌^◌, ◌/◌, None, Some, Ok, Err, length, option_map, string_bytes, MatchResult};
 ghost use Rattle.serde_json.specs.View.{view};
@@ -15,7 +15,7 @@ use serde_json::Value;
 use std::alloc::{Allocator, Global};
 use std::{error, fmt};
 
-/// An error of reading or writing bytes as a JSON text.
+/// An error of reading or writing bytes as a JSON string.
 ///
 /// [`Display`](fmt::Display) prints exactly these texts:
 ///
@@ -35,20 +35,20 @@ use std::{error, fmt};
 /// ```
 #[derive(Clone, Copy, Debug, PartialEq, Eq)]
 pub enum AdapterError {
-    /// The value is no text.
+    /// The value is not a string.
     NotText,
-    /// The text does not begin with `0x`, where the format asks for it.
+    /// The string does not begin with `0x`, as the format requires.
     InvalidPrefix,
-    /// The text has an odd number of bytes behind the prefix.
+    /// An odd number of bytes follows the prefix.
     InvalidLength,
-    /// There are more digits than a bounded read takes.
+    /// There are more digits than a bounded read accepts.
     OverBound {
-        /// How many bytes the read takes at most.
+        /// The maximum number of bytes of the read.
         max: usize,
         /// How many bytes the digits would decode to.
         actual: usize,
     },
-    /// A digit is refused, or memory, or a text's length. A place in it counts from the first
+    /// An invalid digit, a failed allocation or a wrong length. An index counts from the first
     /// digit, without the prefix.
     Codec(Error),
 }
@@ -71,7 +71,7 @@ impl fmt::Display for AdapterError {
 
 impl error::Error for AdapterError {}
 
-/// How bytes stand in a JSON text. Each of the six modules has one, which reads what it writes.
+/// A format of bytes as a JSON string. Each of the six modules has one, and reads what it writes.
 ///
 /// ```rust
 /// let format = WireFormat {
@@ -83,11 +83,11 @@ impl error::Error for AdapterError {}
 /// ```
 #[derive(Clone, Copy, Debug, PartialEq, Eq)]
 pub struct WireFormat {
-    /// Whether `0x` stands before the digits.
+    /// Whether `0x` precedes the digits.
     pub prefixed: bool,
     /// Whether digits are written in uppercase.
     pub upper: bool,
-    /// Which letters are read.
+    /// The letters accepted.
     pub case: CheckCase,
 }
 
@@ -134,7 +134,7 @@ impl WireFormat {
         case: CheckCase::Upper,
     };
 
-    /// Returns what stands before the digits: `0x`, or nothing.
+    /// Returns what precedes the digits: `0x`, or nothing.
     ///
     /// ```rust
     /// let prefix = WireFormat::WITHPFX_LOWERCASE.prefix();
@@ -165,7 +165,7 @@ fn payload_of(format: WireFormat, value: &Value) -> Result<&[u8], AdapterError>
     Ok(payload)
 }
 
-// The payload of a value, of at most so many bytes where a bound is given.
+// The payload of a value, of at most so many bytes if a bound is given.
 fn bounded_payload(
     format: WireFormat,
     max: Option<usize>,
@@ -184,22 +184,22 @@ fn bounded_payload(
     }
 }
 
-/// Returns the bytes that the payload of a JSON text spells: the digits behind the format's prefix,
-/// two a byte. They are at most `max`, where that is given. The text itself is not copied.
+/// Decodes the payload of a JSON string: the digits after the format's prefix, two per byte.
+/// Returns at most `max` bytes, if that is given. The string is not copied.
 ///
-/// An empty payload is read as no bytes, whatever the bound, and takes no memory. Any other takes
-/// memory once, for exactly the bytes.
+/// An empty payload is no bytes, whatever the bound, and allocates nothing. Any other allocates
+/// once, exactly the bytes.
 ///
 /// # Errors
 ///
 /// In this order:
 ///
-/// 1. `NotText` if the value is no text;
-/// 2. `InvalidPrefix` if the text does not begin with the format's prefix;
-/// 3. `InvalidLength` if an odd number of bytes stands behind the prefix;
-/// 4. `OverBound` if more than `2 * max` bytes stand there, with `max` and half their number;
-/// 5. `Codec(OutOfMemory)` if the allocation failed;
-/// 6. `Codec(InvalidChar)` with the first byte that the format does not read, and its place,
+/// 1. `NotText` if the value is not a string;
+/// 2. `InvalidPrefix` if the string does not begin with the format's prefix;
+/// 3. `InvalidLength` if an odd number of bytes follows the prefix;
+/// 4. `OverBound` if more than `2 * max` bytes follow it, with `max` and half their number;
+/// 5. `Codec(OutOfMemory)` if the allocation fails;
+/// 6. `Codec(InvalidChar)` with the first byte that the format does not accept, and its index,
 ///    counted in bytes from the first digit.
 ///
 /// ```rust
@@ -221,16 +221,16 @@ pub fn read<A: Allocator + Drop>(
     hex_decode_vec_with_case(alloc, payload, format.case).map_err(AdapterError::Codec)
 }
 
-/// Returns the `N` bytes that the payload of a JSON text spells. No memory is taken.
+/// Decodes the payload of a JSON string to exactly `N` bytes. Allocates nothing.
 ///
 /// # Errors
 ///
 /// In this order:
 ///
-/// 1. `NotText`, `InvalidPrefix` and `InvalidLength` as at [`read`];
-/// 2. `Codec(LengthMismatch)` if other than `2 * N` bytes stand behind the prefix, with `N` and
-///    half their number;
-/// 3. `Codec(InvalidChar)` as at [`read`].
+/// 1. `NotText`, `InvalidPrefix` and `InvalidLength` as for [`read`];
+/// 2. `Codec(LengthMismatch)` if other than `2 * N` bytes follow the prefix, with `N` and half
+///    their number;
+/// 3. `Codec(InvalidChar)` as for [`read`].
 ///
 /// ```rust
 /// use serde_json::Value;
@@ -248,7 +248,7 @@ pub fn read_array<const N: usize>(
     hex_decode_array_with_case(payload_of(format, value)?, format.case).map_err(AdapterError::Codec)
 }
 
-/// Reads `null` as none, and any other value as [`read`] does.
+/// Reads `null` as `None`, and any other value like [`read`].
 ///
 /// # Errors
 ///
@@ -274,7 +274,7 @@ pub fn read_option<A: Allocator + Drop>(
     Ok(Some(read(alloc, format, max, value)?))
 }
 
-/// Reads `null` as none, and any other value as [`read_array`] does.
+/// Reads `null` as `None`, and any other value like [`read_array`].
 ///
 /// # Errors
 ///
@@ -298,16 +298,16 @@ pub fn read_option_array<const N: usize>(
     Ok(Some(read_array(format, value)?))
 }
 
-/// Returns the text that a format writes for some bytes: its prefix, and two digits a byte.
+/// Returns the text that a format writes for some bytes: its prefix, and two digits per byte.
 ///
-/// Memory is taken at most once, for the text's exact length, and not at all where that is 0.
+/// Allocates at most once, exactly the length of the text, and nothing if that is 0.
 ///
 /// # Errors
 ///
 /// In this order:
 ///
-/// 1. `Codec(Overflow)` if the text's length exceeds `usize`;
-/// 2. `Codec(OutOfMemory)` if the allocation failed.
+/// 1. `Codec(Overflow)` if the length of the text exceeds `usize`;
+/// 2. `Codec(OutOfMemory)` if the allocation fails.
 ///
 /// ```rust
 /// let text = text_of(rt.alloc(), WireFormat::WITHPFX_UPPERCASE, &[0xab, 1])?;
@@ -327,7 +327,7 @@ pub fn text_of<A: Allocator + Drop>(
     prefixed_string(alloc, format.prefix(), src, format.upper).map_err(AdapterError::Codec)
 }
 
-/// Returns bytes as the JSON text that a format writes.
+/// Returns bytes as the JSON string that a format writes.
 ///
 /// # Errors
 ///
@@ -343,11 +343,11 @@ pub fn write(alloc: Global, format: WireFormat, src: &[u8]) -> Result<Value, Ada
     Ok(Value::String(text_of(alloc, format, src)?))
 }
 
-/// Returns none as `null`, for which no memory is taken, and bytes as [`write`] does.
+/// Returns `None` as `null`, without allocating, and bytes like [`write`].
 ///
 /// # Errors
 ///
-/// Those of [`write`], and none for none.
+/// Those of [`write`], and none for `None`.
 ///
 /// ```rust
 /// let value = write_option(rt.alloc(), WireFormat::WITHPFX_UPPERCASE, None)?;

@@ -1,5 +1,5 @@
-//! Laws of the adapters, each as the contract of a function that does nothing: a caller that needs
-//! one in a proof calls it.
+//! Laws of the adapters, each as the contract of a function that does nothing. A proof that needs
+//! one calls it.
 
 ghost use Rattle.faster_hex.specs.AdapterLaws.{ArrayHasNoBound, BoundedReadsWhatFits, OptionReadingInvertsWriting, ReadingInvertsWriting, ReadsArrayOfItsLength, ReadsNoneApart, ReadsOneList, ReadsWhatIsNotRefused, UnboundedHasNoBound, WritesNoneApart, WritingInvertsStrictReading};
 
@@ -8,15 +8,14 @@ use hex_core::laws::{
     encoding_inverts_strict_decoding,
 };
 
-/// A JSON value is read as at most one list of bytes, whatever the bound.
+/// A JSON value decodes to at most one list of bytes, whatever the bound.
 pub fn a_value_is_read_as_one_list()
     ensures { ReadsOneList }
 {
     a_text_spells_one_list();
 }
 
-/// A value is refused exactly where no list is read, and for an array where no list of its length
-/// is.
+/// A value is refused exactly if no list is read, and for an array if none of its length is.
 pub fn a_value_is_read_where_nothing_is_refused()
     ensures list { ReadsWhatIsNotRefused }
     ensures array { ReadsArrayOfItsLength }
@@ -24,15 +23,15 @@ pub fn a_value_is_read_where_nothing_is_refused()
     a_source_is_accepted_where_it_spells_a_list();
 }
 
-/// A bounded read takes exactly what the unbounded one takes with at most so many bytes, as the
-/// same bytes; an unbounded read and one into an array do not fail for a bound.
+/// A bounded read accepts exactly what the unbounded one reads as at most so many bytes, with the
+/// same result; an unbounded read and one into an array never fail for a bound.
 pub fn a_bound_refuses_what_is_longer_alone()
     ensures bounded { BoundedReadsWhatFits }
     ensures unbounded { UnboundedHasNoBound }
     ensures array { ArrayHasNoBound }
 {}
 
-/// What one of the six formats writes, it reads as the same bytes, or as none.
+/// What one of the six formats writes, it reads as the same bytes, or as `None`.
 pub fn reading_inverts_writing()
     ensures bytes { ReadingInvertsWriting }
     ensures option { OptionReadingInvertsWriting }
@@ -40,14 +39,14 @@ pub fn reading_inverts_writing()
     decoding_inverts_encoding();
 }
 
-/// None and a list that is there, the empty one too, stay apart: written, and read.
+/// `None` and a list, even an empty one, stay distinct: written, and read.
 pub fn none_and_an_empty_list_stay_apart()
     ensures written { WritesNoneApart }
     ensures read { ReadsNoneApart }
 {}
 
-/// By a format that reads the letters alone that it writes, a value that is read is the one that is
-/// written for its bytes.
+/// If a format accepts only the letters that it writes, a value that is read is the one written for
+/// its bytes.
 pub fn strict_writing_inverts_reading()
     ensures { WritingInvertsStrictReading }
 {

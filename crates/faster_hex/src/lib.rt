@@ -1,7 +1,7 @@
-//! Hexadecimal encoding and decoding of byte sequences, after the Rust crate `faster-hex` 1.0.0.
+//! Hexadecimal encoding and decoding of bytes: a port of the Rust crate `faster-hex` 1.0.0.
 //!
-//! Bytes in a JSON value are read and written by the modules of this table, whose calls over
-//! `Option` stand in the modules of the same names behind `option_`:
+//! The modules of this table read and write bytes in a JSON value. Each has one for `Option` too,
+//! with `option_` before its name:
 //!
 //! | Module | Prefix | Writes | Reads |
 //! |---|---|---|---|
@@ -50,8 +50,8 @@ pub use hex_format::{
     Align, Hex, HexFlags, Sink, SinkFault, SliceSink, WriteFault, WriterSink, digests, format, sink,
 };
 
-/// Digits that are larger than memory: a decoder that is fed chunks of any length, and readers that
-/// are decoded and encoded into sinks.
+/// For digits that exceed memory: a decoder that is fed chunks of any length, and calls that decode
+/// or encode a reader into a sink.
 ///
 /// ```rust
 /// let mut input: &[u8] = b"68656c6C6F";

@@ -1,6 +1,6 @@
-//! Six modules, each of which reads and writes bytes as JSON text in one format. The example of a module has
-//! all its calls. Their errors, in the order in which they are tested; `InvalidPrefix` comes only in the
-//! modules whose names begin with `withpfx_`:
+//! Six modules, each of which reads and writes bytes as JSON strings in one format. A module's
+//! example has all its calls. Their errors, in the order of the tests; only the modules named
+//! `withpfx_..` have `InvalidPrefix`:
 //!
 //! Call | Errors
 //! ---|---
@@ -17,7 +17,7 @@ use crate::adapters::{AdapterError, WireFormat, read, read_array, write};
 use serde_json::Value;
 use std::alloc::Global;
 
-/// `0x`, then digits: writes lowercase, reads both letter cases. The root of the crate has these calls
+/// `0x`, then digits: writes lowercase, accepts both cases. The root of the crate has these calls
 /// too.
 ///
 /// ```rust
@@ -34,7 +34,7 @@ use std::alloc::Global;
 pub mod withpfx_ignorecase {
     use super::*;
 
-    /// Returns the bytes as JSON text: `0x` and two lowercase digits for each byte; `"0x"` for no bytes.
+    /// Returns a JSON string of `0x` and two lowercase digits per byte; `"0x"` for no bytes.
     ///
     /// Allocates once, exactly the length of the text.
     ///
@@ -43,7 +43,7 @@ pub mod withpfx_ignorecase {
     /// In this order:
     ///
     /// 1. `Codec(Overflow)` if the length of the text, `2 + 2 * src.len()`, exceeds `usize`;
-    /// 2. `Codec(OutOfMemory)` if the allocation failed.
+    /// 2. `Codec(OutOfMemory)` if the allocation fails.
     ///
     /// ```rust
     /// let value = faster_hex::serialize(rt.alloc(), &[0xab, 1])?;
@@ -55,21 +55,21 @@ pub mod withpfx_ignorecase {
         write(alloc, WireFormat::WITHPFX_IGNORECASE, src)
     }
 
-    /// Decodes JSON text of `0x` and digits of either case, two for each byte. The text is not copied.
+    /// Decodes a JSON string of `0x` and digits of either case, two per byte, without copying it.
     ///
-    /// `"0x"` is no bytes and allocates nothing. Any other text allocates once, exactly the bytes, after
-    /// its length is tested and before its digits are.
+    /// `"0x"` is no bytes and allocates nothing. Any other string allocates once, exactly the
+    /// bytes, after its length is tested and before its digits are.
     ///
     /// # Errors
     ///
     /// In this order:
     ///
-    /// 1. `NotText` if the value is not a text;
-    /// 2. `InvalidPrefix` if the text does not begin with `0x` (`0X` is refused);
+    /// 1. `NotText` if the value is not a string;
+    /// 2. `InvalidPrefix` if the string does not begin with `0x` (`0X` is refused);
     /// 3. `InvalidLength` if an odd number of bytes follows the prefix;
-    /// 4. `Codec(OutOfMemory)` if the allocation failed;
-    /// 5. `Codec(InvalidChar)` with the first byte that is not a digit, and its index, counted in bytes
-    ///    from the first digit.
+    /// 4. `Codec(OutOfMemory)` if the allocation fails;
+    /// 5. `Codec(InvalidChar)` with the first byte that is not a digit, and its index from the
+    ///    first digit, in bytes.
     ///
     /// ```rust
     /// use serde_json::Value;
@@ -84,14 +84,14 @@ pub mod withpfx_ignorecase {
         read(alloc, WireFormat::WITHPFX_IGNORECASE, None, value)
     }
 
-    /// Like [`deserialize`], but at most `MAX` bytes. The bound limits the bytes returned, not the JSON
-    /// text. A bound of 0 accepts `"0x"`.
+    /// Like [`deserialize`], but at most `MAX` bytes. The bound limits the bytes returned, not the
+    /// string. A bound of 0 accepts `"0x"`.
     ///
     /// # Errors
     ///
-    /// Those of [`deserialize`], in its order; and after `InvalidLength`, before anything is allocated
-    /// and any digit tested, `OverBound` if more than `2 * MAX` bytes follow the prefix, with `MAX` and
-    /// half their number.
+    /// Those of [`deserialize`], in its order; and after `InvalidLength`, before anything is
+    /// allocated and any digit tested, `OverBound` if more than `2 * MAX` bytes follow the prefix,
+    /// with `MAX` and half their number.
     ///
     /// ```rust
     /// use serde_json::Value;
@@ -115,18 +115,18 @@ pub mod withpfx_ignorecase {
         pub use super::serialize;
         use super::*;
 
-        /// Decodes exactly `N` bytes from JSON text of `0x` and digits. Allocates nothing. Accepts `"0x"`
-        /// only if `N` is 0.
+        /// Decodes exactly `N` bytes from a JSON string. Allocates nothing. Accepts `"0x"` only if
+        /// `N` is 0.
         ///
         /// # Errors
         ///
         /// In this order:
         ///
-        /// 1. `NotText`, `InvalidPrefix` and `InvalidLength` as at [`deserialize`](super::deserialize);
-        /// 2. `Codec(LengthMismatch)` if other than `2 * N` bytes follow the prefix, with `N` and half
-        ///    their number;
-        /// 3. `Codec(InvalidChar)` with the first byte that is not a digit, and its index, counted in
-        ///    bytes from the first digit.
+        /// 1. `NotText`, `InvalidPrefix` and `InvalidLength` as for
+        ///    [`deserialize`](super::deserialize);
+        /// 2. `Codec(LengthMismatch)` if other than `2 * N` bytes follow the prefix, with `N` and
+        ///    half their number;
+        /// 3. `Codec(InvalidChar)` as for [`deserialize`](super::deserialize).
         ///
         /// ```rust
         /// use serde_json::Value;
@@ -142,7 +142,7 @@ pub mod withpfx_ignorecase {
     }
 }
 
-/// Digits without a prefix: writes lowercase, reads both letter cases.
+/// No prefix: writes lowercase, accepts both letter cases.
 ///
 /// ```rust
 /// let value = nopfx_ignorecase::serialize(rt.alloc(), &[0xab, 1])?;
@@ -197,7 +197,7 @@ pub mod nopfx_ignorecase {
     }
 }
 
-/// `0x`, then digits: writes and reads lowercase only. An uppercase letter is an `InvalidChar`.
+/// `0x`, then digits: writes and accepts only lowercase. An uppercase letter is an `InvalidChar`.
 ///
 /// ```rust
 /// let value = withpfx_lowercase::serialize(rt.alloc(), &[0xab, 1])?;
@@ -251,7 +251,7 @@ pub mod withpfx_lowercase {
     }
 }
 
-/// Digits without a prefix: writes and reads lowercase only. An uppercase letter is an `InvalidChar`.
+/// No prefix: writes and accepts only lowercase. An uppercase letter is an `InvalidChar`.
 ///
 /// ```rust
 /// let value = nopfx_lowercase::serialize(rt.alloc(), &[0xab, 1])?;
@@ -306,7 +306,7 @@ pub mod nopfx_lowercase {
     }
 }
 
-/// `0x`, then digits: writes and reads uppercase only. A lowercase letter is an `InvalidChar`.
+/// `0x`, then digits: writes and accepts only uppercase. A lowercase letter is an `InvalidChar`.
 ///
 /// ```rust
 /// let value = withpfx_uppercase::serialize(rt.alloc(), &[0xab, 1])?;
@@ -360,7 +360,7 @@ pub mod withpfx_uppercase {
     }
 }
 
-/// Digits without a prefix: writes and reads uppercase only. A lowercase letter is an `InvalidChar`.
+/// No prefix: writes and accepts only uppercase. A lowercase letter is an `InvalidChar`.
 ///
 /// ```rust
 /// let value = nopfx_uppercase::serialize(rt.alloc(), &[0xab, 1])?;
