@@ -1,4 +1,4 @@
-//! Why `fhex` does not end well: the exit status and the line of each failure.
+//! The failures of `fhex`: the exit status and the line of each.
 
 ghost use Rattle.std.specs.Prelude.{◌≡◌, Some};
 ghost use Rattle.hex_program.specs.Serving.{failure_text, status_of};
@@ -6,25 +6,25 @@ ghost use Rattle.hex_program.specs.Serving.{failure_text, status_of};
 use hex_core::Error;
 use std::fmt;
 
-/// Why `fhex` does not end well. Displayed, it is the line that goes to standard error.
+/// Why `fhex` failed. Its `Display` is the line written to standard error.
 #[derive(Clone, Copy, Debug, PartialEq, Eq)]
 pub enum Failure {
     /// The operation refuses the input.
     Codec(Error),
-    /// The words do not name one operation, or the stored vectors.
+    /// The arguments do not name one operation or the vectors.
     Usage,
     /// A read failed.
     ReadFailed,
     /// A write or a flush failed.
     WriteFailed,
-    /// Memory was refused.
+    /// An allocation failed.
     OutOfMemory,
     /// The input is longer than [`INPUT_LIMIT`](crate::input::INPUT_LIMIT).
     InputTooLong,
 }
 
 impl Failure {
-    // The exit status: 1 for a refused input, 2 for wrong words, 3 for a fault of the surroundings.
+    // The exit status: 1 for refused input, 2 for wrong arguments, 3 for a failure of the system.
     pub(crate) fn status(self) -> u8
         ensures { result ≡ status_of self }
     {

@@ -1,4 +1,4 @@
-//! The input, which is read to its end before an operation runs over it.
+//! Reads the whole input before an operation runs over it.
 
 ghost use Rattle.std.specs.Prelude.{◌≡◌, ◌<◌, length, IfOk, IfErr, IfSome};
 ghost use Rattle.hex_program.specs.Serving.{ReadsAll, input_limit, status_of};
@@ -7,18 +7,18 @@ use crate::failure::Failure;
 use std::alloc::Allocator;
 use std::io::Read;
 
-/// The longest input, in bytes, that is read.
+/// The maximum length of the input, in bytes.
 pub const INPUT_LIMIT: usize = 16_777_216;
 
-/// How many bytes one read asks for.
+/// Bytes that one read asks for.
 pub const READ_CHUNK: usize = 65_536;
 
 /// Reads all of an input of at most [`INPUT_LIMIT`] bytes. No error is retried.
 ///
 /// # Errors
 ///
-/// [`Failure::ReadFailed`], [`Failure::OutOfMemory`], or [`Failure::InputTooLong`] for an input
-/// that is longer than the limit.
+/// [`Failure::ReadFailed`], [`Failure::OutOfMemory`], or [`Failure::InputTooLong`] if the input
+/// exceeds the limit.
 ///
 /// ```rust
 /// let mut input: &[u8] = b"hello";
@@ -37,7 +37,7 @@ pub fn read_input<A: Allocator + Drop, R: Read>(
 {
     let mut chunk = [0u8; READ_CHUNK];
     let mut all = Vec::new(alloc);
-    // Room for any input, so that none of it is moved. Where it is not granted, the vector grows.
+    // Capacity for any input, so that none of it is moved. If this fails, the vector grows.
     let _ = all.reserve_exact(INPUT_LIMIT + READ_CHUNK);
     'reads: while all.len() <= INPUT_LIMIT {
         match input.read(&mut chunk) {

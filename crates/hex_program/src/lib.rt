@@ -1,5 +1,5 @@
-//! The program `fhex` as a library: its operations over any sink, and all of it over words, an input
-//! and two outputs that are handed in.
+//! The program `fhex` as a library: its operations over any sink, and the whole program over given
+//! arguments, an input and two outputs.
 #![tactic(auto)]
 
 pub mod failure;

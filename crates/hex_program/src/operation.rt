@@ -1,4 +1,4 @@
-//! The operations of `fhex`, and how one runs over an input and a sink.
+//! The operations of `fhex`, and running one over an input and a sink.
 
 ghost use Rattle.std.specs.Prelude.{◌≡◌, ◌++◌, ◌∷◌, [], ◌<◌, ◌-◌, ◌^◌, map};
 ghost use Rattle.hex_core.specs.Text.{text};
@@ -14,15 +14,15 @@ use std::alloc::{Allocator, Global};
 /// What `fhex` does with its input.
 #[derive(Clone, Copy, Debug, PartialEq, Eq)]
 pub enum Op {
-    /// Writes the lowercase text and a newline.
+    /// Writes the lowercase digits and a newline.
     Encode,
-    /// Writes the uppercase text and a newline.
+    /// Writes the uppercase digits and a newline.
     EncodeUpper,
-    /// Writes the bytes that the digits spell, lowercase or uppercase.
+    /// Decodes lowercase and uppercase digits.
     Decode,
-    /// Writes the bytes that the digits spell, and reads no `A` to `F`.
+    /// Decodes, but does not accept `A` to `F`.
     DecodeLower,
-    /// Writes the bytes that the digits spell, and reads no `a` to `f`.
+    /// Decodes, but does not accept `a` to `f`.
     DecodeUpper,
 }
 
@@ -46,7 +46,7 @@ impl Op {
         }
     }
 
-    // Returns the operation that the program's words name: there has to be one word.
+    // Returns the operation that the program's arguments name: there must be just one.
     pub(crate) fn from_words(words: &[&str]) -> Option<Op>
         ensures { result ≡ op_of_words (map (λ w. w.now) words.now) }
     {
@@ -62,13 +62,13 @@ impl Op {
 pub enum RunFault {
     /// The operation refuses the input; nothing was put.
     Codec(Error),
-    /// A put failed; a beginning of the output was taken.
+    /// A put failed; a leading part of the output was taken.
     Write(WriteFault),
-    /// Memory was refused; nothing was put.
+    /// The allocation failed; nothing was put.
     OutOfMemory,
 }
 
-// Returns the input without one final newline, where it has one.
+// Returns the input without its final newline, if it has one.
 fn digits_in(input: &[u8]) -> &[u8]
     ensures { result.now ≡ without_newline input.now }
 {
@@ -78,7 +78,7 @@ fn digits_in(input: &[u8]) -> &[u8]
     }
 }
 
-// Puts the text of some bytes, and a newline. No memory is taken.
+// Puts the digits of some bytes, and a newline. Allocates nothing.
 fn put_text_line<S: Sink>(bytes: &[u8], upper: bool, sink: &mut S) -> Result<(), WriteFault>
     requires { (S.state sink.old).failures < 2 ^ 64 - 1 }
     ensures { Puts (S.state sink.old) (S.state sink.new) result (text upper bytes.now ++ 10 ∷ []) }
@@ -93,7 +93,7 @@ fn put_text_line<S: Sink>(bytes: &[u8], upper: bool, sink: &mut S) -> Result<(),
     put_all(sink, b"\n")
 }
 
-/// [`run`] over any allocator, so that a test can refuse its growths.
+/// [`run`] with any allocator, so that a test can make it fail.
 pub fn run_in<A: Allocator + Drop, S: Sink>(
     alloc: A,
     op: Op,
@@ -110,7 +110,7 @@ pub fn run_in<A: Allocator + Drop, S: Sink>(
         Op::DecodeLower => CheckCase::Lower,
         Op::DecodeUpper => CheckCase::Upper,
     };
-    // All bytes are collected before the first put.
+    // Everything is decoded before the first put.
     match hex_decode_vec_with_case(alloc, digits_in(input), case) {
         Ok(bytes) => put_all(sink, bytes.as_slice()).map_err(RunFault::Write),
         Err(Error::OutOfMemory) => Err(RunFault::OutOfMemory),
@@ -120,21 +120,21 @@ pub fn run_in<A: Allocator + Drop, S: Sink>(
 
 /// Runs an operation over all of `input`, and puts its output into `sink`.
 ///
-/// Encoding puts the text, two digits a byte, and one newline; it takes no memory. Decoding drops
-/// one final newline of the input, where there is one, and collects the bytes that the rest spells
-/// before it puts the first of them, half as many as there are digits.
+/// Encoding puts the text, two digits per byte, and one newline; it allocates nothing. Decoding
+/// drops one final newline of the input, if it has one, and decodes all the rest, two digits per
+/// byte, before it puts the first byte.
 ///
-/// At `Ok` the sink has taken exactly the output more, and has counted no failure.
+/// On `Ok` the sink has taken exactly the output more, and counted no failure.
 ///
 /// # Errors
 ///
-/// - [`RunFault::Codec`] where decoding refuses the input, and nothing was put: an odd length is
-///   [`Error::OddLength`], and else the first byte that is no digit under the operation's policy is
+/// - [`RunFault::Codec`] if decoding refuses the input, and nothing was put: an odd length is
+///   [`Error::OddLength`], else the first byte that is not a digit under the operation's policy is
 ///   [`Error::InvalidChar`];
-/// - [`RunFault::OutOfMemory`] where decoding was refused memory; nothing was put. The digits are
-///   then even in number, and not none;
-/// - [`RunFault::Write`] where a put failed, which ends the run. The sink has then taken a
-///   beginning of the output, and has counted one failure more.
+/// - [`RunFault::OutOfMemory`] if decoding fails to allocate; nothing was put. The number of digits
+///   is then even, and not 0;
+/// - [`RunFault::Write`] if a put failed, which ends the run. The sink has then taken a leading
+///   part of the output, and counted one more failure.
 ///
 /// ```rust
 /// let mut buffer = [0; 16];

@@ -1,4 +1,4 @@
-//! All of `fhex` over what is handed in: words, an input and two outputs.
+//! All of `fhex` over given arguments, an input and two outputs.
 
 ghost use Rattle.std.specs.Prelude.{◌≡◌, ◌⊎◌, map};
 ghost use Rattle.std.specs.Io.KnownBytes.{Keeps};
@@ -17,7 +17,7 @@ use std::io::{Read, Write};
 // The longest message, in bytes, with its newline.
 const MESSAGE: usize = 128;
 
-// Ends a run: flushes its output, or tells its fault as the program does.
+// Ends a run: flushes its output, or returns its fault as a failure.
 fn finish<W: Write>(out: &mut W, ran: Result<(), RunFault>) -> Result<(), Failure>
     ensures ended { EndsRun ran result }
     ensures kept { Keeps (W.contents out.old) (W.contents out.new) }
@@ -30,8 +30,8 @@ fn finish<W: Write>(out: &mut W, ran: Result<(), RunFault>) -> Result<(), Failur
     }
 }
 
-/// Writes the line of a failure to `err`, and returns the failure's status and `err`. A fault of `err`
-/// does not change the status, and ends the line. No error is retried.
+/// Writes the line of a failure to `err`, and returns the failure's status and `err`. An error of
+/// `err` ends the line and does not change the status. No error is retried.
 pub fn refuse<E: Write>(err: E, failure: Failure) -> (u8, E)
     ensures { result.0 ≡ status_of failure }
 {
@@ -68,8 +68,8 @@ fn serve_op<A: Allocator, R: Read, W: Write>(
     (ended, out)
 }
 
-/// [`serve`] over any allocator, so that a test can refuse its growths. The word `vectors`, whose
-/// calls fix their own, names nothing here.
+/// [`serve`] with any allocator, so that a test can make it fail. The word `vectors`, whose calls
+/// have a fixed one, names nothing here.
 pub fn serve_in<A: Allocator, R: Read, W: Write, E: Write>(
     alloc: &A,
     words: &[&str],
@@ -93,11 +93,11 @@ pub fn serve_in<A: Allocator, R: Read, W: Write, E: Write>(
     }
 }
 
-/// Writes the lines of [`run_vectors`] over `table` to `out`, flushes it and returns the exit status:
-/// 0 where no vector failed, else 1.
+/// Writes the lines of [`run_vectors`] over `table` to `out`, flushes it and returns the exit
+/// status: 0 if no vector failed, else 1.
 ///
-/// A failed write or flush is status 3, and `write failed` goes to `err`; want of memory is status 3
-/// likewise, and `out of memory`.
+/// A failed write or flush is status 3, with `write failed` on `err`; a failed allocation is status
+/// 3, with `out of memory`.
 pub fn serve_vectors<W: Write, E: Write>(
     alloc: Global,
     table: &[Vector<'_>],
@@ -122,25 +122,25 @@ pub fn serve_vectors<W: Write, E: Write>(
     }
 }
 
-/// Runs `fhex` over what is handed in and returns the exit status with the two writers.
+/// Runs `fhex` over what it is given, and returns the exit status and the two writers.
 ///
-/// `words` are the program's words without its name. They are judged first. One word that names an
-/// [`Op`]: all of `input` is read, at most [`INPUT_LIMIT`](crate::INPUT_LIMIT) bytes, and the
-/// operation's output goes to `out`, which is flushed. The word `vectors`: `input` is not read, and
-/// the stored vectors' lines go to `out`, which is flushed.
+/// `words` are the program's arguments, without its name, and are tested first. One that names an
+/// [`Op`]: reads all of `input`, at most [`INPUT_LIMIT`](crate::INPUT_LIMIT) bytes, writes the
+/// operation's output to `out`, and flushes it. The word `vectors`: does not read `input`, writes
+/// the stored vectors' lines to `out`, and flushes it.
 ///
 /// | Status | When | Written to `err`, as one line |
 /// |---|---|---|
 /// | 0 | done | nothing |
-/// | 1 | the input is refused, and then nothing went to `out` | the [`Error`](hex_core::Error)'s text |
+/// | 1 | the input is refused; nothing went to `out` | the [`Error`](hex_core::Error)'s text |
 /// | 1 | a stored vector failed | nothing |
 /// | 2 | no word, several, or another one; nothing was read, nothing went to `out` | the usage |
-/// | 3 | a fault of the surroundings | `read failed`, `write failed`, `out of memory` |
+/// | 3 | a failure of the system | `read failed`, `write failed`, `out of memory` |
 /// | 3 | the input is longer than the limit | `input too long` |
 ///
-/// No error of a reader or a writer is retried. A fault of `err` does not change the status. The
-/// contract speaks of the bytes that a reader gave or a writer took where its type tells them, and
-/// not of `err`.
+/// No error of a reader or a writer is retried. An error of `err` does not change the status. The
+/// contract covers the bytes read and written if the types of reader and writer model them, and not
+/// `err`.
 ///
 /// ```rust
 /// let mut input: &[u8] = b"hello";

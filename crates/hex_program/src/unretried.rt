@@ -1,4 +1,4 @@
-//! All of `fhex` with its output behind a buffer, which tries no write again.
+//! All of `fhex` with buffered output, of which no write is retried.
 
 ghost use Rattle.std.specs.Prelude.{List, ℕ, ◌≡◌, ◌≢◌, IfErr, MatchResult, map};
 ghost use Rattle.std.specs.Io.{WritesAtMost};
@@ -12,14 +12,14 @@ use std::alloc::Global;
 use std::io;
 use std::io::{BufWriter, ErrorKind, Read, Write};
 
-/// How many bytes of the output are kept back before it is written to.
+/// The size of the output buffer, in bytes.
 pub const OUTPUT_BUFFER: usize = 65_536;
 
-/// A writer that tells an interrupted write as another error. `BufWriter` tries an interrupted write
-/// of what it kept back again, and a direct one not.
+/// A writer that turns an interrupted write into another error. `BufWriter` retries an interrupted
+/// write of its buffer, but not a direct one.
 #[derive(Drop)]
 pub struct Unretried<W> {
-    /// The writer whose writes are told.
+    /// The inner writer.
     pub inner: W,
 }
 
@@ -42,12 +42,12 @@ impl<W: Write> Write for Unretried<W> {
     }
 }
 
-/// Runs [`serve`] with [`OUTPUT_BUFFER`] bytes of the output kept back. No write is tried again, and
-/// what a failed one left is let go.
+/// Runs [`serve`] with an output buffer of [`OUTPUT_BUFFER`] bytes. No write is retried, and what a
+/// failed one left is dropped.
 ///
 /// # Errors
 ///
-/// [`Failure::OutOfMemory`] where there is no memory for the buffer; nothing was read then.
+/// [`Failure::OutOfMemory`] if the buffer cannot be allocated; nothing was read then.
 ///
 /// ```rust
 /// let mut input: &[u8] = b"hello";
@@ -63,7 +63,7 @@ pub fn serve_buffered<R: Read, W: Write + Drop, E: Write + Drop>(
     out: W,
     err: E,
 ) -> Result<(u8, W, E), Failure>
-    // What the writer holds at the end may lack some bytes that were kept back.
+    // At the end the writer may lack some buffered bytes.
     ensures { MatchResult result
         (λ ended. (kept : List ℕ) × Serves (map (λ w. w.now) words.now)
         (R.remaining input.old) (R.remaining input.new)
@@ -75,7 +75,7 @@ pub fn serve_buffered<R: Read, W: Write + Drop, E: Write + Drop>(
         return Err(Failure::OutOfMemory);
     };
     let (status, out, err) = serve(alloc, words, input, out, err);
-    // A writer that is let go tries once more to write what a failed write left.
+    // Dropping the buffer would retry what a failed write left.
     let (unretried, _) = out.into_parts();
     Ok((status, unretried.inner, err))
 }

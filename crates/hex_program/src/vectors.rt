@@ -8,26 +8,26 @@ use hex_format::digests::{self, Entry, ListFault};
 use hex_format::{Hex, HexFlags, SliceSink};
 use std::alloc::{AllocError, Global};
 
-// What stands in a destination before a call.
+// Every byte of a destination before a call.
 const FILL: u8 = 0xa5;
 
-/// A stored vector: a call, what it answers, and what it leaves in its destination, which was filled
-/// with 0xa5.
+/// A stored vector: a call, its result, and the bytes it leaves in its destination, which was
+/// filled with 0xa5.
 #[derive(Clone, Copy)]
 pub struct Vector<'a> {
-    /// What its line calls it.
+    /// Its name in its line.
     pub name: &'a str,
-    /// What is done to the source, under each plan by its `encode_slice` or `decode_slice`.
+    /// What to do with the source, by each plan's `encode_slice` or `decode_slice`.
     pub op: Op,
     /// The source.
     pub source: &'a [u8],
-    /// How many bytes are written, or the refusal.
+    /// The number of bytes written, or the error.
     pub answer: Result<usize, Error>,
-    /// All of the destination after the call; at most 128 bytes, and a vector with more fails.
+    /// All of the destination after the call. A vector with more than 128 bytes fails.
     pub left: &'a [u8],
 }
 
-// A vector a line: name, operation, source, answer, and what is left.
+// One vector per line: name, operation, source, result, and destination.
 macro_rules! vectors {
     ($($name:literal $op:ident $source:expr, $answer:expr, $left:expr;)*) => {
         [$(Vector { name: $name, op: Op::$op, source: $source, answer: $answer, left: $left }),*]
@@ -69,7 +69,7 @@ const BINARY: Entry<'static, 2> = Entry {
     name: b"b",
 };
 
-// Whether a plan's call answers and leaves what a vector states.
+// Whether a plan's call returns and leaves what a vector states.
 fn passes(plan: Backend, vector: &Vector<'_>) -> bool {
     let mut buffer = [FILL; 128];
     let Some(destination) = buffer.get_mut(..vector.left.len()) else {
@@ -102,7 +102,7 @@ fn writes_grouped() -> bool {
     written.is_ok() && sink.written() == b"0001:02".as_slice()
 }
 
-// v18: grouped text with a separator at another place is refused.
+// v18: grouped text with a misplaced separator is refused.
 fn refuses_grouped() -> bool {
     let mut destination = [FILL; 3];
     let Some(group) = Group::new(2, b':') else {
@@ -116,7 +116,7 @@ fn refuses_grouped() -> bool {
     answer.err() == Some(fault) && destination == [FILL; 3]
 }
 
-// v19: a list is read. Want of memory is no answer.
+// v19: a list is read. A failed allocation is no result.
 fn reads_list(alloc: Global) -> Result<bool, AllocError> {
     match digests::read::<2>(alloc, b"ab01 *b", CheckCase::Lower) {
         Ok(entries) => Ok(entries.as_slice() == [BINARY].as_slice()),
@@ -157,8 +157,8 @@ impl Report {
     }
 }
 
-/// Runs each vector of `table` under each plan, and then four that name no plan. Returns a line for
-/// each, as `scalar v01 pass`, or `fail` in the place of `pass`, and one of the totals.
+/// Runs each vector of `table` under each plan, and then four without a plan. Returns a line for
+/// each, like `scalar v01 pass`, or `fail` instead of `pass`, and one with the totals.
 pub(crate) fn run_vectors(alloc: Global, table: &[Vector<'_>]) -> Result<Report, AllocError> {
     let mut report = Report {
         lines: String::new(alloc),
