@@ -1,6 +1,5 @@
-//! The calls that C and Rust link: thin exported functions over the library's, with the same
-//! promises. `faster_hex.h` declares them and says what a caller owes: nothing here can see whether
-//! a pointer is good.
+//! The functions that C and Rust link: thin wrappers with the library's guarantees. `faster_hex.h`
+//! declares them and says what the caller must ensure: nothing here can check a pointer.
 #![tactic(auto)]
 
 ghost use Rattle.std.specs.Prelude.{◌≡◌, ◌↔◌, IsTrue, None};
@@ -13,7 +12,7 @@ use hex_codec::grouped::{read_into, write_into};
 use hex_codec::{Group, GroupFault, hex_check, hex_decode_into, hex_encode_into};
 use hex_core::{Backend, CheckCase, Error};
 
-// The statuses, by the names of `faster_hex.h`.
+// The statuses, by their names in `faster_hex.h`.
 const DONE: u8 = 0;
 
 const ODD_LENGTH: u8 = 1;
@@ -30,22 +29,22 @@ const NOT_A_GROUP: u8 = 6;
 
 const BAD_LENGTH: u8 = 7;
 
-/// What a call answers.
+/// The result of a call.
 #[repr(C)]
 #[derive(Clone, Copy, Debug, PartialEq, Eq)]
 pub struct Answer {
-    /// With status 0 the number of bytes that were written; with status 2 how many bytes the output
-    /// takes, with status 3 the place of the first invalid byte, from 0, and else 0.
+    /// With status 0 the number of bytes written, with status 2 the number of bytes needed, with
+    /// status 3 the index of the first invalid byte, else 0.
     pub number: usize,
-    /// 0 where nothing is refused; 1 for an odd length, 2 for too little room, 3 for an invalid
-    /// byte, 4 for a text whose length exceeds `usize`, 5 for a number that names no policy, 6 for
-    /// numbers that make no group, and 7 for a length that no grouped text has.
+    /// 0 for success, 1 for an odd length, 2 for too little room, 3 for an invalid byte, 4 for a
+    /// length that exceeds `usize`, 5 for an unknown policy, 6 for numbers that make no group, and
+    /// 7 for a length that no grouped text has.
     pub status: u8,
-    /// With status 3 the first invalid byte, and else 0.
+    /// With status 3 the first invalid byte, else 0.
     pub byte: u8,
 }
 
-// The policy that a number names.
+// The policy with this number.
 fn policy(number: u8) -> Option<CheckCase>
     ensures { result ≡ policy_of number }
 {
@@ -57,14 +56,14 @@ fn policy(number: u8) -> Option<CheckCase>
     }
 }
 
-// The answer for a number that names no policy.
+// The answer for an unknown policy.
 const NO_POLICY: Answer = Answer {
     number: 0,
     status: UNKNOWN_POLICY,
     byte: 0,
 };
 
-// The answer that tells a result.
+// The answer for a result.
 fn answer_of(outcome: Result<usize, Error>) -> Answer
     ensures { result ≡ answer_of outcome }
 {
@@ -73,7 +72,7 @@ fn answer_of(outcome: Result<usize, Error>) -> Answer
         Err(Error::OddLength) => (0, ODD_LENGTH, 0),
         Err(Error::OutputTooSmall { required }) => (required, OUTPUT_TOO_SMALL, 0),
         Err(Error::InvalidChar { index, byte }) => (index, INVALID_CHAR, byte),
-        // The calls here answer no other error than that of a text's length.
+        // The only other error of these calls is `Overflow`.
         Err(_) => (0, OVERFLOW, 0),
     };
     Answer {
@@ -90,7 +89,7 @@ const NO_GROUP: Answer = Answer {
     byte: 0,
 };
 
-// The answer that tells how a grouped text was read.
+// The answer for a result of decoding grouped text.
 fn group_answer_of(outcome: Result<usize, GroupFault>) -> Answer
     ensures { result ≡ group_answer_of outcome }
 {
@@ -107,7 +106,7 @@ fn group_answer_of(outcome: Result<usize, GroupFault>) -> Answer
     }
 }
 
-/// Whether every byte is a digit, of either case.
+/// Returns whether every byte is a digit, of either case.
 #[unsafe(no_mangle)]
 pub extern "C" fn faster_hex_check(src: &[u8]) -> bool
     ensures { IsTrue result ↔ (first_invalid policy.None src.now ≡ None) }
@@ -115,7 +114,7 @@ pub extern "C" fn faster_hex_check(src: &[u8]) -> bool
     hex_check(src)
 }
 
-/// The first byte that is no digit by a policy: 0 reads either case, 1 lowercase and 2 uppercase.
+/// Finds the first invalid byte under a policy: 0 accepts either case, 1 lowercase, 2 uppercase.
 #[unsafe(no_mangle)]
 pub extern "C" fn faster_hex_first_invalid(src: &[u8], case: u8) -> Answer
     ensures { FindsInvalid case src.now result }
@@ -132,7 +131,7 @@ pub extern "C" fn faster_hex_first_invalid(src: &[u8], case: u8) -> Answer
     }
 }
 
-/// Writes the digits of some bytes into the front of a destination.
+/// Writes the digits of `src` into the start of `dst`.
 #[unsafe(no_mangle)]
 pub extern "C" fn faster_hex_encode(src: &[u8], dst: &mut [u8], upper: bool) -> Answer
     ensures { EncodesTo upper src.now dst.old dst.new result }
@@ -140,7 +139,7 @@ pub extern "C" fn faster_hex_encode(src: &[u8], dst: &mut [u8], upper: bool) -> 
     answer_of(hex_encode_into(src, dst, upper))
 }
 
-/// Writes the bytes that digits of either case spell into the front of a destination.
+/// Decodes digits of either case into the start of `dst`.
 #[unsafe(no_mangle)]
 pub extern "C" fn faster_hex_decode(src: &[u8], dst: &mut [u8]) -> Answer
     ensures { DecodesTo policy.None src.now dst.old dst.new result }
@@ -148,7 +147,7 @@ pub extern "C" fn faster_hex_decode(src: &[u8], dst: &mut [u8]) -> Answer
     answer_of(hex_decode_into(src, dst, CheckCase::None))
 }
 
-/// The same by a policy: 0 reads either case, 1 lowercase and 2 uppercase.
+/// The same under a policy: 0 accepts either case, 1 lowercase, 2 uppercase.
 #[unsafe(no_mangle)]
 pub extern "C" fn faster_hex_decode_with_case(src: &[u8], dst: &mut [u8], case: u8) -> Answer
     ensures { DecodesBy case src.now dst.old dst.new result }
@@ -159,8 +158,8 @@ pub extern "C" fn faster_hex_decode_with_case(src: &[u8], dst: &mut [u8], case: 
     }
 }
 
-/// Writes the digits of some bytes in groups of `every` bytes, with `sep` between two, into the
-/// front of a destination.
+/// Writes the digits of `src` in groups of `every` bytes, with `sep` between two, into the start of
+/// `dst`.
 #[unsafe(no_mangle)]
 pub extern "C" fn faster_hex_encode_grouped(
     src: &[u8],
@@ -177,8 +176,8 @@ pub extern "C" fn faster_hex_encode_grouped(
     }
 }
 
-/// Reads a text of such groups, of which it writes the bytes into the front of a destination, by a
-/// policy: 0 reads either case, 1 lowercase and 2 uppercase.
+/// Decodes a text of such groups into the start of `dst`, under a policy: 0 accepts either case, 1
+/// lowercase, 2 uppercase.
 #[unsafe(no_mangle)]
 pub extern "C" fn faster_hex_decode_grouped(
     src: &[u8],

@@ -1,4 +1,4 @@
-//! Each status once, and that a refusal leaves the destination as it was.
+//! Each status once, and that a refusal leaves the destination unchanged.
 
 use crate::{
     Answer, faster_hex_check, faster_hex_decode, faster_hex_decode_grouped,
@@ -15,14 +15,14 @@ fn is(told: Answer, wanted: Wanted) -> bool {
 
 const OLD: [u8; 4] = [0xa5; 4];
 
-// Whether this is answered, from a destination of 0xa5 of this many bytes, that then ends so.
+// Whether a call returns this, and a destination of this many bytes of 0xa5 ends so.
 fn decodes(src: &[u8], room: usize, case: u8, wanted: Wanted, ends: &[u8; 4]) -> bool {
     let mut buffer = OLD;
     let told = faster_hex_decode_with_case(src, &mut buffer[..room.min(4)], case);
     is(told, wanted) && buffer == *ends
 }
 
-// The same of the call that names no policy.
+// The same for the call without a policy.
 fn decodes_plainly(src: &[u8], wanted: Wanted, ends: &[u8; 4]) -> bool {
     let mut buffer = OLD;
     is(faster_hex_decode(src, &mut buffer), wanted) && buffer == *ends
@@ -42,7 +42,7 @@ fn statuses_of_decoding(rt: HostRuntime) {
     assert!(rt; holds);
 }
 
-// Whether this is answered, and a destination of 0xa5 ends so.
+// Whether a call returns this, and a destination of 0xa5 ends so.
 fn encodes(src: &[u8], upper: bool, wanted: Wanted, ends: &[u8; 4]) -> bool {
     let mut buffer = OLD;
     is(faster_hex_encode(src, &mut buffer, upper), wanted) && buffer == *ends
@@ -64,14 +64,14 @@ fn statuses_of_encoding_and_of_a_search(rt: HostRuntime) {
     assert!(rt; holds);
 }
 
-// Whether a destination of 0xa5 ends so once some bytes are written into it in groups.
+// Whether a destination of 0xa5 ends so after bytes are written into it in groups.
 fn groups(src: &[u8], every: usize, sep: u8, wanted: Wanted, ends: &[u8; 6]) -> bool {
     let mut buffer = [0xa5; 6];
     let told = faster_hex_encode_grouped(src, &mut buffer, true, every, sep);
     is(told, wanted) && buffer == *ends
 }
 
-// Whether this is answered where a text of groups of one byte is read, and a destination ends so.
+// Whether decoding groups of one byte returns this, and a destination ends so.
 fn reads(src: &[u8], room: usize, case: u8, sep: u8, wanted: Wanted, ends: &[u8; 4]) -> bool {
     let mut buffer = OLD;
     let told = faster_hex_decode_grouped(src, &mut buffer[..room.min(4)], case, 1, sep);
