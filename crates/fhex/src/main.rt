@@ -1,4 +1,4 @@
-//! `fhex`: turns standard input into hex digits, or hex digits back into bytes.
+//! `fhex`: encodes standard input as hex digits, or decodes it.
 #![tactic(auto)]
 
 use hex_program::{Failure, refuse, serve_buffered};
@@ -6,7 +6,7 @@ use std::env;
 use std::io::ErrorKind;
 use std::process::ExitCode;
 
-// The program's words, without its name.
+// The program's arguments, without its name.
 fn words(rt: &HostRuntime) -> Result<Vec<String>, Failure> {
     let arguments = match env::args(rt) {
         Ok(arguments) => arguments,
@@ -17,7 +17,7 @@ fn words(rt: &HostRuntime) -> Result<Vec<String>, Failure> {
     words.map_err(|_| Failure::OutOfMemory)
 }
 
-// The status of a run over the program's words and the standard streams.
+// The exit status for the program's arguments and the standard streams.
 fn run(rt: &HostRuntime) -> Result<u8, Failure> {
     let words = words(rt)?;
     let mut texts = Vec::new(rt.alloc());
