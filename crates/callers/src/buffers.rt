@@ -1,4 +1,4 @@
-//! Callers that judge slices of digits, and decode them into buffers and arrays, each proved.
+//! Callers that check slices of digits, and decode them into buffers and arrays, each proved.
 
 ghost use Rattle.std.specs.Prelude.{◌≡◌, ◌<◌, ◌↔◌, ◌++◌, ℕ, List, None, Some, IfSome, IsTrue, MatchResult, length, slice_get, slice_index, take};
 ghost use Rattle.std.specs.Bool.{OnFalse, OnTrue};
@@ -21,7 +21,7 @@ use hex_core::laws::{
     the_first_invalid_byte_is_the_first, what_lies_behind_the_blocks_stays,
 };
 
-/// Whether a text is the digits of some bytes, in either case.
+/// Returns whether a text decodes to bytes, in either case.
 ///
 /// ```rust
 /// assert!(rt; is_hex(b"00aBcD"));
@@ -35,7 +35,7 @@ pub fn is_hex(text: &[u8]) -> bool
     text.len() % 2 == 0 && hex_check(text)
 }
 
-/// Whether a text is what encoding in lowercase writes for some bytes.
+/// Returns whether a text is the lowercase encoding of some bytes.
 ///
 /// ```rust
 /// assert!(rt; is_canonical(b"00abcd"));
@@ -48,15 +48,15 @@ pub fn is_canonical(digits: &[u8]) -> bool
     is_accepted(digits)
 }
 
-// Whether digits in lowercase are not refused.
+// Whether lowercase digits are accepted.
 fn is_accepted(digits: &[u8]) -> bool
     ensures { IsTrue result ↔ (source_refusal policy.Lower digits.now ≡ None) }
 {
     digits.len() % 2 == 0 && hex_check_with_case(digits, CheckCase::Lower)
 }
 
-/// The place of the byte for which a text is refused as four bytes, where it is refused for a byte:
-/// the first one of eight that is no digit.
+/// Returns the index of the first of eight bytes that is not a digit, if decoding to four bytes
+/// fails for a byte.
 ///
 /// ```rust
 /// assert_eq!(rt; bad_place(b"deadbe3g"), Some(7));
@@ -74,7 +74,7 @@ pub fn bad_place(text: &[u8]) -> Option<usize>
     }
 }
 
-/// Decodes a record into the front of a buffer, and returns its first byte, its tag.
+/// Decodes a record into the start of a buffer, and returns its first byte, its tag.
 ///
 /// ```rust
 /// let mut buffer = [0; 4];
@@ -91,7 +91,7 @@ pub fn record_tag(src: &[u8], buffer: &mut [u8]) -> Result<Option<u8>, Error>
     Ok(buffer[..written].first().copied())
 }
 
-/// The header of a record of 40 digits: the four bytes that its first eight digits spell.
+/// Decodes the header of a record of 40 digits: four bytes from its first eight digits.
 ///
 /// ```rust
 /// let header = read_header(b"7f454c46020101000000000000000000fe003e00");
@@ -108,8 +108,8 @@ pub fn read_header(digits: &[u8]) -> Result<[u8; 4], Error>
     Ok(header)
 }
 
-/// A key of four bytes and a value of eight, whose digits stand in texts of their own: both texts,
-/// joined, spell the joined bytes.
+/// Decodes a key of four bytes and a value of eight from separate texts: the joined texts decode to
+/// the joined bytes.
 ///
 /// ```rust
 /// let pair = read_pair(b"6B657931", b"0001020304050607");
@@ -126,8 +126,8 @@ pub fn read_pair(key: &[u8], value: &[u8]) -> Result<([u8; 4], [u8; 8]), Error>
     Ok((key, value))
 }
 
-/// Decodes a page under a plan. Where it is refused some bytes may be those of its blocks, but the
-/// page's last byte is as it was, under every plan.
+/// Decodes a page under a plan. On failure, some of its blocks may be written, but its last byte is
+/// unchanged, under every plan.
 ///
 /// ```rust
 /// let mut page = [7; 64];

@@ -1,4 +1,4 @@
-//! Callers whose digits come bit by bit, each proved.
+//! Callers that decode digits in chunks, each proved.
 
 ghost use Rattle.std.specs.Prelude.{◌≡◌, ◌++◌, ℕ, List, Some, MatchResult, length};
 ghost use Rattle.hex_core.specs.declared.digit.CheckCase.TheVariants as policy;
@@ -10,13 +10,13 @@ use faster_hex::{CheckCase, Error, SliceSink};
 use hex_codec::laws::{any_cutting_is_decoded_as_one_call, every_decoder_has_been_fed};
 use std::io::Read;
 
-/// Decodes digits that come in two parts, of which the first may end within a pair, each into the
-/// front of a buffer of its own, and returns how many bytes stand in each.
+/// Decodes digits in two parts, of which the first may end within a pair, each into the start of
+/// its own buffer, and returns the number of bytes in each.
 ///
 /// # Errors
 ///
-/// The first part's refusal, then the second's, whose places count from the first part's beginning,
-/// and then [`Error::OddLength`] where the last digit has no partner.
+/// The first part's error, then the second's, whose index counts from the start of the first part,
+/// and then [`Error::OddLength`] if the last digit has no partner.
 ///
 /// ```rust
 /// let (mut front, mut back) = ([0xa5; 2], [0xa5; 3]);
@@ -43,11 +43,11 @@ pub fn decode_parts(
     Ok((one, two))
 }
 
-/// Decodes more digits by a decoder that is handed in, into the front of a buffer, and returns how
-/// many bytes they make whole. After a refusal buffer and decoder are as before.
+/// Decodes more digits with the caller's decoder into the start of a buffer, and returns the number
+/// of bytes written. An error leaves buffer and decoder unchanged.
 ///
-/// Whatever the decoder was fed before, and in whatever chunks: what it has written is what the whole
-/// pairs of all its digits spell.
+/// Whatever the decoder was fed before, in whatever chunks, it has written the bytes of the whole
+/// pairs of all its digits.
 ///
 /// ```rust
 /// use faster_hex::stream::Decoder;
@@ -66,11 +66,11 @@ pub fn decode_more(decoder: &mut Decoder, more: &[u8], buffer: &mut [u8]) -> Res
     decoder.feed(more, buffer)
 }
 
-/// Decodes all digits that a reader gives into the front of a buffer, and returns how many bytes they
-/// spell. A read may end within a pair.
+/// Decodes all digits that a reader gives into the start of a buffer, and returns the number of
+/// decoded bytes. A read may end within a pair.
 ///
-/// The caller's proof knows the buffer at every end, by all digits that were read, however the reads
-/// cut them.
+/// The caller's proof knows the buffer in every case, from all digits read, whatever the reads
+/// were.
 ///
 /// ```rust
 /// let mut input: &[u8] = b"68656C6c6f";

@@ -1,4 +1,4 @@
-//! A digest as a type of its own, with one spelling, proved.
+//! A digest as its own type, with a single text, proved.
 
 ghost use Rattle.std.specs.Prelude.{◌≡◌, MatchResult, Ok, Some, IfOk, length};
 ghost use Rattle.std.specs.Cmp.Lexicographic.{slice_cmp};
@@ -17,7 +17,7 @@ use hex_core::laws::{
 use std::cmp::Ordering;
 use std::fmt;
 
-/// A digest of 32 bytes, which is written as 64 lowercase digits and in no other way.
+/// A digest of 32 bytes, written only as 64 lowercase digits.
 ///
 /// ```rust
 /// let digits = "2cf24dba5fb0a30e26e83b2ac5b9e29e1b161e5c1fa7425e73043362938b9824";
@@ -33,12 +33,12 @@ pub struct Digest {
 }
 
 impl Digest {
-    /// Returns the digest that a text spells, whose own text it is.
+    /// Returns the digest whose text this is.
     ///
     /// # Errors
     ///
-    /// In this order: [`Error::OddLength`] for an odd number of bytes, [`Error::LengthMismatch`] for
-    /// another even number than 64, and [`Error::InvalidChar`] for the first byte that is no
+    /// In this order: [`Error::OddLength`] for an odd number of bytes, [`Error::LengthMismatch`]
+    /// for any even number but 64, and [`Error::InvalidChar`] for the first byte that is not a
     /// lowercase digit.
     pub fn parse(digits: &[u8]) -> Result<Digest, Error>
         ensures answer { MatchResult result
@@ -73,8 +73,8 @@ impl Digest {
         hex_encode_into(&self.bytes, line, false).unwrap();
     }
 
-    /// Compares two digests as their texts compare, without writing these: a table may keep bytes
-    /// and a file digits, in one order.
+    /// Compares two digests like their texts, without writing them: a table of bytes and a file of
+    /// digits have the same order.
     ///
     /// ```rust
     /// use std::cmp::Ordering;

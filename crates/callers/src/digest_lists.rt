@@ -17,13 +17,13 @@ use hex_format::laws::{
 };
 use std::alloc::Global;
 
-/// Writes the line of one file into the front of a buffer, as `sha256sum` prints it, and returns how
-/// long it is. It is the list of that file alone.
+/// Writes the line of one file into the start of a buffer, like `sha256sum`, and returns its
+/// length. It is the list of only that file.
 ///
 /// # Errors
 ///
-/// [`ListWriteFault::BadName`] where the name is empty or holds a newline, and nothing is written
-/// then; [`ListWriteFault::Write`] where the line does not fit.
+/// [`ListWriteFault::BadName`] if the name is empty or has a newline, and nothing is written then;
+/// [`ListWriteFault::Write`] if the line does not fit.
 ///
 /// ```rust
 /// use callers::digest::Digest;
@@ -52,9 +52,9 @@ pub fn write_checksum(
     Ok(sink.written().len())
 }
 
-/// Reads a checksum file, and returns the digest of its first line, or `None` where it has none.
+/// Reads a checksum file, and returns the digest of its first line, or `None` if it has none.
 ///
-/// However else the file is read, no other digest comes, and no refusal but for want of memory.
+/// If the file lists entries, the digest is that of the first, and only lack of memory is an error.
 ///
 /// ```rust
 /// let digest = "2cf24dba5fb0a30e26e83b2ac5b9e29e1b161e5c1fa7425e73043362938b9824";
@@ -76,8 +76,8 @@ pub fn read_checksum(alloc: Global, file: &[u8]) -> Result<Option<Digest>, ListF
     }
 }
 
-/// Reads a list that is as it is written, in lowercase: its lines are those that are written for the
-/// entries, and no name is refused then.
+/// Reads a lowercase list exactly as it is written: its lines are those written for the entries,
+/// and no name is refused then.
 pub fn read_canonical<'a>(alloc: Global, list: &'a [u8]) -> Result<Vec<Entry<'a, 32>>, ListFault>
     ensures read { ReadsList policy.Lower 32 list.entry.now result }
     ensures lines { IfOk result (λ entries. map (line_of lowercase) (vec_items entries) ≡ lines_of list.entry.now) }

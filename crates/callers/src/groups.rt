@@ -1,4 +1,4 @@
-//! Callers that read and write digits in groups, each proved.
+//! Callers that decode and encode grouped digits, each proved.
 
 ghost use Rattle.std.specs.Prelude.{◌≡◌, ◌↔◌, ◌<◌, ◌-◌, ◌%◌, ◌^◌, ◌++◌, ◌∷◌, [], ℕ, List, Some, IsTrue, length};
 ghost use Rattle.hex_core.specs.declared.digit.CheckCase.TheVariants as policy;
@@ -20,8 +20,8 @@ use hex_codec::laws::{
 use hex_core::laws::{a_new_front_is_the_front, a_slice_holds_bytes};
 use hex_format::laws::{a_bare_text_is_its_digits, puts_in_a_row_are_one};
 
-/// A hardware address of six bytes in groups, as `00:00:5E:00:53:AF` is one in groups of one byte:
-/// the six bytes that the text spells, where it spells six.
+/// Decodes a hardware address of six bytes in groups, like `00:00:5E:00:53:AF` in groups of one
+/// byte. Returns the six bytes of the text, if it has six.
 ///
 /// ```rust
 /// let address = read_address(b"00:00:5E:00:53:AF", Group::new(1, b':').unwrap());
@@ -40,7 +40,7 @@ pub fn read_address(text: &[u8], group: Group) -> Option<[u8; 6]>
     }
 }
 
-/// How long the text of such an address is.
+/// Returns the length of such a text.
 ///
 /// ```rust
 /// assert_eq!(rt; address_len(Group::new(2, b'.').unwrap()), 14);
@@ -52,12 +52,12 @@ pub fn address_len(group: Group) -> usize
     11 + 6_usize.div_ceil(group.every())
 }
 
-/// Writes such an address into the front of a line, and returns how long its text is, which
+/// Writes such an address into the start of a line, and returns the length of its text, which
 /// [`read_address`] reads as the same.
 ///
 /// # Errors
 ///
-/// [`Error::OutputTooSmall`] where it does not fit, and nothing is written.
+/// [`Error::OutputTooSmall`] if it does not fit, and nothing is written.
 ///
 /// ```rust
 /// let mut line = [b' '; 16];
@@ -76,8 +76,8 @@ pub fn write_address(address: &[u8; 6], group: Group, line: &mut [u8]) -> Result
     write_into(address, line, group, false)
 }
 
-/// Reads a line in the one spelling that is written for its bytes, in lowercase, into the front of a
-/// buffer, and returns their number.
+/// Decodes a line into the start of a buffer, only if it is the lowercase text of its bytes, and
+/// returns their number.
 ///
 /// ```rust
 /// let mut buffer = [0; 4];
@@ -111,14 +111,14 @@ pub fn write_two_parts<S: Sink>(
     put_grouped(back, group, sink)
 }
 
-/// Whether a put into a sink has failed so far.
+/// Returns whether a put into a sink has failed.
 pub fn has_failed<S: Sink>(sink: &S) -> bool
     ensures { IsTrue result ↔ (0 < (S.state sink.now).failures) }
 {
     sink.failures() > 0
 }
 
-// Puts the grouped text of a part, and the separator behind it.
+// Puts the grouped text of a part, and the separator after it.
 fn put_first_part<S: Sink>(part: &[u8], group: Group, sink: &mut S) -> Result<(), WriteFault>
     requires { (S.state sink.old).failures < 2 ^ 64 - 1 }
     ensures { Puts (S.state sink.old) (S.state sink.new) result

@@ -1,4 +1,4 @@
-//! Callers of the JSON adapters as a user writes them, each proved.
+//! Callers of the JSON modules, as a user writes them, each proved.
 
 ghost use Rattle.std.specs.Prelude.{◌≡◌, ◌≤◌, ℕ, List, None, Some, Ok, IfErr, IfOk, IsFalse, IsTrue, codes, length, MatchResult, vec_items};
 ghost use Rattle.serde_json.specs.Data.{Data, string};
@@ -20,8 +20,8 @@ use hex_core::laws::a_slice_holds_bytes;
 use serde_json::Value;
 use std::alloc::Global;
 
-/// The identifier of a record: its field `id`, four bytes behind `0x`, or `None` where it has none. No
-/// memory is taken, and however else the field is read, no other identifier comes.
+/// Returns the identifier of a record: four bytes after `0x` in its field `id`, or `None` if it has
+/// none. Allocates nothing. The field is never read as another identifier.
 ///
 /// ```rust
 /// use serde_json::Value;
@@ -45,8 +45,8 @@ pub fn record_id(fields: &Value) -> Result<Option<[u8; 4]>, AdapterError>
     }
 }
 
-/// Writes an identifier as the value of such a field, which is read as the same. It fails for want of
-/// memory alone.
+/// Writes an identifier as the value of such a field, which is read as the same. Fails only if
+/// memory runs out.
 ///
 /// ```rust
 /// let id = write_id(rt.alloc(), &[0xab, 1, 0, 0xff])?;
@@ -64,8 +64,8 @@ pub fn write_id(alloc: Global, id: &[u8; 4]) -> Result<Value, AdapterError>
     array::serialize(alloc, id)
 }
 
-/// A signature of at most 64 bytes. What reading without a bound reads as one fails for want of memory
-/// alone.
+/// Reads a signature of at most 64 bytes. If an unbounded read returns one, this fails only if
+/// memory runs out.
 pub fn read_signature(alloc: Global, value: &Value) -> Result<Vec<u8>, AdapterError>
     ensures answer { AnswersRead wire.nopfx_ignorecase (Some 64) value.now result }
     ensures read { IfOk result (λ bytes. Reads wire.nopfx_ignorecase None (view value.now) (vec_items bytes)
@@ -78,8 +78,8 @@ pub fn read_signature(alloc: Global, value: &Value) -> Result<Vec<u8>, AdapterEr
     nopfx_ignorecase::deserialize_bounded::<64>(alloc, value)
 }
 
-/// Whether a value of an `option_` module is the one of `None`. That of a list never is, even of the
-/// empty one.
+/// Returns whether a value of an `option_` module is that of `None`. A list's never is, even an
+/// empty one's.
 pub fn is_none_written(value: &Value, bytes: &[u8]) -> bool
     ensures none { WritesOption wire.nopfx_ignorecase None (view value.now) → IsTrue result }
     ensures list { WritesOption wire.nopfx_ignorecase (Some bytes.now) (view value.now) → IsFalse result }
@@ -88,8 +88,7 @@ pub fn is_none_written(value: &Value, bytes: &[u8]) -> bool
     value.is_null()
 }
 
-/// Reads a key of eight bytes, whose value is the one that is written for it: in lowercase, without
-/// prefix.
+/// Reads a key of eight bytes, whose value is the one written for it: lowercase, without prefix.
 pub fn read_key(value: &Value) -> Result<[u8; 8], AdapterError>
     ensures { MatchResult result
         (λ key. view value.now ≡ string (wire_text wire.nopfx_lowercase key))

@@ -1,4 +1,4 @@
-//! A counted source of a caller's own, and searches, each proved.
+//! A caller's own probe, and searches, each proved.
 
 ghost use Rattle.std.specs.Prelude.{◌≡◌, ◌++◌};
 ghost use Rattle.hex_core.specs.Search.{first_invalid, steps};
@@ -52,18 +52,18 @@ impl Probe for Sector {
     }
 }
 
-/// What a search found, and what it took.
+/// What a search found, and its steps.
 #[derive(Clone, Copy, Debug, PartialEq, Eq)]
 pub struct Found {
-    /// The place of the first byte that has no value.
+    /// The index of the first invalid byte.
     pub place: Option<usize>,
-    /// How many blocks were tested.
+    /// The number of blocks tested.
     pub tests: usize,
-    /// How many single bytes were looked at.
+    /// The number of single bytes looked at.
     pub looks: usize,
 }
 
-/// Finds the first byte without a value in a sector, and counts the steps that it takes.
+/// Finds the first invalid byte in a sector, and counts the steps.
 ///
 /// ```rust
 /// let mut bytes = [b'0'; 512];
@@ -91,8 +91,7 @@ pub fn find_in_sector(bytes: [u8; 512], case: CheckCase) -> Found
     }
 }
 
-/// The place of the first byte without a value in two parts that are read as one source, as a ring
-/// buffer holds its bytes.
+/// Returns the index of the first invalid byte in two parts of one source, as in a ring buffer.
 ///
 /// ```rust
 /// assert_eq!(rt; find_in_two_parts(b"00f", b"f0g", CheckCase::None), Some(5));

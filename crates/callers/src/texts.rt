@@ -26,8 +26,8 @@ pub fn append_both<A: Allocator>(line: &mut String<A>, first: &[u8], second: &[u
     hex_append_into(second, line, false).unwrap();
 }
 
-/// Appends the 32 digits of an identifier to a text, by way of a buffer on the stack. It fails for
-/// want of memory alone, and leaves the text as it was then.
+/// Appends the 32 digits of an identifier to a text, through a buffer on the stack. Fails only if
+/// memory runs out, and leaves the text unchanged then.
 ///
 /// ```rust
 /// let mut line = String::new(rt.alloc());
@@ -49,7 +49,7 @@ pub fn append_identifier<A: Allocator>(
     line.push_str(str::from_utf8(digits).unwrap())
 }
 
-/// Digits of either case as a new text in lowercase, by way of their bytes.
+/// Returns digits of either case as new lowercase text, through their bytes.
 ///
 /// ```rust
 /// assert_eq!(rt; lowercased(rt.alloc(), b"00aBcD")?.as_str(), "00abcd");
