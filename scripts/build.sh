@@ -119,6 +119,6 @@ done
 if [ "$kind" = program ]; then
     "$kit/bin/rattle-link" --target x86_64-unknown-linux-gnu --toolchain "$kit/toolchain" \
         -o "crates/$target/out/$target" "crates/$target/out/program/$target.o" \
-        "$kit/c/libos_c.a" "$kit/c/liblibc_c.a"
+        "$kit/c/libos_c.a" "$kit/c/liblibc_c.a" >/dev/null
     echo "$target is crates/$target/out/$target"
 fi
