@@ -45,7 +45,7 @@ build:
 
 # The header stands in crates/faster_hex_c. Behind dispatch.c each build's calls have names of their own, as
 # x86_64_v3_faster_hex_check, which nobody sees from outside. Each function begins at a multiple of 64 bytes,
-# so that its speed does not hang on what stands before it: some processors are slow at a jump across 32 bytes.
+# so that its speed does not depend on what stands before it: some processors are slow at a jump across 32.
 lib:
 	@$(call BUILD,faster_hex_c)
 ifeq ($(TARGET),aarch64)
