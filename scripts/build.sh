@@ -117,8 +117,10 @@ for crate in $(below "$target"); do
     echo "[$number/$all] $crate proved"
 done
 if [ "$kind" = program ]; then
+    log=crates/$target/out/program/link.log
     "$kit/bin/rattle-link" --target x86_64-unknown-linux-gnu --toolchain "$kit/toolchain" \
         -o "crates/$target/out/$target" "crates/$target/out/program/$target.o" \
-        "$kit/c/libos_c.a" "$kit/c/liblibc_c.a" >/dev/null
+        "$kit/c/libos_c.a" "$kit/c/liblibc_c.a" >"$log" 2>&1
+    log=/dev/null
     echo "$target is crates/$target/out/$target"
 fi
