@@ -47,8 +47,8 @@ fn ends(setup: Setup, alloc: Global, op: Op, input: &[u8], want: End<'_>) -> boo
     are_told && is_settled && sink.into_inner().is_filled()
 }
 
-/// Whether `run SETUP WORD INPUT` is answered `asks N ANSWER OUTPUT`: how many growths are asked for, where it
-/// is not none, and what the writer took.
+/// Whether `run SETUP WORD INPUT` is answered `asks N ANSWER OUTPUT`: how many growths are asked for,
+/// where it is not none, and what the writer took.
 pub fn is_answered(row: &mut Row) -> bool {
     let setup = Setup::read(&mut row.call);
     let op = operation(&mut row.call, &mut row.first);

@@ -76,8 +76,8 @@ fn ends(setup: Setup, alloc: Global, words: &[&str], input: &[u8], want: End<'_>
     is_end && giver.behind.len() == want.left && refusing.is_settled(want.asked)
 }
 
-/// Whether `serve SETUP WORDS INPUT` is answered `left N asks N STATUS OUTPUT MESSAGE`, of which the first two
-/// are left out where they are 0.
+/// Whether `serve SETUP WORDS INPUT` is answered `left N asks N STATUS OUTPUT MESSAGE`. The first two are
+/// left out where they are 0.
 pub fn is_answered(row: &mut Row, end: &mut Bytes) -> bool {
     let setup = Setup::read(&mut row.call);
     let first = word_of(&mut row.call, &mut row.first, setup.words > 0);
