@@ -73,39 +73,35 @@ fn are_small(nibbles: &[u8]) -> bool
     nibbles.iter().all(|nibble| *nibble < 16)
 }
 
-fn are_packed_16(nibbles: &[u8], want: &[u8]) -> bool
+fn are_packed_16(nibbles: &[u8], bytes: &[u8]) -> Option<bool>
     requires { AreSmall nibbles.now }
 {
-    match nibbles.try_into() {
-        Ok(block) => pack_16(block).as_slice() == want,
-        Err(_) => false,
-    }
+    Some(pack_16(nibbles.try_into().ok()?).as_slice() == bytes)
 }
 
-fn are_packed_32(nibbles: &[u8], want: &[u8]) -> bool
+fn are_packed_32(nibbles: &[u8], bytes: &[u8]) -> Option<bool>
     requires { AreSmall nibbles.now }
 {
-    match nibbles.try_into() {
-        Ok(block) => pack_32(block).as_slice() == want,
-        Err(_) => false,
-    }
+    Some(pack_32(nibbles.try_into().ok()?).as_slice() == bytes)
 }
 
-fn are_packed_64(nibbles: &[u8], want: &[u8]) -> bool
+fn are_packed_64(nibbles: &[u8], bytes: &[u8]) -> Option<bool>
     requires { AreSmall nibbles.now }
 {
-    match nibbles.try_into() {
-        Ok(block) => pack_64(block).as_slice() == want,
-        Err(_) => false,
-    }
+    Some(pack_64(nibbles.try_into().ok()?).as_slice() == bytes)
 }
 
 // `pack`: the bytes of these nibbles, for any policy.
 fn are_packed(nibbles: &[u8], want: &[u8]) -> bool {
-    are_small(nibbles)
-        && (are_packed_16(nibbles, want)
-            || are_packed_32(nibbles, want)
-            || are_packed_64(nibbles, want))
+    if !are_small(nibbles) {
+        return false;
+    }
+    let is_packed = match nibbles.len() {
+        16 => are_packed_16(nibbles, want),
+        32 => are_packed_32(nibbles, want),
+        _ => are_packed_64(nibbles, want),
+    };
+    is_packed == Some(true)
 }
 
 // `write`: the digits of 8, 16 or 32 bytes.
