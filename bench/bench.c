@@ -31,18 +31,16 @@
 #define DIGITS 64
 
 enum mode { ALL, SWEEP, SHARED };
-enum kind { CHECK, ENCODE, DECODE, VECTOR, REFUSED, WRITE, READ, CHUNKS, LIST, NEW_LIST, KINDS };
+enum kind { CHECK, ENCODE, DECODE, WRITE, READ, CHUNKS, LIST, NEW_LIST, KINDS };
 
 // The lengths in decoded bytes, which a sweep puts its own in place of; those that are decoded in chunks,
 // and of a list those of its names.
 static size_t plain_sizes[MOST_SIZES + 1] = {6, 8, 16, 20, 32, 64, 72, 100, 150, 256, 1024, 4096, 65536};
-static const size_t vector_sizes[] = {4096, 65536, 0};
 static const size_t chunk_sizes[] = {8, 16, 32, 64, 256, 1024, 4096, 65536, LARGEST, 0};
 static const size_t name_sizes[] = {1, 16, 64, 0};
 
 static const size_t *sizes_of(enum kind kind) {
-    return kind == VECTOR ? vector_sizes
-        : kind == CHUNKS ? chunk_sizes
+    return kind == CHUNKS ? chunk_sizes
         : kind >= LIST ? name_sizes
         : plain_sizes;
 }
@@ -91,8 +89,8 @@ static bool is_left_out[CALLS];
 static double least[CALLS][MOST_SIZES];
 static volatile size_t sink;
 
-// The same bytes, their text in lowercase and in both cases, and that with a last byte that is no digit.
-static uint8_t bytes[LARGEST], lower[2 * LARGEST], mixed[2 * LARGEST], refused[2 * LARGEST];
+// The same bytes, and their text in lowercase and in both cases.
+static uint8_t bytes[LARGEST], lower[2 * LARGEST], mixed[2 * LARGEST];
 static uint8_t out[3 * LARGEST + PAGE] __attribute__((aligned(64)));
 
 // A number with no pattern, the same ones in each run.
@@ -111,8 +109,6 @@ static void fill(void) {
         lower[2 * i] = "0123456789abcdef"[bytes[i] / 16];
         lower[2 * i + 1] = "0123456789abcdef"[bytes[i] % 16];
     }
-    memcpy(refused, mixed, sizeof refused);
-    refused[sizeof refused - 1] = 'g';
 }
 
 // Puts colons between pieces of so many bytes of a text, where there are any, and returns its new length.
@@ -161,7 +157,6 @@ static struct task task_of(const struct call *call, size_t size) {
     case ENCODE: return (struct task){bytes, size, out, 2 * size};
     case WRITE: return (struct task){bytes, size, out, 3 * size};
     case READ: return grouped(every_of(call), size);
-    case REFUSED: return (struct task){refused + 2 * (LARGEST - size), 2 * size, out, size};
     case LIST:
     case NEW_LIST: return list(size);
     default: return (struct task){mixed, 2 * size, out, size};
@@ -176,9 +171,7 @@ static bool is_right(const struct call *call, size_t size) {
     size_t answer = call->loop(&task, 1);
     switch (call->kind) {
     case CHECK: return answer == 1;
-    case VECTOR: return answer == size;
     case ENCODE: return answer == 2 * size && !memcmp(out, lower, answer);
-    case REFUSED: return answer == 0 && out[0] == OLD && !memcmp(out, out + 1, sizeof out - 1);
     case LIST:
     case NEW_LIST: return answer == LINES;
     case WRITE: return answer == group(wanted, lower, size, every_of(call)) && !memcmp(out, wanted, answer);

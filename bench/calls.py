@@ -12,10 +12,6 @@ ENCODE plain encode_into count hex_encode_into(src, dst, false)
 DECODE plain decode_slice list hex_decode(src, dst)
 DECODE plain decode_into count hex_decode_into(src, dst, CheckCase::None)
 DECODE plain decode_owned whole Backend::plain().decode_owned(src, dst, CheckCase::None)
-VECTOR plain decode_vec list hex_decode_vec(alloc, src)
-REFUSED plain refuse list hex_decode(src, dst)
-WRITE by_0 write count hex_encode_into(src, dst, false)
-READ by_0 read list hex_decode(src, dst)
 CHUNKS by_all decode count hex_decode_into(src, dst, CheckCase::None)
 LIST lists read list digests::read::<32>(alloc, src, CheckCase::None)
 NEW_LIST lists read_anew list digests::read::<32>(alloc, src, CheckCase::None)
@@ -38,9 +34,7 @@ SLICES = """
 CHECK {plan} check test {value}::hex_check(src)
 ENCODE {plan} encode list {value}::hex_encode(src, dst)
 DECODE {plan} decode list {value}::hex_decode(src, dst)
-REFUSED {plan} refuse list {value}::hex_decode(src, dst)
 """
-VECTOR = "VECTOR {plan} decode_vec list {value}::hex_decode_vec(src)"
 PEERS = {
     "hex": """
 ENCODE hex encode whole ::hex::encode_to_slice(src, dst).is_ok()
@@ -132,7 +126,7 @@ def own_calls():
 
 def rust_calls():
     """Those of the Rust crate: its public ones, and those of each of its kernels."""
-    found = calls("rust", SLICES + VECTOR, plan="public", value="crate")
+    found = calls("rust", SLICES, plan="public", value="crate")
     for plan in PLANS[:4]:
         found += calls("rust", KERNEL, plan=plan, value=f"Backend(Kind::{plan.capitalize()})")
     return found
