@@ -1,5 +1,5 @@
-"""Whether calls of the C library use the same addresses whatever the bytes: valgrind traces each instruction,
-load and store of crates/faster_hex_c/tests/addresses.c, which makes each call between two stores to `mark`."""
+"""Whether calls of the C library use the same addresses whatever the bytes: valgrind traces instructions,
+loads and stores of crates/faster_hex_c/tests/addresses.c, which makes each call between two stores to `mark`."""
 import bisect
 import re
 import subprocess
@@ -7,8 +7,6 @@ import subprocess
 # Of as many digits, so that each program has the same stack.
 SEEDS = "11", "22", "33", "44"
 TRACED = "valgrind --tool=lackey --trace-mem=yes".split()
-# The least source of which this holds, in bytes or digits, where it is not the empty one.
-LEAST = {"check": 4}
 
 
 def symbols(program):
@@ -47,5 +45,5 @@ def differing(program, log):
         f"{name}{word} of {length}: {difference(program, one, other)}"
         for at, ((name, word, length), one) in enumerate(zip(calls, first))
         for other in [next((it[at] for it in others if it[at] != one), None)]
-        if other is not None and int(length) >= LEAST.get(name, 0)
+        if other is not None
     ]

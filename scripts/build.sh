@@ -27,19 +27,12 @@ version=$(rt version)
 kind=$architecture
 [ ! -f "crates/$target/src/main.rt" ] || kind=program
 
-# uses NAME: what crates.txt says that a crate uses.
+# What crates.txt says that a crate uses, and the crates of this repository below it and itself.
 uses() {
-    sed -n -E "s/^$1( staticlib)?:(.*)/\2/p" crates.txt
+    scripts/repository.py uses "$1"
 }
-
-# below NAME: the crates of this repository that a crate uses, and itself, lowest first.
 below() {
-    {
-        for used in $(uses "$1"); do
-            [ ! -d "crates/$used" ] || below "$used"
-        done
-        echo "$1"
-    } | awk '!seen[$0]++'
+    scripts/repository.py below "$1"
 }
 
 # sum_of NAME: a sum of the toolchain, and of a crate and those below it.
