@@ -15,9 +15,8 @@ use faster_hex::{
     Backend, CheckCase, Error, hex_check, hex_check_with_case, hex_decode_array, hex_decode_into,
 };
 use hex_core::laws::{
-    a_joined_source_spells_the_joined_list, a_new_front_is_the_front,
-    a_source_is_accepted_where_it_spells_a_list, a_strict_policy_accepts_the_texts_of_its_case,
-    a_text_spells_one_list, an_invalid_char_is_the_first_invalid_byte,
+    a_joined_source_spells_the_joined_list, a_source_is_accepted_where_it_spells_a_list,
+    a_strict_policy_accepts_the_texts_of_its_case, an_invalid_char_is_the_first_invalid_byte,
     the_first_invalid_byte_is_the_first, what_lies_behind_the_blocks_stays,
 };
 
@@ -31,7 +30,6 @@ pub fn is_hex(text: &[u8]) -> bool
     ensures { IsTrue result ↔ ((bytes : List ℕ) × AreBytes bytes × Spells policy.None text.now bytes) }
 {
     a_source_is_accepted_where_it_spells_a_list();
-    a_text_spells_one_list();
     text.len() % 2 == 0 && hex_check(text)
 }
 
@@ -86,7 +84,6 @@ pub fn record_tag(src: &[u8], buffer: &mut [u8]) -> Result<Option<u8>, Error>
         × (buffer.new ≡ with_front buffer.old bytes) × (tag ≡ slice_get bytes 0))
         (λ e. (decode_refusal policy.None src.now (length buffer.old) ≡ Some e) × (buffer.new ≡ buffer.old)) }
 {
-    a_new_front_is_the_front();
     let written = hex_decode_into(src, buffer, CheckCase::default())?;
     Ok(buffer[..written].first().copied())
 }

@@ -10,9 +10,8 @@ ghost use Rattle.callers.specs.declared.digest.Digest.{Digest};
 
 use faster_hex::{CheckCase, Error, Hex, hex_decode_array_with_case, hex_encode_into};
 use hex_core::laws::{
-    a_new_front_is_the_front, a_slice_holds_bytes, a_source_is_accepted_where_its_list_has_room,
-    a_text_is_ascii_and_twice_as_long, a_text_spells_one_list, decoding_inverts_encoding,
-    encoding_inverts_strict_decoding, texts_compare_as_their_lists,
+    a_slice_holds_bytes, a_source_is_accepted_where_its_list_has_room, a_text_spells_one_list,
+    decoding_inverts_encoding, encoding_inverts_strict_decoding, texts_compare_as_their_lists,
 };
 use std::cmp::Ordering;
 use std::fmt;
@@ -67,8 +66,6 @@ impl Digest {
         ensures spelled { Spells policy.Lower line.new self.now.bytes }
     {
         a_slice_holds_bytes(&self.bytes);
-        a_new_front_is_the_front();
-        a_text_is_ascii_and_twice_as_long();
         decoding_inverts_encoding();
         hex_encode_into(&self.bytes, line, false).unwrap();
     }

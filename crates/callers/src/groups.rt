@@ -36,7 +36,8 @@ pub fn read_address(text: &[u8], group: Group) -> Option<[u8; 6]>
     let mut address = [0; 6];
     match read_into(text, &mut address, group, CheckCase::None) {
         Ok(6) => Some(address),
-        _ => None,
+        Ok(_) => None,
+        Err(_) => None,
     }
 }
 
@@ -74,6 +75,21 @@ pub fn write_address(address: &[u8; 6], group: Group, line: &mut [u8]) -> Result
     a_slice_holds_bytes(address);
     reading_inverts_grouping();
     write_into(address, line, group, false)
+}
+
+/// Writes such an address with a colon between two bytes.
+///
+/// ```rust
+/// let mut line = [0; 17];
+/// write_mac(&[0, 0, 0x5e, 0, 0x53, 0xaf], &mut line);
+/// assert_eq!(rt; &line, b"00:00:5e:00:53:af");
+/// ```
+pub fn write_mac(address: &[u8; 6], line: &mut [u8; 17])
+    ensures { (colons : Group) → piece_len colons ≡ 1 → separator colons ≡ 58
+        → line.new ≡ grouped colons lowercase address.now }
+{
+    let colons = Group::new(1, b':').unwrap();
+    write_into(address, line, colons, false).unwrap();
 }
 
 /// Decodes a line into the start of a buffer, only if it is the lowercase text of its bytes, and

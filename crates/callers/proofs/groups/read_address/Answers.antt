@@ -1,6 +1,5 @@
 -- A text spells one list at most, and what is read into six bytes is all of them.
 use Rattle.std.proofs.Common.{◌≡◌, ◌∙◌, Some, length, ap, arith}
-use Rattle.std.proofs.lemmas.Result.{MatchResult-at_err}
 use Rattle.hex_core.specs.declared.digit.CheckCase.TheVariants as policy
 use Rattle.callers.proofs.groups.read_address.Goals as goal
 
@@ -13,10 +12,10 @@ returns-in-Ok-eq6 c = λ bytes.
       λ (spelled, long). ap (λ b. Some b) (whole ∙ c.a_grouped_text_is_read_where_it_spells_a_list.ensures.one policy.None c.args.group c.args.text.now w.0 bytes w.1 spelled),
     )
 
-pub returns-in_default-2 : goal.returns-in_default-2
-returns-in_default-2 c = λ bytes. (
+pub returns-in-Err : goal.returns-in-Err
+returns-in-Err c = λ bytes. (
   λ is. absurd (cc is),
   λ (spelled, long).
       let none = (c.a_grouped_text_is_read_where_it_spells_a_list.ensures.some policy.None c.args.group c.args.text.now 6).1 (bytes, spelled, omega (arith, long)) in
-      let refused = MatchResult-at_err _ _ c.in_default.field-0 c.in_default.is c.read_into.ensures in absurd (cc (none, refused.0)),
+      absurd (cc (none, c.in-Err.ensures.0)),
 )
