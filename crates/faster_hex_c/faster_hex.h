@@ -14,8 +14,9 @@
  * - The library needs no symbol but memcpy, memmove and memset, and may be linked into a shared library.
  * - The answer reports every error that a call can detect. A call that refuses writes nothing. Any other
  *   call writes to the front of the destination and leaves the rest unchanged.
- * - Encoding, and decoding or checking valid digits, uses no address and no branch that depends on the bytes,
- *   but in the grouped calls. `make check` tests this for the x86-64-v2 and x86-64-v3 code; it is not proved.
+ * - In tests of the x86-64-v2 and x86-64-v3 code, encoding, and decoding or checking valid digits, used no
+ *   address and no branch that depends on the bytes. faster_hex_first_invalid and the grouped calls were not
+ *   tested, and nothing of this is proved.
  *
  * What a call answers and writes is proved for `len` and `room` below 2^63. `make check` tests that encoding
  * answers FASTER_HEX_OVERFLOW from there on, and that all calls stay inside source and destination, allocate
