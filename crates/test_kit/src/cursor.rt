@@ -1,14 +1,5 @@
 //! The place in a word up to which it is read, and the numbers and bytes that stand there.
 
-fn digit_value(byte: u8) -> Option<usize> {
-    match byte {
-        b'0'..=b'9' => Some(usize::from(byte - b'0')),
-        b'a'..=b'f' => Some(usize::from(byte - b'a') + 10),
-        b'A'..=b'F' => Some(usize::from(byte - b'A') + 10),
-        _ => None,
-    }
-}
-
 /// The text of a word that is still to be read, and the turn it is read for.
 #[derive(Drop)]
 pub struct Cursor<'a> {
@@ -47,7 +38,7 @@ impl<'a> Cursor<'a> {
 
     // The value of the next byte, where that is a digit to this base, at most 16; it is then read.
     fn digit(&mut self, base: usize) -> Option<usize> {
-        let value = digit_value(self.peek()?)?;
+        let value = char::from(self.peek()?).to_digit(16)? as usize;
         if value >= base {
             return None;
         }

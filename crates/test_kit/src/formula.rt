@@ -9,38 +9,6 @@
 
 use crate::cursor::Cursor;
 
-// How the bytes of a list are written.
-#[derive(Clone, Copy, PartialEq, Eq)]
-enum Form {
-    Bytes,
-    Lower,
-    Upper,
-    Mixed,
-}
-
-impl Form {
-    fn read(word: &mut Cursor<'_>) -> Form {
-        if word.takes(b'x') {
-            Form::Lower
-        } else if word.takes(b'X') {
-            Form::Upper
-        } else if word.takes(b'm') {
-            Form::Mixed
-        } else {
-            Form::Bytes
-        }
-    }
-
-    // The letters of the digit at a place of the text.
-    fn letters(self, place: usize) -> &'static [u8; 16] {
-        if self == Form::Upper || (self == Form::Mixed && place % 3 == 0) {
-            b"0123456789ABCDEF"
-        } else {
-            b"0123456789abcdef"
-        }
-    }
-}
-
 /// A list by a formula, without an end.
 #[derive(Clone, Copy)]
 pub struct Formula {
@@ -49,7 +17,8 @@ pub struct Formula {
     // 0 where there is no quotient.
     divisor: usize,
     added: usize,
-    form: Form,
+    // The letter behind the parenthesis, or 0 where there is none.
+    form: u8,
 }
 
 impl Formula {
@@ -66,10 +35,15 @@ impl Formula {
             factor: factor.unwrap_or(1),
             divisor: 0,
             added: 0,
-            form: Form::Bytes,
+            form: 0,
         };
         formula.read_sum(word)?;
-        formula.form = Form::read(word);
+        for form in [b'x', b'X', b'm'] {
+            if word.takes(form) {
+                formula.form = form;
+                break;
+            }
+        }
         Some(formula)
     }
 
@@ -101,11 +75,17 @@ impl Formula {
 
     /// The byte at a place of what is written: of the list, or of its digits.
     pub fn at(self, place: usize) -> u8 {
-        if self.form == Form::Bytes {
+        if self.form == 0 {
             return self.byte(place);
         }
         let byte = self.byte(place / 2);
         let digit = if place % 2 == 0 { byte / 16 } else { byte % 16 };
-        self.form.letters(place)[usize::from(digit)]
+        let is_upper = self.form == b'X' || self.form == b'm' && place % 3 == 0;
+        let ten = if is_upper { b'A' } else { b'a' };
+        if digit < 10 {
+            b'0' + digit
+        } else {
+            ten + (digit - 10)
+        }
     }
 }

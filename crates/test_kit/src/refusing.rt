@@ -13,6 +13,24 @@ use std::cell::Cell;
 /// Each block that a collection takes counts as one allocation: its first one, each larger one that
 /// it grows into, and each smaller one that it shrinks into. To give a block back counts as none,
 /// and is never refused.
+///
+/// ```rust
+/// let alloc = Refusing::new(rt.alloc(), 1);
+/// let mut bytes = Vec::<u8, _>::with_capacity(&alloc, 9)?;
+/// assert!(rt; String::with_capacity(&alloc, 9).is_err() && !alloc.is_settled(2));
+/// let _ = String::with_capacity(&alloc, 0)?;
+/// alloc.set_left(1);
+/// bytes.push(7)?;
+/// bytes.shrink_to_fit();
+/// assert_eq!(rt; (bytes.len(), alloc.asked()), (1, 3));
+/// drop(bytes);
+/// assert!(rt; alloc.is_settled(3) && !alloc.is_settled(2));
+/// let alloc = Refusing::once(rt.alloc(), 1);
+/// let _ = String::with_capacity(&alloc, 9)?;
+/// assert!(rt; String::with_capacity(&alloc, 9).is_err());
+/// let _ = String::with_capacity(&alloc, 9)?;
+/// assert_eq!(rt; alloc.asked(), 3);
+/// ```
 #[derive(Drop)]
 pub struct Refusing<B: Allocator> {
     inner: B,
@@ -31,81 +49,37 @@ struct Counts {
 
 impl<B: Allocator> Refusing<B> {
     /// An allocator that grants `left` allocations, whose memory `inner` gives.
-    ///
-    /// ```rust
-    /// let alloc = Refusing::new(rt.alloc(), 1);
-    /// let _ = String::with_capacity(&alloc, 9)?;
-    /// assert!(rt; String::with_capacity(&alloc, 9).is_err());
-    /// let _ = String::with_capacity(&alloc, 0)?;
-    /// assert_eq!(rt; alloc.asked(), 2);
-    /// ```
     pub fn new(inner: B, left: u64) -> Refusing<B> {
-        Refusing::with_behind(inner, left, 0)
-    }
-
-    /// An allocator that grants `left` allocations, refuses one, and grants those behind it.
-    ///
-    /// ```rust
-    /// let alloc = Refusing::once(rt.alloc(), 1);
-    /// let _ = String::with_capacity(&alloc, 9)?;
-    /// assert!(rt; String::with_capacity(&alloc, 9).is_err());
-    /// let _ = String::with_capacity(&alloc, 9)?;
-    /// assert_eq!(rt; alloc.asked(), 3);
-    /// ```
-    pub fn once(inner: B, left: u64) -> Refusing<B> {
-        Refusing::with_behind(inner, left, u64::MAX)
-    }
-
-    // One that grants `left` allocations, and after each that it refuses `behind` more.
-    fn with_behind(inner: B, left: u64, behind: u64) -> Refusing<B> {
         Refusing {
             inner,
             counts: Counts {
                 left: Cell::new(left),
                 asked: Cell::new(0),
                 held: Cell::new(0),
-                behind,
+                behind: 0,
             },
         }
     }
 
+    /// An allocator that grants `left` allocations, refuses one, and grants those behind it.
+    pub fn once(inner: B, left: u64) -> Refusing<B> {
+        let mut refusing = Refusing::new(inner, left);
+        refusing.counts.behind = u64::MAX;
+        refusing
+    }
+
     /// From now on grants `left` allocations and refuses the rest.
-    ///
-    /// ```rust
-    /// let alloc = Refusing::new(rt.alloc(), 0);
-    /// let mut bytes = Vec::new(&alloc);
-    /// assert!(rt; bytes.push(7u8).is_err() && bytes.is_empty());
-    /// alloc.set_left(1);
-    /// bytes.push(7)?;
-    /// assert_eq!(rt; bytes.len(), 1);
-    /// ```
     pub fn set_left(&self, left: u64) {
         self.counts.left.set(left);
     }
 
     /// How many allocations it was asked for since it was made, those that it refused among them.
-    ///
-    /// ```rust
-    /// let alloc = Refusing::new(rt.alloc(), 1);
-    /// let mut bytes = Vec::with_capacity(&alloc, 9)?;
-    /// bytes.push(7u8)?;
-    /// bytes.shrink_to_fit();
-    /// assert_eq!(rt; (bytes.capacity(), alloc.asked()), (9, 2));
-    /// ```
     pub fn asked(&self) -> u64 {
         self.counts.asked.get()
     }
 
     /// Returns whether it was asked for so many allocations, and each block that it granted was given
     /// back.
-    ///
-    /// ```rust
-    /// let alloc = Refusing::new(rt.alloc(), 1);
-    /// let bytes = Vec::<u8, _>::with_capacity(&alloc, 9)?;
-    /// assert!(rt; !alloc.is_settled(1));
-    /// drop(bytes);
-    /// assert!(rt; alloc.is_settled(1) && !alloc.is_settled(2));
-    /// ```
     pub fn is_settled(&self, asked: u64) -> bool {
         self.asked() == asked && self.counts.held.get() == 0
     }
