@@ -4,7 +4,7 @@ use hex_format::{Hex, HexFlags, Sink, SinkFault, WriteFault, WriterSink};
 use hex_program::Unretried;
 use std::alloc::Global;
 use std::io::{self, ErrorKind, Write};
-use test_kit::fakes::{Taker, Told, WORDS, Wanted};
+use test_kit::fakes::{Pattern, Taker, Told, WORDS};
 
 // How many bytes each put has, what they are, one piece behind another, and what the writer answers.
 const LENGTHS: [usize; 19] = [0, 3, 2, 2, 2, 0, 2, 1, 1, 1, 1, 0, 2, 1, 1, 1, 1, 2, 1];
@@ -74,7 +74,7 @@ impl State {
 
 // Whether each put answers as the writer does, with one call of it, which is given the whole piece.
 fn are_put(alloc: Global) -> bool {
-    let mut writer = Taker::new(Wanted::once(TAKEN));
+    let mut writer = Taker::new(Pattern::once(TAKEN));
     writer.script = &ANSWERS;
     let mut sink = WriterSink::new(writer);
     let mut state = State {
@@ -108,7 +108,7 @@ fn a_put_is_one_write_whatever_the_writer_answered(rt: HostRuntime) {
 
 // Whether a text of which one byte is taken ends with the error behind it, and no third write.
 fn ends_at_the_error(alloc: Global) -> bool {
-    let mut writer = Taker::new(Wanted::once(b"a"));
+    let mut writer = Taker::new(Pattern::once(b"a"));
     writer.script = &[Ok(1), Err(32)];
     let mut sink = WriterSink::new(writer);
     let answer = Hex::new(&[0xab]).write_to(&mut sink, &HexFlags::default());
@@ -129,7 +129,7 @@ fn a_writer_that_fails_is_not_asked_again(rt: HostRuntime) {
 // Whether a write that fails otherwise is told with its own error, and a flush is passed on.
 fn is_passed_on(alloc: Global, code: i32, flush: Result<(), i32>) -> bool {
     let script = [Err(code)];
-    let mut inner = Taker::new(Wanted::once(b""));
+    let mut inner = Taker::new(Pattern::once(b""));
     inner.script = &script;
     inner.flush = flush;
     let mut out = Unretried { inner };

@@ -5,7 +5,7 @@ use hex_format::{Sink, SinkFault, WriteFault, WriterSink};
 use hex_program::operation::run_in;
 use hex_program::{Op, RunFault, run};
 use std::alloc::Global;
-use test_kit::fakes::Wanted;
+use test_kit::fakes::Pattern;
 use test_kit::{Row, Words};
 
 // Reads what a run answers: `put`, `full`, `stuck`, `no-memory`, or why its input is refused.
@@ -27,7 +27,7 @@ fn answer(words: &mut Words) -> Result<(), RunFault> {
 #[derive(Clone, Copy)]
 struct End<'a> {
     answer: Result<(), RunFault>,
-    out: Wanted<'a>,
+    out: Pattern<'a>,
     asked: u64,
 }
 
@@ -56,7 +56,7 @@ pub fn is_answered(row: &mut Row) -> bool {
     let asked = number_behind(&mut row.answer, b"asks", 0) as u64;
     let answer = answer(&mut row.answer);
     row.answer.take_bytes(&mut row.wanted);
-    let out = Wanted::once(row.wanted.as_slice());
+    let out = Pattern::once(row.wanted.as_slice());
     let want = End { answer, out, asked };
     ends(setup, row.alloc, op, row.given.as_slice(), want)
 }

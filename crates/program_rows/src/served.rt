@@ -4,7 +4,7 @@ use crate::setup::{Room, Setup, number_behind, word};
 use hex_program::program::serve_in;
 use hex_program::{serve, serve_buffered};
 use std::alloc::Global;
-use test_kit::fakes::{Taker, Wanted};
+use test_kit::fakes::{Pattern, Taker};
 use test_kit::{Bytes, Row, Words};
 
 // Reads a word of the program, where there is one.
@@ -13,14 +13,14 @@ fn word_of<'a>(call: &mut Words, bytes: &'a mut Bytes, is_there: bool) -> &'a st
 }
 
 // Reads an output: its bytes, or `many COUNT UNIT END`.
-fn output<'a>(answer: &mut Words, unit: &'a mut Bytes, end: &'a mut Bytes) -> Wanted<'a> {
+fn output<'a>(answer: &mut Words, unit: &'a mut Bytes, end: &'a mut Bytes) -> Pattern<'a> {
     let count = number_behind(answer, b"many", 0);
     unit.clear();
     if count > 0 {
         answer.take_bytes(unit);
     }
     answer.take_bytes(end);
-    Wanted {
+    Pattern {
         count: count.max(end.len()),
         unit: unit.as_slice(),
         end: end.as_slice(),
@@ -28,10 +28,10 @@ fn output<'a>(answer: &mut Words, unit: &'a mut Bytes, end: &'a mut Bytes) -> Wa
 }
 
 // What is taken of a message: all, with the newline behind it, or so much as a row tells.
-fn message(text: &[u8], room: Room) -> Wanted<'_> {
+fn message(text: &[u8], room: Room) -> Pattern<'_> {
     let is_whole = !text.is_empty() && room.count == usize::MAX;
     let end: &[u8] = if is_whole { b"\n" } else { &[] };
-    Wanted {
+    Pattern {
         count: text.len().saturating_add(end.len()),
         unit: text,
         end,
@@ -48,8 +48,8 @@ fn is_done(taker: &Taker<'_>, is_flushed: bool) -> bool {
 #[derive(Clone, Copy)]
 struct End<'a> {
     status: usize,
-    out: Wanted<'a>,
-    err: Wanted<'a>,
+    out: Pattern<'a>,
+    err: Pattern<'a>,
     left: usize,
     asked: u64,
 }
@@ -73,7 +73,8 @@ fn ends(setup: Setup, alloc: Global, words: &[&str], input: &[u8], want: End<'_>
     let is_flush = want.status == 0 || want.status == 3 && setup.out.is_unflushed;
     let is_told = is_done(&out, is_flush) && is_done(&err, !want.err.end.is_empty());
     let is_end = is_told && usize::from(got) == want.status;
-    is_end && giver.behind.len() == want.left && refusing.is_settled(want.asked)
+    let left = giver.left().min(input.len());
+    is_end && left == want.left && giver.ended < 2 && refusing.is_settled(want.asked)
 }
 
 /// Whether `serve SETUP WORDS INPUT` is answered `left N asks N STATUS OUTPUT MESSAGE`. The first two are

@@ -3,7 +3,7 @@
 use hex_program::Op;
 use std::alloc::Global;
 use std::io::ErrorKind;
-use test_kit::fakes::{Giver, Taker, Wanted};
+use test_kit::fakes::{Giver, Pattern, Taker};
 use test_kit::refusing::Refusing;
 use test_kit::{Bytes, Words};
 
@@ -37,7 +37,7 @@ impl Room {
     }
 
     /// Returns a writer that is to take these bytes.
-    pub fn taker(self, wanted: Wanted<'_>) -> Taker<'_> {
+    pub fn taker(self, wanted: Pattern<'_>) -> Taker<'_> {
         let mut taker = Taker::new(wanted);
         taker.room = self.count;
         taker.script = if self.is_stuck { &[Ok(0)] } else { &[] };
@@ -60,7 +60,7 @@ pub struct Setup {
     // `fails` or `blocks`: what a read fails with in the place of the end.
     failure: Option<ErrorKind>,
     // `many BYTE N`: a byte that comes so often before the input.
-    many: (u8, usize),
+    many: ([u8; 1], usize),
     /// `out ROOM`: what is taken of the output.
     pub out: Room,
     /// `err ROOM`: what is taken of the message.
@@ -95,13 +95,16 @@ impl Setup {
     }
 
     /// Returns a reader of an input.
-    pub fn giver(self, behind: &[u8]) -> Giver<'_> {
-        Giver {
-            many: self.many,
-            behind,
-            failure: self.failure,
-            every: self.every,
-        }
+    pub fn giver<'a>(&'a self, end: &'a [u8]) -> Giver<'a> {
+        let (unit, many) = &self.many;
+        let mut giver = Giver::new(Pattern {
+            count: many.saturating_add(end.len()),
+            unit: unit.as_slice(),
+            end,
+        });
+        giver.every = self.every;
+        giver.failure = self.failure;
+        giver
     }
 
     /// Returns an allocator that refuses it.
@@ -123,11 +126,11 @@ pub fn number_behind(words: &mut Words, word: &[u8], other: usize) -> usize {
     }
 }
 
-fn many(call: &mut Words) -> (u8, usize) {
+fn many(call: &mut Words) -> ([u8; 1], usize) {
     if call.takes(b"many") {
-        (call.take_byte(), call.take_number())
+        ([call.take_byte()], call.take_number())
     } else {
-        (0, 0)
+        ([0], 0)
     }
 }
 

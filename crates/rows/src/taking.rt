@@ -5,6 +5,7 @@ ghost use Rattle.std.specs.Prelude.{◌≡◌, ◌≤◌, ◌^◌, ◌-◌, ◌<
 use crate::terms::Destination;
 use hex_format::digests::{self, Entry, ListWriteFault};
 use hex_format::{Hex, HexFlags, Sink, SinkFault, SliceSink, WriteFault};
+use test_kit::fakes::Pattern;
 use test_kit::{Bytes, Words};
 
 /// What a sink takes of a piece, where its limit is the number of bytes that it takes in all.
@@ -41,11 +42,11 @@ impl Mode {
     }
 }
 
-/// A sink that sees whether it takes some bytes again and again, and is not put to after a failure.
+/// A sink that sees whether it takes what is wanted, and is not put to after a failure.
 #[derive(Drop)]
 pub struct Taking<'a> {
     mode: Mode,
-    pattern: &'a [u8],
+    wanted: Pattern<'a>,
     taken: usize,
     limit: usize,
     failed: u64,
@@ -56,12 +57,12 @@ pub struct Taking<'a> {
 
 impl<'a> Taking<'a> {
     /// One that takes `limit` bytes in this way, and has counted so many failures already.
-    pub fn new(mode: Mode, pattern: &'a [u8], limit: usize, failed: u64) -> Taking<'a>
+    pub fn new(mode: Mode, wanted: Pattern<'a>, limit: usize, failed: u64) -> Taking<'a>
         ensures { (⟦<Taking<'a> as Sink>⟧.state result).failures ≡ failed }
     {
         Taking {
             mode,
-            pattern,
+            wanted,
             taken: 0,
             limit,
             failed,
@@ -70,26 +71,20 @@ impl<'a> Taking<'a> {
         }
     }
 
-    /// Whether it has taken so many bytes, all of them right, and counts so many failures.
-    pub fn has_taken(&self, count: usize, failures: u64) -> bool {
-        self.is_right && self.taken == count && self.failed == failures
+    /// Whether it has taken just what is wanted, and counts so many failures.
+    pub fn is_filled(&self, failures: u64) -> bool {
+        self.is_right && self.taken == self.wanted.count && self.failed == failures
     }
-}
 
-/// Returns the byte at a place of some bytes again and again.
-pub fn byte_at(pattern: &[u8], place: usize) -> u8 {
-    let i = place.checked_rem(pattern.len()).unwrap_or(0);
-    pattern.get(i).copied().unwrap_or(0)
-}
-
-// Whether a piece goes on with these bytes again and again from a place on.
-fn repeats(pattern: &[u8], place: usize, piece: &[u8]) -> bool {
-    for i in 0..piece.len() {
-        if piece[i] != byte_at(pattern, place.wrapping_add(i)) {
-            return false;
+    // Whether a piece is what is wanted next.
+    fn wants(&self, piece: &[u8]) -> bool {
+        for i in 0..piece.len() {
+            if self.wanted.at(self.taken.wrapping_add(i)) != Some(piece[i]) {
+                return false;
+            }
         }
+        true
     }
-    true
 }
 
 impl Sink for Taking<'_> {
@@ -112,7 +107,7 @@ impl Sink for Taking<'_> {
             Mode::RefusesLong => piece.len() > 1024,
             _ => false,
         };
-        let is_right = repeats(self.pattern, self.taken, &piece[..count]);
+        let is_right = self.wants(&piece[..count]);
         self.is_right = self.is_right && is_right && !self.has_failed;
         self.taken += count;
         if is_refused || (count == 0 && !piece.is_empty()) {
@@ -194,9 +189,8 @@ impl<'a, const N: usize> Put<'a, N> {
     pub fn is_taken(self, flags: &HexFlags, mode: Mode, room: usize, want: Taken<'_>) -> bool
         requires { N < 10000 }
     {
-        let mut sink = Taking::new(mode, want.text, room, 0);
+        let mut sink = Taking::new(mode, Pattern::once(want.text), room, 0);
         let answer = self.write_to(&mut sink, flags);
-        want.is_ended(answer, mode.fault())
-            && sink.has_taken(want.text.len(), u64::from(want.is_stopped))
+        want.is_ended(answer, mode.fault()) && sink.is_filled(u64::from(want.is_stopped))
     }
 }

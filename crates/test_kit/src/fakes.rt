@@ -20,48 +20,10 @@ fn error(code: i32) -> io::Error {
     }
 }
 
-/// Gives one byte so many times, then some bytes and a failure where it is told to, and ends. A read
-/// behind its end fails.
-#[derive(Drop)]
-pub struct Giver<'a> {
-    /// The byte, and how often it is still to come.
-    pub many: (u8, usize),
-    /// The bytes that are left behind it.
-    pub behind: &'a [u8],
-    /// The failure.
-    pub failure: Option<ErrorKind>,
-    /// How many bytes a read gives at most.
-    pub every: usize,
-}
-
-impl Read for Giver<'_> {
-    fn read(&mut self, buf: &mut [u8]) -> io::Result<usize> {
-        let room = self.every.min(buf.len());
-        let (byte, count) = self.many;
-        let repeated = count.min(room);
-        if repeated > 0 {
-            buf[..repeated].fill(byte);
-            self.many = (byte, count - repeated);
-            return Ok(repeated);
-        }
-        let (given, behind) = self.behind.split_at(self.behind.len().min(room));
-        if given.is_empty() {
-            let failure = self.failure.take();
-            let Some(kind) = failure else {
-                self.failure = Some(ErrorKind::Interrupted);
-                return Ok(0);
-            };
-            return Err(io::Error::from(kind));
-        }
-        buf[..given.len()].copy_from_slice(given);
-        self.behind = behind;
-        Ok(given.len())
-    }
-}
-
-/// The bytes that a writer is to take: so many, a unit again and again, and an end at the last.
+/// The bytes that a reader gives or a writer is to take: so many, a unit again and again, and an end at
+/// the last.
 #[derive(Clone, Copy)]
-pub struct Wanted<'a> {
+pub struct Pattern<'a> {
     /// How many.
     pub count: usize,
     /// The unit.
@@ -70,24 +32,82 @@ pub struct Wanted<'a> {
     pub end: &'a [u8],
 }
 
-impl<'a> Wanted<'a> {
+impl<'a> Pattern<'a> {
     /// Returns these bytes and no more.
-    pub fn once(end: &'a [u8]) -> Wanted<'a> {
-        Wanted {
+    pub fn once(end: &'a [u8]) -> Pattern<'a> {
+        Pattern {
             count: end.len(),
             unit: &[],
             end,
         }
     }
 
-    // The byte at a place.
-    fn at(self, place: usize) -> Option<u8> {
+    /// Returns the byte at a place, where there is one.
+    pub fn at(self, place: usize) -> Option<u8> {
         let start = self.count.saturating_sub(self.end.len());
         let turned = place.checked_rem(self.unit.len()).unwrap_or(0);
         match place.checked_sub(start) {
             Some(at) => self.end.get(at).copied(),
             None => self.unit.get(turned).copied(),
         }
+    }
+}
+
+/// Gives some bytes, and then a failure where it is told to.
+#[derive(Drop)]
+pub struct Giver<'a> {
+    /// How many bytes a read gives at most.
+    pub every: usize,
+    /// How often each read is interrupted before it is made.
+    pub halts: usize,
+    /// The failure.
+    pub failure: Option<ErrorKind>,
+    /// How many reads were made behind the last byte.
+    pub ended: usize,
+    bytes: Pattern<'a>,
+    place: usize,
+    halted: usize,
+}
+
+impl<'a> Giver<'a> {
+    /// Returns one that gives these bytes, as many a read as there is room for.
+    pub fn new(bytes: Pattern<'a>) -> Giver<'a> {
+        Giver {
+            every: usize::MAX,
+            halts: 0,
+            failure: None,
+            ended: 0,
+            bytes,
+            place: 0,
+            halted: 0,
+        }
+    }
+
+    /// Returns how many bytes it has not given.
+    pub fn left(&self) -> usize {
+        self.bytes.count.saturating_sub(self.place)
+    }
+}
+
+impl Read for Giver<'_> {
+    fn read(&mut self, buf: &mut [u8]) -> io::Result<usize> {
+        if self.halted < self.halts {
+            self.halted += 1;
+            return Err(io::Error::from(ErrorKind::Interrupted));
+        }
+        self.halted = 0;
+        let count = buf.len().min(self.every).min(self.left());
+        if self.left() == 0 {
+            self.ended = self.ended.saturating_add(1);
+            if let Some(kind) = self.failure {
+                return Err(io::Error::from(kind));
+            }
+        }
+        for i in 0..count {
+            buf[i] = self.bytes.at(self.place.wrapping_add(i)).unwrap_or(0);
+        }
+        self.place = self.place.wrapping_add(count);
+        Ok(count)
     }
 }
 
@@ -105,14 +125,14 @@ pub struct Taker<'a> {
     pub flushes: usize,
     /// How many bytes its writes were given.
     pub given: usize,
-    wanted: Wanted<'a>,
+    wanted: Pattern<'a>,
     taken: usize,
     is_other: bool,
 }
 
 impl<'a> Taker<'a> {
     /// Returns one that takes one byte a write and never fails.
-    pub fn new(wanted: Wanted<'a>) -> Taker<'a> {
+    pub fn new(wanted: Pattern<'a>) -> Taker<'a> {
         Taker {
             script: &[],
             room: usize::MAX,
