@@ -29,13 +29,11 @@ value print plans admit saturate hash nibbles pack write";
 impl Calls for Destination {
     fn is_answered(&mut self, row: &mut Row) -> bool {
         self.place(&mut row.call);
-        match row.call.one_of(CALLS) {
+        let call = row.call.one_of(CALLS);
+        match call {
             0 => slices::slice_row(false, row, self),
             1 => slices::slice_row(true, row, self),
-            2 => sized::row(sized::Call::Array, row, self),
-            3 => sized::row(sized::Call::Fixed, row, self),
-            4 => sized::row(sized::Call::List, row, self),
-            5 => sized::row(sized::Call::Relist, row, self),
+            2..=5 => sized::row(call, row, self),
             6 => slices::check_row(row, self),
             7 => search::find_row(false, row, self),
             8 => search::find_row(true, row, self),
@@ -58,7 +56,7 @@ impl Calls for Destination {
             25 => search::value_row(row),
             26 => search::print_row(row),
             27 => search::plans_row(row),
-            call => lanes::row(call, row),
+            _ => lanes::row(call, row),
         }
     }
 }
