@@ -40,7 +40,7 @@ impl Room {
     pub fn taker(self, wanted: Pattern<'_>) -> Taker<'_> {
         let mut taker = Taker::new(wanted);
         taker.room = self.count;
-        taker.script = if self.is_stuck { &[Ok(0)] } else { &[] };
+        taker.script = if self.is_stuck { &[0] } else { &[] };
         taker.flush = if self.is_unflushed { Err(5) } else { Ok(()) };
         taker
     }

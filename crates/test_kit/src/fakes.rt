@@ -5,15 +5,15 @@ use std::io::{self, ErrorKind, Read, Write};
 /// The words of an error that is none of the system's.
 pub const WORDS: &str = "no more is taken";
 
-/// What a call of a writer answers: how many bytes it takes at most, or the code of the system's error
-/// that it ends with; 0 stands for an error of [`WORDS`], which is told as a time-out.
-pub type Told = Result<usize, i32>;
+/// What a call of a writer answers: how many bytes it takes at most, or, below 0, the code of the system's
+/// error that it ends with; -1 stands for an error of [`WORDS`], which is told as a time-out.
+pub type Told = i32;
 
 // The code of an interrupted call.
 const INTERRUPTED: i32 = 4;
 
 fn error(code: i32) -> io::Error {
-    if code == 0 {
+    if code == 1 {
         io::Error::new(ErrorKind::TimedOut, WORDS)
     } else {
         io::Error::from_raw_os_error(code)
@@ -158,17 +158,18 @@ impl<'a> Taker<'a> {
         }
         let room = self.room;
         self.room = room.wrapping_sub(1);
-        if room == 0 { Err(INTERRUPTED) } else { Ok(1) }
+        if room == 0 { -INTERRUPTED } else { 1 }
     }
 }
 
 impl Write for Taker<'_> {
     fn write(&mut self, buf: &[u8]) -> io::Result<usize> {
         self.given = self.given.saturating_add(buf.len());
-        let count = match self.told() {
-            Ok(count) => count.min(buf.len()),
-            Err(code) => return Err(error(code)),
+        let told = self.told();
+        let Ok(count) = usize::try_from(told) else {
+            return Err(error(told.wrapping_neg()));
         };
+        let count = count.min(buf.len());
         for byte in &buf[..count] {
             self.is_other = self.is_other || self.wanted.at(self.taken) != Some(*byte);
             self.taken = self.taken.saturating_add(1);
