@@ -48,7 +48,7 @@ fn read_piece(digits: &[u8], bytes: &mut [u8], case: CheckCase)
     if bytes.len() < CALLED {
         return write_bytes(digits, bytes, case);
     }
-    let _ = hex_decode_into(digits, bytes, case);
+    hex_decode_into(digits, bytes, case).unwrap();
 }
 
 // Writes the digits of a piece.

@@ -13,13 +13,12 @@ use crate::terms::refusal;
 use std::io::{self, BufReader};
 use test_kit::{Calls, Row, judge};
 
-// `print REFUSAL`: whether it prints the text that the answer is.
+// `print REFUSAL`: whether it prints the text that the answer is, which no flag changes.
 fn is_printed(row: &mut Row) -> bool {
     let error = refusal(&mut row.call);
-    match format!(in row.alloc; "{error}") {
-        Ok(text) => text.as_str().as_bytes() == row.answer.take_rest(),
-        Err(_) => false,
-    }
+    let (alloc, want) = (row.alloc, row.answer.take_rest());
+    matches!(format!(in alloc; "{error}"), Ok(text) if text.as_str().as_bytes() == want)
+        && matches!(format!(in alloc; "{error:*>+#90.3}"), Ok(text) if text.as_str().as_bytes() == want)
 }
 
 #[derive(Drop)]

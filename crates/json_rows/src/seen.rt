@@ -4,15 +4,16 @@ ghost use Rattle.std.specs.Prelude.{◌<◌};
 
 use crate::terms::Answer;
 use faster_hex::AdapterError;
+use serde_json::Value;
 use std::alloc::Allocator;
 
-/// Whether a reading of bytes or none answers so.
+/// Whether a reading of bytes or none answers so, in no more room than they need.
 pub fn is_option<A: Allocator + Drop>(
     got: Result<Option<Vec<u8, A>>, AdapterError>,
     want: Answer<'_>,
 ) -> bool {
     match got {
-        Ok(Some(bytes)) => want == Ok(Some(bytes.as_slice())),
+        Ok(Some(bytes)) => { bytes.capacity() == bytes.len() && want == Ok(Some(bytes.as_slice())) }
         Ok(None) => want == Ok(None),
         Err(e) => want == Err(e),
     }
@@ -24,6 +25,14 @@ pub fn is_bytes<A: Allocator + Drop>(
     want: Answer<'_>,
 ) -> bool {
     is_option(got.map(Some), want)
+}
+
+/// Whether a text that was written has no more room than it needs.
+pub fn is_exact(value: &Value) -> bool {
+    match value {
+        Value::String(text) => text.capacity() == text.len(),
+        _ => true,
+    }
 }
 
 /// Whether a reading of an array or none answers so.

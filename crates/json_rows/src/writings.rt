@@ -1,6 +1,7 @@
 //! Rows of writings, and of long ones that are read again.
 
 use crate::modules::{Written, reads, reads_within, write, write_array};
+use crate::seen::is_exact;
 use crate::terms::{Place, has_bytes};
 use std::alloc::Global;
 use test_kit::Row;
@@ -11,7 +12,7 @@ fn is_json(alloc: Global, got: Written, want: &[u8]) -> bool {
         return false;
     };
     match value.to_string(alloc) {
-        Ok(text) => text.as_str().as_bytes() == want,
+        Ok(text) => is_exact(&value) && text.as_str().as_bytes() == want,
         Err(_) => false,
     }
 }
@@ -45,5 +46,5 @@ pub fn is_alike(row: &mut Row) -> bool {
     };
     let want = Ok(Some(bytes.as_slice()));
     let is_within = reads_within::<{ usize::MAX }>(place, alloc, &value, want);
-    row.answer.takes(b"alike") && is_within && reads(place, alloc, &value, want)
+    row.answer.takes(b"alike") && is_exact(&value) && is_within && reads(place, alloc, &value, want)
 }

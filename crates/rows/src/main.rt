@@ -24,7 +24,7 @@ use test_kit::{Calls, Row, judge};
 // The names of the calls, in the order of `is_answered`.
 const CALLS: &[u8] = b"decode encode array fixed list relist check find cover owned vector string \
 append appends each-byte each-pair both feed stream group each-grouped pad pad-into show separates \
-value print plans admit saturate hash nibbles pack write";
+value print plans admit saturate hash nibbles pack write long put";
 
 impl Calls for Destination {
     fn is_answered(&mut self, row: &mut Row) -> bool {
@@ -56,6 +56,8 @@ impl Calls for Destination {
             25 => search::value_row(row),
             26 => search::print_row(row),
             27 => search::plans_row(row),
+            34 => strings::long_row(row),
+            35 => texts::put_row(row),
             _ => lanes::row(call, row),
         }
     }

@@ -46,14 +46,14 @@ pub fn find_row(is_cover: bool, row: &mut Row, to: &mut Destination) -> bool {
     true
 }
 
-/// `print REFUSAL`: the text, which a width leaves as it is.
+/// `print REFUSAL`: the text, which no flag changes.
 pub fn print_row(row: &mut Row) -> bool {
     let error = row.call.take_refusal();
     let mut text: ArrayString<100> = ArrayString::new();
-    let mut padded: ArrayString<100> = ArrayString::new();
+    let mut flagged: ArrayString<100> = ArrayString::new();
     write!(text, "{error}").is_ok()
-        && write!(padded, "{error:>60}").is_ok()
-        && text.as_str() == padded.as_str()
+        && write!(flagged, "{error:*>+#60.3}").is_ok()
+        && text.as_str() == flagged.as_str()
         && text.as_str().as_bytes() == row.answer.take_rest()
 }
 

@@ -25,13 +25,15 @@ fn answer(words: &mut Words) -> Result<usize, StreamFault> {
 /// `stream decode POLICY BYTES LENGTH EVERY HALTS END ROOM FAILURES`, or `encode` and a letter case: so
 /// many bytes, which repeat these, in reads of at most so many, before each of which so many are
 /// interrupted, and then the end or a failed read; into a sink of so much room that has counted so many
-/// failures. The answer, and how many bytes the sink has taken, which repeat those that stand behind.
+/// failures. The answer, and how many bytes the sink has taken, which repeat those that stand behind. No
+/// more reads are made than there are chunks.
 pub fn stream_row(row: &mut Row) -> bool {
     let is_decoded = row.call.is_either(b"decode", b"encode");
     let case = row.call.take_policy();
     row.call.take_bytes(&mut row.given);
+    let count = row.call.take_number();
     let mut reader = Giver::new(Pattern {
-        count: row.call.take_number(),
+        count,
         unit: row.given.as_slice(),
         end: &[],
     });
@@ -58,5 +60,10 @@ pub fn stream_row(row: &mut Row) -> bool {
         encode_stream(&mut reader, &mut sink, case == CheckCase::Upper)
     };
     let is_full = matches!(got, Err(StreamFault::Write(_)));
-    got == want && reader.ended < 2 && sink.is_filled(failures.wrapping_add(u64::from(is_full)))
+    // A chunk has 4,096 bytes or more; a read more tells the end.
+    let chunks = count.checked_div(reader.every.min(4096)).unwrap_or(0);
+    got == want
+        && reader.ended < 2
+        && reader.reads <= chunks.saturating_add(2)
+        && sink.is_filled(failures.wrapping_add(u64::from(is_full)))
 }

@@ -1,10 +1,12 @@
-//! Rows of the calls that return a vector or a string, or append to one.
+//! Rows of the calls that return a vector or a string, or append to one, and of long texts.
 
 use crate::terms::{Answer, Destination, Given, answer, is_answer};
 use hex_codec::{
     hex_append, hex_append_into, hex_append_upper, hex_decode_vec, hex_decode_vec_with_case,
     hex_string, hex_string_upper,
 };
+use hex_core::CheckCase;
+use hex_format::Hex;
 use std::alloc::Global;
 use test_kit::Row;
 use test_kit::refusing::Refusing;
@@ -138,6 +140,45 @@ pub fn append_row(row: &mut Row) -> bool {
         asked,
     };
     text.is_left(row.alloc, given, true, want) && text.is_left(row.alloc, given, false, want)
+}
+
+/// `long POLICY COUNT`: whether so many bytes are written, printed, and read again as they were.
+pub fn long_row(row: &mut Row) -> bool {
+    let (case, count) = (row.call.take_policy(), row.call.take_number());
+    let letter = if case == CheckCase::Upper { b'A' } else { b'a' };
+    let Ok(bytes) = Vec::from_elem(row.alloc, 0xaa, count) else {
+        return false;
+    };
+    let Ok(text) = Vec::from_elem(row.alloc, letter, count.saturating_mul(2)) else {
+        return false;
+    };
+    row.answer.wants(b"alike");
+    are_long(row.alloc, case, bytes.as_slice(), text.as_slice())
+}
+
+// Whether each call that takes memory, or prints, makes this text of these bytes, or reads them from it.
+fn are_long(alloc: Global, case: CheckCase, bytes: &[u8], text: &[u8]) -> bool {
+    let refusing = Refusing::new(alloc, u64::MAX);
+    let (from, to) = (Given::new(case, 1, bytes), Given::new(case, 0, text));
+    let appended = Appended {
+        capacity: 0,
+        before: &[],
+        after: text,
+        asked: 1,
+    };
+    is_written(&refusing, from, Ok(text))
+        && is_read(&refusing, to, to.is_plain(), Ok(bytes))
+        && is_read(&refusing, to, false, Ok(bytes))
+        && appended.is_left(alloc, from, true, Ok(text))
+        && appended.is_left(alloc, from, false, Ok(text))
+        && (from.is_upper() || is_shown(alloc, bytes, text))
+}
+
+// Whether this text is printed of these bytes, with the flag `#` too.
+fn is_shown(alloc: Global, bytes: &[u8], text: &[u8]) -> bool {
+    let hex = Hex::new(bytes);
+    matches!(format!(in alloc; "{hex}"), Ok(shown) if shown.as_str().as_bytes() == text)
+        && matches!(format!(in alloc; "{hex:#}"), Ok(shown) if shown.as_str().as_bytes() == text)
 }
 
 /// `appends CAPACITY TEXT CASE BYTES CASE BYTES CASE BYTES`: the suffix that each of three answers, and

@@ -1,4 +1,4 @@
-//! A sink that takes what is put in five ways, four of which fail, and what is put into sinks.
+//! A sink that takes what is put in six ways, five of which fail, and what is put into sinks.
 
 ghost use Rattle.std.specs.Prelude.{◌≡◌, ◌≤◌, ◌^◌, ◌-◌, ◌<◌, None};
 
@@ -17,6 +17,8 @@ pub enum Mode {
     ThenRefuses,
     /// What fits, and a piece that does not fit whole is refused.
     RefusesTheRest,
+    /// Each piece that fits whole; any other is refused, and none of it taken.
+    TakesWholes,
     /// What fits, and none where the limit is reached.
     ThenTakesNone,
     /// What fits; a piece of more than 1,024 bytes is refused.
@@ -24,12 +26,13 @@ pub enum Mode {
 }
 
 /// The modes, in the order in which rows name them.
-pub const MODES: [Mode; 5] = [
+pub const MODES: [Mode; 6] = [
     Mode::OneByte,
     Mode::ThenRefuses,
     Mode::RefusesTheRest,
     Mode::ThenTakesNone,
     Mode::RefusesLong,
+    Mode::TakesWholes,
 ];
 
 impl Mode {
@@ -71,9 +74,12 @@ impl<'a> Taking<'a> {
         }
     }
 
-    /// Whether it has taken just what is wanted, and counts so many failures.
+    /// Whether it has taken just what is wanted, or a beginning where it refused a whole piece, and counts
+    /// so many failures.
     pub fn is_filled(&self, failures: u64) -> bool {
-        self.is_right && self.taken == self.wanted.count && self.failed == failures
+        let is_cut = self.mode == Mode::TakesWholes && self.has_failed;
+        let is_taken = is_cut || self.taken == self.wanted.count;
+        self.is_right && is_taken && self.failed == failures
     }
 
     // Whether a piece is what is wanted next.
@@ -96,14 +102,14 @@ impl Sink for Taking<'_> {
 
     fn put(&mut self, piece: &[u8]) -> Result<usize, SinkFault> {
         let fits = piece.len().min(self.limit - self.taken);
-        let count = if self.mode == Mode::OneByte {
-            fits.min(1)
-        } else {
-            fits
+        let count = match self.mode {
+            Mode::OneByte => fits.min(1),
+            Mode::TakesWholes if fits < piece.len() => 0,
+            _ => fits,
         };
         let is_refused = match self.mode {
             Mode::ThenRefuses => self.taken == self.limit,
-            Mode::RefusesTheRest => count < piece.len(),
+            Mode::RefusesTheRest | Mode::TakesWholes => count < piece.len(),
             Mode::RefusesLong => piece.len() > 1024,
             _ => false,
         };

@@ -4,8 +4,9 @@ use crate::taking::{MODES, Mode, Put, Taken};
 use crate::terms::{Destination, group, number_or};
 use arrayvec::ArrayString;
 use hex_codec::Group;
-use hex_format::{Align, Hex, HexFlags};
+use hex_format::{Align, Hex, HexFlags, Sink, WriterSink};
 use std::fmt::Write;
+use test_kit::fakes::{Pattern, Taker};
 use test_kit::{Bytes, Row, Words};
 
 // Where a text stands in its width, by the letters of its flags.
@@ -68,7 +69,8 @@ pub fn pad_row(row: &mut Row, to: &mut Destination) -> bool {
 }
 
 /// `pad-into SINK ROOM FLAGS BYTES`: what the sink has taken, which is as much as there is room for
-/// where it is stopped, and else the whole text.
+/// where it is stopped, and else the whole text. One that refuses the rest of a piece is also tried as one
+/// that then takes none of it.
 pub fn pad_into_row(row: &mut Row, to: &mut Destination) -> bool {
     let sink = row.call.one_of(
         b"slice one-byte then-refuses refuses-the-rest then-takes-none refuses-long",
@@ -79,10 +81,34 @@ pub fn pad_into_row(row: &mut Row, to: &mut Destination) -> bool {
     let put: Put<'_, 0> = Put::Padded(row.given.as_slice());
     let want = Taken::read(&mut row.answer, &mut row.wanted);
     let is_taken = match MODES.get(sink.wrapping_sub(1)) {
-        Some(mode) => put.is_taken(&flags, *mode, room, want),
+        Some(mode) => {
+            let is_cut = *mode == Mode::RefusesTheRest;
+            put.is_taken(&flags, *mode, room, want)
+                && (!is_cut || put.is_taken(&flags, Mode::TakesWholes, room, want))
+        }
         None => put.fills(&flags, room, want, to),
     };
     is_taken && (!want.is_stopped || room == want.text.len())
+}
+
+/// `put COUNT`: whether a put into a writer is one write of all of so many bytes, and one of none a write
+/// of none, behind neither of which the writer is flushed.
+pub fn put_row(row: &mut Row) -> bool {
+    let count = row.call.take_number();
+    let Ok(piece) = Vec::from_elem(row.alloc, b'a', count) else {
+        return false;
+    };
+    let mut writer = Taker::new(Pattern {
+        count,
+        unit: b"a",
+        end: &[],
+    });
+    writer.script = &[i32::MAX; 2];
+    let mut sink = WriterSink::new(writer);
+    let is_put = sink.put(piece.as_slice()) == Ok(count) && sink.put(&[]) == Ok(0);
+    let writer = sink.into_inner();
+    row.answer.wants(b"written");
+    is_put && writer.is_filled() && writer.script.is_empty() && writer.flushes == 0
 }
 
 /// `show BYTES`: the text as `{}` prints it.

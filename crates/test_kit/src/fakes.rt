@@ -60,6 +60,8 @@ pub struct Giver<'a> {
     pub every: usize,
     /// How often each read is interrupted before it is made.
     pub halts: usize,
+    /// How many reads were made.
+    pub reads: usize,
     /// The failure.
     pub failure: Option<ErrorKind>,
     /// How many reads were made behind the last byte.
@@ -75,6 +77,7 @@ impl<'a> Giver<'a> {
         Giver {
             every: usize::MAX,
             halts: 0,
+            reads: 0,
             failure: None,
             ended: 0,
             bytes,
@@ -96,6 +99,7 @@ impl Read for Giver<'_> {
             return Err(io::Error::from(ErrorKind::Interrupted));
         }
         self.halted = 0;
+        self.reads = self.reads.saturating_add(1);
         let count = buf.len().min(self.every).min(self.left());
         if self.left() == 0 {
             self.ended = self.ended.saturating_add(1);
