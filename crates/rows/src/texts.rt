@@ -69,8 +69,7 @@ pub fn pad_row(row: &mut Row, to: &mut Destination) -> bool {
 }
 
 /// `pad-into SINK ROOM FLAGS BYTES`: what the sink has taken, which is as much as there is room for
-/// where it is stopped, and else the whole text. One that refuses the rest of a piece is also tried as one
-/// that then takes none of it.
+/// where it is stopped, and else the whole text. One that refuses the rest is also tried taking none.
 pub fn pad_into_row(row: &mut Row, to: &mut Destination) -> bool {
     let sink = row.call.one_of(
         b"slice one-byte then-refuses refuses-the-rest then-takes-none refuses-long",
@@ -98,11 +97,7 @@ pub fn put_row(row: &mut Row) -> bool {
     let Ok(piece) = Vec::from_elem(row.alloc, b'a', count) else {
         return false;
     };
-    let mut writer = Taker::new(Pattern {
-        count,
-        unit: b"a",
-        end: &[],
-    });
+    let mut writer = Taker::new(Pattern::once(piece.as_slice()));
     writer.script = &[i32::MAX; 2];
     let mut sink = WriterSink::new(writer);
     let is_put = sink.put(piece.as_slice()) == Ok(count) && sink.put(&[]) == Ok(0);
