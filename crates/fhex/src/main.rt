@@ -26,7 +26,7 @@ fn run(rt: &HostRuntime) -> Result<u8, Failure> {
         pushed.map_err(|_| Failure::OutOfMemory)?;
     }
     let (status, _, _) = serve_buffered(
-        rt.alloc(),
+        &rt.alloc(),
         texts.as_slice(),
         &mut rt.stdin(),
         rt.stdout(),

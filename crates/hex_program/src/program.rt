@@ -68,38 +68,13 @@ fn serve_op<A: Allocator, R: Read, W: Write>(
     (ended, out)
 }
 
-/// [`serve`] with any allocator, so that a test can make it fail. The word `vectors`, whose calls
-/// have a fixed one, names nothing here.
-pub fn serve_in<A: Allocator, R: Read, W: Write, E: Write>(
-    alloc: &A,
-    words: &[&str],
-    input: &mut R,
-    out: W,
-    err: E,
-) -> (u8, W, E)
-    ensures { Serves (map (λ w. w.now) words.now) (R.remaining input.old) (R.remaining input.new)
-        (W.contents out) (W.contents result.1) result.0 }
-{
-    let (ended, out) = match Op::from_words(words) {
-        Some(op) => serve_op(alloc, op, input, out),
-        None => (Err(Failure::Usage), out),
-    };
-    match ended {
-        Ok(()) => (0, out, err),
-        Err(failure) => {
-            let (status, err) = refuse(err, failure);
-            (status, out, err)
-        }
-    }
-}
-
 /// Writes the lines of [`run_vectors`] over `table` to `out`, flushes it and returns the exit
 /// status: 0 if no vector failed, else 1.
 ///
 /// A failed write or flush is status 3, with `write failed` on `err`; a failed allocation is status
 /// 3, with `out of memory`.
-pub fn serve_vectors<W: Write, E: Write>(
-    alloc: Global,
+pub fn serve_vectors<A: Allocator, W: Write, E: Write>(
+    alloc: &A,
     table: &[Vector<'_>],
     out: W,
     err: E,
@@ -115,6 +90,33 @@ pub fn serve_vectors<W: Write, E: Write>(
     let mut out = sink.into_inner();
     match finish(&mut out, put) {
         Ok(()) => (u8::from(report.failed > 0), out, err),
+        Err(failure) => {
+            let (status, err) = refuse(err, failure);
+            (status, out, err)
+        }
+    }
+}
+
+/// [`serve`] with any allocator, so that a test can make it fail.
+pub fn serve_in<A: Allocator, R: Read, W: Write, E: Write>(
+    alloc: &A,
+    words: &[&str],
+    input: &mut R,
+    out: W,
+    err: E,
+) -> (u8, W, E)
+    ensures { Serves (map (λ w. w.now) words.now) (R.remaining input.old) (R.remaining input.new)
+        (W.contents out) (W.contents result.1) result.0 }
+{
+    if let ["vectors"] = words {
+        return serve_vectors(alloc, &VECTORS, out, err);
+    }
+    let (ended, out) = match Op::from_words(words) {
+        Some(op) => serve_op(alloc, op, input, out),
+        None => (Err(Failure::Usage), out),
+    };
+    match ended {
+        Ok(()) => (0, out, err),
         Err(failure) => {
             let (status, err) = refuse(err, failure);
             (status, out, err)
@@ -159,8 +161,5 @@ pub fn serve<R: Read, W: Write, E: Write>(
     ensures { Serves (map (λ w. w.now) words.now) (R.remaining input.old) (R.remaining input.new)
         (W.contents out) (W.contents result.1) result.0 }
 {
-    match words {
-        ["vectors"] => serve_vectors(alloc, &VECTORS, out, err),
-        _ => serve_in(&alloc, words, input, out, err),
-    }
+    serve_in(&alloc, words, input, out, err)
 }

@@ -1,15 +1,49 @@
 //! The stored vectors, which `fhex vectors` runs.
 
-use crate::operation::Op;
 use hex_codec::{Group, GroupFault, grouped};
 use hex_core::Error::{InvalidChar, OddLength, OutputTooSmall};
 use hex_core::{Backend, CheckCase, Error, backends};
-use hex_format::digests::{self, Entry, ListFault};
+use hex_format::digests::{Entry, ListFault, read_in, write_to};
 use hex_format::{Hex, HexFlags, SliceSink};
-use std::alloc::{AllocError, Global};
+use std::alloc::{AllocError, Allocator};
 
 // Every byte of a destination before a call.
 const FILL: u8 = 0xa5;
+
+/// The call of a stored vector: the first five under each plan, the others without one.
+#[derive(Clone, Copy, PartialEq, Eq)]
+pub enum Call {
+    /// `encode_slice`, in lowercase.
+    Encode,
+    /// `encode_slice`, in uppercase.
+    EncodeUpper,
+    /// `decode_slice`.
+    Decode,
+    /// `decode_slice`, which does not accept `A` to `F`.
+    DecodeLower,
+    /// `decode_slice`, which does not accept `a` to `f`.
+    DecodeUpper,
+    /// [`Hex::write_to`] into a [`SliceSink`], with a colon between two bytes and the next two.
+    WriteGrouped,
+    /// [`grouped::read`] of such a text. An invalid byte is an invalid digit in the result.
+    ReadGrouped,
+    /// [`digests::write_to`](hex_format::digests::write_to) of one entry into a [`SliceSink`], in
+    /// uppercase. The source has the entry: a digest of two bytes, the mark, and the name.
+    WriteList,
+    /// [`digests::read`](hex_format::digests::read) of lowercase digits. The result has the number of
+    /// entries, which is 1, and the destination, which the call has not, the entry.
+    ReadList,
+}
+
+impl Call {
+    // Whether it runs once, without a plan.
+    fn is_plain(self) -> bool {
+        matches!(
+            self,
+            Call::WriteGrouped | Call::ReadGrouped | Call::WriteList | Call::ReadList
+        )
+    }
+}
 
 /// A stored vector: a call, its result, and the bytes it leaves in its destination, which was
 /// filled with 0xa5.
@@ -17,8 +51,8 @@ const FILL: u8 = 0xa5;
 pub struct Vector<'a> {
     /// Its name in its line.
     pub name: &'a str,
-    /// What to do with the source, by each plan's `encode_slice` or `decode_slice`.
-    pub op: Op,
+    /// What to do with the source.
+    pub call: Call,
     /// The source.
     pub source: &'a [u8],
     /// The number of bytes written, or the error.
@@ -27,15 +61,15 @@ pub struct Vector<'a> {
     pub left: &'a [u8],
 }
 
-// One vector per line: name, operation, source, result, and destination.
+// One vector per line: name, call, source, result, and destination.
 macro_rules! vectors {
-    ($($name:literal $op:ident $source:expr, $answer:expr, $left:expr;)*) => {
-        [$(Vector { name: $name, op: Op::$op, source: $source, answer: $answer, left: $left }),*]
+    ($($name:literal $call:ident $source:expr, $answer:expr, $left:expr;)*) => {
+        [$(Vector { name: $name, call: Call::$call, source: $source, answer: $answer, left: $left }),*]
     };
 }
 
 /// The stored vectors, in their order.
-pub static VECTORS: [Vector<'static>; 16] = vectors! {
+pub static VECTORS: [Vector<'static>; 20] = vectors! {
     "v01" Encode b"hello", Ok(10), b"68656c6c6f";
     "v02" EncodeUpper b"\x00\xab\xff", Ok(6), b"00ABFF";
     "v03" Encode b"\xab\xcd", Err(OutputTooSmall { required: 4 }), &[FILL; 3];
@@ -60,118 +94,148 @@ pub static VECTORS: [Vector<'static>; 16] = vectors! {
         \x10\x11\x12\x13\x14\x15\x16\x17\x18\x19\x1a\x1b\x1c\x1d\x1e\x1f\x20\
         \xa5\xa5\xa5\xa5\xa5\xa5\xa5";
     "v16" Decode b"", Ok(0), &[FILL; 3];
+    "v17" WriteGrouped b"\x00\x01\x02", Ok(7), b"0001:02";
+    "v18" ReadGrouped b"00:0102", Err(InvalidChar { index: 2, byte: b':' }), &[FILL; 3];
+    "v19" ReadList b"ab01 *b", Ok(1), b"\xab\x01*b";
+    "v20" WriteList b"\xab\x01*b", Ok(8), b"AB01 *b\n";
 };
 
-// The entry of the list `ab01 *b`.
-const BINARY: Entry<'static, 2> = Entry {
-    digest: [0xab, 1],
-    binary: true,
-    name: b"b",
-};
-
-// Whether a plan's call returns and leaves what a vector states.
-fn passes(plan: Backend, vector: &Vector<'_>) -> bool {
-    let mut buffer = [FILL; 128];
-    let Some(destination) = buffer.get_mut(..vector.left.len()) else {
-        return false;
-    };
-    let source = vector.source;
-    let answer = match vector.op {
-        Op::Encode => plan.encode_slice(source, destination, false),
-        Op::EncodeUpper => plan.encode_slice(source, destination, true),
-        Op::Decode => plan.decode_slice(source, destination, CheckCase::None),
-        Op::DecodeLower => plan.decode_slice(source, destination, CheckCase::Lower),
-        Op::DecodeUpper => plan.decode_slice(source, destination, CheckCase::Upper),
-    };
-    let is_stated = match answer {
-        Ok(front) => vector.answer == Ok(front.len()) && vector.left.starts_with(front),
-        Err(refusal) => vector.answer == Err(refusal),
-    };
-    is_stated && buffer.starts_with(vector.left)
+// Reads an entry of a list as the table has it: a digest of two bytes, the mark and the name.
+fn entry_of(bytes: &[u8]) -> Option<Entry<'_, 2>> {
+    match bytes {
+        [high, low, mark, name @ ..] => Some(Entry {
+            digest: [*high, *low],
+            binary: *mark == b'*',
+            name,
+        }),
+        _ => None,
+    }
 }
 
-// v17: grouped text fills a slice.
-fn writes_grouped() -> bool {
-    let mut buffer = [FILL; 7];
-    let mut sink = SliceSink::new(&mut buffer);
-    let flags = HexFlags {
-        group: Group::new(2, b':'),
-        ..HexFlags::default()
+// Whether a list is read as a vector states. A failed allocation is no result.
+fn reads_list<A: Allocator>(alloc: &A, vector: &Vector<'_>) -> Result<bool, AllocError> {
+    let Some(entry) = entry_of(vector.left) else {
+        return Ok(false);
     };
-    let written = Hex::new(b"\x00\x01\x02").write_to(&mut sink, &flags);
-    written.is_ok() && sink.written() == b"0001:02".as_slice()
-}
-
-// v18: grouped text with a misplaced separator is refused.
-fn refuses_grouped() -> bool {
-    let mut destination = [FILL; 3];
-    let Some(group) = Group::new(2, b':') else {
-        return false;
-    };
-    let fault = GroupFault::InvalidByte {
-        index: 2,
-        byte: b':',
-    };
-    let answer = grouped::read(b"00:0102", &mut destination, group, CheckCase::None);
-    answer.err() == Some(fault) && destination == [FILL; 3]
-}
-
-// v19: a list is read. A failed allocation is no result.
-fn reads_list(alloc: Global) -> Result<bool, AllocError> {
-    match digests::read::<2>(alloc, b"ab01 *b", CheckCase::Lower) {
-        Ok(entries) => Ok(entries.as_slice() == [BINARY].as_slice()),
+    match read_in::<_, 2>(alloc, vector.source, CheckCase::Lower) {
+        Ok(entries) => {
+            let is_stated = vector.answer == Ok(entries.len());
+            Ok(is_stated && entries.as_slice() == [entry].as_slice())
+        }
         Err(ListFault::OutOfMemory) => Err(AllocError),
         Err(ListFault::Line { .. }) => Ok(false),
     }
 }
 
-// v20: a list fills a slice.
-fn writes_list() -> bool {
-    let mut buffer = [FILL; 8];
-    let mut sink = SliceSink::new(&mut buffer);
-    let written = digests::write_to(&[BINARY], &mut sink, true);
-    written.is_ok() && sink.written() == b"AB01 *b\n".as_slice()
+// Whether a sink over a destination takes what a vector states.
+fn writes(vector: &Vector<'_>, destination: &mut [u8]) -> bool {
+    let mut sink = SliceSink::new(destination);
+    let is_written = match (vector.call, entry_of(vector.source)) {
+        (Call::WriteList, Some(entry)) => write_to(&[entry], &mut sink, true).is_ok(),
+        (Call::WriteList, None) => false,
+        _ => {
+            let flags = HexFlags {
+                group: Group::new(2, b':'),
+                ..HexFlags::default()
+            };
+            Hex::new(vector.source).write_to(&mut sink, &flags).is_ok()
+        }
+    };
+    let written = sink.written();
+    is_written && vector.answer == Ok(written.len()) && vector.left.starts_with(written)
+}
+
+// Reads grouped text. Its faults are told as those of digits.
+fn read_grouped<'a>(source: &[u8], destination: &'a mut [u8]) -> Result<&'a mut [u8], Error> {
+    let Some(group) = Group::new(2, b':') else {
+        return Err(Error::Overflow);
+    };
+    match grouped::read(source, destination, group, CheckCase::None) {
+        Ok(front) => Ok(front),
+        Err(GroupFault::BadLength) => Err(OddLength),
+        Err(GroupFault::OutputTooSmall { required }) => Err(OutputTooSmall { required }),
+        Err(GroupFault::InvalidByte { index, byte }) => Err(InvalidChar { index, byte }),
+    }
+}
+
+// Whether a call that has a destination returns what a vector states.
+fn answers(plan: Backend, vector: &Vector<'_>, destination: &mut [u8]) -> bool {
+    let source = vector.source;
+    let answer = match vector.call {
+        Call::Encode => plan.encode_slice(source, destination, false),
+        Call::EncodeUpper => plan.encode_slice(source, destination, true),
+        Call::Decode => plan.decode_slice(source, destination, CheckCase::None),
+        Call::DecodeLower => plan.decode_slice(source, destination, CheckCase::Lower),
+        Call::DecodeUpper => plan.decode_slice(source, destination, CheckCase::Upper),
+        Call::ReadGrouped => read_grouped(source, destination),
+        _ => return writes(vector, destination),
+    };
+    match answer {
+        Ok(front) => vector.answer == Ok(front.len()) && vector.left.starts_with(front),
+        Err(refusal) => vector.answer == Err(refusal),
+    }
+}
+
+// Whether a call returns and leaves what a vector states. A failed allocation is no result.
+fn passes<A: Allocator>(alloc: &A, plan: Backend, vector: &Vector<'_>) -> Result<bool, AllocError> {
+    if vector.call == Call::ReadList {
+        return reads_list(alloc, vector);
+    }
+    let mut buffer = [FILL; 128];
+    let Some(destination) = buffer.get_mut(..vector.left.len()) else {
+        return Ok(false);
+    };
+    Ok(answers(plan, vector, destination) && buffer.starts_with(vector.left))
 }
 
 /// The lines of a run so far, how many vectors it ran, and how many of them failed.
 #[derive(Drop)]
-pub(crate) struct Report {
-    pub(crate) lines: String,
+pub(crate) struct Report<A: Allocator> {
+    pub(crate) lines: String<A>,
     pub(crate) failed: usize,
     total: usize,
 }
 
-impl Report {
+impl<A: Allocator> Report<A> {
     fn add(&mut self, under: &str, name: &str, passes: bool) -> Result<(), AllocError> {
         self.total = self.total.saturating_add(1);
         self.failed = self.failed.saturating_add(usize::from(!passes));
         let verdict = if passes { "pass" } else { "fail" };
         writeln!(self.lines, "{under} {name} {verdict}")
     }
-
-    fn add_plan(&mut self, plan: Backend, table: &[Vector<'_>]) -> Result<(), AllocError> {
-        for vector in table {
-            self.add(plan.name(), vector.name, passes(plan, vector))?;
-        }
-        Ok(())
-    }
 }
 
-/// Runs each vector of `table` under each plan, and then four without a plan. Returns a line for
+// Runs the vectors that run under a plan, or under none, and adds their lines.
+fn run_under<A: Allocator>(
+    report: &mut Report<&A>,
+    alloc: &A,
+    plan: Backend,
+    table: &[Vector<'_>],
+) -> Result<(), AllocError> {
+    let is_plain = plan.name() == "plain";
+    for vector in table {
+        if vector.call.is_plain() == is_plain {
+            report.add(plan.name(), vector.name, passes(alloc, plan, vector)?)?;
+        }
+    }
+    Ok(())
+}
+
+/// Runs each vector of `table` under each plan, and then those without a plan. Returns a line for
 /// each, like `scalar v01 pass`, or `fail` instead of `pass`, and one with the totals.
-pub(crate) fn run_vectors(alloc: Global, table: &[Vector<'_>]) -> Result<Report, AllocError> {
+pub(crate) fn run_vectors<'a, A: Allocator>(
+    alloc: &'a A,
+    table: &[Vector<'_>],
+) -> Result<Report<&'a A>, AllocError> {
     let mut report = Report {
         lines: String::new(alloc),
         failed: 0,
         total: 0,
     };
     for plan in backends() {
-        report.add_plan(plan, table)?;
+        run_under(&mut report, alloc, plan, table)?;
     }
-    report.add("plain", "v17", writes_grouped())?;
-    report.add("plain", "v18", refuses_grouped())?;
-    report.add("plain", "v19", reads_list(alloc)?)?;
-    report.add("plain", "v20", writes_list())?;
+    run_under(&mut report, alloc, Backend::plain(), table)?;
     let (total, failed) = (report.total, report.failed);
     let passed = total.saturating_sub(failed);
     writeln!(

@@ -3,6 +3,7 @@
 use hex_core::CheckCase;
 use hex_format::digests::{read, write_to};
 use hex_format::{Hex, Sink, WriterSink};
+use hex_program::read_input;
 use std::alloc::Global;
 
 // How many bytes are printed or put, and how many lines are read.
@@ -51,4 +52,16 @@ fn is_one_write(alloc: Global) -> Option<bool> {
 #[test]
 fn a_long_piece_is_one_write(rt: HostRuntime) {
     assert!(rt; is_one_write(rt.alloc()) == Some(true));
+}
+
+// Whether an input is held in room for the longest one and one more read, 65,536 bytes.
+fn is_held(alloc: Global) -> Option<bool> {
+    let mut input: &[u8] = b"hello";
+    let held = read_input(alloc, &mut input).ok()?;
+    Some(held.capacity() <= 16_777_216 + 65_536)
+}
+
+#[test]
+fn an_input_takes_no_more_memory_than_the_longest(rt: HostRuntime) {
+    assert!(rt; is_held(rt.alloc()) == Some(true));
 }

@@ -120,7 +120,7 @@ fn is_passed_on(alloc: Global, code: i32, flush: Result<(), i32>) -> bool {
     inner.script = &script;
     inner.flush = flush;
     let mut out = Unretried { inner };
-    let is_told = match out.write(b"a") {
+    let is_told = match out.write(b"ab") {
         Ok(_) => false,
         Err(error) => is_its_error(alloc, &error, code),
     };
@@ -129,12 +129,12 @@ fn is_passed_on(alloc: Global, code: i32, flush: Result<(), i32>) -> bool {
         Err(error) => flush.is_err() && is_its_error(alloc, &error, code),
     };
     let is_once = out.inner.script.is_empty() && out.inner.flushes == 1;
-    is_told && is_flushed && is_once && out.inner.given == 1
+    is_told && is_flushed && is_once && out.inner.given == 2
 }
 
 #[test]
 fn another_error_and_a_flush_are_passed_on(rt: HostRuntime) {
-    for code in [1, 5, 11, 28, 32] {
+    for code in [1, 5, 11, 12, 28, 32, 104, 110] {
         assert!(rt; is_passed_on(rt.alloc(), code, Err(code)));
         assert!(rt; is_passed_on(rt.alloc(), code, Ok(())));
     }

@@ -2,7 +2,7 @@
 
 use crate::setup::{Room, Setup, number_behind, word};
 use hex_program::program::serve_in;
-use hex_program::{serve, serve_buffered};
+use hex_program::{Op, refuse, serve, serve_buffered};
 use std::alloc::Global;
 use test_kit::fakes::{Pattern, Taker};
 use test_kit::{Bytes, Row, Words};
@@ -38,9 +38,10 @@ fn message(text: &[u8], room: Room) -> Pattern<'_> {
     }
 }
 
-// Whether a writer took what is wanted, and was flushed once or not at all.
-fn is_done(taker: &Taker<'_>, is_flushed: bool) -> bool {
-    taker.is_filled() && taker.flushes == usize::from(is_flushed)
+// Whether a writer took what is wanted, in one piece where it has to, and was flushed once or not at all.
+fn is_done(taker: &Taker<'_>, is_flushed: bool, is_whole: bool) -> bool {
+    let is_handed_over = taker.is_given_whole() || !is_whole;
+    is_handed_over && taker.is_filled() && taker.flushes == usize::from(is_flushed)
 }
 
 // How a run is to end: its status, what is taken of its output and its message, how many bytes of the
@@ -60,21 +61,31 @@ fn ends(setup: Setup, alloc: Global, words: &[&str], input: &[u8], want: End<'_>
     let (out, err) = (setup.out.taker(want.out), setup.err.taker(want.err));
     let refusing = setup.refusing(alloc);
     let ended = if setup.is_buffered {
-        serve_buffered(alloc, words, &mut giver, out, err)
+        serve_buffered(&refusing, words, &mut giver, out, err)
     } else if setup.refuses() {
         Ok(serve_in(&refusing, words, &mut giver, out, err))
     } else {
         Ok(serve(alloc, words, &mut giver, out, err))
     };
-    let Ok((got, out, err)) = ended else {
-        return false;
+    let (got, out, err) = match ended {
+        Ok(ended) => ended,
+        // As the program does, which has lost its writers.
+        Err(failure) => {
+            let (got, err) = refuse(setup.err.taker(want.err), failure);
+            (got, setup.out.taker(want.out), err)
+        }
     };
     // Each is flushed behind all that it is to take, and not behind a failure.
     let is_flush = want.status == 0 || want.status == 3 && setup.out.is_unflushed;
-    let is_told = is_done(&out, is_flush) && is_done(&err, !want.err.end.is_empty());
-    let is_end = is_told && usize::from(got) == want.status;
-    let left = giver.left().min(input.len());
-    is_end && left == want.left && giver.ended < 2 && refusing.is_settled(want.asked)
+    let is_message = !want.err.end.is_empty();
+    let is_told = is_done(&out, is_flush, setup.is_buffered && want.status == 0)
+        && is_done(&err, is_message, is_message);
+    let is_op = matches!(words, [word] if Op::from_word(word).is_some());
+    let is_read = giver.ended < 2 && giver.is_read_by(65_536) && (is_op || giver.reads == 0);
+    let is_left = giver.left().min(input.len()) == want.left;
+    let is_asked = refusing.asked() == want.asked || !setup.refuses();
+    let is_settled = is_asked && refusing.is_settled(refusing.asked());
+    is_told && is_read && is_left && is_settled && usize::from(got) == want.status
 }
 
 /// Whether `serve SETUP WORDS INPUT` is answered `left N asks N STATUS OUTPUT MESSAGE`. The first two are

@@ -2,7 +2,7 @@
 
 use hex_program::Op;
 use std::alloc::Global;
-use std::io::ErrorKind;
+use std::io::{self, ErrorKind};
 use test_kit::fakes::{Giver, Pattern, Taker};
 use test_kit::refusing::Refusing;
 use test_kit::{Bytes, Words};
@@ -49,15 +49,15 @@ impl Room {
 /// How a run is set up. What a row leaves out sets no limit.
 #[derive(Clone, Copy)]
 pub struct Setup {
+    /// `buffered`: whether the output is kept back in a buffer.
+    pub is_buffered: bool,
     // `granted N`: the growths behind so many are refused.
     granted: u64,
     // `refused N`: the growth behind so many is refused alone.
     refused: u64,
-    /// `buffered`: whether the output is kept back in a buffer.
-    pub is_buffered: bool,
     // `every N`: a read gives at most so many bytes.
     every: usize,
-    // `fails` or `blocks`: what a read fails with in the place of the end.
+    // `fails N`: the code of the error that a read fails with in the place of the end.
     failure: Option<ErrorKind>,
     // `many BYTE N`: a byte that comes so often before the input.
     many: ([u8; 1], usize),
@@ -73,15 +73,11 @@ impl Setup {
     /// Reads what stands before the words, in this order.
     pub fn read(call: &mut Words) -> Setup {
         Setup {
+            is_buffered: call.takes(b"buffered"),
             granted: number_behind(call, b"granted", usize::MAX) as u64,
             refused: number_behind(call, b"refused", usize::MAX) as u64,
-            is_buffered: call.takes(b"buffered"),
             every: number_behind(call, b"every", usize::MAX),
-            failure: if call.takes(b"fails") {
-                Some(ErrorKind::Interrupted)
-            } else {
-                call.takes(b"blocks").then_some(ErrorKind::WouldBlock)
-            },
+            failure: failure(call),
             many: many(call),
             out: Room::read(call, b"out"),
             err: Room::read(call, b"err"),
@@ -124,6 +120,12 @@ pub fn number_behind(words: &mut Words, word: &[u8], other: usize) -> usize {
     } else {
         other
     }
+}
+
+fn failure(call: &mut Words) -> Option<ErrorKind> {
+    let code = number_behind(call, b"fails", 0);
+    let code = i32::try_from(code).ok().filter(|code| *code > 0)?;
+    Some(io::Error::from_raw_os_error(code).kind())
 }
 
 fn many(call: &mut Words) -> ([u8; 1], usize) {

@@ -1,17 +1,15 @@
 //! Rows of vectors: how one runs, as those do that `fhex vectors` has stored, and what is stored.
 
-use crate::setup::operation;
 use hex_core::Error;
-use hex_program::Op;
 use hex_program::program::serve_vectors;
-use hex_program::vectors::{VECTORS, Vector};
+use hex_program::vectors::{Call, VECTORS, Vector};
 use std::alloc::Global;
 use test_kit::{Row, Words};
 
 // One that passes.
 const SOUND: Vector<'static> = Vector {
     name: "sound",
-    op: Op::Decode,
+    call: Call::Decode,
     source: b"00aB",
     answer: Ok(2),
     left: b"\x00\xab\xa5",
@@ -24,15 +22,22 @@ const FAILED: &[u8] = b"\
     avx2 stating fail\navx2 sound pass\n\
     avx512 stating fail\navx512 sound pass\n\
     neon stating fail\nneon sound pass\n\
-    plain v17 pass\nplain v18 pass\nplain v19 pass\nplain v20 pass\n\
-    total 14 passed 9 failed 5\n";
+    total 10 passed 5 failed 5\n";
 
-// Whether a run of this vector, and of a sound one behind it, ends so, and prints FAILED where it fails.
-fn ends(alloc: Global, vector: Vector<'_>, passes: bool) -> bool {
+// What it prints of one that fails without a plan.
+const FAILED_PLAIN: &[u8] = b"\
+    scalar sound pass\nsse41 sound pass\navx2 sound pass\navx512 sound pass\nneon sound pass\n\
+    plain stating fail\ntotal 6 passed 5 failed 1\n";
+
+// Whether a run of this vector, and of a sound one behind it, ends so, and prints this where it fails; and
+// whether it ends so where the vector stands there twice.
+fn ends(alloc: Global, vector: Vector<'_>, failed: Option<&[u8]>) -> bool {
     let (out, err) = (Vec::new(alloc), Vec::new(alloc));
-    let (status, out, err) = serve_vectors(alloc, &[vector, SOUND], out, err);
-    let is_printed = passes || out.as_slice() == FAILED;
-    status == u8::from(!passes) && is_printed && err.is_empty()
+    let (status, out, err) = serve_vectors(&alloc, &[vector, SOUND], out, err);
+    let (twice, _, err) = serve_vectors(&alloc, &[vector, vector], Vec::new(alloc), err);
+    let is_printed = failed.is_none_or(|lines| out.as_slice() == lines);
+    let wanted = u8::from(failed.is_some());
+    status == wanted && twice == wanted && is_printed && err.is_empty()
 }
 
 // Whether this vector is stored at a place, by this name.
@@ -40,10 +45,23 @@ fn is_stored(place: usize, vector: Vector<'_>, name: &[u8]) -> bool {
     let Some(stored) = VECTORS.get(place) else {
         return false;
     };
-    let is_call = stored.op == vector.op && stored.source == vector.source;
+    let is_call = stored.call == vector.call && stored.source == vector.source;
     let is_answer = stored.answer == vector.answer && stored.left == vector.left;
     is_call && is_answer && stored.name.as_bytes() == name
 }
+
+// The calls, by the places of their words.
+const CALLS: [Call; 9] = [
+    Call::Encode,
+    Call::EncodeUpper,
+    Call::Decode,
+    Call::DecodeLower,
+    Call::DecodeUpper,
+    Call::WriteGrouped,
+    Call::ReadGrouped,
+    Call::WriteList,
+    Call::ReadList,
+];
 
 // Reads what a vector states of its call: `ok` and how many bytes are written, or the refusal.
 fn stated(call: &mut Words) -> Result<usize, Error> {
@@ -55,16 +73,19 @@ fn stated(call: &mut Words) -> Result<usize, Error> {
 }
 
 /// Whether `vector VECTOR` is answered `passes` or `fails`, or `stored PLACE VECTOR` by its name. A vector is
-/// `WORD SOURCE ANSWER LEFT`.
+/// `CALL SOURCE ANSWER LEFT`.
 pub fn is_answered(row: &mut Row, has_place: bool) -> bool {
     let place = if has_place { row.call.take_number() } else { 0 };
-    let op = operation(&mut row.call, &mut row.first);
+    let number = row.call.one_of(
+        b"encode encode-upper decode decode-lower decode-upper \
+        write-grouped read-grouped write-list read-list",
+    );
     row.call.take_bytes(&mut row.given);
     let answer = stated(&mut row.call);
     row.call.take_bytes(&mut row.wanted);
     let vector = Vector {
         name: "stating",
-        op,
+        call: CALLS.get(number).copied().unwrap_or(Call::Encode),
         source: row.given.as_slice(),
         answer,
         left: row.wanted.as_slice(),
@@ -72,7 +93,8 @@ pub fn is_answered(row: &mut Row, has_place: bool) -> bool {
     if has_place {
         is_stored(place, vector, row.answer.next())
     } else {
+        let lines = if number < 5 { FAILED } else { FAILED_PLAIN };
         let passes = row.answer.is_either(b"passes", b"fails");
-        ends(row.alloc, vector, passes)
+        ends(row.alloc, vector, if passes { None } else { Some(lines) })
     }
 }

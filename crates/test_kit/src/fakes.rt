@@ -64,7 +64,9 @@ pub struct Giver<'a> {
     pub reads: usize,
     /// The failure.
     pub failure: Option<ErrorKind>,
-    /// How many reads were made behind the last byte.
+    /// How many reads were made.
+    pub reads: usize,
+    /// How many of them were made behind the last byte.
     pub ended: usize,
     bytes: Pattern<'a>,
     place: usize,
@@ -79,11 +81,18 @@ impl<'a> Giver<'a> {
             halts: 0,
             reads: 0,
             failure: None,
+            reads: 0,
             ended: 0,
             bytes,
             place: 0,
             halted: 0,
         }
+    }
+
+    /// Whether no more reads were made than of so many bytes each, a shorter one, and one at the end.
+    pub fn is_read_by(&self, chunk: usize) -> bool {
+        let chunks = self.place.checked_div(chunk.min(self.every));
+        self.reads <= chunks.unwrap_or(0).saturating_add(2)
     }
 
     /// Returns how many bytes it has not given.
@@ -94,6 +103,7 @@ impl<'a> Giver<'a> {
 
 impl Read for Giver<'_> {
     fn read(&mut self, buf: &mut [u8]) -> io::Result<usize> {
+        self.reads = self.reads.saturating_add(1);
         if self.halted < self.halts {
             self.halted += 1;
             return Err(io::Error::from(ErrorKind::Interrupted));
@@ -152,6 +162,12 @@ impl<'a> Taker<'a> {
     /// Whether it has taken exactly the bytes that are wanted.
     pub fn is_filled(&self) -> bool {
         !self.is_other && self.taken == self.wanted.count
+    }
+
+    /// Whether each write was given all that was still wanted, and took one byte of it.
+    pub fn is_given_whole(&self) -> bool {
+        let count = self.wanted.count;
+        self.given == count.saturating_mul(count.saturating_add(1)) / 2
     }
 
     // What the next write answers.
