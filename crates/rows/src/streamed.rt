@@ -31,9 +31,8 @@ pub fn stream_row(row: &mut Row) -> bool {
     let is_decoded = row.call.is_either(b"decode", b"encode");
     let case = row.call.take_policy();
     row.call.take_bytes(&mut row.given);
-    let count = row.call.take_number();
     let mut reader = Giver::new(Pattern {
-        count,
+        count: row.call.take_number(),
         unit: row.given.as_slice(),
         end: &[],
     });
@@ -60,10 +59,9 @@ pub fn stream_row(row: &mut Row) -> bool {
         encode_stream(&mut reader, &mut sink, case == CheckCase::Upper)
     };
     let is_full = matches!(got, Err(StreamFault::Write(_)));
-    // A chunk has 4,096 bytes or more; a read more tells the end.
-    let chunks = count.checked_div(reader.every.min(4096)).unwrap_or(0);
+    // A chunk has 4,096 bytes or more.
     got == want
         && reader.ended < 2
-        && reader.reads <= chunks.saturating_add(2)
+        && reader.is_read_by(4096)
         && sink.is_filled(failures.wrapping_add(u64::from(is_full)))
 }

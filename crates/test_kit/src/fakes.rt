@@ -60,8 +60,6 @@ pub struct Giver<'a> {
     pub every: usize,
     /// How often each read is interrupted before it is made.
     pub halts: usize,
-    /// How many reads were made.
-    pub reads: usize,
     /// The failure.
     pub failure: Option<ErrorKind>,
     /// How many reads were made.
@@ -79,7 +77,6 @@ impl<'a> Giver<'a> {
         Giver {
             every: usize::MAX,
             halts: 0,
-            reads: 0,
             failure: None,
             reads: 0,
             ended: 0,
@@ -103,7 +100,6 @@ impl<'a> Giver<'a> {
 
 impl Read for Giver<'_> {
     fn read(&mut self, buf: &mut [u8]) -> io::Result<usize> {
-        self.reads = self.reads.saturating_add(1);
         if self.halted < self.halts {
             self.halted += 1;
             return Err(io::Error::from(ErrorKind::Interrupted));
