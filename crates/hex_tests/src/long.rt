@@ -54,14 +54,9 @@ fn a_long_piece_is_one_write(rt: HostRuntime) {
     assert!(rt; is_one_write(rt.alloc()) == Some(true));
 }
 
-// Whether an input is held in room for the longest one and one more read, 65,536 bytes.
-fn is_held(alloc: Global) -> Option<bool> {
-    let mut input: &[u8] = b"hello";
-    let held = read_input(alloc, &mut input).ok()?;
-    Some(held.capacity() <= 16_777_216 + 65_536)
-}
-
+// In room for the longest one, and for one more read, 65,536 bytes.
 #[test]
 fn an_input_takes_no_more_memory_than_the_longest(rt: HostRuntime) {
-    assert!(rt; is_held(rt.alloc()) == Some(true));
+    let held = read_input(rt.alloc(), &mut b"hello".as_slice());
+    assert!(rt; held.is_ok_and(|all| all.capacity() <= 16_777_216 + 65_536));
 }
