@@ -75,9 +75,20 @@ impl Backend {
         requires { length src.now ≡ 2 * length dst.old }
         ensures { DecodesWhole case src.now dst.old dst.new result }
     {
+        match self.0 {
+            Kind::Plain => decode_by_length(src, dst, case),
+            _ => self.decode_named(src, dst, case),
+        }
+    }
+
+    // The same for the other plans, apart: with their bodies in it, `decode` would not be inlined.
+    #[inline(never)]
+    fn decode_named(self, src: &[u8], dst: &mut [u8], case: CheckCase) -> bool
+        requires { length src.now ≡ 2 * length dst.old }
+        ensures { DecodesWhole case src.now dst.old dst.new result }
+    {
         match (self.0, src.len()) {
-            (Kind::Plain, _) => decode_by_length(src, dst, case),
-            (Kind::Scalar, _) | (_, 0..16) => decode_by_table(src, dst, case),
+            (Kind::Plain | Kind::Scalar, _) | (_, 0..16) => decode_by_table(src, dst, case),
             (_, 16..32) => decode_two::<16, 8>(src, dst, case),
             (Kind::Sse41 | Kind::Neon, 32..=64) => decode_four::<16, 8>(src, dst, case),
             (Kind::Sse41 | Kind::Neon, _) => decode_blocks::<Saturating, 16, 8>(src, dst, case),
