@@ -1,10 +1,11 @@
 -- Blocks of a source, and what decoding them makes of a destination.
-use Rattle.std.proofs.Common.{◌≡◌, ℕ, suc, ◌+◌, ◌-◌, ◌*◌, ◌/◌, ◌%◌, ◌<◌, ◌≤◌, ◌↔◌, Bool, false, List, length, min, get_or, inl, inr, refl, sym, ap, ap₂, subst, ◌∙◌, Option, Some, None, arith}
+use Rattle.std.proofs.Common.{◌≡◌, ℕ, suc, ◌+◌, ◌-◌, ◌*◌, ◌/◌, ◌%◌, ◌<◌, ◌≤◌, ◌↔◌, Bool, false, List, ◌++◌, length, length-append, length-drop, take, drop, min, get_or, inl, inr, refl, sym, ap, ap₂, subst, ◌∙◌, Option, Some, None, arith}
 use Rattle.std.specs.Prelude.{IfSome, IsSome, IsTrue, slice_index}
 use Rattle.std.specs.Int.{div_ceil}
 use Rattle.std.proofs.Math.Nat.{div-lt_iff_lt-mul, le-div_iff_mul-le, lt-div-mul-add, lt_of_mul-lt-mul_right, mod-add-div, mul_comm}
 use Rattle.std.proofs.lemmas.Bool.{cases_lt, iff_false}
 use Rattle.std.proofs.lemmas.Grind.{div_ceil_times}
+use Rattle.std.proofs.lemmas.List.{get_or-drop, get_or-take, get_or_append_left, length-take-le}
 use Rattle.std.proofs.lemmas.Simd.{get_or-chunk, get_or-put_chunk_above, get_or-put_chunk_at, get_or-put_chunk_below, length-chunk, length-put_chunk}
 use lib.Lanes.{chunk, put_chunk}
 use std.Logic.{↔_trans}
@@ -13,9 +14,10 @@ use Rattle.hex_core.specs.Arithmetic.{AreUnsigned, packed}
 use Rattle.hex_core.specs.Blocks.{DecodesRange, NibblesFrom}
 use Rattle.hex_core.specs.Digit.{value}
 use Rattle.hex_core.specs.Search.{AllValid, covering_to, first_invalid}
-use Rattle.hex_core.specs.Lanes.{AreChecked, AreSmall, AreValues, IsNibble}
+use Rattle.hex_core.specs.Lanes.{AreChecked, AreNibbles, AreSmall, AreValues, IsNibble}
 use Rattle.hex_core.specs.Text.{Spells}
 use Rattle.hex_core.proofs.ByteLemmas.{value_is, value_small}
+use Rattle.hex_core.proofs.JoinLemmas.{back_at}
 use Rattle.hex_core.proofs.PairLemmas.{length-packed, packed_at}
 use Rattle.hex_core.proofs.SearchLemmas.{first_invalid_none, first_is_first, none_valid, valid_before, valid_misses}
 use Rattle.hex_core.proofs.SpellsLemmas.{spelled_along}
@@ -182,6 +184,44 @@ pairs_tested {P} {Q} {R} {T} {c} {s} {f} {b} {g} {d} {from} {at} {n} test both f
     let first = pair_valid (n + n) front one two refl (omega arith) (omega arith) in
     let last = pair_valid (length s) back three four whole (omega arith) (omega arith) in
     parts_tested c s (n + n) from (length s) test both first last refl le (omega arith)
+
+-- ---- both ends of a source in one vector
+
+-- all lanes are small exactly where the first n are, and those behind them
+pub small_parts : (n : ℕ) (v : List ℕ) → n ≤ length v → AreSmall v ↔ (AreSmall (take n v) × AreSmall (drop n v))
+small_parts n v le =
+    let front = length-take-le n v le in let back = length-drop n v in (
+      λ all. (
+        λ i h. subst (λ x. x < 16) (sym (get_or-take n v i 0 (omega arith))) (all i (omega arith)),
+        λ i h. subst (λ x. x < 16) (sym (get_or-drop n v i 0)) (all (n + i) (omega arith)),
+      ),
+      λ both i h. elim (cases_lt i n) [
+        | inl lt ↦ subst (λ x. x < 16) (get_or-take n v i 0 lt) (both.0 i (omega arith))
+        | inr past ↦
+            let j = i - n in
+            let place : n + j ≡ i = omega arith in
+            subst (λ x. x < 16) (get_or-drop n v j 0 ∙ ap (slice_index v) place) (both.1 j (omega arith))
+      ],
+    )
+
+-- the nibbles of n bytes of each end
+pub ends_nibbles : {c : CheckCase} {s v : List ℕ} (r : List ℕ) (at n : ℕ) → v ≡ chunk 0 n s ++ chunk at n s → AreNibbles c v r → length r ≡ n + n → at + n ≤ length s
+    → NibblesFrom c s 0 n (take n r) × NibblesFrom c s at n (drop n r)
+ends_nibbles {c} {s} {v} r at n is are long inside =
+    let one = length-chunk 0 n s (omega arith) in
+    let two = length-chunk at n s inside in
+    let both : length v ≡ n + n = ap length is ∙ length-append (chunk 0 n s) (chunk at n s) ∙ omega (arith, one, two) in
+    let lane : (i j w : ℕ) → get_or v i 0 ≡ get_or s j 0 → get_or r i 0 ≡ w → i < n + n → IsNibble (value c (get_or s j 0)) w = λ i j w read kept lt.
+    rw (← read, ← kept) (are i (omega (arith, both, lt))) in (
+      record {
+        long = length-take-le n r (omega arith);
+        each = λ k lt. lane k (0 + k) _ (ap (λ l. get_or l k 0) is ∙ get_or_append_left (chunk 0 n s) (chunk at n s) 0 k (omega (arith, one, lt)) ∙ get_or-chunk 0 n s k 0 lt) (sym (get_or-take n r k 0 lt)) (omega arith);
+      },
+      record {
+        long = length-drop n r ∙ omega arith;
+        each = λ k lt. lane (n + k) (at + k) _ (ap (λ l. get_or l (n + k) 0) is ∙ back_at (chunk 0 n s) (chunk at n s) k (n + k) (omega (arith, one)) ∙ get_or-chunk at n s k 0 lt) (sym (get_or-drop n r k 0)) (omega arith);
+      },
+    )
 
 -- ---- a block that is decoded
 

@@ -1,5 +1,5 @@
 -- Neighbouring lanes: words of two, packed nibbles, and two vectors taken in turn.
-use Rattle.std.proofs.Common.{◌≡◌, ℕ, zero, suc, ◌+◌, ◌*◌, ◌/◌, ◌<◌, List, [], ◌∷◌, ◌++◌, map, length, get_or, drop, drop-cons, refl, sym, ap, ap₂, ◌∙◌, arith}
+use Rattle.std.proofs.Common.{◌≡◌, ℕ, zero, suc, ◌+◌, ◌*◌, ◌/◌, ◌<◌, List, [], ◌∷◌, ◌++◌, map, length, get_or, take, drop, drop-cons, refl, sym, ap, ap₂, ◌∙◌, arith}
 use Rattle.std.proofs.lemmas.List.{drop_all, get_or_append_left, get_or-append_right}
 use lib.Lanes.{number_l, digits_l, pick_l}
 use Rattle.hex_core.specs.Arithmetic.{interleaved, packed, pair_byte}
@@ -38,6 +38,25 @@ pub are_packed : (v r : List ℕ) (n : ℕ) → length v ≡ 2 * n → r ≡ pac
 are_packed v r n long is i h =
     let half : length r ≡ n = ap length is ∙ omega (arith, length-packed v) in
     ap (λ l. get_or l i 0) is ∙ packed_at v i (omega arith)
+
+-- the bytes of the first nibbles, and of those behind them
+pub packed_front : (h : ℕ) (v : List ℕ) → packed (take (2 * h) v) ≡ take h (packed v)
+packed_front zero v = refl
+packed_front (suc h) v = let two : 2 * suc h ≡ suc (suc (2 * h)) = omega arith in ap (λ n. packed (take n v)) two ∙ go v (packed_front h)
+  where
+    go : (v : List ℕ) → ((v : List ℕ) → packed (take (2 * h) v) ≡ take h (packed v)) → packed (take (suc (suc (2 * h))) v) ≡ take (suc h) (packed v)
+    go [] rest = refl
+    go (a ∷ []) rest = refl
+    go (a ∷ b ∷ v) rest = ap (λ r. (16 * a + b) ∷ r) (rest v)
+
+pub packed_back : (h : ℕ) (v : List ℕ) → packed (drop (2 * h) v) ≡ drop h (packed v)
+packed_back zero v = refl
+packed_back (suc h) v = let two : 2 * suc h ≡ suc (suc (2 * h)) = omega arith in ap (λ n. packed (drop n v)) two ∙ go v (packed_back h)
+  where
+    go : (v : List ℕ) → ((v : List ℕ) → packed (drop (2 * h) v) ≡ drop h (packed v)) → packed (drop (suc (suc (2 * h))) v) ≡ drop (suc h) (packed v)
+    go [] rest = refl
+    go (a ∷ []) rest = refl
+    go (a ∷ b ∷ v) rest = rest v
 
 -- ---- two vectors in turn
 

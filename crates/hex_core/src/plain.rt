@@ -2,13 +2,15 @@
 //! blocks of 64 digits. The blocks for each length were chosen by measurement; bench/README.md has
 //! the gains. No table is indexed by a byte of the source, which may be secret.
 
-ghost use Rattle.std.specs.Prelude.{◌≡◌, ◌↔◌, ◌*◌, ◌<◌, ◌≤◌, IsTrue, None, length};
+ghost use Rattle.std.specs.Prelude.{◌≡◌, ◌↔◌, ◌*◌, ◌<◌, IsTrue, None, length};
 ghost use Rattle.hex_core.specs.Calls.{DecodesWhole};
 ghost use Rattle.hex_core.specs.Search.{first_invalid};
 ghost use Rattle.hex_core.specs.Text.{text};
 
 use crate::blocks::check::{check_runs, check_two};
-use crate::blocks::decode::{decode_four, decode_long, decode_one, decode_three, decode_two};
+use crate::blocks::decode::{
+    decode_ends, decode_four, decode_long, decode_one, decode_three, decode_two,
+};
 use crate::blocks::encode::{encode_one, encode_two};
 use crate::digit::CheckCase;
 use crate::kernel::{encode_apart, encode_blocks};
@@ -42,67 +44,27 @@ fn check_short(src: &[u8], case: CheckCase) -> bool
     }
 }
 
-/// Decodes `src` over all of `dst`, or returns false and writes nothing. 16 to 128 digits are
-/// decoded inline, so that a length known to the caller needs no choice at run time.
+/// Decodes `src` over all of `dst`, or returns false and writes nothing. Two passes over a longer
+/// source are calls; all else is inlined, so that a length known to the caller needs no choice.
 #[inline(always)]
 pub fn decode_by_length(src: &[u8], dst: &mut [u8], case: CheckCase) -> bool
     requires { length src.now ≡ 2 * length dst.old }
     ensures { DecodesWhole case src.now dst.old dst.new result }
 {
-    if src.len() <= 32 {
-        return decode_few(src, dst, case);
-    }
     match src.len() {
-        64 => decode_one::<64, 32>(src, dst, case),
-        0..64 => decode_two::<32, 16>(src, dst, case),
-        65..=128 => decode_two::<64, 32>(src, dst, case),
-        129..=256 => decode_in_registers(src, dst, case),
-        _ => decode_long(src, dst, case),
-    }
-}
-
-// The same for at most 32 digits, apart: one `match` for all would be a jump table.
-#[inline(always)]
-fn decode_few(src: &[u8], dst: &mut [u8], case: CheckCase) -> bool
-    requires twice { length src.now ≡ 2 * length dst.old }
-    requires few { length src.now ≤ 32 }
-    ensures { DecodesWhole case src.now dst.old dst.new result }
-{
-    match src.len() {
+        0 => true,
+        1..4 => decode_ends::<2, 4, 1>(src, dst, case),
+        4..8 => decode_ends::<4, 8, 2>(src, dst, case),
+        8..16 => decode_ends::<8, 16, 4>(src, dst, case),
         16 => decode_one::<16, 8>(src, dst, case),
         32 => decode_one::<32, 16>(src, dst, case),
-        0..16 => decode_short(src, dst, case),
-        _ => decode_two::<16, 8>(src, dst, case),
-    }
-}
-
-// The same for fewer than 16 digits.
-#[inline(never)]
-fn decode_short(src: &[u8], dst: &mut [u8], case: CheckCase) -> bool
-    requires twice { length src.now ≡ 2 * length dst.old }
-    requires few { length src.now < 16 }
-    ensures { DecodesWhole case src.now dst.old dst.new result }
-{
-    match src.len() {
-        8..16 => decode_two::<8, 4>(src, dst, case),
-        4..8 => decode_two::<4, 2>(src, dst, case),
-        2..4 => decode_one::<2, 1>(src, dst, case),
-        _ => true,
-    }
-}
-
-// The same for 129 to 256 digits, held in registers.
-#[inline(never)]
-fn decode_in_registers(src: &[u8], dst: &mut [u8], case: CheckCase) -> bool
-    requires twice { length src.now ≡ 2 * length dst.old }
-    requires more { 128 < length src.now }
-    requires most { length src.now ≤ 256 }
-    ensures { DecodesWhole case src.now dst.old dst.new result }
-{
-    if src.len() <= 192 {
-        decode_three::<64, 32>(src, dst, case)
-    } else {
-        decode_four::<64, 32>(src, dst, case)
+        64 => decode_one::<64, 32>(src, dst, case),
+        17..32 => decode_ends::<16, 32, 8>(src, dst, case),
+        33..64 => decode_ends::<32, 64, 16>(src, dst, case),
+        65..=128 => decode_two::<64, 32>(src, dst, case),
+        129..=192 => decode_three::<64, 32>(src, dst, case),
+        193..=256 => decode_four::<64, 32>(src, dst, case),
+        _ => decode_long(src, dst, case),
     }
 }
 

@@ -192,16 +192,6 @@ pub trait Pack<const N: usize, const HALF: usize> {
         ensures { result ≡ packed v.entry };
 }
 
-impl Pack<2, 1> for Lanes {
-    #[inline(always)]
-    fn pack(v: u8x2) -> u8x1
-        requires { AreSmall v }
-        ensures { result ≡ packed v }
-    {
-        pair_bytes(u16x1::from_le_bytes(v))
-    }
-}
-
 impl Pack<4, 2> for Lanes {
     #[inline(always)]
     fn pack(v: u8x4) -> u8x2

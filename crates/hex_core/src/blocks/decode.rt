@@ -1,7 +1,7 @@
 //! Decoding by blocks: nibbles in registers, and the stores of their bytes.
 
-ghost use Rattle.std.specs.Prelude.{◌≡◌, ◌+◌, ◌-◌, ◌*◌, ◌<◌, ◌≤◌, length};
-ghost use Rattle.std.specs.Simd.Lanes.{put_chunk};
+ghost use Rattle.std.specs.Prelude.{◌≡◌, ◌++◌, ◌+◌, ◌-◌, ◌*◌, ◌<◌, ◌≤◌, drop, length, take};
+ghost use Rattle.std.specs.Simd.Lanes.{chunk, put_chunk};
 ghost use Rattle.hex_core.specs.Arithmetic.{packed};
 ghost use Rattle.hex_core.specs.Blocks.{NibblesFrom};
 ghost use Rattle.hex_core.specs.Calls.{DecodesWhole};
@@ -47,6 +47,42 @@ where
     pack_at(back, dst, end - HALF);
 }
 
+// `N` bytes of each end in one vector. The compiler makes no array of it.
+#[inline(always)]
+fn ends<const N: usize, const TWICE: usize>(src: &[u8]) -> Simd<u8, TWICE>
+    requires lanes { TWICE ≡ 2 * N }
+    requires inside { N ≤ length src.now }
+    ensures { result ≡ chunk 0 N src.now ++ chunk (length src.now - N) N src.now }
+{
+    let mut both = [0; TWICE];
+    let lanes = &mut both[..];
+    Simd::<u8, N>::from_slice(src).copy_to_slice(lanes);
+    Simd::<u8, N>::from_slice(&src[src.len() - N..]).copy_to_slice(&mut lanes[N..]);
+    Simd::from_array(both)
+}
+
+// Writes the bytes of the nibbles of both ends, `HALF` at each end of `dst`.
+#[inline(always)]
+fn pack_ends<const N: usize, const TWICE: usize, const HALF: usize>(
+    nibbles: Simd<u8, TWICE>,
+    dst: &mut [u8],
+)
+where
+    Lanes: Pack<TWICE, N>,
+    requires lanes { TWICE ≡ 2 * N }
+    requires half { N ≡ 2 * HALF }
+    requires small { AreSmall nibbles }
+    requires room { HALF ≤ length dst.old }
+    ensures { dst.new ≡ put_chunk (length dst.old - HALF)
+        (put_chunk 0 dst.old (packed (take N nibbles.entry))) (packed (drop N nibbles.entry)) }
+{
+    let both = Lanes::pack(nibbles).to_array();
+    let bytes = &both[..];
+    let end = dst.len();
+    Simd::<u8, HALF>::from_slice(bytes).copy_to_slice(dst);
+    Simd::<u8, HALF>::from_slice(&bytes[HALF..]).copy_to_slice(&mut dst[end - HALF..]);
+}
+
 /// Decodes `N` digits. Tests all of them before the first store.
 #[inline(always)]
 pub fn decode_one<const N: usize, const HALF: usize>(
@@ -65,6 +101,29 @@ where
         return false;
     }
     pack_at(nibbles, dst, 0);
+    true
+}
+
+/// Decodes `N` to `2 * N` digits, both ends as one vector. Tests all of them before the first store.
+#[inline(always)]
+pub fn decode_ends<const N: usize, const TWICE: usize, const HALF: usize>(
+    src: &[u8],
+    dst: &mut [u8],
+    case: CheckCase,
+) -> bool
+where
+    Lanes: Pack<TWICE, N>,
+    requires lanes { TWICE ≤ 64 }
+    requires twice { TWICE ≡ 2 * N }
+    requires sizes { Halves N HALF src.now dst.old }
+    requires covered { EndsCover N src.now }
+    ensures { DecodesWhole case src.now dst.old dst.new result }
+{
+    let nibbles = saturated(ends::<N, TWICE>(src), case);
+    if !is_small(nibbles) {
+        return false;
+    }
+    pack_ends::<N, TWICE, HALF>(nibbles, dst);
     true
 }
 
@@ -145,7 +204,7 @@ where
 }
 
 /// Decodes more than 128 digits. Tests all of them before the first store.
-#[inline(never)]
+#[inline(always)]
 pub fn decode_long(src: &[u8], dst: &mut [u8], case: CheckCase) -> bool
     requires more { 128 < length src.now }
     requires twice { length src.now ≡ 2 * length dst.old }
