@@ -191,16 +191,10 @@ pairs_tested {P} {Q} {R} {T} {c} {s} {f} {b} {g} {d} {from} {at} {n} test both f
 pub small_parts : (n : ℕ) (v : List ℕ) → n ≤ length v → AreSmall v ↔ (AreSmall (take n v) × AreSmall (drop n v))
 small_parts n v le =
     let front = length-take-le n v le in let back = length-drop n v in (
-      λ all. (
-        λ i h. subst (λ x. x < 16) (sym (get_or-take n v i 0 (omega arith))) (all i (omega arith)),
-        λ i h. subst (λ x. x < 16) (sym (get_or-drop n v i 0)) (all (n + i) (omega arith)),
-      ),
+      λ all. (λ i h. rw (get_or-take n v i 0 (omega arith)) (all i (omega arith)), λ i h. rw (get_or-drop n v i 0) (all (n + i) (omega arith))),
       λ both i h. elim (cases_lt i n) [
-        | inl lt ↦ subst (λ x. x < 16) (get_or-take n v i 0 lt) (both.0 i (omega arith))
-        | inr past ↦
-            let j = i - n in
-            let place : n + j ≡ i = omega arith in
-            subst (λ x. x < 16) (get_or-drop n v j 0 ∙ ap (slice_index v) place) (both.1 j (omega arith))
+        | inl lt ↦ rw (← get_or-take n v i 0 lt) (both.0 i (omega arith))
+        | inr past ↦ let j = i - n in let place : i ≡ n + j = omega arith in rw (place, ← get_or-drop n v j 0) (both.1 j (omega arith))
       ],
     )
 
@@ -208,18 +202,18 @@ small_parts n v le =
 pub ends_nibbles : {c : CheckCase} {s v : List ℕ} (r : List ℕ) (at n : ℕ) → v ≡ chunk 0 n s ++ chunk at n s → AreNibbles c v r → length r ≡ n + n → at + n ≤ length s
     → NibblesFrom c s 0 n (take n r) × NibblesFrom c s at n (drop n r)
 ends_nibbles {c} {s} {v} r at n is are long inside =
-    let one = length-chunk 0 n s (omega arith) in
-    let two = length-chunk at n s inside in
-    let both : length v ≡ n + n = ap length is ∙ length-append (chunk 0 n s) (chunk at n s) ∙ omega (arith, one, two) in
-    let lane : (i j w : ℕ) → get_or v i 0 ≡ get_or s j 0 → get_or r i 0 ≡ w → i < n + n → IsNibble (value c (get_or s j 0)) w = λ i j w read kept lt.
-    rw (← read, ← kept) (are i (omega (arith, both, lt))) in (
+    let f = chunk 0 n s in let b = chunk at n s in
+    let one : length f ≡ n = length-chunk 0 n s (omega arith) in let two = length-chunk at n s inside in
+    let both : length v ≡ n + n = ap length is ∙ length-append f b ∙ omega arith in
+    let lane : (i j : ℕ) → get_or (f ++ b) i 0 ≡ get_or s j 0 → i < n + n → IsNibble (value c (get_or s j 0)) (get_or r i 0) = λ i j read lt.
+    rw (← read, ← is) (are i (omega (arith, both, lt))) in (
       record {
         long = length-take-le n r (omega arith);
-        each = λ k lt. lane k (0 + k) _ (ap (λ l. get_or l k 0) is ∙ get_or_append_left (chunk 0 n s) (chunk at n s) 0 k (omega (arith, one, lt)) ∙ get_or-chunk 0 n s k 0 lt) (sym (get_or-take n r k 0 lt)) (omega arith);
+        each = λ k lt. rw (get_or-take n r k 0 lt) (lane k (0 + k) (get_or_append_left f b 0 k (omega arith) ∙ get_or-chunk 0 n s k 0 lt) (omega arith));
       },
       record {
         long = length-drop n r ∙ omega arith;
-        each = λ k lt. lane (n + k) (at + k) _ (ap (λ l. get_or l (n + k) 0) is ∙ back_at (chunk 0 n s) (chunk at n s) k (n + k) (omega (arith, one)) ∙ get_or-chunk at n s k 0 lt) (sym (get_or-drop n r k 0)) (omega arith);
+        each = λ k lt. rw (get_or-drop n r k 0) (lane (n + k) (at + k) (back_at f b k (n + k) (omega arith) ∙ get_or-chunk at n s k 0 lt) (omega arith));
       },
     )
 

@@ -1,7 +1,7 @@
 -- Neighbouring lanes: words of two, packed nibbles, and two vectors taken in turn.
-use Rattle.std.proofs.Common.{◌≡◌, ℕ, zero, suc, ◌+◌, ◌*◌, ◌/◌, ◌<◌, List, [], ◌∷◌, ◌++◌, map, length, get_or, take, drop, drop-cons, refl, sym, ap, ap₂, ◌∙◌, arith}
-use Rattle.std.proofs.lemmas.List.{drop_all, get_or_append_left, get_or-append_right}
-use lib.Lanes.{number_l, digits_l, pick_l}
+use Rattle.std.proofs.Common.{◌≡◌, ℕ, zero, suc, ◌+◌, ◌*◌, ◌/◌, ◌%◌, ◌<◌, List, [], ◌∷◌, ◌++◌, map, length, length-drop, get_or, take, drop, drop-cons, refl, sym, ap, ap₂, ◌∙◌, arith}
+use Rattle.std.proofs.lemmas.List.{drop_all, drop_at, get_or_append_left, get_or-append_right, length-take-le, take-append-drop, take_all, take_at}
+use lib.Lanes.{chunk, number_l, digits_l, pick_l}
 use Rattle.hex_core.specs.Arithmetic.{interleaved, packed, pair_byte}
 use Rattle.hex_core.specs.Lanes.{ArePacked, AreSmall}
 
@@ -39,24 +39,21 @@ are_packed v r n long is i h =
     let half : length r ≡ n = ap length is ∙ omega (arith, length-packed v) in
     ap (λ l. get_or l i 0) is ∙ packed_at v i (omega arith)
 
--- the bytes of the first nibbles, and of those behind them
-pub packed_front : (h : ℕ) (v : List ℕ) → packed (take (2 * h) v) ≡ take h (packed v)
-packed_front zero v = refl
-packed_front (suc h) v = let two : 2 * suc h ≡ suc (suc (2 * h)) = omega arith in ap (λ n. packed (take n v)) two ∙ go v (packed_front h)
-  where
-    go : (v : List ℕ) → ((v : List ℕ) → packed (take (2 * h) v) ≡ take h (packed v)) → packed (take (suc (suc (2 * h))) v) ≡ take (suc h) (packed v)
-    go [] rest = refl
-    go (a ∷ []) rest = refl
-    go (a ∷ b ∷ v) rest = ap (λ r. (16 * a + b) ∷ r) (rest v)
+packed_joined : (xs ys : List ℕ) → length xs % 2 ≡ 0 → packed (xs ++ ys) ≡ packed xs ++ packed ys
+packed_joined [] ys even = refl
+packed_joined (a ∷ []) ys even = absurd (omega arith)
+packed_joined (a ∷ b ∷ xs) ys even = ap (λ r. (16 * a + b) ∷ r) (packed_joined xs ys (omega arith))
 
-pub packed_back : (h : ℕ) (v : List ℕ) → packed (drop (2 * h) v) ≡ drop h (packed v)
-packed_back zero v = refl
-packed_back (suc h) v = let two : 2 * suc h ≡ suc (suc (2 * h)) = omega arith in ap (λ n. packed (drop n v)) two ∙ go v (packed_back h)
-  where
-    go : (v : List ℕ) → ((v : List ℕ) → packed (drop (2 * h) v) ≡ drop h (packed v)) → packed (drop (suc (suc (2 * h))) v) ≡ drop (suc h) (packed v)
-    go [] rest = refl
-    go (a ∷ []) rest = refl
-    go (a ∷ b ∷ v) rest = rest v
+-- the bytes of both halves of n + n nibbles
+pub packed_halves : (n w : ℕ) (v : List ℕ) → n ≡ 2 * w → length v ≡ n + n → (chunk 0 w (packed v) ≡ packed (take n v)) × (chunk w w (packed v) ≡ packed (drop n v))
+packed_halves n w v half long =
+    let f = take n v in let b = drop n v in
+    let short : length f ≡ n = length-take-le n v (omega arith) in
+    let front : length (packed f) ≡ w = length-packed f ∙ omega arith in
+    let both : packed v ≡ packed f ++ packed b = ap packed (sym (take-append-drop n v)) ∙ packed_joined f b (omega arith) in (
+      ap (take w) both ∙ take_at (packed f) (packed b) w front,
+      ap (λ l. take w (drop w l)) both ∙ ap (take w) (drop_at (packed f) (packed b) w front) ∙ take_all w (packed b) (omega (arith, length-packed b, length-drop n v)),
+    )
 
 -- ---- two vectors in turn
 

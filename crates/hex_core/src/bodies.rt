@@ -9,7 +9,7 @@ ghost use Rattle.hex_core.specs.Text.{text};
 use crate::backend::{Backend, Kind};
 use crate::blocks::decode::{decode_four, decode_two};
 use crate::digit::CheckCase;
-use crate::kernel::{check_blocks, decode_blocks, encode_apart};
+use crate::kernel::{check_blocks, decode_blocks, encode_blocks};
 use crate::masks::check_by_masks;
 use crate::nibbles::{Hashed, Saturating};
 use crate::plain::{check_by_length, decode_by_length, encode_by_length};
@@ -52,9 +52,9 @@ impl Backend {
         match (self.0, src.len()) {
             (Kind::Plain, _) => encode_by_length(src, dst, upper),
             (Kind::Scalar, _) | (_, 0..8) => encode_by_table(src, dst, upper),
-            (_, 8..16) => encode_apart::<8, 16>(src, dst, upper),
-            (Kind::Sse41 | Kind::Neon, _) | (_, 16..32) => encode_apart::<16, 32>(src, dst, upper),
-            (Kind::Avx2 | Kind::Avx512, _) => encode_apart::<32, 64>(src, dst, upper),
+            (_, 8..16) => encode_blocks::<8, 16>(src, dst, upper),
+            (Kind::Sse41 | Kind::Neon, _) | (_, 16..32) => encode_blocks::<16, 32>(src, dst, upper),
+            (Kind::Avx2 | Kind::Avx512, _) => encode_blocks::<32, 64>(src, dst, upper),
         }
     }
 

@@ -154,8 +154,9 @@ where
     text.copy_to_slice(&mut dst[2 * at..]);
 }
 
-/// Encodes a block or more over all of `dst`.
-#[inline(always)]
+/// Encodes a block or more over all of `dst`. It is a function of its own, so that the compiler does
+/// not know `upper`: else it reloads the table in every iteration.
+#[inline(never)]
 pub fn encode_blocks<const N: usize, const TWICE: usize>(src: &[u8], dst: &mut [u8], upper: bool)
 where
     Lanes: Interleave<N, TWICE> + LookUp<TWICE>,
@@ -170,18 +171,4 @@ where
     if src.len() % N != 0 {
         encode_at::<N, TWICE>(src, dst, src.len() - N, upper);
     }
-}
-
-/// The same in its own function, so that the compiler does not know `upper`: else it reloads the
-/// table in every iteration.
-#[inline(never)]
-pub fn encode_apart<const N: usize, const TWICE: usize>(src: &[u8], dst: &mut [u8], upper: bool)
-where
-    Lanes: Interleave<N, TWICE> + LookUp<TWICE>,
-    requires lanes { TWICE ≡ 2 * N }
-    requires twice { length dst.old ≡ 2 * length src.now }
-    requires block { HasBlock N src.now }
-    ensures { dst.new ≡ text upper src.now }
-{
-    encode_blocks::<N, TWICE>(src, dst, upper);
 }

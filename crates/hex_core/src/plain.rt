@@ -2,18 +2,16 @@
 //! blocks of 64 digits. The blocks for each length were chosen by measurement; bench/README.md has
 //! the gains. No table is indexed by a byte of the source, which may be secret.
 
-ghost use Rattle.std.specs.Prelude.{◌≡◌, ◌↔◌, ◌*◌, ◌<◌, IsTrue, None, length};
+ghost use Rattle.std.specs.Prelude.{◌≡◌, ◌↔◌, ◌*◌, ◌<◌, ◌≤◌, IsTrue, None, length};
 ghost use Rattle.hex_core.specs.Calls.{DecodesWhole};
 ghost use Rattle.hex_core.specs.Search.{first_invalid};
 ghost use Rattle.hex_core.specs.Text.{text};
 
 use crate::blocks::check::{check_runs, check_two};
-use crate::blocks::decode::{
-    decode_ends, decode_four, decode_long, decode_one, decode_three, decode_two,
-};
+use crate::blocks::decode::{decode_ends, decode_four, decode_long, decode_three, decode_two};
 use crate::blocks::encode::{encode_one, encode_two};
 use crate::digit::CheckCase;
-use crate::kernel::{encode_apart, encode_blocks};
+use crate::kernel::encode_blocks;
 
 /// Returns whether every byte of `src` is valid under `case`.
 #[inline(always)]
@@ -30,7 +28,7 @@ pub fn check_by_length(src: &[u8], case: CheckCase) -> bool
 }
 
 // The same for fewer than 16 bytes.
-#[inline(never)]
+#[inline(always)]
 fn check_short(src: &[u8], case: CheckCase) -> bool
     requires { length src.now < 16 }
     ensures { IsTrue result ↔ (first_invalid case src.now ≡ None) }
@@ -44,32 +42,53 @@ fn check_short(src: &[u8], case: CheckCase) -> bool
     }
 }
 
-/// Decodes `src` over all of `dst`, or returns false and writes nothing. Two passes over a longer
-/// source are calls; all else is inlined, so that a length known to the caller needs no choice.
+/// Decodes `src` over all of `dst`, or returns false and writes nothing. Up to 128 digits are
+/// decoded inline, so that a length known to the caller needs no choice at run time.
 #[inline(always)]
 pub fn decode_by_length(src: &[u8], dst: &mut [u8], case: CheckCase) -> bool
     requires { length src.now ≡ 2 * length dst.old }
     ensures { DecodesWhole case src.now dst.old dst.new result }
 {
     match src.len() {
-        0 => true,
-        1..4 => decode_ends::<2, 4, 1>(src, dst, case),
-        4..8 => decode_ends::<4, 8, 2>(src, dst, case),
-        8..16 => decode_ends::<8, 16, 4>(src, dst, case),
-        16 => decode_one::<16, 8>(src, dst, case),
-        32 => decode_one::<32, 16>(src, dst, case),
-        64 => decode_one::<64, 32>(src, dst, case),
-        17..32 => decode_ends::<16, 32, 8>(src, dst, case),
-        33..64 => decode_ends::<32, 64, 16>(src, dst, case),
+        0..=16 => decode_short(src, dst, case),
+        17..=32 => decode_ends::<16, 32, 8>(src, dst, case),
+        33..=64 => decode_ends::<32, 64, 16>(src, dst, case),
         65..=128 => decode_two::<64, 32>(src, dst, case),
-        129..=192 => decode_three::<64, 32>(src, dst, case),
-        193..=256 => decode_four::<64, 32>(src, dst, case),
+        129..=256 => decode_in_registers(src, dst, case),
         _ => decode_long(src, dst, case),
     }
 }
 
-/// Encodes `src` over all of `dst`. Up to 512 bytes need no call, which would take a tenth of the
-/// time.
+// The same for at most 16 digits.
+#[inline(always)]
+fn decode_short(src: &[u8], dst: &mut [u8], case: CheckCase) -> bool
+    requires twice { length src.now ≡ 2 * length dst.old }
+    requires few { length src.now ≤ 16 }
+    ensures { DecodesWhole case src.now dst.old dst.new result }
+{
+    match src.len() {
+        8..=16 => decode_ends::<8, 16, 4>(src, dst, case),
+        4..8 => decode_ends::<4, 8, 2>(src, dst, case),
+        2..4 => decode_ends::<2, 4, 1>(src, dst, case),
+        _ => true,
+    }
+}
+
+// The same for 129 to 256 digits. It is inlined where it is called once, so that the policy is known.
+fn decode_in_registers(src: &[u8], dst: &mut [u8], case: CheckCase) -> bool
+    requires twice { length src.now ≡ 2 * length dst.old }
+    requires more { 128 < length src.now }
+    requires most { length src.now ≤ 256 }
+    ensures { DecodesWhole case src.now dst.old dst.new result }
+{
+    if src.len() <= 192 {
+        decode_three::<64, 32>(src, dst, case)
+    } else {
+        decode_four::<64, 32>(src, dst, case)
+    }
+}
+
+/// Encodes `src` over all of `dst`.
 #[inline(always)]
 pub fn encode_by_length(src: &[u8], dst: &mut [u8], upper: bool)
     requires { length dst.old ≡ 2 * length src.now }
@@ -81,14 +100,12 @@ pub fn encode_by_length(src: &[u8], dst: &mut [u8], upper: bool)
         32 => encode_one::<32, 64>(src, dst, upper),
         17..=31 => encode_two::<16, 32>(src, dst, upper),
         33..=64 => encode_two::<32, 64>(src, dst, upper),
-        65..=512 => encode_blocks::<32, 64>(src, dst, upper),
-        _ => encode_apart::<32, 64>(src, dst, upper),
+        _ => encode_blocks::<32, 64>(src, dst, upper),
     }
 }
 
-// The same for fewer than 8 bytes, apart: inlined, it moved the loop over longer sources, and a
-// jump across 32 bytes took a tenth more.
-#[inline(never)]
+// The same for fewer than 8 bytes.
+#[inline(always)]
 fn encode_short(src: &[u8], dst: &mut [u8], upper: bool)
     requires twice { length dst.old ≡ 2 * length src.now }
     requires few { length src.now < 8 }

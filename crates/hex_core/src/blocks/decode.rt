@@ -1,6 +1,6 @@
 //! Decoding by blocks: nibbles in registers, and the stores of their bytes.
 
-ghost use Rattle.std.specs.Prelude.{◌≡◌, ◌++◌, ◌+◌, ◌-◌, ◌*◌, ◌<◌, ◌≤◌, drop, length, take};
+ghost use Rattle.std.specs.Prelude.{◌≡◌, ◌++◌, ◌+◌, ◌-◌, ◌*◌, ◌<◌, ◌≤◌, length};
 ghost use Rattle.std.specs.Simd.Lanes.{chunk, put_chunk};
 ghost use Rattle.hex_core.specs.Arithmetic.{packed};
 ghost use Rattle.hex_core.specs.Blocks.{NibblesFrom};
@@ -61,49 +61,6 @@ fn ends<const N: usize, const TWICE: usize>(src: &[u8]) -> Simd<u8, TWICE>
     Simd::from_array(both)
 }
 
-// Writes the bytes of the nibbles of both ends, `HALF` at each end of `dst`.
-#[inline(always)]
-fn pack_ends<const N: usize, const TWICE: usize, const HALF: usize>(
-    nibbles: Simd<u8, TWICE>,
-    dst: &mut [u8],
-)
-where
-    Lanes: Pack<TWICE, N>,
-    requires lanes { TWICE ≡ 2 * N }
-    requires half { N ≡ 2 * HALF }
-    requires small { AreSmall nibbles }
-    requires room { HALF ≤ length dst.old }
-    ensures { dst.new ≡ put_chunk (length dst.old - HALF)
-        (put_chunk 0 dst.old (packed (take N nibbles.entry))) (packed (drop N nibbles.entry)) }
-{
-    let both = Lanes::pack(nibbles).to_array();
-    let bytes = &both[..];
-    let end = dst.len();
-    Simd::<u8, HALF>::from_slice(bytes).copy_to_slice(dst);
-    Simd::<u8, HALF>::from_slice(&bytes[HALF..]).copy_to_slice(&mut dst[end - HALF..]);
-}
-
-/// Decodes `N` digits. Tests all of them before the first store.
-#[inline(always)]
-pub fn decode_one<const N: usize, const HALF: usize>(
-    src: &[u8],
-    dst: &mut [u8],
-    case: CheckCase,
-) -> bool
-where
-    Lanes: Pack<N, HALF>,
-    requires sizes { Halves N HALF src.now dst.old }
-    requires whole { length src.now ≡ N }
-    ensures { DecodesWhole case src.now dst.old dst.new result }
-{
-    let nibbles = nibbles_at::<N>(src, 0, case);
-    if !is_small(nibbles) {
-        return false;
-    }
-    pack_at(nibbles, dst, 0);
-    true
-}
-
 /// Decodes `N` to `2 * N` digits, both ends as one vector. Tests all of them before the first store.
 #[inline(always)]
 pub fn decode_ends<const N: usize, const TWICE: usize, const HALF: usize>(
@@ -123,7 +80,11 @@ where
     if !is_small(nibbles) {
         return false;
     }
-    pack_ends::<N, TWICE, HALF>(nibbles, dst);
+    let bytes = Lanes::pack(nibbles).to_array();
+    let bytes = &bytes[..];
+    let end = dst.len();
+    Simd::<u8, HALF>::from_slice(bytes).copy_to_slice(dst);
+    Simd::<u8, HALF>::from_slice(&bytes[HALF..]).copy_to_slice(&mut dst[end - HALF..]);
     true
 }
 
