@@ -1,11 +1,11 @@
 -- Blocks of a source, and what decoding them makes of a destination.
-use Rattle.std.proofs.Common.{◌≡◌, ℕ, suc, ◌+◌, ◌-◌, ◌*◌, ◌/◌, ◌%◌, ◌<◌, ◌≤◌, ◌↔◌, Bool, false, List, ◌++◌, length, length-append, length-drop, take, drop, min, get_or, inl, inr, refl, sym, ap, ap₂, subst, ◌∙◌, Option, Some, None, arith}
+use Rattle.std.proofs.Common.{◌≡◌, ℕ, suc, ◌+◌, ◌-◌, ◌*◌, ◌/◌, ◌%◌, ◌<◌, ◌≤◌, ◌↔◌, Bool, false, List, length, length-drop, take, drop, min, get_or, inl, inr, refl, sym, ap, ap₂, subst, ◌∙◌, Option, Some, None, arith}
 use Rattle.std.specs.Prelude.{IfSome, IsSome, IsTrue, slice_index}
 use Rattle.std.specs.Int.{div_ceil}
 use Rattle.std.proofs.Math.Nat.{div-lt_iff_lt-mul, le-div_iff_mul-le, lt-div-mul-add, lt_of_mul-lt-mul_right, mod-add-div, mul_comm}
 use Rattle.std.proofs.lemmas.Bool.{cases_lt, iff_false}
 use Rattle.std.proofs.lemmas.Grind.{div_ceil_times}
-use Rattle.std.proofs.lemmas.List.{get_or-drop, get_or-take, get_or_append_left, length-take-le}
+use Rattle.std.proofs.lemmas.List.{get_or-drop, get_or-take, length-take-le}
 use Rattle.std.proofs.lemmas.Simd.{get_or-chunk, get_or-put_chunk_above, get_or-put_chunk_at, get_or-put_chunk_below, length-chunk, length-put_chunk}
 use lib.Lanes.{chunk, put_chunk}
 use std.Logic.{↔_trans}
@@ -17,7 +17,6 @@ use Rattle.hex_core.specs.Search.{AllValid, covering_to, first_invalid}
 use Rattle.hex_core.specs.Lanes.{AreChecked, AreNibbles, AreSmall, AreValues, IsNibble}
 use Rattle.hex_core.specs.Text.{Spells}
 use Rattle.hex_core.proofs.ByteLemmas.{value_is, value_small}
-use Rattle.hex_core.proofs.JoinLemmas.{back_at}
 use Rattle.hex_core.proofs.PairLemmas.{length-packed, packed_at}
 use Rattle.hex_core.proofs.SearchLemmas.{first_invalid_none, first_is_first, none_valid, valid_before, valid_misses}
 use Rattle.hex_core.proofs.SpellsLemmas.{spelled_along}
@@ -199,21 +198,21 @@ small_parts n v le =
     )
 
 -- the nibbles of n bytes of each end
-pub ends_nibbles : {c : CheckCase} {s v : List ℕ} (r : List ℕ) (at n : ℕ) → v ≡ chunk 0 n s ++ chunk at n s → AreNibbles c v r → length r ≡ n + n → at + n ≤ length s
+pub ends_nibbles : {c : CheckCase} {s v : List ℕ} (old r : List ℕ) (at n : ℕ) → v ≡ put_chunk n (put_chunk 0 old (chunk 0 n s)) (chunk at n s) → length old ≡ n + n → AreNibbles c v r → length r ≡ n + n → at + n ≤ length s
     → NibblesFrom c s 0 n (take n r) × NibblesFrom c s at n (drop n r)
-ends_nibbles {c} {s} {v} r at n is are long inside =
-    let f = chunk 0 n s in let b = chunk at n s in
-    let one : length f ≡ n = length-chunk 0 n s (omega arith) in let two = length-chunk at n s inside in
-    let both : length v ≡ n + n = ap length is ∙ length-append f b ∙ omega arith in
-    let lane : (i j : ℕ) → get_or (f ++ b) i 0 ≡ get_or s j 0 → i < n + n → IsNibble (value c (get_or s j 0)) (get_or r i 0) = λ i j read lt.
+ends_nibbles {c} {s} {v} old r at n is room are long inside =
+    let f = chunk 0 n s in let b = chunk at n s in let mid = put_chunk 0 old f in
+    let one : length f ≡ n = length-chunk 0 n s (omega arith) in let two = length-chunk at n s inside in let same = length-put_chunk 0 old f in
+    let both : length v ≡ n + n = ap length is ∙ length-put_chunk n mid b ∙ same ∙ room in
+    let lane : (i j : ℕ) → get_or (put_chunk n mid b) i 0 ≡ get_or s j 0 → i < n + n → IsNibble (value c (get_or s j 0)) (get_or r i 0) = λ i j read lt.
     rw (← read, ← is) (are i (omega (arith, both, lt))) in (
       record {
         long = length-take-le n r (omega arith);
-        each = λ k lt. rw (get_or-take n r k 0 lt) (lane k (0 + k) (get_or_append_left f b 0 k (omega arith) ∙ get_or-chunk 0 n s k 0 lt) (omega arith));
+        each = λ k lt. let same : k ≡ 0 + k = omega arith in rw (get_or-take n r k 0 lt) (lane k (0 + k) (get_or-put_chunk_below n mid b k 0 lt ∙ ap (λ i. get_or mid i 0) same ∙ get_or-put_chunk_at 0 old f k 0 (omega arith) (omega arith) ∙ get_or-chunk 0 n s k 0 lt) (omega arith));
       },
       record {
         long = length-drop n r ∙ omega arith;
-        each = λ k lt. rw (get_or-drop n r k 0) (lane (n + k) (at + k) (back_at f b k (n + k) (omega arith) ∙ get_or-chunk at n s k 0 lt) (omega arith));
+        each = λ k lt. rw (get_or-drop n r k 0) (lane (n + k) (at + k) (get_or-put_chunk_at n mid b k 0 (omega arith) (omega arith) ∙ get_or-chunk at n s k 0 lt) (omega arith));
       },
     )
 

@@ -1,7 +1,7 @@
 //! Decoding by blocks: nibbles in registers, and the stores of their bytes.
 
-ghost use Rattle.std.specs.Prelude.{◌≡◌, ◌++◌, ◌+◌, ◌-◌, ◌*◌, ◌<◌, ◌≤◌, length};
-ghost use Rattle.std.specs.Simd.Lanes.{chunk, put_chunk};
+ghost use Rattle.std.specs.Prelude.{◌≡◌, ◌+◌, ◌-◌, ◌*◌, ◌<◌, ◌≤◌, length};
+ghost use Rattle.std.specs.Simd.Lanes.{put_chunk};
 ghost use Rattle.hex_core.specs.Arithmetic.{packed};
 ghost use Rattle.hex_core.specs.Blocks.{NibblesFrom};
 ghost use Rattle.hex_core.specs.Calls.{DecodesWhole};
@@ -47,20 +47,6 @@ where
     pack_at(back, dst, end - HALF);
 }
 
-// `N` bytes of each end in one vector. The compiler makes no array of it.
-#[inline(always)]
-fn ends<const N: usize, const TWICE: usize>(src: &[u8]) -> Simd<u8, TWICE>
-    requires lanes { TWICE ≡ 2 * N }
-    requires inside { N ≤ length src.now }
-    ensures { result ≡ chunk 0 N src.now ++ chunk (length src.now - N) N src.now }
-{
-    let mut both = [0; TWICE];
-    let lanes = &mut both[..];
-    Simd::<u8, N>::from_slice(src).copy_to_slice(lanes);
-    Simd::<u8, N>::from_slice(&src[src.len() - N..]).copy_to_slice(&mut lanes[N..]);
-    Simd::from_array(both)
-}
-
 /// Decodes `N` to `2 * N` digits, both ends as one vector. Tests all of them before the first store.
 #[inline(always)]
 pub fn decode_ends<const N: usize, const TWICE: usize, const HALF: usize>(
@@ -76,12 +62,17 @@ where
     requires covered { EndsCover N src.now }
     ensures { DecodesWhole case src.now dst.old dst.new result }
 {
-    let nibbles = saturated(ends::<N, TWICE>(src), case);
+    // The compiler keeps both arrays in registers.
+    let mut both = [0; TWICE];
+    let lanes = &mut both[..];
+    Simd::<u8, N>::from_slice(src).copy_to_slice(lanes);
+    Simd::<u8, N>::from_slice(&src[src.len() - N..]).copy_to_slice(&mut lanes[N..]);
+    let nibbles = saturated(Simd::from_array(both), case);
     if !is_small(nibbles) {
         return false;
     }
-    let bytes = Lanes::pack(nibbles).to_array();
-    let bytes = &bytes[..];
+    let packed = Lanes::pack(nibbles).to_array();
+    let bytes = &packed[..];
     let end = dst.len();
     Simd::<u8, HALF>::from_slice(bytes).copy_to_slice(dst);
     Simd::<u8, HALF>::from_slice(&bytes[HALF..]).copy_to_slice(&mut dst[end - HALF..]);
