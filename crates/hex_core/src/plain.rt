@@ -42,7 +42,7 @@ fn check_short(src: &[u8], case: CheckCase) -> bool
     }
 }
 
-/// Decodes `src` over all of `dst`, or returns false and writes nothing. Up to 128 digits are
+/// Decodes `src` over all of `dst`, or returns false and writes nothing. Up to 192 digits are
 /// decoded inline, so that a length known to the caller needs no choice at run time.
 #[inline(always)]
 pub fn decode_by_length(src: &[u8], dst: &mut [u8], case: CheckCase) -> bool
@@ -54,7 +54,8 @@ pub fn decode_by_length(src: &[u8], dst: &mut [u8], case: CheckCase) -> bool
         17..=32 => decode_ends::<16, 32, 8>(src, dst, case),
         33..=64 => decode_ends::<32, 64, 16>(src, dst, case),
         65..=128 => decode_two::<64, 32>(src, dst, case),
-        129..=256 => decode_in_registers(src, dst, case),
+        129..=192 => decode_three::<64, 32>(src, dst, case),
+        193..=256 => decode_in_registers(src, dst, case),
         _ => decode_long(src, dst, case),
     }
 }
@@ -74,18 +75,16 @@ fn decode_short(src: &[u8], dst: &mut [u8], case: CheckCase) -> bool
     }
 }
 
-// The same for 129 to 256 digits. It is inlined where it is called once, so that the policy is known.
+// The same for 193 to 256 digits, apart: with its blocks in it, `decode_by_length` would not be
+// inlined.
+#[inline(never)]
 fn decode_in_registers(src: &[u8], dst: &mut [u8], case: CheckCase) -> bool
     requires twice { length src.now ≡ 2 * length dst.old }
-    requires more { 128 < length src.now }
+    requires more { 128 ≤ length src.now }
     requires most { length src.now ≤ 256 }
     ensures { DecodesWhole case src.now dst.old dst.new result }
 {
-    if src.len() <= 192 {
-        decode_three::<64, 32>(src, dst, case)
-    } else {
-        decode_four::<64, 32>(src, dst, case)
-    }
+    decode_four::<64, 32>(src, dst, case)
 }
 
 /// Encodes `src` over all of `dst`.
