@@ -3,8 +3,8 @@
 // First it checks that each call answers what it should.
 // bench/run writes the list of calls, calls.h. It compiles with -DRUST where the Rust crate is linked, and
 // then with KERNEL, the name of that crate's kernel whose vectors are as wide as this build's.
-// Usage: bench [sweep | shared | CALL BYTES]. A sweep times three calls at many lengths, and `shared` those of
-// the shared library beside the Rust crate's public ones. The last makes one call, by its number in that list.
+// Usage: bench [sweep | shared]. A sweep times three calls at many lengths, and `shared` those of the shared
+// library beside the Rust crate's public ones.
 #include <malloc.h>
 #include <stdbool.h>
 #include <stdint.h>
@@ -299,12 +299,6 @@ static void leave_out(enum mode mode) {
 int main(int count, char **words) {
     enum mode mode = count != 2 ? ALL : !strcmp(words[1], "sweep") ? SWEEP : SHARED;
     fill();
-    if (count == 3) {
-        const struct call *call = &calls[strtoul(words[1], NULL, 10)];
-        struct task task = task_of(call, strtoul(words[2], NULL, 10));
-        sink = call->loop(&task, 1);
-        return 0;
-    }
     if (mode == SWEEP) {
         set_swept_sizes();
     }

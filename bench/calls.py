@@ -3,26 +3,27 @@ a source and a destination, and answers how many bytes it wrote, or entries it r
 whatever is refused 0."""
 import collections
 
-# Of each call what it works on, its plan or crate, its name, what its answer is, and its words.
-PLAIN = """
+# Of each call what it works on, its plan or crate, its name, what its answer is, and its words. First those
+# that are compiled alone each, as in a program that makes no other call.
+ALONE = """
 CHECK plain check test hex_check(src)
+ENCODE plain encode count hex_encode_into(src, dst, false)
+DECODE plain decode count hex_decode_into(src, dst, CheckCase::None)
+"""
+PLAIN = """
 CHECK plain first_invalid place Backend::plain().first_invalid(src, CheckCase::None)
-ENCODE plain encode_slice list hex_encode(src, dst)
-ENCODE plain encode_into count hex_encode_into(src, dst, false)
-DECODE plain decode_slice list hex_decode(src, dst)
-DECODE plain decode_into count hex_decode_into(src, dst, CheckCase::None)
+ENCODE plain write_to number put(src, dst)
 DECODE plain decode_owned whole Backend::plain().decode_owned(src, dst, CheckCase::None)
 CHUNKS by_all decode count hex_decode_into(src, dst, CheckCase::None)
+CHUNKS by_chunk feed number fed(src, dst, 65536)
 LIST lists read list digests::read::<32>(alloc, src, CheckCase::None)
 NEW_LIST lists read_anew list digests::read::<32>(alloc, src, CheckCase::None)
 """
-# In pieces of so many bytes, and in chunks of so many digits.
+# In pieces of so many bytes.
 GROUPED = """
 WRITE by_{n} write number write_by(src, dst, {n})
 READ by_{n} read number read_by(src, dst, {n})
 """
-FED = "CHUNKS by_{n} feed number fed(src, dst, {n})"
-CALLED = "CHUNKS by_{n} decode number called(src, dst, {n})"
 PLAN = """
 CHECK {plan} check test {value}.check(src, CheckCase::None)
 ENCODE {plan} encode fixed {value}.encode(src, dst, false)
@@ -110,15 +111,14 @@ class Call(collections.namedtuple("Call", "kind side plan name answer words")):
 
 def calls(side, table, **words):
     """The calls of a table, where these words stand in the brackets."""
-    rows = table.format(**words).strip().split("\n")
-    return [Call(kind, side, *rest) for kind, *rest in (row.split(" ", 4) for row in rows)]
+    rows = table.format(**words).split("\n")
+    return [Call(kind, side, *rest) for kind, *rest in (row.split(" ", 4) for row in rows if row)]
 
 
 def own_calls():
     """Those of this repository's libraries for Rattle."""
-    found = calls("own", PLAIN)
-    for table, numbers in (GROUPED, PIECES), (FED, (65536, 63, 7, 1)), (CALLED, (64, 8, 2)):
-        found += [it for n in numbers for it in calls("own", table, n=n)]
+    found = calls("own", ALONE + PLAIN)
+    found += [it for n in PIECES for it in calls("own", GROUPED, n=n)]
     for index, plan in enumerate(PLANS):
         found += calls("own", PLAN, plan=plan, value=f"backends()[{index}]")
     return found
@@ -139,11 +139,10 @@ def c_calls(is_shared):
 
 
 def header(found, width):
-    """The list of calls for bench.c, with the modes that each is of. A sweep times three, and the kernel of
-    this width beside them."""
+    """The list of calls for bench.c, with the modes that each is of. A sweep times three, beside them the
+    kernel of this width, and the calls on slices."""
     names = "check", "encode", "decode"
-    swept = ["own_plain_check", "own_plain_encode_into", "own_plain_decode_into"]
-    swept += [f"rust_{width}_{it}" for it in names]
+    swept = [f"{side}_{it}" for side in ("own_plain", f"rust_{width}", "rust_slices") for it in names]
     shared = [f"{side}_{it}" for side in ("c_shared", "rust_public") for it in names]
     lines = []
     for call in found:

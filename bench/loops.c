@@ -85,14 +85,15 @@ struct entry {
     bool binary;
 };
 
-size_t own_digest(const uint8_t *src, size_t len, uint8_t *dst, size_t room);
+size_t own_plain_decode(const uint8_t *src, size_t len, uint8_t *dst, size_t room);
 
 // Writes an entry for each line, each so many behind the one before it, and answers how many there are.
 static size_t entries_of(const uint8_t *at, const uint8_t *end, struct entry *entry, size_t step) {
     const uint8_t *newline;
     size_t lines = 0;
     while ((newline = memchr(at, '\n', end - at)) != NULL) {
-        if (newline - at < 2 * DIGEST + 2 || own_digest(at, 2 * DIGEST, entry->digest, DIGEST) != DIGEST) {
+        if (newline - at < 2 * DIGEST + 2
+            || own_plain_decode(at, 2 * DIGEST, entry->digest, DIGEST) != DIGEST) {
             return 0;
         }
         entry->name = at + 2 * DIGEST + 2;
