@@ -16,7 +16,7 @@
 // The rounds of a size are spread over the whole run, since a shared machine has slow seconds.
 #define PASSES 20
 // A sweep, with few calls, has time for more.
-#define SWEEP_PASSES 160
+#define SWEEP_PASSES 40
 // How far below the last one a pass begins: twenty go round a page.
 #define PLACE 208
 #define PAGE 4096
