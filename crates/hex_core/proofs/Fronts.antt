@@ -1,75 +1,98 @@
--- The front of a slice is lent, and the slice ends as what is left of it, with the rest behind.
-use mathlib.Core.Path.{◌≡◌, refl, sym, ap, ◌∙◌, subst₂}
-use Prim.Native.Nat.{ℕ, ◌+◌}
-use mathlib.Core.List.{List, [], ◌∷◌, ◌++◌}
-use lib.ListN.{length, length-append}
-use seplogic.Ra.Ura.{Ura}
-use mir.Syntax.{Lifetime}
-use base.Logic.{SProp, ent, sep, ex}
-use base.Stored.{coded_list}
-use base.Fml.{Lft, GName, Share, flft, fobs, fbor}
-use types.Logic.{Logic, sem}
-use types.Mut.{open_ref}
-use types.Follow.{takes_part}
-use types.SemTy.{cells, Arr, Body}
-use types.Kit.{Item, ‵, ◌⊛◌, mean, some, later, ◌$◌, ◌∵◌, !, qed, move, drop, use1, use2, split, split3, group, pick, rewrite}
-use types.Kit.{fsplit, fsplit3, fjoin, feq_i, feq_l, show, await, updating, now, done}
-use denote.RattleType.{RattleType}
-use denote.Ref.{MutBor}
-use denote.Memory.{mem}
-use denote.Array.{Array}
-use denote.Follow.{follows}
-use denote.FollowSlice.{heres_id, slice_of}
-use denote.Slice.{MutSlice, Room, slice_val}
-use borrow.Table.Elements.{at, cut_app, join_app}
-use Rattle.std.proofs.ResultValues.{ok_of, ok_val}
+-- The front of a slice of bytes is lent, and the slice ends as what is left in it with the rest behind. What the slice
+-- borrows is made an array, which lends its first bytes.
+use Rattle.hex_core.proofs.WalkKit.{◌≡◌, refl, ap, sym, ℕ, arith, List, [], ◌∷◌, length, MutBor, Ok, Ura}
+use Rattle.hex_core.proofs.WalkKit.{Lifetime, erased, Val, ent, sep, emp, Lft, GName, Share}
+use Rattle.hex_core.proofs.WalkKit.{ftrue, flft, fdead, fobs, full_share, coded_list, Logic, sem, Item, mean, ‵}
+use Rattle.hex_core.proofs.WalkKit.{◌⊛◌, some, given, later, ◌$◌, ◌∵◌, !, qed, move, keep, drop, rewrite}
+use Rattle.hex_core.proofs.WalkKit.{split, split3, fsplit, fsplit3, fjoin, feq_i, use1, use2, await, pick, learn, done}
+use Rattle.hex_core.proofs.WalkKit.{BareSlice, u8, heres_id, RattleType, MutSlice, Room, slice_val, nothing, ok_val}
+use Rattle.std.proofs.Common.{◌++◌, length-append}
+use Rattle.std.proofs.ResultValues.{ok_of}
 use Rattle.std.specs.contracts.result.Result as RS
-use Rattle.std.specs.Prelude.{Ok}
-use borrow.Table.Owned.{MutSlice as BareSlice}
+use base.Fml.{Fml, fauth, fbor, feq, fex, fsep, fseps, fupd, fwand}
+use base.Logic.{ex, fst∗, mono_r, upd_i, via}
+use borrow.Rule.Array.SliceTied.{mut_arr_front}
+use denote.Array.{Array}
+use denote.ArrayMemory.{Array-apart, Array-whole}
+use denote.Follow.{follows}
+use denote.Index.{whole_in, whole_out}
+use denote.Memory.{mem}
+use types.Kit.{assume, by, fpack, fpick, now, show, suffices, updating, use0}
+use types.SemTy.{Arr}
+use types.Tokens.{bor_open, obor_alter}
 
-module _ {M : Type 1} {𝓤 : Ura M} (𝓛 : Logic 𝓤) (R E : RattleType) (ℓ : Lifetime) (κ : Lft) (q : Share) (b o : ℕ) (γ : GName) (front rest : List R.Denot) where
+-- over a slice of bytes, its lifetime, and a share of the token
+module _ {M : Type 1} {𝓤 : Ura M} (𝓛 : Logic 𝓤) (slice : MutBor (List ℕ)) (κ : Lft) (q : Share) where
   open 𝓛 use {H, A}
 
-  -- the front under a new name, in a result, as a slice of n elements; the token; and what the slice ends as
-  abbrev pub front_lent : ℕ → GName → Item 𝓤
-  front_lent n δ = ‵ ((RS.the_row (MutSlice ℓ κ R) E).own_val (Ok (record { ref_ptr = (b, o); ghost_name = δ; now = front })) (ok_val (slice_val (b, o) n) ∷ []))
-      ⊛ ‵ (flft κ q) ⊛ ‵ (follows (Array R 0) (Array R 0) γ δ (λ ws. ws ++ rest))
+  -- as many bytes in its place: side by side, as a slice borrows them, and as one array
+  abbrev Side : List ℕ → Fml
+  Side bytes = (Arr (mem u8) (length slice.now)).own_at bytes slice.ref_ptr.0 slice.ref_ptr.1
 
-  abbrev FrontLent : ℕ → GName → SProp 𝓤
-  FrontLent n δ = mean 𝓛 (front_lent n δ)
+  abbrev Block : List ℕ → Fml
+  Block bytes = (mem (Array u8 (length slice.now))).own_at bytes slice.ref_ptr.0 slice.ref_ptr.1
 
-  abbrev Others : SProp 𝓤
-  Others = sem 𝓛 (cells (mem R) rest b (at o (mem R).size (length front)))
+  gathered : (bytes : List ℕ) → ent 𝓤 (sem 𝓛 (Side bytes)) (sem 𝓛 (Block bytes))
+  gathered bytes = via 𝓤 _ (mono_r 𝓤 (sem 𝓛 (feq ℕ (length bytes) (length slice.now))) (whole_out 𝓛 u8 bytes slice.ref_ptr.0 slice.ref_ptr.1))
+      (Array-whole 𝓛 u8 full_share (length slice.now) bytes slice.ref_ptr.0 slice.ref_ptr.1)
 
-  -- whatever stands in the place of the front, the rest is behind it
-  joins : (ws : List R.Denot)
-      → ent 𝓤 (sep 𝓤 (sem 𝓛 ((Arr (mem R) (length front)).own_at ws b o)) Others) (sem 𝓛 ((Arr (mem R) (length (front ++ rest))).own_at (ws ++ rest) b o))
-  joins ws =
-      qed 𝓛 (‵ ((Arr (mem R) (length front)).own_at ws b o) ∷ ‵ (cells (mem R) rest b (at o (mem R).size (length front))) ∷ []) ∵ fsplit ! $ feq_l ! (λ e.
-      move ! (1 ∷ []) $ rewrite ! 0 (λ (k : ℕ). ‵ (cells (mem R) rest b (at o (mem R).size k))) (sym e) refl $
-      move ! (1 ∷ 0 ∷ []) $ use2 𝓛 (‵ (cells (mem R) (ws ++ rest) b o)) (join_app 𝓛 (mem R) ws rest b o) $
-      feq_i ! ℕ (length (ws ++ rest)) (length (front ++ rest)) (length-append ws rest ∙ ap (λ (k : ℕ). k + length rest) e ∙ sym (length-append front rest)) $
-      fjoin ! $ done !)
+  spread : (bytes : List ℕ) → ent 𝓤 (sem 𝓛 (Block bytes)) (sem 𝓛 (Side bytes))
+  spread bytes = via 𝓤 _ (Array-apart 𝓛 u8 full_share tt (length slice.now) bytes slice.ref_ptr.0 slice.ref_ptr.1)
+      (mono_r 𝓤 (sem 𝓛 (feq ℕ (length bytes) (length slice.now))) (whole_in 𝓛 u8 bytes slice.ref_ptr.0 slice.ref_ptr.1))
 
-  lends : Room R (length front)
-      → ent 𝓤 (sep 𝓤 (sem 𝓛 ((BareSlice ℓ κ R).own_val (record { ref_ptr = (b, o); ghost_name = γ; now = front ++ rest }))) (A.lft κ q)) (H.⇛ (ex 𝓤 (FrontLent (length front))))
-  lends room =
-      let code = (coded_list R.coded).code in
-      qed 𝓛 (‵ ((BareSlice ℓ κ R).own_val (record { ref_ptr = (b, o); ghost_name = γ; now = front ++ rest })) ∷ ‵ (flft κ q) ∷ []) ∵ updating ! $ fsplit3 ! $ drop ! $
-      rewrite ! 0 (λ (l : List R.Denot). ‵ (fobs γ ((coded_list R.coded).code l))) (heres_id R (front ++ rest)) refl $
-      open_ref ! tt (Arr (mem R) (length (front ++ rest))) {b = b} {o = o} $ fsplit ! $ drop ! $
-      use1 𝓛 (‵ (cells (mem R) front b o) ⊛ ‵ (cells (mem R) rest b (at o (mem R).size (length front)))) (cut_app 𝓛 (mem R) front rest b o) $ split ! $
-      feq_i ! ℕ (length front) (length front) refl $ fjoin ! $ move ! (2 ∷ 3 ∷ 4 ∷ 0 ∷ 1 ∷ []) $ group ! 5 $
-      use1 𝓛 (later (some (λ (δ : GName). ‵ (fobs δ ((coded_list R.coded).code front)) ⊛ ‵ (fbor κ (Body (Arr (mem R) (length front)) b o δ)) ⊛ ‵ (flft κ q) ⊛ ‵ (follows (Array R 0) (Array R 0) γ δ (λ ws. ws ++ rest)))))
-      (takes_part 𝓛 (Arr (mem R) (length (front ++ rest))) (Arr (mem R) (length front)) (λ ws. ws ++ rest) κ q b o b o γ Others joins
-      (code (front ++ rest)) (code (front ++ rest)) front) $
-      await ! tt $ pick ! (λ δ. let part : MutBor (List R.Denot) = record { ref_ptr = (b, o); ghost_name = δ; now = front } in
-      split3 ! $ use2 𝓛 (‵ ((MutSlice ℓ κ R).own_val part (slice_val (b, o) (length front) ∷ []))) (slice_of 𝓛 R ℓ κ b o δ front room) $
-      use1 𝓛 (‵ ((RS.the_row (MutSlice ℓ κ R) E).own_val (Ok part) (ok_val (slice_val (b, o) (length front)) ∷ []))) (ok_of 𝓛 (MutSlice ℓ κ R) E part (slice_val (b, o) (length front))) $
-      now ! $ show ! (FrontLent (length front)) δ $ done !)
+  -- some bytes that lie so, which the slice's name knows
+  abbrev Held : (List ℕ → Fml) → List ℕ → Fml
+  Held Lie bytes = fsep (Lie bytes) (fauth slice.ghost_name ((coded_list u8.coded).code bytes))
 
-  -- the same of a slice that is known to begin so
-  pub lends_front : (n : ℕ) (xs : List R.Denot) → length front ≡ n → xs ≡ front ++ rest → Room R (length front)
-      → ent 𝓤 (sep 𝓤 (sem 𝓛 ((BareSlice ℓ κ R).own_val (record { ref_ptr = (b, o); ghost_name = γ; now = xs }))) (A.lft κ q)) (H.⇛ (ex 𝓤 (FrontLent n)))
-  lends_front n xs count is room = subst₂ (λ (k : ℕ) (ys : List R.Denot). ent 𝓤 (sep 𝓤 (sem 𝓛 ((BareSlice ℓ κ R).own_val (record { ref_ptr = (b, o); ghost_name = γ; now = ys }))) (A.lft κ q)) (H.⇛ (ex 𝓤 (FrontLent k))))
-      count (sym is) (lends room)
+  abbrev Some : (List ℕ → Fml) → Fml
+  Some Lie = fex (List ℕ) (Held Lie)
+
+  turned : (S T : List ℕ → Fml) → ((bytes : List ℕ) → ent 𝓤 (sem 𝓛 (S bytes)) (sem 𝓛 (T bytes))) → ent 𝓤 (sem 𝓛 (Some S)) (sem 𝓛 (Some T))
+  turned S T each = qed 𝓛 (‵ (Some S) ∷ []) ∵ fpick ! (λ bytes. fsplit ! $ use1 𝓛 (‵ (T bytes)) (each bytes) $ fjoin ! $
+      fpack ! (List ℕ) (Held T) bytes $ done !)
+
+  -- what is there once the lifetime is over
+  abbrev Due : Fml
+  Due = fsep (fdead κ) (fsep (Some Block) ftrue)
+
+  back : ent 𝓤 (emp 𝓤) (sem 𝓛 (fwand Due (fupd (Some Side))))
+  back = qed 𝓛 [] ∵ assume ! (‵ Due) $ suffices ! (sem 𝓛 (Some Side)) (upd_i 𝓤 (sem 𝓛 (Some Side))) $
+      fsplit3 ! $ keep ! (1 ∷ []) $ by ! (turned Block Side spread)
+
+  -- a borrow of the bytes is made one of the array
+  as_array : ent 𝓤 (sep 𝓤 (A.bor κ (Some Side)) (A.lft κ q)) (H.⇛ (sep 𝓤 (A.bor κ (Some Block)) (A.lft κ q)))
+  unfolding fseps
+  as_array = qed 𝓛 (‵ (fbor κ (Some Side)) ∷ ‵ (flft κ q) ∷ []) ∵ updating ! $ bor_open ! tt $
+      use0 𝓛 (‵ (fwand Due (fupd (Some Side)))) back $ move ! (2 ∷ []) $
+      use1 𝓛 (‵ (Some Block)) (turned Side Block gathered) $ nothing ! $ move ! (1 ∷ 0 ∷ []) $ fjoin ! $ move ! (2 ∷ 0 ∷ 1 ∷ []) $
+      obor_alter ! tt (Some Block ∷ []) $ use1 𝓛 (‵ (fbor κ (Some Block))) (fst∗ 𝓤 (A.bor κ (Some Block)) (emp 𝓤)) $ now ! $ done !
+
+  module _ (E : RattleType) (ℓ : Lifetime) (front rest : List ℕ) where
+    abbrev lent : GName → MutBor (List ℕ)
+    lent δ = record slice { ghost_name = δ; now = front }
+
+    -- the slice ends as what the front ends as, with the rest behind
+    abbrev Ends : GName → Fml
+    Ends δ = follows (Array u8 0) (Array u8 0) slice.ghost_name δ (λ ws. ws ++ rest)
+
+    -- the front in a result, as a slice of n bytes
+    abbrev Answer : ℕ → GName → Fml
+    Answer n δ = (RS.the_row (MutSlice ℓ κ u8) E).own_val (Ok (lent δ)) (ok_val (slice_val slice.ref_ptr n) ∷ [])
+
+    abbrev pub front_lent : ℕ → GName → Item 𝓤
+    front_lent n δ = ‵ (Answer n δ) ⊛ ‵ (flft κ q) ⊛ ‵ (Ends δ)
+
+    pub lends_front : (n : ℕ) → length front ≡ n → slice.now ≡ front ++ rest → Room u8 (length front)
+        → ent 𝓤 (sep 𝓤 (sem 𝓛 ((BareSlice ℓ κ u8).own_val slice)) (A.lft κ q)) (H.⇛ (ex 𝓤 (λ δ. mean 𝓛 (front_lent n δ))))
+    lends_front n count is room =
+        let ends : (ws : List ℕ) → length ws ≡ length front → (ws ++ rest ≡ ws ++ rest) × (length (ws ++ rest) ≡ length slice.now) = λ ws same.
+        (refl, omega (arith, same, length-append ws rest, length-append front rest, ap length is)) in
+        qed 𝓛 (‵ ((BareSlice ℓ κ u8).own_val slice) ∷ ‵ (flft κ q) ∷ []) ∵ updating ! $ fsplit3 ! $ drop ! $ move ! (1 ∷ 2 ∷ []) $
+        use2 𝓛 (later (‵ (fbor κ (Some Block)) ⊛ ‵ (flft κ q))) as_array $ await ! tt $ split ! $ move ! (2 ∷ []) $
+        rewrite ! 0 (λ (ys : List ℕ). ‵ (fobs slice.ghost_name ((coded_list u8.coded).code ys))) (heres_id u8 slice.now) refl $ fjoin ! $
+        use2 𝓛 (later (given (length slice.now ≡ length slice.now) (some (λ (δ : GName). ‵ ((BareSlice erased κ u8).own_val (lent δ)) ⊛ ‵ (flft κ q) ⊛ ‵ (Ends δ)))))
+        (mut_arr_front 𝓛 u8 (length slice.now) κ q slice front rest (λ ws. ws ++ rest) tt (λ _. (is, room, ends))) $ await ! tt $ learn ! (λ _.
+        pick ! (λ δ. split3 ! $ fsplit ! $ feq_i ! (List Val) (slice_val slice.ref_ptr n ∷ []) (slice_val slice.ref_ptr (length front) ∷ [])
+        (ap (λ (k : ℕ). slice_val slice.ref_ptr k ∷ []) (sym count)) $ fjoin ! $ fjoin ! $
+        use1 𝓛 (‵ (Answer n δ)) (ok_of 𝓛 (MutSlice ℓ κ u8) E (lent δ) (slice_val slice.ref_ptr n)) $
+        now ! $ show ! (λ δ'. mean 𝓛 (front_lent n δ')) δ $ done !))

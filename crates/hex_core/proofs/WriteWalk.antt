@@ -70,7 +70,7 @@ module _ (E : Known) (τ₁ τ₂ τ₃ τ₄ : Ty) {M : Type 1} {𝓤 : Ura M} 
             sets t (agg t (and_then t (get t refl) (and_then t (get t refl) (no_more t)))) refl (tt, (tt, (record { fits = fn }, tt))) $
             sets_last t (agg t (and_then t (lit t tt) (and_then t (get t refl) (no_more t)))) refl (tt, (record { fits = lit< tt }, ((tt, (record { fits = fn }, tt)), tt))) $
             exec t C Λ En rest (at_ret En Q) $ sets t (of_opd t (get t refl)) refl (tt, (record { fits = lit< tt }, ((tt, (record { fits = fn }, tt)), tt))) $
-            use2 𝓛 (later (some (front_lent 𝓛 u8 P.row (named 1) κ q b o γ bytes behind n))) (lends_front 𝓛 u8 P.row (named 1) κ q b o γ bytes behind n new wrote.1 wrote.2 room) $ await t tt $ pick t (λ δ'. split3 t $
+            use2 𝓛 (later (some (front_lent 𝓛 (record dst { now = new }) κ q P.row (named 1) bytes behind n))) (lends_front 𝓛 (record dst { now = new }) κ q P.row (named 1) bytes behind n wrote.1 wrote.2 room) $ await t tt $ pick t (λ δ'. split3 t $
             let front : MutBor (List ℕ) = record dst { ghost_name = δ'; now = bytes } in
             returns t (look_at t 0 refl) $ free_all t refl $ move t (0 ∷ 2 ∷ []) $ ends (ok_val (slice_val (b, o) n)) (Ok front) (wrote.3 front refl))),
         ((λ e. absurd (omega arith)), tt),
