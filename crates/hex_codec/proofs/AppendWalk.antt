@@ -1,14 +1,20 @@
 -- The walk of `hex_append` and of `hex_append_upper`: both pass on what `append_in` answers, with the lender in the other place.
-use Rattle.hex_core.proofs.WalkKit.{refl, Bool, [], ◌∷◌, length, Ura, Callee, Fn, Ty, named, erased, mut, ty_ref, place, deref, local, value_local, copy, addr_of, seq, assign, call, return, vbool, sep, emp, id⊢, Lft, ftrue, flft, Model, Closed, Logic, sem, ‵, ◌⊛◌, raw, ◌$◌, ◌∵◌, !, qed, move, keep, split, join, fjoin, use1, suffices, done, stop, addr, and_then, no_more, returns, enter, alloc_all, pass_all, free_all, look_at, get, through, sets, lands_as, ◌⊑◌, fact, Running, tables, u8, bool, yes, no, Is, shows, lone, layout, param, bool_vals, bool_Makes, RattleType, MutRef, NamedLft, mut_vals, mut_Tells, plain, mut_ref_to, shr_slice_of, ShrSlice, Room, shr_slice_vals, shr_slice_Tells, nothing, owned, peeks, Clauses, closing, Meets, Goes-dropped, Goes-spent_ref, Stays, ends_at, stay_dropped, proved}
+use Rattle.hex_core.proofs.WalkKit.{refl, Bool, true, false, List, [], ◌∷◌, length, Ura, Callee, Fn, Operand, Ty, named, erased, mut, ty_ref, place, deref}
+use Rattle.hex_core.proofs.WalkKit.{local, value_local, copy, addr_of, seq, assign, call, return, vbool, sep, emp, id⊢, Lft, ftrue, flft, Model, Closed, Logic}
+use Rattle.hex_core.proofs.WalkKit.{sem, Item, Env, ‵, ◌⊛◌, raw, ◌$◌, ◌∵◌, !, qed, move, keep, split, join, fjoin, use1, suffices, done, stop, addr, true_lit}
+use Rattle.hex_core.proofs.WalkKit.{false_lit, and_then, no_more, returns, enter, alloc_all, pass_all, free_all, look_at, get, through, sets, lands_as, ◌⊑◌}
+use Rattle.hex_core.proofs.WalkKit.{fact, Running, tables, u8, bool, yes, no, Is, shows, lone, layout, param, bool_vals, bool_Makes, RattleType, MutRef}
+use Rattle.hex_core.proofs.WalkKit.{NamedLft, mut_vals, mut_Tells, plain, mut_ref_to, shr_slice_of, ShrSlice, Room, shr_slice_vals, shr_slice_Tells, nothing}
+use Rattle.hex_core.proofs.WalkKit.{owned, peeks, Clauses, closing, Meets, Goes-dropped, Goes-spent_ref, Stays, ends_at, stay_dropped, proved}
 use borrow.Table.Str.{str_laws}
 use denote.Param.Laws.{field_told}
 use denote.Text.{str-field, str-laws}
-use mir.Syntax.{Dict}
+use mir.Syntax.{Dict, opd_true, opd_false}
+use types.Run.{Opd}
 use Rattle.std.specs.Io.BufRead.{Rests}
 use Rattle.std.specs.contracts.string.String as S
 use Rattle.hex_core.proofs.Lent.{Known, Refusal, ResultOf, calls, typed}
 use Rattle.std.specs.declared.alloc.Allocator.{Ghosts}
-use Rattle.hex_codec.proofs.EncodeWalk.{choice, passed}
 use Rattle.hex_codec.specs.Append.{AnswersSuffix, AppendsDigits}
 use Rattle.hex_codec.specs.contracts.strings.append_in as h
 use Rattle.hex_codec.specs.contracts.strings.hex_append as f
@@ -19,6 +25,15 @@ Text slot = record { row = (str-field slot).row; laws = str_laws slot; told = fi
 -- the answer, whose text is borrowed for the second lifetime
 abbrev Answer : Lft → Known
 Answer κ = ResultOf (Text (record { mir = named 1; lft = κ })) Refusal
+
+-- the choice of letters, as a call passes it
+abbrev passed : Bool → Operand
+passed true = opd_true
+passed false = opd_false
+
+choice : {M : Type 1} {𝓤 : Ura M} {𝓛 : Logic 𝓤} {K : Type 0} {Γ : List (Item 𝓤)} {E : Env 𝓤 𝓛.H} → K → (upper : Bool) → Opd K 𝓛 Γ E (passed upper) (vbool upper)
+choice t true = true_lit t
+choice t false = false_lit t
 
 -- the two bodies, at a string's type as a reference names it and as it lies
 abbrev pub function : Ty → Ty → Callee → Bool → Fn

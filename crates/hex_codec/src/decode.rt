@@ -71,7 +71,8 @@ pub fn hex_decode<'a>(src: &[u8], dst: &'a mut [u8]) -> Result<&'a mut [u8], Err
     ensures* lends { sem 𝓛 (LendsAnswer dst.entry result) }
     ensures answer { DecodesFront policy.None src.now (length dst.old) result }
 {
-    hex_decode_with_case(src, dst, CheckCase::None)
+    let case = CheckCase::None;
+    Backend::plain().decode_slice(src, dst, case)
 }
 
 /// Decodes all of `src` into the start of `dst`, accepting the letters of `case`, and returns the

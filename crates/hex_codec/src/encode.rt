@@ -35,7 +35,8 @@ pub fn hex_encode<'a>(src: &[u8], dst: &'a mut [u8]) -> Result<&'a mut [u8], Err
     ensures* lends { sem 𝓛 (LendsAnswer dst.entry result) }
     ensures answer { EncodesFront lowercase src.now (length dst.old) result }
 {
-    Backend::plain().encode_slice(src, dst, false)
+    let upper = false;
+    Backend::plain().encode_slice(src, dst, upper)
 }
 
 /// Encodes all of `src` as uppercase digits into the start of `dst`, and returns the written part.
@@ -56,7 +57,8 @@ pub fn hex_encode_upper<'a>(src: &[u8], dst: &'a mut [u8]) -> Result<&'a mut [u8
     ensures* lends { sem 𝓛 (LendsAnswer dst.entry result) }
     ensures answer { EncodesFront uppercase src.now (length dst.old) result }
 {
-    Backend::plain().encode_slice(src, dst, true)
+    let upper = true;
+    Backend::plain().encode_slice(src, dst, upper)
 }
 
 /// Encodes all of `src` into the start of `dst`, in uppercase if `upper` is true, and returns the

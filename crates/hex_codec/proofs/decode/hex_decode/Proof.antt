@@ -1,38 +1,20 @@
--- `hex_decode` reads both cases.
-use Rattle.hex_core.proofs.WalkKit.{refl, lit<, [], ◌∷◌, length, named, id⊢, ftrue, flft, ‵, ◌⊛◌, ◌$◌, ◌∵◌, !, qed, move, keep, split, join, fsplit3, fjoin, suffices, done, whole, sub, agg, stop, fld, hop, from, addr, lit, and_then, no_more, returns, enter, alloc_all, pass_all, free_all, look_at, look_in_at, get, get_in, sets, lands_as, u8, yes, shows, owns, plain, shr_slice_of, ShrSlice, MutSlice, Room, shr_slice_vals, shr_slice_Tells, mut_slice_vals, mut_slice_Tells, nothing, owned, peeks, Goes-dropped, Goes-spent_slice, ends_at, proved}
-use Rattle.hex_core.proofs.Lent.{Lent, calls, Policy, Refusal, typed, vals}
-use Rattle.hex_codec.proofs.EncodeWalk.{stayed}
-use Rattle.hex_codec.specs.contracts.decode.hex_decode_with_case as h
-use Rattle.hex_codec.proofs.decode.hex_decode_with_case.Met as h_met
+-- `hex_decode` accepts both cases under the plain plan.
+use Rattle.hex_core.proofs.WalkKit.{id⊢, agg, lit, and_then, no_more, Decodes, DecodesFront}
+use Rattle.hex_core.proofs.Lent.{Policy, vals}
+use Rattle.hex_core.proofs.backend.Backend.decode_slice.Met as g_met
 use Rattle.hex_core.specs.contracts.digit.CheckCase as CC
 use Rattle.hex_core.proofs.digit.CheckCase.TheLaws as CL
 use Rattle.hex_core.specs.declared.digit.CheckCase.TheVariants as policy
-use denote.Enum.Laws as enum_laws
+use Rattle.hex_codec.proofs.PlainWalk.{with_constant}
 use Rattle.hex_codec.specs.contracts.decode.hex_decode as f
 use Rattle.hex_codec.proofs.decode.hex_decode.Statement.{statement}
 use Rattle.hex_codec.proofs.decode.hex_decode.Code as code
+use denote.Enum.Laws as enum_laws
 
 pub hex_decode_spec : {M : Type 1} → statement M
 hex_decode_spec 𝓤 𝓛 𝓜 𝓡 wired =
-    let c = f.clauses 𝓛 𝓜.mem 𝓡.returns in
-    proved 𝓛 f.ended stayed c 𝓜 𝓡 (Goes-dropped 𝓛 2 (shr_slice_of (0 ∷ []) tt (plain (λ _. u8))) yes (λ κs x f. refl), (Goes-spent_slice 𝓛 2 (1 ∷ []) tt (plain (λ _. u8)), tt))
-    f.Key.name code.function (code.unfolded 𝓤 𝓛.H 𝓜 𝓡 wired)
-    (λ κs. (shr_slice_vals, (mut_slice_vals, tt))) (λ κs. (shr_slice_Tells (named 0) κs.0 u8, (mut_slice_Tells (named 1) κs.1.0 u8, tt)))
-    (λ κs qs bounds a g₀ are.
-    let κ₀ = κs.0 in let κ = κs.1.0 in let q₀ = qs.0 in let q = qs.1.0 in
-    let src = a.0 in let dst = a.1.0 in let s = src.now in let xs = dst.now in
-    let rs : Room u8 (length s) = are.0.0.1 in let rm : Room u8 (length xs) = are.1.0.0.1 in
-    qed 𝓛 (((‵ (flft κ₀ q₀) ⊛ ‵ (flft κ q) ⊛ ‵ ftrue) ⊛ ‵ (owns (ShrSlice (named 0) κ₀ u8 ∷ MutSlice (named 1) κ u8 ∷ []) a (shr_slice_vals src, (mut_slice_vals dst, tt)))) ∷ ‵ ftrue ∷ []) ∵
-    split ! $ enter ! _ _ _ _ _ $ alloc_all ! (λ l. pass_all ! refl ((tt, (tt, (record { fits = rs.0 }, tt))), ((tt, (tt, (record { fits = rm.0 }, tt))), tt)) $
-    sets ! (addr ! (from ! (fld ! refl (hop ! (look_in_at ! 2 (sub ! 0 refl (whole !))) (stop !))))) refl (tt, tt) $
-    sets ! (agg ! (and_then ! (get ! refl) (and_then ! (get_in ! (fld ! refl (stop !)) (sub ! 1 refl (whole !))) (no_more !)))) refl (tt, (tt, (record { fits = rm.0 }, tt))) $
-    sets ! (agg ! (and_then ! (lit ! tt) (no_more !))) refl (tt, (record { fits = lit< tt }, tt)) $
-    move ! (1 ∷ []) $ fsplit3 ! $ move ! (2 ∷ []) $ owned ! Policy.row _ (enum_laws.makes CC.the_type CL.the_plain 𝓛) policy.None (vals Policy policy.None) (enum_laws.owes CC.the_type CL.the_laws policy.None tt) $
-    fjoin ! $ move ! (2 ∷ 0 ∷ []) $ fjoin ! $ move ! (1 ∷ 0 ∷ []) $ fjoin ! $ move ! (1 ∷ 0 ∷ []) $ join ! $
-    calls ! 𝓜 𝓡 h.ended (h.clauses 𝓛 𝓜.mem 𝓡.returns) (h_met.met 𝓤 𝓛 𝓜 𝓡 (code.calls-hex_codec::decode::hex_decode_with_case 𝓡.env wired))
-    ((κs, qs, tt, (src, (dst, (policy.None, tt))), (shr_slice_vals src, (mut_slice_vals dst, (vals Policy policy.None, tt)))), tt) (id⊢ 𝓤 _) (and_then ! (get ! refl) (and_then ! (get ! refl) (and_then ! (get ! refl) (no_more !)))) (λ w r ws.
-    let Front = Lent Refusal (named 1) κ in peeks ! Front.row _ (shows 𝓛 Front.row) r (w ∷ []) (λ is. lands_as ! refl refl (typed Front 𝓛 r w is) $
-    -- [the result; the tokens; what is said of the arguments; the promises; the locals]
-    returns ! (look_at ! 0 refl) $ free_all ! refl $ keep ! (0 ∷ 1 ∷ 3 ∷ []) $
-    suffices ! _ (ends_at 𝓛 f.ended stayed c ((κs, qs, bounds, a, (shr_slice_vals src, (mut_slice_vals dst, tt))), g₀) w r (tt, (tt, tt)) (tt, (tt, tt))) $
-    nothing ! $ nothing ! $ fjoin ! $ nothing ! $ fjoin ! $ join ! $ move ! (1 ∷ 0 ∷ []) $ join ! $ done !))))
+    with_constant Policy Decodes DecodesFront 𝓤 𝓛 𝓜 𝓡 _ (code.calls-hex_core::backend::Backend::plain 𝓡.env wired)
+    (g_met.met 𝓤 𝓛 𝓜 𝓡 (code.calls-hex_core::backend::Backend::decode_slice 𝓡.env wired)) (f.clauses 𝓛 𝓜.mem 𝓡.returns)
+    policy.None _ (λ K Γ E t. agg t (and_then t (lit t tt) (no_more t)))
+    (enum_laws.makes CC.the_type CL.the_plain 𝓛 policy.None (vals Policy policy.None) (enum_laws.owes CC.the_type CL.the_laws policy.None tt))
+    (λ κs a _ r ws. id⊢ 𝓤 _) _ (code.unfolded 𝓤 𝓛.H 𝓜 𝓡 wired)

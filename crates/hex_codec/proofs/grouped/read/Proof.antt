@@ -1,5 +1,10 @@
 -- `read` reads, and then lends the front.
-use Rattle.hex_core.proofs.WalkKit.{refl, List, [], ◌∷◌, length, named, erased, Val, id⊢, GName, ftrue, flft, full_share, ‵, ◌⊛◌, some, later, Sq, prop, ◌$◌, ◌∵◌, !, qed, move, keep, drop, split, split3, join, fsplit, fsplit3, fjoin, feq_i, use1, use2, await, pick, suffices, frame, done, whole, sub, agg, stop, fld, hop, from, addr, and_then, no_more, enter, alloc_all, pass_all, look_in_at, get, get_in, sets, lft_new, lft_end, kept_f, sl_relend, BareSlice, u8, yes, no, owns, plain, mut_slice_of, shr_slice_of, ShrSlice, MutSlice, Room, shr_slice_vals, shr_slice_Tells, mut_slice_vals, mut_slice_Tells, nothing, heard, Goes-dropped, Goes-spent_slice, Stays, ends_at, says, stay_dropped, walk_of, proved, LendsAnswer}
+use Rattle.hex_core.proofs.WalkKit.{refl, List, [], ◌∷◌, length, named, erased, Val, id⊢, GName, ftrue, flft, full_share, ‵, ◌⊛◌, some, later, Sq, prop}
+use Rattle.hex_core.proofs.WalkKit.{◌$◌, ◌∵◌, !, qed, move, keep, drop, split, split3, join, fsplit, fsplit3, fjoin, feq_i, use1, use2, await, pick}
+use Rattle.hex_core.proofs.WalkKit.{suffices, frame, done, whole, sub, agg, stop, fld, hop, from, addr, and_then, no_more, enter, alloc_all, pass_all}
+use Rattle.hex_core.proofs.WalkKit.{look_in_at, get, get_in, sets, lft_new, lft_end, kept_f, sl_relend, BareSlice, u8, yes, no, owns, plain, mut_slice_of}
+use Rattle.hex_core.proofs.WalkKit.{shr_slice_of, ShrSlice, MutSlice, Room, shr_slice_vals, shr_slice_Tells, mut_slice_vals, mut_slice_Tells, nothing}
+use Rattle.hex_core.proofs.WalkKit.{heard, Goes-dropped, Goes-spent_slice, Stays, ends_at, says, stay_dropped, walk_of, proved, LendsAnswer}
 use Rattle.hex_core.proofs.Lent.{Known, Lent, Policy, calls, typed, vals}
 use Rattle.hex_core.proofs.SliceWalk.{fills_writes}
 use Rattle.hex_core.proofs.WriteWalk.{front_or_refusal}
@@ -40,15 +45,19 @@ read_spec 𝓤 𝓛 𝓜 𝓡 wired =
     let ends : (w : Val) (r : (Lent Fault (named 1) κ).row.Denot) → ReadsFront case group s (length xs) r → Sq 𝓛 (‵ ((Lent Fault (named 1) κ).row.own_val r (w ∷ [])) ∷ ‵ (LendsAnswer dst r) ∷ ‵ (flft κ q) ∷ ‵ (flft κ₀ q₀) ∷ []) (prop (W.post y w)) = λ w r answer.
     nothing ! $ move ! (3 ∷ 0 ∷ []) $ join ! $ move ! (3 ∷ 0 ∷ []) $ join ! $ move ! (1 ∷ 0 ∷ []) $
     suffices ! _ (ends_at 𝓛 f.ended stayed c y w r (tt, (tt, (tt, (tt, tt)))) (tt, (tt, (tt, (tt, tt))))) $
-    nothing ! $ nothing ! $ fjoin ! $ nothing ! $ fjoin ! $ nothing ! $ fjoin ! $ nothing ! $ fjoin ! $ join ! $ move ! (1 ∷ 0 ∷ []) $ join ! $ frame ! $ says ! answer $ done ! in
-    qed 𝓛 (((‵ (flft κ₀ q₀) ⊛ ‵ (flft κ q) ⊛ ‵ ftrue) ⊛ ‵ (owns (ShrSlice (named 0) κ₀ u8 ∷ MutSlice (named 1) κ u8 ∷ Grouping.row ∷ Policy.row ∷ []) a y.0.4)) ∷ ‵ ftrue ∷ []) ∵
+    nothing ! $ nothing ! $ fjoin ! $ nothing ! $ fjoin ! $ nothing ! $ fjoin ! $ nothing ! $ fjoin ! $ join ! $ move ! (1 ∷ 0 ∷ []) $ join ! $ frame ! $
+    says ! answer $ done ! in
+    qed 𝓛 (((‵ (flft κ₀ q₀) ⊛ ‵ (flft κ q) ⊛ ‵ ftrue) ⊛ ‵ (owns (ShrSlice (named 0) κ₀ u8 ∷ MutSlice (named 1) κ u8 ∷ Grouping.row ∷ Policy.row ∷ []) a y.0.4))
+    ∷ ‵ ftrue ∷ []) ∵
     split ! $ split3 ! $ move ! (3 ∷ []) $ fsplit3 ! $ move ! (2 ∷ []) $ fsplit3 ! $ keep ! (3 ∷ 4 ∷ 5 ∷ 6 ∷ 0 ∷ 1 ∷ []) $
     enter ! _ _ _ _ _ $ alloc_all ! (λ l. pass_all ! refl ((tt, (tt, (record { fits = rs.0 }, tt))), ((tt, (tt, (record { fits = rm.0 }, tt))), (typed Grouping 𝓛 group _ are.1.1.0, (typed Policy 𝓛 case _ are.1.1.1.0, tt)))) $
     -- [the source; the destination; the two tokens; the group; the policy; the locals]
     sets ! (addr ! (from ! (fld ! refl (hop ! (look_in_at ! 2 (sub ! 0 refl (whole !))) (stop !))))) refl (tt, tt) $
-    sets ! (agg ! (and_then ! (get ! refl) (and_then ! (get_in ! (fld ! refl (stop !)) (sub ! 1 refl (whole !))) (no_more !)))) refl (tt, (tt, (record { fits = rm.0 }, tt))) $
+    sets ! (agg ! (and_then ! (get ! refl) (and_then ! (get_in ! (fld ! refl (stop !)) (sub ! 1 refl (whole !))) (no_more !)))) refl
+    (tt, (tt, (record { fits = rm.0 }, tt))) $
     lft_new ! tt (λ α. move ! (2 ∷ []) $ fsplit ! $ fsplit ! $ drop ! $ fjoin ! $ move ! (0 ∷ 4 ∷ []) $
-    use2 𝓛 (later (some (λ (δ : GName). ‵ ((BareSlice erased (α ∷ []) u8).own_val (record dst { ghost_name = δ })) ⊛ kept_f 𝓛 u8 κ q (α ∷ []) γ δ xs b o))) (sl_relend 𝓛 u8 κ q (α ∷ []) b o γ xs) $ await ! tt $
+    use2 𝓛 (later (some (λ (δ : GName). ‵ ((BareSlice erased (α ∷ []) u8).own_val (record dst { ghost_name = δ })) ⊛ kept_f 𝓛 u8 κ q (α ∷ []) γ δ xs b o)))
+    (sl_relend 𝓛 u8 κ q (α ∷ []) b o γ xs) $ await ! tt $
     pick ! (λ δ. split ! $ fsplit ! $ feq_i ! (List Val) (mut_slice_vals dst) (mut_slice_vals dst) refl $ fjoin ! $ fjoin ! $
     -- [the slice for the call; what is kept; the token for the call; the source; its token; the group; the policy; the locals]
     nothing ! $ move ! (7 ∷ 0 ∷ []) $ fjoin ! $ move ! (6 ∷ 0 ∷ []) $ fjoin ! $ move ! (1 ∷ 0 ∷ []) $ fjoin ! $ move ! (3 ∷ 0 ∷ []) $ fjoin ! $
