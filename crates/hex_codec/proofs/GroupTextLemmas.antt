@@ -1,5 +1,6 @@
 -- What a grouped text is made of.
-use Rattle.std.proofs.Common.{◌≡◌, ◌⊎◌, not, ◌==◌, if◌then◌else◌, true, false, Option, None, inl, inr, ℕ, zero, suc, ◌+◌, ◌*◌, ◌%◌, ◌<◌, ◌≤◌, Bool, refl, sym, ap, ◌∙◌, arith, List, ◌∷◌, ◌++◌, length, take, drop, All, Some, length-drop, take-append-drop}
+use Rattle.std.proofs.Common.{◌≡◌, ◌⊎◌, not, ◌==◌, if◌then◌else◌, true, false, Option, None, inl, inr, ℕ, zero, suc, ◌+◌, ◌*◌, ◌%◌, ◌<◌, ◌≤◌}
+use Rattle.std.proofs.Common.{Bool, refl, sym, ap, ◌∙◌, arith, List, ◌∷◌, ◌++◌, length, take, drop, All, Some, length-drop, take-append-drop}
 use Rattle.std.specs.Prelude.{IsSome, is_none}
 use Rattle.std.proofs.lemmas.Bool.{cases_lt}
 use Rattle.std.proofs.lemmas.List.{drop_more}

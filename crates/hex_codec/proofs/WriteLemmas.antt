@@ -1,5 +1,6 @@
 -- What the passes over the pieces of a grouped text keep.
-use Rattle.std.proofs.Common.{rules, ◌≡◌, inl, inr, Bool, ℕ, ◌+◌, ◌-◌, ◌*◌, ◌<◌, ◌≤◌, refl, sym, ap, ◌∙◌, arith, Option, Some, None, List, [], ◌∷◌, ◌++◌, length, take, drop, get_or, option_map, append_assoc, length-drop}
+use Rattle.std.proofs.Common.{rules, ◌≡◌, inl, inr, Bool, ℕ, ◌+◌, ◌-◌, ◌*◌, ◌<◌, ◌≤◌, refl, sym, ap, ◌∙◌, arith, Option, Some}
+use Rattle.std.proofs.Common.{None, List, [], ◌∷◌, ◌++◌, length, take, drop, get_or, option_map, append_assoc, length-drop}
 use Rattle.std.proofs.Math.ListN.{length-set, set}
 use Rattle.std.proofs.lemmas.Bool.{cases_lt}
 use Rattle.std.proofs.lemmas.List.{drop-drop, get_or-drop, length-take-le, places, take_more_set}

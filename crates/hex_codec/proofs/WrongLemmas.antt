@@ -1,5 +1,6 @@
 -- The first wrong byte of a text, part by part.
-use Rattle.std.proofs.Common.{◌≡◌, ◌⊎◌, inl, inr, ℕ, zero, suc, ◌+◌, ◌*◌, ◌%◌, ◌<◌, ◌≤◌, false, not, ◌==◌, refl, sym, ap, ◌∙◌, arith, Option, Some, None, List, length, take, drop, get_or, length-take, length-drop, option_map}
+use Rattle.std.proofs.Common.{◌≡◌, ◌⊎◌, inl, inr, ℕ, zero, suc, ◌+◌, ◌*◌, ◌%◌, ◌<◌, ◌≤◌, false, not, ◌==◌, refl, sym, ap, ◌∙◌}
+use Rattle.std.proofs.Common.{arith, Option, Some, None, List, length, take, drop, get_or, length-take, length-drop, option_map}
 use Rattle.std.specs.Prelude.{position}
 use Rattle.std.specs.List.{range_with_len}
 use Rattle.std.proofs.Math.Nat.{add-mod_left, mod-eq_of_lt}

@@ -1,5 +1,6 @@
 -- Names: which are bad, and that none is that was read.
-use Rattle.std.proofs.Common.{◌≡◌, ℕ, zero, suc, ◌+◌, ◌*◌, ◌<◌, ◌≤◌, Bool, false, refl, arith, List, [], ◌∷◌, length, take, drop, length-drop, length-take, None}
+use Rattle.std.proofs.Common.{◌≡◌, ℕ, zero, suc, ◌+◌, ◌*◌, ◌<◌, ◌≤◌, Bool, false, refl, arith, List}
+use Rattle.std.proofs.Common.{[], ◌∷◌, length, take, drop, length-drop, length-take, None}
 use Rattle.std.specs.List.{All, AllByRecursion, AllZip, position_or_len}
 use Rattle.std.proofs.lemmas.Bool.Decides.{nat_tests}
 use Rattle.std.proofs.lemmas.Grind.{common_steps}

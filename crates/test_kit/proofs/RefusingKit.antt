@@ -8,7 +8,8 @@ pub use base.Fml.{ftrue, fsep, flft}
 pub use prog.Memory.{size, align, capped, up}
 pub use prog.Wp.{WpFn}
 pub use types.Logic.{sem}
-pub use types.Kit.{‵, raw, ◌⊛◌, some, later, given, at_ret, Sq, prop, ◌$◌, ◌∵◌, !, qed, move, keep, drop, use0, use1, use2, split, split3, join, pick, learn, fsplit, fjoin, feq_i, feq_l, regoal, suffices, await, done}
+pub use types.Kit.{‵, raw, ◌⊛◌, some, later, given, at_ret, Sq, prop, ◌$◌, ◌∵◌, !, qed, move, keep, drop, use0, use1, use2}
+pub use types.Kit.{split, split3, join, pick, learn, fsplit, fjoin, feq_i, feq_l, regoal, suffices, await, done}
 pub use types.Part.{agg}
 pub use types.Run.{lit, unit_lit, stop, fld, addr, un, no_more, and_then, of_opd, first, branches, skips, exec, returns, returns_within, enter}
 pub use types.ByLocal.{alloc_all, pass_all, free_all, look_at, get, through, sets, lands_as, env}
@@ -29,6 +30,7 @@ pub use denote.Triple.Call.{calls_at}
 pub use denote.Triple.Spec.{triple_of}
 pub use denote.Triple.Table.{framed}
 pub use denote.Triple.Walked.{Stays, stay_dropped, walk_of, ends_at, Goes-dropped}
-pub use Rattle.std.proofs.alloc.Calls.{Al, α, seen, token, Answer, answer_val, Answer-typed, Answer-Ok, Answer-err, Takes, at_takes, Answered, Takes-goes, Takes-gives, answers, Gives, at_gives, Gives-goes, Gives-Gives}
+pub use Rattle.std.proofs.alloc.Calls.{Al, α, seen, token, Answer, answer_val, Answer-typed, Answer-Ok, Answer-err, Takes, at_takes}
+pub use Rattle.std.proofs.alloc.Calls.{Answered, Takes-goes, Takes-gives, answers, Gives, at_gives, Gives-goes, Gives-Gives}
 pub use Rattle.std.proofs.raw_atomic.Walks.{proved}
 pub use Rattle.std.proofs.VecSteps.Shapes.{after}

@@ -1,5 +1,6 @@
 -- The text of a value is the prefix and a payload that is the text of what it spells.
-use Rattle.std.proofs.Common.{◌≡◌, ◌++◌, ℕ, ◌%◌, ◌==◌, Bool, true, false, List, length, take, drop, Some, None, Ok, Err, refl, sym, ap, ◌∙◌, subst, take-append-drop, if◌then◌else◌}
+use Rattle.std.proofs.Common.{◌≡◌, ◌++◌, ℕ, ◌%◌, ◌==◌, Bool, true, false, List, length, take, drop, Some}
+use Rattle.std.proofs.Common.{None, Ok, Err, refl, sym, ap, ◌∙◌, subst, take-append-drop, if◌then◌else◌}
 use Rattle.std.proofs.lemmas.Slice.Eq.{bytes_eq-Decides}
 use Rattle.std.specs.Str.{bytes_eq}
 use Rattle.serde_json.specs.Data.{Data, null, boolean, number, string, array, object}

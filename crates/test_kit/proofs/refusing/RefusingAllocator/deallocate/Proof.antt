@@ -1,5 +1,12 @@
 -- It counts the block, and gives it back to the inner allocator. Assumes `Logic`.
-use Rattle.test_kit.proofs.RefusingKit.{◌≡◌, ℕ, ◌+◌, List, [], ◌∷◌, refl, w64, Args, a_type, dnil, dcons, Val, vunit, vint, vptr, inst_fn, id⊢, never, fst∗, ftrue, fsep, flft, size, align, capped, up, WpFn, sem, ‵, raw, ◌⊛◌, later, given, prop, ◌$◌, ◌∵◌, !, qed, move, keep, use1, split, split3, join, learn, fsplit, fjoin, feq_i, regoal, suffices, await, done, unit_lit, stop, fld, addr, no_more, and_then, of_opd, returns, enter, alloc_all, pass_all, free_all, look_at, get, through, sets, lands_as, ◌⊑◌, ⊑_trans, fact, tables, usize, RawPtr, RefOf, yes, unhide, bounded, param, uint_vals, uint_Tells, owns, Ptr, block_ptr, null_ptr, ptr_val, in_a_block, rawptr_vals, rawptr_Tells, room_for, shr_vals, plain, types_at, heard, nothing, calls_at, framed, Stays, stay_dropped, walk_of, ends_at, Goes-dropped, Al, α, seen, token, Gives, at_gives, Gives-goes, Gives-Gives, proved, ap, some, drop, use2, pick, feq_l, unit, only, triple_of}
+use Rattle.test_kit.proofs.RefusingKit.{◌≡◌, ℕ, ◌+◌, List, [], ◌∷◌, refl, w64, Args, a_type, dnil, dcons, Val, vunit, vint, vptr, inst_fn, id⊢, never, fst∗}
+use Rattle.test_kit.proofs.RefusingKit.{ftrue, fsep, flft, size, align, capped, up, WpFn, sem, ‵, raw, ◌⊛◌, later, given, prop, ◌$◌, ◌∵◌, !, qed, move, keep}
+use Rattle.test_kit.proofs.RefusingKit.{use1, split, split3, join, learn, fsplit, fjoin, feq_i, regoal, suffices, await, done, unit_lit, stop, fld, addr}
+use Rattle.test_kit.proofs.RefusingKit.{no_more, and_then, of_opd, returns, enter, alloc_all, pass_all, free_all, look_at, get, through, sets, lands_as, ◌⊑◌}
+use Rattle.test_kit.proofs.RefusingKit.{⊑_trans, fact, tables, usize, RawPtr, RefOf, yes, unhide, bounded, param, uint_vals, uint_Tells, owns, Ptr}
+use Rattle.test_kit.proofs.RefusingKit.{block_ptr, null_ptr, ptr_val, in_a_block, rawptr_vals, rawptr_Tells, room_for, shr_vals, plain, types_at, heard}
+use Rattle.test_kit.proofs.RefusingKit.{nothing, calls_at, framed, Stays, stay_dropped, walk_of, ends_at, Goes-dropped, Al, α, seen, token, Gives, at_gives}
+use Rattle.test_kit.proofs.RefusingKit.{Gives-goes, Gives-Gives, proved, ap, some, drop, use2, pick, feq_l, unit, only, triple_of}
 use Rattle.test_kit.proofs.refusing.releases.Met as releases
 use Rattle.test_kit.specs.contracts.refusing.Refusing as refusing
 use Rattle.test_kit.specs.contracts.refusing.releases as released
@@ -56,5 +63,6 @@ deallocate_spec 𝓤 𝓛 𝓜 𝓡 wired B L g d d' met _ =
     use1 𝓛 (later (given (v ≡ vunit) (‵ (flft κ q)))) (Gives-Gives Z 𝓛 𝓜.mem 𝓡.returns κ q p h b o n al τ v) $ await ! tt $ learn ! (λ is_unit.
     lands_as ! is_unit refl (tt, tt) $ sets ! (of_opd ! (unit_lit !)) refl (tt, tt) $ returns ! (look_at ! 0 refl) $ free_all ! refl $
     suffices ! _ (ends_at 𝓛 T hs c (y (block_ptr b o)) vunit tt (tt, (tt, (tt, (tt, tt)))) (tt, (tt, (tt, (tt, tt))))) $
-    nothing ! $ feq_i ! (List Val) (vunit ∷ []) (vunit ∷ []) refl $ nothing ! $ nothing ! $ fjoin ! $ nothing ! $ fjoin ! $ nothing ! $ fjoin ! $ nothing ! $ fjoin ! $ join ! $
+    nothing ! $ feq_i ! (List Val) (vunit ∷ []) (vunit ∷ []) refl $ nothing ! $ nothing ! $ fjoin ! $ nothing ! $ fjoin ! $ nothing ! $ fjoin ! $ nothing ! $
+    fjoin ! $ join ! $
     move ! (2 ∷ 3 ∷ []) $ join ! $ join ! $ done !))))))))))
