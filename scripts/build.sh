@@ -1,10 +1,10 @@
 #!/bin/sh
-# Proves a crate and those below it, lowest first, and builds of it the program crates/NAME/out/NAME, or
-# for each processor of ARCHITECTURE, x86_64 or aarch64, the static library
-# crates/NAME/out/ARCHITECTURE/PROCESSOR.a. What the last run proved is not proved again where its files,
-# and those of the crates below, are the same. What is said of each crate goes to build.log beside what is
-# made, of which the end is printed where something fails.
-# Usage: scripts/build.sh NAME [ARCHITECTURE]
+# Proves a crate and those below it, lowest first, and builds of it the program crates/NAME/out/NAME, or of a
+# library the assembly crates/NAME/out/assembly/BUILD.s of each build, as clang writes it: `scripts/generate`
+# makes of it what is committed. What the last run proved is not proved again where its files, and those of
+# the crates below, are the same. What is said of each crate goes to build.log beside what is made, of which
+# the end is printed where something fails.
+# Usage: scripts/build.sh NAME
 #
 # It calls `rattle` and not `rt`, which has no word for this: a library is built as its statements, so
 # that the crate above does not load its proofs. They stand in out/statements, since `rt` writes over
@@ -13,7 +13,6 @@ set -eu
 export LC_ALL=C
 
 target=$1
-architecture=${2:-x86_64}
 for tool in rt rattle; do
     if ! command -v "$tool" >/dev/null; then
         echo "build.sh: there is no $tool on PATH: it is in the folder bin of the Rattle toolchain" >&2
@@ -24,8 +23,17 @@ cd "$(dirname "$0")/.."
 top=$PWD
 kit=$(dirname "$(rt doc)")
 version=$(rt version)
-kind=$architecture
+kind=assembly
 [ ! -f "crates/$target/src/main.rt" ] || kind=program
+
+# The builds: a name, the architecture and its processor, and whose exported functions they take. One that
+# takes those of `scalar` exports scalar_faster_hex_NAME in place of faster_hex_NAME where there is such.
+builds() {
+    echo x86-64 x86_64 x86-64 scalar
+    echo x86-64-v2 x86_64 x86-64-v2 plain
+    echo x86-64-v3 x86_64 x86-64-v3 plain
+    echo aarch64 aarch64 generic plain
+}
 
 # What crates.txt says that a crate uses, and the crates of this repository below it and itself.
 uses() {
@@ -35,12 +43,15 @@ below() {
     scripts/repository.py below "$1"
 }
 
-# sum_of NAME: a sum of the toolchain, and of a crate and those below it.
+# sum_of NAME: a sum of the toolchain, of a crate and those below it, and for the target of this file.
 sum_of() {
-    for it in $(below "$1"); do
-        echo "$version $it: $(uses "$it")"
-        find "crates/$it" -name out -prune -o \( -name '*.rt' -o -name '*.antt' \) -print | sort | xargs cksum
-    done | cksum
+    {
+        [ "$1" != "$target" ] || cat scripts/build.sh
+        for it in $(below "$1"); do
+            echo "$version $it: $(uses "$it")"
+            scripts/sources "$it"
+        done
+    } | cksum
 }
 
 # jobs_of NAME: one for each 500 lines, since each reads all libraries anew; at most four.
@@ -68,21 +79,64 @@ prove() {
         --links "$name=" --jobs "$jobs")
 }
 
-# build CRATE: of the target a program, not yet linked, or its libraries, and of another one its statements.
+# make_tools FOLDER ARCHITECTURE SET: makes a toolchain there whose clang leaves as FOLDER/made.s what it compiles. Of the
+# exported functions those that the build does not take are private, so that they vanish. Where this moves no
+# instruction, on x86-64, a debugger can walk out of each function. `rattle` clears the environment.
+make_tools() {
+    rm -rf "$1"
+    mkdir -p "$1/bin"
+    ln -s "$kit"/toolchain/bin/* "$1/bin"
+    ln -s "$kit/toolchain/lib" "$1/lib"
+    rm "$1/bin/clang"
+    cat >"$1/edit.awk" <<'END'
+/^define .*@[a-z_]*faster_hex_[a-z_]*\(/ {
+    match($0, /@[a-z_]*faster_hex_[a-z_]*\(/)
+    name = substr($0, RSTART + 1, RLENGTH - 2)
+    set = substr(name, 1, index(name, "faster_hex_") - 1)
+    call = substr(name, length(set) + 1)
+    if (NR == FNR) has[name] = 1
+    else if (set == "" ? ((wanted "_" call) in has) : set != wanted "_") sub(/^define /, "define internal ")
+}
+/^target triple = "x86_64/ { unwinds = 1 }
+/^attributes / && unwinds { sub(/ nounwind /, " nounwind uwtable ") }
+NR != FNR { print }
+END
+    cat >"$1/bin/clang" <<END
+#!/bin/sh -eu
+clang=$kit/toolchain/bin/clang
+case " \$* " in *" module.bc "*)
+    "\$clang" --target=$2-unknown-linux-gnu -S -emit-llvm -Xclang -disable-llvm-passes -o module.ll -x ir module.bc
+    awk -v wanted="$3" -f "$1/edit.awk" module.ll module.ll >module.bc
+esac
+"\$clang" "\$@"
+case " \$* " in *" -c "*)
+    "\$clang" "\$@" -S -o "$1/made.s" -fno-addrsig -fno-verbose-asm -Wno-unused-command-line-argument
+esac
+END
+    chmod +x "$1/bin/clang"
+}
+
+# build_all NAME: the assembly of each build of a library. What the first run of an architecture proves the
+# others take.
+build_all() {
+    tools=$top/crates/$1/out/assembly/tools
+    builds | while read -r build architecture processor set; do
+        make_tools "$tools" "$architecture" "$set"
+        prove "$1" src/lib.rt --crate-type staticlib --target "$architecture-unknown-linux-gnu" \
+            --cpu "$processor" --toolchain "$tools" --incremental "out/assembly/proved-$architecture" \
+            -o "out/assembly/$build.a" </dev/null || exit 1
+        mv "$tools/made.s" "crates/$1/out/assembly/$build.s"
+    done
+}
+
+# build CRATE: of the target a program, not yet linked, or its assembly, and of another one its statements.
 build() {
     if [ "$1" != "$target" ]; then
         prove "$1" src/lib.rt --statements -o "out/statements/$1.rlib"
     elif [ "$kind" = program ]; then
         prove "$1" src/main.rt --toolchain "$kit/toolchain" -o "out/program/$1.o"
     else
-        processors='x86-64 x86-64-v2 x86-64-v3'
-        [ "$architecture" = x86_64 ] || processors=generic
-        # What the first run proves the others take.
-        for processor in $processors; do
-            prove "$1" src/lib.rt --crate-type staticlib --target "$architecture-unknown-linux-gnu" \
-                --cpu "$processor" --toolchain "$kit/toolchain" --incremental "out/$architecture/proved" \
-                -o "out/$architecture/$processor.a"
-        done
+        build_all "$1"
     fi
 }
 

@@ -1,22 +1,47 @@
 #!/bin/sh
-# Puts what `make` and `make lib` built into PREFIX, the libraries into LIBDIR, both below DESTDIR, and
-# notes in share/faster_hex/installed each file, and each folder that was not there; or takes away what is
-# noted there, of the folders those that are empty then.
+# Puts what `make` built into PREFIX, if not told /usr/local, the libraries into LIBDIR, if not told PREFIX/lib,
+# both below DESTDIR, and notes in share/faster_hex/TARGET.installed each file, and each folder that was not
+# there; or takes away what is noted there and for no other target, of the folders those that are empty then.
 # Usage: PREFIX=.. LIBDIR=.. DESTDIR=.. VERSION=.. TARGET=.. scripts/install.sh [--remove], as `make
 # install` and `make uninstall` do it. TARGET is x86_64, or aarch64, which has no program.
 # The first command that fails has said why, and ends it: so none that may fail stands in a condition.
 set -eu
 export LC_ALL=C
+umask 022
 
 cd "$(dirname "$0")/.."
-: "${PREFIX:?names no folder}" "${LIBDIR:?names no folder}"
-PREFIX=$(realpath -ms "$PREFIX")
-LIBDIR=$(realpath -ms "$LIBDIR")
+# absolute FOLDER: from the repository on, with no slash too many.
+absolute() {
+    case $1 in
+    /*) echo "$1" ;;
+    *) echo "$PWD/$1" ;;
+    esac | sed 's|//*|/|g; s|\(.\)/$|\1|'
+}
+PREFIX=${PREFIX-/usr/local}
+PREFIX=$(absolute "${PREFIX:?names no folder}")
+LIBDIR=${LIBDIR-$PREFIX/lib}
+LIBDIR=$(absolute "${LIBDIR:?names no folder}")
+DESTDIR=${DESTDIR-}
 share=$PREFIX/share
 rust=$share/faster_hex/rust
 cmake=$LIBDIR/cmake/faster_hex
 c=crates/faster_hex_c
-noted=$DESTDIR$share/faster_hex/installed
+notes=$DESTDIR$share/faster_hex
+noted=$notes/$TARGET.installed
+
+# stop LINE
+stop() {
+    echo "install.sh: $1" >&2
+    exit 1
+}
+
+# of_others PATH: whether it is noted for another target.
+of_others() {
+    for note in "$notes"/*.installed; do
+        [ "$note" = "$noted" ] || ! grep -qxF "$1" "$note" 2>/dev/null || return 0
+    done
+    return 1
+}
 
 # missing FOLDER: itself and the folders above it, as far as they are not there, each with a slash.
 missing() {
@@ -31,14 +56,19 @@ make_way() {
     to=$DESTDIR$1/$2
     missing "$1" >>"$noted"
     echo "$1/$2" >>"$noted"
-    install -d "$DESTDIR$1"
+    mkdir -p "$DESTDIR$1"
     rm -f "$to"
 }
 
-# put FOLDER MODE FILE
+# put FOLDER MODE FILE..
 put() {
-    make_way "$1" "${3##*/}"
-    install -m "$2" "$3" "$to"
+    folder=$1
+    mode=$2
+    shift 2
+    for file; do
+        make_way "$folder" "${file##*/}"
+        install -m "$mode" "$file" "$to"
+    done
 }
 
 # link FOLDER NAME TARGET
@@ -53,39 +83,55 @@ fill() {
     template=$3
     shift 3
     printf '%s\n' "$@" | cat - "$template" >"$to"
-    chmod 644 "$to"
 }
 
 if [ "${1:-}" = --remove ]; then
+    [ -f "$noted" ] || stop "there is no $noted"
     paths=$(sort -ru "$noted")
     printf '%s\n' "$paths" | while IFS= read -r path; do
         case $path in
         */) [ ! -d "$DESTDIR$path" ] || rmdir --ignore-fail-on-non-empty "$DESTDIR$path" ;;
-        *) rm -f "$DESTDIR$path" ;;
+        *) of_others "$path" || rm -f "$DESTDIR$path" ;;
         esac
+    done
+    # Folders that another target still has are its own to take away.
+    for note in "$notes"/*.installed; do
+        [ ! -f "$note" ] || printf '%s\n' "$paths" | sed -n '/\/$/p' >>"$note"
     done
     exit
 fi
 
+! of_others "$LIBDIR/libfaster_hex.a" || stop "$LIBDIR has the libraries of another target: set LIBDIR"
 made=$(missing "$share/faster_hex")
-install -d "$DESTDIR$share/faster_hex"
-printf '%s\n' ${made:+"$made"} "$share/faster_hex/installed" >>"$noted"
+mkdir -p "$notes"
+printf '%s\n' ${made:+"$made"} "$share/faster_hex/$TARGET.installed" >>"$noted"
 
 out=$c/out/$TARGET
 if [ "$TARGET" = x86_64 ]; then
     out=$c/out
-    put "$PREFIX/bin" 755 crates/fhex/out/fhex
-    put "$share/man/man1" 644 docs/fhex.1
+    if [ -f crates/fhex/out/fhex ]; then
+        put "$PREFIX/bin" 755 crates/fhex/out/fhex
+        put "$share/man/man1" 644 docs/fhex.1
+    elif [ -d crates/fhex ]; then
+        echo 'fhex is left out: `make fhex` builds it by the Rattle toolchain'
+    fi
 fi
 put "$PREFIX/include" 644 $c/faster_hex.h
 put "$LIBDIR" 644 "$out/libfaster_hex.a"
 put "$LIBDIR" 755 "$out/libfaster_hex.so.$VERSION"
 link "$LIBDIR" libfaster_hex.so.1 "libfaster_hex.so.$VERSION"
 link "$LIBDIR" libfaster_hex.so libfaster_hex.so.1
+# Folders below PREFIX are told from there, so that they may be moved together.
+below=${LIBDIR#"$PREFIX"/}
+up=$(echo "$below/cmake/faster_hex" | sed 's|[^/][^/]*|..|g')
+if [ "$below" = "$LIBDIR" ]; then
+    up=${up#/}$PREFIX
+else
+    below="\${prefix}/$below"
+fi
 fill "$LIBDIR/pkgconfig" faster_hex.pc bindings/faster_hex.pc.in \
-    "prefix=$PREFIX" "libdir=$LIBDIR" "version=$VERSION"
-fill "$cmake" faster_hexConfig.cmake bindings/cmake/faster_hexConfig.cmake.in \
-    "set(faster_hex_up [[$(realpath -ms --relative-to="$cmake" "$PREFIX")]])"
+    "prefix=$PREFIX" "libdir=$below" "version=$VERSION"
+fill "$cmake" faster_hexConfig.cmake bindings/cmake/faster_hexConfig.cmake.in "set(faster_hex_up [[$up]])"
 fill "$cmake" faster_hexConfigVersion.cmake bindings/cmake/faster_hexConfigVersion.cmake.in \
     "set(PACKAGE_VERSION $VERSION)"
 put "$share/man/man3" 644 docs/faster_hex.3
@@ -93,10 +139,8 @@ for call in $(sed -n 's/^[^*].* \(faster_hex_[a-z_]*\)(.*/\1/p' $c/faster_hex.h)
     link "$share/man/man3" "$call.3" faster_hex.3
 done
 put "$share/doc/faster_hex" 644 LICENSE
-for file in Cargo.toml README.md build.rs; do
-    put "$rust" 644 "bindings/rust/$file"
-done
-for file in bindings/rust/src/*.rs; do
-    put "$rust/src" 644 "$file"
-done
+put "$rust" 644 Cargo.toml LICENSE
+put "$rust/bindings/rust" 644 bindings/rust/README.md
+put "$rust/bindings/rust/src" 644 bindings/rust/src/*.rs
+put "$rust/generated" 644 generated/*
 sort -u -o "$noted" "$noted"

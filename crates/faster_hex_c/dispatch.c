@@ -1,58 +1,100 @@
-/* The calls of faster_hex.h over three builds of the same proved code, for the processors x86-64,
- * x86-64-v2 and x86-64-v3, whose calls `make lib` names anew. Each call takes the widest build that the
- * processor and the system run. No proof sees this file.
+/* The calls of faster_hex.h over the builds in generated/, which are compiled from proved code. For x86-64
+ * there are three, and each call takes the widest that the processor and the system run; for aarch64 there
+ * is one. No proof sees this file.
  *
  * The level is written once, by a constructor. A call before that, as from another constructor, takes the
  * first build, which runs on any of these processors. Branches in place of pointers let a linker drop the
  * calls that a program does not make. */
+#include "faster_hex.h"
+
+#if SIZE_MAX != UINT64_MAX || !(defined __x86_64__ || defined __aarch64__ && !defined __AARCH64EB__)
+#error "there is no build of faster_hex for this processor"
+#endif
+
+/* A build's call has the version in its name, so that no other version in the program has it. */
+#define JOIN(major, minor, patch, build, call) faster_hex_##major##_##minor##_##patch##_##build##_##call
+#define EXPAND(major, minor, patch, build, call) JOIN(major, minor, patch, build, call)
+#define OF(build, call) \
+    EXPAND(FASTER_HEX_VERSION_MAJOR, FASTER_HEX_VERSION_MINOR, FASTER_HEX_VERSION_PATCH, build, call)
+#define HIDDEN __attribute__((visibility("hidden")))
+
+#ifdef __x86_64__
 #include <cpuid.h>
 #include <stdatomic.h>
 
-#include "faster_hex.h"
-
-static atomic_uchar level; /* 0, and then 2 or 3 where the processor has as much */
+/* What `cpuid` and `xgetbv` say. The words of a leaf above the highest one mean nothing. */
+struct processor {
+    unsigned highest;          /* leaf 0, eax */
+    unsigned basic;            /* leaf 1, ecx */
+    unsigned wide;             /* leaf 7, ebx */
+    unsigned highest_extended; /* leaf 0x80000000, eax */
+    unsigned extended;         /* leaf 0x80000001, ecx */
+    unsigned saved;            /* the registers that the system saves, if it tells */
+};
 
 static bool has(unsigned word, unsigned bits) {
     return (word & bits) == bits;
 }
 
-__attribute__((constructor)) static void raise_level(void) {
-    unsigned a, b, d, basic = 0, extended = 0, wide = 0, enabled;
-    __get_cpuid(1, &a, &b, &basic, &d);
-    __get_cpuid(0x80000001, &a, &b, &extended, &d);
-    if (!has(basic, bit_SSE3 | bit_SSSE3 | bit_SSE4_1 | bit_SSE4_2 | bit_POPCNT | bit_CMPXCHG16B)) return;
-    if (!has(extended, bit_LAHF_LM)) return;
-    level = 2;
-    if (!has(basic, bit_FMA | bit_MOVBE | bit_OSXSAVE | bit_AVX | bit_F16C)) return;
-    /* The system saves the registers of SSE and AVX. */
-    __asm__("xgetbv" : "=a"(enabled), "=d"(d) : "c"(0));
-    __get_cpuid_count(7, 0, &a, &wide, &b, &d);
-    if (has(enabled, 6) && has(extended, bit_LZCNT) && has(wide, bit_AVX2 | bit_BMI | bit_BMI2)) level = 3;
+/* The level of x86-64 that a processor and its system have: 3, 2, or 0 for the first. */
+static unsigned char level_of(struct processor it) {
+    unsigned basic = it.highest >= 1 ? it.basic : 0, wide = it.highest >= 7 ? it.wide : 0;
+    unsigned extended = it.highest_extended >= 0x80000001 ? it.extended : 0;
+    if (!has(basic, bit_SSE3 | bit_SSSE3 | bit_SSE4_1 | bit_SSE4_2 | bit_POPCNT | bit_CMPXCHG16B)) return 0;
+    if (!has(extended, bit_LAHF_LM)) return 0;
+    if (!has(basic, bit_FMA | bit_MOVBE | bit_OSXSAVE | bit_AVX | bit_F16C)) return 2;
+    if (!has(wide, bit_AVX2 | bit_BMI | bit_BMI2) || !has(extended, bit_LZCNT)) return 2;
+    return has(it.saved, 6) ? 3 : 2; /* the registers of SSE and AVX */
 }
 
-#define CALL(answer, name, parameters, arguments)                                 \
-    answer x86_64_##name parameters;                                              \
-    answer x86_64_v2_##name parameters;                                           \
-    answer x86_64_v3_##name parameters;                                           \
-    answer name parameters {                                                      \
+static struct processor processor(void) {
+    struct processor it = { 0 };
+    unsigned a, b, c, d;
+    __cpuid(0, it.highest, b, c, d);
+    __cpuid(1, a, b, it.basic, d);
+    __cpuid_count(7, 0, a, it.wide, c, d);
+    __cpuid(0x80000000, it.highest_extended, b, c, d);
+    __cpuid(0x80000001, a, b, it.extended, d);
+    if (has(it.basic, bit_OSXSAVE)) __asm__("xgetbv" : "=a"(it.saved), "=d"(d) : "c"(0));
+    return it;
+}
+
+static atomic_uchar level;
+
+__attribute__((constructor)) static void raise_level(void) {
+    level = level_of(processor());
+}
+
+#define CALL(answer, call, parameters, arguments)                                 \
+    HIDDEN answer OF(x86_64, call) parameters;                                    \
+    HIDDEN answer OF(x86_64_v2, call) parameters;                                 \
+    HIDDEN answer OF(x86_64_v3, call) parameters;                                 \
+    answer faster_hex_##call parameters {                                         \
         unsigned char known = atomic_load_explicit(&level, memory_order_relaxed); \
-        if (__builtin_expect(known == 3, 1)) return x86_64_v3_##name arguments;   \
-        if (known == 2) return x86_64_v2_##name arguments;                        \
-        return x86_64_##name arguments;                                           \
+        if (__builtin_expect(known == 3, 1)) return OF(x86_64_v3, call) arguments; \
+        if (known == 2) return OF(x86_64_v2, call) arguments;                     \
+        return OF(x86_64, call) arguments;                                        \
     }
+#else
+#define CALL(answer, call, parameters, arguments) \
+    HIDDEN answer OF(aarch64, call) parameters;   \
+    answer faster_hex_##call parameters {         \
+        return OF(aarch64, call) arguments;       \
+    }
+#endif
 
 typedef struct faster_hex_answer told;
 
-CALL(bool, faster_hex_check, (const void *src, size_t len), (src, len))
-CALL(told, faster_hex_first_invalid, (const void *src, size_t len, uint8_t policy), (src, len, policy))
-CALL(told, faster_hex_encode, (const void *src, size_t len, void *dst, size_t room, bool upper),
+CALL(bool, check, (const void *src, size_t len), (src, len))
+CALL(told, first_invalid, (const void *src, size_t len, uint8_t policy), (src, len, policy))
+CALL(told, encode, (const void *src, size_t len, void *dst, size_t room, bool upper),
      (src, len, dst, room, upper))
-CALL(told, faster_hex_decode, (const void *src, size_t len, void *dst, size_t room), (src, len, dst, room))
-CALL(told, faster_hex_decode_with_case,
-     (const void *src, size_t len, void *dst, size_t room, uint8_t policy), (src, len, dst, room, policy))
-CALL(told, faster_hex_encode_grouped,
+CALL(told, decode, (const void *src, size_t len, void *dst, size_t room), (src, len, dst, room))
+CALL(told, decode_with_case, (const void *src, size_t len, void *dst, size_t room, uint8_t policy),
+     (src, len, dst, room, policy))
+CALL(told, encode_grouped,
      (const void *src, size_t len, void *dst, size_t room, bool upper, size_t every, uint8_t sep),
      (src, len, dst, room, upper, every, sep))
-CALL(told, faster_hex_decode_grouped,
+CALL(told, decode_grouped,
      (const void *src, size_t len, void *dst, size_t room, uint8_t policy, size_t every, uint8_t sep),
      (src, len, dst, room, policy, every, sep))

@@ -114,21 +114,29 @@ pub extern "C" fn faster_hex_check(src: &[u8]) -> bool
     hex_check(src)
 }
 
-/// Finds the first invalid byte under a policy: 0 accepts either case, 1 lowercase, 2 uppercase.
-#[unsafe(no_mangle)]
-pub extern "C" fn faster_hex_first_invalid(src: &[u8], case: u8) -> Answer
+// The body of `faster_hex_first_invalid`, by a plan.
+#[inline(always)]
+fn first_invalid_by(plan: Backend, src: &[u8], case: u8) -> Answer
     ensures { FindsInvalid case src.now result }
 {
     let Some(case) = policy(case) else {
         return NO_POLICY;
     };
-    match Backend::plain().first_invalid(src, case) {
+    match plan.first_invalid(src, case) {
         None => answer_of(Ok(0)),
         Some(index) => answer_of(Err(Error::InvalidChar {
             index,
             byte: src[index],
         })),
     }
+}
+
+/// Finds the first invalid byte under a policy: 0 accepts either case, 1 lowercase, 2 uppercase.
+#[unsafe(no_mangle)]
+pub extern "C" fn faster_hex_first_invalid(src: &[u8], case: u8) -> Answer
+    ensures { FindsInvalid case src.now result }
+{
+    first_invalid_by(Backend::plain(), src, case)
 }
 
 /// Writes the digits of `src` into the start of `dst`.
@@ -147,15 +155,23 @@ pub extern "C" fn faster_hex_decode(src: &[u8], dst: &mut [u8]) -> Answer
     answer_of(hex_decode_into(src, dst, CheckCase::None))
 }
 
+// The body of `faster_hex_decode_with_case`, by a plan.
+#[inline(always)]
+fn decode_by(plan: Backend, src: &[u8], dst: &mut [u8], case: u8) -> Answer
+    ensures { DecodesBy case src.now dst.old dst.new result }
+{
+    match policy(case) {
+        Some(case) => answer_of(plan.decode_into(src, dst, case)),
+        None => NO_POLICY,
+    }
+}
+
 /// The same under a policy: 0 accepts either case, 1 lowercase, 2 uppercase.
 #[unsafe(no_mangle)]
 pub extern "C" fn faster_hex_decode_with_case(src: &[u8], dst: &mut [u8], case: u8) -> Answer
     ensures { DecodesBy case src.now dst.old dst.new result }
 {
-    match policy(case) {
-        Some(case) => answer_of(hex_decode_into(src, dst, case)),
-        None => NO_POLICY,
-    }
+    decode_by(Backend::plain(), src, dst, case)
 }
 
 /// Writes the digits of `src` in groups of `every` bytes, with `sep` between two, into the start of
@@ -197,5 +213,6 @@ pub extern "C" fn faster_hex_decode_grouped(
     }
 }
 
+mod scalar;
 #[cfg(test)]
 mod tests;
