@@ -1,6 +1,6 @@
 //! Bytes as texts in the data of the crate `serde`: what the twelve modules share, and the modules.
 
-use alloc::{borrow::Cow, string::String};
+use alloc::{borrow::Cow, string::String, vec::Vec};
 use core::{fmt, str};
 
 use serde::de::{self, Deserialize, Deserializer, Unexpected, Visitor};
@@ -111,11 +111,27 @@ impl<'de> Visitor<'de> for TextVisitor {
     }
 
     fn visit_bytes<E: de::Error>(self, bytes: &[u8]) -> Result<Text<'de>, E> {
-        match str::from_utf8(bytes) {
-            Ok(text) => self.visit_str(text),
-            Err(_) => Err(E::invalid_value(Unexpected::Bytes(bytes), &self)),
+        self.visit_str(text_of(bytes)?)
+    }
+
+    fn visit_borrowed_bytes<E: de::Error>(self, bytes: &'de [u8]) -> Result<Text<'de>, E> {
+        self.visit_borrowed_str(text_of(bytes)?)
+    }
+
+    fn visit_byte_buf<E: de::Error>(self, bytes: Vec<u8>) -> Result<Text<'de>, E> {
+        match String::from_utf8(bytes) {
+            Ok(text) => self.visit_string(text),
+            Err(refused) => Err(no_text(refused.as_bytes())),
         }
     }
+}
+
+fn text_of<E: de::Error>(bytes: &[u8]) -> Result<&str, E> {
+    str::from_utf8(bytes).map_err(|_| no_text(bytes))
+}
+
+fn no_text<E: de::Error>(bytes: &[u8]) -> E {
+    E::invalid_value(Unexpected::Bytes(bytes), &TextVisitor)
 }
 
 /// Two modules a line: their names, the prefix, the case, what `[0x12, 0xab]` is written as, and what

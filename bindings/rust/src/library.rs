@@ -98,3 +98,20 @@ pub fn decode(src: &[u8], dst: &mut [u8], case: CheckCase) -> Result<usize, Erro
         }
     })
 }
+
+#[cfg(test)]
+mod tests {
+    use super::*;
+
+    /// A slice is too short for some of these.
+    #[test]
+    fn each_status_has_its_error() {
+        let (number, byte) = (7, b'g');
+        let told = |status| result_of(Answer { number, status, byte });
+        assert_eq!(told(0), Ok(7));
+        assert_eq!(told(1), Err(Error::OddLength));
+        assert_eq!(told(2), Err(Error::OutputTooSmall { required: 7 }));
+        assert_eq!(told(3), Err(Error::InvalidChar { index: 7, byte }));
+        assert_eq!(told(4), Err(Error::Overflow));
+    }
+}

@@ -1,82 +1,40 @@
-//! Calls the bindings and the Rust crate on the same random inputs, and compares answers, texts of
-//! errors and whole destinations. `scripts/check swap` builds and runs it. Prints the first input of each
-//! kind of call on which the two differ, and `N passed, M failed` at the end, of the kinds.
+//! Calls the bindings and the Rust crate on the same random inputs, and compares answers, texts of errors,
+//! whole destinations, capacities, and how much memory was asked for how often. The table in `calls` has
+//! every public name of both. `scripts/check swap` builds and runs it. Prints the first input of each kind
+//! of call on which the two differ, and `N passed, M failed` at the end, of the kinds.
 //! Usage: beside ROUNDS SEED
 
+mod given;
+
+use std::alloc::{GlobalAlloc, Layout, System};
+use std::collections::BTreeSet;
 use std::env;
-use std::fmt::{Debug, Display};
+use std::fmt::{Arguments, Debug, Display, Write};
+use std::sync::atomic::{AtomicUsize, Ordering::Relaxed};
 
-const LONGEST: usize = 300;
-const OLD: u8 = 0xa5;
+use given::{Input, Random};
 
-/// xorshift64*, so that a seed names its inputs on any machine.
-struct Random(u64);
+/// The system's memory, with a count of requests and of their bytes.
+struct Counted;
 
-impl Random {
-    fn below(&mut self, end: usize) -> usize {
-        self.0 ^= self.0 >> 12;
-        self.0 ^= self.0 << 25;
-        self.0 ^= self.0 >> 27;
-        (self.0.wrapping_mul(0x2545_f491_4f6c_dd1d) >> 33) as usize % end
+static REQUESTS: AtomicUsize = AtomicUsize::new(0);
+static BYTES: AtomicUsize = AtomicUsize::new(0);
+
+// SAFETY: the system's allocator does what is asked for.
+unsafe impl GlobalAlloc for Counted {
+    unsafe fn alloc(&self, layout: Layout) -> *mut u8 {
+        REQUESTS.fetch_add(1, Relaxed);
+        BYTES.fetch_add(layout.size(), Relaxed);
+        System.alloc(layout)
     }
 
-    fn len(&mut self) -> usize {
-        let longest = [4, 20, 70, LONGEST][self.below(4)];
-        self.below(longest + 1)
-    }
-
-    fn bytes(&mut self, len: usize) -> Vec<u8> {
-        (0..len).map(|_| self.below(256) as u8).collect()
-    }
-
-    /// Digits of both cases, of one, or of none, in one of four with a byte that may be none.
-    fn digits(&mut self, len: usize) -> Vec<u8> {
-        let letters: &[u8] = [&b"0123456789abcdefABCDEF"[..], b"0123456789abcdef", b"0123456789ABCDEF"]
-            [self.below(3)];
-        let mut digits: Vec<u8> = (0..len).map(|_| letters[self.below(letters.len())]).collect();
-        if len > 0 && self.below(4) == 0 {
-            let place = self.below(len);
-            digits[place] = self.below(256) as u8;
-        }
-        digits
+    unsafe fn dealloc(&self, place: *mut u8, layout: Layout) {
+        System.dealloc(place, layout)
     }
 }
 
-/// What a call is given.
-struct Input {
-    bytes: Vec<u8>,
-    digits: Vec<u8>,
-    /// How much room the destination has: about as much as it takes, or any.
-    room: usize,
-    case: usize,
-    flags: usize,
-    width: usize,
-}
-
-impl Input {
-    fn new(random: &mut Random) -> Input {
-        let len = random.len();
-        let mut digits = random.digits(2 * len);
-        if random.below(8) == 0 {
-            digits.pop();
-        }
-        let about = [len, 2 * len][random.below(2)];
-        let room = match random.below(4) {
-            0 => random.len(),
-            1 => about.saturating_sub(1),
-            2 => about,
-            _ => about + random.below(40),
-        };
-        Input {
-            bytes: random.bytes(len),
-            digits,
-            room,
-            case: random.below(3),
-            flags: random.below(12),
-            width: random.len(),
-        }
-    }
-}
+#[global_allocator]
+static MEMORY: Counted = Counted;
 
 /// What was answered: an answer, or an error by its name and its text.
 fn told<T: Debug, E: Debug + Display>(answer: Result<T, E>) -> String {
@@ -86,91 +44,131 @@ fn told<T: Debug, E: Debug + Display>(answer: Result<T, E>) -> String {
     }
 }
 
-/// The calls of one of the two crates, by their kinds: what is answered, and what a destination holds.
+/// A text in a string with room for any: how a crate cuts its writes is its own matter.
+fn text(written: Arguments) -> String {
+    let mut text = String::with_capacity(1 << 17);
+    text.write_fmt(written).unwrap();
+    text
+}
+
+/// What the calls of a module for serde write and read, of which the crate's root has the same.
+macro_rules! module {
+    ($($path:ident)::+, $it:ident, $data:expr) => {{
+        use $($path)::+ as module;
+        let (mut text, mut of_array) = (Vec::new(), Vec::new());
+        let written = [
+            told(module::serialize($data, &mut serde_json::Serializer::new(&mut text))),
+            told(module::array::serialize($data, &mut serde_json::Serializer::new(&mut of_array))),
+        ];
+        let read = [
+            told(module::deserialize::<_, Vec<u8>>($it.given())),
+            told(module::deserialize_bounded::<0, _, Vec<u8>>($it.given())),
+            told(module::deserialize_bounded::<4, _, Vec<u8>>($it.given())),
+            told(module::deserialize_bounded::<20, _, Vec<u8>>($it.given())),
+            told(module::deserialize_bounded::<{ usize::MAX }, _, Vec<u8>>($it.given())),
+            told(module::array::deserialize::<_, 0>($it.given())),
+            told(module::array::deserialize::<_, 4>($it.given())),
+            told(module::array::deserialize::<_, 20>($it.given())),
+        ];
+        let texts = [text, of_array].map(|it| String::from_utf8(it).unwrap());
+        format!("{written:?} {texts:?} {read:?}")
+    }};
+}
+
+/// The calls of one of the two crates by their names: what is answered, and what a destination holds.
 macro_rules! calls {
     ($side:ident, $krate:ident) => {
         mod $side {
-            use super::{told, Input, OLD};
+            use super::{text, told, Input};
             use $krate::*;
 
-            fn case(input: &Input) -> CheckCase {
-                [CheckCase::default(), CheckCase::Lower, CheckCase::Upper][input.case]
+            fn case(it: &Input) -> CheckCase {
+                [CheckCase::default(), CheckCase::Lower, CheckCase::Upper][it.case]
             }
 
-            fn into(input: &Input, call: impl FnOnce(&mut [u8]) -> String) -> String {
-                let mut room = vec![OLD; input.room];
+            fn into(it: &Input, call: impl FnOnce(&mut [u8]) -> String) -> String {
+                let mut room = vec![0xa5; it.room];
                 let told = call(&mut room);
                 format!("{told} in {room:?}")
             }
 
-            fn append(call: impl FnOnce(&mut String) -> String) -> String {
-                let mut text = String::from("前缀: ");
+            fn string(text: String) -> String {
+                format!("{text} in {}", text.capacity())
+            }
+
+            fn append(it: &Input, call: impl FnOnce(&mut String) -> String) -> String {
+                let mut text = String::with_capacity(10 + it.room);
+                text.push_str("前缀: ");
                 let told = call(&mut text);
-                format!("{told} in {text}")
+                format!("{told} in {}", string(text))
             }
 
-            fn array<const N: usize>(input: &Input, case: Option<CheckCase>) -> String {
-                let answer = match case {
-                    Option::None => hex_decode_array::<N>(&input.digits),
-                    Some(case) => hex_decode_array_with_case::<N>(&input.digits, case),
-                };
-                told(answer)
+            fn vector(answer: Result<Vec<u8>, Error>) -> String {
+                told(answer.map(|bytes| (bytes.capacity(), bytes)))
             }
 
-            fn arrays(input: &Input, case: Option<CheckCase>) -> String {
+            fn array<const N: usize>(it: &Input, case: Option<CheckCase>) -> String {
+                told(match case {
+                    Option::None => hex_decode_array::<N>(&it.digits),
+                    Some(case) => hex_decode_array_with_case::<N>(&it.digits, case),
+                })
+            }
+
+            fn arrays(it: &Input, case: Option<CheckCase>) -> String {
                 let of = [
-                    array::<0>, array::<1>, array::<2>, array::<3>, array::<8>, array::<16>, array::<20>,
-                    array::<31>, array::<32>, array::<33>, array::<64>, array::<100>, array::<300>,
+                    array::<0>, array::<1>, array::<2>, array::<3>, array::<4>, array::<8>, array::<16>,
+                    array::<20>, array::<31>, array::<32>, array::<33>, array::<64>, array::<70>, array::<300>,
                 ];
-                of.map(|array| array(input, case)).join(" ")
+                of.map(|array| array(it, case)).join(" ")
             }
 
-            fn shown(input: &Input) -> String {
-                let (hex, n) = (Hex::new(&input.bytes), input.width);
-                match input.flags {
-                    0 => format!("{hex}"),
-                    1 => format!("{hex:x}"),
-                    2 => format!("{hex:X}"),
-                    3 => format!("{hex:#}"),
-                    4 => format!("{hex:+#X}"),
-                    5 => format!("{hex:n$}"),
-                    6 => format!("{hex:<n$}"),
-                    7 => format!("{hex:*>+n$X}"),
-                    8 => format!("{hex:💠^#n$x}"),
-                    9 => format!("{hex:#0n$}"),
-                    10 => format!("{hex:*<+#0n$X}"),
-                    _ => format!("{hex:-^n$.3}"),
-                }
+            fn error(e: &dyn std::error::Error, n: usize) -> String {
+                text(format_args!("{e}|{e:?}|{e:>n$}|{e:*<80.9}|{e:#^+090}|{:?}", e.source()))
             }
 
-            fn errors(input: &Input) -> String {
-                let error = hex_decode_vec(&input.digits).err();
-                let copy = error.clone();
-                let is_error = error.as_ref().map(|e| (e as &dyn std::error::Error).to_string());
-                format!("{:?} {:?} {:?}", is_error, error == copy, case(input))
+            fn hex(h: Hex, n: usize) -> String {
+                let plain = text(format_args!("{h}|{h:x}|{h:X}|{h:?}|{h:#}|{h:+#X}|{h:n$}|{h:<n$}"));
+                plain + &text(format_args!("{h:*>+n$X}|{h:💠^#n$x}|{h:#0n$}|{h:*<+#0n$X}|{h:-^n$.3}"))
             }
 
-            pub fn call(kind: usize, input: &Input) -> String {
-                let (bytes, digits) = (&input.bytes[..], &input.digits[..]);
-                match kind {
-                    0 => format!("{}", hex_check(digits)),
-                    1 => format!("{}", hex_check_with_case(digits, case(input))),
-                    2 => into(input, |dst| told(hex_encode(bytes, dst))),
-                    3 => into(input, |dst| told(hex_encode_upper(bytes, dst))),
-                    4 => into(input, |dst| told(hex_decode(digits, dst))),
-                    5 => into(input, |dst| told(hex_decode_with_case(digits, dst, case(input)))),
-                    6 => arrays(input, Option::None),
-                    7 => arrays(input, Some(case(input))),
-                    8 => told(hex_decode_vec(digits)),
-                    9 => told(hex_decode_vec_with_case(digits, case(input))),
-                    10 => hex_string(bytes),
-                    11 => hex_string_upper(bytes),
-                    12 => append(|text| hex_append(bytes, text).to_owned()),
-                    13 => append(|text| hex_append_upper(bytes, text).to_owned()),
-                    14 => shown(input),
-                    _ => errors(input),
-                }
-            }
+            pub const CALLS: &[(&str, fn(&Input) -> String)] = &[
+                ("hex_check", |it| hex_check(&it.digits).to_string()),
+                ("hex_check_with_case", |it| hex_check_with_case(&it.digits, case(it)).to_string()),
+                ("hex_encode", |it| into(it, |to| told(hex_encode(&it.bytes, to)))),
+                ("hex_encode_upper", |it| into(it, |to| told(hex_encode_upper(&it.bytes, to)))),
+                ("hex_decode", |it| into(it, |to| told(hex_decode(&it.digits, to)))),
+                ("hex_decode_with_case", |it| {
+                    into(it, |to| told(hex_decode_with_case(&it.digits, to, case(it))))
+                }),
+                ("hex_decode_array", |it| arrays(it, Option::None)),
+                ("hex_decode_array_with_case", |it| arrays(it, Some(case(it)))),
+                ("hex_decode_vec", |it| vector(hex_decode_vec(&it.digits))),
+                ("hex_decode_vec_with_case", |it| vector(hex_decode_vec_with_case(&it.digits, case(it)))),
+                ("hex_string", |it| string(hex_string(&it.bytes))),
+                ("hex_string_upper", |it| string(hex_string_upper(&it.bytes))),
+                ("hex_append", |it| append(it, |text| hex_append(&it.bytes, text).to_owned())),
+                ("hex_append_upper", |it| append(it, |text| hex_append_upper(&it.bytes, text).to_owned())),
+                ("CheckCase", |it| format!("{:?} {}", case(it), case(it) == CheckCase::default())),
+                ("Error", |it| {
+                    let refused = hex_decode_array::<4>(&it.digits).map(drop);
+                    let refused = refused.and(hex_encode(&it.bytes, &mut [0; 20]).map(drop));
+                    error(&refused.err().unwrap_or(Error::Overflow), it.width)
+                }),
+                ("Hex", |it| hex(Hex::new(&it.bytes), it.width)),
+                ("array deserialize deserialize_bounded serialize", |it| module!($krate, it, &it.bytes)),
+                ("withpfx_ignorecase", |it| module!($krate::withpfx_ignorecase, it, &it.bytes)),
+                ("withpfx_lowercase", |it| module!($krate::withpfx_lowercase, it, &it.bytes)),
+                ("withpfx_uppercase", |it| module!($krate::withpfx_uppercase, it, &it.bytes)),
+                ("nopfx_ignorecase", |it| module!($krate::nopfx_ignorecase, it, &it.bytes)),
+                ("nopfx_lowercase", |it| module!($krate::nopfx_lowercase, it, &it.bytes)),
+                ("nopfx_uppercase", |it| module!($krate::nopfx_uppercase, it, &it.bytes)),
+                ("option_withpfx_ignorecase", |it| module!($krate::option_withpfx_ignorecase, it, &it.data())),
+                ("option_withpfx_lowercase", |it| module!($krate::option_withpfx_lowercase, it, &it.data())),
+                ("option_withpfx_uppercase", |it| module!($krate::option_withpfx_uppercase, it, &it.data())),
+                ("option_nopfx_ignorecase", |it| module!($krate::option_nopfx_ignorecase, it, &it.data())),
+                ("option_nopfx_lowercase", |it| module!($krate::option_nopfx_lowercase, it, &it.data())),
+                ("option_nopfx_uppercase", |it| module!($krate::option_nopfx_uppercase, it, &it.data())),
+            ];
         }
     };
 }
@@ -178,24 +176,20 @@ macro_rules! calls {
 calls!(ours, faster_hex);
 calls!(theirs, original);
 
-const KINDS: [&str; 16] = [
-    "hex_check",
-    "hex_check_with_case",
-    "hex_encode",
-    "hex_encode_upper",
-    "hex_decode",
-    "hex_decode_with_case",
-    "hex_decode_array",
-    "hex_decode_array_with_case",
-    "hex_decode_vec",
-    "hex_decode_vec_with_case",
-    "hex_string",
-    "hex_string_upper",
-    "hex_append",
-    "hex_append_upper",
-    "Hex",
-    "Error",
-];
+/// The names that a crate's root re-exports, which are all that are public.
+fn public(root: &str) -> BTreeSet<&str> {
+    let statements = root.split("pub use ").skip(1).map(|it| it.split(';').next().unwrap());
+    let names = statements.map(|it| it.rsplit("::").next().unwrap());
+    names.flat_map(|it| it.split(|it| !matches!(it, 'A'..='z' | '0'..='9'))).filter(|it| !it.is_empty()).collect()
+}
+
+/// What a call tells, and how often it asked for memory, and for how much.
+fn observed(call: fn(&Input) -> String, input: &Input) -> (String, usize, usize) {
+    REQUESTS.store(0, Relaxed);
+    BYTES.store(0, Relaxed);
+    let told = call(input);
+    (told, REQUESTS.load(Relaxed), BYTES.load(Relaxed))
+}
 
 fn main() {
     let words: Vec<String> = env::args().collect();
@@ -204,17 +198,27 @@ fn main() {
         _ => panic!("usage: beside ROUNDS SEED"),
     };
     let mut failed = 0;
-    for (kind, name) in KINDS.iter().enumerate() {
-        let mut random = Random(seed.max(1).wrapping_mul(kind as u64 * 2 + 1));
+    let table: BTreeSet<&str> = ours::CALLS.iter().flat_map(|it| it.0.split(' ')).collect();
+    for root in [include_str!("../../../rust/src/lib.rs"), include_str!("../../../../checkout/src/lib.rs")] {
+        let names = public(root);
+        if names != table {
+            println!("failed: the table of calls: {:?}", names.symmetric_difference(&table));
+            failed += 1;
+        }
+    }
+    for (kind, (ours, theirs)) in ours::CALLS.iter().zip(theirs::CALLS).enumerate() {
+        let mut random = Random::new(seed, kind);
         for round in 0..rounds {
             let input = Input::new(&mut random);
-            let (ours, theirs) = (ours::call(kind, &input), theirs::call(kind, &input));
+            let (ours, theirs) = (observed(ours.1, &input), observed(theirs.1, &input));
             if ours != theirs {
-                println!("failed: {name} in round {round} of seed {seed}: {ours}, and not {theirs}");
+                println!("failed: {} in round {round} of seed {seed}:", ours::CALLS[kind].0);
+                println!("{:.900}, with {} requests of {} bytes, and not", ours.0, ours.1, ours.2);
+                println!("{:.900}, with {} requests of {} bytes", theirs.0, theirs.1, theirs.2);
                 failed += 1;
                 break;
             }
         }
     }
-    println!("{} passed, {failed} failed", KINDS.len() - failed);
+    println!("{} passed, {failed} failed", ours::CALLS.len() + 2 - failed);
 }
