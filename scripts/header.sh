@@ -38,7 +38,7 @@ versions() {
     sed -n 's/^#define FASTER_HEX_VERSION "\(.*\)"$/faster_hex.h \1/p' faster_hex.h
     echo "its-numbers $(sed -n 's/^#define FASTER_HEX_VERSION_[A-Z]* \([0-9]*\)$/\1/p' faster_hex.h |
         tr '\n' . | sed 's/\.$//')"
-    sed -n 's/^version = "\(.*\)"$/bindings \1/p' ../../bindings/rust/Cargo.toml
+    sed -n 's/^version = "\(.*\)"$/bindings \1/p' ../../Cargo.toml
 }
 
 status=0

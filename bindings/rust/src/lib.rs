@@ -1,5 +1,5 @@
-//! The calls of the Rust crate `faster-hex` 1.0.0, under its names and signatures, over
-//! `libfaster_hex`: what decodes, encodes and tests here is proved.
+//! The calls of the Rust crate `faster-hex` 1.0.0, under its names and signatures: what decodes, encodes and
+//! tests here is proved.
 //!
 //! ```
 //! use faster_hex::{hex_decode, hex_encode};
@@ -15,8 +15,8 @@
 //!
 //! Strings and vectors want the feature `alloc`, which `std`, the default, brings along. With the
 //! feature `serde`, `#[serde(with = "faster_hex::nopfx_lowercase")]` on a field writes bytes as text and
-//! reads them, as eleven other modules and the crate's root do in their formats. README.md says how the
-//! library is found, and what the original has and this crate has not.
+//! reads them, as eleven other modules and the crate's root do in their formats. README.md says
+//! what the original has and this crate has not.
 #![no_std]
 #![warn(missing_docs)]
 
@@ -27,10 +27,13 @@ extern crate std;
 
 #[cfg(feature = "serde")]
 mod adapters;
+mod builds;
 mod decode;
 mod encode;
 mod error;
 mod format;
+#[cfg(target_arch = "x86_64")]
+mod level;
 mod library;
 
 #[cfg(feature = "serde")]

@@ -1,33 +1,13 @@
-//! Safe calls over those of `faster_hex.h`. All that is unsafe here but the views of text as `str`.
+//! Safe calls over those of a build.
 
-use crate::{CheckCase, Error};
+use crate::{builds, CheckCase, Error};
 
 /// `struct faster_hex_answer`.
 #[repr(C)]
-struct Answer {
+pub struct Answer {
     number: usize,
     status: u8,
     byte: u8,
-}
-
-extern "C" {
-    fn faster_hex_check(src: *const u8, len: usize) -> bool;
-    fn faster_hex_first_invalid(src: *const u8, len: usize, policy: u8) -> Answer;
-    fn faster_hex_encode(
-        src: *const u8,
-        len: usize,
-        dst: *mut u8,
-        room: usize,
-        upper: bool,
-    ) -> Answer;
-    fn faster_hex_decode(src: *const u8, len: usize, dst: *mut u8, room: usize) -> Answer;
-    fn faster_hex_decode_with_case(
-        src: *const u8,
-        len: usize,
-        dst: *mut u8,
-        room: usize,
-        policy: u8,
-    ) -> Answer;
 }
 
 /// The number of a policy in `faster_hex.h`.
@@ -68,11 +48,11 @@ fn error_of(answer: Answer) -> Error {
 /// Whether every byte is a digit by the policy.
 #[inline]
 pub fn check(src: &[u8], case: CheckCase) -> bool {
-    // SAFETY: the pointer is good for reading the slice's length, and the library only reads there.
+    // SAFETY: the pointer is good for reading the slice's length, and the call only reads there.
     unsafe {
         match case {
-            CheckCase::None => faster_hex_check(src.as_ptr(), src.len()),
-            _ => faster_hex_first_invalid(src.as_ptr(), src.len(), number_of(case)).status == 0,
+            CheckCase::None => builds::check(src.as_ptr(), src.len()),
+            _ => builds::first_invalid(src.as_ptr(), src.len(), number_of(case)).status == 0,
         }
     }
 }
@@ -83,7 +63,7 @@ pub fn encode(src: &[u8], dst: &mut [u8], upper: bool) -> Result<usize, Error> {
     let (from, len, to, room) = (src.as_ptr(), src.len(), dst.as_mut_ptr(), dst.len());
     // SAFETY: both pointers are good for their slices' lengths, and a slice that is lent to be
     // written overlaps no other.
-    result_of(unsafe { faster_hex_encode(from, len, to, room, upper) })
+    result_of(unsafe { builds::encode(from, len, to, room, upper) })
 }
 
 /// Writes the bytes that `src` spells to the front of `dst`, and returns how many.
@@ -93,8 +73,8 @@ pub fn decode(src: &[u8], dst: &mut [u8], case: CheckCase) -> Result<usize, Erro
     // SAFETY: as in `encode`.
     result_of(unsafe {
         match case {
-            CheckCase::None => faster_hex_decode(from, len, to, room),
-            _ => faster_hex_decode_with_case(from, len, to, room, number_of(case)),
+            CheckCase::None => builds::decode(from, len, to, room),
+            _ => builds::decode_with_case(from, len, to, room, number_of(case)),
         }
     })
 }
@@ -107,7 +87,13 @@ mod tests {
     #[test]
     fn each_status_has_its_error() {
         let (number, byte) = (7, b'g');
-        let told = |status| result_of(Answer { number, status, byte });
+        let told = |status| {
+            result_of(Answer {
+                number,
+                status,
+                byte,
+            })
+        };
         assert_eq!(told(0), Ok(7));
         assert_eq!(told(1), Err(Error::OddLength));
         assert_eq!(told(2), Err(Error::OutputTooSmall { required: 7 }));

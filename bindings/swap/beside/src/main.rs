@@ -117,7 +117,7 @@ macro_rules! calls {
             fn arrays(it: &Input, case: Option<CheckCase>) -> String {
                 let of = [
                     array::<0>, array::<1>, array::<2>, array::<3>, array::<4>, array::<8>, array::<16>,
-                    array::<20>, array::<31>, array::<32>, array::<33>, array::<64>, array::<70>, array::<300>,
+                    array::<20>, array::<31>, array::<32>, array::<33>, array::<64>, array::<300>,
                 ];
                 of.map(|array| array(it, case)).join(" ")
             }
@@ -180,7 +180,7 @@ calls!(theirs, original);
 fn public(root: &str) -> BTreeSet<&str> {
     let statements = root.split("pub use ").skip(1).map(|it| it.split(';').next().unwrap());
     let names = statements.map(|it| it.rsplit("::").next().unwrap());
-    names.flat_map(|it| it.split(|it| !matches!(it, 'A'..='z' | '0'..='9'))).filter(|it| !it.is_empty()).collect()
+    names.flat_map(|it| it.split([' ', ',', '{', '}', '\n'])).filter(|it| !it.is_empty()).collect()
 }
 
 /// What a call tells, and how often it asked for memory, and for how much.

@@ -1,0 +1,74 @@
+//! The calls of `faster_hex.h` by the build that fits the processor. The proved code itself is the assembly
+//! in `generated/`, whose names carry the version, so that two versions can stand in one program.
+
+use core::arch::global_asm;
+
+#[cfg(target_arch = "x86_64")]
+use crate::level;
+use crate::library::Answer;
+
+#[cfg(not(all(
+    target_os = "linux",
+    target_pointer_width = "64",
+    target_endian = "little",
+    any(target_arch = "x86_64", target_arch = "aarch64")
+)))]
+compile_error!("this crate is for Linux on x86-64 and aarch64");
+
+#[cfg(target_arch = "aarch64")]
+global_asm!(include_str!("../../../generated/aarch64.s"), options(raw));
+#[cfg(target_arch = "x86_64")]
+global_asm!(
+    include_str!("../../../generated/x86-64.s"),
+    include_str!("../../../generated/x86-64-v2.s"),
+    include_str!("../../../generated/x86-64-v3.s"),
+    options(att_syntax, raw)
+);
+
+macro_rules! calls {
+    ($($call:ident($($word:ident: $kind:ty),*) -> $answer:ty;)*) => {
+        #[cfg(target_arch = "aarch64")]
+        extern "C" { $(
+            #[link_name = concat!("faster_hex_1_0_0_aarch64_", stringify!($call))]
+            pub fn $call($($word: $kind),*) -> $answer;
+        )* }
+
+        $(
+            #[cfg(target_arch = "x86_64")]
+            #[inline]
+            pub unsafe fn $call($($word: $kind),*) -> $answer {
+                extern "C" {
+                    #[link_name = concat!("faster_hex_1_0_0_x86_64_", stringify!($call))]
+                    fn v1($($word: $kind),*) -> $answer;
+                    #[link_name = concat!("faster_hex_1_0_0_x86_64_v2_", stringify!($call))]
+                    fn v2($($word: $kind),*) -> $answer;
+                    #[link_name = concat!("faster_hex_1_0_0_x86_64_v3_", stringify!($call))]
+                    fn v3($($word: $kind),*) -> $answer;
+                }
+
+                // Apart, so that a call of the widest build takes a load, a comparison and no frame.
+                #[cold]
+                unsafe fn other($($word: $kind),*) -> $answer {
+                    match level::find() {
+                        3 => v3($($word),*),
+                        2 => v2($($word),*),
+                        _ => v1($($word),*),
+                    }
+                }
+
+                match level::known() {
+                    3 => v3($($word),*),
+                    _ => other($($word),*),
+                }
+            }
+        )*
+    };
+}
+
+calls! {
+    check(src: *const u8, len: usize) -> bool;
+    first_invalid(src: *const u8, len: usize, policy: u8) -> Answer;
+    encode(src: *const u8, len: usize, dst: *mut u8, room: usize, upper: bool) -> Answer;
+    decode(src: *const u8, len: usize, dst: *mut u8, room: usize) -> Answer;
+    decode_with_case(src: *const u8, len: usize, dst: *mut u8, room: usize, policy: u8) -> Answer;
+}

@@ -1,0 +1,138 @@
+//! The level of x86-64 whose build calls take, which no proof sees.
+
+use core::arch::x86_64::{__cpuid, __cpuid_count, _xgetbv};
+use core::sync::atomic::{AtomicU8, Ordering::Relaxed};
+
+/// 1, 2 or 3, or 0 until a call has asked the processor.
+static LEVEL: AtomicU8 = AtomicU8::new(0);
+
+/// The level, or 0 until it is found.
+#[inline]
+pub fn known() -> u8 {
+    LEVEL.load(Relaxed)
+}
+
+/// The level.
+pub fn find() -> u8 {
+    if known() == 0 {
+        LEVEL.store(level_of(&Words::read()), Relaxed);
+    }
+    known()
+}
+
+/// What `cpuid` and `xgetbv` tell.
+#[derive(Clone, Copy)]
+struct Words {
+    /// The highest leaf, `ecx` of leaf 1 and `ebx` of leaf 7.
+    highest: u32,
+    basic: u32,
+    wide: u32,
+    /// The highest leaf from 0x8000_0000 on, and `ecx` of 0x8000_0001.
+    highest_extended: u32,
+    extended: u32,
+    /// Which registers the system saves.
+    enabled: u32,
+}
+
+impl Words {
+    // `__cpuid` is unsafe in some versions of Rust.
+    #[allow(unused_unsafe)]
+    fn read() -> Words {
+        // SAFETY: every x86-64 processor has `cpuid`, and `xgetbv` where the system has set OSXSAVE.
+        unsafe {
+            let basic = __cpuid(1).ecx;
+            let enabled = match has(basic, &[27]) {
+                true => _xgetbv(0) as u32,
+                false => 0,
+            };
+            Words {
+                highest: __cpuid(0).eax,
+                basic,
+                wide: __cpuid_count(7, 0).ebx,
+                highest_extended: __cpuid(0x8000_0000).eax,
+                extended: __cpuid(0x8000_0001).ecx,
+                enabled,
+            }
+        }
+    }
+}
+
+fn has(word: u32, bits: &[u32]) -> bool {
+    bits.iter().all(|bit| word >> bit & 1 == 1)
+}
+
+/// The highest level that has a build and all of whose bits are set. A leaf above the highest one tells of
+/// something else, and so counts as 0.
+fn level_of(words: &Words) -> u8 {
+    let leaf = |is_there: bool, word: u32| if is_there { word } else { 0 };
+    let basic = leaf(words.highest >= 1, words.basic);
+    let wide = leaf(words.highest >= 7, words.wide);
+    let extended = leaf(words.highest_extended >= 0x8000_0001, words.extended);
+    // SSE3, SSSE3, CMPXCHG16B, SSE4.1, SSE4.2 and POPCNT, and LAHF.
+    if !has(basic, &[0, 9, 13, 19, 20, 23]) || !has(extended, &[0]) {
+        return 1;
+    }
+    // FMA, MOVBE, OSXSAVE, AVX and F16C; BMI1, AVX2 and BMI2; LZCNT; the registers of SSE and AVX.
+    let is_3 = has(basic, &[12, 22, 27, 28, 29])
+        && has(wide, &[3, 5, 8])
+        && has(extended, &[5])
+        && has(words.enabled, &[1, 2]);
+    2 + u8::from(is_3)
+}
+
+#[cfg(test)]
+mod tests {
+    use super::*;
+
+    const ALL: Words = Words {
+        highest: 7,
+        basic: !0,
+        wide: !0,
+        highest_extended: 0x8000_0001,
+        extended: !0,
+        enabled: !0,
+    };
+
+    fn level(change: impl Fn(&mut Words)) -> u8 {
+        let mut words = ALL;
+        change(&mut words);
+        level_of(&words)
+    }
+
+    #[test]
+    fn each_missing_bit_gives_the_next_lower_level() {
+        type Word = fn(&mut Words) -> &mut u32;
+        let wanted: [(Word, &[u32], u8); 6] = [
+            (|it| &mut it.basic, &[0, 9, 13, 19, 20, 23], 1),
+            (|it| &mut it.extended, &[0], 1),
+            (|it| &mut it.basic, &[12, 22, 27, 28, 29], 2),
+            (|it| &mut it.wide, &[3, 5, 8], 2),
+            (|it| &mut it.extended, &[5], 2),
+            (|it| &mut it.enabled, &[1, 2], 2),
+        ];
+        let mut least = ALL;
+        (least.basic, least.wide, least.extended, least.enabled) = (0, 0, 0, 0);
+        for (word, bits, lower) in wanted {
+            for bit in bits {
+                assert_eq!(level(|it| *word(it) &= !(1 << bit)), lower, "{bit}");
+                *word(&mut least) |= 1 << bit;
+            }
+        }
+        assert_eq!((level_of(&ALL), level_of(&least)), (3, 3));
+    }
+
+    #[test]
+    fn a_leaf_that_is_not_there_counts_as_0() {
+        assert_eq!(level(|it| it.highest = 6), 2);
+        assert_eq!(level(|it| it.highest = 0), 1);
+        assert_eq!(level(|it| it.highest_extended = 0x8000_0000), 1);
+        assert_eq!(level(|it| it.highest_extended = 0), 1);
+    }
+
+    #[test]
+    fn an_old_system_saves_the_registers_of_sse_alone() {
+        assert_eq!(level(|it| it.enabled = 0b011), 2);
+        assert_eq!(level(|it| it.enabled = 0b111), 3);
+        assert_eq!(level(|it| (it.basic, it.enabled) = (!(1 << 27), 0)), 2);
+    }
+}
