@@ -46,9 +46,10 @@ macro_rules! calls {
                     fn v3($($word: $kind),*) -> $answer;
                 }
 
-                // Apart, so that a call of the widest build takes a load, a comparison and no frame.
+                // Apart, and by the same convention, so that a call of the widest build takes a load and a
+                // comparison more, and no frame.
                 #[cold]
-                unsafe fn other($($word: $kind),*) -> $answer {
+                unsafe extern "C" fn other($($word: $kind),*) -> $answer {
                     match level::find() {
                         3 => v3($($word),*),
                         2 => v2($($word),*),

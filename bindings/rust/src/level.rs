@@ -15,14 +15,14 @@ pub fn known() -> u8 {
 /// The level.
 pub fn find() -> u8 {
     if known() == 0 {
-        LEVEL.store(level_of(&Words::read()), Relaxed);
+        LEVEL.store(level_of(&Processor::read()), Relaxed);
     }
     known()
 }
 
 /// What `cpuid` and `xgetbv` tell.
 #[derive(Clone, Copy)]
-struct Words {
+struct Processor {
     /// The highest leaf, `ecx` of leaf 1 and `ebx` of leaf 7.
     highest: u32,
     basic: u32,
@@ -31,27 +31,27 @@ struct Words {
     highest_extended: u32,
     extended: u32,
     /// Which registers the system saves.
-    enabled: u32,
+    saved: u32,
 }
 
-impl Words {
+impl Processor {
     // `__cpuid` is unsafe in some versions of Rust.
     #[allow(unused_unsafe)]
-    fn read() -> Words {
+    fn read() -> Processor {
         // SAFETY: every x86-64 processor has `cpuid`, and `xgetbv` where the system has set OSXSAVE.
         unsafe {
             let basic = __cpuid(1).ecx;
-            let enabled = match has(basic, &[27]) {
+            let saved = match has(basic, &[27]) {
                 true => _xgetbv(0) as u32,
                 false => 0,
             };
-            Words {
+            Processor {
                 highest: __cpuid(0).eax,
                 basic,
                 wide: __cpuid_count(7, 0).ebx,
                 highest_extended: __cpuid(0x8000_0000).eax,
                 extended: __cpuid(0x8000_0001).ecx,
-                enabled,
+                saved,
             }
         }
     }
@@ -63,11 +63,11 @@ fn has(word: u32, bits: &[u32]) -> bool {
 
 /// The highest level that has a build and all of whose bits are set. A leaf above the highest one tells of
 /// something else, and so counts as 0.
-fn level_of(words: &Words) -> u8 {
+fn level_of(it: &Processor) -> u8 {
     let leaf = |is_there: bool, word: u32| if is_there { word } else { 0 };
-    let basic = leaf(words.highest >= 1, words.basic);
-    let wide = leaf(words.highest >= 7, words.wide);
-    let extended = leaf(words.highest_extended >= 0x8000_0001, words.extended);
+    let basic = leaf(it.highest >= 1, it.basic);
+    let wide = leaf(it.highest >= 7, it.wide);
+    let extended = leaf(it.highest_extended >= 0x8000_0001, it.extended);
     // SSE3, SSSE3, CMPXCHG16B, SSE4.1, SSE4.2 and POPCNT, and LAHF.
     if !has(basic, &[0, 9, 13, 19, 20, 23]) || !has(extended, &[0]) {
         return 1;
@@ -76,7 +76,7 @@ fn level_of(words: &Words) -> u8 {
     let is_3 = has(basic, &[12, 22, 27, 28, 29])
         && has(wide, &[3, 5, 8])
         && has(extended, &[5])
-        && has(words.enabled, &[1, 2]);
+        && has(it.saved, &[1, 2]);
     2 + u8::from(is_3)
 }
 
@@ -84,34 +84,34 @@ fn level_of(words: &Words) -> u8 {
 mod tests {
     use super::*;
 
-    const ALL: Words = Words {
+    const ALL: Processor = Processor {
         highest: 7,
         basic: !0,
         wide: !0,
         highest_extended: 0x8000_0001,
         extended: !0,
-        enabled: !0,
+        saved: !0,
     };
 
-    fn level(change: impl Fn(&mut Words)) -> u8 {
-        let mut words = ALL;
-        change(&mut words);
-        level_of(&words)
+    fn level(change: impl Fn(&mut Processor)) -> u8 {
+        let mut it = ALL;
+        change(&mut it);
+        level_of(&it)
     }
 
     #[test]
     fn each_missing_bit_gives_the_next_lower_level() {
-        type Word = fn(&mut Words) -> &mut u32;
+        type Word = fn(&mut Processor) -> &mut u32;
         let wanted: [(Word, &[u32], u8); 6] = [
             (|it| &mut it.basic, &[0, 9, 13, 19, 20, 23], 1),
             (|it| &mut it.extended, &[0], 1),
             (|it| &mut it.basic, &[12, 22, 27, 28, 29], 2),
             (|it| &mut it.wide, &[3, 5, 8], 2),
             (|it| &mut it.extended, &[5], 2),
-            (|it| &mut it.enabled, &[1, 2], 2),
+            (|it| &mut it.saved, &[1, 2], 2),
         ];
         let mut least = ALL;
-        (least.basic, least.wide, least.extended, least.enabled) = (0, 0, 0, 0);
+        (least.basic, least.wide, least.extended, least.saved) = (0, 0, 0, 0);
         for (word, bits, lower) in wanted {
             for bit in bits {
                 assert_eq!(level(|it| *word(it) &= !(1 << bit)), lower, "{bit}");
@@ -131,8 +131,8 @@ mod tests {
 
     #[test]
     fn an_old_system_saves_the_registers_of_sse_alone() {
-        assert_eq!(level(|it| it.enabled = 0b011), 2);
-        assert_eq!(level(|it| it.enabled = 0b111), 3);
-        assert_eq!(level(|it| (it.basic, it.enabled) = (!(1 << 27), 0)), 2);
+        assert_eq!(level(|it| it.saved = 0b011), 2);
+        assert_eq!(level(|it| it.saved = 0b111), 3);
+        assert_eq!(level(|it| (it.basic, it.saved) = (!(1 << 27), 0)), 2);
     }
 }
