@@ -163,7 +163,7 @@ macro_rules! modules {
             pub(super) const FORMAT: WireFormat =
                 WireFormat { prefix: $prefix, case: CheckCase::$case };
 
-            /// Writes the bytes as a string. `data` is looked at once. Up to 65 bytes take no memory.
+            /// Writes the bytes as a string. `as_ref` is called once. Up to 65 bytes take no memory.
             ///
             /// # Errors
             ///
@@ -171,7 +171,7 @@ macro_rules! modules {
             ///
             /// # Panics
             ///
-            /// Where the text would be longer than `isize::MAX` bytes.
+            /// If the text would be longer than `isize::MAX` bytes.
             pub fn serialize<S, T>(data: T, serializer: S) -> Result<S::Ok, S::Error>
             where
                 S: Serializer,
@@ -185,7 +185,7 @@ macro_rules! modules {
             /// # Errors
             ///
             /// In this order: what the deserializer refuses, another prefix, an odd number of digits, and
-            /// the first byte that is no digit of the format, whose place counts from the prefix's end.
+            /// the first byte that is no digit of the format, whose index counts from the end of the prefix.
             pub fn deserialize<'de, D, T>(deserializer: D) -> Result<T, D::Error>
             where
                 D: Deserializer<'de>,
@@ -250,7 +250,7 @@ macro_rules! modules {
             use super::$name::FORMAT;
             use super::{Deserialize, Deserializer, Serializer, Text, Written};
 
-            /// Writes the bytes as a string that is there, or that none is. `data` is looked at once.
+            /// Writes `Some` as a string, and `None` as the format writes it. `as_ref` is called once.
             ///
             /// # Errors
             ///
@@ -258,7 +258,7 @@ macro_rules! modules {
             ///
             /// # Panics
             ///
-            /// Where the text would be longer than `isize::MAX` bytes.
+            /// If the text would be longer than `isize::MAX` bytes.
             pub fn serialize<S, T>(data: &Option<T>, serializer: S) -> Result<S::Ok, S::Error>
             where
                 S: Serializer,
@@ -270,7 +270,7 @@ macro_rules! modules {
                 }
             }
 
-            /// Reads that there is no string, or a string, and collects its bytes.
+            /// Reads an optional string, and collects its bytes if there is one.
             ///
             /// # Errors
             ///
@@ -305,7 +305,7 @@ macro_rules! modules {
 
                 pub use super::serialize;
 
-                /// Reads that there is no string, or a string of exactly `N` bytes.
+                /// Reads an optional string of exactly `N` bytes.
                 ///
                 /// # Errors
                 ///

@@ -135,7 +135,7 @@ pub fn hex_decode_array_with_case<const N: usize>(
     Ok(bytes)
 }
 
-/// The bytes that digits of either case spell, in a new vector. Wants the feature `alloc`.
+/// The bytes that digits of either case spell, in a new vector. Requires the feature `alloc`.
 ///
 /// # Errors
 ///
@@ -151,7 +151,7 @@ pub fn hex_decode_vec(src: &[u8]) -> Result<Vec<u8>, Error> {
     hex_decode_vec_with_case(src, CheckCase::None)
 }
 
-/// The same by a policy. Wants the feature `alloc`.
+/// The same by a policy. Requires the feature `alloc`.
 ///
 /// # Errors
 ///

@@ -51,11 +51,11 @@ pub fn hex_encode_upper<'a>(src: &[u8], dst: &'a mut [u8]) -> Result<&'a mut str
 #[cfg(feature = "alloc")]
 const OVERFLOW: &str = "encoded length overflow";
 
-/// The lowercase digits of `src` in a new string. Wants the feature `alloc`.
+/// The lowercase digits of `src` in a new string. Requires the feature `alloc`.
 ///
 /// # Panics
 ///
-/// Where the string would be longer than `isize::MAX` bytes.
+/// If the string would be longer than `isize::MAX` bytes.
 ///
 /// ```
 /// assert_eq!(faster_hex::hex_string(&[0, 0xab, 0xff]), "00abff");
@@ -66,7 +66,7 @@ pub fn hex_string(src: &[u8]) -> String {
     new_string(src, false)
 }
 
-/// The uppercase digits of `src` in a new string. Wants the feature `alloc`.
+/// The uppercase digits of `src` in a new string. Requires the feature `alloc`.
 ///
 /// # Panics
 ///
@@ -81,11 +81,11 @@ pub fn hex_string_upper(src: &[u8]) -> String {
     new_string(src, true)
 }
 
-/// Appends the lowercase digits of `src` to `dst`, and returns them. Wants the feature `alloc`.
+/// Appends the lowercase digits of `src` to `dst`, and returns them. Requires the feature `alloc`.
 ///
 /// # Panics
 ///
-/// Where the string would become longer than `isize::MAX` bytes.
+/// If the string would become longer than `isize::MAX` bytes.
 ///
 /// ```
 /// let mut text = String::from("id: ");
@@ -97,7 +97,7 @@ pub fn hex_append<'a>(src: &[u8], dst: &'a mut String) -> &'a mut str {
     append(src, dst, false)
 }
 
-/// Appends the uppercase digits of `src` to `dst`, and returns them. Wants the feature `alloc`.
+/// Appends the uppercase digits of `src` to `dst`, and returns them. Requires the feature `alloc`.
 ///
 /// # Panics
 ///

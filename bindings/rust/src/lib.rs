@@ -13,10 +13,10 @@
 //! # Ok::<(), faster_hex::Error>(())
 //! ```
 //!
-//! Strings and vectors want the feature `alloc`, which `std`, the default, brings along. With the
+//! Strings and vectors require the feature `alloc`, which `std`, the default, brings along. With the
 //! feature `serde`, `#[serde(with = "faster_hex::nopfx_lowercase")]` on a field writes bytes as text and
-//! reads them, as eleven other modules and the crate's root do in their formats. README.md says
-//! what the original has and this crate has not.
+//! reads them, as eleven other modules and the crate's root do in their formats. README.md lists what the
+//! original has and this crate leaves out.
 #![no_std]
 #![warn(missing_docs)]
 
