@@ -20,7 +20,7 @@ impl Random {
         (self.0.wrapping_mul(0x2545_f491_4f6c_dd1d) >> 33) as usize % end
     }
 
-    /// Mostly short, and seldom more than any length at which a call changes its way.
+    /// Mostly short; some are longer than all lengths at which a call changes its way.
     fn len(&mut self) -> usize {
         let longest = [4, 4, 20, 20, 70, 70, 300, 3000][self.below(8)];
         self.below(longest + 1)
