@@ -3752,12 +3752,12 @@ faster_hex_1_0_0_aarch64_decode_grouped:
 	sub	sp, sp, #176
 	cmp	x0, #0
 	mov	w8, #4096
-	stp	x22, x21, [sp, #144]
+	stp	x24, x23, [sp, #128]
 	and	w9, w4, #0xff
-	csel	x21, x8, xzr, eq
+	csel	x24, x8, xzr, eq
 	cmp	x2, #0
 	stp	x26, x25, [sp, #112]
-	csel	x25, x8, xzr, eq
+	csel	x26, x8, xzr, eq
 	cmp	w9, #3
 	stp	x20, x19, [sp, #160]
 	csel	w19, w4, wzr, lo
@@ -3765,7 +3765,7 @@ faster_hex_1_0_0_aarch64_decode_grouped:
 	stp	x29, x30, [sp, #80]
 	add	x29, sp, #80
 	stp	x28, x27, [sp, #96]
-	stp	x24, x23, [sp, #128]
+	stp	x22, x21, [sp, #144]
 	b.hi	.L1_0_0_aarch64_BB17_8
 	str	x0, [sp, #40]
 	mov	x0, xzr
@@ -3837,16 +3837,17 @@ faster_hex_1_0_0_aarch64_decode_grouped:
 .L1_0_0_aarch64_BB17_18:
 	ldr	x8, [sp, #40]
 	cmp	x5, x0
-	stp	x5, x0, [sp, #24]
-	stp	x2, x1, [sp, #8]
-	add	x8, x8, x21
+	stp	x1, x0, [sp, #16]
+	str	x5, [sp, #32]
+	add	x8, x8, x24
+	str	x2, [sp, #8]
 	stur	x8, [x29, #-32]
 	b.hs	.L1_0_0_aarch64_BB17_29
 	lsl	x20, x5, #1
 	cmp	x20, #16
-	b.hs	.L1_0_0_aarch64_BB17_44
+	b.hs	.L1_0_0_aarch64_BB17_45
 	and	x8, x5, #0x7fffffffffffffff
-	cbz	x8, .L1_0_0_aarch64_BB17_67
+	cbz	x8, .L1_0_0_aarch64_BB17_65
 	ands	w8, w4, #0xff
 	adrp	x9, .L1_0_0_aarch64_static.5
 	add	x9, x9, :lo12:.L1_0_0_aarch64_static.5
@@ -3857,24 +3858,24 @@ faster_hex_1_0_0_aarch64_decode_grouped:
 	tst	w4, #0xff
 	adrp	x9, .L1_0_0_aarch64_static.3
 	add	x9, x9, :lo12:.L1_0_0_aarch64_static.3
-	mov	x26, xzr
+	mov	x23, xzr
 	add	x11, x20, #1
-	csel	x27, x9, x8, eq
+	csel	x22, x9, x8, eq
 	ldr	x8, [sp, #40]
-	mov	x24, x0
-	add	x8, x21, x8
-	add	x22, x8, #1
+	mov	x25, x0
+	add	x8, x24, x8
+	add	x21, x8, #1
 .L1_0_0_aarch64_BB17_22:
-	add	x23, x26, x20
-	mov	x8, x22
+	add	x27, x23, x20
+	mov	x8, x21
 	and	x9, x5, #0x7fffffffffffffff
 .L1_0_0_aarch64_BB17_23:
 	ldurb	w10, [x8, #-1]
-	ldrb	w10, [x27, x10]
+	ldrb	w10, [x22, x10]
 	cmp	w10, #255
 	b.eq	.L1_0_0_aarch64_BB17_26
 	ldrb	w10, [x8], #2
-	ldrb	w10, [x27, x10]
+	ldrb	w10, [x22, x10]
 	cmp	w10, #255
 	b.eq	.L1_0_0_aarch64_BB17_26
 	subs	x9, x9, #1
@@ -3884,41 +3885,41 @@ faster_hex_1_0_0_aarch64_decode_grouped:
 	ldur	x8, [x29, #-32]
 	mov	x1, x20
 	mov	w2, w19
-	add	x0, x8, x26
+	add	x0, x8, x23
 	bl	faster_hex_1_0_0_aarch64_codec_pieces_first_of_many
 	mov	w8, w0
-	ldp	x5, x0, [sp, #24]
+	ldp	x0, x5, [sp, #24]
 	and	w8, w8, #0xff
 	add	x11, x20, #1
 	cmp	w8, #1
 	mov	x8, x1
 	ldp	x2, x1, [sp, #8]
-	b.eq	.L1_0_0_aarch64_BB17_73
+	b.eq	.L1_0_0_aarch64_BB17_71
 .L1_0_0_aarch64_BB17_27:
 	ldur	x8, [x29, #-32]
-	ldrb	w8, [x8, x23]
+	ldrb	w8, [x8, x27]
 	cmp	w8, w28
-	b.ne	.L1_0_0_aarch64_BB17_82
-	sub	x24, x24, x5
-	add	x26, x23, #1
-	add	x22, x22, x11
-	cmp	x5, x24
+	b.ne	.L1_0_0_aarch64_BB17_38
+	sub	x25, x25, x5
+	add	x23, x27, #1
+	add	x21, x21, x11
+	cmp	x5, x25
 	b.lo	.L1_0_0_aarch64_BB17_22
 	b	.L1_0_0_aarch64_BB17_30
 .L1_0_0_aarch64_BB17_29:
-	mov	x26, xzr
+	mov	x23, xzr
 .L1_0_0_aarch64_BB17_30:
-	sub	x8, x1, x26
+	sub	x8, x1, x23
 	cmp	x8, #15
 	b.hi	.L1_0_0_aarch64_BB17_36
 	lsr	x8, x8, #1
-	cbz	x8, .L1_0_0_aarch64_BB17_38
+	cbz	x8, .L1_0_0_aarch64_BB17_39
 	and	x9, x19, #0xff
-	adrp	x10, .L1_0_0_aarch64_switch.table.faster_hex_1_0_0_aarch64_decode_grouped.11
-	add	x10, x10, :lo12:.L1_0_0_aarch64_switch.table.faster_hex_1_0_0_aarch64_decode_grouped.11
+	adrp	x10, .L1_0_0_aarch64_switch.table.faster_hex_1_0_0_aarch64_decode_grouped.12
+	add	x10, x10, :lo12:.L1_0_0_aarch64_switch.table.faster_hex_1_0_0_aarch64_decode_grouped.12
 	ldr	x9, [x10, x9, lsl #3]
 	ldr	x10, [sp, #40]
-	add	x11, x21, x26
+	add	x11, x24, x23
 	add	x10, x11, x10
 	add	x10, x10, #1
 .L1_0_0_aarch64_BB17_33:
@@ -3932,192 +3933,266 @@ faster_hex_1_0_0_aarch64_decode_grouped:
 	b.eq	.L1_0_0_aarch64_BB17_36
 	subs	x8, x8, #1
 	b.ne	.L1_0_0_aarch64_BB17_33
-	b	.L1_0_0_aarch64_BB17_38
+	b	.L1_0_0_aarch64_BB17_39
 .L1_0_0_aarch64_BB17_36:
 	ldur	x8, [x29, #-32]
 	mov	w2, w19
-	add	x0, x8, x26
+	add	x0, x8, x23
 	ldr	x8, [sp, #16]
-	sub	x1, x8, x26
+	sub	x1, x8, x23
 	bl	faster_hex_1_0_0_aarch64_codec_pieces_first_of_many
 	mov	w8, w0
-	ldp	x5, x0, [sp, #24]
+	ldp	x0, x5, [sp, #24]
+	ldr	x2, [sp, #8]
 	and	w8, w8, #0xff
 	cmp	w8, #1
-	mov	x8, x1
-	ldp	x2, x1, [sp, #8]
-	b.ne	.L1_0_0_aarch64_BB17_38
-	add	x23, x8, x26
-	b	.L1_0_0_aarch64_BB17_82
+	b.ne	.L1_0_0_aarch64_BB17_39
+.L1_0_0_aarch64_BB17_37:
+	add	x27, x1, x23
 .L1_0_0_aarch64_BB17_38:
+	ldur	x8, [x29, #-32]
+	mov	w9, #3
+	mov	x0, x27
+	ldrb	w8, [x8, x27]
+	orr	x8, x9, x8, lsl #8
+	b	.L1_0_0_aarch64_BB17_9
+.L1_0_0_aarch64_BB17_39:
 	cmp	x5, x0
-	add	x25, x2, x25
-	b.hs	.L1_0_0_aarch64_BB17_48
-	mov	w28, #1
+	add	x23, x2, x26
+	b.hs	.L1_0_0_aarch64_BB17_49
+	mov	w27, #1
 	lsl	x20, x5, #1
 	cmp	x5, #8
-	bfi	x28, x5, #1, #63
-	b.hs	.L1_0_0_aarch64_BB17_49
+	bfi	x27, x5, #1, #63
+	b.hs	.L1_0_0_aarch64_BB17_50
 	ands	w8, w19, #0xff
-	adrp	x10, .L1_0_0_aarch64_static.5
-	add	x10, x10, :lo12:.L1_0_0_aarch64_static.5
+	adrp	x9, .L1_0_0_aarch64_static.5
+	add	x9, x9, :lo12:.L1_0_0_aarch64_static.5
 	cmp	w8, #1
 	adrp	x8, .L1_0_0_aarch64_static.4
 	add	x8, x8, :lo12:.L1_0_0_aarch64_static.4
-	csel	x8, x8, x10, eq
+	csel	x8, x8, x9, eq
 	tst	w19, #0xff
-	adrp	x10, .L1_0_0_aarch64_static.3
-	add	x10, x10, :lo12:.L1_0_0_aarch64_static.3
+	adrp	x9, .L1_0_0_aarch64_static.3
+	add	x9, x9, :lo12:.L1_0_0_aarch64_static.3
 	mov	x26, xzr
-	mov	x9, xzr
-	csel	x10, x10, x8, eq
-	ldr	x8, [sp, #40]
-	add	x12, x20, #1
-	mov	x13, x25
-	add	x8, x21, x8
-	add	x11, x8, #1
-.L1_0_0_aarch64_BB17_41:
-	mov	x8, xzr
-	mov	x14, x11
+	mov	x28, xzr
+	csel	x8, x9, x8, eq
+	ldr	x9, [sp, #40]
+	add	x10, x20, #1
+	mov	x11, x23
+	add	x9, x24, x9
+	add	x9, x9, #1
 .L1_0_0_aarch64_BB17_42:
-	ldurb	w15, [x14, #-1]
-	ldrb	w16, [x14], #2
-	ldrb	w15, [x10, x15]
-	ldrb	w16, [x10, x16]
-	add	w15, w16, w15, lsl #4
-	strb	w15, [x13, x8]
-	add	x8, x8, #1
-	cmp	x5, x8
-	b.ne	.L1_0_0_aarch64_BB17_42
-	add	x9, x9, x5
-	add	x26, x26, x28
-	add	x13, x13, x5
-	sub	x8, x0, x9
-	add	x11, x11, x12
-	cmp	x5, x8
-	b.lo	.L1_0_0_aarch64_BB17_41
-	b	.L1_0_0_aarch64_BB17_54
-.L1_0_0_aarch64_BB17_44:
-	ldur	x8, [x29, #-32]
-	mov	x26, xzr
-	mov	x23, x0
-	add	x22, x8, x20
+	mov	x12, xzr
+	mov	x13, x9
+.L1_0_0_aarch64_BB17_43:
+	ldurb	w14, [x13, #-1]
+	ldrb	w15, [x13], #2
+	ldrb	w14, [x8, x14]
+	ldrb	w15, [x8, x15]
+	add	w14, w15, w14, lsl #4
+	strb	w14, [x11, x12]
+	add	x12, x12, #1
+	cmp	x5, x12
+	b.ne	.L1_0_0_aarch64_BB17_43
+	add	x28, x28, x5
+	add	x26, x26, x27
+	add	x11, x11, x5
+	sub	x22, x0, x28
+	add	x9, x9, x10
+	cmp	x5, x22
+	b.lo	.L1_0_0_aarch64_BB17_42
+	b	.L1_0_0_aarch64_BB17_53
 .L1_0_0_aarch64_BB17_45:
+	ldur	x8, [x29, #-32]
+	mov	x23, xzr
+	mov	x22, x0
+	add	x21, x8, x20
+.L1_0_0_aarch64_BB17_46:
 	ldur	x8, [x29, #-32]
 	mov	x1, x20
 	mov	w2, w19
-	add	x0, x8, x26
+	add	x0, x8, x23
 	bl	faster_hex_1_0_0_aarch64_codec_pieces_first_of_many
 	and	w8, w0, #0xff
 	cmp	w8, #1
-	b.eq	.L1_0_0_aarch64_BB17_74
-	ldrb	w8, [x22, x26]
+	b.eq	.L1_0_0_aarch64_BB17_37
+	ldrb	w8, [x21, x23]
 	cmp	w8, w28
-	b.ne	.L1_0_0_aarch64_BB17_72
-	ldp	x5, x0, [sp, #24]
-	add	x8, x26, x20
+	b.ne	.L1_0_0_aarch64_BB17_70
+	ldp	x0, x5, [sp, #24]
+	add	x8, x23, x20
 	ldp	x2, x1, [sp, #8]
-	add	x26, x8, #1
-	sub	x23, x23, x5
-	cmp	x5, x23
-	b.lo	.L1_0_0_aarch64_BB17_45
-	b	.L1_0_0_aarch64_BB17_30
-.L1_0_0_aarch64_BB17_48:
-	mov	x9, xzr
-	mov	x26, xzr
-	mov	x8, x0
-	b	.L1_0_0_aarch64_BB17_54
-.L1_0_0_aarch64_BB17_49:
-	mov	x22, xzr
-	mov	x26, xzr
-	mov	x21, x25
-	b	.L1_0_0_aarch64_BB17_51
-.L1_0_0_aarch64_BB17_50:
-	ldp	x5, x0, [sp, #24]
-	add	x26, x26, x28
+	add	x23, x8, #1
 	sub	x22, x22, x5
-	add	x21, x21, x5
-	add	x8, x0, x22
-	cmp	x5, x8
-	b.hs	.L1_0_0_aarch64_BB17_53
+	cmp	x5, x22
+	b.lo	.L1_0_0_aarch64_BB17_46
+	b	.L1_0_0_aarch64_BB17_30
+.L1_0_0_aarch64_BB17_49:
+	mov	x28, xzr
+	mov	x26, xzr
+	mov	x22, x0
+	b	.L1_0_0_aarch64_BB17_53
+.L1_0_0_aarch64_BB17_50:
+	mov	x26, xzr
+	mov	x28, xzr
+	mov	x22, x0
 .L1_0_0_aarch64_BB17_51:
 	ldur	x8, [x29, #-32]
+	add	x2, x23, x28
 	and	x3, x5, #0x7fffffffffffffff
 	mov	x1, x20
-	mov	x2, x21
 	mov	w4, w19
 	add	x0, x8, x26
 	bl	faster_hex_1_0_0_aarch64_core_backend_Backend_decode
-	tbnz	w0, #0, .L1_0_0_aarch64_BB17_50
-	ldur	x8, [x29, #-32]
-	sub	x0, x29, #24
-	mov	x2, x20
-	mov	w3, w19
-	add	x1, x8, x26
-	bl	faster_hex_1_0_0_aarch64_core_backend_Backend_first_error
-	b	.L1_0_0_aarch64_BB17_50
+	tbz	w0, #0, .L1_0_0_aarch64_BB17_83
+	ldr	x5, [sp, #32]
+	add	x26, x26, x27
+	sub	x22, x22, x5
+	add	x28, x28, x5
+	cmp	x5, x22
+	b.lo	.L1_0_0_aarch64_BB17_51
 .L1_0_0_aarch64_BB17_53:
-	ldr	x1, [sp, #16]
-	neg	x9, x22
-.L1_0_0_aarch64_BB17_54:
-	ldur	x10, [x29, #-32]
-	cmp	x8, #7
-	add	x2, x25, x9
-	add	x20, x10, x26
-	b.hi	.L1_0_0_aarch64_BB17_63
-	cbz	x8, .L1_0_0_aarch64_BB17_9
-	and	x9, x19, #0xff
-	adrp	x10, .L1_0_0_aarch64_switch.table.faster_hex_1_0_0_aarch64_decode_grouped.11
-	add	x10, x10, :lo12:.L1_0_0_aarch64_switch.table.faster_hex_1_0_0_aarch64_decode_grouped.11
-	ldr	x9, [x10, x9, lsl #3]
-	ldrb	w10, [x20]
-	ldrb	w11, [x20, #1]
-	cmp	x8, #1
+	ldur	x8, [x29, #-32]
+	cmp	x22, #7
+	add	x2, x23, x28
+	add	x20, x8, x26
+	b.hi	.L1_0_0_aarch64_BB17_61
+	cbz	x22, .L1_0_0_aarch64_BB17_64
+	and	x8, x19, #0xff
+	adrp	x9, .L1_0_0_aarch64_switch.table.faster_hex_1_0_0_aarch64_decode_grouped.12
+	add	x9, x9, :lo12:.L1_0_0_aarch64_switch.table.faster_hex_1_0_0_aarch64_decode_grouped.12
+	ldr	x9, [x9, x8, lsl #3]
+	ldrb	w8, [x20]
+	ldrb	w10, [x20, #1]
+	ldr	x0, [sp, #24]
+	cmp	x22, #1
+	ldrb	w8, [x9, x8]
 	ldrb	w10, [x9, x10]
-	ldrb	w11, [x9, x11]
-	add	w10, w11, w10, lsl #4
-	strb	w10, [x2]
-	b.eq	.L1_0_0_aarch64_BB17_66
-	ldrb	w10, [x20, #2]
-	ldrb	w11, [x20, #3]
-	cmp	x8, #2
+	add	w8, w10, w8, lsl #4
+	strb	w8, [x2]
+	b.eq	.L1_0_0_aarch64_BB17_60
+	ldrb	w8, [x20, #2]
+	ldrb	w10, [x20, #3]
+	cmp	x22, #2
+	ldrb	w8, [x9, x8]
 	ldrb	w10, [x9, x10]
-	ldrb	w11, [x9, x11]
-	add	w10, w11, w10, lsl #4
-	strb	w10, [x2, #1]
-	b.eq	.L1_0_0_aarch64_BB17_66
-	ldrb	w10, [x20, #4]
-	ldrb	w11, [x20, #5]
-	cmp	x8, #3
+	add	w8, w10, w8, lsl #4
+	strb	w8, [x2, #1]
+	b.eq	.L1_0_0_aarch64_BB17_60
+	ldrb	w8, [x20, #4]
+	ldrb	w10, [x20, #5]
+	cmp	x22, #3
+	ldrb	w8, [x9, x8]
 	ldrb	w10, [x9, x10]
-	ldrb	w11, [x9, x11]
-	add	w10, w11, w10, lsl #4
-	strb	w10, [x2, #2]
-	b.eq	.L1_0_0_aarch64_BB17_66
-	ldrb	w10, [x20, #6]
-	ldrb	w11, [x20, #7]
-	cmp	x8, #4
+	add	w8, w10, w8, lsl #4
+	strb	w8, [x2, #2]
+	b.eq	.L1_0_0_aarch64_BB17_60
+	ldrb	w8, [x20, #6]
+	ldrb	w10, [x20, #7]
+	cmp	x22, #4
+	ldrb	w8, [x9, x8]
 	ldrb	w10, [x9, x10]
-	ldrb	w11, [x9, x11]
-	add	w10, w11, w10, lsl #4
-	strb	w10, [x2, #3]
-	b.eq	.L1_0_0_aarch64_BB17_66
-	ldrb	w10, [x20, #8]
-	ldrb	w11, [x20, #9]
-	cmp	x8, #5
+	add	w8, w10, w8, lsl #4
+	strb	w8, [x2, #3]
+	b.eq	.L1_0_0_aarch64_BB17_60
+	ldrb	w8, [x20, #8]
+	ldrb	w10, [x20, #9]
+	cmp	x22, #5
+	ldrb	w8, [x9, x8]
 	ldrb	w10, [x9, x10]
-	ldrb	w11, [x9, x11]
-	add	w10, w11, w10, lsl #4
-	strb	w10, [x2, #4]
-	b.eq	.L1_0_0_aarch64_BB17_66
-	ldrb	w10, [x20, #10]
-	ldrb	w11, [x20, #11]
-	cmp	x8, #6
+	add	w8, w10, w8, lsl #4
+	strb	w8, [x2, #4]
+	b.ne	.L1_0_0_aarch64_BB17_81
+.L1_0_0_aarch64_BB17_60:
 	mov	x8, xzr
+	b	.L1_0_0_aarch64_BB17_9
+.L1_0_0_aarch64_BB17_61:
+	ldr	x8, [sp, #16]
+	sub	x21, x8, x26
+	tbnz	w21, #0, .L1_0_0_aarch64_BB17_80
+	lsr	x3, x21, #1
+	cmp	x22, x3
+	b.lo	.L1_0_0_aarch64_BB17_80
+	mov	x0, x20
+	mov	x1, x21
+	mov	w4, w19
+	bl	faster_hex_1_0_0_aarch64_core_backend_Backend_decode
+	tbz	w0, #0, .L1_0_0_aarch64_BB17_79
+.L1_0_0_aarch64_BB17_64:
+	ldr	x0, [sp, #24]
+	mov	x8, xzr
+	b	.L1_0_0_aarch64_BB17_9
+.L1_0_0_aarch64_BB17_65:
+	ands	w8, w4, #0xff
+	b.eq	.L1_0_0_aarch64_BB17_72
+	cmp	w8, #1
+	b.ne	.L1_0_0_aarch64_BB17_75
+	mov	x23, xzr
+	mov	x8, x0
+.L1_0_0_aarch64_BB17_68:
+	ldur	x9, [x29, #-32]
+	ldrb	w9, [x9, x23]
+	cmp	w9, w28
+	b.ne	.L1_0_0_aarch64_BB17_78
+	sub	x8, x8, x5
+	add	x23, x23, #1
+	cmp	x5, x8
+	b.lo	.L1_0_0_aarch64_BB17_68
+	b	.L1_0_0_aarch64_BB17_30
+.L1_0_0_aarch64_BB17_70:
+	add	x27, x20, x23
+	b	.L1_0_0_aarch64_BB17_38
+.L1_0_0_aarch64_BB17_71:
+	mov	x1, x8
+	b	.L1_0_0_aarch64_BB17_37
+.L1_0_0_aarch64_BB17_72:
+	mov	x23, xzr
+	mov	x8, x0
+.L1_0_0_aarch64_BB17_73:
+	ldur	x9, [x29, #-32]
+	ldrb	w9, [x9, x23]
+	cmp	w9, w28
+	b.ne	.L1_0_0_aarch64_BB17_78
+	sub	x8, x8, x5
+	add	x23, x23, #1
+	cmp	x5, x8
+	b.lo	.L1_0_0_aarch64_BB17_73
+	b	.L1_0_0_aarch64_BB17_30
+.L1_0_0_aarch64_BB17_75:
+	mov	x23, xzr
+	mov	x8, x0
+.L1_0_0_aarch64_BB17_76:
+	ldur	x9, [x29, #-32]
+	ldrb	w9, [x9, x23]
+	cmp	w9, w28
+	b.ne	.L1_0_0_aarch64_BB17_78
+	sub	x8, x8, x5
+	add	x23, x23, #1
+	cmp	x5, x8
+	b.lo	.L1_0_0_aarch64_BB17_76
+	b	.L1_0_0_aarch64_BB17_30
+.L1_0_0_aarch64_BB17_78:
+	mov	x27, x23
+	b	.L1_0_0_aarch64_BB17_38
+.L1_0_0_aarch64_BB17_79:
+	sub	x0, x29, #24
+	mov	x1, x20
+	mov	x2, x21
+	mov	w3, w19
+	bl	faster_hex_1_0_0_aarch64_core_backend_Backend_first_error
+.L1_0_0_aarch64_BB17_80:
+	brk	#0x1
+.L1_0_0_aarch64_BB17_81:
+	ldrb	w8, [x20, #10]
+	ldrb	w10, [x20, #11]
+	cmp	x22, #6
+	ldrb	w8, [x9, x8]
 	ldrb	w10, [x9, x10]
-	ldrb	w11, [x9, x11]
-	add	w10, w11, w10, lsl #4
-	strb	w10, [x2, #5]
+	add	w8, w10, w8, lsl #4
+	strb	w8, [x2, #5]
+	mov	x8, xzr
 	b.eq	.L1_0_0_aarch64_BB17_9
 	ldrb	w10, [x20, #12]
 	ldrb	w11, [x20, #13]
@@ -4126,90 +4201,14 @@ faster_hex_1_0_0_aarch64_decode_grouped:
 	add	w9, w9, w10, lsl #4
 	strb	w9, [x2, #6]
 	b	.L1_0_0_aarch64_BB17_9
-.L1_0_0_aarch64_BB17_63:
-	sub	x21, x1, x26
-	tbnz	w21, #0, .L1_0_0_aarch64_BB17_66
-	lsr	x3, x21, #1
-	cmp	x8, x3
-	b.lo	.L1_0_0_aarch64_BB17_66
-	mov	x0, x20
-	mov	x1, x21
-	mov	w4, w19
-	bl	faster_hex_1_0_0_aarch64_core_backend_Backend_decode
-	mov	w8, w0
-	ldr	x0, [sp, #32]
-	tbz	w8, #0, .L1_0_0_aarch64_BB17_83
-.L1_0_0_aarch64_BB17_66:
-	mov	x8, xzr
-	b	.L1_0_0_aarch64_BB17_9
-.L1_0_0_aarch64_BB17_67:
-	ands	w8, w4, #0xff
-	b.eq	.L1_0_0_aarch64_BB17_75
-	cmp	w8, #1
-	b.ne	.L1_0_0_aarch64_BB17_78
-	mov	x26, xzr
-	mov	x8, x0
-.L1_0_0_aarch64_BB17_70:
-	ldur	x9, [x29, #-32]
-	ldrb	w9, [x9, x26]
-	cmp	w9, w28
-	b.ne	.L1_0_0_aarch64_BB17_81
-	sub	x8, x8, x5
-	add	x26, x26, #1
-	cmp	x5, x8
-	b.lo	.L1_0_0_aarch64_BB17_70
-	b	.L1_0_0_aarch64_BB17_30
-.L1_0_0_aarch64_BB17_72:
-	add	x23, x20, x26
-	b	.L1_0_0_aarch64_BB17_82
-.L1_0_0_aarch64_BB17_73:
-	mov	x1, x8
-.L1_0_0_aarch64_BB17_74:
-	add	x23, x1, x26
-	b	.L1_0_0_aarch64_BB17_82
-.L1_0_0_aarch64_BB17_75:
-	mov	x26, xzr
-	mov	x8, x0
-.L1_0_0_aarch64_BB17_76:
-	ldur	x9, [x29, #-32]
-	ldrb	w9, [x9, x26]
-	cmp	w9, w28
-	b.ne	.L1_0_0_aarch64_BB17_81
-	sub	x8, x8, x5
-	add	x26, x26, #1
-	cmp	x5, x8
-	b.lo	.L1_0_0_aarch64_BB17_76
-	b	.L1_0_0_aarch64_BB17_30
-.L1_0_0_aarch64_BB17_78:
-	mov	x26, xzr
-	mov	x8, x0
-.L1_0_0_aarch64_BB17_79:
-	ldur	x9, [x29, #-32]
-	ldrb	w9, [x9, x26]
-	cmp	w9, w28
-	b.ne	.L1_0_0_aarch64_BB17_81
-	sub	x8, x8, x5
-	add	x26, x26, #1
-	cmp	x5, x8
-	b.lo	.L1_0_0_aarch64_BB17_79
-	b	.L1_0_0_aarch64_BB17_30
-.L1_0_0_aarch64_BB17_81:
-	mov	x23, x26
-.L1_0_0_aarch64_BB17_82:
-	ldur	x8, [x29, #-32]
-	mov	w9, #3
-	mov	x0, x23
-	ldrb	w8, [x8, x23]
-	orr	x8, x9, x8, lsl #8
-	b	.L1_0_0_aarch64_BB17_9
 .L1_0_0_aarch64_BB17_83:
+	ldur	x8, [x29, #-32]
 	sub	x0, x29, #24
-	mov	x1, x20
-	mov	x2, x21
+	mov	x2, x20
 	mov	w3, w19
+	add	x1, x8, x26
 	bl	faster_hex_1_0_0_aarch64_core_backend_Backend_first_error
-	ldr	x0, [sp, #32]
-	b	.L1_0_0_aarch64_BB17_66
+	brk	#0x1
 .L1_0_0_aarch64_func_end17:
 	.size	faster_hex_1_0_0_aarch64_decode_grouped, .L1_0_0_aarch64_func_end17-faster_hex_1_0_0_aarch64_decode_grouped
 	.section	.text.faster_hex_1_0_0_aarch64_decode_with_case,"ax",@progbits
@@ -4508,13 +4507,13 @@ faster_hex_1_0_0_aarch64_first_invalid:
 .L1_0_0_aarch64_static.9:
 	.ascii	"000102030405060708090a0b0c0d0e0f101112131415161718191a1b1c1d1e1f202122232425262728292a2b2c2d2e2f303132333435363738393a3b3c3d3e3f404142434445464748494a4b4c4d4e4f505152535455565758595a5b5c5d5e5f606162636465666768696a6b6c6d6e6f707172737475767778797a7b7c7d7e7f808182838485868788898a8b8c8d8e8f909192939495969798999a9b9c9d9e9fa0a1a2a3a4a5a6a7a8a9aaabacadaeafb0b1b2b3b4b5b6b7b8b9babbbcbdbebfc0c1c2c3c4c5c6c7c8c9cacbcccdcecfd0d1d2d3d4d5d6d7d8d9dadbdcdddedfe0e1e2e3e4e5e6e7e8e9eaebecedeeeff0f1f2f3f4f5f6f7f8f9fafbfcfdfeff"
 	.size	.L1_0_0_aarch64_static.9, 512
-	.type	.L1_0_0_aarch64_switch.table.faster_hex_1_0_0_aarch64_decode_grouped.11,@object
-	.section	.data.rel.ro..L1_0_0_aarch64_switch.table.faster_hex_1_0_0_aarch64_decode_grouped.11,"aw",@progbits
+	.type	.L1_0_0_aarch64_switch.table.faster_hex_1_0_0_aarch64_decode_grouped.12,@object
+	.section	.data.rel.ro..L1_0_0_aarch64_switch.table.faster_hex_1_0_0_aarch64_decode_grouped.12,"aw",@progbits
 	.p2align	3, 0x0
-.L1_0_0_aarch64_switch.table.faster_hex_1_0_0_aarch64_decode_grouped.11:
+.L1_0_0_aarch64_switch.table.faster_hex_1_0_0_aarch64_decode_grouped.12:
 	.xword	.L1_0_0_aarch64_static.3
 	.xword	.L1_0_0_aarch64_static.4
 	.xword	.L1_0_0_aarch64_static.5
-	.size	.L1_0_0_aarch64_switch.table.faster_hex_1_0_0_aarch64_decode_grouped.11, 24
+	.size	.L1_0_0_aarch64_switch.table.faster_hex_1_0_0_aarch64_decode_grouped.12, 24
 	.ident	"rattle logic=dac8208d650f15bf3e2dc313a14fa4c783a3acf887bdfab66e1714b038d9e11b"
 	.section	".note.GNU-stack","",@progbits

@@ -4480,23 +4480,23 @@ faster_hex_1_0_0_x86_64_v2_decode_grouped:
 	movq	%rsi, %r13
 	shrq	%r13
 	cmpq	%r9, %r13
-	movq	%rdx, 24(%rsp)
+	movq	%rdx, 16(%rsp)
 	jae	.L1_0_0_v2_BB17_10
 	testb	$1, %sil
 	jne	.L1_0_0_v2_BB17_29
 	movl	$2, %r10d
 	cmpq	%r13, %rcx
 	jae	.L1_0_0_v2_BB17_18
-	jmp	.L1_0_0_v2_BB17_81
+	jmp	.L1_0_0_v2_BB17_78
 .L1_0_0_v2_BB17_6:
 	movl	$5, %r10d
-	jmp	.L1_0_0_v2_BB17_81
+	jmp	.L1_0_0_v2_BB17_78
 .L1_0_0_v2_BB17_8:
 	cmpb	$58, %r12b
 	jae	.L1_0_0_v2_BB17_12
 .L1_0_0_v2_BB17_7:
 	xorl	%r13d, %r13d
-	jmp	.L1_0_0_v2_BB17_81
+	jmp	.L1_0_0_v2_BB17_78
 .L1_0_0_v2_BB17_10:
 	leaq	(%r9,%r9), %rax
 	leaq	1(,%r9,2), %r10
@@ -4534,22 +4534,22 @@ faster_hex_1_0_0_x86_64_v2_decode_grouped:
 	imulq	%r9, %rax
 	shrq	%r13
 	addq	%rax, %r13
-	movq	24(%rsp), %rdx
+	movq	16(%rsp), %rdx
 	movl	$2, %r10d
 	cmpq	%r13, %rcx
-	jb	.L1_0_0_v2_BB17_81
+	jb	.L1_0_0_v2_BB17_78
 .L1_0_0_v2_BB17_18:
 	movb	%r11b, %bpl
 	shll	$12, %ebp
 	leaq	(%rdi,%rbp), %rcx
 	movzbl	%r14b, %eax
-	movq	%rax, 8(%rsp)
 	cmpq	%r13, %r9
-	movq	%rsi, 56(%rsp)
-	movq	%r9, 48(%rsp)
-	movq	%rdi, 40(%rsp)
-	movq	%rcx, 16(%rsp)
+	movq	%rsi, 48(%rsp)
+	movq	%r9, 40(%rsp)
+	movq	%rdi, 32(%rsp)
+	movq	%rcx, 8(%rsp)
 	movq	%r13, 88(%rsp)
+	movq	%rax, 24(%rsp)
 	movq	%rbp, 80(%rsp)
 	movb	%r15b, 7(%rsp)
 	jae	.L1_0_0_v2_BB17_30
@@ -4558,7 +4558,7 @@ faster_hex_1_0_0_x86_64_v2_decode_grouped:
 	jae	.L1_0_0_v2_BB17_47
 	movabsq	$9223372036854775807, %r12
 	andq	%r9, %r12
-	je	.L1_0_0_v2_BB17_71
+	je	.L1_0_0_v2_BB17_68
 	cmpb	$1, %r8b
 	leaq	.L1_0_0_v2_static.4(%rip), %rax
 	leaq	.L1_0_0_v2_static.5(%rip), %rcx
@@ -4575,7 +4575,7 @@ faster_hex_1_0_0_x86_64_v2_decode_grouped:
 	movq	%r10, 72(%rsp)
 	movq	%r11, 64(%rsp)
 .L1_0_0_v2_BB17_22:
-	movq	%rax, 32(%rsp)
+	movq	%rax, 56(%rsp)
 	leaq	(%r10,%rbp), %rbx
 	leaq	(%rcx,%rbp), %rax
 	xorl	%ecx, %ecx
@@ -4594,24 +4594,24 @@ faster_hex_1_0_0_x86_64_v2_decode_grouped:
 .L1_0_0_v2_BB17_26:
 	movq	%rax, %rdi
 	movq	%r10, %rsi
-	movq	8(%rsp), %rdx
+	movq	24(%rsp), %rdx
 	callq	faster_hex_1_0_0_x86_64_v2_codec_pieces_first_of_many
 	movq	64(%rsp), %r11
 	movq	72(%rsp), %r10
-	movq	40(%rsp), %rdi
-	movq	48(%rsp), %r9
-	movq	56(%rsp), %rsi
+	movq	32(%rsp), %rdi
+	movq	40(%rsp), %r9
+	movq	48(%rsp), %rsi
 	movl	%eax, %ecx
 	movq	%rdx, %rax
-	movq	24(%rsp), %rdx
+	movq	16(%rsp), %rdx
 	cmpb	$1, %cl
-	je	.L1_0_0_v2_BB17_77
+	je	.L1_0_0_v2_BB17_74
 .L1_0_0_v2_BB17_27:
-	movq	16(%rsp), %rcx
+	movq	8(%rsp), %rcx
 	movzbl	176(%rsp), %eax
 	cmpb	%al, (%rcx,%rbx)
-	movq	32(%rsp), %rax
-	jne	.L1_0_0_v2_BB17_80
+	movq	56(%rsp), %rax
+	jne	.L1_0_0_v2_BB17_77
 	incq	%rbx
 	subq	%r9, %rax
 	addq	%r11, %r13
@@ -4622,7 +4622,7 @@ faster_hex_1_0_0_x86_64_v2_decode_grouped:
 .L1_0_0_v2_BB17_29:
 	movl	$7, %r10d
 	xorl	%r13d, %r13d
-	jmp	.L1_0_0_v2_BB17_81
+	jmp	.L1_0_0_v2_BB17_78
 .L1_0_0_v2_BB17_30:
 	xorl	%ebx, %ebx
 .L1_0_0_v2_BB17_31:
@@ -4630,15 +4630,15 @@ faster_hex_1_0_0_x86_64_v2_decode_grouped:
 	subq	%rbx, %rax
 	cmpq	$15, %rax
 	movq	88(%rsp), %r13
-	movq	80(%rsp), %r12
+	movq	24(%rsp), %r12
+	movq	80(%rsp), %rbp
 	ja	.L1_0_0_v2_BB17_37
 	movq	%rax, %rcx
 	shrq	%rcx
 	je	.L1_0_0_v2_BB17_39
-	leaq	.L1_0_0_v2_switch.table.faster_hex_1_0_0_x86_64_v2_decode_grouped.11(%rip), %r8
-	movq	8(%rsp), %r10
-	movq	(%r8,%r10,8), %r8
-	leaq	(%r12,%rbx), %r10
+	leaq	.L1_0_0_v2_switch.table.faster_hex_1_0_0_x86_64_v2_decode_grouped.12(%rip), %r8
+	movq	(%r8,%r12,8), %r8
+	leaq	(%rbx,%rbp), %r10
 	addq	%rdi, %r10
 	incq	%r10
 	xorl	%r11d, %r11d
@@ -4654,101 +4654,92 @@ faster_hex_1_0_0_x86_64_v2_decode_grouped:
 	jne	.L1_0_0_v2_BB17_34
 	jmp	.L1_0_0_v2_BB17_39
 .L1_0_0_v2_BB17_37:
-	movq	16(%rsp), %rcx
+	movq	8(%rsp), %rcx
 	leaq	(%rcx,%rbx), %rdi
 	movq	%rax, %rsi
-	movq	8(%rsp), %rdx
+	movl	%r12d, %edx
 	callq	faster_hex_1_0_0_x86_64_v2_codec_pieces_first_of_many
-	movq	40(%rsp), %rdi
-	movq	48(%rsp), %r9
-	movq	56(%rsp), %rsi
+	movq	32(%rsp), %rdi
+	movq	40(%rsp), %r9
+	movq	48(%rsp), %rsi
 	movq	%rdx, %rcx
-	movq	24(%rsp), %rdx
+	movq	16(%rsp), %rdx
 	cmpb	$1, %al
 	jne	.L1_0_0_v2_BB17_39
 	addq	%rcx, %rbx
-	jmp	.L1_0_0_v2_BB17_79
+	jmp	.L1_0_0_v2_BB17_76
 .L1_0_0_v2_BB17_39:
-	xorl	%r10d, %r10d
+	xorl	%r8d, %r8d
 	movzbl	7(%rsp), %eax
-	movb	%al, %r10b
-	shll	$12, %r10d
-	leaq	(%rdx,%r10), %rax
-	movq	%rax, 32(%rsp)
+	movb	%al, %r8b
+	shll	$12, %r8d
+	leaq	(%rdx,%r8), %rax
+	movq	%rax, 16(%rsp)
 	cmpq	%r13, %r9
 	jae	.L1_0_0_v2_BB17_51
 	leaq	(%r9,%r9), %r15
 	leaq	1(,%r9,2), %rax
-	movq	%rax, 24(%rsp)
+	movq	%rax, 32(%rsp)
 	cmpq	$8, %r9
 	jae	.L1_0_0_v2_BB17_52
 	cmpb	$1, %r14b
 	leaq	.L1_0_0_v2_static.4(%rip), %rax
-	leaq	.L1_0_0_v2_static.5(%rip), %r8
-	cmoveq	%rax, %r8
+	leaq	.L1_0_0_v2_static.5(%rip), %rcx
+	cmoveq	%rax, %rcx
 	testb	%r14b, %r14b
-	leaq	.L1_0_0_v2_static.3(%rip), %rcx
-	cmovneq	%r8, %rcx
-	movl	%r9d, %r8d
-	andl	$6, %r8d
-	addq	%r12, %rdi
+	leaq	.L1_0_0_v2_static.3(%rip), %rax
+	cmovneq	%rcx, %rax
+	movl	%r9d, %ecx
+	andl	$6, %ecx
+	addq	%rbp, %rdi
 	addq	$3, %rdi
 	incq	%r15
-	addq	%r10, %rdx
+	addq	%r8, %rdx
 	incq	%rdx
-	xorl	%r14d, %r14d
+	xorl	%r12d, %r12d
 	xorl	%ebx, %ebx
-	movq	32(%rsp), %r12
 	jmp	.L1_0_0_v2_BB17_44
 .L1_0_0_v2_BB17_42:
-	movq	16(%rsp), %r10
-	leaq	(%r10,%r14), %r11
-	leaq	(%r12,%rbx), %r10
-	movq	%r10, 48(%rsp)
-	movq	%r9, %r10
-	movq	%rsi, %r9
-	movq	%r12, %rsi
-	movq	%r15, %r12
-	movzbl	(%r11,%rax,2), %r15d
-	movzbl	(%rcx,%r15), %ebp
-	movq	%r12, %r15
-	movq	%rsi, %r12
-	movq	%r9, %rsi
-	movq	%r10, %r9
-	movzbl	1(%r11,%rax,2), %r10d
+	movq	8(%rsp), %r10
+	addq	%r12, %r10
+	movq	16(%rsp), %r11
+	addq	%rbx, %r11
+	movzbl	(%r10,%r8,2), %r14d
+	movzbl	(%rax,%r14), %ebp
+	movzbl	1(%r10,%r8,2), %r10d
 	shlb	$4, %bpl
-	addb	(%rcx,%r10), %bpl
-	movq	48(%rsp), %r10
-	movb	%bpl, (%r10,%rax)
+	addb	(%rax,%r10), %bpl
+	movb	%bpl, (%r11,%r8)
 .L1_0_0_v2_BB17_43:
 	addq	%r9, %rbx
-	addq	24(%rsp), %r14
-	movq	%r13, %rax
-	subq	%rbx, %rax
+	leaq	1(,%r9,2), %r8
+	addq	%r8, %r12
+	movq	%r13, %r14
+	subq	%rbx, %r14
 	addq	%r15, %rdi
 	addq	%r9, %rdx
-	cmpq	%rax, %r9
-	jae	.L1_0_0_v2_BB17_58
+	cmpq	%r14, %r9
+	jae	.L1_0_0_v2_BB17_55
 .L1_0_0_v2_BB17_44:
-	xorl	%eax, %eax
+	xorl	%r8d, %r8d
 	cmpq	$1, %r9
 	je	.L1_0_0_v2_BB17_42
 	.p2align	4
 .L1_0_0_v2_BB17_45:
-	movzbl	-3(%rdi,%rax,2), %r10d
-	movzbl	(%rcx,%r10), %r10d
-	movzbl	-2(%rdi,%rax,2), %r11d
+	movzbl	-3(%rdi,%r8,2), %r10d
+	movzbl	(%rax,%r10), %r10d
+	movzbl	-2(%rdi,%r8,2), %r11d
 	shlb	$4, %r10b
-	addb	(%rcx,%r11), %r10b
-	movb	%r10b, -1(%rdx,%rax)
-	movzbl	-1(%rdi,%rax,2), %r10d
-	movzbl	(%rcx,%r10), %r10d
-	movzbl	(%rdi,%rax,2), %r11d
+	addb	(%rax,%r11), %r10b
+	movb	%r10b, -1(%rdx,%r8)
+	movzbl	-1(%rdi,%r8,2), %r10d
+	movzbl	(%rax,%r10), %r10d
+	movzbl	(%rdi,%r8,2), %r11d
 	shlb	$4, %r10b
-	addb	(%rcx,%r11), %r10b
-	movb	%r10b, (%rdx,%rax)
-	addq	$2, %rax
-	cmpq	%rax, %r8
+	addb	(%rax,%r11), %r10b
+	movb	%r10b, (%rdx,%r8)
+	addq	$2, %r8
+	cmpq	%r8, %rcx
 	jne	.L1_0_0_v2_BB17_45
 	testb	$1, %r9b
 	jne	.L1_0_0_v2_BB17_42
@@ -4760,194 +4751,188 @@ faster_hex_1_0_0_x86_64_v2_decode_grouped:
 .L1_0_0_v2_BB17_48:
 	leaq	(%rcx,%rbp), %rdi
 	movq	%r10, %rsi
-	movq	8(%rsp), %rdx
+	movq	24(%rsp), %rdx
 	movq	%r10, %r13
 	callq	faster_hex_1_0_0_x86_64_v2_codec_pieces_first_of_many
 	cmpb	$1, %al
-	je	.L1_0_0_v2_BB17_78
+	je	.L1_0_0_v2_BB17_75
 	movq	%rbp, %rbx
 	addq	%r13, %rbx
 	movzbl	176(%rsp), %eax
 	cmpb	%al, (%r15,%rbp)
-	jne	.L1_0_0_v2_BB17_79
+	jne	.L1_0_0_v2_BB17_76
 	movq	%r13, %r10
 	incq	%rbx
-	movq	48(%rsp), %r9
+	movq	40(%rsp), %r9
 	subq	%r9, %r12
 	movq	%rbx, %rbp
 	cmpq	%r12, %r9
-	movq	56(%rsp), %rsi
-	movq	24(%rsp), %rdx
-	movq	40(%rsp), %rdi
-	movq	16(%rsp), %rcx
+	movq	48(%rsp), %rsi
+	movq	16(%rsp), %rdx
+	movq	32(%rsp), %rdi
+	movq	8(%rsp), %rcx
 	jb	.L1_0_0_v2_BB17_48
 	jmp	.L1_0_0_v2_BB17_31
 .L1_0_0_v2_BB17_51:
 	xorl	%ebx, %ebx
-	xorl	%r14d, %r14d
-	movq	%r13, %rax
-	jmp	.L1_0_0_v2_BB17_57
+	xorl	%r12d, %r12d
+	movq	%r13, %r14
+	jmp	.L1_0_0_v2_BB17_55
 .L1_0_0_v2_BB17_52:
-	movq	%r15, 40(%rsp)
-	movabsq	$9223372036854775807, %rbp
-	andq	%r9, %rbp
+	movabsq	$9223372036854775807, %rax
+	andq	%r9, %rax
+	movq	%rax, 56(%rsp)
+	xorl	%r12d, %r12d
+	movq	%r13, %r14
 	xorl	%ebx, %ebx
-	movq	32(%rsp), %r12
-	xorl	%r14d, %r14d
-	jmp	.L1_0_0_v2_BB17_54
 .L1_0_0_v2_BB17_53:
-	addq	24(%rsp), %r14
-	movq	48(%rsp), %rcx
-	addq	%rcx, %r12
-	subq	%rcx, %rbx
-	leaq	(%rbx,%r13), %rax
-	cmpq	%rax, %rcx
-	jae	.L1_0_0_v2_BB17_56
-.L1_0_0_v2_BB17_54:
+	movq	8(%rsp), %rax
+	movq	%r15, %rsi
+	leaq	(%rax,%r12), %r15
 	movq	16(%rsp), %rax
-	leaq	(%rax,%r14), %r15
+	leaq	(%rax,%rbx), %rdx
 	movq	%r15, %rdi
-	movq	40(%rsp), %rsi
-	movq	%r12, %rdx
-	movq	%rbp, %rcx
-	movq	8(%rsp), %r8
+	movq	%rsi, %rbp
+	movq	56(%rsp), %rcx
+	movq	24(%rsp), %r8
 	callq	faster_hex_1_0_0_x86_64_v2_core_backend_Backend_decode
 	testb	%al, %al
-	jne	.L1_0_0_v2_BB17_53
-	leaq	96(%rsp), %rdi
-	movq	%r15, %rsi
-	movq	40(%rsp), %rdx
+	je	.L1_0_0_v2_BB17_84
+	movq	40(%rsp), %rax
+	addq	%rax, %rbx
+	addq	32(%rsp), %r12
+	subq	%rax, %r14
+	cmpq	%r14, %rax
+	movq	48(%rsp), %rsi
+	movq	%rbp, %r15
+	jb	.L1_0_0_v2_BB17_53
+.L1_0_0_v2_BB17_55:
 	movq	8(%rsp), %rcx
-	callq	faster_hex_1_0_0_x86_64_v2_core_backend_Backend_first_error
-	jmp	.L1_0_0_v2_BB17_53
-.L1_0_0_v2_BB17_56:
-	negq	%rbx
-	movq	56(%rsp), %rsi
-.L1_0_0_v2_BB17_57:
-	movq	32(%rsp), %r12
-.L1_0_0_v2_BB17_58:
-	movq	16(%rsp), %rdi
-	addq	%r14, %rdi
-	addq	%rbx, %r12
-	cmpq	$7, %rax
-	ja	.L1_0_0_v2_BB17_67
-	testq	%rax, %rax
-	je	.L1_0_0_v2_BB17_70
-	leaq	.L1_0_0_v2_switch.table.faster_hex_1_0_0_x86_64_v2_decode_grouped.11(%rip), %rcx
-	movq	8(%rsp), %rdx
-	movq	(%rcx,%rdx,8), %rcx
-	movzbl	(%rdi), %edx
-	movzbl	(%rcx,%rdx), %edx
-	movzbl	1(%rdi), %esi
-	shlb	$4, %dl
-	addb	(%rcx,%rsi), %dl
-	movb	%dl, (%r12)
-	cmpq	$1, %rax
-	je	.L1_0_0_v2_BB17_70
-	movzbl	2(%rdi), %edx
-	movzbl	(%rcx,%rdx), %edx
-	movzbl	3(%rdi), %esi
-	shlb	$4, %dl
-	addb	(%rcx,%rsi), %dl
-	movb	%dl, 1(%r12)
-	cmpq	$2, %rax
-	je	.L1_0_0_v2_BB17_70
-	movzbl	4(%rdi), %edx
-	movzbl	(%rcx,%rdx), %edx
-	movzbl	5(%rdi), %esi
-	shlb	$4, %dl
-	addb	(%rcx,%rsi), %dl
-	movb	%dl, 2(%r12)
-	cmpq	$3, %rax
-	je	.L1_0_0_v2_BB17_70
-	movzbl	6(%rdi), %edx
-	movzbl	(%rcx,%rdx), %edx
-	movzbl	7(%rdi), %esi
-	shlb	$4, %dl
-	addb	(%rcx,%rsi), %dl
-	movb	%dl, 3(%r12)
-	cmpq	$4, %rax
-	je	.L1_0_0_v2_BB17_70
-	movzbl	8(%rdi), %edx
-	movzbl	(%rcx,%rdx), %edx
-	movzbl	9(%rdi), %esi
-	shlb	$4, %dl
-	addb	(%rcx,%rsi), %dl
-	movb	%dl, 4(%r12)
-	cmpq	$5, %rax
-	je	.L1_0_0_v2_BB17_70
-	movzbl	10(%rdi), %edx
-	movzbl	(%rcx,%rdx), %edx
-	movzbl	11(%rdi), %esi
-	shlb	$4, %dl
-	addb	(%rcx,%rsi), %dl
-	movb	%dl, 5(%r12)
-	cmpq	$6, %rax
-	je	.L1_0_0_v2_BB17_70
-	movzbl	12(%rdi), %eax
-	movzbl	(%rcx,%rax), %eax
-	movzbl	13(%rdi), %edx
-	shlb	$4, %al
-	addb	(%rcx,%rdx), %al
-	movb	%al, 6(%r12)
-	jmp	.L1_0_0_v2_BB17_70
-.L1_0_0_v2_BB17_67:
-	subq	%r14, %rsi
+	addq	%r12, %rcx
+	movq	16(%rsp), %r8
+	addq	%rbx, %r8
+	cmpq	$7, %r14
+	ja	.L1_0_0_v2_BB17_64
+	testq	%r14, %r14
+	je	.L1_0_0_v2_BB17_67
+	leaq	.L1_0_0_v2_switch.table.faster_hex_1_0_0_x86_64_v2_decode_grouped.12(%rip), %rax
+	movq	24(%rsp), %rdx
+	movq	(%rax,%rdx,8), %rax
+	movq	%rcx, %rsi
+	movzbl	(%rcx), %ecx
+	movzbl	(%rax,%rcx), %ecx
+	movzbl	1(%rsi), %edx
+	shlb	$4, %cl
+	addb	(%rax,%rdx), %cl
+	movb	%cl, (%r8)
+	cmpq	$1, %r14
+	je	.L1_0_0_v2_BB17_67
+	movzbl	2(%rsi), %ecx
+	movzbl	(%rax,%rcx), %ecx
+	movzbl	3(%rsi), %edx
+	shlb	$4, %cl
+	addb	(%rax,%rdx), %cl
+	movb	%cl, 1(%r8)
+	cmpq	$2, %r14
+	je	.L1_0_0_v2_BB17_67
+	movzbl	4(%rsi), %ecx
+	movzbl	(%rax,%rcx), %ecx
+	movzbl	5(%rsi), %edx
+	shlb	$4, %cl
+	addb	(%rax,%rdx), %cl
+	movb	%cl, 2(%r8)
+	cmpq	$3, %r14
+	je	.L1_0_0_v2_BB17_67
+	movzbl	6(%rsi), %ecx
+	movzbl	(%rax,%rcx), %ecx
+	movzbl	7(%rsi), %edx
+	shlb	$4, %cl
+	addb	(%rax,%rdx), %cl
+	movb	%cl, 3(%r8)
+	cmpq	$4, %r14
+	je	.L1_0_0_v2_BB17_67
+	movzbl	8(%rsi), %ecx
+	movzbl	(%rax,%rcx), %ecx
+	movzbl	9(%rsi), %edx
+	shlb	$4, %cl
+	addb	(%rax,%rdx), %cl
+	movb	%cl, 4(%r8)
+	cmpq	$5, %r14
+	je	.L1_0_0_v2_BB17_67
+	movzbl	10(%rsi), %ecx
+	movzbl	(%rax,%rcx), %ecx
+	movzbl	11(%rsi), %edx
+	shlb	$4, %cl
+	addb	(%rax,%rdx), %cl
+	movb	%cl, 5(%r8)
+	cmpq	$6, %r14
+	je	.L1_0_0_v2_BB17_67
+	movzbl	12(%rsi), %ecx
+	movzbl	(%rax,%rcx), %ecx
+	movzbl	13(%rsi), %edx
+	shlb	$4, %cl
+	addb	(%rax,%rdx), %cl
+	movb	%cl, 6(%r8)
+	jmp	.L1_0_0_v2_BB17_67
+.L1_0_0_v2_BB17_64:
+	subq	%r12, %rsi
 	testb	$1, %sil
-	jne	.L1_0_0_v2_BB17_70
+	jne	.L1_0_0_v2_BB17_83
+	movq	%rcx, %rbx
 	movq	%rsi, %rcx
 	shrq	%rcx
-	cmpq	%rcx, %rax
-	jb	.L1_0_0_v2_BB17_70
-	movq	%rdi, %rbx
+	cmpq	%rcx, %r14
+	jb	.L1_0_0_v2_BB17_83
+	movq	%rbx, %rdi
 	movq	%rsi, %r15
-	movq	%r12, %rdx
-	movq	8(%rsp), %r8
+	movq	%r8, %rdx
+	movq	24(%rsp), %r14
+	movl	%r14d, %r8d
 	callq	faster_hex_1_0_0_x86_64_v2_core_backend_Backend_decode
 	testb	%al, %al
-	je	.L1_0_0_v2_BB17_85
-.L1_0_0_v2_BB17_70:
-	xorl	%r10d, %r10d
-	jmp	.L1_0_0_v2_BB17_81
-.L1_0_0_v2_BB17_71:
-	testb	%r8b, %r8b
 	je	.L1_0_0_v2_BB17_82
+.L1_0_0_v2_BB17_67:
+	xorl	%r10d, %r10d
+	jmp	.L1_0_0_v2_BB17_78
+.L1_0_0_v2_BB17_68:
+	testb	%r8b, %r8b
+	je	.L1_0_0_v2_BB17_79
 	movzbl	%r8b, %eax
 	xorl	%ebx, %ebx
 	cmpl	$1, %eax
-	jne	.L1_0_0_v2_BB17_76
-.L1_0_0_v2_BB17_73:
+	jne	.L1_0_0_v2_BB17_73
+.L1_0_0_v2_BB17_70:
 	movzbl	176(%rsp), %r8d
 	cmpb	%r8b, (%rcx,%rbx)
-	jne	.L1_0_0_v2_BB17_80
+	jne	.L1_0_0_v2_BB17_77
 	incq	%rbx
 	subq	%r9, %r13
 	cmpq	%r13, %r9
-	jb	.L1_0_0_v2_BB17_73
+	jb	.L1_0_0_v2_BB17_70
 	jmp	.L1_0_0_v2_BB17_31
-.L1_0_0_v2_BB17_75:
+.L1_0_0_v2_BB17_72:
 	incq	%rbx
 	subq	%r9, %r13
 	cmpq	%r13, %r9
 	jae	.L1_0_0_v2_BB17_31
-.L1_0_0_v2_BB17_76:
+.L1_0_0_v2_BB17_73:
 	movzbl	176(%rsp), %r8d
 	cmpb	%r8b, (%rcx,%rbx)
-	je	.L1_0_0_v2_BB17_75
-	jmp	.L1_0_0_v2_BB17_80
-.L1_0_0_v2_BB17_77:
+	je	.L1_0_0_v2_BB17_72
+	jmp	.L1_0_0_v2_BB17_77
+.L1_0_0_v2_BB17_74:
 	movq	%rax, %rdx
-.L1_0_0_v2_BB17_78:
+.L1_0_0_v2_BB17_75:
 	addq	%rdx, %rbp
 	movq	%rbp, %rbx
-.L1_0_0_v2_BB17_79:
-	movq	16(%rsp), %rcx
-.L1_0_0_v2_BB17_80:
+.L1_0_0_v2_BB17_76:
+	movq	8(%rsp), %rcx
+.L1_0_0_v2_BB17_77:
 	movzbl	(%rcx,%rbx), %r10d
 	shll	$8, %r10d
 	orq	$3, %r10
 	movq	%rbx, %r13
-.L1_0_0_v2_BB17_81:
+.L1_0_0_v2_BB17_78:
 	movq	%r13, %rax
 	movq	%r10, %rdx
 	addq	$120, %rsp
@@ -4965,25 +4950,33 @@ faster_hex_1_0_0_x86_64_v2_decode_grouped:
 	popq	%rbp
 	.cfi_def_cfa_offset 8
 	retq
-.L1_0_0_v2_BB17_82:
+.L1_0_0_v2_BB17_79:
 	.cfi_def_cfa_offset 176
 	xorl	%ebx, %ebx
-.L1_0_0_v2_BB17_83:
+.L1_0_0_v2_BB17_80:
 	movzbl	176(%rsp), %r8d
 	cmpb	%r8b, (%rcx,%rbx)
-	jne	.L1_0_0_v2_BB17_80
+	jne	.L1_0_0_v2_BB17_77
 	incq	%rbx
 	subq	%r9, %r13
 	cmpq	%r13, %r9
-	jb	.L1_0_0_v2_BB17_83
+	jb	.L1_0_0_v2_BB17_80
 	jmp	.L1_0_0_v2_BB17_31
-.L1_0_0_v2_BB17_85:
+.L1_0_0_v2_BB17_82:
 	leaq	96(%rsp), %rdi
 	movq	%rbx, %rsi
 	movq	%r15, %rdx
-	movq	8(%rsp), %rcx
+	movl	%r14d, %ecx
 	callq	faster_hex_1_0_0_x86_64_v2_core_backend_Backend_first_error
-	jmp	.L1_0_0_v2_BB17_70
+.L1_0_0_v2_BB17_83:
+	ud2
+.L1_0_0_v2_BB17_84:
+	leaq	96(%rsp), %rdi
+	movq	%r15, %rsi
+	movq	%rbp, %rdx
+	movq	24(%rsp), %rcx
+	callq	faster_hex_1_0_0_x86_64_v2_core_backend_Backend_first_error
+	ud2
 .L1_0_0_v2_func_end17:
 	.size	faster_hex_1_0_0_x86_64_v2_decode_grouped, .L1_0_0_v2_func_end17-faster_hex_1_0_0_x86_64_v2_decode_grouped
 	.cfi_endproc
@@ -5288,13 +5281,13 @@ faster_hex_1_0_0_x86_64_v2_first_invalid:
 .L1_0_0_v2_static.9:
 	.ascii	"000102030405060708090a0b0c0d0e0f101112131415161718191a1b1c1d1e1f202122232425262728292a2b2c2d2e2f303132333435363738393a3b3c3d3e3f404142434445464748494a4b4c4d4e4f505152535455565758595a5b5c5d5e5f606162636465666768696a6b6c6d6e6f707172737475767778797a7b7c7d7e7f808182838485868788898a8b8c8d8e8f909192939495969798999a9b9c9d9e9fa0a1a2a3a4a5a6a7a8a9aaabacadaeafb0b1b2b3b4b5b6b7b8b9babbbcbdbebfc0c1c2c3c4c5c6c7c8c9cacbcccdcecfd0d1d2d3d4d5d6d7d8d9dadbdcdddedfe0e1e2e3e4e5e6e7e8e9eaebecedeeeff0f1f2f3f4f5f6f7f8f9fafbfcfdfeff"
 	.size	.L1_0_0_v2_static.9, 512
-	.type	.L1_0_0_v2_switch.table.faster_hex_1_0_0_x86_64_v2_decode_grouped.11,@object
-	.section	.data.rel.ro..L1_0_0_v2_switch.table.faster_hex_1_0_0_x86_64_v2_decode_grouped.11,"aw",@progbits
+	.type	.L1_0_0_v2_switch.table.faster_hex_1_0_0_x86_64_v2_decode_grouped.12,@object
+	.section	.data.rel.ro..L1_0_0_v2_switch.table.faster_hex_1_0_0_x86_64_v2_decode_grouped.12,"aw",@progbits
 	.p2align	3, 0x0
-.L1_0_0_v2_switch.table.faster_hex_1_0_0_x86_64_v2_decode_grouped.11:
+.L1_0_0_v2_switch.table.faster_hex_1_0_0_x86_64_v2_decode_grouped.12:
 	.quad	.L1_0_0_v2_static.3
 	.quad	.L1_0_0_v2_static.4
 	.quad	.L1_0_0_v2_static.5
-	.size	.L1_0_0_v2_switch.table.faster_hex_1_0_0_x86_64_v2_decode_grouped.11, 24
+	.size	.L1_0_0_v2_switch.table.faster_hex_1_0_0_x86_64_v2_decode_grouped.12, 24
 	.ident	"rattle logic=dac8208d650f15bf3e2dc313a14fa4c783a3acf887bdfab66e1714b038d9e11b"
 	.section	".note.GNU-stack","",@progbits

@@ -79,12 +79,13 @@ prove() {
         --links "$name=" --jobs "$jobs")
 }
 
-# make_tools FOLDER ARCHITECTURE SET: makes a toolchain there whose clang leaves as FOLDER/made.s what it compiles. Of the
-# exported functions those that the build does not take are private, so that they vanish. Where this moves no
-# instruction, on x86-64, a debugger can walk out of each function. `rattle` clears the environment.
+# make_tools FOLDER ARCHITECTURE SET: makes a toolchain there whose clang leaves as FOLDER/made.s what it
+# compiles. Of the exported functions those that the build does not take are private, so that they vanish.
+# Where this moves no instruction, on x86-64, a debugger can walk out of each function. `rattle` clears the
+# environment.
 make_tools() {
-    rm -rf "$1"
-    mkdir -p "$1/bin"
+    rm -rf "$1/bin" "$1/lib"
+    mkdir "$1/bin"
     ln -s "$kit"/toolchain/bin/* "$1/bin"
     ln -s "$kit/toolchain/lib" "$1/lib"
     rm "$1/bin/clang"
@@ -103,15 +104,19 @@ NR != FNR { print }
 END
     cat >"$1/bin/clang" <<END
 #!/bin/sh -eu
-clang=$kit/toolchain/bin/clang
+compile() { "$kit/toolchain/bin/clang" "\$@" -Wno-unused-command-line-argument; }
 case " \$* " in *" module.bc "*)
-    "\$clang" --target=$2-unknown-linux-gnu -S -emit-llvm -Xclang -disable-llvm-passes -o module.ll -x ir module.bc
-    awk -v wanted="$3" -f "$1/edit.awk" module.ll module.ll >module.bc
+    compile --target=$2-unknown-linux-gnu -S -emit-llvm -Xclang -disable-llvm-passes \\
+        -o whole.ll -x ir module.bc
+    awk -v wanted=$3 -f "$1/edit.awk" whole.ll whole.ll >module.bc
+    # Only once a set's plan is inlined, the other plans vanish from functions that are not.
+    if [ $3 != plain ]; then
+        compile "\$@" -S -emit-llvm -o once.ll
+        mv once.ll module.bc
+    fi
 esac
-"\$clang" "\$@"
-case " \$* " in *" -c "*)
-    "\$clang" "\$@" -S -o "$1/made.s" -fno-addrsig -fno-verbose-asm -Wno-unused-command-line-argument
-esac
+compile "\$@"
+case " \$* " in *" -c "*) compile "\$@" -S -o "$1/made.s" -fno-addrsig -fno-verbose-asm ;; esac
 END
     chmod +x "$1/bin/clang"
 }
@@ -119,7 +124,6 @@ END
 # build_all NAME: the assembly of each build of a library. What the first run of an architecture proves the
 # others take.
 build_all() {
-    tools=$top/crates/$1/out/assembly/tools
     builds | while read -r build architecture processor set; do
         make_tools "$tools" "$architecture" "$set"
         prove "$1" src/lib.rt --crate-type staticlib --target "$architecture-unknown-linux-gnu" \
@@ -141,7 +145,8 @@ build() {
 }
 
 log=/dev/null
-trap 'tail -n 40 "$log" >&2' EXIT
+tools=$(mktemp -d)
+trap 'tail -n 40 "$log" >&2; rm -rf "$tools"' EXIT
 all=$(below "$target" | wc -l)
 number=0
 anew=

@@ -8,7 +8,7 @@ ghost use Rattle.hex_core.specs.Search.{first_invalid};
 ghost use Rattle.faster_hex_c.specs.Answers.{DecodesBy, DecodesTo, EncodesTo, FindsInvalid, answer_of, policy_of};
 ghost use Rattle.faster_hex_c.specs.Answers.{DecodesGrouped, EncodesGrouped, group_answer_of};
 
-use hex_codec::grouped::{read_into, write_into};
+use hex_codec::grouped::{read_by, write_by};
 use hex_codec::{Group, GroupFault, hex_check, hex_decode_into, hex_encode_into};
 use hex_core::{Backend, CheckCase, Error};
 
@@ -174,6 +174,24 @@ pub extern "C" fn faster_hex_decode_with_case(src: &[u8], dst: &mut [u8], case: 
     decode_by(Backend::plain(), src, dst, case)
 }
 
+// The body of `faster_hex_encode_grouped`, by a plan.
+#[inline(always)]
+fn encode_grouped_by(
+    plan: Backend,
+    src: &[u8],
+    dst: &mut [u8],
+    upper: bool,
+    every: usize,
+    sep: u8,
+) -> Answer
+    ensures { EncodesGrouped every sep upper src.now dst.old dst.new result }
+{
+    match Group::new(every, sep) {
+        Some(group) => answer_of(write_by(plan, src, dst, group, upper)),
+        None => NO_GROUP,
+    }
+}
+
 /// Writes the digits of `src` in groups of `every` bytes, with `sep` between two, into the start of
 /// `dst`.
 #[unsafe(no_mangle)]
@@ -186,8 +204,26 @@ pub extern "C" fn faster_hex_encode_grouped(
 ) -> Answer
     ensures { EncodesGrouped every sep upper src.now dst.old dst.new result }
 {
+    encode_grouped_by(Backend::plain(), src, dst, upper, every, sep)
+}
+
+// The body of `faster_hex_decode_grouped`, by a plan.
+#[inline(always)]
+fn decode_grouped_by(
+    plan: Backend,
+    src: &[u8],
+    dst: &mut [u8],
+    case: u8,
+    every: usize,
+    sep: u8,
+) -> Answer
+    ensures { DecodesGrouped case every sep src.now dst.old dst.new result }
+{
+    let Some(case) = policy(case) else {
+        return NO_POLICY;
+    };
     match Group::new(every, sep) {
-        Some(group) => answer_of(write_into(src, dst, group, upper)),
+        Some(group) => group_answer_of(read_by(plan, src, dst, group, case)),
         None => NO_GROUP,
     }
 }
@@ -204,13 +240,7 @@ pub extern "C" fn faster_hex_decode_grouped(
 ) -> Answer
     ensures { DecodesGrouped case every sep src.now dst.old dst.new result }
 {
-    let Some(case) = policy(case) else {
-        return NO_POLICY;
-    };
-    match Group::new(every, sep) {
-        Some(group) => group_answer_of(read_into(src, dst, group, case)),
-        None => NO_GROUP,
-    }
+    decode_grouped_by(Backend::plain(), src, dst, case, every, sep)
 }
 
 mod scalar;

@@ -5,8 +5,9 @@ ghost use Rattle.std.specs.Prelude.{◌≡◌, ◌↔◌, IsTrue, None};
 ghost use Rattle.hex_core.specs.declared.digit.CheckCase.TheVariants as policy;
 ghost use Rattle.hex_core.specs.Search.{first_invalid};
 ghost use Rattle.faster_hex_c.specs.Answers.{DecodesBy, DecodesTo, EncodesTo, FindsInvalid};
+ghost use Rattle.faster_hex_c.specs.Answers.{DecodesGrouped, EncodesGrouped};
 
-use crate::{Answer, answer_of, decode_by, first_invalid_by};
+use crate::{Answer, answer_of, decode_by, decode_grouped_by, encode_grouped_by, first_invalid_by};
 use hex_core::{Backend, CheckCase, backends};
 
 // The plan of all calls here.
@@ -50,12 +51,36 @@ pub extern "C" fn scalar_faster_hex_decode(src: &[u8], dst: &mut [u8]) -> Answer
 
 /// `faster_hex_decode_with_case`.
 #[unsafe(no_mangle)]
-pub extern "C" fn scalar_faster_hex_decode_with_case(
-    src: &[u8],
-    dst: &mut [u8],
-    case: u8,
-) -> Answer
+pub extern "C" fn scalar_faster_hex_decode_with_case(src: &[u8], dst: &mut [u8], case: u8) -> Answer
     ensures { DecodesBy case src.now dst.old dst.new result }
 {
     decode_by(scalar(), src, dst, case)
+}
+
+/// `faster_hex_encode_grouped`.
+#[unsafe(no_mangle)]
+pub extern "C" fn scalar_faster_hex_encode_grouped(
+    src: &[u8],
+    dst: &mut [u8],
+    upper: bool,
+    every: usize,
+    sep: u8,
+) -> Answer
+    ensures { EncodesGrouped every sep upper src.now dst.old dst.new result }
+{
+    encode_grouped_by(scalar(), src, dst, upper, every, sep)
+}
+
+/// `faster_hex_decode_grouped`.
+#[unsafe(no_mangle)]
+pub extern "C" fn scalar_faster_hex_decode_grouped(
+    src: &[u8],
+    dst: &mut [u8],
+    case: u8,
+    every: usize,
+    sep: u8,
+) -> Answer
+    ensures { DecodesGrouped case every sep src.now dst.old dst.new result }
+{
+    decode_grouped_by(scalar(), src, dst, case, every, sep)
 }

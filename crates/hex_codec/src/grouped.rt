@@ -11,7 +11,7 @@ ghost use Rattle.hex_codec.specs.GroupCalls.{CountsBytes, Reads, ReadsFront, Wri
 
 pub use crate::group::Group;
 use crate::pieces::{first_wrong, read_pieces, write_pieces};
-use hex_core::{CheckCase, Error};
+use hex_core::{Backend, CheckCase, Error};
 
 /// An error of decoding grouped text.
 ///
@@ -105,14 +105,36 @@ pub fn read_into(
 ) -> Result<usize, GroupFault>
     ensures { Reads case group src.now dst.old dst.new result }
 {
+    read_by(Backend::plain(), src, dst, group, case)
+}
+
+/// [`read_into`] under a plan, which changes the speed alone.
+///
+/// ```rust
+/// let group = Group::new(2, b':').ok_or("no group")?;
+/// let mut buffer = [0xa5; 4];
+/// let [scalar, ..] = backends();
+/// let written = read_by(scalar, b"0001:02", &mut buffer, group, CheckCase::None)?;
+/// assert_eq!(rt; written, 3);
+/// assert_eq!(rt; buffer, [0, 1, 2, 0xa5]);
+/// ```
+pub fn read_by(
+    plan: Backend,
+    src: &[u8],
+    dst: &mut [u8],
+    group: Group,
+    case: CheckCase,
+) -> Result<usize, GroupFault>
+    ensures { Reads case group src.now dst.old dst.new result }
+{
     let count = required(src.len(), dst.len(), group)?;
-    if let Some(index) = first_wrong(src, count, group, case) {
+    if let Some(index) = first_wrong(plan, src, count, group, case) {
         return Err(GroupFault::InvalidByte {
             index,
             byte: src[index],
         });
     }
-    read_pieces(src, &mut dst[..count], group, case);
+    read_pieces(plan, src, &mut dst[..count], group, case);
     Ok(count)
 }
 
@@ -178,12 +200,33 @@ fn grouped_len(len: usize, every: usize) -> Option<usize>
 pub fn write_into(src: &[u8], dst: &mut [u8], group: Group, upper: bool) -> Result<usize, Error>
     ensures { WritesGrouped group upper src.now dst.old dst.new result }
 {
+    write_by(Backend::plain(), src, dst, group, upper)
+}
+
+/// [`write_into`] under a plan, which changes the speed alone.
+///
+/// ```rust
+/// let group = Group::new(2, b':').ok_or("no group")?;
+/// let mut buffer = [0; 8];
+/// let [scalar, ..] = backends();
+/// let written = write_by(scalar, &[0, 1, 0xab], &mut buffer, group, true)?;
+/// assert_eq!(rt; &buffer[..written], b"0001:AB".as_slice());
+/// ```
+pub fn write_by(
+    plan: Backend,
+    src: &[u8],
+    dst: &mut [u8],
+    group: Group,
+    upper: bool,
+) -> Result<usize, Error>
+    ensures { WritesGrouped group upper src.now dst.old dst.new result }
+{
     let Some(required) = grouped_len(src.len(), group.every()) else {
         return Err(Error::Overflow);
     };
     if dst.len() < required {
         return Err(Error::OutputTooSmall { required });
     }
-    write_pieces(src, &mut dst[..required], group, upper);
+    write_pieces(plan, src, &mut dst[..required], group, upper);
     Ok(required)
 }

@@ -1,5 +1,5 @@
-//! Passes over the pieces of a grouped text: to test all of it, to decode it, and to encode it. The
-//! last piece, which no separator follows, comes after each loop.
+//! Passes over the pieces of a grouped text, under a plan: to test all of it, to decode it, and to
+//! encode it. The last piece, which no separator follows, comes after each loop.
 
 ghost use Rattle.std.specs.Prelude.{◌≡◌, ◌*◌, ◌%◌, None, length};
 ghost use Rattle.hex_core.specs.Search.{first_invalid};
@@ -7,7 +7,6 @@ ghost use Rattle.hex_core.specs.Text.{Spells, text};
 ghost use Rattle.hex_codec.specs.Grouped.{grouped, piece_len};
 ghost use Rattle.hex_codec.specs.GroupedText.{GroupSpells, first_wrong, grouped_len};
 
-use crate::decode::hex_decode_into;
 use crate::group::Group;
 use hex_core::few::{are_pairs, write_bytes, write_digits};
 use hex_core::{Backend, CheckCase};
@@ -17,30 +16,30 @@ const CALLED: usize = 8;
 
 // The first invalid digit of a piece.
 #[inline(always)]
-fn first_invalid(digits: &[u8], case: CheckCase) -> Option<usize>
+fn first_invalid(plan: Backend, digits: &[u8], case: CheckCase) -> Option<usize>
     requires { length digits.now % 2 ≡ 0 }
     ensures { result ≡ first_invalid case digits.now }
 {
     if digits.len() < 2 * CALLED && are_pairs(digits, case) {
         return None;
     }
-    first_of_many(digits, case)
+    first_of_many(plan, digits, case)
 }
 
 // The same for more digits, or if one of few is invalid. Its body would fill the loop.
 #[inline(never)]
-fn first_of_many(digits: &[u8], case: CheckCase) -> Option<usize>
+fn first_of_many(plan: Backend, digits: &[u8], case: CheckCase) -> Option<usize>
     ensures { result ≡ first_invalid case digits.now }
 {
-    if Backend::plain().check(digits, case) {
+    if plan.check(digits, case) {
         return None;
     }
-    Backend::plain().first_invalid(digits, case)
+    plan.first_invalid(digits, case)
 }
 
 // Decodes the valid digits of a piece.
 #[inline(always)]
-fn read_piece(digits: &[u8], bytes: &mut [u8], case: CheckCase)
+fn read_piece(plan: Backend, digits: &[u8], bytes: &mut [u8], case: CheckCase)
     requires twice { length digits.now ≡ 2 * length bytes.old }
     requires valid { first_invalid case digits.now ≡ None }
     ensures { Spells case digits.now bytes.new }
@@ -48,23 +47,29 @@ fn read_piece(digits: &[u8], bytes: &mut [u8], case: CheckCase)
     if bytes.len() < CALLED {
         return write_bytes(digits, bytes, case);
     }
-    hex_decode_into(digits, bytes, case).unwrap();
+    plan.decode_into(digits, bytes, case).unwrap();
 }
 
 // Writes the digits of a piece.
 #[inline(always)]
-fn write_piece(bytes: &[u8], digits: &mut [u8], upper: bool)
+fn write_piece(plan: Backend, bytes: &[u8], digits: &mut [u8], upper: bool)
     requires { length digits.old ≡ 2 * length bytes.now }
     ensures { digits.new ≡ text upper bytes.now }
 {
     if bytes.len() < CALLED {
         return write_digits(bytes, digits, upper);
     }
-    Backend::plain().encode(bytes, digits, upper);
+    plan.encode(bytes, digits, upper);
 }
 
 /// Returns the first wrong index of a text that is as long as that of `count` bytes.
-pub fn first_wrong(src: &[u8], count: usize, group: Group, case: CheckCase) -> Option<usize>
+pub fn first_wrong(
+    plan: Backend,
+    src: &[u8],
+    count: usize,
+    group: Group,
+    case: CheckCase,
+) -> Option<usize>
     requires { length src.now ≡ grouped_len (piece_len group) count }
     ensures { result ≡ first_wrong case group src.now }
 {
@@ -73,7 +78,7 @@ pub fn first_wrong(src: &[u8], count: usize, group: Group, case: CheckCase) -> O
     let mut left = count;
     'pieces: while left > every {
         let end = at + 2 * every;
-        if let Some(index) = first_invalid(&src[at..end], case) {
+        if let Some(index) = first_invalid(plan, &src[at..end], case) {
             return Some(at + index);
         }
         if src[end] != group.sep() {
@@ -82,14 +87,14 @@ pub fn first_wrong(src: &[u8], count: usize, group: Group, case: CheckCase) -> O
         at = end + 1;
         left -= every;
     }
-    match first_invalid(&src[at..], case) {
+    match first_invalid(plan, &src[at..], case) {
         Some(index) => Some(at + index),
         None => None,
     }
 }
 
 /// Decodes a text without a wrong byte over all of `dst`.
-pub fn read_pieces(src: &[u8], dst: &mut [u8], group: Group, case: CheckCase)
+pub fn read_pieces(plan: Backend, src: &[u8], dst: &mut [u8], group: Group, case: CheckCase)
     requires long { length src.now ≡ grouped_len (piece_len group) (length dst.old) }
     requires clear { first_wrong case group src.now ≡ None }
     ensures { GroupSpells case group src.now dst.new }
@@ -99,16 +104,16 @@ pub fn read_pieces(src: &[u8], dst: &mut [u8], group: Group, case: CheckCase)
     let mut done = 0;
     'pieces: while dst.len() - done > every {
         let end = at + 2 * every;
-        read_piece(&src[at..end], &mut dst[done..done + every], case);
+        read_piece(plan, &src[at..end], &mut dst[done..done + every], case);
         at = end + 1;
         done += every;
     }
-    read_piece(&src[at..], &mut dst[done..], case);
+    read_piece(plan, &src[at..], &mut dst[done..], case);
 }
 
 // Writes the grouped text of `src` over all of `dst`.
 #[inline(always)]
-fn write_by(src: &[u8], dst: &mut [u8], every: usize, group: Group, upper: bool)
+fn write_by(plan: Backend, src: &[u8], dst: &mut [u8], every: usize, group: Group, upper: bool)
     requires every { every ≡ piece_len group }
     requires room { length dst.old ≡ grouped_len (piece_len group) (length src.now) }
     ensures { dst.new ≡ grouped group upper src.now }
@@ -117,23 +122,23 @@ fn write_by(src: &[u8], dst: &mut [u8], every: usize, group: Group, upper: bool)
     let mut done = 0;
     'pieces: while src.len() - at > every {
         let end = done + 2 * every;
-        write_piece(&src[at..at + every], &mut dst[done..end], upper);
+        write_piece(plan, &src[at..at + every], &mut dst[done..end], upper);
         dst[end] = group.sep();
         at += every;
         done = end + 1;
     }
-    write_piece(&src[at..], &mut dst[done..], upper);
+    write_piece(plan, &src[at..], &mut dst[done..], upper);
 }
 
 /// Writes the grouped text of `src` over all of `dst`. A piece of a length known at compile time
 /// needs no loop.
-pub fn write_pieces(src: &[u8], dst: &mut [u8], group: Group, upper: bool)
+pub fn write_pieces(plan: Backend, src: &[u8], dst: &mut [u8], group: Group, upper: bool)
     requires { length dst.old ≡ grouped_len (piece_len group) (length src.now) }
     ensures { dst.new ≡ grouped group upper src.now }
 {
     match group.every() {
-        1 => write_by(src, dst, 1, group, upper),
-        4 => write_by(src, dst, 4, group, upper),
-        every => write_by(src, dst, every, group, upper),
+        1 => write_by(plan, src, dst, 1, group, upper),
+        4 => write_by(plan, src, dst, 4, group, upper),
+        every => write_by(plan, src, dst, every, group, upper),
     }
 }

@@ -4,7 +4,7 @@ use Rattle.std.proofs.lemmas.List.{length-take-le}
 use Rattle.hex_codec.specs.Grouped.{piece_len}
 use Rattle.hex_codec.proofs.CountLemmas.{fitting}
 use Rattle.hex_codec.proofs.WrongLemmas.{wrong-inside}
-use Rattle.hex_codec.proofs.grouped.read_into.Goals as goal
+use Rattle.hex_codec.proofs.grouped.read_by.Goals as goal
 
 pub first_wrong-requires : goal.first_wrong-requires
 first_wrong-requires c =
