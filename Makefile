@@ -18,7 +18,7 @@ ifeq ($(TARGET)$(origin CC),aarch64default)
 CC = aarch64-linux-gnu-gcc
 endif
 ifndef TARGET
-TARGET := $(firstword $(subst -, ,$(shell $(CC) -dumpmachine 2>/dev/null)))
+TARGET := $(firstword $(subst -, ,$(shell { $(CC) -dumpmachine || uname -m; } 2>/dev/null)))
 endif
 ifneq ($(filter-out x86_64 aarch64,$(TARGET)),)
 $(error TARGET=$(TARGET) is neither x86_64 nor aarch64)
@@ -49,8 +49,8 @@ JOBS = $(shell n=$$(nproc); echo $$((n < 4 ? n : 4)))
 
 all: lib
 ifeq ($(TARGET)$(wildcard crates/fhex),x86_64crates/fhex)
-	@command -v rt >/dev/null || { echo 'fhex is left out: it takes the Rattle toolchain'; exit 0; }; \
-	$(MAKE) -s fhex
+	@if command -v rt >/dev/null; then scripts/build.sh fhex $(QUIET); \
+		else echo 'fhex is left out: it takes the Rattle toolchain' >&2; fi
 endif
 
 fhex:
@@ -94,9 +94,9 @@ endif
 
 TRY = $(CC) $(CPPFLAGS) $(CFLAGS) -std=gnu99 -pthread -I$(C) -o $(OUT)/try
 test-c: lib
-	ln -sf $(notdir $(SHARED)) $(OUT)/libfaster_hex.so.1
+	cp $(SHARED) $(OUT)/libfaster_hex.so.1
 	$(TRY) $(C)/tests/library.c $(ARCHIVE) && $(RUN) $(OUT)/try && $(RUN) $(OUT)/try threads
-	$(TRY) $(C)/tests/library.c $(OUT)/libfaster_hex.so.1 -Wl,-rpath,$(CURDIR)/$(OUT) && $(RUN) $(OUT)/try
+	$(TRY) $(C)/tests/library.c $(OUT)/libfaster_hex.so.1 '-Wl,-rpath,$$ORIGIN' && $(RUN) $(OUT)/try
 	$(TRY) examples/c/digits.c $(ARCHIVE) && $(RUN) $(OUT)/try
 ifeq ($(TARGET),x86_64)
 	$(TRY) $(C)/tests/choice.c $(ARCHIVE) && $(RUN) $(OUT)/try
@@ -113,8 +113,15 @@ deep: all
 	scripts/examples --prove
 	$(CHECK)
 
+# As the last commit has it, or where files have changed, these; the same bytes whoever packs it.
+TO = .
+PACK = $(TO)/faster_hex-$(VERSION).tar
+PACKED = Makefile CMakeLists.txt Cargo.toml CHANGELOG.md LICENSE bindings/cmake bindings/faster_hex.pc.in \
+	bindings/rust docs/faster_hex.3 examples generated scripts/install.sh \
+	$(addprefix $(C)/,dispatch.c faster_hex.h faster_hex.map tests)
 dist: current
-	scripts/dist
+	git -c tar.umask=0022 archive --prefix=faster_hex-$(VERSION)/ --add-file=docs/release/README.md \
+		-o "$(PACK)" $$(git stash create | grep . || echo HEAD) $(PACKED) && gzip -9nf "$(PACK)"
 
 install: lib
 	@VERSION=$(VERSION) TARGET=$(TARGET) scripts/install.sh

@@ -1,8 +1,9 @@
 #!/bin/sh
 # Compares faster_hex.h with the exported functions: the fields of the answer, of the same types in the
 # same order, which no proof sees; of each function its name, its result and its parameters, where a
-# slice is a pointer and a length; and the numbers of the statuses. Then its version, and that of the
-# crate for Rust, with VERSION of the Makefile. Prints what differs; its status is then 1.
+# slice is a pointer and a length; and the numbers of the statuses. Then its version, those of the crate for
+# Rust and of CMake, and that in the names of generated/ with VERSION of the Makefile, and the sums of
+# generated/PROVED with its files. Prints what differs; its status is then 1.
 set -eu
 
 cd "$(dirname "$0")/../crates/faster_hex_c"
@@ -27,9 +28,10 @@ sed '/^#/d; s/.*\\$//' faster_hex.h | tr '\n' ' ' | sed 's|/\*[^*]*\*\([^*/][^*]
 
 {
     sed -n '/^pub struct Answer {$/,/^}$/s/^    pub \([a-z_]*: [a-z0-9]*\),$/\1/p' src/lib.rt
-    { tr '\n' ' ' <src/lib.rt; echo; } | sed 's/pub extern "C" fn /\n/g' |
+    # A function of another set is no other one.
+    { cat src/lib.rt src/scalar.rt | tr '\n' ' '; echo; } | sed 's/pub extern "C" fn \(scalar_\)*/\n/g' |
         sed -n 's/^\(faster_hex_[a-z_]*\)( *\([^)]*[^ ,]\),\{0,1\} *) -> \([A-Za-z]*\) .*/\1(\2) -> \3/p' |
-        sed 's/[a-z]*: //g; s/, */, /g; s/  */ /g'
+        sed 's/[a-z]*: //g; s/, */, /g; s/  */ /g' | awk '!known[$0]++'
     sed -n 's/^const \([A-Z_]*\): u8 = \([0-9]*\);$/\1 \2/p' src/lib.rt
 } >"$made/exported"
 
@@ -39,6 +41,8 @@ versions() {
     echo "its-numbers $(sed -n 's/^#define FASTER_HEX_VERSION_[A-Z]* \([0-9]*\)$/\1/p' faster_hex.h |
         tr '\n' . | sed 's/\.$//')"
     sed -n 's/^version = "\(.*\)"$/bindings \1/p' ../../Cargo.toml
+    sed -n 's/^project(.* VERSION \([0-9.]*\) .*/CMakeLists.txt \1/p' ../../CMakeLists.txt
+    sed -n 's/^\t\.weak\tfaster_hex_\([0-9]*\)_\([0-9]*\)_\([0-9]*\)_\(.*\)/\4 \1.\2.\3/p' ../../generated/*.s
 }
 
 status=0
@@ -48,4 +52,5 @@ wanted=$(sed -n 's/^VERSION = //p' ../../Makefile)
 versions | awk -v wanted="$wanted" '
     $2 != wanted { print $1 ": version " $2 ", and not " wanted " as in the Makefile"; wrong = 1 }
     END { exit wrong }' || status=1
+(cd ../../generated && sed -n 's/^sha256 //p' PROVED | sha256sum -c --quiet) || status=1
 exit "$status"

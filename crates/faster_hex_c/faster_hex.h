@@ -11,7 +11,7 @@
  * - Calls may run in many threads at once, on the same source too, if no destination overlaps what another
  *   call reads or writes. No call keeps a pointer, allocates memory or changes any state. One byte records
  *   what the processor supports, and is written when the library is loaded.
- * - The library needs no symbols except memcpy, memmove and memset, and may be linked into a shared library.
+ * - The library needs no symbols, and may be linked into a shared library.
  * - The answer reports every error that a call can detect. A call that refuses writes nothing. Any other
  *   call writes to the front of the destination and leaves the rest unchanged.
  * - In tests of the x86-64-v2 and x86-64-v3 code, encoding, and decoding or checking valid digits, used no

@@ -1,6 +1,6 @@
 /* Tries the calls of faster_hex.h beside models of a few lines: between guarded pages at all lengths
- * from 0 to 300, with NULL, with sources too long for any text, with source and destination that touch,
- * at all alignments, and in threads.
+ * from 0 to 300, with NULL, with sources too long for any text, with numbers above 2^32, with source and
+ * destination that touch, at all alignments, and in threads.
  * `scripts/check library` builds and runs it. Prints a line for each thing that failed, and
  * `N passed, M failed` at the end.
  * Usage: library [threads] */
@@ -283,6 +283,58 @@ static void too_long(struct memory to) {
                   FASTER_HEX_OVERFLOW));
 }
 
+static bool has_room(struct faster_hex_answer answer, size_t written) {
+    return is_told(answer, written, FASTER_HEX_DONE);
+}
+
+static bool wants(struct faster_hex_answer answer, size_t required) {
+    return is_told(answer, required, FASTER_HEX_OUTPUT_TOO_SMALL);
+}
+
+/* A source of so many zeros, which stand nowhere: its first byte is no digit. */
+static void wide_source(size_t len) {
+    void *src = mmap(NULL, len, PROT_READ, MAP_PRIVATE | MAP_ANONYMOUS | MAP_NORESERVE, -1, 0);
+    count(src != MAP_FAILED && !faster_hex_check(src, len));
+    count(src != MAP_FAILED && faster_hex_first_invalid(src, len, 0).status == FASTER_HEX_INVALID_CHAR);
+    munmap(src, len);
+}
+
+/* Rooms, groups and lengths whose low 32 bits say something else. */
+static void above_32_bits(uint8_t *dst) {
+    const size_t wide = ((size_t)1 << 32) + 2;
+    const char *src = "00ff0A1b";
+    count(has_room(faster_hex_decode(src, 8, dst, wide), 4));
+    count(has_room(faster_hex_decode_with_case(src, 8, dst, wide, 0), 4));
+    count(has_room(faster_hex_encode(src, 8, dst, wide, false), 16));
+    count(has_room(faster_hex_encode_grouped(src, 8, dst, wide, false, 1, ':'), 23));
+    count(has_room(faster_hex_encode_grouped(src, 8, dst, 16, false, wide, ':'), 16));
+    count(has_room(faster_hex_decode_grouped(src, 8, dst, wide, 0, wide, ':'), 4));
+    count(wants(faster_hex_decode(src, wide, NULL, 0), wide / 2));
+    count(wants(faster_hex_decode_with_case(src, wide, NULL, 0, 0), wide / 2));
+    count(wants(faster_hex_encode(src, wide, NULL, 0, true), 2 * wide));
+    count(wants(faster_hex_encode_grouped(src, wide, NULL, 0, true, wide - 1, ':'), 2 * wide + 1));
+    count(wants(faster_hex_decode_grouped(src, wide, NULL, 0, 0, wide, ':'), wide / 2));
+    wide_source(wide - 2);
+}
+
+/* All numbers above 2 name no policy. Of a wider one the low eight bits count alone, whatever a caller leaves
+ * above them. */
+static void other_policies(void) {
+    typedef struct faster_hex_answer passes(const void *, size_t, unsigned);
+    passes *volatile first_invalid = (passes *)(void (*)(void))faster_hex_first_invalid;
+    for (unsigned policy = 3; policy < 256; policy++) {
+        uint8_t byte = 0xa5, number = (uint8_t)policy;
+        count(is_told(faster_hex_first_invalid("00", 2, number), 0, FASTER_HEX_UNKNOWN_POLICY) &&
+              is_told(faster_hex_decode_with_case("00", 2, &byte, 1, number), 0, FASTER_HEX_UNKNOWN_POLICY) &&
+              is_told(faster_hex_decode_grouped("00", 2, &byte, 1, number, 1, ':'), 0,
+                      FASTER_HEX_UNKNOWN_POLICY) && byte == 0xa5);
+    }
+    count(has_room(first_invalid("aB", 2, 256), 0));
+    count(has_room(first_invalid("AB", 2, 258), 0));
+    count(first_invalid("Ab", 2, 258).number == 1);
+    count(is_told(first_invalid("AB", 2, 259), 0, FASTER_HEX_UNKNOWN_POLICY));
+}
+
 /* Source and destination that touch, in either order, in one piece of memory. */
 static void touching(struct memory both) {
     for (unsigned call = ENCODE; call < CALLS; call++) {
@@ -361,6 +413,8 @@ int main(int words, char **word) {
         between_guards(from, to);
         with_null(to);
         too_long(to);
+        above_32_bits(to.start);
+        other_policies();
         touching(to);
         aligned(from, to);
         free(from.kept);
