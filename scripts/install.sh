@@ -1,7 +1,7 @@
 #!/bin/sh
 # Puts what `make` built into PREFIX, if not told /usr/local, the libraries into LIBDIR, if not told
-# PREFIX/lib, both below DESTDIR, and notes in share/faster_hex/TARGET.installed each file, and each folder that
-# was not there; or takes away what is noted there and for no other target, of folders the empty ones.
+# PREFIX/lib, both below DESTDIR, and notes in share/faster_hex/TARGET.installed each file, and each folder
+# that was not there; or takes away what is noted there and for no other target, of folders the empty ones.
 # Usage: PREFIX=.. LIBDIR=.. DESTDIR=.. VERSION=.. TARGET=.. scripts/install.sh [--remove], as `make
 # install` and `make uninstall` do it. TARGET is x86_64, or aarch64, which has no program.
 # The first command that fails has said why, and ends it: so none that may fail stands in a condition.
