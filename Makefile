@@ -34,9 +34,6 @@ CFLAGS ?= -O2
 # No file is there half made for another make.
 MADE = $@.$$$$
 DONE = mv $(MADE) $@
-# Some processors are slow at a jump across a multiple of 32 bytes: the assembler keeps them off.
-APART = -Wa,-mbranches-within-32B-boundaries
-KNOWN = $(shell $(CC) $(CFLAGS) $(APART) -c -o /dev/null -x assembler /dev/null 2>/dev/null && echo $(APART))
 QUIET = $(if $(findstring s,$(firstword -$(MAKEFLAGS))),>/dev/null)
 CHECK = scripts/check $(if $(RUST),--rust $(RUST))
 # How many tasks of the gate run at a time. Each has one job, since a second one reads all libraries
@@ -68,7 +65,7 @@ lib: $(ARCHIVE) $(SHARED)
 
 $(OUT)/%.o: generated/%.s | current
 	@mkdir -p $(OUT)
-	$(CC) $(CFLAGS) -Wno-unused-command-line-argument $(KNOWN) -c -o $(MADE) $< && $(DONE)
+	$(CC) $(CFLAGS) -Wno-unused-command-line-argument -c -o $(MADE) $< && $(DONE)
 
 $(OUT)/dispatch.o: $(C)/dispatch.c $(C)/faster_hex.h | current
 	@mkdir -p $(OUT)
