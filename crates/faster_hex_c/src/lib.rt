@@ -122,6 +122,10 @@ fn first_invalid_by(plan: Backend, src: &[u8], case: u8) -> Answer
     let Some(case) = policy(case) else {
         return NO_POLICY;
     };
+    // A check reads no table at a place that depends on the bytes, as a search does.
+    if plan.check(src, case) {
+        return answer_of(Ok(0));
+    }
     match plan.first_invalid(src, case) {
         None => answer_of(Ok(0)),
         Some(index) => answer_of(Err(Error::InvalidChar {
