@@ -90,8 +90,8 @@ make_tools() {
     ln -s "$kit/toolchain/lib" "$1/lib"
     rm "$1/bin/clang"
     cat >"$1/edit.awk" <<'END'
-/^define .*@[a-z_]*faster_hex_[a-z_]*\(/ {
-    match($0, /@[a-z_]*faster_hex_[a-z_]*\(/)
+/^define .*@[a-z_]*faster_hex_[a-z0-9_]*\(/ {
+    match($0, /@[a-z_]*faster_hex_[a-z0-9_]*\(/)
     name = substr($0, RSTART + 1, RLENGTH - 2)
     set = substr(name, 1, index(name, "faster_hex_") - 1)
     call = substr(name, length(set) + 1)

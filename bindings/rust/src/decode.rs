@@ -131,7 +131,7 @@ pub fn hex_decode_array_with_case<const N: usize>(
         });
     }
     let mut bytes = [0; N];
-    library::decode(src, &mut bytes, check_case)?;
+    library::decode_array(src, &mut bytes, check_case)?;
     Ok(bytes)
 }
 
@@ -170,6 +170,6 @@ pub fn hex_decode_vec_with_case(src: &[u8], check_case: CheckCase) -> Result<Vec
         return Err(Error::OddLength);
     }
     let mut bytes = vec![0; src.len() / 2];
-    library::decode(src, &mut bytes, check_case)?;
+    library::decode_array(src, &mut bytes, check_case)?;
     Ok(bytes)
 }

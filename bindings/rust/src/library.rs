@@ -79,6 +79,33 @@ pub fn decode(src: &[u8], dst: &mut [u8], case: CheckCase) -> Result<usize, Erro
     })
 }
 
+/// Writes the bytes that `src` spells to an array. The lengths of most digests have calls of their own, for
+/// digits of either case, which tell no error.
+#[inline]
+pub fn decode_array<const N: usize>(
+    src: &[u8],
+    dst: &mut [u8; N],
+    case: CheckCase,
+) -> Result<(), Error> {
+    if src.len() == 2 * N && case == CheckCase::None {
+        let (from, to) = (src.as_ptr(), dst.as_mut_ptr());
+        // SAFETY: as in `encode`: there are as many digits, and room for as many bytes.
+        let done = unsafe {
+            match N {
+                16 => builds::decode_16(from.cast(), to.cast()),
+                20 => builds::decode_20(from.cast(), to.cast()),
+                32 => builds::decode_32(from.cast(), to.cast()),
+                64 => builds::decode_64(from.cast(), to.cast()),
+                _ => false,
+            }
+        };
+        if done {
+            return Ok(());
+        }
+    }
+    decode(src, dst, case).map(drop)
+}
+
 #[cfg(test)]
 mod tests {
     use super::*;

@@ -247,6 +247,7 @@ pub extern "C" fn faster_hex_decode_grouped(
     decode_grouped_by(Backend::plain(), src, dst, case, every, sep)
 }
 
+mod arrays;
 mod scalar;
 #[cfg(test)]
 mod tests;

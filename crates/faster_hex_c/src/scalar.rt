@@ -12,7 +12,7 @@ use hex_core::{Backend, CheckCase, backends};
 
 // The plan of all calls here.
 #[inline(always)]
-fn scalar() -> Backend {
+pub(crate) fn scalar() -> Backend {
     let [scalar, ..] = backends();
     scalar
 }

@@ -1,8 +1,8 @@
-//! Makes the calls that return owned values, each between two stores to `mark`, on keys drawn from a seed.
-//! `scripts/check secrets` compares the addresses that a call uses on other keys. Without a seed it prints a
-//! line for each call: its name, a word, and the length of its source.
+//! Makes the calls that return owned values, and checks under a policy, each between two stores to `mark`, on
+//! keys drawn from a seed. `scripts/check secrets` compares the addresses that a call uses on other keys.
+//! Without a seed it prints a line for each call: its name, a word, and the length of its source.
 
-use faster_hex::{hex_decode_array, hex_decode_vec, hex_string};
+use faster_hex::{hex_check_with_case, hex_decode_array, hex_decode_vec, hex_string, CheckCase};
 use std::hint::black_box;
 use std::sync::atomic::{AtomicU32, Ordering};
 
@@ -34,8 +34,10 @@ fn main() {
     };
     let bytes: Vec<u8> = (0..320).map(|_| draw()).collect();
     let digits: Vec<u8> = (0..640).map(|_| b"0123456789abcdefABCDEF"[draw() as usize % 22]).collect();
+    let lower: Vec<u8> = (0..640).map(|_| b"0123456789abcdef"[draw() as usize % 16]).collect();
     for length in 0..=320 {
         trace(prints, "string", length, || hex_string(&bytes[..length]));
+        trace(prints, "check", 2 * length, || hex_check_with_case(&lower[..2 * length], CheckCase::Lower));
         trace(prints, "decode_vec", 2 * length, || hex_decode_vec(&digits[..2 * length]));
     }
     trace_array::<1>(prints, &digits);
