@@ -1,12 +1,13 @@
 -- What a call answers, beside those into a destination: arrays, vectors and texts.
-use Rattle.std.specs.Prelude.{◌≡◌, ℕ, ◌+◌, ◌*◌, ◌^◌, ◌<◌, Bool, List, ◌++◌, length, Result, MatchResult, string_bytes, vec_items}
+use Rattle.std.specs.Prelude.{◌≡◌, ℕ, ◌+◌, ◌*◌, ◌^◌, ◌<◌, ◌≤◌, Bool, List, ◌++◌, length, Result, Ok, MatchResult, string_bytes, vec_items}
 use Rattle.std.specs.declared.string.String.{String}
 use Rattle.std.specs.declared.vec.Vec.{Vec}
 use Rattle.hex_core.specs.declared.digit.CheckCase.{CheckCase}
 use Rattle.hex_core.specs.declared.error.Error.{Error}
+use Rattle.hex_core.specs.declared.error.Error.TheVariants.{OutOfMemory}
 use Rattle.hex_core.specs.Calls.{Answers}
 use Rattle.hex_core.specs.Refusal.{OwnedFailure, array_refusal, encode_refusal}
-use Rattle.hex_core.specs.Text.{Spells, text}
+use Rattle.hex_core.specs.Text.{Spells, text, with_front}
 use Rattle.hex_codec.specs.Failure.{GrowthFailure}
 
 -- decoding into an array of n bytes: what the source spells, or the refusal
@@ -32,3 +33,17 @@ abbrev pub EncodesPrefixed : {A : Type 0} → List ℕ → Bool → List ℕ →
 EncodesPrefixed prefix upper bytes result = MatchResult result
     (λ string. (length prefix + 2 * length bytes < 2 ^ 64) × (string_bytes string ≡ prefix ++ text upper bytes))
     (λ e. GrowthFailure 0 (length prefix + 2 * length bytes) e)
+
+-- a list that the source spells is what decoding it answers: in an array of its length
+abbrev pub ArrayIsSpelled : CheckCase → List ℕ → ℕ → Result (List ℕ) Error → Type 0
+ArrayIsSpelled c s n result = (bytes : List ℕ) → Spells c s bytes → length bytes ≡ n → result ≡ Ok bytes
+
+-- in the front of a destination with room for it
+abbrev pub FrontIsSpelled : CheckCase → List ℕ → List ℕ → List ℕ → Result ℕ Error → Type 0
+FrontIsSpelled c s old new result = (bytes : List ℕ) → Spells c s bytes → length bytes ≤ length old
+    → (result ≡ Ok (length bytes)) × (new ≡ with_front old bytes)
+
+-- in a new vector, or memory is refused
+abbrev pub VecIsSpelled : {A : Type 0} → CheckCase → List ℕ → Result (Vec ℕ A) Error → Type 0
+VecIsSpelled c s result = (bytes : List ℕ) → Spells c s bytes
+    → MatchResult result (λ read. vec_items read ≡ bytes) (λ e. e ≡ OutOfMemory)

@@ -3,6 +3,7 @@ pub mod Calls
 pub mod Failure
 pub mod GroupCalls
 pub mod GroupLaws
+pub mod GroupMessage
 pub mod Grouped
 pub mod GroupedText
 pub mod Groups

@@ -8,7 +8,7 @@ ghost use Rattle.hex_core.specs.Loan.{LendsAnswer};
 ghost use Rattle.hex_core.specs.Refusal.{first_bad_char};
 ghost use Rattle.hex_core.specs.Search.{first_invalid};
 ghost use Rattle.hex_core.specs.Text.{Spells};
-ghost use Rattle.hex_codec.specs.Calls.{DecodesArray, DecodesVec};
+ghost use Rattle.hex_codec.specs.Calls.{ArrayIsSpelled, DecodesArray, DecodesVec, FrontIsSpelled, VecIsSpelled};
 
 use hex_core::{Backend, CheckCase, Error};
 use std::alloc::Allocator;
@@ -125,7 +125,8 @@ pub fn hex_decode_with_case<'a>(
 /// ```
 #[inline(always)]
 pub fn hex_decode_into(src: &[u8], dst: &mut [u8], case: CheckCase) -> Result<usize, Error>
-    ensures { Decodes case src.now dst.old dst.new result }
+    ensures answer { Decodes case src.now dst.old dst.new result }
+    ensures spelled { FrontIsSpelled case src.now dst.old dst.new result }
 {
     Backend::plain().decode_into(src, dst, case)
 }
@@ -149,7 +150,8 @@ pub fn hex_decode_into(src: &[u8], dst: &mut [u8], case: CheckCase) -> Result<us
 /// ```
 #[inline(always)]
 pub fn hex_decode_array<const N: usize>(src: &[u8]) -> Result<[u8; N], Error>
-    ensures { DecodesArray policy.None src.now N result }
+    ensures answer { DecodesArray policy.None src.now N result }
+    ensures spelled { ArrayIsSpelled policy.None src.now N result }
 {
     hex_decode_array_with_case(src, CheckCase::None)
 }
@@ -166,12 +168,14 @@ pub fn hex_decode_array<const N: usize>(src: &[u8]) -> Result<[u8; N], Error>
 /// assert_eq!(rt; bytes, [0xab, 1]);
 /// assert!(rt; hex_decode_array_with_case::<2>(b"ab01", CheckCase::Upper).is_err());
 /// ```
+#[tactic(auto, using(crate::proofs::SpelledLemmas::none_bad))]
 #[inline(always)]
 pub fn hex_decode_array_with_case<const N: usize>(
     src: &[u8],
     case: CheckCase,
 ) -> Result<[u8; N], Error>
-    ensures { DecodesArray case src.now N result }
+    ensures answer { DecodesArray case src.now N result }
+    ensures spelled { ArrayIsSpelled case src.now N result }
 {
     if src.len() % 2 == 1 {
         return Err(Error::OddLength);
@@ -208,7 +212,8 @@ pub fn hex_decode_array_with_case<const N: usize>(
 /// assert_eq!(rt; bytes.as_slice(), [0, 0xab, 0xff].as_slice());
 /// ```
 pub fn hex_decode_vec<A: Allocator + Drop>(alloc: A, src: &[u8]) -> Result<Vec<u8, A>, Error>
-    ensures { DecodesVec policy.None src.now result }
+    ensures answer { DecodesVec policy.None src.now result }
+    ensures spelled { VecIsSpelled policy.None src.now result }
 {
     hex_decode_vec_with_case(alloc, src, CheckCase::None)
 }
@@ -225,12 +230,14 @@ pub fn hex_decode_vec<A: Allocator + Drop>(alloc: A, src: &[u8]) -> Result<Vec<u
 /// ```rust
 /// assert!(rt; hex_decode_vec_with_case(rt.alloc(), b"AB", CheckCase::Lower).is_err());
 /// ```
+#[tactic(auto, using(crate::proofs::SpelledLemmas::one_list, crate::proofs::SpelledLemmas::none_bad))]
 pub fn hex_decode_vec_with_case<A: Allocator + Drop>(
     alloc: A,
     src: &[u8],
     case: CheckCase,
 ) -> Result<Vec<u8, A>, Error>
-    ensures { DecodesVec case src.now result }
+    ensures answer { DecodesVec case src.now result }
+    ensures spelled { VecIsSpelled case src.now result }
 {
     if src.len() % 2 == 1 {
         return Err(Error::OddLength);

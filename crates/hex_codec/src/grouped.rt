@@ -2,18 +2,28 @@
 //!
 //! Tests the whole text before the first store.
 
-ghost use Rattle.std.specs.Prelude.{◌≡◌, ◌≤◌, ◌<◌, ◌^◌, MatchOption, length};
+ghost use Rattle.std.specs.Prelude.{◌≡◌, ◌≤◌, ◌<◌, ◌^◌, MatchOption, Some, length};
 ghost use Rattle.std.specs.Borrow.{sem};
 ghost use Rattle.hex_core.specs.Loan.{LendsAnswer};
 ghost use Rattle.hex_codec.specs.Grouped.{piece_len};
 ghost use Rattle.hex_codec.specs.GroupedText.{byte_count, grouped_len};
 ghost use Rattle.hex_codec.specs.GroupCalls.{CountsBytes, Reads, ReadsFront, WritesGrouped};
+ghost use Rattle.hex_codec.specs.GroupMessage.{group_fault_text};
 
 pub use crate::group::Group;
 use crate::pieces::{first_wrong, read_pieces, write_pieces};
 use hex_core::{Backend, CheckCase, Error};
+use std::{error, fmt};
 
 /// An error of decoding grouped text.
+///
+/// [`Display`](fmt::Display) prints exactly these texts:
+///
+/// | Case | Text |
+/// |---|---|
+/// | `BadLength` | `invalid length of grouped hex` |
+/// | `OutputTooSmall` | `output requires at least 3 bytes` |
+/// | `InvalidByte` | `invalid byte 0x2d at index 4` |
 ///
 /// ```rust
 /// let group = Group::new(2, b':').ok_or("no group")?;
@@ -23,6 +33,11 @@ use hex_core::{Backend, CheckCase, Error};
 ///     byte: b'-',
 /// };
 /// assert_eq!(rt; refused, Err(fault));
+/// assert_eq!(rt; fault.to_string(rt.alloc())?.as_str(), "invalid byte 0x2d at index 4");
+/// let fault = GroupFault::OutputTooSmall { required: 3 };
+/// assert_eq!(rt; fault.to_string(rt.alloc())?.as_str(), "output requires at least 3 bytes");
+/// let fault = GroupFault::BadLength;
+/// assert_eq!(rt; fault.to_string(rt.alloc())?.as_str(), "invalid length of grouped hex");
 /// ```
 #[derive(Clone, Copy, Debug, PartialEq, Eq)]
 pub enum GroupFault {
@@ -41,6 +56,22 @@ pub enum GroupFault {
         byte: u8,
     },
 }
+
+impl fmt::Display for GroupFault {
+    ghost output = { λ fault. Some (group_fault_text fault) };
+
+    fn fmt<W: fmt::Write>(&self, f: &mut fmt::Formatter<W>) -> fmt::Result {
+        match *self {
+            GroupFault::BadLength => f.write_str("invalid length of grouped hex"),
+            GroupFault::OutputTooSmall { required } => Error::OutputTooSmall { required }.fmt(f),
+            GroupFault::InvalidByte { index, byte } => {
+                write!(f, "invalid byte 0x{byte:02x} at index {index}")
+            }
+        }
+    }
+}
+
+impl error::Error for GroupFault {}
 
 // How many bytes have a grouped text of this length.
 #[inline(always)]

@@ -5,5 +5,6 @@ pub mod SinkLaws
 pub mod FrameLaws
 pub mod Streams
 pub mod Lists
+pub mod Message
 pub mod ListCalls
 pub mod ListLaws

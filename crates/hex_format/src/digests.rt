@@ -5,11 +5,13 @@ ghost use Rattle.hex_core.specs.Calls.{Answers};
 ghost use Rattle.hex_core.specs.Search.{first_invalid};
 ghost use Rattle.hex_format.specs.Lists.{LineIs, Lists, ReadFailure, fault_in, line_fault, mark};
 ghost use Rattle.hex_format.specs.ListCalls.{ReadsList};
+ghost use Rattle.hex_format.specs.Message.{line_fault_text, list_fault_text};
 
 use crate::lines::line_end;
 pub use crate::writing::{ListWriteFault, write_to};
-use hex_core::{Backend, CheckCase};
+use hex_core::{Backend, CheckCase, Error};
 use std::alloc::{Allocator, Global};
+use std::{error, fmt};
 
 /// One line of a list.
 #[derive(Clone, Copy, Debug, PartialEq, Eq)]
@@ -24,6 +26,14 @@ pub struct Entry<'a, const N: usize> {
 }
 
 /// The first of these faults that a line has.
+///
+/// [`Display`](fmt::Display) prints exactly these texts:
+///
+/// | Case | Text |
+/// |---|---|
+/// | `ShortLine` | `line too short` |
+/// | `InvalidByte` | `invalid hex byte 0x67 at index 2` |
+/// | `BadMark` | `invalid mark` |
 #[derive(Clone, Copy, Debug, PartialEq, Eq)]
 pub enum LineFault {
     /// The line is too short for the digits, a space, a mark and a name: it has fewer than
@@ -40,7 +50,42 @@ pub enum LineFault {
     BadMark,
 }
 
+impl fmt::Display for LineFault {
+    ghost output = { λ fault. Some (line_fault_text fault) };
+
+    fn fmt<W: fmt::Write>(&self, f: &mut fmt::Formatter<W>) -> fmt::Result {
+        match *self {
+            LineFault::ShortLine => f.write_str("line too short"),
+            LineFault::InvalidByte { index, byte } => Error::InvalidChar { index, byte }.fmt(f),
+            LineFault::BadMark => f.write_str("invalid mark"),
+        }
+    }
+}
+
+impl error::Error for LineFault {}
+
 /// An error of reading a list.
+///
+/// [`Display`](fmt::Display) prints exactly these texts:
+///
+/// | Case | Text |
+/// |---|---|
+/// | `Line` | `line 2: invalid mark`, with that of the [`LineFault`] |
+/// | `OutOfMemory` | `out of memory` |
+///
+/// ```rust
+/// let texts = [
+///     (b"ab01  a.txt\nzz".as_slice(), "line 2: line too short"),
+///     (b"abg1  a.txt", "line 1: invalid hex byte 0x67 at index 2"),
+///     (b"ab01x*a.txt", "line 1: invalid mark"),
+/// ];
+/// for (list, text) in texts {
+///     let fault = read::<2>(rt.alloc(), list, CheckCase::None).err().ok_or("no fault")?;
+///     assert_eq!(rt; fault.to_string(rt.alloc())?.as_str(), text);
+/// }
+/// let fault = ListFault::OutOfMemory;
+/// assert_eq!(rt; fault.to_string(rt.alloc())?.as_str(), "out of memory");
+/// ```
 #[derive(Clone, Copy, Debug, PartialEq, Eq)]
 pub enum ListFault {
     /// A line is malformed.
@@ -53,6 +98,19 @@ pub enum ListFault {
     /// The allocation of an entry failed.
     OutOfMemory,
 }
+
+impl fmt::Display for ListFault {
+    ghost output = { λ fault. Some (list_fault_text fault) };
+
+    fn fmt<W: fmt::Write>(&self, f: &mut fmt::Formatter<W>) -> fmt::Result {
+        match self {
+            ListFault::Line { line, why } => write!(f, "line {line}: {why}"),
+            ListFault::OutOfMemory => f.write_str("out of memory"),
+        }
+    }
+}
+
+impl error::Error for ListFault {}
 
 /// Returns the entries of a list, in the order of its lines, allocated by the global allocator.
 ///

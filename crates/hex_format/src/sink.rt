@@ -1,14 +1,33 @@
 //! Sinks, which take bytes piece by piece, and two of them: over a slice and over a writer.
 
-ghost use Rattle.std.specs.Prelude.{◌≡◌, ◌-◌, ◌^◌, ◌<◌, ◌≤◌, None, length};
+ghost use Rattle.std.specs.Prelude.{◌≡◌, ◌-◌, ◌^◌, ◌<◌, ◌≤◌, None, Some, length};
 ghost use Rattle.std.specs.Option.{option_copied};
+ghost use Rattle.hex_format.specs.Message.{sink_fault_text, write_fault_text};
 ghost use Rattle.hex_format.specs.Sink.{Puts, PutsPiece, SinkState};
+ghost use Rattle.hex_format.specs.declared.sink.WriteFault.TheVariants as fault;
 
 use std::io::{self, Write};
+use std::{error, fmt};
 
 /// The error of a [`Sink`] that refused a piece. Only the sink knows why.
+///
+/// [`Display`](fmt::Display) prints exactly `sink refused`.
+///
+/// ```rust
+/// assert_eq!(rt; SinkFault.to_string(rt.alloc())?.as_str(), "sink refused");
+/// ```
 #[derive(Clone, Copy, Debug, PartialEq, Eq)]
 pub struct SinkFault;
+
+impl fmt::Display for SinkFault {
+    ghost output = { λ _. Some sink_fault_text };
+
+    fn fmt<W: fmt::Write>(&self, f: &mut fmt::Formatter<W>) -> fmt::Result {
+        f.write_str("sink refused")
+    }
+}
+
+impl error::Error for SinkFault {}
 
 /// A sink: takes bytes piece by piece, and counts the puts that failed.
 ///
@@ -41,12 +60,47 @@ pub trait Sink {
 
 /// Why a text was not written in full. A leading part may have been taken, and nothing was put
 /// after the fault.
+///
+/// [`Display`](fmt::Display) prints exactly these texts:
+///
+/// | Case | Text |
+/// |---|---|
+/// | `Sink` | `sink refused`, that of [`SinkFault`] |
+/// | `TookNothing` | `sink took nothing` |
+///
+/// ```rust
+/// let fault = WriteFault::from(SinkFault);
+/// assert_eq!(rt; fault.to_string(rt.alloc())?.as_str(), "sink refused");
+/// let fault = WriteFault::TookNothing;
+/// assert_eq!(rt; fault.to_string(rt.alloc())?.as_str(), "sink took nothing");
+/// ```
 #[derive(Clone, Copy, Debug, PartialEq, Eq)]
 pub enum WriteFault {
     /// The sink refused a piece.
     Sink(SinkFault),
     /// The sink took no byte of a nonempty piece.
     TookNothing,
+}
+
+impl fmt::Display for WriteFault {
+    ghost output = { λ fault. Some (write_fault_text fault) };
+
+    fn fmt<W: fmt::Write>(&self, f: &mut fmt::Formatter<W>) -> fmt::Result {
+        match self {
+            WriteFault::Sink(refusal) => refusal.fmt(f),
+            WriteFault::TookNothing => f.write_str("sink took nothing"),
+        }
+    }
+}
+
+impl error::Error for WriteFault {}
+
+impl From<SinkFault> for WriteFault {
+    ghost from_gives = { λ refusal given. given ≡ fault.Sink refusal };
+
+    fn from(refusal: SinkFault) -> WriteFault {
+        WriteFault::Sink(refusal)
+    }
 }
 
 /// Puts a piece into `sink`, and then what is left of it, until all of it is taken.

@@ -1,21 +1,41 @@
 //! Decodes and encodes all that a reader gives, in constant memory.
 
-ghost use Rattle.std.specs.Prelude.{◌≡◌, ◌<◌, ◌-◌, ◌^◌, ◌↔◌, IsErrAnd, IsTrue};
+ghost use Rattle.std.specs.Prelude.{◌≡◌, ◌<◌, ◌-◌, ◌^◌, ◌↔◌, IsErrAnd, IsTrue, Some};
 ghost use Rattle.std.specs.Io.{ReadsAtMost};
 ghost use Rattle.std.specs.Io.KnownBytes.{ReadConsumes};
 ghost use Rattle.std.specs.IoError.{error_kind};
+ghost use Rattle.hex_format.specs.Message.{stream_fault_text};
 ghost use Rattle.hex_format.specs.Streams.{DecodesStream, EncodesStream, Ends};
+ghost use Rattle.hex_format.specs.declared.streams.StreamFault.TheVariants as fault;
 
 use crate::digits::encoded;
 use crate::sink::{Sink, WriteFault, put_all};
 use hex_codec::stream::Decoder;
 use hex_core::{CheckCase, Error};
 use std::io::{self, ErrorKind, Read};
+use std::{error, fmt};
 
 // Bytes in a chunk, which has twice as many digits.
 const STREAM_CHUNK: usize = 4_096;
 
 /// An error of decoding or encoding a stream.
+///
+/// [`Display`](fmt::Display) prints exactly these texts:
+///
+/// | Case | Text |
+/// |---|---|
+/// | `Read` | `read failed` |
+/// | `Codec` | that of the [`Error`] |
+/// | `Write` | that of the [`WriteFault`] |
+///
+/// ```rust
+/// let fault = StreamFault::Read;
+/// assert_eq!(rt; fault.to_string(rt.alloc())?.as_str(), "read failed");
+/// let fault = StreamFault::from(Error::OddLength);
+/// assert_eq!(rt; fault.to_string(rt.alloc())?.as_str(), "hex input length must be even");
+/// let fault = StreamFault::from(WriteFault::TookNothing);
+/// assert_eq!(rt; fault.to_string(rt.alloc())?.as_str(), "sink took nothing");
+/// ```
 #[derive(Clone, Copy, Debug, PartialEq, Eq)]
 pub enum StreamFault {
     /// A read failed, and was not just interrupted.
@@ -24,6 +44,36 @@ pub enum StreamFault {
     Codec(Error),
     /// A put failed.
     Write(WriteFault),
+}
+
+impl fmt::Display for StreamFault {
+    ghost output = { λ fault. Some (stream_fault_text fault) };
+
+    fn fmt<W: fmt::Write>(&self, f: &mut fmt::Formatter<W>) -> fmt::Result {
+        match self {
+            StreamFault::Read => f.write_str("read failed"),
+            StreamFault::Codec(refusal) => refusal.fmt(f),
+            StreamFault::Write(failed) => failed.fmt(f),
+        }
+    }
+}
+
+impl error::Error for StreamFault {}
+
+impl From<Error> for StreamFault {
+    ghost from_gives = { λ refusal given. given ≡ fault.Codec refusal };
+
+    fn from(refusal: Error) -> StreamFault {
+        StreamFault::Codec(refusal)
+    }
+}
+
+impl From<WriteFault> for StreamFault {
+    ghost from_gives = { λ failed given. given ≡ fault.Write failed };
+
+    fn from(failed: WriteFault) -> StreamFault {
+        StreamFault::Write(failed)
+    }
 }
 
 /// Decodes all that a reader gives into a sink, and returns the number of decoded bytes.

@@ -1,15 +1,34 @@
 //! Writing digest lists.
 
-ghost use Rattle.std.specs.Prelude.{◌≡◌, ◌-◌, ◌^◌, ◌<◌, ◌++◌, ◌∷◌, [], length};
+ghost use Rattle.std.specs.Prelude.{◌≡◌, ◌-◌, ◌^◌, ◌<◌, ◌++◌, ◌∷◌, [], Some, length};
 ghost use Rattle.hex_core.specs.Text.{text};
 ghost use Rattle.hex_format.specs.Sink.{Puts};
 ghost use Rattle.hex_format.specs.ListCalls.{WritesList};
 ghost use Rattle.hex_format.specs.Lists.{first_bad_name, is_bad_name, line_of, list_of, mark};
+ghost use Rattle.hex_format.specs.Message.{list_write_fault_text};
+ghost use Rattle.hex_format.specs.declared.writing.ListWriteFault.TheVariants as fault;
 
 use crate::digests::Entry;
 use crate::{Hex, HexFlags, Sink, WriteFault, put_all};
+use std::{error, fmt};
 
 /// An error of writing a list.
+///
+/// [`Display`](fmt::Display) prints exactly these texts:
+///
+/// | Case | Text |
+/// |---|---|
+/// | `BadName` | `invalid name in entry 1` |
+/// | `Write` | that of the [`WriteFault`] |
+///
+/// ```rust
+/// use hex_format::digests::ListWriteFault;
+///
+/// let fault = ListWriteFault::BadName { entry: 1 };
+/// assert_eq!(rt; fault.to_string(rt.alloc())?.as_str(), "invalid name in entry 1");
+/// let fault = ListWriteFault::from(WriteFault::TookNothing);
+/// assert_eq!(rt; fault.to_string(rt.alloc())?.as_str(), "sink took nothing");
+/// ```
 #[derive(Clone, Copy, Debug, PartialEq, Eq)]
 pub enum ListWriteFault {
     /// A name is empty or has a newline, so it cannot end a line of a list.
@@ -19,6 +38,27 @@ pub enum ListWriteFault {
     },
     /// A put failed.
     Write(WriteFault),
+}
+
+impl fmt::Display for ListWriteFault {
+    ghost output = { λ fault. Some (list_write_fault_text fault) };
+
+    fn fmt<W: fmt::Write>(&self, f: &mut fmt::Formatter<W>) -> fmt::Result {
+        match self {
+            ListWriteFault::BadName { entry } => write!(f, "invalid name in entry {entry}"),
+            ListWriteFault::Write(failed) => failed.fmt(f),
+        }
+    }
+}
+
+impl error::Error for ListWriteFault {}
+
+impl From<WriteFault> for ListWriteFault {
+    ghost from_gives = { λ failed given. given ≡ fault.Write failed };
+
+    fn from(failed: WriteFault) -> ListWriteFault {
+        ListWriteFault::Write(failed)
+    }
 }
 
 /// Puts the list of `entries` into `sink`: for each, the digits of its digest, a space, its mark,
