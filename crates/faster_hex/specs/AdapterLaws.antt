@@ -1,16 +1,16 @@
 -- Facts on the adapters that the definitions imply.
-use Rattle.std.specs.Prelude.{◌≡◌, ◌≢◌, ◌≤◌, ◌↔◌, ℕ, List, [], ◌∷◌, length, All, Option, Some, None, MatchOption, ⊤}
+use Rattle.std.specs.Prelude.{◌≡◌, ◌≢◌, ◌≤◌, ◌↔◌, ◌⊎◌, ℕ, List, length, Option, Some, None, MatchOption, ⊤}
 use Rattle.serde_json.specs.Data.{Data, string}
+use Rattle.hex_core.specs.declared.digit.CheckCase.TheVariants as policy
 use Rattle.hex_core.specs.Digit.{strict}
 use Rattle.hex_core.specs.Laws.{AreBytes}
 use Rattle.faster_hex.specs.declared.adapters.WireFormat.{WireFormat}
 use Rattle.faster_hex.specs.declared.adapters.AdapterError.TheVariants.{OverBound}
 use Rattle.faster_hex.specs.Adapters.{ReadFailure, Reads, ReadsOption, Writes, WritesOption, array_read_refusal, read_refusal, wire_text}
-use Rattle.faster_hex.specs.WireFormats.{nopfx_ignorecase, nopfx_lowercase, nopfx_uppercase, withpfx_ignorecase, withpfx_lowercase, withpfx_uppercase}
 
--- the six formats
-abbrev pub wire_formats : List WireFormat
-wire_formats = withpfx_ignorecase ∷ nopfx_ignorecase ∷ withpfx_lowercase ∷ nopfx_lowercase ∷ withpfx_uppercase ∷ nopfx_uppercase ∷ []
+-- a format reads what it writes: letters of either case, or of the case that it writes
+abbrev pub ReadsItsOwn : WireFormat → Type 0
+ReadsItsOwn p = (p.case ≡ policy.None) ⊎ (p.case ≡ strict p.upper)
 
 -- a value is read as at most one list, whatever the bound
 abbrev pub ReadsOneList : Type 0
@@ -44,31 +44,28 @@ abbrev pub ArrayHasNoBound : Type 0
 ArrayHasNoBound = (p : WireFormat) (n : ℕ) (d : Data) (max actual : ℕ)
     → array_read_refusal p n d ≢ Some (OverBound max actual)
 
--- what one of the six formats writes, it reads as the same bytes
+-- and as none or one list, not as both
+abbrev pub ReadsOneOption : Type 0
+ReadsOneOption = (p : WireFormat) (max other : Option ℕ) (d : Data) (bytes others : Option (List ℕ))
+    → ReadsOption p max d bytes
+    → ReadsOption p other d others
+    → bytes ≡ others
+
+-- what a format that reads its own writes, it reads as the same bytes
 abbrev pub ReadingInvertsWriting : Type 0
-ReadingInvertsWriting = (bytes : List ℕ) (d : Data)
+ReadingInvertsWriting = (p : WireFormat) (bytes : List ℕ) (d : Data)
+    → ReadsItsOwn p
     → AreBytes bytes
-    → All (λ p. Writes p bytes d → Reads p None d bytes) wire_formats
+    → Writes p bytes d
+    → Reads p None d bytes
 
 -- and none as none
 abbrev pub OptionReadingInvertsWriting : Type 0
-OptionReadingInvertsWriting = (bytes : Option (List ℕ)) (d : Data)
+OptionReadingInvertsWriting = (p : WireFormat) (bytes : Option (List ℕ)) (d : Data)
+    → ReadsItsOwn p
     → MatchOption bytes ⊤ AreBytes
-    → All (λ p. WritesOption p bytes d → ReadsOption p None d bytes) wire_formats
-
--- no value is written for none and for a list, the empty one too
-abbrev pub WritesNoneApart : Type 0
-WritesNoneApart = (p : WireFormat) (d : Data) (bytes : List ℕ)
-    → WritesOption p None d
-    → WritesOption p (Some bytes) d
-    → ⊥
-
--- no value is read as none and as a list
-abbrev pub ReadsNoneApart : Type 0
-ReadsNoneApart = (p : WireFormat) (max : Option ℕ) (d : Data) (bytes : List ℕ)
-    → ReadsOption p max d None
-    → ReadsOption p max d (Some bytes)
-    → ⊥
+    → WritesOption p bytes d
+    → ReadsOption p None d bytes
 
 -- by a format that reads the letters alone that it writes, a value that is read as a list is the one
 -- that is written for it

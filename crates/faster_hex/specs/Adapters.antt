@@ -1,5 +1,6 @@
 -- How bytes stand in a JSON text: what writing gives, what reading answers and refuses.
 use Rattle.std.specs.Prelude.{◌≡◌, ◌≢◌, ◌<◌, ◌≤◌, ◌^◌, ℕ, ◌/◌, ◌%◌, ◌==◌, nat_lt, if◌then◌else◌, List, [], ◌++◌, length, take, drop, codes, Option, Some, None, option_map, Result, Ok, Err, MatchResult, vec_items, ⊤}
+use Rattle.std.specs.Option.{ForSome}
 use Rattle.std.specs.Str.{bytes_eq}
 use Rattle.std.specs.declared.vec.Vec.{Vec}
 use Rattle.serde_json.specs.declared.value.Value.{Value}
@@ -138,3 +139,12 @@ abbrev pub AnswersOptionArrayRead : WireFormat → ℕ → Value → Result (Opt
 AnswersOptionArrayRead p n value result = MatchResult result
     (λ read. ReadsOption p None (view value) read)
     (λ e. (view value ≢ null) × (array_read_refusal p n (view value) ≡ Some e))
+
+-- a list that a value is read as is what reading it into an array of its length answers
+abbrev pub ArrayIsRead : WireFormat → ℕ → Value → Result (List ℕ) AdapterError → Type 0
+ArrayIsRead p n value result = (bytes : List ℕ) → Reads p None (view value) bytes → length bytes ≡ n → result ≡ Ok bytes
+
+-- or none
+abbrev pub OptionArrayIsRead : WireFormat → ℕ → Value → Result (Option (List ℕ)) AdapterError → Type 0
+OptionArrayIsRead p n value result = (bytes : Option (List ℕ)) → ReadsOption p None (view value) bytes
+    → ForSome bytes (λ read. length read ≡ n) → result ≡ Ok bytes

@@ -6,7 +6,8 @@
 ghost use Rattle.std.specs.Prelude.{◌≡◌, ◌<◌, ◌^◌, ◌/◌, None, Some, Ok, Err, length, option_map, string_bytes, MatchResult};
 ghost use Rattle.serde_json.specs.View.{view};
 ghost use Rattle.faster_hex.specs.AdapterMessage.{adapter_error_text};
-ghost use Rattle.faster_hex.specs.Adapters.{AnswersArrayRead, AnswersOptionArrayRead, AnswersOptionRead, AnswersOptionWrite, AnswersRead, AnswersWrite, ReadFailure, Within, WriteFailure, payload_in, prefix, wire_text};
+ghost use Rattle.faster_hex.specs.declared.adapters.AdapterError.TheVariants as adapter;
+ghost use Rattle.faster_hex.specs.Adapters.{AnswersArrayRead, AnswersOptionArrayRead, AnswersOptionRead, AnswersOptionWrite, AnswersRead, AnswersWrite, ArrayIsRead, OptionArrayIsRead, ReadFailure, Within, WriteFailure, payload_in, prefix, wire_text};
 
 use hex_codec::decode::{hex_decode_array_with_case, hex_decode_vec_with_case};
 use hex_codec::strings::prefixed_string;
@@ -70,6 +71,14 @@ impl fmt::Display for AdapterError {
 }
 
 impl error::Error for AdapterError {}
+
+impl From<Error> for AdapterError {
+    ghost from_gives = { λ refusal given. given ≡ adapter.Codec refusal };
+
+    fn from(refusal: Error) -> AdapterError {
+        AdapterError::Codec(refusal)
+    }
+}
 
 /// A format of bytes as a JSON string. Each of the six modules has one, and reads what it writes.
 ///
@@ -243,7 +252,8 @@ pub fn read_array<const N: usize>(
     format: WireFormat,
     value: &Value,
 ) -> Result<[u8; N], AdapterError>
-    ensures { AnswersArrayRead format N value.now result }
+    ensures answer { AnswersArrayRead format N value.now result }
+    ensures read { ArrayIsRead format N value.now result }
 {
     hex_decode_array_with_case(payload_of(format, value)?, format.case).map_err(AdapterError::Codec)
 }
@@ -290,7 +300,8 @@ pub fn read_option_array<const N: usize>(
     format: WireFormat,
     value: &Value,
 ) -> Result<Option<[u8; N]>, AdapterError>
-    ensures { AnswersOptionArrayRead format N value.now result }
+    ensures answer { AnswersOptionArrayRead format N value.now result }
+    ensures read { OptionArrayIsRead format N value.now result }
 {
     if value.is_null() {
         return Ok(None);

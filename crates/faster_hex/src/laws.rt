@@ -1,16 +1,18 @@
 //! Laws of the adapters, each as the contract of a function that does nothing. A proof that needs
 //! one calls it.
 
-ghost use Rattle.faster_hex.specs.AdapterLaws.{ArrayHasNoBound, BoundedReadsWhatFits, OptionReadingInvertsWriting, ReadingInvertsWriting, ReadsArrayOfItsLength, ReadsNoneApart, ReadsOneList, ReadsWhatIsNotRefused, UnboundedHasNoBound, WritesNoneApart, WritingInvertsStrictReading};
+ghost use Rattle.faster_hex.specs.AdapterLaws.{ArrayHasNoBound, BoundedReadsWhatFits, OptionReadingInvertsWriting, ReadingInvertsWriting, ReadsArrayOfItsLength, ReadsOneList, ReadsOneOption, ReadsWhatIsNotRefused, UnboundedHasNoBound, WritingInvertsStrictReading};
 
 use hex_core::laws::{
     a_source_is_accepted_where_it_spells_a_list, a_text_spells_one_list, decoding_inverts_encoding,
     encoding_inverts_strict_decoding,
 };
 
-/// A JSON value decodes to at most one list of bytes, whatever the bound.
+/// A JSON value decodes to at most one list of bytes, whatever the bound; and to `None` or a list,
+/// not to both.
 pub fn a_value_is_read_as_one_list()
-    ensures { ReadsOneList }
+    ensures list { ReadsOneList }
+    ensures option { ReadsOneOption }
 {
     a_text_spells_one_list();
 }
@@ -31,19 +33,14 @@ pub fn a_bound_refuses_what_is_longer_alone()
     ensures array { ArrayHasNoBound }
 {}
 
-/// What one of the six formats writes, it reads as the same bytes, or as `None`.
+/// What a format writes, it reads as the same bytes, or as `None`, if it accepts both letter cases
+/// or the one that it writes, as the formats of the modules do.
 pub fn reading_inverts_writing()
     ensures bytes { ReadingInvertsWriting }
     ensures option { OptionReadingInvertsWriting }
 {
     decoding_inverts_encoding();
 }
-
-/// `None` and a list, even an empty one, stay distinct: written, and read.
-pub fn none_and_an_empty_list_stay_apart()
-    ensures written { WritesNoneApart }
-    ensures read { ReadsNoneApart }
-{}
 
 /// If a format accepts only the letters that it writes, a value that is read is the one written for
 /// its bytes.

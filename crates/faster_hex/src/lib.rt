@@ -62,6 +62,9 @@ pub use hex_format::{
 /// assert_eq!(rt; sink.written(), b"hello".as_slice());
 /// ```
 pub mod stream {
+    pub use hex_codec::spaced::{SPACED_CHUNK, SpacedDecoder};
     pub use hex_codec::stream::Decoder;
-    pub use hex_format::streams::{StreamFault, decode_stream, encode_stream};
+    pub use hex_format::streams::{
+        StreamFault, decode_spaced_stream, decode_stream, encode_stream,
+    };
 }

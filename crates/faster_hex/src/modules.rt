@@ -10,7 +10,7 @@
 //! `array::deserialize` | `NotText`, `InvalidPrefix`, `InvalidLength`, `Codec(LengthMismatch)`, `Codec(InvalidChar)`
 
 ghost use Rattle.std.specs.Prelude.{None, Some};
-ghost use Rattle.faster_hex.specs.Adapters.{AnswersArrayRead, AnswersRead, AnswersWrite};
+ghost use Rattle.faster_hex.specs.Adapters.{AnswersArrayRead, AnswersRead, AnswersWrite, ArrayIsRead};
 ghost use Rattle.faster_hex.specs.WireFormats as wire;
 
 use crate::adapters::{AdapterError, WireFormat, read, read_array, write};
@@ -135,7 +135,8 @@ pub mod withpfx_ignorecase {
         /// assert_eq!(rt; faster_hex::array::deserialize(&value), Ok([0xab, 1]));
         /// ```
         pub fn deserialize<const N: usize>(value: &Value) -> Result<[u8; N], AdapterError>
-            ensures { AnswersArrayRead wire.withpfx_ignorecase N value.now result }
+            ensures answer { AnswersArrayRead wire.withpfx_ignorecase N value.now result }
+            ensures read { ArrayIsRead wire.withpfx_ignorecase N value.now result }
         {
             read_array(WireFormat::WITHPFX_IGNORECASE, value)
         }
@@ -190,7 +191,8 @@ pub mod nopfx_ignorecase {
 
         /// Like [`crate::array::deserialize`], without a prefix.
         pub fn deserialize<const N: usize>(value: &Value) -> Result<[u8; N], AdapterError>
-            ensures { AnswersArrayRead wire.nopfx_ignorecase N value.now result }
+            ensures answer { AnswersArrayRead wire.nopfx_ignorecase N value.now result }
+            ensures read { ArrayIsRead wire.nopfx_ignorecase N value.now result }
         {
             read_array(WireFormat::NOPFX_IGNORECASE, value)
         }
@@ -244,7 +246,8 @@ pub mod withpfx_lowercase {
 
         /// Like [`crate::array::deserialize`], in this letter case only.
         pub fn deserialize<const N: usize>(value: &Value) -> Result<[u8; N], AdapterError>
-            ensures { AnswersArrayRead wire.withpfx_lowercase N value.now result }
+            ensures answer { AnswersArrayRead wire.withpfx_lowercase N value.now result }
+            ensures read { ArrayIsRead wire.withpfx_lowercase N value.now result }
         {
             read_array(WireFormat::WITHPFX_LOWERCASE, value)
         }
@@ -299,7 +302,8 @@ pub mod nopfx_lowercase {
 
         /// Like [`crate::array::deserialize`], without a prefix.
         pub fn deserialize<const N: usize>(value: &Value) -> Result<[u8; N], AdapterError>
-            ensures { AnswersArrayRead wire.nopfx_lowercase N value.now result }
+            ensures answer { AnswersArrayRead wire.nopfx_lowercase N value.now result }
+            ensures read { ArrayIsRead wire.nopfx_lowercase N value.now result }
         {
             read_array(WireFormat::NOPFX_LOWERCASE, value)
         }
@@ -353,7 +357,8 @@ pub mod withpfx_uppercase {
 
         /// Like [`crate::array::deserialize`], in this letter case only.
         pub fn deserialize<const N: usize>(value: &Value) -> Result<[u8; N], AdapterError>
-            ensures { AnswersArrayRead wire.withpfx_uppercase N value.now result }
+            ensures answer { AnswersArrayRead wire.withpfx_uppercase N value.now result }
+            ensures read { ArrayIsRead wire.withpfx_uppercase N value.now result }
         {
             read_array(WireFormat::WITHPFX_UPPERCASE, value)
         }
@@ -408,7 +413,8 @@ pub mod nopfx_uppercase {
 
         /// Like [`crate::array::deserialize`], without a prefix.
         pub fn deserialize<const N: usize>(value: &Value) -> Result<[u8; N], AdapterError>
-            ensures { AnswersArrayRead wire.nopfx_uppercase N value.now result }
+            ensures answer { AnswersArrayRead wire.nopfx_uppercase N value.now result }
+            ensures read { ArrayIsRead wire.nopfx_uppercase N value.now result }
         {
             read_array(WireFormat::NOPFX_UPPERCASE, value)
         }

@@ -3,7 +3,7 @@
 //! module has all its calls.
 
 ghost use Rattle.std.specs.Prelude.{None, Some, option_map};
-ghost use Rattle.faster_hex.specs.Adapters.{AnswersOptionArrayRead, AnswersOptionRead, AnswersOptionWrite};
+ghost use Rattle.faster_hex.specs.Adapters.{AnswersOptionArrayRead, AnswersOptionRead, AnswersOptionWrite, OptionArrayIsRead};
 ghost use Rattle.faster_hex.specs.WireFormats as wire;
 
 use crate::adapters::{AdapterError, WireFormat, read_option, read_option_array, write_option};
@@ -63,7 +63,8 @@ pub mod option_withpfx_ignorecase {
         /// Reads `null` as `None`, and any other value like
         /// [`withpfx_ignorecase::array::deserialize`](crate::withpfx_ignorecase::array::deserialize).
         pub fn deserialize<const N: usize>(value: &Value) -> Result<Option<[u8; N]>, AdapterError>
-            ensures { AnswersOptionArrayRead wire.withpfx_ignorecase N value.now result }
+            ensures answer { AnswersOptionArrayRead wire.withpfx_ignorecase N value.now result }
+            ensures read { OptionArrayIsRead wire.withpfx_ignorecase N value.now result }
         {
             read_option_array(WireFormat::WITHPFX_IGNORECASE, value)
         }
@@ -123,7 +124,8 @@ pub mod option_nopfx_ignorecase {
         /// Reads `null` as `None`, and any other value like
         /// [`nopfx_ignorecase::array::deserialize`](crate::nopfx_ignorecase::array::deserialize).
         pub fn deserialize<const N: usize>(value: &Value) -> Result<Option<[u8; N]>, AdapterError>
-            ensures { AnswersOptionArrayRead wire.nopfx_ignorecase N value.now result }
+            ensures answer { AnswersOptionArrayRead wire.nopfx_ignorecase N value.now result }
+            ensures read { OptionArrayIsRead wire.nopfx_ignorecase N value.now result }
         {
             read_option_array(WireFormat::NOPFX_IGNORECASE, value)
         }
@@ -183,7 +185,8 @@ pub mod option_withpfx_lowercase {
         /// Reads `null` as `None`, and any other value like
         /// [`withpfx_lowercase::array::deserialize`](crate::withpfx_lowercase::array::deserialize).
         pub fn deserialize<const N: usize>(value: &Value) -> Result<Option<[u8; N]>, AdapterError>
-            ensures { AnswersOptionArrayRead wire.withpfx_lowercase N value.now result }
+            ensures answer { AnswersOptionArrayRead wire.withpfx_lowercase N value.now result }
+            ensures read { OptionArrayIsRead wire.withpfx_lowercase N value.now result }
         {
             read_option_array(WireFormat::WITHPFX_LOWERCASE, value)
         }
@@ -243,7 +246,8 @@ pub mod option_nopfx_lowercase {
         /// Reads `null` as `None`, and any other value like
         /// [`nopfx_lowercase::array::deserialize`](crate::nopfx_lowercase::array::deserialize).
         pub fn deserialize<const N: usize>(value: &Value) -> Result<Option<[u8; N]>, AdapterError>
-            ensures { AnswersOptionArrayRead wire.nopfx_lowercase N value.now result }
+            ensures answer { AnswersOptionArrayRead wire.nopfx_lowercase N value.now result }
+            ensures read { OptionArrayIsRead wire.nopfx_lowercase N value.now result }
         {
             read_option_array(WireFormat::NOPFX_LOWERCASE, value)
         }
@@ -303,7 +307,8 @@ pub mod option_withpfx_uppercase {
         /// Reads `null` as `None`, and any other value like
         /// [`withpfx_uppercase::array::deserialize`](crate::withpfx_uppercase::array::deserialize).
         pub fn deserialize<const N: usize>(value: &Value) -> Result<Option<[u8; N]>, AdapterError>
-            ensures { AnswersOptionArrayRead wire.withpfx_uppercase N value.now result }
+            ensures answer { AnswersOptionArrayRead wire.withpfx_uppercase N value.now result }
+            ensures read { OptionArrayIsRead wire.withpfx_uppercase N value.now result }
         {
             read_option_array(WireFormat::WITHPFX_UPPERCASE, value)
         }
@@ -363,7 +368,8 @@ pub mod option_nopfx_uppercase {
         /// Reads `null` as `None`, and any other value like
         /// [`nopfx_uppercase::array::deserialize`](crate::nopfx_uppercase::array::deserialize).
         pub fn deserialize<const N: usize>(value: &Value) -> Result<Option<[u8; N]>, AdapterError>
-            ensures { AnswersOptionArrayRead wire.nopfx_uppercase N value.now result }
+            ensures answer { AnswersOptionArrayRead wire.nopfx_uppercase N value.now result }
+            ensures read { OptionArrayIsRead wire.nopfx_uppercase N value.now result }
         {
             read_option_array(WireFormat::NOPFX_UPPERCASE, value)
         }

@@ -7,6 +7,7 @@ use Rattle.std.proofs.Math.Seq.{drop-append_seam, take-append_seam}
 use Rattle.std.proofs.lemmas.Bool.Decides.{nat_tests}
 use Rattle.std.proofs.lemmas.Grind.{common_steps}
 use Rattle.hex_core.specs.declared.digit.CheckCase.{CheckCase}
+use Rattle.hex_core.specs.declared.error.Error.{Error}
 use Rattle.hex_core.specs.declared.error.Error.TheVariants.{InvalidChar, Overflow}
 use Rattle.hex_core.specs.Digit.{value}
 use Rattle.hex_core.specs.Refusal.{first_bad_char}
@@ -15,7 +16,7 @@ use Rattle.hex_core.specs.Text.{Spells}
 use Rattle.hex_core.proofs.JoinLemmas.{bad-behind, spells-joined, valid-both, valid-parts}
 use Rattle.hex_core.proofs.LawProofs.{valid-spelled}
 use Rattle.hex_core.proofs.SearchLemmas.{none_valid}
-use Rattle.hex_codec.specs.Stream.{SpellsBut, bad_char_behind, feed_refusal, pairs_more}
+use Rattle.hex_codec.specs.Stream.{SpellsBut, bad_char_behind, feed_refusal, pairs_more, refusal_by}
 
 -- ---- single digits
 
@@ -66,11 +67,14 @@ bad-behind-all c fed src had none is = rw is (by_first (first_invalid c src) ref
     by_first (Some f) at = sym (bad-behind c fed src f (slice_index src f) none (rw at refl))
     by_first None at = rw (valid-both c fed src none at) refl
 
-pub refused-many : (c : CheckCase) (fed src : List ℕ) (room : ℕ) → 2 ^ 64 ≤ length fed + length src → feed_refusal c fed src room ≡ Some Overflow
-refused-many c fed src room many = grind (arith, nat_tests, many)
+pub many-refused : (all more room : ℕ) (bad : Option Error) → 2 ^ 64 ≤ all → refusal_by all more room bad ≡ Some Overflow
+many-refused all more room bad many = grind (arith, nat_tests, many)
+
+pub byte-refused : (all more room : ℕ) (bad : Option Error) → all < 2 ^ 64 → more ≤ room → refusal_by all more room bad ≡ bad
+byte-refused all more room bad few fits = grind (arith, nat_tests, few, fits)
 
 pub refused-byte : (c : CheckCase) (fed src : List ℕ) (room : ℕ) → length fed + length src < 2 ^ 64 → pairs_more (length fed) (length src) ≤ room → feed_refusal c fed src room ≡ first_bad_char c (fed ++ src)
-refused-byte c fed src room few fits = grind (arith, nat_tests, few, fits)
+refused-byte c fed src room few fits = byte-refused _ _ room _ few fits
 
 -- valid digits have no bad character
 pub valid-fed : (c : CheckCase) (s : List ℕ) → first_invalid c s ≡ None → first_bad_char c s ≡ None

@@ -1,11 +1,12 @@
 -- Facts on grouped texts that the definitions imply.
-use Rattle.std.specs.Prelude.{◌≡◌, ◌<◌, ◌≤◌, ◌%◌, ◌↔◌, ◌⊎◌, ℕ, Bool, List, ◌∷◌, ◌++◌, length, All, IsSome, None}
+use Rattle.std.specs.Prelude.{◌≡◌, ◌<◌, ◌≤◌, ◌%◌, ◌↔◌, ◌⊎◌, ℕ, Bool, List, ◌∷◌, ◌++◌, length, take, drop, All, IsSome, None}
 use Rattle.hex_core.specs.declared.digit.CheckCase.{CheckCase}
 use Rattle.hex_core.specs.declared.digit.CheckCase.TheVariants as policy
 use Rattle.hex_core.specs.Digit.{strict, value}
 use Rattle.hex_core.specs.Laws.{AreBytes}
+use Rattle.hex_core.specs.Text.{text}
 use Rattle.hex_codec.specs.declared.group.Group.{Group}
-use Rattle.hex_codec.specs.Grouped.{grouped, piece_len, separator}
+use Rattle.hex_codec.specs.Grouped.{grouped, piece_len, pieces, separator}
 use Rattle.hex_codec.specs.GroupedText.{GroupSpells, group_refusal, grouped_len}
 
 -- what is written in groups is read as the same bytes, under the text's own case or either
@@ -48,6 +49,19 @@ abbrev pub GroupedTextsAreDigitsAndSeparators : Type 0
 GroupedTextsAreDigitsAndSeparators = (group : Group) (upper : Bool) (bytes : List ℕ)
     → AreBytes bytes
     → All (λ b. IsSome (value (strict upper) b) ⊎ (b ≡ separator group)) (grouped group upper bytes)
+
+-- and each byte of a text without groups is a digit of its case
+abbrev pub TextsAreDigits : Type 0
+TextsAreDigits = (upper : Bool) (bytes : List ℕ)
+    → AreBytes bytes
+    → All (λ b. IsSome (value (strict upper) b)) (text upper bytes)
+
+-- the first piece is the front of a list, and the other pieces are those of the rest
+abbrev pub FirstPieceIsTheFront : Type 0
+FirstPieceIsTheFront = (every : ℕ) (bytes : List ℕ)
+    → 0 < every
+    → 0 < length bytes
+    → pieces every bytes ≡ take every bytes ∷ pieces every (drop every bytes)
 
 -- the text of whole pieces joined to more is the two texts, joined by the separator
 abbrev pub WholePiecesJoin : Type 0

@@ -35,13 +35,17 @@ HasFed decoder fed written = (position_of decoder ≡ length fed) × SpellsBut (
 abbrev pub pairs_more : ℕ → ℕ → ℕ
 pairs_more had n = (had + n) / 2 - had / 2
 
--- what a feed refuses: more digits than a `usize` counts, then too little room, then the first invalid
--- byte of all that was fed
+-- what a feed refuses: more in all than a `usize` counts, then too little room for this many bytes,
+-- then the first invalid byte of all that was fed
+abbrev pub refusal_by : ℕ → ℕ → ℕ → Option Error → Option Error
+refusal_by all more room bad =
+    if nat_le (2 ^ 64) all then Some Overflow
+    else if nat_lt room more then Some (OutputTooSmall more)
+    else bad
+
 abbrev pub feed_refusal : CheckCase → List ℕ → List ℕ → ℕ → Option Error
 feed_refusal c fed src room =
-    if nat_le (2 ^ 64) (length fed + length src) then Some Overflow
-    else if nat_lt room (pairs_more (length fed) (length src)) then Some (OutputTooSmall (pairs_more (length fed) (length src)))
-    else first_bad_char c (fed ++ src)
+    refusal_by (length fed + length src) (pairs_more (length fed) (length src)) room (first_bad_char c (fed ++ src))
 
 -- a feed: the number of bytes, which stand over the old ones and with which all that was fed is
 -- written; or the refusal

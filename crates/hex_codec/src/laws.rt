@@ -1,13 +1,16 @@
 //! Laws of grouped texts and of digits in chunks, each as the contract of a function that does
 //! nothing. A proof that needs one calls it.
 
-ghost use Rattle.hex_codec.specs.GroupLaws.{GroupSpellsOneList, GroupedTextsAreDigitsAndSeparators, GroupedTextsAreLong, GroupingInvertsStrictReading, LengthsTellCounts, ReadingInvertsGrouping, ReadsWhatGroupSpells, WholePiecesJoin};
+ghost use Rattle.hex_codec.specs.GroupLaws.{FirstPieceIsTheFront, GroupSpellsOneList, GroupedTextsAreDigitsAndSeparators, GroupedTextsAreLong, GroupingInvertsStrictReading, LengthsTellCounts, ReadingInvertsGrouping, ReadsWhatGroupSpells, TextsAreDigits, WholePiecesJoin};
+ghost use Rattle.std.specs.Prelude.{⊤, MatchOption, option_map, vec_items};
+ghost use Rattle.hex_core.specs.Laws.{AreBytes};
 ghost use Rattle.hex_codec.specs.Stream.{CuttingsAgree, DecodersWereFed, WritesAsOneCall};
 
 use hex_core::laws::{
-    a_source_is_accepted_where_it_spells_a_list, a_text_spells_one_list, decoding_inverts_encoding,
-    encoding_inverts_strict_decoding,
+    a_slice_holds_bytes, a_source_is_accepted_where_it_spells_a_list, a_text_spells_one_list,
+    decoding_inverts_encoding, encoding_inverts_strict_decoding,
 };
+use std::alloc::Allocator;
 
 /// A grouped text is decoded by its group to the same bytes, under its own case or either.
 pub fn reading_inverts_grouping()
@@ -33,12 +36,37 @@ pub fn a_grouped_text_is_read_where_it_spells_a_list()
 }
 
 /// A grouped text has two digits for each byte and a separator between two pieces, so texts of
-/// different numbers of bytes differ in length. Each of its bytes is a digit or the separator.
+/// different numbers of bytes differ in length. Each of its bytes is a digit or the separator, and
+/// each byte of a text without groups is a digit.
 pub fn a_grouped_text_is_digits_and_separators()
     ensures long { GroupedTextsAreLong }
     ensures count { LengthsTellCounts }
     ensures bytes { GroupedTextsAreDigitsAndSeparators }
+    ensures text { TextsAreDigits }
+{
+    decoding_inverts_encoding();
+}
+
+/// The first piece of a list is its front, and the other pieces are those of the rest.
+pub fn the_first_piece_is_the_front()
+    ensures { FirstPieceIsTheFront }
 {}
+
+/// A vector holds bytes, as laws about bytes require.
+pub fn a_vec_holds_bytes<A: Allocator>(bytes: &Vec<u8, A>)
+    ensures { AreBytes (vec_items bytes.now) }
+{
+    a_slice_holds_bytes(bytes);
+}
+
+/// So does one that may be missing.
+pub fn an_optional_vec_holds_bytes<A: Allocator>(bytes: &Option<Vec<u8, A>>)
+    ensures { MatchOption (option_map vec_items bytes.now) ⊤ AreBytes }
+{
+    if let Some(bytes) = bytes {
+        a_vec_holds_bytes(bytes);
+    }
+}
 
 /// The text of whole pieces followed by more is the two texts, joined by the separator.
 pub fn whole_pieces_are_joined_by_the_separator()

@@ -9,6 +9,7 @@ pub mod grouped;
 pub mod heapless_08;
 pub mod laws;
 mod pieces;
+pub mod spaced;
 pub mod stream;
 pub mod strings;
 

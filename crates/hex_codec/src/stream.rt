@@ -34,7 +34,7 @@ use hex_core::{Backend, CheckCase, Error, digit_value};
 /// ```
 #[derive(Clone, Copy, Debug, PartialEq, Eq)]
 pub struct Decoder {
-    case: CheckCase,
+    pub(crate) case: CheckCase,
     position: usize,
     waiting: Option<u8>,
     // The digit that waits was tested when it came.
@@ -141,7 +141,7 @@ impl Decoder {
     }
 
     // Pairs that so many more digits complete.
-    fn whole_pairs(&self, digits: usize) -> usize
+    pub(crate) fn whole_pairs(&self, digits: usize) -> usize
         ensures { result ≡ (length (waiting_in self.now) + digits) / 2 }
     {
         if self.waiting.is_some() {

@@ -1,6 +1,11 @@
 -- Facts on puts that the definitions imply.
-use Rattle.std.specs.Prelude.{List, ℕ, ◌++◌}
-use Rattle.hex_format.specs.Sink.{SinkState, Stops, Takes}
+use Rattle.std.specs.Prelude.{List, ℕ, [], ◌++◌, Result, IsErr}
+use Rattle.hex_format.specs.declared.sink.WriteFault.{WriteFault}
+use Rattle.hex_format.specs.Sink.{Puts, SinkState, Stops, Takes}
+
+-- where nothing is put, nothing is taken
+abbrev pub TakesNothing : Type 0
+TakesNothing = (sink : SinkState) → Takes sink sink []
 
 -- what took one list and then another took the joined list
 abbrev pub TakesInARow : Type 0
@@ -21,3 +26,17 @@ abbrev pub StopsEarlier : Type 0
 StopsEarlier = (first second : SinkState) (xs ys : List ℕ)
     → Stops first second xs
     → Stops first second (xs ++ ys)
+
+-- what took one list and then put another, whatever came of it, put the joined list
+abbrev pub PutsInARow : Type 0
+PutsInARow = (first second third : SinkState) (result : Result (Unit {0}) WriteFault) (xs ys : List ℕ)
+    → Takes first second xs
+    → Puts second third result ys
+    → Puts first third result (xs ++ ys)
+
+-- and what stopped in a list is a put of it that failed
+abbrev pub StopsFail : Type 0
+StopsFail = (first second : SinkState) (result : Result (Unit {0}) WriteFault) (xs : List ℕ)
+    → IsErr result
+    → Stops first second xs
+    → Puts first second result xs

@@ -3,18 +3,22 @@
 
 ghost use Rattle.hex_format.specs.FrameLaws.{BareTextsAreDigits};
 ghost use Rattle.hex_format.specs.ListLaws.{FaultyListsNothing, ListsOneList, ReadNamesAreGood, ReadingInvertsWriting, StrictLinesAreWritten, WritingInvertsStrictReading};
-ghost use Rattle.hex_format.specs.SinkLaws.{StopsEarlier, StopsInARow, TakesInARow};
+ghost use Rattle.hex_format.specs.SinkLaws.{PutsInARow, StopsEarlier, StopsFail, StopsInARow, TakesInARow, TakesNothing};
 
 use hex_core::laws::{
     a_source_is_accepted_where_it_spells_a_list, a_text_spells_one_list, decoding_inverts_encoding,
     encoding_inverts_strict_decoding,
 };
 
-/// Consecutive puts are one put of the joined bytes, also if the last one failed.
+/// Consecutive puts are one put of the joined bytes, also if the last one failed; no put at all is a
+/// put of nothing.
 pub fn puts_in_a_row_are_one()
     ensures taken { TakesInARow }
     ensures stopped { StopsInARow }
     ensures unput { StopsEarlier }
+    ensures put { PutsInARow }
+    ensures failed { StopsFail }
+    ensures none { TakesNothing }
 {}
 
 /// A text without sign, prefix and width is only its digits: the text of its bytes, grouped if

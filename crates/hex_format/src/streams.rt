@@ -5,11 +5,12 @@ ghost use Rattle.std.specs.Io.{ReadsAtMost};
 ghost use Rattle.std.specs.Io.KnownBytes.{ReadConsumes};
 ghost use Rattle.std.specs.IoError.{error_kind};
 ghost use Rattle.hex_format.specs.Message.{stream_fault_text};
-ghost use Rattle.hex_format.specs.Streams.{DecodesStream, EncodesStream, Ends};
+ghost use Rattle.hex_format.specs.Streams.{DecodesSpacedStream, DecodesStream, EncodesStream, Ends};
 ghost use Rattle.hex_format.specs.declared.streams.StreamFault.TheVariants as fault;
 
 use crate::digits::encoded;
 use crate::sink::{Sink, WriteFault, put_all};
+use hex_codec::spaced::{SPACED_CHUNK, SpacedDecoder};
 use hex_codec::stream::Decoder;
 use hex_core::{CheckCase, Error};
 use std::io::{self, ErrorKind, Read};
@@ -117,6 +118,50 @@ pub fn decode_stream<R: Read, S: Sink>(
     'reads: loop {
         let count = match read_again(reader, &mut chunk) {
             Ok(0) => return ended(decoder),
+            Ok(count) => count,
+            Err(_) => return Err(StreamFault::Read),
+        };
+        let written = match decoder.feed(&chunk[..count], &mut bytes) {
+            Ok(written) => written,
+            Err(refusal) => return Err(StreamFault::Codec(refusal)),
+        };
+        if let Err(fault) = put_all(sink, &bytes[..written]) {
+            return Err(StreamFault::Write(fault));
+        }
+    }
+}
+
+/// Like [`decode_stream`], but skips ASCII white space among the digits, as `xxd -p` and `openssl`
+/// print it.
+///
+/// # Errors
+///
+/// Those of [`decode_stream`], at the same events. [`Error::InvalidChar`] has the first byte that is
+/// neither white space nor a hex digit, and its index in the whole stream.
+///
+/// ```rust
+/// let mut input: &[u8] = b"6865 6C6\nc6f\n";
+/// let mut buffer = [0; 5];
+/// let mut sink = SliceSink::new(&mut buffer);
+/// let written = decode_spaced_stream(&mut input, &mut sink, CheckCase::None);
+/// assert_eq!(rt; written, Ok(5));
+/// assert_eq!(rt; sink.written(), b"hello".as_slice());
+/// ```
+pub fn decode_spaced_stream<R: Read, S: Sink>(
+    reader: &mut R,
+    sink: &mut S,
+    case: CheckCase,
+) -> Result<usize, StreamFault>
+    requires { (S.state sink.old).failures < 2 ^ 64 - 1 }
+    ensures { DecodesSpacedStream case (R.remaining reader.old) (R.remaining reader.new)
+        (S.state sink.old) (S.state sink.new) result }
+{
+    let mut chunk = [0; SPACED_CHUNK];
+    let mut bytes = [0; SPACED_CHUNK];
+    let mut decoder = SpacedDecoder::new(case);
+    'reads: loop {
+        let count = match read_again(reader, &mut chunk) {
+            Ok(0) => return ended(decoder.digits()),
             Ok(count) => count,
             Err(_) => return Err(StreamFault::Read),
         };

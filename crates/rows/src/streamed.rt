@@ -3,7 +3,7 @@
 
 use crate::taking::{Mode, Taking};
 use hex_core::CheckCase;
-use hex_format::streams::{StreamFault, decode_stream, encode_stream};
+use hex_format::streams::{StreamFault, decode_spaced_stream, decode_stream, encode_stream};
 use hex_format::{SinkFault, WriteFault};
 use std::io::ErrorKind;
 use test_kit::fakes::{Giver, Pattern};
@@ -22,13 +22,13 @@ fn answer(words: &mut Words) -> Result<usize, StreamFault> {
     }
 }
 
-/// `stream decode POLICY BYTES LENGTH EVERY HALTS END ROOM FAILURES`, or `encode` and a letter case: so
-/// many bytes, which repeat these, in reads of at most so many, before each of which so many are
-/// interrupted, and then the end or a failed read; into a sink of so much room that has counted so many
-/// failures. The answer, and how many bytes the sink has taken, which repeat those that stand behind. No
-/// more reads are made than there are chunks.
+/// `stream decode POLICY BYTES LENGTH EVERY HALTS END ROOM FAILURES`, or `spaced`, or `encode` and a
+/// letter case: so many bytes, which repeat these, in reads of at most so many, before each of which so
+/// many are interrupted, and then the end or a failed read; into a sink of so much room that has counted
+/// so many failures. The answer, and how many bytes the sink has taken, which repeat those that stand
+/// behind. No more reads are made than there are chunks.
 pub fn stream_row(row: &mut Row) -> bool {
-    let is_decoded = row.call.is_either(b"decode", b"encode");
+    let call = row.call.one_of(b"decode spaced encode");
     let case = row.call.take_policy();
     row.call.take_bytes(&mut row.given);
     let mut reader = Giver::new(Pattern {
@@ -53,10 +53,10 @@ pub fn stream_row(row: &mut Row) -> bool {
         end: &[],
     };
     let mut sink = Taking::new(Mode::ThenRefuses, text, room, failures);
-    let got = if is_decoded {
-        decode_stream(&mut reader, &mut sink, case)
-    } else {
-        encode_stream(&mut reader, &mut sink, case == CheckCase::Upper)
+    let got = match call {
+        0 => decode_stream(&mut reader, &mut sink, case),
+        1 => decode_spaced_stream(&mut reader, &mut sink, case),
+        _ => encode_stream(&mut reader, &mut sink, case == CheckCase::Upper),
     };
     let is_full = matches!(got, Err(StreamFault::Write(_)));
     // A chunk has 4,096 bytes or more.

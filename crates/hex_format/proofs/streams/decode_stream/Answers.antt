@@ -1,13 +1,14 @@
 -- What was read so far, and one read more.
-use Rattle.std.proofs.Common.{rules, arith, ◌∙◌, ◌++◌, ◌+◌, ◌^◌, ◌<◌, ◌≤◌, [], length, length-append, take, refl, append-nil, Err}
+use Rattle.std.proofs.Common.{rules, arith, ◌∙◌, ◌++◌, ◌+◌, ◌^◌, ◌<◌, ◌≤◌, [], length, length-append, take, refl, ap, append-nil, Err}
 use Rattle.std.proofs.KnownBytes.{Consumes-trans}
 use Rattle.std.proofs.Math.Seq.{take-append_seam}
 use Rattle.std.proofs.lemmas.List.{length-take-le}
 use Rattle.std.proofs.lemmas.Bool.Decides.{nat_tests}
 use Rattle.hex_codec.specs.Stream.{pairs_more}
+use Rattle.hex_format.specs.Streams.{plain}
 use Rattle.hex_format.specs.declared.streams.StreamFault.TheVariants.{Codec}
 use Rattle.hex_format.proofs.PutsLemmas.{Stops-then, Takes-then}
-use Rattle.hex_format.proofs.StreamLemmas.{by-policy, ended-all, refused-feed}
+use Rattle.hex_format.proofs.StreamLemmas.{by-reading, ended-all, refused-feed}
 use Rattle.hex_format.proofs.streams.decode_stream.Goals as goal
 
 pub returns-in-Ok-eq0 : goal.returns-in-Ok-eq0
@@ -18,7 +19,7 @@ returns-in-Ok-eq0 g c =
     rw (← c.reads.invariant.0) (
       so_far.0,
       rw append-nil at (Consumes-trans _ _ _ so_far.0 [] so_far.1.2 none),
-      ended-all _ _ _ _ _ _ _ _ end has.1 so_far.1.3 (c.ended.ensures so_far.0 so_far.1.0 has),
+      ended-all (plain _) _ _ _ _ _ _ _ end has.1.valid has.1 so_far.1.3 (c.ended.ensures so_far.0 so_far.1.0 has),
     )
 
 pub returns-in-Err-feed : goal.returns-in-Err-feed
@@ -29,10 +30,10 @@ returns-in-Err-feed g c =
     let left = g.R.Read.remaining c.read_again.new.reader in let old = g.S.Sink.state c.args.sink.now in let new = g.S.Sink.state c.reads.sink in
     let fits : pairs_more (length so_far.0) (length piece) ≤ length c.reads.bytes = omega (arith, size, c.in-Ok.ensures.bound.0) in
     let result = Err (Codec c.in-Err-feed.refusal) in
-    by-policy _ _ _ left old new result c.reads.invariant.0 (
+    by-reading _ _ _ left old new result (ap plain c.reads.invariant.0) (
       so_far.0 ++ piece,
       Consumes-trans _ _ _ _ _ so_far.1.2 c.in-Ok.ensures.bytes.0,
-      refused-feed _ so_far.0 piece _ left old new _ fits (c.in-Err-feed.ensures.feeds so_far.0 so_far.1.0 has)
+      refused-feed (plain _) so_far.0 piece _ _ left old new _ fits (c.in-Err-feed.ensures.feeds so_far.0 so_far.1.0 has)
           (record { fed = so_far.0; chunk = piece; parts = refl; short = omega (arith, size, c.in-Ok.ensures.bound.0); wrote = record { bytes = so_far.1.0; waiting = _; spelled = has.1; put = so_far.1.3 } }),
     )
 
