@@ -3,12 +3,11 @@
 ghost use Rattle.std.specs.Prelude.{◌≡◌, ◌++◌, ℕ, List, Some, MatchResult, length};
 ghost use Rattle.hex_core.specs.declared.digit.CheckCase.TheVariants as policy;
 ghost use Rattle.hex_core.specs.Text.{Spells, with_front};
-ghost use Rattle.callers.specs.Chunks.{DecodesMore, ReadsDigits, parts_refusal};
+ghost use Rattle.callers.specs.Chunks.{DecodesMore, parts_refusal};
 
-use faster_hex::stream::{Decoder, StreamFault, decode_stream};
-use faster_hex::{CheckCase, Error, SliceSink};
+use faster_hex::stream::Decoder;
+use faster_hex::{CheckCase, Error};
 use hex_codec::laws::{any_cutting_is_decoded_as_one_call, every_decoder_has_been_fed};
-use std::io::Read;
 
 /// Decodes digits in two parts, of which the first may end within a pair, each into the start of
 /// its own buffer, and returns the number of bytes in each.
@@ -64,23 +63,4 @@ pub fn decode_more(decoder: &mut Decoder, more: &[u8], buffer: &mut [u8]) -> Res
     any_cutting_is_decoded_as_one_call();
     every_decoder_has_been_fed();
     decoder.feed(more, buffer)
-}
-
-/// Decodes all digits that a reader gives into the start of a buffer, and returns the number of
-/// decoded bytes. A read may end within a pair.
-///
-/// The caller's proof knows the buffer in every case, from all digits read, whatever the reads
-/// were.
-///
-/// ```rust
-/// let mut input: &[u8] = b"68656C6c6f";
-/// let mut buffer = [b'.'; 8];
-/// assert_eq!(rt; read_digits(&mut input, &mut buffer), Ok(5));
-/// assert_eq!(rt; &buffer, b"hello...");
-/// ```
-pub fn read_digits<R: Read>(input: &mut R, buffer: &mut [u8]) -> Result<usize, StreamFault>
-    ensures { ReadsDigits (R.remaining input.old) (R.remaining input.new) buffer.old buffer.new result }
-{
-    let mut sink = SliceSink::new(buffer);
-    decode_stream(input, &mut sink, CheckCase::None)
 }

@@ -10,8 +10,8 @@ ghost use Rattle.callers.specs.declared.digest.Digest.{Digest};
 
 use faster_hex::{CheckCase, Error, Hex, hex_decode_array_with_case, hex_encode_into};
 use hex_core::laws::{
-    a_slice_holds_bytes, a_source_is_accepted_where_its_list_has_room, a_text_spells_one_list,
-    decoding_inverts_encoding, encoding_inverts_strict_decoding, texts_compare_as_their_lists,
+    a_slice_holds_bytes, decoding_inverts_encoding, encoding_inverts_strict_decoding,
+    texts_compare_as_their_lists,
 };
 use std::cmp::Ordering;
 use std::fmt;
@@ -47,8 +47,6 @@ impl Digest {
         ensures only { (digest : Digest) → Spells policy.Lower digits.now digest.bytes
             → length digest.bytes ≡ 32 → result ≡ Ok digest }
     {
-        a_source_is_accepted_where_its_list_has_room();
-        a_text_spells_one_list();
         encoding_inverts_strict_decoding();
         let bytes = hex_decode_array_with_case(digits, CheckCase::Lower)?;
         Ok(Digest { bytes })
@@ -68,6 +66,20 @@ impl Digest {
         a_slice_holds_bytes(&self.bytes);
         decoding_inverts_encoding();
         hex_encode_into(&self.bytes, line, false).unwrap();
+    }
+
+    /// Returns the digest that its own text is read as: itself.
+    ///
+    /// ```rust
+    /// let digest = Digest { bytes: [0xab; 32] };
+    /// assert_eq!(rt; digest.read_back(), digest);
+    /// ```
+    pub fn read_back(&self) -> Digest
+        ensures { result ≡ self.now }
+    {
+        let mut line = [0; 64];
+        self.write(&mut line);
+        Digest::parse(&line).unwrap()
     }
 
     /// Compares two digests like their texts, without writing them: a table of bytes and a file of

@@ -1,11 +1,11 @@
 //! Callers that decode and encode grouped digits, each proved.
 
-ghost use Rattle.std.specs.Prelude.{◌≡◌, ◌↔◌, ◌<◌, ◌-◌, ◌%◌, ◌^◌, ◌++◌, ◌∷◌, [], ℕ, List, Some, IsTrue, length};
+ghost use Rattle.std.specs.Prelude.{◌≡◌, ◌↔◌, ◌<◌, ◌≤◌, ◌-◌, ◌%◌, ◌^◌, ◌++◌, ◌∷◌, [], ℕ, List, Some, IsTrue, length};
 ghost use Rattle.hex_core.specs.declared.digit.CheckCase.TheVariants as policy;
 ghost use Rattle.hex_core.specs.Calls.{Fills};
 ghost use Rattle.hex_core.specs.Refusal.{room_refusal};
 ghost use Rattle.hex_core.specs.Text.{lowercase};
-ghost use Rattle.hex_codec.specs.Grouped.{grouped, piece_len, separator};
+ghost use Rattle.hex_codec.specs.Grouped.{grouped, piece_len, pieces, separator};
 ghost use Rattle.hex_codec.specs.GroupedText.{GroupSpells, group_refusal, grouped_len};
 ghost use Rattle.hex_format.specs.Sink.{Puts};
 
@@ -14,7 +14,7 @@ use faster_hex::grouped::{GroupFault, read_into, write_into};
 use faster_hex::{CheckCase, Error, Group, Hex, HexFlags, Sink, WriteFault};
 use hex_codec::laws::{
     a_grouped_text_is_digits_and_separators, a_grouped_text_is_read_where_it_spells_a_list,
-    grouping_inverts_strict_reading, reading_inverts_grouping,
+    grouping_inverts_strict_reading, reading_inverts_grouping, the_first_piece_is_the_front,
     whole_pieces_are_joined_by_the_separator,
 };
 use hex_core::laws::{a_new_front_is_the_front, a_slice_holds_bytes};
@@ -125,6 +125,21 @@ pub fn write_two_parts<S: Sink>(
     whole_pieces_are_joined_by_the_separator();
     put_first_part(front, group, sink)?;
     put_grouped(back, group, sink)
+}
+
+/// Splits off the first piece of some bytes, which has a line of its own.
+///
+/// ```rust
+/// let group = Group::new(2, b' ').unwrap();
+/// let (piece, rest) = split_piece(b"hello", group);
+/// assert_eq!(rt; (piece, rest), (b"he".as_slice(), b"llo".as_slice()));
+/// ```
+pub fn split_piece(bytes: &[u8], group: Group) -> (&[u8], &[u8])
+    requires { piece_len group ≤ length bytes.now }
+    ensures { pieces (piece_len group) bytes.now ≡ result.0.now ∷ pieces (piece_len group) result.1.now }
+{
+    the_first_piece_is_the_front();
+    bytes.split_at(group.every())
 }
 
 /// Returns whether a put into a sink has failed.

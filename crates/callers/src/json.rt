@@ -1,21 +1,22 @@
 //! Callers of the JSON modules, as a user writes them, each proved.
 
-ghost use Rattle.std.specs.Prelude.{◌≡◌, ◌≤◌, ℕ, List, None, Some, Ok, IfErr, IfOk, IsFalse, IsTrue, codes, length, MatchResult, vec_items};
+ghost use Rattle.std.specs.Prelude.{◌≡◌, ◌≤◌, ℕ, List, None, Some, Ok, IfErr, IfOk, codes, length, option_map, MatchResult, vec_items};
 ghost use Rattle.serde_json.specs.Data.{Data, string};
 ghost use Rattle.serde_json.specs.Find.{get};
 ghost use Rattle.serde_json.specs.View.{view};
 ghost use Rattle.hex_core.specs.declared.error.Error.TheVariants as codec;
 ghost use Rattle.faster_hex.specs.declared.adapters.AdapterError.TheVariants as adapter;
-ghost use Rattle.faster_hex.specs.Adapters.{AnswersRead, Reads, WriteFailure, WritesOption, array_read_refusal, wire_text};
+ghost use Rattle.faster_hex.specs.Adapters.{AnswersRead, Reads, WriteFailure, array_read_refusal, wire_text};
 ghost use Rattle.faster_hex.specs.WireFormats as wire;
 ghost use Rattle.callers.specs.Records.{AnswersField};
 
 use faster_hex::laws::{
     a_bound_refuses_what_is_longer_alone, a_value_is_read_as_one_list,
-    a_value_is_read_where_nothing_is_refused, none_and_an_empty_list_stay_apart,
-    reading_inverts_writing, strict_writing_inverts_reading,
+    a_value_is_read_where_nothing_is_refused, reading_inverts_writing,
+    strict_writing_inverts_reading,
 };
-use faster_hex::{AdapterError, array, nopfx_ignorecase, nopfx_lowercase};
+use faster_hex::{AdapterError, array, nopfx_ignorecase, nopfx_lowercase, option_nopfx_uppercase};
+use hex_codec::laws::an_optional_vec_holds_bytes;
 use hex_core::laws::a_slice_holds_bytes;
 use serde_json::Value;
 use std::alloc::Global;
@@ -34,8 +35,6 @@ pub fn record_id(fields: &Value) -> Result<Option<[u8; 4]>, AdapterError>
     ensures only { (field : Data) → (id : List ℕ) → get (codes "id") (view fields.now) ≡ Some field
         → Reads wire.withpfx_ignorecase None field id → length id ≡ 4 → result ≡ Ok (Some id) }
 {
-    a_value_is_read_as_one_list();
-    a_value_is_read_where_nothing_is_refused();
     let Some(field) = fields.get("id") else {
         return Ok(None);
     };
@@ -78,14 +77,25 @@ pub fn read_signature(alloc: Global, value: &Value) -> Result<Vec<u8>, AdapterEr
     nopfx_ignorecase::deserialize_bounded::<64>(alloc, value)
 }
 
-/// Returns whether a value of an `option_` module is that of `None`. A list's never is, even an
-/// empty one's.
-pub fn is_none_written(value: &Value, bytes: &[u8]) -> bool
-    ensures none { WritesOption wire.nopfx_ignorecase None (view value.now) → IsTrue result }
-    ensures list { WritesOption wire.nopfx_ignorecase (Some bytes.now) (view value.now) → IsFalse result }
+/// Writes a note that may be missing as a value, and reads it back: it is the same, or memory ran out.
+///
+/// ```rust
+/// let note = Some(Vec::from_slice(rt.alloc(), b"hi")?);
+/// assert_eq!(rt; reread_note(rt.alloc(), &note)?, note);
+/// assert_eq!(rt; reread_note(rt.alloc(), &None)?, None);
+/// ```
+pub fn reread_note(alloc: Global, note: &Option<Vec<u8>>) -> Result<Option<Vec<u8>>, AdapterError>
+    ensures { IfOk result (λ read. option_map vec_items read ≡ option_map vec_items note.now) }
 {
-    none_and_an_empty_list_stay_apart();
-    value.is_null()
+    an_optional_vec_holds_bytes(note);
+    reading_inverts_writing();
+    a_value_is_read_as_one_list();
+    let bytes = match note {
+        Some(bytes) => Some(bytes.as_slice()),
+        None => None,
+    };
+    let value = option_nopfx_uppercase::serialize(alloc, bytes)?;
+    option_nopfx_uppercase::deserialize(alloc, &value)
 }
 
 /// Reads a key of eight bytes, whose value is the one written for it: lowercase, without prefix.

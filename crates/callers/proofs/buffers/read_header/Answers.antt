@@ -16,7 +16,7 @@ front law digits bytes twenty spelled =
 pub returns : goal.returns
 returns c =
     let bytes = c.in_ok-bytes.bytes in
-    let none = c.in_ok-bytes.ensures.0 in
+    let none = c.in_ok-bytes.ensures.answer.0 in
     let twenty : length bytes ≡ 20 = search rules in
-    let read = front c.a_joined_source_spells_the_joined_list.ensures.parts c.args.digits.now bytes twenty c.in_ok-bytes.ensures.1 in
+    let read = front c.a_joined_source_spells_the_joined_list.ensures.parts c.args.digits.now bytes twenty c.in_ok-bytes.ensures.answer.1 in
     (none, rw c.copy_from_slice.ensures.after read)
