@@ -1,19 +1,19 @@
 //! Callers of the JSON modules, as a user writes them, each proved.
 
-ghost use Rattle.std.specs.Prelude.{◌≡◌, ◌≤◌, ℕ, List, None, Some, Ok, IfErr, IfOk, codes, length, option_map, MatchResult, vec_items};
+ghost use Rattle.std.specs.Prelude.{◌≡◌, ◌≤◌, ℕ, List, None, Some, Ok, IfErr, IfOk, IsFalse, IsTrue, codes, length, option_map, MatchResult, vec_items};
 ghost use Rattle.serde_json.specs.Data.{Data, string};
 ghost use Rattle.serde_json.specs.Find.{get};
 ghost use Rattle.serde_json.specs.View.{view};
 ghost use Rattle.hex_core.specs.declared.error.Error.TheVariants as codec;
 ghost use Rattle.faster_hex.specs.declared.adapters.AdapterError.TheVariants as adapter;
-ghost use Rattle.faster_hex.specs.Adapters.{AnswersRead, Reads, WriteFailure, array_read_refusal, wire_text};
+ghost use Rattle.faster_hex.specs.Adapters.{AnswersRead, Reads, WriteFailure, WritesOption, array_read_refusal, wire_text};
 ghost use Rattle.faster_hex.specs.WireFormats as wire;
 ghost use Rattle.callers.specs.Records.{AnswersField};
 
 use faster_hex::laws::{
     a_bound_refuses_what_is_longer_alone, a_value_is_read_as_one_list,
-    a_value_is_read_where_nothing_is_refused, reading_inverts_writing,
-    strict_writing_inverts_reading,
+    a_value_is_read_where_nothing_is_refused, none_and_an_empty_list_stay_apart,
+    reading_inverts_writing, strict_writing_inverts_reading,
 };
 use faster_hex::{AdapterError, array, nopfx_ignorecase, nopfx_lowercase, option_nopfx_uppercase};
 use hex_codec::laws::an_optional_vec_holds_bytes;
@@ -96,6 +96,16 @@ pub fn reread_note(alloc: Global, note: &Option<Vec<u8>>) -> Result<Option<Vec<u
     };
     let value = option_nopfx_uppercase::serialize(alloc, bytes)?;
     option_nopfx_uppercase::deserialize(alloc, &value)
+}
+
+/// Returns whether a value of an `option_` module is that of `None`. A list's never is, even an
+/// empty one's.
+pub fn is_none_written(value: &Value, bytes: &[u8]) -> bool
+    ensures none { WritesOption wire.nopfx_ignorecase None (view value.now) → IsTrue result }
+    ensures list { WritesOption wire.nopfx_ignorecase (Some bytes.now) (view value.now) → IsFalse result }
+{
+    none_and_an_empty_list_stay_apart();
+    value.is_null()
 }
 
 /// Reads a key of eight bytes, whose value is the one written for it: lowercase, without prefix.

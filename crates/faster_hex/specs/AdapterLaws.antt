@@ -67,6 +67,20 @@ OptionReadingInvertsWriting = (p : WireFormat) (bytes : Option (List ℕ)) (d : 
     → WritesOption p bytes d
     → ReadsOption p None d bytes
 
+-- no value is written for none and for a list, the empty one too
+abbrev pub WritesNoneApart : Type 0
+WritesNoneApart = (p : WireFormat) (d : Data) (bytes : List ℕ)
+    → WritesOption p None d
+    → WritesOption p (Some bytes) d
+    → ⊥
+
+-- no value is read as none and as a list
+abbrev pub ReadsNoneApart : Type 0
+ReadsNoneApart = (p : WireFormat) (max : Option ℕ) (d : Data) (bytes : List ℕ)
+    → ReadsOption p max d None
+    → ReadsOption p max d (Some bytes)
+    → ⊥
+
 -- by a format that reads the letters alone that it writes, a value that is read as a list is the one
 -- that is written for it
 abbrev pub WritingInvertsStrictReading : Type 0

@@ -1,7 +1,7 @@
 //! Laws of the adapters, each as the contract of a function that does nothing. A proof that needs
 //! one calls it.
 
-ghost use Rattle.faster_hex.specs.AdapterLaws.{ArrayHasNoBound, BoundedReadsWhatFits, OptionReadingInvertsWriting, ReadingInvertsWriting, ReadsArrayOfItsLength, ReadsOneList, ReadsOneOption, ReadsWhatIsNotRefused, UnboundedHasNoBound, WritingInvertsStrictReading};
+ghost use Rattle.faster_hex.specs.AdapterLaws.{ArrayHasNoBound, BoundedReadsWhatFits, OptionReadingInvertsWriting, ReadingInvertsWriting, ReadsArrayOfItsLength, ReadsNoneApart, ReadsOneList, ReadsOneOption, ReadsWhatIsNotRefused, UnboundedHasNoBound, WritesNoneApart, WritingInvertsStrictReading};
 
 use hex_core::laws::{
     a_source_is_accepted_where_it_spells_a_list, a_text_spells_one_list, decoding_inverts_encoding,
@@ -41,6 +41,12 @@ pub fn reading_inverts_writing()
 {
     decoding_inverts_encoding();
 }
+
+/// `None` and a list, even an empty one, stay distinct: written, and read.
+pub fn none_and_an_empty_list_stay_apart()
+    ensures written { WritesNoneApart }
+    ensures read { ReadsNoneApart }
+{}
 
 /// If a format accepts only the letters that it writes, a value that is read is the one written for
 /// its bytes.
