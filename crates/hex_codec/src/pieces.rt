@@ -47,6 +47,16 @@ fn read_piece(plan: Backend, digits: &[u8], bytes: &mut [u8], case: CheckCase)
     if bytes.len() < CALLED {
         return write_bytes(digits, bytes, case);
     }
+    read_long_piece(plan, digits, bytes, case);
+}
+
+// The same for a longer piece, apart: inlined, decoding has a body for each length.
+#[inline(never)]
+fn read_long_piece(plan: Backend, digits: &[u8], bytes: &mut [u8], case: CheckCase)
+    requires twice { length digits.now ≡ 2 * length bytes.old }
+    requires valid { first_invalid case digits.now ≡ None }
+    ensures { Spells case digits.now bytes.new }
+{
     plan.decode_into(digits, bytes, case).unwrap();
 }
 
