@@ -8,6 +8,7 @@ ghost use Rattle.hex_core.specs.Search.{first_invalid};
 ghost use Rattle.faster_hex_c.specs.Answers.{DecodesBy, DecodesTo, EncodesTo, FindsInvalid, answer_of, policy_of};
 ghost use Rattle.faster_hex_c.specs.Answers.{DecodesGrouped, EncodesGrouped, group_answer_of};
 
+use hex_codec::decode::first_invalid_by;
 use hex_codec::grouped::{read_by, write_by};
 use hex_codec::{Group, GroupFault, hex_check, hex_decode_into, hex_encode_into};
 use hex_core::{Backend, CheckCase, Error};
@@ -116,17 +117,13 @@ pub extern "C" fn faster_hex_check(src: &[u8]) -> bool
 
 // The body of `faster_hex_first_invalid`, by a plan.
 #[inline(always)]
-fn first_invalid_by(plan: Backend, src: &[u8], case: u8) -> Answer
+fn find_by(plan: Backend, src: &[u8], case: u8) -> Answer
     ensures { FindsInvalid case src.now result }
 {
     let Some(case) = policy(case) else {
         return NO_POLICY;
     };
-    // A check reads no table at a place that depends on the bytes, as a search does.
-    if plan.check(src, case) {
-        return answer_of(Ok(0));
-    }
-    match plan.first_invalid(src, case) {
+    match first_invalid_by(plan, src, case) {
         None => answer_of(Ok(0)),
         Some(index) => answer_of(Err(Error::InvalidChar {
             index,
@@ -140,7 +137,7 @@ fn first_invalid_by(plan: Backend, src: &[u8], case: u8) -> Answer
 pub extern "C" fn faster_hex_first_invalid(src: &[u8], case: u8) -> Answer
     ensures { FindsInvalid case src.now result }
 {
-    first_invalid_by(Backend::plain(), src, case)
+    find_by(Backend::plain(), src, case)
 }
 
 /// Writes the digits of `src` into the start of `dst`.

@@ -7,7 +7,7 @@ ghost use Rattle.hex_core.specs.Search.{first_invalid};
 ghost use Rattle.faster_hex_c.specs.Answers.{DecodesBy, DecodesTo, EncodesTo, FindsInvalid};
 ghost use Rattle.faster_hex_c.specs.Answers.{DecodesGrouped, EncodesGrouped};
 
-use crate::{Answer, answer_of, decode_by, decode_grouped_by, encode_grouped_by, first_invalid_by};
+use crate::{Answer, answer_of, decode_by, decode_grouped_by, encode_grouped_by, find_by};
 use hex_core::{Backend, CheckCase, backends};
 
 // The plan of all calls here.
@@ -30,7 +30,7 @@ pub extern "C" fn scalar_faster_hex_check(src: &[u8]) -> bool
 pub extern "C" fn scalar_faster_hex_first_invalid(src: &[u8], case: u8) -> Answer
     ensures { FindsInvalid case src.now result }
 {
-    first_invalid_by(scalar(), src, case)
+    find_by(scalar(), src, case)
 }
 
 /// `faster_hex_encode`.

@@ -45,6 +45,27 @@ pub fn hex_check_with_case(src: &[u8], case: CheckCase) -> bool
     Backend::plain().check(src, case)
 }
 
+/// Returns the index of the first byte of `src` that is no hex digit by `case`, or `None`.
+///
+/// Tests all of `src` by `plan` first: so valid digits, which may be secret, are looked up in no table.
+///
+/// ```rust
+/// use hex_codec::decode::first_invalid_by;
+/// use hex_core::Backend;
+///
+/// assert_eq!(rt; first_invalid_by(Backend::plain(), b"00aBcD", CheckCase::None), None);
+/// assert_eq!(rt; first_invalid_by(Backend::plain(), b"00aBcD", CheckCase::Lower), Some(3));
+/// ```
+#[inline(never)]
+pub fn first_invalid_by(plan: Backend, src: &[u8], case: CheckCase) -> Option<usize>
+    ensures { result ≡ first_invalid case src.now }
+{
+    if plan.check(src, case) {
+        return None;
+    }
+    plan.first_invalid(src, case)
+}
+
 /// Decodes all of `src` into the start of `dst`, accepting letters of either case, and returns the
 /// written part of `dst`.
 ///

@@ -7,6 +7,7 @@ ghost use Rattle.hex_core.specs.Text.{Spells, text};
 ghost use Rattle.hex_codec.specs.Grouped.{grouped, piece_len};
 ghost use Rattle.hex_codec.specs.GroupedText.{GroupSpells, first_wrong, grouped_len};
 
+use crate::decode::first_invalid_by;
 use crate::group::Group;
 use hex_core::few::{are_pairs, write_bytes, write_digits};
 use hex_core::{Backend, CheckCase};
@@ -23,18 +24,7 @@ fn first_invalid(plan: Backend, digits: &[u8], case: CheckCase) -> Option<usize>
     if digits.len() < 2 * CALLED && are_pairs(digits, case) {
         return None;
     }
-    first_of_many(plan, digits, case)
-}
-
-// The same for more digits, or if one of few is invalid. Its body would fill the loop.
-#[inline(never)]
-fn first_of_many(plan: Backend, digits: &[u8], case: CheckCase) -> Option<usize>
-    ensures { result ≡ first_invalid case digits.now }
-{
-    if plan.check(digits, case) {
-        return None;
-    }
-    plan.first_invalid(digits, case)
+    first_invalid_by(plan, digits, case)
 }
 
 // Decodes the valid digits of a piece.
