@@ -170,6 +170,6 @@ pub fn hex_decode_vec_with_case(src: &[u8], check_case: CheckCase) -> Result<Vec
         return Err(Error::OddLength);
     }
     let mut bytes = vec![0; src.len() / 2];
-    library::decode_array(src, &mut bytes, check_case)?;
+    library::decode(src, &mut bytes, check_case)?;
     Ok(bytes)
 }
