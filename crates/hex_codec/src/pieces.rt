@@ -9,7 +9,7 @@ ghost use Rattle.hex_codec.specs.GroupedText.{GroupSpells, first_wrong, grouped_
 
 use crate::decode::first_invalid_by;
 use crate::group::Group;
-use hex_core::few::{are_pairs, write_bytes, write_digits};
+use hex_core::look_ups::{are_pairs, write_bytes, write_digits};
 use hex_core::{Backend, CheckCase};
 
 // For fewer bytes, a call takes longer than inlined look-ups.

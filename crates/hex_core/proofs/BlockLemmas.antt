@@ -10,8 +10,8 @@ use Rattle.std.proofs.lemmas.Simd.{get_or-chunk, get_or-put_chunk_above, get_or-
 use lib.Lanes.{chunk, put_chunk}
 use std.Logic.{↔_trans}
 use Rattle.hex_core.specs.declared.digit.CheckCase.{CheckCase}
-use Rattle.hex_core.specs.Arithmetic.{AreUnsigned, packed}
-use Rattle.hex_core.specs.Blocks.{DecodesRange, NibblesFrom}
+use Rattle.hex_core.specs.inside.Arithmetic.{AreUnsigned, packed}
+use Rattle.hex_core.specs.inside.Blocks.{DecodesRange, NibblesFrom}
 use Rattle.hex_core.specs.Digit.{value}
 use Rattle.hex_core.specs.Search.{AllValid, covering_to, first_invalid}
 use Rattle.hex_core.specs.Lanes.{AreChecked, AreNibbles, AreSmall, AreValues, IsNibble}
@@ -132,7 +132,7 @@ valid_chunk c s at n end all inside = (
   λ valid k low lt. subst (λ b. IsSome (value c b)) (sym (get_or-chunk at n s k 0 lt)) (valid (at + k) (omega arith) (omega arith)),
 )
 
--- marks have no sign exactly where each byte has a value
+-- checks have no sign exactly where each byte has a value
 pub unsigned_valid : (c : CheckCase) (v r : List ℕ) (n : ℕ) → length v ≡ n → length r ≡ n → AreChecked c v r → AreUnsigned r ↔ AllValid c v 0 n
 unsigned_valid c v r n long wide are = (
   λ all k low lt. (are k (omega arith)).0 (all k (omega arith)),

@@ -1,5 +1,5 @@
 -- What the arithmetic of the lanes makes of a byte, computed at all of them.
-use Rattle.std.proofs.Common.{◌≡◌, ℕ, zero, suc, ◌+◌, ◌-◌, ◌/◌, ◌%◌, ◌^◌, ◌<◌, ◌↔◌, Bool, true, false, cond, List, [], ◌∷◌, map, length, get_or, Option, Some, None, is_some, bit_and, bit_or, refl, sym, ap, ap₂, ◌∙◌, Fits, w8, eqb, leb, ltb, eqb-true, leb-true, ltb-true, lt-ltb, arith}
+use Rattle.std.proofs.Common.{◌≡◌, ℕ, zero, suc, ◌+◌, ◌-◌, ◌/◌, ◌%◌, ◌^◌, ◌<◌, ◌↔◌, Bool, true, false, cond, List, [], ◌∷◌, map, length, get_or, Option, Some, None, is_some, bit_and, refl, sym, ap, ap₂, ◌∙◌, Fits, w8, eqb, leb, ltb, eqb-true, leb-true, ltb-true, lt-ltb, arith}
 use Rattle.std.specs.Prelude.{EachIndex, IfSome, IsSome, min}
 use Rattle.std.specs.Int.{bit_at}
 use Rattle.std.proofs.lemmas.Bool.{agree_below, agree_below_at}
@@ -8,16 +8,16 @@ use Rattle.std.proofs.lemmas.List.{get_or-map, length-map}
 use Rattle.std.proofs.lemmas.Nat.{and_mask}
 use Rattle.std.proofs.lemmas.Nat.Bits.{bit_at-suc, bit_at_lowest, bit_at_ones}
 use Rattle.std.proofs.lemmas.Simd.{bit_mask_l, mask_l-lt}
-use lib.Lanes.{Each1, mask_l, zip2}
+use lib.Lanes.{Each1, mask_l}
 use Rattle.hex_core.specs.declared.digit.CheckCase.{CheckCase}
 use Rattle.hex_core.specs.declared.digit.CheckCase.TheVariants as policy
-use Rattle.hex_core.specs.Arithmetic.{AreLow, interleaved, letter, reach, saturating_add, valid_nibble, wrapping_sub}
+use Rattle.hex_core.specs.inside.Arithmetic.{AreLow, interleaved, letter, reach, saturating_add, valid_nibble, wrapping_sub}
 use Rattle.hex_core.specs.Digit.{digit, value}
 use Rattle.hex_core.specs.Search.{AllValid}
-use Rattle.hex_core.specs.Lanes.{Admits, AreChecked, AreNibbles, AreValues, IsNibble}
-use Rattle.hex_core.specs.Lookup.{entry}
+use Rattle.hex_core.specs.Lanes.{Admits, AreNibbles, AreValues, IsNibble}
+use Rattle.hex_core.specs.inside.Tables.{entry}
 use Rattle.hex_core.specs.Text.{text}
-use Rattle.hex_core.proofs.LaneLemmas.{lane_below, mapped, mapped_at, maps_agree, or_zero, passes_where, zipped_at}
+use Rattle.hex_core.proofs.LaneLemmas.{lane_below, mapped, mapped_at, maps_agree, passes_where}
 
 abbrev pub has : CheckCase → ℕ → Bool
 has c b = is_some (value c b)
@@ -84,19 +84,6 @@ pub admitted_mask : (c : CheckCase) (v e : List ℕ) (m : ℕ) → Each1 (Fits w
 admitted_mask c v e m fits lanes is =
     is ∙ ap mask_l (mapped (λ x. eqb x 0) (excess c) v lanes ∙ maps_agree (λ b. eqb (excess c b) 0) (has c) (excess_zero c) v fits)
 
--- a mark that a byte is added to
-pub marked : (c : CheckCase) (m v e r : List ℕ) (i : ℕ) → get_or v i 0 < 256 → e ≡ map (excess c) v → r ≡ zip2 bit_or m e → i < length v → i < length m
-    → (get_or r i 0 ≡ 0) ↔ ((get_or m i 0 ≡ 0) × IsSome (value c (get_or v i 0)))
-marked c m v e r i below lanes is h inside =
-    let b = get_or v i 0 in
-    let found : get_or e i 0 ≡ excess c b = mapped_at (excess c) v i lanes h in
-    let mark : get_or r i 0 ≡ bit_or (get_or m i 0) (excess c b) = zipped_at bit_or m e i is inside (omega (arith, h, ap length lanes ∙ length-map v (excess c))) ∙ ap (bit_or (get_or m i 0)) found in
-    let zero = excess_zero c b below in
-    let both = or_zero (get_or m i 0) (excess c b) in (
-      λ z. let p = both.0 (sym mark ∙ z) in (p.0, sym zero ∙ rw p.1 refl),
-      λ p. mark ∙ both.1 (p.0, eqb-true _ _ (zero ∙ p.1)),
-    )
-
 bit_says : (b : Bool) (n : ℕ) → n ≡ cond b 1 0 → (n ≡ 1) ↔ (b ≡ true)
 bit_says true n e = (λ x. refl, λ x. e)
 bit_says false n e = (λ x. absurd (omega arith), λ x. cc)
@@ -153,7 +140,7 @@ looked_up_text upper row (b ∷ v) digits fits =
     ap₂ (λ a r. a ∷ r) (read (b / 16) (omega arith))
     (ap₂ (λ a r. a ∷ r) (ap (entry row) (and_mask b 4) ∙ read (b % 16) (omega arith)) (looked_up_text upper row v digits fits.1))
 
--- ---- nibbles and marks
+-- ---- nibbles
 
 -- a nibble is the value, where there is one
 nibble_value : (o : Option ℕ) (n : ℕ) → IsNibble o n → IfSome o (λ v. n ≡ v)
@@ -168,15 +155,6 @@ valid_values v r fits is c i h =
     let b = get_or v i 0 in
     let test = agree_below_at (λ x. value_test (value c x) (valid_nibble x)) always 256 b (maps_are_right c).3 (lane_below v fits i) in
     rw (mapped_at valid_nibble v i is h) (value_by (value c b) (valid_nibble b) test)
-
--- a nibble is below 16 exactly where there is a value
-mark_of : (c : CheckCase) (b n m : ℕ) (o : Option ℕ) → value c b ≡ o → IsNibble o n → m ≡ saturating_add n 112 → (m < 128) ↔ IsSome o
-mark_of c b n m (Some v) e is mark = let small : v < 16 = value_small c b v e in (λ lt. refl, λ s. omega (arith, mark, is, small))
-mark_of c b n m None e is mark = (λ lt. absurd (omega arith), λ s. cc)
-
-pub saturating_marks : (c : CheckCase) (v n r : List ℕ) → AreNibbles c v n → length n ≡ length v → r ≡ map (λ x. saturating_add x 112) n → AreChecked c v r
-saturating_marks c v n r are same is i h =
-    mark_of c (get_or v i 0) (get_or n i 0) (get_or r i 0) _ refl (are i h) (mapped_at (λ x. saturating_add x 112) n i is (omega arith))
 
 -- the values of bytes that have one
 pub value_is : (o : Option ℕ) (n : ℕ) → IsSome o → IfSome o (λ v. n ≡ v) → o ≡ Some n

@@ -6,9 +6,9 @@ use lib.Lanes.{zip2}
 use Rattle.hex_core.specs.declared.digit.CheckCase.{CheckCase}
 use Rattle.hex_core.specs.declared.digit.CheckCase.TheVariants as policy
 use Rattle.hex_core.specs.Digit.{value}
-use Rattle.hex_core.specs.Hash.{Hashed, check_row, hash, hashed_check, hashed_value}
+use Rattle.hex_core.specs.inside.Hash.{IsHash, check_row, hash, hashed_check, hashed_value}
 use Rattle.hex_core.specs.Lanes.{AreChecked, AreValues}
-use Rattle.hex_core.specs.Lookup.{entry}
+use Rattle.hex_core.specs.inside.Tables.{entry}
 use Rattle.hex_core.proofs.ByteLemmas.{always, has, value_by, value_test}
 use Rattle.hex_core.proofs.LaneLemmas.{zipped_at}
 
@@ -35,13 +35,13 @@ checks_are c (x ∷ v) [] = refl
 checks_are c (x ∷ v) (y ∷ w) = ap (λ l. hashed_check c x y ∷ l) (checks_are c v w)
 
 -- the values, and the checks, of the bytes of a block
-pub values_right : (c : CheckCase) (v slots : List ℕ) {r : List ℕ} → ((i : ℕ) → get_or v i 0 < 256) → length slots ≡ length v → EachIndex v (λ i. Hashed (get_or v i 0) (get_or slots i 0)) → r ≡ zip2 hashed_value v slots → AreValues c v r
+pub values_right : (c : CheckCase) (v slots : List ℕ) {r : List ℕ} → ((i : ℕ) → get_or v i 0 < 256) → length slots ≡ length v → EachIndex v (λ i. IsHash (get_or v i 0) (get_or slots i 0)) → r ≡ zip2 hashed_value v slots → AreValues c v r
 values_right c v slots small same hashed is i h =
     let b = get_or v i 0 in let s = hashed i h in
     let test = is_right (λ x k. value_test (value c x) (hashed_value x (hash x k))) (λ x k. true) (all_right c).1 b s.0 (small i) s.1 in
     rw (zipped_at hashed_value v slots i is h (omega arith), s.2) (value_by (value c b) (hashed_value b (hash b s.0)) test)
 
-pub checks_right : (c : CheckCase) (v slots : List ℕ) {r : List ℕ} → ((i : ℕ) → get_or v i 0 < 256) → length slots ≡ length v → EachIndex v (λ i. Hashed (get_or v i 0) (get_or slots i 0)) → r ≡ zip2 (hashed_check c) v slots → AreChecked c v r
+pub checks_right : (c : CheckCase) (v slots : List ℕ) {r : List ℕ} → ((i : ℕ) → get_or v i 0 < 256) → length slots ≡ length v → EachIndex v (λ i. IsHash (get_or v i 0) (get_or slots i 0)) → r ≡ zip2 (hashed_check c) v slots → AreChecked c v r
 checks_right c v slots {r} small same hashed is i h =
     let b = get_or v i 0 in let s = hashed i h in
     let test = is_right (λ x k. ltb (hashed_check c x (hash x k)) 128) (λ x k. has c x) (all_right c).0 b s.0 (small i) s.1 in

@@ -6,8 +6,8 @@ use Rattle.std.proofs.lemmas.List.{get_or-map, length-map, length-replicate, map
 use Rattle.std.proofs.lemmas.Nat.{le_or_l, le_or_r, or_lt}
 use Rattle.std.proofs.lemmas.Simd.{Each1-zip2, Each2-of, get_or-zip2, length-zip2, map-map, mask_l-mod, zip2_splat}
 use lib.Lanes.{zip2, sel_l, top, fold_l, mask_l, Each1}
-use Rattle.hex_core.specs.Arithmetic.{AreZero, pair_byte, saturating_add, wrapping_sub}
-use Rattle.hex_core.specs.Hash.{average}
+use Rattle.hex_core.specs.inside.Arithmetic.{AreZero, pair_byte, saturating_add, wrapping_sub}
+use Rattle.hex_core.specs.inside.Hash.{average}
 
 -- ---- lanes by place
 

@@ -6,7 +6,7 @@ use Rattle.std.specs.List.{range_with_len}
 use Rattle.std.proofs.lemmas.Simd.{SwzOk, SwzOk-from_Each1, get_or-swz_l, length-swz_l, pick_l_left, pick_l_whole, swz_l}
 use lib.Lanes.{Each1, all_below, pick_l}
 use mir.Val.{zeroes}
-use Rattle.hex_core.specs.Lookup.{entry}
+use Rattle.hex_core.specs.inside.Tables.{entry}
 use Rattle.hex_core.proofs.ByteLemmas.{always}
 use Rattle.hex_core.proofs.LaneLemmas.{lane_below, mapped_at}
 

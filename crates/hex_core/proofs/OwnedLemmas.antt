@@ -7,10 +7,9 @@ use Rattle.std.proofs.lemmas.Grind.{common_steps, same_number_lists}
 use Rattle.std.proofs.lemmas.Nat.{div-mul-add}
 use Rattle.std.proofs.lemmas.List.{ext_get_or, get_or-drop, get_or-take, length-take-le, take-append-drop}
 use Rattle.hex_core.specs.declared.digit.CheckCase.{CheckCase}
-use Rattle.hex_core.specs.Blocks.{DecodesRange}
+use Rattle.hex_core.specs.inside.Blocks.{DecodesAt, DecodesRange}
 use Rattle.hex_core.specs.Calls.{DecodesWhole}
 use Rattle.hex_core.specs.Search.{AllValid, first_invalid}
-use Rattle.hex_core.specs.Shapes.{DecodesAt}
 use Rattle.hex_core.specs.Plans.{StoresBlocks}
 use Rattle.hex_core.specs.Text.{Spells, with_front}
 use Rattle.hex_core.proofs.BlockLemmas.{decodes_next, decodes_over, decodes_whole, valid_over, valid_whole}

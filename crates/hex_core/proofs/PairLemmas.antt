@@ -2,7 +2,7 @@
 use Rattle.std.proofs.Common.{◌≡◌, ℕ, zero, suc, ◌+◌, ◌*◌, ◌/◌, ◌%◌, ◌<◌, List, [], ◌∷◌, ◌++◌, map, length, length-drop, get_or, take, drop, drop-cons, refl, sym, ap, ap₂, ◌∙◌, arith}
 use Rattle.std.proofs.lemmas.List.{drop_all, drop_at, get_or_append_left, get_or-append_right, length-take-le, take-append-drop, take_all, take_at}
 use lib.Lanes.{chunk, number_l, digits_l, pick_l}
-use Rattle.hex_core.specs.Arithmetic.{interleaved, packed, pair_byte}
+use Rattle.hex_core.specs.inside.Arithmetic.{interleaved, packed, pair_byte}
 use Rattle.hex_core.specs.Lanes.{ArePacked, AreSmall}
 
 one_pair : (a b : ℕ) → a < 16 → b < 16 → pair_byte (a + 256 * b) ≡ 16 * a + b

@@ -1,8 +1,8 @@
 -- What a probe shows, along calls that leave its source, policy and block.
-use Rattle.std.proofs.Common.{◌≡◌, ℕ, ◌+◌, refl, sym, ap₂, subst, ◌∙◌, arith}
+use Rattle.std.proofs.Common.{◌≡◌, ℕ, ◌+◌, refl, sym, subst, ◌∙◌, arith}
 use Rattle.std.specs.Prelude.{◌↔◌}
-use Rattle.hex_core.specs.Probe.{Adds, ProbeState, SameSource, ValidIn, invalid_in}
-use Rattle.hex_core.specs.Search.{AllValid, first_invalid}
+use Rattle.hex_core.specs.Probe.{Adds, ProbeState, SameSource, ValidIn}
+use Rattle.hex_core.specs.Search.{AllValid}
 
 pub same_then : (a b c : ProbeState) → SameSource a b → SameSource b c → SameSource a c
 same_then a b c p q = (q.0 ∙ p.0, q.1 ∙ p.1, q.2 ∙ p.2)
@@ -20,6 +20,3 @@ valid_same a b start end same = (
   λ valid. subst (λ s. AllValid a.policy s start end) same.0 (subst (λ c. AllValid c b.source start end) same.1 valid),
   λ valid. subst (λ s. AllValid b.policy s start end) (sym same.0) (subst (λ c. AllValid c a.source start end) (sym same.1) valid),
 )
-
-pub invalid_same : (a b : ProbeState) → SameSource a b → invalid_in b ≡ invalid_in a
-invalid_same a b same = ap₂ first_invalid same.1 same.0

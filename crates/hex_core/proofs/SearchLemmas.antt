@@ -7,7 +7,7 @@ use Rattle.std.proofs.lemmas.Grind.{common_steps}
 use Rattle.std.proofs.lemmas.List.Quantifiers.{position-Some}
 use Rattle.hex_core.specs.declared.digit.CheckCase.{CheckCase}
 use Rattle.hex_core.specs.Digit.{value}
-use Rattle.hex_core.specs.Probe.{looks_behind}
+use Rattle.hex_core.specs.inside.Looks.{looks_behind}
 use Rattle.hex_core.proofs.PositionLemmas.{before_none, position_is, position_none}
 use Rattle.hex_core.specs.Search.{AllValid, first_invalid, steps_to, tested_blocks}
 

@@ -7,7 +7,7 @@ use Rattle.std.proofs.lemmas.List.{get_or_past}
 use Rattle.std.proofs.lemmas.Simd.{Each1-chunk, below_from_Fits, get_or-chunk, get_or_narrower, get_or_wider, length-chunk}
 use Rattle.std.proofs.lemmas.Bool.Decides.{nat_tests}
 use lib.Lanes.{Each1, chunk, digits_l, number_l}
-use Rattle.hex_core.specs.Hash.{neighbour_bits, shifted}
+use Rattle.hex_core.specs.inside.Hash.{neighbour_bits, shifted}
 
 low_byte : (b rest : ℕ) → b < 256 → (b + 256 * rest) / 8 % 256 ≡ b / 8 + 32 * (rest % 8)
 low_byte b rest h = omega arith

@@ -6,7 +6,7 @@ use Rattle.std.proofs.lemmas.List.FromFn.{get_or-map-range_with_len}
 use Rattle.hex_core.specs.declared.digit.CheckCase.{CheckCase}
 use Rattle.hex_core.specs.declared.digit.CheckCase.TheVariants as policy
 use Rattle.hex_core.specs.Digit.{value}
-use Rattle.hex_core.specs.Text.{value_table}
+use Rattle.hex_core.specs.inside.Tables.{value_table}
 
 pub get_or-value_table : (c : CheckCase) (b d : ℕ) → b < 256 → get_or (value_table c) b d ≡ unwrap_or (value c b) 255
 unfolding value_table

@@ -7,7 +7,8 @@ use Rattle.std.proofs.lemmas.List.FromFn.{get_or-range_with_len}
 use Rattle.std.proofs.lemmas.Grind.{flat_map-append, common_steps}
 use Rattle.std.specs.List.{range_with_len}
 use Rattle.hex_core.specs.Digit.{digit}
-use Rattle.hex_core.specs.Text.{text, digits, digits_table}
+use Rattle.hex_core.specs.Text.{text, digits}
+use Rattle.hex_core.specs.inside.Tables.{digits_table}
 
 pub length-text : (upper : Bool) (bytes : List ℕ) → length (text upper bytes) ≡ 2 * length bytes
 length-text upper [] = refl

@@ -9,8 +9,4 @@ pub mod Plans
 pub mod Loan
 pub mod Laws
 pub mod Lanes
-pub mod Blocks
-pub mod Shapes
-pub mod Arithmetic
-pub mod Lookup
-pub mod Hash
+pub mod inside

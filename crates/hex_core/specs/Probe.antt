@@ -1,7 +1,7 @@
 -- What a counted source shows, and what its calls change of that.
-use Rattle.std.specs.Prelude.{◌≡◌, ℕ, ◌+◌, ◌*◌, ◌/◌, List, length, min, Option, Some, None}
+use Rattle.std.specs.Prelude.{◌≡◌, ℕ, ◌+◌, List, length, Option}
 use Rattle.hex_core.specs.declared.digit.CheckCase.{CheckCase}
-use Rattle.hex_core.specs.Search.{AllValid, Steps, covering_to, first_invalid, steps, tested_blocks}
+use Rattle.hex_core.specs.Search.{AllValid, Steps, covering_to, first_invalid, steps}
 
 -- what a probe shows: its source, its policy and its block, which is how many bytes the widest test
 -- takes; and how many looks and tests were made
@@ -38,12 +38,3 @@ steps_in p = steps p.policy p.source
 -- how many tests cover its source, up to that byte
 abbrev pub covering_in : ProbeState → ℕ
 covering_in p = covering_to p.block (length p.source) (invalid_in p)
-
--- where the looks begin, in a source of this length with this first invalid byte: at the block of
--- that byte, or behind the whole blocks
-abbrev pub looks_behind : ℕ → Option ℕ → ℕ
-looks_behind len (Some f) = 64 * min (tested_blocks len) (f / 64)
-looks_behind len None = 64 * tested_blocks len
-
-abbrev pub looks_from : ProbeState → ℕ
-looks_from p = looks_behind (length p.source) (invalid_in p)

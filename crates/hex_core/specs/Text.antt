@@ -1,6 +1,6 @@
 -- The text of a list of bytes, and what a text spells.
-use Rattle.std.specs.Prelude.{◌≡◌, ℕ, ◌+◌, ◌*◌, ◌/◌, ◌%◌, Bool, false, true, List, [], ◌∷◌, ◌++◌, length, drop, map, slice_index, EachIndex, Some, unwrap_or}
-use Rattle.std.specs.List.{flat_map, range_with_len}
+use Rattle.std.specs.Prelude.{◌≡◌, ℕ, ◌+◌, ◌*◌, ◌/◌, ◌%◌, Bool, false, true, List, [], ◌∷◌, ◌++◌, length, drop, slice_index, EachIndex, Some}
+use Rattle.std.specs.List.{flat_map}
 use Rattle.hex_core.specs.declared.digit.CheckCase.{CheckCase}
 use Rattle.hex_core.specs.Digit.{value, digit}
 
@@ -32,11 +32,3 @@ pub record Spells (c : CheckCase) (s bytes : List ℕ) : Type 0 where
 -- old bytes with a new front: the list, and what was behind its length
 abbrev pub with_front : List ℕ → List ℕ → List ℕ
 with_front old bytes = bytes ++ drop (length bytes) old
-
--- each byte's value under a policy, in the order of the bytes, and 255 where there is none
-unfoldable pub value_table : CheckCase → List ℕ
-value_table c = map (λ b. unwrap_or (value c b) 255) (range_with_len 0 256)
-
--- the digits of each byte, in the order of the bytes
-unfoldable pub digits_table : Bool → List ℕ
-digits_table upper = text upper (range_with_len 0 256)

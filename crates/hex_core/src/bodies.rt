@@ -9,9 +9,9 @@ ghost use Rattle.hex_core.specs.Text.{text};
 use crate::backend::{Backend, Kind};
 use crate::blocks::decode::{decode_four, decode_two};
 use crate::digit::CheckCase;
-use crate::kernel::{check_blocks, decode_blocks, encode_blocks};
-use crate::masks::check_by_masks;
-use crate::nibbles::{Hashed, Saturating};
+use crate::digit_lanes::{Hashed, Saturating};
+use crate::kernel::{decode_blocks, encode_blocks};
+use crate::lane_probe::check_lanes;
 use crate::plain::{check_by_length, decode_by_length, encode_by_length};
 use crate::scalar::{check_by_table, decode_by_table, encode_by_table};
 
@@ -29,9 +29,9 @@ impl Backend {
         match (self.0, src.len()) {
             (Kind::Plain, _) => check_by_length(src, case),
             (Kind::Scalar, _) | (_, 0..16) => check_by_table(src, case),
-            (Kind::Sse41 | Kind::Neon, _) | (_, 16..32) => check_by_masks(src, case),
-            (Kind::Avx2, _) | (_, 32..64) => check_blocks::<Hashed, 32>(src, case),
-            (Kind::Avx512, _) => check_blocks::<Hashed, 64>(src, case),
+            (Kind::Sse41 | Kind::Neon, _) | (_, 16..32) => check_lanes::<Saturating, 16>(src, case),
+            (Kind::Avx2, _) | (_, 32..64) => check_lanes::<Hashed, 32>(src, case),
+            (Kind::Avx512, _) => check_lanes::<Hashed, 64>(src, case),
         }
     }
 

@@ -3,19 +3,19 @@
 ghost use Rattle.std.specs.Prelude.{◌≡◌, ◌↔◌, ℕ, ◌≤◌, ◌<◌, EachIndex, is_some, map, slice_index};
 ghost use Rattle.hex_core.specs.declared.digit.CheckCase.{CheckCase};
 ghost use Rattle.std.specs.Simd.Lanes.{mask_l};
-ghost use Rattle.hex_core.specs.Arithmetic.{AreLow, first_letter, fold_of, letter, reach};
+ghost use Rattle.hex_core.specs.inside.Arithmetic.{AreLow, first_letter, fold_of, letter, reach};
 ghost use Rattle.hex_core.specs.Digit.{digit, value};
 ghost use Rattle.hex_core.specs.Search.{AllValid};
-ghost use Rattle.hex_core.specs.Hash.{Hashed, check_row};
+ghost use Rattle.hex_core.specs.inside.Hash.{IsHash, check_row};
 ghost use Rattle.hex_core.specs.Lanes.{AreChecked, AreNibbles, AreValues};
 ghost use Rattle.hex_core.specs.Text.{text};
 
 use crate::digit::CheckCase;
 use crate::vector::{
-    Interleave, Lanes, LookUp, Shift, averages, high_bits, masked, saturating_add,
-    saturating_differences, saturating_sub, sign_flipped, smaller, with_bits, wrapping_differences,
-    wrapping_sub, zero_bits,
+    averages, high_bits, masked, saturating_add, saturating_differences, saturating_sub,
+    sign_flipped, smaller, with_bits, wrapping_differences, wrapping_sub, zero_bits,
 };
+use crate::widths::{Interleave, Lanes, LookUp, Shift};
 use std::simd::prelude::*;
 
 // Both tables are in the order of the policies. A look-up avoids a branch in the kernels.
@@ -111,7 +111,7 @@ fn check_row(case: CheckCase) -> u8x16
 fn hashes<const N: usize>(v: Simd<u8, N>) -> Simd<u8, N>
 where
     Lanes: LookUp<N> + Shift<N>,
-    ensures { EachIndex v.entry (λ i. Hashed (slice_index v.entry i) (slice_index result i)) }
+    ensures { EachIndex v.entry (λ i. IsHash (slice_index v.entry i) (slice_index result i)) }
 {
     averages(
         Lanes::shift(v),
@@ -174,4 +174,49 @@ where
         digits(upper),
         Lanes::interleave(high_bits(v), masked(v, 0x0f)),
     )
+}
+
+/// A map from bytes to nibbles, lane by lane: the value of each valid lane.
+pub trait Nibbles<const N: usize> {
+    fn nibbles(v: Simd<u8, N>, case: CheckCase) -> Simd<u8, N>
+        ensures { AreValues case v.entry result };
+}
+
+/// By saturating sums and differences, for any number of lanes.
+pub struct Saturating;
+
+impl<const N: usize> Nibbles<N> for Saturating {
+    #[inline(always)]
+    fn nibbles(v: Simd<u8, N>, case: CheckCase) -> Simd<u8, N>
+        ensures { AreValues case v.entry result }
+    {
+        saturated(v, case)
+    }
+}
+
+/// By a hash, which finds in rows of sixteen what to subtract from a byte.
+pub struct Hashed;
+
+impl<const N: usize> Nibbles<N> for Hashed
+where
+    Lanes: LookUp<N> + Shift<N>,
+{
+    #[inline(always)]
+    fn nibbles(v: Simd<u8, N>, _case: CheckCase) -> Simd<u8, N>
+        ensures { AreValues _case v.entry result }
+    {
+        hashed_values(v)
+    }
+}
+
+/// By the bits that digits and letters share, for digits known to be valid: it has no test.
+pub struct Valid;
+
+impl<const N: usize> Nibbles<N> for Valid {
+    #[inline(always)]
+    fn nibbles(v: Simd<u8, N>, _case: CheckCase) -> Simd<u8, N>
+        ensures { AreValues _case v.entry result }
+    {
+        valid_nibbles(v)
+    }
 }

@@ -1,49 +1,20 @@
-//! Checks, decodes and encodes block by block, for any number of lanes and any map. If the length
-//! is not a multiple of a block, the last block overlaps the one before.
+//! Decodes and encodes block by block, for any number of lanes and any map. If the length is not a
+//! multiple of a block, the last block overlaps the one before.
 
-ghost use Rattle.std.specs.Prelude.{◌≡◌, ◌↔◌, ◌+◌, ◌*◌, ◌≤◌, IsTrue, None, length};
+ghost use Rattle.std.specs.Prelude.{◌≡◌, ◌+◌, ◌*◌, ◌≤◌, None, length};
 ghost use Rattle.std.specs.Simd.Lanes.{chunk, put_chunk};
-ghost use Rattle.hex_core.specs.Arithmetic.{packed};
-ghost use Rattle.hex_core.specs.Blocks.{DecodesRange, NibblesFrom};
+ghost use Rattle.hex_core.specs.inside.Arithmetic.{packed};
+ghost use Rattle.hex_core.specs.inside.Blocks.{DecodesRange, Halves, HasBlock, HasRoom, NibblesFrom};
 ghost use Rattle.hex_core.specs.Calls.{DecodesWhole};
 ghost use Rattle.hex_core.specs.Lanes.{AreSmall};
 ghost use Rattle.hex_core.specs.Search.{AllValid, first_invalid};
-ghost use Rattle.hex_core.specs.Shapes.{Halves, HasBlock, HasRoom};
 ghost use Rattle.hex_core.specs.Text.{Spells, text};
 
 use crate::digit::CheckCase;
-use crate::digit_lanes::encoded;
-use crate::nibbles::{Marks, Nibbles};
-use crate::vector::{Interleave, Lanes, LookUp, Pack, has_no_sign};
+use crate::digit_lanes::{Nibbles, encoded};
+use crate::lane_probe::{Tests, check_lanes};
+use crate::widths::{Interleave, Lanes, LookUp, Pack};
 use std::simd::prelude::*;
-
-// Whether each of `N` bytes from index `at` is valid.
-#[inline(always)]
-fn is_valid_at<M, const N: usize>(src: &[u8], at: usize, case: CheckCase) -> bool
-where
-    M: Marks<N>,
-    requires lanes { N ≤ 64 }
-    requires inside { at + N ≤ length src.now }
-    ensures { IsTrue result ↔ AllValid case src.now at (at + N) }
-{
-    has_no_sign(M::marks(Simd::<u8, N>::from_slice(&src[at..]), case))
-}
-
-/// Returns whether every byte of a block or more is valid under `case`.
-#[inline(never)]
-pub fn check_blocks<M, const N: usize>(src: &[u8], case: CheckCase) -> bool
-where
-    M: Marks<N>,
-    requires { HasBlock N src.now }
-    ensures { IsTrue result ↔ (first_invalid case src.now ≡ None) }
-{
-    'turns: for i in 0..src.len() / N {
-        if !is_valid_at::<M, N>(src, i * N, case) {
-            return false;
-        }
-    }
-    src.len() % N == 0 || is_valid_at::<M, N>(src, src.len() - N, case)
-}
 
 // The values of `N` valid digits from index `at`.
 #[inline(always)]
@@ -122,13 +93,13 @@ pub fn decode_blocks<M, const N: usize, const HALF: usize>(
     case: CheckCase,
 ) -> bool
 where
-    M: Marks<N> + Nibbles<N>,
+    M: Tests<N> + Nibbles<N>,
     Lanes: Pack<N, HALF>,
     requires sizes { Halves N HALF src.now dst.old }
     requires block { HasBlock N src.now }
     ensures { DecodesWhole case src.now dst.old dst.new result }
 {
-    let valid = check_blocks::<M, N>(src, case);
+    let valid = check_lanes::<M, N>(src, case);
     if valid {
         write_blocks::<M, N, HALF>(src, dst, case);
     }

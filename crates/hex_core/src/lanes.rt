@@ -6,7 +6,7 @@ ghost use Rattle.hex_core.specs.Text.{text};
 
 use crate::digit::CheckCase;
 use crate::digit_lanes::{admitted, encoded, hashed_checks, hashed_values, saturated};
-use crate::vector::{Lanes, Pack};
+use crate::widths::{Lanes, Pack};
 use std::simd::prelude::*;
 
 /// Returns a mask whose bit `i` is set exactly if byte `i` is valid under `case`.

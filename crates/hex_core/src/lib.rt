@@ -8,10 +8,9 @@ pub mod digit;
 mod digit_lanes;
 pub mod error;
 mod kernel;
+mod lane_probe;
 pub mod lanes;
 pub mod laws;
-mod masks;
-mod nibbles;
 mod owned;
 mod plain;
 mod scalar;
@@ -20,22 +19,18 @@ mod slice_probe;
 mod slices;
 mod tables;
 mod vector;
+mod widths;
 
-/// Probes, which count the calls on a source, and their searches.
-pub mod probe {
-    pub use crate::search::{Probe, covered, locate};
-    pub use crate::slice_probe::SliceProbe;
-}
-
-/// Look-ups of a few digits, inlined because a call would take longer.
-pub mod few {
+/// Look-ups for short pieces, inlined because a call would take longer.
+pub mod look_ups {
     pub use crate::scalar::{are_pairs, write_bytes, write_digits};
 }
 
 /// The plans, and probes that search under them.
 pub mod plan {
     pub use crate::backend::{Backend, backends};
-    pub use crate::probe::{Probe, SliceProbe, covered, locate};
+    pub use crate::search::{Probe, covered, locate};
+    pub use crate::slice_probe::SliceProbe;
 }
 
 pub use crate::digit::{CheckCase, digit_value};

@@ -2,7 +2,7 @@
 
 ghost use Rattle.std.specs.Prelude.{◌≡◌, ◌*◌, ◌≤◌, length};
 ghost use Rattle.hex_core.specs.Calls.{DecodesOwned};
-ghost use Rattle.hex_core.specs.Shapes.{DecodesAt, HasRoom, InBlocks};
+ghost use Rattle.hex_core.specs.inside.Blocks.{DecodesAt, HasRoom, InBlocks};
 
 use crate::backend::Backend;
 use crate::digit::CheckCase;

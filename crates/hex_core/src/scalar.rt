@@ -35,7 +35,7 @@ fn packed(high: u8, low: u8) -> u8
 /// Decodes a valid source over all of `dst`.
 ///
 /// ```rust
-/// use hex_core::few::write_bytes;
+/// use hex_core::look_ups::write_bytes;
 ///
 /// let mut bytes = [0; 2];
 /// write_bytes(b"00aB", &mut bytes, CheckCase::None);
@@ -78,7 +78,7 @@ fn word_of(src: &[u8], case: CheckCase) -> Option<u64>
 /// Returns whether fewer than 16 digits, two for each byte, are valid under `case`.
 ///
 /// ```rust
-/// use hex_core::few::are_pairs;
+/// use hex_core::look_ups::are_pairs;
 ///
 /// assert!(rt; are_pairs(b"00aB", CheckCase::None));
 /// assert!(rt; !are_pairs(b"00aB", CheckCase::Lower));
@@ -157,7 +157,7 @@ pub fn encode_by_table(src: &[u8], dst: &mut [u8], upper: bool)
 /// Encodes `src` over all of `dst`.
 ///
 /// ```rust
-/// use hex_core::few::write_digits;
+/// use hex_core::look_ups::write_digits;
 ///
 /// let mut digits = [0; 4];
 /// write_digits(&[0, 0xab], &mut digits, true);

@@ -1,7 +1,8 @@
 //! Probes, and the search for the first invalid byte through their counted calls.
 
 ghost use Rattle.std.specs.Prelude.{◌≡◌, ℕ, None, ◌+◌, ◌*◌, ◌/◌, ◌^◌, ◌<◌, ◌≤◌, ◌↔◌, IsTrue, length, slice_index};
-ghost use Rattle.hex_core.specs.Probe.{Adds, ProbeState, ValidIn, covering_in, invalid_in, looks_from, steps_in};
+ghost use Rattle.hex_core.specs.Probe.{Adds, ProbeState, ValidIn, covering_in, invalid_in, steps_in};
+ghost use Rattle.hex_core.specs.inside.Looks.{looks_from};
 
 use crate::digit::CheckCase;
 use crate::tables::has_value;

@@ -13,48 +13,48 @@ use crate::backend::Backend;
 use crate::digit::CheckCase;
 use crate::error::Error;
 
+// The number of bytes that `src` decodes to, or its length's error in this room.
+#[inline(always)]
+fn decoded_len(src: &[u8], room: usize) -> Result<usize, Error>
+    ensures { MatchResult result
+        (λ n. (length src.now ≡ 2 * n) × (n ≤ room))
+        (λ e. (case : CheckCase) → decode_refusal case src.now room ≡ Some e) }
+{
+    if src.len() % 2 == 1 {
+        return Err(Error::OddLength);
+    }
+    let required = src.len() / 2;
+    if room < required {
+        return Err(Error::OutputTooSmall { required });
+    }
+    Ok(required)
+}
+
+// The number of digits of `src`, or the error of encoding it into this room.
+#[inline(always)]
+fn encoded_len(src: &[u8], room: usize) -> Result<usize, Error>
+    ensures { Answers (encode_refusal src.now room) (λ n. n ≡ 2 * length src.now) result }
+{
+    // Multiplies only what is known to fit `usize`.
+    if room / 2 < src.len() {
+        return Err(no_room(src));
+    }
+    Ok(2 * src.len())
+}
+
+// The error of encoding `src` if its digits do not fit.
+#[cold]
+#[inline(never)]
+fn no_room(src: &[u8]) -> Error
+    ensures { (room : ℕ) → room < 2 * length src.now → encode_refusal src.now room ≡ Some result }
+{
+    match src.len().checked_mul(2) {
+        None => Error::Overflow,
+        Some(required) => Error::OutputTooSmall { required },
+    }
+}
+
 impl Backend {
-    // The number of bytes that `src` decodes to, or its length's error in this room.
-    #[inline(always)]
-    fn decoded_len(src: &[u8], room: usize) -> Result<usize, Error>
-        ensures { MatchResult result
-            (λ n. (length src.now ≡ 2 * n) × (n ≤ room))
-            (λ e. (case : CheckCase) → decode_refusal case src.now room ≡ Some e) }
-    {
-        if src.len() % 2 == 1 {
-            return Err(Error::OddLength);
-        }
-        let required = src.len() / 2;
-        if room < required {
-            return Err(Error::OutputTooSmall { required });
-        }
-        Ok(required)
-    }
-
-    // The number of digits of `src`, or the error of encoding it into this room.
-    #[inline(always)]
-    fn encoded_len(src: &[u8], room: usize) -> Result<usize, Error>
-        ensures { Answers (encode_refusal src.now room) (λ n. n ≡ 2 * length src.now) result }
-    {
-        // Multiplies only what is known to fit `usize`.
-        if room / 2 < src.len() {
-            return Err(Backend::no_room(src));
-        }
-        Ok(2 * src.len())
-    }
-
-    // The error of encoding `src` if its digits do not fit.
-    #[cold]
-    #[inline(never)]
-    fn no_room(src: &[u8]) -> Error
-        ensures { (room : ℕ) → room < 2 * length src.now → encode_refusal src.now room ≡ Some result }
-    {
-        match src.len().checked_mul(2) {
-            None => Error::Overflow,
-            Some(required) => Error::OutputTooSmall { required },
-        }
-    }
-
     /// Decodes all of `src` into the start of `dst` and returns the number of bytes written,
     /// `src.len() / 2`. The bytes after them are unchanged.
     ///
@@ -77,7 +77,7 @@ impl Backend {
     pub fn decode_into(self, src: &[u8], dst: &mut [u8], case: CheckCase) -> Result<usize, Error>
         ensures { Decodes case src.now dst.old dst.new result }
     {
-        let required = Backend::decoded_len(src, dst.len())?;
+        let required = decoded_len(src, dst.len())?;
         if !self.decode(src, &mut dst[..required], case) {
             return Err(self.first_error(src, case));
         }
@@ -104,7 +104,7 @@ impl Backend {
     pub fn encode_into(self, src: &[u8], dst: &mut [u8], upper: bool) -> Result<usize, Error>
         ensures { Encodes upper src.now dst.old dst.new result }
     {
-        let written = Backend::encoded_len(src, dst.len())?;
+        let written = encoded_len(src, dst.len())?;
         self.encode(src, &mut dst[..written], upper);
         Ok(written)
     }

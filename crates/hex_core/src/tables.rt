@@ -2,7 +2,7 @@
 
 ghost use Rattle.std.specs.Prelude.{◌≡◌, is_some};
 ghost use Rattle.hex_core.specs.Digit.{value};
-ghost use Rattle.hex_core.specs.Text.{digits_table, value_table};
+ghost use Rattle.hex_core.specs.inside.Tables.{digits_table, value_table};
 
 use crate::digit::CheckCase;
 

@@ -1,9 +1,9 @@
 //! Checks by the ranges of digits and letters, with one test for many vectors.
 
 ghost use Rattle.std.specs.Prelude.{◌≡◌, ◌↔◌, ◌+◌, ◌*◌, ◌<◌, ◌≤◌, IsTrue, None, length};
-ghost use Rattle.hex_core.specs.Arithmetic.{AreLow};
+ghost use Rattle.hex_core.specs.inside.Arithmetic.{AreLow};
 ghost use Rattle.hex_core.specs.Search.{AllValid, first_invalid};
-ghost use Rattle.hex_core.specs.Shapes.{EndsCover};
+ghost use Rattle.hex_core.specs.inside.Blocks.{EndsCover};
 
 use crate::digit::CheckCase;
 use crate::digit_lanes::reach;

@@ -2,18 +2,17 @@
 
 ghost use Rattle.std.specs.Prelude.{◌≡◌, ◌+◌, ◌-◌, ◌*◌, ◌<◌, ◌≤◌, length};
 ghost use Rattle.std.specs.Simd.Lanes.{put_chunk};
-ghost use Rattle.hex_core.specs.Arithmetic.{packed};
-ghost use Rattle.hex_core.specs.Blocks.{NibblesFrom};
+ghost use Rattle.hex_core.specs.inside.Arithmetic.{packed};
+ghost use Rattle.hex_core.specs.inside.Blocks.{EndsCover, Halves, NibblesFrom};
 ghost use Rattle.hex_core.specs.Calls.{DecodesWhole};
 ghost use Rattle.hex_core.specs.Lanes.{AreSmall};
-ghost use Rattle.hex_core.specs.Shapes.{EndsCover, Halves};
 
 use crate::blocks::check::check_runs;
 use crate::digit::CheckCase;
-use crate::digit_lanes::saturated;
+use crate::digit_lanes::{Valid, saturated};
 use crate::kernel::{pack_at, write_blocks};
-use crate::nibbles::Valid;
-use crate::vector::{Lanes, Pack, either, is_small};
+use crate::vector::{either, is_small};
+use crate::widths::{Lanes, Pack};
 use std::simd::prelude::*;
 
 // `N` nibbles from index `at`.

@@ -1,11 +1,11 @@
 //! Encoding with one block or two.
 
 ghost use Rattle.std.specs.Prelude.{◌≡◌, ◌*◌, length};
-ghost use Rattle.hex_core.specs.Shapes.{EndsCover};
+ghost use Rattle.hex_core.specs.inside.Blocks.{EndsCover};
 ghost use Rattle.hex_core.specs.Text.{text};
 
 use crate::kernel::encode_at;
-use crate::vector::{Interleave, Lanes, LookUp};
+use crate::widths::{Interleave, Lanes, LookUp};
 
 /// Encodes `N` bytes.
 #[inline(always)]

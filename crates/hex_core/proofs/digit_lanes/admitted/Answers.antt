@@ -1,5 +1,5 @@
 use Rattle.std.proofs.Common.{◌∙◌}
-use Rattle.hex_core.specs.Arithmetic.{reach}
+use Rattle.hex_core.specs.inside.Arithmetic.{reach}
 use Rattle.hex_core.proofs.ByteLemmas.{admitted_mask}
 use Rattle.hex_core.proofs.LaneLemmas.{mapped}
 use Rattle.hex_core.proofs.digit_lanes.admitted.Goals as goal

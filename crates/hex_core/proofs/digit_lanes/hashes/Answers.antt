@@ -1,7 +1,7 @@
 use Rattle.std.proofs.Common.{ap₂, ◌∙◌, arith}
 use Rattle.std.proofs.lemmas.Bool.Decides.{nat_tests}
-use Rattle.hex_core.specs.Hash.{average, hash_row, neighbour_bits}
-use Rattle.hex_core.specs.Lookup.{entry}
+use Rattle.hex_core.specs.inside.Hash.{average, hash_row, neighbour_bits}
+use Rattle.hex_core.specs.inside.Tables.{entry}
 use Rattle.hex_core.proofs.LaneLemmas.{mapped_at, zipped_at}
 use Rattle.hex_core.proofs.digit_lanes.hashes.Goals as goal
 

@@ -1,5 +1,5 @@
 use Rattle.std.proofs.Common.{◌*◌}
-use Rattle.hex_core.specs.Blocks.{DecodesRange}
+use Rattle.hex_core.specs.inside.Blocks.{DecodesRange}
 use Rattle.hex_core.proofs.kernel.write_blocks.Given as goal
 
 abbrev pub invariant-turns : goal.invariant-turns

@@ -2,7 +2,7 @@
 use Rattle.std.proofs.Common.{◌≡◌, refl}
 use Rattle.hex_core.specs.declared.digit.CheckCase.TheVariants as policy
 use Rattle.hex_core.specs.declared.tables.TheConstants.{VALUES, VALUES_LOWER, VALUES_UPPER}
-use Rattle.hex_core.specs.Text.{value_table}
+use Rattle.hex_core.specs.inside.Tables.{value_table}
 use Rattle.hex_core.proofs.tables.values_of.Goals as goal
 
 tables : (VALUES ≡ value_table policy.None) × (VALUES_LOWER ≡ value_table policy.Lower) × (VALUES_UPPER ≡ value_table policy.Upper)

@@ -1,6 +1,6 @@
 use Rattle.std.proofs.Common.{◌<◌, arith}
 use std.Logic.{↔_trans}
-use Rattle.hex_core.specs.Arithmetic.{saturating_add}
+use Rattle.hex_core.specs.inside.Arithmetic.{saturating_add}
 use Rattle.hex_core.proofs.LaneLemmas.{passes_where}
 use Rattle.hex_core.proofs.vector.is_low.Goals as goal
 

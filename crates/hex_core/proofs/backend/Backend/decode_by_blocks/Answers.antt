@@ -1,6 +1,6 @@
 use Rattle.std.proofs.Common.{None, ◌≡◌, ◌+◌, ◌*◌, ◌-◌, ◌/◌, inl, inr, length, arith}
 use Rattle.std.proofs.lemmas.Bool.{OnFalse_at, OnTrue_at, cases_Bool}
-use Rattle.hex_core.specs.Blocks.{DecodesRange}
+use Rattle.hex_core.specs.inside.Blocks.{DecodesRange}
 use Rattle.hex_core.specs.Search.{first_invalid}
 use Rattle.hex_core.proofs.BlockLemmas.{block_inside, blocks_past, blocks_within, valid_range}
 use Rattle.hex_core.proofs.OwnedLemmas.{BlocksDone, all_done, blocks_stored, one_more}

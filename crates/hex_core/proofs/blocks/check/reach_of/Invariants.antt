@@ -1,5 +1,5 @@
 use Rattle.std.proofs.Common.{◌+◌, ◌*◌, ◌↔◌}
-use Rattle.hex_core.specs.Arithmetic.{AreLow}
+use Rattle.hex_core.specs.inside.Arithmetic.{AreLow}
 use Rattle.hex_core.specs.Search.{AllValid}
 use Rattle.hex_core.proofs.blocks.check.reach_of.Given as goal
 

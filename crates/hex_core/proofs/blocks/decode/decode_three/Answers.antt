@@ -1,6 +1,6 @@
 use Rattle.std.proofs.Common.{◌+◌, ◌-◌, length, refl, arith}
 use Rattle.std.proofs.lemmas.Bool.{iff_false}
-use Rattle.hex_core.specs.Blocks.{DecodesRange}
+use Rattle.hex_core.specs.inside.Blocks.{DecodesRange}
 use Rattle.hex_core.proofs.BlockLemmas.{block_decodes, decodes_over, decodes_whole, pair_decodes, pair_valid, parts_tested, small_valid}
 use Rattle.hex_core.proofs.blocks.decode.decode_three.Goals as goal
 

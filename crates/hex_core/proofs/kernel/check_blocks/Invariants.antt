@@ -1,6 +1,0 @@
-use Rattle.std.proofs.Common.{◌*◌}
-use Rattle.hex_core.specs.Search.{AllValid}
-use Rattle.hex_core.proofs.kernel.check_blocks.Given as goal
-
-abbrev pub invariant-turns : goal.invariant-turns
-invariant-turns g l = AllValid l.fn.case l.src 0 (l.i * g.row.N)

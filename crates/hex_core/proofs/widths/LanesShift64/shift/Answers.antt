@@ -1,0 +1,5 @@
+use Rattle.hex_core.proofs.ShiftLemmas.{shifted_lane}
+use Rattle.hex_core.proofs.widths.LanesShift64.shift.Goals as goal
+
+pub returns : goal.returns
+returns c = shifted_lane c.args.v c.eighths.result 16 c.fits-v c.eighths.ensures.lanes c.eighths.ensures.words

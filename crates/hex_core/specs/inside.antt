@@ -1,0 +1,6 @@
+-- Definitions that private functions and proofs use. No public contract rests on them.
+pub mod Arithmetic
+pub mod Blocks
+pub mod Hash
+pub mod Looks
+pub mod Tables

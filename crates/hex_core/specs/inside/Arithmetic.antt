@@ -1,0 +1,64 @@
+-- The arithmetic of the lanes, on one byte, one pair or one list.
+use Rattle.std.specs.Prelude.{◌≡◌, ℕ, ◌+◌, ◌-◌, ◌*◌, ◌/◌, ◌%◌, ◌<◌, min, bit_and, bit_or, List, [], ◌∷◌, EachIndex, slice_index}
+use Rattle.hex_core.specs.declared.digit.CheckCase.{CheckCase}
+use Rattle.hex_core.specs.declared.digit.CheckCase.TheVariants as policy
+
+-- each lane is 0
+abbrev pub AreZero : List ℕ → Type 0
+AreZero lanes = EachIndex lanes (λ i. slice_index lanes i ≡ 0)
+
+-- each lane is below 6
+abbrev pub AreLow : List ℕ → Type 0
+AreLow lanes = EachIndex lanes (λ i. slice_index lanes i < 6)
+
+-- no lane has its sign bit
+abbrev pub AreUnsigned : List ℕ → Type 0
+AreUnsigned lanes = EachIndex lanes (λ i. slice_index lanes i < 128)
+
+-- a difference of bytes, modulo 256
+abbrev pub wrapping_sub : ℕ → ℕ → ℕ
+wrapping_sub a b = (a + (256 - b)) % 256
+
+-- a sum of bytes that stays at 255
+abbrev pub saturating_add : ℕ → ℕ → ℕ
+saturating_add a b = min (a + b) 255
+
+-- the bit that makes a letter lowercase, where both cases are read
+abbrev pub fold_of : CheckCase → ℕ
+fold_of policy.None = 0x20
+fold_of policy.Lower = 0
+fold_of policy.Upper = 0
+
+-- the first letter that is read, once folded
+abbrev pub first_letter : CheckCase → ℕ
+first_letter policy.None = 97
+first_letter policy.Lower = 97
+first_letter policy.Upper = 65
+
+-- how far a byte is past the first letter that is read, once folded
+abbrev pub letter : CheckCase → ℕ → ℕ
+letter c b = wrapping_sub (bit_or b (fold_of c)) (first_letter c)
+
+-- how far a byte reaches past the first four of ten digits, or past the first of six letters: below 6 exactly where it has a value
+abbrev pub reach : CheckCase → ℕ → ℕ
+reach c b = min (wrapping_sub b 48 - 4) (letter c b)
+
+-- the value of a byte that has one, which is the same under every policy that reads it
+abbrev pub valid_nibble : ℕ → ℕ
+valid_nibble b = min (bit_and b 0x4f) (wrapping_sub (bit_and b 0x4f) 55)
+
+-- the byte of a word of two nibbles: 4097 is 2 ^ 12 + 1, so bits 8 to 15 become those of the first nibble over those of the second
+abbrev pub pair_byte : ℕ → ℕ
+pair_byte w = w * 4097 % 65536 / 256
+
+-- the bytes of nibbles, pair by pair, the high one first
+abbrev pub packed : List ℕ → List ℕ
+packed [] = []
+packed (a ∷ []) = []
+packed (a ∷ b ∷ rest) = (16 * a + b) ∷ packed rest
+
+-- two lists taken in turn
+abbrev pub interleaved : List ℕ → List ℕ → List ℕ
+interleaved [] ys = []
+interleaved (x ∷ xs) [] = []
+interleaved (x ∷ xs) (y ∷ ys) = x ∷ y ∷ interleaved xs ys

@@ -1,0 +1,13 @@
+-- Where the looks of a search begin.
+use Rattle.std.specs.Prelude.{ℕ, ◌*◌, ◌/◌, length, min, Option, Some, None}
+use Rattle.hex_core.specs.Probe.{ProbeState, invalid_in}
+use Rattle.hex_core.specs.Search.{tested_blocks}
+
+-- where the looks begin, in a source of this length with this first invalid byte: at the block of
+-- that byte, or behind the whole blocks
+abbrev pub looks_behind : ℕ → Option ℕ → ℕ
+looks_behind len (Some f) = 64 * min (tested_blocks len) (f / 64)
+looks_behind len None = 64 * tested_blocks len
+
+abbrev pub looks_from : ProbeState → ℕ
+looks_from p = looks_behind (length p.source) (invalid_in p)

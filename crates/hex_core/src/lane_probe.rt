@@ -1,0 +1,117 @@
+//! Checks by lanes: a probe whose test of a block takes all its bytes at once.
+
+ghost use Rattle.std.specs.Prelude.{◌≡◌, ◌↔◌, ◌+◌, ◌*◌, ◌≤◌, ◌<◌, IsTrue, None, length, slice_index};
+ghost use Rattle.hex_core.specs.Search.{AllValid, first_invalid};
+ghost use Rattle.hex_core.specs.inside.Blocks.{HasBlock};
+
+use crate::digit::CheckCase;
+use crate::digit_lanes::{Hashed, Saturating, hashed_checks};
+use crate::lanes::admitted_16;
+use crate::scalar::check_by_table;
+use crate::search::{Probe, covered};
+use crate::vector::has_no_sign;
+use std::marker::PhantomData;
+use std::simd::prelude::*;
+
+/// A map's test of a block.
+pub trait Tests<const N: usize> {
+    fn is_valid(block: Simd<u8, N>, case: CheckCase) -> bool
+        ensures { IsTrue result ↔ AllValid case block.entry 0 N };
+}
+
+impl Tests<16> for Saturating {
+    #[inline(always)]
+    fn is_valid(block: u8x16, case: CheckCase) -> bool
+        ensures { IsTrue result ↔ AllValid case block 0 16 }
+    {
+        admitted_16(&block.to_array(), case) == u16::MAX
+    }
+}
+
+impl Tests<32> for Hashed {
+    #[inline(always)]
+    fn is_valid(block: u8x32, case: CheckCase) -> bool
+        ensures { IsTrue result ↔ AllValid case block 0 32 }
+    {
+        has_no_sign(hashed_checks(block, case))
+    }
+}
+
+impl Tests<64> for Hashed {
+    #[inline(always)]
+    fn is_valid(block: u8x64, case: CheckCase) -> bool
+        ensures { IsTrue result ↔ AllValid case block 0 64 }
+    {
+        has_no_sign(hashed_checks(block, case))
+    }
+}
+
+// A probe over a slice, whose test of a whole block of `N` bytes is one of a map.
+#[derive(Drop)]
+struct LaneProbe<'a, M, const N: usize> {
+    src: &'a [u8],
+    case: CheckCase,
+    looks: usize,
+    tests: usize,
+    map: PhantomData<M>,
+}
+
+impl<'a, M, const N: usize> Probe for LaneProbe<'a, M, N>
+where
+    M: Tests<N>,
+{
+    ghost state = { λ p. record { source = p.src.now; policy = p.case; block = N; looks = p.looks; tests = p.tests } };
+
+    fn len(&self) -> usize {
+        self.src.len()
+    }
+
+    fn case(&self) -> CheckCase {
+        self.case
+    }
+
+    fn block(&self) -> usize {
+        N
+    }
+
+    fn looks(&self) -> usize {
+        self.looks
+    }
+
+    fn tests(&self) -> usize {
+        self.tests
+    }
+
+    fn look(&mut self, i: usize) -> u8 {
+        self.looks += 1;
+        self.src[i]
+    }
+
+    #[inline(always)]
+    fn test(&mut self, start: usize, width: usize) -> bool {
+        self.tests += 1;
+        let src = self.src;
+        if width == N {
+            M::is_valid(Simd::<u8, N>::from_slice(&src[start..]), self.case)
+        } else {
+            check_by_table(&src[start..start + width], self.case)
+        }
+    }
+}
+
+/// Returns whether every byte of a block or more is valid under `case`.
+#[inline(never)]
+pub fn check_lanes<M, const N: usize>(src: &[u8], case: CheckCase) -> bool
+where
+    M: Tests<N>,
+    requires { HasBlock N src.now }
+    ensures { IsTrue result ↔ (first_invalid case src.now ≡ None) }
+{
+    covered(&mut LaneProbe::<M, N> {
+        src,
+        case,
+        looks: 0,
+        tests: 0,
+        map: PhantomData,
+    })
+}
