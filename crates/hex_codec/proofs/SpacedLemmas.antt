@@ -10,7 +10,8 @@ use Rattle.hex_core.proofs.JoinLemmas.{back_at}
 use Rattle.hex_core.proofs.PositionLemmas.{none_joined, position-joined}
 use Rattle.hex_core.proofs.SearchLemmas.{lacks}
 use Rattle.hex_codec.specs.Spaced.{stray_char}
-use Rattle.hex_codec.specs.Unspaced.{first_stray, is_solid, is_stray, stray_behind, unspaced}
+use Rattle.hex_codec.specs.Unspaced.{first_stray, is_solid, is_stray, unspaced}
+use Rattle.hex_codec.specs.inside.{stray_behind}
 
 -- white space is left out
 pub unspaced-le : (s : List ℕ) → length (unspaced s) ≤ length s

@@ -16,7 +16,8 @@ use Rattle.hex_core.specs.Text.{Spells}
 use Rattle.hex_core.proofs.JoinLemmas.{bad-behind, spells-joined, valid-both, valid-parts}
 use Rattle.hex_core.proofs.LawProofs.{valid-spelled}
 use Rattle.hex_core.proofs.SearchLemmas.{none_valid}
-use Rattle.hex_codec.specs.Stream.{SpellsBut, bad_char_behind, feed_refusal, pairs_more, refusal_by}
+use Rattle.hex_codec.specs.Stream.{SpellsBut, feed_refusal, pairs_more, refusal_by}
+use Rattle.hex_codec.specs.inside.{bad_char_behind}
 
 -- ---- single digits
 

@@ -16,13 +16,6 @@ AppendsDigits upper bytes result old new =
     × OnOk result (string_len new ≡ string_len old + 2 * length bytes)
     × (string_capacity old ≤ string_capacity new)
 
--- a string has grown by a list's digits, and gives no room back
-abbrev pub GrewBy : {A : Type 0} → Bool → List ℕ → String A → String A → Type 0
-GrewBy upper bytes old new =
-    (string_bytes new ≡ string_bytes old ++ text upper bytes)
-    × (string_len new ≡ string_len old + 2 * length bytes)
-    × (string_capacity old ≤ string_capacity new)
-
 -- an append of a list's digits behind `had` bytes: their end is a `usize`, or a failure
 abbrev pub FitsBehind : {T : Type 0} → ℕ → List ℕ → Result T Error → Type 0
 FitsBehind had bytes result = MatchResult result (λ _. had + 2 * length bytes < 2 ^ 64) (λ e. GrowthFailure had (2 * length bytes) e)

@@ -1,5 +1,5 @@
 -- What reading and writing a grouped text answers and leaves.
-use Rattle.std.specs.Prelude.{◌≡◌, ℕ, Bool, List, length, Some, None, Result}
+use Rattle.std.specs.Prelude.{◌≡◌, ℕ, Bool, List, length, Result}
 use Rattle.std.specs.Borrow.{MutBor}
 use Rattle.hex_core.specs.declared.digit.CheckCase.{CheckCase}
 use Rattle.hex_core.specs.declared.error.Error.{Error}
@@ -8,11 +8,7 @@ use Rattle.hex_core.specs.Refusal.{room_refusal}
 use Rattle.hex_codec.specs.declared.group.Group.{Group}
 use Rattle.hex_codec.specs.declared.grouped.GroupFault.{GroupFault}
 use Rattle.hex_codec.specs.Grouped.{grouped, piece_len}
-use Rattle.hex_codec.specs.GroupedText.{GroupSpells, byte_count, group_refusal, grouped_len, refusal_of_count}
-
--- how many bytes the text of a length has, or what this length or the room refuses
-abbrev pub CountsBytes : ℕ → ℕ → ℕ → Result ℕ GroupFault → Type 0
-CountsBytes every len room = Answers (refusal_of_count (byte_count every len) None room) (λ n. byte_count every len ≡ Some n)
+use Rattle.hex_codec.specs.GroupedText.{GroupSpells, group_refusal, grouped_len}
 
 -- reading into the front of a destination: what the text spells
 abbrev pub Reads : CheckCase → Group → List ℕ → List ℕ → List ℕ → Result ℕ GroupFault → Type 0

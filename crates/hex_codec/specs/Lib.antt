@@ -10,3 +10,4 @@ pub mod Groups
 pub mod Spaced
 pub mod Stream
 pub mod Unspaced
+pub mod inside

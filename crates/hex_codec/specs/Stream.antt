@@ -1,9 +1,9 @@
 -- Decoding digits that come in chunks.
-use Rattle.std.specs.Prelude.{◌≡◌, ℕ, ◌+◌, ◌-◌, ◌*◌, ◌/◌, ◌%◌, ◌^◌, ◌==◌, nat_le, nat_lt, if◌then◌else◌, List, ◌++◌, length, take, drop, slice_index, Option, Some, None, option_map, Result, MatchResult}
+use Rattle.std.specs.Prelude.{◌≡◌, ℕ, ◌+◌, ◌-◌, ◌*◌, ◌/◌, ◌%◌, ◌^◌, ◌==◌, nat_le, nat_lt, if◌then◌else◌, List, ◌++◌, length, take, drop, Option, Some, None, Result, MatchResult}
 use Rattle.std.specs.Option.{option_to_list}
 use Rattle.hex_core.specs.declared.digit.CheckCase.{CheckCase}
 use Rattle.hex_core.specs.declared.error.Error.{Error}
-use Rattle.hex_core.specs.declared.error.Error.TheVariants.{InvalidChar, OddLength, Overflow, OutputTooSmall}
+use Rattle.hex_core.specs.declared.error.Error.TheVariants.{OddLength, Overflow, OutputTooSmall}
 use Rattle.hex_core.specs.Calls.{Answers}
 use Rattle.hex_core.specs.Refusal.{first_bad_char}
 use Rattle.hex_core.specs.Search.{first_invalid}
@@ -75,18 +75,6 @@ CuttingsAgree = (decoder other : Decoder) (fed xs ys : List ℕ)
 -- every decoder has been fed some digits, and has written what they spell
 abbrev pub DecodersWereFed : Type 0
 DecodersWereFed = (decoder : Decoder) → (fed : List ℕ) × (written : List ℕ) × HasFed decoder fed written
-
--- the first invalid byte of a source that follows `had` digits
-abbrev pub bad_char_behind : CheckCase → ℕ → List ℕ → Option Error
-bad_char_behind c had src = option_map (λ f. InvalidChar (had + f) (slice_index src f)) (first_invalid c src)
-
--- decoding the pairs of some digits, the last of which are a source that a decoder is fed: what they
--- spell stands over the old bytes, and the digit behind them waits; or the first invalid byte of the
--- source, and the destination as it was
-abbrev pub DecodesPairs : Decoder → List ℕ → List ℕ → List ℕ → List ℕ → Result (Option ℕ) Error → Type 0
-DecodesPairs decoder src digits old new result = MatchResult result
-    (λ waiting. (bytes : List ℕ) × SpellsBut (policy_of decoder) digits bytes (option_to_list waiting) × (new ≡ with_front old bytes))
-    (λ e. (bad_char_behind (policy_of decoder) (position_of decoder) src ≡ Some e) × (new ≡ old))
 
 -- the end of a decoding: what was written is what all that was fed spells, or a digit waits
 abbrev pub Finished : {T : Type 0} → Decoder → Result T Error → Type 0

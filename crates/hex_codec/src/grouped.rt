@@ -2,12 +2,13 @@
 //!
 //! Tests the whole text before the first store.
 
-ghost use Rattle.std.specs.Prelude.{◌≡◌, ◌≤◌, ◌<◌, ◌^◌, MatchOption, Some, length};
+ghost use Rattle.std.specs.Prelude.{◌≡◌, ◌≤◌, ◌<◌, ◌^◌, MatchOption, None, Some, length};
 ghost use Rattle.std.specs.Borrow.{sem};
+ghost use Rattle.hex_core.specs.Calls.{Answers};
 ghost use Rattle.hex_core.specs.Loan.{LendsAnswer};
 ghost use Rattle.hex_codec.specs.Grouped.{piece_len};
-ghost use Rattle.hex_codec.specs.GroupedText.{byte_count, grouped_len};
-ghost use Rattle.hex_codec.specs.GroupCalls.{CountsBytes, Reads, ReadsFront, WritesGrouped};
+ghost use Rattle.hex_codec.specs.GroupedText.{byte_count, grouped_len, refusal_of_count};
+ghost use Rattle.hex_codec.specs.GroupCalls.{Reads, ReadsFront, WritesGrouped};
 ghost use Rattle.hex_codec.specs.GroupMessage.{group_fault_text};
 
 pub use crate::group::Group;
@@ -92,7 +93,8 @@ fn byte_count(len: usize, every: usize) -> Option<usize>
 
 // The number of bytes for a text of this length, or the length's error.
 fn required(len: usize, room: usize, group: Group) -> Result<usize, GroupFault>
-    ensures { CountsBytes (piece_len group) len room result }
+    ensures { Answers (refusal_of_count (byte_count (piece_len group) len) None room)
+        (λ n. byte_count (piece_len group) len ≡ Some n) result }
 {
     let Some(required) = byte_count(len, group.every()) else {
         return Err(GroupFault::BadLength);

@@ -1,7 +1,8 @@
 //! Decodes digits among which white space stands, as line ends do, in chunks.
 
 ghost use Rattle.std.specs.Prelude.{◌≡◌, ◌≢◌, ◌≤◌, ◌+◌, ◌^◌, ◌<◌, [], None, Some, length, IfOk, OnErr};
-ghost use Rattle.hex_codec.specs.Unspaced.{CopiesUnspaced, first_stray, stray_behind};
+ghost use Rattle.hex_codec.specs.Unspaced.{first_stray};
+ghost use Rattle.hex_codec.specs.inside.{CopiesUnspaced, stray_behind};
 ghost use Rattle.hex_codec.specs.Stream.{policy_of, position_of};
 
 use crate::laws::every_decoder_has_been_fed;

@@ -44,7 +44,8 @@ pub struct Decoder {
 }
 
 impl Decoder {
-    ghost use Rattle.hex_codec.specs.Stream.{DecodesPairs, Feeds, Finished, HasFed, bad_char_behind, policy_of, position_of, waiting_in};
+    ghost use Rattle.hex_codec.specs.Stream.{Feeds, Finished, HasFed, policy_of, position_of, waiting_in};
+    ghost use Rattle.hex_codec.specs.inside.{DecodesPairs, bad_char_behind};
 
     /// Returns a decoder that has been fed nothing and accepts the letters of `case`.
     pub fn new(case: CheckCase) -> Decoder

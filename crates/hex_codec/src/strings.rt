@@ -6,7 +6,7 @@ ghost use Rattle.std.specs.Str.{IsAscii};
 ghost use Rattle.std.specs.Io.BufRead.{Rests};
 ghost use Rattle.std.specs.contracts.string.String.{the_row};
 ghost use Rattle.hex_core.specs.Text.{lowercase, text, uppercase};
-ghost use Rattle.hex_codec.specs.Append.{AnswersSuffix, AppendsDigits, FitsBehind, GrewBy, SucceedsInSpareRoom};
+ghost use Rattle.hex_codec.specs.Append.{AnswersSuffix, AppendsDigits, FitsBehind, SucceedsInSpareRoom};
 ghost use Rattle.hex_codec.specs.Calls.{EncodesBehind, EncodesPrefixed};
 
 use crate::chunks::{CHUNK, CHUNK_DIGITS, chunk_text};
@@ -229,7 +229,9 @@ fn text_from<A: Allocator>(string: &String<A>, start: usize) -> &str
 // Appends the digits of `src`, for which `dst` has the capacity.
 fn append_reserved<A: Allocator>(dst: &mut String<A>, src: &[u8], upper: bool)
     requires { string_len dst.old + 2 * length src.now ≤ string_capacity dst.old }
-    ensures { GrewBy upper src.now dst.old dst.new }
+    ensures text { string_bytes dst.new ≡ string_bytes dst.old ++ text upper src.now }
+    ensures len { string_len dst.new ≡ string_len dst.old + 2 * length src.now }
+    ensures kept { string_capacity dst.old ≤ string_capacity dst.new }
 {
     let mut buffer = [0; CHUNK_DIGITS];
     'chunks: for chunk in src.chunks(CHUNK) {

@@ -1,28 +1,30 @@
 -- Streams that are read chunk by chunk.
 use Rattle.std.proofs.Common.{◌≡◌, ◌∙◌, inl, inr, ℕ, ◌+◌, ◌^◌, ◌≤◌, List, ◌++◌, length, length-append}
 use Rattle.std.proofs.Common.{slice_index, Option, Some, None, Result, Ok, Err, refl, subst, sym}
-use Rattle.std.specs.Prelude.{option_map}
+use Rattle.std.specs.Prelude.{MatchResult, option_map}
 use Rattle.std.specs.Option.{option_to_list}
 use Rattle.std.specs.Io.KnownBytes.{IsAtEnd}
 use Rattle.std.proofs.lemmas.Bool.{cases_lt}
-use Rattle.hex_core.specs.declared.digit.CheckCase.{CheckCase}
 use Rattle.hex_core.specs.declared.error.Error.{Error}
-use Rattle.hex_core.specs.declared.error.Error.TheVariants.{InvalidChar, Overflow}
+use Rattle.hex_core.specs.declared.error.Error.TheVariants.{InvalidChar, OddLength, Overflow}
+use Rattle.hex_core.specs.Refusal.{source_refusal}
+use Rattle.hex_core.specs.Text.{Spells}
 use Rattle.hex_codec.specs.Stream.{SpellsBut, refusal_by}
 use Rattle.hex_codec.proofs.StreamLemmas.{byte-refused, many-refused}
 use Rattle.hex_format.specs.Sink.{SinkState, Takes}
-use Rattle.hex_format.specs.Streams.{Decodes, DecodesSource, Finishes, Reading, WroteBefore, stray_of}
+use Rattle.hex_format.specs.Streams.{Decodes, DecodesSource, Reading, WroteBefore, stray_of}
 use Rattle.hex_format.specs.declared.streams.StreamFault.{StreamFault}
-use Rattle.hex_format.specs.declared.streams.StreamFault.TheVariants.{Codec, Read, Write}
+use Rattle.hex_format.specs.declared.streams.StreamFault.TheVariants.{Codec}
 
 -- the end of a stream
 pub ended-all : (r : Reading) (left : Option (List ℕ)) (s written : List ℕ) (waiting : Option ℕ) (old new : SinkState) (result : Result ℕ StreamFault) → IsAtEnd left → r.stray s ≡ None
-    → SpellsBut r.policy (r.digits s) written (option_to_list waiting) → Takes old new written → Finishes r.policy (r.digits s) written result → Decodes r s left old new result
+    → SpellsBut r.policy (r.digits s) written (option_to_list waiting) → Takes old new written
+    → MatchResult result (λ count. Spells r.policy (r.digits s) written × (count ≡ length written))
+        (λ fault. (fault ≡ Codec OddLength) × (source_refusal r.policy (r.digits s) ≡ Some OddLength))
+    → Decodes r s left old new result
 ended-all r left s written waiting old new (Ok count) end none but taken ends = (written, ends.0, ends.1, taken, end)
-ended-all r left s written waiting old new (Err (Codec e)) end none but taken ends =
+ended-all r left s written waiting old new (Err fault) end none but taken ends =
     rw ends.0 (record { bytes = written; waiting = waiting; spelled = but; put = taken }, (ends.1, rw none refl, end))
-ended-all r left s written waiting old new (Err Read) end none but taken ends = absurd ends
-ended-all r left s written waiting old new (Err (Write fault)) end none but taken ends = absurd ends
 
 -- what was read in a way was read in the same one
 pub by-reading : (r q : Reading) (before left : Option (List ℕ)) (old new : SinkState) (result : Result ℕ StreamFault) → r ≡ q → DecodesSource r before left old new result → DecodesSource q before left old new result

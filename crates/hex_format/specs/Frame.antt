@@ -3,7 +3,7 @@ use Rattle.std.specs.Prelude.{ℕ, ◌-◌, ◌/◌, Bool, false, List, [], ◌+
 use Rattle.std.specs.List.{repeat}
 use Rattle.hex_core.specs.Text.{text}
 use Rattle.hex_codec.specs.declared.group.Group.{Group}
-use Rattle.hex_codec.specs.Grouped.{grouped, piece_count, piece_len}
+use Rattle.hex_codec.specs.Grouped.{grouped}
 use Rattle.hex_format.specs.declared.format.Align.{Align}
 use Rattle.hex_format.specs.declared.format.Align.TheVariants.{Left, Right, Center}
 use Rattle.hex_format.specs.declared.format.Hex.{Hex}
@@ -29,11 +29,6 @@ digits_by (Some group) upper bytes = grouped group upper bytes
 -- the digits, without sign and prefix
 abbrev pub digits_of : HexFlags → List ℕ → List ℕ
 digits_of flags bytes = digits_by flags.group flags.upper bytes
-
--- how many separators stand between the digits of n bytes
-abbrev pub separators_by : Option Group → ℕ → ℕ
-separators_by None n = 0
-separators_by (Some group) n = piece_count (piece_len group) n - 1
 
 -- how many characters a text of this length lacks of the width, if there is one
 abbrev pub missing : Option ℕ → ℕ → ℕ

@@ -8,8 +8,7 @@ use Rattle.hex_core.specs.declared.error.Error.TheVariants.{InvalidChar, OddLeng
 use Rattle.hex_core.specs.Refusal.{source_refusal}
 use Rattle.hex_core.specs.Search.{first_invalid}
 use Rattle.hex_core.specs.Text.{Spells, text}
-use Rattle.hex_codec.specs.declared.stream.Decoder.{Decoder}
-use Rattle.hex_codec.specs.Stream.{HasFed, SpellsBut, policy_of}
+use Rattle.hex_codec.specs.Stream.{SpellsBut}
 use Rattle.hex_codec.specs.Unspaced.{first_stray, unspaced}
 use Rattle.hex_format.specs.Sink.{SinkState, Stops, Takes}
 use Rattle.hex_format.specs.declared.streams.StreamFault.{StreamFault}
@@ -39,9 +38,6 @@ abbrev pub RefusedBy : Reading → List ℕ → Option (List ℕ) → Error → 
 RefusedBy r s left Overflow = 2 ^ 64 ≤ length s
 RefusedBy r s left OddLength = (source_refusal r.policy (r.digits s) ≡ Some OddLength) × (stray_of r s ≡ None) × IsAtEnd left
 RefusedBy r s left e = stray_of r s ≡ Some e
-
-abbrev pub RefusedFor : CheckCase → List ℕ → Option (List ℕ) → Error → Type 0
-RefusedFor c = RefusedBy (plain c)
 
 -- the sink did this with what digits spell, but for a last one that waits
 pub record Wrote (c : CheckCase) (digits : List ℕ) (Does : List ℕ → Type 0) : Type 0 where
@@ -80,15 +76,6 @@ DecodesStream c = DecodesSource (plain c)
 
 abbrev pub DecodesSpacedStream : CheckCase → Option (List ℕ) → Option (List ℕ) → SinkState → SinkState → Result ℕ StreamFault → Type 0
 DecodesSpacedStream c = DecodesSource (spaced c)
-
--- the answer at the end of a stream: how many bytes were written, or that a digit waits
-abbrev pub Finishes : CheckCase → List ℕ → List ℕ → Result ℕ StreamFault → Type 0
-Finishes c fed written (Ok count) = Spells c fed written × (count ≡ length written)
-Finishes c fed written (Err (Codec e)) = (e ≡ OddLength) × (source_refusal c fed ≡ Some OddLength)
-Finishes c fed written (Err _) = ⊥
-
-abbrev pub Ends : Decoder → Result ℕ StreamFault → Type 0
-Ends decoder result = (fed written : List ℕ) → HasFed decoder fed written → Finishes (policy_of decoder) fed written result
 
 -- the answer for the bytes that were read
 abbrev pub Encodes : Bool → List ℕ → Option (List ℕ) → SinkState → SinkState → Result ℕ StreamFault → Type 0

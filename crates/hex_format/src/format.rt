@@ -1,11 +1,12 @@
 //! A view of bytes that prints them as hex digits, with padding.
 
-ghost use Rattle.std.specs.Prelude.{◌≡◌, ◌-◌, ◌*◌, ◌^◌, ◌<◌, ◌≤◌, Some, length};
+ghost use Rattle.std.specs.Prelude.{◌≡◌, ◌-◌, ◌*◌, ◌^◌, ◌<◌, ◌≤◌, MatchOption, Some, length};
 ghost use Rattle.std.specs.Fmt.{WritesOnOk};
 ghost use Rattle.std.specs.List.{repeat};
 ghost use Rattle.std.specs.Str.{IsAscii};
 ghost use Rattle.hex_core.specs.Text.{lowercase, text};
-ghost use Rattle.hex_format.specs.Frame.{frame, hex_bytes, left_padding, padding_of, plain_flags, separators_by, sign_and_prefix};
+ghost use Rattle.hex_codec.specs.Grouped.{piece_count, piece_len};
+ghost use Rattle.hex_format.specs.Frame.{frame, hex_bytes, left_padding, padding_of, plain_flags, sign_and_prefix};
 ghost use Rattle.hex_format.specs.Sink.{Puts};
 
 use crate::digits::{ENCODE_CHUNK, SHORT_SOURCE, encoded, put_digits};
@@ -175,7 +176,8 @@ fn sign_and_prefix(flags: &HexFlags) -> &'static [u8]
 
 // The number of separators between the digits of `bytes`.
 fn separators(group: Option<Group>, bytes: &[u8]) -> usize
-    ensures { result ≡ separators_by group (length bytes.now) }
+    ensures { MatchOption group (result ≡ 0)
+        (λ group. result ≡ piece_count (piece_len group) (length bytes.now) - 1) }
 {
     match group {
         None => 0,

@@ -1,11 +1,15 @@
 //! Decodes and encodes all that a reader gives, in constant memory.
 
-ghost use Rattle.std.specs.Prelude.{◌≡◌, ◌<◌, ◌-◌, ◌^◌, ◌↔◌, IsErrAnd, IsTrue, Some};
+ghost use Rattle.std.specs.Prelude.{◌≡◌, ◌<◌, ◌-◌, ◌^◌, ◌↔◌, ℕ, IsErrAnd, IsTrue, List, MatchResult, Some, length};
 ghost use Rattle.std.specs.Io.{ReadsAtMost};
 ghost use Rattle.std.specs.Io.KnownBytes.{ReadConsumes};
 ghost use Rattle.std.specs.IoError.{error_kind};
+ghost use Rattle.hex_core.specs.declared.error.Error.TheVariants.{OddLength};
+ghost use Rattle.hex_core.specs.Refusal.{source_refusal};
+ghost use Rattle.hex_core.specs.Text.{Spells};
+ghost use Rattle.hex_codec.specs.Stream.{HasFed, policy_of};
 ghost use Rattle.hex_format.specs.Message.{stream_fault_text};
-ghost use Rattle.hex_format.specs.Streams.{DecodesSpacedStream, DecodesStream, EncodesStream, Ends};
+ghost use Rattle.hex_format.specs.Streams.{DecodesSpacedStream, DecodesStream, EncodesStream};
 ghost use Rattle.hex_format.specs.declared.streams.StreamFault.TheVariants as fault;
 
 use crate::digits::encoded;
@@ -226,7 +230,9 @@ pub fn encode_stream<R: Read, S: Sink>(
 
 // The result at the end of a stream: the number of decoded bytes, or the error of odd length.
 fn ended(decoder: Decoder) -> Result<usize, StreamFault>
-    ensures { Ends decoder result }
+    ensures { (fed written : List ℕ) → HasFed decoder fed written → MatchResult result
+        (λ count. Spells (policy_of decoder) fed written × (count ≡ length written))
+        (λ e. (e ≡ fault.Codec OddLength) × (source_refusal (policy_of decoder) fed ≡ Some OddLength)) }
 {
     match decoder.finish() {
         Ok(()) => Ok(decoder.position() / 2),

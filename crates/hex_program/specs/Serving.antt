@@ -1,12 +1,10 @@
 -- What all of `fhex` does with its words and with what it reads, and how it ends.
-use Rattle.std.specs.Prelude.{◌≡◌, ◌≢◌, ◌⊎◌, ◌≤◌, List, ℕ, [], ◌∷◌, length, codes, Option, Some, None, Result, Ok, Err, IfErr}
+use Rattle.std.specs.Prelude.{◌≡◌, ◌≢◌, ◌⊎◌, ◌≤◌, List, ℕ, [], ◌∷◌, length, codes, Option, Some, None}
 use Rattle.std.specs.Io.KnownBytes.{Appends, Consumes, IsAtEnd, Keeps}
 use Rattle.hex_core.specs.Message.{error_text}
 use Rattle.hex_core.specs.declared.error.Error.{Error}
 use Rattle.hex_program.specs.Operations.{IsOutput, op_of_words, op_refusal}
 use Rattle.hex_program.specs.declared.operation.Op.{Op}
-use Rattle.hex_program.specs.declared.operation.RunFault.{RunFault}
-use Rattle.hex_program.specs.declared.operation.RunFault.TheVariants as fault
 use Rattle.hex_program.specs.declared.failure.Failure.{Failure}
 use Rattle.hex_program.specs.declared.failure.Failure.TheVariants.{Codec, Usage, ReadFailed, WriteFailed, OutOfMemory, InputTooLong}
 
@@ -24,18 +22,6 @@ failure_text ReadFailed = codes "read failed"
 failure_text WriteFailed = codes "write failed"
 failure_text OutOfMemory = codes "out of memory"
 failure_text InputTooLong = codes "input too long"
-
--- how a program ends after a run: behind one that went well it has no failure but a failed write
-abbrev pub EndsRun : Result (Unit {0}) RunFault → Result (Unit {0}) Failure → Type 0
-EndsRun (Ok done) ended = IfErr ended (λ failure. failure ≡ WriteFailed)
-EndsRun (Err (fault.Codec e)) ended = ended ≡ Err (Codec e)
-EndsRun (Err (fault.Write why)) ended = ended ≡ Err WriteFailed
-EndsRun (Err fault.OutOfMemory) ended = ended ≡ Err OutOfMemory
-
--- the exit status of a program that ended so
-abbrev pub status_after : Result (Unit {0}) Failure → ℕ
-status_after (Ok done) = 0
-status_after (Err failure) = status_of failure
 
 -- how long an input may be, in bytes
 abbrev pub input_limit : ℕ

@@ -2,7 +2,8 @@
 
 ghost use Rattle.std.specs.Prelude.{◌≡◌, ◌⊎◌, map};
 ghost use Rattle.std.specs.Io.KnownBytes.{Keeps};
-ghost use Rattle.hex_program.specs.Serving.{EndsRun, Serves, ServesOp, status_after, status_of};
+ghost use Rattle.hex_program.specs.Serving.{Serves, ServesOp, status_of};
+ghost use Rattle.hex_program.specs.inside.{EndsRun, status_after};
 
 use crate::failure::Failure;
 use crate::input::read_input;

@@ -1,5 +1,7 @@
-use Rattle.std.proofs.Common.{arith}
+use Rattle.std.proofs.Common.{◌≡◌, ap, arith}
 use Rattle.std.proofs.lemmas.Bool.Decides.{nat_tests}
+use Rattle.hex_core.specs.declared.error.Error.TheVariants.{OddLength}
+use Rattle.hex_format.specs.declared.streams.StreamFault.TheVariants.{Codec}
 use Rattle.hex_format.proofs.streams.ended.Goals as goal
 
 pub returns-in-Ok : goal.returns-in-Ok
@@ -10,4 +12,5 @@ returns-in-Ok c = λ fed written has.
 pub returns-in-Err : goal.returns-in-Err
 returns-in-Err c = λ fed written has.
     let refused = c.in-Err.ensures fed written has in
-    (grind (arith, nat_tests, refused), grind (arith, nat_tests, refused))
+    let odd : c.in-Err.refusal ≡ OddLength = grind (arith, nat_tests, refused) in
+    (ap Codec odd, grind (arith, nat_tests, refused))

@@ -10,7 +10,8 @@ use Rattle.hex_program.specs.declared.operation.RunFault.{RunFault}
 use Rattle.hex_program.specs.declared.operation.RunFault.TheVariants as fault
 use Rattle.hex_program.specs.declared.failure.Failure.{Failure}
 use Rattle.hex_program.specs.Operations.{Runs}
-use Rattle.hex_program.specs.Serving.{EndsRun, ReadsAll, ServesOp, status_after}
+use Rattle.hex_program.specs.Serving.{ReadsAll, ServesOp}
+use Rattle.hex_program.specs.inside.{EndsRun, status_after}
 use Rattle.hex_program.proofs.program.serve_op.Goals as goal
 
 -- a fault of the surroundings

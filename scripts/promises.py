@@ -1,0 +1,62 @@
+"""promises: which definitions of specs/ the contracts of public functions use, by following their words."""
+import re
+from pathlib import Path
+
+TOP = Path(__file__).resolve().parent.parent
+WORD = r"[^\W\d][\w-]*"
+# A function with its clauses, or a ghost member, both with their indentation.
+FUNCTION = re.compile(r"^( *)(pub )?(?:[a-z]\S* |.C. )*fn (\w+)(.*?)(?:^\1\{\}?$|\{\}?$|;$)", re.M | re.S)
+MEMBER = re.compile(r"^( +)(ghost) (?!use )(\w+)(.*)", re.M)
+
+
+def words(text):
+    return re.findall(WORD, re.sub(r"//.*|-- .*", "", text))
+
+
+def imported(text):
+    """The definitions that a file takes from other files, by their names in it."""
+    lists = re.findall(r"use Rattle\.([\w.]+)\.\{([^}]*)\}", text)
+    pairs = [(module, *it.split(" as ")) for module, names in lists for it in re.split(r",\s*", names)]
+    for module, alias in re.findall(r"use Rattle\.([\w.]+) as (\w+)", text):
+        pairs += [(module, it) for it in re.findall(rf"\b{alias}\.({WORD})", text)]
+    return {name[-1]: (module, name[0]) for module, *name in pairs}
+
+
+def contracts(crate):
+    """Of each public function, and of each ghost member of a public type, what it is in and its clauses."""
+    files = {it: it.read_text() for it in (crate / "src").rglob("*.rt")}
+    opened = {"lib", *re.findall(r"^pub mod (\w+);", files[crate / "src/lib.rt"], re.M)}
+    named = set()
+    for path, text in files.items():
+        named.update(*map(words, re.findall(r"\bpub use crate::([^;]*);", text)))
+        if path.stem in opened:
+            named.update(re.findall(r"^pub (?:struct|enum|trait|mod) (\w+)", text, re.M))
+    for path, text in files.items():
+        for found in (*FUNCTION.finditer(text), *MEMBER.finditer(text)):
+            indent, public, name, clauses = found.groups()
+            heads = re.findall(r"^(?:pub )?((?:unsafe )?impl|trait|mod)\b(.*)", text[:found.start()], re.M)
+            kind, head = heads[-1] if indent and heads else ("", "")
+            its_type = {*words(head.split(" for ")[-1])}
+            is_open = its_type & named if indent else path.stem in opened or name in named
+            if is_open and (public or kind == "trait" or " for " in head):
+                yield f"{path.relative_to(TOP)}: {name}", clauses, imported(text)
+
+
+def used():
+    """The definitions that public contracts use, each with one of these; and all definitions."""
+    texts = {}
+    for path in TOP.glob("crates/*/specs/**/*.antt"):
+        module = ".".join(path.relative_to(TOP / "crates").with_suffix("").parts)
+        for block in path.read_text().split("\n\n"):
+            for name in re.findall(rf"^(?:\w+ )?pub (?:record )?({WORD}).* [:]", block, re.M):
+                texts[module, name] = block, imported(path.read_text())
+    todo = [(names[word], where) for crate in TOP.glob("crates/*") if (crate / "src/lib.rt").exists()
+            for where, clauses, names in contracts(crate) for word in words(clauses) if word in names]
+    found = {}
+    while todo:
+        it, where = todo.pop()
+        if it in texts and it not in found:
+            found[it] = where
+            block, names = texts[it]
+            todo += [(names.get(word, (it[0], word)), where) for word in words(block)]
+    return found, texts
