@@ -1,7 +1,19 @@
-//! Plans by name.
+//! Plans by name: each call's body is chosen by the plan and by the length of the source.
 
-ghost use Rattle.std.specs.Prelude.{◌≡◌, codes, map};
-ghost use Rattle.hex_core.specs.Plans.{name_of, plan_names};
+ghost use Rattle.std.specs.Prelude.{◌≡◌, ◌↔◌, ◌*◌, ◌≤◌, IsTrue, None, codes, length, map};
+ghost use Rattle.hex_core.specs.Calls.{DecodesOwned, DecodesWhole};
+ghost use Rattle.hex_core.specs.Plans.{name_of, owned_block, plan_names};
+ghost use Rattle.hex_core.specs.Search.{first_invalid};
+ghost use Rattle.hex_core.specs.Text.{text};
+ghost use Rattle.hex_core.specs.inside.Blocks.{DecodesAt, HasRoom};
+
+use crate::digit::CheckCase;
+use crate::digit_lanes::{Hashed, Saturating};
+use crate::kernel::{decode_or_nothing, encode_blocks};
+use crate::lane_probe::check_lanes;
+use crate::plain::{check_by_length, decode_by_length, encode_by_length};
+use crate::registers::{decode_four, decode_two};
+use crate::scalar::{check_by_table, decode_by_table, encode_by_table};
 
 /// The name of a plan, by which its bodies are chosen.
 #[derive(Clone, Copy)]
@@ -19,7 +31,7 @@ pub enum Kind {
 /// All plans return the same results and write the same bytes, except where
 /// [`Backend::decode_owned`] returns false.
 #[derive(Clone, Copy)]
-pub struct Backend(pub(crate) Kind);
+pub struct Backend(Kind);
 
 /// Returns five plans, on every machine: scalar, sse41, avx2, avx512, neon, in this order.
 ///
@@ -70,5 +82,153 @@ impl Backend {
             Kind::Neon => "neon",
             Kind::Plain => "plain",
         }
+    }
+
+    /// Returns whether every byte of `src` is valid under `case`, whatever its length.
+    ///
+    /// ```rust
+    /// assert!(rt; Backend::plain().check(b"00aBc", CheckCase::None));
+    /// assert!(rt; !Backend::plain().check(b"00aBc", CheckCase::Lower));
+    /// ```
+    #[inline(always)]
+    pub fn check(self, src: &[u8], case: CheckCase) -> bool
+        ensures { IsTrue result ↔ (first_invalid case src.now ≡ None) }
+    {
+        match (self.0, src.len()) {
+            (Kind::Plain, _) => check_by_length(src, case),
+            (Kind::Scalar, _) | (_, 0..16) => check_by_table(src, case),
+            (Kind::Sse41 | Kind::Neon, _) | (_, 16..32) => check_lanes::<Saturating, 16>(src, case),
+            (Kind::Avx2, _) | (_, 32..64) => check_lanes::<Hashed, 32>(src, case),
+            (Kind::Avx512, _) => check_lanes::<Hashed, 64>(src, case),
+        }
+    }
+
+    /// Writes the digits of `src` over all of `dst`, in uppercase if `upper` is true.
+    ///
+    /// Requires `dst` to be exactly twice as long as `src`, in bytes.
+    ///
+    /// ```rust
+    /// let mut digits = [0; 4];
+    /// Backend::plain().encode(&[0, 0xab], &mut digits, true);
+    /// assert_eq!(rt; &digits, b"00AB");
+    /// ```
+    #[inline(always)]
+    pub fn encode(self, src: &[u8], dst: &mut [u8], upper: bool)
+        requires { length dst.old ≡ 2 * length src.now }
+        ensures { dst.new ≡ text upper src.now }
+    {
+        match (self.0, src.len()) {
+            (Kind::Plain, _) => encode_by_length(src, dst, upper),
+            (Kind::Scalar, _) | (_, 0..8) => encode_by_table(src, dst, upper),
+            (_, 8..16) => encode_blocks::<8, 16>(src, dst, upper),
+            (Kind::Sse41 | Kind::Neon, _) | (_, 16..32) => encode_blocks::<16, 32>(src, dst, upper),
+            (Kind::Avx2 | Kind::Avx512, _) => encode_blocks::<32, 64>(src, dst, upper),
+        }
+    }
+
+    /// Decodes `src` over all of `dst`, and returns whether every byte of `src` is valid under
+    /// `case`. If it returns false, `dst` is unchanged.
+    ///
+    /// Requires `src` to be exactly twice as long as `dst`, in bytes.
+    ///
+    /// ```rust
+    /// let mut bytes = [0xa5; 2];
+    /// assert!(rt; !Backend::plain().decode(b"00ag", &mut bytes, CheckCase::None));
+    /// assert_eq!(rt; bytes, [0xa5; 2]);
+    /// assert!(rt; Backend::plain().decode(b"00ab", &mut bytes, CheckCase::None));
+    /// assert_eq!(rt; bytes, [0, 0xab]);
+    /// ```
+    #[inline(always)]
+    pub fn decode(self, src: &[u8], dst: &mut [u8], case: CheckCase) -> bool
+        requires { length src.now ≡ 2 * length dst.old }
+        ensures { DecodesWhole case src.now dst.old dst.new result }
+    {
+        match self.0 {
+            Kind::Plain => decode_by_length(src, dst, case),
+            _ => self.decode_named(src, dst, case),
+        }
+    }
+
+    // The same for the other plans, apart: with their bodies in it, `decode` would not be inlined.
+    #[inline(never)]
+    fn decode_named(self, src: &[u8], dst: &mut [u8], case: CheckCase) -> bool
+        requires { length src.now ≡ 2 * length dst.old }
+        ensures { DecodesWhole case src.now dst.old dst.new result }
+    {
+        match (self.0, src.len()) {
+            (Kind::Plain | Kind::Scalar, _) | (_, 0..16) => decode_by_table(src, dst, case),
+            (_, 16..32) => decode_two::<16, 8>(src, dst, case),
+            (Kind::Sse41 | Kind::Neon, 32..=64) => decode_four::<16, 8>(src, dst, case),
+            (Kind::Sse41 | Kind::Neon, _) => decode_or_nothing::<Saturating, 16, 8>(src, dst, case),
+            (Kind::Avx2, _) | (_, 32..64) => decode_or_nothing::<Hashed, 32, 16>(src, dst, case),
+            (Kind::Avx512, _) => decode_or_nothing::<Hashed, 64, 32>(src, dst, case),
+        }
+    }
+
+    /// Like [`Backend::decode`], for a buffer that is discarded if it returns false.
+    ///
+    /// Then `avx2` and `neon` have written exactly the bytes of the whole blocks of 64 digits
+    /// before the one with the first invalid byte, or of all whole blocks if that byte comes after
+    /// them; `avx512` and the plain plan those of blocks of 128 digits; `scalar` and `sse41`
+    /// nothing. The bytes after them are unchanged.
+    ///
+    /// Requires `src` to be exactly twice as long as `dst`, in bytes.
+    ///
+    /// ```rust
+    /// let [scalar, _, avx2, ..] = backends();
+    /// let mut source = [b'1'; 128];
+    /// source[64] = b'g';
+    /// let mut bytes = [0xa5; 64];
+    /// assert!(rt; !scalar.decode_owned(&source, &mut bytes, CheckCase::None));
+    /// assert_eq!(rt; bytes, [0xa5; 64]);
+    /// assert!(rt; !avx2.decode_owned(&source, &mut bytes, CheckCase::None));
+    /// assert_eq!(rt; (bytes[31], bytes[32]), (0x11, 0xa5));
+    /// ```
+    #[inline(never)]
+    pub fn decode_owned(self, src: &[u8], dst: &mut [u8], case: CheckCase) -> bool
+        requires { length src.now ≡ 2 * length dst.old }
+        ensures { DecodesOwned (owned_block (name_of self)) case src.now dst.old dst.new result }
+    {
+        match self.0 {
+            Kind::Scalar | Kind::Sse41 => self.decode(src, dst, case),
+            // Each arm names the plan, so that the compiler knows it in the loop over blocks.
+            Kind::Avx2 => Backend(Kind::Avx2).decode_each_block::<32>(src, dst, case),
+            Kind::Neon => Backend(Kind::Neon).decode_each_block::<32>(src, dst, case),
+            Kind::Avx512 => Backend(Kind::Avx512).decode_each_block::<64>(src, dst, case),
+            Kind::Plain => Backend(Kind::Plain).decode_each_block::<64>(src, dst, case),
+        }
+    }
+
+    // Decodes `size` bytes at index `at`, or returns false and writes nothing.
+    #[inline(always)]
+    fn decode_at(self, src: &[u8], dst: &mut [u8], at: usize, size: usize, case: CheckCase) -> bool
+        requires room { HasRoom at size src.now dst.old }
+        ensures { DecodesAt case src.now dst.old dst.new at size result }
+    {
+        let end = at + size;
+        self.decode(&src[2 * at..2 * end], &mut dst[at..end], case)
+    }
+
+    // Decodes `src` over all of `dst`, or returns false after writing the whole blocks of `SIZE` bytes
+    // before the first invalid byte.
+    #[inline(always)]
+    fn decode_each_block<const SIZE: usize>(
+        self,
+        src: &[u8],
+        dst: &mut [u8],
+        case: CheckCase,
+    ) -> bool
+        requires some { 1 ≤ SIZE }
+        requires twice { length src.now ≡ 2 * length dst.old }
+        ensures { DecodesOwned (2 * SIZE) case src.now dst.old dst.new result }
+    {
+        let blocks = dst.len() / SIZE;
+        'turns: for i in 0..blocks {
+            if !self.decode_at(src, dst, i * SIZE, SIZE, case) {
+                return false;
+            }
+        }
+        let done = blocks * SIZE;
+        self.decode_at(src, dst, done, dst.len() - done, case)
     }
 }

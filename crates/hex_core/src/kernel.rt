@@ -1,9 +1,9 @@
-//! Decodes and encodes block by block, for any number of lanes and any map. If the length is not a
-//! multiple of a block, the last block overlaps the one before.
+//! Checks, decodes and encodes block by block, for any number of lanes and any map. If the length is
+//! not a multiple of a block, the last block overlaps the one before.
 
-ghost use Rattle.std.specs.Prelude.{◌≡◌, ◌+◌, ◌*◌, ◌≤◌, None, length};
+ghost use Rattle.std.specs.Prelude.{◌≡◌, ◌↔◌, ◌+◌, ◌*◌, ◌<◌, ◌≤◌, IsTrue, None, length};
 ghost use Rattle.std.specs.Simd.Lanes.{chunk, put_chunk};
-ghost use Rattle.hex_core.specs.inside.Arithmetic.{packed};
+ghost use Rattle.hex_core.specs.inside.Arithmetic.{AreLow, packed};
 ghost use Rattle.hex_core.specs.inside.Blocks.{DecodesRange, Halves, HasBlock, HasRoom, NibblesFrom};
 ghost use Rattle.hex_core.specs.Calls.{DecodesWhole};
 ghost use Rattle.hex_core.specs.Lanes.{AreSmall};
@@ -11,10 +11,49 @@ ghost use Rattle.hex_core.specs.Search.{AllValid, first_invalid};
 ghost use Rattle.hex_core.specs.Text.{Spells, text};
 
 use crate::digit::CheckCase;
-use crate::digit_lanes::{Nibbles, encoded};
+use crate::digit_lanes::{Nibbles, Valid, encoded, reach};
 use crate::lane_probe::{Tests, check_lanes};
+use crate::vector::{is_low, larger};
 use crate::widths::{Interleave, Lanes, LookUp, Pack};
 use std::simd::prelude::*;
+
+// Bytes in a block, and blocks in one test: with more blocks, an invalid byte is found later.
+const CHECK_BLOCK: usize = 64;
+
+const CHECK_RUN: usize = 8;
+
+// Every lane is below 6 exactly if every byte of `count` blocks from `at` on is valid.
+#[inline(always)]
+fn reach_of(src: &[u8], at: usize, count: usize, case: CheckCase) -> u8x64
+    requires inside { at + count * 64 ≤ length src.now }
+    ensures { AreLow result ↔ AllValid case src.now at (at + count * 64) }
+{
+    let mut farthest = u8x64::splat(0);
+    'turns: for i in 0..count {
+        let block = u8x64::from_slice(&src[at + i * CHECK_BLOCK..]);
+        farthest = larger(farthest, reach(block, case));
+    }
+    farthest
+}
+
+/// Returns whether `src`, a block or more, is valid. Tests run after run, and then the remaining
+/// whole blocks and the last block at once.
+#[inline(never)]
+pub fn check_runs(src: &[u8], case: CheckCase) -> bool
+    requires { 64 ≤ length src.now }
+    ensures { IsTrue result ↔ (first_invalid case src.now ≡ None) }
+{
+    let last = src.len() - CHECK_BLOCK;
+    let runs = last / (CHECK_RUN * CHECK_BLOCK);
+    'turns: for i in 0..runs {
+        if !is_low(reach_of(src, i * (CHECK_RUN * CHECK_BLOCK), CHECK_RUN, case)) {
+            return false;
+        }
+    }
+    let done = runs * (CHECK_RUN * CHECK_BLOCK);
+    let front = reach_of(src, done, (last - done).div_ceil(CHECK_BLOCK), case);
+    is_low(larger(front, reach(u8x64::from_slice(&src[last..]), case)))
+}
 
 // The values of `N` valid digits from index `at`.
 #[inline(always)]
@@ -87,7 +126,7 @@ where
 /// Decodes a block or more over all of `dst`, or returns false and writes nothing: it checks
 /// everything before the first store.
 #[inline(always)]
-pub fn decode_blocks<M, const N: usize, const HALF: usize>(
+pub fn decode_or_nothing<M, const N: usize, const HALF: usize>(
     src: &[u8],
     dst: &mut [u8],
     case: CheckCase,
@@ -102,6 +141,20 @@ where
     let valid = check_lanes::<M, N>(src, case);
     if valid {
         write_blocks::<M, N, HALF>(src, dst, case);
+    }
+    valid
+}
+
+/// Decodes more than 128 digits. Tests all of them before the first store.
+#[inline(always)]
+pub fn decode_long(src: &[u8], dst: &mut [u8], case: CheckCase) -> bool
+    requires more { 128 < length src.now }
+    requires twice { length src.now ≡ 2 * length dst.old }
+    ensures { DecodesWhole case src.now dst.old dst.new result }
+{
+    let valid = check_runs(src, case);
+    if valid {
+        write_blocks::<Valid, 64, 32>(src, dst, case);
     }
     valid
 }

@@ -2,8 +2,6 @@
 #![tactic(auto)]
 
 mod backend;
-mod blocks;
-mod bodies;
 pub mod digit;
 mod digit_lanes;
 pub mod error;
@@ -11,8 +9,8 @@ mod kernel;
 mod lane_probe;
 pub mod lanes;
 pub mod laws;
-mod owned;
 mod plain;
+mod registers;
 mod scalar;
 mod search;
 mod slice_probe;

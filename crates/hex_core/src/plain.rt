@@ -7,11 +7,11 @@ ghost use Rattle.hex_core.specs.Calls.{DecodesWhole};
 ghost use Rattle.hex_core.specs.Search.{first_invalid};
 ghost use Rattle.hex_core.specs.Text.{text};
 
-use crate::blocks::check::{check_runs, check_two};
-use crate::blocks::decode::{decode_ends, decode_four, decode_long, decode_three, decode_two};
-use crate::blocks::encode::{encode_one, encode_two};
 use crate::digit::CheckCase;
-use crate::kernel::encode_blocks;
+use crate::kernel::{check_runs, decode_long, encode_blocks};
+use crate::registers::{
+    check_two, decode_ends, decode_four, decode_three, decode_two, encode_one, encode_two,
+};
 
 /// Returns whether every byte of `src` is valid under `case`.
 #[inline(always)]

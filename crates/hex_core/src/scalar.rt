@@ -129,15 +129,6 @@ pub fn decode_by_table(src: &[u8], dst: &mut [u8], case: CheckCase) -> bool
     if src.len() < 16 {
         return decode_as_word(src, dst, case);
     }
-    decode_in_passes(src, dst, case)
-}
-
-// The same for 16 digits or more.
-#[inline(never)]
-fn decode_in_passes(src: &[u8], dst: &mut [u8], case: CheckCase) -> bool
-    requires { length src.now ≡ 2 * length dst.old }
-    ensures { DecodesWhole case src.now dst.old dst.new result }
-{
     let valid = check_by_table(src, case);
     if valid {
         write_bytes(src, dst, case);

@@ -30,10 +30,6 @@ EndsCover n s = (n ≤ length s) × (length s ≤ 2 * n)
 abbrev pub Halves : ℕ → ℕ → List ℕ → List ℕ → Type 0
 Halves n half s dst = (n ≡ 2 * half) × (length s ≡ 2 * length dst)
 
--- a source is decoded over a destination by blocks of so many bytes
-abbrev pub InBlocks : ℕ → List ℕ → List ℕ → Type 0
-InBlocks size s dst = (1 ≤ size) × (length s ≡ 2 * length dst)
-
 -- a destination of what a source spells has so many bytes from a place on
 abbrev pub HasRoom : ℕ → ℕ → List ℕ → List ℕ → Type 0
 HasRoom at size s dst = (length s ≡ 2 * length dst) × (at + size ≤ length dst)

@@ -2,7 +2,7 @@ use Rattle.std.proofs.Common.{ℕ, ◌+◌, ◌*◌, refl, arith}
 use Rattle.std.proofs.lemmas.List.{get_or-replicate}
 use std.Logic.{↔_trans}
 use Rattle.hex_core.proofs.BlockLemmas.{both_valid, valid_chunk}
-use Rattle.hex_core.proofs.blocks.check.reach_of.Goals as goal
+use Rattle.hex_core.proofs.kernel.reach_of.Goals as goal
 
 pub turns-init : goal.turns-init
 turns-init c = (λ low k least lt. absurd (omega arith), λ valid i h. let zero = get_or-replicate {A = ℕ} 64 i 0 0 h in omega (arith, zero))

@@ -1,7 +1,7 @@
 use Rattle.std.proofs.Common.{◌-◌, length, refl, arith}
 use Rattle.std.proofs.lemmas.Bool.{iff_false}
 use Rattle.hex_core.proofs.BlockLemmas.{decodes_whole, pair_decodes, pair_tested}
-use Rattle.hex_core.proofs.blocks.decode.decode_two.Goals as goal
+use Rattle.hex_core.proofs.registers.decode_two.Goals as goal
 
 pub returns-then-not-is_small : goal.returns-then-not-is_small
 returns-then-not-is_small g c = (

@@ -1,7 +1,7 @@
 use Rattle.std.proofs.Common.{◌≡◌, ◌+◌, ◌*◌, ◌-◌, ◌/◌, length, refl, arith}
 use std.Logic.{↔_trans}
 use Rattle.hex_core.proofs.BlockLemmas.{behind_valid, part_fails, parts_tested, valid_chunk}
-use Rattle.hex_core.proofs.blocks.check.check_runs.Goals as goal
+use Rattle.hex_core.proofs.kernel.check_runs.Goals as goal
 
 pub returns-then-not-is_low : goal.returns-then-not-is_low
 returns-then-not-is_low c =

@@ -1,7 +1,7 @@
 use Rattle.std.proofs.Common.{◌-◌, length, refl, arith}
 use std.Logic.{↔_trans}
 use Rattle.hex_core.proofs.BlockLemmas.{parts_tested, valid_chunk}
-use Rattle.hex_core.proofs.blocks.check.check_two.Goals as goal
+use Rattle.hex_core.proofs.registers.check_two.Goals as goal
 
 pub returns : goal.returns
 returns g c =

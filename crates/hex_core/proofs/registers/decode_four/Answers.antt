@@ -2,7 +2,7 @@ use Rattle.std.proofs.Common.{◌-◌, length, refl, arith}
 use Rattle.std.proofs.lemmas.Bool.{iff_false}
 use Rattle.hex_core.specs.inside.Blocks.{DecodesRange}
 use Rattle.hex_core.proofs.BlockLemmas.{decodes_over, decodes_whole, pair_decodes, pairs_tested}
-use Rattle.hex_core.proofs.blocks.decode.decode_four.Goals as goal
+use Rattle.hex_core.proofs.registers.decode_four.Goals as goal
 
 pub returns-then-not-is_small : goal.returns-then-not-is_small
 returns-then-not-is_small g c =

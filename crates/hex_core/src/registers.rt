@@ -1,19 +1,36 @@
-//! Decoding by blocks: nibbles in registers, and the stores of their bytes.
+//! Bodies that hold a short source in registers, as one block to four.
+//!
+//! A vector has `N` lanes, and `HALF` is half of that: `N` digits decode to `HALF` bytes. The last
+//! block ends with the source and may overlap the one before: the overlap is read twice, or written
+//! twice with equal bytes.
 
-ghost use Rattle.std.specs.Prelude.{◌≡◌, ◌+◌, ◌-◌, ◌*◌, ◌<◌, ◌≤◌, length};
+ghost use Rattle.std.specs.Prelude.{◌≡◌, ◌↔◌, ◌+◌, ◌-◌, ◌*◌, ◌<◌, ◌≤◌, IsTrue, None, length};
 ghost use Rattle.std.specs.Simd.Lanes.{put_chunk};
-ghost use Rattle.hex_core.specs.inside.Arithmetic.{packed};
-ghost use Rattle.hex_core.specs.inside.Blocks.{EndsCover, Halves, NibblesFrom};
 ghost use Rattle.hex_core.specs.Calls.{DecodesWhole};
 ghost use Rattle.hex_core.specs.Lanes.{AreSmall};
+ghost use Rattle.hex_core.specs.Search.{AllValid, first_invalid};
+ghost use Rattle.hex_core.specs.Text.{text};
+ghost use Rattle.hex_core.specs.inside.Arithmetic.{AreLow, packed};
+ghost use Rattle.hex_core.specs.inside.Blocks.{EndsCover, Halves, NibblesFrom};
 
-use crate::blocks::check::check_runs;
 use crate::digit::CheckCase;
-use crate::digit_lanes::{Valid, saturated};
-use crate::kernel::{pack_at, write_blocks};
-use crate::vector::{either, is_small};
-use crate::widths::{Lanes, Pack};
+use crate::digit_lanes::{reach, saturated};
+use crate::kernel::{encode_at, pack_at};
+use crate::vector::{either, is_low, is_small, larger};
+use crate::widths::{Interleave, Lanes, LookUp, Pack};
 use std::simd::prelude::*;
+
+/// Returns whether `src`, `N` to `2 * N` bytes, is valid.
+#[inline(always)]
+pub fn check_two<const N: usize>(src: &[u8], case: CheckCase) -> bool
+    requires lanes { N ≤ 64 }
+    requires covered { EndsCover N src.now }
+    ensures { IsTrue result ↔ (first_invalid case src.now ≡ None) }
+{
+    let front = reach(Simd::<u8, N>::from_slice(src), case);
+    let back = reach(Simd::<u8, N>::from_slice(&src[src.len() - N..]), case);
+    is_low(larger(front, back))
+}
 
 // `N` nibbles from index `at`.
 #[inline(always)]
@@ -154,16 +171,29 @@ where
     true
 }
 
-/// Decodes more than 128 digits. Tests all of them before the first store.
+/// Encodes `N` bytes.
 #[inline(always)]
-pub fn decode_long(src: &[u8], dst: &mut [u8], case: CheckCase) -> bool
-    requires more { 128 < length src.now }
-    requires twice { length src.now ≡ 2 * length dst.old }
-    ensures { DecodesWhole case src.now dst.old dst.new result }
+pub fn encode_one<const N: usize, const TWICE: usize>(src: &[u8], dst: &mut [u8], upper: bool)
+where
+    Lanes: Interleave<N, TWICE> + LookUp<TWICE>,
+    requires lanes { TWICE ≡ 2 * N }
+    requires twice { length dst.old ≡ 2 * length src.now }
+    requires whole { length src.now ≡ N }
+    ensures { dst.new ≡ text upper src.now }
 {
-    let valid = check_runs(src, case);
-    if valid {
-        write_blocks::<Valid, 64, 32>(src, dst, case);
-    }
-    valid
+    encode_at::<N, TWICE>(src, dst, 0, upper);
+}
+
+/// Encodes `N` to `2 * N` bytes.
+#[inline(always)]
+pub fn encode_two<const N: usize, const TWICE: usize>(src: &[u8], dst: &mut [u8], upper: bool)
+where
+    Lanes: Interleave<N, TWICE> + LookUp<TWICE>,
+    requires lanes { TWICE ≡ 2 * N }
+    requires twice { length dst.old ≡ 2 * length src.now }
+    requires covered { EndsCover N src.now }
+    ensures { dst.new ≡ text upper src.now }
+{
+    encode_at::<N, TWICE>(src, dst, 0, upper);
+    encode_at::<N, TWICE>(src, dst, src.len() - N, upper);
 }

@@ -4,7 +4,7 @@ use Rattle.std.proofs.lemmas.Simd.{length-put_chunk, length-replicate}
 use lib.Lanes.{chunk, put_chunk}
 use Rattle.hex_core.proofs.BlockLemmas.{decodes_whole, ends_nibbles, pair_decodes, pair_tested, small_parts}
 use Rattle.hex_core.proofs.PairLemmas.{packed_halves}
-use Rattle.hex_core.proofs.blocks.decode.decode_ends.Goals as goal
+use Rattle.hex_core.proofs.registers.decode_ends.Goals as goal
 
 pub returns-then-not-is_small : goal.returns-then-not-is_small
 returns-then-not-is_small g c =
