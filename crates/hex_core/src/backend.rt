@@ -8,7 +8,7 @@ ghost use Rattle.hex_core.specs.Text.{text};
 ghost use Rattle.hex_core.specs.inside.Blocks.{DecodesAt, HasRoom};
 
 use crate::digit::CheckCase;
-use crate::digit_lanes::{Hashed, Saturating};
+use crate::digit_lanes::{Hashed, Interleaved, Saturating};
 use crate::kernel::{decode_or_nothing, encode_blocks};
 use crate::lane_probe::check_lanes;
 use crate::plain::{check_by_length, decode_by_length, encode_by_length};
@@ -120,9 +120,11 @@ impl Backend {
         match (self.0, src.len()) {
             (Kind::Plain, _) => encode_by_length(src, dst, upper),
             (Kind::Scalar, _) | (_, 0..8) => encode_by_table(src, dst, upper),
-            (_, 8..16) => encode_blocks::<8, 16>(src, dst, upper),
-            (Kind::Sse41 | Kind::Neon, _) | (_, 16..32) => encode_blocks::<16, 32>(src, dst, upper),
-            (Kind::Avx2 | Kind::Avx512, _) => encode_blocks::<32, 64>(src, dst, upper),
+            (_, 8..16) => encode_blocks::<Interleaved, 8, 16>(src, dst, upper),
+            (Kind::Sse41 | Kind::Neon, _) | (_, 16..32) => encode_blocks::<Interleaved, 16, 32>(
+                src, dst, upper,
+            ),
+            (Kind::Avx2 | Kind::Avx512, _) => encode_blocks::<Interleaved, 32, 64>(src, dst, upper),
         }
     }
 

@@ -12,8 +12,9 @@ ghost use Rattle.hex_core.specs.Text.{text};
 
 use crate::digit::CheckCase;
 use crate::vector::{
-    averages, high_bits, masked, saturating_add, saturating_differences, saturating_sub,
-    sign_flipped, smaller, with_bits, wrapping_differences, wrapping_sub, zero_bits,
+    averages, both_nibbles, high_bits, masked, saturating_add, saturating_differences,
+    saturating_sub, sign_flipped, smaller, with_bits, wrapping_differences, wrapping_sub,
+    zero_bits,
 };
 use crate::widths::{Interleave, Lanes, LookUp, Shift};
 use std::simd::prelude::*;
@@ -163,17 +164,40 @@ fn digits(upper: bool) -> u8x16
     }
 }
 
-/// The digits of the lanes.
-#[inline(always)]
-pub fn encoded<const N: usize, const TWICE: usize>(v: Simd<u8, N>, upper: bool) -> Simd<u8, TWICE>
+/// A way to write the digits of the lanes.
+pub trait Encode<const N: usize, const TWICE: usize> {
+    fn encoded(v: Simd<u8, N>, upper: bool) -> Simd<u8, TWICE>
+        ensures { result ≡ text upper v.entry };
+}
+
+/// By interleaving the nibbles, for any number of lanes.
+pub struct Interleaved;
+
+impl<const N: usize, const TWICE: usize> Encode<N, TWICE> for Interleaved
 where
     Lanes: Interleave<N, TWICE> + LookUp<TWICE>,
-    ensures { result ≡ text upper v.entry }
 {
-    Lanes::look_up(
-        digits(upper),
-        Lanes::interleave(high_bits(v), masked(v, 0x0f)),
-    )
+    #[inline(always)]
+    fn encoded(v: Simd<u8, N>, upper: bool) -> Simd<u8, TWICE>
+        ensures { result ≡ text upper v.entry }
+    {
+        Lanes::look_up(
+            digits(upper),
+            Lanes::interleave(high_bits(v), masked(v, 0x0f)),
+        )
+    }
+}
+
+/// By a product in words of 16 bits, which is faster only with vectors of 32 bytes.
+pub struct Multiplied;
+
+impl Encode<16, 32> for Multiplied {
+    #[inline(always)]
+    fn encoded(v: u8x16, upper: bool) -> u8x32
+        ensures { result ≡ text upper v }
+    {
+        Lanes::look_up(digits(upper), both_nibbles(v))
+    }
 }
 
 /// A map from bytes to nibbles, lane by lane: the value of each valid lane.

@@ -11,10 +11,10 @@ ghost use Rattle.hex_core.specs.Search.{AllValid, first_invalid};
 ghost use Rattle.hex_core.specs.Text.{Spells, text};
 
 use crate::digit::CheckCase;
-use crate::digit_lanes::{Nibbles, Valid, encoded, reach};
+use crate::digit_lanes::{Encode, Nibbles, Valid, reach};
 use crate::lane_probe::{Tests, check_lanes};
 use crate::vector::{is_low, larger};
-use crate::widths::{Interleave, Lanes, LookUp, Pack};
+use crate::widths::{Lanes, Pack};
 use std::simd::prelude::*;
 
 // Bytes in a block, and blocks in one test: with more blocks, an invalid byte is found later.
@@ -161,38 +161,38 @@ pub fn decode_long(src: &[u8], dst: &mut [u8], case: CheckCase) -> bool
 
 /// Encodes `N` bytes from index `at`.
 #[inline(always)]
-pub fn encode_at<const N: usize, const TWICE: usize>(
+pub fn encode_at<E, const N: usize, const TWICE: usize>(
     src: &[u8],
     dst: &mut [u8],
     at: usize,
     upper: bool,
 )
 where
-    Lanes: Interleave<N, TWICE> + LookUp<TWICE>,
+    E: Encode<N, TWICE>,
     requires lanes { TWICE ≡ 2 * N }
     requires source { at + N ≤ length src.now }
     requires room { 2 * at + TWICE ≤ length dst.old }
     ensures { dst.new ≡ put_chunk (2 * at) dst.old (text upper (chunk at N src.now)) }
 {
-    let text = encoded::<N, TWICE>(Simd::<u8, N>::from_slice(&src[at..]), upper);
+    let text = E::encoded(Simd::<u8, N>::from_slice(&src[at..]), upper);
     text.copy_to_slice(&mut dst[2 * at..]);
 }
 
 /// Encodes a block or more over all of `dst`. It is a function of its own, so that the compiler does
 /// not know `upper`: else it reloads the table in every iteration.
 #[inline(never)]
-pub fn encode_blocks<const N: usize, const TWICE: usize>(src: &[u8], dst: &mut [u8], upper: bool)
+pub fn encode_blocks<E, const N: usize, const TWICE: usize>(src: &[u8], dst: &mut [u8], upper: bool)
 where
-    Lanes: Interleave<N, TWICE> + LookUp<TWICE>,
+    E: Encode<N, TWICE>,
     requires lanes { TWICE ≡ 2 * N }
     requires twice { length dst.old ≡ 2 * length src.now }
     requires block { HasBlock N src.now }
     ensures { dst.new ≡ text upper src.now }
 {
     'turns: for i in 0..src.len() / N {
-        encode_at::<N, TWICE>(src, dst, i * N, upper);
+        encode_at::<E, N, TWICE>(src, dst, i * N, upper);
     }
     if src.len() % N != 0 {
-        encode_at::<N, TWICE>(src, dst, src.len() - N, upper);
+        encode_at::<E, N, TWICE>(src, dst, src.len() - N, upper);
     }
 }

@@ -5,7 +5,7 @@ ghost use Rattle.hex_core.specs.Lanes.{Admits, AreChecked, AreNibbles, ArePacked
 ghost use Rattle.hex_core.specs.Text.{text};
 
 use crate::digit::CheckCase;
-use crate::digit_lanes::{admitted, encoded, hashed_checks, hashed_values, saturated};
+use crate::digit_lanes::{Encode, Interleaved, admitted, hashed_checks, hashed_values, saturated};
 use crate::widths::{Lanes, Pack};
 use std::simd::prelude::*;
 
@@ -161,7 +161,7 @@ pub fn pack_64(nibbles: &[u8; 64]) -> [u8; 32]
 pub fn encode_8(bytes: &[u8; 8], upper: bool) -> [u8; 16]
     ensures { result ≡ text upper bytes.now }
 {
-    encoded(u8x8::from_array(*bytes), upper).to_array()
+    Interleaved::encoded(u8x8::from_array(*bytes), upper).to_array()
 }
 
 /// Returns the digits of 16 bytes, in uppercase if `upper` is true.
@@ -174,7 +174,7 @@ pub fn encode_8(bytes: &[u8; 8], upper: bool) -> [u8; 16]
 pub fn encode_16(bytes: &[u8; 16], upper: bool) -> [u8; 32]
     ensures { result ≡ text upper bytes.now }
 {
-    encoded(u8x16::from_array(*bytes), upper).to_array()
+    Interleaved::encoded(u8x16::from_array(*bytes), upper).to_array()
 }
 
 /// The same as [`encode_16`], for 32 bytes.
@@ -186,5 +186,5 @@ pub fn encode_16(bytes: &[u8; 16], upper: bool) -> [u8; 32]
 pub fn encode_32(bytes: &[u8; 32], upper: bool) -> [u8; 64]
     ensures { result ≡ text upper bytes.now }
 {
-    encoded(u8x32::from_array(*bytes), upper).to_array()
+    Interleaved::encoded(u8x32::from_array(*bytes), upper).to_array()
 }

@@ -14,7 +14,7 @@ ghost use Rattle.hex_core.specs.inside.Arithmetic.{AreLow, packed};
 ghost use Rattle.hex_core.specs.inside.Blocks.{EndsCover, Halves, NibblesFrom};
 
 use crate::digit::CheckCase;
-use crate::digit_lanes::{reach, saturated};
+use crate::digit_lanes::{Interleaved, reach, saturated};
 use crate::kernel::{encode_at, pack_at};
 use crate::vector::{either, is_low, is_small, larger};
 use crate::widths::{Interleave, Lanes, LookUp, Pack};
@@ -181,7 +181,7 @@ where
     requires whole { length src.now ≡ N }
     ensures { dst.new ≡ text upper src.now }
 {
-    encode_at::<N, TWICE>(src, dst, 0, upper);
+    encode_at::<Interleaved, N, TWICE>(src, dst, 0, upper);
 }
 
 /// Encodes `N` to `2 * N` bytes.
@@ -194,6 +194,6 @@ where
     requires covered { EndsCover N src.now }
     ensures { dst.new ≡ text upper src.now }
 {
-    encode_at::<N, TWICE>(src, dst, 0, upper);
-    encode_at::<N, TWICE>(src, dst, src.len() - N, upper);
+    encode_at::<Interleaved, N, TWICE>(src, dst, 0, upper);
+    encode_at::<Interleaved, N, TWICE>(src, dst, src.len() - N, upper);
 }

@@ -2,7 +2,7 @@
 
 ghost use Rattle.std.specs.Prelude.{◌≡◌, ◌↔◌, ◌-◌, ◌/◌, ◌^◌, ◌≤◌, ◌<◌, ◌==◌, IsTrue, max, min, map, bit_and, bit_or, bit_xor};
 ghost use Rattle.std.specs.Simd.Lanes.{Each1, mask_l, zip2};
-ghost use Rattle.hex_core.specs.inside.Arithmetic.{AreLow, AreUnsigned, AreZero, pair_byte, saturating_add, wrapping_sub};
+ghost use Rattle.hex_core.specs.inside.Arithmetic.{AreLow, AreUnsigned, AreZero, interleaved, pair_byte, saturating_add, wrapping_sub};
 ghost use Rattle.hex_core.specs.inside.Hash.{average};
 ghost use Rattle.hex_core.specs.Lanes.{AreSmall};
 
@@ -136,6 +136,15 @@ pub fn pair_bytes<const N: usize>(v: Simd<u16, N>) -> Simd<u8, N>
     ensures { result ≡ map pair_byte v.entry }
 {
     ((v * Simd::splat(FACTOR)) >> Simd::splat(8)).cast::<u8>()
+}
+
+/// Both nibbles of each lane, the high one first: the product's word, shifted, is the low nibble
+/// above the high one.
+#[inline(always)]
+pub fn both_nibbles(v: u8x16) -> u8x32
+    ensures { result ≡ interleaved (map (λ x. x / 16) v) (map (λ x. bit_and x 15) v) }
+{
+    ((v.cast::<u16>() * Simd::splat(FACTOR)) >> Simd::splat(4)).to_le_bytes()
 }
 
 /// Flips the sign bit of each lane, so that signed bytes sort like unsigned ones.

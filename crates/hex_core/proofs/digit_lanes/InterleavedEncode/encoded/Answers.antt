@@ -1,5 +1,5 @@
 use Rattle.hex_core.proofs.ByteLemmas.{looked_up_text}
-use Rattle.hex_core.proofs.digit_lanes.encoded.Goals as goal
+use Rattle.hex_core.proofs.digit_lanes.InterleavedEncode.encoded.Goals as goal
 
 pub returns : goal.returns
 returns g c =

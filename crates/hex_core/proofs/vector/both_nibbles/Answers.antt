@@ -1,0 +1,14 @@
+use Rattle.std.proofs.Common.{◌*◌, ◌/◌, ◌%◌, ◌^◌, arith}
+use Rattle.std.proofs.lemmas.List.{map-id}
+use Rattle.std.proofs.lemmas.Simd.{shifts_fit_splat}
+use Rattle.hex_core.proofs.LaneLemmas.{splat_twice}
+use Rattle.hex_core.proofs.PairLemmas.{nibbles_of_words}
+use Rattle.hex_core.proofs.vector.both_nibbles.Goals as goal
+
+pub overflow_shr-result : goal.overflow_shr-result
+overflow_shr-result c = shifts_fit_splat 16 _ 16 4 (omega arith)
+
+pub returns : goal.returns
+returns c =
+    let v = c.args.v in
+    rw (map-id v, splat_twice (λ a b. a * b % 2 ^ 16) (λ a b. a / 2 ^ b) v 16 4097 4 c.fits-v.0) (nibbles_of_words 32 v (omega (arith, c.fits-v.0)) c.fits-v.1)
