@@ -27,11 +27,12 @@ kind=assembly
 [ ! -f "crates/$target/src/main.rt" ] || kind=program
 
 # The builds: a name, the architecture and its processor, and whose exported functions they take. One that
-# takes those of `scalar` exports scalar_faster_hex_NAME in place of faster_hex_NAME where there is such.
+# takes those of `scalar` exports scalar_faster_hex_NAME in place of faster_hex_NAME where there is such; those
+# of `wide` likewise.
 builds() {
     echo x86-64 x86_64 x86-64 scalar
     echo x86-64-v2 x86_64 x86-64-v2 plain
-    echo x86-64-v3 x86_64 x86-64-v3 plain
+    echo x86-64-v3 x86_64 x86-64-v3 wide
     echo aarch64 aarch64 generic plain
 }
 
@@ -110,7 +111,7 @@ case " \$* " in *" module.bc "*)
         -o whole.ll -x ir module.bc
     awk -v wanted=$3 -f "$1/edit.awk" whole.ll whole.ll >module.bc
     # Only once a set's plan is inlined, the other plans vanish from functions that are not.
-    if [ $3 != plain ]; then
+    if [ $3 = scalar ]; then
         compile "\$@" -S -emit-llvm -o once.ll
         mv once.ll module.bc
     fi

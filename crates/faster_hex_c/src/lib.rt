@@ -148,6 +148,14 @@ pub extern "C" fn faster_hex_encode(src: &[u8], dst: &mut [u8], upper: bool) -> 
     answer_of(hex_encode_into(src, dst, upper))
 }
 
+/// `faster_hex_encode`, for the build for processors with vectors of 32 bytes.
+#[unsafe(no_mangle)]
+pub extern "C" fn wide_faster_hex_encode(src: &[u8], dst: &mut [u8], upper: bool) -> Answer
+    ensures { EncodesTo upper src.now dst.old dst.new result }
+{
+    answer_of(Backend::encode_wide_into(src, dst, upper))
+}
+
 /// Decodes digits of either case into the start of `dst`.
 #[unsafe(no_mangle)]
 pub extern "C" fn faster_hex_decode(src: &[u8], dst: &mut [u8]) -> Answer
