@@ -117,7 +117,7 @@ impl Backend {
     /// let mut digits = [0; 2048];
     /// let written = Backend::encode_wide_into(&[0xab; 1024], &mut digits, true)?;
     /// assert_eq!(rt; written, 2048);
-    /// assert!(rt; digits.chunks(2).all(|pair| pair == b"AB"));
+    /// assert!(rt; digits.chunks(2).all(|pair| pair == b"AB".as_slice()));
     /// ```
     #[inline(always)]
     pub fn encode_wide_into(src: &[u8], dst: &mut [u8], upper: bool) -> Result<usize, Error>
