@@ -20,7 +20,7 @@ use Rattle.hex_format.specs.declared.streams.StreamFault.TheVariants.{Codec}
 pub ended-all : (r : Reading) (left : Option (List ℕ)) (s written : List ℕ) (waiting : Option ℕ) (old new : SinkState) (result : Result ℕ StreamFault) → IsAtEnd left → r.stray s ≡ None
     → SpellsBut r.policy (r.digits s) written (option_to_list waiting) → Takes old new written
     → MatchResult result (λ count. Spells r.policy (r.digits s) written × (count ≡ length written))
-        (λ fault. (fault ≡ Codec OddLength) × (source_refusal r.policy (r.digits s) ≡ Some OddLength))
+    (λ fault. (fault ≡ Codec OddLength) × (source_refusal r.policy (r.digits s) ≡ Some OddLength))
     → Decodes r s left old new result
 ended-all r left s written waiting old new (Ok count) end none but taken ends = (written, ends.0, ends.1, taken, end)
 ended-all r left s written waiting old new (Err fault) end none but taken ends =
