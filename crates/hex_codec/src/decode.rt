@@ -53,8 +53,14 @@ pub fn hex_check_with_case(src: &[u8], case: CheckCase) -> bool
 /// use hex_codec::decode::first_invalid_by;
 /// use hex_core::Backend;
 ///
-/// assert_eq!(rt; first_invalid_by(Backend::plain(), b"00aBcD", CheckCase::None), None);
-/// assert_eq!(rt; first_invalid_by(Backend::plain(), b"00aBcD", CheckCase::Lower), Some(3));
+/// assert_eq!(rt;
+///     first_invalid_by(Backend::plain(), b"00aBcD", CheckCase::None),
+///     None
+/// );
+/// assert_eq!(rt;
+///     first_invalid_by(Backend::plain(), b"00aBcD", CheckCase::Lower),
+///     Some(3)
+/// );
 /// ```
 #[inline(never)]
 pub fn first_invalid_by(plan: Backend, src: &[u8], case: CheckCase) -> Option<usize>

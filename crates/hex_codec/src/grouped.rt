@@ -34,11 +34,20 @@ use std::{error, fmt};
 ///     byte: b'-',
 /// };
 /// assert_eq!(rt; refused, Err(fault));
-/// assert_eq!(rt; fault.to_string(rt.alloc())?.as_str(), "invalid byte 0x2d at index 4");
+/// assert_eq!(rt;
+///     fault.to_string(rt.alloc())?.as_str(),
+///     "invalid byte 0x2d at index 4"
+/// );
 /// let fault = GroupFault::OutputTooSmall { required: 3 };
-/// assert_eq!(rt; fault.to_string(rt.alloc())?.as_str(), "output requires at least 3 bytes");
+/// assert_eq!(rt;
+///     fault.to_string(rt.alloc())?.as_str(),
+///     "output requires at least 3 bytes"
+/// );
 /// let fault = GroupFault::BadLength;
-/// assert_eq!(rt; fault.to_string(rt.alloc())?.as_str(), "invalid length of grouped hex");
+/// assert_eq!(rt;
+///     fault.to_string(rt.alloc())?.as_str(),
+///     "invalid length of grouped hex"
+/// );
 /// ```
 #[derive(Clone, Copy, Debug, PartialEq, Eq)]
 pub enum GroupFault {

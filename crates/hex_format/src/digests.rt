@@ -80,7 +80,9 @@ impl error::Error for LineFault {}
 ///     (b"ab01x*a.txt", "line 1: invalid mark"),
 /// ];
 /// for (list, text) in texts {
-///     let fault = read::<2>(rt.alloc(), list, CheckCase::None).err().ok_or("no fault")?;
+///     let fault = read::<2>(rt.alloc(), list, CheckCase::None)
+///         .err()
+///         .ok_or("no fault")?;
 ///     assert_eq!(rt; fault.to_string(rt.alloc())?.as_str(), text);
 /// }
 /// let fault = ListFault::OutOfMemory;

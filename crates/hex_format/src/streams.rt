@@ -37,7 +37,10 @@ const STREAM_CHUNK: usize = 4_096;
 /// let fault = StreamFault::Read;
 /// assert_eq!(rt; fault.to_string(rt.alloc())?.as_str(), "read failed");
 /// let fault = StreamFault::from(Error::OddLength);
-/// assert_eq!(rt; fault.to_string(rt.alloc())?.as_str(), "hex input length must be even");
+/// assert_eq!(rt;
+///     fault.to_string(rt.alloc())?.as_str(),
+///     "hex input length must be even"
+/// );
 /// let fault = StreamFault::from(WriteFault::TookNothing);
 /// assert_eq!(rt; fault.to_string(rt.alloc())?.as_str(), "sink took nothing");
 /// ```

@@ -25,7 +25,10 @@ use std::{error, fmt};
 /// use hex_format::digests::ListWriteFault;
 ///
 /// let fault = ListWriteFault::BadName { entry: 1 };
-/// assert_eq!(rt; fault.to_string(rt.alloc())?.as_str(), "invalid name in entry 1");
+/// assert_eq!(rt;
+///     fault.to_string(rt.alloc())?.as_str(),
+///     "invalid name in entry 1"
+/// );
 /// let fault = ListWriteFault::from(WriteFault::TookNothing);
 /// assert_eq!(rt; fault.to_string(rt.alloc())?.as_str(), "sink took nothing");
 /// ```
