@@ -2,9 +2,9 @@
 use Rattle.std.proofs.Common.{◌≡◌, ◌∙◌, ℕ, List, Some, drop, length, take, take-append-drop, sym}
 use Rattle.std.specs.Borrow.{MutBor}
 use Rattle.hex_core.specs.Text.{with_front}
-use Rattle.hex_format.specs.declared.sink.SliceSink.{SliceSink}
-use Rattle.hex_format.specs.Sink.{Takes}
-use Rattle.hex_format.specs.Sinks.{fresh_state, slice_state}
+use Rattle.hex_io.specs.declared.sink.SliceSink.{SliceSink}
+use Rattle.hex_io.specs.Sink.{Takes}
+use Rattle.hex_io.specs.Sinks.{fresh_state, slice_state}
 
 pub taken-over : (buf : MutBor (List ℕ)) (sink : SliceSink) (bytes : List ℕ) → Takes (fresh_state buf) (slice_state sink) bytes → sink.buf.now ≡ with_front buf.now bytes
 taken-over buf sink bytes takes =

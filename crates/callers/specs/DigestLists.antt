@@ -3,12 +3,12 @@ use Rattle.std.specs.Prelude.{◌≡◌, ◌<◌, ℕ, false, true, List, [], �
 use Rattle.std.specs.Borrow.{Bor}
 use Rattle.hex_core.specs.declared.digit.CheckCase.TheVariants as policy
 use Rattle.hex_core.specs.Text.{lowercase, with_front}
-use Rattle.hex_format.specs.declared.digests.Entry.{Entry}
-use Rattle.hex_format.specs.declared.digests.ListFault.{ListFault}
-use Rattle.hex_format.specs.declared.digests.ListFault.TheVariants.{OutOfMemory}
-use Rattle.hex_format.specs.declared.writing.ListWriteFault.{ListWriteFault}
-use Rattle.hex_format.specs.declared.writing.ListWriteFault.TheVariants.{BadName, Write}
-use Rattle.hex_format.specs.Lists.{Lists, ReadFailure, is_bad_name, list_of}
+use Rattle.hex_io.specs.declared.digests.Entry.{Entry}
+use Rattle.hex_io.specs.declared.digests.ListFault.{ListFault}
+use Rattle.hex_io.specs.declared.digests.ListFault.TheVariants.{OutOfMemory}
+use Rattle.hex_io.specs.declared.writing.ListWriteFault.{ListWriteFault}
+use Rattle.hex_io.specs.declared.writing.ListWriteFault.TheVariants.{BadName, Write}
+use Rattle.hex_io.specs.Lists.{Lists, ReadFailure, is_bad_name, list_of}
 use Rattle.callers.specs.declared.digest.Digest.{Digest}
 
 -- the entry of one file

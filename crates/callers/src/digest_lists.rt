@@ -3,15 +3,15 @@
 ghost use Rattle.std.specs.Prelude.{◌≡◌, IfOk, None, map, vec_items};
 ghost use Rattle.hex_core.specs.declared.digit.CheckCase.TheVariants as policy;
 ghost use Rattle.hex_core.specs.Text.{lowercase};
-ghost use Rattle.hex_format.specs.ListCalls.{ReadsList};
-ghost use Rattle.hex_format.specs.Lists.{first_bad_name, line_of, lines_of};
+ghost use Rattle.hex_io.specs.ListCalls.{ReadsList};
+ghost use Rattle.hex_io.specs.Lists.{first_bad_name, line_of, lines_of};
 ghost use Rattle.callers.specs.DigestLists.{ReadsChecksum, WritesChecksum, entry_of};
 
 use crate::digest::Digest;
 use faster_hex::digests::{self, Entry, ListFault, ListWriteFault};
 use faster_hex::{CheckCase, SliceSink};
 use hex_core::laws::a_slice_holds_bytes;
-use hex_format::laws::{
+use hex_io::laws::{
     a_faulty_source_is_no_list, a_source_lists_one_list, reading_inverts_writing,
     what_was_read_can_be_written, writing_inverts_strict_reading,
 };

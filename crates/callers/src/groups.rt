@@ -7,7 +7,7 @@ ghost use Rattle.hex_core.specs.Refusal.{room_refusal};
 ghost use Rattle.hex_core.specs.Text.{lowercase};
 ghost use Rattle.hex_codec.specs.Grouped.{grouped, piece_len, pieces, separator};
 ghost use Rattle.hex_codec.specs.GroupedText.{GroupSpells, group_refusal, grouped_len};
-ghost use Rattle.hex_format.specs.Sink.{Puts};
+ghost use Rattle.hex_io.specs.Sink.{Puts};
 
 use faster_hex::format::put_all;
 use faster_hex::grouped::{GroupFault, read_into, write_into};
@@ -18,7 +18,7 @@ use hex_codec::laws::{
     whole_pieces_are_joined_by_the_separator,
 };
 use hex_core::laws::{a_new_front_is_the_front, a_slice_holds_bytes};
-use hex_format::laws::{a_bare_text_is_its_digits, puts_in_a_row_are_one};
+use hex_io::laws::{a_bare_text_is_its_digits, puts_in_a_row_are_one};
 
 /// Decodes a hardware address of six bytes in groups, like `00:00:5E:00:53:AF` in groups of one
 /// byte. Returns the six bytes of the text, if it has six.

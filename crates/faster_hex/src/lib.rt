@@ -46,7 +46,7 @@ pub use hex_codec::{
 pub use hex_core::{
     Backend, CheckCase, Error, Probe, SliceProbe, backends, covered, digit_value, locate,
 };
-pub use hex_format::{
+pub use hex_io::{
     Align, Hex, HexFlags, Sink, SinkFault, SliceSink, WriteFault, WriterSink, digests, format, sink,
 };
 
@@ -64,7 +64,5 @@ pub use hex_format::{
 pub mod stream {
     pub use hex_codec::spaced::{SPACED_CHUNK, SpacedDecoder};
     pub use hex_codec::stream::Decoder;
-    pub use hex_format::streams::{
-        StreamFault, decode_spaced_stream, decode_stream, encode_stream,
-    };
+    pub use hex_io::streams::{StreamFault, decode_spaced_stream, decode_stream, encode_stream};
 }

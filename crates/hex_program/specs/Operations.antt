@@ -7,7 +7,7 @@ use Rattle.hex_core.specs.declared.digit.CheckCase.TheVariants as policy
 use Rattle.hex_core.specs.declared.error.Error.{Error}
 use Rattle.hex_core.specs.Text.{Spells, lowercase, text, uppercase}
 use Rattle.hex_core.specs.Refusal.{source_refusal}
-use Rattle.hex_format.specs.Sink.{SinkState, Stops, Takes}
+use Rattle.hex_io.specs.Sink.{SinkState, Stops, Takes}
 use Rattle.hex_program.specs.declared.operation.Op.{Op}
 use Rattle.hex_program.specs.declared.operation.Op.TheVariants.{Encode, EncodeUpper, Decode, DecodeLower, DecodeUpper}
 use Rattle.hex_program.specs.declared.operation.RunFault.{RunFault}

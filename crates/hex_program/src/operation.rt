@@ -2,13 +2,13 @@
 
 ghost use Rattle.std.specs.Prelude.{◌≡◌, ◌++◌, ◌∷◌, [], ◌<◌, ◌-◌, ◌^◌, map};
 ghost use Rattle.hex_core.specs.Text.{text};
-ghost use Rattle.hex_format.specs.Sink.{Puts};
+ghost use Rattle.hex_io.specs.Sink.{Puts};
 ghost use Rattle.hex_program.specs.Operations.{Runs, op_of_word, op_of_words, without_newline};
 
 use hex_codec::hex_decode_vec_with_case;
 use hex_core::{CheckCase, Error};
-use hex_format::laws::{a_bare_text_is_its_digits, puts_in_a_row_are_one};
-use hex_format::{Hex, HexFlags, Sink, WriteFault, put_all};
+use hex_io::laws::{a_bare_text_is_its_digits, puts_in_a_row_are_one};
+use hex_io::{Hex, HexFlags, Sink, WriteFault, put_all};
 use std::alloc::{Allocator, Global};
 
 /// What `fhex` does with its input.

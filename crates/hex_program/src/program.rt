@@ -10,7 +10,7 @@ use crate::input::read_input;
 use crate::operation::{Op, RunFault, run_in};
 use crate::vectors::{VECTORS, Vector, run_vectors};
 use arrayvec::ArrayString;
-use hex_format::{WriterSink, put_all};
+use hex_io::{WriterSink, put_all};
 use std::alloc::{Allocator, Global};
 use std::fmt;
 use std::io::{Read, Write};

@@ -3,8 +3,8 @@
 use hex_codec::{Group, GroupFault, grouped};
 use hex_core::Error::{InvalidChar, OddLength, OutputTooSmall};
 use hex_core::{Backend, CheckCase, Error, backends};
-use hex_format::digests::{Entry, ListFault, read_in, write_to};
-use hex_format::{Hex, HexFlags, SliceSink};
+use hex_io::digests::{Entry, ListFault, read_in, write_to};
+use hex_io::{Hex, HexFlags, SliceSink};
 use std::alloc::{AllocError, Allocator};
 
 // Every byte of a destination before a call.
@@ -27,10 +27,10 @@ pub enum Call {
     WriteGrouped,
     /// [`grouped::read`] of such a text. An invalid byte is an invalid digit in the result.
     ReadGrouped,
-    /// [`digests::write_to`](hex_format::digests::write_to) of one entry into a [`SliceSink`], in
+    /// [`digests::write_to`](hex_io::digests::write_to) of one entry into a [`SliceSink`], in
     /// uppercase. The source has the entry: a digest of two bytes, the mark, and the name.
     WriteList,
-    /// [`digests::read`](hex_format::digests::read) of lowercase digits. The result has the number of
+    /// [`digests::read`](hex_io::digests::read) of lowercase digits. The result has the number of
     /// entries, which is 1, and the destination, which the call has not, the entry.
     ReadList,
 }

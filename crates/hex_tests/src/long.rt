@@ -1,8 +1,8 @@
 //! Texts, lists and pieces that are longer than a row can write.
 
 use hex_core::CheckCase;
-use hex_format::digests::{read, write_to};
-use hex_format::{Hex, Sink, WriterSink};
+use hex_io::digests::{read, write_to};
+use hex_io::{Hex, Sink, WriterSink};
 use hex_program::read_input;
 use std::alloc::Global;
 

@@ -1,6 +1,6 @@
 //! A writer that answers by a script, behind a sink and behind `Unretried`.
 
-use hex_format::{Hex, HexFlags, Sink, SinkFault, WriteFault, WriterSink};
+use hex_io::{Hex, HexFlags, Sink, SinkFault, WriteFault, WriterSink};
 use hex_program::Unretried;
 use std::alloc::Global;
 use std::io::{self, ErrorKind, Write};

@@ -1,7 +1,7 @@
 //! Rows of one operation over a writer.
 
 use crate::setup::{Setup, number_behind, operation};
-use hex_format::{Sink, SinkFault, WriteFault, WriterSink};
+use hex_io::{Sink, SinkFault, WriteFault, WriterSink};
 use hex_program::operation::run_in;
 use hex_program::{Op, RunFault, run};
 use std::alloc::Global;

@@ -6,7 +6,7 @@ use hex_codec::{
     hex_string, hex_string_upper,
 };
 use hex_core::CheckCase;
-use hex_format::Hex;
+use hex_io::Hex;
 use std::alloc::Global;
 use test_kit::Row;
 use test_kit::refusing::Refusing;

@@ -3,8 +3,8 @@
 ghost use Rattle.std.specs.Prelude.{◌≡◌, ◌≤◌, ◌^◌, ◌-◌, ◌<◌, None};
 
 use crate::terms::Destination;
-use hex_format::digests::{self, Entry, ListWriteFault};
-use hex_format::{Hex, HexFlags, Sink, SinkFault, SliceSink, WriteFault};
+use hex_io::digests::{self, Entry, ListWriteFault};
+use hex_io::{Hex, HexFlags, Sink, SinkFault, SliceSink, WriteFault};
 use test_kit::fakes::Pattern;
 use test_kit::{Bytes, Words};
 

@@ -4,7 +4,7 @@ use crate::taking::{MODES, Mode, Put, Taken};
 use crate::terms::{Destination, group, number_or};
 use arrayvec::ArrayString;
 use hex_codec::Group;
-use hex_format::{Align, Hex, HexFlags, Sink, WriterSink};
+use hex_io::{Align, Hex, HexFlags, Sink, WriterSink};
 use std::fmt::Write;
 use test_kit::fakes::{Pattern, Taker};
 use test_kit::{Bytes, Row, Words};

@@ -3,9 +3,9 @@ use Rattle.std.proofs.Common.{◌≡◌, ◌∙◌, ◌∷◌, [], ℕ, List, Op
 use Rattle.std.specs.Prelude.{option_map}
 use Rattle.std.specs.List.{AllZip}
 use Rattle.hex_core.specs.declared.digit.CheckCase.TheVariants as policy
-use Rattle.hex_format.specs.declared.digests.Entry.{Entry}
-use Rattle.hex_format.specs.ListLaws.{ListsOneList, SameEntry}
-use Rattle.hex_format.specs.Lists.{Lists}
+use Rattle.hex_io.specs.declared.digests.Entry.{Entry}
+use Rattle.hex_io.specs.ListLaws.{ListsOneList, SameEntry}
+use Rattle.hex_io.specs.Lists.{Lists}
 use Rattle.callers.specs.DigestLists.{digest_of, first_digest}
 use Rattle.callers.proofs.digest_lists.read_checksum.Goals as goal
 

@@ -1,9 +1,9 @@
 -- What is written as a list is read as its entry.
 use Rattle.std.proofs.Common.{rules, ◌≡◌, ◌∷◌, [], length, refl, subst}
 use Rattle.hex_core.specs.Text.{lowercase}
-use Rattle.hex_format.specs.Lists.{list_of}
-use Rattle.hex_format.specs.Sink.{Takes}
-use Rattle.hex_format.specs.Sinks.{slice_state}
+use Rattle.hex_io.specs.Lists.{list_of}
+use Rattle.hex_io.specs.Sink.{Takes}
+use Rattle.hex_io.specs.Sinks.{slice_state}
 use Rattle.callers.specs.DigestLists.{entry_of}
 use Rattle.callers.proofs.SinkLemmas.{taken-over}
 use Rattle.callers.proofs.digest_lists.write_checksum.Goals as goal

@@ -1,5 +1,0 @@
-use Rattle.hex_format.proofs.NameLemmas.{read-names}
-use Rattle.hex_format.proofs.laws.what_was_read_can_be_written.Goals as goal
-
-pub returns : goal.returns
-returns c n case s entries all = read-names case s entries all

@@ -1,0 +1,60 @@
+-- Facts on digest lists that the definitions imply.
+use Rattle.std.specs.Prelude.{◌≡◌, ℕ, Bool, List, length, map, None}
+use Rattle.std.specs.List.{AllByRecursion, AllZip}
+use Rattle.hex_core.specs.declared.digit.CheckCase.{CheckCase}
+use Rattle.hex_core.specs.declared.digit.CheckCase.TheVariants as policy
+use Rattle.hex_core.specs.Digit.{strict}
+use Rattle.hex_core.specs.Laws.{AreBytes}
+use Rattle.hex_io.specs.declared.digests.Entry.{Entry}
+use Rattle.hex_io.specs.declared.digests.LineFault.{LineFault}
+use Rattle.hex_io.specs.Lists.{FirstFault, Lists, first_bad_name, line_of, lines_of, list_of, with_last_newline}
+
+-- an entry's digest is one of N bytes, as that of each entry in a program is
+abbrev pub HasDigest : {N : ℕ} → Entry N → Type 0
+HasDigest {N} e = (length e.digest ≡ N) × AreBytes e.digest
+
+-- the list of some entries, none of which has a bad name, is read as the same entries, under the
+-- strict policy of its digits' case and under either case
+abbrev pub ReadingInvertsWriting : Type 0
+ReadingInvertsWriting = (N : ℕ) (upper : Bool) (entries : List (Entry N))
+    → AllByRecursion HasDigest entries
+    → first_bad_name entries ≡ None
+    → Lists (strict upper) (list_of upper entries) entries × Lists policy.None (list_of upper entries) entries
+
+-- a source that has a line with a fault is no list, whatever the entries
+abbrev pub FaultyListsNothing : Type 0
+FaultyListsNothing = (N : ℕ) (c : CheckCase) (s : List ℕ) (line : ℕ) (why : LineFault) (entries : List (Entry N))
+    → FirstFault c N s line why
+    → Lists c s entries
+    → ⊥
+
+-- two entries have one digest, one mark and one name
+pub record SameEntry {N : ℕ} (e other : Entry N) : Type 0 where
+  pub digest : e.digest ≡ other.digest
+  pub binary : e.binary ≡ other.binary
+  pub name : e.name.now ≡ other.name.now
+
+-- a source is the list of one list of entries at most: two are as long, and the same entry by entry
+abbrev pub ListsOneList : Type 0
+ListsOneList = (N : ℕ) (c : CheckCase) (s : List ℕ) (entries others : List (Entry N))
+    → Lists c s entries
+    → Lists c s others
+    → AllZip SameEntry entries others
+
+-- what a strict policy reads is written as its source, with a newline behind the last line
+abbrev pub WritingInvertsStrictReading : Type 0
+WritingInvertsStrictReading = (N : ℕ) (upper : Bool) (s : List ℕ) (entries : List (Entry N))
+    → Lists (strict upper) s entries
+    → list_of upper entries ≡ with_last_newline s
+
+-- and each of its lines as the line that was read
+abbrev pub StrictLinesAreWritten : Type 0
+StrictLinesAreWritten = (N : ℕ) (upper : Bool) (s : List ℕ) (entries : List (Entry N))
+    → Lists (strict upper) s entries
+    → map (line_of upper) entries ≡ lines_of s
+
+-- no name that was read is bad
+abbrev pub ReadNamesAreGood : Type 0
+ReadNamesAreGood = (N : ℕ) (c : CheckCase) (s : List ℕ) (entries : List (Entry N))
+    → Lists c s entries
+    → first_bad_name entries ≡ None

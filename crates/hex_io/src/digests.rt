@@ -1,0 +1,258 @@
+//! Digest lists: one line per entry, with the digits of its digest, its mark and its name.
+
+ghost use Rattle.std.specs.Prelude.{◌≡◌, ◌≢◌, ◌≤◌, ◌*◌, ◌==◌, ◌&&◌, ◌||◌, false, [], None, Some, MatchOption, MatchResult, length, take};
+ghost use Rattle.hex_core.specs.Calls.{Answers};
+ghost use Rattle.hex_core.specs.Search.{first_invalid};
+ghost use Rattle.hex_io.specs.Lists.{LineIs, Lists, ReadFailure, fault_in, line_fault, mark};
+ghost use Rattle.hex_io.specs.ListCalls.{ReadsList};
+ghost use Rattle.hex_io.specs.Message.{line_fault_text, list_fault_text};
+
+use crate::lines::line_end;
+pub use crate::writing::{ListWriteFault, write_to};
+use hex_core::{Backend, CheckCase, Error};
+use std::alloc::{Allocator, Global};
+use std::{error, fmt};
+
+/// One line of a list.
+#[derive(Clone, Copy, Debug, PartialEq, Eq)]
+pub struct Entry<'a, const N: usize> {
+    /// The digest.
+    pub digest: [u8; N],
+    /// Whether the mark, the byte before the name, is `*` (read as binary) or a space.
+    pub binary: bool,
+    /// The file's name. [`read`] returns, and [`write_to`] accepts, only names of one byte or more
+    /// without a newline. No other byte is special: a trailing CR stays in the name.
+    pub name: &'a [u8],
+}
+
+/// The first of these faults that a line has.
+///
+/// [`Display`](fmt::Display) prints exactly these texts:
+///
+/// | Case | Text |
+/// |---|---|
+/// | `ShortLine` | `line too short` |
+/// | `InvalidByte` | `invalid hex byte 0x67 at index 2` |
+/// | `BadMark` | `invalid mark` |
+#[derive(Clone, Copy, Debug, PartialEq, Eq)]
+pub enum LineFault {
+    /// The line is too short for the digits, a space, a mark and a name: it has fewer than
+    /// `2 * N + 3` bytes before its newline.
+    ShortLine,
+    /// A byte among the digits is not a digit that the policy accepts.
+    InvalidByte {
+        /// The index of the first such byte in the line, in bytes.
+        index: usize,
+        /// That byte.
+        byte: u8,
+    },
+    /// The byte after the digits is not a space, or the next is neither a space nor `*`.
+    BadMark,
+}
+
+impl fmt::Display for LineFault {
+    ghost output = { λ fault. Some (line_fault_text fault) };
+
+    fn fmt<W: fmt::Write>(&self, f: &mut fmt::Formatter<W>) -> fmt::Result {
+        match *self {
+            LineFault::ShortLine => f.write_str("line too short"),
+            LineFault::InvalidByte { index, byte } => Error::InvalidChar { index, byte }.fmt(f),
+            LineFault::BadMark => f.write_str("invalid mark"),
+        }
+    }
+}
+
+impl error::Error for LineFault {}
+
+/// An error of reading a list.
+///
+/// [`Display`](fmt::Display) prints exactly these texts:
+///
+/// | Case | Text |
+/// |---|---|
+/// | `Line` | `line 2: invalid mark`, with that of the [`LineFault`] |
+/// | `OutOfMemory` | `out of memory` |
+///
+/// ```rust
+/// let texts = [
+///     (b"ab01  a.txt\nzz".as_slice(), "line 2: line too short"),
+///     (b"abg1  a.txt", "line 1: invalid hex byte 0x67 at index 2"),
+///     (b"ab01x*a.txt", "line 1: invalid mark"),
+/// ];
+/// for (list, text) in texts {
+///     let fault = read::<2>(rt.alloc(), list, CheckCase::None)
+///         .err()
+///         .ok_or("no fault")?;
+///     assert_eq!(rt; fault.to_string(rt.alloc())?.as_str(), text);
+/// }
+/// let fault = ListFault::OutOfMemory;
+/// assert_eq!(rt; fault.to_string(rt.alloc())?.as_str(), "out of memory");
+/// ```
+#[derive(Clone, Copy, Debug, PartialEq, Eq)]
+pub enum ListFault {
+    /// A line is malformed.
+    Line {
+        /// The number of the first such line, from 1.
+        line: usize,
+        /// What is wrong with it.
+        why: LineFault,
+    },
+    /// The allocation of an entry failed.
+    OutOfMemory,
+}
+
+impl fmt::Display for ListFault {
+    ghost output = { λ fault. Some (list_fault_text fault) };
+
+    fn fmt<W: fmt::Write>(&self, f: &mut fmt::Formatter<W>) -> fmt::Result {
+        match self {
+            ListFault::Line { line, why } => write!(f, "line {line}: {why}"),
+            ListFault::OutOfMemory => f.write_str("out of memory"),
+        }
+    }
+}
+
+impl error::Error for ListFault {}
+
+/// Returns the entries of a list, in the order of its lines, allocated by the global allocator.
+///
+/// Each line is `2 * N` digits, a space, then a space or `*`, a name and a newline, which the last
+/// line may lack. `case` selects the letters accepted. An empty source has no entries. The names
+/// are slices of `src`.
+///
+/// # Errors
+///
+/// Lines are read in order, and the first error ends the call:
+///
+/// - [`ListFault::Line`] for a malformed line, with its number and its first fault;
+/// - [`ListFault::OutOfMemory`] if an allocation fails. An entry is allocated only after its line
+///   was read without a fault.
+///
+/// ```rust
+/// let list = b"ab01  a.txt\nCD02 *b\n";
+/// let entries = read::<2>(rt.alloc(), list, CheckCase::None)?;
+/// assert_eq!(rt; entries.len(), 2);
+/// assert_eq!(rt; entries[1].digest, [0xcd, 2]);
+/// assert_eq!(rt; entries[1].name, b"b".as_slice());
+/// let refused = read::<2>(rt.alloc(), list, CheckCase::Lower).err();
+/// let why = LineFault::InvalidByte {
+///     index: 0,
+///     byte: b'C',
+/// };
+/// assert_eq!(rt; refused, Some(ListFault::Line { line: 2, why }));
+/// ```
+pub fn read<'a, const N: usize>(
+    alloc: Global,
+    src: &'a [u8],
+    case: CheckCase,
+) -> Result<Vec<Entry<'a, N>>, ListFault>
+    ensures { ReadsList case N src.entry.now result }
+{
+    read_in(alloc, src, case)
+}
+
+/// Like [`read`], but allocates with any allocator.
+///
+/// # Errors
+///
+/// Those of [`read`], at the same events.
+///
+/// ```rust
+/// let entries = read_in::<_, 0>(rt.alloc(), b"  x", CheckCase::None)?;
+/// assert_eq!(rt; entries[0].name, b"x".as_slice());
+/// ```
+pub fn read_in<'a, A: Allocator + Drop, const N: usize>(
+    alloc: A,
+    src: &'a [u8],
+    case: CheckCase,
+) -> Result<Vec<Entry<'a, N>, A>, ListFault>
+    ensures { ReadsList case N src.entry.now result }
+{
+    let mut entries = Vec::new(alloc);
+    read_lines(&mut entries, src, case)?;
+    Ok(entries)
+}
+
+// Reads the lines of a source. Entries read before an error stay.
+fn read_lines<'a, A: Allocator, const N: usize>(
+    entries: &mut Vec<Entry<'a, N>, A>,
+    src: &'a [u8],
+    case: CheckCase,
+) -> Result<(), ListFault>
+    requires { entries.old.items ≡ [] }
+    ensures { MatchResult result
+        (λ _. Lists case src.entry.now entries.new.items)
+        (λ e. ReadFailure case N src.entry.now e) }
+{
+    let mut at = 0;
+    let mut line = 1;
+    while at < src.len() {
+        let rest = &src[at..];
+        let end = line_end(rest);
+        match read_line(&rest[..end], case) {
+            Ok(entry) => {
+                if entries.push(entry).is_err() {
+                    return Err(ListFault::OutOfMemory);
+                }
+            }
+            Err(why) => return Err(ListFault::Line { line, why }),
+        }
+        line += 1;
+        at += end + 1;
+    }
+    Ok(())
+}
+
+// Reads one line, without its newline.
+fn read_line<'a, const N: usize>(line: &'a [u8], case: CheckCase) -> Result<Entry<'a, N>, LineFault>
+    ensures { Answers (line_fault case N line.entry.now) (λ e. LineIs case line.entry.now e) result }
+{
+    // Multiplies only after the line is known to be that long.
+    if line.len().saturating_sub(1) / 2 <= N {
+        return Err(LineFault::ShortLine);
+    }
+    let mut digest = [0; N];
+    if !Backend::plain().decode(&line[..2 * N], &mut digest, case) {
+        return Err(invalid_digit::<N>(line, case));
+    }
+    match mark_in(line[2 * N], line[2 * N + 1]) {
+        None => Err(LineFault::BadMark),
+        Some(binary) => Ok(Entry {
+            digest,
+            binary,
+            name: &line[2 * N + 2..],
+        }),
+    }
+}
+
+// The first invalid byte among a line's digits, one of which is invalid.
+#[cold]
+fn invalid_digit<const N: usize>(line: &[u8], case: CheckCase) -> LineFault
+    requires long { 2 * N ≤ length line.now }
+    requires some { first_invalid case (take (2 * N) line.now) ≢ None }
+    ensures { fault_in N line.now (first_invalid case (take (2 * N) line.now)) ≡ Some result }
+{
+    let index = Backend::plain()
+        .first_invalid(&line[..2 * N], case)
+        .unwrap();
+    LineFault::InvalidByte {
+        index,
+        byte: line[index],
+    }
+}
+
+// Whether the two bytes after the digits mark a file as binary, if they are a space and a mark.
+fn mark_in(space: u8, next: u8) -> Option<bool>
+    ensures { MatchOption result
+        ((space == 32 && (next == 32 || next == 42)) ≡ false)
+        (λ binary. (space ≡ 32) × (next ≡ mark binary)) }
+{
+    if space != b' ' {
+        return None;
+    }
+    match next {
+        b' ' => Some(false),
+        b'*' => Some(true),
+        _ => None,
+    }
+}

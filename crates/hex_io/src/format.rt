@@ -1,0 +1,259 @@
+//! A view of bytes that prints them as hex digits, with padding.
+
+ghost use Rattle.std.specs.Prelude.{◌≡◌, ◌-◌, ◌*◌, ◌^◌, ◌<◌, ◌≤◌, MatchOption, Some, length};
+ghost use Rattle.std.specs.Fmt.{WritesOnOk};
+ghost use Rattle.std.specs.List.{repeat};
+ghost use Rattle.std.specs.Str.{IsAscii};
+ghost use Rattle.hex_core.specs.Text.{lowercase, text};
+ghost use Rattle.hex_codec.specs.Grouped.{piece_count, piece_len};
+ghost use Rattle.hex_io.specs.Frame.{frame, hex_bytes, left_padding, padding_of, plain_flags, sign_and_prefix};
+ghost use Rattle.hex_io.specs.Sink.{Puts};
+
+use crate::digits::{ENCODE_CHUNK, SHORT_SOURCE, encoded, put_digits};
+pub use crate::sink::{Sink, SinkFault, SliceSink, WriteFault, WriterSink, put_all};
+use hex_codec::Group;
+use std::{fmt, str};
+
+// Copies of a padding character put at a time, and the longest character, in bytes.
+const COPIES: usize = 64;
+
+const LONGEST_CHARACTER: usize = 4;
+
+/// Where the fill characters of a padded text go.
+#[derive(Clone, Copy, Debug, PartialEq, Eq)]
+pub enum Align {
+    /// The text is left-aligned, with the fill after it.
+    Left,
+    /// The text is right-aligned, with the fill before it.
+    Right,
+    /// The text is centered; an odd fill character goes after it.
+    Center,
+}
+
+/// How [`Hex::write_to`] writes a view.
+///
+/// The default is the plain text: no sign, no prefix, no width, lowercase digits. If a width is
+/// set, spaces fill it before the text.
+#[derive(Clone, Copy, Debug, PartialEq, Eq)]
+pub struct HexFlags {
+    /// Begin with `+`.
+    pub plus: bool,
+    /// Write `0x` after the sign, also in uppercase and for no bytes.
+    pub prefix: bool,
+    /// Fill up to the width with `0` between prefix and digits; ignores `fill` and `align`.
+    pub zero: bool,
+    /// The minimum length of the text, in characters.
+    pub width: Option<usize>,
+    /// The character that fills up to the width.
+    pub fill: char,
+    /// Where the fill characters go.
+    pub align: Align,
+    /// Write `A` to `F` instead of `a` to `f`.
+    pub upper: bool,
+    /// Put a separator between pieces of the digits; padding is not grouped.
+    pub group: Option<Group>,
+}
+
+impl Default for HexFlags {
+    ghost is_default = { λ flags. flags ≡ plain_flags };
+
+    fn default() -> HexFlags {
+        HexFlags {
+            plus: false,
+            prefix: false,
+            zero: false,
+            width: None,
+            fill: ' ',
+            align: Align::Right,
+            upper: false,
+            group: None,
+        }
+    }
+}
+
+/// Borrowed bytes that print as their hex digits, two per byte, in order.
+///
+/// ```rust
+/// let text = format!(in rt.alloc(); "{}", Hex::new(&[0, 0xab, 0xcd]))?;
+/// assert_eq!(rt; text.as_str(), "00abcd");
+/// ```
+#[derive(Clone, Copy, Debug)]
+pub struct Hex<'a> {
+    bytes: &'a [u8],
+}
+
+impl<'a> Hex<'a> {
+    /// Returns a view of `bytes`, without copying.
+    pub fn new(bytes: &'a [u8]) -> Hex<'a>
+        ensures { hex_bytes result ≡ bytes.entry.now }
+    {
+        Hex { bytes }
+    }
+
+    /// Puts the view's text into `sink`: sign, prefix and digits, padded as `flags` say.
+    ///
+    /// On `Ok` the sink has taken exactly this text more, and counted no failure; an empty text is
+    /// always `Ok`. Padding fills up to `flags.width` characters; a text that long has none.
+    /// Allocates nothing. The number and size of the puts are unspecified.
+    ///
+    /// # Errors
+    ///
+    /// The first failed put ends the call. The sink has then taken a leading part of the text,
+    /// which may end inside a fill character, and counted one more failure.
+    ///
+    /// - [`WriteFault::Sink`] if the sink refused a piece;
+    /// - [`WriteFault::TookNothing`] if it took no byte of a nonempty piece.
+    ///
+    /// ```rust
+    /// let mut buffer = [0; 10];
+    /// let mut sink = SliceSink::new(&mut buffer);
+    /// let flags = HexFlags {
+    ///     prefix: true,
+    ///     zero: true,
+    ///     width: Some(8),
+    ///     ..HexFlags::default()
+    /// };
+    /// Hex::new(&[0xab]).write_to(&mut sink, &flags)?;
+    /// assert_eq!(rt; sink.written(), b"0x0000ab".as_slice());
+    /// ```
+    pub fn write_to<S: Sink>(&self, sink: &mut S, flags: &HexFlags) -> Result<(), WriteFault>
+        requires { (S.state sink.old).failures < 2 ^ 64 - 1 }
+        ensures { Puts (S.state sink.old) (S.state sink.new) result (frame flags.now (hex_bytes self.now)) }
+    {
+        let padding = padding_of_view(flags, self.bytes);
+        if flags.zero {
+            put_all(sink, sign_and_prefix(flags))?;
+            put_copies(sink, b"0", padding)?;
+            put_digits(sink, flags.upper, flags.group, self.bytes)
+        } else {
+            let mut buffer = [0; LONGEST_CHARACTER];
+            let fill = flags.fill.encode_utf8(&mut buffer).as_bytes();
+            let left = before_text(flags.align, padding);
+            put_copies(sink, fill, left)?;
+            put_all(sink, sign_and_prefix(flags))?;
+            put_digits(sink, flags.upper, flags.group, self.bytes)?;
+            put_copies(sink, fill, padding - left)
+        }
+    }
+}
+
+impl fmt::Display for Hex<'_> {
+    ghost output = { λ hex. Some (text lowercase (hex_bytes hex)) };
+
+    fn fmt<W: fmt::Write>(&self, f: &mut fmt::Formatter<W>) -> fmt::Result {
+        if self.bytes.len() <= SHORT_SOURCE {
+            let mut buffer = [0; 2 * SHORT_SOURCE];
+            return write_ascii(f, encoded(self.bytes, false, &mut buffer));
+        }
+        let mut buffer = [0; 2 * ENCODE_CHUNK];
+        for chunk in self.bytes.chunks(ENCODE_CHUNK) {
+            let digits = encoded(chunk, false, &mut buffer);
+            write_ascii(f, digits)?;
+        }
+        Ok(())
+    }
+}
+
+// Writes ASCII bytes as text.
+fn write_ascii<W: fmt::Write>(f: &mut fmt::Formatter<W>, bytes: &[u8]) -> fmt::Result
+    requires { IsAscii bytes.now }
+    ensures { WritesOnOk W.write_str_gives f.old result bytes.now f.new }
+{
+    f.write_str(unsafe { str::from_utf8_unchecked(bytes) })
+}
+
+// The sign and the prefix that `flags` ask for.
+fn sign_and_prefix(flags: &HexFlags) -> &'static [u8]
+    ensures { result.now ≡ sign_and_prefix flags.now }
+{
+    match (flags.plus, flags.prefix) {
+        (true, true) => b"+0x",
+        (true, false) => b"+",
+        (false, true) => b"0x",
+        (false, false) => b"",
+    }
+}
+
+// The number of separators between the digits of `bytes`.
+fn separators(group: Option<Group>, bytes: &[u8]) -> usize
+    ensures { MatchOption group (result ≡ 0)
+        (λ group. result ≡ piece_count (piece_len group) (length bytes.now) - 1) }
+{
+    match group {
+        None => 0,
+        Some(group) => bytes.len().div_ceil(group.every()).saturating_sub(1),
+    }
+}
+
+// The number of padding characters for `bytes`. Subtracts from the width, since a sum of lengths
+// may exceed `usize`.
+fn padding_of_view(flags: &HexFlags, bytes: &[u8]) -> usize
+    ensures { result ≡ padding_of flags.now bytes.now }
+{
+    match flags.width {
+        None => 0,
+        Some(width) => width
+            .saturating_sub(sign_and_prefix(flags).len())
+            .saturating_sub(bytes.len())
+            .saturating_sub(bytes.len())
+            .saturating_sub(separators(flags.group, bytes)),
+    }
+}
+
+// The number of padding characters before the text.
+fn before_text(align: Align, padding: usize) -> usize
+    ensures { result ≡ left_padding align padding }
+{
+    match align {
+        Align::Left => 0,
+        Align::Right => padding,
+        Align::Center => padding / 2,
+    }
+}
+
+// Fills the block with copies of a piece.
+fn copy_into(piece: &[u8], count: usize, block: &mut [u8])
+    requires { length block.old ≡ count * length piece.now }
+    ensures { block.new ≡ repeat count piece.now }
+{
+    let len = piece.len();
+    'copies: for i in 0..count {
+        block[i * len..i * len + len].copy_from_slice(piece);
+    }
+}
+
+// Puts `count` copies of a piece, a block of them at a time.
+fn put_copies<S: Sink>(sink: &mut S, piece: &[u8], count: usize) -> Result<(), WriteFault>
+    requires counts { (S.state sink.old).failures < 2 ^ 64 - 1 }
+    requires short { length piece.now ≤ LONGEST_CHARACTER }
+    ensures { Puts (S.state sink.old) (S.state sink.new) result (repeat count piece.now) }
+{
+    if count == 0 {
+        return Ok(());
+    }
+    let mut buffer = [0; COPIES * LONGEST_CHARACTER];
+    put_by_blocks(sink, piece, count, &mut buffer)
+}
+
+// Puts copies of a short piece, at most as many at a time as fit the buffer.
+fn put_by_blocks<S: Sink>(
+    sink: &mut S,
+    piece: &[u8],
+    count: usize,
+    buffer: &mut [u8],
+) -> Result<(), WriteFault>
+    requires counts { (S.state sink.old).failures < 2 ^ 64 - 1 }
+    requires room { COPIES * length piece.now ≤ length buffer.old }
+    ensures { Puts (S.state sink.old) (S.state sink.new) result (repeat count piece.now) }
+{
+    let most = count.min(COPIES);
+    let block = &mut buffer[..most * piece.len()];
+    copy_into(piece, most, block);
+    let mut left = count;
+    while left > 0 {
+        let copies = left.min(COPIES);
+        put_all(sink, &block[..copies * piece.len()])?;
+        left -= copies;
+    }
+    Ok(())
+}

@@ -1,0 +1,65 @@
+//! Laws of sinks and of digest lists, each as the contract of a function that does nothing. A proof
+//! that needs one calls it.
+
+ghost use Rattle.hex_io.specs.FrameLaws.{BareTextsAreDigits};
+ghost use Rattle.hex_io.specs.ListLaws.{FaultyListsNothing, ListsOneList, ReadNamesAreGood, ReadingInvertsWriting, StrictLinesAreWritten, WritingInvertsStrictReading};
+ghost use Rattle.hex_io.specs.SinkLaws.{PutsInARow, StopsEarlier, StopsFail, StopsInARow, TakesInARow, TakesNothing};
+
+use hex_core::laws::{
+    a_source_is_accepted_where_it_spells_a_list, a_text_spells_one_list, decoding_inverts_encoding,
+    encoding_inverts_strict_decoding,
+};
+
+/// Consecutive puts are one put of the joined bytes, also if the last one failed; no put at all is a
+/// put of nothing.
+pub fn puts_in_a_row_are_one()
+    ensures taken { TakesInARow }
+    ensures stopped { StopsInARow }
+    ensures unput { StopsEarlier }
+    ensures put { PutsInARow }
+    ensures failed { StopsFail }
+    ensures none { TakesNothing }
+{}
+
+/// A text without sign, prefix and width is only its digits: the text of its bytes, grouped if
+/// there is a group.
+pub fn a_bare_text_is_its_digits()
+    ensures { BareTextsAreDigits }
+{}
+
+/// A written list is read as the same entries, under the digits' own case or either.
+pub fn reading_inverts_writing()
+    ensures { ReadingInvertsWriting }
+{
+    decoding_inverts_encoding();
+}
+
+/// A source with a faulty line is no list of any entries, so reading a list fails only if memory
+/// runs out.
+pub fn a_faulty_source_is_no_list()
+    ensures { FaultyListsNothing }
+{
+    a_source_is_accepted_where_it_spells_a_list();
+}
+
+/// A source lists at most one list of entries: two have the same length, and entry by entry the
+/// same digest, mark and name.
+pub fn a_source_lists_one_list()
+    ensures { ListsOneList }
+{
+    a_text_spells_one_list();
+}
+
+/// Entries read under a strict policy are written in its case as the source, line for line, with a
+/// newline after the last if it had none.
+pub fn writing_inverts_strict_reading()
+    ensures source { WritingInvertsStrictReading }
+    ensures lines { StrictLinesAreWritten }
+{
+    encoding_inverts_strict_decoding();
+}
+
+/// Writing refuses no name that reading returned.
+pub fn what_was_read_can_be_written()
+    ensures { ReadNamesAreGood }
+{}
