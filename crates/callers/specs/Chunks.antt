@@ -6,8 +6,8 @@ use Rattle.hex_core.specs.declared.digit.CheckCase.TheVariants as policy
 use Rattle.hex_core.specs.declared.error.Error.{Error}
 use Rattle.hex_core.specs.declared.error.Error.TheVariants.{OddLength}
 use Rattle.hex_core.specs.Text.{Spells, with_front}
-use Rattle.hex_codec.specs.Stream.{feed_refusal, policy_of, position_of}
-use Rattle.hex_codec.specs.declared.stream.Decoder.{Decoder}
+use Rattle.hex_io.specs.Decoder.{feed_refusal, policy_of, position_of}
+use Rattle.hex_io.specs.declared.stream.decoder.Decoder.{Decoder}
 
 -- what two parts are refused for: the first one, then the second, and then a digit without a partner
 abbrev pub parts_refusal : List ℕ → List ℕ → ℕ → ℕ → Option Error

@@ -48,21 +48,5 @@ pub use hex_core::{
 };
 pub use hex_io::{
     Align, Hex, HexFlags, Sink, SinkFault, SliceSink, WriteFault, WriterSink, digests, format, sink,
+    stream,
 };
-
-/// For digits that exceed memory: a decoder that is fed chunks of any length, and calls that decode
-/// or encode a reader into a sink.
-///
-/// ```rust
-/// let mut input: &[u8] = b"68656c6C6F";
-/// let mut buffer = [0; 5];
-/// let mut sink = SliceSink::new(&mut buffer);
-/// let read = faster_hex::stream::decode_stream(&mut input, &mut sink, CheckCase::None);
-/// assert_eq!(rt; read, Ok(5));
-/// assert_eq!(rt; sink.written(), b"hello".as_slice());
-/// ```
-pub mod stream {
-    pub use hex_codec::spaced::{SPACED_CHUNK, SpacedDecoder};
-    pub use hex_codec::stream::Decoder;
-    pub use hex_io::streams::{StreamFault, decode_spaced_stream, decode_stream, encode_stream};
-}

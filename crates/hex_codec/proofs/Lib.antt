@@ -4,9 +4,7 @@ pub mod GroupLemmas
 mod GroupTextLemmas
 pub mod ListLemmas
 mod ReadBack
-pub mod SpacedLemmas
 pub mod SpelledLemmas
-pub mod StreamLemmas
 mod PartLemmas
 mod PlainWalk
 pub mod WriteLemmas

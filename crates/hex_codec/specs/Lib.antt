@@ -7,7 +7,3 @@ pub mod GroupMessage
 pub mod Grouped
 pub mod GroupedText
 pub mod Groups
-pub mod Spaced
-pub mod Stream
-pub mod Unspaced
-pub mod inside

@@ -9,8 +9,6 @@ pub mod grouped;
 pub mod heapless_08;
 pub mod laws;
 mod pieces;
-pub mod spaced;
-pub mod stream;
 pub mod strings;
 
 pub use crate::decode::{

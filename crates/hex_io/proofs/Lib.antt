@@ -2,6 +2,8 @@ mod ChunkFacts
 pub mod FrameFacts
 pub mod PutsLemmas
 mod Repeats
+mod DecoderLemmas
+mod SpacedLemmas
 mod StreamLemmas
 mod EntryLemmas
 mod FaultLemmas

@@ -9,12 +9,12 @@ use Rattle.hex_core.specs.declared.error.Error.{Error}
 use Rattle.hex_core.specs.declared.error.Error.TheVariants.{InvalidChar, OddLength, Overflow}
 use Rattle.hex_core.specs.Refusal.{source_refusal}
 use Rattle.hex_core.specs.Text.{Spells}
-use Rattle.hex_codec.specs.Stream.{SpellsBut, refusal_by}
-use Rattle.hex_codec.proofs.StreamLemmas.{byte-refused, many-refused}
+use Rattle.hex_io.specs.Decoder.{SpellsBut, refusal_by}
+use Rattle.hex_io.proofs.DecoderLemmas.{byte-refused, many-refused}
 use Rattle.hex_io.specs.Sink.{SinkState, Takes}
-use Rattle.hex_io.specs.Streams.{Decodes, DecodesSource, Reading, WroteBefore, stray_of}
-use Rattle.hex_io.specs.declared.streams.StreamFault.{StreamFault}
-use Rattle.hex_io.specs.declared.streams.StreamFault.TheVariants.{Codec}
+use Rattle.hex_io.specs.Stream.{Decodes, DecodesSource, Reading, WroteBefore, stray_of}
+use Rattle.hex_io.specs.declared.stream.StreamFault.{StreamFault}
+use Rattle.hex_io.specs.declared.stream.StreamFault.TheVariants.{Codec}
 
 -- the end of a stream
 pub ended-all : (r : Reading) (left : Option (List ℕ)) (s written : List ℕ) (waiting : Option ℕ) (old new : SinkState) (result : Result ℕ StreamFault) → IsAtEnd left → r.stray s ≡ None

@@ -1,9 +1,13 @@
+pub mod Unspaced
+pub mod Decoder
+pub mod Spaced
+pub mod inside
 pub mod Frame
 pub mod Sink
 pub mod Sinks
 pub mod SinkLaws
 pub mod FrameLaws
-pub mod Streams
+pub mod Stream
 pub mod Lists
 pub mod Message
 pub mod ListCalls

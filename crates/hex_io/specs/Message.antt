@@ -9,8 +9,8 @@ use Rattle.hex_io.specs.declared.digests.ListFault.{ListFault}
 use Rattle.hex_io.specs.declared.digests.ListFault.TheVariants.{Line, OutOfMemory}
 use Rattle.hex_io.specs.declared.sink.WriteFault.{WriteFault}
 use Rattle.hex_io.specs.declared.sink.WriteFault.TheVariants.{Sink, TookNothing}
-use Rattle.hex_io.specs.declared.streams.StreamFault.{StreamFault}
-use Rattle.hex_io.specs.declared.streams.StreamFault.TheVariants.{Codec, Read, Write}
+use Rattle.hex_io.specs.declared.stream.StreamFault.{StreamFault}
+use Rattle.hex_io.specs.declared.stream.StreamFault.TheVariants.{Codec, Read, Write}
 use Rattle.hex_io.specs.declared.writing.ListWriteFault.{ListWriteFault}
 use Rattle.hex_io.specs.declared.writing.ListWriteFault.TheVariants as list
 

@@ -8,7 +8,7 @@ pub mod format;
 pub mod laws;
 mod lines;
 pub mod sink;
-pub mod streams;
+pub mod stream;
 mod writing;
 
 pub use crate::format::{Align, Hex, HexFlags};

@@ -1,8 +1,8 @@
 //! Rows of digits that are fed in chunks, whose lengths look random.
 
 use crate::terms::{Destination, Given};
-use hex_codec::stream::Decoder;
 use hex_core::Error;
+use hex_io::stream::Decoder;
 use test_kit::Row;
 
 // The most chunks of a cutting, more than twice as many as the longest source has digits.

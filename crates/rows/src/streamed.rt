@@ -3,7 +3,7 @@
 
 use crate::taking::{Mode, Taking};
 use hex_core::CheckCase;
-use hex_io::streams::{StreamFault, decode_spaced_stream, decode_stream, encode_stream};
+use hex_io::stream::{StreamFault, decode_spaced_stream, decode_stream, encode_stream};
 use hex_io::{SinkFault, WriteFault};
 use std::io::ErrorKind;
 use test_kit::fakes::{Giver, Pattern};

@@ -2,8 +2,8 @@
 use Rattle.std.proofs.Common.{◌≡◌, ◌++◌, List, ℕ, Result, Ok, Err, subst}
 use Rattle.std.specs.Prelude.{OnErr}
 use Rattle.hex_core.specs.declared.error.Error.{Error}
-use Rattle.hex_codec.specs.declared.stream.Decoder.{Decoder}
-use Rattle.hex_codec.specs.Stream.{Feeds, HasFed, WritesAsOneCall, policy_of}
+use Rattle.hex_io.specs.declared.stream.decoder.Decoder.{Decoder}
+use Rattle.hex_io.specs.Decoder.{Feeds, HasFed, WritesAsOneCall, policy_of}
 use Rattle.callers.specs.Chunks.{DecodesMore, PairsSpell}
 use Rattle.callers.proofs.chunks.decode_more.Goals as goal
 

@@ -1,0 +1,277 @@
+//! For digits that exceed memory: a decoder that is fed chunks of any length, and calls that decode
+//! or encode all that a reader gives into a sink, in constant memory.
+//!
+//! ```rust
+//! let mut input: &[u8] = b"68656c6C6F";
+//! let mut buffer = [0; 5];
+//! let mut sink = SliceSink::new(&mut buffer);
+//! assert_eq!(rt; decode_stream(&mut input, &mut sink, CheckCase::None), Ok(5));
+//! assert_eq!(rt; sink.written(), b"hello".as_slice());
+//! ```
+
+ghost use Rattle.std.specs.Prelude.{◌≡◌, ◌<◌, ◌-◌, ◌^◌, ◌↔◌, ℕ, IsErrAnd, IsTrue, List, MatchResult, Some, length};
+ghost use Rattle.std.specs.Io.{ReadsAtMost};
+ghost use Rattle.std.specs.Io.KnownBytes.{ReadConsumes};
+ghost use Rattle.std.specs.IoError.{error_kind};
+ghost use Rattle.hex_core.specs.declared.error.Error.TheVariants.{OddLength};
+ghost use Rattle.hex_core.specs.Refusal.{source_refusal};
+ghost use Rattle.hex_core.specs.Text.{Spells};
+ghost use Rattle.hex_io.specs.Decoder.{HasFed, policy_of};
+ghost use Rattle.hex_io.specs.Message.{stream_fault_text};
+ghost use Rattle.hex_io.specs.Stream.{DecodesSpacedStream, DecodesStream, EncodesStream};
+ghost use Rattle.hex_io.specs.declared.stream.StreamFault.TheVariants as fault;
+
+mod decoder;
+mod spaced;
+
+use crate::digits::encoded;
+use crate::sink::{Sink, WriteFault, put_all};
+pub use crate::stream::decoder::Decoder;
+pub use crate::stream::spaced::{SPACED_CHUNK, SpacedDecoder};
+use hex_core::{CheckCase, Error};
+use std::io::{self, ErrorKind, Read};
+use std::{error, fmt};
+
+// Bytes in a chunk, which has twice as many digits.
+const STREAM_CHUNK: usize = 4_096;
+
+/// An error of decoding or encoding a stream.
+///
+/// [`Display`](fmt::Display) prints exactly these texts:
+///
+/// | Case | Text |
+/// |---|---|
+/// | `Read` | `read failed` |
+/// | `Codec` | that of the [`Error`] |
+/// | `Write` | that of the [`WriteFault`] |
+///
+/// ```rust
+/// let fault = StreamFault::Read;
+/// assert_eq!(rt; fault.to_string(rt.alloc())?.as_str(), "read failed");
+/// let fault = StreamFault::from(Error::OddLength);
+/// assert_eq!(rt;
+///     fault.to_string(rt.alloc())?.as_str(),
+///     "hex input length must be even"
+/// );
+/// let fault = StreamFault::from(WriteFault::TookNothing);
+/// assert_eq!(rt; fault.to_string(rt.alloc())?.as_str(), "sink took nothing");
+/// ```
+#[derive(Clone, Copy, Debug, PartialEq, Eq)]
+pub enum StreamFault {
+    /// A read failed, and was not just interrupted.
+    Read,
+    /// The digits are refused, or the number of bytes exceeds `usize`.
+    Codec(Error),
+    /// A put failed.
+    Write(WriteFault),
+}
+
+impl fmt::Display for StreamFault {
+    ghost output = { λ fault. Some (stream_fault_text fault) };
+
+    fn fmt<W: fmt::Write>(&self, f: &mut fmt::Formatter<W>) -> fmt::Result {
+        match self {
+            StreamFault::Read => f.write_str("read failed"),
+            StreamFault::Codec(refusal) => refusal.fmt(f),
+            StreamFault::Write(failed) => failed.fmt(f),
+        }
+    }
+}
+
+impl error::Error for StreamFault {}
+
+impl From<Error> for StreamFault {
+    ghost from_gives = { λ refusal given. given ≡ fault.Codec refusal };
+
+    fn from(refusal: Error) -> StreamFault {
+        StreamFault::Codec(refusal)
+    }
+}
+
+impl From<WriteFault> for StreamFault {
+    ghost from_gives = { λ failed given. given ≡ fault.Write failed };
+
+    fn from(failed: WriteFault) -> StreamFault {
+        StreamFault::Write(failed)
+    }
+}
+
+/// Decodes all that a reader gives into a sink, and returns the number of decoded bytes.
+///
+/// Allocates nothing: two buffers on the stack serve a stream of any length. Retries interrupted
+/// reads.
+///
+/// # Errors
+///
+/// Each comes after the bytes of earlier chunks were put:
+///
+/// - [`StreamFault::Read`] if a read failed;
+/// - [`StreamFault::Codec`] with [`Error::InvalidChar`], which has the first byte that is not a hex
+///   digit, and its index in the stream: then the bytes of the whole pairs of the chunks before
+///   were put, and nothing of its own chunk;
+/// - [`StreamFault::Codec`] with [`Error::OddLength`] if all are digits and the last one has no
+///   partner: then the bytes of all whole pairs were put;
+/// - [`StreamFault::Codec`] with [`Error::Overflow`] if the number of digits exceeds `usize`;
+/// - [`StreamFault::Write`] if a put failed.
+///
+/// ```rust
+/// let mut input: &[u8] = b"68656C6c6f";
+/// let mut buffer = [0; 5];
+/// let mut sink = SliceSink::new(&mut buffer);
+/// let written = decode_stream(&mut input, &mut sink, CheckCase::None);
+/// assert_eq!(rt; written, Ok(5));
+/// assert_eq!(rt; sink.written(), b"hello".as_slice());
+/// ```
+pub fn decode_stream<R: Read, S: Sink>(
+    reader: &mut R,
+    sink: &mut S,
+    case: CheckCase,
+) -> Result<usize, StreamFault>
+    requires { (S.state sink.old).failures < 2 ^ 64 - 1 }
+    ensures { DecodesStream case (R.remaining reader.old) (R.remaining reader.new)
+        (S.state sink.old) (S.state sink.new) result }
+{
+    let mut chunk = [0; 2 * STREAM_CHUNK];
+    let mut bytes = [0; STREAM_CHUNK];
+    let mut decoder = Decoder::new(case);
+    'reads: loop {
+        let count = match read_again(reader, &mut chunk) {
+            Ok(0) => return ended(decoder),
+            Ok(count) => count,
+            Err(_) => return Err(StreamFault::Read),
+        };
+        let written = match decoder.feed(&chunk[..count], &mut bytes) {
+            Ok(written) => written,
+            Err(refusal) => return Err(StreamFault::Codec(refusal)),
+        };
+        if let Err(fault) = put_all(sink, &bytes[..written]) {
+            return Err(StreamFault::Write(fault));
+        }
+    }
+}
+
+/// Like [`decode_stream`], but skips ASCII white space among the digits, as `xxd -p` and `openssl`
+/// print it.
+///
+/// # Errors
+///
+/// Those of [`decode_stream`], at the same events. [`Error::InvalidChar`] has the first byte that is
+/// neither white space nor a hex digit, and its index in the whole stream.
+///
+/// ```rust
+/// let mut input: &[u8] = b"6865 6C6\nc6f\n";
+/// let mut buffer = [0; 5];
+/// let mut sink = SliceSink::new(&mut buffer);
+/// let written = decode_spaced_stream(&mut input, &mut sink, CheckCase::None);
+/// assert_eq!(rt; written, Ok(5));
+/// assert_eq!(rt; sink.written(), b"hello".as_slice());
+/// ```
+pub fn decode_spaced_stream<R: Read, S: Sink>(
+    reader: &mut R,
+    sink: &mut S,
+    case: CheckCase,
+) -> Result<usize, StreamFault>
+    requires { (S.state sink.old).failures < 2 ^ 64 - 1 }
+    ensures { DecodesSpacedStream case (R.remaining reader.old) (R.remaining reader.new)
+        (S.state sink.old) (S.state sink.new) result }
+{
+    let mut chunk = [0; SPACED_CHUNK];
+    let mut bytes = [0; SPACED_CHUNK];
+    let mut decoder = SpacedDecoder::new(case);
+    'reads: loop {
+        let count = match read_again(reader, &mut chunk) {
+            Ok(0) => return ended(decoder.digits()),
+            Ok(count) => count,
+            Err(_) => return Err(StreamFault::Read),
+        };
+        let written = match decoder.feed(&chunk[..count], &mut bytes) {
+            Ok(written) => written,
+            Err(refusal) => return Err(StreamFault::Codec(refusal)),
+        };
+        if let Err(fault) = put_all(sink, &bytes[..written]) {
+            return Err(StreamFault::Write(fault));
+        }
+    }
+}
+
+/// Writes the digits of all that a reader gives into a sink, and returns the number of bytes read.
+///
+/// Allocates nothing: two buffers on the stack serve a stream of any length. Retries interrupted
+/// reads.
+///
+/// # Errors
+///
+/// Each comes after the digits of earlier chunks were put:
+///
+/// - [`StreamFault::Read`] if a read failed;
+/// - [`StreamFault::Codec`] with [`Error::Overflow`] if the number of bytes exceeds `usize`;
+/// - [`StreamFault::Write`] if a put failed.
+///
+/// ```rust
+/// let mut input: &[u8] = b"hello";
+/// let mut buffer = [0; 10];
+/// let mut sink = SliceSink::new(&mut buffer);
+/// assert_eq!(rt; encode_stream(&mut input, &mut sink, false), Ok(5));
+/// assert_eq!(rt; sink.written(), b"68656c6c6f".as_slice());
+/// ```
+pub fn encode_stream<R: Read, S: Sink>(
+    reader: &mut R,
+    sink: &mut S,
+    upper: bool,
+) -> Result<usize, StreamFault>
+    requires { (S.state sink.old).failures < 2 ^ 64 - 1 }
+    ensures { EncodesStream upper (R.remaining reader.old) (R.remaining reader.new)
+        (S.state sink.old) (S.state sink.new) result }
+{
+    let mut chunk = [0; STREAM_CHUNK];
+    let mut text = [0; 2 * STREAM_CHUNK];
+    let mut total: usize = 0;
+    'reads: loop {
+        let count = match read_again(reader, &mut chunk) {
+            Ok(0) => return Ok(total),
+            Ok(count) => count,
+            Err(_) => return Err(StreamFault::Read),
+        };
+        let digits = encoded(&chunk[..count], upper, &mut text);
+        if let Err(fault) = put_all(sink, digits) {
+            return Err(StreamFault::Write(fault));
+        }
+        total = match total.checked_add(count) {
+            Some(total) => total,
+            None => return Err(StreamFault::Codec(Error::Overflow)),
+        };
+    }
+}
+
+// The result at the end of a stream: the number of decoded bytes, or the error of odd length.
+fn ended(decoder: Decoder) -> Result<usize, StreamFault>
+    ensures { (fed written : List ℕ) → HasFed decoder fed written → MatchResult result
+        (λ count. Spells (policy_of decoder) fed written × (count ≡ length written))
+        (λ e. (e ≡ fault.Codec OddLength) × (source_refusal (policy_of decoder) fed ≡ Some OddLength)) }
+{
+    match decoder.finish() {
+        Ok(()) => Ok(decoder.position() / 2),
+        Err(refusal) => Err(StreamFault::Codec(refusal)),
+    }
+}
+
+// One read, retried if interrupted.
+fn read_again<R: Read>(reader: &mut R, buf: &mut [u8]) -> io::Result<usize>
+    ensures bound { ReadsAtMost result buf.new }
+    ensures bytes { ReadConsumes (R.remaining reader.old) (R.remaining reader.new) result buf.new }
+{
+    'tries: for _ in 0..u64::MAX {
+        let answer = reader.read(buf);
+        if !was_interrupted(&answer) {
+            return answer;
+        }
+    }
+    Err(io::Error::from(ErrorKind::Interrupted))
+}
+
+// Whether a read returned nothing because it was interrupted.
+fn was_interrupted(answer: &io::Result<usize>) -> bool
+    ensures { IsTrue result ↔ IsErrAnd answer.now (λ e. error_kind e ≡ ErrorKind.Interrupted) }
+{
+    matches!(answer, Err(error) if error.kind() == ErrorKind::Interrupted)
+}
