@@ -7,7 +7,7 @@ ghost use Rattle.callers.specs.Chunks.{DecodesMore, parts_refusal};
 
 use faster_hex::stream::Decoder;
 use faster_hex::{CheckCase, Error};
-use hex_codec::laws::{any_cutting_is_decoded_as_one_call, every_decoder_has_been_fed};
+use hex_io::laws::{any_cutting_is_decoded_as_one_call, every_decoder_has_been_fed};
 
 /// Decodes digits in two parts, of which the first may end within a pair, each into the start of
 /// its own buffer, and returns the number of bytes in each.

@@ -1,10 +1,9 @@
-//! Laws of grouped texts and of digits in chunks, each as the contract of a function that does
-//! nothing. A proof that needs one calls it.
+//! Laws of grouped texts, each as the contract of a function that does nothing. A proof that needs
+//! one calls it.
 
 ghost use Rattle.hex_codec.specs.GroupLaws.{FirstPieceIsTheFront, GroupSpellsOneList, GroupedTextsAreDigitsAndSeparators, GroupedTextsAreLong, GroupingInvertsStrictReading, LengthsTellCounts, ReadingInvertsGrouping, ReadsWhatGroupSpells, TextsAreDigits, WholePiecesJoin};
 ghost use Rattle.std.specs.Prelude.{⊤, MatchOption, option_map, vec_items};
 ghost use Rattle.hex_core.specs.Laws.{AreBytes};
-ghost use Rattle.hex_codec.specs.Stream.{CuttingsAgree, DecodersWereFed, WritesAsOneCall};
 
 use hex_core::laws::{
     a_slice_holds_bytes, a_source_is_accepted_where_it_spells_a_list, a_text_spells_one_list,
@@ -72,20 +71,3 @@ pub fn an_optional_vec_holds_bytes<A: Allocator>(bytes: &Option<Vec<u8, A>>)
 pub fn whole_pieces_are_joined_by_the_separator()
     ensures { WholePiecesJoin }
 {}
-
-/// A decoder has written what one call writes for the whole pairs of all it was fed, whatever the
-/// chunks were.
-pub fn any_cutting_is_decoded_as_one_call()
-    ensures one { WritesAsOneCall }
-    ensures same { CuttingsAgree }
-{
-    a_text_spells_one_list();
-}
-
-/// Every decoder has been fed some digits and has written their bytes, so the contract of a feed
-/// also covers a decoder that is passed in.
-pub fn every_decoder_has_been_fed()
-    ensures { DecodersWereFed }
-{
-    decoding_inverts_encoding();
-}

@@ -1,6 +1,7 @@
-//! Laws of sinks and of digest lists, each as the contract of a function that does nothing. A proof
-//! that needs one calls it.
+//! Laws of digits in chunks, of sinks and of digest lists, each as the contract of a function that
+//! does nothing. A proof that needs one calls it.
 
+ghost use Rattle.hex_io.specs.Decoder.{CuttingsAgree, DecodersWereFed, WritesAsOneCall};
 ghost use Rattle.hex_io.specs.FrameLaws.{BareTextsAreDigits};
 ghost use Rattle.hex_io.specs.ListLaws.{FaultyListsNothing, ListsOneList, ReadNamesAreGood, ReadingInvertsWriting, StrictLinesAreWritten, WritingInvertsStrictReading};
 ghost use Rattle.hex_io.specs.SinkLaws.{PutsInARow, StopsEarlier, StopsFail, StopsInARow, TakesInARow, TakesNothing};
@@ -9,6 +10,23 @@ use hex_core::laws::{
     a_source_is_accepted_where_it_spells_a_list, a_text_spells_one_list, decoding_inverts_encoding,
     encoding_inverts_strict_decoding,
 };
+
+/// A decoder has written what one call writes for the whole pairs of all it was fed, whatever the
+/// chunks were.
+pub fn any_cutting_is_decoded_as_one_call()
+    ensures one { WritesAsOneCall }
+    ensures same { CuttingsAgree }
+{
+    a_text_spells_one_list();
+}
+
+/// Every decoder has been fed some digits and has written their bytes, so the contract of a feed
+/// also covers a decoder that is passed in.
+pub fn every_decoder_has_been_fed()
+    ensures { DecodersWereFed }
+{
+    decoding_inverts_encoding();
+}
 
 /// Consecutive puts are one put of the joined bytes, also if the last one failed; no put at all is a
 /// put of nothing.

@@ -7,8 +7,8 @@ use Rattle.hex_core.specs.declared.digit.CheckCase.{CheckCase}
 use Rattle.hex_core.specs.declared.digit.CheckCase.TheVariants as policy
 use Rattle.hex_core.specs.Laws.{AreBytes, DecodingInvertsEncoding}
 use Rattle.hex_core.specs.Text.{Spells, text}
-use Rattle.hex_codec.proofs.StreamLemmas.{spells-but}
-use Rattle.hex_codec.proofs.laws.every_decoder_has_been_fed.Goals as goal
+use Rattle.hex_io.proofs.DecoderLemmas.{spells-but}
+use Rattle.hex_io.proofs.laws.every_decoder_has_been_fed.Goals as goal
 
 zeros-small : (n : ℕ) → AreBytes (replicate n 0)
 zeros-small n = All-replicate (λ b. b < 256) n 0 (omega arith)

@@ -1,7 +1,7 @@
 -- Both wrote what the whole pairs spell, which is one list.
 use Rattle.std.proofs.Common.{◌∙◌, sym}
-use Rattle.hex_codec.proofs.StreamLemmas.{whole-pairs}
-use Rattle.hex_codec.proofs.laws.any_cutting_is_decoded_as_one_call.Goals as goal
+use Rattle.hex_io.proofs.DecoderLemmas.{whole-pairs}
+use Rattle.hex_io.proofs.laws.any_cutting_is_decoded_as_one_call.Goals as goal
 
 pub returns-clause-same : goal.returns-clause-same
 returns-clause-same c = λ decoder other fed xs ys policy first second.
