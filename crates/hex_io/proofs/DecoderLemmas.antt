@@ -1,23 +1,78 @@
--- Digits that come in chunks.
-use Rattle.std.proofs.Common.{◌≡◌, ℕ, ◌+◌, ◌*◌, ◌/◌, ◌^◌, ◌<◌, ◌≤◌, List, [], ◌∷◌, ◌++◌, length, length-append}
-use Rattle.std.proofs.Common.{take, drop, slice_index, Option, Some, None, refl, sym, ap, append_assoc, arith}
-use Rattle.std.specs.Prelude.{option_map, IsSome}
+-- Sources that come in chunks.
+use Rattle.std.proofs.Common.{◌≡◌, ℕ, ◌+◌, ◌*◌, ◌/◌, ◌^◌, ◌<◌, ◌≤◌, Bool, true, false, List, [], ◌∷◌, ◌++◌, length, length-append}
+use Rattle.std.proofs.Common.{take, drop, take-append-drop, length-drop, ◌-◌, slice_index, is_none, Option, Some, None, refl, sym, ◌∙◌, ap, append_assoc, arith, not}
+use Rattle.std.specs.Prelude.{option_map, IsSome, if◌then◌else◌}
 use Rattle.std.specs.Option.{ForSome, option_to_list}
 use Rattle.std.proofs.Math.Seq.{drop-append_seam, take-append_seam}
 use Rattle.std.proofs.lemmas.Bool.Decides.{nat_tests}
 use Rattle.std.proofs.lemmas.Grind.{common_steps}
+use Rattle.std.proofs.lemmas.List.{drop-drop, take_rest}
+use Rattle.std.proofs.lemmas.List.Elements.{filter-append, filter_more}
+use Rattle.std.proofs.lemmas.List.Filters.{length-filter_both, length-filter_more}
+use borrow.Rule.Slice.PartMut.{put_mid}
 use Rattle.hex_core.specs.declared.digit.CheckCase.{CheckCase}
 use Rattle.hex_core.specs.declared.error.Error.{Error}
 use Rattle.hex_core.specs.declared.error.Error.TheVariants.{InvalidChar, Overflow}
 use Rattle.hex_core.specs.Digit.{value}
-use Rattle.hex_core.specs.Refusal.{first_bad_char}
 use Rattle.hex_core.specs.Search.{first_invalid}
-use Rattle.hex_core.specs.Text.{Spells}
-use Rattle.hex_core.proofs.JoinLemmas.{bad-behind, spells-joined, valid-both, valid-parts}
+use Rattle.hex_core.specs.Text.{Spells, with_front}
+use Rattle.hex_core.proofs.JoinLemmas.{back_at, spells-joined, valid-both, valid-parts}
 use Rattle.hex_core.proofs.LawProofs.{valid-spelled}
+use Rattle.hex_core.proofs.PositionLemmas.{before_none, none_joined, position-joined}
 use Rattle.hex_core.proofs.SearchLemmas.{none_valid}
-use Rattle.hex_io.specs.Decoder.{SpellsBut, feed_refusal, pairs_more, refusal_by}
-use Rattle.hex_io.specs.inside.{bad_char_behind}
+use Rattle.hex_codec.proofs.ListLemmas.{put-behind}
+use Rattle.hex_io.specs.Decoder.{PairsSpell, feed_refusal, pairs_more, refusal_by}
+use Rattle.hex_io.specs.Reading.{SpellsBut, digits_in, first_stray, is_solid, is_stray, spaced, stray_of, unspaced}
+use Rattle.hex_io.specs.declared.stream.decoder.Reading.{Reading}
+use Rattle.hex_io.specs.inside.{DecodesChunk, stray_behind}
+
+-- ---- what has to be digits
+
+-- those of sources in a row are joined, and no more than the bytes
+pub digits-joined : (r : Reading) (a b : List ℕ) → digits_in r (a ++ b) ≡ digits_in r a ++ digits_in r b
+digits-joined r a b = by_kind r.skips
+  where
+    by_kind : (t : Bool) → (if t then unspaced (a ++ b) else (a ++ b)) ≡ (if t then unspaced a else a) ++ (if t then unspaced b else b)
+    by_kind true = filter-append is_solid a b
+    by_kind false = refl
+
+pub digits-le : (r : Reading) (s : List ℕ) → length (digits_in r s) ≤ length s
+digits-le r s = by_kind r.skips
+  where
+    by_kind : (t : Bool) → length (if t then unspaced s else s) ≤ length s
+    by_kind true = omega (arith, length-filter_both is_solid (λ b. not (is_solid b)) (λ _. refl) s)
+    by_kind false = omega arith
+
+pub digits-plain : (r : Reading) (s : List ℕ) → r.skips ≡ false → digits_in r s ≡ s
+digits-plain r s is = rw is refl
+
+pub digits-spaced : (r : Reading) (s : List ℕ) → r.skips ≡ true → digits_in r s ≡ unspaced s
+digits-spaced r s is = rw is refl
+
+-- no byte is stray where all digits are valid
+solid-valid : (c : CheckCase) (s : List ℕ) → first_invalid c (unspaced s) ≡ None → first_stray (spaced c) s ≡ None
+solid-valid c [] valid = refl
+solid-valid c (b ∷ s) valid = by_first (is_solid b) refl (solid-valid c s)
+  where
+    both : first_stray (spaced c) (b ∷ []) ≡ None → first_stray (spaced c) s ≡ None → first_stray (spaced c) (b ∷ s) ≡ None
+    both one rest = (none_joined (is_stray (spaced c)) (b ∷ []) s).1 (one, rest)
+
+    by_first : (t : Bool) → is_solid b ≡ t → (first_invalid c (unspaced s) ≡ None → first_stray (spaced c) s ≡ None) → first_stray (spaced c) (b ∷ s) ≡ None
+    by_first true is rest =
+        let all : unspaced (b ∷ s) ≡ b ∷ unspaced s = rw is refl in
+        let parts = valid-parts c (b ∷ []) (unspaced s) (rw all at valid) in
+        let same : first_stray (spaced c) (b ∷ []) ≡ first_invalid c (b ∷ []) = rw is refl in
+        both (same ∙ parts.0) (rest parts.1)
+    by_first false is rest =
+        let all : unspaced (b ∷ s) ≡ unspaced s = rw is refl in
+        both (rw is refl) (rest (rw all at valid))
+
+pub none-stray : (r : Reading) (s : List ℕ) → first_invalid r.case (digits_in r s) ≡ None → first_stray r s ≡ None
+none-stray r s = by_kind r.skips
+  where
+    by_kind : (t : Bool) → first_invalid r.case (if t then unspaced s else s) ≡ None → first_stray (record { case = r.case; skips = t }) s ≡ None
+    by_kind true valid = solid-valid r.case s valid
+    by_kind false valid = valid
 
 -- ---- single digits
 
@@ -39,6 +94,10 @@ spells-but c digits part bytes o parts spelled read = record {
   spelled = spelled;
 }
 
+-- a digit alone that waits, or none, spells nothing
+pub spells-none : (c : CheckCase) (o : Option ℕ) → ForSome o (λ d. IsSome (value c d)) → SpellsBut c (option_to_list o) [] (option_to_list o)
+spells-none c o read = spells-but c (option_to_list o) [] [] o refl (record { twice = refl; each = λ i lt. absurd (omega arith) }) read
+
 -- how many digits they are
 pub count-but : (c : CheckCase) (digits bytes : List ℕ) (o : Option ℕ) → SpellsBut c digits bytes (option_to_list o) → (length digits ≡ 2 * length bytes + length (option_to_list o)) × (length (option_to_list o) ≤ 1)
 count-but c digits bytes o but = (omega (arith, ap length but.parts, length-append but.pairs (option_to_list o), but.spelled.twice), grind (arith, common_steps))
@@ -58,15 +117,53 @@ pair-first c high byte [] bytes v some spelled rest = absurd (omega (arith, some
 pair-first c high byte (low ∷ tail) bytes v some spelled rest =
     but-joined c (high ∷ low ∷ []) tail (byte ∷ []) bytes [] v (record { valid = valid-spelled c _ _ spelled; pairs = _; parts = refl; spelled = spelled }) rest
 
+-- one digit more of a source with white space
+pub but-more : (c : CheckCase) (front s bytes more v w : List ℕ) (i : ℕ) → i < length s → is_solid (slice_index s i) ≡ true → SpellsBut c (front ++ unspaced (take i s)) bytes v
+    → SpellsBut c (v ++ slice_index s i ∷ []) more w → SpellsBut c (front ++ unspaced (take (i + 1) s)) (bytes ++ more) w
+but-more c front s bytes more v w i inside solid first second =
+    let next : unspaced (take (i + 1) s) ≡ unspaced (take i s) ++ slice_index s i ∷ [] = rw (filter_more is_solid s i 0 inside, solid) refl in
+    rw (next, ← append_assoc front (unspaced (take i s)) (slice_index s i ∷ [])) (but-joined c (front ++ unspaced (take i s)) (slice_index s i ∷ []) bytes more v w first second)
+
+-- of which there are more than before it
+pub fewer-before : (s : List ℕ) (i : ℕ) → i < length s → is_solid (slice_index s i) ≡ true → length (unspaced (take i s)) < length (unspaced s)
+fewer-before s i inside solid =
+    let more = rw solid at (length-filter_more is_solid s i 0 inside) in
+    let parts : unspaced s ≡ unspaced (take (i + 1) s) ++ unspaced (drop (i + 1) s) =
+    rw (← filter-append is_solid (take (i + 1) s) (drop (i + 1) s), take-append-drop (i + 1) s) refl in
+    omega (arith, more, ap length parts, length-append (unspaced (take (i + 1) s)) (unspaced (drop (i + 1) s)))
+
+-- and which is valid where no byte is stray
+pub solid-digit : (c : CheckCase) (s : List ℕ) (i : ℕ) → first_stray (spaced c) s ≡ None → i < length s → is_solid (slice_index s i) ≡ true → first_invalid c (slice_index s i ∷ []) ≡ None
+solid-digit c s i none inside solid =
+    let valid : is_none (value c (slice_index s i)) ≡ false = rw solid at (before_none (is_stray (spaced c)) s none i inside) in
+    rw valid refl
+
+pub chunk-read : (r : Reading) (waiting : Option ℕ) (src old new : List ℕ) (result : Option (Option ℕ)) → first_stray r src ≡ None → DecodesChunk r waiting src old new result → IsSome result
+chunk-read r waiting src old new (Some more) none read = refl
+chunk-read r waiting src old new None none refused = absurd (refused.0 none)
+
+-- bytes that are written behind others
+pub put-more : (old dst part xs ys : List ℕ) (n : ℕ) → dst ≡ with_front old xs → n ≡ length xs → part ≡ with_front (take (length dst - n) (drop n dst)) ys
+    → length xs + length ys ≤ length old → put_mid n (length dst - n) dst part ≡ with_front old (xs ++ ys)
+put-more old dst part xs ys n all is new fits =
+    let behind = drop (length xs) old in let rest = drop n dst in
+    let put : part ≡ with_front rest ys = new ∙ ap (λ to. with_front to ys) (take_rest dst n) in
+    let long : length dst ≡ length xs + length behind = ap length all ∙ length-append xs behind in
+    put-behind n dst part (omega (arith, is, long))
+    (omega (arith, is, long, fits, ap length put, length-append ys (drop (length ys) rest), length-drop (length ys) rest, length-drop n dst, length-drop (length xs) old))
+    ∙ rw (put, is, all, take-append_seam xs behind, drop-append_seam xs behind, drop-drop (length ys) (length xs) old, length-append xs ys)
+    (sym (append_assoc xs ys (drop (length xs + length ys) old)))
+
 -- ---- what a feed refuses
 
--- the first invalid byte behind valid digits is that of them all
-pub bad-behind-all : (c : CheckCase) (fed src : List ℕ) (had : ℕ) → first_invalid c fed ≡ None → had ≡ length fed → bad_char_behind c had src ≡ first_bad_char c (fed ++ src)
-bad-behind-all c fed src had none is = rw is (by_first (first_invalid c src) refl)
+-- the first stray byte behind a source that has none is that of both
+pub stray-behind-all : (r : Reading) (fed src : List ℕ) (had : ℕ) → first_stray r fed ≡ None → had ≡ length fed → stray_behind r had src ≡ stray_of r (fed ++ src)
+stray-behind-all r fed src had none is = rw (is, position-joined (is_stray r) fed src, none) (by_first (first_stray r src))
   where
-    by_first : (o : Option ℕ) → first_invalid c src ≡ o → option_map (λ f. InvalidChar (length fed + f) (slice_index src f)) o ≡ first_bad_char c (fed ++ src)
-    by_first (Some f) at = sym (bad-behind c fed src f (slice_index src f) none (rw at refl))
-    by_first None at = rw (valid-both c fed src none at) refl
+    by_first : (o : Option ℕ) → option_map (λ i. InvalidChar (length fed + i) (slice_index src i)) o
+        ≡ option_map (λ i. InvalidChar i (slice_index (fed ++ src) i)) (option_map (λ i. length fed + i) o)
+    by_first (Some i) = rw (back_at fed src i (length fed + i) refl) refl
+    by_first None = refl
 
 pub many-refused : (all more room : ℕ) (bad : Option Error) → 2 ^ 64 ≤ all → refusal_by all more room bad ≡ Some Overflow
 many-refused all more room bad many = grind (arith, nat_tests, many)
@@ -74,17 +171,18 @@ many-refused all more room bad many = grind (arith, nat_tests, many)
 pub byte-refused : (all more room : ℕ) (bad : Option Error) → all < 2 ^ 64 → more ≤ room → refusal_by all more room bad ≡ bad
 byte-refused all more room bad few fits = grind (arith, nat_tests, few, fits)
 
-pub refused-byte : (c : CheckCase) (fed src : List ℕ) (room : ℕ) → length fed + length src < 2 ^ 64 → pairs_more (length fed) (length src) ≤ room → feed_refusal c fed src room ≡ first_bad_char c (fed ++ src)
-refused-byte c fed src room few fits = byte-refused _ _ room _ few fits
+pub refused-byte : (r : Reading) (fed src : List ℕ) (room : ℕ) → length fed + length src < 2 ^ 64 → pairs_more (length (digits_in r fed)) (length (digits_in r src)) ≤ room
+    → feed_refusal r fed src room ≡ stray_of r (fed ++ src)
+refused-byte r fed src room few fits = byte-refused _ _ room _ few fits
 
--- valid digits have no bad character
-pub valid-fed : (c : CheckCase) (s : List ℕ) → first_invalid c s ≡ None → first_bad_char c s ≡ None
-valid-fed c s none = rw none refl
+-- valid digits have no stray byte among them
+pub none-refused : (r : Reading) (s : List ℕ) → first_invalid r.case (digits_in r s) ≡ None → stray_of r s ≡ None
+none-refused r s valid = rw (none-stray r s valid) refl
 
 -- ---- all feeds are one
 
-pub whole-pairs : (c : CheckCase) (fed written : List ℕ) (o : Option ℕ) → SpellsBut c fed written (option_to_list o)
-    → Spells c (take (2 * (length fed / 2)) fed) written × (option_to_list o ≡ drop (2 * (length fed / 2)) fed)
-whole-pairs c fed written o but =
-    let end : 2 * (length fed / 2) ≡ length but.pairs = omega (arith, count-but c fed written o but, but.spelled.twice) in
+pub whole-pairs : (r : Reading) (fed written : List ℕ) (o : Option ℕ) → SpellsBut r.case (digits_in r fed) written (option_to_list o)
+    → PairsSpell r fed written × (option_to_list o ≡ drop (2 * (length (digits_in r fed) / 2)) (digits_in r fed))
+whole-pairs r fed written o but =
+    let end : 2 * (length (digits_in r fed) / 2) ≡ length but.pairs = omega (arith, count-but r.case (digits_in r fed) written o but, but.spelled.twice) in
     rw (end, but.parts, take-append_seam but.pairs (option_to_list o), drop-append_seam but.pairs (option_to_list o)) (but.spelled, refl)

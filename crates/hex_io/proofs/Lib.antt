@@ -3,7 +3,6 @@ pub mod FrameFacts
 pub mod PutsLemmas
 mod Repeats
 mod DecoderLemmas
-mod SpacedLemmas
 mod StreamLemmas
 mod EntryLemmas
 mod FaultLemmas

@@ -1,6 +1,5 @@
-pub mod Unspaced
+pub mod Reading
 pub mod Decoder
-pub mod Spaced
 pub mod inside
 pub mod Frame
 pub mod Sink

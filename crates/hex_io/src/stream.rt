@@ -9,25 +9,24 @@
 //! assert_eq!(rt; sink.written(), b"hello".as_slice());
 //! ```
 
-ghost use Rattle.std.specs.Prelude.{◌≡◌, ◌<◌, ◌-◌, ◌^◌, ◌↔◌, ℕ, IsErrAnd, IsTrue, List, MatchResult, Some, length};
+ghost use Rattle.std.specs.Prelude.{◌≡◌, ◌<◌, ◌-◌, ◌^◌, ◌↔◌, ℕ, [], IsErrAnd, IsTrue, List, MatchResult, Some, length};
 ghost use Rattle.std.specs.Io.{ReadsAtMost};
 ghost use Rattle.std.specs.Io.KnownBytes.{ReadConsumes};
 ghost use Rattle.std.specs.IoError.{error_kind};
 ghost use Rattle.hex_core.specs.declared.error.Error.TheVariants.{OddLength};
 ghost use Rattle.hex_core.specs.Refusal.{source_refusal};
 ghost use Rattle.hex_core.specs.Text.{Spells};
-ghost use Rattle.hex_io.specs.Decoder.{HasFed, policy_of};
+ghost use Rattle.hex_io.specs.Decoder.{HasFed, reading_of};
 ghost use Rattle.hex_io.specs.Message.{stream_fault_text};
-ghost use Rattle.hex_io.specs.Stream.{DecodesSpacedStream, DecodesStream, EncodesStream};
+ghost use Rattle.hex_io.specs.Reading.{digits_in};
+ghost use Rattle.hex_io.specs.Stream.{DecodesSource, DecodesSpacedStream, DecodesStream, EncodesStream};
 ghost use Rattle.hex_io.specs.declared.stream.StreamFault.TheVariants as fault;
 
 mod decoder;
-mod spaced;
 
 use crate::digits::encoded;
 use crate::sink::{Sink, WriteFault, put_all};
 pub use crate::stream::decoder::Decoder;
-pub use crate::stream::spaced::{SPACED_CHUNK, SpacedDecoder};
 use hex_core::{CheckCase, Error};
 use std::io::{self, ErrorKind, Read};
 use std::{error, fmt};
@@ -131,23 +130,7 @@ pub fn decode_stream<R: Read, S: Sink>(
     ensures { DecodesStream case (R.remaining reader.old) (R.remaining reader.new)
         (S.state sink.old) (S.state sink.new) result }
 {
-    let mut chunk = [0; 2 * STREAM_CHUNK];
-    let mut bytes = [0; STREAM_CHUNK];
-    let mut decoder = Decoder::new(case);
-    'reads: loop {
-        let count = match read_again(reader, &mut chunk) {
-            Ok(0) => return ended(decoder),
-            Ok(count) => count,
-            Err(_) => return Err(StreamFault::Read),
-        };
-        let written = match decoder.feed(&chunk[..count], &mut bytes) {
-            Ok(written) => written,
-            Err(refusal) => return Err(StreamFault::Codec(refusal)),
-        };
-        if let Err(fault) = put_all(sink, &bytes[..written]) {
-            return Err(StreamFault::Write(fault));
-        }
-    }
+    decode_by(reader, sink, Decoder::new(case))
 }
 
 /// Like [`decode_stream`], but skips ASCII white space among the digits, as `xxd -p` and `openssl`
@@ -175,12 +158,26 @@ pub fn decode_spaced_stream<R: Read, S: Sink>(
     ensures { DecodesSpacedStream case (R.remaining reader.old) (R.remaining reader.new)
         (S.state sink.old) (S.state sink.new) result }
 {
-    let mut chunk = [0; SPACED_CHUNK];
-    let mut bytes = [0; SPACED_CHUNK];
-    let mut decoder = SpacedDecoder::new(case);
+    decode_by(reader, sink, Decoder::spaced(case))
+}
+
+// Decodes all that a reader gives by a decoder that has been fed nothing.
+fn decode_by<R: Read, S: Sink>(
+    reader: &mut R,
+    sink: &mut S,
+    mut decoder: Decoder,
+) -> Result<usize, StreamFault>
+    requires room { (S.state sink.old).failures < 2 ^ 64 - 1 }
+    requires fresh { HasFed decoder [] [] }
+    ensures { DecodesSource (reading_of decoder) (R.remaining reader.old) (R.remaining reader.new)
+        (S.state sink.old) (S.state sink.new) result }
+{
+    let mut chunk = [0; 2 * STREAM_CHUNK];
+    let mut bytes = [0; STREAM_CHUNK];
+    let mut total = 0;
     'reads: loop {
         let count = match read_again(reader, &mut chunk) {
-            Ok(0) => return ended(decoder.digits()),
+            Ok(0) => return ended(decoder, total),
             Ok(count) => count,
             Err(_) => return Err(StreamFault::Read),
         };
@@ -191,6 +188,7 @@ pub fn decode_spaced_stream<R: Read, S: Sink>(
         if let Err(fault) = put_all(sink, &bytes[..written]) {
             return Err(StreamFault::Write(fault));
         }
+        total += written;
     }
 }
 
@@ -244,13 +242,14 @@ pub fn encode_stream<R: Read, S: Sink>(
 }
 
 // The result at the end of a stream: the number of decoded bytes, or the error of odd length.
-fn ended(decoder: Decoder) -> Result<usize, StreamFault>
-    ensures { (fed written : List ℕ) → HasFed decoder fed written → MatchResult result
-        (λ count. Spells (policy_of decoder) fed written × (count ≡ length written))
-        (λ e. (e ≡ fault.Codec OddLength) × (source_refusal (policy_of decoder) fed ≡ Some OddLength)) }
+fn ended(decoder: Decoder, total: usize) -> Result<usize, StreamFault>
+    ensures { (fed written : List ℕ) → HasFed decoder fed written → total ≡ length written → MatchResult result
+        (λ count. Spells (reading_of decoder).case (digits_in (reading_of decoder) fed) written × (count ≡ length written))
+        (λ e. (e ≡ fault.Codec OddLength)
+        × (source_refusal (reading_of decoder).case (digits_in (reading_of decoder) fed) ≡ Some OddLength)) }
 {
     match decoder.finish() {
-        Ok(()) => Ok(decoder.position() / 2),
+        Ok(()) => Ok(total),
         Err(refusal) => Err(StreamFault::Codec(refusal)),
     }
 }

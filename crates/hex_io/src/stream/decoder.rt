@@ -9,17 +9,25 @@
 //! assert_eq!(rt; text.as_slice(), b"00abcd".as_slice());
 //! ```
 
-ghost use Rattle.std.specs.Prelude.{◌≡◌, ◌≢◌, ◌↔◌, ◌+◌, ◌-◌, ◌/◌, ◌%◌, ◌^◌, ◌<◌, ◌≤◌, ◌++◌, ◌∷◌, [], None, Some, drop, length, IfOk, IsSome, IsTrue, MatchOption, OnErr};
+ghost use Rattle.std.specs.Prelude.{◌≡◌, ◌≢◌, ◌↔◌, ◌+◌, ◌-◌, ◌/◌, ◌%◌, ◌^◌, ◌<◌, ◌≤◌, ◌++◌, ◌∷◌, [], None, Some, drop, false, length, IfOk, IsSome, IsTrue, MatchOption, OnErr};
 ghost use Rattle.std.specs.Option.{ForSome, option_to_list};
 ghost use Rattle.hex_core.specs.Digit.{value};
-ghost use Rattle.hex_core.specs.Search.{first_invalid};
 ghost use Rattle.hex_core.specs.Text.{Spells};
+ghost use Rattle.hex_io.specs.Reading.{digits_in, first_stray, plain, spaced, unspaced};
+ghost use Rattle.hex_io.specs.inside.{DecodesChunk, DecodesDigits, stray_behind};
 
 use hex_core::{Backend, CheckCase, Error, digit_value};
 
+// How a source is read: under which policy, and whether white space among its digits is skipped.
+#[derive(Clone, Copy, Debug, PartialEq, Eq)]
+struct Reading {
+    case: CheckCase,
+    skips: bool,
+}
+
 /// Decodes digits that are fed to it in chunks, each of which may end within a pair.
 ///
-/// It keeps its policy, the number of digits fed, and the digit that waits for its partner. Its
+/// It keeps its policy, the number of bytes fed, and the digit that waits for its partner. Its
 /// outputs, joined, are the bytes of all digits fed, except for a digit that waits, whatever the
 /// chunks were. An error is about the digits so far: a chunk `0g1` gives the `g`, while one call
 /// gives the odd length. Allocates nothing.
@@ -34,32 +42,55 @@ use hex_core::{Backend, CheckCase, Error, digit_value};
 /// ```
 #[derive(Clone, Copy, Debug, PartialEq, Eq)]
 pub struct Decoder {
-    pub(crate) case: CheckCase,
+    reading: Reading,
     position: usize,
     waiting: Option<u8>,
     // The digit that waits was tested when it came.
-    ghost tested: { ForSome waiting (λ digit. IsSome (value case digit)) },
-    // A digit waits exactly if an odd number came so far.
-    ghost paired: { position % 2 ≡ length (option_to_list waiting) },
+    ghost tested: { ForSome waiting (λ digit. IsSome (value reading.case digit)) },
+    ghost counted: { length (option_to_list waiting) ≤ position },
+    // Of digits alone one waits exactly if an odd number came so far.
+    ghost paired: { reading.skips ≡ false → position % 2 ≡ length (option_to_list waiting) },
 }
 
 impl Decoder {
-    ghost use Rattle.hex_io.specs.Decoder.{Feeds, Finished, HasFed, policy_of, position_of, waiting_in};
-    ghost use Rattle.hex_io.specs.inside.{DecodesPairs, bad_char_behind};
+    ghost use Rattle.hex_io.specs.Decoder.{Feeds, Finished, HasFed, position_of, reading_of, waiting_in};
 
     /// Returns a decoder that has been fed nothing and accepts the letters of `case`.
     pub fn new(case: CheckCase) -> Decoder
-        ensures policy { policy_of result ≡ case }
+        ensures reading { reading_of result ≡ plain case }
         ensures fresh { HasFed result [] [] }
     {
         Decoder {
-            case,
+            reading: Reading { case, skips: false },
             position: 0,
             waiting: None,
         }
     }
 
-    /// Returns the number of digits fed, which is the index of the next one.
+    /// Returns a decoder like [`new`](Decoder::new) that skips ASCII white space, also between the
+    /// two digits of a pair: it reads what `xxd -p` and `openssl` print, and lines that a mail
+    /// program wrapped.
+    ///
+    /// White space is a space, tab, newline, form feed or carriage return.
+    ///
+    /// ```rust
+    /// let mut decoder = Decoder::spaced(CheckCase::None);
+    /// let mut bytes = [0; 3];
+    /// assert_eq!(rt; decoder.feed(b"00\na", &mut bytes)?, 1);
+    /// assert_eq!(rt; decoder.feed(b"\r\nB cD\n", &mut bytes[1..])?, 2);
+    /// decoder.finish()?;
+    /// assert_eq!(rt; bytes, [0, 0xab, 0xcd]);
+    /// ```
+    pub fn spaced(case: CheckCase) -> Decoder
+        ensures reading { reading_of result ≡ spaced case }
+        ensures fresh { HasFed result [] [] }
+    {
+        let mut decoder = Decoder::new(case);
+        decoder.reading.skips = true;
+        decoder
+    }
+
+    /// Returns the number of bytes fed, which is the index of the next one.
     ///
     /// ```rust
     /// let mut decoder = Decoder::new(CheckCase::None);
@@ -79,10 +110,10 @@ impl Decoder {
     ///
     /// In this order; each leaves `dst` and the decoder unchanged, so that it may be fed again:
     ///
-    /// 1. [`Error::Overflow`] if the number of all digits exceeds `usize`;
+    /// 1. [`Error::Overflow`] if the number of all bytes fed exceeds `usize`;
     /// 2. [`Error::OutputTooSmall`] with the number of bytes that this feed writes;
-    /// 3. [`Error::InvalidChar`] with the first byte that is not a hex digit, and its index in all
-    ///    digits fed, even if it would wait for a partner.
+    /// 3. [`Error::InvalidChar`] with the first byte that is not a hex digit, nor skipped, and its
+    ///    index in all bytes fed, even if it would wait for a partner.
     ///
     /// ```rust
     /// let mut decoder = Decoder::new(CheckCase::None);
@@ -101,19 +132,21 @@ impl Decoder {
     pub fn feed(&mut self, src: &[u8], dst: &mut [u8]) -> Result<usize, Error>
         ensures feeds { Feeds self.old self.new src.now dst.old dst.new result }
         ensures bound { IfOk result (λ n. n ≤ length dst.new) }
-        ensures policy { policy_of self.new ≡ policy_of self.old }
+        ensures reading { reading_of self.new ≡ reading_of self.old }
         ensures unchanged { OnErr result ((self.new ≡ self.old) × (dst.new ≡ dst.old)) }
     {
         let Some(position) = self.position.checked_add(src.len()) else {
             return Err(Error::Overflow);
         };
-        let required = self.whole_pairs(src.len());
+        let required = self.whole_pairs(self.digit_count(src));
         if dst.len() < required {
             return Err(Error::OutputTooSmall { required });
         }
-        let waiting = self.decode_pairs(src, dst)?;
+        let Some(waiting) = self.decode(src, dst) else {
+            return Err(self.error_in(src));
+        };
         *self = Decoder {
-            case: self.case,
+            reading: self.reading,
             position,
             waiting,
         };
@@ -124,8 +157,7 @@ impl Decoder {
     ///
     /// # Errors
     ///
-    /// [`Error::OddLength`] if a digit waits for its partner. It is the last one fed, at index
-    /// `position() - 1`.
+    /// [`Error::OddLength`] if a digit waits for its partner: it is the last one fed.
     ///
     /// ```rust
     /// let mut decoder = Decoder::new(CheckCase::None);
@@ -141,8 +173,21 @@ impl Decoder {
         Ok(())
     }
 
+    // How many digits a chunk has, if each byte is one that should be.
+    #[inline(always)]
+    fn digit_count(&self, src: &[u8]) -> usize
+        ensures { result ≡ length (digits_in (reading_of self.now) src.now) }
+    {
+        if !self.reading.skips {
+            return src.len();
+        }
+        src.iter()
+            .filter(|byte| !byte.is_ascii_whitespace())
+            .count()
+    }
+
     // Pairs that so many more digits complete.
-    pub(crate) fn whole_pairs(&self, digits: usize) -> usize
+    fn whole_pairs(&self, digits: usize) -> usize
         ensures { result ≡ (length (waiting_in self.now) + digits) / 2 }
     {
         if self.waiting.is_some() {
@@ -152,64 +197,111 @@ impl Decoder {
         }
     }
 
-    // Decodes the pairs that more digits complete, and returns the digit that then waits.
+    // Decodes the pairs that a chunk completes, and returns the digit that then waits; or nothing, if
+    // a byte should be a digit and is none.
     #[inline(always)]
-    fn decode_pairs(&self, src: &[u8], dst: &mut [u8]) -> Result<Option<u8>, Error>
-        requires counted { position_of self.now + length src.now < 2 ^ 64 }
-        requires room { (length (waiting_in self.now) + length src.now) / 2 ≤ length dst.old }
-        ensures { DecodesPairs self.now src.now (waiting_in self.now ++ src.now) dst.old dst.new result }
+    fn decode(&self, src: &[u8], dst: &mut [u8]) -> Option<Option<u8>>
+        requires { (length (waiting_in self.now) + length (digits_in (reading_of self.now) src.now)) / 2 ≤ length dst.old }
+        ensures { DecodesChunk (reading_of self.now) self.now.waiting src.now dst.old dst.new result }
     {
-        let Some(high) = self.waiting else {
-            return self.decode_from(src, 0, dst);
-        };
-        if src.is_empty() {
-            return Ok(Some(high));
+        let Reading { case, skips } = self.reading;
+        if !skips {
+            return decode_pairs(self.waiting, src, dst, case);
         }
-        let Some(byte) = pair_byte(high, src[0], self.case) else {
-            return Err(self.error_in(src));
-        };
-        let waiting = self.decode_from(src, 1, &mut dst[1..])?;
-        dst[0] = byte;
-        Ok(waiting)
+        if self.first_stray(src).is_some() {
+            return None;
+        }
+        Some(decode_spaced(self.waiting, src, dst, case))
     }
 
-    // Decodes the whole pairs from an index, and returns the digit after them.
-    #[inline(always)]
-    fn decode_from(&self, src: &[u8], start: usize, dst: &mut [u8]) -> Result<Option<u8>, Error>
-        requires inside { start ≤ length src.now }
-        requires counted { position_of self.now + length src.now < 2 ^ 64 }
-        requires room { (length src.now - start) / 2 ≤ length dst.old }
-        ensures { DecodesPairs self.now src.now (drop start src.now) dst.old dst.new result }
+    // The index of the first byte of a chunk that should be a digit and is none.
+    fn first_stray(&self, src: &[u8]) -> Option<usize>
+        ensures { result ≡ first_stray (reading_of self.now) src.now }
     {
-        let end = src.len() - (src.len() - start) % 2;
-        let waiting = digit_behind(src, end);
-        if !is_read(waiting, self.case) {
-            return Err(self.error_in(src));
+        let Reading { case, skips } = self.reading;
+        if !skips {
+            return Backend::plain().first_invalid(src, case);
         }
-        // A feed of one digit has no pair of its own, and needs no call.
-        if start == end {
-            return Ok(waiting);
-        }
-        let pairs = (end - start) / 2;
-        if !Backend::plain().decode(&src[start..end], &mut dst[..pairs], self.case) {
-            return Err(self.error_in(src));
-        }
-        Ok(waiting)
+        src.iter().position(|byte| !byte.is_ascii_whitespace()
+            && digit_value(*byte, case).is_none())
     }
 
-    // The first invalid byte of a chunk that has one, with its index in all digits fed.
+    // That byte as an error, with its index in all bytes fed.
     #[cold]
     fn error_in(&self, src: &[u8]) -> Error
-        requires invalid { first_invalid (policy_of self.now) src.now ≢ None }
+        requires stray { first_stray (reading_of self.now) src.now ≢ None }
         requires counted { position_of self.now + length src.now < 2 ^ 64 }
-        ensures { bad_char_behind (policy_of self.now) (position_of self.now) src.now ≡ Some result }
+        ensures { stray_behind (reading_of self.now) (position_of self.now) src.now ≡ Some result }
     {
-        let index = Backend::plain().first_invalid(src, self.case).unwrap();
+        let index = self.first_stray(src).unwrap();
         Error::InvalidChar {
             index: self.position + index,
             byte: src[index],
         }
     }
+}
+
+// Decodes digits among which white space stands and nothing else, and returns the one that then waits.
+fn decode_spaced(mut waiting: Option<u8>, src: &[u8], dst: &mut [u8], case: CheckCase) -> Option<u8>
+    requires tested { ForSome waiting (λ digit. IsSome (value case digit)) }
+    requires valid { first_stray (spaced case) src.now ≡ None }
+    requires room { (length (option_to_list waiting) + length (unspaced src.now)) / 2 ≤ length dst.old }
+    ensures { DecodesDigits case (option_to_list waiting ++ unspaced src.now) dst.old dst.new result }
+{
+    let mut count = 0;
+    for i in 0..src.len() {
+        if src[i].is_ascii_whitespace() {
+            continue;
+        }
+        waiting = decode_pairs(waiting, &[src[i]], &mut dst[count..], case).unwrap();
+        count += usize::from(waiting.is_none());
+    }
+    waiting
+}
+
+// Decodes the pairs that more digits complete, and returns the digit that then waits.
+#[inline(always)]
+fn decode_pairs(
+    waiting: Option<u8>,
+    src: &[u8],
+    dst: &mut [u8],
+    case: CheckCase,
+) -> Option<Option<u8>>
+    requires tested { ForSome waiting (λ digit. IsSome (value case digit)) }
+    requires room { (length (option_to_list waiting) + length src.now) / 2 ≤ length dst.old }
+    ensures { DecodesChunk (plain case) waiting src.now dst.old dst.new result }
+{
+    let Some(high) = waiting else {
+        return decode_whole(src, dst, case);
+    };
+    if src.is_empty() {
+        return Some(waiting);
+    }
+    let byte = pair_byte(high, src[0], case)?;
+    let waiting = decode_whole(&src[1..], &mut dst[1..], case)?;
+    dst[0] = byte;
+    Some(waiting)
+}
+
+// Decodes the whole pairs of digits, and returns the digit after them.
+#[inline(always)]
+fn decode_whole(src: &[u8], dst: &mut [u8], case: CheckCase) -> Option<Option<u8>>
+    requires { length src.now / 2 ≤ length dst.old }
+    ensures { DecodesChunk (plain case) None src.now dst.old dst.new result }
+{
+    let end = src.len() - src.len() % 2;
+    let waiting = digit_behind(src, end);
+    if !is_read(waiting, case) {
+        return None;
+    }
+    // A chunk of one digit has no pair of its own, and needs no call.
+    if end == 0 {
+        return Some(waiting);
+    }
+    if !Backend::plain().decode(&src[..end], &mut dst[..end / 2], case) {
+        return None;
+    }
+    Some(waiting)
 }
 
 // The digit after the whole pairs of a source, if it has one.

@@ -1,13 +1,19 @@
--- A decoder may have been fed as many pairs of zeros as it has counted, and then the digit that waits.
-use Rattle.std.proofs.Common.{arith, ℕ, ◌++◌, ◌/◌, ◌<◌, List, replicate, true, false, refl, length-append}
-use Rattle.std.specs.Option.{option_to_list}
+-- A decoder may have been fed as many pairs of zeros as it has counted, or white space, and then the digit that waits.
+use Rattle.std.proofs.Common.{◌≡◌, ◌∙◌, arith, ap, ℕ, zero, suc, Bool, true, false, List, [], ◌++◌, ◌-◌, ◌/◌, ◌<◌, replicate, length, length-append, Option, None, Some, refl}
+use Rattle.std.specs.Prelude.{IsSome}
+use Rattle.std.specs.Option.{ForSome, option_to_list}
+use Rattle.std.proofs.lemmas.Bool.Decides.{nat_tests}
 use Rattle.std.proofs.lemmas.List.{length-replicate}
-use Rattle.std.proofs.lemmas.List.Elements.{All-replicate}
+use Rattle.std.proofs.lemmas.List.Elements.{All-replicate, filter-append}
 use Rattle.hex_core.specs.declared.digit.CheckCase.{CheckCase}
 use Rattle.hex_core.specs.declared.digit.CheckCase.TheVariants as policy
+use Rattle.hex_core.specs.Digit.{value}
 use Rattle.hex_core.specs.Laws.{AreBytes, DecodingInvertsEncoding}
 use Rattle.hex_core.specs.Text.{Spells, text}
-use Rattle.hex_io.proofs.DecoderLemmas.{spells-but}
+use Rattle.hex_io.specs.Decoder.{HasFed}
+use Rattle.hex_io.specs.Reading.{is_solid, unspaced}
+use Rattle.hex_io.specs.declared.stream.decoder.Decoder.{Decoder}
+use Rattle.hex_io.proofs.DecoderLemmas.{digits-plain, digits-spaced, spells-but, spells-none}
 use Rattle.hex_io.proofs.laws.every_decoder_has_been_fed.Goals as goal
 
 zeros-small : (n : ℕ) → AreBytes (replicate n 0)
@@ -18,15 +24,40 @@ zeros-spelled law policy.None n = (text false (replicate n 0), (law false (repli
 zeros-spelled law policy.Lower n = (text false (replicate n 0), (law false (replicate n 0) (zeros-small n)).0)
 zeros-spelled law policy.Upper n = (text true (replicate n 0), (law true (replicate n 0) (zeros-small n)).0)
 
-pub returns : goal.returns
-returns c = λ decoder.
+blanks-skipped : (n : ℕ) → unspaced (replicate n 32) ≡ []
+blanks-skipped zero = refl
+blanks-skipped (suc n) = blanks-skipped n
+
+digit-kept : (c : CheckCase) (o : Option ℕ) → ForSome o (λ d. IsSome (value c d)) → unspaced (option_to_list o) ≡ option_to_list o
+digit-kept c None read = refl
+digit-kept c (Some d) read =
+    let is = read d refl in
+    let solid : is_solid d ≡ true = grind (arith, nat_tests, is) in
+    rw solid refl
+
+was-fed : DecodingInvertsEncoding → (decoder : Decoder) (t : Bool) → decoder.reading.skips ≡ t → (fed : List ℕ) × (written : List ℕ) × HasFed decoder fed written
+was-fed law decoder false is =
     let pairs = decoder.position / 2 in
-    let zeros = zeros-spelled c.decoding_inverts_encoding.ensures decoder.case pairs in
+    let zeros = zeros-spelled law decoder.reading.case pairs in
     let fed = zeros.0 ++ option_to_list decoder.waiting in (
       fed,
       replicate pairs 0,
       (
-        omega (arith, decoder.paired, zeros.1.twice, length-append zeros.0 (option_to_list decoder.waiting), length-replicate {A = ℕ} pairs 0),
-        spells-but decoder.case fed zeros.0 (replicate pairs 0) decoder.waiting refl zeros.1 decoder.tested,
+        omega (arith, decoder.paired is, zeros.1.twice, length-append zeros.0 (option_to_list decoder.waiting), length-replicate {A = ℕ} pairs 0),
+        rw (digits-plain decoder.reading fed is) (spells-but decoder.reading.case fed zeros.0 (replicate pairs 0) decoder.waiting refl zeros.1 decoder.tested),
       ),
     )
+was-fed law decoder true is =
+    let rest = option_to_list decoder.waiting in let blanks = decoder.position - length rest in
+    let digits : unspaced (replicate blanks 32 ++ rest) ≡ rest =
+    filter-append is_solid (replicate blanks 32) rest ∙ ap (λ front. front ++ unspaced rest) (blanks-skipped blanks) ∙ digit-kept decoder.reading.case decoder.waiting decoder.tested in (
+      replicate blanks 32 ++ rest,
+      [],
+      (
+        omega (arith, decoder.counted, length-append (replicate blanks 32) rest, length-replicate {A = ℕ} blanks 32),
+        rw (digits-spaced decoder.reading (replicate blanks 32 ++ rest) is, digits) (spells-none decoder.reading.case decoder.waiting decoder.tested),
+      ),
+    )
+
+pub returns : goal.returns
+returns c = λ decoder. was-fed c.decoding_inverts_encoding.ensures decoder decoder.reading.skips refl

@@ -1,7 +1,0 @@
--- The bytes so far that are no white space stand at the start.
-use Rattle.std.proofs.Common.{◌≡◌, ◌≤◌, length, take}
-use Rattle.hex_io.specs.Unspaced.{unspaced}
-use Rattle.hex_io.proofs.stream.spaced.copy_unspaced.Given as goal
-
-abbrev pub invariant-loop-i : goal.invariant-loop-i
-invariant-loop-i l = (l.count ≤ l.i) × (length l.block ≡ 4096) × (take l.count l.block ≡ unspaced (take l.i l.src))
