@@ -6,8 +6,8 @@ use Rattle.hex_core.specs.Text.{lowercase, with_front}
 use Rattle.hex_io.specs.declared.digests.Entry.{Entry}
 use Rattle.hex_io.specs.declared.digests.ListFault.{ListFault}
 use Rattle.hex_io.specs.declared.digests.ListFault.TheVariants.{OutOfMemory}
-use Rattle.hex_io.specs.declared.writing.ListWriteFault.{ListWriteFault}
-use Rattle.hex_io.specs.declared.writing.ListWriteFault.TheVariants.{BadName, Write}
+use Rattle.hex_io.specs.declared.digests.ListWriteFault.{ListWriteFault}
+use Rattle.hex_io.specs.declared.digests.ListWriteFault.TheVariants.{BadName, Write}
 use Rattle.hex_io.specs.Lists.{Lists, ReadFailure, is_bad_name, list_of}
 use Rattle.callers.specs.declared.digest.Digest.{Digest}
 

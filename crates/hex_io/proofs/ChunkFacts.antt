@@ -1,24 +1,17 @@
--- A chunk's digits are the next of those of all bytes, and what a buffer's front holds of them.
-use Rattle.std.proofs.Common.{◌≡◌, ◌<◌, ◌≤◌, Bool, ℕ, List, [], ◌∷◌, ◌++◌, length, drop, take, ap, sym, ◌∙◌, arith, append-nil}
-use Rattle.std.specs.Prelude.{Option, Result, Ok}
+-- What a buffer's front holds of a chunk's digits, and that no chunk is left.
+use Rattle.std.proofs.Common.{◌≡◌, ◌*◌, ◌<◌, ◌≤◌, Bool, ℕ, List, [], ◌∷◌, ◌++◌, length, drop, take, ap, sym, ◌∙◌, arith, append-nil}
+use Rattle.std.specs.Prelude.{Option, Result, Ok, min}
 use Rattle.std.proofs.Math.Seq.{take-append_seam}
 use Rattle.hex_core.specs.Calls.{Fills}
-use Rattle.hex_core.specs.Text.{text}
-use Rattle.hex_core.proofs.TextLemmas.{text-append}
 use Rattle.hex_codec.specs.declared.group.Group.{Group}
 use Rattle.hex_codec.specs.Grouped.{grouped, piece_len}
 use Rattle.hex_codec.proofs.CountLemmas.{len-most}
 use Rattle.hex_codec.proofs.GroupLemmas.{length-grouped}
 
--- the text so far and a chunk's, before that of the rest
-pub text-next : (upper : Bool) (done shown whole all chunk rest : List ℕ) → done ++ text upper all ≡ whole → all ≡ chunk ++ rest → shown ≡ text upper chunk
-    → done ++ (shown ++ text upper rest) ≡ whole
-text-next upper done shown whole all chunk rest so_far parts is = rw (is, ← text-append upper chunk rest, ← parts) so_far
-
--- the text so far is the whole one where no byte is left
-pub text-end : (upper : Bool) (done whole rest : List ℕ) → done ++ text upper rest ≡ whole → length rest ≡ 0 → done ≡ whole
-text-end upper done whole [] so_far none = sym (append-nil done) ∙ so_far
-text-end upper done whole (b ∷ rest) so_far none = absurd (omega arith)
+-- where no byte is left, those before are all
+pub front-all : (front rest all : List ℕ) → front ++ rest ≡ all → length rest ≡ 0 → front ≡ all
+front-all front [] all parts none = sym (append-nil front) ∙ parts
+front-all front (b ∷ rest) all parts none = absurd (omega arith)
 
 -- what was written is the front of the buffer
 pub filled-front : {E : Type 0} (refusal : Option E) (front old new : List ℕ) (r : Result ℕ E) (n : ℕ) → r ≡ Ok n
@@ -29,5 +22,7 @@ filled-front {E} refusal front old new r n is h =
     (size, rw (done.1.3, done.1.1, size) (take-append_seam front (drop (length front) old)))
 
 -- the grouped text of a chunk leaves room for one byte more
-pub leaves-room : (group : Group) (upper : Bool) (bytes : List ℕ) → 0 < length bytes → length bytes ≤ 512 → length (grouped group upper bytes) < 1536
-leaves-room group upper bytes some few = omega (arith, length-grouped group upper bytes, len-most (piece_len group) (length bytes) group.is_group.0)
+pub leaves-room : (group : Group) (upper : Bool) (bytes : List ℕ) (n room : ℕ) → n ≡ length (grouped group upper bytes)
+    → 0 < length bytes → length bytes ≤ 512 → 3 * min (length bytes) 512 ≤ room → n < room
+leaves-room group upper bytes n room is some few fits =
+    omega (arith, is, fits, length-grouped group upper bytes, len-most (piece_len group) (length bytes) group.is_group.0)

@@ -1,9 +1,9 @@
 -- An entry's line has no fault.
 use Rattle.std.proofs.Common.{◌≡◌, ℕ, ◌+◌, ◌*◌, ◌≤◌, Bool, true, sym, ap, ◌∙◌, arith, None, List, []}
-use Rattle.std.proofs.Common.{◌∷◌, ◌++◌, length, take, drop, get_or, length-drop, slice_index}
+use Rattle.std.proofs.Common.{◌∷◌, ◌++◌, length, take, get_or, length-drop, slice_index}
 use Rattle.std.specs.List.{AllZip}
 use Rattle.std.proofs.lemmas.Bool.Decides.{nat_tests}
-use Rattle.std.proofs.lemmas.List.{drop_more, get_or-drop}
+use Rattle.std.proofs.lemmas.List.{get_or-drop}
 use Rattle.std.proofs.lemmas.Option.{none-some}
 use Rattle.hex_core.specs.declared.digit.CheckCase.{CheckCase}
 use Rattle.hex_core.specs.Refusal.{source_refusal}
@@ -20,20 +20,6 @@ all-valid c s h = grind (arith, nat_tests, h)
 -- a space and a mark stand behind the digits
 marked : (N : ℕ) (line : List ℕ) (binary : Bool) → slice_index line (2 * N) ≡ 32 → slice_index line (2 * N + 1) ≡ mark binary → has_mark N line ≡ true
 marked N line binary space next = grind (arith, nat_tests, space, next)
-
--- a line that is long enough, of valid digits, with a space and a mark behind them, is its entry's
-pub line-read : {N : ℕ} (c : CheckCase) (line : List ℕ) (e : Entry N) → 2 * N + 3 ≤ length line → (first_invalid c (take (2 * N) line) ≡ None) × Spells c (take (2 * N) line) e.digest
-    → (slice_index line (2 * N) ≡ 32) × (slice_index line (2 * N + 1) ≡ mark e.binary) → drop (2 * N + 2) line ≡ e.name.now → (line_fault c N line ≡ None) × LineIs c line e
-line-read {N} c line e long digits behind name =
-    let place : 2 * N + 1 + 1 ≡ 2 * N + 2 = omega arith in
-    let mark_at = marked N line e.binary behind.0 behind.1 in (
-      grind (arith, nat_tests, long, digits.0, mark_at),
-      record {
-        spelled = digits.1;
-        behind = rw (drop_more line (2 * N) 0 (omega (arith, long)), behind.0, drop_more line (2 * N + 1) 0 (omega (arith, long)), behind.1, place, name);
-        named = omega (arith, ap length name, length-drop (2 * N + 2) line, long);
-      },
-    )
 
 line-clear : (N : ℕ) (c : CheckCase) (line : List ℕ) (e : Entry N) → (Spells c (take (2 * N) line) e.digest → source_refusal c (take (2 * N) line) ≡ None) → LineIs c line e → line_fault c N line ≡ None
 line-clear N c line e accepts is =
@@ -53,6 +39,6 @@ entry-of c (line ∷ before) here after (e ∷ entries) all = entry-of c before 
 pub faulty : (N : ℕ) (c : CheckCase) (s : List ℕ) (line : ℕ) (why : LineFault) (entries : List (Entry N))
     → ((t bytes : List ℕ) → Spells c t bytes → source_refusal c t ≡ None) → FirstFault c N s line why → Lists c s entries → ⊥
 faulty N c s line why entries accepts f all =
-    let w = entry-of c f.before f.here f.after entries (rw f.clear.0 at all) in
+    let w = entry-of c f.before f.here f.after entries (rw f.lines at all) in
     let clear = line-clear N c f.here w.0 (accepts (take (2 * N) f.here) w.0.digest) w.1 in
     none-some why (sym clear ∙ f.fault)

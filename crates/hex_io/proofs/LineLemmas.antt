@@ -10,7 +10,8 @@ use Rattle.std.proofs.lemmas.List.Sums.{fails_before_first, prefix_len-le-length
 use Rattle.hex_core.specs.declared.digit.CheckCase.{CheckCase}
 use Rattle.hex_io.specs.declared.digests.Entry.{Entry}
 use Rattle.hex_io.specs.declared.digests.LineFault.{LineFault}
-use Rattle.hex_io.specs.Lists.{ClearBefore, ClearFirst, FirstFault, LineIs, line_fault, lines_of, without_empty_end}
+use Rattle.hex_io.specs.declared.digests.ListFault.TheVariants.{OutOfMemory}
+use Rattle.hex_io.specs.Lists.{FirstFault, LineIs, ReadFailure, line_fault, lines_of, without_empty_end}
 
 -- the test of a newline
 abbrev pub newline : ℕ → Bool
@@ -59,15 +60,11 @@ all-more : {A : Type 0} (P : A → Type 0) (xs : List A) (x : A) → AllByRecurs
 all-more P [] x all p = (p, tt)
 all-more P (a ∷ xs) x all p = (all.0, all-more P xs x all.1 p)
 
--- one more line without a fault
-clear-more : (c : CheckCase) (n : ℕ) (s : List ℕ) (done : List (List ℕ)) (here : List ℕ) (after : List (List ℕ)) → ClearBefore c n s done (here ∷ after) → line_fault c n here ≡ None
-    → ClearBefore c n s (done ++ here ∷ []) after
-clear-more c n s done here after clear none = (rw append_assoc clear.0, all-more (λ line. line_fault c n line ≡ None) done here clear.1 none)
-
 -- the lines of a source up to this rest were read as these entries, and this line is the next
 pub record ReadSoFar {N : ℕ} (c : CheckCase) (s rest : List ℕ) (line : ℕ) (entries : List (Entry N)) : Type 0 where
   pub done : List (List ℕ)
-  pub clear : ClearBefore c N s done (lines_of rest)
+  pub lines : lines_of s ≡ done ++ lines_of rest
+  pub clear : AllByRecursion (λ line. line_fault c N line ≡ None) done
   pub count : line ≡ length done + 1
   pub entries_of : AllZip (LineIs c) done entries
 
@@ -76,7 +73,8 @@ pub read-more : {N : ℕ} (c : CheckCase) (s rest next : List ℕ) (line : ℕ) 
     → lines_of rest ≡ here ∷ lines_of next → line_fault c N here ≡ None → LineIs c here e → ReadSoFar c s rest line entries → ReadSoFar c s next (line + 1) (entries ++ e ∷ [])
 read-more {N} c s rest next line entries here e step none is r = record {
   done = r.done ++ here ∷ [];
-  clear = clear-more c N s r.done here (lines_of next) (rw step at r.clear) none;
+  lines = rw append_assoc (rw step at r.lines);
+  clear = all-more (λ line. line_fault c N line ≡ None) r.done here r.clear none;
   count = rw (length_push, r.count);
   entries_of = zip-more (LineIs c) r.done entries here e r.entries_of is;
 }
@@ -85,14 +83,15 @@ read-more {N} c s rest next line entries here e step none is r = record {
 pub fault-here : (N : ℕ) (c : CheckCase) (s rest : List ℕ) (line : ℕ) (entries : List (Entry N)) (here : List ℕ) (after : List (List ℕ)) (why : LineFault)
     → lines_of rest ≡ here ∷ after → line_fault c N here ≡ Some why → ReadSoFar c s rest line entries → FirstFault c N s line why
 fault-here N c s rest line entries here after why step some r = record
-    { before = r.done; here = here; after = after; clear = rw step at r.clear; count = r.count; fault = some }
+    { before = r.done; here = here; after = after; lines = rw step at r.lines; clear = r.clear; count = r.count; fault = some }
 
 -- where the lines before one have no fault, and it has none, the first line has none
-clear-first : (c : CheckCase) (n : ℕ) (s : List ℕ) (done : List (List ℕ)) (here : List ℕ) (after : List (List ℕ)) → ClearBefore c n s done (here ∷ after) → line_fault c n here ≡ None → ClearFirst c n s
-clear-first c n s [] here after clear none = record { first = here; rest = after; lines = clear.0; clear = none }
-clear-first c n s (line ∷ done) here after clear none = record { first = line; rest = done ++ here ∷ after; lines = clear.0; clear = clear.1.0 }
+clear-first : (c : CheckCase) (n : ℕ) (s : List ℕ) (done : List (List ℕ)) (here : List ℕ) (after : List (List ℕ)) → lines_of s ≡ done ++ here ∷ after
+    → AllByRecursion (λ line. line_fault c n line ≡ None) done → line_fault c n here ≡ None → ReadFailure c n s OutOfMemory
+clear-first c n s [] here after lines clear none = (here, after, lines, none)
+clear-first c n s (line ∷ done) here after lines clear none = (line, done ++ here ∷ after, lines, clear.0)
 
 -- where the next line has no fault, the first line has none
 pub clear-here : (N : ℕ) (c : CheckCase) (s rest : List ℕ) (line : ℕ) (entries : List (Entry N)) (here : List ℕ) (after : List (List ℕ))
-    → lines_of rest ≡ here ∷ after → line_fault c N here ≡ None → ReadSoFar c s rest line entries → ClearFirst c N s
-clear-here N c s rest line entries here after step none r = clear-first c N s r.done here after (rw step at r.clear) none
+    → lines_of rest ≡ here ∷ after → line_fault c N here ≡ None → ReadSoFar c s rest line entries → ReadFailure c N s OutOfMemory
+clear-here N c s rest line entries here after step none r = clear-first c N s r.done here after (rw step at r.lines) r.clear none

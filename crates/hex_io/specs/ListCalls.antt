@@ -5,8 +5,8 @@ use Rattle.hex_core.specs.declared.digit.CheckCase.{CheckCase}
 use Rattle.hex_io.specs.Sink.{SinkState, Stops, Takes}
 use Rattle.hex_io.specs.declared.digests.Entry.{Entry}
 use Rattle.hex_io.specs.declared.digests.ListFault.{ListFault}
-use Rattle.hex_io.specs.declared.writing.ListWriteFault.{ListWriteFault}
-use Rattle.hex_io.specs.declared.writing.ListWriteFault.TheVariants.{BadName, Write}
+use Rattle.hex_io.specs.declared.digests.ListWriteFault.{ListWriteFault}
+use Rattle.hex_io.specs.declared.digests.ListWriteFault.TheVariants.{BadName, Write}
 use Rattle.hex_io.specs.Lists.{Lists, ReadFailure, first_bad_name, list_of}
 
 -- reading a source: the entries whose list it is, or why it is not read

@@ -57,31 +57,21 @@ fault_in n line None = if has_mark n line then None else Some BadMark
 abbrev pub line_fault : CheckCase → ℕ → List ℕ → Option LineFault
 line_fault c n line = if nat_lt (length line) (2 * n + 3) then Some ShortLine else fault_in n line (first_invalid c (take (2 * n) line))
 
--- the lines of a source are some without a fault, and then the others
-abbrev pub ClearBefore : CheckCase → ℕ → List ℕ → List (List ℕ) → List (List ℕ) → Type 0
-ClearBefore c n s done rest = (lines_of s ≡ done ++ rest) × AllByRecursion (λ line. line_fault c n line ≡ None) done
-
 -- a line of a source, counted from 1, is the first one with a fault, and this is it
 pub record FirstFault (c : CheckCase) (n : ℕ) (s : List ℕ) (line : ℕ) (why : LineFault) : Type 0 where
   pub before : List (List ℕ)
   pub here : List ℕ
   pub after : List (List ℕ)
-  pub clear : ClearBefore c n s before (here ∷ after)
+  pub lines : lines_of s ≡ before ++ here ∷ after
+  pub clear : AllByRecursion (λ line. line_fault c n line ≡ None) before
   pub count : line ≡ length before + 1
   pub fault : line_fault c n here ≡ Some why
-
--- a source has a first line, and that has no fault
-pub record ClearFirst (c : CheckCase) (n : ℕ) (s : List ℕ) : Type 0 where
-  pub first : List ℕ
-  pub rest : List (List ℕ)
-  pub lines : lines_of s ≡ first ∷ rest
-  pub clear : line_fault c n first ≡ None
 
 -- why a source is not read: for its first line with a fault, or for want of memory, which is not asked
 -- for before the first line is known to have none
 abbrev pub ReadFailure : CheckCase → ℕ → List ℕ → ListFault → Type 0
 ReadFailure c n s (Line line why) = FirstFault c n s line why
-ReadFailure c n s OutOfMemory = ClearFirst c n s
+ReadFailure c n s OutOfMemory = (first : List ℕ) × (rest : List (List ℕ)) × (lines_of s ≡ first ∷ rest) × (line_fault c n first ≡ None)
 
 -- whether no line can end with a name: it is empty, or holds a newline
 abbrev pub is_bad_name : List ℕ → Bool

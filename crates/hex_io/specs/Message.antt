@@ -11,8 +11,8 @@ use Rattle.hex_io.specs.declared.sink.WriteFault.{WriteFault}
 use Rattle.hex_io.specs.declared.sink.WriteFault.TheVariants.{Sink, TookNothing}
 use Rattle.hex_io.specs.declared.stream.StreamFault.{StreamFault}
 use Rattle.hex_io.specs.declared.stream.StreamFault.TheVariants.{Codec, Read, Write}
-use Rattle.hex_io.specs.declared.writing.ListWriteFault.{ListWriteFault}
-use Rattle.hex_io.specs.declared.writing.ListWriteFault.TheVariants as list
+use Rattle.hex_io.specs.declared.digests.ListWriteFault.{ListWriteFault}
+use Rattle.hex_io.specs.declared.digests.ListWriteFault.TheVariants as list
 
 -- that of a sink that refused
 abbrev pub sink_fault_text : List ℕ

@@ -1,14 +1,17 @@
 //! Digest lists: one line per entry, with the digits of its digest, its mark and its name.
 
-ghost use Rattle.std.specs.Prelude.{◌≡◌, ◌≢◌, ◌≤◌, ◌*◌, ◌==◌, ◌&&◌, ◌||◌, false, [], None, Some, MatchOption, MatchResult, length, take};
+ghost use Rattle.std.specs.Prelude.{◌≡◌, ◌≢◌, ◌≤◌, ◌<◌, ◌-◌, ◌*◌, ◌^◌, ◌++◌, ◌∷◌, [], None, Some, length, take};
 ghost use Rattle.hex_core.specs.Calls.{Answers};
 ghost use Rattle.hex_core.specs.Search.{first_invalid};
-ghost use Rattle.hex_io.specs.Lists.{LineIs, Lists, ReadFailure, fault_in, line_fault, mark};
-ghost use Rattle.hex_io.specs.ListCalls.{ReadsList};
-ghost use Rattle.hex_io.specs.Message.{line_fault_text, list_fault_text};
+ghost use Rattle.hex_io.specs.ListCalls.{ReadsList, WritesList};
+ghost use Rattle.hex_io.specs.Lists.{LineIs, fault_in, first_bad_name, is_bad_name, line_fault, line_of, mark};
+ghost use Rattle.hex_io.specs.Message.{line_fault_text, list_fault_text, list_write_fault_text};
+ghost use Rattle.hex_io.specs.Sink.{Puts};
+ghost use Rattle.hex_io.specs.declared.digests.ListWriteFault.TheVariants as fault;
 
+use crate::digits::put_digits;
 use crate::lines::line_end;
-pub use crate::writing::{ListWriteFault, write_to};
+use crate::sink::{Sink, WriteFault, put_all};
 use hex_core::{Backend, CheckCase, Error};
 use std::alloc::{Allocator, Global};
 use std::{error, fmt};
@@ -114,6 +117,56 @@ impl fmt::Display for ListFault {
 
 impl error::Error for ListFault {}
 
+/// An error of writing a list.
+///
+/// [`Display`](fmt::Display) prints exactly these texts:
+///
+/// | Case | Text |
+/// |---|---|
+/// | `BadName` | `invalid name in entry 1` |
+/// | `Write` | that of the [`WriteFault`] |
+///
+/// ```rust
+/// let fault = ListWriteFault::BadName { entry: 1 };
+/// assert_eq!(rt;
+///     fault.to_string(rt.alloc())?.as_str(),
+///     "invalid name in entry 1"
+/// );
+/// let fault = ListWriteFault::from(WriteFault::TookNothing);
+/// assert_eq!(rt; fault.to_string(rt.alloc())?.as_str(), "sink took nothing");
+/// ```
+#[derive(Clone, Copy, Debug, PartialEq, Eq)]
+pub enum ListWriteFault {
+    /// A name is empty or has a newline, so it cannot end a line of a list.
+    BadName {
+        /// The index of the first entry with such a name.
+        entry: usize,
+    },
+    /// A put failed.
+    Write(WriteFault),
+}
+
+impl fmt::Display for ListWriteFault {
+    ghost output = { λ fault. Some (list_write_fault_text fault) };
+
+    fn fmt<W: fmt::Write>(&self, f: &mut fmt::Formatter<W>) -> fmt::Result {
+        match self {
+            ListWriteFault::BadName { entry } => write!(f, "invalid name in entry {entry}"),
+            ListWriteFault::Write(failed) => failed.fmt(f),
+        }
+    }
+}
+
+impl error::Error for ListWriteFault {}
+
+impl From<WriteFault> for ListWriteFault {
+    ghost from_gives = { λ failed given. given ≡ fault.Write failed };
+
+    fn from(failed: WriteFault) -> ListWriteFault {
+        ListWriteFault::Write(failed)
+    }
+}
+
 /// Returns the entries of a list, in the order of its lines, allocated by the global allocator.
 ///
 /// Each line is `2 * N` digits, a space, then a space or `*`, a name and a newline, which the last
@@ -169,21 +222,6 @@ pub fn read_in<'a, A: Allocator + Drop, const N: usize>(
     ensures { ReadsList case N src.entry.now result }
 {
     let mut entries = Vec::new(alloc);
-    read_lines(&mut entries, src, case)?;
-    Ok(entries)
-}
-
-// Reads the lines of a source. Entries read before an error stay.
-fn read_lines<'a, A: Allocator, const N: usize>(
-    entries: &mut Vec<Entry<'a, N>, A>,
-    src: &'a [u8],
-    case: CheckCase,
-) -> Result<(), ListFault>
-    requires { entries.old.items ≡ [] }
-    ensures { MatchResult result
-        (λ _. Lists case src.entry.now entries.new.items)
-        (λ e. ReadFailure case N src.entry.now e) }
-{
     let mut at = 0;
     let mut line = 1;
     while at < src.len() {
@@ -200,7 +238,7 @@ fn read_lines<'a, A: Allocator, const N: usize>(
         line += 1;
         at += end + 1;
     }
-    Ok(())
+    Ok(entries)
 }
 
 // Reads one line, without its newline.
@@ -215,13 +253,13 @@ fn read_line<'a, const N: usize>(line: &'a [u8], case: CheckCase) -> Result<Entr
     if !Backend::plain().decode(&line[..2 * N], &mut digest, case) {
         return Err(invalid_digit::<N>(line, case));
     }
-    match mark_in(line[2 * N], line[2 * N + 1]) {
-        None => Err(LineFault::BadMark),
-        Some(binary) => Ok(Entry {
+    match &line[2 * N..] {
+        [b' ', mark @ (b' ' | b'*'), name @ ..] => Ok(Entry {
             digest,
-            binary,
-            name: &line[2 * N + 2..],
+            binary: *mark == b'*',
+            name,
         }),
+        _ => Err(LineFault::BadMark),
     }
 }
 
@@ -241,18 +279,100 @@ fn invalid_digit<const N: usize>(line: &[u8], case: CheckCase) -> LineFault
     }
 }
 
-// Whether the two bytes after the digits mark a file as binary, if they are a space and a mark.
-fn mark_in(space: u8, next: u8) -> Option<bool>
-    ensures { MatchOption result
-        ((space == 32 && (next == 32 || next == 42)) ≡ false)
-        (λ binary. (space ≡ 32) × (next ≡ mark binary)) }
+/// Puts the list of `entries` into `sink`: for each, the digits of its digest, a space, its mark,
+/// its name and a newline. The digits are uppercase if `upper` is true.
+///
+/// On `Ok` the sink has taken exactly the list more, and counted no failure. Allocates nothing. The
+/// number and size of the puts are unspecified. [`read`] returns the same entries, under the policy
+/// of its case or either.
+///
+/// # Errors
+///
+/// - [`ListWriteFault::BadName`] exactly if some name is empty or has a newline, with the first
+///   such entry; nothing is put then;
+/// - [`ListWriteFault::Write`] if a put failed, which ends the call. The sink has then taken a
+///   leading part of the list, and counted one more failure.
+///
+/// ```rust
+/// let mut buffer = [0; 8];
+/// let mut sink = SliceSink::new(&mut buffer);
+/// let entry = Entry {
+///     digest: [0xab, 1],
+///     binary: true,
+///     name: b"b",
+/// };
+/// write_to(&[entry], &mut sink, true)?;
+/// assert_eq!(rt; sink.written(), b"AB01 *b\n".as_slice());
+///
+/// for name in [b"".as_slice(), b"\n", b"a\n", b"a\nb"] {
+///     let bad = Entry { name, ..entry };
+///     let mut room = [0; 40];
+///     let mut sink = SliceSink::new(&mut room);
+///     let first = write_to(&[bad], &mut sink, false);
+///     let second = write_to(&[entry, bad], &mut sink, false);
+///     let third = write_to(&[entry, entry, bad, bad], &mut sink, false);
+///     assert_eq!(rt; first, Err(ListWriteFault::BadName { entry: 0 }));
+///     assert_eq!(rt; second, Err(ListWriteFault::BadName { entry: 1 }));
+///     assert_eq!(rt; third, Err(ListWriteFault::BadName { entry: 2 }));
+///     assert!(rt; sink.written().is_empty() && sink.failures() == 0);
+/// }
+/// ```
+pub fn write_to<S: Sink, const N: usize>(
+    entries: &[Entry<'_, N>],
+    sink: &mut S,
+    upper: bool,
+) -> Result<(), ListWriteFault>
+    requires { (S.state sink.old).failures < 2 ^ 64 - 1 }
+    ensures { WritesList upper entries.now (S.state sink.old) (S.state sink.new) result }
 {
-    if space != b' ' {
-        return None;
+    if let Some(entry) = bad_name(entries) {
+        return Err(ListWriteFault::BadName { entry });
     }
-    match next {
-        b' ' => Some(false),
-        b'*' => Some(true),
-        _ => None,
+    for entry in entries {
+        if let Err(fault) = put_line(sink, upper, entry) {
+            return Err(ListWriteFault::Write(fault));
+        }
     }
+    Ok(())
+}
+
+// Whether a name cannot end a line of a list.
+fn is_bad(name: &[u8]) -> bool
+    ensures { result ≡ is_bad_name name.now }
+{
+    name.is_empty() || name.contains(&b'\n')
+}
+
+// The first entry with a bad name.
+fn bad_name<const N: usize>(entries: &[Entry<'_, N>]) -> Option<usize>
+    ensures { result ≡ first_bad_name entries.now }
+{
+    'entries: for i in 0..entries.len() {
+        if is_bad(entries[i].name) {
+            return Some(i);
+        }
+    }
+    None
+}
+
+// The mark of an entry.
+fn mark_of(binary: bool) -> u8
+    ensures { result ≡ mark binary }
+{
+    if binary { b'*' } else { b' ' }
+}
+
+// Puts an entry's line, with its newline.
+fn put_line<S: Sink, const N: usize>(
+    sink: &mut S,
+    upper: bool,
+    entry: &Entry<'_, N>,
+) -> Result<(), WriteFault>
+    requires { (S.state sink.old).failures < 2 ^ 64 - 1 }
+    ensures { Puts (S.state sink.old) (S.state sink.new) result (line_of upper entry.now ++ (10 ∷ [])) }
+{
+    put_digits(sink, upper, None, &entry.digest)?;
+    put_all(sink, &[b' ', mark_of(entry.binary)])?;
+    put_all(sink, entry.name)?;
+    put_all(sink, b"\n")
 }

@@ -1,6 +1,6 @@
 //! Puts of digits: the text of some bytes, with separators between pieces if grouped.
 
-ghost use Rattle.std.specs.Prelude.{◌≡◌, ◌-◌, ◌*◌, ◌%◌, ◌^◌, ◌<◌, ◌≤◌, ◌∷◌, ◌++◌, [], length, min};
+ghost use Rattle.std.specs.Prelude.{◌≡◌, ◌-◌, ◌*◌, ◌%◌, ◌^◌, ◌<◌, ◌≤◌, ◌∷◌, ◌++◌, [], IsTrue, if◌then◌else◌, length, min};
 ghost use Rattle.std.specs.Str.{IsAscii};
 ghost use Rattle.hex_core.specs.Text.{text};
 ghost use Rattle.hex_codec.specs.Grouped.{grouped, piece_len, separator};
@@ -54,27 +54,14 @@ fn put_text<S: Sink>(sink: &mut S, upper: bool, bytes: &[u8]) -> Result<(), Writ
         return put_all(sink, encoded(bytes, upper, &mut buffer));
     }
     let mut buffer = [0; 2 * ENCODE_CHUNK];
-    put_chunks(sink, upper, bytes, &mut buffer)
-}
-
-// Puts the text of `bytes`, a chunk at a time.
-fn put_chunks<S: Sink>(
-    sink: &mut S,
-    upper: bool,
-    bytes: &[u8],
-    buffer: &mut [u8],
-) -> Result<(), WriteFault>
-    requires counts { (S.state sink.old).failures < 2 ^ 64 - 1 }
-    requires room { 2 * ENCODE_CHUNK ≤ length buffer.old }
-    ensures { Puts (S.state sink.old) (S.state sink.new) result (text upper bytes.now) }
-{
     for chunk in bytes.chunks(ENCODE_CHUNK) {
-        put_all(sink, encoded(chunk, upper, buffer))?;
+        put_all(sink, encoded(chunk, upper, &mut buffer))?;
     }
     Ok(())
 }
 
-// Puts the grouped text of `bytes`.
+// Puts the grouped text of `bytes`: a part at a time of as many whole pieces as fit a chunk, or of
+// one longer piece.
 fn put_grouped<S: Sink>(
     sink: &mut S,
     upper: bool,
@@ -86,71 +73,52 @@ fn put_grouped<S: Sink>(
 {
     if bytes.len() <= SHORT_SOURCE {
         let mut buffer = [0; 3 * SHORT_SOURCE];
-        return put_last(sink, upper, group, bytes, &mut buffer);
+        return put_part(sink, upper, group, bytes, false, &mut buffer);
     }
     let mut buffer = [0; 3 * ENCODE_CHUNK];
-    let size = bytes_at_once(group);
+    let size = part_len(group);
     let mut at = 0;
     'parts: while bytes.len() - at > size {
-        put_before(sink, upper, group, &bytes[at..at + size], &mut buffer)?;
+        put_part(sink, upper, group, &bytes[at..at + size], true, &mut buffer)?;
         at += size;
     }
-    put_last(sink, upper, group, &bytes[at..], &mut buffer)
+    put_part(sink, upper, group, &bytes[at..], false, &mut buffer)
 }
 
-// Bytes that are put at a time: as many whole pieces as fit a chunk, or one longer piece.
-fn bytes_at_once(group: Group) -> usize
+// The bytes in a part.
+fn part_len(group: Group) -> usize
     ensures whole { result % piece_len group ≡ 0 }
     ensures some { 0 < result }
     ensures one { ENCODE_CHUNK < result → result ≡ piece_len group }
 {
     let every = group.every();
-    if every <= ENCODE_CHUNK {
-        ENCODE_CHUNK / every * every
-    } else {
-        every
-    }
+    (ENCODE_CHUNK / every).max(1) * every
 }
 
-// Puts the grouped text of whole pieces that fit a chunk, or of a longer one, and a separator.
-fn put_before<S: Sink>(
+// Puts the grouped text of a part, with a separator behind it if more parts follow.
+fn put_part<S: Sink>(
     sink: &mut S,
     upper: bool,
     group: Group,
     bytes: &[u8],
-    buffer: &mut [u8; 3 * ENCODE_CHUNK],
-) -> Result<(), WriteFault>
-    requires counts { (S.state sink.old).failures < 2 ^ 64 - 1 }
-    requires some { 0 < length bytes.now }
-    requires one { ENCODE_CHUNK < length bytes.now → length bytes.now ≤ piece_len group }
-    ensures { Puts (S.state sink.old) (S.state sink.new) result
-        (grouped group upper bytes.now ++ (separator group ∷ [])) }
-{
-    if bytes.len() > ENCODE_CHUNK {
-        put_chunks(sink, upper, bytes, buffer)?;
-        return put_all(sink, &[group.sep()]);
-    }
-    let end = write_into(bytes, buffer, group, upper).unwrap();
-    buffer[end] = group.sep();
-    put_all(sink, &buffer[..end + 1])
-}
-
-// The same without a separator.
-fn put_last<S: Sink>(
-    sink: &mut S,
-    upper: bool,
-    group: Group,
-    bytes: &[u8],
+    more: bool,
     buffer: &mut [u8],
 ) -> Result<(), WriteFault>
     requires counts { (S.state sink.old).failures < 2 ^ 64 - 1 }
+    requires some { IsTrue more → 0 < length bytes.now }
     requires room { 3 * min (length bytes.now) ENCODE_CHUNK ≤ length buffer.old }
     requires one { ENCODE_CHUNK < length bytes.now → length bytes.now ≤ piece_len group }
-    ensures { Puts (S.state sink.old) (S.state sink.new) result (grouped group upper bytes.now) }
+    ensures { Puts (S.state sink.old) (S.state sink.new) result
+        (grouped group upper bytes.now ++ (if more then separator group ∷ [] else [])) }
 {
     if bytes.len() > ENCODE_CHUNK {
-        return put_chunks(sink, upper, bytes, buffer);
+        put_text(sink, upper, bytes)?;
+        return put_all(sink, &[group.sep()][..usize::from(more)]);
     }
     let end = write_into(bytes, buffer, group, upper).unwrap();
-    put_all(sink, &buffer[..end])
+    if !more {
+        return put_all(sink, &buffer[..end]);
+    }
+    buffer[end] = group.sep();
+    put_all(sink, &buffer[..end + 1])
 }

@@ -1,23 +1,17 @@
 //! A view of bytes that prints them as hex digits, with padding.
 
-ghost use Rattle.std.specs.Prelude.{◌≡◌, ◌-◌, ◌*◌, ◌^◌, ◌<◌, ◌≤◌, MatchOption, Some, length};
+ghost use Rattle.std.specs.Prelude.{◌≡◌, ◌-◌, ◌^◌, ◌<◌, Some};
 ghost use Rattle.std.specs.Fmt.{WritesOnOk};
-ghost use Rattle.std.specs.List.{repeat};
 ghost use Rattle.std.specs.Str.{IsAscii};
 ghost use Rattle.hex_core.specs.Text.{lowercase, text};
-ghost use Rattle.hex_codec.specs.Grouped.{piece_count, piece_len};
-ghost use Rattle.hex_io.specs.Frame.{frame, hex_bytes, left_padding, padding_of, plain_flags, sign_and_prefix};
+ghost use Rattle.hex_io.specs.Frame.{frame, hex_bytes, plain_flags, sign_and_prefix};
 ghost use Rattle.hex_io.specs.Sink.{Puts};
 
 use crate::digits::{ENCODE_CHUNK, SHORT_SOURCE, encoded, put_digits};
+use crate::padding::{before_text, padding_len, put_copies};
 pub use crate::sink::{Sink, SinkFault, SliceSink, WriteFault, WriterSink, put_all};
 use hex_codec::Group;
 use std::{fmt, str};
-
-// Copies of a padding character put at a time, and the longest character, in bytes.
-const COPIES: usize = 64;
-
-const LONGEST_CHARACTER: usize = 4;
 
 /// Where the fill characters of a padded text go.
 #[derive(Clone, Copy, Debug, PartialEq, Eq)]
@@ -120,20 +114,18 @@ impl<'a> Hex<'a> {
         requires { (S.state sink.old).failures < 2 ^ 64 - 1 }
         ensures { Puts (S.state sink.old) (S.state sink.new) result (frame flags.now (hex_bytes self.now)) }
     {
-        let padding = padding_of_view(flags, self.bytes);
+        let front = sign_and_prefix(flags);
+        let padding = padding_len(flags, front, self.bytes);
         if flags.zero {
-            put_all(sink, sign_and_prefix(flags))?;
-            put_copies(sink, b"0", padding)?;
-            put_digits(sink, flags.upper, flags.group, self.bytes)
-        } else {
-            let mut buffer = [0; LONGEST_CHARACTER];
-            let fill = flags.fill.encode_utf8(&mut buffer).as_bytes();
-            let left = before_text(flags.align, padding);
-            put_copies(sink, fill, left)?;
-            put_all(sink, sign_and_prefix(flags))?;
-            put_digits(sink, flags.upper, flags.group, self.bytes)?;
-            put_copies(sink, fill, padding - left)
+            put_all(sink, front)?;
+            put_copies(sink, '0', padding)?;
+            return put_digits(sink, flags.upper, flags.group, self.bytes);
         }
+        let left = before_text(flags.align, padding);
+        put_copies(sink, flags.fill, left)?;
+        put_all(sink, front)?;
+        put_digits(sink, flags.upper, flags.group, self.bytes)?;
+        put_copies(sink, flags.fill, padding - left)
     }
 }
 
@@ -172,88 +164,4 @@ fn sign_and_prefix(flags: &HexFlags) -> &'static [u8]
         (false, true) => b"0x",
         (false, false) => b"",
     }
-}
-
-// The number of separators between the digits of `bytes`.
-fn separators(group: Option<Group>, bytes: &[u8]) -> usize
-    ensures { MatchOption group (result ≡ 0)
-        (λ group. result ≡ piece_count (piece_len group) (length bytes.now) - 1) }
-{
-    match group {
-        None => 0,
-        Some(group) => bytes.len().div_ceil(group.every()).saturating_sub(1),
-    }
-}
-
-// The number of padding characters for `bytes`. Subtracts from the width, since a sum of lengths
-// may exceed `usize`.
-fn padding_of_view(flags: &HexFlags, bytes: &[u8]) -> usize
-    ensures { result ≡ padding_of flags.now bytes.now }
-{
-    match flags.width {
-        None => 0,
-        Some(width) => width
-            .saturating_sub(sign_and_prefix(flags).len())
-            .saturating_sub(bytes.len())
-            .saturating_sub(bytes.len())
-            .saturating_sub(separators(flags.group, bytes)),
-    }
-}
-
-// The number of padding characters before the text.
-fn before_text(align: Align, padding: usize) -> usize
-    ensures { result ≡ left_padding align padding }
-{
-    match align {
-        Align::Left => 0,
-        Align::Right => padding,
-        Align::Center => padding / 2,
-    }
-}
-
-// Fills the block with copies of a piece.
-fn copy_into(piece: &[u8], count: usize, block: &mut [u8])
-    requires { length block.old ≡ count * length piece.now }
-    ensures { block.new ≡ repeat count piece.now }
-{
-    let len = piece.len();
-    'copies: for i in 0..count {
-        block[i * len..i * len + len].copy_from_slice(piece);
-    }
-}
-
-// Puts `count` copies of a piece, a block of them at a time.
-fn put_copies<S: Sink>(sink: &mut S, piece: &[u8], count: usize) -> Result<(), WriteFault>
-    requires counts { (S.state sink.old).failures < 2 ^ 64 - 1 }
-    requires short { length piece.now ≤ LONGEST_CHARACTER }
-    ensures { Puts (S.state sink.old) (S.state sink.new) result (repeat count piece.now) }
-{
-    if count == 0 {
-        return Ok(());
-    }
-    let mut buffer = [0; COPIES * LONGEST_CHARACTER];
-    put_by_blocks(sink, piece, count, &mut buffer)
-}
-
-// Puts copies of a short piece, at most as many at a time as fit the buffer.
-fn put_by_blocks<S: Sink>(
-    sink: &mut S,
-    piece: &[u8],
-    count: usize,
-    buffer: &mut [u8],
-) -> Result<(), WriteFault>
-    requires counts { (S.state sink.old).failures < 2 ^ 64 - 1 }
-    requires room { COPIES * length piece.now ≤ length buffer.old }
-    ensures { Puts (S.state sink.old) (S.state sink.new) result (repeat count piece.now) }
-{
-    let most = count.min(COPIES);
-    let block = &mut buffer[..most * piece.len()];
-    copy_into(piece, most, block);
-    let mut left = count;
-    while left > 0 {
-        let copies = left.min(COPIES);
-        put_all(sink, &block[..copies * piece.len()])?;
-        left -= copies;
-    }
-    Ok(())
 }

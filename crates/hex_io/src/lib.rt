@@ -7,9 +7,9 @@ mod digits;
 pub mod format;
 pub mod laws;
 mod lines;
+mod padding;
 pub mod sink;
 pub mod stream;
-mod writing;
 
 pub use crate::format::{Align, Hex, HexFlags};
 pub use crate::sink::{Sink, SinkFault, SliceSink, WriteFault, WriterSink, put_all};

@@ -52,10 +52,7 @@ fn line_end_by_bytes(src: &[u8]) -> usize
     ensures end { result ≡ position_or_len (λ b. b == 10) src.now }
     ensures inside { result ≤ length src.now }
 {
-    'bytes: for i in 0..src.len() {
-        if src[i] == b'\n' {
-            return i;
-        }
-    }
-    src.len()
+    src.iter()
+        .position(|byte| *byte == b'\n')
+        .unwrap_or(src.len())
 }

@@ -79,7 +79,7 @@ fn digits_in(input: &[u8]) -> &[u8]
 }
 
 // Puts the digits of some bytes, and a newline. Allocates nothing.
-fn put_text_line<S: Sink>(bytes: &[u8], upper: bool, sink: &mut S) -> Result<(), WriteFault>
+fn put_text_line<S: Sink>(sink: &mut S, upper: bool, bytes: &[u8]) -> Result<(), WriteFault>
     requires { (S.state sink.old).failures < 2 ^ 64 - 1 }
     ensures { Puts (S.state sink.old) (S.state sink.new) result (text upper bytes.now ++ 10 ∷ []) }
 {
@@ -104,8 +104,8 @@ pub fn run_in<A: Allocator + Drop, S: Sink>(
     ensures { Runs op input.now (S.state sink.old) (S.state sink.new) result }
 {
     let case = match op {
-        Op::Encode => return put_text_line(input, false, sink).map_err(RunFault::Write),
-        Op::EncodeUpper => return put_text_line(input, true, sink).map_err(RunFault::Write),
+        Op::Encode => return put_text_line(sink, false, input).map_err(RunFault::Write),
+        Op::EncodeUpper => return put_text_line(sink, true, input).map_err(RunFault::Write),
         Op::Decode => CheckCase::None,
         Op::DecodeLower => CheckCase::Lower,
         Op::DecodeUpper => CheckCase::Upper,

@@ -1,6 +1,6 @@
 -- The text of a part with the separator behind it is the next of the whole text.
 use Rattle.std.proofs.Common.{◌≡◌, Bool, ℕ, ◌+◌, ◌-◌, ◌%◌, ◌<◌, List, [], ◌∷◌, ◌++◌, length, take, drop}
-use Rattle.std.proofs.Common.{sym, ap, ◌∙◌, arith, append_assoc, length-drop, take-append-drop}
+use Rattle.std.proofs.Common.{sym, ap, ◌∙◌, arith, append-nil, append_assoc, length-drop, take-append-drop}
 use Rattle.std.proofs.lemmas.List.{drop-drop, length-take-le, take_rest}
 use Rattle.hex_codec.specs.declared.group.Group.{Group}
 use Rattle.hex_codec.specs.Grouped.{grouped, piece_len, separator}
@@ -26,25 +26,25 @@ taken at size = omega arith
 pub parts-preserved : goal.parts-preserved
 parts-preserved g c =
     let st = g.S.Sink.state in let group = c.args.group in let upper = c.args.upper in let bytes = c.args.bytes.now in
-    let at = c.parts.at in let size = c.bytes_at_once-size.result in let so_far = c.parts.invariant.1 in
+    let at = c.parts.at in let size = c.part_len-size.result in let so_far = c.parts.invariant.1 in
     let shown = grouped group upper (take size (drop at bytes)) ++ (separator group ∷ []) in
-    let whole = part-next group upper bytes so_far.0 (grouped group upper bytes) at size c.bytes_at_once-size.ensures.whole c.bytes_at_once-size.ensures.some c.parts-test.true so_far.2 in
-    let put = rw (taken at size) at c.in_ok-put_before.ensures in
-    let both = Takes-then (st c.args.sink.now) (st c.parts.sink) (st c.put_before.new.sink) so_far.0 shown so_far.1 put in
+    let whole = part-next group upper bytes so_far.0 (grouped group upper bytes) at size c.part_len-size.ensures.whole c.part_len-size.ensures.some c.parts-test.true so_far.2 in
+    let put = rw (taken at size) at c.in_ok-put_part.ensures in
+    let both = Takes-then (st c.args.sink.now) (st c.parts.sink) (st c.put_part-in-parts.new.sink) so_far.0 shown so_far.1 put in
     (omega (arith, c.parts-test.true), (so_far.0 ++ shown, both, append_assoc so_far.0 shown (grouped group upper (drop (at + size) bytes)) ∙ whole))
 
-pub returns-in_err-put_before : goal.returns-in_err-put_before
-returns-in_err-put_before g c =
+pub returns-in_err-put_part : goal.returns-in_err-put_part
+returns-in_err-put_part g c =
     let st = g.S.Sink.state in let group = c.args.group in let upper = c.args.upper in let bytes = c.args.bytes.now in
-    let at = c.parts.at in let size = c.bytes_at_once-size.result in let so_far = c.parts.invariant.1 in
-    let whole = part-next group upper bytes so_far.0 (grouped group upper bytes) at size c.bytes_at_once-size.ensures.whole c.bytes_at_once-size.ensures.some c.parts-test.true so_far.2 in
-    let start = st c.args.sink.now in let middle = st c.parts.sink in let end = st c.put_before.new.sink in
-    let stopped = rw (taken at size) at c.in_err-put_before.ensures in
+    let at = c.parts.at in let size = c.part_len-size.result in let so_far = c.parts.invariant.1 in
+    let whole = part-next group upper bytes so_far.0 (grouped group upper bytes) at size c.part_len-size.ensures.whole c.part_len-size.ensures.some c.parts-test.true so_far.2 in
+    let start = st c.args.sink.now in let middle = st c.parts.sink in let end = st c.put_part-in-parts.new.sink in
+    let stopped = rw (taken at size) at c.in_err-put_part.ensures in
     let failed = Stops-then start middle end _ _ so_far.1 (Stops-stop middle end _ (grouped group upper (drop (at + size) bytes)) stopped) in
     Puts-err start end c.from_residual.result _ c.from_residual.ensures.0 (rw whole at failed)
 
 pub returns : goal.returns
 returns g c =
     let st = g.S.Sink.state in let bytes = c.args.bytes.now in let so_far = c.parts.invariant.1 in
-    let last = rw (take_rest bytes c.parts.at) at c.put_last-2.ensures in
-    rw so_far.2 at (Puts-then (st c.args.sink.now) (st c.parts.sink) (st c.put_last-2.new.sink) c.put_last-2.result so_far.0 _ so_far.1 last)
+    let last = rw (take_rest bytes c.parts.at, append-nil) at c.put_part-2.ensures in
+    rw so_far.2 at (Puts-then (st c.args.sink.now) (st c.parts.sink) (st c.put_part-2.new.sink) c.put_part-2.result so_far.0 _ so_far.1 last)

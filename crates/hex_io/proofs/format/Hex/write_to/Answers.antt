@@ -4,35 +4,39 @@ use Rattle.hex_io.proofs.format.Hex.write_to.Goals as goal
 
 pub returns-in_err-put_all : goal.returns-in_err-put_all
 returns-in_err-put_all g c =
-    rw (c.if-flags.true, ← c.padding_of_view-padding.ensures, ← c.sign_and_prefix.ensures)
+    rw (c.if-flags.true, ← c.padding_len-padding.ensures, ← c.sign_and_prefix-front.ensures)
     (Puts-stop _ _ c.from_residual.ensures.0 c.in_err-put_all.ensures)
 
 pub returns-in_err-put_copies : goal.returns-in_err-put_copies
+unfolding lib.Utf8.encode
 returns-in_err-put_copies g c =
-    rw (c.if-flags.true, ← c.padding_of_view-padding.ensures, ← c.sign_and_prefix.ensures)
+    rw (c.if-flags.true, ← c.padding_len-padding.ensures, ← c.sign_and_prefix-front.ensures)
     (Puts-then _ _ _ _ _ _ c.in_ok-put_all.ensures (Puts-stop _ _ c.from_residual-in_err-put_copies.ensures.0 c.in_err-put_copies.ensures))
 
-pub returns-in_ok-put_copies : goal.returns-in_ok-put_copies
-returns-in_ok-put_copies g c =
-    rw (c.if-flags.true, ← c.padding_of_view-padding.ensures, ← c.sign_and_prefix.ensures)
+pub returns-then-flags : goal.returns-then-flags
+unfolding lib.Utf8.encode
+returns-then-flags g c =
+    rw (c.if-flags.true, ← c.padding_len-padding.ensures, ← c.sign_and_prefix-front.ensures)
     (Puts-then _ _ _ _ _ _ c.in_ok-put_all.ensures (Puts-then _ _ _ _ _ _ c.in_ok-put_copies.ensures c.put_digits.ensures))
 
 pub returns-in_err-put_copies-2 : goal.returns-in_err-put_copies-2
 returns-in_err-put_copies-2 g c =
-    rw (c.if-flags.false, ← c.padding_of_view-padding.ensures, ← c.before_text-left.ensures, ← c.encode_utf8.ensures.value, ← c.as_bytes-fill.ensures.value)
+    rw (c.if-flags.false, ← c.padding_len-padding.ensures, ← c.before_text-left.ensures)
     (Puts-stop _ _ c.from_residual-in_err-put_copies-2.ensures.0 c.in_err-put_copies-2.ensures)
 
 pub returns-in_err-put_all-2 : goal.returns-in_err-put_all-2
 returns-in_err-put_all-2 g c =
-    rw (c.if-flags.false, ← c.padding_of_view-padding.ensures, ← c.before_text-left.ensures, ← c.encode_utf8.ensures.value, ← c.as_bytes-fill.ensures.value, ← c.sign_and_prefix-else-flags.ensures)
+    rw (c.if-flags.false, ← c.padding_len-padding.ensures, ← c.before_text-left.ensures, ← c.sign_and_prefix-front.ensures)
     (Puts-then _ _ _ _ _ _ c.in_ok-put_copies-2.ensures (Puts-stop _ _ c.from_residual-in_err-put_all-2.ensures.0 c.in_err-put_all-2.ensures))
 
 pub returns-in_err-put_digits : goal.returns-in_err-put_digits
 returns-in_err-put_digits g c =
-    rw (c.if-flags.false, ← c.padding_of_view-padding.ensures, ← c.before_text-left.ensures, ← c.encode_utf8.ensures.value, ← c.as_bytes-fill.ensures.value, ← c.sign_and_prefix-else-flags.ensures)
-    (Puts-then _ _ _ _ _ _ c.in_ok-put_copies-2.ensures (Puts-then _ _ _ _ _ _ c.in_ok-put_all-2.ensures (Puts-stop _ _ c.from_residual-in_err-put_digits.ensures.0 c.in_err-put_digits.ensures)))
+    rw (c.if-flags.false, ← c.padding_len-padding.ensures, ← c.before_text-left.ensures, ← c.sign_and_prefix-front.ensures)
+    (Puts-then _ _ _ _ _ _ c.in_ok-put_copies-2.ensures (Puts-then _ _ _ _ _ _ c.in_ok-put_all-2.ensures
+    (Puts-stop _ _ c.from_residual-in_err-put_digits.ensures.0 c.in_err-put_digits.ensures)))
 
-pub returns-in_ok-put_digits : goal.returns-in_ok-put_digits
-returns-in_ok-put_digits g c =
-    rw (c.if-flags.false, ← c.padding_of_view-padding.ensures, ← c.before_text-left.ensures, ← c.encode_utf8.ensures.value, ← c.as_bytes-fill.ensures.value, ← c.sign_and_prefix-else-flags.ensures)
-    (Puts-then _ _ _ _ _ _ c.in_ok-put_copies-2.ensures (Puts-then _ _ _ _ _ _ c.in_ok-put_all-2.ensures (Puts-then _ _ _ _ _ _ c.in_ok-put_digits.ensures c.put_copies-else-flags-2.ensures)))
+pub returns : goal.returns
+returns g c =
+    rw (c.if-flags.false, ← c.padding_len-padding.ensures, ← c.before_text-left.ensures, ← c.sign_and_prefix-front.ensures)
+    (Puts-then _ _ _ _ _ _ c.in_ok-put_copies-2.ensures (Puts-then _ _ _ _ _ _ c.in_ok-put_all-2.ensures
+    (Puts-then _ _ _ _ _ _ c.in_ok-put_digits.ensures c.put_copies-3.ensures)))

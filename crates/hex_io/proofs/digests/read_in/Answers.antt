@@ -1,7 +1,7 @@
 -- The next line is read, or is the first one with a fault.
 use Rattle.std.proofs.Common.{◌≡◌, [], ◌∷◌, ◌++◌, arith}
 use Rattle.hex_io.proofs.LineLemmas.{clear-here, fault-here, line-at, read-more}
-use Rattle.hex_io.proofs.digests.read_lines.Goals as goal
+use Rattle.hex_io.proofs.digests.read_in.Goals as goal
 
 pub returns-then-is_err : goal.returns-then-is_err
 returns-then-is_err g c =

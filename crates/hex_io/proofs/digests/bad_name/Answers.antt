@@ -3,7 +3,7 @@ use Rattle.std.proofs.Common.{sym, arith}
 use Rattle.std.proofs.lemmas.Grind.{common_steps}
 use Rattle.std.proofs.lemmas.List.Sums.{position_or_len_is}
 use Rattle.hex_io.proofs.NameLemmas.{bad, none-bad}
-use Rattle.hex_io.proofs.writing.bad_name.Goals as goal
+use Rattle.hex_io.proofs.digests.bad_name.Goals as goal
 
 pub returns-then-is_bad : goal.returns-then-is_bad
 returns-then-is_bad g c =

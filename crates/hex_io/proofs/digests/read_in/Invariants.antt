@@ -1,7 +1,7 @@
 -- The lines before the place have been read as the entries, and none has a fault.
 use Rattle.std.proofs.Common.{◌+◌, ◌-◌, ◌≤◌, drop, length}
 use Rattle.hex_io.proofs.LineLemmas.{ReadSoFar}
-use Rattle.hex_io.proofs.digests.read_lines.Given as goal
+use Rattle.hex_io.proofs.digests.read_in.Given as goal
 
 abbrev pub invariant-loop-at : goal.invariant-loop-at
 invariant-loop-at g l = record {
