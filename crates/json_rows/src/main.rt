@@ -9,6 +9,7 @@ mod seen;
 mod terms;
 mod writings;
 
+use crate::readings::Reading;
 use crate::terms::refusal;
 use std::io::{self, BufReader};
 use test_kit::{Calls, Row, judge};
@@ -21,22 +22,49 @@ fn is_printed(row: &mut Row) -> bool {
         && matches!(format!(in alloc; "{error:*>+#90.3}"), Ok(text) if text.as_str().as_bytes() == want)
 }
 
+// What a row calls.
+#[derive(Clone, Copy)]
+enum Call {
+    Read(Reading),
+    Write,
+    WriteArray,
+    Long,
+    Print,
+    GrantedRead,
+    GrantedReadOption,
+    GrantedText,
+}
+
+const CALLS: [(&str, Call); 10] = [
+    ("read", Call::Read(Reading::Whole)),
+    ("read-within", Call::Read(Reading::Within)),
+    ("read-array", Call::Read(Reading::Array)),
+    ("write", Call::Write),
+    ("write-array", Call::WriteArray),
+    ("long", Call::Long),
+    ("print", Call::Print),
+    ("granted-read", Call::GrantedRead),
+    ("granted-read-option", Call::GrantedReadOption),
+    ("granted-text", Call::GrantedText),
+];
+
 #[derive(Drop)]
 struct Adapters;
 
 impl Calls for Adapters {
     fn is_answered(&mut self, row: &mut Row) -> bool {
-        let kinds = b"read read-within read-array write write-array long print granted-read \
-            granted-read-option granted-text";
-        match row.call.one_of(kinds) {
-            3 => writings::is_written(row, false),
-            4 => writings::is_written(row, true),
-            5 => writings::is_alike(row),
-            6 => is_printed(row),
-            7 => growths::is_read(row, false),
-            8 => growths::is_read(row, true),
-            9 => growths::is_written(row),
-            kind => readings::is_answered(kind, row),
+        let Some(call) = row.call.one_of(&CALLS) else {
+            return false;
+        };
+        match call {
+            Call::Read(reading) => readings::is_answered(reading, row),
+            Call::Write => writings::is_written(row, false),
+            Call::WriteArray => writings::is_written(row, true),
+            Call::Long => writings::is_alike(row),
+            Call::Print => is_printed(row),
+            Call::GrantedRead => growths::is_read(row, false),
+            Call::GrantedReadOption => growths::is_read(row, true),
+            Call::GrantedText => growths::is_written(row),
         }
     }
 }

@@ -2,6 +2,9 @@
 
 ghost use Rattle.std.specs.Prelude.{◌<◌};
 
+use crate::modules::Format::{
+    PlainAny, PlainLower, PlainUpper, PrefixedAny, PrefixedLower, PrefixedUpper,
+};
 use crate::seen::{is_array, is_bytes, is_option, is_option_array};
 use crate::terms::{Answer, Place};
 use faster_hex::{
@@ -13,23 +16,59 @@ use faster_hex::{
 use serde_json::Value;
 use std::alloc::Global;
 
-// What `$see` sees of a call of the module that has a number, or `$see_option` where there may be none.
+/// The root, or a module of adapters; the value of an optional one may be none.
+#[derive(Clone, Copy)]
+pub enum Module {
+    Root,
+    Always(Format),
+    Optional(Format),
+}
+
+/// Whether there is a prefix, and which letters are read.
+#[derive(Clone, Copy)]
+pub enum Format {
+    PrefixedAny,
+    PrefixedLower,
+    PrefixedUpper,
+    PlainAny,
+    PlainLower,
+    PlainUpper,
+}
+
+/// The modules by their names, in the order of the numbers that rows give them.
+pub const MODULES: [(&str, Module); 13] = [
+    ("root", Module::Root),
+    ("withpfx_ignorecase", Module::Always(PrefixedAny)),
+    ("option_withpfx_ignorecase", Module::Optional(PrefixedAny)),
+    ("withpfx_lowercase", Module::Always(PrefixedLower)),
+    ("option_withpfx_lowercase", Module::Optional(PrefixedLower)),
+    ("withpfx_uppercase", Module::Always(PrefixedUpper)),
+    ("option_withpfx_uppercase", Module::Optional(PrefixedUpper)),
+    ("nopfx_ignorecase", Module::Always(PlainAny)),
+    ("option_nopfx_ignorecase", Module::Optional(PlainAny)),
+    ("nopfx_lowercase", Module::Always(PlainLower)),
+    ("option_nopfx_lowercase", Module::Optional(PlainLower)),
+    ("nopfx_uppercase", Module::Always(PlainUpper)),
+    ("option_nopfx_uppercase", Module::Optional(PlainUpper)),
+];
+
+// What `$see` sees of a call of a module, or `$see_option` where there may be none.
 macro_rules! module {
-    ($number:expr, $see:ident($($call:tt)*), $see_option:ident($($option_call:tt)*)) => {
-        match $number {
-            0 => $see(faster_hex::$($call)*),
-            1 => $see(withpfx_ignorecase::$($call)*),
-            2 => $see_option(option_withpfx_ignorecase::$($option_call)*),
-            3 => $see(withpfx_lowercase::$($call)*),
-            4 => $see_option(option_withpfx_lowercase::$($option_call)*),
-            5 => $see(withpfx_uppercase::$($call)*),
-            6 => $see_option(option_withpfx_uppercase::$($option_call)*),
-            7 => $see(nopfx_ignorecase::$($call)*),
-            8 => $see_option(option_nopfx_ignorecase::$($option_call)*),
-            9 => $see(nopfx_lowercase::$($call)*),
-            10 => $see_option(option_nopfx_lowercase::$($option_call)*),
-            11 => $see(nopfx_uppercase::$($call)*),
-            _ => $see_option(option_nopfx_uppercase::$($option_call)*),
+    ($module:expr, $see:ident($($call:tt)*), $see_option:ident($($option_call:tt)*)) => {
+        match $module {
+            Module::Root => $see(faster_hex::$($call)*),
+            Module::Always(PrefixedAny) => $see(withpfx_ignorecase::$($call)*),
+            Module::Optional(PrefixedAny) => $see_option(option_withpfx_ignorecase::$($option_call)*),
+            Module::Always(PrefixedLower) => $see(withpfx_lowercase::$($call)*),
+            Module::Optional(PrefixedLower) => $see_option(option_withpfx_lowercase::$($option_call)*),
+            Module::Always(PrefixedUpper) => $see(withpfx_uppercase::$($call)*),
+            Module::Optional(PrefixedUpper) => $see_option(option_withpfx_uppercase::$($option_call)*),
+            Module::Always(PlainAny) => $see(nopfx_ignorecase::$($call)*),
+            Module::Optional(PlainAny) => $see_option(option_nopfx_ignorecase::$($option_call)*),
+            Module::Always(PlainLower) => $see(nopfx_lowercase::$($call)*),
+            Module::Optional(PlainLower) => $see_option(option_nopfx_lowercase::$($option_call)*),
+            Module::Always(PlainUpper) => $see(nopfx_uppercase::$($call)*),
+            Module::Optional(PlainUpper) => $see_option(option_nopfx_uppercase::$($option_call)*),
         }
     };
 }
@@ -41,8 +80,8 @@ pub fn reads(place: Place, alloc: Global, value: &Value, want: Answer<'_>) -> bo
         Place::OptionBy(format) => {
             is_option(adapters::read_option(alloc, format, None, value), want)
         }
-        Place::Module(number) => module!(
-            number,
+        Place::Module(module) => module!(
+            module,
             is_bytes(deserialize(alloc, value), want),
             is_option(deserialize(alloc, value), want)
         ),
@@ -63,8 +102,8 @@ pub fn reads_within<const MAX: usize>(
             adapters::read_option(alloc, format, max, value),
             want,
         ),
-        Place::Module(number) => module!(
-            number,
+        Place::Module(module) => module!(
+            module,
             is_bytes(deserialize_bounded::<MAX>(alloc, value), want),
             is_option(deserialize_bounded::<MAX>(alloc, value), want)
         ),
@@ -80,8 +119,8 @@ pub fn reads_array<const N: usize>(place: Place, value: &Value, want: Answer<'_>
         Place::OptionBy(format) => {
             is_option_array(adapters::read_option_array::<N>(format, value), want)
         }
-        Place::Module(number) => module!(
-            number,
+        Place::Module(module) => module!(
+            module,
             is_array(array::deserialize::<N>(value), want),
             is_option_array(array::deserialize::<N>(value), want)
         ),
@@ -97,8 +136,8 @@ pub fn write(place: Place, alloc: Global, src: Option<&[u8]>) -> Written {
     match place {
         Place::By(format) => Some(adapters::write(alloc, format, bytes)),
         Place::OptionBy(format) => Some(adapters::write_option(alloc, format, src)),
-        Place::Module(number) => module!(
-            number,
+        Place::Module(module) => module!(
+            module,
             Some(serialize(alloc, bytes)),
             Some(serialize(alloc, src))
         ),
@@ -109,8 +148,8 @@ pub fn write(place: Place, alloc: Global, src: Option<&[u8]>) -> Written {
 pub fn write_array(place: Place, alloc: Global, src: Option<&[u8]>) -> Written {
     let bytes = src.unwrap_or_default();
     match place {
-        Place::Module(number) => module!(
-            number,
+        Place::Module(module) => module!(
+            module,
             Some(array::serialize(alloc, bytes)),
             Some(array::serialize(alloc, src))
         ),

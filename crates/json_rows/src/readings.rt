@@ -38,22 +38,33 @@ fn field_of<'a>(value: &'a Value, name: &[u8]) -> Option<&'a Value> {
     value.get(str::from_utf8(name).ok()?)
 }
 
-// Reads a JSON text, or `field NAME OBJECT`, where the object is written as it is.
+// Reads a JSON text, or `field NAME OBJECT`.
 fn read_json(row: &mut Row) {
     row.first.clear();
-    row.given.clear();
     if row.call.takes(b"field") {
         row.call.take_bytes(&mut row.first);
-        let _ = row.given.try_extend_from_slice(row.call.next()).is_ok();
-    } else {
-        row.call.take_bytes(&mut row.given);
     }
+    row.call.take_bytes(&mut row.given);
 }
 
-/// Whether a row is answered that is a `read`, a `read-within` or a `read-array`, by the number of this kind.
-pub fn is_answered(kind: usize, row: &mut Row) -> bool {
+/// How a value is read.
+#[derive(Clone, Copy)]
+pub enum Reading {
+    /// `read`: all of it.
+    Whole,
+    /// `read-within`: within a bound.
+    Within,
+    /// `read-array`: as an array.
+    Array,
+}
+
+/// Whether a row of such a reading is answered.
+pub fn is_answered(reading: Reading, row: &mut Row) -> bool {
     let (place, alloc) = (Place::read(&mut row.call), row.alloc);
-    let count = if kind == 0 { 0 } else { row.call.take_number() };
+    let count = match reading {
+        Reading::Whole => 0,
+        Reading::Within | Reading::Array => row.call.take_number(),
+    };
     read_json(row);
     let want = answer(&mut row.answer, &mut row.wanted);
     let Some(whole) = value(alloc, row.given.as_slice()) else {
@@ -62,9 +73,9 @@ pub fn is_answered(kind: usize, row: &mut Row) -> bool {
     let Some(value) = field_of(&whole, row.first.as_slice()) else {
         return false;
     };
-    match kind {
-        0 => reads(place, alloc, value, want),
-        1 => is_within(count, place, alloc, value, want),
-        _ => is_array(count, place, value, want),
+    match reading {
+        Reading::Whole => reads(place, alloc, value, want),
+        Reading::Within => is_within(count, place, alloc, value, want),
+        Reading::Array => is_array(count, place, value, want),
     }
 }

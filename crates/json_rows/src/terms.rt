@@ -1,5 +1,6 @@
 //! What rows are made of: modules, formats, JSON values and answers.
 
+use crate::modules::{MODULES, Module};
 use faster_hex::AdapterError;
 use faster_hex::adapters::WireFormat;
 use serde_json::Value;
@@ -14,7 +15,7 @@ pub type Answer<'a> = Result<Option<&'a [u8]>, AdapterError>;
 #[derive(Clone, Copy)]
 pub enum Place {
     /// Those of the root or of a module.
-    Module(usize),
+    Module(Module),
     /// `by` and a format: the adapters that know no none.
     By(WireFormat),
     /// `option-by` and a format: those that do.
@@ -24,59 +25,57 @@ pub enum Place {
 impl Place {
     /// Reads whose calls a row names. A module has its name, or `module` and its number.
     pub fn read(call: &mut Words) -> Place {
-        let names = b"root withpfx_ignorecase option_withpfx_ignorecase withpfx_lowercase \
-            option_withpfx_lowercase withpfx_uppercase option_withpfx_uppercase nopfx_ignorecase \
-            option_nopfx_ignorecase nopfx_lowercase option_nopfx_lowercase nopfx_uppercase \
-            option_nopfx_uppercase";
         if call.takes(b"by") {
             return Place::By(wire_format(call));
         }
         if call.takes(b"option-by") {
             return Place::OptionBy(wire_format(call));
         }
-        let number = number(call, b"module", names);
-        if number > 12 {
-            call.misread();
-        }
-        Place::Module(number)
+        Place::Module(entry(call, b"module", &MODULES).unwrap_or(Module::Root))
     }
 
     /// Whether its calls know none.
     pub fn knows_none(self) -> bool {
-        match self {
-            Place::Module(number) => number > 0 && number % 2 == 0,
-            place => matches!(place, Place::OptionBy(_)),
-        }
+        matches!(
+            self,
+            Place::Module(Module::Optional(_)) | Place::OptionBy(_)
+        )
     }
 }
 
-// Reads a number behind this word, or one of these names, which stands for its place.
-fn number(call: &mut Words, word: &[u8], names: &[u8]) -> usize {
-    if call.takes(word) {
-        call.take_number()
-    } else {
-        call.one_of(names)
+// Reads what stands in a table: at the number behind this word, or beside a name.
+fn entry<T: Copy>(call: &mut Words, word: &[u8], table: &[(&str, T)]) -> Option<T> {
+    if !call.takes(word) {
+        return call.one_of(table);
     }
+    let entry = table.get(call.take_number());
+    if entry.is_none() {
+        call.misread();
+    }
+    Some(entry?.1)
 }
+
+// The formats by their names, in the order of the numbers that rows give them.
+const FORMATS: [(&str, WireFormat); 6] = [
+    ("withpfx_ignorecase", WireFormat::WITHPFX_IGNORECASE),
+    ("withpfx_lowercase", WireFormat::WITHPFX_LOWERCASE),
+    ("withpfx_uppercase", WireFormat::WITHPFX_UPPERCASE),
+    ("nopfx_ignorecase", WireFormat::NOPFX_IGNORECASE),
+    ("nopfx_lowercase", WireFormat::NOPFX_LOWERCASE),
+    ("nopfx_uppercase", WireFormat::NOPFX_UPPERCASE),
+];
 
 /// Reads a format: the name of one of the six, or `format` and its number; or `own`, then `0x` or
 /// `plain`, the letters that are written, and those that are read.
 pub fn wire_format(call: &mut Words) -> WireFormat {
-    let names = b"withpfx_ignorecase withpfx_lowercase withpfx_uppercase nopfx_ignorecase \
-        nopfx_lowercase nopfx_uppercase own";
-    match number(call, b"format", names) {
-        0 => WireFormat::WITHPFX_IGNORECASE,
-        1 => WireFormat::WITHPFX_LOWERCASE,
-        2 => WireFormat::WITHPFX_UPPERCASE,
-        3 => WireFormat::NOPFX_IGNORECASE,
-        4 => WireFormat::NOPFX_LOWERCASE,
-        5 => WireFormat::NOPFX_UPPERCASE,
-        _ => WireFormat {
+    if call.takes(b"own") {
+        return WireFormat {
             prefixed: call.is_either(b"0x", b"plain"),
             upper: call.is_either(b"upper", b"lower"),
             case: call.take_policy(),
-        },
+        };
     }
+    entry(call, b"format", &FORMATS).unwrap_or(WireFormat::WITHPFX_IGNORECASE)
 }
 
 /// Returns the value that this JSON text writes.

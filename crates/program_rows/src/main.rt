@@ -10,6 +10,22 @@ mod vectors;
 use std::io::{self, BufReader};
 use test_kit::{Bytes, Calls, Row, judge};
 
+// What a row calls.
+#[derive(Clone, Copy)]
+enum Call {
+    Serve,
+    Run,
+    Vector,
+    Stored,
+}
+
+const CALLS: [(&str, Call); 4] = [
+    ("serve", Call::Serve),
+    ("run", Call::Run),
+    ("vector", Call::Vector),
+    ("stored", Call::Stored),
+];
+
 // What a row reads the end of an output into.
 #[derive(Drop)]
 struct Program {
@@ -18,11 +34,12 @@ struct Program {
 
 impl Calls for Program {
     fn is_answered(&mut self, row: &mut Row) -> bool {
-        match row.call.one_of(b"serve run vector stored") {
-            0 => served::is_answered(row, &mut self.end),
-            1 => runs::is_answered(row),
-            2 => vectors::is_answered(row, false),
-            _ => vectors::is_answered(row, true),
+        match row.call.one_of(&CALLS) {
+            Some(Call::Serve) => served::is_answered(row, &mut self.end),
+            Some(Call::Run) => runs::is_answered(row),
+            Some(Call::Vector) => vectors::is_answered(row, false),
+            Some(Call::Stored) => vectors::is_answered(row, true),
+            None => false,
         }
     }
 }

@@ -50,18 +50,25 @@ fn is_stored(place: usize, vector: Vector<'_>, name: &[u8]) -> bool {
     is_call && is_answer && stored.name.as_bytes() == name
 }
 
-// The calls, by the places of their words.
-const CALLS: [Call; 9] = [
-    Call::Encode,
-    Call::EncodeUpper,
-    Call::Decode,
-    Call::DecodeLower,
-    Call::DecodeUpper,
-    Call::WriteGrouped,
-    Call::ReadGrouped,
-    Call::WriteList,
-    Call::ReadList,
+const CALLS: [(&str, Call); 9] = [
+    ("encode", Call::Encode),
+    ("encode-upper", Call::EncodeUpper),
+    ("decode", Call::Decode),
+    ("decode-lower", Call::DecodeLower),
+    ("decode-upper", Call::DecodeUpper),
+    ("write-grouped", Call::WriteGrouped),
+    ("read-grouped", Call::ReadGrouped),
+    ("write-list", Call::WriteList),
+    ("read-list", Call::ReadList),
 ];
+
+// What a run prints of a vector of this call that fails. Groups and lists have no plans.
+fn failed(call: Call) -> &'static [u8] {
+    match call {
+        Call::WriteGrouped | Call::ReadGrouped | Call::WriteList | Call::ReadList => FAILED_PLAIN,
+        _ => FAILED,
+    }
+}
 
 // Reads what a vector states of its call: `ok` and how many bytes are written, or the refusal.
 fn stated(call: &mut Words) -> Result<usize, Error> {
@@ -76,16 +83,15 @@ fn stated(call: &mut Words) -> Result<usize, Error> {
 /// `CALL SOURCE ANSWER LEFT`.
 pub fn is_answered(row: &mut Row, has_place: bool) -> bool {
     let place = if has_place { row.call.take_number() } else { 0 };
-    let number = row.call.one_of(
-        b"encode encode-upper decode decode-lower decode-upper \
-        write-grouped read-grouped write-list read-list",
-    );
+    let Some(call) = row.call.one_of(&CALLS) else {
+        return false;
+    };
     row.call.take_bytes(&mut row.given);
     let answer = stated(&mut row.call);
     row.call.take_bytes(&mut row.wanted);
     let vector = Vector {
         name: "stating",
-        call: CALLS.get(number).copied().unwrap_or(Call::Encode),
+        call,
         source: row.given.as_slice(),
         answer,
         left: row.wanted.as_slice(),
@@ -93,8 +99,7 @@ pub fn is_answered(row: &mut Row, has_place: bool) -> bool {
     if has_place {
         is_stored(place, vector, row.answer.next())
     } else {
-        let lines = if number < 5 { FAILED } else { FAILED_PLAIN };
         let passes = row.answer.is_either(b"passes", b"fails");
-        ends(row.alloc, vector, if passes { None } else { Some(lines) })
+        ends(row.alloc, vector, (!passes).then_some(failed(call)))
     }
 }

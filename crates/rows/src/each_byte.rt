@@ -37,25 +37,26 @@ pub fn put_nibble(bytes: &mut [u8], place: usize, nibble: u8) {
     }
 }
 
-/// Reads `PLACE BYTE SOURCE`, the bytes that are wanted and the values of the digits, and puts the byte at
-/// its place of the source. Returns the place, the byte and its value.
-pub fn put_byte(row: &mut Row) -> (usize, u8, Option<u8>) {
-    let (place, byte) = (row.call.take_number(), row.call.take_byte());
+/// Reads a source, the place of a byte in it, the bytes that are wanted but for this one, and the values of
+/// the digits. Returns the place, the byte and its value.
+pub fn take_source(row: &mut Row) -> (usize, u8, Option<u8>) {
     row.call.take_bytes(&mut row.given);
+    let place = row.answer.take_number();
     row.answer.take_bytes(&mut row.wanted);
-    match row.given.get_mut(place) {
-        Some(put) => *put = byte,
-        None => row.call.misread(),
+    let byte = row.given.get(place).copied();
+    if byte.is_none() {
+        row.answer.misread();
     }
+    let byte = byte.unwrap_or(0);
     let [value, _] = values(&mut row.answer, [byte; 2]);
     (place, byte, value)
 }
 
-/// `each-byte POLICY PLACE BYTE DIGITS`: the bytes, and the values of the digits, one of which may be the
-/// byte. It is put at its place of the source.
+/// `each-byte POLICY SOURCE`: the place of a byte in the source that may be any, the bytes but for this one,
+/// and the values of the digits.
 pub fn each_byte_row(row: &mut Row, to: &mut Destination) -> bool {
     let case = row.call.take_policy();
-    let (place, _, value) = put_byte(row);
+    let (place, _, value) = take_source(row);
     if let Some(value) = value {
         put_nibble(row.wanted.as_mut_slice(), place, value);
     }
@@ -81,20 +82,16 @@ fn repeated(spelled: Result<u8, Error>, bytes: &[u8]) -> Answer<'_> {
     }
 }
 
-/// `each-pair POLICY LENGTH`: the values of the digits. Its turn is a pair of bytes, which the source
-/// repeats. It is decoded as the pair is, into 34 bytes.
+/// `each-pair POLICY SOURCE`: the values of the digits. The source repeats a pair of bytes, and is decoded
+/// as the pair is, into 34 bytes.
 pub fn each_pair_row(row: &mut Row, to: &mut Destination) -> bool {
-    let turn = row.call.turn();
-    let pair = [(turn / 256 % 256) as u8, (turn % 256) as u8];
     let case = row.call.take_policy();
-    let count = row.call.take_number() / 2;
+    row.call.take_bytes(&mut row.given);
+    let pair = *row.given.as_slice().first_chunk().unwrap_or(&[0; 2]);
     let spelled = spelled(pair, values(&mut row.answer, pair));
-    row.given.clear();
     row.wanted.clear();
-    for _ in 0..count {
-        if row.given.try_extend_from_slice(&pair).is_err()
-            || row.wanted.try_push(spelled.unwrap_or(0)).is_err()
-        {
+    for _ in 0..row.given.len() / 2 {
+        if row.wanted.try_push(spelled.unwrap_or(0)).is_err() {
             return false;
         }
     }

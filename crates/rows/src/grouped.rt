@@ -1,6 +1,6 @@
 //! Rows of grouped texts that are read.
 
-use crate::each_byte::{put_byte, put_nibble};
+use crate::each_byte::{put_nibble, take_source};
 use crate::terms::{Destination, Given, group};
 use hex_codec::Group;
 use hex_codec::grouped::{GroupFault, read, read_into};
@@ -15,15 +15,17 @@ fn reading<'a>(answer: &mut Words, bytes: &'a mut Bytes) -> Reading<'a> {
         answer.take_bytes(bytes);
         return Ok(bytes.as_slice());
     }
-    let fault = match answer.one_of(b"bad-length too-small invalid") {
-        0 => GroupFault::BadLength,
-        1 => GroupFault::OutputTooSmall {
-            required: answer.take_number(),
-        },
-        _ => GroupFault::InvalidByte {
+    let fault = if answer.takes(b"invalid") {
+        GroupFault::InvalidByte {
             index: answer.take_number(),
             byte: answer.take_byte(),
-        },
+        }
+    } else if answer.is_either(b"too-small", b"bad-length") {
+        GroupFault::OutputTooSmall {
+            required: answer.take_number(),
+        }
+    } else {
+        GroupFault::BadLength
     };
     answer.wants(b"kept");
     Err(fault)
@@ -87,14 +89,14 @@ fn are_read(
     true
 }
 
-/// `each-grouped EVERY SEPARATOR POLICY PLACE BYTE TEXT`: the bytes, and the values of the digits, one of
-/// which may be the byte. It is put at its place of the text, of which each beginning is then read.
+/// `each-grouped EVERY SEPARATOR POLICY TEXT`: the place of a byte in the text that may be any, the bytes but
+/// for this one, and the values of the digits. Each beginning of the text is read that has the place.
 pub fn each_grouped_row(row: &mut Row, to: &mut Destination) -> bool {
     let Some(group) = group(&mut row.call) else {
         return false;
     };
     let case = row.call.take_policy();
-    let (place, byte, value) = put_byte(row);
+    let (place, byte, value) = take_source(row);
     let digits = group.every().saturating_mul(2);
     let line = digits.saturating_add(1);
     let is_separator = place.checked_rem(line) == Some(digits);

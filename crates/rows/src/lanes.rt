@@ -114,22 +114,38 @@ fn are_written(bytes: &[u8], upper: bool, want: &[u8]) -> bool {
     }
 }
 
-/// `admit`, `saturate`, `hash`, `nibbles`, `pack` and `write`, whose number among the calls tells which,
-/// each of `POLICY BYTES`. `saturate` answers the nibbles of 16 bytes.
-pub fn row(call: usize, row: &mut Row) -> bool {
+/// A call of `POLICY BYTES`.
+#[derive(Clone, Copy)]
+pub enum Call {
+    /// Whether each byte is admitted, as `y` or `n`.
+    Admit,
+    /// The nibbles of 16 bytes.
+    Saturate,
+    /// The checks of hashed bytes.
+    Hash,
+    /// Their nibbles.
+    Nibbles,
+    /// The bytes of these nibbles.
+    Pack,
+    /// The digits.
+    Write,
+}
+
+/// A row of such a call.
+pub fn row(call: Call, row: &mut Row) -> bool {
     let case = row.call.take_policy();
     row.call.take_bytes(&mut row.given);
     row.answer.take_bytes(&mut row.wanted);
     let (bytes, want) = (row.given.as_slice(), row.wanted.as_slice());
     match call {
-        28 => are_admitted(bytes, case, want),
-        29 => {
+        Call::Admit => are_admitted(bytes, case, want),
+        Call::Saturate => {
             let nibbles = nibbles_saturating_16(block!(bytes, 16), case);
             bytes.len() == 16 && nibbles.as_slice() == want
         }
-        30 => are_hashed(bytes, case, true, want),
-        31 => are_hashed(bytes, case, false, want),
-        32 => are_packed(bytes, want),
-        _ => are_written(bytes, case == CheckCase::Upper, want),
+        Call::Hash => are_hashed(bytes, case, true, want),
+        Call::Nibbles => are_hashed(bytes, case, false, want),
+        Call::Pack => are_packed(bytes, want),
+        Call::Write => are_written(bytes, case == CheckCase::Upper, want),
     }
 }

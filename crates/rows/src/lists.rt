@@ -19,13 +19,15 @@ fn list_fault(answer: &mut Words) -> ListFault {
     }
     answer.wants(b"line");
     let line = answer.take_number();
-    let why = match answer.one_of(b"short mark invalid") {
-        0 => LineFault::ShortLine,
-        1 => LineFault::BadMark,
-        _ => LineFault::InvalidByte {
+    let why = if answer.takes(b"invalid") {
+        LineFault::InvalidByte {
             index: answer.take_number(),
             byte: answer.take_byte(),
-        },
+        }
+    } else if answer.is_either(b"mark", b"short") {
+        LineFault::BadMark
+    } else {
+        LineFault::ShortLine
     };
     ListFault::Line { line, why }
 }

@@ -22,13 +22,29 @@ fn answer(words: &mut Words) -> Result<usize, StreamFault> {
     }
 }
 
+// What a row does with a stream.
+#[derive(Clone, Copy)]
+enum Stream {
+    Decode,
+    DecodeSpaced,
+    Encode,
+}
+
+const STREAMS: [(&str, Stream); 3] = [
+    ("decode", Stream::Decode),
+    ("spaced", Stream::DecodeSpaced),
+    ("encode", Stream::Encode),
+];
+
 /// `stream decode POLICY BYTES LENGTH EVERY HALTS END ROOM FAILURES`, or `spaced`, or `encode` and a
 /// letter case: so many bytes, which repeat these, in reads of at most so many, before each of which so
 /// many are interrupted, and then the end or a failed read; into a sink of so much room that has counted
 /// so many failures. The answer, and how many bytes the sink has taken, which repeat those that stand
 /// behind. No more reads are made than there are chunks.
 pub fn stream_row(row: &mut Row) -> bool {
-    let call = row.call.one_of(b"decode spaced encode");
+    let Some(stream) = row.call.one_of(&STREAMS) else {
+        return false;
+    };
     let case = row.call.take_policy();
     row.call.take_bytes(&mut row.given);
     let mut reader = Giver::new(Pattern {
@@ -53,10 +69,10 @@ pub fn stream_row(row: &mut Row) -> bool {
         end: &[],
     };
     let mut sink = Taking::new(Mode::ThenRefuses, text, room, failures);
-    let got = match call {
-        0 => decode_stream(&mut reader, &mut sink, case),
-        1 => decode_spaced_stream(&mut reader, &mut sink, case),
-        _ => encode_stream(&mut reader, &mut sink, case == CheckCase::Upper),
+    let got = match stream {
+        Stream::Decode => decode_stream(&mut reader, &mut sink, case),
+        Stream::DecodeSpaced => decode_spaced_stream(&mut reader, &mut sink, case),
+        Stream::Encode => encode_stream(&mut reader, &mut sink, case == CheckCase::Upper),
     };
     let is_full = matches!(got, Err(StreamFault::Write(_)));
     // A chunk has 4,096 bytes or more.

@@ -25,7 +25,7 @@ pub enum Mode {
     RefusesLong,
 }
 
-/// The modes, in the order in which rows name them.
+/// All modes.
 pub const MODES: [Mode; 6] = [
     Mode::OneByte,
     Mode::ThenRefuses,

@@ -26,6 +26,8 @@ pub fn plan(number: usize) -> Backend {
 #[derive(Drop)]
 pub struct Destination {
     whole: [u8; WHOLE],
+    // What it is filled with.
+    filled: [u8; WHOLE],
     room: usize,
     /// How many more bytes stand before it.
     pub shift: usize,
@@ -38,6 +40,7 @@ impl Destination {
     pub fn new() -> Destination {
         Destination {
             whole: [FILL; WHOLE],
+            filled: [FILL; WHOLE],
             room: 0,
             shift: 0,
             from: 0,
@@ -74,23 +77,19 @@ impl Destination {
         let (before, rest) = whole.unwrap_or_default();
         let rest = rest.get(..behind).unwrap_or_default();
         let kept = rest.get(front.len()..).unwrap_or_default();
-        !kept.is_empty() && rest.starts_with(front) && is_filled(before) && is_filled(kept)
+        let is_kept = !kept.is_empty() && self.is_filled(before) && self.is_filled(kept);
+        is_kept && rest.starts_with(front)
+    }
+
+    // Whether each byte is one that the buffer is filled with.
+    fn is_filled(&self, bytes: &[u8]) -> bool {
+        self.filled.get(..bytes.len()) == Some(bytes)
     }
 
     /// Returns whether nothing but an answer was written.
     pub fn has(&self, answer: Answer<'_>) -> bool {
         self.holds(answer.unwrap_or_default())
     }
-}
-
-// Whether each byte is the one that a destination is filled with.
-fn is_filled(bytes: &[u8]) -> bool {
-    for byte in bytes {
-        if *byte != FILL {
-            return false;
-        }
-    }
-    true
 }
 
 /// Reads a source, before which stand `from` bytes that no policy reads, at most as many as a guard

@@ -1,6 +1,6 @@
 //! Rows of padded texts, and of what sinks that fail are left with.
 
-use crate::taking::{MODES, Mode, Put, Taken};
+use crate::taking::{Mode, Put, Taken};
 use crate::terms::{Destination, group, number_or};
 use arrayvec::ArrayString;
 use hex_codec::Group;
@@ -68,21 +68,31 @@ pub fn pad_row(row: &mut Row, to: &mut Destination) -> bool {
     put.fills(&flags, room, want, to) && put.is_taken(&flags, Mode::OneByte, room, want)
 }
 
+// The sinks by their words: a slice, or one that takes in this way.
+const SINKS: [(&str, Option<Mode>); 6] = [
+    ("slice", None),
+    ("one-byte", Some(Mode::OneByte)),
+    ("then-refuses", Some(Mode::ThenRefuses)),
+    ("refuses-the-rest", Some(Mode::RefusesTheRest)),
+    ("then-takes-none", Some(Mode::ThenTakesNone)),
+    ("refuses-long", Some(Mode::RefusesLong)),
+];
+
 /// `pad-into SINK ROOM FLAGS BYTES`: what the sink has taken, which is as much as there is room for
 /// where it is stopped, and else the whole text. One that refuses the rest is also tried taking none.
 pub fn pad_into_row(row: &mut Row, to: &mut Destination) -> bool {
-    let sink = row.call.one_of(
-        b"slice one-byte then-refuses refuses-the-rest then-takes-none refuses-long",
-    );
+    let Some(sink) = row.call.one_of(&SINKS) else {
+        return false;
+    };
     let room = row.call.take_number();
     let flags = flags(&mut row.call, &mut row.given);
     row.call.take_bytes(&mut row.given);
     let put: Put<'_, 0> = Put::Padded(row.given.as_slice());
     let want = Taken::read(&mut row.answer, &mut row.wanted);
-    let is_taken = match MODES.get(sink.wrapping_sub(1)) {
+    let is_taken = match sink {
         Some(mode) => {
-            let is_cut = *mode == Mode::RefusesTheRest;
-            put.is_taken(&flags, *mode, room, want)
+            let is_cut = mode == Mode::RefusesTheRest;
+            put.is_taken(&flags, mode, room, want)
                 && (!is_cut || put.is_taken(&flags, Mode::TakesWholes, room, want))
         }
         None => put.fills(&flags, room, want, to),

@@ -2,10 +2,12 @@
 //! that refuses memory, in [`refusing`], and a reader and a writer that fail, in [`fakes`].
 //!
 //! A row is a line: the words of a call, ` = ` and the words of its answer. A number before the call
-//! says how many rows the line stands for, as [`notation`] and [`choices`] have it. A line that is
-//! empty or begins with `#` says what the rows below it show.
+//! says how many rows the line stands for, as [`notation`] and [`choices`] have it. A line that
+//! begins with `#` says what the rows below it show, up to one that is empty. Where it names a test of
+//! the Rust crate, its rows are counted and their inputs added up.
 #![tactic(auto)]
 
+mod carried;
 pub mod choices;
 mod cursor;
 pub mod fakes;
@@ -14,6 +16,7 @@ pub mod notation;
 pub mod refusing;
 mod words;
 
+use crate::carried::Carried;
 pub use crate::notation::Bytes;
 pub use crate::words::Words;
 use crate::words::first_word;
@@ -66,11 +69,12 @@ pub trait Calls {
     fn is_answered(&mut self, row: &mut Row) -> bool;
 }
 
-// How many rows were judged, and how many of them are answered otherwise.
-#[derive(Clone, Copy)]
+// How many rows were judged, how many of them are answered otherwise, and those of a carried test.
+#[derive(Drop)]
 struct Counts {
     rows: u64,
     otherwise: u64,
+    carried: Carried,
 }
 
 // How many rows a line stands for, and the words of its call.
@@ -96,6 +100,9 @@ fn turn_missed<C: Calls>(
     for turn in 0..count {
         row.call.hold(call, turn);
         row.answer.hold(answer.as_bytes(), turn);
+        counts
+            .carried
+            .add(&row.call, &mut row.first, &mut row.second);
         let is_answered = calls.is_answered(row);
         counts.rows = counts.rows.saturating_add(1);
         if !is_answered || !row.is_read() {
@@ -106,13 +113,9 @@ fn turn_missed<C: Calls>(
     missed
 }
 
-// Whether a line holds no row.
-fn is_comment(line: &[u8]) -> bool {
-    matches!(line.first(), None | Some(b'#'))
-}
-
 /// Judges each row of `input`, writes those that are answered otherwise or can't be read to
-/// `output`, each with the number of its line and its first such turn, and then how many there are.
+/// `output`, each with the number of its line and its first such turn, and then how many there are. Behind
+/// the rows of each test of the Rust crate it writes its name, how many turns they have and their sum.
 ///
 /// # Errors
 ///
@@ -127,16 +130,20 @@ pub fn judge<C: Calls, R: BufRead + Drop, W: Write>(
     let mut counts = Counts {
         rows: 0,
         otherwise: 0,
+        carried: Carried::default(),
     };
     for (number, line) in (1u64..).zip(input.lines(alloc)) {
         let line = line?;
-        if is_comment(line.as_bytes()) {
-            continue;
-        }
-        if let Some(turn) = turn_missed(calls, &mut row, line.as_str(), &mut counts) {
-            writeln!(output, "line {number}, turn {turn}: {}", line.as_str())?;
+        let line = line.as_str();
+        if line.is_empty() {
+            counts.carried.end(output)?;
+        } else if line.starts_with('#') {
+            counts.carried.begin(line);
+        } else if let Some(turn) = turn_missed(calls, &mut row, line, &mut counts) {
+            writeln!(output, "line {number}, turn {turn}: {line}")?;
         }
     }
+    counts.carried.end(output)?;
     writeln!(
         output,
         "{} rows, {} answered otherwise",

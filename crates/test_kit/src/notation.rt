@@ -34,6 +34,9 @@ fn is_inside(word: &Cursor<'_>) -> bool {
 // Writes the bytes of a part once.
 fn write_once(word: &mut Cursor<'_>, bytes: &mut Bytes) -> Option<()> {
     let is_hex = word.takes(b'#');
+    if is_hex && !is_inside(word) {
+        return None;
+    }
     for _ in 0..ROOM {
         if !is_inside(word) {
             break;

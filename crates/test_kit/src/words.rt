@@ -4,21 +4,31 @@ use crate::choices::{self, Side};
 use crate::notation::{self, Bytes};
 use hex_core::{CheckCase, Error};
 
+const POLICIES: [(&str, CheckCase); 3] = [
+    ("any", CheckCase::None),
+    ("lower", CheckCase::Lower),
+    ("upper", CheckCase::Upper),
+];
+
+// The refusals that have no number.
+const REFUSALS: [(&str, Error); 3] = [
+    ("odd-length", Error::OddLength),
+    ("overflow", Error::Overflow),
+    ("no-memory", Error::OutOfMemory),
+];
+
 /// Returns the first word of a text, which a space ends.
 pub fn first_word(text: &[u8]) -> &[u8] {
     let end = text.iter().position(|byte| *byte == b' ');
     text.get(..end.unwrap_or(text.len())).unwrap_or_default()
 }
 
-// Returns the place of a word among these names, which have a space between two.
-fn place_among(word: &[u8], names: &[u8]) -> Option<usize> {
-    let mut from: usize = 0;
-    for place in 0..names.len() {
-        let name = first_word(names.get(from..).unwrap_or_default());
-        if name == word {
-            return Some(place);
+// Returns what stands beside a word in a table.
+fn beside<T: Copy>(word: &[u8], table: &[(&str, T)]) -> Option<T> {
+    for (name, value) in table {
+        if name.as_bytes() == word {
+            return Some(*value);
         }
-        from = from.saturating_add(name.len()).saturating_add(1);
     }
     None
 }
@@ -91,14 +101,12 @@ impl Words {
         self.is_misread = self.is_misread || !is_next;
     }
 
-    /// Takes the next word, which is to be one of these, with a space between two. Returns its
-    /// place among them, or how many bytes they have where it was misread.
-    pub fn one_of(&mut self, names: &[u8]) -> usize {
-        let place = place_among(self.next(), names);
-        if place.is_none() {
-            self.misread();
-        }
-        place.unwrap_or(names.len())
+    /// Takes the next word, which is to be one of a table's. Returns what stands beside it there, or
+    /// `None` where it was misread.
+    pub fn one_of<T: Copy>(&mut self, table: &[(&str, T)]) -> Option<T> {
+        let value = beside(self.next(), table);
+        self.is_misread = self.is_misread || value.is_none();
+        value
     }
 
     /// Takes the next word, which is to be one of these two. Returns whether it was the first.
@@ -140,31 +148,28 @@ impl Words {
 
     /// Takes the next word as a policy: `any`, `lower` or `upper`.
     pub fn take_policy(&mut self) -> CheckCase {
-        match self.one_of(b"any lower upper") {
-            0 => CheckCase::None,
-            1 => CheckCase::Lower,
-            _ => CheckCase::Upper,
-        }
+        self.one_of(&POLICIES).unwrap_or(CheckCase::None)
     }
 
     /// Takes the next words as a refusal: `odd-length`, `overflow`, `no-memory`, `too-small 4`,
     /// `mismatch 32 1` or `invalid 5 67`.
     pub fn take_refusal(&mut self) -> Error {
-        match self.one_of(b"odd-length overflow no-memory too-small mismatch invalid") {
-            0 => Error::OddLength,
-            1 => Error::Overflow,
-            2 => Error::OutOfMemory,
-            3 => Error::OutputTooSmall {
-                required: self.take_number(),
-            },
-            4 => Error::LengthMismatch {
-                expected: self.take_number(),
-                actual: self.take_number(),
-            },
-            _ => Error::InvalidChar {
+        if self.takes(b"invalid") {
+            Error::InvalidChar {
                 index: self.take_number(),
                 byte: self.take_byte(),
-            },
+            }
+        } else if self.takes(b"too-small") {
+            Error::OutputTooSmall {
+                required: self.take_number(),
+            }
+        } else if self.takes(b"mismatch") {
+            Error::LengthMismatch {
+                expected: self.take_number(),
+                actual: self.take_number(),
+            }
+        } else {
+            self.one_of(&REFUSALS).unwrap_or(Error::OddLength)
         }
     }
 
@@ -175,9 +180,9 @@ impl Words {
         rest
     }
 
-    /// Returns the turn that the words are read in.
-    pub fn turn(&self) -> usize {
-        self.turn
+    /// Returns the words as they are written in this turn, and the turn.
+    pub fn written(&self) -> (&[u8], usize) {
+        (self.text.as_slice(), self.turn)
     }
 
     /// Returns whether no word is left, and none was misread.
