@@ -1,19 +1,19 @@
 -- The walk of `hex_append` and of `hex_append_upper`: both pass on what `append_in` answers, with the lender in the other place.
-use Rattle.hex_core.proofs.WalkKit.{refl, Bool, true, false, List, [], ◌∷◌, length, Ura, Callee, Fn, Operand, Ty, named, erased, mut, ty_ref, place, deref}
-use Rattle.hex_core.proofs.WalkKit.{local, value_local, copy, addr_of, seq, assign, call, return, vbool, sep, emp, id⊢, Lft, ftrue, flft, Model, Closed, Logic}
-use Rattle.hex_core.proofs.WalkKit.{sem, Item, Env, ‵, ◌⊛◌, raw, ◌$◌, ◌∵◌, !, qed, move, keep, split, join, fjoin, use1, suffices, done, stop, addr, true_lit}
-use Rattle.hex_core.proofs.WalkKit.{false_lit, and_then, no_more, returns, enter, alloc_all, pass_all, free_all, look_at, get, through, sets, lands_as, ◌⊑◌}
-use Rattle.hex_core.proofs.WalkKit.{fact, Running, tables, u8, bool, yes, no, Is, shows, lone, layout, param, bool_vals, bool_Makes, RattleType, MutRef}
-use Rattle.hex_core.proofs.WalkKit.{NamedLft, mut_vals, mut_Tells, plain, mut_ref_to, shr_slice_of, ShrSlice, Room, shr_slice_vals, shr_slice_Tells, nothing}
-use Rattle.hex_core.proofs.WalkKit.{owned, peeks, Clauses, closing, Meets, Goes-dropped, Goes-spent_ref, Stays, ends_at, stay_dropped, proved}
+use Rattle.hex_core.proofs.SliceWalk.Kit.{refl, Bool, List, [], ◌∷◌, length, Ura, Callee, Fn, Operand, Ty, named, erased, mut, ty_ref, place, deref, local}
+use Rattle.hex_core.proofs.SliceWalk.Kit.{value_local, copy, addr_of, seq, assign, call, return, vbool, sep, emp, id⊢, Lft, ftrue, flft, Model, Closed, Logic}
+use Rattle.hex_core.proofs.SliceWalk.Kit.{sem, Item, Env, ‵, ◌⊛◌, raw, ◌$◌, ◌∵◌, !, qed, move, keep, split, join, fjoin, use1, suffices, done, stop, addr}
+use Rattle.hex_core.proofs.SliceWalk.Kit.{and_then, no_more, returns, enter, alloc_all, pass_all, free_all, look_at, get, through, sets, lands_as, ◌⊑◌, fact}
+use Rattle.hex_core.proofs.SliceWalk.Kit.{Running, tables, u8, bool, yes, no, Is, shows, lone, layout, param, bool_vals, bool_Makes, RattleType, MutRef}
+use Rattle.hex_core.proofs.SliceWalk.Kit.{NamedLft, mut_vals, mut_Tells, plain, mut_ref_to, shr_slice_of, ShrSlice, Room, shr_slice_vals, shr_slice_Tells}
+use Rattle.hex_core.proofs.SliceWalk.Kit.{nothing, owned, peeks, Clauses, closing, Meets, Goes-dropped, Goes-spent_ref, Stays, ends_at, stay_dropped, proved}
 use borrow.Table.Str.{str_laws}
 use denote.Param.Laws.{field_told}
 use denote.Text.{str-field, str-laws}
-use mir.Syntax.{Dict, opd_true, opd_false}
+use mir.Syntax.{Dict}
 use types.Run.{Opd}
 use Rattle.std.specs.Io.BufRead.{Rests}
 use Rattle.std.specs.contracts.string.String as S
-use Rattle.hex_core.proofs.Lent.{Known, Refusal, ResultOf, calls, typed}
+use Rattle.hex_core.proofs.SliceWalk.Types.{Known, Refusal, ResultOf, calls, typed}
 use Rattle.std.specs.declared.alloc.Allocator.{Ghosts}
 use Rattle.hex_codec.specs.Append.{AnswersSuffix, AppendsDigits}
 use Rattle.hex_codec.specs.contracts.strings.append_in as h
@@ -26,18 +26,9 @@ Text slot = record { row = (str-field slot).row; laws = str_laws slot; told = fi
 abbrev Answer : Lft → Known
 Answer κ = ResultOf (Text (record { mir = named 1; lft = κ })) Refusal
 
--- the choice of letters, as a call passes it
-abbrev passed : Bool → Operand
-passed true = opd_true
-passed false = opd_false
-
-choice : {M : Type 1} {𝓤 : Ura M} {𝓛 : Logic 𝓤} {K : Type 0} {Γ : List (Item 𝓤)} {E : Env 𝓤 𝓛.H} → K → (upper : Bool) → Opd K 𝓛 Γ E (passed upper) (vbool upper)
-choice t true = true_lit t
-choice t false = false_lit t
-
--- the two bodies, at a string's type as a reference names it and as it lies
-abbrev pub function : Ty → Ty → Callee → Bool → Fn
-function σ ρ appends upper = record {
+-- the two bodies, at a string's type as a reference names it and as it lies, and a constant for the choice of letters
+abbrev pub function : Ty → Ty → Callee → Operand → Fn
+function σ ρ appends choice = record {
   lifetimes = 2;
   outlives = (2, 1) ∷ [];
   ty_params = [];
@@ -46,7 +37,7 @@ function σ ρ appends upper = record {
   locals = local (layout (Answer []).row) value_local ∷ local (lone (ShrSlice (named 0) [] u8).mir) value_local
       ∷ local (ty_ref (named 1) mut σ) value_local ∷ local (ty_ref erased mut σ) value_local ∷ [];
   body = seq (assign (place 3 []) (addr_of (place 2 (deref ρ ∷ []))))
-      (seq (call appends (copy (place 3 []) ∷ copy (place 1 []) ∷ passed upper ∷ []) (place 0 [])) return);
+      (seq (call appends (copy (place 3 []) ∷ copy (place 1 []) ∷ choice ∷ []) (place 0 [])) return);
 }
 
 module _ {M : Type 1} (𝓤 : Ura M) (𝓛 : Logic 𝓤) (𝓜 : Model 𝓤 𝓛.H) (𝓡 : Running 𝓤 𝓛.H 𝓜)
@@ -66,14 +57,15 @@ module _ {M : Type 1} (𝓤 : Ura M) (𝓛 : Logic 𝓤) (𝓜 : Model 𝓤 𝓛
         (fact 𝓤 (AnswersSuffix (λ suffix. suffix.now) upper a.0.now a.1.0.now r));
   }
 
-  pub passes_on : (upper : Bool) (σ ρ : Ty) (appends k : Callee)
-      → Closed 𝓤 𝓛.H (tables 𝓤 𝓛.H 𝓜 𝓡 𝓡.env).C (tables 𝓤 𝓛.H 𝓜 𝓡 𝓡.env).Λ k (function σ ρ appends upper)
+  pub passes_on : (upper : Bool) (choice : Operand) → ((K : Type 0) (Γ : List (Item 𝓤)) (E : Env 𝓤 𝓛.H) (t : K) → Opd K 𝓛 Γ E choice (vbool upper))
+      → (σ ρ : Ty) (appends k : Callee)
+      → Closed 𝓤 𝓛.H (tables 𝓤 𝓛.H 𝓜 𝓡 𝓡.env).C (tables 𝓤 𝓛.H 𝓜 𝓡 𝓡.env).Λ k (function σ ρ appends choice)
       → Meets 𝓛 (h.signature A g d dd) ((tables 𝓤 𝓛.H 𝓜 𝓡 𝓡.env).C appends) (h.spec A g d dd 𝓛 𝓜.mem 𝓡.returns)
       → Meets 𝓛 (f.ended A g d dd).signature ((tables 𝓤 𝓛.H 𝓜 𝓡 𝓡.env).C k) (closing 𝓛 (f.ended A g d dd) (clauses upper))
-  passes_on upper σ ρ appends k closed met =
+  passes_on upper choice gives σ ρ appends k closed met =
       proved 𝓛 (f.ended A g d dd) stayed (clauses upper) 𝓜 𝓡
       (Goes-dropped 𝓛 3 (shr_slice_of (0 ∷ []) tt (plain (λ _. u8))) yes (λ κs x w. refl), (Goes-spent_ref 𝓛 3 (1 ∷ []) tt (plain (λ _. Owner)), tt))
-      k (function σ ρ appends upper) closed
+      k (function σ ρ appends choice) closed
       (λ κs. (shr_slice_vals, (mut_vals, tt))) (λ κs. (shr_slice_Tells (named 0) κs.0 u8, (mut_Tells (named 1) κs.1.0 Owner, tt)))
       (λ κs qs bounds a g₀ are.
       let κ₀ = κs.0 in let κ₁ = κs.1.0 in let κ₂ = κs.1.1.0 in
@@ -92,7 +84,7 @@ module _ {M : Type 1} (𝓤 : Ura M) (𝓛 : Logic 𝓤) (𝓜 : Model 𝓤 𝓛
       sets ! (addr ! (through ! refl (stop !))) refl (tt, tt) $
       calls ! 𝓜 𝓡 (h.ended A g d dd) (h.clauses A g d dd 𝓛 𝓜.mem 𝓡.returns) met
       (((κ₁, (κ₀, (κ₂, tt))), (q₁, (q₀, (q₂, tt))), bounds, (dst, (src, (upper, tt))), (mut_vals dst, (shr_slice_vals src, (bool_vals upper, tt)))), tt) (id⊢ 𝓤 _)
-      (and_then ! (get ! refl) (and_then ! (get ! refl) (and_then ! (choice ! upper) (no_more !)))) (λ w r ws.
+      (and_then ! (get ! refl) (and_then ! (get ! refl) (and_then ! (gives _ _ _ !) (no_more !)))) (λ w r ws.
       peeks ! (Answer κ₁).row _ (shows 𝓛 (Answer κ₁).row) r (w ∷ []) (λ is-r. lands_as ! refl refl (typed (Answer κ₁) 𝓛 r w is-r) $
       -- [the result; the tokens; what is said of the arguments; the promises; the locals]
       returns ! (look_at ! 0 refl) $ free_all ! refl $ move ! (1 ∷ []) $ use1 𝓛 (‵ (flft κ₁ q₁) ⊛ ‵ (flft κ₀ q₀) ⊛ ‵ (flft κ₂ q₂) ⊛ ‵ ftrue) (id⊢ 𝓤 _) $

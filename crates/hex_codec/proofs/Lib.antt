@@ -6,6 +6,5 @@ pub mod ListLemmas
 mod ReadBack
 pub mod SpelledLemmas
 mod PartLemmas
-mod PlainWalk
 pub mod WriteLemmas
 mod WrongLemmas

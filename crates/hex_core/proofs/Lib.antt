@@ -1,7 +1,6 @@
 pub mod AsciiLemmas
 pub mod BlockLemmas
 pub mod ByteLemmas
-pub mod Fronts
 pub mod HashLemmas
 pub mod JoinLemmas
 pub mod LaneLemmas
@@ -12,7 +11,6 @@ pub mod PairLemmas
 pub mod PositionLemmas
 pub mod ProbeLemmas
 pub mod SearchLemmas
-pub mod Lent
 pub mod RefusalLemmas
 pub mod ShiftLemmas
 pub mod SliceWalk
@@ -20,6 +18,4 @@ pub mod SpellsLemmas
 pub mod TableLemmas
 pub mod TextBlockLemmas
 pub mod TextLemmas
-pub mod WalkKit
 mod WordLemmas
-pub mod WriteWalk

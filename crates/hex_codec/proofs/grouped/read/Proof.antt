@@ -1,13 +1,12 @@
 -- `read` reads, and then lends the front.
-use Rattle.hex_core.proofs.WalkKit.{refl, List, [], ◌∷◌, length, named, erased, Val, id⊢, GName, ftrue, flft, full_share, ‵, ◌⊛◌, some, later, Sq, prop}
-use Rattle.hex_core.proofs.WalkKit.{◌$◌, ◌∵◌, !, qed, move, keep, drop, split, split3, join, fsplit, fsplit3, fjoin, feq_i, use1, use2, await, pick}
-use Rattle.hex_core.proofs.WalkKit.{suffices, frame, done, whole, sub, agg, stop, fld, hop, from, addr, and_then, no_more, enter, alloc_all, pass_all}
-use Rattle.hex_core.proofs.WalkKit.{look_in_at, get, get_in, sets, lft_new, lft_end, kept_f, sl_relend, BareSlice, u8, yes, no, owns, plain, mut_slice_of}
-use Rattle.hex_core.proofs.WalkKit.{shr_slice_of, ShrSlice, MutSlice, Room, shr_slice_vals, shr_slice_Tells, mut_slice_vals, mut_slice_Tells, nothing}
-use Rattle.hex_core.proofs.WalkKit.{heard, Goes-dropped, Goes-spent_slice, Stays, ends_at, says, stay_dropped, walk_of, proved, LendsAnswer}
-use Rattle.hex_core.proofs.Lent.{Known, Lent, Policy, calls, typed, vals}
-use Rattle.hex_core.proofs.SliceWalk.{fills_writes}
-use Rattle.hex_core.proofs.WriteWalk.{front_or_refusal}
+use Rattle.hex_core.proofs.SliceWalk.Kit.{refl, List, [], ◌∷◌, length, named, erased, Val, id⊢, GName, ftrue, flft, full_share, ‵, ◌⊛◌, some, later, Sq, prop}
+use Rattle.hex_core.proofs.SliceWalk.Kit.{◌$◌, ◌∵◌, !, qed, move, keep, drop, split, split3, join, fsplit, fsplit3, fjoin, feq_i, use1, use2, await, pick}
+use Rattle.hex_core.proofs.SliceWalk.Kit.{suffices, frame, done, whole, sub, agg, stop, fld, hop, from, addr, and_then, no_more, enter, alloc_all, pass_all}
+use Rattle.hex_core.proofs.SliceWalk.Kit.{look_in_at, get, get_in, sets, lft_new, lft_end, kept_f, sl_relend, BareSlice, u8, yes, no, owns, plain, ShrSlice}
+use Rattle.hex_core.proofs.SliceWalk.Kit.{MutSlice, Room, shr_slice_vals, shr_slice_Tells, mut_slice_vals, mut_slice_Tells, nothing, heard, Goes-dropped}
+use Rattle.hex_core.proofs.SliceWalk.Kit.{Goes-spent_slice, Stays, ends_at, says, stay_dropped, walk_of, proved, LendsAnswer}
+use Rattle.hex_core.proofs.SliceWalk.Types.{Known, Lent, Policy, calls, typed, vals}
+use Rattle.hex_core.proofs.SliceWalk.{Source, Target, fills_writes, front_or_refusal}
 use Rattle.hex_codec.specs.contracts.group.Group as GR
 use Rattle.hex_codec.proofs.group.Group.TheLaws as GL
 use Rattle.hex_codec.specs.contracts.grouped.GroupFault as FR
@@ -26,12 +25,12 @@ abbrev Fault : Known
 Fault = record { row = FR.the_row; laws = FL.the_row_laws; told = FL.the_told }
 
 abbrev stayed : Stays f.ended.signature.params f.ended.kept
-stayed = (stay_dropped (shr_slice_of (0 ∷ []) tt (plain (λ _. u8))) yes, (stay_dropped (mut_slice_of (1 ∷ []) tt (plain (λ _. u8))) no, (stay_dropped (plain (λ _. Grouping.row)) yes, (stay_dropped (plain (λ _. Policy.row)) yes, tt))))
+stayed = (stay_dropped Source yes, (stay_dropped Target no, (stay_dropped (plain (λ _. Grouping.row)) yes, (stay_dropped (plain (λ _. Policy.row)) yes, tt))))
 
 pub read_spec : {M : Type 1} → statement M
 read_spec 𝓤 𝓛 𝓜 𝓡 wired =
     let c = f.clauses 𝓛 𝓜.mem 𝓡.returns in
-    proved 𝓛 f.ended stayed c 𝓜 𝓡 (Goes-dropped 𝓛 2 (shr_slice_of (0 ∷ []) tt (plain (λ _. u8))) yes (λ κs x f. refl), (Goes-spent_slice 𝓛 2 (1 ∷ []) tt (plain (λ _. u8)), (Goes-dropped 𝓛 2 (plain (λ _. Grouping.row)) yes (λ κs x f. refl), (Goes-dropped 𝓛 2 (plain (λ _. Policy.row)) yes (λ κs x f. refl), tt))))
+    proved 𝓛 f.ended stayed c 𝓜 𝓡 (Goes-dropped 𝓛 2 Source yes (λ κs x f. refl), (Goes-spent_slice 𝓛 2 (1 ∷ []) tt (plain (λ _. u8)), (Goes-dropped 𝓛 2 (plain (λ _. Grouping.row)) yes (λ κs x f. refl), (Goes-dropped 𝓛 2 (plain (λ _. Policy.row)) yes (λ κs x f. refl), tt))))
     f.Key.name code.function (code.unfolded 𝓤 𝓛.H 𝓜 𝓡 wired)
     (λ κs. (shr_slice_vals, (mut_slice_vals, (vals Grouping, (vals Policy, tt)))))
     (λ κs. (shr_slice_Tells (named 0) κs.0 u8, (mut_slice_Tells (named 1) κs.1.0 u8, (Grouping.told.tells, (Policy.told.tells, tt)))))

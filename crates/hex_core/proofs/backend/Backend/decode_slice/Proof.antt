@@ -1,8 +1,7 @@
 -- `decode_slice` decodes, and then lends the front.
-use Rattle.hex_core.proofs.WalkKit.{refl, Decodes, DecodesFront}
-use Rattle.hex_core.proofs.Lent.{Policy}
-use Rattle.hex_core.proofs.SliceWalk.{fills_writes}
-use Rattle.hex_core.proofs.WriteWalk.{writes_and_lends}
+use Rattle.hex_core.proofs.SliceWalk.Kit.{refl, Decodes, DecodesFront}
+use Rattle.hex_core.proofs.SliceWalk.Types.{Policy}
+use Rattle.hex_core.proofs.SliceWalk.{fills_writes, writes_and_lends}
 use Rattle.hex_core.proofs.backend.Backend.decode_into.Met as g_met
 use Rattle.hex_core.proofs.backend.Backend.decode_slice.Statement.{statement}
 use Rattle.hex_core.proofs.backend.Backend.decode_slice.Code as code

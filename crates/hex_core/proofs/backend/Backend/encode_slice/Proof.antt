@@ -1,8 +1,7 @@
 -- `encode_slice` encodes, and then lends the front.
-use Rattle.hex_core.proofs.WalkKit.{refl, Encodes, EncodesFront}
-use Rattle.hex_core.proofs.Lent.{Letters}
-use Rattle.hex_core.proofs.SliceWalk.{fills_writes}
-use Rattle.hex_core.proofs.WriteWalk.{writes_and_lends}
+use Rattle.hex_core.proofs.SliceWalk.Kit.{refl, Encodes, EncodesFront}
+use Rattle.hex_core.proofs.SliceWalk.Types.{Letters}
+use Rattle.hex_core.proofs.SliceWalk.{fills_writes, writes_and_lends}
 use Rattle.hex_core.proofs.backend.Backend.encode_into.Met as g_met
 use Rattle.hex_core.proofs.backend.Backend.encode_slice.Statement.{statement}
 use Rattle.hex_core.proofs.backend.Backend.encode_slice.Code as code

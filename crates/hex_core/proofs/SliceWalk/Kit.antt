@@ -33,7 +33,7 @@ pub use denote.Param.{layout, param}
 pub use denote.Plain.{bool_vals, bool_Makes}
 pub use denote.RattleType.{RattleType, owns}
 pub use denote.Ref.{MutRef, NamedLft, mut_vals, mut_Tells}
-pub use denote.Signature.{type_at, plain, mut_ref_to, mut_slice_of, shr_slice_of}
+pub use denote.Signature.{Slot, type_at, plain, mut_ref_to, mut_slice_of, shr_slice_of}
 pub use denote.Slice.{ShrSlice, MutSlice, Room, finally, slice_val, shr_slice_vals, shr_slice_Tells, mut_slice_vals, mut_slice_Tells}
 pub use denote.Steps.{nothing, only, owned, peeks, heard}
 pub use denote.Triple.Call.{calls_at}
