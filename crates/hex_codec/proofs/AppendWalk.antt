@@ -13,6 +13,7 @@ use mir.Syntax.{Dict}
 use types.Run.{Opd}
 use Rattle.std.specs.Io.BufRead.{Rests}
 use Rattle.std.specs.contracts.string.String as S
+use Rattle.hex_core.proofs.SliceWalk.{function_of}
 use Rattle.hex_core.proofs.SliceWalk.Types.{Known, Refusal, ResultOf, calls, typed}
 use Rattle.std.specs.declared.alloc.Allocator.{Ghosts}
 use Rattle.hex_codec.specs.Append.{AnswersSuffix, AppendsDigits}
@@ -28,17 +29,11 @@ Answer κ = ResultOf (Text (record { mir = named 1; lft = κ })) Refusal
 
 -- the two bodies, at a string's type as a reference names it and as it lies, and a constant for the choice of letters
 abbrev pub function : Ty → Ty → Callee → Operand → Fn
-function σ ρ appends choice = record {
-  lifetimes = 2;
-  outlives = (2, 1) ∷ [];
-  ty_params = [];
-  givens = 0;
-  params = 2;
-  locals = local (layout (Answer []).row) value_local ∷ local (lone (ShrSlice (named 0) [] u8).mir) value_local
-      ∷ local (ty_ref (named 1) mut σ) value_local ∷ local (ty_ref erased mut σ) value_local ∷ [];
-  body = seq (assign (place 3 []) (addr_of (place 2 (deref ρ ∷ []))))
-      (seq (call appends (copy (place 3 []) ∷ copy (place 1 []) ∷ choice ∷ []) (place 0 [])) return);
-}
+function σ ρ appends choice =
+    function_of ((2, 1) ∷ []) 2
+    (local (layout (Answer []).row) value_local ∷ local (lone (ShrSlice (named 0) [] u8).mir) value_local ∷ local (ty_ref (named 1) mut σ) value_local
+    ∷ local (ty_ref erased mut σ) value_local ∷ [])
+    (seq (assign (place 3 []) (addr_of (place 2 (deref ρ ∷ [])))) (seq (call appends (copy (place 3 []) ∷ copy (place 1 []) ∷ choice ∷ []) (place 0 [])) return))
 
 module _ {M : Type 1} (𝓤 : Ura M) (𝓛 : Logic 𝓤) (𝓜 : Model 𝓤 𝓛.H) (𝓡 : Running 𝓤 𝓛.H 𝓜)
     (A : RattleType) (g : Ghosts A.Denot) (d dd : Dict) where

@@ -47,9 +47,9 @@ packed_at (a ∷ b ∷ v) (suc i) h =
     let three : 2 * suc i + 1 ≡ suc (suc (2 * i + 1)) = omega arith in
     packed_at v i (omega arith) ∙ ap₂ (λ x y. 16 * get_or (a ∷ b ∷ v) x 0 + get_or (a ∷ b ∷ v) y 0) (sym two) (sym three)
 
-pub are_packed : (v r : List ℕ) (n : ℕ) → length v ≡ 2 * n → r ≡ packed v → ArePacked v r
-are_packed v r n long is i h =
-    let half : length r ≡ n = ap length is ∙ omega (arith, length-packed v) in
+pub are_packed : (v r : List ℕ) → length v % 2 ≡ 0 → r ≡ packed v → ArePacked v r
+are_packed v r even is i h =
+    let half : length r ≡ length v / 2 = ap length is ∙ length-packed v in
     ap (λ l. get_or l i 0) is ∙ packed_at v i (omega arith)
 
 packed_joined : (xs ys : List ℕ) → length xs % 2 ≡ 0 → packed (xs ++ ys) ≡ packed xs ++ packed ys

@@ -202,6 +202,7 @@ impl Backend {
     }
 
     // Decodes `size` bytes at index `at`, or returns false and writes nothing.
+    #[tactic(auto, using(crate::proofs::OwnedLemmas::part_decodes))]
     #[inline(always)]
     fn decode_at(self, src: &[u8], dst: &mut [u8], at: usize, size: usize, case: CheckCase) -> bool
         requires room { HasRoom at size src.now dst.old }

@@ -210,6 +210,7 @@ pub trait Nibbles<const N: usize> {
 pub struct Saturating;
 
 impl<const N: usize> Nibbles<N> for Saturating {
+    #[tactic(auto, using(crate::proofs::ByteLemmas::nibbles_values))]
     #[inline(always)]
     fn nibbles(v: Simd<u8, N>, case: CheckCase) -> Simd<u8, N>
         ensures { AreValues case v.entry result }

@@ -8,9 +8,9 @@ ghost use Rattle.std.specs.Prelude.{◌≡◌, ◌↔◌, ◌+◌, ◌-◌, ◌*
 ghost use Rattle.std.specs.Simd.Lanes.{put_chunk};
 ghost use Rattle.hex_core.specs.Calls.{DecodesWhole};
 ghost use Rattle.hex_core.specs.Lanes.{AreSmall};
-ghost use Rattle.hex_core.specs.Search.{AllValid, first_invalid};
+ghost use Rattle.hex_core.specs.Search.{first_invalid};
 ghost use Rattle.hex_core.specs.Text.{text};
-ghost use Rattle.hex_core.specs.inside.Arithmetic.{AreLow, packed};
+ghost use Rattle.hex_core.specs.inside.Arithmetic.{packed};
 ghost use Rattle.hex_core.specs.inside.Blocks.{EndsCover, Halves, NibblesFrom};
 
 use crate::digit::CheckCase;

@@ -1,6 +1,6 @@
 //! Probes, and the search for the first invalid byte through their counted calls.
 
-ghost use Rattle.std.specs.Prelude.{◌≡◌, ℕ, None, ◌+◌, ◌*◌, ◌/◌, ◌^◌, ◌<◌, ◌≤◌, ◌↔◌, IsTrue, length, slice_index};
+ghost use Rattle.std.specs.Prelude.{◌≡◌, None, ◌+◌, ◌*◌, ◌/◌, ◌^◌, ◌<◌, ◌≤◌, ◌↔◌, IsTrue, length, slice_index};
 ghost use Rattle.hex_core.specs.Probe.{Adds, ProbeState, ValidIn, covering_in, invalid_in, steps_in};
 ghost use Rattle.hex_core.specs.inside.Looks.{looks_from};
 

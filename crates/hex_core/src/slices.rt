@@ -7,7 +7,6 @@ ghost use Rattle.hex_core.specs.declared.digit.CheckCase.{CheckCase};
 ghost use Rattle.hex_core.specs.Calls.{Answers, Decodes, DecodesFront, Encodes, EncodesFront};
 ghost use Rattle.hex_core.specs.Loan.{LendsAnswer};
 ghost use Rattle.hex_core.specs.Refusal.{decode_refusal, encode_refusal};
-ghost use Rattle.hex_core.specs.Text.{text};
 
 use crate::backend::Backend;
 use crate::digit::CheckCase;

@@ -95,6 +95,7 @@ pub fn values_of(case: CheckCase) -> &'static [u8; 256]
 }
 
 /// Returns whether `byte` is valid under `case`, by one look-up.
+#[tactic(auto, using(crate::proofs::TableLemmas::entry_tells))]
 #[inline(always)]
 pub fn has_value(byte: u8, case: CheckCase) -> bool
     ensures { result ≡ is_some (value case byte) }

@@ -9,6 +9,7 @@ ghost use Rattle.hex_core.specs.Lanes.{AreSmall};
 use std::simd::prelude::*;
 
 /// Subtracts `by`, modulo 256.
+#[tactic(auto, using(std::proofs::lemmas::Simd::zip2_splat))]
 #[inline(always)]
 pub fn wrapping_sub<const N: usize>(v: Simd<u8, N>, by: u8) -> Simd<u8, N>
     ensures { result ≡ map (λ x. wrapping_sub x by) v.entry }
@@ -34,6 +35,7 @@ pub fn saturating_add<const N: usize>(v: Simd<u8, N>, by: u8) -> Simd<u8, N>
 }
 
 /// Sets these bits.
+#[tactic(auto, using(std::proofs::lemmas::Simd::zip2_splat))]
 #[inline(always)]
 pub fn with_bits<const N: usize>(v: Simd<u8, N>, bits: u8) -> Simd<u8, N>
     ensures { result ≡ map (λ x. bit_or x bits) v.entry }
@@ -42,6 +44,7 @@ pub fn with_bits<const N: usize>(v: Simd<u8, N>, bits: u8) -> Simd<u8, N>
 }
 
 /// Clears the other bits.
+#[tactic(auto, using(std::proofs::lemmas::Simd::zip2_splat))]
 #[inline(always)]
 pub fn masked<const N: usize>(v: Simd<u8, N>, mask: u8) -> Simd<u8, N>
     ensures { result ≡ map (λ x. bit_and x mask) v.entry }
@@ -50,6 +53,7 @@ pub fn masked<const N: usize>(v: Simd<u8, N>, mask: u8) -> Simd<u8, N>
 }
 
 /// The high four bits of each lane, as a number.
+#[tactic(auto, using(std::proofs::lemmas::Simd::zip2_splat))]
 #[inline(always)]
 pub fn high_bits<const N: usize>(v: Simd<u8, N>) -> Simd<u8, N>
     ensures { result ≡ map (λ x. x / 16) v.entry }
@@ -148,6 +152,7 @@ pub fn both_nibbles(v: u8x16) -> u8x32
 }
 
 /// Flips the sign bit of each lane, so that signed bytes sort like unsigned ones.
+#[tactic(auto, using(std::proofs::lemmas::Simd::zip2_splat))]
 #[inline(always)]
 pub fn sign_flipped<const N: usize>(v: Simd<u8, N>) -> Simd<u8, N>
     ensures { result ≡ map (λ x. bit_xor x 128) v.entry }
@@ -156,6 +161,7 @@ pub fn sign_flipped<const N: usize>(v: Simd<u8, N>) -> Simd<u8, N>
 }
 
 /// Subtracts lane by lane, down to 0.
+#[tactic(auto, using(crate::proofs::LaneLemmas::differences))]
 #[inline(always)]
 pub fn saturating_differences<const N: usize>(a: Simd<u8, N>, b: Simd<u8, N>) -> Simd<u8, N>
     ensures { result ≡ zip2 (λ x y. x - y) a.entry b.entry }

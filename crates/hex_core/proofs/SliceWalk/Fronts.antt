@@ -1,6 +1,6 @@
 -- The front of a slice of bytes is lent: the slice is lent as an array, and the array's first bytes as a slice.
 use Rattle.hex_core.proofs.SliceWalk.Kit.{◌≡◌, refl, ap, sym, ℕ, arith, List, [], ◌∷◌, length, MutBor, Ok, Ura, Lifetime, erased, Val, ent, sep, Lft}
-use Rattle.hex_core.proofs.SliceWalk.Kit.{GName, Share, flft, Logic, sem, Item, mean, ‵, ◌⊛◌, some, given, later, ◌$◌, ◌∵◌, !, qed, move, drop, split3}
+use Rattle.hex_core.proofs.SliceWalk.Kit.{GName, Share, flft, Logic, sem, Item, mean, ‵, ◌⊛◌, ◌$◌, ◌∵◌, given, later, some, !, drop, move, qed, split3}
 use Rattle.hex_core.proofs.SliceWalk.Kit.{fsplit, fjoin, feq_i, use1, use2, await, pick, learn, done, BareSlice, u8, RattleType, MutSlice, Room}
 use Rattle.hex_core.proofs.SliceWalk.Kit.{slice_val, ok_val}
 use Rattle.std.proofs.slice.Relends.{array_lent, lends_array}
@@ -14,8 +14,8 @@ use denote.Array.{Array}
 use denote.Follow.{follows, follows_then}
 use types.Kit.{now, show, updating}
 
--- over a slice with these bytes at its front and behind, a token's share, and a type of errors
-module _ (slice : MutBor (List ℕ)) (front rest : List ℕ) (ℓ : Lifetime) (κ : Lft) (q : Share) (E : RattleType) {M : Type 1} {𝓤 : Ura M} (𝓛 : Logic 𝓤) where
+-- over a type of errors, a slice with these bytes at its front and behind, and its token's share
+module _ (E : RattleType) (slice : MutBor (List ℕ)) (front rest : List ℕ) (q : Share) (κ : Lft) (ℓ : Lifetime) {M : Type 1} {𝓤 : Ura M} (𝓛 : Logic 𝓤) where
   open 𝓛 use {H, A}
 
   -- the slice under other names, and with the front alone
