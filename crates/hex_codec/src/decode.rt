@@ -195,7 +195,6 @@ pub fn hex_decode_array<const N: usize>(src: &[u8]) -> Result<[u8; N], Error>
 /// assert_eq!(rt; bytes, [0xab, 1]);
 /// assert!(rt; hex_decode_array_with_case::<2>(b"ab01", CheckCase::Upper).is_err());
 /// ```
-#[tactic(auto, using(crate::proofs::SpelledLemmas::none_bad))]
 #[inline(always)]
 pub fn hex_decode_array_with_case<const N: usize>(
     src: &[u8],
@@ -257,7 +256,6 @@ pub fn hex_decode_vec<A: Allocator + Drop>(alloc: A, src: &[u8]) -> Result<Vec<u
 /// ```rust
 /// assert!(rt; hex_decode_vec_with_case(rt.alloc(), b"AB", CheckCase::Lower).is_err());
 /// ```
-#[tactic(auto, using(crate::proofs::SpelledLemmas::one_list, crate::proofs::SpelledLemmas::none_bad))]
 pub fn hex_decode_vec_with_case<A: Allocator + Drop>(
     alloc: A,
     src: &[u8],
