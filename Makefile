@@ -1,6 +1,7 @@
 # `make` builds libfaster_hex.a and libfaster_hex.so.1.0.0 from the assembly in generated/, by a C compiler
 # alone, and fhex where there is the Rattle toolchain; `make lib` and `make fhex` one of them. TARGET=aarch64,
-# or a compiler for it, builds the libraries for Linux on ARM. CC, CFLAGS, CPPFLAGS, LDFLAGS and AR are taken.
+# or a compiler for it, builds the libraries for Linux on ARM, one for Windows the archive and a DLL, and one
+# for macOS the archive. CC, CFLAGS, CPPFLAGS, LDFLAGS and AR are taken.
 # `make generate` proves the sources and writes generated/ anew. `make test` runs the examples and the gate,
 # `make check` all that the gate can't, `make deep` what a release takes beside it, `make test-c` the tests in
 # C alone, by the command RUN if it is told, and `make dist` packs what users of C and Rust need.
@@ -17,19 +18,30 @@ endif
 ifeq ($(TARGET)$(origin CC),aarch64default)
 CC = aarch64-linux-gnu-gcc
 endif
+MACHINE := $(shell { $(CC) -dumpmachine || uname -m; } 2>/dev/null)
 ifndef TARGET
-TARGET := $(firstword $(subst -, ,$(shell { $(CC) -dumpmachine || uname -m; } 2>/dev/null)))
+TARGET := $(patsubst arm64,aarch64,$(patsubst amd64,x86_64,$(firstword $(subst -, ,$(MACHINE)))))
 endif
+SYSTEM := $(if $(findstring mingw,$(MACHINE)),windows)$(if $(findstring apple,$(MACHINE)),macos)
 ifneq ($(filter-out x86_64 aarch64,$(TARGET)),)
 $(error TARGET=$(TARGET) is neither x86_64 nor aarch64)
 endif
 
 C = crates/faster_hex_c
-OUT = $(C)/out$(patsubst %,/%,$(filter aarch64,$(TARGET)))
-BUILDS = $(if $(filter aarch64,$(TARGET)),aarch64,x86-64 x86-64-v2 x86-64-v3)
-OBJECTS = $(BUILDS:%=$(OUT)/%.o) $(OUT)/dispatch.o
+OUT = $(C)/out$(addprefix /,$(SYSTEM))$(addprefix /,$(filter aarch64,$(TARGET)))
+OBJECTS = $(OUT)/builds.o $(OUT)/dispatch.o
 ARCHIVE = $(OUT)/libfaster_hex.a
+# What the shared library shows, and how a test in C is linked with it.
+ifeq ($(SYSTEM),)
 SHARED = $(OUT)/libfaster_hex.so.$(VERSION)
+SHOWN = -Wl,-soname,libfaster_hex.so.1 -Wl,-z,relro,-z,now,-z,text -Wl,--version-script=$(C)/faster_hex.map
+LOADED = $(OUT)/libfaster_hex.so.1 '-Wl,-rpath,$$ORIGIN'
+else ifeq ($(SYSTEM),windows)
+SHARED = $(OUT)/libfaster_hex.dll
+SHOWN = $(C)/faster_hex.def
+LOADED = $(SHARED)
+OF_TESTS = -static -I$(C)/tests/windows
+endif
 CFLAGS ?= -O2
 # No file is there half made for another make.
 MADE = $@.$$$$
@@ -63,9 +75,9 @@ generate:
 
 lib: $(ARCHIVE) $(SHARED)
 
-$(OUT)/%.o: generated/%.s | current
+$(OUT)/builds.o: generated/builds.S $(wildcard generated/*.s generated/*.inc) | current
 	@mkdir -p $(OUT)
-	$(CC) $(CFLAGS) -Wno-unused-command-line-argument -c -o $(MADE) $< && $(DONE)
+	$(CC) $(CPPFLAGS) $(CFLAGS) -Wno-unused-command-line-argument -c -o $(MADE) $< && $(DONE)
 
 $(OUT)/dispatch.o: $(C)/dispatch.c $(C)/faster_hex.h | current
 	@mkdir -p $(OUT)
@@ -75,9 +87,11 @@ $(OUT)/dispatch.o: $(C)/dispatch.c $(C)/faster_hex.h | current
 $(ARCHIVE): $(OBJECTS)
 	rm -f $(MADE) && $(AR) rcs $(MADE) $(OBJECTS) && $(DONE)
 
-$(SHARED): $(OBJECTS) $(C)/faster_hex.map
-	$(CC) $(CFLAGS) $(LDFLAGS) -shared -o $(MADE) -Wl,-soname,libfaster_hex.so.1 -Wl,-z,relro,-z,now,-z,text \
-		-Wl,--version-script=$(C)/faster_hex.map $(OBJECTS) && $(DONE)
+$(OUT)/libfaster_hex.so.$(VERSION) $(OUT)/libfaster_hex.dll: $(OBJECTS) $(C)/faster_hex.map $(C)/faster_hex.def
+	$(CC) $(CFLAGS) $(LDFLAGS) -shared -o $(MADE) $(OBJECTS) $(SHOWN) && $(DONE)
+
+$(OUT)/libfaster_hex.so.1: $(SHARED)
+	cp $< $@
 
 ifneq ($(wildcard crates/hex_core),)
 test: current
@@ -89,14 +103,14 @@ else
 test: test-c
 endif
 
-TRY = $(CC) $(CPPFLAGS) $(CFLAGS) -std=gnu99 -pthread -I$(C) -o $(OUT)/try
-test-c: lib
-	cp $(SHARED) $(OUT)/libfaster_hex.so.1
-	$(TRY) $(C)/tests/library.c $(ARCHIVE) && $(RUN) $(OUT)/try && $(RUN) $(OUT)/try threads
-	$(TRY) $(C)/tests/library.c $(OUT)/libfaster_hex.so.1 '-Wl,-rpath,$$ORIGIN' && $(RUN) $(OUT)/try
-	$(TRY) examples/c/digits.c $(ARCHIVE) && $(RUN) $(OUT)/try
+TRY = $(CC) $(CPPFLAGS) $(CFLAGS) -std=gnu99 -pthread -I$(C) $(OF_TESTS) -o $(OUT)/try.exe
+TRIED = $(RUN) $(OUT)/try.exe
+test-c: lib $(firstword $(LOADED))
+	$(TRY) $(C)/tests/library.c $(ARCHIVE) && $(TRIED) && $(TRIED) threads
+	$(if $(LOADED),$(TRY) $(C)/tests/library.c $(LOADED) && $(TRIED))
+	$(TRY) examples/c/digits.c $(ARCHIVE) && $(TRIED)
 ifeq ($(TARGET),x86_64)
-	$(TRY) $(C)/tests/choice.c $(ARCHIVE) && $(RUN) $(OUT)/try
+	$(TRY) $(C)/tests/choice.c $(ARCHIVE) && $(TRIED)
 endif
 
 check: all
@@ -115,7 +129,7 @@ TO = .
 PACK = $(TO)/faster_hex-$(VERSION).tar
 PACKED = Makefile CMakeLists.txt Cargo.toml CHANGELOG.md LICENSE bindings/cmake bindings/faster_hex.pc.in \
 	bindings/rust docs/faster_hex.3 examples generated scripts/install.sh \
-	$(addprefix $(C)/,dispatch.c faster_hex.h faster_hex.map tests)
+	$(addprefix $(C)/,dispatch.c faster_hex.h faster_hex.def faster_hex.map tests)
 dist: current
 	git -c tar.umask=0022 archive --prefix=faster_hex-$(VERSION)/ --add-file=docs/release/README.md \
 		-o "$(PACK)" $$(git stash create | grep . || echo HEAD) $(PACKED) && gzip -9nf "$(PACK)"

@@ -42,7 +42,7 @@ versions() {
         tr '\n' . | sed 's/\.$//')"
     sed -n 's/^version = "\(.*\)"$/bindings \1/p' ../../Cargo.toml
     sed -n 's/^project(.* VERSION \([0-9.]*\) .*/CMakeLists.txt \1/p' ../../CMakeLists.txt
-    sed -n 's/^\t\.weak\tfaster_hex_\([0-9]*\)_\([0-9]*\)_\([0-9]*\)_\(.*\)/\4 \1.\2.\3/p' ../../generated/*.s
+    sed -n 's/^\thex_export\tfaster_hex_\([0-9]*\)_\([0-9]*\)_\([0-9]*\)_\(.*\)/\4 \1.\2.\3/p' ../../generated/*.s
 }
 
 status=0

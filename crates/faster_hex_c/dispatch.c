@@ -8,7 +8,7 @@
 #include "faster_hex.h"
 
 #if SIZE_MAX != UINT64_MAX || !(defined __x86_64__ || defined __aarch64__ && !defined __AARCH64EB__)
-#error "there is no build of faster_hex for this processor"
+#error "there is no build of faster_hex for this processor and compiler"
 #endif
 
 /* A build's call has the version in its name, so that no other version in the program has it. */
@@ -16,7 +16,12 @@
 #define EXPAND(major, minor, patch, build, call) JOIN(major, minor, patch, build, call)
 #define OF(build, call) \
     EXPAND(FASTER_HEX_VERSION_MAJOR, FASTER_HEX_VERSION_MINOR, FASTER_HEX_VERSION_PATCH, build, call)
-#define HIDDEN __attribute__((visibility("hidden")))
+/* Builds keep System V's convention on Windows too, where a DLL shows what faster_hex.def names. */
+#if defined __ELF__ || defined __MACH__
+#define BUILD __attribute__((visibility("hidden")))
+#else
+#define BUILD __attribute__((sysv_abi))
+#endif
 
 #ifdef __x86_64__
 #include <cpuid.h>
@@ -66,9 +71,9 @@ __attribute__((constructor)) static void raise_level(void) {
 }
 
 #define CALL(answer, call, parameters, arguments)                                 \
-    HIDDEN answer OF(x86_64, call) parameters;                                    \
-    HIDDEN answer OF(x86_64_v2, call) parameters;                                 \
-    HIDDEN answer OF(x86_64_v3, call) parameters;                                 \
+    BUILD answer OF(x86_64, call) parameters;                                     \
+    BUILD answer OF(x86_64_v2, call) parameters;                                  \
+    BUILD answer OF(x86_64_v3, call) parameters;                                  \
     answer faster_hex_##call parameters {                                         \
         unsigned char known = atomic_load_explicit(&level, memory_order_relaxed); \
         if (__builtin_expect(known == 3, 1)) return OF(x86_64_v3, call) arguments; \
@@ -77,7 +82,7 @@ __attribute__((constructor)) static void raise_level(void) {
     }
 #else
 #define CALL(answer, call, parameters, arguments) \
-    HIDDEN answer OF(aarch64, call) parameters;   \
+    BUILD answer OF(aarch64, call) parameters;    \
     answer faster_hex_##call parameters {         \
         return OF(aarch64, call) arguments;       \
     }

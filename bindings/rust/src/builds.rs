@@ -8,22 +8,41 @@ use crate::level;
 use crate::library::Answer;
 
 #[cfg(not(all(
-    target_os = "linux",
     target_pointer_width = "64",
     target_endian = "little",
+    any(unix, all(windows, target_arch = "x86_64")),
     any(target_arch = "x86_64", target_arch = "aarch64")
 )))]
-compile_error!("this crate is for Linux on x86-64 and aarch64");
+compile_error!("this crate is for x86-64 and aarch64, on Windows for x86-64 alone");
 
-#[cfg(target_arch = "aarch64")]
-global_asm!(include_str!("../../../generated/aarch64.s"), options(raw));
-#[cfg(target_arch = "x86_64")]
-global_asm!(
-    include_str!("../../../generated/x86-64.s"),
-    include_str!("../../../generated/x86-64-v2.s"),
-    include_str!("../../../generated/x86-64-v3.s"),
-    options(att_syntax, raw)
-);
+/// The assembly, behind the macros of a format of object files.
+macro_rules! assemble {
+    ($macros:literal) => {
+        #[cfg(target_arch = "aarch64")]
+        global_asm!(
+            include_str!(concat!("../../../generated/", $macros)),
+            include_str!("../../../generated/aarch64.s"),
+            "hex_finish",
+            options(raw)
+        );
+        #[cfg(target_arch = "x86_64")]
+        global_asm!(
+            include_str!(concat!("../../../generated/", $macros)),
+            include_str!("../../../generated/x86-64.s"),
+            include_str!("../../../generated/x86-64-v2.s"),
+            include_str!("../../../generated/x86-64-v3.s"),
+            "hex_finish",
+            options(att_syntax, raw)
+        );
+    };
+}
+
+#[cfg(windows)]
+assemble!("coff.inc");
+#[cfg(target_vendor = "apple")]
+assemble!("macho.inc");
+#[cfg(not(any(windows, target_vendor = "apple")))]
+assemble!("elf.inc");
 
 macro_rules! calls {
     ($($call:ident($($word:ident: $kind:ty),*) -> $answer:ty;)*) => {
@@ -37,7 +56,7 @@ macro_rules! calls {
             #[cfg(target_arch = "x86_64")]
             #[inline]
             pub unsafe fn $call($($word: $kind),*) -> $answer {
-                extern "C" {
+                extern "sysv64" {
                     #[link_name = concat!("faster_hex_1_0_0_x86_64_", stringify!($call))]
                     fn v1($($word: $kind),*) -> $answer;
                     #[link_name = concat!("faster_hex_1_0_0_x86_64_v2_", stringify!($call))]
@@ -49,7 +68,7 @@ macro_rules! calls {
                 // Apart, and by the same convention, so that a call of the widest build takes a load and a
                 // comparison more, and no frame.
                 #[cold]
-                unsafe extern "C" fn other($($word: $kind),*) -> $answer {
+                unsafe extern "sysv64" fn other($($word: $kind),*) -> $answer {
                     match level::find() {
                         3 => v3($($word),*),
                         2 => v2($($word),*),

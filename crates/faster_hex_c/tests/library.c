@@ -368,11 +368,12 @@ struct worker {
     bool holds;
 };
 static uint8_t shared[CALLS][12][LONGEST];
-static pthread_barrier_t barrier;
+static pthread_mutex_t gate = PTHREAD_MUTEX_INITIALIZER;
 
 static void *works(void *given) {
     struct worker *worker = given;
-    pthread_barrier_wait(&barrier);
+    pthread_mutex_lock(&gate);
+    pthread_mutex_unlock(&gate);
     for (unsigned at = 0; at < TURNS * CALLS; at++) {
         unsigned call = at % CALLS, turn = at / CALLS % 12;
         struct job it = job_of((enum call)call, LONGEST, turn);
@@ -392,12 +393,13 @@ static void in_threads(void) {
         struct job it = job_of((enum call)(at / 12), LONGEST, at % 12);
         fill(&it, shared[at / 12][at % 12], at % 12);
     }
-    pthread_barrier_init(&barrier, NULL, THREADS);
+    pthread_mutex_lock(&gate);
     for (unsigned i = 0; i < THREADS; i++) {
         uint8_t *kept = malloc(2 * sizeof room[i]);
         workers[i] = (struct worker){ { room[i], sizeof room[i], kept }, kept != NULL };
         if (pthread_create(&threads[i], NULL, works, &workers[i]) != 0) exit(2);
     }
+    pthread_mutex_unlock(&gate);
     for (unsigned i = 0; i < THREADS; i++) {
         pthread_join(threads[i], NULL);
         count(workers[i].holds);
