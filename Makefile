@@ -31,7 +31,6 @@ C = crates/faster_hex_c
 OUT = $(C)/out$(addprefix /,$(SYSTEM))$(addprefix /,$(filter aarch64,$(TARGET)))
 OBJECTS = $(OUT)/builds.o $(OUT)/dispatch.o
 ARCHIVE = $(OUT)/libfaster_hex.a
-# What the shared library shows, and how a test in C is linked with it.
 ifeq ($(SYSTEM),)
 SHARED = $(OUT)/libfaster_hex.so.$(VERSION)
 SHOWN = -Wl,-soname,libfaster_hex.so.1 -Wl,-z,relro,-z,now,-z,text -Wl,--version-script=$(C)/faster_hex.map

@@ -19,20 +19,15 @@ compile_error!("this crate is for x86-64 and aarch64, on Windows for x86-64 alon
 macro_rules! assemble {
     ($macros:literal) => {
         #[cfg(target_arch = "aarch64")]
-        global_asm!(
-            include_str!(concat!("../../../generated/", $macros)),
-            include_str!("../../../generated/aarch64.s"),
-            "hex_finish",
-            options(raw)
-        );
+        assemble!(raw: $macros "aarch64.s");
         #[cfg(target_arch = "x86_64")]
+        assemble!(att_syntax, raw: $macros "x86-64.s" "x86-64-v2.s" "x86-64-v3.s");
+    };
+    ($($option:ident),*: $($file:literal)*) => {
         global_asm!(
-            include_str!(concat!("../../../generated/", $macros)),
-            include_str!("../../../generated/x86-64.s"),
-            include_str!("../../../generated/x86-64-v2.s"),
-            include_str!("../../../generated/x86-64-v3.s"),
+            $(include_str!(concat!("../../../generated/", $file)),)*
             "hex_finish",
-            options(att_syntax, raw)
+            options($($option),*)
         );
     };
 }
