@@ -293,7 +293,7 @@ static bool wants(struct faster_hex_answer answer, size_t required) {
 
 /* A source of so many zeros, which stand nowhere: its first byte is no digit. */
 static void wide_source(size_t len) {
-    void *src = mmap(NULL, len, PROT_READ, MAP_PRIVATE | MAP_ANONYMOUS | MAP_NORESERVE, -1, 0);
+    void *src = mmap(NULL, len, PROT_READ, MAP_PRIVATE | MAP_ANONYMOUS, -1, 0);
     count(src != MAP_FAILED && !faster_hex_check(src, len));
     count(src != MAP_FAILED && faster_hex_first_invalid(src, len, 0).status == FASTER_HEX_INVALID_CHAR);
     munmap(src, len);

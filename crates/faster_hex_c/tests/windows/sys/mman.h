@@ -1,6 +1,6 @@
 /* As much of this header as library.c takes, for Windows. */
 #include <windows.h>
-enum { PROT_NONE, PROT_READ, PROT_WRITE, MAP_PRIVATE = 0, MAP_ANONYMOUS = 0, MAP_NORESERVE = 0 };
+enum { PROT_NONE, PROT_READ, PROT_WRITE, MAP_PRIVATE = 0, MAP_ANONYMOUS = 0 };
 #define MAP_FAILED NULL
 #define ALLOWED(may) ((may) & PROT_WRITE ? PAGE_READWRITE : (may) ? PAGE_READONLY : PAGE_NOACCESS)
 #define mmap(at, len, may, kind, file, from) VirtualAlloc(at, len, MEM_COMMIT | MEM_RESERVE, ALLOWED(may))
