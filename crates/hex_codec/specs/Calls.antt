@@ -1,5 +1,6 @@
 -- What a call answers, beside those into a destination: arrays, vectors and texts.
 use Rattle.std.specs.Prelude.{◌≡◌, ℕ, ◌+◌, ◌*◌, ◌^◌, ◌<◌, ◌≤◌, Bool, List, ◌++◌, length, Result, Ok, MatchResult, string_bytes, vec_items}
+use Rattle.std.specs.Borrow.{MutBor}
 use Rattle.std.specs.declared.string.String.{String}
 use Rattle.std.specs.declared.vec.Vec.{Vec}
 use Rattle.hex_core.specs.declared.digit.CheckCase.{CheckCase}
@@ -42,6 +43,11 @@ ArrayIsSpelled c s n result = (bytes : List ℕ) → Spells c s bytes → length
 abbrev pub FrontIsSpelled : CheckCase → List ℕ → List ℕ → List ℕ → Result ℕ Error → Type 0
 FrontIsSpelled c s old new result = (bytes : List ℕ) → Spells c s bytes → length bytes ≤ length old
     → (result ≡ Ok (length bytes)) × (new ≡ with_front old bytes)
+
+-- in what a destination with room for it lends
+abbrev pub LentIsSpelled : CheckCase → List ℕ → ℕ → Result (MutBor (List ℕ)) Error → Type 0
+LentIsSpelled c s room result = (bytes : List ℕ) → Spells c s bytes → length bytes ≤ room
+    → MatchResult result (λ front. front.now ≡ bytes) (λ _. ⊥)
 
 -- in a new vector, or memory is refused
 abbrev pub VecIsSpelled : {A : Type 0} → CheckCase → List ℕ → Result (Vec ℕ A) Error → Type 0

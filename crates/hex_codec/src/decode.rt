@@ -8,7 +8,7 @@ ghost use Rattle.hex_core.specs.Loan.{LendsAnswer};
 ghost use Rattle.hex_core.specs.Refusal.{first_bad_char};
 ghost use Rattle.hex_core.specs.Search.{first_invalid};
 ghost use Rattle.hex_core.specs.Text.{Spells};
-ghost use Rattle.hex_codec.specs.Calls.{ArrayIsSpelled, DecodesArray, DecodesVec, FrontIsSpelled, VecIsSpelled};
+ghost use Rattle.hex_codec.specs.Calls.{ArrayIsSpelled, DecodesArray, DecodesVec, FrontIsSpelled, LentIsSpelled, VecIsSpelled};
 
 use hex_core::{Backend, CheckCase, Error};
 use std::alloc::Allocator;
@@ -97,6 +97,7 @@ pub fn first_invalid_by(plan: Backend, src: &[u8], case: CheckCase) -> Option<us
 pub fn hex_decode<'a>(src: &[u8], dst: &'a mut [u8]) -> Result<&'a mut [u8], Error>
     ensures* lends { sem 𝓛 (LendsAnswer dst.entry result) }
     ensures answer { DecodesFront policy.None src.now (length dst.old) result }
+    ensures spelled { LentIsSpelled policy.None src.now (length dst.old) result }
 {
     let case = CheckCase::None;
     Backend::plain().decode_slice(src, dst, case)
@@ -126,6 +127,7 @@ pub fn hex_decode_with_case<'a>(
 ) -> Result<&'a mut [u8], Error>
     ensures* lends { sem 𝓛 (LendsAnswer dst.entry result) }
     ensures answer { DecodesFront case src.now (length dst.old) result }
+    ensures spelled { LentIsSpelled case src.now (length dst.old) result }
 {
     Backend::plain().decode_slice(src, dst, case)
 }
