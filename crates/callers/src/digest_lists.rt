@@ -1,10 +1,10 @@
 //! Callers that write and read the checksum file of one file, each proved.
 
-ghost use Rattle.std.specs.Prelude.{◌≡◌, IfOk, None, map, vec_items};
+ghost use Rattle.std.specs.Prelude.{◌≡◌, IfOk, None, vec_items};
 ghost use Rattle.hex_core.specs.declared.digit.CheckCase.TheVariants as policy;
 ghost use Rattle.hex_core.specs.Text.{lowercase};
 ghost use Rattle.hex_io.specs.ListCalls.{ReadsList};
-ghost use Rattle.hex_io.specs.Lists.{first_bad_name, line_of, lines_of};
+ghost use Rattle.hex_io.specs.Lists.{first_bad_name, list_of, with_last_newline};
 ghost use Rattle.callers.specs.DigestLists.{ReadsChecksum, WritesChecksum, entry_of};
 
 use crate::digest::Digest;
@@ -76,11 +76,11 @@ pub fn read_checksum(alloc: Global, file: &[u8]) -> Result<Option<Digest>, ListF
     }
 }
 
-/// Reads a lowercase list exactly as it is written: its lines are those written for the entries,
-/// and no name is refused then.
+/// Reads a lowercase list exactly as it is written: its entries are written as this list, with a
+/// newline after the last line, and no name is refused then.
 pub fn read_canonical<'a>(alloc: Global, list: &'a [u8]) -> Result<Vec<Entry<'a, 32>>, ListFault>
     ensures read { ReadsList policy.Lower 32 list.entry.now result }
-    ensures lines { IfOk result (λ entries. map (line_of lowercase) (vec_items entries) ≡ lines_of list.entry.now) }
+    ensures written { IfOk result (λ entries. list_of lowercase (vec_items entries) ≡ with_last_newline list.entry.now) }
     ensures names { IfOk result (λ entries. first_bad_name (vec_items entries) ≡ None) }
 {
     writing_inverts_strict_reading();

@@ -24,11 +24,6 @@ abbrev pub ReadsWhatIsNotRefused : Type 0
 ReadsWhatIsNotRefused = (p : WireFormat) (max : Option ℕ) (d : Data)
     → (read_refusal p max d ≡ None) ↔ ((bytes : List ℕ) × Reads p max d bytes)
 
--- into an array, exactly where a list of its length is read
-abbrev pub ReadsArrayOfItsLength : Type 0
-ReadsArrayOfItsLength = (p : WireFormat) (n : ℕ) (d : Data)
-    → (array_read_refusal p n d ≡ None) ↔ ((bytes : List ℕ) × Reads p None d bytes × (length bytes ≡ n))
-
 -- a bounded read takes exactly what the unbounded one takes with at most so many bytes
 abbrev pub BoundedReadsWhatFits : Type 0
 BoundedReadsWhatFits = (p : WireFormat) (max : ℕ) (d : Data) (bytes : List ℕ)

@@ -1,7 +1,7 @@
 //! Laws of the adapters, each as the contract of a function that does nothing. A proof that needs
 //! one calls it.
 
-ghost use Rattle.faster_hex.specs.AdapterLaws.{ArrayHasNoBound, BoundedReadsWhatFits, OptionReadingInvertsWriting, ReadingInvertsWriting, ReadsArrayOfItsLength, ReadsNoneApart, ReadsOneList, ReadsOneOption, ReadsWhatIsNotRefused, UnboundedHasNoBound, WritesNoneApart, WritingInvertsStrictReading};
+ghost use Rattle.faster_hex.specs.AdapterLaws.{ArrayHasNoBound, BoundedReadsWhatFits, OptionReadingInvertsWriting, ReadingInvertsWriting, ReadsNoneApart, ReadsOneList, ReadsOneOption, ReadsWhatIsNotRefused, UnboundedHasNoBound, WritesNoneApart, WritingInvertsStrictReading};
 
 use hex_core::laws::{
     a_source_is_accepted_where_it_spells_a_list, a_text_spells_one_list, decoding_inverts_encoding,
@@ -17,10 +17,9 @@ pub fn a_value_is_read_as_one_list()
     a_text_spells_one_list();
 }
 
-/// A value is refused exactly if no list is read, and for an array if none of its length is.
+/// A value is refused exactly if no list is read.
 pub fn a_value_is_read_where_nothing_is_refused()
-    ensures list { ReadsWhatIsNotRefused }
-    ensures array { ReadsArrayOfItsLength }
+    ensures { ReadsWhatIsNotRefused }
 {
     a_source_is_accepted_where_it_spells_a_list();
 }

@@ -6,10 +6,9 @@ use Rattle.std.proofs.lemmas.Bool.{cases_lt}
 use Rattle.std.proofs.lemmas.Bool.Decides.{nat_tests}
 use Rattle.std.proofs.lemmas.List.{drop-drop, get_or-drop, length-take-le}
 use Rattle.hex_core.specs.declared.digit.CheckCase.{CheckCase}
-use Rattle.hex_core.specs.Refusal.{source_refusal}
-use Rattle.hex_core.specs.Search.{first_invalid}
 use Rattle.hex_core.specs.Text.{Spells, text}
 use Rattle.hex_core.proofs.JoinLemmas.{spells-parts}
+use Rattle.hex_core.proofs.LawProofs.{spelled as accepted}
 use Rattle.hex_core.proofs.TextLemmas.{length-text, text-append}
 use Rattle.hex_codec.specs.declared.group.Group.{Group}
 use Rattle.hex_codec.specs.declared.grouped.GroupFault.{GroupFault}
@@ -64,39 +63,33 @@ module _ (c : CheckCase) (group : Group) where
   has-count None f room h = cc
   has-count (Some n) f room h = (n, refl)
 
-  abbrev Accepts : Type 0
-  Accepts = (t : List ℕ) → source_refusal c t ≡ None → (bytes : List ℕ) × Spells c t bytes
-
-  accepted : Accepts → (t : List ℕ) → length t % 2 ≡ 0 → first_invalid c t ≡ None → (bytes : List ℕ) × Spells c t bytes
-  accepted some t even valid = some t (grind (arith, nat_tests, even, valid))
-
-  spelled : Accepts → (fuel n : ℕ) (s : List ℕ) → n ≤ fuel → length s ≡ grouped_len every n → first_wrong c group s ≡ None
+  spelled : (fuel n : ℕ) (s : List ℕ) → n ≤ fuel → length s ≡ grouped_len every n → first_wrong c group s ≡ None
       → (every < n) ⊎ (n ≤ every) → (bytes : List ℕ) × (length bytes ≡ n) × GroupSpells c group s bytes
-  spelled some fuel n s fits long none (inr short) =
+  spelled fuel n s fits long none (inr short) =
       let size : length s ≡ 2 * n = long ∙ len-last every n group.is_group.0 short in
-      let (bytes, digits) = accepted some s (omega (arith, size)) (clear-last c group s (omega (arith, size, short)) none) in
+      let (bytes, digits) = accepted c s (omega (arith, size)) (clear-last c group s (omega (arith, size, short)) none) in
       let count : length bytes ≡ n = omega (arith, digits.twice, size) in
       (bytes, count, spells-last c group s bytes (omega (arith, count, short)) digits)
-  spelled some zero n s fits long none (inl more) = absurd (omega arith)
-  spelled some (suc fuel) n s fits long none (inl more) =
+  spelled zero n s fits long none (inl more) = absurd (omega arith)
+  spelled (suc fuel) n s fits long none (inl more) =
       let len = len-more every n group.is_group.0 more in
       let inside : 2 * every < length s = omega (arith, long, len) in
       let clear = clear-part c group s inside none in
       let size = length-take-le (2 * every) s (omega (arith, inside)) in
       let rest = drop (2 * every + 1) s in
-      let (x, digits) = accepted some (take (2 * every) s) (omega (arith, size)) clear.valid in
-      let (y, count, behind) = spelled some fuel (n - every) rest (omega (arith, fits, more, group.is_group.0))
+      let (x, digits) = accepted c (take (2 * every) s) (omega (arith, size)) clear.valid in
+      let (y, count, behind) = spelled fuel (n - every) rest (omega (arith, fits, more, group.is_group.0))
       (omega (arith, length-drop (2 * every + 1) s, long, len)) clear.rest (cases_lt every (n - every)) in
       let one : length x ≡ every = omega (arith, digits.twice, size) in
       (x ++ y, omega (arith, length-append x y, one, count, more), spells-more c group s x y one (omega (arith, count, more)) digits clear.mark behind)
 
-  pub read-spells : Accepts → (s : List ℕ) (room : ℕ) → group_refusal c group s room ≡ None
+  pub read-spells : (s : List ℕ) (room : ℕ) → group_refusal c group s room ≡ None
       → (bytes : List ℕ) × GroupSpells c group s bytes × (length bytes ≤ room)
-  read-spells some s room h =
+  read-spells s room h =
       let fault = option_map (λ i. InvalidByte i (slice_index s i)) (first_wrong c group s) in
       let (n, is) = has-count (byte_count every (length s)) fault room h in
       let none : refusal_of_count (Some n) fault room ≡ None = rw is at h in
-      let (bytes, count, spells) = spelled some n n s (omega arith) (sym (count-told every (length s) n is)) (grind (arith, nat_tests, none)) (cases_lt every n) in
+      let (bytes, count, spells) = spelled n n s (omega arith) (sym (count-told every (length s) n is)) (grind (arith, nat_tests, none)) (cases_lt every n) in
       (bytes, spells, grind (arith, nat_tests, none, count))
 
   pub spells-read : (s bytes : List ℕ) (room : ℕ) → GroupSpells c group s bytes → length bytes ≤ room → group_refusal c group s room ≡ None

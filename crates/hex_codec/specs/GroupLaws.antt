@@ -38,12 +38,6 @@ abbrev pub GroupedTextsAreLong : Type 0
 GroupedTextsAreLong = (group : Group) (upper : Bool) (bytes : List ℕ)
     → length (grouped group upper bytes) ≡ grouped_len (piece_len group) (length bytes)
 
--- no two numbers of bytes have texts of one length
-abbrev pub LengthsTellCounts : Type 0
-LengthsTellCounts = (group : Group) (m n : ℕ)
-    → grouped_len (piece_len group) m ≡ grouped_len (piece_len group) n
-    → m ≡ n
-
 -- each byte of a grouped text is a digit of its case or the separator
 abbrev pub GroupedTextsAreDigitsAndSeparators : Type 0
 GroupedTextsAreDigitsAndSeparators = (group : Group) (upper : Bool) (bytes : List ℕ)

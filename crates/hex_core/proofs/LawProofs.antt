@@ -1,12 +1,14 @@
 -- The laws of digits, texts and what they spell.
-use Rattle.std.proofs.Common.{◌≡◌, ℕ, List, ◌+◌, ◌*◌, ◌/◌, ◌%◌, ◌<◌, ◌==◌, length, map, get_or, Bool, true, false, None, Some, is_none, unwrap_or, refl, sym, subst, ◌∙◌, ap, arith, zero-add, inl, inr}
+use Rattle.std.proofs.Common.{◌≡◌, ℕ, List, ◌+◌, ◌*◌, ◌/◌, ◌%◌, ◌<◌, ◌==◌, length, map, get_or, Bool, true, false, None, Some, is_none, unwrap_or, refl, sym, subst, ◌∙◌, ap, arith, zero-add, inl, inr, [], ◌∷◌, suc, Ordering}
 use Rattle.std.proofs.lemmas.Bool.{cases_lt}
 use Rattle.std.proofs.lemmas.Bool.Decides.{nat_tests}
 use Rattle.std.proofs.lemmas.Grind.{same_number_lists}
 use Rattle.std.proofs.lemmas.List.{get_or-map, length-map}
 use Rattle.std.proofs.lemmas.List.Elements.{All-get_or, All-from_get_or}
 use Rattle.std.proofs.lemmas.List.FromFn.{get_or-map-range_with_len, length-map-range_with_len}
+use Rattle.std.specs.Cmp.Lexicographic.{slice_cmp}
 use Rattle.std.specs.List.{range_with_len}
+use Rattle.std.specs.Ordering.{nat_cmp, ordering_then}
 use Rattle.std.specs.Char.{to_ascii_lowercase}
 use Rattle.std.specs.Str.{str_to_ascii_lowercase}
 use Rattle.hex_core.specs.declared.digit.CheckCase.{CheckCase}
@@ -15,8 +17,9 @@ use Rattle.hex_core.specs.Digit.{value, digit, strict}
 use Rattle.hex_core.specs.Text.{Spells, text}
 use Rattle.hex_core.specs.Search.{first_invalid}
 use Rattle.hex_core.specs.Refusal.{source_refusal}
-use Rattle.hex_core.specs.Laws.{AcceptsWhatSpells, AreBytes, DecodingInvertsEncoding, EitherCaseIsLowercased, EncodingInvertsStrictDecoding, EncodingLowercases, SpellsBytes, StrictAcceptsTexts}
+use Rattle.hex_core.specs.Laws.{AcceptsWhatSpells, AreBytes, DecodingInvertsEncoding, EitherCaseIsLowercased, EncodingInvertsStrictDecoding, EncodingLowercases, SpellsBytes, StrictAcceptsTexts, TextsCompareAsLists}
 use Rattle.hex_core.proofs.ByteLemmas.{value_small}
+use Rattle.hex_core.proofs.JoinLemmas.{invalid-joined}
 use Rattle.hex_core.proofs.PositionLemmas.{position_none}
 use Rattle.hex_core.proofs.SearchLemmas.{has_value, lacks}
 use Rattle.hex_core.proofs.TableLemmas.{value_at}
@@ -132,3 +135,29 @@ either-lowercased s bytes =
 
 pub encoding-lowercases : EncodingLowercases
 encoding-lowercases s bytes h = encoding-inverts false (str_to_ascii_lowercase s) bytes ((either-lowercased s bytes).0 h)
+
+-- ---- order
+
+digit-order : (upper : Bool) (m n : ℕ) → m < 16 → n < 16 → nat_cmp (digit upper m) (digit upper n) ≡ nat_cmp m n
+digit-order true m n a b = grind (arith, nat_tests)
+digit-order false m n a b = grind (arith, nat_tests)
+
+-- of two bytes the quotients decide, and else the remainders
+halves-order : (m n : ℕ) (rest : Ordering)
+    → ordering_then (nat_cmp (m / 16) (n / 16)) (ordering_then (nat_cmp (m % 16) (n % 16)) rest) ≡ ordering_then (nat_cmp m n) rest
+halves-order m n rest = grind (arith, nat_tests)
+
+pub text-order : TextsCompareAsLists
+text-order upper [] [] a b = refl
+text-order upper [] (n ∷ others) a b = refl
+text-order upper (m ∷ bytes) [] a b = refl
+text-order upper (m ∷ bytes) (n ∷ others) a b =
+    let m_fits : m < 256 = a 0 0 (omega arith) in
+    let n_fits : n < 256 = b 0 0 (omega arith) in
+    let high = digit-order upper (m / 16) (n / 16) (omega arith) (omega arith) in
+    let low = digit-order upper (m % 16) (n % 16) (omega arith) (omega arith) in
+    rw (high, low, text-order upper bytes others (λ k d h. a (suc k) d (omega arith)) (λ k d h. b (suc k) d (omega arith))) (halves-order m n (slice_cmp nat_cmp bytes others))
+
+-- ---- what laws.rt promises, where it is an equation
+
+pub ruleset laws = (accepts_what_spells, encoding-inverts, encoding-lowercases, invalid-joined, length-text, strict-accepts, text-order)

@@ -34,16 +34,6 @@ abbrev pub AcceptsWhatSpells : Type 0
 AcceptsWhatSpells = (c : CheckCase) (s : List ℕ)
     → (source_refusal c s ≡ None) ↔ ((bytes : List ℕ) × Spells c s bytes)
 
--- it is accepted for a slice of this room exactly where it spells a list that fits
-abbrev pub AcceptsWhatFits : Type 0
-AcceptsWhatFits = (c : CheckCase) (s : List ℕ) (room : ℕ)
-    → (decode_refusal c s room ≡ None) ↔ ((bytes : List ℕ) × Spells c s bytes × (length bytes ≤ room))
-
--- and for an array of n bytes exactly where it spells a list of this length
-abbrev pub AcceptsWhatFills : Type 0
-AcceptsWhatFills = (c : CheckCase) (s : List ℕ) (n : ℕ)
-    → (array_refusal c s n ≡ None) ↔ ((bytes : List ℕ) × Spells c s bytes × (length bytes ≡ n))
-
 -- decoding inverts encoding, under the strict policy of the text's own case and under either case
 abbrev pub DecodingInvertsEncoding : Type 0
 DecodingInvertsEncoding = (upper : Bool) (bytes : List ℕ)
@@ -139,19 +129,7 @@ FirstInvalidOfJoined = (c : CheckCase) (front back : List ℕ)
 abbrev pub WholeFrontsAreAll : Type 0
 WholeFrontsAreAll = (old bytes : List ℕ) → length bytes ≡ length old → with_front old bytes ≡ bytes
 
--- a front of a front is a front of the whole
-abbrev pub FrontsNest : Type 0
-FrontsNest = (old bytes front : List ℕ)
-    → length front ≤ length bytes
-    → with_front (with_front old bytes) front ≡ with_front old (with_front bytes front)
-
--- what lies behind a front stays
-abbrev pub BytesBehindAFrontStay : Type 0
-BytesBehindAFrontStay = (old bytes : List ℕ) (i : ℕ)
-    → length bytes ≤ i
-    → slice_index (with_front old bytes) i ≡ slice_index old i
-
--- so does what lies behind the blocks of a decoding that was given up
+-- what lies behind the blocks of a decoding that was given up stays
 abbrev pub BytesBehindBlocksStay : Type 0
 BytesBehindBlocksStay = (block : ℕ) (c : CheckCase) (s old new : List ℕ) (i : ℕ)
     → StoresBlocks block c s old new

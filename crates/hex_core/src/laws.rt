@@ -1,8 +1,9 @@
 //! Laws: facts about the definitions, each as the contract of a function that does nothing. A proof
 //! that needs one calls it.
+#![tactic(auto, using(crate::proofs::LawProofs::laws))]
 
 ghost use Rattle.std.specs.Prelude.{ℕ};
-ghost use Rattle.hex_core.specs.Laws.{AcceptsWhatFills, AcceptsWhatFits, AcceptsWhatSpells, AreBytes, DecodingInvertsEncoding, EitherCaseIsLowercased, EncodingInvertsStrictDecoding, EncodingLowercases, FirstInvalidIsFirst, FirstInvalidOfJoined, FrontsAreKept, JoinedSourcesSpellJoined, JoinedTexts, NamesFirstInvalid, PartsAreValidWhereTheirRangesAre, PartsSpellParts, SpellsBytes, SpellsOneList, StrictAcceptsTexts, TextsAreAscii, TextsAreTwiceAsLong, BytesBehindAFrontStay, BytesBehindBlocksStay, FrontsNest, NoneIsInvalidWhereAllAreValid, TextsCompareAsLists, WholeFrontsAreAll};
+ghost use Rattle.hex_core.specs.Laws.{AcceptsWhatSpells, AreBytes, DecodingInvertsEncoding, EitherCaseIsLowercased, EncodingInvertsStrictDecoding, EncodingLowercases, FirstInvalidIsFirst, FirstInvalidOfJoined, FrontsAreKept, JoinedSourcesSpellJoined, JoinedTexts, NamesFirstInvalid, PartsAreValidWhereTheirRangesAre, PartsSpellParts, SpellsBytes, SpellsOneList, StrictAcceptsTexts, TextsAreAscii, TextsAreTwiceAsLong, BytesBehindBlocksStay, NoneIsInvalidWhereAllAreValid, TextsCompareAsLists, WholeFrontsAreAll};
 ghost use Rattle.hex_core.specs.Refusal.{array_refusal, decode_refusal, source_refusal};
 
 /// A slice holds bytes, as laws about bytes require.
@@ -20,15 +21,6 @@ pub fn a_text_spells_one_list()
 pub fn a_source_is_accepted_where_it_spells_a_list()
     ensures { AcceptsWhatSpells }
 {}
-
-/// A source is accepted for a slice exactly if it decodes to a list that fits, and for an array
-/// exactly if it decodes to one of its length.
-pub fn a_source_is_accepted_where_its_list_has_room()
-    ensures slice { AcceptsWhatFits }
-    ensures array { AcceptsWhatFills }
-{
-    a_source_is_accepted_where_it_spells_a_list();
-}
 
 /// Encoded bytes decode to the same bytes, under the text's own case or either.
 pub fn decoding_inverts_encoding()
@@ -79,13 +71,10 @@ pub fn an_invalid_char_is_the_first_invalid_byte()
     ensures source { NamesFirstInvalid source_refusal }
 {}
 
-/// Old bytes with a new start begin with that start, and equal it if it is as long; any start of it
-/// is a start of the whole; and the bytes after it are unchanged.
+/// Old bytes with a new start begin with that start, and equal it if it is as long.
 pub fn a_new_front_is_the_front()
     ensures kept { FrontsAreKept }
     ensures whole { WholeFrontsAreAll }
-    ensures nested { FrontsNest }
-    ensures behind { BytesBehindAFrontStay }
 {}
 
 /// Failed decoding leaves the bytes after its blocks unchanged.

@@ -60,15 +60,6 @@ WritesAsOneCall = (decoder : Decoder) (fed written : List ℕ)
     → let digits = digits_in (reading_of decoder) fed in
     PairsSpell (reading_of decoder) fed written × (waiting_in decoder ≡ drop (2 * (length digits / 2)) digits)
 
--- decoders that read alike and were fed the same source, in whatever chunks, have written the same, and
--- the same digit waits
-abbrev pub CuttingsAgree : Type 0
-CuttingsAgree = (decoder other : Decoder) (fed xs ys : List ℕ)
-    → reading_of decoder ≡ reading_of other
-    → HasFed decoder fed xs
-    → HasFed other fed ys
-    → (xs ≡ ys) × (waiting_in decoder ≡ waiting_in other)
-
 -- every decoder has been fed some source, and has written what its digits spell
 abbrev pub DecodersWereFed : Type 0
 DecodersWereFed = (decoder : Decoder) → (fed : List ℕ) × (written : List ℕ) × HasFed decoder fed written

@@ -1,5 +1,5 @@
 -- Facts on digest lists that the definitions imply.
-use Rattle.std.specs.Prelude.{◌≡◌, ℕ, Bool, List, length, map, None}
+use Rattle.std.specs.Prelude.{◌≡◌, ℕ, Bool, List, length, None}
 use Rattle.std.specs.List.{AllByRecursion, AllZip}
 use Rattle.hex_core.specs.declared.digit.CheckCase.{CheckCase}
 use Rattle.hex_core.specs.declared.digit.CheckCase.TheVariants as policy
@@ -7,7 +7,7 @@ use Rattle.hex_core.specs.Digit.{strict}
 use Rattle.hex_core.specs.Laws.{AreBytes}
 use Rattle.hex_io.specs.declared.digests.Entry.{Entry}
 use Rattle.hex_io.specs.declared.digests.LineFault.{LineFault}
-use Rattle.hex_io.specs.Lists.{FirstFault, Lists, first_bad_name, line_of, lines_of, list_of, with_last_newline}
+use Rattle.hex_io.specs.Lists.{FirstFault, Lists, first_bad_name, list_of, with_last_newline}
 
 -- an entry's digest is one of N bytes, as that of each entry in a program is
 abbrev pub HasDigest : {N : ℕ} → Entry N → Type 0
@@ -46,12 +46,6 @@ abbrev pub WritingInvertsStrictReading : Type 0
 WritingInvertsStrictReading = (N : ℕ) (upper : Bool) (s : List ℕ) (entries : List (Entry N))
     → Lists (strict upper) s entries
     → list_of upper entries ≡ with_last_newline s
-
--- and each of its lines as the line that was read
-abbrev pub StrictLinesAreWritten : Type 0
-StrictLinesAreWritten = (N : ℕ) (upper : Bool) (s : List ℕ) (entries : List (Entry N))
-    → Lists (strict upper) s entries
-    → map (line_of upper) entries ≡ lines_of s
 
 -- no name that was read is bad
 abbrev pub ReadNamesAreGood : Type 0

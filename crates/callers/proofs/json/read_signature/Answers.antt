@@ -18,5 +18,5 @@ pub returns-clause-wants : goal.returns-clause-wants
 returns-clause-wants c = λ bytes reads fits.
     let d = view c.args.value.now in
     let bounded = (c.a_bound_refuses_what_is_longer_alone.ensures.bounded wire.nopfx_ignorecase 64 d bytes).1 (reads, fits) in
-    let none = (c.a_value_is_read_where_nothing_is_refused.ensures.list wire.nopfx_ignorecase (Some 64) d).1 (bytes, bounded) in
+    let none = (c.a_value_is_read_where_nothing_is_refused.ensures wire.nopfx_ignorecase (Some 64) d).1 (bytes, bounded) in
     MatchResult-weaker c.deserialize_bounded.result c.deserialize_bounded.ensures (λ v read. tt) (λ e failure. wants d e none failure)

@@ -1,5 +1,5 @@
-use Rattle.hex_core.proofs.LawProofs.{either-lowercased, encoding-lowercases}
+use Rattle.hex_core.proofs.LawProofs.{either-lowercased}
 use Rattle.hex_core.proofs.laws.either_case_is_the_lowercased_source.Goals as goal
 
-pub returns : goal.returns
-returns c = record { same = either-lowercased; text = encoding-lowercases }
+pub returns-clause-same : goal.returns-clause-same
+returns-clause-same c = either-lowercased
