@@ -1,7 +1,8 @@
 -- Sources that come in chunks.
 use Rattle.std.proofs.Common.{◌≡◌, ℕ, ◌+◌, ◌*◌, ◌/◌, ◌^◌, ◌<◌, ◌≤◌, Bool, true, false, List, [], ◌∷◌, ◌++◌, length, length-append}
-use Rattle.std.proofs.Common.{take, drop, take-append-drop, length-drop, ◌-◌, slice_index, is_none, Option, Some, None, refl, sym, ◌∙◌, ap, append_assoc, arith, not}
-use Rattle.std.specs.Prelude.{option_map, IsSome, if◌then◌else◌}
+use Rattle.std.proofs.Common.{take, drop, take-append-drop, length-drop, ◌-◌, slice_index, is_none, Option, Some, None}
+use Rattle.std.proofs.Common.{refl, sym, ◌∙◌, ap, append_assoc, arith, not}
+use Rattle.std.specs.Prelude.{option_map, IsSome}
 use Rattle.std.specs.Option.{ForSome, option_to_list}
 use Rattle.std.proofs.Math.Seq.{drop-append_seam, take-append_seam}
 use Rattle.std.proofs.lemmas.Bool.Decides.{nat_tests}
@@ -22,26 +23,21 @@ use Rattle.hex_core.proofs.PositionLemmas.{before_none, none_joined, position-jo
 use Rattle.hex_core.proofs.SearchLemmas.{none_valid}
 use Rattle.hex_codec.proofs.ListLemmas.{put-behind}
 use Rattle.hex_io.specs.Decoder.{PairsSpell, feed_refusal, pairs_more, refusal_by}
-use Rattle.hex_io.specs.Reading.{SpellsBut, digits_in, first_stray, is_solid, is_stray, spaced, stray_of, unspaced}
+use Rattle.hex_io.specs.Reading.{SpellsBut, digits_in, first_stray, is_solid, is_stray, plain, spaced, stray_of, unspaced}
 use Rattle.hex_io.specs.declared.stream.decoder.Reading.{Reading}
 use Rattle.hex_io.specs.inside.{DecodesChunk, stray_behind}
 
 -- ---- what has to be digits
 
 -- those of sources in a row are joined, and no more than the bytes
-pub digits-joined : (r : Reading) (a b : List ℕ) → digits_in r (a ++ b) ≡ digits_in r a ++ digits_in r b
-digits-joined r a b = by_kind r.skips
-  where
-    by_kind : (t : Bool) → (if t then unspaced (a ++ b) else (a ++ b)) ≡ (if t then unspaced a else a) ++ (if t then unspaced b else b)
-    by_kind true = filter-append is_solid a b
-    by_kind false = refl
+pub digits-joined : (c : CheckCase) (skips : Bool) (a b : List ℕ) → let r : Reading = record { case = c; skips = skips } in
+    digits_in r (a ++ b) ≡ digits_in r a ++ digits_in r b
+digits-joined c true a b = filter-append is_solid a b
+digits-joined c false a b = refl
 
-pub digits-le : (r : Reading) (s : List ℕ) → length (digits_in r s) ≤ length s
-digits-le r s = by_kind r.skips
-  where
-    by_kind : (t : Bool) → length (if t then unspaced s else s) ≤ length s
-    by_kind true = omega (arith, length-filter_both is_solid (λ b. not (is_solid b)) (λ _. refl) s)
-    by_kind false = omega arith
+pub digits-le : (c : CheckCase) (skips : Bool) (s : List ℕ) → length (digits_in (record { case = c; skips = skips }) s) ≤ length s
+digits-le c true s = omega (arith, length-filter_both is_solid (λ b. not (is_solid b)) (λ _. refl) s)
+digits-le c false s = omega arith
 
 pub digits-plain : (r : Reading) (s : List ℕ) → r.skips ≡ false → digits_in r s ≡ s
 digits-plain r s is = rw is refl
@@ -67,12 +63,10 @@ solid-valid c (b ∷ s) valid = by_first (is_solid b) refl (solid-valid c s)
         let all : unspaced (b ∷ s) ≡ unspaced s = rw is refl in
         both (rw is refl) (rest (rw all at valid))
 
-pub none-stray : (r : Reading) (s : List ℕ) → first_invalid r.case (digits_in r s) ≡ None → first_stray r s ≡ None
-none-stray r s = by_kind r.skips
-  where
-    by_kind : (t : Bool) → first_invalid r.case (if t then unspaced s else s) ≡ None → first_stray (record { case = r.case; skips = t }) s ≡ None
-    by_kind true valid = solid-valid r.case s valid
-    by_kind false valid = valid
+pub none-stray : (c : CheckCase) (skips : Bool) (s : List ℕ) → let r : Reading = record { case = c; skips = skips } in
+    first_invalid c (digits_in r s) ≡ None → first_stray r s ≡ None
+none-stray c true s valid = solid-valid c s valid
+none-stray c false s valid = valid
 
 -- ---- single digits
 
@@ -118,11 +112,13 @@ pair-first c high byte (low ∷ tail) bytes v some spelled rest =
     but-joined c (high ∷ low ∷ []) tail (byte ∷ []) bytes [] v (record { valid = valid-spelled c _ _ spelled; pairs = _; parts = refl; spelled = spelled }) rest
 
 -- one digit more of a source with white space
-pub but-more : (c : CheckCase) (front s bytes more v w : List ℕ) (i : ℕ) → i < length s → is_solid (slice_index s i) ≡ true → SpellsBut c (front ++ unspaced (take i s)) bytes v
-    → SpellsBut c (v ++ slice_index s i ∷ []) more w → SpellsBut c (front ++ unspaced (take (i + 1) s)) (bytes ++ more) w
+pub but-more : (c : CheckCase) (front s bytes more v w : List ℕ) (i : ℕ) → i < length s → is_solid (slice_index s i) ≡ true
+    → SpellsBut c (front ++ unspaced (take i s)) bytes v → SpellsBut c (v ++ slice_index s i ∷ []) more w
+    → SpellsBut c (front ++ unspaced (take (i + 1) s)) (bytes ++ more) w
 but-more c front s bytes more v w i inside solid first second =
     let next : unspaced (take (i + 1) s) ≡ unspaced (take i s) ++ slice_index s i ∷ [] = rw (filter_more is_solid s i 0 inside, solid) refl in
-    rw (next, ← append_assoc front (unspaced (take i s)) (slice_index s i ∷ [])) (but-joined c (front ++ unspaced (take i s)) (slice_index s i ∷ []) bytes more v w first second)
+    rw (next, ← append_assoc front (unspaced (take i s)) (slice_index s i ∷ []))
+    (but-joined c (front ++ unspaced (take i s)) (slice_index s i ∷ []) bytes more v w first second)
 
 -- of which there are more than before it
 pub fewer-before : (s : List ℕ) (i : ℕ) → i < length s → is_solid (slice_index s i) ≡ true → length (unspaced (take i s)) < length (unspaced s)
@@ -132,15 +128,13 @@ fewer-before s i inside solid =
     rw (← filter-append is_solid (take (i + 1) s) (drop (i + 1) s), take-append-drop (i + 1) s) refl in
     omega (arith, more, ap length parts, length-append (unspaced (take (i + 1) s)) (unspaced (drop (i + 1) s)))
 
--- and which is valid where no byte is stray
-pub solid-digit : (c : CheckCase) (s : List ℕ) (i : ℕ) → first_stray (spaced c) s ≡ None → i < length s → is_solid (slice_index s i) ≡ true → first_invalid c (slice_index s i ∷ []) ≡ None
-solid-digit c s i none inside solid =
+-- and which is decoded where no byte is stray
+pub solid-read : (c : CheckCase) (s : List ℕ) (i : ℕ) (w : Option ℕ) (old new : List ℕ) (result : Option (Option ℕ)) → first_stray (spaced c) s ≡ None
+    → i < length s → is_solid (slice_index s i) ≡ true → DecodesChunk (plain c) w (slice_index s i ∷ []) old new result → IsSome result
+solid-read c s i w old new (Some more) none inside solid read = refl
+solid-read c s i w old new None none inside solid refused =
     let valid : is_none (value c (slice_index s i)) ≡ false = rw solid at (before_none (is_stray (spaced c)) s none i inside) in
-    rw valid refl
-
-pub chunk-read : (r : Reading) (waiting : Option ℕ) (src old new : List ℕ) (result : Option (Option ℕ)) → first_stray r src ≡ None → DecodesChunk r waiting src old new result → IsSome result
-chunk-read r waiting src old new (Some more) none read = refl
-chunk-read r waiting src old new None none refused = absurd (refused.0 none)
+    absurd (refused.0 (rw valid refl))
 
 -- bytes that are written behind others
 pub put-more : (old dst part xs ys : List ℕ) (n : ℕ) → dst ≡ with_front old xs → n ≡ length xs → part ≡ with_front (take (length dst - n) (drop n dst)) ys
@@ -149,15 +143,17 @@ put-more old dst part xs ys n all is new fits =
     let behind = drop (length xs) old in let rest = drop n dst in
     let put : part ≡ with_front rest ys = new ∙ ap (λ to. with_front to ys) (take_rest dst n) in
     let long : length dst ≡ length xs + length behind = ap length all ∙ length-append xs behind in
-    put-behind n dst part (omega (arith, is, long))
-    (omega (arith, is, long, fits, ap length put, length-append ys (drop (length ys) rest), length-drop (length ys) rest, length-drop n dst, length-drop (length xs) old))
+    let parts = length-append ys (drop (length ys) rest) in let left = length-drop (length ys) rest in
+    let gone = length-drop n dst in let kept = length-drop (length xs) old in
+    put-behind n dst part (omega (arith, is, long)) (omega (arith, is, long, fits, ap length put, parts, left, gone, kept))
     ∙ rw (put, is, all, take-append_seam xs behind, drop-append_seam xs behind, drop-drop (length ys) (length xs) old, length-append xs ys)
     (sym (append_assoc xs ys (drop (length xs + length ys) old)))
 
 -- ---- what a feed refuses
 
 -- the first stray byte behind a source that has none is that of both
-pub stray-behind-all : (r : Reading) (fed src : List ℕ) (had : ℕ) → first_stray r fed ≡ None → had ≡ length fed → stray_behind r had src ≡ stray_of r (fed ++ src)
+pub stray-behind-all : (r : Reading) (fed src : List ℕ) (had : ℕ) → first_stray r fed ≡ None → had ≡ length fed
+    → stray_behind r had src ≡ stray_of r (fed ++ src)
 stray-behind-all r fed src had none is = rw (is, position-joined (is_stray r) fed src, none) (by_first (first_stray r src))
   where
     by_first : (o : Option ℕ) → option_map (λ i. InvalidChar (length fed + i) (slice_index src i)) o
@@ -171,13 +167,13 @@ many-refused all more room bad many = grind (arith, nat_tests, many)
 pub byte-refused : (all more room : ℕ) (bad : Option Error) → all < 2 ^ 64 → more ≤ room → refusal_by all more room bad ≡ bad
 byte-refused all more room bad few fits = grind (arith, nat_tests, few, fits)
 
-pub refused-byte : (r : Reading) (fed src : List ℕ) (room : ℕ) → length fed + length src < 2 ^ 64 → pairs_more (length (digits_in r fed)) (length (digits_in r src)) ≤ room
-    → feed_refusal r fed src room ≡ stray_of r (fed ++ src)
+pub refused-byte : (r : Reading) (fed src : List ℕ) (room : ℕ) → length fed + length src < 2 ^ 64
+    → pairs_more (length (digits_in r fed)) (length (digits_in r src)) ≤ room → feed_refusal r fed src room ≡ stray_of r (fed ++ src)
 refused-byte r fed src room few fits = byte-refused _ _ room _ few fits
 
 -- valid digits have no stray byte among them
 pub none-refused : (r : Reading) (s : List ℕ) → first_invalid r.case (digits_in r s) ≡ None → stray_of r s ≡ None
-none-refused r s valid = rw (none-stray r s valid) refl
+none-refused r s valid = rw (none-stray r.case r.skips s valid) refl
 
 -- ---- all feeds are one
 

@@ -5,7 +5,8 @@
 //! let mut input: &[u8] = b"68656c6C6F";
 //! let mut buffer = [0; 5];
 //! let mut sink = SliceSink::new(&mut buffer);
-//! assert_eq!(rt; decode_stream(&mut input, &mut sink, CheckCase::None), Ok(5));
+//! let written = decode_stream(&mut input, &mut sink, CheckCase::None);
+//! assert_eq!(rt; written, Ok(5));
 //! assert_eq!(rt; sink.written(), b"hello".as_slice());
 //! ```
 

@@ -1,10 +1,10 @@
 -- A decoder may have been fed as many pairs of zeros as it has counted, or white space, and then the digit that waits.
-use Rattle.std.proofs.Common.{◌≡◌, ◌∙◌, arith, ap, ℕ, zero, suc, Bool, true, false, List, [], ◌++◌, ◌-◌, ◌/◌, ◌<◌, replicate, length, length-append, Option, None, Some, refl}
+use Rattle.std.proofs.Common.{◌≡◌, arith, ℕ, zero, suc, Bool, true, false, List, [], ◌++◌, ◌-◌, ◌/◌, ◌<◌, replicate, length, length-append, Option, None, Some, refl}
 use Rattle.std.specs.Prelude.{IsSome}
 use Rattle.std.specs.Option.{ForSome, option_to_list}
 use Rattle.std.proofs.lemmas.Bool.Decides.{nat_tests}
 use Rattle.std.proofs.lemmas.List.{length-replicate}
-use Rattle.std.proofs.lemmas.List.Elements.{All-replicate, filter-append}
+use Rattle.std.proofs.lemmas.List.Elements.{All-replicate}
 use Rattle.hex_core.specs.declared.digit.CheckCase.{CheckCase}
 use Rattle.hex_core.specs.declared.digit.CheckCase.TheVariants as policy
 use Rattle.hex_core.specs.Digit.{value}
@@ -24,18 +24,14 @@ zeros-spelled law policy.None n = (text false (replicate n 0), (law false (repli
 zeros-spelled law policy.Lower n = (text false (replicate n 0), (law false (replicate n 0) (zeros-small n)).0)
 zeros-spelled law policy.Upper n = (text true (replicate n 0), (law true (replicate n 0) (zeros-small n)).0)
 
-blanks-skipped : (n : ℕ) → unspaced (replicate n 32) ≡ []
-blanks-skipped zero = refl
-blanks-skipped (suc n) = blanks-skipped n
+digit-kept : (c : CheckCase) (o : Option ℕ) (blanks : ℕ) → ForSome o (λ d. IsSome (value c d))
+    → unspaced (replicate blanks 32 ++ option_to_list o) ≡ option_to_list o
+digit-kept c o (suc n) read = digit-kept c o n read
+digit-kept c None zero read = refl
+digit-kept c (Some d) zero read = let is = read d refl in let solid : is_solid d ≡ true = grind (arith, nat_tests, is) in rw solid refl
 
-digit-kept : (c : CheckCase) (o : Option ℕ) → ForSome o (λ d. IsSome (value c d)) → unspaced (option_to_list o) ≡ option_to_list o
-digit-kept c None read = refl
-digit-kept c (Some d) read =
-    let is = read d refl in
-    let solid : is_solid d ≡ true = grind (arith, nat_tests, is) in
-    rw solid refl
-
-was-fed : DecodingInvertsEncoding → (decoder : Decoder) (t : Bool) → decoder.reading.skips ≡ t → (fed : List ℕ) × (written : List ℕ) × HasFed decoder fed written
+was-fed : DecodingInvertsEncoding → (decoder : Decoder) (t : Bool) → decoder.reading.skips ≡ t
+    → (fed : List ℕ) × (written : List ℕ) × HasFed decoder fed written
 was-fed law decoder false is =
     let pairs = decoder.position / 2 in
     let zeros = zeros-spelled law decoder.reading.case pairs in
@@ -48,14 +44,13 @@ was-fed law decoder false is =
       ),
     )
 was-fed law decoder true is =
-    let rest = option_to_list decoder.waiting in let blanks = decoder.position - length rest in
-    let digits : unspaced (replicate blanks 32 ++ rest) ≡ rest =
-    filter-append is_solid (replicate blanks 32) rest ∙ ap (λ front. front ++ unspaced rest) (blanks-skipped blanks) ∙ digit-kept decoder.reading.case decoder.waiting decoder.tested in (
-      replicate blanks 32 ++ rest,
+    let w = decoder.waiting in let rest = option_to_list w in let blanks = decoder.position - length rest in
+    let fed = replicate blanks 32 ++ rest in (
+      fed,
       [],
       (
         omega (arith, decoder.counted, length-append (replicate blanks 32) rest, length-replicate {A = ℕ} blanks 32),
-        rw (digits-spaced decoder.reading (replicate blanks 32 ++ rest) is, digits) (spells-none decoder.reading.case decoder.waiting decoder.tested),
+        rw (digits-spaced decoder.reading fed is, digit-kept decoder.reading.case w blanks decoder.tested) (spells-none decoder.reading.case w decoder.tested),
       ),
     )
 

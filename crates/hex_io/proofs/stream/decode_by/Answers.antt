@@ -20,8 +20,9 @@ returns-in-Ok-eq0 g c =
     rw (← c.reads.invariant.0) (
       so_far.0,
       rw append-nil at (Consumes-trans _ _ _ so_far.0 [] so_far.1.3 none),
-      ended-all r (g.R.Read.remaining c.read_again.new.reader) so_far.0 so_far.1.0 c.reads.decoder.waiting (g.S.Sink.state c.args.sink.now) (g.S.Sink.state c.reads.sink)
-          c.ended.result end (none-stray r so_far.0 has.1.valid) has.1 so_far.1.4 (c.ended.ensures so_far.0 so_far.1.0 has so_far.1.2),
+      ended-all r (g.R.Read.remaining c.read_again.new.reader) so_far.0 so_far.1.0 c.reads.decoder.waiting
+          (g.S.Sink.state c.args.sink.now) (g.S.Sink.state c.reads.sink)
+          c.ended.result end (none-stray r.case r.skips so_far.0 has.1.valid) has.1 so_far.1.4 (c.ended.ensures so_far.0 so_far.1.0 has so_far.1.2),
     )
 
 pub returns-in-Err-feed : goal.returns-in-Err-feed
@@ -30,7 +31,7 @@ returns-in-Err-feed g c =
     let piece = take c.in-Ok.count c.read_again.new.buf in
     let size = length-take-le c.in-Ok.count c.read_again.new.buf c.in-Ok.ensures.bound.0 in
     let left = g.R.Read.remaining c.read_again.new.reader in let old = g.S.Sink.state c.args.sink.now in let new = g.S.Sink.state c.reads.sink in
-    let fits : pairs_more (length (digits_in r so_far.0)) (length (digits_in r piece)) ≤ length c.reads.bytes = omega (arith, size, c.in-Ok.ensures.bound.0, digits-le r piece) in
+    let fits : pairs_more (length (digits_in r so_far.0)) (length (digits_in r piece)) ≤ length c.reads.bytes = omega (arith, size, c.in-Ok.ensures.bound.0, digits-le r.case r.skips piece) in
     let result = Err (Codec c.in-Err-feed.refusal) in
     by-reading _ _ _ left old new result c.reads.invariant.0 (
       so_far.0 ++ piece,
@@ -84,4 +85,4 @@ overflow_add-total g c =
     let fed = c.in-Ok-feed.ensures.feeds so_far.0 so_far.1.0 so_far.1.1 in
     let few : length so_far.0 + length piece < 2 ^ 64 = grind (arith, nat_tests, fed.0) in
     let count = count-but r.case (digits_in r (so_far.0 ++ piece)) (so_far.1.0 ++ fed.1.0) c.feed.new.self.waiting fed.1.3.1 in
-    omega (arith, few, count, digits-le r (so_far.0 ++ piece), length-append so_far.0 piece, length-append so_far.1.0 fed.1.0, so_far.1.2, fed.1.1)
+    omega (arith, few, count, digits-le r.case r.skips (so_far.0 ++ piece), length-append so_far.0 piece, length-append so_far.1.0 fed.1.0, so_far.1.2, fed.1.1)

@@ -2,8 +2,8 @@ use Rattle.std.proofs.Common.{rules, tests, arith, ◌≡◌, ◌++◌, ◌∷�
 use Rattle.std.specs.Option.{option_to_list}
 use Rattle.std.proofs.lemmas.List.{take_rest}
 use Rattle.hex_core.proofs.JoinLemmas.{valid-parts}
-use Rattle.hex_io.specs.Reading.{is_solid, plain, unspaced}
-use Rattle.hex_io.proofs.DecoderLemmas.{but-more, chunk-read, count-but, fewer-before, put-more, read-valid, solid-digit}
+use Rattle.hex_io.specs.Reading.{is_solid, unspaced}
+use Rattle.hex_io.proofs.DecoderLemmas.{but-more, count-but, fewer-before, put-more, read-valid, solid-read}
 use Rattle.hex_io.proofs.stream.decoder.decode_spaced.Goals as goal
 
 pub decode_pairs-requires-clause-tested : goal.decode_pairs-requires-clause-tested
@@ -17,15 +17,16 @@ decode_pairs-requires-clause-room c =
     let inside : i < length s = search rules in
     let solid : is_solid (slice_index s i) ≡ true = search rules in
     let count = count-but c.args.case _ so_far.0 c.loop-i.waiting so_far.1 in
+    let size = length-append (option_to_list c.args.waiting) (unspaced (take i s)) in
     rw (take_rest dst c.loop-i.count, length-drop c.loop-i.count dst)
-    (omega (arith, count, fewer-before s i inside solid, length-append (option_to_list c.args.waiting) (unspaced (take i s)), so_far.3, c.requires.room, c.loop-i.auto.dst))
+    (omega (arith, count, fewer-before s i inside solid, size, so_far.3, c.requires.room, c.loop-i.auto.dst))
 
 pub unwrap-waiting-requires : goal.unwrap-waiting-requires
 unwrap-waiting-requires c =
     let s = c.args.src.now in let i = c.loop-i.i in
     let inside : i < length s = search rules in
     let solid : is_solid (slice_index s i) ≡ true = search rules in
-    chunk-read (plain c.args.case) c.loop-i.waiting (slice_index s i ∷ []) _ _ c.decode_pairs.result (solid-digit c.args.case s i c.requires.valid inside solid) c.decode_pairs.ensures
+    solid-read c.args.case s i c.loop-i.waiting _ _ c.decode_pairs.result c.requires.valid inside solid c.decode_pairs.ensures
 
 pub loop-i-preserved : goal.loop-i-preserved
 loop-i-preserved c =

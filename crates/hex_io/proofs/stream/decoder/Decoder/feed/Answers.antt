@@ -10,7 +10,7 @@ returns-in_default-decode-clause-feeds c = λ fed written has.
     let d = c.args.self.now in let src = c.args.src.now in
     refused-byte d.reading fed src (length c.args.dst.now) (omega (arith, has.0, c.in-Some.ensures))
     (omega (arith, count-but d.reading.case (digits_in d.reading fed) written d.waiting has.1, c.digit_count.ensures, c.whole_pairs-required.ensures, c.if-dst-required.false))
-    ∙ sym (stray-behind-all d.reading fed src d.position (none-stray d.reading fed has.1.valid) has.0) ∙ c.error_in.ensures
+    ∙ sym (stray-behind-all d.reading fed src d.position (none-stray d.reading.case d.reading.skips fed has.1.valid) has.0) ∙ c.error_in.ensures
 
 pub invariant_of-self : goal.invariant_of-self
 invariant_of-self c =
@@ -20,7 +20,7 @@ invariant_of-self c =
     let size = length-append (option_to_list d.waiting) (digits_in d.reading src) in
     record {
       tested = read-valid _ _ (valid-parts _ but.pairs _ (rw but.parts at but.valid)).1;
-      counted = omega (arith, d.counted, count, size, digits-le d.reading src, c.in-Some.ensures);
+      counted = omega (arith, d.counted, count, size, digits-le d.reading.case d.reading.skips src, c.in-Some.ensures);
       paired = λ plain. omega (arith, d.paired plain, rw plain at count, rw plain at size, c.in-Some.ensures);
     }
 
@@ -30,7 +30,7 @@ returns-clause-feeds c = λ fed written has.
     let decoded = c.in-Some-decode.ensures in
     let before = count-but r.case (digits_in r fed) written d.waiting has.1 in
     let after = count-but r.case _ decoded.0 c.in-Some-decode.waiting decoded.1 in
-    let joined = rw (← digits-joined r fed src) at (but-joined r.case (digits_in r fed) (digits_in r src) written decoded.0 (option_to_list d.waiting) _ has.1 decoded.1) in (
+    let joined = rw (← digits-joined r.case r.skips fed src) at (but-joined r.case (digits_in r fed) (digits_in r src) written decoded.0 (option_to_list d.waiting) _ has.1 decoded.1) in (
       refused-byte r fed src (length c.args.dst.now) (omega (arith, has.0, c.in-Some.ensures))
           (omega (arith, before, c.digit_count.ensures, c.whole_pairs-required.ensures, c.if-dst-required.false)) ∙ none-refused r (fed ++ src) joined.valid,
       (
