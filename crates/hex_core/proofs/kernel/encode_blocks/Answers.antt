@@ -1,10 +1,7 @@
-use Rattle.std.proofs.Common.{◌≡◌, ◌+◌, ◌*◌, ◌-◌, ◌/◌, ◌∙◌, length, refl, subst, arith}
+use Rattle.std.proofs.Common.{◌≡◌, ◌+◌, ◌*◌, ◌-◌, ◌/◌, ◌∙◌, length, refl, arith}
 use Rattle.hex_core.proofs.BlockLemmas.{block_inside, blocks_past}
-use Rattle.hex_core.proofs.TextBlockLemmas.{Written, written-all, written-more, written-none}
+use Rattle.hex_core.proofs.TextBlockLemmas.{written-all, written-more}
 use Rattle.hex_core.proofs.kernel.encode_blocks.Goals as goal
-
-pub turns-init : goal.turns-init
-turns-init g c = subst (Written c.args.upper c.args.src.now c.args.dst.now) (omega arith) (written-none c.args.upper c.args.src.now c.args.dst.now c.requires.twice)
 
 pub turns-preserved : goal.turns-preserved
 turns-preserved g c =

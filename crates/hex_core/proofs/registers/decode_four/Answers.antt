@@ -10,16 +10,6 @@ returns-then-not-is_small g c =
     c.nibbles_at-first.ensures c.nibbles_at-second.ensures c.nibbles_at-third.ensures c.nibbles_at-last.ensures (omega arith) (omega arith) (omega arith) in
     (iff_false test c.if-not-is_small.true, refl)
 
-pub pack_two-requires : goal.pack_two-requires
-pack_two-requires g c =
-    let small = c.either.ensures.small.0 (c.either-3.ensures.small.0 (c.is_small.ensures.0 c.if-not-is_small.false)).0 in
-    (omega arith, (small.0, (small.1, (omega arith, omega arith))))
-
-pub pack_two-requires-2 : goal.pack_two-requires-2
-pack_two-requires-2 g c =
-    let small = c.either-2.ensures.small.0 (c.either-3.ensures.small.0 (c.is_small.ensures.0 c.if-not-is_small.false)).1 in
-    (omega arith, (small.0, (small.1, (omega arith, omega arith))))
-
 pub returns : goal.returns
 returns g c =
     let case = c.args.case in let s = c.args.src.now in let old = c.args.dst.now in let n = g.row.N in let w = g.row.HALF in let end = length old in

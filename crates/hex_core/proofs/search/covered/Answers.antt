@@ -1,8 +1,8 @@
 use Rattle.std.proofs.Common.{◌≡◌, ◌<◌, ◌≤◌, ◌+◌, ◌-◌, ◌*◌, ◌/◌, ◌%◌, length, refl, sym, ap, ◌∙◌, arith}
 use Rattle.std.proofs.lemmas.Bool.Decides.{nat_tests}
 use Rattle.hex_core.specs.Probe.{ValidIn}
-use Rattle.hex_core.proofs.BlockLemmas.{block_inside, covers_end, covers_failed, covers_whole, valid_range, last_valid, valid_next, whole_valid}
-use Rattle.hex_core.proofs.ProbeLemmas.{adds_none, adds_then, valid_same}
+use Rattle.hex_core.proofs.BlockLemmas.{block_inside, covers_end, covers_failed, covers_whole, valid_range, last_valid, whole_valid}
+use Rattle.hex_core.proofs.ProbeLemmas.{adds_then, valid_same}
 use Rattle.hex_core.proofs.search.covered.Goals as goal
 
 pub returns-then-not-test : goal.returns-then-not-test
@@ -46,26 +46,4 @@ returns-else-len-block-eq0 g c =
         λ none. test.valid.1 (same.1 (λ k low lt. last.1 none k (omega arith) (omega arith))),
       );
       counted = adds_then p (g.P.Probe.state c.turns.p) (g.P.Probe.state c.test-else-len-block-eq0.new.self) 0 c.turns.i 0 1 0 _ refl (covers_end p.policy p.source p.block _ refl c.requires.some rest front ∙ ap (λ n. n + 1) (sym turns)) kept.counted test.counted;
-    }
-
-pub turns-init : goal.turns-init
-turns-init g c = record { valid = λ k low lt. absurd (omega arith); counted = adds_none _ }
-
-pub overflow_mul-i : goal.overflow_mul-i
-overflow_mul-i g c = omega (arith, block_inside c.len-len.result c.block-block.result c.turns.i (omega arith) c.turns-test.true)
-
-pub test-requires-clause-inside : goal.test-requires-clause-inside
-test-requires-clause-inside g c = omega (arith, ap length c.turns.invariant.counted.2.0, block_inside c.len-len.result c.block-block.result c.turns.i (omega arith) c.turns-test.true)
-
-pub test-requires-else-len-block-eq0-clause-inside : goal.test-requires-else-len-block-eq0-clause-inside
-test-requires-else-len-block-eq0-clause-inside g c = omega (arith, ap length c.turns.invariant.counted.2.0)
-
-pub turns-preserved : goal.turns-preserved
-turns-preserved g c =
-    let p = g.P.Probe.state c.args.p.now in
-    let kept = c.turns.invariant in
-    let block : c.block-block.result ≡ p.block = omega arith in
-    record {
-      valid = valid_next p.policy p.source c.turns.i _ kept.valid ((valid_same p (g.P.Probe.state c.turns.p) _ _ kept.counted.2).0 (rw block at (c.test.ensures.valid.0 c.if-not-test.false)));
-      counted = adds_then p (g.P.Probe.state c.turns.p) (g.P.Probe.state c.test.new.self) 0 c.turns.i 0 1 0 _ refl refl kept.counted c.test.ensures.counted;
     }

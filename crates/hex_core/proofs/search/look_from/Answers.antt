@@ -1,6 +1,6 @@
 use Rattle.std.proofs.Common.{◌<◌, is_some, length, refl, sym, ◌∙◌, ap, arith}
 use Rattle.hex_core.proofs.ProbeLemmas.{adds_none, adds_then}
-use Rattle.hex_core.proofs.SearchLemmas.{first_invalid_is, first_invalid_none, looks_ended, looks_found, looks_near, read_along, valid_more}
+use Rattle.hex_core.proofs.SearchLemmas.{first_invalid_is, first_invalid_none, looks_ended, looks_found, looks_near, read_along}
 use Rattle.hex_core.proofs.search.look_from.Goals as goal
 
 pub look-requires-clause-countable : goal.look-requires-clause-countable
@@ -19,15 +19,6 @@ returns-then-not-has_value g c =
     record {
       place = sym here;
       counted = adds_then p (g.P.Probe.state c.loop-i.p) (g.P.Probe.state c.look.new.self) _ 0 1 0 _ _ (omega (arith, looks)) refl kept.counted c.look.ensures.counted;
-    }
-
-pub loop-i-preserved : goal.loop-i-preserved
-loop-i-preserved g c =
-    let p = g.P.Probe.state c.args.p.now in let kept = c.loop-i.invariant in
-    let read = read_along p.policy _ p.source _ c.loop-i.i _ _ refl c.case-case.ensures c.look.ensures.byte kept.counted.2.0 in
-    record {
-      valid = valid_more p.policy p.source c.loop-i.i kept.valid (sym (c.has_value.ensures ∙ ap is_some read) ∙ c.if-not-has_value.false);
-      counted = adds_then p (g.P.Probe.state c.loop-i.p) (g.P.Probe.state c.look.new.self) _ 0 1 0 _ _ (omega arith) refl kept.counted c.look.ensures.counted;
     }
 
 pub returns : goal.returns

@@ -1,12 +1,8 @@
 use Rattle.std.proofs.Common.{◌*◌, ◌/◌, ◌%◌, ◌^◌, arith}
 use Rattle.std.proofs.lemmas.List.{map-id}
-use Rattle.std.proofs.lemmas.Simd.{shifts_fit_splat}
 use Rattle.hex_core.proofs.LaneLemmas.{splat_twice}
 use Rattle.hex_core.proofs.PairLemmas.{nibbles_of_words}
 use Rattle.hex_core.proofs.vector.both_nibbles.Goals as goal
-
-pub overflow_shr-result : goal.overflow_shr-result
-overflow_shr-result c = shifts_fit_splat 16 _ 16 4 (omega arith)
 
 pub returns : goal.returns
 returns c =

@@ -6,9 +6,6 @@ use Rattle.hex_core.proofs.BlockLemmas.{block_inside, blocks_past, blocks_within
 use Rattle.hex_core.proofs.OwnedLemmas.{BlocksDone, all_done, blocks_stored, one_more}
 use Rattle.hex_core.proofs.backend.Backend.decode_each_block.Goals as goal
 
-pub decode_at-requires : goal.decode_at-requires
-decode_at-requires g c = record { room = (omega arith, omega (arith, block_inside (length c.args.dst.now) g.row.SIZE c.turns.i (omega arith) (omega arith))) }
-
 pub turns-preserved : goal.turns-preserved
 turns-preserved g c =
     let at = c.turns.i * g.row.SIZE in
