@@ -1,6 +1,6 @@
 -- What a buffer's front holds of a chunk's digits, and that no chunk is left.
 use Rattle.std.proofs.Common.{◌≡◌, ◌*◌, ◌<◌, ◌≤◌, Bool, ℕ, List, [], ◌∷◌, ◌++◌, length, drop, take, ap, sym, ◌∙◌, arith, append-nil}
-use Rattle.std.specs.Prelude.{Option, Result, Ok, min}
+use Rattle.std.specs.Prelude.{Option, Result, Ok}
 use Rattle.std.proofs.Math.Seq.{take-append_seam}
 use Rattle.hex_core.specs.Calls.{Fills}
 use Rattle.hex_codec.specs.declared.group.Group.{Group}
@@ -22,7 +22,5 @@ filled-front {E} refusal front old new r n is h =
     (size, rw (done.1.3, done.1.1, size) (take-append_seam front (drop (length front) old)))
 
 -- the grouped text of a chunk leaves room for one byte more
-pub leaves-room : (group : Group) (upper : Bool) (bytes : List ℕ) (n room : ℕ) → n ≡ length (grouped group upper bytes)
-    → 0 < length bytes → length bytes ≤ 512 → 3 * min (length bytes) 512 ≤ room → n < room
-leaves-room group upper bytes n room is some few fits =
-    omega (arith, is, fits, length-grouped group upper bytes, len-most (piece_len group) (length bytes) group.is_group.0)
+pub leaves-room : (group : Group) (upper : Bool) (bytes : List ℕ) → 0 < length bytes → length bytes ≤ 512 → length (grouped group upper bytes) < 1536
+leaves-room group upper bytes some few = omega (arith, length-grouped group upper bytes, len-most (piece_len group) (length bytes) group.is_group.0)

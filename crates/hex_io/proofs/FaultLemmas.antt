@@ -13,21 +13,14 @@ use Rattle.hex_io.specs.declared.digests.Entry.{Entry}
 use Rattle.hex_io.specs.declared.digests.LineFault.{LineFault}
 use Rattle.hex_io.specs.Lists.{FirstFault, LineIs, Lists, has_mark, line_fault, mark}
 
--- a source that is accepted has no invalid byte
-all-valid : (c : CheckCase) (s : List ℕ) → source_refusal c s ≡ None → first_invalid c s ≡ None
-all-valid c s h = grind (arith, nat_tests, h)
-
--- a space and a mark stand behind the digits
-marked : (N : ℕ) (line : List ℕ) (binary : Bool) → slice_index line (2 * N) ≡ 32 → slice_index line (2 * N + 1) ≡ mark binary → has_mark N line ≡ true
-marked N line binary space next = grind (arith, nat_tests, space, next)
-
 line-clear : (N : ℕ) (c : CheckCase) (line : List ℕ) (e : Entry N) → (Spells c (take (2 * N) line) e.digest → source_refusal c (take (2 * N) line) ≡ None) → LineIs c line e → line_fault c N line ≡ None
 line-clear N c line e accepts is =
     let long : 2 * N + 3 ≤ length line = omega (arith, ap length is.behind, length-drop (2 * N) line, is.named) in
-    let valid = all-valid c (take (2 * N) line) (accepts is.spelled) in
+    let none = accepts is.spelled in let valid : first_invalid c (take (2 * N) line) ≡ None = grind (arith, nat_tests, none) in
     let space : get_or line (2 * N) 0 ≡ 32 = grind (arith, get_or-drop (2 * N) line 0 0, is.behind) in
     let next : get_or line (2 * N + 1) 0 ≡ mark e.binary = sym (get_or-drop (2 * N) line 1 0) ∙ ap (λ l. get_or l 1 0) is.behind in
-    let mark_at = marked N line e.binary space next in grind (arith, nat_tests, long, valid, mark_at)
+    let mark_at : has_mark N line ≡ true = grind (arith, nat_tests, space, next) in
+    grind (arith, nat_tests, long, valid, mark_at)
 
 -- the entry of a line among others
 entry-of : {N : ℕ} (c : CheckCase) (before : List (List ℕ)) (here : List ℕ) (after : List (List ℕ)) (entries : List (Entry N)) → AllZip (LineIs c) (before ++ here ∷ after) entries → (e : Entry N) × LineIs c here e

@@ -79,19 +79,8 @@ read-more {N} c s rest next line entries here e step none is r = record {
   entries_of = zip-more (LineIs c) r.done entries here e r.entries_of is;
 }
 
--- the next line, where it has a fault, is the first one
-pub fault-here : (N : ℕ) (c : CheckCase) (s rest : List ℕ) (line : ℕ) (entries : List (Entry N)) (here : List ℕ) (after : List (List ℕ)) (why : LineFault)
-    → lines_of rest ≡ here ∷ after → line_fault c N here ≡ Some why → ReadSoFar c s rest line entries → FirstFault c N s line why
-fault-here N c s rest line entries here after why step some r = record
-    { before = r.done; here = here; after = after; lines = rw step at r.lines; clear = r.clear; count = r.count; fault = some }
-
 -- where the lines before one have no fault, and it has none, the first line has none
-clear-first : (c : CheckCase) (n : ℕ) (s : List ℕ) (done : List (List ℕ)) (here : List ℕ) (after : List (List ℕ)) → lines_of s ≡ done ++ here ∷ after
+pub clear-first : (c : CheckCase) (n : ℕ) (s : List ℕ) (done : List (List ℕ)) (here : List ℕ) (after : List (List ℕ)) → lines_of s ≡ done ++ here ∷ after
     → AllByRecursion (λ line. line_fault c n line ≡ None) done → line_fault c n here ≡ None → ReadFailure c n s OutOfMemory
 clear-first c n s [] here after lines clear none = (here, after, lines, none)
 clear-first c n s (line ∷ done) here after lines clear none = (line, done ++ here ∷ after, lines, clear.0)
-
--- where the next line has no fault, the first line has none
-pub clear-here : (N : ℕ) (c : CheckCase) (s rest : List ℕ) (line : ℕ) (entries : List (Entry N)) (here : List ℕ) (after : List (List ℕ))
-    → lines_of rest ≡ here ∷ after → line_fault c N here ≡ None → ReadSoFar c s rest line entries → ReadFailure c N s OutOfMemory
-clear-here N c s rest line entries here after step none r = clear-first c N s r.done here after (rw step at r.lines) r.clear none

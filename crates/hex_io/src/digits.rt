@@ -1,6 +1,6 @@
 //! Puts of digits: the text of some bytes, with separators between pieces if grouped.
 
-ghost use Rattle.std.specs.Prelude.{◌≡◌, ◌-◌, ◌*◌, ◌%◌, ◌^◌, ◌<◌, ◌≤◌, ◌∷◌, ◌++◌, [], IsTrue, if◌then◌else◌, length, min};
+ghost use Rattle.std.specs.Prelude.{◌≡◌, ◌-◌, ◌*◌, ◌%◌, ◌^◌, ◌<◌, ◌≤◌, ◌∷◌, ◌++◌, [], IsTrue, if◌then◌else◌, length};
 ghost use Rattle.std.specs.Str.{IsAscii};
 ghost use Rattle.hex_core.specs.Text.{text};
 ghost use Rattle.hex_codec.specs.Grouped.{grouped, piece_len, separator};
@@ -73,7 +73,8 @@ fn put_grouped<S: Sink>(
 {
     if bytes.len() <= SHORT_SOURCE {
         let mut buffer = [0; 3 * SHORT_SOURCE];
-        return put_part(sink, upper, group, bytes, false, &mut buffer);
+        let end = write_into(bytes, &mut buffer, group, upper).unwrap();
+        return put_all(sink, &buffer[..end]);
     }
     let mut buffer = [0; 3 * ENCODE_CHUNK];
     let size = part_len(group);
@@ -102,11 +103,10 @@ fn put_part<S: Sink>(
     group: Group,
     bytes: &[u8],
     more: bool,
-    buffer: &mut [u8],
+    buffer: &mut [u8; 3 * ENCODE_CHUNK],
 ) -> Result<(), WriteFault>
     requires counts { (S.state sink.old).failures < 2 ^ 64 - 1 }
     requires some { IsTrue more → 0 < length bytes.now }
-    requires room { 3 * min (length bytes.now) ENCODE_CHUNK ≤ length buffer.old }
     requires one { ENCODE_CHUNK < length bytes.now → length bytes.now ≤ piece_len group }
     ensures { Puts (S.state sink.old) (S.state sink.new) result
         (grouped group upper bytes.now ++ (if more then separator group ∷ [] else [])) }

@@ -22,7 +22,11 @@ pub fn line_end(src: &[u8]) -> usize
         }
     }
     let done = LINE_BLOCK * whole;
-    done + line_end_by_bytes(&src[done..])
+    let rest = &src[done..];
+    done + rest
+        .iter()
+        .position(|byte| *byte == b'\n')
+        .unwrap_or(rest.len())
 }
 
 // A mask whose bit i is set if lane i is a newline.
@@ -45,14 +49,4 @@ fn before_newline(src: &[u8], at: usize) -> usize
     } else {
         newlines.trailing_zeros() as usize
     }
-}
-
-// The same as `line_end`, byte by byte.
-fn line_end_by_bytes(src: &[u8]) -> usize
-    ensures end { result ≡ position_or_len (λ b. b == 10) src.now }
-    ensures inside { result ≤ length src.now }
-{
-    src.iter()
-        .position(|byte| *byte == b'\n')
-        .unwrap_or(src.len())
 }

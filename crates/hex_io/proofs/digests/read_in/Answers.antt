@@ -1,17 +1,19 @@
 -- The next line is read, or is the first one with a fault.
 use Rattle.std.proofs.Common.{◌≡◌, [], ◌∷◌, ◌++◌, arith}
-use Rattle.hex_io.proofs.LineLemmas.{clear-here, fault-here, line-at, read-more}
+use Rattle.hex_io.proofs.LineLemmas.{clear-first, line-at, read-more}
 use Rattle.hex_io.proofs.digests.read_in.Goals as goal
 
 pub returns-then-is_err : goal.returns-then-is_err
 returns-then-is_err g c =
     let step = line-at c.args.src.now c.loop-at.at c.line_end-end.result c.loop-at-test.true c.line_end-end.ensures.end in
-    clear-here _ _ _ _ _ _ _ _ step c.in-Ok.ensures.0 c.loop-at.invariant.so_far
+    let so_far = c.loop-at.invariant.so_far in
+    clear-first c.args.case g.row.N c.args.src.now so_far.done _ _ (rw step at so_far.lines) so_far.clear c.in-Ok.ensures.0
 
 pub returns-in-Err : goal.returns-in-Err
 returns-in-Err g c =
     let step = line-at c.args.src.now c.loop-at.at c.line_end-end.result c.loop-at-test.true c.line_end-end.ensures.end in
-    fault-here _ _ _ _ _ _ _ _ c.in-Err.why step c.in-Err.ensures c.loop-at.invariant.so_far
+    let so_far = c.loop-at.invariant.so_far in
+    record { before = so_far.done; here = _; after = _; lines = rw step at so_far.lines; clear = so_far.clear; count = so_far.count; fault = c.in-Err.ensures }
 
 pub loop-at-preserved : goal.loop-at-preserved
 loop-at-preserved g c =

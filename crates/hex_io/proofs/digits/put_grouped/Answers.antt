@@ -5,7 +5,8 @@ use Rattle.std.proofs.lemmas.List.{drop-drop, length-take-le, take_rest}
 use Rattle.hex_codec.specs.declared.group.Group.{Group}
 use Rattle.hex_codec.specs.Grouped.{grouped, piece_len, separator}
 use Rattle.hex_codec.proofs.GroupLemmas.{joined-pieces}
-use Rattle.hex_io.proofs.PutsLemmas.{Puts-err, Puts-then, Stops-stop, Stops-then, Takes-then}
+use Rattle.hex_io.proofs.ChunkFacts.{filled-front}
+use Rattle.hex_io.proofs.PutsLemmas.{Puts-stop, Puts-then, Takes-then}
 use Rattle.hex_io.proofs.digits.put_grouped.Goals as goal
 
 part-next : (group : Group) (upper : Bool) (bytes done whole : List ℕ) (at size : ℕ) → size % piece_len group ≡ 0 → 0 < size → size < length bytes - at
@@ -30,7 +31,7 @@ parts-preserved g c =
     let shown = grouped group upper (take size (drop at bytes)) ++ (separator group ∷ []) in
     let whole = part-next group upper bytes so_far.0 (grouped group upper bytes) at size c.part_len-size.ensures.whole c.part_len-size.ensures.some c.parts-test.true so_far.2 in
     let put = rw (taken at size) at c.in_ok-put_part.ensures in
-    let both = Takes-then (st c.args.sink.now) (st c.parts.sink) (st c.put_part-in-parts.new.sink) so_far.0 shown so_far.1 put in
+    let both = Takes-then (st c.args.sink.now) (st c.parts.sink) (st c.put_part.new.sink) so_far.0 shown so_far.1 put in
     (omega (arith, c.parts-test.true), (so_far.0 ++ shown, both, append_assoc so_far.0 shown (grouped group upper (drop (at + size) bytes)) ∙ whole))
 
 pub returns-in_err-put_part : goal.returns-in_err-put_part
@@ -38,10 +39,13 @@ returns-in_err-put_part g c =
     let st = g.S.Sink.state in let group = c.args.group in let upper = c.args.upper in let bytes = c.args.bytes.now in
     let at = c.parts.at in let size = c.part_len-size.result in let so_far = c.parts.invariant.1 in
     let whole = part-next group upper bytes so_far.0 (grouped group upper bytes) at size c.part_len-size.ensures.whole c.part_len-size.ensures.some c.parts-test.true so_far.2 in
-    let start = st c.args.sink.now in let middle = st c.parts.sink in let end = st c.put_part-in-parts.new.sink in
     let stopped = rw (taken at size) at c.in_err-put_part.ensures in
-    let failed = Stops-then start middle end _ _ so_far.1 (Stops-stop middle end _ (grouped group upper (drop (at + size) bytes)) stopped) in
-    Puts-err start end c.from_residual.result _ c.from_residual.ensures.0 (rw whole at failed)
+    let failed = Puts-stop c.from_residual.result (grouped group upper (drop (at + size) bytes)) c.from_residual.ensures.0 stopped in
+    rw whole at (Puts-then (st c.args.sink.now) (st c.parts.sink) (st c.put_part.new.sink) c.from_residual.result so_far.0 _ so_far.1 failed)
+
+pub returns-then-bytes-le-SHORT_SOURCE : goal.returns-then-bytes-le-SHORT_SOURCE
+returns-then-bytes-le-SHORT_SOURCE g c =
+    rw (filled-front _ (grouped c.args.group c.args.upper c.args.bytes.now) _ _ _ _ c.unwrap-end.ensures c.write_into.ensures).1 at c.put_all.ensures
 
 pub returns : goal.returns
 returns g c =

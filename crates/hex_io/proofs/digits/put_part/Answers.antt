@@ -1,8 +1,7 @@
 -- A part that is longer than a chunk is one piece, whose text is its digits.
-use Rattle.std.proofs.Common.{◌≡◌, ◌+◌, ◌∷◌, [], append-nil, length, take, refl, sym, Bool, true, false, ℕ, arith}
+use Rattle.std.proofs.Common.{◌<◌, ◌≡◌, ◌+◌, ◌∷◌, [], append-nil, length, take, refl, sym, Bool, true, false, ℕ, arith}
 use Rattle.std.specs.Prelude.{if◌then◌else◌}
-use Rattle.std.proofs.Math.ListN.{length-set, set}
-use Rattle.std.proofs.lemmas.List.{length-take-le, take_more_set}
+use Rattle.std.proofs.lemmas.List.{take_more_set}
 use Rattle.hex_codec.specs.Grouped.{grouped}
 use Rattle.hex_codec.proofs.GroupLemmas.{grouped-last}
 use Rattle.hex_io.proofs.ChunkFacts.{filled-front, leaves-room}
@@ -32,22 +31,16 @@ returns-then-not-more g c =
 pub bounds-buffer-end : goal.bounds-buffer-end
 bounds-buffer-end g c =
     let front = filled-front _ (grouped c.args.group c.args.upper c.args.bytes.now) _ _ _ _ c.unwrap-end.ensures c.write_into.ensures in
-    leaves-room c.args.group c.args.upper c.args.bytes.now _ _ front.0 (c.requires.some c.if-not-more.false) (omega arith) (omega (arith, c.requires.room, c.write_into.auto.dst))
+    omega (arith, front.0, leaves-room c.args.group c.args.upper c.args.bytes.now (c.requires.some c.if-not-more.false) (omega arith))
 
-pub slice_bounds-put_all-end-2 : goal.slice_bounds-put_all-end-2
-slice_bounds-put_all-end-2 g c =
+pub shared_ref_as_front-put_all : goal.shared_ref_as_front-put_all
+shared_ref_as_front-put_all g c =
     let front = filled-front _ (grouped c.args.group c.args.upper c.args.bytes.now) _ _ _ _ c.unwrap-end.ensures c.write_into.ensures in
-    let new = c.write_into.new.dst in
-    let size : length (set new c.unwrap-end.result c.sep-2.result) ≡ length new = length-set new c.unwrap-end.result c.sep-2.result in
-    let inside = leaves-room c.args.group c.args.upper c.args.bytes.now _ (length new) front.0 (c.requires.some c.if-not-more.false) (omega arith) (omega (arith, c.requires.room, c.write_into.auto.dst)) in
-    rw size (omega (arith, inside))
-
-pub slice_bounds-put_all-end-3 : goal.slice_bounds-put_all-end-3
-slice_bounds-put_all-end-3 g c = sym (length-take-le (c.unwrap-end.result + 1) _ (slice_bounds-put_all-end-2 g c))
+    omega (arith, front.0, leaves-room c.args.group c.args.upper c.args.bytes.now (c.requires.some c.if-not-more.false) (omega arith))
 
 pub returns : goal.returns
 returns g c =
     let bytes = c.args.bytes.now in let end = c.unwrap-end.result in let new = c.write_into.new.dst in
     let front = filled-front _ (grouped c.args.group c.args.upper bytes) c.args.buffer.now new c.write_into.result end c.unwrap-end.ensures c.write_into.ensures in
-    let inside = leaves-room c.args.group c.args.upper bytes end (length new) front.0 (c.requires.some c.if-not-more.false) (omega arith) (omega (arith, c.requires.room, c.write_into.auto.dst)) in
+    let inside : end < length new = omega (arith, front.0, leaves-room c.args.group c.args.upper bytes (c.requires.some c.if-not-more.false) (omega arith), c.told-buffer, c.write_into.auto.dst) in
     rw c.if-not-more.false (rw (take_more_set new end c.sep-2.result inside, front.1, c.sep-2.ensures) at c.put_all-2.ensures)

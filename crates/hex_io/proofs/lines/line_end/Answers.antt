@@ -1,9 +1,11 @@
 -- The first newline is in a block, or behind it.
-use Rattle.std.proofs.Common.{◌≡◌, ◌+◌, ◌*◌, ◌/◌, ◌<◌, ◌≤◌, ℕ, List, length, drop, arith, ap, ◌∙◌}
+use Rattle.std.proofs.Common.{rules, tests, length-drop, ◌≡◌, ◌+◌, ◌*◌, ◌/◌, ◌<◌, ◌≤◌, ℕ, List, length, drop, arith, ap, ◌∙◌}
 use Rattle.std.specs.List.{position_or_len}
 use Rattle.std.specs.Prelude.{not}
 use Rattle.std.specs.Simd.Lanes.{chunk}
 use Rattle.std.proofs.lemmas.Bool.Decides.{nat_tests}
+use Rattle.std.proofs.lemmas.Iterator.{YieldsList-from_slice}
+use Rattle.std.proofs.lemmas.Iterator.Search.{position_from_yields_List}
 use Rattle.std.proofs.lemmas.List.{take_rest}
 use Rattle.std.proofs.lemmas.List.Folds.{prefix_len-append}
 use Rattle.std.proofs.lemmas.List.Sums.{prefix_len-le-length}
@@ -35,5 +37,8 @@ turns-preserved c =
 
 pub returns-clause-end : goal.returns-clause-end
 returns-clause-end c =
-    let s = c.args.src.now in let all : c.turns.i ≡ length s / 32 = omega arith in
-    omega (arith, rw all at c.turns.invariant, rw (take_rest s (32 * (length s / 32))) at c.line_end_by_bytes.ensures.end)
+    let s = c.args.src.now in let all : c.turns.i ≡ length s / 32 = omega arith in let rest = drop (32 * (length s / 32)) s in
+    let yields = YieldsList-from_slice rest (c.iter.ensures.rest ∙ take_rest s (32 * (length s / 32))) in
+    let found = position_from_yields_List newline _ _ c.position.result c.position.ensures.ran yields (λ x b q k. search (rules, tests)) in
+    let most = prefix_len-le-length (λ b. not (newline b)) rest in
+    grind (arith, nat_tests, rw all at c.turns.invariant, found, c.unwrap_or.ensures, most, length-drop (32 * (length s / 32)) s)
