@@ -33,8 +33,8 @@ bounds-buffer-end g c =
     let front = filled-front _ (grouped c.args.group c.args.upper c.args.bytes.now) _ _ _ _ c.unwrap-end.ensures c.write_into.ensures in
     omega (arith, front.0, leaves-room c.args.group c.args.upper c.args.bytes.now (c.requires.some c.if-not-more.false) (omega arith))
 
-pub shared_ref_as_front-put_all : goal.shared_ref_as_front-put_all
-shared_ref_as_front-put_all g c =
+pub shared_ref_as_front-put_all-2 : goal.shared_ref_as_front-put_all-2
+shared_ref_as_front-put_all-2 g c =
     let front = filled-front _ (grouped c.args.group c.args.upper c.args.bytes.now) _ _ _ _ c.unwrap-end.ensures c.write_into.ensures in
     omega (arith, front.0, leaves-room c.args.group c.args.upper c.args.bytes.now (c.requires.some c.if-not-more.false) (omega arith))
 
