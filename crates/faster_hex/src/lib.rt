@@ -47,6 +47,6 @@ pub use hex_core::{
     Backend, CheckCase, Error, Probe, SliceProbe, backends, covered, digit_value, locate,
 };
 pub use hex_io::{
-    Align, Hex, HexFlags, Sink, SinkFault, SliceSink, WriteFault, WriterSink, digests, format, sink,
-    stream,
+    Align, Hex, HexFlags, Sink, SinkFault, SliceSink, WriteFault, WriterSink, digests, format,
+    sink, stream,
 };

@@ -1,5 +1,5 @@
 -- A source spells one list at most, and where it spells one nothing is refused.
-use Rattle.std.proofs.Common.{◌≡◌, ◌/◌, ◌%◌, ◌*◌, ◌≤◌, ◌<◌, ℕ, List, length, get_or, None, Some, Result, Ok, Err, refl, ap, arith}
+use Rattle.std.proofs.Common.{◌≡◌, ◌/◌, ◌%◌, ◌≤◌, ℕ, List, length, get_or, None, Result, Ok, Err, refl, ap, arith}
 use Rattle.std.proofs.lemmas.Bool.Decides.{nat_tests}
 use Rattle.std.proofs.lemmas.Grind.{same_number_lists}
 use Rattle.hex_core.specs.declared.digit.CheckCase.{CheckCase}

@@ -12,7 +12,7 @@ use Rattle.hex_core.specs.Digit.{strict, value}
 use Rattle.hex_core.specs.Plans.{StoresBlocks, digits_before}
 use Rattle.hex_core.specs.Search.{AllValid, first_invalid}
 use Rattle.hex_core.specs.Text.{Spells, lowercase, text, with_front}
-use Rattle.hex_core.specs.Refusal.{array_refusal, decode_refusal, source_refusal}
+use Rattle.hex_core.specs.Refusal.{source_refusal}
 
 -- every number of the list is a byte
 abbrev pub AreBytes : List ℕ → Type 0

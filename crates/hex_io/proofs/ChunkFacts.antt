@@ -1,5 +1,5 @@
 -- What a buffer's front holds of a chunk's digits, and that no chunk is left.
-use Rattle.std.proofs.Common.{◌≡◌, ◌*◌, ◌<◌, ◌≤◌, Bool, ℕ, List, [], ◌∷◌, ◌++◌, length, drop, take, ap, sym, ◌∙◌, arith, append-nil}
+use Rattle.std.proofs.Common.{◌≡◌, ◌<◌, ◌≤◌, Bool, ℕ, List, [], ◌∷◌, ◌++◌, length, drop, take, ap, sym, ◌∙◌, arith, append-nil}
 use Rattle.std.specs.Prelude.{Option, Result, Ok}
 use Rattle.std.proofs.Math.Seq.{take-append_seam}
 use Rattle.hex_core.specs.Calls.{Fills}

@@ -1,6 +1,6 @@
 -- The lines of a source, and how far it was read.
 use Rattle.std.proofs.Common.{◌≡◌, inl, inr, ℕ, ◌+◌, ◌-◌, ◌<◌, Bool, false, not, refl, ap, ◌∙◌, arith, List}
-use Rattle.std.proofs.Common.{[], ◌∷◌, ◌++◌, length, take, drop, append_assoc, length-drop, None, Some}
+use Rattle.std.proofs.Common.{[], ◌∷◌, ◌++◌, length, take, drop, append_assoc, length-drop, None}
 use Rattle.std.specs.Prelude.{◌==◌}
 use Rattle.std.specs.List.{All, AllByRecursion, AllZip, after_first, before_first, position_or_len, slice_split}
 use Rattle.std.proofs.lemmas.List.{drop-drop, drop_all, length_push, take_all, take_rest}
@@ -9,9 +9,8 @@ use Rattle.std.proofs.lemmas.List.Splits.{length-slice_split, slice_split_first,
 use Rattle.std.proofs.lemmas.List.Sums.{fails_before_first, prefix_len-le-length}
 use Rattle.hex_core.specs.declared.digit.CheckCase.{CheckCase}
 use Rattle.hex_io.specs.declared.digests.Entry.{Entry}
-use Rattle.hex_io.specs.declared.digests.LineFault.{LineFault}
 use Rattle.hex_io.specs.declared.digests.ListFault.TheVariants.{OutOfMemory}
-use Rattle.hex_io.specs.Lists.{FirstFault, LineIs, ReadFailure, line_fault, lines_of, without_empty_end}
+use Rattle.hex_io.specs.Lists.{LineIs, ReadFailure, line_fault, lines_of, without_empty_end}
 
 -- the test of a newline
 abbrev pub newline : ℕ → Bool

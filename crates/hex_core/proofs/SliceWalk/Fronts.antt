@@ -1,5 +1,5 @@
 -- The front of a slice of bytes is lent: the slice is lent as an array, and the array's first bytes as a slice.
-use Rattle.hex_core.proofs.SliceWalk.Kit.{◌≡◌, refl, ap, sym, ℕ, arith, List, [], ◌∷◌, length, MutBor, Ok, Ura, Lifetime, erased, Val, ent, sep, Lft}
+use Rattle.hex_core.proofs.SliceWalk.Kit.{◌≡◌, refl, ap, sym, ℕ, arith, List, [], ◌∷◌, length, MutBor, Ok, Ura, Lifetime, Val, ent, sep, Lft}
 use Rattle.hex_core.proofs.SliceWalk.Kit.{GName, Share, flft, Logic, sem, Item, mean, ‵, ◌⊛◌, ◌$◌, ◌∵◌, given, later, some, !, drop, move, qed, split3}
 use Rattle.hex_core.proofs.SliceWalk.Kit.{fsplit, fjoin, feq_i, use1, use2, await, pick, learn, done, BareSlice, u8, RattleType, MutSlice, Room}
 use Rattle.hex_core.proofs.SliceWalk.Kit.{slice_val, ok_val}

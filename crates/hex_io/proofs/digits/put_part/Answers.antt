@@ -1,5 +1,5 @@
 -- A part that is longer than a chunk is one piece, whose text is its digits.
-use Rattle.std.proofs.Common.{◌<◌, ◌≡◌, ◌+◌, ◌∷◌, [], append-nil, length, take, refl, sym, Bool, true, false, ℕ, arith}
+use Rattle.std.proofs.Common.{◌<◌, ◌≡◌, ◌∷◌, [], append-nil, length, take, refl, Bool, true, false, ℕ, arith}
 use Rattle.std.specs.Prelude.{if◌then◌else◌}
 use Rattle.std.proofs.lemmas.List.{take_more_set}
 use Rattle.hex_codec.specs.Grouped.{grouped}
