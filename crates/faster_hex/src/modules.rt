@@ -1,6 +1,6 @@
-//! Six modules, each of which reads and writes bytes as JSON strings in one format. A module's
-//! example has all its calls. Their errors, in the order of the tests; only the modules named
-//! `withpfx_..` have `InvalidPrefix`:
+//! Six modules, each of which reads and writes bytes as JSON strings in one format. The example of
+//! [`nopfx_lowercase`] has the calls of all. Their errors, in the order of the tests; only the
+//! modules named `withpfx_..` have `InvalidPrefix`:
 //!
 //! Call | Errors
 //! ---|---
@@ -19,18 +19,6 @@ use std::alloc::Global;
 
 /// `0x`, then digits: writes lowercase, accepts both cases. The root of the crate has these calls
 /// too.
-///
-/// ```rust
-/// let value = withpfx_ignorecase::serialize(rt.alloc(), &[0xab, 1])?;
-/// assert_eq!(rt; value.as_str(), Some("0xab01"));
-/// let bytes = withpfx_ignorecase::deserialize(rt.alloc(), &value)?;
-/// assert_eq!(rt; bytes.as_slice(), [0xab, 1].as_slice());
-/// let bounded = withpfx_ignorecase::deserialize_bounded::<2>(rt.alloc(), &value)?;
-/// assert_eq!(rt; bounded.as_slice(), bytes.as_slice());
-/// let value = withpfx_ignorecase::array::serialize(rt.alloc(), &[0xab, 1])?;
-/// let array = withpfx_ignorecase::array::deserialize(&value)?;
-/// assert_eq!(rt; array, [0xab, 1]);
-/// ```
 pub mod withpfx_ignorecase {
     use super::*;
 
@@ -143,19 +131,7 @@ pub mod withpfx_ignorecase {
     }
 }
 
-/// No prefix: writes lowercase, accepts both letter cases.
-///
-/// ```rust
-/// let value = nopfx_ignorecase::serialize(rt.alloc(), &[0xab, 1])?;
-/// assert_eq!(rt; value.as_str(), Some("ab01"));
-/// let bytes = nopfx_ignorecase::deserialize(rt.alloc(), &value)?;
-/// assert_eq!(rt; bytes.as_slice(), [0xab, 1].as_slice());
-/// let bounded = nopfx_ignorecase::deserialize_bounded::<2>(rt.alloc(), &value)?;
-/// assert_eq!(rt; bounded.as_slice(), bytes.as_slice());
-/// let value = nopfx_ignorecase::array::serialize(rt.alloc(), &[0xab, 1])?;
-/// let array = nopfx_ignorecase::array::deserialize(&value)?;
-/// assert_eq!(rt; array, [0xab, 1]);
-/// ```
+/// No prefix, as in `"ab01"`: writes lowercase, accepts both letter cases.
 pub mod nopfx_ignorecase {
     use super::*;
 
@@ -199,19 +175,8 @@ pub mod nopfx_ignorecase {
     }
 }
 
-/// `0x`, then digits: writes and accepts only lowercase. An uppercase letter is an `InvalidChar`.
-///
-/// ```rust
-/// let value = withpfx_lowercase::serialize(rt.alloc(), &[0xab, 1])?;
-/// assert_eq!(rt; value.as_str(), Some("0xab01"));
-/// let bytes = withpfx_lowercase::deserialize(rt.alloc(), &value)?;
-/// assert_eq!(rt; bytes.as_slice(), [0xab, 1].as_slice());
-/// let bounded = withpfx_lowercase::deserialize_bounded::<2>(rt.alloc(), &value)?;
-/// assert_eq!(rt; bounded.as_slice(), bytes.as_slice());
-/// let value = withpfx_lowercase::array::serialize(rt.alloc(), &[0xab, 1])?;
-/// let array = withpfx_lowercase::array::deserialize(&value)?;
-/// assert_eq!(rt; array, [0xab, 1]);
-/// ```
+/// `0x`, then digits, as in `"0xab01"`: writes and accepts only lowercase. An uppercase letter is an
+/// `InvalidChar`.
 pub mod withpfx_lowercase {
     use super::*;
 
@@ -254,7 +219,8 @@ pub mod withpfx_lowercase {
     }
 }
 
-/// No prefix: writes and accepts only lowercase. An uppercase letter is an `InvalidChar`.
+/// No prefix, as in `"ab01"`: writes and accepts only lowercase. An uppercase letter is an
+/// `InvalidChar`.
 ///
 /// ```rust
 /// let value = nopfx_lowercase::serialize(rt.alloc(), &[0xab, 1])?;
@@ -310,19 +276,8 @@ pub mod nopfx_lowercase {
     }
 }
 
-/// `0x`, then digits: writes and accepts only uppercase. A lowercase letter is an `InvalidChar`.
-///
-/// ```rust
-/// let value = withpfx_uppercase::serialize(rt.alloc(), &[0xab, 1])?;
-/// assert_eq!(rt; value.as_str(), Some("0xAB01"));
-/// let bytes = withpfx_uppercase::deserialize(rt.alloc(), &value)?;
-/// assert_eq!(rt; bytes.as_slice(), [0xab, 1].as_slice());
-/// let bounded = withpfx_uppercase::deserialize_bounded::<2>(rt.alloc(), &value)?;
-/// assert_eq!(rt; bounded.as_slice(), bytes.as_slice());
-/// let value = withpfx_uppercase::array::serialize(rt.alloc(), &[0xab, 1])?;
-/// let array = withpfx_uppercase::array::deserialize(&value)?;
-/// assert_eq!(rt; array, [0xab, 1]);
-/// ```
+/// `0x`, then digits, as in `"0xAB01"`: writes and accepts only uppercase. A lowercase letter is an
+/// `InvalidChar`.
 pub mod withpfx_uppercase {
     use super::*;
 
@@ -365,19 +320,8 @@ pub mod withpfx_uppercase {
     }
 }
 
-/// No prefix: writes and accepts only uppercase. A lowercase letter is an `InvalidChar`.
-///
-/// ```rust
-/// let value = nopfx_uppercase::serialize(rt.alloc(), &[0xab, 1])?;
-/// assert_eq!(rt; value.as_str(), Some("AB01"));
-/// let bytes = nopfx_uppercase::deserialize(rt.alloc(), &value)?;
-/// assert_eq!(rt; bytes.as_slice(), [0xab, 1].as_slice());
-/// let bounded = nopfx_uppercase::deserialize_bounded::<2>(rt.alloc(), &value)?;
-/// assert_eq!(rt; bounded.as_slice(), bytes.as_slice());
-/// let value = nopfx_uppercase::array::serialize(rt.alloc(), &[0xab, 1])?;
-/// let array = nopfx_uppercase::array::deserialize(&value)?;
-/// assert_eq!(rt; array, [0xab, 1]);
-/// ```
+/// No prefix, as in `"AB01"`: writes and accepts only uppercase. A lowercase letter is an
+/// `InvalidChar`.
 pub mod nopfx_uppercase {
     use super::*;
 

@@ -1,6 +1,6 @@
 //! Six modules, each of which reads and writes `Option`s in the format of one module of bytes, with `null` for
-//! `None`. `null` has no error. Any other value has the errors of that module, in its order. The example of a
-//! module has all its calls.
+//! `None`. `null` has no error. Any other value has the errors of that module, in its order. The example of
+//! [`option_nopfx_lowercase`] has the calls of all.
 
 ghost use Rattle.std.specs.Prelude.{None, Some, option_map};
 ghost use Rattle.faster_hex.specs.Adapters.{AnswersOptionArrayRead, AnswersOptionRead, AnswersOptionWrite, OptionArrayIsRead};
@@ -11,21 +11,6 @@ use serde_json::Value;
 use std::alloc::Global;
 
 /// `Some` in the format of [`withpfx_ignorecase`](crate::withpfx_ignorecase), and `None` as `null`.
-///
-/// ```rust
-/// let value = option_withpfx_ignorecase::serialize(rt.alloc(), Some(&[0xab, 1]))?;
-/// assert_eq!(rt; value.as_str(), Some("0xab01"));
-/// let bytes = option_withpfx_ignorecase::deserialize(rt.alloc(), &value)?;
-/// assert!(rt; bytes.is_some_and(|bytes| bytes.as_slice() == [0xab, 1].as_slice()));
-/// let bounded = option_withpfx_ignorecase::deserialize_bounded::<2>(rt.alloc(), &value)?;
-/// assert!(rt; bounded.is_some());
-/// let value = option_withpfx_ignorecase::array::serialize(rt.alloc(), Some(&[0xab, 1]))?;
-/// let array = option_withpfx_ignorecase::array::deserialize(&value)?;
-/// assert_eq!(rt; array, Some([0xab, 1]));
-/// let none = option_withpfx_ignorecase::serialize(rt.alloc(), None)?;
-/// assert!(rt; none.is_null());
-/// assert!(rt; option_withpfx_ignorecase::deserialize(rt.alloc(), &none)?.is_none());
-/// ```
 pub mod option_withpfx_ignorecase {
     use super::*;
 
@@ -72,21 +57,6 @@ pub mod option_withpfx_ignorecase {
 }
 
 /// `Some` in the format of [`nopfx_ignorecase`](crate::nopfx_ignorecase), and `None` as `null`.
-///
-/// ```rust
-/// let value = option_nopfx_ignorecase::serialize(rt.alloc(), Some(&[0xab, 1]))?;
-/// assert_eq!(rt; value.as_str(), Some("ab01"));
-/// let bytes = option_nopfx_ignorecase::deserialize(rt.alloc(), &value)?;
-/// assert!(rt; bytes.is_some_and(|bytes| bytes.as_slice() == [0xab, 1].as_slice()));
-/// let bounded = option_nopfx_ignorecase::deserialize_bounded::<2>(rt.alloc(), &value)?;
-/// assert!(rt; bounded.is_some());
-/// let value = option_nopfx_ignorecase::array::serialize(rt.alloc(), Some(&[0xab, 1]))?;
-/// let array = option_nopfx_ignorecase::array::deserialize(&value)?;
-/// assert_eq!(rt; array, Some([0xab, 1]));
-/// let none = option_nopfx_ignorecase::serialize(rt.alloc(), None)?;
-/// assert!(rt; none.is_null());
-/// assert!(rt; option_nopfx_ignorecase::deserialize(rt.alloc(), &none)?.is_none());
-/// ```
 pub mod option_nopfx_ignorecase {
     use super::*;
 
@@ -133,21 +103,6 @@ pub mod option_nopfx_ignorecase {
 }
 
 /// `Some` in the format of [`withpfx_lowercase`](crate::withpfx_lowercase), and `None` as `null`.
-///
-/// ```rust
-/// let value = option_withpfx_lowercase::serialize(rt.alloc(), Some(&[0xab, 1]))?;
-/// assert_eq!(rt; value.as_str(), Some("0xab01"));
-/// let bytes = option_withpfx_lowercase::deserialize(rt.alloc(), &value)?;
-/// assert!(rt; bytes.is_some_and(|bytes| bytes.as_slice() == [0xab, 1].as_slice()));
-/// let bounded = option_withpfx_lowercase::deserialize_bounded::<2>(rt.alloc(), &value)?;
-/// assert!(rt; bounded.is_some());
-/// let value = option_withpfx_lowercase::array::serialize(rt.alloc(), Some(&[0xab, 1]))?;
-/// let array = option_withpfx_lowercase::array::deserialize(&value)?;
-/// assert_eq!(rt; array, Some([0xab, 1]));
-/// let none = option_withpfx_lowercase::serialize(rt.alloc(), None)?;
-/// assert!(rt; none.is_null());
-/// assert!(rt; option_withpfx_lowercase::deserialize(rt.alloc(), &none)?.is_none());
-/// ```
 pub mod option_withpfx_lowercase {
     use super::*;
 
@@ -255,21 +210,6 @@ pub mod option_nopfx_lowercase {
 }
 
 /// `Some` in the format of [`withpfx_uppercase`](crate::withpfx_uppercase), and `None` as `null`.
-///
-/// ```rust
-/// let value = option_withpfx_uppercase::serialize(rt.alloc(), Some(&[0xab, 1]))?;
-/// assert_eq!(rt; value.as_str(), Some("0xAB01"));
-/// let bytes = option_withpfx_uppercase::deserialize(rt.alloc(), &value)?;
-/// assert!(rt; bytes.is_some_and(|bytes| bytes.as_slice() == [0xab, 1].as_slice()));
-/// let bounded = option_withpfx_uppercase::deserialize_bounded::<2>(rt.alloc(), &value)?;
-/// assert!(rt; bounded.is_some());
-/// let value = option_withpfx_uppercase::array::serialize(rt.alloc(), Some(&[0xab, 1]))?;
-/// let array = option_withpfx_uppercase::array::deserialize(&value)?;
-/// assert_eq!(rt; array, Some([0xab, 1]));
-/// let none = option_withpfx_uppercase::serialize(rt.alloc(), None)?;
-/// assert!(rt; none.is_null());
-/// assert!(rt; option_withpfx_uppercase::deserialize(rt.alloc(), &none)?.is_none());
-/// ```
 pub mod option_withpfx_uppercase {
     use super::*;
 
@@ -316,21 +256,6 @@ pub mod option_withpfx_uppercase {
 }
 
 /// `Some` in the format of [`nopfx_uppercase`](crate::nopfx_uppercase), and `None` as `null`.
-///
-/// ```rust
-/// let value = option_nopfx_uppercase::serialize(rt.alloc(), Some(&[0xab, 1]))?;
-/// assert_eq!(rt; value.as_str(), Some("AB01"));
-/// let bytes = option_nopfx_uppercase::deserialize(rt.alloc(), &value)?;
-/// assert!(rt; bytes.is_some_and(|bytes| bytes.as_slice() == [0xab, 1].as_slice()));
-/// let bounded = option_nopfx_uppercase::deserialize_bounded::<2>(rt.alloc(), &value)?;
-/// assert!(rt; bounded.is_some());
-/// let value = option_nopfx_uppercase::array::serialize(rt.alloc(), Some(&[0xab, 1]))?;
-/// let array = option_nopfx_uppercase::array::deserialize(&value)?;
-/// assert_eq!(rt; array, Some([0xab, 1]));
-/// let none = option_nopfx_uppercase::serialize(rt.alloc(), None)?;
-/// assert!(rt; none.is_null());
-/// assert!(rt; option_nopfx_uppercase::deserialize(rt.alloc(), &none)?.is_none());
-/// ```
 pub mod option_nopfx_uppercase {
     use super::*;
 
