@@ -163,11 +163,12 @@ macro_rules! modules {
             pub(super) const FORMAT: WireFormat =
                 WireFormat { prefix: $prefix, case: CheckCase::$case };
 
-            /// Writes the bytes as a string. `as_ref` is called once. Up to 65 bytes take no memory.
+            /// Writes the bytes as a string. Calls `as_ref` once. Allocates nothing for up to 65 bytes.
             ///
             /// # Errors
             ///
-            /// [`Error::Overflow`](crate::Error::Overflow) as the serializer's error, and that of writing.
+            /// [`Error::Overflow`](crate::Error::Overflow) as an error of the serializer, and the
+            /// serializer's own errors.
             ///
             /// # Panics
             ///
@@ -180,12 +181,17 @@ macro_rules! modules {
                 FORMAT.write(data.as_ref(), serializer)
             }
 
-            /// Reads a string and collects its bytes.
+            /// Reads a string, decodes it, and collects the bytes.
             ///
             /// # Errors
             ///
-            /// In this order: what the deserializer refuses, another prefix, an odd number of digits, and
-            /// the first byte that is no digit of the format, whose index counts from the end of the prefix.
+            /// The first that applies:
+            ///
+            /// 1. an error of the deserializer, for example if there is no string;
+            /// 2. `invalid prefix` if the string does not begin with the prefix of the format;
+            /// 3. `invalid length` if an odd number of bytes follows;
+            /// 4. [`Error::InvalidChar`](crate::Error::InvalidChar) with the first byte that is not a digit
+            ///    of the format, and its index from the first digit.
             pub fn deserialize<'de, D, T>(deserializer: D) -> Result<T, D::Error>
             where
                 D: Deserializer<'de>,
@@ -194,11 +200,12 @@ macro_rules! modules {
                 deserialize_bounded::<{ usize::MAX }, D, T>(deserializer)
             }
 
-            /// Reads a string of at most `MAX` bytes and collects them.
+            /// Like [`deserialize`], but for at most `MAX` bytes.
             ///
             /// # Errors
             ///
-            /// Those of [`deserialize`]. More than `MAX` bytes are refused before they are decoded.
+            /// Those of [`deserialize`], and before the last one: more than `MAX` bytes, of which none is
+            /// decoded then.
             pub fn deserialize_bounded<'de, const MAX: usize, D, T>(
                 deserializer: D,
             ) -> Result<T, D::Error>
@@ -209,18 +216,18 @@ macro_rules! modules {
                 FORMAT.read(&Text::deserialize(deserializer)?, MAX)
             }
 
-            /// The same for arrays.
+            /// The same format for arrays: `#[serde(with = "..::array")]`.
             pub mod array {
                 use super::{Deserialize, Deserializer, Text, FORMAT};
 
                 pub use super::serialize;
 
-                /// Reads a string of exactly `N` bytes.
+                /// Reads a string, and decodes it to exactly `N` bytes.
                 ///
                 /// # Errors
                 ///
-                /// Those of [`deserialize`](super::deserialize). Another number of bytes is refused
-                /// before they are decoded.
+                /// Those of [`deserialize`](super::deserialize), and before the last one
+                /// [`Error::LengthMismatch`](crate::Error::LengthMismatch) for another number of bytes.
                 pub fn deserialize<'de, D, const N: usize>(deserializer: D) -> Result<[u8; N], D::Error>
                 where
                     D: Deserializer<'de>,
@@ -230,7 +237,7 @@ macro_rules! modules {
             }
         }
 
-        #[doc = concat!("Optional bytes by [`", stringify!($name), "`](crate::", stringify!($name), ").")]
+        #[doc = concat!("An `Option` of bytes, in the format of [`", stringify!($name), "`](crate::", stringify!($name), ").")]
         ///
         /// ```
         /// use serde::{Deserialize, Serialize};
@@ -250,11 +257,11 @@ macro_rules! modules {
             use super::$name::FORMAT;
             use super::{Deserialize, Deserializer, Serializer, Text, Written};
 
-            /// Writes `Some` as a string, and `None` as the format writes it. `as_ref` is called once.
+            /// Writes `Some` as a string, and `None` as the data format writes it. Calls `as_ref` once.
             ///
             /// # Errors
             ///
-            /// Those of the same call for bytes that are there.
+            /// Those of the module without `option_`.
             ///
             /// # Panics
             ///
@@ -270,11 +277,11 @@ macro_rules! modules {
                 }
             }
 
-            /// Reads an optional string, and collects its bytes if there is one.
+            /// Reads an optional string. If there is one, decodes it and collects the bytes.
             ///
             /// # Errors
             ///
-            /// Those of the same call for bytes that are there. A string that is refused is not `None`.
+            /// Those of the module without `option_`. A string that is refused is an error, not `None`.
             pub fn deserialize<'de, D, T>(deserializer: D) -> Result<Option<T>, D::Error>
             where
                 D: Deserializer<'de>,
@@ -283,11 +290,11 @@ macro_rules! modules {
                 deserialize_bounded::<{ usize::MAX }, D, T>(deserializer)
             }
 
-            /// The same for strings of at most `MAX` bytes.
+            /// Like [`deserialize`], but for at most `MAX` bytes.
             ///
             /// # Errors
             ///
-            /// As [`deserialize`] has them.
+            /// Those of the module without `option_`.
             pub fn deserialize_bounded<'de, const MAX: usize, D, T>(
                 deserializer: D,
             ) -> Result<Option<T>, D::Error>
@@ -299,17 +306,17 @@ macro_rules! modules {
                 text.map(|text| FORMAT.read(&text, MAX)).transpose()
             }
 
-            /// The same for arrays.
+            /// The same format for arrays: `#[serde(with = "..::array")]`.
             pub mod array {
                 use super::{Deserialize, Deserializer, Text, FORMAT};
 
                 pub use super::serialize;
 
-                /// Reads an optional string of exactly `N` bytes.
+                /// Reads an optional string. If there is one, decodes it to exactly `N` bytes.
                 ///
                 /// # Errors
                 ///
-                /// As [`deserialize`](super::deserialize) has them.
+                /// Those of the module without `option_`.
                 pub fn deserialize<'de, D, const N: usize>(
                     deserializer: D,
                 ) -> Result<Option<[u8; N]>, D::Error>
@@ -326,15 +333,15 @@ macro_rules! modules {
 
 modules! {
     withpfx_ignorecase option_withpfx_ignorecase "0x" None "0x12ab"
-        "`0x` and then digits: lowercase is written, either case is read. The crate's root has these calls.";
+        "`0x`, then digits. Writes lowercase, reads either case. The root of the crate has these calls too.";
     nopfx_ignorecase option_nopfx_ignorecase "" None "12ab"
-        "Digits alone: lowercase is written, either case is read.";
+        "Digits without a prefix. Writes lowercase, reads either case.";
     withpfx_lowercase option_withpfx_lowercase "0x" Lower "0x12ab"
-        "`0x` and then digits, in lowercase.";
+        "`0x`, then lowercase digits.";
     nopfx_lowercase option_nopfx_lowercase "" Lower "12ab"
-        "Digits alone, in lowercase.";
+        "Lowercase digits without a prefix.";
     withpfx_uppercase option_withpfx_uppercase "0x" Upper "0x12AB"
-        "`0x` and then digits, in uppercase.";
+        "`0x`, then uppercase digits.";
     nopfx_uppercase option_nopfx_uppercase "" Upper "12AB"
-        "Digits alone, in uppercase.";
+        "Uppercase digits without a prefix.";
 }

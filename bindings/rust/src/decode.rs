@@ -5,7 +5,7 @@ use alloc::{vec, vec::Vec};
 
 use crate::{library, Error};
 
-/// Which letters are digits.
+/// A policy: which letters are digits. `0` to `9` always are.
 ///
 /// ```
 /// use faster_hex::{hex_check_with_case, CheckCase};
@@ -19,13 +19,13 @@ pub enum CheckCase {
     /// `a` to `f` and `A` to `F`, mixed too.
     #[default]
     None,
-    /// `a` to `f` alone.
+    /// Only `a` to `f`.
     Lower,
-    /// `A` to `F` alone.
+    /// Only `A` to `F`.
     Upper,
 }
 
-/// Whether every byte is a digit of either case, whatever the length.
+/// Tests whether every byte is a digit of either case. The source may have any length, also an odd one.
 ///
 /// ```
 /// assert!(faster_hex::hex_check(b"00aBc"));
@@ -36,7 +36,7 @@ pub fn hex_check(src: &[u8]) -> bool {
     hex_check_with_case(src, CheckCase::None)
 }
 
-/// Whether every byte is a digit by a policy, whatever the length.
+/// Tests whether every byte is a digit under a policy. The source may have any length, also an odd one.
 ///
 /// ```
 /// use faster_hex::{hex_check_with_case, CheckCase};
@@ -49,12 +49,16 @@ pub fn hex_check_with_case(src: &[u8], check_case: CheckCase) -> bool {
     library::check(src, check_case)
 }
 
-/// Writes the bytes that digits of either case spell to the front of `dst`, and returns that front.
+/// Decodes digits of either case into the front of `dst`, and returns the bytes there. The rest of `dst` is
+/// unchanged.
 ///
 /// # Errors
 ///
-/// In this order, each of which leaves all of `dst` as it was: [`Error::OddLength`],
-/// [`Error::OutputTooSmall`], [`Error::InvalidChar`].
+/// The first that applies; `dst` is then unchanged:
+///
+/// 1. [`Error::OddLength`] if `src` has an odd length;
+/// 2. [`Error::OutputTooSmall`] if `dst` is shorter than half of `src`;
+/// 3. [`Error::InvalidChar`] with the first byte that is not a digit, and its index in `src`.
 ///
 /// ```
 /// let mut bytes = [0xa5; 4];
@@ -67,11 +71,11 @@ pub fn hex_decode<'a>(src: &[u8], dst: &'a mut [u8]) -> Result<&'a mut [u8], Err
     hex_decode_with_case(src, dst, CheckCase::None)
 }
 
-/// The same by a policy.
+/// Like [`hex_decode`], under a policy for letter case.
 ///
 /// # Errors
 ///
-/// Those of [`hex_decode`], in its order.
+/// Those of [`hex_decode`], in its order. A letter of the wrong case is an invalid byte.
 ///
 /// ```
 /// use faster_hex::{hex_decode_with_case, CheckCase};
@@ -91,11 +95,15 @@ pub fn hex_decode_with_case<'a>(
     Ok(&mut dst[..written])
 }
 
-/// The `N` bytes that digits of either case spell.
+/// Decodes digits of either case to an array of exactly `N` bytes. This needs no buffer and no allocator.
 ///
 /// # Errors
 ///
-/// In this order: [`Error::OddLength`], [`Error::LengthMismatch`], [`Error::InvalidChar`].
+/// The first that applies:
+///
+/// 1. [`Error::OddLength`] if `src` has an odd length;
+/// 2. [`Error::LengthMismatch`] if `src` has not `2 * N` bytes;
+/// 3. [`Error::InvalidChar`] with the first byte that is not a digit, and its index in `src`.
 ///
 /// ```
 /// assert_eq!(faster_hex::hex_decode_array::<3>(b"00aBcD")?, [0, 0xab, 0xcd]);
@@ -107,11 +115,11 @@ pub fn hex_decode_array<const N: usize>(src: &[u8]) -> Result<[u8; N], Error> {
     hex_decode_array_with_case(src, CheckCase::None)
 }
 
-/// The same by a policy.
+/// Like [`hex_decode_array`], under a policy for letter case.
 ///
 /// # Errors
 ///
-/// Those of [`hex_decode_array`], in its order.
+/// Those of [`hex_decode_array`], in its order. A letter of the wrong case is an invalid byte.
 ///
 /// ```
 /// use faster_hex::{hex_decode_array_with_case, CheckCase};
@@ -135,11 +143,14 @@ pub fn hex_decode_array_with_case<const N: usize>(
     Ok(bytes)
 }
 
-/// The bytes that digits of either case spell, in a new vector. Requires the feature `alloc`.
+/// Decodes digits of either case to a new vector, whose capacity is its length. Requires the feature `alloc`.
 ///
 /// # Errors
 ///
-/// In this order: [`Error::OddLength`], before memory is asked for, and [`Error::InvalidChar`].
+/// The first that applies:
+///
+/// 1. [`Error::OddLength`] if `src` has an odd length; nothing was allocated;
+/// 2. [`Error::InvalidChar`] with the first byte that is not a digit, and its index in `src`.
 ///
 /// ```
 /// assert_eq!(faster_hex::hex_decode_vec(b"00aBff")?, [0, 0xab, 0xff]);
@@ -151,11 +162,11 @@ pub fn hex_decode_vec(src: &[u8]) -> Result<Vec<u8>, Error> {
     hex_decode_vec_with_case(src, CheckCase::None)
 }
 
-/// The same by a policy. Requires the feature `alloc`.
+/// Like [`hex_decode_vec`], under a policy for letter case. Requires the feature `alloc`.
 ///
 /// # Errors
 ///
-/// Those of [`hex_decode_vec`], in its order.
+/// Those of [`hex_decode_vec`], in its order. A letter of the wrong case is an invalid byte.
 ///
 /// ```
 /// use faster_hex::{hex_decode_vec_with_case, CheckCase};

@@ -14,12 +14,15 @@ pub(crate) fn encode<'a>(src: &[u8], dst: &'a mut [u8], upper: bool) -> Result<&
     Ok(unsafe { str::from_utf8_unchecked_mut(&mut dst[..written]) })
 }
 
-/// Writes the lowercase digits of `src` to the front of `dst`, and returns that front.
+/// Writes the lowercase digits of `src` into the front of `dst`, two for each byte, and returns them. The rest
+/// of `dst` is unchanged.
 ///
 /// # Errors
 ///
-/// In this order, each of which leaves all of `dst` as it was: [`Error::Overflow`],
-/// [`Error::OutputTooSmall`].
+/// The first that applies; `dst` is then unchanged:
+///
+/// 1. [`Error::Overflow`] if the number of digits exceeds `usize`;
+/// 2. [`Error::OutputTooSmall`] if `dst` is shorter than twice `src`.
 ///
 /// ```
 /// let mut digits = [b'-'; 7];
@@ -32,7 +35,7 @@ pub fn hex_encode<'a>(src: &[u8], dst: &'a mut [u8]) -> Result<&'a mut str, Erro
     encode(src, dst, false)
 }
 
-/// Writes the uppercase digits of `src` to the front of `dst`, and returns that front.
+/// Like [`hex_encode`], in uppercase.
 ///
 /// # Errors
 ///
@@ -51,7 +54,7 @@ pub fn hex_encode_upper<'a>(src: &[u8], dst: &'a mut [u8]) -> Result<&'a mut str
 #[cfg(feature = "alloc")]
 const OVERFLOW: &str = "encoded length overflow";
 
-/// The lowercase digits of `src` in a new string. Requires the feature `alloc`.
+/// Returns the lowercase digits of `src` in a new string. Requires the feature `alloc`.
 ///
 /// # Panics
 ///
@@ -66,7 +69,7 @@ pub fn hex_string(src: &[u8]) -> String {
     new_string(src, false)
 }
 
-/// The uppercase digits of `src` in a new string. Requires the feature `alloc`.
+/// Like [`hex_string`], in uppercase. Requires the feature `alloc`.
 ///
 /// # Panics
 ///
@@ -81,7 +84,8 @@ pub fn hex_string_upper(src: &[u8]) -> String {
     new_string(src, true)
 }
 
-/// Appends the lowercase digits of `src` to `dst`, and returns them. Requires the feature `alloc`.
+/// Appends the lowercase digits of `src` to `dst`, and returns the part that is new. The string grows if its
+/// capacity does not suffice. Requires the feature `alloc`.
 ///
 /// # Panics
 ///
@@ -97,7 +101,7 @@ pub fn hex_append<'a>(src: &[u8], dst: &'a mut String) -> &'a mut str {
     append(src, dst, false)
 }
 
-/// Appends the uppercase digits of `src` to `dst`, and returns them. Requires the feature `alloc`.
+/// Like [`hex_append`], in uppercase. Requires the feature `alloc`.
 ///
 /// # Panics
 ///

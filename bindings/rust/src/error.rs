@@ -2,7 +2,8 @@
 
 use core::fmt;
 
-/// Why nothing was written: the first of what is wrong, in the order that each call names.
+/// Why a call refused its source. If several things are wrong, it is the first in the order that the call
+/// lists.
 ///
 /// ```
 /// use faster_hex::{hex_decode, Error};
@@ -14,31 +15,31 @@ use core::fmt;
 #[derive(Clone, Copy, Debug, PartialEq, Eq, Hash)]
 #[non_exhaustive]
 pub enum Error {
-    /// A byte that is no hex digit, or a letter whose case the policy does not read.
+    /// A byte that is not a hex digit, or a letter in a case that the policy refuses.
     #[non_exhaustive]
     InvalidChar {
-        /// The place of the first such byte in the source, from 0, in bytes.
+        /// The index of the first such byte in the source, from 0.
         index: usize,
         /// That byte.
         byte: u8,
     },
-    /// The destination does not hold the whole output.
+    /// The destination is shorter than the output.
     #[non_exhaustive]
     OutputTooSmall {
-        /// How many bytes the whole output takes.
+        /// The length of the output, in bytes.
         required: usize,
     },
-    /// An array's source decodes to another number of bytes than the array has.
+    /// The source of an array has not two digits for each of its bytes.
     #[non_exhaustive]
     LengthMismatch {
-        /// How many bytes the array has.
+        /// The length of the array, in bytes.
         expected: usize,
-        /// How many bytes the source would decode to.
+        /// Half the length of the source.
         actual: usize,
     },
-    /// The source has an odd number of bytes, so its last digit has no partner.
+    /// The source has an odd length, so the last digit has no partner.
     OddLength,
-    /// The length of the whole output is no `usize`.
+    /// The length of the output exceeds `usize`.
     Overflow,
 }
 

@@ -10,7 +10,8 @@ const SHORT: usize = 64;
 /// How many bytes of a longer one are encoded at a time.
 const CHUNK: usize = 512;
 
-/// Bytes that print as their digits, lowercase by `{}` and `{:x}`, uppercase by `{:X}`.
+/// A view of bytes that prints them as digits: lowercase by `{}` and `{:x}`, uppercase by `{:X}`. It borrows
+/// the bytes, and allocates nothing.
 ///
 /// The flags are those of an integer: `#` for the prefix `0x`, `+`, a width with fill and alignment,
 /// `0`. Precision and `-` are not read.

@@ -1,5 +1,5 @@
-//! The calls of the Rust crate `faster-hex` 1.0.0, under its names and signatures: what decodes, encodes and
-//! tests here is proved.
+//! Turns bytes into hex digits and back: the calls of the Rust crate `faster-hex` 1.0.0, with its names and
+//! signatures. The code that tests, encodes and decodes is proved; the Rust around it is not.
 //!
 //! ```
 //! use faster_hex::{hex_decode, hex_encode};
@@ -13,10 +13,80 @@
 //! # Ok::<(), faster_hex::Error>(())
 //! ```
 //!
-//! Strings and vectors require the feature `alloc`, which `std`, the default, brings along. With the
-//! feature `serde`, `#[serde(with = "faster_hex::nopfx_lowercase")]` on a field writes bytes as text and
-//! reads them, as eleven other modules and the crate's root do in their formats. README.md lists what the
-//! original has and this crate leaves out.
+//! # Which call
+//!
+//! | You want | Call |
+//! |---|---|
+//! | digits in a buffer | [`hex_encode`], [`hex_encode_upper`] |
+//! | bytes in a buffer | [`hex_decode`], [`hex_decode_with_case`] |
+//! | bytes in an array of a known length | [`hex_decode_array`], [`hex_decode_array_with_case`] |
+//! | to print bytes as digits, with a width or `0x` | [`Hex`], by `{}`, `{:x}` or `{:X}` |
+//! | to test digits, without decoding them | [`hex_check`], [`hex_check_with_case`] |
+//! | digits in a new string (`alloc`) | `hex_string`, `hex_string_upper` |
+//! | digits behind a string that you have (`alloc`) | `hex_append`, `hex_append_upper` |
+//! | bytes in a new vector (`alloc`) | `hex_decode_vec`, `hex_decode_vec_with_case` |
+//! | a field of a `serde` type (`serde`) | the modules below |
+//!
+//! A call on digits takes both letter cases, mixed too. A call `_with_case` takes a [`CheckCase`], which can
+//! ask for one of them.
+//!
+//! # What the calls do
+//!
+//! - Each byte becomes two digits, in the order of the bytes. Leading zeros stay: the digits are no number.
+//! - Decoding takes all of its source: an even number of digits. It refuses `0x`, white space, separators and
+//!   everything else that is not a digit. A test before it is not needed.
+//! - No bytes and no digits are valid.
+//! - A refusal is an [`Error`]. If several things are wrong, the call names the first in the order that its
+//!   page lists. [`hex_check`] looks at the digits alone, so it accepts an odd number of them.
+//!
+//! # Who owns what
+//!
+//! A call on a buffer borrows the source only while it runs. It writes to the front of the buffer, leaves the
+//! rest unchanged, and returns the part that it wrote. That part borrows the buffer, not the source. After an
+//! error the whole buffer is unchanged.
+//!
+//! New strings and vectors are yours. Each takes one allocation, and none if it is empty.
+//! Appending keeps what the string has, grows it if needed, and returns the new part; to append often, reserve
+//! first. If memory runs out, the allocator decides, as it does for a `Vec`: there is no [`Error`] for that.
+//!
+//! # Features
+//!
+//! | Feature | What it adds |
+//! |---|---|
+//! | none | calls on buffers and arrays, [`Hex`], [`Error`]; no dependency, no allocator, `no_std` |
+//! | `alloc` | strings and vectors |
+//! | `std`, the default | `alloc`, and the standard library |
+//! | `serde` | `alloc`, and the modules below; it works without `std` |
+//!
+//! # Modules for `serde`
+//!
+//! A module stands behind `with` at a field: `#[serde(with = "faster_hex::nopfx_lowercase")]`. The bytes become
+//! a string in every data format, also in binary ones.
+//!
+//! | Module | Prefix | Writes | Reads |
+//! |---|---|---|---|
+//! | `withpfx_ignorecase`, and the root, `faster_hex` | `0x` | lowercase | either case |
+//! | `nopfx_ignorecase` | none | lowercase | either case |
+//! | `withpfx_lowercase` | `0x` | lowercase | lowercase |
+//! | `nopfx_lowercase` | none | lowercase | lowercase |
+//! | `withpfx_uppercase` | `0x` | uppercase | uppercase |
+//! | `nopfx_uppercase` | none | uppercase | uppercase |
+//!
+//! - The prefix is `0x`, never `0X`, and a module with a prefix requires it.
+//! - `option_` before a name is for `Option`. `None` stays apart from no bytes. For a field that may be missing
+//!   add `default`: `#[serde(default, with = "faster_hex::option_nopfx_lowercase")]`.
+//! - `array` inside a module is for arrays: `#[serde(with = "faster_hex::nopfx_lowercase::array")]`.
+//! - Other fields are collected by `FromIterator<u8>`, as a `Vec<u8>` is. `deserialize_bounded` refuses a
+//!   longer value before it decodes. It bounds the bytes, not what the data format or your type allocates.
+//!
+//! # Platforms
+//!
+//! Linux on x86-64 and aarch64; on others the crate does not compile. On x86-64 the first call asks the
+//! processor which of three builds runs: for x86-64, x86-64-v2 or x86-64-v3, which uses AVX2. On aarch64 there
+//! is one, with NEON. Which build runs changes the speed alone. Rust 1.81 or later. Miri runs no assembly, so
+//! it cannot run this crate. Several versions of it, and the library for C, may stand in one program.
+//!
+//! The README beside it says how it takes the place of `faster-hex`, and what that crate has and this one not.
 #![no_std]
 #![warn(missing_docs)]
 
