@@ -1,11 +1,9 @@
 // Times this repository's calls and others', all in turn in one run, and prints the least time of each in
-// nanoseconds: a line of the table, the call, the number of bytes and the time, with tabs between them.
-// First it checks that each call answers what it should.
-// bench/run writes the list of calls, calls.h. It compiles with -DRUST where the Rust crate is linked, and
-// then with KERNEL, the name of that crate's kernel whose vectors are as wide as this build's.
+// nanoseconds: a line of the table, the call, the number of bytes and the time, with tabs between them. First it
+// checks the answers. bench/run writes the list of calls, calls.h, and tells KERNEL, the name of the Rust crate's
+// kernel whose vectors are as wide as this build's.
 // Usage: bench [sweep | shared]. A sweep times three calls at many lengths, and `shared` those of the shared
 // library beside the Rust crate's public ones.
-#include <malloc.h>
 #include <stdbool.h>
 #include <stdint.h>
 #include <stdio.h>
@@ -22,28 +20,15 @@
 #define PAGE 4096
 #define ROUNDS 12
 #define TURNS_NS 30000
-#define LARGEST 1048576
+#define LARGEST 65536
 #define OLD 0xa5
 #define MOST_SIZES 160
 
-// A digest list has so many lines of so many digits.
-#define LINES 100000
-#define DIGITS 64
-
 enum mode { ALL, SWEEP, SHARED };
-enum kind { CHECK, ENCODE, DECODE, WRITE, READ, CHUNKS, LIST, NEW_LIST, KINDS };
+enum kind { CHECK, ENCODE, DECODE, WRITE, READ, KINDS };
 
-// The lengths in decoded bytes, which a sweep puts its own in place of; those that are decoded in chunks,
-// and of a list those of its names.
-static size_t plain_sizes[MOST_SIZES + 1] = {6, 8, 16, 20, 32, 64, 72, 100, 150, 256, 1024, 4096, 65536};
-static const size_t chunk_sizes[] = {8, 16, 32, 64, 256, 1024, 4096, 65536, LARGEST, 0};
-static const size_t name_sizes[] = {1, 16, 64, 0};
-
-static const size_t *sizes_of(enum kind kind) {
-    return kind == CHUNKS ? chunk_sizes
-        : kind >= LIST ? name_sizes
-        : plain_sizes;
-}
+// The lengths in decoded bytes, which a sweep puts its own in place of.
+static size_t sizes[MOST_SIZES + 1] = {6, 8, 64, 256, 4096, LARGEST};
 
 struct task {
     const uint8_t *src;
@@ -129,20 +114,6 @@ static size_t every_of(const struct call *call) {
     return strtoul(call->plan + 3, NULL, 10);
 }
 
-// A list as sha256sum prints it, whose names are so long.
-static struct task list(size_t name_len) {
-    static uint8_t text[LINES * (DIGITS + 2 + 64 + 1)];
-    uint8_t *at = text;
-    for (size_t line = 0; line < LINES; line++) {
-        memcpy(at, lower + line % (LARGEST / DIGITS) * DIGITS, DIGITS);
-        memset(at + DIGITS, ' ', 2);
-        memset(at + DIGITS + 2, 'a' + line % 26, name_len);
-        at += DIGITS + 2 + name_len;
-        *at++ = '\n';
-    }
-    return (struct task){text, at - text, out, 0};
-}
-
 // The text in both cases in pieces. Those of fewer bytes are its fronts.
 static struct task grouped(size_t every, size_t size) {
     static uint8_t texts[17][3 * LARGEST];
@@ -157,8 +128,6 @@ static struct task task_of(const struct call *call, size_t size) {
     case ENCODE: return (struct task){bytes, size, out, 2 * size};
     case WRITE: return (struct task){bytes, size, out, 3 * size};
     case READ: return grouped(every_of(call), size);
-    case LIST:
-    case NEW_LIST: return list(size);
     default: return (struct task){mixed, 2 * size, out, size};
     }
 }
@@ -172,20 +141,14 @@ static bool is_right(const struct call *call, size_t size) {
     switch (call->kind) {
     case CHECK: return answer == 1;
     case ENCODE: return answer == 2 * size && !memcmp(out, lower, answer);
-    case LIST:
-    case NEW_LIST: return answer == LINES;
     case WRITE: return answer == group(wanted, lower, size, every_of(call)) && !memcmp(out, wanted, answer);
     default: return answer == size && !memcmp(out, bytes, size);
     }
 }
 
-// The nanoseconds of some calls in a row. The C library keeps what a list in new memory frees for the next
-// one, unless it is told to give it back.
+// The nanoseconds of some calls in a row.
 static double spent(const struct call *call, const struct task *task, long turns) {
     struct timespec start, end;
-    if (call->kind == NEW_LIST) {
-        malloc_trim(0);
-    }
     clock_gettime(CLOCK_MONOTONIC, &start);
     sink = call->loop(task, turns);
     clock_gettime(CLOCK_MONOTONIC, &end);
@@ -203,7 +166,7 @@ static void measure(enum kind kind, size_t at_size, size_t place) {
     for (size_t at = 0; at < CALLS; at++) {
         if (calls[at].kind == kind && !is_left_out[at]) {
             order[count++] = at;
-            tasks[at] = task_of(&calls[at], sizes_of(kind)[at_size]);
+            tasks[at] = task_of(&calls[at], sizes[at_size]);
             tasks[at].dst += place;
             turns[at] = 1;
             while (spent(&calls[at], &tasks[at], turns[at]) < TURNS_NS) {
@@ -237,7 +200,7 @@ static void measure_below(size_t bytes, enum kind kind, size_t at_size) {
 }
 
 static void check(const struct call *call) {
-    for (const size_t *size = sizes_of(call->kind); *size; size++) {
+    for (const size_t *size = sizes; *size; size++) {
         if (!is_right(call, *size)) {
             fprintf(stderr, "%s %s %s gives something else than it should on %zu bytes\n", call->side,
                 call->plan, call->name, *size);
@@ -255,7 +218,7 @@ static void run(int passes) {
     }
     for (int pass = 0; pass < passes; pass++) {
         for (enum kind kind = 0; kind < KINDS; kind++) {
-            for (size_t at = 0; sizes_of(kind)[at]; at++) {
+            for (size_t at = 0; sizes[at]; at++) {
                 measure_below(PLACE * (pass + 1), kind, at);
             }
         }
@@ -266,7 +229,6 @@ static void run(int passes) {
 static void print(const char *table) {
     for (size_t at = 0; at < CALLS; at++) {
         const struct call *call = &calls[at];
-        const size_t *sizes = sizes_of(call->kind);
         for (size_t size = 0; sizes[size] && !is_left_out[at]; size++) {
             printf("%s\t%s %s %s\t%zu\t%.2f\n", table ? table : call->table, call->side, call->plan,
                 call->name, sizes[size], least[at][size]);
@@ -280,19 +242,17 @@ static void set_swept_sizes(void) {
     static const size_t more[] = {384, 512, 1024, 2048, 4096, 8192, 16384, 65536};
     size_t count = 0;
     for (size_t size = 1; size <= 320; size += size < 64 ? 1 : size < 160 ? 2 : 4) {
-        plain_sizes[count++] = size;
+        sizes[count++] = size;
     }
-    memcpy(plain_sizes + count, more, sizeof more);
+    memcpy(sizes + count, more, sizeof more);
 }
 
 // Leaves out the kernels that the processor does not run, and what is not of the mode.
 static void leave_out(enum mode mode) {
+    bool rust_has(const char *name);
     for (size_t at = 0; at < CALLS; at++) {
-        is_left_out[at] = (calls[at].modes & mode) != mode;
-#ifdef RUST
-        bool rust_has(const char *name);
-        is_left_out[at] |= !strcmp(calls[at].side, "rust") && !rust_has(calls[at].plan);
-#endif
+        bool is_missing = !strcmp(calls[at].side, "rust") && !rust_has(calls[at].plan);
+        is_left_out[at] = is_missing || (calls[at].modes & mode) != mode;
     }
 }
 
@@ -304,9 +264,7 @@ int main(int count, char **words) {
     }
     leave_out(mode);
     run(mode == SWEEP ? SWEEP_PASSES : PASSES);
-#ifdef RUST
     printf("# kernel %s\n", KERNEL);
-#endif
     print(mode == SWEEP ? "SWEEP" : NULL);
     return 0;
 }

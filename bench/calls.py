@@ -1,23 +1,13 @@
 """The calls that bench/run times, and the exported functions by which bench.c makes them. A function is given
-a source and a destination, and answers how many bytes it wrote, or entries it read; a test answers 1, and
-whatever is refused 0."""
+a source and a destination, and answers how many bytes it wrote; a test answers 1, and whatever is refused 0."""
 import collections
 
-# Of each call what it works on, its plan or crate, its name, what its answer is, and its words. First those
-# that are compiled alone each, as in a program that makes no other call.
+# Of each call what it works on, its plan or crate, its name, what its answer is, and its words. These are
+# compiled alone each, as in a program that makes no other call.
 ALONE = """
 CHECK plain check test hex_check(src)
 ENCODE plain encode count hex_encode_into(src, dst, false)
 DECODE plain decode count hex_decode_into(src, dst, CheckCase::None)
-"""
-PLAIN = """
-CHECK plain first_invalid place Backend::plain().first_invalid(src, CheckCase::None)
-ENCODE plain write_to number put(src, dst)
-DECODE plain decode_owned whole Backend::plain().decode_owned(src, dst, CheckCase::None)
-CHUNKS by_all decode count hex_decode_into(src, dst, CheckCase::None)
-CHUNKS by_chunk feed number fed(src, dst, 65536)
-LIST lists read list digests::read::<32>(alloc, src, CheckCase::None)
-NEW_LIST lists read_anew list digests::read::<32>(alloc, src, CheckCase::None)
 """
 # In pieces of so many bytes.
 GROUPED = """
@@ -29,31 +19,16 @@ CHECK {plan} check test {value}.check(src, CheckCase::None)
 ENCODE {plan} encode fixed {value}.encode(src, dst, false)
 DECODE {plan} decode whole {value}.decode(src, dst, CheckCase::None)
 """
-KERNEL = PLAN + "DECODE {plan} decode_owned whole {value}.decode_owned(src, dst, CheckCase::None)"
-# Of crates with the Rust crate's names, and of others.
+# Of crates with the Rust crate's names.
 SLICES = """
 CHECK {plan} check test {value}::hex_check(src)
 ENCODE {plan} encode list {value}::hex_encode(src, dst)
 DECODE {plan} decode list {value}::hex_decode(src, dst)
 """
-PEERS = {
-    "hex": """
-ENCODE hex encode whole ::hex::encode_to_slice(src, dst).is_ok()
-DECODE hex decode whole ::hex::decode_to_slice(src, dst).is_ok()
-""",
-    "data_encoding": """
-ENCODE data_encoding encode fixed ::data_encoding::HEXLOWER_PERMISSIVE.encode_mut(src, dst)
-DECODE data_encoding decode count ::data_encoding::HEXLOWER_PERMISSIVE.decode_mut(src, dst)
-""",
-}
 # Of loops.c.
 LOOPS = """
 WRITE by_{n} write number write_by(src, len, dst, {n})
 READ by_{n} read number read_by(src, len, dst, {n})
-"""
-LIST_LOOPS = """
-LIST lists read number read_list(src, len)
-NEW_LIST lists keep number keep_list(src, len)
 """
 SHARED = """
 CHECK shared check number check(src, len)
@@ -61,11 +36,10 @@ ENCODE shared encode number encode(src, len, dst, room, false).number
 DECODE shared decode number decode(src, len, dst, room).number
 """
 PLANS = "scalar sse41 avx2 avx512 neon".split()
-PIECES = 1, 2, 4, 8, 16
+PIECES = 1, 16
 
 ANSWERS = {
     "test": "{} as usize",
-    "place": "match {} {{ Some(_) => 0, None => 1 }}",
     "list": "match {} {{ Ok(list) => list.len(), Err(_) => 0 }}",
     "count": "{}.unwrap_or(0)",
     "number": "{}",
@@ -79,7 +53,7 @@ FITS = {
 }
 RATTLE = """
 #[unsafe(no_mangle)]
-pub extern "C" fn {name}({alloc}src: &[u8], dst: &mut [u8]) -> usize {fits}{{
+pub extern "C" fn {name}(src: &[u8], dst: &mut [u8]) -> usize {fits}{{
     {body}
 }}
 """
@@ -104,9 +78,8 @@ class Call(collections.namedtuple("Call", "kind side plan name answer words")):
 
     def exported(self, form):
         """The exported function of the call, in Rattle, Rust or C."""
-        alloc = "alloc: Global, " if "alloc" in self.words else ""
         body, fits = ANSWERS[self.answer].format(self.words), FITS.get(self.answer, "")
-        return form.format(name=self.symbol(), alloc=alloc, fits=fits, body=body)
+        return form.format(name=self.symbol(), fits=fits, body=body)
 
 
 def calls(side, table, **words):
@@ -117,8 +90,7 @@ def calls(side, table, **words):
 
 def own_calls():
     """Those of this repository's libraries for Rattle."""
-    found = calls("own", ALONE + PLAIN)
-    found += [it for n in PIECES for it in calls("own", GROUPED, n=n)]
+    found = calls("own", ALONE) + [it for n in PIECES for it in calls("own", GROUPED, n=n)]
     for index, plan in enumerate(PLANS):
         found += calls("own", PLAN, plan=plan, value=f"backends()[{index}]")
     return found
@@ -128,13 +100,13 @@ def rust_calls():
     """Those of the Rust crate: its public ones, and those of each of its kernels."""
     found = calls("rust", SLICES, plan="public", value="crate")
     for plan in PLANS[:4]:
-        found += calls("rust", KERNEL, plan=plan, value=f"Backend(Kind::{plan.capitalize()})")
+        found += calls("rust", PLAN, plan=plan, value=f"Backend(Kind::{plan.capitalize()})")
     return found
 
 
 def c_calls(is_shared):
     """The loops in C, and the calls of the shared library."""
-    found = calls("c", LIST_LOOPS) + [it for n in PIECES for it in calls("c", LOOPS, n=n)]
+    found = [it for n in PIECES for it in calls("c", LOOPS, n=n)]
     return found + (calls("c", SHARED) if is_shared else [])
 
 

@@ -1,13 +1,12 @@
-// The loops that a user would have written: for grouped digits one that writes, by two look-ups a byte and
-// a separator between two pieces, and for reading one that tests all and one that stores; and for digest
-// lists one that finds each line's end by `memchr`. Then the calls of the shared library. bench/run writes
-// the functions that make them, c_calls.h, where the number of bytes of a piece is a constant.
+// The loops that a user would have written for grouped digits: one that writes, by two look-ups a byte and a
+// separator between two pieces, and for reading one that tests all and one that stores. Then the calls of the
+// shared library. bench/run writes the functions that make them, c_calls.h, where the number of bytes of a piece
+// is a constant.
 #include <stdbool.h>
 #include <stddef.h>
 #include <stdint.h>
 #include <stdio.h>
 #include <stdlib.h>
-#include <string.h>
 
 #define INLINE static inline __attribute__((always_inline))
 
@@ -73,51 +72,6 @@ INLINE size_t read_by(const uint8_t *src, size_t len, uint8_t *dst, size_t every
         }
     }
     return to - dst;
-}
-
-#define DIGEST 32
-
-// As large as an entry of `digests::read`.
-struct entry {
-    uint8_t digest[DIGEST];
-    const uint8_t *name;
-    size_t name_len;
-    bool binary;
-};
-
-size_t own_plain_decode(const uint8_t *src, size_t len, uint8_t *dst, size_t room);
-
-// Writes an entry for each line, each so many behind the one before it, and answers how many there are.
-static size_t entries_of(const uint8_t *at, const uint8_t *end, struct entry *entry, size_t step) {
-    const uint8_t *newline;
-    size_t lines = 0;
-    while ((newline = memchr(at, '\n', end - at)) != NULL) {
-        if (newline - at < 2 * DIGEST + 2
-            || own_plain_decode(at, 2 * DIGEST, entry->digest, DIGEST) != DIGEST) {
-            return 0;
-        }
-        entry->name = at + 2 * DIGEST + 2;
-        entry->name_len = newline - entry->name;
-        entry->binary = entry->name[-1] == '*';
-        entry += step;
-        at = newline + 1;
-        lines++;
-    }
-    return lines;
-}
-
-// Keeps no entry: each is written over the one before it.
-static size_t read_list(const uint8_t *src, size_t len) {
-    struct entry entry;
-    return entries_of(src, src + len, &entry, 0);
-}
-
-// Keeps all entries, in memory that it asks for once: no line is shorter than its digits.
-static size_t keep_list(const uint8_t *src, size_t len) {
-    struct entry *entries = malloc(len / (2 * DIGEST) * sizeof *entries);
-    size_t lines = entries ? entries_of(src, src + len, entries, 1) : 0;
-    free(entries);
-    return lines;
 }
 
 #ifdef SHARED_LIBRARY
