@@ -2,8 +2,8 @@
 # Compares faster_hex.h with the exported functions: the fields of the answer, of the same types in the
 # same order, which no proof sees; of each function its name, its result and its parameters, where a
 # slice is a pointer and a length; and the numbers of the statuses. Then its version, those of the crate for
-# Rust and of CMake, and that in the names of generated/ with VERSION of the Makefile, and the sums of
-# generated/PROVED with its files. Prints what differs; its status is then 1.
+# Rust, of CMake and of the man pages, and that in the names of generated/ with VERSION of the Makefile, and
+# the sums of generated/PROVED with its files. Prints what differs; its status is then 1.
 set -eu
 
 cd "$(dirname "$0")/../crates/faster_hex_c"
@@ -42,6 +42,7 @@ versions() {
         tr '\n' . | sed 's/\.$//')"
     sed -n 's/^version = "\(.*\)"$/bindings \1/p' ../../Cargo.toml
     sed -n 's/^project(.* VERSION \([0-9.]*\) .*/CMakeLists.txt \1/p' ../../CMakeLists.txt
+    sed -n 's/^\.TH \([A-Z_]*\) .* "Bunkmedlar \([0-9.]*\)" .*/\1 \2/p' ../../docs/*.[13]
     sed -n 's/^\thex_export\tfaster_hex_\([0-9]*\)_\([0-9]*\)_\([0-9]*\)_\(.*\)/\4 \1.\2.\3/p' ../../generated/*.s
 }
 

@@ -1,4 +1,5 @@
-"""promises: which definitions of specs/ the contracts of public functions use, by following their words."""
+"""promises: which definitions of specs/ the contracts of public functions use, by following their words, and which
+CALLING.md names."""
 import re
 from pathlib import Path
 
@@ -60,3 +61,11 @@ def used():
             block, names = texts[it]
             todo += [(names.get(word, (it[0], word)), where) for word in words(block)]
     return found, texts
+
+
+def named(page):
+    """The definitions that the tables of CALLING.md name, each with its crate: that of the head, if not told."""
+    for table in page.split("\n\n"):
+        if head := re.match(r"`(\w+)`.*\| (?:Promise|Meaning)\n", table):
+            for crate, path in re.findall(r"`(?:(hex_\w+|faster_hex)\.)?([A-Z]\w*\.\w+)", table):
+                yield crate or head[1], path

@@ -12,11 +12,11 @@
  *   call reads or writes. No call keeps a pointer, allocates memory or changes any state. One byte records
  *   what the processor supports, and is written when the library is loaded.
  * - The library needs no symbols, and may be linked into a shared library.
- * - The answer reports every error that a call can detect. A call that refuses writes nothing. Any other
+ * - The answer reports the first error that the call lists. A call that refuses writes nothing. Any other
  *   call writes to the front of the destination and leaves the rest unchanged.
  * - In tests of the x86-64-v2 and x86-64-v3 code, encoding, and decoding or checking valid digits, used no
- *   address and no branch that depends on the bytes. faster_hex_first_invalid and the grouped calls were not
- *   tested, and nothing of this is proved.
+ *   address and no branch that depends on the bytes. The grouped calls were not tested, and nothing of this is
+ *   proved.
  *
  * What a call answers and writes is proved for `len` and `room` below 2^63. `make check` tests that encoding
  * answers FASTER_HEX_OVERFLOW from there on, and that all calls stay inside source and destination, allocate
@@ -75,7 +75,7 @@ enum {
     FASTER_HEX_INVALID_CHAR = 3,     /* number: the index of the first invalid byte */
     FASTER_HEX_OVERFLOW = 4,         /* the length of the text exceeds size_t */
     FASTER_HEX_UNKNOWN_POLICY = 5,   /* not a policy */
-    FASTER_HEX_NOT_A_GROUP = 6,      /* 0 bytes, or a separator that is a digit or not ASCII */
+    FASTER_HEX_NOT_A_GROUP = 6,      /* 0 bytes, or a separator that is a hex digit or not ASCII */
     FASTER_HEX_BAD_LENGTH = 7        /* no grouped text has this length */
 };
 
