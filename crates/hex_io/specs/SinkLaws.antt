@@ -1,5 +1,5 @@
 -- Facts on puts that the definitions imply.
-use Rattle.std.specs.Prelude.{List, ℕ, [], ◌++◌, Result, IsErr}
+use Rattle.std.specs.Prelude.{◌≡◌, List, ℕ, [], ◌++◌, Result, IsErr, drop, length, take}
 use Rattle.hex_io.specs.declared.sink.WriteFault.{WriteFault}
 use Rattle.hex_io.specs.Sink.{Puts, SinkState, Stops, Takes}
 
@@ -40,3 +40,19 @@ StopsFail = (first second : SinkState) (result : Result (Unit {0}) WriteFault) (
     → IsErr result
     → Stops first second xs
     → Puts first second result xs
+
+-- and so is what stopped in the front of a list
+abbrev pub FrontsFail : Type 0
+FrontsFail = (first second : SinkState) (result : Result (Unit {0}) WriteFault) (xs all : List ℕ)
+    → IsErr result
+    → Stops first second xs
+    → take (length xs) all ≡ xs
+    → Puts first second result all
+
+-- what took the front of a list and then put the rest, whatever came of it, put the list
+abbrev pub RestsFollow : Type 0
+RestsFollow = (first second third : SinkState) (result : Result (Unit {0}) WriteFault) (xs all : List ℕ)
+    → Takes first second xs
+    → take (length xs) all ≡ xs
+    → Puts second third result (drop (length xs) all)
+    → Puts first third result all

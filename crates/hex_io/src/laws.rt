@@ -4,7 +4,7 @@
 ghost use Rattle.hex_io.specs.Decoder.{DecodersWereFed, WritesAsOneCall};
 ghost use Rattle.hex_io.specs.FrameLaws.{BareTextsAreDigits};
 ghost use Rattle.hex_io.specs.ListLaws.{FaultyListsNothing, ListsOneList, ReadNamesAreGood, ReadingInvertsWriting, WritingInvertsStrictReading};
-ghost use Rattle.hex_io.specs.SinkLaws.{PutsInARow, StopsEarlier, StopsFail, StopsInARow, TakesInARow, TakesNothing};
+ghost use Rattle.hex_io.specs.SinkLaws.{FrontsFail, PutsInARow, RestsFollow, StopsEarlier, StopsFail, StopsInARow, TakesInARow, TakesNothing};
 
 use hex_core::laws::{
     a_source_is_accepted_where_it_spells_a_list, a_text_spells_one_list, decoding_inverts_encoding,
@@ -33,6 +33,8 @@ pub fn puts_in_a_row_are_one()
     ensures unput { StopsEarlier }
     ensures put { PutsInARow }
     ensures failed { StopsFail }
+    ensures front { FrontsFail }
+    ensures rest { RestsFollow }
     ensures none { TakesNothing }
 {}
 
