@@ -1,24 +1,24 @@
 //! Callers that decode and encode grouped digits, each proved.
 
-ghost use Rattle.std.specs.Prelude.{◌≡◌, ◌↔◌, ◌<◌, ◌≤◌, ◌-◌, ◌%◌, ◌^◌, ◌++◌, ◌∷◌, [], ℕ, List, Some, IsTrue, length};
+ghost use Rattle.std.specs.Prelude.{◌≡◌, ◌↔◌, ◌<◌, ◌≤◌, ◌-◌, ◌%◌, ◌^◌, ◌++◌, ◌∷◌, [], ℕ, List, Some, length};
 ghost use Rattle.hex_core.specs.declared.digit.CheckCase.TheVariants as policy;
 ghost use Rattle.hex_core.specs.Calls.{Fills};
-ghost use Rattle.hex_core.specs.Refusal.{room_refusal};
 ghost use Rattle.hex_core.specs.Text.{lowercase};
 ghost use Rattle.hex_codec.specs.Grouped.{grouped, piece_len, pieces, separator};
-ghost use Rattle.hex_codec.specs.GroupedText.{GroupSpells, group_refusal, grouped_len};
+ghost use Rattle.hex_codec.specs.GroupedText.{GroupSpells, group_refusal};
 ghost use Rattle.hex_io.specs.Sink.{Puts};
 
+use crate::dump::put_digits;
 use faster_hex::format::put_all;
 use faster_hex::grouped::{GroupFault, read_into, write_into};
-use faster_hex::{CheckCase, Error, Group, Hex, HexFlags, Sink, WriteFault};
+use faster_hex::{CheckCase, Group, Sink, WriteFault};
 use hex_codec::laws::{
     a_grouped_text_is_digits_and_separators, a_grouped_text_is_read_where_it_spells_a_list,
-    grouping_inverts_strict_reading, reading_inverts_grouping, the_first_piece_is_the_front,
+    grouping_inverts_strict_reading, the_first_piece_is_the_front,
     whole_pieces_are_joined_by_the_separator,
 };
-use hex_core::laws::{a_new_front_is_the_front, a_slice_holds_bytes};
-use hex_io::laws::{a_bare_text_is_its_digits, puts_in_a_row_are_one};
+use hex_core::laws::a_new_front_is_the_front;
+use hex_io::laws::puts_in_a_row_are_one;
 
 /// Decodes a hardware address of six bytes in groups, like `00:00:5E:00:53:AF` in groups of one
 /// byte. Returns the six bytes of the text, if it has six.
@@ -51,30 +51,6 @@ pub fn address_len(group: Group) -> usize
 {
     a_grouped_text_is_digits_and_separators();
     11 + 6_usize.div_ceil(group.every())
-}
-
-/// Writes such an address into the start of a line, and returns the length of its text, which
-/// [`read_address`] reads as the same.
-///
-/// # Errors
-///
-/// [`Error::OutputTooSmall`] if it does not fit, and nothing is written.
-///
-/// ```rust
-/// let mut line = [b' '; 16];
-/// let group = Group::new(2, b'.').unwrap();
-/// let count = write_address(&[0, 0, 0x5e, 0, 0x53, 0xaf], group, &mut line)?;
-/// assert_eq!(rt; count, 14);
-/// assert_eq!(rt; &line, b"0000.5e00.53af  ");
-/// ```
-pub fn write_address(address: &[u8; 6], group: Group, line: &mut [u8]) -> Result<usize, Error>
-    ensures { Fills (room_refusal (grouped_len (piece_len group) 6) (length line.old))
-        (λ text. (text ≡ grouped group lowercase address.now) × GroupSpells policy.None group text address.now)
-        line.old line.new result }
-{
-    a_slice_holds_bytes(address);
-    reading_inverts_grouping();
-    write_into(address, line, group, false)
 }
 
 /// Writes such an address with a colon between two bytes.
@@ -124,7 +100,7 @@ pub fn write_two_parts<S: Sink>(
     puts_in_a_row_are_one();
     whole_pieces_are_joined_by_the_separator();
     put_first_part(front, group, sink)?;
-    put_grouped(back, group, sink)
+    put_digits(back, Some(group), sink)
 }
 
 /// Splits off the first piece of some bytes, which has a line of its own.
@@ -142,13 +118,6 @@ pub fn split_piece(bytes: &[u8], group: Group) -> (&[u8], &[u8])
     bytes.split_at(group.every())
 }
 
-/// Returns whether a put into a sink has failed.
-pub fn has_failed<S: Sink>(sink: &S) -> bool
-    ensures { IsTrue result ↔ (0 < (S.state sink.now).failures) }
-{
-    sink.failures() > 0
-}
-
 // Puts the grouped text of a part, and the separator after it.
 fn put_first_part<S: Sink>(part: &[u8], group: Group, sink: &mut S) -> Result<(), WriteFault>
     requires { (S.state sink.old).failures < 2 ^ 64 - 1 }
@@ -156,19 +125,6 @@ fn put_first_part<S: Sink>(part: &[u8], group: Group, sink: &mut S) -> Result<()
         (grouped group lowercase part.now ++ (separator group ∷ [])) }
 {
     puts_in_a_row_are_one();
-    put_grouped(part, group, sink)?;
+    put_digits(part, Some(group), sink)?;
     put_all(sink, &[group.sep()])
-}
-
-// Puts the grouped text of some bytes.
-fn put_grouped<S: Sink>(bytes: &[u8], group: Group, sink: &mut S) -> Result<(), WriteFault>
-    requires { (S.state sink.old).failures < 2 ^ 64 - 1 }
-    ensures { Puts (S.state sink.old) (S.state sink.new) result (grouped group lowercase bytes.now) }
-{
-    a_bare_text_is_its_digits();
-    let flags = HexFlags {
-        group: Some(group),
-        ..HexFlags::default()
-    };
-    Hex::new(bytes).write_to(sink, &flags)
 }

@@ -5,6 +5,7 @@ pub mod buffers;
 pub mod chunks;
 pub mod digest;
 pub mod digest_lists;
+pub mod dump;
 pub mod groups;
 pub mod json;
 pub mod probes;

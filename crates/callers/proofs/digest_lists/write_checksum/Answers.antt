@@ -1,12 +1,19 @@
 -- What is written as a list is read as its entry.
-use Rattle.std.proofs.Common.{rules, ◌≡◌, ◌∷◌, [], length, refl, subst}
-use Rattle.hex_core.specs.Text.{lowercase}
+use Rattle.std.proofs.Common.{rules, ◌≡◌, ◌∙◌, ℕ, List, ◌∷◌, [], Some, drop, length, take, take-append-drop, refl, subst, sym}
+use Rattle.std.specs.Borrow.{MutBor}
+use Rattle.hex_core.specs.Text.{lowercase, with_front}
+use Rattle.hex_io.specs.declared.sink.SliceSink.{SliceSink}
 use Rattle.hex_io.specs.Lists.{list_of}
 use Rattle.hex_io.specs.Sink.{Takes}
-use Rattle.hex_io.specs.Sinks.{slice_state}
+use Rattle.hex_io.specs.Sinks.{fresh_state, slice_state}
 use Rattle.callers.specs.DigestLists.{entry_of}
-use Rattle.callers.proofs.SinkLemmas.{taken-over}
 use Rattle.callers.proofs.digest_lists.write_checksum.Goals as goal
+
+taken-over : (buf : MutBor (List ℕ)) (sink : SliceSink) (bytes : List ℕ) → Takes (fresh_state buf) (slice_state sink) bytes → sink.buf.now ≡ with_front buf.now bytes
+taken-over buf sink bytes takes =
+    let front : take sink.used sink.buf.now ≡ bytes = takes.0 in
+    let left : Some (drop sink.used sink.buf.now) ≡ Some (drop (length bytes) buf.now) = takes.2.0 in
+    sym (take-append-drop sink.used sink.buf.now) ∙ cc
 
 pub returns : goal.returns
 returns c =
