@@ -62,7 +62,8 @@ pub(crate) fn put_digits<S: Sink>(
 ///
 /// ```rust
 /// let mut bytes = [0; 4];
-/// let read = read_line(b"00000040: 5275 7374", Group::new(2, b' ').unwrap(), &mut bytes);
+/// let group = Group::new(2, b' ').unwrap();
+/// let read = read_line(b"00000040: 5275 7374", group, &mut bytes);
 /// assert_eq!(rt; read, Some(([0, 0, 0, 0x40], 4)));
 /// assert_eq!(rt; &bytes, b"Rust");
 /// ```
