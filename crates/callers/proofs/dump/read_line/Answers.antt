@@ -1,5 +1,5 @@
 -- Its offset and its bytes are what the parts of the line spell.
-use Rattle.std.proofs.Common.{◌≡◌, Ok, arith}
+use Rattle.std.proofs.Common.{◌≡◌, arith}
 use Rattle.hex_core.specs.declared.digit.CheckCase.TheVariants as policy
 use Rattle.hex_core.specs.Text.{Spells, lowercase, text}
 use Rattle.hex_codec.specs.Grouped.{grouped}

@@ -1,6 +1,5 @@
 -- The payload of a value is one text, which spells one list; and `null` has none.
-use Rattle.std.proofs.Common.{◌≡◌, ℕ, List, Option, Some, None, refl, ap}
-use Rattle.serde_json.specs.Data.{Data}
+use Rattle.std.proofs.Common.{◌≡◌, Some, None, refl, ap}
 use Rattle.faster_hex.specs.AdapterLaws.{ReadsOneList, ReadsOneOption}
 use Rattle.faster_hex.proofs.laws.a_value_is_read_as_one_list.Goals as goal
 

@@ -1,11 +1,10 @@
 -- Behind the prefix stands the text of the bytes, which the format's own policy reads.
-use Rattle.std.proofs.Common.{◌≡◌, ◌++◌, ◌⊎◌, inl, inr, ℕ, Bool, true, false, List, Some, None, Ok, refl, subst, sym, arith}
+use Rattle.std.proofs.Common.{◌≡◌, inl, inr, ℕ, Bool, true, false, List, Some, None, Ok, refl, subst, sym, arith}
 use Rattle.std.proofs.lemmas.Bool.Decides.{nat_tests}
-use Rattle.hex_core.specs.declared.digit.CheckCase.{CheckCase}
 use Rattle.hex_core.specs.Laws.{AreBytes, DecodingInvertsEncoding}
 use Rattle.hex_core.specs.Text.{Spells, text}
 use Rattle.hex_core.proofs.TextLemmas.{length-text}
-use Rattle.serde_json.specs.Data.{Data, string}
+use Rattle.serde_json.specs.Data.{string}
 use Rattle.faster_hex.specs.declared.adapters.WireFormat.{WireFormat}
 use Rattle.faster_hex.specs.AdapterLaws.{OptionReadingInvertsWriting, ReadingInvertsWriting, ReadsItsOwn}
 use Rattle.faster_hex.specs.Adapters.{payload_in, wire_text}
