@@ -53,8 +53,7 @@ fn is_accepted(digits: &[u8]) -> bool
     digits.len() % 2 == 0 && hex_check_with_case(digits, CheckCase::Lower)
 }
 
-/// Returns the index of the first of eight bytes that is not a digit, if decoding to four bytes
-/// fails for a byte.
+/// Returns the index of the first of eight bytes that is not a digit, if decoding them names one.
 ///
 /// ```rust
 /// assert_eq!(rt; bad_place(b"deadbe3g"), Some(7));
@@ -105,8 +104,7 @@ pub fn read_header(digits: &[u8]) -> Result<[u8; 4], Error>
     Ok(header)
 }
 
-/// Decodes a key of four bytes and a value of eight from separate texts: the joined texts decode to
-/// the joined bytes.
+/// Decodes a key of four bytes and a value of eight from two texts: joined, they spell both joined.
 ///
 /// ```rust
 /// let pair = read_pair(b"6B657931", b"0001020304050607");

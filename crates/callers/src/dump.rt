@@ -1,6 +1,6 @@
 //! Callers that write and read a line of a dump, as `xxd -g` prints it without its text column.
 
-ghost use Rattle.std.specs.Prelude.{◌≡◌, ◌≤◌, ◌<◌, ◌-◌, ◌^◌, ◌++◌, ◌∷◌, ℕ, List, MatchOption, Some, length};
+ghost use Rattle.std.specs.Prelude.{◌≡◌, ◌≤◌, ◌<◌, ◌-◌, ◌^◌, ◌++◌, ◌∷◌, ℕ, List, MatchOption, Some, length, ⊤};
 ghost use Rattle.hex_core.specs.Laws.{AreBytes};
 ghost use Rattle.hex_core.specs.Text.{lowercase, text, with_front};
 ghost use Rattle.hex_codec.specs.Grouped.{grouped};
@@ -14,8 +14,7 @@ use hex_codec::laws::{a_grouped_text_is_read_where_it_spells_a_list, reading_inv
 use hex_core::laws::{a_text_is_ascii_and_twice_as_long, decoding_inverts_encoding};
 use hex_io::laws::{a_bare_text_is_its_digits, puts_in_a_row_are_one};
 
-/// Writes a line into any sink: the digits of its offset's four bytes, a colon and a space, and the
-/// groups of its own bytes.
+/// Writes a line into any sink: its offset's eight digits, a colon, a space, its bytes in groups.
 ///
 /// ```rust
 /// let mut line = [0; 19];
@@ -58,7 +57,7 @@ pub(crate) fn put_digits<S: Sink>(
 }
 
 /// Reads such a line: its bytes into the start of a buffer with room for them. Returns its offset
-/// and their number, or `None` for what is no such line.
+/// and their number. `None`, which no such line gives, leaves the buffer unchanged.
 ///
 /// ```rust
 /// let mut bytes = [0; 4];
@@ -68,9 +67,10 @@ pub(crate) fn put_digits<S: Sink>(
 /// assert_eq!(rt; &bytes, b"Rust");
 /// ```
 pub fn read_line(line: &[u8], group: Group, buffer: &mut [u8]) -> Option<([u8; 4], usize)>
-    ensures { (offset bytes : List ℕ) → AreBytes offset → AreBytes bytes → length offset ≡ 4 → length bytes ≤ length buffer.old
+    ensures read { (offset bytes : List ℕ) → AreBytes offset → AreBytes bytes → length offset ≡ 4 → length bytes ≤ length buffer.old
         → line.now ≡ text lowercase offset ++ (58 ∷ 32 ∷ grouped group lowercase bytes)
         → (result ≡ Some (offset, length bytes)) × (buffer.new ≡ with_front buffer.old bytes) }
+    ensures unchanged { MatchOption result (buffer.new ≡ buffer.old) (λ _. ⊤) }
 {
     a_text_is_ascii_and_twice_as_long();
     decoding_inverts_encoding();
