@@ -1,18 +1,19 @@
 //! Callers that write and read a line of a dump, as `xxd -g` prints it without its text column.
 
-ghost use Rattle.std.specs.Prelude.{◌≡◌, ◌≤◌, ◌<◌, ◌-◌, ◌^◌, ◌++◌, ◌∷◌, ℕ, List, MatchOption, Some, length, ⊤};
+ghost use Rattle.std.specs.Prelude.{◌≡◌, ◌≤◌, ◌<◌, ◌-◌, ◌^◌, ◌++◌, ◌∷◌, [], ℕ, List, IfNone, IfSome, MatchOption, Some, length};
 ghost use Rattle.hex_core.specs.Laws.{AreBytes};
 ghost use Rattle.hex_core.specs.Text.{lowercase, text, with_front};
 ghost use Rattle.hex_codec.specs.Grouped.{grouped};
-ghost use Rattle.hex_io.specs.Frame.{digits_by};
 ghost use Rattle.hex_io.specs.Sink.{Puts};
 
 use faster_hex::format::put_all;
 use faster_hex::grouped::read_into;
-use faster_hex::{CheckCase, Group, Hex, HexFlags, Sink, WriteFault, hex_decode_array};
-use hex_codec::laws::{a_grouped_text_is_read_where_it_spells_a_list, reading_inverts_grouping};
-use hex_core::laws::{a_text_is_ascii_and_twice_as_long, decoding_inverts_encoding};
-use hex_io::laws::{a_bare_text_is_its_digits, puts_in_a_row_are_one};
+use faster_hex::{CheckCase, Group, Hex, HexFlags, Sink, WriteFault, hex_decode_array_with_case};
+use hex_codec::laws::{grouping_inverts_strict_reading, reading_inverts_grouping};
+use hex_core::laws::{
+    a_text_is_ascii_and_twice_as_long, decoding_inverts_encoding, encoding_inverts_strict_decoding,
+};
+use hex_io::laws::puts_in_a_row_are_one;
 
 /// Writes a line into any sink: its offset's eight digits, a colon, a space, its bytes in groups.
 ///
@@ -31,33 +32,20 @@ pub fn write_line<S: Sink>(
 ) -> Result<(), WriteFault>
     requires { (S.state sink.old).failures < 2 ^ 64 - 1 }
     ensures { Puts (S.state sink.old) (S.state sink.new) result
-        (text lowercase offset.now ++ (58 ∷ 32 ∷ grouped group lowercase bytes.now)) }
+        (text lowercase offset.now ++ (58 ∷ 32 ∷ []) ++ grouped group lowercase bytes.now) }
 {
     puts_in_a_row_are_one();
-    put_digits(offset, None, sink)?;
-    put_all(sink, b": ")?;
-    put_digits(bytes, Some(group), sink)
-}
-
-// Puts the lowercase digits of some bytes, in groups if there is a group.
-pub(crate) fn put_digits<S: Sink>(
-    bytes: &[u8],
-    group: Option<Group>,
-    sink: &mut S,
-) -> Result<(), WriteFault>
-    requires { (S.state sink.old).failures < 2 ^ 64 - 1 }
-    ensures { Puts (S.state sink.old) (S.state sink.new) result (digits_by group lowercase bytes.now) }
-{
-    a_bare_text_is_its_digits();
-    let flags = HexFlags {
-        group,
+    let groups = HexFlags {
+        group: Some(group),
         ..HexFlags::default()
     };
-    Hex::new(bytes).write_to(sink, &flags)
+    Hex::new(offset).write_to(sink, &HexFlags::default())?;
+    put_all(sink, b": ")?;
+    Hex::new(bytes).write_to(sink, &groups)
 }
 
 /// Reads such a line: its bytes into the start of a buffer with room for them. Returns its offset
-/// and their number. `None`, which no such line gives, leaves the buffer unchanged.
+/// and their number, or `None` if the line is no such line of so few bytes, with the buffer unchanged.
 ///
 /// ```rust
 /// let mut bytes = [0; 4];
@@ -67,20 +55,24 @@ pub(crate) fn put_digits<S: Sink>(
 /// assert_eq!(rt; &bytes, b"Rust");
 /// ```
 pub fn read_line(line: &[u8], group: Group, buffer: &mut [u8]) -> Option<([u8; 4], usize)>
+    ensures written { IfSome result (λ read. (bytes : List ℕ)
+        × (line.now ≡ text lowercase read.0 ++ (58 ∷ 32 ∷ []) ++ grouped group lowercase bytes)
+        × (read.1 ≡ length bytes) × (buffer.new ≡ with_front buffer.old bytes)) }
     ensures read { (offset bytes : List ℕ) → AreBytes offset → AreBytes bytes → length offset ≡ 4 → length bytes ≤ length buffer.old
-        → line.now ≡ text lowercase offset ++ (58 ∷ 32 ∷ grouped group lowercase bytes)
+        → line.now ≡ text lowercase offset ++ (58 ∷ 32 ∷ []) ++ grouped group lowercase bytes
         → (result ≡ Some (offset, length bytes)) × (buffer.new ≡ with_front buffer.old bytes) }
-    ensures unchanged { MatchOption result (buffer.new ≡ buffer.old) (λ _. ⊤) }
+    ensures unchanged { IfNone result (buffer.new ≡ buffer.old) }
 {
     a_text_is_ascii_and_twice_as_long();
     decoding_inverts_encoding();
+    encoding_inverts_strict_decoding();
     reading_inverts_grouping();
-    a_grouped_text_is_read_where_it_spells_a_list();
+    grouping_inverts_strict_reading();
     let (offset, digits) = parts_of(line)?;
-    let Ok(offset) = hex_decode_array(offset) else {
+    let Ok(offset) = hex_decode_array_with_case(offset, CheckCase::Lower) else {
         return None;
     };
-    match read_into(digits, buffer, group, CheckCase::None) {
+    match read_into(digits, buffer, group, CheckCase::Lower) {
         Ok(count) => Some((offset, count)),
         Err(_) => None,
     }
@@ -89,7 +81,8 @@ pub fn read_line(line: &[u8], group: Group, buffer: &mut [u8]) -> Option<([u8; 4
 // Returns the eight digits before a colon and a space, and what is behind.
 #[tactic(auto, using(std::proofs::lemmas::Grind::common_steps))]
 fn parts_of(line: &[u8]) -> Option<(&[u8], &[u8])>
-    ensures { (front back : List ℕ) → length front ≡ 8 → line.now ≡ front ++ (58 ∷ 32 ∷ back)
+    ensures parts { IfSome result (λ parts. line.now ≡ parts.0.now ++ (58 ∷ 32 ∷ []) ++ parts.1.now) }
+    ensures all { (front back : List ℕ) → length front ≡ 8 → line.now ≡ front ++ (58 ∷ 32 ∷ []) ++ back
         → MatchOption result ⊥ (λ parts. (parts.0.now ≡ front) × (parts.1.now ≡ back)) }
 {
     if line.len() < 10 || line[8] != b':' || line[9] != b' ' {

@@ -8,10 +8,9 @@ ghost use Rattle.hex_codec.specs.Grouped.{grouped, piece_len, pieces, separator}
 ghost use Rattle.hex_codec.specs.GroupedText.{GroupSpells, group_refusal};
 ghost use Rattle.hex_io.specs.Sink.{Puts};
 
-use crate::dump::put_digits;
 use faster_hex::format::put_all;
 use faster_hex::grouped::{GroupFault, read_into, write_into};
-use faster_hex::{CheckCase, Group, Sink, WriteFault};
+use faster_hex::{CheckCase, Group, Hex, HexFlags, Sink, WriteFault};
 use hex_codec::laws::{
     a_grouped_text_is_digits_and_separators, a_grouped_text_is_read_where_it_spells_a_list,
     grouping_inverts_strict_reading, the_first_piece_is_the_front,
@@ -100,7 +99,7 @@ pub fn write_two_parts<S: Sink>(
     puts_in_a_row_are_one();
     whole_pieces_are_joined_by_the_separator();
     put_first_part(front, group, sink)?;
-    put_digits(back, Some(group), sink)
+    put_grouped(back, group, sink)
 }
 
 /// Splits off the first piece of some bytes, which has a line of its own.
@@ -125,6 +124,18 @@ fn put_first_part<S: Sink>(part: &[u8], group: Group, sink: &mut S) -> Result<()
         (grouped group lowercase part.now ++ (separator group ∷ [])) }
 {
     puts_in_a_row_are_one();
-    put_digits(part, Some(group), sink)?;
+    put_grouped(part, group, sink)?;
     put_all(sink, &[group.sep()])
+}
+
+// Puts the grouped text of some bytes.
+fn put_grouped<S: Sink>(bytes: &[u8], group: Group, sink: &mut S) -> Result<(), WriteFault>
+    requires { (S.state sink.old).failures < 2 ^ 64 - 1 }
+    ensures { Puts (S.state sink.old) (S.state sink.new) result (grouped group lowercase bytes.now) }
+{
+    let flags = HexFlags {
+        group: Some(group),
+        ..HexFlags::default()
+    };
+    Hex::new(bytes).write_to(sink, &flags)
 }

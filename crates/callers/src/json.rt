@@ -1,6 +1,6 @@
 //! Callers of the JSON modules, as a user writes them, each proved.
 
-ghost use Rattle.std.specs.Prelude.{◌≡◌, ◌≤◌, ℕ, List, None, Some, Ok, IfErr, IfOk, IsFalse, IsTrue, codes, length, option_map, MatchResult, vec_items};
+ghost use Rattle.std.specs.Prelude.{◌≡◌, ◌≤◌, ℕ, List, None, Some, Ok, IfOk, IsFalse, IsTrue, codes, length, option_map, MatchResult, vec_items};
 ghost use Rattle.serde_json.specs.Data.{Data, string};
 ghost use Rattle.serde_json.specs.Find.{get};
 ghost use Rattle.serde_json.specs.View.{view};
@@ -12,8 +12,7 @@ ghost use Rattle.callers.specs.Records.{AnswersField};
 
 use faster_hex::laws::{
     a_bound_refuses_what_is_longer_alone, a_value_is_read_as_one_list,
-    a_value_is_read_where_nothing_is_refused, none_and_an_empty_list_stay_apart,
-    reading_inverts_writing, strict_writing_inverts_reading,
+    none_and_an_empty_list_stay_apart, reading_inverts_writing, strict_writing_inverts_reading,
 };
 use faster_hex::{AdapterError, array, nopfx_ignorecase, nopfx_lowercase, option_nopfx_uppercase};
 use hex_codec::laws::an_optional_vec_holds_bytes;
@@ -63,17 +62,16 @@ pub fn write_id(alloc: Global, id: &[u8; 4]) -> Result<Value, AdapterError>
     array::serialize(alloc, id)
 }
 
-/// Reads a signature of at most 64 bytes. If an unbounded read returns one, this fails only if
-/// memory runs out.
+/// Reads a signature of at most 64 bytes: what an unbounded read returns, if it is as short. Then only
+/// memory can be lacking.
 pub fn read_signature(alloc: Global, value: &Value) -> Result<Vec<u8>, AdapterError>
     ensures answer { AnswersRead wire.nopfx_ignorecase (Some 64) value.now result }
     ensures read { IfOk result (λ bytes. Reads wire.nopfx_ignorecase None (view value.now) (vec_items bytes)
         × (length (vec_items bytes) ≤ 64)) }
-    ensures wants { (bytes : List ℕ) → Reads wire.nopfx_ignorecase None (view value.now) bytes → length bytes ≤ 64
-        → IfErr result (λ e. e ≡ adapter.Codec codec.OutOfMemory) }
+    ensures only { (bytes : List ℕ) → Reads wire.nopfx_ignorecase None (view value.now) bytes → length bytes ≤ 64
+        → MatchResult result (λ read. vec_items read ≡ bytes) (λ e. e ≡ adapter.Codec codec.OutOfMemory) }
 {
     a_bound_refuses_what_is_longer_alone();
-    a_value_is_read_where_nothing_is_refused();
     nopfx_ignorecase::deserialize_bounded::<64>(alloc, value)
 }
 

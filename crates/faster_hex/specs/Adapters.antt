@@ -148,3 +148,9 @@ ArrayIsRead p n value result = (bytes : List ℕ) → Reads p None (view value) 
 abbrev pub OptionArrayIsRead : WireFormat → ℕ → Value → Result (Option (List ℕ)) AdapterError → Type 0
 OptionArrayIsRead p n value result = (bytes : Option (List ℕ)) → ReadsOption p None (view value) bytes
     → ForSome bytes (λ read. length read ≡ n) → result ≡ Ok bytes
+
+-- a list within the bound that a value is read as is what reading it into a new vector answers, or
+-- memory is refused
+abbrev pub VecIsRead : {A : Type 0} → WireFormat → Option ℕ → Value → Result (Vec ℕ A) AdapterError → Type 0
+VecIsRead p max value result = (bytes : List ℕ) → Reads p None (view value) bytes → Within max (length bytes)
+    → MatchResult result (λ read. vec_items read ≡ bytes) (λ e. e ≡ Codec codec.OutOfMemory)

@@ -3,11 +3,11 @@
 //!
 //! Use these functions for a format or an allocator of your own, else the modules.
 
-ghost use Rattle.std.specs.Prelude.{◌≡◌, ◌<◌, ◌^◌, ◌/◌, None, Some, Ok, Err, length, option_map, string_bytes, MatchResult};
+ghost use Rattle.std.specs.Prelude.{◌≡◌, ◌<◌, ◌^◌, ◌/◌, ℕ, List, IsOk, None, Some, Ok, Err, length, option_map, string_bytes, MatchResult};
 ghost use Rattle.serde_json.specs.View.{view};
 ghost use Rattle.faster_hex.specs.AdapterMessage.{adapter_error_text};
 ghost use Rattle.faster_hex.specs.declared.adapters.AdapterError.TheVariants as adapter;
-ghost use Rattle.faster_hex.specs.Adapters.{AnswersArrayRead, AnswersOptionArrayRead, AnswersOptionRead, AnswersOptionWrite, AnswersRead, AnswersWrite, ArrayIsRead, OptionArrayIsRead, ReadFailure, Within, WriteFailure, payload_in, prefix, wire_text};
+ghost use Rattle.faster_hex.specs.Adapters.{AnswersArrayRead, AnswersOptionArrayRead, AnswersOptionRead, AnswersOptionWrite, AnswersRead, AnswersWrite, ArrayIsRead, OptionArrayIsRead, ReadFailure, VecIsRead, Within, WriteFailure, payload_in, prefix, wire_text};
 
 use hex_codec::decode::{hex_decode_array_with_case, hex_decode_vec_with_case};
 use hex_codec::strings::prefixed_string;
@@ -180,10 +180,11 @@ fn bounded_payload(
     max: Option<usize>,
     value: &Value,
 ) -> Result<&[u8], AdapterError>
-    ensures { MatchResult result
+    ensures answer { MatchResult result
         (λ payload. (payload_in format (view value.now) ≡ Ok payload.now)
         × Within max (length payload.now / 2))
         (λ e. ReadFailure format max (view value.now) e) }
+    ensures within { (payload : List ℕ) → payload_in format (view value.now) ≡ Ok payload → Within max (length payload / 2) → IsOk result }
 {
     let payload = payload_of(format, value)?;
     let actual = payload.len() / 2;
@@ -224,7 +225,8 @@ pub fn read<A: Allocator + Drop>(
     max: Option<usize>,
     value: &Value,
 ) -> Result<Vec<u8, A>, AdapterError>
-    ensures { AnswersRead format max value.now result }
+    ensures answer { AnswersRead format max value.now result }
+    ensures read { VecIsRead format max value.now result }
 {
     let payload = bounded_payload(format, max, value)?;
     hex_decode_vec_with_case(alloc, payload, format.case).map_err(AdapterError::Codec)

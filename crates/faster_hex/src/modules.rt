@@ -10,7 +10,7 @@
 //! `array::deserialize` | `NotText`, `InvalidPrefix`, `InvalidLength`, `Codec(LengthMismatch)`, `Codec(InvalidChar)`
 
 ghost use Rattle.std.specs.Prelude.{None, Some};
-ghost use Rattle.faster_hex.specs.Adapters.{AnswersArrayRead, AnswersRead, AnswersWrite, ArrayIsRead};
+ghost use Rattle.faster_hex.specs.Adapters.{AnswersArrayRead, AnswersRead, AnswersWrite, ArrayIsRead, VecIsRead};
 ghost use Rattle.faster_hex.specs.WireFormats as wire;
 
 use crate::adapters::{AdapterError, WireFormat, read, read_array, write};
@@ -67,7 +67,8 @@ pub mod withpfx_ignorecase {
     /// assert_eq!(rt; bytes.as_slice(), [0, 0xab].as_slice());
     /// ```
     pub fn deserialize(alloc: Global, value: &Value) -> Result<Vec<u8>, AdapterError>
-        ensures { AnswersRead wire.withpfx_ignorecase None value.now result }
+        ensures answer { AnswersRead wire.withpfx_ignorecase None value.now result }
+        ensures read { VecIsRead wire.withpfx_ignorecase None value.now result }
     {
         read(alloc, WireFormat::WITHPFX_IGNORECASE, None, value)
     }
@@ -93,7 +94,8 @@ pub mod withpfx_ignorecase {
         alloc: Global,
         value: &Value,
     ) -> Result<Vec<u8>, AdapterError>
-        ensures { AnswersRead wire.withpfx_ignorecase (Some MAX) value.now result }
+        ensures answer { AnswersRead wire.withpfx_ignorecase (Some MAX) value.now result }
+        ensures read { VecIsRead wire.withpfx_ignorecase (Some MAX) value.now result }
     {
         read(alloc, WireFormat::WITHPFX_IGNORECASE, Some(MAX), value)
     }
@@ -145,7 +147,8 @@ pub mod nopfx_ignorecase {
 
     /// Like [`crate::deserialize`], without a prefix.
     pub fn deserialize(alloc: Global, value: &Value) -> Result<Vec<u8>, AdapterError>
-        ensures { AnswersRead wire.nopfx_ignorecase None value.now result }
+        ensures answer { AnswersRead wire.nopfx_ignorecase None value.now result }
+        ensures read { VecIsRead wire.nopfx_ignorecase None value.now result }
     {
         read(alloc, WireFormat::NOPFX_IGNORECASE, None, value)
     }
@@ -155,7 +158,8 @@ pub mod nopfx_ignorecase {
         alloc: Global,
         value: &Value,
     ) -> Result<Vec<u8>, AdapterError>
-        ensures { AnswersRead wire.nopfx_ignorecase (Some MAX) value.now result }
+        ensures answer { AnswersRead wire.nopfx_ignorecase (Some MAX) value.now result }
+        ensures read { VecIsRead wire.nopfx_ignorecase (Some MAX) value.now result }
     {
         read(alloc, WireFormat::NOPFX_IGNORECASE, Some(MAX), value)
     }
@@ -189,7 +193,8 @@ pub mod withpfx_lowercase {
 
     /// Like [`crate::deserialize`], in this letter case only.
     pub fn deserialize(alloc: Global, value: &Value) -> Result<Vec<u8>, AdapterError>
-        ensures { AnswersRead wire.withpfx_lowercase None value.now result }
+        ensures answer { AnswersRead wire.withpfx_lowercase None value.now result }
+        ensures read { VecIsRead wire.withpfx_lowercase None value.now result }
     {
         read(alloc, WireFormat::WITHPFX_LOWERCASE, None, value)
     }
@@ -199,7 +204,8 @@ pub mod withpfx_lowercase {
         alloc: Global,
         value: &Value,
     ) -> Result<Vec<u8>, AdapterError>
-        ensures { AnswersRead wire.withpfx_lowercase (Some MAX) value.now result }
+        ensures answer { AnswersRead wire.withpfx_lowercase (Some MAX) value.now result }
+        ensures read { VecIsRead wire.withpfx_lowercase (Some MAX) value.now result }
     {
         read(alloc, WireFormat::WITHPFX_LOWERCASE, Some(MAX), value)
     }
@@ -246,7 +252,8 @@ pub mod nopfx_lowercase {
 
     /// Like [`crate::deserialize`], without a prefix.
     pub fn deserialize(alloc: Global, value: &Value) -> Result<Vec<u8>, AdapterError>
-        ensures { AnswersRead wire.nopfx_lowercase None value.now result }
+        ensures answer { AnswersRead wire.nopfx_lowercase None value.now result }
+        ensures read { VecIsRead wire.nopfx_lowercase None value.now result }
     {
         read(alloc, WireFormat::NOPFX_LOWERCASE, None, value)
     }
@@ -256,7 +263,8 @@ pub mod nopfx_lowercase {
         alloc: Global,
         value: &Value,
     ) -> Result<Vec<u8>, AdapterError>
-        ensures { AnswersRead wire.nopfx_lowercase (Some MAX) value.now result }
+        ensures answer { AnswersRead wire.nopfx_lowercase (Some MAX) value.now result }
+        ensures read { VecIsRead wire.nopfx_lowercase (Some MAX) value.now result }
     {
         read(alloc, WireFormat::NOPFX_LOWERCASE, Some(MAX), value)
     }
@@ -290,7 +298,8 @@ pub mod withpfx_uppercase {
 
     /// Like [`crate::deserialize`], in this letter case only.
     pub fn deserialize(alloc: Global, value: &Value) -> Result<Vec<u8>, AdapterError>
-        ensures { AnswersRead wire.withpfx_uppercase None value.now result }
+        ensures answer { AnswersRead wire.withpfx_uppercase None value.now result }
+        ensures read { VecIsRead wire.withpfx_uppercase None value.now result }
     {
         read(alloc, WireFormat::WITHPFX_UPPERCASE, None, value)
     }
@@ -300,7 +309,8 @@ pub mod withpfx_uppercase {
         alloc: Global,
         value: &Value,
     ) -> Result<Vec<u8>, AdapterError>
-        ensures { AnswersRead wire.withpfx_uppercase (Some MAX) value.now result }
+        ensures answer { AnswersRead wire.withpfx_uppercase (Some MAX) value.now result }
+        ensures read { VecIsRead wire.withpfx_uppercase (Some MAX) value.now result }
     {
         read(alloc, WireFormat::WITHPFX_UPPERCASE, Some(MAX), value)
     }
@@ -335,7 +345,8 @@ pub mod nopfx_uppercase {
 
     /// Like [`crate::deserialize`], without a prefix.
     pub fn deserialize(alloc: Global, value: &Value) -> Result<Vec<u8>, AdapterError>
-        ensures { AnswersRead wire.nopfx_uppercase None value.now result }
+        ensures answer { AnswersRead wire.nopfx_uppercase None value.now result }
+        ensures read { VecIsRead wire.nopfx_uppercase None value.now result }
     {
         read(alloc, WireFormat::NOPFX_UPPERCASE, None, value)
     }
@@ -345,7 +356,8 @@ pub mod nopfx_uppercase {
         alloc: Global,
         value: &Value,
     ) -> Result<Vec<u8>, AdapterError>
-        ensures { AnswersRead wire.nopfx_uppercase (Some MAX) value.now result }
+        ensures answer { AnswersRead wire.nopfx_uppercase (Some MAX) value.now result }
+        ensures read { VecIsRead wire.nopfx_uppercase (Some MAX) value.now result }
     {
         read(alloc, WireFormat::NOPFX_UPPERCASE, Some(MAX), value)
     }

@@ -1,10 +1,11 @@
 -- What reading and writing a grouped text answers and leaves.
-use Rattle.std.specs.Prelude.{◌≡◌, ℕ, Bool, List, length, Result}
+use Rattle.std.specs.Prelude.{◌≡◌, ◌≤◌, ℕ, Bool, List, length, Result, Ok}
 use Rattle.std.specs.Borrow.{MutBor}
 use Rattle.hex_core.specs.declared.digit.CheckCase.{CheckCase}
 use Rattle.hex_core.specs.declared.error.Error.{Error}
 use Rattle.hex_core.specs.Calls.{Answers, Fills}
 use Rattle.hex_core.specs.Refusal.{room_refusal}
+use Rattle.hex_core.specs.Text.{with_front}
 use Rattle.hex_codec.specs.declared.group.Group.{Group}
 use Rattle.hex_codec.specs.declared.grouped.GroupFault.{GroupFault}
 use Rattle.hex_codec.specs.Grouped.{grouped, piece_len}
@@ -13,6 +14,11 @@ use Rattle.hex_codec.specs.GroupedText.{GroupSpells, group_refusal, grouped_len}
 -- reading into the front of a destination: what the text spells
 abbrev pub Reads : CheckCase → Group → List ℕ → List ℕ → List ℕ → Result ℕ GroupFault → Type 0
 Reads c group s old new result = Fills (group_refusal c group s (length old)) (GroupSpells c group s) old new result
+
+-- a list that the text spells is what reading it answers, in the front of a destination with room for it
+abbrev pub FrontIsRead : CheckCase → Group → List ℕ → List ℕ → List ℕ → Result ℕ GroupFault → Type 0
+FrontIsRead c group s old new result = (bytes : List ℕ) → GroupSpells c group s bytes → length bytes ≤ length old
+    → (result ≡ Ok (length bytes)) × (new ≡ with_front old bytes)
 
 -- reading that lends the written front of this much room: what the text spells, or the refusal
 abbrev pub ReadsFront : CheckCase → Group → List ℕ → ℕ → Result (MutBor (List ℕ)) GroupFault → Type 0

@@ -8,7 +8,7 @@ ghost use Rattle.hex_core.specs.Calls.{Answers};
 ghost use Rattle.hex_core.specs.Loan.{LendsAnswer};
 ghost use Rattle.hex_codec.specs.Grouped.{piece_len};
 ghost use Rattle.hex_codec.specs.GroupedText.{byte_count, grouped_len, refusal_of_count};
-ghost use Rattle.hex_codec.specs.GroupCalls.{Reads, ReadsFront, WritesGrouped};
+ghost use Rattle.hex_codec.specs.GroupCalls.{FrontIsRead, Reads, ReadsFront, WritesGrouped};
 ghost use Rattle.hex_codec.specs.GroupMessage.{group_fault_text};
 
 pub use crate::group::Group;
@@ -145,6 +145,19 @@ pub fn read_into(
     group: Group,
     case: CheckCase,
 ) -> Result<usize, GroupFault>
+    ensures answer { Reads case group src.now dst.old dst.new result }
+    ensures read { FrontIsRead case group src.now dst.old dst.new result }
+{
+    read_front(src, dst, group, case)
+}
+
+// Reads like `read_into`, which promises more.
+fn read_front(
+    src: &[u8],
+    dst: &mut [u8],
+    group: Group,
+    case: CheckCase,
+) -> Result<usize, GroupFault>
     ensures { Reads case group src.now dst.old dst.new result }
 {
     read_by(Backend::plain(), src, dst, group, case)
@@ -205,7 +218,7 @@ pub fn read<'a>(
     ensures* lends { sem 𝓛 (LendsAnswer dst.entry result) }
     ensures answer { ReadsFront case group src.now (length dst.old) result }
 {
-    match read_into(src, dst, group, case) {
+    match read_front(src, dst, group, case) {
         Ok(written) => Ok(&mut dst[..written]),
         Err(fault) => Err(fault),
     }

@@ -15,55 +15,56 @@ FillsBy-then m n a b c p q = (rw (q.0, p.0) (grind (arith, drop-drop)), q.1 ∙ 
 -- it took some bytes
 pub PutsPiece-takes : (a b : SinkState) (n : ℕ) (piece : List ℕ) → 0 < n → PutsPiece a b (Ok n) piece → Takes a b (take n piece)
 PutsPiece-takes a b zero piece some p = absurd (omega arith)
-PutsPiece-takes a b (suc n) piece some p = (p.0.1, omega (arith, p.1), rw (length-take-le (suc n) piece p.0.0) p.0.2)
+PutsPiece-takes a b (suc n) piece some p = record { appended = p.0.1; unfailed = omega (arith, p.1); filled = rw (length-take-le (suc n) piece p.0.0) p.0.2 }
 
 -- it took none, or was refused
 pub PutsPiece-stops : (a b : SinkState) (r : Result ℕ SinkFault) (piece : List ℕ) → 0 < length piece → IfOk r (λ n. n ≡ 0) → PutsPiece a b r piece → Stops a b piece
 PutsPiece-stops a b (Ok zero) [] some none p = absurd (omega arith)
 PutsPiece-stops a b (Ok zero) (x ∷ piece) some none p =
-    (record { front = []; rest = x ∷ piece; parts = refl; appended = p.0.1; filled = p.0.2 }, p.1, grind (arith, p.2))
+    record { begun = record { front = []; rest = x ∷ piece; parts = refl; appended = p.0.1; filled = p.0.2 }; failed = p.1; short = grind (arith, p.2) }
 PutsPiece-stops a b (Ok (suc n)) piece some none p = absurd (omega arith)
-PutsPiece-stops a b (Err e) piece some none p = (p.0, p.1, grind (arith, p.2))
+PutsPiece-stops a b (Err e) piece some none p = record { begun = p.0; failed = p.1; short = grind (arith, p.2) }
 
 -- ---- many puts
 
 -- nothing was put
 pub Takes-none : (a : SinkState) → Takes a a []
-Takes-none a = (Appends-nil a.taken, refl, (grind arith, refl))
+Takes-none a = record { appended = Appends-nil a.taken; unfailed = refl; filled = (grind arith, refl) }
 
 -- xs was taken, and then ys
 pub Takes-then : (a b c : SinkState) (xs ys : List ℕ) → Takes a b xs → Takes b c ys → Takes a c (xs ++ ys)
-Takes-then a b c xs ys p q = (Appends-trans _ _ _ _ _ p.0 q.0, q.1 ∙ p.1, rw length-append (FillsBy-then _ _ a b c p.2 q.2))
+Takes-then a b c xs ys p q =
+    record { appended = Appends-trans _ _ _ _ _ p.appended q.appended; unfailed = q.unfailed ∙ p.unfailed; filled = rw length-append (FillsBy-then _ _ a b c p.filled q.filled) }
 
 -- xs was taken without a failure, and then a put of ys failed
 pub Stops-then : (a b c : SinkState) (xs ys : List ℕ) → Takes a b xs → Stops b c ys → Stops a c (xs ++ ys)
 Stops-then a b c xs ys p q =
-    let left : room b ≡ room a - length xs = rw p.2.0 (grind (arith, length-drop)) in let begun = q.0 in (
-      record {
+    let left : room b ≡ room a - length xs = rw p.filled.0 (grind (arith, length-drop)) in let begun = q.begun in record {
+      begun = record {
         front = xs ++ begun.front;
         rest = begun.rest;
         parts = rw (append_assoc, begun.parts);
-        appended = Appends-trans _ _ _ _ _ p.0 begun.appended;
-        filled = rw length-append (FillsBy-then _ _ a b c p.2 begun.filled);
-      },
-      q.1 ∙ ap (λ n. n + 1) p.1,
-      simp length-append (omega (arith, q.2, left)),
-    )
+        appended = Appends-trans _ _ _ _ _ p.appended begun.appended;
+        filled = rw length-append (FillsBy-then _ _ a b c p.filled begun.filled);
+      };
+      failed = q.failed ∙ ap (λ n. n + 1) p.unfailed;
+      short = simp length-append (omega (arith, q.short, left));
+    }
 
 -- a put of xs failed, and nothing of ys was put
 pub Stops-stop : (a b : SinkState) (xs ys : List ℕ) → Stops a b xs → Stops a b (xs ++ ys)
 Stops-stop a b xs ys p =
-    let begun = p.0 in (
-      record {
+    let begun = p.begun in record {
+      begun = record {
         front = begun.front;
         rest = begun.rest ++ ys;
         parts = rw (← append_assoc begun.front begun.rest ys, begun.parts);
         appended = begun.appended;
         filled = begun.filled;
-      },
-      p.1,
-      simp length-append (omega (arith, p.2)),
-    )
+      };
+      failed = p.failed;
+      short = simp length-append (omega (arith, p.short));
+    }
 
 -- xs was taken without a failure, and then ys was put
 pub Puts-then : {E : Type 0} (a b c : SinkState) (r : Result (Unit {0}) E) (xs ys : List ℕ) → Takes a b xs → Puts b c r ys → Puts a c r (xs ++ ys)

@@ -5,7 +5,6 @@ pub mod Frame
 pub mod Sink
 pub mod Sinks
 pub mod SinkLaws
-pub mod FrameLaws
 pub mod Stream
 pub mod Lists
 pub mod Message

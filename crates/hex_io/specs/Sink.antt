@@ -45,12 +45,16 @@ PutsPiece old new result piece = MatchResult result
     × (0 < length piece → length piece ≤ room old → result ≡ Ok (length piece))
 
 -- some puts in a row took all of bs, and none failed
-abbrev pub Takes : SinkState → SinkState → List ℕ → Type 0
-Takes old new bs = Appends old.taken new.taken bs × (new.failures ≡ old.failures) × FillsBy (length bs) old new
+pub record Takes (old new : SinkState) (bs : List ℕ) : Type 0 where
+  pub appended : Appends old.taken new.taken bs
+  pub unfailed : new.failures ≡ old.failures
+  pub filled : FillsBy (length bs) old new
 
 -- or they ended early: a beginning of bs was taken, one put failed, and not all of bs fits
-abbrev pub Stops : SinkState → SinkState → List ℕ → Type 0
-Stops old new bs = AppendsBeginning old new bs × (new.failures ≡ old.failures + 1) × (room old < length bs)
+pub record Stops (old new : SinkState) (bs : List ℕ) : Type 0 where
+  pub begun : AppendsBeginning old new bs
+  pub failed : new.failures ≡ old.failures + 1
+  pub short : room old < length bs
 
 -- some puts in a row: at `Ok` they took all of bs, at `Err` they ended early
 abbrev pub Puts : {E : Type 0} → SinkState → SinkState → Result (Unit {0}) E → List ℕ → Type 0

@@ -1,4 +1,5 @@
--- Facts on puts that the definitions imply.
+-- Facts on puts that the definitions imply. In the laws of puts in a row the later put stands first:
+-- it says where the search for the earlier ones begins.
 use Rattle.std.specs.Prelude.{◌≡◌, List, ℕ, [], ◌++◌, Result, IsErr, drop, length, take}
 use Rattle.hex_io.specs.declared.sink.WriteFault.{WriteFault}
 use Rattle.hex_io.specs.Sink.{Puts, SinkState, Stops, Takes}
@@ -10,15 +11,15 @@ TakesNothing = (sink : SinkState) → Takes sink sink []
 -- what took one list and then another took the joined list
 abbrev pub TakesInARow : Type 0
 TakesInARow = (first second third : SinkState) (xs ys : List ℕ)
-    → Takes first second xs
     → Takes second third ys
+    → Takes first second xs
     → Takes first third (xs ++ ys)
 
 -- what took one list and then stopped in another stopped in the joined list
 abbrev pub StopsInARow : Type 0
 StopsInARow = (first second third : SinkState) (xs ys : List ℕ)
-    → Takes first second xs
     → Stops second third ys
+    → Takes first second xs
     → Stops first third (xs ++ ys)
 
 -- what stopped in a list stopped in a longer one, of which no more was put
@@ -30,8 +31,8 @@ StopsEarlier = (first second : SinkState) (xs ys : List ℕ)
 -- what took one list and then put another, whatever came of it, put the joined list
 abbrev pub PutsInARow : Type 0
 PutsInARow = (first second third : SinkState) (result : Result (Unit {0}) WriteFault) (xs ys : List ℕ)
-    → Takes first second xs
     → Puts second third result ys
+    → Takes first second xs
     → Puts first third result (xs ++ ys)
 
 -- and what stopped in a list is a put of it that failed
@@ -41,7 +42,7 @@ StopsFail = (first second : SinkState) (result : Result (Unit {0}) WriteFault) (
     → Stops first second xs
     → Puts first second result xs
 
--- and so is what stopped in the front of a list
+-- what stopped in the front of a list is a put of the list that failed
 abbrev pub FrontsFail : Type 0
 FrontsFail = (first second : SinkState) (result : Result (Unit {0}) WriteFault) (xs all : List ℕ)
     → IsErr result

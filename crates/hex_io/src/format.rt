@@ -1,10 +1,10 @@
 //! A view of bytes that prints them as hex digits, with padding.
 
-ghost use Rattle.std.specs.Prelude.{◌≡◌, ◌-◌, ◌^◌, ◌<◌, Some};
+ghost use Rattle.std.specs.Prelude.{◌≡◌, ◌-◌, ◌^◌, ◌<◌, None, Some, false};
 ghost use Rattle.std.specs.Fmt.{WritesOnOk};
 ghost use Rattle.std.specs.Str.{IsAscii};
 ghost use Rattle.hex_core.specs.Text.{lowercase, text};
-ghost use Rattle.hex_io.specs.Frame.{frame, hex_bytes, plain_flags, sign_and_prefix};
+ghost use Rattle.hex_io.specs.Frame.{digits_of, frame, hex_bytes, plain_flags, sign_and_prefix};
 ghost use Rattle.hex_io.specs.Sink.{Puts};
 
 use crate::digits::{ENCODE_CHUNK, SHORT_SOURCE, encoded, put_digits};
@@ -112,21 +112,31 @@ impl<'a> Hex<'a> {
     /// ```
     pub fn write_to<S: Sink>(&self, sink: &mut S, flags: &HexFlags) -> Result<(), WriteFault>
         requires { (S.state sink.old).failures < 2 ^ 64 - 1 }
-        ensures { Puts (S.state sink.old) (S.state sink.new) result (frame flags.now (hex_bytes self.now)) }
+        ensures framed { Puts (S.state sink.old) (S.state sink.new) result (frame flags.now (hex_bytes self.now)) }
+        ensures bare { flags.now.plus ≡ false → flags.now.prefix ≡ false → flags.now.width ≡ None
+            → Puts (S.state sink.old) (S.state sink.new) result (digits_of flags.now (hex_bytes self.now)) }
     {
-        let front = sign_and_prefix(flags);
-        let padding = padding_len(flags, front, self.bytes);
-        if flags.zero {
-            put_all(sink, front)?;
-            put_copies(sink, '0', padding)?;
-            return put_digits(sink, flags.upper, flags.group, self.bytes);
-        }
-        let left = before_text(flags.align, padding);
-        put_copies(sink, flags.fill, left)?;
-        put_all(sink, front)?;
-        put_digits(sink, flags.upper, flags.group, self.bytes)?;
-        put_copies(sink, flags.fill, padding - left)
+        put_framed(self.bytes, sink, flags)
     }
+}
+
+// Puts the text of some bytes, padded as `flags` say: the parts of the frame, one after another.
+fn put_framed<S: Sink>(bytes: &[u8], sink: &mut S, flags: &HexFlags) -> Result<(), WriteFault>
+    requires { (S.state sink.old).failures < 2 ^ 64 - 1 }
+    ensures { Puts (S.state sink.old) (S.state sink.new) result (frame flags.now bytes.now) }
+{
+    let front = sign_and_prefix(flags);
+    let padding = padding_len(flags, front, bytes);
+    if flags.zero {
+        put_all(sink, front)?;
+        put_copies(sink, '0', padding)?;
+        return put_digits(sink, flags.upper, flags.group, bytes);
+    }
+    let left = before_text(flags.align, padding);
+    put_copies(sink, flags.fill, left)?;
+    put_all(sink, front)?;
+    put_digits(sink, flags.upper, flags.group, bytes)?;
+    put_copies(sink, flags.fill, padding - left)
 }
 
 impl fmt::Display for Hex<'_> {

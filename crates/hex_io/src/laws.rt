@@ -2,7 +2,6 @@
 //! does nothing. A proof that needs one calls it.
 
 ghost use Rattle.hex_io.specs.Decoder.{DecodersWereFed, WritesAsOneCall};
-ghost use Rattle.hex_io.specs.FrameLaws.{BareTextsAreDigits};
 ghost use Rattle.hex_io.specs.ListLaws.{FaultyListsNothing, ListsOneList, ReadNamesAreGood, ReadingInvertsWriting, WritingInvertsStrictReading};
 ghost use Rattle.hex_io.specs.SinkLaws.{FrontsFail, PutsInARow, RestsFollow, StopsEarlier, StopsFail, StopsInARow, TakesInARow, TakesNothing};
 
@@ -33,15 +32,14 @@ pub fn puts_in_a_row_are_one()
     ensures unput { StopsEarlier }
     ensures put { PutsInARow }
     ensures failed { StopsFail }
-    ensures front { FrontsFail }
-    ensures rest { RestsFollow }
     ensures none { TakesNothing }
 {}
 
-/// A text without sign, prefix and width is only its digits: the text of its bytes, grouped if
-/// there is a group.
-pub fn a_bare_text_is_its_digits()
-    ensures { BareTextsAreDigits }
+/// A put of the first bytes of a text and then of the rest is a put of the text, also if one failed:
+/// for a text that begins with constant bytes.
+pub fn a_text_is_put_from_its_front()
+    ensures front { FrontsFail }
+    ensures rest { RestsFollow }
 {}
 
 /// A written list is read as the same entries, under the digits' own case or either.

@@ -7,7 +7,7 @@ ghost use Rattle.hex_program.specs.Operations.{Runs, op_of_word, op_of_words, wi
 
 use hex_codec::hex_decode_vec_with_case;
 use hex_core::{CheckCase, Error};
-use hex_io::laws::{a_bare_text_is_its_digits, puts_in_a_row_are_one};
+use hex_io::laws::puts_in_a_row_are_one;
 use hex_io::{Hex, HexFlags, Sink, WriteFault, put_all};
 use std::alloc::{Allocator, Global};
 
@@ -83,7 +83,6 @@ fn put_text_line<S: Sink>(sink: &mut S, upper: bool, bytes: &[u8]) -> Result<(),
     requires { (S.state sink.old).failures < 2 ^ 64 - 1 }
     ensures { Puts (S.state sink.old) (S.state sink.new) result (text upper bytes.now ++ 10 ∷ []) }
 {
-    a_bare_text_is_its_digits();
     puts_in_a_row_are_one();
     let flags = HexFlags {
         upper,

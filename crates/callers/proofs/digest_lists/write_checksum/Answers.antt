@@ -11,8 +11,8 @@ use Rattle.callers.proofs.digest_lists.write_checksum.Goals as goal
 
 taken-over : (buf : MutBor (List ℕ)) (sink : SliceSink) (bytes : List ℕ) → Takes (fresh_state buf) (slice_state sink) bytes → sink.buf.now ≡ with_front buf.now bytes
 taken-over buf sink bytes takes =
-    let front : take sink.used sink.buf.now ≡ bytes = takes.0 in
-    let left : Some (drop sink.used sink.buf.now) ≡ Some (drop (length bytes) buf.now) = takes.2.0 in
+    let front : take sink.used sink.buf.now ≡ bytes = takes.appended in
+    let left : Some (drop sink.used sink.buf.now) ≡ Some (drop (length bytes) buf.now) = takes.filled.0 in
     sym (take-append-drop sink.used sink.buf.now) ∙ cc
 
 pub returns : goal.returns
@@ -22,4 +22,4 @@ returns c =
     let read = (c.reading_inverts_writing.ensures 32 lowercase (e ∷ []) ((size, c.a_slice_holds_bytes.ensures), tt) c.in_ok-write_to.ensures.0).0 in
     let takes = subst (λ start. Takes start (slice_state c.write_to.new.sink) (list_of lowercase (e ∷ []))) c.new-sink.ensures c.in_ok-write_to.ensures.1 in
     let front = taken-over (record { ref_ptr = c.args.buffer.ref_ptr; ghost_name = _; now = c.args.buffer.now }) c.write_to.new.sink (list_of lowercase (e ∷ [])) takes in
-    (list_of lowercase (e ∷ []), refl, read, search rules, search (rules, front, takes.2.1))
+    (list_of lowercase (e ∷ []), refl, read, search rules, search (rules, front, takes.filled.1))

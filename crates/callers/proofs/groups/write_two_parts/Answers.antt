@@ -18,4 +18,4 @@ returns-in_err-put_first_part g c =
     c.puts_in_a_row_are_one.ensures.failed _ _ c.from_residual.result _ c.from_residual.ensures.0 (rw (joined g (goal.at.returns-in_err-put_first_part g c).After-put_first_part) at stops)
 
 pub returns : goal.returns
-returns g c = rw (← joined g (goal.at.returns g c).After-put_first_part) (c.puts_in_a_row_are_one.ensures.put _ _ _ c.put_digits.result _ _ c.in_ok-put_first_part.ensures c.put_digits.ensures)
+returns g c = rw (← joined g (goal.at.returns g c).After-put_first_part) (c.puts_in_a_row_are_one.ensures.put _ _ _ c.put_grouped.result _ _ c.put_grouped.ensures c.in_ok-put_first_part.ensures)

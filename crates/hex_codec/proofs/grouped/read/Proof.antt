@@ -12,8 +12,8 @@ use Rattle.hex_codec.proofs.group.Group.TheLaws as GL
 use Rattle.hex_codec.specs.contracts.grouped.GroupFault as FR
 use Rattle.hex_codec.proofs.grouped.GroupFault.TheLaws as FL
 use Rattle.hex_codec.specs.GroupCalls.{Reads, ReadsFront}
-use Rattle.hex_codec.specs.contracts.grouped.read_into as g
-use Rattle.hex_codec.proofs.grouped.read_into.Met as g_met
+use Rattle.hex_codec.specs.contracts.grouped.read_front as g
+use Rattle.hex_codec.proofs.grouped.read_front.Met as g_met
 use Rattle.hex_codec.specs.contracts.grouped.read as f
 use Rattle.hex_codec.proofs.grouped.read.Statement.{statement}
 use Rattle.hex_codec.proofs.grouped.read.Code as code
@@ -61,7 +61,7 @@ read_spec 𝓤 𝓛 𝓜 𝓡 wired =
     -- [the slice for the call; what is kept; the token for the call; the source; its token; the group; the policy; the locals]
     nothing ! $ move ! (7 ∷ 0 ∷ []) $ fjoin ! $ move ! (6 ∷ 0 ∷ []) $ fjoin ! $ move ! (1 ∷ 0 ∷ []) $ fjoin ! $ move ! (3 ∷ 0 ∷ []) $ fjoin ! $
     nothing ! $ move ! (3 ∷ 0 ∷ []) $ join ! $ move ! (3 ∷ 0 ∷ []) $ join ! $ join ! $ nothing ! $ move ! (1 ∷ 0 ∷ []) $
-    calls ! 𝓜 𝓡 g.ended (g.clauses 𝓛 𝓜.mem 𝓡.returns) (g_met.met 𝓤 𝓛 𝓜 𝓡 (code.calls-hex_codec::grouped::read_into 𝓡.env wired))
+    calls ! 𝓜 𝓡 g.ended (g.clauses 𝓛 𝓜.mem 𝓡.returns) (g_met.met 𝓤 𝓛 𝓜 𝓡 (code.calls-hex_codec::grouped::read_front 𝓡.env wired))
     (((κ₀, (α ∷ [], tt)), (q₀, (full_share, tt)), tt, (src, (record dst { ghost_name = δ }, (group, (case, tt)))), y.0.4), tt) (id⊢ 𝓤 _)
     (and_then ! (get ! refl) (and_then ! (get ! refl) (and_then ! (get ! refl) (and_then ! (get ! refl) (no_more !))))) (λ v u ws. let new = ws.1.0 in
     move ! (1 ∷ []) $ use1 𝓛 (‵ (flft κ₀ q₀) ⊛ ‵ (flft (α ∷ []) full_share) ⊛ ‵ ftrue) (id⊢ 𝓤 _) $ split3 ! $ move ! (1 ∷ []) $ lft_end ! tt $

@@ -1,17 +1,12 @@
-use Rattle.std.proofs.Common.{drop, length, take-append-drop}
-use Rattle.hex_io.proofs.PutsLemmas.{Puts-err, Puts-stop, Puts-then, Stops-stop, Stops-then, Takes-none, Takes-then}
+use Rattle.hex_io.proofs.PutsLemmas.{Puts-err, Puts-then, Stops-stop, Stops-then, Takes-none, Takes-then}
 use Rattle.hex_io.proofs.laws.puts_in_a_row_are_one.Goals as goal
 
 pub returns : goal.returns
 returns c = record {
-  taken = Takes-then;
-  stopped = Stops-then;
+  taken = λ first second third xs ys later earlier. Takes-then first second third xs ys earlier later;
+  stopped = λ first second third xs ys later earlier. Stops-then first second third xs ys earlier later;
   unput = Stops-stop;
-  put = Puts-then;
+  put = λ first second third result xs ys later earlier. Puts-then first second third result xs ys earlier later;
   failed = λ first second result xs. Puts-err first second result xs;
-  front = λ first second result xs all err stops begins.
-      let parts = take-append-drop (length xs) all in rw (← parts, begins) (Puts-stop {a = first} {b = second} {xs = xs} result (drop (length xs) all) err stops);
-  rest = λ first second third result xs all took begins put.
-      let parts = take-append-drop (length xs) all in rw (← parts, begins) (Puts-then first second third result xs (drop (length xs) all) took put);
   none = Takes-none;
 }

@@ -26,7 +26,7 @@ served_at_three op left left' held held' status three = record {
 pub serves_run : (op : Op) (input : List ℕ) (left left' held' : Option (List ℕ)) (old new : SinkState) (ran : Result (Unit {0}) RunFault) (ended : Result (Unit {0}) Failure)
     → ReadsAll left left' input → Runs op input old new ran → Keeps new.taken held' → EndsRun ran ended → ServesOp op left left' old.taken held' (status_after ended)
 serves_run op input left left' held' old new (Ok done) (Ok well) all ran kept ends = record {
-  done = λ is_zero. record { input = input; output = ran.0; read = all; is_output = ran.1; written = Appends-kept old.taken new.taken held' ran.0 ran.2.0 kept };
+  done = λ is_zero. record { input = input; output = ran.0; read = all; is_output = ran.1; written = Appends-kept old.taken new.taken held' ran.0 ran.2.appended kept };
   refused = λ is_one. absurd (omega (arith, is_one));
   statuses = inl refl;
 }
