@@ -2,7 +2,7 @@
 use Rattle.std.proofs.Common.{◌≡◌, ℕ, ◌+◌, ◌*◌, ◌/◌, ◌^◌, ◌<◌, ◌≤◌, Bool, true, false, List, [], ◌∷◌, ◌++◌, length, length-append}
 use Rattle.std.proofs.Common.{take, drop, take-append-drop, length-drop, ◌-◌, slice_index, is_none, Option, Some, None}
 use Rattle.std.proofs.Common.{refl, sym, ◌∙◌, ap, append_assoc, arith, not}
-use Rattle.std.specs.Prelude.{option_map, IsSome}
+use Rattle.std.specs.Prelude.{◌↔◌, option_map, IsSome}
 use Rattle.std.specs.Option.{ForSome, option_to_list}
 use Rattle.std.proofs.Math.Seq.{drop-append_seam, take-append_seam}
 use Rattle.std.proofs.lemmas.Bool.Decides.{nat_tests}
@@ -20,7 +20,7 @@ use Rattle.hex_core.specs.Text.{Spells, with_front}
 use Rattle.hex_core.proofs.JoinLemmas.{back_at, spells-joined, valid-both, valid-parts}
 use Rattle.hex_core.proofs.LawProofs.{valid-spelled}
 use Rattle.hex_core.proofs.PositionLemmas.{before_none, none_joined, position-joined}
-use Rattle.hex_core.proofs.SearchLemmas.{none_valid}
+use Rattle.hex_core.proofs.SearchLemmas.{lacks, none_valid}
 use Rattle.hex_codec.proofs.ListLemmas.{put-behind}
 use Rattle.hex_io.specs.Decoder.{PairsSpell, feed_refusal, pairs_more, refusal_by}
 use Rattle.hex_io.specs.Reading.{SpellsBut, digits_in, first_stray, is_solid, is_stray, plain, spaced, stray_of, unspaced}
@@ -45,27 +45,26 @@ digits-plain r s is = rw is refl
 pub digits-spaced : (r : Reading) (s : List ℕ) → r.skips ≡ true → digits_in r s ≡ unspaced s
 digits-spaced r s is = rw is refl
 
--- no byte is stray where all digits are valid
-solid-valid : (c : CheckCase) (s : List ℕ) → first_invalid c (unspaced s) ≡ None → first_stray (spaced c) s ≡ None
-solid-valid c [] valid = refl
-solid-valid c (b ∷ s) valid = by_first (is_solid b) refl (solid-valid c s)
+-- no byte is stray exactly where all digits are valid
+pub solid-valid : (c : CheckCase) (s : List ℕ) → (first_stray (spaced c) s ≡ None) ↔ (first_invalid c (unspaced s) ≡ None)
+solid-valid c [] = (λ _. refl, λ _. refl)
+solid-valid c (b ∷ s) = by_first (is_solid b) refl (solid-valid c s)
   where
-    both : first_stray (spaced c) (b ∷ []) ≡ None → first_stray (spaced c) s ≡ None → first_stray (spaced c) (b ∷ s) ≡ None
-    both one rest = (none_joined (is_stray (spaced c)) (b ∷ []) s).1 (one, rest)
-
-    by_first : (t : Bool) → is_solid b ≡ t → (first_invalid c (unspaced s) ≡ None → first_stray (spaced c) s ≡ None) → first_stray (spaced c) (b ∷ s) ≡ None
+    by_first : (t : Bool) → is_solid b ≡ t → (first_stray (spaced c) s ≡ None) ↔ (first_invalid c (unspaced s) ≡ None) → (first_stray (spaced c) (b ∷ s) ≡ None) ↔ (first_invalid c (unspaced (b ∷ s)) ≡ None)
     by_first true is rest =
+        let strays = none_joined (is_stray (spaced c)) (b ∷ []) s in let invalid = none_joined (lacks c) (b ∷ []) (unspaced s) in
+        let one : first_stray (spaced c) (b ∷ []) ≡ first_invalid c (b ∷ []) = rw is refl in
         let all : unspaced (b ∷ s) ≡ b ∷ unspaced s = rw is refl in
-        let parts = valid-parts c (b ∷ []) (unspaced s) (rw all at valid) in
-        let same : first_stray (spaced c) (b ∷ []) ≡ first_invalid c (b ∷ []) = rw is refl in
-        both (same ∙ parts.0) (rest parts.1)
+        rw all (λ none. invalid.1 (sym one ∙ (strays.0 none).0, rest.0 (strays.0 none).1), λ none. strays.1 (one ∙ (invalid.0 none).0, rest.1 (invalid.0 none).1))
     by_first false is rest =
+        let strays = none_joined (is_stray (spaced c)) (b ∷ []) s in
+        let one : first_stray (spaced c) (b ∷ []) ≡ None = rw is refl in
         let all : unspaced (b ∷ s) ≡ unspaced s = rw is refl in
-        both (rw is refl) (rest (rw all at valid))
+        rw all (λ none. rest.0 (strays.0 none).1, λ none. strays.1 (one, rest.1 none))
 
 pub none-stray : (c : CheckCase) (skips : Bool) (s : List ℕ) → let r : Reading = record { case = c; skips = skips } in
     first_invalid c (digits_in r s) ≡ None → first_stray r s ≡ None
-none-stray c true s valid = solid-valid c s valid
+none-stray c true s valid = (solid-valid c s).1 valid
 none-stray c false s valid = valid
 
 -- ---- single digits
@@ -111,30 +110,11 @@ pair-first c high byte [] bytes v some spelled rest = absurd (omega (arith, some
 pair-first c high byte (low ∷ tail) bytes v some spelled rest =
     but-joined c (high ∷ low ∷ []) tail (byte ∷ []) bytes [] v (record { valid = valid-spelled c _ _ spelled; pairs = _; parts = refl; spelled = spelled }) rest
 
--- one digit more of a source with white space
-pub but-more : (c : CheckCase) (front s bytes more v w : List ℕ) (i : ℕ) → i < length s → is_solid (slice_index s i) ≡ true
-    → SpellsBut c (front ++ unspaced (take i s)) bytes v → SpellsBut c (v ++ slice_index s i ∷ []) more w
-    → SpellsBut c (front ++ unspaced (take (i + 1) s)) (bytes ++ more) w
-but-more c front s bytes more v w i inside solid first second =
-    let next : unspaced (take (i + 1) s) ≡ unspaced (take i s) ++ slice_index s i ∷ [] = rw (filter_more is_solid s i 0 inside, solid) refl in
-    rw (next, ← append_assoc front (unspaced (take i s)) (slice_index s i ∷ []))
-    (but-joined c (front ++ unspaced (take i s)) (slice_index s i ∷ []) bytes more v w first second)
-
--- of which there are more than before it
-pub fewer-before : (s : List ℕ) (i : ℕ) → i < length s → is_solid (slice_index s i) ≡ true → length (unspaced (take i s)) < length (unspaced s)
-fewer-before s i inside solid =
-    let more = rw solid at (length-filter_more is_solid s i 0 inside) in
-    let parts : unspaced s ≡ unspaced (take (i + 1) s) ++ unspaced (drop (i + 1) s) =
-    rw (← filter-append is_solid (take (i + 1) s) (drop (i + 1) s), take-append-drop (i + 1) s) refl in
-    omega (arith, more, ap length parts, length-append (unspaced (take (i + 1) s)) (unspaced (drop (i + 1) s)))
-
--- and which is decoded where no byte is stray
-pub solid-read : (c : CheckCase) (s : List ℕ) (i : ℕ) (w : Option ℕ) (old new : List ℕ) (result : Option (Option ℕ)) → first_stray (spaced c) s ≡ None
-    → i < length s → is_solid (slice_index s i) ≡ true → DecodesChunk (plain c) w (slice_index s i ∷ []) old new result → IsSome result
-solid-read c s i w old new (Some more) none inside solid read = refl
-solid-read c s i w old new None none inside solid refused =
-    let valid : is_none (value c (slice_index s i)) ≡ false = rw solid at (before_none (is_stray (spaced c)) s none i inside) in
-    absurd (refused.0 (rw valid refl))
+-- a block with no stray byte is decoded
+pub solid-read : (c : CheckCase) (block digits : List ℕ) (w : Option ℕ) (old new : List ℕ) (result : Option (Option ℕ)) → first_stray (spaced c) block ≡ None
+    → digits ≡ unspaced block → DecodesChunk (plain c) w digits old new result → IsSome result
+solid-read c block digits w old new (Some more) none is read = refl
+solid-read c block digits w old new None none is refused = absurd (refused.0 (rw is ((solid-valid c block).0 none)))
 
 -- bytes that are written behind others
 pub put-more : (old dst part xs ys : List ℕ) (n : ℕ) → dst ≡ with_front old xs → n ≡ length xs → part ≡ with_front (take (length dst - n) (drop n dst)) ys

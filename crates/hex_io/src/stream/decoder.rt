@@ -9,7 +9,7 @@
 //! assert_eq!(rt; text.as_slice(), b"00abcd".as_slice());
 //! ```
 
-ghost use Rattle.std.specs.Prelude.{◌≡◌, ◌≢◌, ◌↔◌, ◌+◌, ◌-◌, ◌/◌, ◌%◌, ◌^◌, ◌<◌, ◌≤◌, ◌++◌, ◌∷◌, [], None, Some, drop, false, length, IfOk, IsSome, IsTrue, MatchOption, OnErr};
+ghost use Rattle.std.specs.Prelude.{◌≡◌, ◌≢◌, ◌↔◌, ◌+◌, ◌-◌, ◌/◌, ◌%◌, ◌^◌, ◌<◌, ◌≤◌, ◌++◌, ◌∷◌, [], None, Some, drop, take, false, length, IfOk, IsSome, IsTrue, MatchOption, OnErr};
 ghost use Rattle.std.specs.Option.{ForSome, option_to_list};
 ghost use Rattle.hex_core.specs.Digit.{value};
 ghost use Rattle.hex_core.specs.Text.{Spells};
@@ -17,6 +17,9 @@ ghost use Rattle.hex_io.specs.Reading.{digits_in, first_stray, plain, spaced, un
 ghost use Rattle.hex_io.specs.inside.{DecodesChunk, DecodesDigits, stray_behind};
 
 use hex_core::{Backend, CheckCase, Error, digit_value};
+
+// Bytes of a source that are freed of white space at a time.
+const SPACED_BLOCK: usize = 512;
 
 // How a source is read: under which policy, and whether white space among its digits is skipped.
 #[derive(Clone, Copy, Debug, PartialEq, Eq)]
@@ -208,7 +211,7 @@ impl Decoder {
         if !skips {
             return decode_pairs(self.waiting, src, dst, case);
         }
-        if self.first_stray(src).is_some() {
+        if !is_clean(src, case) {
             return None;
         }
         Some(decode_spaced(self.waiting, src, dst, case))
@@ -241,6 +244,21 @@ impl Decoder {
     }
 }
 
+// Whether each byte of a source is white space or a digit. Digits, which may be secret, are tested as
+// those of any source are.
+fn is_clean(src: &[u8], case: CheckCase) -> bool
+    ensures { IsTrue result ↔ (first_stray (spaced case) src.now ≡ None) }
+{
+    let mut digits = [0; SPACED_BLOCK];
+    for block in src.chunks(SPACED_BLOCK) {
+        let count = copy_unspaced(block, &mut digits);
+        if !Backend::plain().check(&digits[..count], case) {
+            return false;
+        }
+    }
+    true
+}
+
 // Decodes digits among which white space stands and nothing else, and returns the one that then waits.
 fn decode_spaced(mut waiting: Option<u8>, src: &[u8], dst: &mut [u8], case: CheckCase) -> Option<u8>
     requires tested { ForSome waiting (λ digit. IsSome (value case digit)) }
@@ -248,15 +266,30 @@ fn decode_spaced(mut waiting: Option<u8>, src: &[u8], dst: &mut [u8], case: Chec
     requires room { (length (option_to_list waiting) + length (unspaced src.now)) / 2 ≤ length dst.old }
     ensures { DecodesDigits case (option_to_list waiting ++ unspaced src.now) dst.old dst.new result }
 {
-    let mut count = 0;
-    for i in 0..src.len() {
-        if src[i].is_ascii_whitespace() {
-            continue;
-        }
-        waiting = decode_pairs(waiting, &[src[i]], &mut dst[count..], case).unwrap();
-        count += usize::from(waiting.is_none());
+    let mut digits = [0; SPACED_BLOCK];
+    let mut done = 0;
+    for block in src.chunks(SPACED_BLOCK) {
+        let count = copy_unspaced(block, &mut digits);
+        let had = usize::from(waiting.is_some());
+        waiting = decode_pairs(waiting, &digits[..count], &mut dst[done..], case).unwrap();
+        done += (had + count) / 2;
     }
     waiting
+}
+
+// Copies the bytes that are no white space to the start of a block, and returns their number.
+#[tactic(auto, using(std::proofs::lemmas::List::Elements::filter_more))]
+fn copy_unspaced(src: &[u8], block: &mut [u8; SPACED_BLOCK]) -> usize
+    requires { length src.now ≤ SPACED_BLOCK }
+    ensures copied { take result block.new ≡ unspaced src.now }
+    ensures room { result ≤ SPACED_BLOCK }
+{
+    let mut count = 0;
+    for i in 0..src.len() {
+        block[count] = src[i];
+        count += usize::from(!src[i].is_ascii_whitespace());
+    }
+    count
 }
 
 // Decodes the pairs that more digits complete, and returns the digit that then waits.

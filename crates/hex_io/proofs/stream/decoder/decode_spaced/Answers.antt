@@ -1,47 +1,54 @@
-use Rattle.std.proofs.Common.{rules, tests, arith, ◌≡◌, ◌++◌, ◌∷◌, ◌+◌, ◌≤◌, ◌<◌, [], true, length, length-append, length-drop, slice_index, take}
+use Rattle.std.proofs.Common.{rules, tests, arith, ap, ◌≡◌, ◌∙◌, ◌++◌, ◌+◌, ◌≤◌, [], length, length-append, append-nil, append_assoc, take}
 use Rattle.std.specs.Option.{option_to_list}
-use Rattle.std.proofs.lemmas.List.{take_rest}
+use Rattle.std.specs.Slice.Iter.{chunks_rest}
+use Rattle.std.proofs.lemmas.List.{length-take-le}
+use Rattle.std.proofs.lemmas.List.Elements.{filter-append}
 use Rattle.hex_core.proofs.JoinLemmas.{valid-parts}
-use Rattle.hex_io.specs.Reading.{is_solid, unspaced}
-use Rattle.hex_io.proofs.DecoderLemmas.{but-more, count-but, fewer-before, put-more, read-valid, solid-read}
+use Rattle.hex_core.proofs.PositionLemmas.{none_joined}
+use Rattle.hex_io.specs.Reading.{is_solid, is_stray, spaced, unspaced}
+use Rattle.hex_io.proofs.DecoderLemmas.{but-joined, count-but, put-more, read-valid, solid-read, spells-none}
 use Rattle.hex_io.proofs.stream.decoder.decode_spaced.Goals as goal
+
+pub loop-block-init : goal.loop-block-init
+loop-block-init c =
+    (search rules, tt, search rules, ([], [], rw append-nil (spells-none c.args.case c.args.waiting c.requires.tested), search rules, search rules, search rules))
 
 pub decode_pairs-requires-clause-tested : goal.decode_pairs-requires-clause-tested
 decode_pairs-requires-clause-tested c =
-    let but = c.loop-i.invariant.1 in
-    read-valid c.args.case c.loop-i.waiting (valid-parts c.args.case but.pairs _ (rw but.parts at but.valid)).1
-
-pub decode_pairs-requires-clause-room : goal.decode_pairs-requires-clause-room
-decode_pairs-requires-clause-room c =
-    let s = c.args.src.now in let i = c.loop-i.i in let so_far = c.loop-i.invariant in let dst = c.loop-i.dst in
-    let inside : i < length s = search rules in
-    let solid : is_solid (slice_index s i) ≡ true = search rules in
-    let count = count-but c.args.case _ so_far.0 c.loop-i.waiting so_far.1 in
-    let size = length-append (option_to_list c.args.waiting) (unspaced (take i s)) in
-    rw (take_rest dst c.loop-i.count, length-drop c.loop-i.count dst)
-    (omega (arith, count, fewer-before s i inside solid, size, so_far.3, c.requires.room, c.loop-i.auto.dst))
+    let but = c.loop-block.invariant.3.2 in read-valid c.args.case c.loop-block.waiting (valid-parts c.args.case but.pairs _ (rw but.parts at but.valid)).1
 
 pub unwrap-waiting-requires : goal.unwrap-waiting-requires
 unwrap-waiting-requires c =
-    let s = c.args.src.now in let i = c.loop-i.i in
-    let inside : i < length s = search rules in
-    let solid : is_solid (slice_index s i) ≡ true = search rules in
-    solid-read c.args.case s i c.loop-i.waiting _ _ c.decode_pairs.result c.requires.valid inside solid c.decode_pairs.ensures
+    let so_far = c.loop-block.invariant.3 in let block = c.in-Some.block.now in let rest = chunks_rest c.next.new.self in
+    let stray = is_stray (spaced c.args.case) in
+    let parts : so_far.0 ++ (block ++ rest) ≡ c.args.src.now = rw c.in-Some.ensures.steps.1.0 at so_far.5 in
+    let behind = (none_joined stray so_far.0 (block ++ rest)).0 (rw parts c.requires.valid) in
+    solid-read c.args.case block _ c.loop-block.waiting _ _ c.decode_pairs.result ((none_joined stray block rest).0 behind.1).0 c.copy_unspaced-count.ensures.copied c.decode_pairs.ensures
 
-pub loop-i-preserved : goal.loop-i-preserved
-loop-i-preserved c =
-    let s = c.args.src.now in let i = c.loop-i.i in let so_far = c.loop-i.invariant in let front = option_to_list c.args.waiting in
-    let inside : i < length s = search rules in
-    let solid : is_solid (slice_index s i) ≡ true = search rules in
-    let more = rw c.unwrap-waiting.ensures at c.decode_pairs.ensures in
-    let count = count-but c.args.case _ so_far.0 c.loop-i.waiting so_far.1 in
-    let counted = count-but c.args.case _ more.0 c.unwrap-waiting.result more.1 in
-    let all = length-append (option_to_list c.loop-i.waiting) (slice_index s i ∷ []) in
-    let fits : length so_far.0 + length more.0 ≤ length c.args.dst.now =
-    omega (arith, count, counted, all, fewer-before s i inside solid, length-append front (unspaced (take i s)), c.requires.room) in
-    let one : c.from-count.result + length (option_to_list c.unwrap-waiting.result) ≡ 1 = search (rules, tests) in (
-      so_far.0 ++ more.0,
-      but-more c.args.case front s so_far.0 more.0 _ _ i inside solid so_far.1 more.1,
-      put-more c.args.dst.now c.loop-i.dst c.decode_pairs.new.dst so_far.0 more.0 c.loop-i.count so_far.2 so_far.3 more.2 fits,
-      omega (arith, one, counted, all, so_far.3, length-append so_far.0 more.0),
+pub loop-block-preserved : goal.loop-block-preserved
+loop-block-preserved c =
+    let case = c.args.case in let steps = c.in-Some.ensures.steps in let so_far = c.loop-block.invariant.3 in
+    let block = c.in-Some.block.now in let rest = chunks_rest c.next.new.self in let front = option_to_list c.args.waiting in
+    let parts : so_far.0 ++ (block ++ rest) ≡ c.args.src.now = rw steps.1.0 at so_far.5 in
+    let more = rw (c.unwrap-waiting.ensures, c.copy_unspaced-count.ensures.copied) at c.decode_pairs.ensures in
+    let count = count-but case _ so_far.1 c.loop-block.waiting so_far.2 in
+    let counted = count-but case _ more.0 c.unwrap-waiting.result more.1 in
+    let all : unspaced c.args.src.now ≡ unspaced so_far.0 ++ (unspaced block ++ unspaced rest) = rw (← parts, filter-append is_solid so_far.0 (block ++ rest), filter-append is_solid block rest) in
+    let joined = length-append (option_to_list c.loop-block.waiting) (unspaced block) in
+    let copied = c.copy_unspaced-count in
+    let size = length-take-le copied.result copied.new.block (omega (arith, copied.ensures.room, copied.array_long)) in
+    let had : c.from-had.result ≡ length (option_to_list c.loop-block.waiting) = search (rules, tests) in
+    let fits : length so_far.1 + length more.0 ≤ length c.args.dst.now = omega (arith, count, counted, joined, c.requires.room, length-append front (unspaced so_far.0),
+    length-append front (unspaced c.args.src.now), ap length all, length-append (unspaced so_far.0) (unspaced block ++ unspaced rest), length-append (unspaced block) (unspaced rest)) in (
+      search rules,
+      tt,
+      steps.0 ∙ c.loop-block.invariant.2,
+      (
+        so_far.0 ++ block,
+        so_far.1 ++ more.0,
+        rw (filter-append is_solid so_far.0 block, ← append_assoc front (unspaced so_far.0) (unspaced block)) (but-joined case _ _ _ _ _ _ so_far.2 more.1),
+        put-more c.args.dst.now c.loop-block.dst c.decode_pairs.new.dst so_far.1 more.0 c.loop-block.done so_far.3 so_far.4 more.2 fits,
+        omega (arith, had, counted, count, joined, size, ap length copied.ensures.copied, so_far.4, length-append so_far.1 more.0),
+        append_assoc so_far.0 block rest ∙ parts,
+      ),
     )
