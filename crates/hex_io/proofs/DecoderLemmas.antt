@@ -39,12 +39,6 @@ pub digits-le : (c : CheckCase) (skips : Bool) (s : List ℕ) → length (digits
 digits-le c true s = omega (arith, length-filter_both is_solid (λ b. not (is_solid b)) (λ _. refl) s)
 digits-le c false s = omega arith
 
-pub digits-plain : (r : Reading) (s : List ℕ) → r.skips ≡ false → digits_in r s ≡ s
-digits-plain r s is = rw is refl
-
-pub digits-spaced : (r : Reading) (s : List ℕ) → r.skips ≡ true → digits_in r s ≡ unspaced s
-digits-spaced r s is = rw is refl
-
 -- no byte is stray exactly where all digits are valid
 pub solid-valid : (c : CheckCase) (s : List ℕ) → (first_stray (spaced c) s ≡ None) ↔ (first_invalid c (unspaced s) ≡ None)
 solid-valid c [] = (λ _. refl, λ _. refl)

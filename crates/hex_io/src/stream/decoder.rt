@@ -181,12 +181,11 @@ impl Decoder {
     fn digit_count(&self, src: &[u8]) -> usize
         ensures { result ≡ length (digits_in (reading_of self.now) src.now) }
     {
-        if !self.reading.skips {
-            return src.len();
+        if self.reading.skips {
+            solid_count(src)
+        } else {
+            src.len()
         }
-        src.iter()
-            .filter(|byte| !byte.is_ascii_whitespace())
-            .count()
     }
 
     // Pairs that so many more digits complete.
@@ -242,6 +241,15 @@ impl Decoder {
             byte: src[index],
         }
     }
+}
+
+// How many bytes of a source are no white space.
+fn solid_count(src: &[u8]) -> usize
+    ensures { result ≡ length (unspaced src.now) }
+{
+    src.iter()
+        .filter(|byte| !byte.is_ascii_whitespace())
+        .count()
 }
 
 // Whether each byte of a source is white space or a digit. Digits, which may be secret, are tested as

@@ -1,5 +1,5 @@
 -- A decoder may have been fed as many pairs of zeros as it has counted, or white space, and then the digit that waits.
-use Rattle.std.proofs.Common.{◌≡◌, arith, ℕ, zero, suc, Bool, true, false, List, [], ◌++◌, ◌-◌, ◌/◌, ◌<◌, replicate, length, length-append, Option, None, Some, refl}
+use Rattle.std.proofs.Common.{◌≡◌, arith, ℕ, zero, suc, Bool, true, false, List, [], ◌++◌, ◌-◌, ◌/◌, ◌%◌, ◌<◌, ◌≤◌, replicate, length, length-append, Option, None, Some, refl}
 use Rattle.std.specs.Prelude.{IsSome}
 use Rattle.std.specs.Option.{ForSome, option_to_list}
 use Rattle.std.proofs.lemmas.Bool.Decides.{nat_tests}
@@ -10,10 +10,8 @@ use Rattle.hex_core.specs.declared.digit.CheckCase.TheVariants as policy
 use Rattle.hex_core.specs.Digit.{value}
 use Rattle.hex_core.specs.Laws.{AreBytes, DecodingInvertsEncoding}
 use Rattle.hex_core.specs.Text.{Spells, text}
-use Rattle.hex_io.specs.Decoder.{HasFed}
-use Rattle.hex_io.specs.Reading.{is_solid, unspaced}
-use Rattle.hex_io.specs.declared.stream.decoder.Decoder.{Decoder}
-use Rattle.hex_io.proofs.DecoderLemmas.{digits-plain, digits-spaced, spells-but, spells-none}
+use Rattle.hex_io.specs.Reading.{SpellsBut, digits_in, is_solid, unspaced}
+use Rattle.hex_io.proofs.DecoderLemmas.{spells-but, spells-none}
 use Rattle.hex_io.proofs.laws.every_decoder_has_been_fed.Goals as goal
 
 zeros-small : (n : ℕ) → AreBytes (replicate n 0)
@@ -30,29 +28,18 @@ digit-kept c o (suc n) read = digit-kept c o n read
 digit-kept c None zero read = refl
 digit-kept c (Some d) zero read = let is = read d refl in let solid : is_solid d ≡ true = grind (arith, nat_tests, is) in rw solid refl
 
-was-fed : DecodingInvertsEncoding → (decoder : Decoder) (t : Bool) → decoder.reading.skips ≡ t
-    → (fed : List ℕ) × (written : List ℕ) × HasFed decoder fed written
-was-fed law decoder false is =
-    let pairs = decoder.position / 2 in
-    let zeros = zeros-spelled law decoder.reading.case pairs in
-    let fed = zeros.0 ++ option_to_list decoder.waiting in (
-      fed,
-      replicate pairs 0,
-      (
-        omega (arith, decoder.paired is, zeros.1.twice, length-append zeros.0 (option_to_list decoder.waiting), length-replicate {A = ℕ} pairs 0),
-        rw (digits-plain decoder.reading fed is) (spells-but decoder.reading.case fed zeros.0 (replicate pairs 0) decoder.waiting refl zeros.1 decoder.tested),
-      ),
-    )
-was-fed law decoder true is =
-    let w = decoder.waiting in let rest = option_to_list w in let blanks = decoder.position - length rest in
-    let fed = replicate blanks 32 ++ rest in (
-      fed,
-      [],
-      (
-        omega (arith, decoder.counted, length-append (replicate blanks 32) rest, length-replicate {A = ℕ} blanks 32),
-        rw (digits-spaced decoder.reading fed is, digit-kept decoder.reading.case w blanks decoder.tested) (spells-none decoder.reading.case w decoder.tested),
-      ),
-    )
+was-fed : DecodingInvertsEncoding → (c : CheckCase) (skips : Bool) (position : ℕ) (o : Option ℕ) → ForSome o (λ d. IsSome (value c d)) → length (option_to_list o) ≤ position
+    → (skips ≡ false → position % 2 ≡ length (option_to_list o))
+    → (fed : List ℕ) × (written : List ℕ) × ((position ≡ length fed) × SpellsBut c (digits_in (record { case = c; skips = skips }) fed) written (option_to_list o))
+was-fed law c false position o read counted paired =
+    let zeros = zeros-spelled law c (position / 2) in let fed = zeros.0 ++ option_to_list o in
+    let size = length-append zeros.0 (option_to_list o) in
+    (fed, replicate (position / 2) 0, (omega (arith, paired refl, zeros.1.twice, size, length-replicate {A = ℕ} (position / 2) 0), spells-but c fed zeros.0 (replicate (position / 2) 0) o refl zeros.1 read))
+was-fed law c true position o read counted paired =
+    let blanks = position - length (option_to_list o) in let fed = replicate blanks 32 ++ option_to_list o in
+    let size = length-append (replicate blanks 32) (option_to_list o) in
+    (fed, [], (omega (arith, counted, size, length-replicate {A = ℕ} blanks 32), rw (digit-kept c o blanks read) (spells-none c o read)))
 
 pub returns : goal.returns
-returns c = λ decoder. was-fed c.decoding_inverts_encoding.ensures decoder decoder.reading.skips refl
+returns c = λ decoder. let r = decoder.reading in
+    was-fed c.decoding_inverts_encoding.ensures r.case r.skips decoder.position decoder.waiting decoder.tested decoder.counted decoder.paired

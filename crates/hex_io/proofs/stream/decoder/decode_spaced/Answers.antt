@@ -38,8 +38,18 @@ loop-block-preserved c =
     let copied = c.copy_unspaced-count in
     let size = length-take-le copied.result copied.new.block (omega (arith, copied.ensures.room, copied.array_long)) in
     let had : c.from-had.result ≡ length (option_to_list c.loop-block.waiting) = search (rules, tests) in
-    let fits : length so_far.1 + length more.0 ≤ length c.args.dst.now = omega (arith, count, counted, joined, c.requires.room, length-append front (unspaced so_far.0),
-    length-append front (unspaced c.args.src.now), ap length all, length-append (unspaced so_far.0) (unspaced block ++ unspaced rest), length-append (unspaced block) (unspaced rest)) in (
+    let fits : length so_far.1 + length more.0 ≤ length c.args.dst.now = omega (
+      arith,
+      count,
+      counted,
+      joined,
+      c.requires.room,
+      length-append front (unspaced so_far.0),
+      length-append front (unspaced c.args.src.now),
+      ap length all,
+      length-append (unspaced so_far.0) (unspaced block ++ unspaced rest),
+      length-append (unspaced block) (unspaced rest),
+    ) in (
       search rules,
       tt,
       steps.0 ∙ c.loop-block.invariant.2,
