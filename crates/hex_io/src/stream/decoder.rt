@@ -252,19 +252,13 @@ fn solid_count(src: &[u8]) -> usize
         .count()
 }
 
-// Whether each byte of a source is white space or a digit. Digits, which may be secret, are tested as
-// those of any source are.
+// Whether each byte of a source is white space or a digit. No branch depends on one of them.
 fn is_clean(src: &[u8], case: CheckCase) -> bool
     ensures { IsTrue result ↔ (first_stray (spaced case) src.now ≡ None) }
 {
-    let mut digits = [0; SPACED_BLOCK];
-    for block in src.chunks(SPACED_BLOCK) {
-        let count = copy_unspaced(block, &mut digits);
-        if !Backend::plain().check(&digits[..count], case) {
-            return false;
-        }
-    }
-    true
+    src.iter().fold(true, |clean, byte| {
+        clean & (byte.is_ascii_whitespace() | digit_value(*byte, case).is_some())
+    })
 }
 
 // Decodes digits among which white space stands and nothing else, and returns the one that then waits.
