@@ -2,7 +2,7 @@
 use Rattle.std.proofs.Common.{◌≡◌, ℕ, ◌+◌, ◌*◌, ◌/◌, ◌^◌, ◌<◌, ◌≤◌, Bool, true, false, List, [], ◌∷◌, ◌++◌, length, length-append}
 use Rattle.std.proofs.Common.{take, drop, take-append-drop, length-drop, ◌-◌, slice_index, is_none, Option, Some, None}
 use Rattle.std.proofs.Common.{refl, sym, ◌∙◌, ap, append_assoc, arith, not}
-use Rattle.std.specs.Prelude.{◌↔◌, option_map, IsSome}
+use Rattle.std.specs.Prelude.{◌↔◌, ◌&&◌, filter, option_map, position, IsSome}
 use Rattle.std.specs.Option.{ForSome, option_to_list}
 use Rattle.std.proofs.Math.Seq.{drop-append_seam, take-append_seam}
 use Rattle.std.proofs.lemmas.Bool.Decides.{nat_tests}
@@ -39,22 +39,18 @@ pub digits-le : (c : CheckCase) (skips : Bool) (s : List ℕ) → length (digits
 digits-le c true s = omega (arith, length-filter_both is_solid (λ b. not (is_solid b)) (λ _. refl) s)
 digits-le c false s = omega arith
 
+-- a test passes at none that a filter keeps exactly where both pass at none
+none-kept : (p q : ℕ → Bool) (s : List ℕ) → (position (λ b. q b && p b) s ≡ None) ↔ (position p (filter q s) ≡ None)
+none-kept p q [] = (λ _. refl, λ _. refl)
+none-kept p q (b ∷ s) = by_first (q b) (p b) refl refl (none-kept p q s)
+  where
+    by_first : (t u : Bool) → q b ≡ t → p b ≡ u → (position (λ b. q b && p b) s ≡ None) ↔ (position p (filter q s) ≡ None) → (position (λ b. q b && p b) (b ∷ s) ≡ None) ↔ (position p (filter q (b ∷ s)) ≡ None)
+    by_first true u kept is rest = let both = none_joined (λ b. q b && p b) (b ∷ []) s in let behind = none_joined p (b ∷ []) (filter q s) in rw (kept, is) (grind (arith, nat_tests, rest, both, behind))
+    by_first false u left is rest = let both = none_joined (λ b. q b && p b) (b ∷ []) s in rw left (grind (arith, nat_tests, rest, both))
+
 -- no byte is stray exactly where all digits are valid
 pub solid-valid : (c : CheckCase) (s : List ℕ) → (first_stray (spaced c) s ≡ None) ↔ (first_invalid c (unspaced s) ≡ None)
-solid-valid c [] = (λ _. refl, λ _. refl)
-solid-valid c (b ∷ s) = by_first (is_solid b) refl (solid-valid c s)
-  where
-    by_first : (t : Bool) → is_solid b ≡ t → (first_stray (spaced c) s ≡ None) ↔ (first_invalid c (unspaced s) ≡ None) → (first_stray (spaced c) (b ∷ s) ≡ None) ↔ (first_invalid c (unspaced (b ∷ s)) ≡ None)
-    by_first true is rest =
-        let strays = none_joined (is_stray (spaced c)) (b ∷ []) s in let invalid = none_joined (lacks c) (b ∷ []) (unspaced s) in
-        let one : first_stray (spaced c) (b ∷ []) ≡ first_invalid c (b ∷ []) = rw is refl in
-        let all : unspaced (b ∷ s) ≡ b ∷ unspaced s = rw is refl in
-        rw all (λ none. invalid.1 (sym one ∙ (strays.0 none).0, rest.0 (strays.0 none).1), λ none. strays.1 (one ∙ (invalid.0 none).0, rest.1 (invalid.0 none).1))
-    by_first false is rest =
-        let strays = none_joined (is_stray (spaced c)) (b ∷ []) s in
-        let one : first_stray (spaced c) (b ∷ []) ≡ None = rw is refl in
-        let all : unspaced (b ∷ s) ≡ unspaced s = rw is refl in
-        rw all (λ none. rest.0 (strays.0 none).1, λ none. strays.1 (one, rest.1 none))
+solid-valid c s = none-kept (lacks c) is_solid s
 
 pub none-stray : (c : CheckCase) (skips : Bool) (s : List ℕ) → let r : Reading = record { case = c; skips = skips } in
     first_invalid c (digits_in r s) ≡ None → first_stray r s ≡ None
@@ -109,6 +105,10 @@ pub solid-read : (c : CheckCase) (block digits : List ℕ) (w : Option ℕ) (old
     → digits ≡ unspaced block → DecodesChunk (plain c) w digits old new result → IsSome result
 solid-read c block digits w old new (Some more) none is read = refl
 solid-read c block digits w old new None none is refused = absurd (refused.0 (rw is ((solid-valid c block).0 none)))
+
+-- two of three parts are no longer than the whole
+pub two-le : (a b c d e : List ℕ) → a ++ (b ++ c) ≡ d ++ e → length a + length b ≤ length d + length e
+two-le a b c d e is = omega (arith, ap length is, length-append a (b ++ c), length-append b c, length-append d e)
 
 -- bytes that are written behind others
 pub put-more : (old dst part xs ys : List ℕ) (n : ℕ) → dst ≡ with_front old xs → n ≡ length xs → part ≡ with_front (take (length dst - n) (drop n dst)) ys
