@@ -1,6 +1,6 @@
 //! Callers that decode and encode grouped digits, each proved.
 
-ghost use Rattle.std.specs.Prelude.{◌≡◌, ◌↔◌, ◌<◌, ◌≤◌, ◌-◌, ◌%◌, ◌^◌, ◌++◌, ◌∷◌, [], ℕ, List, Some, length};
+ghost use Rattle.std.specs.Prelude.{◌≡◌, ◌↔◌, IsTrue, ◌<◌, ◌≤◌, ◌-◌, ◌%◌, ◌^◌, ◌++◌, ◌∷◌, [], ℕ, List, Some, length};
 ghost use Rattle.hex_core.specs.declared.digit.CheckCase.TheVariants as policy;
 ghost use Rattle.hex_core.specs.Calls.{Fills};
 ghost use Rattle.hex_core.specs.Text.{lowercase};
@@ -9,7 +9,7 @@ ghost use Rattle.hex_codec.specs.GroupedText.{GroupSpells, group_refusal};
 ghost use Rattle.hex_io.specs.Sink.{Puts};
 
 use faster_hex::format::put_all;
-use faster_hex::grouped::{GroupFault, read_into, write_into};
+use faster_hex::grouped::{self, GroupFault, read_into, write_into};
 use faster_hex::{CheckCase, Group, Hex, HexFlags, Sink, WriteFault};
 use hex_codec::laws::{
     a_grouped_text_is_digits_and_separators, a_grouped_text_is_read_where_it_spells_a_list,
@@ -30,13 +30,23 @@ pub fn read_address(text: &[u8], group: Group) -> Option<[u8; 6]>
     ensures { (bytes : List ℕ) → ((result ≡ Some bytes)
         ↔ (GroupSpells policy.None group text.now bytes × (length bytes ≡ 6))) }
 {
-    a_grouped_text_is_read_where_it_spells_a_list();
     a_new_front_is_the_front();
     let mut address = [0; 6];
     match read_into(text, &mut address, group, CheckCase::None) {
         Ok(6) => Some(address),
         Ok(_) => None,
         Err(_) => None,
+    }
+}
+
+/// Returns whether a text is such an address, of at most six bytes.
+pub fn is_address(text: &[u8], group: Group) -> bool
+    ensures { IsTrue result ↔ ((bytes : List ℕ) × GroupSpells policy.None group text.now bytes × (length bytes ≤ 6)) }
+{
+    a_grouped_text_is_read_where_it_spells_a_list();
+    match grouped::read(text, &mut [0; 6], group, CheckCase::None) {
+        Ok(_) => true,
+        Err(_) => false,
     }
 }
 
@@ -98,7 +108,8 @@ pub fn write_two_parts<S: Sink>(
 {
     puts_in_a_row_are_one();
     whole_pieces_are_joined_by_the_separator();
-    put_first_part(front, group, sink)?;
+    put_grouped(front, group, sink)?;
+    put_all(sink, &[group.sep()])?;
     put_grouped(back, group, sink)
 }
 
@@ -115,17 +126,6 @@ pub fn split_piece(bytes: &[u8], group: Group) -> (&[u8], &[u8])
 {
     the_first_piece_is_the_front();
     bytes.split_at(group.every())
-}
-
-// Puts the grouped text of a part, and the separator after it.
-fn put_first_part<S: Sink>(part: &[u8], group: Group, sink: &mut S) -> Result<(), WriteFault>
-    requires { (S.state sink.old).failures < 2 ^ 64 - 1 }
-    ensures { Puts (S.state sink.old) (S.state sink.new) result
-        (grouped group lowercase part.now ++ (separator group ∷ [])) }
-{
-    puts_in_a_row_are_one();
-    put_grouped(part, group, sink)?;
-    put_all(sink, &[group.sep()])
 }
 
 // Puts the grouped text of some bytes.

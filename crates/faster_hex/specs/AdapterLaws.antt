@@ -6,7 +6,7 @@ use Rattle.hex_core.specs.Digit.{strict}
 use Rattle.hex_core.specs.Laws.{AreBytes}
 use Rattle.faster_hex.specs.declared.adapters.WireFormat.{WireFormat}
 use Rattle.faster_hex.specs.declared.adapters.AdapterError.TheVariants.{OverBound}
-use Rattle.faster_hex.specs.Adapters.{ReadFailure, Reads, ReadsOption, Writes, WritesOption, array_read_refusal, read_refusal, wire_text}
+use Rattle.faster_hex.specs.Adapters.{ReadFailure, Reads, ReadsOption, Writes, WritesOption, array_read_refusal, wire_text}
 
 -- a format reads what it writes: letters of either case, or of the case that it writes
 abbrev pub ReadsItsOwn : WireFormat → Type 0
@@ -18,11 +18,6 @@ ReadsOneList = (p : WireFormat) (max other : Option ℕ) (d : Data) (bytes other
     → Reads p max d bytes
     → Reads p other d others
     → bytes ≡ others
-
--- nothing is refused exactly where a list is read
-abbrev pub ReadsWhatIsNotRefused : Type 0
-ReadsWhatIsNotRefused = (p : WireFormat) (max : Option ℕ) (d : Data)
-    → (read_refusal p max d ≡ None) ↔ ((bytes : List ℕ) × Reads p max d bytes)
 
 -- a bounded read takes exactly what the unbounded one takes with at most so many bytes
 abbrev pub BoundedReadsWhatFits : Type 0

@@ -1,11 +1,10 @@
 //! Laws of the adapters, each as the contract of a function that does nothing. A proof that needs
 //! one calls it.
 
-ghost use Rattle.faster_hex.specs.AdapterLaws.{ArrayHasNoBound, BoundedReadsWhatFits, OptionReadingInvertsWriting, ReadingInvertsWriting, ReadsNoneApart, ReadsOneList, ReadsOneOption, ReadsWhatIsNotRefused, UnboundedHasNoBound, WritesNoneApart, WritingInvertsStrictReading};
+ghost use Rattle.faster_hex.specs.AdapterLaws.{ArrayHasNoBound, BoundedReadsWhatFits, OptionReadingInvertsWriting, ReadingInvertsWriting, ReadsNoneApart, ReadsOneList, ReadsOneOption, UnboundedHasNoBound, WritesNoneApart, WritingInvertsStrictReading};
 
 use hex_core::laws::{
-    a_source_is_accepted_where_it_spells_a_list, a_text_spells_one_list, decoding_inverts_encoding,
-    encoding_inverts_strict_decoding,
+    a_text_spells_one_list, decoding_inverts_encoding, encoding_inverts_strict_decoding,
 };
 
 /// A JSON value decodes to at most one list of bytes, whatever the bound; and to `None` or a list,
@@ -15,13 +14,6 @@ pub fn a_value_is_read_as_one_list()
     ensures option { ReadsOneOption }
 {
     a_text_spells_one_list();
-}
-
-/// A value is refused exactly if no list is read.
-pub fn a_value_is_read_where_nothing_is_refused()
-    ensures { ReadsWhatIsNotRefused }
-{
-    a_source_is_accepted_where_it_spells_a_list();
 }
 
 /// A bounded read accepts exactly what the unbounded one reads as at most so many bytes, with the
