@@ -79,7 +79,6 @@ pub fn read_line(line: &[u8], group: Group, buffer: &mut [u8]) -> Option<([u8; 4
 }
 
 // Returns the eight digits before a colon and a space, and what is behind.
-#[tactic(auto, using(std::proofs::lemmas::Grind::common_steps))]
 fn parts_of(line: &[u8]) -> Option<(&[u8], &[u8])>
     ensures parts { IfSome result (λ parts. line.now ≡ parts.0.now ++ (58 ∷ 32 ∷ []) ++ parts.1.now) }
     ensures all { (front back : List ℕ) → length front ≡ 8 → line.now ≡ front ++ (58 ∷ 32 ∷ []) ++ back
