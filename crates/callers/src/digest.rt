@@ -1,23 +1,18 @@
 //! A digest as its own type, with a single text, proved.
 
-ghost use Rattle.std.specs.Prelude.{◌≡◌, ◌-◌, ◌^◌, ◌<◌, ◌++◌, MatchResult, Ok, Some, IfOk, codes, length};
+ghost use Rattle.std.specs.Prelude.{◌≡◌, MatchResult, Ok, Some, IfOk, length};
 ghost use Rattle.std.specs.Cmp.Lexicographic.{slice_cmp};
 ghost use Rattle.std.specs.Ordering.{nat_cmp};
 ghost use Rattle.hex_core.specs.declared.digit.CheckCase.TheVariants as policy;
 ghost use Rattle.hex_core.specs.Refusal.{array_refusal};
 ghost use Rattle.hex_core.specs.Text.{Spells, lowercase, text};
-ghost use Rattle.hex_io.specs.Sink.{Puts};
 ghost use Rattle.callers.specs.declared.digest.Digest.{Digest};
 
-use faster_hex::format::put_all;
-use faster_hex::{
-    CheckCase, Error, Hex, HexFlags, Sink, WriteFault, hex_decode_array_with_case, hex_encode_into,
-};
+use faster_hex::{CheckCase, Error, Hex, hex_decode_array_with_case, hex_encode_into};
 use hex_core::laws::{
     a_slice_holds_bytes, decoding_inverts_encoding, encoding_inverts_strict_decoding,
     texts_compare_as_their_lists,
 };
-use hex_io::laws::a_text_is_put_from_its_front;
 use std::cmp::Ordering;
 use std::fmt;
 
@@ -85,16 +80,6 @@ impl Digest {
         let mut line = [0; 64];
         self.write(&mut line);
         Digest::parse(&line).unwrap()
-    }
-
-    /// Puts `sha256:` and the digits into a sink.
-    pub fn put_labelled<S: Sink>(&self, sink: &mut S) -> Result<(), WriteFault>
-        requires { (S.state sink.old).failures < 2 ^ 64 - 1 }
-        ensures { Puts (S.state sink.old) (S.state sink.new) result (codes "sha256:" ++ text lowercase self.now.bytes) }
-    {
-        a_text_is_put_from_its_front();
-        put_all(sink, b"sha256:")?;
-        Hex::new(&self.bytes).write_to(sink, &HexFlags::default())
     }
 
     /// Compares two digests like their texts, without writing them: a table of bytes and a file of
