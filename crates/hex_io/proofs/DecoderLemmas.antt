@@ -1,6 +1,6 @@
 -- Sources that come in chunks.
 use Rattle.std.proofs.Common.{◌≡◌, ℕ, ◌+◌, ◌*◌, ◌/◌, ◌^◌, ◌<◌, ◌≤◌, Bool, true, false, List, [], ◌∷◌, ◌++◌, length, length-append}
-use Rattle.std.proofs.Common.{take, drop, take-append-drop, length-drop, ◌-◌, slice_index, is_none, Option, Some, None}
+use Rattle.std.proofs.Common.{take, drop, length-drop, ◌-◌, slice_index, Option, Some, None}
 use Rattle.std.proofs.Common.{refl, sym, ◌∙◌, ap, append_assoc, arith, not}
 use Rattle.std.specs.Prelude.{◌↔◌, ◌&&◌, filter, option_map, position, IsSome}
 use Rattle.std.specs.Option.{ForSome, option_to_list}
@@ -8,8 +8,8 @@ use Rattle.std.proofs.Math.Seq.{drop-append_seam, take-append_seam}
 use Rattle.std.proofs.lemmas.Bool.Decides.{nat_tests}
 use Rattle.std.proofs.lemmas.Grind.{common_steps}
 use Rattle.std.proofs.lemmas.List.{drop-drop, take_rest}
-use Rattle.std.proofs.lemmas.List.Elements.{filter-append, filter_more}
-use Rattle.std.proofs.lemmas.List.Filters.{length-filter_both, length-filter_more}
+use Rattle.std.proofs.lemmas.List.Elements.{filter-append}
+use Rattle.std.proofs.lemmas.List.Filters.{length-filter_both}
 use borrow.Rule.Slice.PartMut.{put_mid}
 use Rattle.hex_core.specs.declared.digit.CheckCase.{CheckCase}
 use Rattle.hex_core.specs.declared.error.Error.{Error}
@@ -19,7 +19,7 @@ use Rattle.hex_core.specs.Search.{first_invalid}
 use Rattle.hex_core.specs.Text.{Spells, with_front}
 use Rattle.hex_core.proofs.JoinLemmas.{back_at, spells-joined, valid-both, valid-parts}
 use Rattle.hex_core.proofs.LawProofs.{valid-spelled}
-use Rattle.hex_core.proofs.PositionLemmas.{before_none, none_joined, position-joined}
+use Rattle.hex_core.proofs.PositionLemmas.{none_joined, position-joined}
 use Rattle.hex_core.proofs.SearchLemmas.{lacks, none_valid}
 use Rattle.hex_codec.proofs.ListLemmas.{put-behind}
 use Rattle.hex_io.specs.Decoder.{PairsSpell, feed_refusal, pairs_more, refusal_by}

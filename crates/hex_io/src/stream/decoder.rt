@@ -252,7 +252,8 @@ fn solid_count(src: &[u8]) -> usize
         .count()
 }
 
-// Whether each byte of a source is white space or a digit. No branch depends on one of them.
+// Whether each byte of a source is white space or a digit. A test that ends at the first other byte
+// would branch at each.
 fn is_clean(src: &[u8], case: CheckCase) -> bool
     ensures { IsTrue result ↔ (first_stray (spaced case) src.now ≡ None) }
 {

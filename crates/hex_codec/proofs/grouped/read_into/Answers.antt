@@ -1,5 +1,5 @@
 -- A grouped text spells one list at most, and where it spells one that fits nothing is refused.
-use Rattle.std.proofs.Common.{◌≡◌, ℕ, List, length, None, Result, Ok, Err, ap}
+use Rattle.std.proofs.Common.{ℕ, List, length, Result, Ok, Err, ap}
 use Rattle.hex_core.specs.declared.digit.CheckCase.{CheckCase}
 use Rattle.hex_codec.specs.declared.group.Group.{Group}
 use Rattle.hex_codec.specs.declared.grouped.GroupFault.{GroupFault}
