@@ -6,23 +6,24 @@ ghost use Rattle.hex_core.specs.Text.{lowercase, text, with_front};
 ghost use Rattle.hex_codec.specs.Grouped.{grouped};
 ghost use Rattle.hex_io.specs.Sink.{Puts};
 
-use faster_hex::format::put_all;
+use faster_hex::format::{put_all, put_digits};
 use faster_hex::grouped::read_into;
-use faster_hex::{CheckCase, Group, Hex, HexFlags, Sink, WriteFault, hex_decode_array_with_case};
+use faster_hex::{CheckCase, Group, Sink, WriteFault, hex_decode_array_with_case};
 use hex_codec::laws::{grouping_inverts_strict_reading, reading_inverts_grouping};
 use hex_core::laws::{
     a_text_is_ascii_and_twice_as_long, decoding_inverts_encoding, encoding_inverts_strict_decoding,
 };
 use hex_io::laws::puts_in_a_row_are_one;
 
-/// Writes a line into any sink: its offset's eight digits, a colon, a space, its bytes in groups.
+/// Writes a line into any sink: its offset's eight digits, a colon, a space, its bytes in groups, and a
+/// newline.
 ///
 /// ```rust
-/// let mut line = [0; 19];
+/// let mut line = [0; 20];
 /// let mut sink = faster_hex::SliceSink::new(&mut line);
 /// let group = Group::new(2, b' ').unwrap();
 /// write_line(&0x40_u32.to_be_bytes(), b"Rust", group, &mut sink)?;
-/// assert_eq!(rt; &line, b"00000040: 5275 7374");
+/// assert_eq!(rt; &line, b"00000040: 5275 7374\n");
 /// ```
 pub fn write_line<S: Sink>(
     offset: &[u8; 4],
@@ -32,19 +33,16 @@ pub fn write_line<S: Sink>(
 ) -> Result<(), WriteFault>
     requires { (S.state sink.old).failures < 2 ^ 64 - 1 }
     ensures { Puts (S.state sink.old) (S.state sink.new) result
-        (text lowercase offset.now ++ (58 ∷ 32 ∷ []) ++ grouped group lowercase bytes.now) }
+        (text lowercase offset.now ++ (58 ∷ 32 ∷ []) ++ grouped group lowercase bytes.now ++ (10 ∷ [])) }
 {
     puts_in_a_row_are_one();
-    let groups = HexFlags {
-        group: Some(group),
-        ..HexFlags::default()
-    };
-    Hex::new(offset).write_to(sink, &HexFlags::default())?;
+    put_digits(sink, offset, false, None)?;
     put_all(sink, b": ")?;
-    Hex::new(bytes).write_to(sink, &groups)
+    put_digits(sink, bytes, false, Some(group))?;
+    put_all(sink, b"\n")
 }
 
-/// Reads such a line: its bytes into the start of a buffer with room for them. Returns its offset
+/// Reads such a line without its newline: its bytes into the start of a buffer with room for them. Returns its offset
 /// and their number, or `None` if the line is no such line of so few bytes, with the buffer unchanged.
 ///
 /// ```rust

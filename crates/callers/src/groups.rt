@@ -8,9 +8,9 @@ ghost use Rattle.hex_codec.specs.Grouped.{grouped, piece_len, pieces, separator}
 ghost use Rattle.hex_codec.specs.GroupedText.{GroupSpells, group_refusal};
 ghost use Rattle.hex_io.specs.Sink.{Puts};
 
-use faster_hex::format::put_all;
+use faster_hex::format::{put_all, put_digits};
 use faster_hex::grouped::{self, GroupFault, read_into, write_into};
-use faster_hex::{CheckCase, Group, Hex, HexFlags, Sink, WriteFault};
+use faster_hex::{CheckCase, Group, Sink, WriteFault};
 use hex_codec::laws::{
     a_grouped_text_is_digits_and_separators, a_grouped_text_is_read_where_it_spells_a_list,
     grouping_inverts_strict_reading, the_first_piece_is_the_front,
@@ -40,6 +40,11 @@ pub fn read_address(text: &[u8], group: Group) -> Option<[u8; 6]>
 }
 
 /// Returns whether a text is such an address, of at most six bytes.
+///
+/// ```rust
+/// assert!(rt; is_address(b"0000.5E00", Group::new(2, b'.').unwrap()));
+/// assert!(rt; !is_address(b"0000-5E00", Group::new(2, b'.').unwrap()));
+/// ```
 pub fn is_address(text: &[u8], group: Group) -> bool
     ensures { IsTrue result ↔ ((bytes : List ℕ) × GroupSpells policy.None group text.now bytes × (length bytes ≤ 6)) }
 {
@@ -108,9 +113,9 @@ pub fn write_two_parts<S: Sink>(
 {
     puts_in_a_row_are_one();
     whole_pieces_are_joined_by_the_separator();
-    put_grouped(front, group, sink)?;
+    put_digits(sink, front, false, Some(group))?;
     put_all(sink, &[group.sep()])?;
-    put_grouped(back, group, sink)
+    put_digits(sink, back, false, Some(group))
 }
 
 /// Splits off the first piece of some bytes, which has a line of its own.
@@ -126,16 +131,4 @@ pub fn split_piece(bytes: &[u8], group: Group) -> (&[u8], &[u8])
 {
     the_first_piece_is_the_front();
     bytes.split_at(group.every())
-}
-
-// Puts the grouped text of some bytes.
-fn put_grouped<S: Sink>(bytes: &[u8], group: Group, sink: &mut S) -> Result<(), WriteFault>
-    requires { (S.state sink.old).failures < 2 ^ 64 - 1 }
-    ensures { Puts (S.state sink.old) (S.state sink.new) result (grouped group lowercase bytes.now) }
-{
-    let flags = HexFlags {
-        group: Some(group),
-        ..HexFlags::default()
-    };
-    Hex::new(bytes).write_to(sink, &flags)
 }

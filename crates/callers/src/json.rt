@@ -11,12 +11,10 @@ ghost use Rattle.faster_hex.specs.WireFormats as wire;
 ghost use Rattle.callers.specs.Records.{AnswersField};
 
 use faster_hex::laws::{
-    a_bound_refuses_what_is_longer_alone, a_value_is_read_as_one_list,
-    none_and_an_empty_list_stay_apart, reading_inverts_writing, strict_writing_inverts_reading,
+    a_bound_refuses_what_is_longer_alone, none_and_an_empty_list_stay_apart,
+    strict_writing_inverts_reading,
 };
 use faster_hex::{AdapterError, array, nopfx_ignorecase, nopfx_lowercase, option_nopfx_uppercase};
-use hex_codec::laws::an_optional_vec_holds_bytes;
-use hex_core::laws::a_slice_holds_bytes;
 use serde_json::Value;
 use std::alloc::Global;
 
@@ -57,8 +55,6 @@ pub fn write_id(alloc: Global, id: &[u8; 4]) -> Result<Value, AdapterError>
         (λ value. Reads wire.withpfx_ignorecase None (view value) id.now)
         (λ e. WriteFailure wire.withpfx_ignorecase id.now e) }
 {
-    a_slice_holds_bytes(id);
-    reading_inverts_writing();
     array::serialize(alloc, id)
 }
 
@@ -85,9 +81,6 @@ pub fn read_signature(alloc: Global, value: &Value) -> Result<Vec<u8>, AdapterEr
 pub fn reread_note(alloc: Global, note: &Option<Vec<u8>>) -> Result<Option<Vec<u8>>, AdapterError>
     ensures { IfOk result (λ read. option_map vec_items read ≡ option_map vec_items note.now) }
 {
-    an_optional_vec_holds_bytes(note);
-    reading_inverts_writing();
-    a_value_is_read_as_one_list();
     let bytes = match note {
         Some(bytes) => Some(bytes.as_slice()),
         None => None,

@@ -7,9 +7,9 @@ ghost use Rattle.hex_core.specs.Refusal.{OwnedFailure};
 ghost use Rattle.hex_core.specs.Text.{lowercase, text};
 ghost use Rattle.hex_io.specs.Sink.{Puts};
 
-use faster_hex::format::put_all;
+use faster_hex::format::{put_all, put_digits};
 use faster_hex::{
-    Error, Hex, HexFlags, Sink, WriteFault, hex_append_into, hex_decode_vec, hex_encode, hex_string,
+    Error, Sink, WriteFault, hex_append_into, hex_decode_vec, hex_encode, hex_string,
 };
 use hex_core::laws::{
     a_text_is_ascii_and_twice_as_long, either_case_is_the_lowercased_source,
@@ -70,11 +70,18 @@ pub fn lowercased(alloc: Global, digits: &[u8]) -> Result<String, Error>
 }
 
 /// Puts `sha256:` and the digits of a digest into any sink.
+///
+/// ```rust
+/// let mut text = [0; 71];
+/// let mut sink = faster_hex::SliceSink::new(&mut text);
+/// put_labelled(&[0xab; 32], &mut sink)?;
+/// assert!(rt; text.starts_with(b"sha256:abab"));
+/// ```
 pub fn put_labelled<S: Sink>(digest: &[u8; 32], sink: &mut S) -> Result<(), WriteFault>
     requires { (S.state sink.old).failures < 2 ^ 64 - 1 }
     ensures { Puts (S.state sink.old) (S.state sink.new) result (codes "sha256:" ++ text lowercase digest.now) }
 {
     a_text_is_put_from_its_front();
     put_all(sink, b"sha256:")?;
-    Hex::new(digest).write_to(sink, &HexFlags::default())
+    put_digits(sink, digest, false, None)
 }

@@ -1,16 +1,11 @@
 -- Facts on the adapters that the definitions imply.
-use Rattle.std.specs.Prelude.{◌≡◌, ◌≢◌, ◌≤◌, ◌↔◌, ◌⊎◌, ℕ, List, length, Option, Some, None, MatchOption, ⊤}
+use Rattle.std.specs.Prelude.{◌≡◌, ◌≢◌, ◌≤◌, ◌↔◌, ℕ, List, length, Option, Some, None, MatchOption, ⊤}
 use Rattle.serde_json.specs.Data.{Data, string}
-use Rattle.hex_core.specs.declared.digit.CheckCase.TheVariants as policy
 use Rattle.hex_core.specs.Digit.{strict}
 use Rattle.hex_core.specs.Laws.{AreBytes}
 use Rattle.faster_hex.specs.declared.adapters.WireFormat.{WireFormat}
 use Rattle.faster_hex.specs.declared.adapters.AdapterError.TheVariants.{OverBound}
-use Rattle.faster_hex.specs.Adapters.{ReadFailure, Reads, ReadsOption, Writes, WritesOption, array_read_refusal, wire_text}
-
--- a format reads what it writes: letters of either case, or of the case that it writes
-abbrev pub ReadsItsOwn : WireFormat → Type 0
-ReadsItsOwn p = (p.case ≡ policy.None) ⊎ (p.case ≡ strict p.upper)
+use Rattle.faster_hex.specs.Adapters.{ReadFailure, Reads, ReadsItsOwn, ReadsOption, Writes, WritesOption, array_read_refusal, wire_text}
 
 -- a value is read as at most one list, whatever the bound
 abbrev pub ReadsOneList : Type 0

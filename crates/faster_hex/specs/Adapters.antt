@@ -1,5 +1,5 @@
 -- How bytes stand in a JSON text: what writing gives, what reading answers and refuses.
-use Rattle.std.specs.Prelude.{◌≡◌, ◌≢◌, ◌<◌, ◌≤◌, ◌^◌, ℕ, ◌/◌, ◌%◌, ◌==◌, nat_lt, if◌then◌else◌, List, [], ◌++◌, length, take, drop, codes, Option, Some, None, option_map, Result, Ok, Err, MatchResult, vec_items, ⊤}
+use Rattle.std.specs.Prelude.{◌≡◌, ◌≢◌, ◌<◌, ◌≤◌, ◌^◌, ◌⊎◌, ℕ, ◌/◌, ◌%◌, ◌==◌, nat_lt, if◌then◌else◌, List, [], ◌++◌, length, take, drop, codes, Option, Some, None, option_map, Result, Ok, Err, IfOk, MatchResult, vec_items, ⊤}
 use Rattle.std.specs.Option.{ForSome}
 use Rattle.std.specs.Str.{bytes_eq}
 use Rattle.std.specs.declared.vec.Vec.{Vec}
@@ -8,7 +8,9 @@ use Rattle.serde_json.specs.Data.{Data, null, string}
 use Rattle.serde_json.specs.Find.{as_str}
 use Rattle.serde_json.specs.View.{view}
 use Rattle.hex_core.specs.declared.digit.CheckCase.{CheckCase}
+use Rattle.hex_core.specs.declared.digit.CheckCase.TheVariants as policy
 use Rattle.hex_core.specs.declared.error.Error.TheVariants as codec
+use Rattle.hex_core.specs.Digit.{strict}
 use Rattle.hex_core.specs.Refusal.{array_refusal, first_bad_char}
 use Rattle.hex_core.specs.Text.{Spells, text}
 use Rattle.hex_codec.specs.Failure.{GrowthFailure}
@@ -23,6 +25,10 @@ prefix p = if p.prefixed then codes "0x" else []
 -- the text of a list: the prefix and the digits
 abbrev pub wire_text : WireFormat → List ℕ → List ℕ
 wire_text p bytes = prefix p ++ text p.upper bytes
+
+-- a format reads what it writes: letters of either case, or of the case that it writes
+abbrev pub ReadsItsOwn : WireFormat → Type 0
+ReadsItsOwn p = (p.case ≡ policy.None) ⊎ (p.case ≡ strict p.upper)
 
 -- a list is written as a value: its text, whose length is a `usize`
 abbrev pub Writes : WireFormat → List ℕ → Data → Type 0
@@ -116,6 +122,14 @@ AnswersWrite p bytes result = MatchResult result (λ value. Writes p bytes (view
 abbrev pub AnswersOptionWrite : WireFormat → Option (List ℕ) → Result Value AdapterError → Type 0
 AnswersOptionWrite p bytes result = MatchResult result (λ value. WritesOption p bytes (view value)) (λ e. OptionWriteFailure p bytes e)
 
+-- and where it is written, the value is read as the same bytes
+abbrev pub IsReadBack : WireFormat → List ℕ → Result Value AdapterError → Type 0
+IsReadBack p bytes result = IfOk result (λ value. Reads p None (view value) bytes)
+
+-- or as none
+abbrev pub OptionIsReadBack : WireFormat → Option (List ℕ) → Result Value AdapterError → Type 0
+OptionIsReadBack p bytes result = IfOk result (λ value. ReadsOption p None (view value) bytes)
+
 -- a call that reads bytes within a bound: the list, or a failure
 abbrev pub AnswersRead : {A : Type 0} → WireFormat → Option ℕ → Value → Result (Vec ℕ A) AdapterError → Type 0
 AnswersRead p max value result = MatchResult result
@@ -154,3 +168,9 @@ OptionArrayIsRead p n value result = (bytes : Option (List ℕ)) → ReadsOption
 abbrev pub VecIsRead : {A : Type 0} → WireFormat → Option ℕ → Value → Result (Vec ℕ A) AdapterError → Type 0
 VecIsRead p max value result = (bytes : List ℕ) → Reads p None (view value) bytes → Within max (length bytes)
     → MatchResult result (λ read. vec_items read ≡ bytes) (λ e. e ≡ Codec codec.OutOfMemory)
+
+-- or none
+abbrev pub OptionVecIsRead : {A : Type 0} → WireFormat → Option ℕ → Value → Result (Option (Vec ℕ A)) AdapterError → Type 0
+OptionVecIsRead p max value result = (bytes : Option (List ℕ)) → ReadsOption p None (view value) bytes
+    → ForSome bytes (λ read. Within max (length read))
+    → MatchResult result (λ read. option_map vec_items read ≡ bytes) (λ e. e ≡ Codec codec.OutOfMemory)

@@ -7,10 +7,12 @@ ghost use Rattle.std.specs.Prelude.{◌≡◌, ◌<◌, ◌^◌, ◌/◌, ℕ, L
 ghost use Rattle.serde_json.specs.View.{view};
 ghost use Rattle.faster_hex.specs.AdapterMessage.{adapter_error_text};
 ghost use Rattle.faster_hex.specs.declared.adapters.AdapterError.TheVariants as adapter;
-ghost use Rattle.faster_hex.specs.Adapters.{AnswersArrayRead, AnswersOptionArrayRead, AnswersOptionRead, AnswersOptionWrite, AnswersRead, AnswersWrite, ArrayIsRead, OptionArrayIsRead, ReadFailure, VecIsRead, Within, WriteFailure, payload_in, prefix, wire_text};
+ghost use Rattle.faster_hex.specs.Adapters.{AnswersArrayRead, AnswersOptionArrayRead, AnswersOptionRead, AnswersOptionWrite, AnswersRead, AnswersWrite, ArrayIsRead, IsReadBack, OptionArrayIsRead, OptionIsReadBack, OptionVecIsRead, ReadFailure, ReadsItsOwn, VecIsRead, Within, WriteFailure, payload_in, prefix, wire_text};
 
+use crate::laws::reading_inverts_writing;
 use hex_codec::decode::{hex_decode_array_with_case, hex_decode_vec_with_case};
 use hex_codec::strings::prefixed_string;
+use hex_core::laws::a_slice_holds_bytes;
 use hex_core::{CheckCase, Error};
 use serde_json::Value;
 use std::alloc::{Allocator, Global};
@@ -278,7 +280,8 @@ pub fn read_option<A: Allocator + Drop>(
     max: Option<usize>,
     value: &Value,
 ) -> Result<Option<Vec<u8, A>>, AdapterError>
-    ensures { AnswersOptionRead format max value.now result }
+    ensures answer { AnswersOptionRead format max value.now result }
+    ensures read { OptionVecIsRead format max value.now result }
 {
     if value.is_null() {
         return Ok(None);
@@ -351,8 +354,11 @@ pub fn text_of<A: Allocator + Drop>(
 /// assert_eq!(rt; value.as_str(), Some("0xAB01"));
 /// ```
 pub fn write(alloc: Global, format: WireFormat, src: &[u8]) -> Result<Value, AdapterError>
-    ensures { AnswersWrite format src.now result }
+    ensures answer { AnswersWrite format src.now result }
+    ensures read { ReadsItsOwn format → IsReadBack format src.now result }
 {
+    a_slice_holds_bytes(src);
+    reading_inverts_writing();
     Ok(Value::String(text_of(alloc, format, src)?))
 }
 
@@ -371,7 +377,8 @@ pub fn write_option(
     format: WireFormat,
     src: Option<&[u8]>,
 ) -> Result<Value, AdapterError>
-    ensures { AnswersOptionWrite format (option_map (λ s. s.now) src.entry) result }
+    ensures answer { AnswersOptionWrite format (option_map (λ s. s.now) src.entry) result }
+    ensures read { ReadsItsOwn format → OptionIsReadBack format (option_map (λ s. s.now) src.entry) result }
 {
     match src {
         Some(bytes) => write(alloc, format, bytes),

@@ -10,7 +10,7 @@
 //! `array::deserialize` | `NotText`, `InvalidPrefix`, `InvalidLength`, `Codec(LengthMismatch)`, `Codec(InvalidChar)`
 
 ghost use Rattle.std.specs.Prelude.{None, Some};
-ghost use Rattle.faster_hex.specs.Adapters.{AnswersArrayRead, AnswersRead, AnswersWrite, ArrayIsRead, VecIsRead};
+ghost use Rattle.faster_hex.specs.Adapters.{AnswersArrayRead, AnswersRead, AnswersWrite, ArrayIsRead, IsReadBack, VecIsRead};
 ghost use Rattle.faster_hex.specs.WireFormats as wire;
 
 use crate::adapters::{AdapterError, WireFormat, read, read_array, write};
@@ -38,7 +38,8 @@ pub mod withpfx_ignorecase {
     /// assert_eq!(rt; value.as_str(), Some("0xab01"));
     /// ```
     pub fn serialize(alloc: Global, src: &[u8]) -> Result<Value, AdapterError>
-        ensures { AnswersWrite wire.withpfx_ignorecase src.now result }
+        ensures answer { AnswersWrite wire.withpfx_ignorecase src.now result }
+        ensures read { IsReadBack wire.withpfx_ignorecase src.now result }
     {
         write(alloc, WireFormat::WITHPFX_IGNORECASE, src)
     }
@@ -140,7 +141,8 @@ pub mod nopfx_ignorecase {
     /// Writes two lowercase digits for each byte, like [`crate::serialize`] but without a prefix. The empty
     /// text allocates nothing.
     pub fn serialize(alloc: Global, src: &[u8]) -> Result<Value, AdapterError>
-        ensures { AnswersWrite wire.nopfx_ignorecase src.now result }
+        ensures answer { AnswersWrite wire.nopfx_ignorecase src.now result }
+        ensures read { IsReadBack wire.nopfx_ignorecase src.now result }
     {
         write(alloc, WireFormat::NOPFX_IGNORECASE, src)
     }
@@ -186,7 +188,8 @@ pub mod withpfx_lowercase {
 
     /// Writes `0x` and two lowercase digits for each byte, like [`crate::serialize`].
     pub fn serialize(alloc: Global, src: &[u8]) -> Result<Value, AdapterError>
-        ensures { AnswersWrite wire.withpfx_lowercase src.now result }
+        ensures answer { AnswersWrite wire.withpfx_lowercase src.now result }
+        ensures read { IsReadBack wire.withpfx_lowercase src.now result }
     {
         write(alloc, WireFormat::WITHPFX_LOWERCASE, src)
     }
@@ -245,7 +248,8 @@ pub mod nopfx_lowercase {
     /// Writes two lowercase digits for each byte, like [`crate::serialize`] but without a prefix. The empty
     /// text allocates nothing.
     pub fn serialize(alloc: Global, src: &[u8]) -> Result<Value, AdapterError>
-        ensures { AnswersWrite wire.nopfx_lowercase src.now result }
+        ensures answer { AnswersWrite wire.nopfx_lowercase src.now result }
+        ensures read { IsReadBack wire.nopfx_lowercase src.now result }
     {
         write(alloc, WireFormat::NOPFX_LOWERCASE, src)
     }
@@ -291,7 +295,8 @@ pub mod withpfx_uppercase {
 
     /// Writes `0x` and two uppercase digits for each byte, like [`crate::serialize`].
     pub fn serialize(alloc: Global, src: &[u8]) -> Result<Value, AdapterError>
-        ensures { AnswersWrite wire.withpfx_uppercase src.now result }
+        ensures answer { AnswersWrite wire.withpfx_uppercase src.now result }
+        ensures read { IsReadBack wire.withpfx_uppercase src.now result }
     {
         write(alloc, WireFormat::WITHPFX_UPPERCASE, src)
     }
@@ -338,7 +343,8 @@ pub mod nopfx_uppercase {
     /// Writes two uppercase digits for each byte, like [`crate::serialize`] but without a prefix. The empty
     /// text allocates nothing.
     pub fn serialize(alloc: Global, src: &[u8]) -> Result<Value, AdapterError>
-        ensures { AnswersWrite wire.nopfx_uppercase src.now result }
+        ensures answer { AnswersWrite wire.nopfx_uppercase src.now result }
+        ensures read { IsReadBack wire.nopfx_uppercase src.now result }
     {
         write(alloc, WireFormat::NOPFX_UPPERCASE, src)
     }

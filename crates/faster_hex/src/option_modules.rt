@@ -3,7 +3,7 @@
 //! [`option_nopfx_lowercase`] has the calls of all.
 
 ghost use Rattle.std.specs.Prelude.{None, Some, option_map};
-ghost use Rattle.faster_hex.specs.Adapters.{AnswersOptionArrayRead, AnswersOptionRead, AnswersOptionWrite, OptionArrayIsRead};
+ghost use Rattle.faster_hex.specs.Adapters.{AnswersOptionArrayRead, AnswersOptionRead, AnswersOptionWrite, OptionArrayIsRead, OptionIsReadBack, OptionVecIsRead};
 ghost use Rattle.faster_hex.specs.WireFormats as wire;
 
 use crate::adapters::{AdapterError, WireFormat, read_option, read_option_array, write_option};
@@ -17,7 +17,8 @@ pub mod option_withpfx_ignorecase {
     /// Writes `None` as `null`, without allocating and without error, and `Some` like
     /// [`withpfx_ignorecase::serialize`](crate::withpfx_ignorecase::serialize).
     pub fn serialize(alloc: Global, src: Option<&[u8]>) -> Result<Value, AdapterError>
-        ensures { AnswersOptionWrite wire.withpfx_ignorecase (option_map (λ s. s.now) src.entry) result }
+        ensures answer { AnswersOptionWrite wire.withpfx_ignorecase (option_map (λ s. s.now) src.entry) result }
+        ensures read { OptionIsReadBack wire.withpfx_ignorecase (option_map (λ s. s.now) src.entry) result }
     {
         write_option(alloc, WireFormat::WITHPFX_IGNORECASE, src)
     }
@@ -25,7 +26,8 @@ pub mod option_withpfx_ignorecase {
     /// Reads `null` as `None`, and any other value like
     /// [`withpfx_ignorecase::deserialize`](crate::withpfx_ignorecase::deserialize).
     pub fn deserialize(alloc: Global, value: &Value) -> Result<Option<Vec<u8>>, AdapterError>
-        ensures { AnswersOptionRead wire.withpfx_ignorecase None value.now result }
+        ensures answer { AnswersOptionRead wire.withpfx_ignorecase None value.now result }
+        ensures read { OptionVecIsRead wire.withpfx_ignorecase None value.now result }
     {
         read_option(alloc, WireFormat::WITHPFX_IGNORECASE, None, value)
     }
@@ -35,7 +37,8 @@ pub mod option_withpfx_ignorecase {
         alloc: Global,
         value: &Value,
     ) -> Result<Option<Vec<u8>>, AdapterError>
-        ensures { AnswersOptionRead wire.withpfx_ignorecase (Some MAX) value.now result }
+        ensures answer { AnswersOptionRead wire.withpfx_ignorecase (Some MAX) value.now result }
+        ensures read { OptionVecIsRead wire.withpfx_ignorecase (Some MAX) value.now result }
     {
         read_option(alloc, WireFormat::WITHPFX_IGNORECASE, Some(MAX), value)
     }
@@ -63,7 +66,8 @@ pub mod option_nopfx_ignorecase {
     /// Writes `None` as `null`, without allocating and without error, and `Some` like
     /// [`nopfx_ignorecase::serialize`](crate::nopfx_ignorecase::serialize).
     pub fn serialize(alloc: Global, src: Option<&[u8]>) -> Result<Value, AdapterError>
-        ensures { AnswersOptionWrite wire.nopfx_ignorecase (option_map (λ s. s.now) src.entry) result }
+        ensures answer { AnswersOptionWrite wire.nopfx_ignorecase (option_map (λ s. s.now) src.entry) result }
+        ensures read { OptionIsReadBack wire.nopfx_ignorecase (option_map (λ s. s.now) src.entry) result }
     {
         write_option(alloc, WireFormat::NOPFX_IGNORECASE, src)
     }
@@ -71,7 +75,8 @@ pub mod option_nopfx_ignorecase {
     /// Reads `null` as `None`, and any other value like
     /// [`nopfx_ignorecase::deserialize`](crate::nopfx_ignorecase::deserialize).
     pub fn deserialize(alloc: Global, value: &Value) -> Result<Option<Vec<u8>>, AdapterError>
-        ensures { AnswersOptionRead wire.nopfx_ignorecase None value.now result }
+        ensures answer { AnswersOptionRead wire.nopfx_ignorecase None value.now result }
+        ensures read { OptionVecIsRead wire.nopfx_ignorecase None value.now result }
     {
         read_option(alloc, WireFormat::NOPFX_IGNORECASE, None, value)
     }
@@ -81,7 +86,8 @@ pub mod option_nopfx_ignorecase {
         alloc: Global,
         value: &Value,
     ) -> Result<Option<Vec<u8>>, AdapterError>
-        ensures { AnswersOptionRead wire.nopfx_ignorecase (Some MAX) value.now result }
+        ensures answer { AnswersOptionRead wire.nopfx_ignorecase (Some MAX) value.now result }
+        ensures read { OptionVecIsRead wire.nopfx_ignorecase (Some MAX) value.now result }
     {
         read_option(alloc, WireFormat::NOPFX_IGNORECASE, Some(MAX), value)
     }
@@ -109,7 +115,8 @@ pub mod option_withpfx_lowercase {
     /// Writes `None` as `null`, without allocating and without error, and `Some` like
     /// [`withpfx_lowercase::serialize`](crate::withpfx_lowercase::serialize).
     pub fn serialize(alloc: Global, src: Option<&[u8]>) -> Result<Value, AdapterError>
-        ensures { AnswersOptionWrite wire.withpfx_lowercase (option_map (λ s. s.now) src.entry) result }
+        ensures answer { AnswersOptionWrite wire.withpfx_lowercase (option_map (λ s. s.now) src.entry) result }
+        ensures read { OptionIsReadBack wire.withpfx_lowercase (option_map (λ s. s.now) src.entry) result }
     {
         write_option(alloc, WireFormat::WITHPFX_LOWERCASE, src)
     }
@@ -117,7 +124,8 @@ pub mod option_withpfx_lowercase {
     /// Reads `null` as `None`, and any other value like
     /// [`withpfx_lowercase::deserialize`](crate::withpfx_lowercase::deserialize).
     pub fn deserialize(alloc: Global, value: &Value) -> Result<Option<Vec<u8>>, AdapterError>
-        ensures { AnswersOptionRead wire.withpfx_lowercase None value.now result }
+        ensures answer { AnswersOptionRead wire.withpfx_lowercase None value.now result }
+        ensures read { OptionVecIsRead wire.withpfx_lowercase None value.now result }
     {
         read_option(alloc, WireFormat::WITHPFX_LOWERCASE, None, value)
     }
@@ -127,7 +135,8 @@ pub mod option_withpfx_lowercase {
         alloc: Global,
         value: &Value,
     ) -> Result<Option<Vec<u8>>, AdapterError>
-        ensures { AnswersOptionRead wire.withpfx_lowercase (Some MAX) value.now result }
+        ensures answer { AnswersOptionRead wire.withpfx_lowercase (Some MAX) value.now result }
+        ensures read { OptionVecIsRead wire.withpfx_lowercase (Some MAX) value.now result }
     {
         read_option(alloc, WireFormat::WITHPFX_LOWERCASE, Some(MAX), value)
     }
@@ -170,7 +179,8 @@ pub mod option_nopfx_lowercase {
     /// Writes `None` as `null`, without allocating and without error, and `Some` like
     /// [`nopfx_lowercase::serialize`](crate::nopfx_lowercase::serialize).
     pub fn serialize(alloc: Global, src: Option<&[u8]>) -> Result<Value, AdapterError>
-        ensures { AnswersOptionWrite wire.nopfx_lowercase (option_map (λ s. s.now) src.entry) result }
+        ensures answer { AnswersOptionWrite wire.nopfx_lowercase (option_map (λ s. s.now) src.entry) result }
+        ensures read { OptionIsReadBack wire.nopfx_lowercase (option_map (λ s. s.now) src.entry) result }
     {
         write_option(alloc, WireFormat::NOPFX_LOWERCASE, src)
     }
@@ -178,7 +188,8 @@ pub mod option_nopfx_lowercase {
     /// Reads `null` as `None`, and any other value like
     /// [`nopfx_lowercase::deserialize`](crate::nopfx_lowercase::deserialize).
     pub fn deserialize(alloc: Global, value: &Value) -> Result<Option<Vec<u8>>, AdapterError>
-        ensures { AnswersOptionRead wire.nopfx_lowercase None value.now result }
+        ensures answer { AnswersOptionRead wire.nopfx_lowercase None value.now result }
+        ensures read { OptionVecIsRead wire.nopfx_lowercase None value.now result }
     {
         read_option(alloc, WireFormat::NOPFX_LOWERCASE, None, value)
     }
@@ -188,7 +199,8 @@ pub mod option_nopfx_lowercase {
         alloc: Global,
         value: &Value,
     ) -> Result<Option<Vec<u8>>, AdapterError>
-        ensures { AnswersOptionRead wire.nopfx_lowercase (Some MAX) value.now result }
+        ensures answer { AnswersOptionRead wire.nopfx_lowercase (Some MAX) value.now result }
+        ensures read { OptionVecIsRead wire.nopfx_lowercase (Some MAX) value.now result }
     {
         read_option(alloc, WireFormat::NOPFX_LOWERCASE, Some(MAX), value)
     }
@@ -216,7 +228,8 @@ pub mod option_withpfx_uppercase {
     /// Writes `None` as `null`, without allocating and without error, and `Some` like
     /// [`withpfx_uppercase::serialize`](crate::withpfx_uppercase::serialize).
     pub fn serialize(alloc: Global, src: Option<&[u8]>) -> Result<Value, AdapterError>
-        ensures { AnswersOptionWrite wire.withpfx_uppercase (option_map (λ s. s.now) src.entry) result }
+        ensures answer { AnswersOptionWrite wire.withpfx_uppercase (option_map (λ s. s.now) src.entry) result }
+        ensures read { OptionIsReadBack wire.withpfx_uppercase (option_map (λ s. s.now) src.entry) result }
     {
         write_option(alloc, WireFormat::WITHPFX_UPPERCASE, src)
     }
@@ -224,7 +237,8 @@ pub mod option_withpfx_uppercase {
     /// Reads `null` as `None`, and any other value like
     /// [`withpfx_uppercase::deserialize`](crate::withpfx_uppercase::deserialize).
     pub fn deserialize(alloc: Global, value: &Value) -> Result<Option<Vec<u8>>, AdapterError>
-        ensures { AnswersOptionRead wire.withpfx_uppercase None value.now result }
+        ensures answer { AnswersOptionRead wire.withpfx_uppercase None value.now result }
+        ensures read { OptionVecIsRead wire.withpfx_uppercase None value.now result }
     {
         read_option(alloc, WireFormat::WITHPFX_UPPERCASE, None, value)
     }
@@ -234,7 +248,8 @@ pub mod option_withpfx_uppercase {
         alloc: Global,
         value: &Value,
     ) -> Result<Option<Vec<u8>>, AdapterError>
-        ensures { AnswersOptionRead wire.withpfx_uppercase (Some MAX) value.now result }
+        ensures answer { AnswersOptionRead wire.withpfx_uppercase (Some MAX) value.now result }
+        ensures read { OptionVecIsRead wire.withpfx_uppercase (Some MAX) value.now result }
     {
         read_option(alloc, WireFormat::WITHPFX_UPPERCASE, Some(MAX), value)
     }
@@ -262,7 +277,8 @@ pub mod option_nopfx_uppercase {
     /// Writes `None` as `null`, without allocating and without error, and `Some` like
     /// [`nopfx_uppercase::serialize`](crate::nopfx_uppercase::serialize).
     pub fn serialize(alloc: Global, src: Option<&[u8]>) -> Result<Value, AdapterError>
-        ensures { AnswersOptionWrite wire.nopfx_uppercase (option_map (λ s. s.now) src.entry) result }
+        ensures answer { AnswersOptionWrite wire.nopfx_uppercase (option_map (λ s. s.now) src.entry) result }
+        ensures read { OptionIsReadBack wire.nopfx_uppercase (option_map (λ s. s.now) src.entry) result }
     {
         write_option(alloc, WireFormat::NOPFX_UPPERCASE, src)
     }
@@ -270,7 +286,8 @@ pub mod option_nopfx_uppercase {
     /// Reads `null` as `None`, and any other value like
     /// [`nopfx_uppercase::deserialize`](crate::nopfx_uppercase::deserialize).
     pub fn deserialize(alloc: Global, value: &Value) -> Result<Option<Vec<u8>>, AdapterError>
-        ensures { AnswersOptionRead wire.nopfx_uppercase None value.now result }
+        ensures answer { AnswersOptionRead wire.nopfx_uppercase None value.now result }
+        ensures read { OptionVecIsRead wire.nopfx_uppercase None value.now result }
     {
         read_option(alloc, WireFormat::NOPFX_UPPERCASE, None, value)
     }
@@ -280,7 +297,8 @@ pub mod option_nopfx_uppercase {
         alloc: Global,
         value: &Value,
     ) -> Result<Option<Vec<u8>>, AdapterError>
-        ensures { AnswersOptionRead wire.nopfx_uppercase (Some MAX) value.now result }
+        ensures answer { AnswersOptionRead wire.nopfx_uppercase (Some MAX) value.now result }
+        ensures read { OptionVecIsRead wire.nopfx_uppercase (Some MAX) value.now result }
     {
         read_option(alloc, WireFormat::NOPFX_UPPERCASE, Some(MAX), value)
     }

@@ -371,7 +371,7 @@ fn put_line<S: Sink, const N: usize>(
     requires { (S.state sink.old).failures < 2 ^ 64 - 1 }
     ensures { Puts (S.state sink.old) (S.state sink.new) result (line_of upper entry.now ++ (10 ∷ [])) }
 {
-    put_digits(sink, upper, None, &entry.digest)?;
+    put_digits(sink, &entry.digest, upper, None)?;
     put_all(sink, &[b' ', mark_of(entry.binary)])?;
     put_all(sink, entry.name)?;
     put_all(sink, b"\n")

@@ -28,12 +28,29 @@ pub fn encoded<'b>(bytes: &[u8], upper: bool, buffer: &'b mut [u8]) -> &'b [u8]
     &buffer[..end]
 }
 
-/// Puts the digits of `bytes`, grouped if there is a group.
+/// Puts the digits of `bytes` alone into `sink`, in groups if there is a group.
+///
+/// On `Ok` the sink has taken exactly these digits more, and counted no failure. Allocates nothing.
+/// The number and size of the puts are unspecified.
+///
+/// # Errors
+///
+/// Those of [`Hex::write_to`](crate::format::Hex::write_to).
+///
+/// ```rust
+/// use hex_codec::Group;
+/// use hex_io::format::put_digits;
+///
+/// let mut buffer = [0; 8];
+/// let mut sink = SliceSink::new(&mut buffer);
+/// put_digits(&mut sink, &[0x1b, 0x21, 0xab], true, Group::new(1, b':'))?;
+/// assert_eq!(rt; sink.written(), b"1B:21:AB".as_slice());
+/// ```
 pub fn put_digits<S: Sink>(
     sink: &mut S,
+    bytes: &[u8],
     upper: bool,
     group: Option<Group>,
-    bytes: &[u8],
 ) -> Result<(), WriteFault>
     requires { (S.state sink.old).failures < 2 ^ 64 - 1 }
     ensures { Puts (S.state sink.old) (S.state sink.new) result (digits_by group upper bytes.now) }

@@ -7,7 +7,8 @@ ghost use Rattle.hex_core.specs.Text.{lowercase, text};
 ghost use Rattle.hex_io.specs.Frame.{digits_of, frame, hex_bytes, plain_flags, sign_and_prefix};
 ghost use Rattle.hex_io.specs.Sink.{Puts};
 
-use crate::digits::{ENCODE_CHUNK, SHORT_SOURCE, encoded, put_digits};
+pub use crate::digits::put_digits;
+use crate::digits::{ENCODE_CHUNK, SHORT_SOURCE, encoded};
 use crate::padding::{before_text, padding_len, put_copies};
 pub use crate::sink::{Sink, SinkFault, SliceSink, WriteFault, WriterSink, put_all};
 use hex_codec::Group;
@@ -130,12 +131,12 @@ fn put_framed<S: Sink>(bytes: &[u8], sink: &mut S, flags: &HexFlags) -> Result<(
     if flags.zero {
         put_all(sink, front)?;
         put_copies(sink, '0', padding)?;
-        return put_digits(sink, flags.upper, flags.group, bytes);
+        return put_digits(sink, bytes, flags.upper, flags.group);
     }
     let left = before_text(flags.align, padding);
     put_copies(sink, flags.fill, left)?;
     put_all(sink, front)?;
-    put_digits(sink, flags.upper, flags.group, bytes)?;
+    put_digits(sink, bytes, flags.upper, flags.group)?;
     put_copies(sink, flags.fill, padding - left)
 }
 

@@ -3,20 +3,20 @@ use Rattle.std.proofs.Common.{rules, ◌≡◌, ◌∷◌, ◌++◌, [], append_
 use Rattle.hex_codec.specs.Grouped.{grouped, separator}
 use Rattle.hex_core.specs.Text.{lowercase}
 use Rattle.callers.proofs.groups.write_two_parts.Goals as goal
-use Rattle.callers.proofs.groups.write_two_parts.Goals.{After-put_grouped}
+use Rattle.callers.proofs.groups.write_two_parts.Goals.{After-put_digits}
 use Rattle.callers.proofs.groups.write_two_parts.Given as given
 
-joined : (g : given.Over) (c : After-put_grouped g) → let shown = grouped c.args.group lowercase in
+joined : (g : given.Over) (c : After-put_digits g) → let shown = grouped c.args.group lowercase in
     shown c.args.front.now ++ (separator c.args.group ∷ []) ++ shown c.args.back.now ≡ shown (c.args.front.now ++ c.args.back.now)
 joined g c =
     rw (c.whole_pieces_are_joined_by_the_separator.ensures c.args.group lowercase c.args.front.now c.args.back.now c.requires.whole c.requires.both.0 c.requires.both.1)
     (append_assoc _ (separator c.args.group ∷ []) _)
 
-pub returns-in_err-put_grouped : goal.returns-in_err-put_grouped
-returns-in_err-put_grouped g c = rw (← joined g (goal.at.returns-in_err-put_grouped g c).After-put_grouped) (search rules)
+pub returns-in_err-put_digits : goal.returns-in_err-put_digits
+returns-in_err-put_digits g c = rw (← joined g (goal.at.returns-in_err-put_digits g c).After-put_digits) (search rules)
 
 pub returns-in_err-put_all : goal.returns-in_err-put_all
-returns-in_err-put_all g c = rw (← joined g (goal.at.returns-in_err-put_all g c).After-put_grouped) (search rules)
+returns-in_err-put_all g c = rw (← joined g (goal.at.returns-in_err-put_all g c).After-put_digits) (search rules)
 
 pub returns : goal.returns
-returns g c = rw (← joined g (goal.at.returns g c).After-put_grouped) (search rules)
+returns g c = rw (← joined g (goal.at.returns g c).After-put_digits) (search rules)

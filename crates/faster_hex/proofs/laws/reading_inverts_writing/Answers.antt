@@ -6,8 +6,8 @@ use Rattle.hex_core.specs.Text.{Spells, text}
 use Rattle.hex_core.proofs.TextLemmas.{length-text}
 use Rattle.serde_json.specs.Data.{string}
 use Rattle.faster_hex.specs.declared.adapters.WireFormat.{WireFormat}
-use Rattle.faster_hex.specs.AdapterLaws.{OptionReadingInvertsWriting, ReadingInvertsWriting, ReadsItsOwn}
-use Rattle.faster_hex.specs.Adapters.{payload_in, wire_text}
+use Rattle.faster_hex.specs.AdapterLaws.{OptionReadingInvertsWriting, ReadingInvertsWriting}
+use Rattle.faster_hex.specs.Adapters.{ReadsItsOwn, payload_in, wire_text}
 use Rattle.faster_hex.proofs.laws.reading_inverts_writing.Goals as goal
 
 own : DecodingInvertsEncoding → (p : WireFormat) (bytes : List ℕ) → ReadsItsOwn p → AreBytes bytes → Spells p.case (text p.upper bytes) bytes
