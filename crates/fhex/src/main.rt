@@ -1,10 +1,13 @@
 //! `fhex`: encodes standard input as hex digits, or decodes it.
 #![tactic(auto)]
 
-use hex_program::{Failure, refuse, serve_buffered};
+use hex_program::{Failure, Unretried, refuse, serve};
 use std::env;
-use std::io::ErrorKind;
+use std::io::{BufWriter, ErrorKind, Stdout};
 use std::process::ExitCode;
+
+// The size of the output buffer, in bytes.
+const OUTPUT_BUFFER: usize = 65_536;
 
 // The program's arguments, without its name.
 fn words(rt: &HostRuntime) -> Result<Vec<String>, Failure> {
@@ -17,6 +20,18 @@ fn words(rt: &HostRuntime) -> Result<Vec<String>, Failure> {
     words.map_err(|_| Failure::OutOfMemory)
 }
 
+// Standard output with a buffer, or with an empty one if there is no memory for it.
+fn output(rt: &HostRuntime) -> BufWriter<Unretried<Stdout>> {
+    let buffered = |size: usize| {
+        let inner = Unretried { inner: rt.stdout() };
+        BufWriter::with_capacity(rt.alloc(), size, inner)
+    };
+    match buffered(OUTPUT_BUFFER) {
+        Ok(out) => out,
+        Err(_) => buffered(0).unwrap(),
+    }
+}
+
 // The exit status for the program's arguments and the standard streams.
 fn run(rt: &HostRuntime) -> Result<u8, Failure> {
     let words = words(rt)?;
@@ -25,13 +40,16 @@ fn run(rt: &HostRuntime) -> Result<u8, Failure> {
         let pushed = texts.push(word.as_str());
         pushed.map_err(|_| Failure::OutOfMemory)?;
     }
-    let (status, _, _) = serve_buffered(
-        &rt.alloc(),
+    let mut input = rt.stdin();
+    let (status, out, _) = serve(
+        rt.alloc(),
         texts.as_slice(),
-        &mut rt.stdin(),
-        rt.stdout(),
+        &mut input,
+        output(rt),
         rt.stderr(),
-    )?;
+    );
+    // Dropping the buffer would retry what a failed write left.
+    let _ = out.into_parts();
     Ok(status)
 }
 

@@ -13,4 +13,4 @@ pub use crate::failure::Failure;
 pub use crate::input::{INPUT_LIMIT, read_input};
 pub use crate::operation::{Op, RunFault, run};
 pub use crate::program::{refuse, serve};
-pub use crate::unretried::{Unretried, serve_buffered};
+pub use crate::unretried::Unretried;

@@ -2,9 +2,10 @@
 
 use crate::setup::{Room, Setup, number_behind, word};
 use hex_program::program::serve_in;
-use hex_program::{Op, refuse, serve, serve_buffered};
+use hex_program::{Op, Unretried, serve};
 use std::alloc::Global;
-use test_kit::fakes::{Pattern, Taker};
+use std::io::{self, BufWriter};
+use test_kit::fakes::{Giver, Pattern, Taker};
 use test_kit::{Bytes, Row, Words};
 
 // Reads a word of the program, where there is one.
@@ -55,25 +56,34 @@ struct End<'a> {
     asked: u64,
 }
 
+// Runs the program over an output that is kept back in a buffer of 65,536 bytes, as `fhex` does.
+fn serve_buffered<'a>(
+    alloc: Global,
+    words: &[&str],
+    input: &mut Giver<'_>,
+    out: Taker<'a>,
+    err: Taker<'a>,
+) -> io::Result<(u8, Taker<'a>, Taker<'a>)> {
+    let out = BufWriter::with_capacity(alloc, 65_536, Unretried { inner: out })?;
+    let (status, out, err) = serve(alloc, words, input, out, err);
+    let (unretried, _) = out.into_parts();
+    Ok((status, unretried.inner, err))
+}
+
 // Whether a run ends so.
 fn ends(setup: Setup, alloc: Global, words: &[&str], input: &[u8], want: End<'_>) -> bool {
     let mut giver = setup.giver(input);
     let (out, err) = (setup.out.taker(want.out), setup.err.taker(want.err));
     let refusing = setup.refusing(alloc);
     let ended = if setup.is_buffered {
-        serve_buffered(&refusing, words, &mut giver, out, err)
+        serve_buffered(alloc, words, &mut giver, out, err)
     } else if setup.refuses() {
         Ok(serve_in(&refusing, words, &mut giver, out, err))
     } else {
         Ok(serve(alloc, words, &mut giver, out, err))
     };
-    let (got, out, err) = match ended {
-        Ok(ended) => ended,
-        // As the program does, which has lost its writers.
-        Err(failure) => {
-            let (got, err) = refuse(setup.err.taker(want.err), failure);
-            (got, setup.out.taker(want.out), err)
-        }
+    let Ok((got, out, err)) = ended else {
+        return false;
     };
     // Each is flushed behind all that it is to take, and not behind a failure.
     let is_flush = want.status == 0 || want.status == 3 && setup.out.is_unflushed;
