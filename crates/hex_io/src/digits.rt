@@ -9,7 +9,7 @@ ghost use Rattle.hex_io.specs.Sink.{Puts};
 
 use crate::sink::{Sink, WriteFault, put_all};
 use hex_codec::grouped::write_into;
-use hex_codec::{Group, hex_encode_into};
+use hex_codec::{Group, hex_encode, hex_encode_upper};
 
 /// Source bytes that are encoded at a time.
 pub const ENCODE_CHUNK: usize = 512;
@@ -24,8 +24,11 @@ pub fn encoded<'b>(bytes: &[u8], upper: bool, buffer: &'b mut [u8]) -> &'b [u8]
     ensures text { result.now ≡ text upper bytes.now }
     ensures ascii { IsAscii result.now }
 {
-    let end = hex_encode_into(bytes, buffer, upper).unwrap();
-    &buffer[..end]
+    if upper {
+        hex_encode_upper(bytes, buffer).unwrap()
+    } else {
+        hex_encode(bytes, buffer).unwrap()
+    }
 }
 
 /// Puts the digits of `bytes` alone into `sink`, in groups if there is a group.
