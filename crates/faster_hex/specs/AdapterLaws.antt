@@ -7,13 +7,6 @@ use Rattle.faster_hex.specs.declared.adapters.WireFormat.{WireFormat}
 use Rattle.faster_hex.specs.declared.adapters.AdapterError.TheVariants.{OverBound}
 use Rattle.faster_hex.specs.Adapters.{ReadFailure, Reads, ReadsItsOwn, ReadsOption, Writes, WritesOption, array_read_refusal, wire_text}
 
--- a value is read as at most one list, whatever the bound
-abbrev pub ReadsOneList : Type 0
-ReadsOneList = (p : WireFormat) (max other : Option ℕ) (d : Data) (bytes others : List ℕ)
-    → Reads p max d bytes
-    → Reads p other d others
-    → bytes ≡ others
-
 -- a bounded read takes exactly what the unbounded one takes with at most so many bytes
 abbrev pub BoundedReadsWhatFits : Type 0
 BoundedReadsWhatFits = (p : WireFormat) (max : ℕ) (d : Data) (bytes : List ℕ)
@@ -28,13 +21,6 @@ UnboundedHasNoBound = (p : WireFormat) (d : Data) (max actual : ℕ)
 abbrev pub ArrayHasNoBound : Type 0
 ArrayHasNoBound = (p : WireFormat) (n : ℕ) (d : Data) (max actual : ℕ)
     → array_read_refusal p n d ≢ Some (OverBound max actual)
-
--- and as none or one list, not as both
-abbrev pub ReadsOneOption : Type 0
-ReadsOneOption = (p : WireFormat) (max other : Option ℕ) (d : Data) (bytes others : Option (List ℕ))
-    → ReadsOption p max d bytes
-    → ReadsOption p other d others
-    → bytes ≡ others
 
 -- what a format that reads its own writes, it reads as the same bytes
 abbrev pub ReadingInvertsWriting : Type 0

@@ -1,20 +1,9 @@
 //! Laws of the adapters, each as the contract of a function that does nothing. A proof that needs
 //! one calls it.
 
-ghost use Rattle.faster_hex.specs.AdapterLaws.{ArrayHasNoBound, BoundedReadsWhatFits, OptionReadingInvertsWriting, ReadingInvertsWriting, ReadsNoneApart, ReadsOneList, ReadsOneOption, UnboundedHasNoBound, WritesNoneApart, WritingInvertsStrictReading};
+ghost use Rattle.faster_hex.specs.AdapterLaws.{ArrayHasNoBound, BoundedReadsWhatFits, OptionReadingInvertsWriting, ReadingInvertsWriting, ReadsNoneApart, UnboundedHasNoBound, WritesNoneApart, WritingInvertsStrictReading};
 
-use hex_core::laws::{
-    a_text_spells_one_list, decoding_inverts_encoding, encoding_inverts_strict_decoding,
-};
-
-/// A JSON value decodes to at most one list of bytes, whatever the bound; and to `None` or a list,
-/// not to both.
-pub fn a_value_is_read_as_one_list()
-    ensures list { ReadsOneList }
-    ensures option { ReadsOneOption }
-{
-    a_text_spells_one_list();
-}
+use hex_core::laws::{decoding_inverts_encoding, encoding_inverts_strict_decoding};
 
 /// A bounded read accepts exactly what the unbounded one reads as at most so many bytes, with the
 /// same result; an unbounded read and one into an array never fail for a bound.

@@ -3,12 +3,6 @@
 #![tactic(auto, using(crate::proofs::GroupTextLemmas::laws))]
 
 ghost use Rattle.hex_codec.specs.GroupLaws.{FirstPieceIsTheFront, GroupSpellsOneList, GroupedTextsAreDigitsAndSeparators, GroupedTextsAreLong, GroupingInvertsStrictReading, ReadingInvertsGrouping, ReadsWhatGroupSpells, TextsAreDigits, WholePiecesJoin};
-ghost use Rattle.std.specs.Prelude.{⊤, MatchOption, option_map, vec_items};
-ghost use Rattle.hex_core.specs.Laws.{AreBytes};
-
-use hex_core::laws::a_slice_holds_bytes;
-use std::alloc::Allocator;
-
 /// A grouped text is decoded by its group to the same bytes, under its own case or either.
 pub fn reading_inverts_grouping()
     ensures { ReadingInvertsGrouping }
@@ -37,22 +31,6 @@ pub fn a_grouped_text_is_digits_and_separators()
 pub fn the_first_piece_is_the_front()
     ensures { FirstPieceIsTheFront }
 {}
-
-/// A vector holds bytes, as laws about bytes require.
-pub fn a_vec_holds_bytes<A: Allocator>(bytes: &Vec<u8, A>)
-    ensures { AreBytes (vec_items bytes.now) }
-{
-    a_slice_holds_bytes(bytes);
-}
-
-/// So does one that may be missing.
-pub fn an_optional_vec_holds_bytes<A: Allocator>(bytes: &Option<Vec<u8, A>>)
-    ensures { MatchOption (option_map vec_items bytes.now) ⊤ AreBytes }
-{
-    if let Some(bytes) = bytes {
-        a_vec_holds_bytes(bytes);
-    }
-}
 
 /// The text of whole pieces followed by more is the two texts, joined by the separator.
 pub fn whole_pieces_are_joined_by_the_separator()
