@@ -20,17 +20,17 @@ macro_rules! block {
 
 // `admit`: of each byte `y` or `n`.
 fn are_admitted(bytes: &[u8], case: CheckCase, letters: &[u8]) -> bool {
-    let mask = match bytes.len() {
+    let mut mask = match bytes.len() {
         16 => u64::from(admitted_16(block!(bytes, 16), case)),
         32 => u64::from(admitted_32(block!(bytes, 32), case)),
         64 => admitted_64(block!(bytes, 64), case),
         _ => return false,
     };
-    for i in 0..64 {
-        let is_admitted = (mask >> i) & 1 == 1;
-        if is_admitted != (letters.get(i) == Some(&b'y')) {
+    for letter in letters {
+        if *letter != if mask & 1 == 1 { b'y' } else { b'n' } {
             return false;
         }
+        mask >>= 1;
     }
     letters.len() == bytes.len()
 }
