@@ -1,9 +1,8 @@
 #!/usr/bin/env python3
 """carried.py [NAME..]: prints the lines of carried.txt that have a sum, all or of these tests, made anew by
 loops over what the Rust crate's tests try, and not from the rows. An input is the words of a call: a number as
-its digits, bytes as they are. Its hash is the first 8 bytes, as a number, of the SHA-256 of the digits of its
-words, with a space between two; the sum of these, modulo 2^64, stands for inputs in any order."""
-import hashlib
+its digits, bytes as they are. Its hash is the FNV-1a hash, of 64 bits, of the digits of its words, with a space
+between two; the sum of these, modulo 2^64, stands for inputs in any order."""
 import itertools
 import multiprocessing
 import os
@@ -462,7 +461,10 @@ EXAMPLES = {
 def hashed(words):
     texts = (it if isinstance(it, bytes) else str(it).encode() for it in words)
     line = " ".join(text.hex() for text in texts).encode()
-    return int.from_bytes(hashlib.sha256(line).digest()[:8], "big")
+    total = 0xCBF29CE484222325
+    for byte in line:
+        total = (total ^ byte) * 0x100000001B3 % (1 << 64)
+    return total
 
 
 def line_of(name, path):

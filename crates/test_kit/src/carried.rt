@@ -3,7 +3,6 @@
 use crate::notation::{self, Bytes};
 use crate::words::{Words, first_word};
 use arrayvec::ArrayString;
-use sha2::{Digest, Sha256};
 use std::fmt::Write as _;
 use std::io::{self, Write};
 
@@ -47,7 +46,16 @@ impl Carried {
     }
 }
 
-// The first eight bytes, as a number, of the SHA-256 of the digits of some words, with a space between two.
+// The FNV-1a hash, of 64 bits.
+fn fnv(bytes: &[u8]) -> u64 {
+    let mut hash: u64 = 0xcbf2_9ce4_8422_2325;
+    for byte in bytes {
+        hash = (hash ^ u64::from(*byte)).wrapping_mul(0x0100_0000_01b3);
+    }
+    hash
+}
+
+// The hash of the digits of some words, with a space between two.
 fn hash(words: &[u8], turn: usize, bytes: &mut Bytes, line: &mut Bytes) -> Option<u64> {
     let mut rest = words;
     line.clear();
@@ -60,8 +68,7 @@ fn hash(words: &[u8], turn: usize, bytes: &mut Bytes, line: &mut Bytes) -> Optio
         line.try_push(b' ').ok()?;
         rest = behind;
     }
-    let digest = Sha256::digest(line.as_slice());
-    Some(u64::from_be_bytes(*digest.first_chunk()?))
+    Some(fnv(line.as_slice()))
 }
 
 // Puts the digits of a word behind a line: of a number in brackets, of the bytes that it writes, or of the
