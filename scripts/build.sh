@@ -122,14 +122,12 @@ END
     chmod +x "$1/bin/clang"
 }
 
-# build_all NAME: the assembly of each build of a library. What the first run of an architecture proves the
-# others take.
+# build_all NAME: the assembly of each build of a library, each proved by itself.
 build_all() {
     builds | while read -r build architecture processor set; do
         make_tools "$tools" "$architecture" "$set"
         prove "$1" src/lib.rt --crate-type staticlib --target "$architecture-unknown-linux-gnu" \
-            --cpu "$processor" --toolchain "$tools" --incremental "out/assembly/proved-$architecture" \
-            -o "out/assembly/$build.a" </dev/null || exit 1
+            --cpu "$processor" --toolchain "$tools" -o "out/assembly/$build.a" </dev/null || exit 1
         mv "$tools/made.s" "crates/$1/out/assembly/$build.s"
     done
 }
