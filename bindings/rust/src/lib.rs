@@ -81,12 +81,11 @@
 //!
 //! # Platforms
 //!
-//! Linux on x86-64 and aarch64; on others the crate does not compile. On x86-64 the first call asks the
-//! processor which of three builds runs: for x86-64, x86-64-v2 or x86-64-v3, which uses AVX2. On aarch64 there
-//! is one, with NEON. Which build runs changes the speed alone. Rust 1.81 or later. Miri runs no assembly, so
+//! The README beside it names them. On x86-64 the first call asks the processor which of three builds runs:
+//! for x86-64, x86-64-v2 or x86-64-v3, which uses AVX2. On aarch64 there is one, with NEON. Which build runs changes the speed alone. Rust 1.81 or later. Miri runs no assembly, so
 //! it cannot run this crate. Several versions of it, and the library for C, may stand in one program.
 //!
-//! The README beside it says how it takes the place of `faster-hex`, and what that crate has and this one not.
+//! It also says how this crate takes the place of `faster-hex`, and what that crate has and this one not.
 #![no_std]
 #![warn(missing_docs)]
 
