@@ -1,4 +1,4 @@
-//! Tests of what no row of `rows`, `json_rows` or `program_rows` and no example of a doc comment
+//! Tests of what no row of `test_rows`, `test_json` or `test_program` and no example of a doc comment
 //! says: writes through an answer, a writer that answers by a script, and what is too long for a row.
 #![tactic(auto)]
 

@@ -8,8 +8,8 @@ import multiprocessing
 import os
 import sys
 
-ROWS = "crates/rows/stdin"
-JSON = "crates/json_rows/stdin"
+ROWS = "crates/test_rows/stdin"
+JSON = "crates/test_json/stdin"
 CASES = ("any", "lower", "upper")
 LETTERS = {"any": b"0123456789abcdefABCDEF", "lower": b"0123456789abcdef", "upper": b"0123456789ABCDEF"}
 FORM = {"any": "m", "lower": "x", "upper": "X"}
