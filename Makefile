@@ -95,7 +95,6 @@ $(OUT)/libfaster_hex.so.1: $(SHARED)
 ifneq ($(wildcard crates/hex_core),)
 test: current
 	scripts/header.sh
-	scripts/test-rows --carried
 	scripts/examples
 	RT_JOBS=$(JOBS) rt ci
 else

@@ -1,4 +1,7 @@
-//! What the rows of a test of the Rust crate try, as a sum.
+//! What the rows of a test of the Rust crate try, as a sum: modulo 2^64 that of their inputs' hashes,
+//! in whatever order the rows stand. An input is the words of a call, in which a number stands as its
+//! digits in base ten and bytes as they are. Its hash is the FNV-1a hash, of 64 bits, of the hex
+//! digits of its words, with a space between two.
 
 use crate::notation::{self, Bytes};
 use crate::words::{Words, first_word};
@@ -55,7 +58,7 @@ fn fnv(bytes: &[u8]) -> u64 {
     hash
 }
 
-// The hash of the digits of some words, with a space between two.
+// The hash of an input. The bytes are overwritten.
 fn hash(words: &[u8], turn: usize, bytes: &mut Bytes, line: &mut Bytes) -> Option<u64> {
     let mut rest = words;
     line.clear();
