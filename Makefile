@@ -116,9 +116,8 @@ check: all
 
 # Before a release. It stops at the first that fails.
 deep: all
-	scripts/wrong-bodies
-	scripts/test-wrong-bodies
-	scripts/test-rows
+	scripts/mutations
+	pytest tests
 	scripts/examples --prove
 	$(CHECK)
 

@@ -1,0 +1,146 @@
+"""scripts/mutations over a small crate: wrong bodies are refused, also where one writes a text that another one
+looks for; a right one among them is named as passed, also where a function that it calls or one of the same name is
+wrong, and so is a wrong one that a weak contract lets through; what can't be compiled or applied is an error, and
+what is refused only since a name is gone, also where that is told over two lines."""
+import os
+import pathlib
+import re
+import shutil
+import subprocess
+
+import pytest
+
+SCRIPT = pathlib.Path(__file__).resolve().parent.parent / "scripts/mutations"
+needs_rt = pytest.mark.skipif(not shutil.which("rt"), reason="there is no rt")
+HEAD = """//! Functions with bodies to be put out.
+#![tactic(auto)]
+
+ghost use Rattle.std.specs.Prelude.{◌≡◌, ◌+◌, ◌*◌, ◌≤◌};
+
+const LARGEST: u8 = 10;
+
+pub trait Small {
+    fn size(&self) -> u8
+        ensures { result ≤ 5 };
+}
+"""
+FUNCTION = "\npub fn {}\n    ensures {{ {} }}\n{{\n    {}\n}}\n"
+# Its proof names a local of its body.
+NAMING = """
+pub fn {0}(x: u8) -> u32
+    ensures {{ result ≡ x + x + (x + x) }}
+{{
+    let {1} = doubled(x);
+    2 * u32::from({1})
+}}
+"""
+ANSWER = """use Rattle.std.proofs.Common.{{arith}}
+use Rattle.tiny.proofs.{0}.Goals as goal
+
+pub returns : goal.returns
+returns c = omega (arith, c.doubled-{1}.ensures)
+"""
+NAMED = ("fourfold", "twice"), ("fourfold_by_doubling_the_double_of_a_byte_that_is_handed_in", "double")
+METHOD = "\npub struct {0};\n\nimpl Small for {0} {{\n    fn size(&self) -> u8 {{\n        {1}\n    }}\n}}\n"
+FUNCTIONS = [
+    FUNCTION.format("doubled(x: u8) -> u16", "result ≡ x + x", "u16::from(x) + u16::from(x)"),
+    FUNCTION.format("at_most_ten(x: u8) -> u8", "result ≤ 10", "x.min(LARGEST)"),
+    FUNCTION.format("twice_doubled(x: u8) -> u16", "result ≡ 4 * x", "doubled(x) + doubled(x)"),
+    FUNCTION.format("five() -> u8", "result ≡ 5", "5"),
+    FUNCTION.format("six() -> u8", "result ≡ 6", "6"),
+    METHOD.format("One", 1),
+    METHOD.format("Many", 3),
+    *(NAMING.format(*names) for names in NAMED),
+]
+# What is said of each mutation: its sentence, the text that stands there, another one, and how what is said begins.
+# They are tried in this order, and a list is halved where it can't be read: the first two stay in one check, and so
+# would the two of `size` if their names were not told apart.
+PROVED = "passed: tiny: {}: its crate is still proved$"
+REFUSED = "refused: tiny: {}: (?!alone: )"
+LOST = "error: tiny: {}: it is refused only since names are gone"
+EDIT = "half is lost", "u16::from(x) + u16::from(x)", "u16::from(x)", REFUSED
+AT_EVERY_COMMIT = [("right over a wrong one", "doubled(x) + doubled(x)", "2 * doubled(x)", PROVED)]
+OTHERS = [
+    ("a name is lost", "let twice =", "let twice = 0u16; let _ =", LOST),
+    ("a name is lost in two lines", "let double =", "let double = 0u16; let _ =", LOST),
+    ("can not be applied", "x.max(LARGEST)", "x", "error: tiny: {}: .* stands 0 times"),
+    ("five is six", "    5", "    6", REFUSED),
+    ("is let through", "x.min(LARGEST)", "x.min(9)", PROVED),
+    ("one is large", "        1", "        9", REFUSED),
+    ("one is right beside its namesake", "        3", "        4", PROVED),
+    ("six is seven", "    6", "    7", REFUSED),
+    ("the largest is larger", "LARGEST: u8 = 10", "LARGEST: u8 = 11", "refused: tiny: {}: alone: "),
+    ("unknown to the compiler", "x.min(LARGEST)", "x.least()", "error: tiny: {}: it can't be read"),
+]
+
+
+def table_of(heading, mutations):
+    """A part of a table of mutations."""
+    blocks = [f"{sentence}\n-{old}\n+{new}" for sentence, old, new, _ in mutations]
+    return "\n\n".join([f"# {heading}", "file src/lib.rt", *blocks])
+
+
+@pytest.fixture(scope="module")
+def top(tmp_path_factory):
+    """A repository with a small crate and its mutations."""
+    top = tmp_path_factory.mktemp("repository")
+    own = top / "crates/tiny"
+    texts = {top / "crates.txt": "tiny:\n", top / "HANDLES": "Handles allowed: none.\n"}
+    texts[own / "src/lib.rt"] = HEAD + "".join(FUNCTIONS)
+    texts |= {own / f"proofs/{names[0]}/Answers.antt": ANSWER.format(*names) for names in NAMED}
+    name, old, new, _ = EDIT
+    texts[own / f"must-fail/{name.replace(' ', '_')}.edit"] = f"file: src/lib.rt\nold: {old}\nnew: {new}\n"
+    tables = table_of("The prover refuses, at every commit", AT_EVERY_COMMIT), table_of("The prover refuses", OTHERS)
+    texts[own / "mutations"] = "\n\n".join(tables) + "\n"
+    for path, text in texts.items():
+        path.parent.mkdir(parents=True, exist_ok=True)
+        path.write_text(text, encoding="utf-8")
+    return top
+
+
+def ran(top, *words):
+    """What scripts/mutations comes to over a repository, with a folder of temporary files of its own."""
+    room = top / "room"
+    room.mkdir(exist_ok=True)
+    places = {**os.environ, "MUTATIONS_TOP": str(top), "TMPDIR": str(room)}
+    pipes = {"stdout": subprocess.PIPE, "stderr": subprocess.STDOUT, "encoding": "utf-8"}
+    done = subprocess.run([SCRIPT, *words], env=places, **pipes)
+    assert not any(room.iterdir()) and not (top / "crates/tiny/out").exists()
+    return done
+
+
+@pytest.fixture(scope="module")
+def all_tried(top):
+    return ran(top)
+
+
+@needs_rt
+@pytest.mark.parametrize("sentence, said", [(it[0], it[3]) for it in (EDIT, *AT_EVERY_COMMIT, *OTHERS)])
+def test_each_is_told(all_tried, sentence, said):
+    assert re.search(f"^{said.format(sentence)}", all_tried.stdout, re.M), all_tried.stdout
+
+
+@needs_rt
+def test_they_are_counted(all_tried):
+    assert re.search("^tiny: 5 of 12 refused, ", all_tried.stdout, re.M)
+    assert all_tried.stdout.endswith("\n5 found, 7 passed\n") and all_tried.returncode == 1
+
+
+@needs_rt
+def test_the_gate_tries_the_first_alone(top):
+    done = ran(top, "--gate")
+    assert re.search(f"^{PROVED.format(AT_EVERY_COMMIT[0][0])}", done.stdout, re.M)
+    assert done.stdout.endswith("\n0 found, 1 passed\n") and done.returncode == 1
+
+
+def test_a_word_names_some(top):
+    done = ran(top, "seven is six")
+    assert done.stdout.count("\n") == 1 and "'seven is six'" in done.stdout and done.returncode == 1
+
+
+def test_a_table_is_read_whole(top, tmp_path):
+    shutil.copytree(top, tmp_path, dirs_exist_ok=True)
+    with (tmp_path / "crates/tiny/mutations").open("a") as table:
+        table.write("\ntakes nothing away\n+    6\n")
+    done = ran(tmp_path)
+    assert done.stdout == "mutations: crates/tiny/mutations: 'takes nothing away' is not read\n"

@@ -1,0 +1,80 @@
+"""The gate sees wrong answers in files of rows: each program of rows answers its file as it stands, and prints the
+rows whose answers are made wrong, and no other."""
+import pathlib
+import shutil
+import subprocess
+
+import pytest
+
+CRATES = pathlib.Path(__file__).resolve().parent.parent / "crates"
+pytestmark = pytest.mark.skipif(not shutil.which("rt"), reason="there is no rt")
+# Of each program some rows with a wrong answer.
+TEXT = "\\xe5\\x89\\x8d\\xe7\\xbc\\x80:"
+SINKS = "[then-refuses|refuses-the-rest|then-takes-none]"
+PLANTED = {
+    "test_rows": [
+        "encode lower 10 hello = ok 68656c6c6e",
+        "decode any 0 gg = invalid 0 g kept",
+        "2 both [lower|upper] #00abff = [00abfe|00ABFF]",
+        "at 63 1 both lower #ab*65 = ab*64,ac",
+        "516 both [lower|upper] (73i+i/7)^[0+1/2] = (73i+i/7)x^[0+2/2]",
+        "3 array [any|lower|upper] 4 0A0bg!ff = invalid [4|1|2] [g|A|b]",
+        r"3 owned [any|lower|upper] 7,\xff,7*62 = at 2 -",
+        "owned any 1*199,g = at 199 #11*64,#12*35",
+        f"appends 256 {TEXT} lower #abac upper #cd*8 lower - = abac CD*8 - {TEXT},abac,CD*7",
+        rf"3 pad-into {SINKS} 0 - - \x20 - #ab = ok -",
+        rf"3 pad-into {SINKS} 1040 +#0X 1040 \x20 - #ab*513 = ok +0x,0*11,AB*512,AC",
+        rf"3120 pad-into {SINKS} [0+1/3] +#0X 1040 \x20 - #ab*513 = ok +0x,0*11,AB*513",
+        r"16 relist 2 [lower|upper] [0+1/2] ab01\x20\x2ab = ok [ab01|AB01]\x20\x2ab\x0a",
+        r"168 group 1 \x20 [any|lower|upper] 19 70*19~1\x20&55:g&[0+1/3]:[G|A|a] = invalid [0+1/3] [G|A|g] kept",
+        r"114 group 4 \x20 [any|lower|upper] 19 70*19~4\x20&[0+1/3+1/24]:\x20 = invalid [0+1/3+1/27] \x20 kept",
+        "stream decode any 00abfF1032 21001 1 1 ends 10500 0 = odd-length 10499 #00abff1032",
+    ],
+    "test_json": [
+        '14 read-within module [0+1/2] 2 ["0x000102"|"0xgggggg"] = invalid 0 g',
+        r'read-array root 2 field id {"id":"0xab01"\x2c"extra":"cd02"} = ok #ab02',
+        r'read-array option_nopfx_lowercase 2 field extra {"id":"0xab01"\x2c"extra":"cd02"} = none',
+        "6 granted-text format [0+1] 0 #ab01 = 2 no-memory",
+        '6 write module [2+2] none = ""',
+    ],
+    "test_program": [
+        r"2 serve decode [68656c6c6f\x0a|68656c6c6f] = 0 hell",
+        "serve out unflushed encode 0*2 = 3 30^4 write failed",
+        "serve refused 0 decode abc = asks 1 1 - hex input length must be even",
+        "run out 4 encode hello = stuck 6865",
+        r"vector decode - ok 0 \xa5*128 = fails",
+        r"stored 2 encode #abcd too-small 4 \xa5*3 = v02",
+    ],
+}
+
+
+def printed(words, folder, rows=""):
+    """What a command prints in a folder, which reads these rows."""
+    pipes = {"stdout": subprocess.PIPE, "stderr": subprocess.STDOUT, "text": True}
+    return subprocess.run(words, cwd=folder, input=rows, **pipes).stdout
+
+
+@pytest.fixture(scope="module", params=PLANTED)
+def program(request):
+    """The name of a program of rows, which is built."""
+    printed(["rt", "run"], CRATES / request.param)
+    return request.param
+
+
+def answered(program, rows):
+    """What a program prints of these rows."""
+    return printed([CRATES / program / "out" / program], CRATES / program, rows)
+
+
+def test_rows_are_answered(program):
+    rows, wanted = ((CRATES / program / name).read_text() for name in ("stdin", "stdout"))
+    assert answered(program, rows) == wanted
+
+
+def test_wrong_answers_are_printed(program):
+    rows, wanted = ((CRATES / program / name).read_text() for name in ("stdin", "stdout"))
+    by_call = {row.split(" = ")[0]: row for row in PLANTED[program]}
+    said = answered(program, "\n".join(by_call.get(row.split(" = ")[0], row) for row in rows.split("\n")))
+    assert [row for row in by_call.values() if f": {row}\n" not in said] == []
+    assert len([line for line in said.split("\n") if line.startswith("line ")]) == len(by_call)
+    assert said.split("\n")[-2] != wanted.split("\n")[-2]
