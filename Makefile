@@ -97,6 +97,7 @@ test: current
 	scripts/header.sh
 	scripts/examples
 	RT_JOBS=$(JOBS) rt ci
+	MUTATIONS_JOBS=$(JOBS) scripts/mutations --gate
 else
 test: test-c
 endif
