@@ -39,7 +39,7 @@ else ifeq ($(SYSTEM),windows)
 SHARED = $(OUT)/libfaster_hex.dll
 SHOWN = $(C)/faster_hex.def
 LOADED = $(SHARED)
-OF_TESTS = -static -I$(C)/tests/windows
+OF_TESTS = -static -Itests/c/windows
 endif
 CFLAGS ?= -O2
 # No file is there half made for another make.
@@ -94,7 +94,7 @@ $(OUT)/libfaster_hex.so.1: $(SHARED)
 
 ifneq ($(wildcard crates/hex_core),)
 test: current
-	scripts/header.sh
+	tests/header.sh
 	scripts/examples
 	RT_JOBS=$(JOBS) rt ci
 	MUTATIONS_JOBS=$(JOBS) scripts/mutations --gate
@@ -105,11 +105,11 @@ endif
 TRY = $(CC) $(CPPFLAGS) $(CFLAGS) -std=gnu99 -pthread -I$(C) $(OF_TESTS) -o $(OUT)/try.exe
 TRIED = $(RUN) $(OUT)/try.exe
 test-c: lib $(firstword $(LOADED))
-	$(TRY) $(C)/tests/library.c $(ARCHIVE) && $(TRIED) && $(TRIED) threads
-	$(if $(LOADED),$(TRY) $(C)/tests/library.c $(LOADED) && $(TRIED))
+	$(TRY) tests/c/library.c $(ARCHIVE) && $(TRIED) && $(TRIED) threads
+	$(if $(LOADED),$(TRY) tests/c/library.c $(LOADED) && $(TRIED))
 	$(TRY) examples/c/digits.c $(ARCHIVE) && $(TRIED)
 ifeq ($(TARGET),x86_64)
-	$(TRY) $(C)/tests/choice.c $(ARCHIVE) && $(TRIED)
+	$(TRY) tests/c/choice.c $(ARCHIVE) && $(TRIED)
 endif
 
 check: all
@@ -127,7 +127,7 @@ TO = .
 PACK = $(TO)/faster_hex-$(VERSION).tar
 PACKED = Makefile CMakeLists.txt Cargo.toml CHANGELOG.md LICENSE bindings/cmake bindings/faster_hex.pc.in \
 	bindings/rust docs/faster_hex.3 examples generated scripts/install.sh \
-	$(addprefix $(C)/,dispatch.c faster_hex.h faster_hex.def faster_hex.map tests)
+	$(addprefix $(C)/,dispatch.c faster_hex.h faster_hex.def faster_hex.map) tests/c
 dist: current
 	git -c tar.umask=0022 archive --prefix=faster_hex-$(VERSION)/ --add-file=docs/release/README.md \
 		-o "$(PACK)" $$(git stash create | grep . || echo HEAD) $(PACKED) && gzip -9nf "$(PACK)"

@@ -1,5 +1,5 @@
 """Whether calls of the C library use the same addresses whatever the bytes: valgrind traces instructions,
-loads and stores of crates/faster_hex_c/tests/addresses.c, which makes each call between two stores to `mark`."""
+loads and stores of tests/c/addresses.c, which makes each call between two stores to `mark`."""
 import bisect
 import re
 import subprocess

@@ -4,7 +4,7 @@
  * Usage: choice */
 #include <stdio.h>
 
-#include "../dispatch.c"
+#include "dispatch.c"
 
 static int passed, failed;
 
