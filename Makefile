@@ -3,14 +3,13 @@
 # or a compiler for it, builds the libraries for Linux on ARM, one for Windows the archive and a DLL, and one
 # for macOS the archive. CC, CFLAGS, CPPFLAGS, LDFLAGS and AR are taken.
 # `make generate` proves the sources and writes generated/ anew. `make test` runs the examples and the gate,
-# `make check` all that the gate can't, `make deep` what a release takes beside it, `make test-c` the tests in
-# C alone, by the command RUN if it is told, and `make dist` packs what users of C and Rust need.
+# `make check` all that the gate can't, the bindings beside a checkout RUST of the Rust crate faster-hex 1.0.0,
+# `make deep` what a release takes beside it, `make test-c` the tests in C alone, by the command RUN if it is
+# told, and `make dist` packs what users of C and Rust need.
 # `make install PREFIX=DIR` puts what is built into DIR, the libraries into LIBDIR, both below DESTDIR, and
 # `make uninstall` takes the same files away. `make vendor DIR=DIR` copies the library for Rattle into the
 # repository at DIR, with JSON=no the crates that have no JSON. `make -s` prints nothing where all goes well.
 VERSION = 1.0.0
-# RUST is a checkout of the Rust crate faster-hex 1.0.0, beside which `make check` tries the bindings.
-RUST =
 JSON = yes
 ifneq ($(filter-out yes no,$(JSON)),)
 $(error JSON=$(JSON) is neither yes nor no)
@@ -46,7 +45,9 @@ CFLAGS ?= -O2
 MADE = $@.$$$$
 DONE = mv $(MADE) $@
 QUIET = $(if $(findstring s,$(firstword -$(MAKEFLAGS))),>/dev/null)
-CHECK = scripts/check $(if $(RUST),--rust $(RUST))
+# Debian calls pytest so.
+PYTEST = $(or $(shell command -v pytest-3 || command -v pytest),$(error make check takes pytest: \
+	apt-get install python3-pytest))
 # How many tasks of the gate run at a time. Each has one job, since a second one reads all libraries
 # once more: a crate over serde_json took 118 seconds of processor by four jobs, and 81 by one.
 JOBS = $(shell n=$$(nproc); echo $$((n < 4 ? n : 4)))
@@ -113,14 +114,14 @@ ifeq ($(TARGET),x86_64)
 endif
 
 check: all
-	$(CHECK)
+	$(PYTEST) tests
 
 # Before a release. It stops at the first that fails.
 deep: all
 	scripts/mutations
 	pytest tests
 	scripts/examples --prove
-	$(CHECK)
+	$(PYTEST) tests
 
 # As the last commit has it, or where files have changed, these; the same bytes whoever packs it.
 TO = .

@@ -1,5 +1,5 @@
 /* Writes its argument's digits, and reads them back; then tests digits, and writes and reads groups.
- * `scripts/check examples` builds and runs it. */
+ * `tests/test_examples.py` builds and runs it. */
 #include <stddef.h>
 #include <stdio.h>
 #include <string.h>

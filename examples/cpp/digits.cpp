@@ -1,4 +1,4 @@
-// The example in C, over strings. `scripts/check examples` builds and runs it.
+// The example in C, over strings. `tests/test_examples.py` builds and runs it.
 #include <cstdio>
 #include <stdexcept>
 #include <string>

@@ -1,5 +1,5 @@
 /* Makes each call once for each length, on keys drawn from a seed, with a store to `mark` before and after
- * it. `scripts/check secrets` compares the addresses that a call uses on other keys. Without a seed it prints
+ * it. `tests/test_secrets.py` compares the addresses that a call uses on other keys. Without a seed it prints
  * a line for each call: its name, its case or policy, and the length of its source. With PLANTED, one call
  * looks digits up by the byte.
  * Usage: addresses [SEED] */

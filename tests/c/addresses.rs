@@ -1,5 +1,5 @@
 //! Makes the calls that return owned values, and checks under a policy, each between two stores to `mark`, on
-//! keys drawn from a seed. `scripts/check secrets` compares the addresses that a call uses on other keys.
+//! keys drawn from a seed. `tests/test_secrets.py` compares the addresses that a call uses on other keys.
 //! Without a seed it prints a line for each call: its name, a word, and the length of its source.
 
 use faster_hex::{hex_check_with_case, hex_decode_array, hex_decode_vec, hex_string, CheckCase};

@@ -1,5 +1,5 @@
 /* Calls the library before and after its own constructor, and beside a second copy of it, which is loaded as
- * the program runs. `scripts/check library` builds and runs it over the archive.
+ * the program runs. `tests/test_library.py` builds and runs it over the archive.
  * Usage: copies SHARED_LIBRARY */
 #include <dlfcn.h>
 #include <stdio.h>

@@ -1,7 +1,7 @@
 /* Tries the calls of faster_hex.h beside models of a few lines: between guarded pages at all lengths
  * from 0 to 300, with NULL, with sources too long for any text, with numbers above 2^32, with source and
  * destination that touch, at all alignments, and in threads.
- * `scripts/check library` builds and runs it. Prints a line for each thing that failed, and
+ * `tests/test_library.py` builds and runs it. Prints a line for each thing that failed, and
  * `N passed, M failed` at the end.
  * Usage: library [threads] */
 #include <pthread.h>

@@ -1,6 +1,6 @@
 //! Calls the bindings and the Rust crate on the same random inputs, and compares answers, texts of errors,
 //! whole destinations, capacities, and how much memory was asked for how often. The table in `calls` has
-//! every public name of both. `scripts/check swap` builds and runs it. Prints the first input of each kind
+//! every public name of both. `tests/test_swap.py` builds and runs it. Prints the first input of each kind
 //! of call on which the two differ, and `N passed, M failed` at the end, of the kinds.
 //! Usage: beside ROUNDS SEED
 

@@ -1,9 +1,9 @@
-"""promises: which definitions of specs/ the contracts of public functions use, by following their words, and which
-CALLING.md names."""
+"""Whether a definition is in specs/inside/ exactly if the contract of no public function uses it, by following
+the words of contracts; and whether each that CALLING.md names is there."""
 import re
-from pathlib import Path
 
-TOP = Path(__file__).resolve().parent.parent
+from commands import TOP
+
 WORD = r"[^\W\d][\w-]*"
 # A function with its clauses, or a ghost member, both with their indentation.
 FUNCTION = re.compile(r"^( *)(pub )?(?:[a-z]\S* |.C. )*fn (\w+)(.*?)(?:^\1\{\}?$|\{\}?$|;$)", re.M | re.S)
@@ -69,3 +69,19 @@ def named(page):
         if head := re.match(r"`(\w+)`.*\| (?:Promise|Meaning)\n", table):
             for crate, path in re.findall(r"`(?:(hex_\w+|faster_hex)\.)?([A-Z]\w*\.\w+)", table):
                 yield crate or head[1], path
+
+
+def test_definitions_inside_are_those_that_no_public_contract_uses():
+    found, defined = used()
+    assert defined
+    inside = {it for it in defined if "inside" in it[0].split(".")}
+    assert {it: found[it] for it in inside & {*found}} == {}
+    assert {*defined} - {*found} - inside == set()
+
+
+def test_definitions_that_calling_names():
+    _, defined = used()
+    listed = [*named((TOP / "crates/faster_hex/CALLING.md").read_text())]
+    assert listed
+    modules = [(f"{crate}.specs.{path.split('.')[0]}", path.split(".")[1]) for crate, path in listed]
+    assert {*modules} <= {*defined}

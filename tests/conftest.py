@@ -1,0 +1,59 @@
+"""Fixtures: what is built or copied for many tests. README.md says which test notices what."""
+import os
+from pathlib import Path
+
+import pytest
+
+pytest.register_assert_rewrite("commands", "libraries")
+from commands import ARM_CC, CARGO, CRATE, TOP, copied, make, needs, ran, runs
+from packages import REGISTRY
+
+
+@pytest.fixture(scope="session", autouse=True)
+def environment(tmp_path_factory):
+    """What each command finds. `make` hands on its own options, and asks for processors that nobody lends here."""
+    made = tmp_path_factory.mktemp("made")
+    for name in ("MAKEFLAGS", "MFLAGS", "MAKELEVEL"):
+        os.environ.pop(name, None)
+    os.environ.update(LC_ALL="C.UTF-8", CARGO_TARGET_DIR=f"{made}/target", CARGO_NET_OFFLINE="true",
+                      WINEPREFIX=f"{made}/wine", WINEDEBUG="-all")
+
+
+@pytest.fixture(scope="session")
+def library():
+    """The folder of the library: the one that FASTER_HEX_LIB names, or that of `make lib`."""
+    if named := os.environ.get("FASTER_HEX_LIB"):
+        return Path(named).absolute()
+    runs(make("lib"))
+    return CRATE / "out"
+
+
+@pytest.fixture(scope="session")
+def arm():
+    """The folder of the library for aarch64."""
+    needs(ARM_CC)
+    runs(make("lib", "TARGET=aarch64", f"CC={ARM_CC}"))
+    return CRATE / "out/aarch64"
+
+
+@pytest.fixture(scope="session")
+def fhex():
+    """The program: the one that FHEX names, or that of `make fhex`."""
+    program = Path(os.environ.get("FHEX") or TOP / "crates/fhex/out/fhex").absolute()
+    assert program.is_file(), "run `make fhex` before"
+    return program
+
+
+@pytest.fixture
+def copy(tmp_path):
+    """A copy of what the repository has of its own, as it stands here."""
+    said = ran(["git", "ls-files", "-co", "--exclude-standard"], cwd=TOP).stdout
+    return copied([it for it in said.splitlines() if (TOP / it).is_file()], tmp_path / "a copy")
+
+
+@pytest.fixture(scope="session")
+def cargo(tmp_path_factory):
+    """How cargo is called over a folder of crates, without a network. It refuses a folder that is not there."""
+    needs(CARGO)
+    crates = REGISTRY if REGISTRY.is_dir() else tmp_path_factory.mktemp("crates")
+    return [CARGO, "--config", 'source.crates-io.replace-with="here"', "--config", f'source.here.directory="{crates}"']

@@ -1,0 +1,112 @@
+"""The examples of the Rust crate, by each of its features and on other targets; programs that cargo builds over
+it, without an assembler or a registry; and two versions of it and libfaster_hex.a in one program."""
+import os
+import re
+from pathlib import Path
+
+import pytest
+
+from commands import ARM_CC, BY_RUST, CARGO, CC, HELLO, ON_ARM, RUSTC, TOP, WINDOWS_CC, needs, only, passes, ran, runs
+from libraries import MODELS, takes
+from packages import OF_SERDE, files_of_package, lacking, needs_crates, packed, without
+
+EXAMPLE = TOP / "examples/rust"
+# Targets of which Rust's own library is seldom there, with a linker and what runs their programs.
+TARGETS = {"aarch64-unknown-linux-gnu": (ARM_CC, ON_ARM), "x86_64-pc-windows-gnu": (WINDOWS_CC, "wine")}
+BOTH = """
+    #[link(name = "faster_hex", kind = "static")]
+    extern "C" { fn faster_hex_check(src: *const u8, len: usize) -> bool; }
+    fn main() {
+        let text = faster_hex::hex_string(b"hello");
+        assert!(unsafe { faster_hex_check(text.as_ptr(), text.len()) });
+        println!("{text}\\n{}", later::Hex::new(&later::hex_decode_vec(text.as_bytes()).unwrap()));
+    }"""
+
+
+@pytest.fixture(scope="module")
+def package(tmp_path_factory):
+    """For a crate under test cargo looks up all that it may take: this does without what is not there."""
+    package = packed(tmp_path_factory.mktemp("package"))
+    without(package / "Cargo.toml", OF_SERDE if lacking(OF_SERDE[:2]) else [])
+    return package
+
+
+def test_files_that_cargo_packs(cargo):
+    needs_crates("serde", "serde_json")
+    said = runs([*cargo, "package", "-q", "--list", "--allow-dirty"], cwd=TOP).split()
+    made_by_cargo = {"Cargo.lock", "Cargo.toml.orig", ".cargo_vcs_info.json"}
+    assert {*said} - made_by_cargo == {*files_of_package()}
+
+
+def program_over(folder, source, *lines):
+    """Writes a program in Rust and its manifest, of which these are the last lines."""
+    (folder / "src").mkdir(parents=True)
+    (folder / "src/main.rs").write_text(source)
+    package = '[package]\nname = "over"\nversion = "0.1.0"\nedition = "2021"\n[dependencies]\n'
+    (folder / "Cargo.toml").write_text(package + "\n".join(lines))
+    return folder
+
+
+def cargo_test(cargo, features):
+    return [*cargo, "test", "-q", "--no-default-features", "--features", features]
+
+
+@pytest.mark.parametrize("features", ["", "alloc", "std", "serde"])
+def test_doc_comments(cargo, package, features):
+    needs_crates(*{"serde": OF_SERDE[:2]}.get(features, []))
+    passes(cargo_test(cargo, features), cwd=package)
+
+
+@pytest.mark.parametrize("way", ["path", "git"])
+def test_program_by_cargo_alone(tmp_path, way):
+    """Without an assembler, by all of generated/ for the processor."""
+    needs(CARGO)
+    crate, own = packed(tmp_path / "crate"), tmp_path / "own"
+    if way == "git":
+        commit = "git init -q && git add . && git -c user.name=nobody -c user.email= commit -q -m crate"
+        runs(["sh", "-c", commit], cwd=crate)
+    place = crate if way == "path" else f"file://{crate}"
+    program_over(own, (EXAMPLE / "src/main.rs").read_text(), f'faster-hex = {{ {way} = "{place}" }}')
+    tools = only(tmp_path / "tools", {"cargo": CARGO, "rustc": RUSTC, "cc": CC, "ld": "ld"})
+    runs(["cargo", "run", "-q"], out=BY_RUST, cwd=own, env={**tools, "CARGO_HOME": f"{own}/home"})
+    said = "".join(it.read_text() for it in own.glob("target/debug/deps/faster_hex-*.d"))
+    found = {Path(it).name: Path(it).read_bytes() for it in re.findall(r"^(\S+\.s):$", said, re.M)}
+    assert found == {it.name: it.read_bytes() for it in TOP.glob("generated/x86-64*.s")}
+
+
+@pytest.mark.parametrize("words", [[], ["--release"]])
+def test_two_versions_and_the_archive_in_one_program(tmp_path, library, words):
+    needs(CARGO)
+    crate, later = packed(tmp_path / "crate"), packed(tmp_path / "later")
+    for file in later / "Cargo.toml", later / "bindings/rust/src/builds.rs", *later.glob("generated/*.s"):
+        text = file.read_text().replace('"1.0.0"', '"1.0.1"').replace("1_0_0", "1_0_1")
+        file.write_text(text.replace(".L100", ".L101"))
+    both = f'faster-hex = {{ path = "{crate}" }}', f'later = {{ package = "faster-hex", path = "{later}" }}'
+    own = program_over(tmp_path / "own", BOTH, *both, "[profile.release]", 'lto = "fat"')
+    env = {**os.environ, "RUSTFLAGS": f"-L native={library}"}
+    runs([CARGO, "run", "-q", *words], out=2 * HELLO, cwd=own, env=env)
+
+
+@pytest.fixture(scope="module")
+def installed(tmp_path_factory):
+    needs(CARGO)
+    root = tmp_path_factory.mktemp("root")
+    runs([CARGO, "install", "-q", "--path", EXAMPLE, "--root", root])
+    runs([root / "bin/digits"], out=BY_RUST)
+    return root / "bin/digits"
+
+
+@pytest.mark.parametrize("model", MODELS)
+def test_installed_program_on_model(tmp_path, installed, model):
+    takes(tmp_path, model, installed, BY_RUST)
+
+
+@pytest.mark.parametrize("target", TARGETS)
+def test_doc_comments_on(cargo, package, target):
+    compiler, runner = TARGETS[target]
+    needs(compiler, runner.split()[0])
+    if not Path(ran([RUSTC, "--print", "target-libdir", "--target", target]).stdout.strip()).is_dir():
+        pytest.skip(f"there is no library of Rust for {target}")
+    name = f"CARGO_TARGET_{target.upper().replace('-', '_')}_"
+    env = {"CARGO_BUILD_TARGET": target, f"{name}LINKER": compiler, f"{name}RUNNER": runner}
+    passes(cargo_test(cargo, "std"), cwd=package, env={**os.environ, **env})

@@ -1,0 +1,54 @@
+"""The header under each standard of C and C++, what the libraries for x86-64 and aarch64 show, and the examples
+over them."""
+import re
+
+import pytest
+
+from commands import ARM_CC, CALLS, CC, CXX, ON_ARM, PRINTED, SHARED, TOP, needs, ran, runs
+from libraries import compiled, is_locked
+
+
+@pytest.fixture(params=["x86_64", "aarch64"])
+def target(request):
+    """The folder of a library, the compilers of C and C++ for it, and what runs its programs."""
+    if request.param == "aarch64":
+        return request.getfixturevalue("arm"), ARM_CC, ARM_CC.replace("gcc", "g++"), ON_ARM
+    return request.getfixturevalue("library"), CC, CXX, ""
+
+
+@pytest.mark.parametrize("standard", "c90 c99 c11 c17 c++98 c++11 c++17".split())
+def test_header(standard):
+    language = standard.rstrip("0123456789")
+    words = ["-x", language, f"-std={standard}", "-fsyntax-only", TOP / "examples/c/digits.c"]
+    compiled(CC if language == "c" else CXX, "/dev/null", *words)
+
+
+def test_names_and_state_of_the_archive(target):
+    """It shows the header's calls alone and asks for none, and its functions begin at multiples of 64. The choice of
+    a build is its state."""
+    folder, *_, runner = target
+    said = ran(["readelf", "-SsW", folder / "libfaster_hex.a"]).stdout
+    found = re.findall(r"^ *\d+: \w+ +\w+ \w+ +(GLOBAL|WEAK) +(\w+) +(\w+) (\S+)$", said, re.M)
+    assert {name for _, sight, place, name in found if place != "UND" and sight == "DEFAULT"} == {*CALLS}
+    given = {name for *_, place, name in found if place != "UND"}
+    assert {name for *_, place, name in found if place == "UND"} <= given
+    assert {*re.findall(r" \.text\.faster_hex_\d\S+ .* (\d+)$", said, re.M)} == {"64"}
+    # (names as $d mark a place of ARM's code)
+    found = re.findall(r"^\w+ 0*([1-9a-f]\w*) [BbCDd] ([^$\s]\S*)$", ran(["nm", "-S", folder / "libfaster_hex.a"]).stdout, re.M)
+    assert found == ([] if runner else [("1", "level")])
+
+
+def test_names_of_the_shared_library(target):
+    shared = target[0] / SHARED[2]
+    said = ran(["readelf", "-W", "--dyn-syms", shared]).stdout
+    assert {*re.findall(r" (\w+)@@FASTER_HEX_1$", said, re.M)} == {*CALLS}
+    is_locked(shared)
+
+
+@pytest.mark.parametrize("source, options", [("c", "-std=c99"), ("cpp", "-std=c++11 -Wold-style-cast")])
+def test_example(tmp_path, target, source, options):
+    folder, cc, cxx, runner = target
+    needs(*runner.split()[:1])
+    words = [*options.split(), "-O2", TOP / f"examples/{source}/digits.{source}", folder / "libfaster_hex.a"]
+    program = compiled(cc if source == "c" else cxx, tmp_path / "digits", *words)
+    runs([*runner.split(), program], out=PRINTED)

@@ -1,0 +1,96 @@
+"""The examples of doc comments, `fhex decode` and `fhex vectors`, with one growth after another refused. It takes
+some minutes."""
+import re
+
+import pytest
+
+from commands import TOP, ran, runs
+
+# The examples that make the four calls that take memory, and what tells want of it.
+FOUR = r"(faster_hex_lib::lib|(faster_hex_(option_)?modules|long)::(option_)?(with|no)pfx_[a-z]*)_example"
+# The same four calls of a module, of many bytes, after one that writes none where it can.
+LONG = """
+#[test]
+fn {0}_example(rt: HostRuntime) -> Result<(), Fail> {{
+    let bytes = [0xab; 150_000];
+    {1}let value = {0}::serialize(rt.alloc(), {2})?;
+    let _ = {0}::deserialize(rt.alloc(), &value)?;
+    let _ = {0}::deserialize_bounded::<150_000>(rt.alloc(), &value)?;
+    let _ = {0}::array::serialize(rt.alloc(), {2})?;
+    Ok(())
+}}
+"""
+NONE = "let _ = {0}::serialize(rt.alloc(), None)?;\n    "
+NAMES = [f"{prefix}_{case}" for prefix in ("withpfx", "nopfx") for case in ("ignorecase", "lowercase", "uppercase")]
+TEST = r"^#\[test\]\nfn (\w+)\("
+WANT = "^ *(error|left): .*(OutOfMemory|AllocError|out of memory)"
+
+
+@pytest.fixture(scope="module")
+def examples(tmp_path_factory):
+    """The crate of the examples, and of long texts."""
+    made = tmp_path_factory.mktemp("examples") / "made"
+    runs([TOP / "scripts/examples", "--write", made])
+    source = made / "crates/doc_examples/src"
+    long = "".join(LONG.format(it, "", "&bytes") for it in NAMES)
+    for name in (f"option_{it}" for it in NAMES):
+        long += LONG.format(name, NONE.format(name), "Some(&bytes)")
+    (source / "long.rt").write_text(f"//! Long texts.\n\nuse faster_hex::*;\nuse std::test::Fail;\n{long}")
+    with (source / "lib.rt").open("a") as root:
+        root.write("#[cfg(test)]\nmod long;\n")
+    return source
+
+
+def is_refused(name, growth, passes, told):
+    """Whether an example wants memory: it passes, or fails and says want of memory, as its error or as what an
+    assertion found in place of something else. Those of the library's root, of a JSON module and an option
+    module, and of long texts for each of these, make the four calls that take memory, one growth each: they fail
+    exactly where one of the first four is refused, by the error of that call. So `null` is written and read
+    without one."""
+    refused = re.search(WANT, told, re.M)
+    if name.endswith("::serve_example"):
+        refused = refused or re.search("^ *left: 3$", told, re.M)
+    if re.fullmatch(FOUR, name):
+        refused = growth <= 4 and re.search(r"^ *error: Codec\(OutOfMemory\)$", told, re.M)
+        passes = growth > 4 and passes
+    # The allocator that refuses growths tells another end of its own examples.
+    assert passes or refused or name.startswith("test_kit_refusing"), f"{name}, growth {growth}: {told}"
+    return bool(refused)
+
+
+def test_examples(examples):
+    texts = {it.stem: it.read_text() for it in examples.glob("*.rt")}
+    every = {f"{module}::{name}" for module in texts for name in re.findall(TEST, texts[module], re.M)}
+    assert any(re.fullmatch(FOUR, it) for it in every)
+    for growth in range(1, 31):
+        said = ran(["rt", "try", "--test", "--fail-alloc", f"{growth}"], cwd=examples.parent).stdout
+        tests = said.partition("\ntest result:")[0]
+        tests = re.split(r"^test (\S+) \.\.\. (ok|FAILED)$", tests, flags=re.M)
+        assert {*tests[1::3]} == every, said
+        each = zip(tests[1::3], tests[2::3], tests[3::3])
+        if not sum(is_refused(name, growth, end == "ok", told) for name, end, told in each):
+            break
+
+
+def wants_memory(word, growth, given, answer, status=0):
+    """Whether fhex wants memory, where a growth is refused: it says so, or answers as with ample memory."""
+    tried = ["rt", "try", "--fail-alloc", f"{growth}", "--", word]
+    done = ran(tried, cwd=TOP / "crates/fhex", input=given)
+    wants = done.returncode == 3 and bool(re.search("^out of memory", done.stdout, re.M))
+    assert wants or done.returncode == status and answer in done.stdout, f"growth {growth}: {done.stdout}"
+    return wants
+
+
+def test_fhex_decode():
+    """It can do without some growths, as that of room for any input, but with three in a row none is left."""
+    found = []
+    while len(found) < 3 or any(found[-3:]):
+        found.append(wants_memory("decode", len(found) + 1, "68656c6c6f\n", "hello"))
+    assert any(found)
+
+
+def test_fhex_vectors_and_a_wrong_word():
+    """So late `vectors` asks for its lines and a list alone, and can do without none of them. After six growths for
+    a word, one that names nothing asks for no buffer."""
+    assert all(wants_memory("vectors", growth, "", "total ") for growth in (9, 14))
+    assert not wants_memory("Encode", 7, "", "usage: fhex ", 2)

@@ -1,0 +1,95 @@
+"""What `make install` puts where and `make uninstall` takes away, what they say where they fail, and the lines of
+README.md. test_pack.py tries programs over an installed copy."""
+import os
+import re
+
+import pytest
+
+from commands import ARM_CC, HELLO, INSTALLED, SHARED, TOP, VERSION, by_system, has_files, make, needs, ran, runs
+
+ALL = [*INSTALLED, "bin/fhex", "share/man/man1/fhex.1"]
+# It builds nothing, and takes no tool of those that build.
+MAKE = make("TARGET=x86_64", "CC=false", "INSTALL=false")
+# Where the programs of README.md stand.
+FILES = {"c": "digits.c", "rust": "src/main.rs"}
+# Where `make install` fails: below no folder, below a file, where `lib` is a file, where `bin/fhex` is a folder;
+# and whether `make uninstall` fails there too.
+FAILING = {"": True, "file/there": True, "half": False, "taken": True}
+
+pytestmark = pytest.mark.usefixtures("library", "fhex")
+
+
+def test_files_that_anybody_may_read(tmp_path):
+    there = tmp_path / "there"
+    how = {"preexec_fn": lambda: os.umask(0o077), "env": by_system()}
+    runs([*MAKE, "install", f"PREFIX={there}", "DESTDIR="], out="", err="", **how)
+    has_files(there, ALL)
+    programs = there / "bin/fhex", there / "lib" / SHARED[2]
+    found = {it: it.stat().st_mode & 0o777 for it in there.rglob("*") if not it.is_symlink()}
+    assert found == {it: 0o755 if it.is_dir() or it in programs else 0o644 for it in found}
+    runs([there / "bin/fhex", "encode"], out=HELLO, input="hello")
+
+
+def test_files_below_another_root(tmp_path):
+    below = tmp_path / "be low"
+    runs([*MAKE, "install", "PREFIX=/usr", "LIBDIR=/usr/lib64", f"DESTDIR={below}"])
+    has_files(below / "usr", [re.sub("^lib/", "lib64/", it) for it in ALL])
+    lines = (below / "usr/lib64/pkgconfig/faster_hex.pc").read_text().splitlines()
+    assert {"prefix=/usr", "libdir=${prefix}/lib64", 'Libs: -L"${libdir}" -lfaster_hex'} <= {*lines}
+
+
+@pytest.mark.parametrize("beside_others", [False, True])
+def test_two_targets(tmp_path, arm, beside_others):
+    """Each takes away its own files alone, without being told LIBDIR, and the last one all folders, but none that
+    has a file of somebody else."""
+    usr, common = tmp_path / "usr", ["PREFIX=/usr", f"DESTDIR={tmp_path}"]
+    by_arm, places = make("TARGET=aarch64", f"CC={ARM_CC}", *common), ("lib/arm", "lib/aarch64")
+    of_arm = [it.replace("x86_64.", "aarch64.") for it in INSTALLED if not it.startswith("lib/")]
+    of_arm += [f"{it}/{name[4:]}" for it in places for name in INSTALLED if name.startswith("lib/")]
+    runs([*MAKE, "install", *common])
+    done = ran([*by_arm, "install"])
+    assert done.returncode and "set LIBDIR" in done.stdout
+    for place in places:
+        runs([*by_arm, "install", f"LIBDIR=/usr/{place}"])
+    has_files(usr, {*ALL, *of_arm})
+    foreign = [it / "foreign" for it in (usr, *usr.rglob("*")) if beside_others and it.is_dir()]
+    for file in foreign:
+        file.touch()
+    others = [str(it.relative_to(usr)) for it in foreign]
+    runs([*MAKE, "uninstall", *common])
+    has_files(usr, [*of_arm, *others])
+    runs([*by_arm, "uninstall"])
+    has_files(usr, others)
+    assert usr.exists() == beside_others
+
+
+@pytest.mark.parametrize("prefix", FAILING)
+def test_failure(tmp_path, prefix):
+    """It ends with a status and one line."""
+    (tmp_path / "taken/bin/fhex").mkdir(parents=True)
+    (tmp_path / "half").mkdir()
+    for name in "file", "half/lib":
+        (tmp_path / name).touch()
+    there = prefix and f"{tmp_path / prefix}"
+    told = {"DESTDIR": "", "VERSION": VERSION, "TARGET": "x86_64", "PREFIX": there, "LIBDIR": f"{there}/lib"}
+    for words, is_refused in ([], True), (["--remove"], FAILING[prefix]):
+        done = ran([TOP / "scripts/install.sh", *words], env={**os.environ, **told}, stderr=-1)
+        assert (done.returncode > 0, done.stderr.count("\n"), done.stdout) == (is_refused, is_refused, "")
+    has_files(tmp_path / "half", ["lib"])
+
+
+def test_readme(tmp_path):
+    """Writes the programs and runs the lines of README.md up to those for Rattle, in order: each prints what its
+    comment says."""
+    needs("pkg-config", "cargo")
+    (tmp_path / "src").mkdir()
+    text = (TOP / "README.md").read_text().partition("\n## Rattle\n")[0].replace("$HOME", f"{tmp_path}")
+    exports = "set -e\n" + "\n".join(re.findall("^export .*", text, re.M)) + "\n"
+    for kind, block in re.findall(r"^```(\w+)\n(.*?)^```$", text, re.M | re.S):
+        if kind != "sh":
+            (tmp_path / FILES[kind]).write_text(block)
+            continue
+        for line in block.splitlines():
+            words, _, told = (it.strip() for it in line.partition("  # "))
+            done = ran(["bash", "-c", exports + words], cwd=TOP if words.startswith("make") else tmp_path)
+            assert done.stdout.strip().splitlines()[-1:] == [told] if told else done.returncode == 0, done.stdout

@@ -1,0 +1,62 @@
+"""The library and its builds by library.c, linked in several ways, under sanitizers, valgrind and qemu; and the
+choice of a build."""
+import pytest
+
+from commands import ARM_CC, CC, CRATE, ON_ARM, PRINTED, TESTS_IN_C, TOP, passes, ran
+from libraries import BUILDS, BUILT, MODELS, alone, compiled, shared_of, takes, tries
+
+SANITIZED = "-fsanitize=address,undefined -fno-sanitize-recover=all"
+# The compiler and the options that library.c is built by, what runs it, and its words.
+RUNS = [
+    (CC, "", "", ""),
+    (CC, "", "", "threads"),
+    (CC, SANITIZED, "", ""),
+    (CC, SANITIZED, "", "threads"),
+    (CC, "-fsanitize=thread", "", "threads"),
+    (CC, "", "valgrind -q --error-exitcode=3", ""),
+    (CC, "", "valgrind -q --error-exitcode=3 --tool=helgrind", "threads"),
+    (CC, "-Wl,--gc-sections", "", ""),
+    (CC, "-static-pie", "", ""),
+    ("musl-gcc", "-static", "", ""),
+]
+
+
+@pytest.mark.parametrize("compiler, options, tool, words", RUNS)
+def test_archive(tmp_path, library, compiler, options, tool, words):
+    tries(tmp_path, compiler, library / "libfaster_hex.a", options, tool, words)
+
+
+def test_shared_library(tmp_path, library):
+    tries(tmp_path, CC, *shared_of(tmp_path, library))
+
+
+@pytest.mark.parametrize("words", ["", "threads"])
+@pytest.mark.parametrize("is_shared", [False, True])
+def test_aarch64(tmp_path, arm, is_shared, words):
+    linked = shared_of(tmp_path, arm) if is_shared else (arm / "libfaster_hex.a", "")
+    tries(tmp_path, ARM_CC, *linked, ON_ARM, words)
+
+
+@pytest.mark.parametrize("build", BUILDS)
+def test_build_alone(tmp_path, library, build):
+    tries(tmp_path, CC, library / "builds.o", alone(tmp_path, build))
+
+
+@pytest.mark.parametrize("model", MODELS)
+def test_model(tmp_path, library, model):
+    archive = library / "libfaster_hex.a"
+    tries(tmp_path, CC, archive, "-static", f"qemu-x86_64 -cpu {model}")
+    program = compiled(CC, tmp_path / "digits", "-static", TOP / "examples/c/digits.c", archive)
+    takes(tmp_path, model, program, PRINTED)
+
+
+def test_choice(tmp_path, library):
+    compiled(CC, tmp_path / "dispatch.o", "-std=c11", "-c", CRATE / "dispatch.c")
+    passes([compiled(CC, tmp_path / "choice", "-std=gnu99", TESTS_IN_C / "choice.c", library / "libfaster_hex.a")])
+
+
+def test_two_copies_and_calls_that_are_not_made(tmp_path, library):
+    words = ["-Wl,--gc-sections", TESTS_IN_C / "copies.c", library / "libfaster_hex.a", "-ldl"]
+    program = compiled(CC, tmp_path / "copies", *BUILT, *words)
+    passes([program, shared_of(tmp_path, library)[0]])
+    assert "faster_hex_check" not in ran(["nm", program]).stdout

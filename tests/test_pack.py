@@ -1,0 +1,117 @@
+"""What `make dist` packs: in a clean folder, with a compiler, make and cargo alone, by several compilers; and
+programs over what is installed of it, after it was moved, by pkg-config, CMake and cargo."""
+import os
+import re
+import shutil
+
+import pytest
+
+from commands import (ARM_CC, BY_RUST, CARGO, CC, CXX, INSTALLED, ON_ARM, PRINTED, RUSTC, TOP, VERSION, has_files,
+                      make, needs, only, passes, ran, runs)
+from libraries import by_cmake
+
+NAME = f"faster_hex-{VERSION}"
+# What builds, tests and installs a pack.
+TOOLS = f"""sh make {CC} {CXX} gcc clang musl-gcc {ARM_CC} qemu-aarch64 ar as ld cp ln rm mv mkdir install cat
+    sed grep sort dirname rmdir cmake pkg-config {CARGO} {RUSTC} env uname"""
+RUNNERS = {CC: "", "clang": "", "musl-gcc": "", ARM_CC: ON_ARM}
+# What CMake asks for, and whether it is refused.
+VERSIONS = {"1": 0, "1.0": 0, "1.0.0 EXACT": 0, "1.0.1": 1, "1.1": 1, "2": 1, "0.9": 1}
+
+
+def packed(to, umask, top=TOP):
+    runs(make("dist", f"TO={to}", top=top), preexec_fn=lambda: os.umask(umask))
+    return to / f"{NAME}.tar.gz"
+
+
+def unpacked(pack, to):
+    runs(["tar", "-xf", pack, "-C", to])
+    return to / NAME
+
+
+@pytest.fixture(scope="module")
+def pack(tmp_path_factory):
+    return packed(tmp_path_factory.mktemp("pack"), 0o022)
+
+
+@pytest.fixture(scope="module")
+def env(tmp_path_factory):
+    tools = only(tmp_path_factory.mktemp("bin") / "tools", {it: it for it in TOOLS.split()})
+    return {**tools, "REALGCC": "gcc"}
+
+
+@pytest.fixture(scope="module")
+def top(tmp_path_factory, pack, env):
+    """A pack that is built, beside an installed copy, `there`, which was moved."""
+    top = unpacked(pack, tmp_path_factory.mktemp("top"))
+    runs(make(f"CC={CC}", top=top), env=env)
+    runs(make(f"CC={CC}", "install", f"PREFIX={top}/here", top=top), env=env)
+    (top / "here").rename(top.parent / "there")
+    return top
+
+
+@pytest.fixture
+def flags(top, env):
+    """What pkg-config tells of the installed copy, which is where it is now."""
+    needs("pkg-config")
+    words = ["pkg-config", "--define-prefix", "--cflags", "--libs", f"faster_hex = {VERSION}"]
+    there = top.parent / "there"
+    flags = runs(words, env={**env, "PKG_CONFIG_PATH": f"{there}/lib/pkgconfig"}).split()
+    assert flags == [f"-I{there}/include", f"-L{there}/lib", "-lfaster_hex"]
+    return flags
+
+
+def test_pack_by_another_umask_in_another_folder(tmp_path, pack):
+    if ran(["git", "status", "--porcelain", "-uno"], cwd=TOP).stdout:
+        pytest.skip("the last commit has other files")
+    runs(["git", "clone", "-q", TOP, tmp_path / "clone"], preexec_fn=lambda: os.umask(0o077))
+    assert packed(tmp_path, 0o077, tmp_path / "clone").read_bytes() == pack.read_bytes()
+
+
+@pytest.mark.parametrize("compiler", RUNNERS)
+def test_pack(tmp_path, pack, env, compiler):
+    needs(compiler, *RUNNERS[compiler].split()[:1])
+    own, there = unpacked(pack, tmp_path), tmp_path / "bl ank"
+    by_pack = make(f"CC={compiler}", f"RUN={RUNNERS[compiler]}", f"PREFIX={there}", top=own)
+    runs(by_pack, out="", err="", env=env)
+    passes([*by_pack, "test"], env=env)
+    runs([*by_pack, "install"], out="", err="", env=env)
+    target = "aarch64" if compiler == ARM_CC else "x86_64"
+    has_files(there, [it.replace("x86_64.", f"{target}.") for it in INSTALLED])
+    runs([*by_pack, "uninstall"], out="", err="", env=env)
+    assert not there.exists()
+
+
+@pytest.mark.parametrize("words", [f"{CC} c/digits.c", f"{CXX} cpp/digits.cpp", f"{CC} -static-pie c/digits.c"])
+def test_program_by_pkg_config(tmp_path, top, env, flags, words):
+    program = tmp_path / "over"
+    runs([*words.split(), *flags, "-o", program], cwd=top / "examples", env=env)
+    runs([program], out=PRINTED, env={"LD_LIBRARY_PATH": f"{top.parent}/there/lib"})
+
+
+def test_pages_of_man(top):
+    needs("man")
+    runs(["man", "-M", top.parent / "there/share/man", "-w", "faster_hex_encode"])
+
+
+def test_cmake(tmp_path, top, env):
+    """Over the sources, and over the installed copy, which is asked for twice."""
+    by_cmake(top / "examples/c", tmp_path / "built", f"-DFASTER_HEX={top}", env=env)
+    twice = shutil.copytree(top / "examples/c", tmp_path / "twice") / "CMakeLists.txt"
+    twice.write_text(re.sub(r"^(find_package.*\n)", r"\1\1", twice.read_text(), flags=re.M))
+    by_cmake(twice.parent, tmp_path / "over", f"-DCMAKE_PREFIX_PATH={top.parent}/there", env=env)
+
+
+@pytest.mark.parametrize("version", VERSIONS)
+def test_version_that_cmake_asks_for(tmp_path, top, version):
+    needs("cmake")
+    find = f"find_package(faster_hex {version} REQUIRED CONFIG)"
+    (tmp_path / "CMakeLists.txt").write_text(f"cmake_minimum_required(VERSION 3.16)\nproject(asks C)\n{find}")
+    words = ["cmake", "-S", tmp_path, "-B", tmp_path, f"-DCMAKE_PREFIX_PATH={top.parent}/there"]
+    runs(words, VERSIONS[version])
+
+
+def test_cargo(tmp_path, top, env):
+    needs(CARGO)
+    own = {**env, "CARGO_HOME": f"{tmp_path}/home", "CARGO_TARGET_DIR": f"{tmp_path}/target"}
+    runs([CARGO, "run", "-q"], out=BY_RUST, cwd=top / "examples/rust", env=own)

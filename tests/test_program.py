@@ -1,0 +1,50 @@
+"""The built fhex: its statuses, outputs and messages, byte for byte."""
+import os
+import subprocess
+
+import pytest
+
+from commands import TOP, ran
+
+USAGE = b"usage: fhex encode|encode-upper|decode|decode-lower|decode-upper|vectors\n"
+ODD = b"hex input length must be even\n"
+INVALID = b"invalid hex byte 0x%x at index %d\n"
+PLANS = "scalar", "sse41", "avx2", "avx512", "neon"
+VECTORS = [f"{plan} v{at:02} pass\n" for plan in PLANS for at in range(1, 17)]
+VECTORS += [f"plain v{at} pass\n" for at in range(17, 21)] + ["total 84 passed 84 failed 0\n"]
+# The words of fhex, its input, its status, its standard output and its standard error.
+RUNS = [
+    (["encode"], b"hello", 0, b"68656c6c6f\n", b""),
+    (["encode"], b"", 0, b"\n", b""),
+    (["encode-upper"], b"\0\xab\xff", 0, b"00ABFF\n", b""),
+    (["decode"], b"00aBcD\n", 0, b"\0\xab\xcd", b""),
+    (["decode"], b"", 0, b"", b""),
+    (["decode-lower"], b"00ab", 0, b"\0\xab", b""),
+    (["decode-upper"], b"00AB", 0, b"\0\xab", b""),
+    (["vectors"], b"not read", 0, "".join(VECTORS).encode(), b""),
+    (["decode"], b"0g", 1, b"", INVALID % (0x67, 1)),
+    (["decode"], b"00ff0g", 1, b"", INVALID % (0x67, 5)),
+    (["decode-lower"], b"0A0b", 1, b"", INVALID % (0x41, 1)),
+    (["decode-upper"], b"0A0b", 1, b"", INVALID % (0x62, 3)),
+    (["decode"], b"abc", 1, b"", ODD),
+    (["decode"], b"ab\n\n", 1, b"", ODD),
+    ([b"\xff"], b"hello", 3, b"", b"read failed\n"),  # no UTF-8
+]
+NO_WORDS = [], [""], ["encode", "decode"], ["vectors", "vectors"], ["Encode"], ["--help"]
+RUNS += [(words, b"hello", 2, b"", USAGE) for words in NO_WORDS]
+
+
+def ended(*words, **how):
+    done = ran(words, **{"stderr": subprocess.PIPE, "text": None, "errors": None, **how})
+    return done.returncode, done.stdout, done.stderr
+
+
+@pytest.mark.parametrize("words, given, status, out, err", RUNS, ids=[f"{it[0]} {it[1]}" for it in RUNS])
+def test_run(fhex, words, given, status, out, err):
+    assert ended(fhex, *words, input=given) == (status, out, err)
+
+
+def test_streams_that_fail(fhex):
+    folder, full = os.open(TOP, os.O_RDONLY), os.open("/dev/full", os.O_WRONLY)
+    assert ended(fhex, "encode", stdin=folder) == (3, b"", b"read failed\n")
+    assert ended(fhex, "decode", input=b"00\n", stdout=full) == (3, None, b"write failed\n")

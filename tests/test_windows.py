@@ -1,0 +1,72 @@
+"""For Windows, by mingw-w64 and wine: the tests in C, the registers that calls keep, and the programs by CMake.
+For macOS and BSD, by clang: what the assembled library shows and asks for."""
+import re
+
+import pytest
+
+from commands import CALLS, CRATE, TESTS_IN_C, TOP, WINDOWS_CC, make, needs, passes, ran, runs
+from libraries import by_cmake
+
+# What a call on Windows keeps.
+KEPT = [*"%rbx %rbp %rsi %rdi %r12 %r13 %r14 %r15".split(), *(f"%xmm{it}" for it in range(6, 16))]
+# Where the library is assembled and never run.
+OTHERS = "x86_64-apple-macos11 arm64-apple-macos11 aarch64-unknown-freebsd13 x86_64-unknown-netbsd9".split()
+
+
+@pytest.fixture(scope="module")
+def windows():
+    """The folder of the library for Windows."""
+    needs(WINDOWS_CC)
+    runs(make("lib", f"CC={WINDOWS_CC}"))
+    return CRATE / "out/windows"
+
+
+def keeping(call):
+    """A call that fills the registers that it has to keep, and ends the program where it does not. For one thread."""
+    every = lambda form: [form.format("movups" if "m" in it else "mov", it, 16 * at) for at, it in enumerate(KEPT)]
+    before = [*every("{0} {1},own+{2}(%rip)"), "pop own+400(%rip)", *every("{0} want+{2}(%rip),{1}")]
+    after = [*every("{0} {1},seen+{2}(%rip)"), "push own+400(%rip)", "lea want(%rip),%rsi", "lea seen(%rip),%rdi"]
+    after += ["mov $288,%ecx", "repe cmpsb", "je 1f", "ud2", "1:", *every("{0} own+{2}(%rip),{1}"), "ret"]
+    return [f".globl __wrap_{call}", f"__wrap_{call}:", *before, f"call __real_{call}", *after]
+
+
+def test_in_c(windows):
+    needs("wine")
+    passes(make("test-c", f"CC={WINDOWS_CC}", "RUN=wine"))
+
+
+def test_names_and_stack(windows):
+    """Windows may overwrite what stands below the stack, and wants each of its pages touched in turn."""
+    said = ran([WINDOWS_CC.replace("gcc", "objdump"), "-pd", windows / "libfaster_hex.dll"]).stdout
+    assert {*re.findall(r"^\s+\[ *\d+\] (\w+)$", said, re.M)} == {*CALLS}
+    assert "(%rsp)" in said and not re.findall(r"-0x\w+\(%rsp.*|sub +\$0x\w{4,},%rsp", said)
+
+
+def test_registers(tmp_path, windows):
+    needs("wine")
+    data = [f"{name}: .byte {','.join(f'{7 * it % 251}' for it in range(288))}" for name in ("want", "seen")]
+    text = [".comm own,512", ".data", *data, ".text", *(it for call in CALLS for it in keeping(call)), ""]
+    (tmp_path / "kept.s").write_text("\n".join(text))
+    words = f"{WINDOWS_CC} -std=gnu99 -pthread -static -I{CRATE} -I{TESTS_IN_C}/windows -o".split()
+    words += [tmp_path / "kept.exe", TESTS_IN_C / "library.c", tmp_path / "kept.s", windows / "libfaster_hex.a"]
+    runs([*words, *(f"-Wl,--wrap={it}" for it in CALLS)])
+    passes(["wine", tmp_path / "kept.exe"])
+
+
+def test_cmake(tmp_path):
+    needs("wine", WINDOWS_CC)
+    words = "SYSTEM_NAME=Windows", f"C_COMPILER={WINDOWS_CC}", f"RUNTIME_OUTPUT_DIRECTORY={tmp_path}"
+    options = (f"-DCMAKE_{it}" for it in words)
+    by_cmake(TOP / "examples/c", tmp_path, f"-DFASTER_HEX={TOP}", *options, tool="wine")
+
+
+@pytest.mark.parametrize("target", OTHERS)
+def test_names_for(tmp_path, target):
+    needs("clang", "llvm-nm")
+    objects = []
+    for source in TOP / "generated/builds.S", CRATE / "dispatch.c":
+        objects.append(tmp_path / f"{source.stem}.o")
+        runs(["clang", "-target", target, "-ffreestanding", "-O2", "-c", "-o", objects[-1], source])
+    found = re.findall(r" (\w) _?(\w+)$", ran(["llvm-nm", "-g", *objects]).stdout, re.M)
+    assert {name for _, name in found if not re.match(r"faster_hex_\d", name)} == {*CALLS}
+    assert {name for _, name in found} == {name for kind, name in found if kind != "U"}
