@@ -119,7 +119,6 @@ check: all
 # Before a release. It stops at the first that fails.
 deep: all
 	scripts/mutations
-	pytest tests
 	scripts/examples --prove
 	$(PYTEST) tests
 

@@ -3,15 +3,13 @@ looks for; a right one among them is named as passed, also where a function that
 wrong, and so is a wrong one that a weak contract lets through; what can't be compiled or applied is an error, and
 what is refused only since a name is gone, also where that is told over two lines."""
 import os
-import pathlib
 import re
 import shutil
-import subprocess
 
 import pytest
 
-SCRIPT = pathlib.Path(__file__).resolve().parent.parent / "scripts/mutations"
-needs_rt = pytest.mark.skipif(not shutil.which("rt"), reason="there is no rt")
+from commands import TOP, needs, ran
+
 HEAD = """//! Functions with bodies to be put out.
 #![tactic(auto)]
 
@@ -98,44 +96,42 @@ def top(tmp_path_factory):
     return top
 
 
-def ran(top, *words):
+def tries(top, *words):
     """What scripts/mutations comes to over a repository, with a folder of temporary files of its own."""
     room = top / "room"
     room.mkdir(exist_ok=True)
-    places = {**os.environ, "MUTATIONS_TOP": str(top), "TMPDIR": str(room), "XDG_CACHE_HOME": str(top / "kept")}
-    pipes = {"stdout": subprocess.PIPE, "stderr": subprocess.STDOUT, "encoding": "utf-8"}
-    done = subprocess.run([SCRIPT, *words], env=places, **pipes)
+    places = {"MUTATIONS_TOP": str(top), "TMPDIR": str(room), "XDG_CACHE_HOME": str(top / "kept")}
+    done = ran([TOP / "scripts/mutations", *words], env={**os.environ, **places})
     assert not any(room.iterdir()) and not (top / "crates/tiny/out").exists()
     return done
 
 
 @pytest.fixture(scope="module")
 def all_tried(top):
-    return ran(top)
+    needs("rt")
+    return tries(top)
 
 
-@needs_rt
 @pytest.mark.parametrize("sentence, said", [(it[0], it[3]) for it in (EDIT, *AT_EVERY_COMMIT, *OTHERS)])
 def test_each_is_told(all_tried, sentence, said):
     assert re.search(f"^{said.format(sentence)}", all_tried.stdout, re.M), all_tried.stdout
 
 
-@needs_rt
 def test_they_are_counted(all_tried):
     assert re.search("^tiny: 5 of 12 refused, ", all_tried.stdout, re.M)
     assert all_tried.stdout.endswith("\n5 found, 7 passed\n") and all_tried.returncode == 1
 
 
-@needs_rt
 def test_the_gate_tries_the_first_alone_and_once(top):
+    needs("rt")
     for how in r", \d+ s of processor", " by an earlier run":
-        done = ran(top, "--gate")
+        done = tries(top, "--gate")
         assert re.search(f"^tiny: 1 of 1 refused{how}\n1 found, 0 passed\n$", done.stdout, re.M), done.stdout
         assert done.returncode == 0
 
 
 def test_a_word_names_some(top):
-    done = ran(top, "seven is six")
+    done = tries(top, "seven is six")
     assert done.stdout.count("\n") == 1 and "'seven is six'" in done.stdout and done.returncode == 1
 
 
@@ -143,5 +139,5 @@ def test_a_table_is_read_whole(top, tmp_path):
     shutil.copytree(top, tmp_path, dirs_exist_ok=True)
     with (tmp_path / "crates/tiny/mutations").open("a") as table:
         table.write("takes nothing away\n+    6\n")
-    done = ran(tmp_path)
+    done = tries(tmp_path)
     assert done.stdout == "mutations: crates/tiny/mutations: 'takes nothing away' is not read\n"

@@ -1,13 +1,10 @@
 """The gate sees wrong answers in files of rows: each program of rows answers its file as it stands, and prints the
 rows whose answers are made wrong, and no other."""
-import pathlib
-import shutil
-import subprocess
-
 import pytest
 
-CRATES = pathlib.Path(__file__).resolve().parent.parent / "crates"
-pytestmark = pytest.mark.skipif(not shutil.which("rt"), reason="there is no rt")
+from commands import TOP, needs, ran
+
+CRATES = TOP / "crates"
 # Of each program some rows with a wrong answer.
 TEXT = "\\xe5\\x89\\x8d\\xe7\\xbc\\x80:"
 SINKS = "[then-refuses|refuses-the-rest|then-takes-none]"
@@ -48,22 +45,17 @@ PLANTED = {
 }
 
 
-def printed(words, folder, rows=""):
-    """What a command prints in a folder, which reads these rows."""
-    pipes = {"stdout": subprocess.PIPE, "stderr": subprocess.STDOUT, "text": True}
-    return subprocess.run(words, cwd=folder, input=rows, **pipes).stdout
-
-
 @pytest.fixture(scope="module", params=PLANTED)
 def program(request):
     """The name of a program of rows, which is built."""
-    printed(["rt", "run"], CRATES / request.param)
+    needs("rt")
+    ran(["rt", "run"], cwd=CRATES / request.param, input="")
     return request.param
 
 
 def answered(program, rows):
     """What a program prints of these rows."""
-    return printed([CRATES / program / "out" / program], CRATES / program, rows)
+    return ran([CRATES / program / "out" / program], input=rows).stdout
 
 
 def test_rows_are_answered(program):
