@@ -1,4 +1,4 @@
-"""What several tests share: paths, compilers, and commands that must end as told."""
+"""What several tests share: paths, compilers, commands that must end as told, and programs over a library."""
 import os
 import re
 import shutil
@@ -17,6 +17,8 @@ CC, CXX = os.environ.get("CC") or "cc", os.environ.get("CXX") or "c++"
 CARGO, RUSTC = os.environ.get("CARGO") or "cargo", os.environ.get("RUSTC") or "rustc"
 ARM_CC, ON_ARM = "aarch64-linux-gnu-gcc", "qemu-aarch64 -L /usr/aarch64-linux-gnu"
 WINDOWS_CC = "x86_64-w64-mingw32-gcc"
+# Without tools that the system did not bring, as the Rattle toolchain.
+BY_SYSTEM = {"PATH": "/usr/bin:/bin"}
 # What the examples in Rust print, and those in C and C++.
 HELLO = "68656c6c6f\n"
 BY_RUST = HELLO + "hello\ninvalid hex byte 0x46 at index 2\ndigits up to index 4\n"
@@ -29,6 +31,13 @@ INSTALLED = """include/faster_hex.h lib/libfaster_hex.a lib/pkgconfig/faster_hex
 INSTALLED += [f"lib/{name}" for name in SHARED] + [f"share/man/man3/{name}.3" for name in CALLS]
 OF_RUST = *TOP.glob("bindings/rust/src/*.rs"), *TOP.glob("generated/*")
 INSTALLED += [f"share/faster_hex/rust/{it.relative_to(TOP)}" for it in OF_RUST]
+STRICT = ["-Wall", "-Wextra", "-Wpedantic", "-Wconversion", "-Werror", f"-I{CRATE}"]
+BUILT = "-std=gnu99 -O1 -g -pthread".split()
+# The builds for x86-64, each with a flag of the processors that run it.
+BUILDS = {"x86-64": "sse2", "x86-64-v2": "sse4_2", "x86-64-v3": "avx2"}
+# Models of processors of qemu, and the build that a call takes there.
+MODELS = {"qemu64": "x86_64", "Nehalem": "x86_64_v2", "Haswell": "x86_64_v3"}
+MODELS |= dict.fromkeys(("Haswell,-avx2", "Haswell,-avx", "Haswell,-xsave"), "x86_64_v2")
 
 
 def needs(*tools):
@@ -39,11 +48,6 @@ def needs(*tools):
 
 def make(*words, top=TOP):
     return ["make", "-s", "-C", top, *words]
-
-
-def by_system():
-    """The environment without tools that the system did not bring, as the Rattle toolchain."""
-    return {**os.environ, "PATH": "/usr/bin:/bin"}
 
 
 def only(folder, tools):
@@ -88,3 +92,56 @@ def copied(names, to):
         (to / name).parent.mkdir(parents=True, exist_ok=True)
         shutil.copy(TOP / name, to / name)
     return to
+
+
+def compiled(compiler, program, *words):
+    """Has a compiler build what includes the header, with nothing to say."""
+    needs(compiler)
+    runs([compiler, *STRICT, "-o", program, *words])
+    return program
+
+
+def tries(made, compiler, library, options="", tool="", words=""):
+    """Runs the checks of library.c over a library."""
+    needs(compiler, *tool.split()[:1])
+    built = [*options.split(), *BUILT, TESTS_IN_C / "library.c", library]
+    passes([*tool.split(), compiled(compiler, made / "library", *built), *words.split()])
+
+
+def shared_of(made, folder):
+    """A shared library by the name that the loader asks for, and the option by which it is found."""
+    name = made / SHARED[1]
+    name.symlink_to(folder / SHARED[2])
+    return name, f"-Wl,-rpath,{made}"
+
+
+def alone(made, build):
+    """What links one build alone: a file that gives its calls the names of the header."""
+    if not re.search(rf"\b{BUILDS[build]}\b", Path("/proc/cpuinfo").read_text()):
+        pytest.skip(f"the processor has no {BUILDS[build]}")
+    prefix, names = f"hex_{VERSION}_{build}_".replace(".", "_").replace("-", "_"), made / f"names-{build}"
+    names.write_text("\n".join(f"-Wl,--defsym={it}={it.replace('hex_', prefix)}" for it in CALLS))
+    return f"@{names}"
+
+
+def is_locked(shared):
+    """Has nobody write a shared library once it is loaded."""
+    said = ran(["readelf", "-ldW", shared]).stdout
+    assert all(it in said for it in ("GNU_RELRO", "BIND_NOW", "[libfaster_hex.so.1]")) and "TEXTREL" not in said
+
+
+def takes(made, model, program, out):
+    """Has a program take the build for a model, of which qemu's log has the names."""
+    needs("qemu-x86_64")
+    runs(["qemu-x86_64", "-cpu", model, "-d", "in_asm", "-D", made / "log", program], out=out)
+    names = r"^IN: faster_hex_[\d_]*_(x86_64(?:_v\d)?)_"
+    assert {*re.findall(names, (made / "log").read_text(), re.M)} == {MODELS[model]}
+
+
+def by_cmake(source, built, *options, tool="", **how):
+    """Builds the programs of examples/c, or of a copy of it, by CMake, and runs them."""
+    needs("cmake")
+    runs(["cmake", "-S", source, "-B", built, *options], **how)
+    runs(["cmake", "--build", built], **how)
+    for library in ("faster_hex", "archive"):
+        runs([*tool.split(), *built.glob(f"over_{library}*")], out=PRINTED)

@@ -4,7 +4,7 @@ from pathlib import Path
 
 import pytest
 
-pytest.register_assert_rewrite("commands", "libraries")
+pytest.register_assert_rewrite("commands")
 from commands import ARM_CC, CARGO, CRATE, TOP, copied, make, needs, ran, runs
 from packages import REGISTRY
 

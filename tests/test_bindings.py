@@ -1,18 +1,18 @@
-"""The examples of the Rust crate, by each of its features and on other targets; programs that cargo builds over
-it, without an assembler or a registry; and two versions of it and libfaster_hex.a in one program."""
+"""The examples of the Rust crate, by feature and target, and programs that cargo builds over it."""
 import os
 import re
 from pathlib import Path
 
 import pytest
 
-from commands import ARM_CC, BY_RUST, CARGO, CC, HELLO, ON_ARM, RUSTC, TOP, WINDOWS_CC, needs, only, passes, ran, runs
-from libraries import MODELS, takes
+from commands import (ARM_CC, BY_RUST, CARGO, CC, HELLO, MODELS, ON_ARM, RUSTC, TOP, WINDOWS_CC, needs, only, passes,
+                      ran, runs, takes)
 from packages import OF_SERDE, files_of_package, lacking, needs_crates, packed, without
 
 EXAMPLE = TOP / "examples/rust"
 # Targets of which Rust's own library is seldom there, with a linker and what runs their programs.
 TARGETS = {"aarch64-unknown-linux-gnu": (ARM_CC, ON_ARM), "x86_64-pc-windows-gnu": (WINDOWS_CC, "wine")}
+TEST = "test -q --no-default-features --features".split()
 BOTH = """
     #[link(name = "faster_hex", kind = "static")]
     extern "C" { fn faster_hex_check(src: *const u8, len: usize) -> bool; }
@@ -38,23 +38,18 @@ def test_files_that_cargo_packs(cargo):
     assert {*said} - made_by_cargo == {*files_of_package()}
 
 
-def program_over(folder, source, *lines):
-    """Writes a program in Rust and its manifest, of which these are the last lines."""
+def program_over(folder, source, *dependencies):
     (folder / "src").mkdir(parents=True)
     (folder / "src/main.rs").write_text(source)
-    package = '[package]\nname = "over"\nversion = "0.1.0"\nedition = "2021"\n[dependencies]\n'
-    (folder / "Cargo.toml").write_text(package + "\n".join(lines))
+    package = '[package]\nname = "over"\nedition = "2021"\n[profile.release]\nlto = "fat"\n[dependencies]\n'
+    (folder / "Cargo.toml").write_text(package + "\n".join(dependencies))
     return folder
-
-
-def cargo_test(cargo, features):
-    return [*cargo, "test", "-q", "--no-default-features", "--features", features]
 
 
 @pytest.mark.parametrize("features", ["", "alloc", "std", "serde"])
 def test_doc_comments(cargo, package, features):
     needs_crates(*{"serde": OF_SERDE[:2]}.get(features, []))
-    passes(cargo_test(cargo, features), cwd=package)
+    passes([*cargo, *TEST, features], cwd=package)
 
 
 @pytest.mark.parametrize("way", ["path", "git"])
@@ -82,8 +77,7 @@ def test_two_versions_and_the_archive_in_one_program(tmp_path, library, words):
         text = file.read_text().replace('"1.0.0"', '"1.0.1"').replace("1_0_0", "1_0_1")
         file.write_text(text.replace(".L100", ".L101"))
     both = f'faster-hex = {{ path = "{crate}" }}', f'later = {{ package = "faster-hex", path = "{later}" }}'
-    own = program_over(tmp_path / "own", BOTH, *both, "[profile.release]", 'lto = "fat"')
-    env = {**os.environ, "RUSTFLAGS": f"-L native={library}"}
+    own, env = program_over(tmp_path / "own", BOTH, *both), {**os.environ, "RUSTFLAGS": f"-L native={library}"}
     runs([CARGO, "run", "-q", *words], out=2 * HELLO, cwd=own, env=env)
 
 
@@ -109,4 +103,4 @@ def test_doc_comments_on(cargo, package, target):
         pytest.skip(f"there is no library of Rust for {target}")
     name = f"CARGO_TARGET_{target.upper().replace('-', '_')}_"
     env = {"CARGO_BUILD_TARGET": target, f"{name}LINKER": compiler, f"{name}RUNNER": runner}
-    passes(cargo_test(cargo, "std"), cwd=package, env={**os.environ, **env})
+    passes([*cargo, *TEST, "std"], cwd=package, env={**os.environ, **env})

@@ -1,11 +1,9 @@
-"""The header under each standard of C and C++, what the libraries for x86-64 and aarch64 show, and the examples
-over them."""
+"""The header under standards of C and C++, what the libraries show, and the examples over them."""
 import re
 
 import pytest
 
-from commands import ARM_CC, CALLS, CC, CXX, ON_ARM, PRINTED, SHARED, TOP, needs, ran, runs
-from libraries import compiled, is_locked
+from commands import ARM_CC, CALLS, CC, CXX, ON_ARM, PRINTED, SHARED, TOP, compiled, is_locked, needs, ran, runs
 
 
 @pytest.fixture(params=["x86_64", "aarch64"])
@@ -24,8 +22,7 @@ def test_header(standard):
 
 
 def test_names_and_state_of_the_archive(target):
-    """It shows the header's calls alone and asks for none, and its functions begin at multiples of 64. The choice of
-    a build is its state."""
+    """It shows the header's calls alone, asks for none, and has the choice of a build as its state."""
     folder, *_, runner = target
     said = ran(["readelf", "-SsW", folder / "libfaster_hex.a"]).stdout
     found = re.findall(r"^ *\d+: \w+ +\w+ \w+ +(GLOBAL|WEAK) +(\w+) +(\w+) (\S+)$", said, re.M)
@@ -33,8 +30,9 @@ def test_names_and_state_of_the_archive(target):
     given = {name for *_, place, name in found if place != "UND"}
     assert {name for *_, place, name in found if place == "UND"} <= given
     assert {*re.findall(r" \.text\.faster_hex_\d\S+ .* (\d+)$", said, re.M)} == {"64"}
+    said = ran(["nm", "-S", folder / "libfaster_hex.a"]).stdout
     # (names as $d mark a place of ARM's code)
-    found = re.findall(r"^\w+ 0*([1-9a-f]\w*) [BbCDd] ([^$\s]\S*)$", ran(["nm", "-S", folder / "libfaster_hex.a"]).stdout, re.M)
+    found = re.findall(r"^\w+ 0*([1-9a-f]\w*) [BbCDd] ([^$\s]\S*)$", said, re.M)
     assert found == ([] if runner else [("1", "level")])
 
 

@@ -1,5 +1,4 @@
-"""Whether generated/ is what the sources give, here and in another folder with all proofs anew, and each build
-for its processor. It takes some minutes."""
+"""Whether generated/ is what the sources give, which takes some minutes; its processors; what is inlined there."""
 import re
 
 import pytest
@@ -10,6 +9,9 @@ GENERATED = TOP / "generated"
 # Words of each build's assembly: some that stand there, and some that don't.
 SPEAKS = {"x86-64": ("%xmm", "pshufb|%ymm|%zmm"), "x86-64-v2": ("\tpshufb", "%ymm|%zmm")}
 SPEAKS |= {"x86-64-v3": ("\tvpshufb\t.*%ymm", "%zmm"), "aarch64": (r"\ttbl\t", "%")}
+# Functions that are called though they are marked to be inlined, and why.
+CALLED = {"codec_pieces_write_by": "it has the code for all lengths twice, and a call is small beside its loop"}
+CRATES = "hex_core", "hex_codec"
 
 
 @pytest.mark.parametrize("build", SPEAKS)
@@ -23,3 +25,22 @@ def test_made_of_these_sources(tmp_path, copy, is_copy):
     runs([(copy if is_copy else TOP) / "scripts/generate", tmp_path / "anew"])
     made = {it.name: it.read_bytes() for it in (tmp_path / "anew").iterdir()}
     assert made and made == {name: (GENERATED / name).read_bytes() for name in made}
+
+
+def marked():
+    """A pattern for each marked function, as generated/ names it."""
+    for path in [path for it in CRATES for path in TOP.glob(f"crates/{it}/src/**/*.rt")]:
+        crate, _, *place = path.with_suffix("").relative_to(TOP / "crates").parts
+        found = re.findall(r"^( *)#\[inline\(always\)\]\n *(?:pub\S* )?fn (\w+)", path.read_text(), re.M)
+        for margin, name in found:
+            # A method stands in the module of its type, which may be another one.
+            where = r"[a-z_]*[A-Z][A-Za-z\d]*" if margin else "_".join(it for it in place if it != "mod")
+            yield f"{crate.removeprefix('hex_')}_{where}_{name}"
+
+
+@pytest.mark.parametrize("path", sorted(GENERATED.glob("*.s")), ids=lambda it: it.stem)
+def test_inlined(path):
+    """The toolchain drops the mark from a function that would grow very large, and says nothing."""
+    build, names = r"\d+_\d+_\d+_(?:x86_64(?:_v\d)?|aarch64)", "|".join(marked())
+    symbol = rf"^\thex_function\tfaster_hex_{build}_({names})_*,"
+    assert {*re.findall(symbol, path.read_text(), re.M)} <= {*CALLED}

@@ -1,5 +1,4 @@
-"""The examples of doc comments, `fhex decode` and `fhex vectors`, with one growth after another refused. It takes
-some minutes."""
+"""Examples, `fhex decode` and `fhex vectors`, with one growth after another refused. It takes some minutes."""
 import re
 
 import pytest
@@ -42,11 +41,10 @@ def examples(tmp_path_factory):
 
 
 def is_refused(name, growth, passes, told):
-    """Whether an example wants memory: it passes, or fails and says want of memory, as its error or as what an
-    assertion found in place of something else. Those of the library's root, of a JSON module and an option
-    module, and of long texts for each of these, make the four calls that take memory, one growth each: they fail
-    exactly where one of the first four is refused, by the error of that call. So `null` is written and read
-    without one."""
+    """Whether an example wants memory: it passes, or says so, as its error or as what an assertion found. Those of
+    the library's root, of JSON modules and of long texts for each make the four calls that take memory, one growth
+    each: they fail exactly where one of the first four is refused, by the error of that call. So `null` is written
+    and read without one."""
     refused = re.search(WANT, told, re.M)
     if name.endswith("::serve_example"):
         refused = refused or re.search("^ *left: 3$", told, re.M)

@@ -1,41 +1,34 @@
-"""What `make install` puts where and `make uninstall` takes away, what they say where they fail, and the lines of
-README.md. test_pack.py tries programs over an installed copy."""
+"""What `make install` puts where, `make uninstall` takes away, and the lines of README.md. See test_pack.py too."""
 import os
 import re
 
 import pytest
 
-from commands import ARM_CC, HELLO, INSTALLED, SHARED, TOP, VERSION, by_system, has_files, make, needs, ran, runs
+from commands import ARM_CC, HELLO, INSTALLED, SHARED, TOP, VERSION, BY_SYSTEM, has_files, make, needs, ran, runs
 
 ALL = [*INSTALLED, "bin/fhex", "share/man/man1/fhex.1"]
 # It builds nothing, and takes no tool of those that build.
 MAKE = make("TARGET=x86_64", "CC=false", "INSTALL=false")
 # Where the programs of README.md stand.
 FILES = {"c": "digits.c", "rust": "src/main.rs"}
-# Where `make install` fails: below no folder, below a file, where `lib` is a file, where `bin/fhex` is a folder;
-# and whether `make uninstall` fails there too.
+# Prefixes with which `make install` fails, where each names nothing or what the test makes, and whether
+# `make uninstall` fails too.
 FAILING = {"": True, "file/there": True, "half": False, "taken": True}
 
 pytestmark = pytest.mark.usefixtures("library", "fhex")
 
 
 def test_files_that_anybody_may_read(tmp_path):
-    there = tmp_path / "there"
-    how = {"preexec_fn": lambda: os.umask(0o077), "env": by_system()}
+    there = tmp_path / "bl ank"
+    how = {"preexec_fn": lambda: os.umask(0o077), "env": BY_SYSTEM}
     runs([*MAKE, "install", f"PREFIX={there}", "DESTDIR="], out="", err="", **how)
     has_files(there, ALL)
     programs = there / "bin/fhex", there / "lib" / SHARED[2]
     found = {it: it.stat().st_mode & 0o777 for it in there.rglob("*") if not it.is_symlink()}
     assert found == {it: 0o755 if it.is_dir() or it in programs else 0o644 for it in found}
     runs([there / "bin/fhex", "encode"], out=HELLO, input="hello")
-
-
-def test_files_below_another_root(tmp_path):
-    below = tmp_path / "be low"
-    runs([*MAKE, "install", "PREFIX=/usr", "LIBDIR=/usr/lib64", f"DESTDIR={below}"])
-    has_files(below / "usr", [re.sub("^lib/", "lib64/", it) for it in ALL])
-    lines = (below / "usr/lib64/pkgconfig/faster_hex.pc").read_text().splitlines()
-    assert {"prefix=/usr", "libdir=${prefix}/lib64", 'Libs: -L"${libdir}" -lfaster_hex'} <= {*lines}
+    runs([*MAKE, "uninstall", f"PREFIX={there}", "DESTDIR="])
+    assert not there.exists()
 
 
 @pytest.mark.parametrize("beside_others", [False, True])

@@ -1,23 +1,16 @@
-"""The library and its builds by library.c, linked in several ways, under sanitizers, valgrind and qemu; and the
-choice of a build."""
+"""The library and its builds by library.c, linked in several ways and run by several tools."""
 import pytest
 
-from commands import ARM_CC, CC, CRATE, ON_ARM, PRINTED, TESTS_IN_C, TOP, passes, ran
-from libraries import BUILDS, BUILT, MODELS, alone, compiled, shared_of, takes, tries
+from commands import (ARM_CC, BUILDS, BUILT, CC, CRATE, MODELS, ON_ARM, PRINTED, TESTS_IN_C, TOP, alone, compiled,
+                      passes, ran, shared_of, takes, tries)
 
 SANITIZED = "-fsanitize=address,undefined -fno-sanitize-recover=all"
 # The compiler and the options that library.c is built by, what runs it, and its words.
 RUNS = [
-    (CC, "", "", ""),
-    (CC, "", "", "threads"),
-    (CC, SANITIZED, "", ""),
-    (CC, SANITIZED, "", "threads"),
-    (CC, "-fsanitize=thread", "", "threads"),
-    (CC, "", "valgrind -q --error-exitcode=3", ""),
+    (CC, "", "", ""), (CC, "", "", "threads"), (CC, "-Wl,--gc-sections", "", ""), (CC, "-static-pie", "", ""),
+    (CC, SANITIZED, "", ""), (CC, SANITIZED, "", "threads"), (CC, "-fsanitize=thread", "", "threads"),
+    (CC, "", "valgrind -q --error-exitcode=3", ""), ("musl-gcc", "-static", "", ""),
     (CC, "", "valgrind -q --error-exitcode=3 --tool=helgrind", "threads"),
-    (CC, "-Wl,--gc-sections", "", ""),
-    (CC, "-static-pie", "", ""),
-    ("musl-gcc", "-static", "", ""),
 ]
 
 

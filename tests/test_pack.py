@@ -1,14 +1,12 @@
-"""What `make dist` packs: in a clean folder, with a compiler, make and cargo alone, by several compilers; and
-programs over what is installed of it, after it was moved, by pkg-config, CMake and cargo."""
+"""What `make dist` packs, by tools of a clean folder alone, and programs over what is installed of it."""
 import os
 import re
 import shutil
 
 import pytest
 
-from commands import (ARM_CC, BY_RUST, CARGO, CC, CXX, INSTALLED, ON_ARM, PRINTED, RUSTC, TOP, VERSION, has_files,
-                      make, needs, only, passes, ran, runs)
-from libraries import by_cmake
+from commands import (ARM_CC, BY_RUST, CARGO, CC, CXX, INSTALLED, ON_ARM, PRINTED, RUSTC, TOP, VERSION, by_cmake,
+                      has_files, make, needs, only, passes, ran, runs)
 
 NAME = f"faster_hex-{VERSION}"
 # What builds, tests and installs a pack.
@@ -71,15 +69,18 @@ def test_pack_by_another_umask_in_another_folder(tmp_path, pack):
 @pytest.mark.parametrize("compiler", RUNNERS)
 def test_pack(tmp_path, pack, env, compiler):
     needs(compiler, *RUNNERS[compiler].split()[:1])
-    own, there = unpacked(pack, tmp_path), tmp_path / "bl ank"
-    by_pack = make(f"CC={compiler}", f"RUN={RUNNERS[compiler]}", f"PREFIX={there}", top=own)
+    root, places = tmp_path / "be low", ("PREFIX=/usr", "LIBDIR=/usr/lib64")
+    words = f"CC={compiler}", f"RUN={RUNNERS[compiler]}", f"DESTDIR={root}", *places
+    by_pack = make(*words, top=unpacked(pack, tmp_path))
     runs(by_pack, out="", err="", env=env)
     passes([*by_pack, "test"], env=env)
     runs([*by_pack, "install"], out="", err="", env=env)
     target = "aarch64" if compiler == ARM_CC else "x86_64"
-    has_files(there, [it.replace("x86_64.", f"{target}.") for it in INSTALLED])
+    has_files(root / "usr", [re.sub("^lib/", "lib64/", it).replace("x86_64.", f"{target}.") for it in INSTALLED])
+    lines = (root / "usr/lib64/pkgconfig/faster_hex.pc").read_text().splitlines()
+    assert {"prefix=/usr", "libdir=${prefix}/lib64", 'Libs: -L"${libdir}" -lfaster_hex'} <= {*lines}
     runs([*by_pack, "uninstall"], out="", err="", env=env)
-    assert not there.exists()
+    assert not (root / "usr").exists()
 
 
 @pytest.mark.parametrize("words", [f"{CC} c/digits.c", f"{CXX} cpp/digits.cpp", f"{CC} -static-pie c/digits.c"])

@@ -5,8 +5,7 @@ import re
 
 import pytest
 
-from commands import CC, RUSTC, TESTS_IN_C, TOP, needs, runs
-from libraries import BUILT, alone, compiled
+from commands import BUILT, CC, RUSTC, TESTS_IN_C, TOP, alone, compiled, needs, runs
 
 # Of as many digits, so that each program has the same stack.
 SEEDS = "11", "22", "33", "44"
@@ -60,13 +59,11 @@ def found_in_c(made, *linked):
 
 
 # The build for x86-64 has tables.
-@pytest.mark.parametrize("build", ["x86-64-v2", "x86-64-v3"])
+@pytest.mark.parametrize("build", ["x86-64-v2", "x86-64-v3", "chosen"])
 def test_build(tmp_path, library, build):
-    assert not found_in_c(tmp_path, library / "builds.o", alone(tmp_path, build))
-
-
-def test_archive(tmp_path, library):
-    assert not found_in_c(tmp_path, library / "libfaster_hex.a")
+    is_chosen = build == "chosen"
+    linked = [library / "libfaster_hex.a"] if is_chosen else [library / "builds.o", alone(tmp_path, build)]
+    assert not found_in_c(tmp_path, *linked)
 
 
 def test_a_call_that_looks_digits_up_is_seen_alone(tmp_path, library):

@@ -1,5 +1,4 @@
-"""Whether a definition is in specs/inside/ exactly if the contract of no public function uses it, by following
-the words of contracts; and whether each that CALLING.md names is there."""
+"""Whether specs/inside/ has what no public contract uses, by the words of contracts, and CALLING.md what is there."""
 import re
 
 from commands import TOP
@@ -64,24 +63,19 @@ def used():
 
 
 def named(page):
-    """The definitions that the tables of CALLING.md name, each with its crate: that of the head, if not told."""
+    """The definitions that the tables of CALLING.md name, each in its crate: that of the head, if not told."""
     for table in page.split("\n\n"):
         if head := re.match(r"`(\w+)`.*\| (?:Promise|Meaning)\n", table):
-            for crate, path in re.findall(r"`(?:(hex_\w+|faster_hex)\.)?([A-Z]\w*\.\w+)", table):
-                yield crate or head[1], path
+            for crate, module, name in re.findall(r"`(?:(hex_\w+|faster_hex)\.)?([A-Z]\w*)\.(\w+)", table):
+                yield f"{crate or head[1]}.specs.{module}", name
 
 
-def test_definitions_inside_are_those_that_no_public_contract_uses():
+def test_inside():
     found, defined = used()
-    assert defined
     inside = {it for it in defined if "inside" in it[0].split(".")}
-    assert {it: found[it] for it in inside & {*found}} == {}
-    assert {*defined} - {*found} - inside == set()
+    assert inside and {*defined} - {*found} == inside, {it: found[it] for it in inside & {*found}}
 
 
-def test_definitions_that_calling_names():
-    _, defined = used()
-    listed = [*named((TOP / "crates/faster_hex/CALLING.md").read_text())]
-    assert listed
-    modules = [(f"{crate}.specs.{path.split('.')[0]}", path.split(".")[1]) for crate, path in listed]
-    assert {*modules} <= {*defined}
+def test_calling():
+    listed = {*named((TOP / "crates/faster_hex/CALLING.md").read_text())}
+    assert listed and listed <= {*used()[1]}

@@ -1,13 +1,11 @@
-"""What `make` says of words that it does not take, how it builds the library in a copy of the repository, and
-the copies that `make vendor` makes, without proofs."""
+"""What `make` says of bad words, how it builds in a copy, and the copies of `make vendor`, without proofs."""
 import re
 import shutil
 import subprocess
 
 import pytest
 
-from commands import SHARED, TOP, by_system, make, ran, runs
-from libraries import is_locked
+from commands import SHARED, TOP, BY_SYSTEM, is_locked, make, ran, runs
 
 OUT = "crates/faster_hex_c/out"
 # How often a build says each of the user's words.
@@ -24,7 +22,7 @@ def test_words_that_are_not_taken_and_no_toolchain():
 
 
 def test_six_makes_at_once(copy):
-    how = {"env": by_system(), "stdout": subprocess.PIPE, "stderr": subprocess.STDOUT, "text": True}
+    how = {"env": BY_SYSTEM, "stdout": subprocess.PIPE, "stderr": subprocess.STDOUT, "text": True}
     many = [subprocess.Popen(make(top=copy), **how) for _ in range(6)]
     said = {it.communicate()[0] for it in many}
     assert said == {"fhex is left out: it takes the Rattle toolchain\n"}
@@ -35,16 +33,16 @@ def test_six_makes_at_once(copy):
 
 def test_words_of_the_user(copy):
     words = [f"{name}={'cc' * (name == 'CC')} -D{name}_IS" for name in WORDS]
-    said = ran(make("-n", "lib", *words, top=copy), env=by_system()).stdout
+    said = ran(make("-n", "lib", *words, top=copy), env=BY_SYSTEM).stdout
     assert {it: said.count(f" -D{it}_IS") for it in WORDS} == WORDS
-    runs(make("lib", "LDFLAGS=-Wl,-z,norelro,-z,lazy", top=copy), env=by_system())
+    runs(make("lib", "LDFLAGS=-Wl,-z,norelro,-z,lazy", top=copy), env=BY_SYSTEM)
     is_locked(copy / OUT / SHARED[2])
 
 
 def test_library_of_other_sources(copy):
     with (copy / "crates/hex_core/src/lib.rt").open("a") as source:
         source.write("\n")
-    done = ran(make("lib", top=copy), env=by_system())
+    done = ran(make("lib", top=copy), env=BY_SYSTEM)
     said = [it for it in done.stdout.splitlines() if not it.startswith("make: ")]
     assert done.returncode == 2 and len(said) == 1 and "`make generate`" in said[0]
     assert not (copy / OUT).exists()

@@ -1,11 +1,9 @@
-"""For Windows, by mingw-w64 and wine: the tests in C, the registers that calls keep, and the programs by CMake.
-For macOS and BSD, by clang: what the assembled library shows and asks for."""
+"""The library for Windows, by mingw-w64 and wine, and what it shows when assembled for macOS and BSD."""
 import re
 
 import pytest
 
-from commands import CALLS, CRATE, TESTS_IN_C, TOP, WINDOWS_CC, make, needs, passes, ran, runs
-from libraries import by_cmake
+from commands import CALLS, CRATE, TESTS_IN_C, TOP, WINDOWS_CC, by_cmake, make, needs, passes, ran, runs
 
 # What a call on Windows keeps.
 KEPT = [*"%rbx %rbp %rsi %rdi %r12 %r13 %r14 %r15".split(), *(f"%xmm{it}" for it in range(6, 16))]

@@ -199,7 +199,8 @@ fn main() {
     };
     let mut failed = 0;
     let table: BTreeSet<&str> = ours::CALLS.iter().flat_map(|it| it.0.split(' ')).collect();
-    for root in [include_str!("../../../rust/src/lib.rs"), include_str!("../../../../checkout/src/lib.rs")] {
+    let root_of_ours = include_str!("../../../../bindings/rust/src/lib.rs");
+    for root in [root_of_ours, include_str!("../../../../checkout/src/lib.rs")] {
         let names = public(root);
         if names != table {
             println!("failed: the table of calls: {:?}", &names ^ &table);
