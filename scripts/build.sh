@@ -26,14 +26,13 @@ version=$(rt version)
 kind=assembly
 [ ! -f "crates/$target/src/main.rt" ] || kind=program
 
-# The builds: a name, the architecture and its processor, and whose exported functions they take. One that
-# takes those of `scalar` exports scalar_faster_hex_NAME in place of faster_hex_NAME where there is such; those
-# of `wide` likewise.
+# The builds: a name, the architecture and its processor, and the number that `level` of faster_hex_c returns
+# there, by which all calls take their plan.
 builds() {
-    echo x86-64 x86_64 x86-64 scalar
-    echo x86-64-v2 x86_64 x86-64-v2 plain
-    echo x86-64-v3 x86_64 x86-64-v3 wide
-    echo aarch64 aarch64 generic plain
+    echo x86-64 x86_64 x86-64 1
+    echo x86-64-v2 x86_64 x86-64-v2 2
+    echo x86-64-v3 x86_64 x86-64-v3 3
+    echo aarch64 aarch64 generic 2
 }
 
 # What crates.txt says that a crate uses, and the crates of this repository below it and itself.
@@ -80,10 +79,10 @@ prove() {
         --links "$name=" --jobs "$jobs")
 }
 
-# make_tools FOLDER ARCHITECTURE SET: makes a toolchain there whose clang leaves as FOLDER/made.s what it
-# compiles. Of the exported functions those that the build does not take are private, so that they vanish.
-# Where this moves no instruction, on x86-64, a debugger can walk out of each function. `rattle` clears the
-# environment.
+# make_tools FOLDER ARCHITECTURE LEVEL: makes a toolchain there whose clang leaves as FOLDER/made.s what it
+# compiles. LEVEL stands in place of the call of `level`, so that the other plans vanish; the clang fails unless
+# there is exactly one such call. Where this moves no instruction, on x86-64, a debugger can walk out of each
+# function. `rattle` clears the environment.
 make_tools() {
     rm -rf "$1/bin" "$1/lib"
     mkdir "$1/bin"
@@ -91,17 +90,11 @@ make_tools() {
     ln -s "$kit/toolchain/lib" "$1/lib"
     rm "$1/bin/clang"
     cat >"$1/edit.awk" <<'END'
-/^define .*@[a-z_]*faster_hex_[a-z0-9_]*\(/ {
-    match($0, /@[a-z_]*faster_hex_[a-z0-9_]*\(/)
-    name = substr($0, RSTART + 1, RLENGTH - 2)
-    set = substr(name, 1, index(name, "faster_hex_") - 1)
-    call = substr(name, length(set) + 1)
-    if (NR == FNR) has[name] = 1
-    else if (set == "" ? ((wanted "_" call) in has) : set != wanted "_") sub(/^define /, "define internal ")
-}
+{ calls += gsub(/call i8 @"faster_hex_c::level"\(\)/, "add i8 0, " level) }
 /^target triple = "x86_64/ { unwinds = 1 }
 /^attributes / && unwinds { sub(/ nounwind /, " nounwind uwtable ") }
-NR != FNR { print }
+{ print }
+END { exit calls != 1 }
 END
     cat >"$1/bin/clang" <<END
 #!/bin/sh -eu
@@ -109,9 +102,9 @@ compile() { "$kit/toolchain/bin/clang" "\$@" -Wno-unused-command-line-argument; 
 case " \$* " in *" module.bc "*)
     compile --target=$2-unknown-linux-gnu -S -emit-llvm -Xclang -disable-llvm-passes \\
         -o whole.ll -x ir module.bc
-    awk -v wanted=$3 -f "$1/edit.awk" whole.ll whole.ll >module.bc
-    # Only once a set's plan is inlined, the other plans vanish from functions that are not.
-    if [ $3 = scalar ]; then
+    awk -v level=$3 -f "$1/edit.awk" whole.ll >module.bc
+    # Only once the plan is inlined, the other plans vanish from functions that are not.
+    if [ $3 = 1 ]; then
         compile "\$@" -S -emit-llvm -o once.ll
         mv once.ll module.bc
     fi
@@ -124,8 +117,8 @@ END
 
 # build_all NAME: the assembly of each build of a library, each proved by itself.
 build_all() {
-    builds | while read -r build architecture processor set; do
-        make_tools "$tools" "$architecture" "$set"
+    builds | while read -r build architecture processor level; do
+        make_tools "$tools" "$architecture" "$level"
         prove "$1" src/lib.rt --crate-type staticlib --target "$architecture-unknown-linux-gnu" \
             --cpu "$processor" --toolchain "$tools" -o "out/assembly/$build.a" </dev/null || exit 1
         mv "$tools/made.s" "crates/$1/out/assembly/$build.s"

@@ -29,10 +29,9 @@ sed '/^#/d; s/.*\\$//' faster_hex.h | tr '\n' ' ' | sed 's|/\*[^*]*\*\([^*/][^*]
 
 {
     sed -n '/^pub struct Answer {$/,/^}$/s/^    pub \([a-z_]*: [a-z0-9]*\),$/\1/p' src/lib.rt
-    # A function of another set is no other one.
-    { cat src/lib.rt src/scalar.rt | tr '\n' ' '; echo; } | sed 's/pub extern "C" fn \(scalar_\|wide_\)*/\n/g' |
+    { tr '\n' ' ' <src/lib.rt; echo; } | sed 's/pub extern "C" fn /\n/g' |
         sed -n 's/^\(faster_hex_[a-z_]*\)( *\([^)]*[^ ,]\),\{0,1\} *) -> \([A-Za-z]*\) .*/\1(\2) -> \3/p' |
-        sed 's/[a-z]*: //g; s/, */, /g; s/  */ /g' | awk '!known[$0]++'
+        sed 's/[a-z]*: //g; s/, */, /g; s/  */ /g'
     sed -n 's/^const \([A-Z_]*\): u8 = \([0-9]*\);$/\1 \2/p' src/lib.rt
 } >"$made/exported"
 

@@ -1,20 +1,20 @@
-//! Decoding of exactly 16, 20, 32 and 64 bytes, from digits of either case, for `hex_decode_array` of the Rust
-//! crate: a call whose lengths its type tells tests no pointer and no length.
+//! Decoding of exactly 16, 20, 32 and 64 bytes, from digits of either case, for `hex_decode_array`
+//! of the Rust crate: a call whose lengths its type says tests no pointer and no length.
 
 ghost use Rattle.std.specs.Prelude.{◌≡◌, ◌*◌, length};
 ghost use Rattle.hex_core.specs.declared.digit.CheckCase.TheVariants as policy;
 ghost use Rattle.hex_core.specs.Calls.{DecodesWhole};
 
-use crate::scalar::scalar;
-use hex_core::{Backend, CheckCase};
+use crate::plan;
+use hex_core::CheckCase;
 
 // The body of all functions here.
 #[inline(always)]
-fn decode_whole(plan: Backend, src: &[u8], dst: &mut [u8]) -> bool
+fn decode_whole(src: &[u8], dst: &mut [u8]) -> bool
     requires { length src.now ≡ 2 * length dst.old }
     ensures { DecodesWhole policy.None src.now dst.old dst.new result }
 {
-    plan.decode(src, dst, CheckCase::None)
+    plan().decode(src, dst, CheckCase::None)
 }
 
 /// Decodes 32 digits, or returns false and leaves `dst` unchanged.
@@ -22,7 +22,7 @@ fn decode_whole(plan: Backend, src: &[u8], dst: &mut [u8]) -> bool
 pub extern "C" fn faster_hex_decode_16(src: &[u8; 32], dst: &mut [u8; 16]) -> bool
     ensures { DecodesWhole policy.None src.now dst.old dst.new result }
 {
-    decode_whole(Backend::plain(), src, dst)
+    decode_whole(src, dst)
 }
 
 /// Decodes 40 digits, or returns false and leaves `dst` unchanged.
@@ -30,7 +30,7 @@ pub extern "C" fn faster_hex_decode_16(src: &[u8; 32], dst: &mut [u8; 16]) -> bo
 pub extern "C" fn faster_hex_decode_20(src: &[u8; 40], dst: &mut [u8; 20]) -> bool
     ensures { DecodesWhole policy.None src.now dst.old dst.new result }
 {
-    decode_whole(Backend::plain(), src, dst)
+    decode_whole(src, dst)
 }
 
 /// Decodes 64 digits, or returns false and leaves `dst` unchanged.
@@ -38,7 +38,7 @@ pub extern "C" fn faster_hex_decode_20(src: &[u8; 40], dst: &mut [u8; 20]) -> bo
 pub extern "C" fn faster_hex_decode_32(src: &[u8; 64], dst: &mut [u8; 32]) -> bool
     ensures { DecodesWhole policy.None src.now dst.old dst.new result }
 {
-    decode_whole(Backend::plain(), src, dst)
+    decode_whole(src, dst)
 }
 
 /// Decodes 128 digits, or returns false and leaves `dst` unchanged.
@@ -46,37 +46,5 @@ pub extern "C" fn faster_hex_decode_32(src: &[u8; 64], dst: &mut [u8; 32]) -> bo
 pub extern "C" fn faster_hex_decode_64(src: &[u8; 128], dst: &mut [u8; 64]) -> bool
     ensures { DecodesWhole policy.None src.now dst.old dst.new result }
 {
-    decode_whole(Backend::plain(), src, dst)
-}
-
-/// `faster_hex_decode_16`.
-#[unsafe(no_mangle)]
-pub extern "C" fn scalar_faster_hex_decode_16(src: &[u8; 32], dst: &mut [u8; 16]) -> bool
-    ensures { DecodesWhole policy.None src.now dst.old dst.new result }
-{
-    decode_whole(scalar(), src, dst)
-}
-
-/// `faster_hex_decode_20`.
-#[unsafe(no_mangle)]
-pub extern "C" fn scalar_faster_hex_decode_20(src: &[u8; 40], dst: &mut [u8; 20]) -> bool
-    ensures { DecodesWhole policy.None src.now dst.old dst.new result }
-{
-    decode_whole(scalar(), src, dst)
-}
-
-/// `faster_hex_decode_32`.
-#[unsafe(no_mangle)]
-pub extern "C" fn scalar_faster_hex_decode_32(src: &[u8; 64], dst: &mut [u8; 32]) -> bool
-    ensures { DecodesWhole policy.None src.now dst.old dst.new result }
-{
-    decode_whole(scalar(), src, dst)
-}
-
-/// `faster_hex_decode_64`.
-#[unsafe(no_mangle)]
-pub extern "C" fn scalar_faster_hex_decode_64(src: &[u8; 128], dst: &mut [u8; 64]) -> bool
-    ensures { DecodesWhole policy.None src.now dst.old dst.new result }
-{
-    decode_whole(scalar(), src, dst)
+    decode_whole(src, dst)
 }

@@ -2,6 +2,10 @@
 //! declares them and says what the caller must ensure: nothing here can check a pointer.
 #![tactic(auto)]
 
+mod arrays;
+#[cfg(test)]
+mod tests;
+
 ghost use Rattle.std.specs.Prelude.{◌≡◌, ◌↔◌, IsTrue, None};
 ghost use Rattle.hex_core.specs.declared.digit.CheckCase.TheVariants as policy;
 ghost use Rattle.hex_core.specs.Search.{first_invalid};
@@ -10,8 +14,8 @@ ghost use Rattle.faster_hex_c.specs.Answers.{DecodesGrouped, EncodesGrouped, gro
 
 use hex_codec::decode::first_invalid_by;
 use hex_codec::grouped::{read_by, write_by};
-use hex_codec::{Group, GroupFault, hex_check, hex_decode_into, hex_encode_into};
-use hex_core::{Backend, CheckCase, Error};
+use hex_codec::{Group, GroupFault};
+use hex_core::{Backend, CheckCase, Error, backends};
 
 // The statuses, by their names in `faster_hex.h`.
 const DONE: u8 = 0;
@@ -107,23 +111,42 @@ fn group_answer_of(outcome: Result<usize, GroupFault>) -> Answer
     }
 }
 
+// The build's number. `scripts/build.sh` writes each build's own in place of the call of this
+// function, which promises nothing: so all calls are proved for every number.
+#[inline(never)]
+fn level() -> u8 {
+    2
+}
+
+// The plan of all calls. Without byte shuffles tables are as fast as vectors; `wide` is for vectors
+// of 32 bytes.
+#[inline(always)]
+fn plan() -> Backend {
+    let [scalar, ..] = backends();
+    match level() {
+        1 => scalar,
+        3 => Backend::wide(),
+        _ => Backend::plain(),
+    }
+}
+
 /// Returns whether every byte is a digit, of either case.
 #[unsafe(no_mangle)]
 pub extern "C" fn faster_hex_check(src: &[u8]) -> bool
     ensures { IsTrue result ↔ (first_invalid policy.None src.now ≡ None) }
 {
-    hex_check(src)
+    plan().check(src, CheckCase::None)
 }
 
-// The body of `faster_hex_first_invalid`, by a plan.
-#[inline(always)]
-fn find_by(plan: Backend, src: &[u8], case: u8) -> Answer
+/// Finds the first invalid byte under a policy: 0 accepts either case, 1 lowercase, 2 uppercase.
+#[unsafe(no_mangle)]
+pub extern "C" fn faster_hex_first_invalid(src: &[u8], case: u8) -> Answer
     ensures { FindsInvalid case src.now result }
 {
     let Some(case) = policy(case) else {
         return NO_POLICY;
     };
-    match first_invalid_by(plan, src, case) {
+    match first_invalid_by(plan(), src, case) {
         None => answer_of(Ok(0)),
         Some(index) => answer_of(Err(Error::InvalidChar {
             index,
@@ -132,28 +155,12 @@ fn find_by(plan: Backend, src: &[u8], case: u8) -> Answer
     }
 }
 
-/// Finds the first invalid byte under a policy: 0 accepts either case, 1 lowercase, 2 uppercase.
-#[unsafe(no_mangle)]
-pub extern "C" fn faster_hex_first_invalid(src: &[u8], case: u8) -> Answer
-    ensures { FindsInvalid case src.now result }
-{
-    find_by(Backend::plain(), src, case)
-}
-
 /// Writes the digits of `src` into the start of `dst`.
 #[unsafe(no_mangle)]
 pub extern "C" fn faster_hex_encode(src: &[u8], dst: &mut [u8], upper: bool) -> Answer
     ensures { EncodesTo upper src.now dst.old dst.new result }
 {
-    answer_of(hex_encode_into(src, dst, upper))
-}
-
-/// `faster_hex_encode`, for the build for processors with vectors of 32 bytes.
-#[unsafe(no_mangle)]
-pub extern "C" fn wide_faster_hex_encode(src: &[u8], dst: &mut [u8], upper: bool) -> Answer
-    ensures { EncodesTo upper src.now dst.old dst.new result }
-{
-    answer_of(Backend::encode_wide_into(src, dst, upper))
+    answer_of(plan().encode_into(src, dst, upper))
 }
 
 /// Decodes digits of either case into the start of `dst`.
@@ -161,18 +168,7 @@ pub extern "C" fn wide_faster_hex_encode(src: &[u8], dst: &mut [u8], upper: bool
 pub extern "C" fn faster_hex_decode(src: &[u8], dst: &mut [u8]) -> Answer
     ensures { DecodesTo policy.None src.now dst.old dst.new result }
 {
-    answer_of(hex_decode_into(src, dst, CheckCase::None))
-}
-
-// The body of `faster_hex_decode_with_case`, by a plan.
-#[inline(always)]
-fn decode_by(plan: Backend, src: &[u8], dst: &mut [u8], case: u8) -> Answer
-    ensures { DecodesBy case src.now dst.old dst.new result }
-{
-    match policy(case) {
-        Some(case) => answer_of(plan.decode_into(src, dst, case)),
-        None => NO_POLICY,
-    }
+    answer_of(plan().decode_into(src, dst, CheckCase::None))
 }
 
 /// The same under a policy: 0 accepts either case, 1 lowercase, 2 uppercase.
@@ -180,24 +176,9 @@ fn decode_by(plan: Backend, src: &[u8], dst: &mut [u8], case: u8) -> Answer
 pub extern "C" fn faster_hex_decode_with_case(src: &[u8], dst: &mut [u8], case: u8) -> Answer
     ensures { DecodesBy case src.now dst.old dst.new result }
 {
-    decode_by(Backend::plain(), src, dst, case)
-}
-
-// The body of `faster_hex_encode_grouped`, by a plan.
-#[inline(always)]
-fn encode_grouped_by(
-    plan: Backend,
-    src: &[u8],
-    dst: &mut [u8],
-    upper: bool,
-    every: usize,
-    sep: u8,
-) -> Answer
-    ensures { EncodesGrouped every sep upper src.now dst.old dst.new result }
-{
-    match Group::new(every, sep) {
-        Some(group) => answer_of(write_by(plan, src, dst, group, upper)),
-        None => NO_GROUP,
+    match policy(case) {
+        Some(case) => answer_of(plan().decode_into(src, dst, case)),
+        None => NO_POLICY,
     }
 }
 
@@ -213,26 +194,8 @@ pub extern "C" fn faster_hex_encode_grouped(
 ) -> Answer
     ensures { EncodesGrouped every sep upper src.now dst.old dst.new result }
 {
-    encode_grouped_by(Backend::plain(), src, dst, upper, every, sep)
-}
-
-// The body of `faster_hex_decode_grouped`, by a plan.
-#[inline(always)]
-fn decode_grouped_by(
-    plan: Backend,
-    src: &[u8],
-    dst: &mut [u8],
-    case: u8,
-    every: usize,
-    sep: u8,
-) -> Answer
-    ensures { DecodesGrouped case every sep src.now dst.old dst.new result }
-{
-    let Some(case) = policy(case) else {
-        return NO_POLICY;
-    };
     match Group::new(every, sep) {
-        Some(group) => group_answer_of(read_by(plan, src, dst, group, case)),
+        Some(group) => answer_of(write_by(plan(), src, dst, group, upper)),
         None => NO_GROUP,
     }
 }
@@ -249,10 +212,11 @@ pub extern "C" fn faster_hex_decode_grouped(
 ) -> Answer
     ensures { DecodesGrouped case every sep src.now dst.old dst.new result }
 {
-    decode_grouped_by(Backend::plain(), src, dst, case, every, sep)
+    let Some(case) = policy(case) else {
+        return NO_POLICY;
+    };
+    match Group::new(every, sep) {
+        Some(group) => group_answer_of(read_by(plan(), src, dst, group, case)),
+        None => NO_GROUP,
+    }
 }
-
-mod arrays;
-mod scalar;
-#[cfg(test)]
-mod tests;

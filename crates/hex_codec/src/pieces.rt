@@ -112,7 +112,6 @@ pub fn read_pieces(plan: Backend, src: &[u8], dst: &mut [u8], group: Group, case
 }
 
 // Writes the grouped text of `src` over all of `dst`.
-#[inline(always)]
 fn write_by(plan: Backend, src: &[u8], dst: &mut [u8], every: usize, group: Group, upper: bool)
     requires every { every ≡ piece_len group }
     requires room { length dst.old ≡ grouped_len (piece_len group) (length src.now) }

@@ -8,7 +8,7 @@ ghost use Rattle.hex_core.specs.Text.{text};
 ghost use Rattle.hex_core.specs.inside.Blocks.{DecodesAt, HasRoom};
 
 use crate::digit::CheckCase;
-use crate::digit_lanes::{Hashed, Interleaved, Saturating};
+use crate::digit_lanes::{Hashed, Interleaved, Multiplied, Saturating};
 use crate::kernel::{decode_or_nothing, encode_blocks};
 use crate::lane_probe::check_lanes;
 use crate::plain::{check_by_length, decode_by_length, encode_by_length};
@@ -24,6 +24,7 @@ pub enum Kind {
     Avx512,
     Neon,
     Plain,
+    Wide,
 }
 
 /// A plan: one implementation of check, encode and decode.
@@ -65,7 +66,25 @@ impl Backend {
         Backend(Kind::Plain)
     }
 
-    /// Returns the plan's name: `scalar`, `sse41`, `avx2`, `avx512`, `neon` or `plain`.
+    /// Returns a plan that differs from [`Backend::plain`] only in how it encodes more than 512
+    /// bytes, which is faster in a build for vectors of 32 bytes, and slower in others. Its name
+    /// is `wide`.
+    ///
+    /// ```rust
+    /// let wide = Backend::wide();
+    /// let mut digits = [0; 2048];
+    /// wide.encode(&[0xab; 1024], &mut digits, true);
+    /// assert!(rt; digits.chunks(2).all(|pair| pair == b"AB".as_slice()));
+    /// assert_eq!(rt; wide.name(), "wide");
+    /// ```
+    #[inline(always)]
+    pub fn wide() -> Backend
+        ensures { name_of result ≡ codes "wide" }
+    {
+        Backend(Kind::Wide)
+    }
+
+    /// Returns the plan's name: `scalar`, `sse41`, `avx2`, `avx512`, `neon`, `plain` or `wide`.
     ///
     /// ```rust
     /// let [_, _, avx2, ..] = backends();
@@ -81,6 +100,7 @@ impl Backend {
             Kind::Avx512 => "avx512",
             Kind::Neon => "neon",
             Kind::Plain => "plain",
+            Kind::Wide => "wide",
         }
     }
 
@@ -95,7 +115,7 @@ impl Backend {
         ensures { IsTrue result ↔ (first_invalid case src.now ≡ None) }
     {
         match (self.0, src.len()) {
-            (Kind::Plain, _) => check_by_length(src, case),
+            (Kind::Plain | Kind::Wide, _) => check_by_length(src, case),
             (Kind::Scalar, _) | (_, 0..16) => check_by_table(src, case),
             (Kind::Sse41 | Kind::Neon, _) | (_, 16..32) => check_lanes::<Saturating, 16>(src, case),
             (Kind::Avx2, _) | (_, 32..64) => check_lanes::<Hashed, 32>(src, case),
@@ -118,7 +138,9 @@ impl Backend {
         ensures { dst.new ≡ text upper src.now }
     {
         match (self.0, src.len()) {
-            (Kind::Plain, _) => encode_by_length(src, dst, upper),
+            // With a function that chooses by length in it for `wide`, `encode` would not be inlined.
+            (Kind::Wide, 513..) => encode_blocks::<Multiplied, 16, 32>(src, dst, upper),
+            (Kind::Plain | Kind::Wide, _) => encode_by_length(src, dst, upper),
             (Kind::Scalar, _) | (_, 0..8) => encode_by_table(src, dst, upper),
             (_, 8..16) => encode_blocks::<Interleaved, 8, 16>(src, dst, upper),
             (Kind::Sse41 | Kind::Neon, _) | (_, 16..32) => encode_blocks::<Interleaved, 16, 32>(
@@ -146,7 +168,7 @@ impl Backend {
         ensures { DecodesWhole case src.now dst.old dst.new result }
     {
         match self.0 {
-            Kind::Plain => decode_by_length(src, dst, case),
+            Kind::Plain | Kind::Wide => decode_by_length(src, dst, case),
             _ => self.decode_named(src, dst, case),
         }
     }
@@ -158,7 +180,9 @@ impl Backend {
         ensures { DecodesWhole case src.now dst.old dst.new result }
     {
         match (self.0, src.len()) {
-            (Kind::Plain | Kind::Scalar, _) | (_, 0..16) => decode_by_table(src, dst, case),
+            (Kind::Plain | Kind::Wide | Kind::Scalar, _) | (_, 0..16) => {
+                decode_by_table(src, dst, case)
+            }
             (_, 16..32) => decode_two::<16, 8>(src, dst, case),
             (Kind::Sse41 | Kind::Neon, 32..=64) => decode_four::<16, 8>(src, dst, case),
             (Kind::Sse41 | Kind::Neon, _) => decode_or_nothing::<Saturating, 16, 8>(src, dst, case),
@@ -171,7 +195,7 @@ impl Backend {
     ///
     /// Then `avx2` and `neon` have written exactly the bytes of the whole blocks of 64 digits
     /// before the one with the first invalid byte, or of all whole blocks if that byte comes after
-    /// them; `avx512` and the plain plan those of blocks of 128 digits; `scalar` and `sse41`
+    /// them; `avx512`, `plain` and `wide` those of blocks of 128 digits; `scalar` and `sse41`
     /// nothing. The bytes after them are unchanged.
     ///
     /// Requires `src` to be exactly twice as long as `dst`, in bytes.
@@ -197,7 +221,9 @@ impl Backend {
             Kind::Avx2 => Backend(Kind::Avx2).decode_each_block::<32>(src, dst, case),
             Kind::Neon => Backend(Kind::Neon).decode_each_block::<32>(src, dst, case),
             Kind::Avx512 => Backend(Kind::Avx512).decode_each_block::<64>(src, dst, case),
-            Kind::Plain => Backend(Kind::Plain).decode_each_block::<64>(src, dst, case),
+            Kind::Plain | Kind::Wide => {
+                Backend(Kind::Plain).decode_each_block::<64>(src, dst, case)
+            }
         }
     }
 

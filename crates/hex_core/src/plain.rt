@@ -8,7 +8,7 @@ ghost use Rattle.hex_core.specs.Search.{first_invalid};
 ghost use Rattle.hex_core.specs.Text.{text};
 
 use crate::digit::CheckCase;
-use crate::digit_lanes::{Interleaved, Multiplied};
+use crate::digit_lanes::Interleaved;
 use crate::kernel::{check_runs, decode_long, encode_blocks};
 use crate::registers::{
     check_two, decode_ends, decode_four, decode_three, decode_two, encode_one, encode_two,
@@ -116,17 +116,5 @@ fn encode_short(src: &[u8], dst: &mut [u8], upper: bool)
         2..4 => encode_two::<2, 4>(src, dst, upper),
         1 => encode_one::<1, 2>(src, dst, upper),
         _ => (),
-    }
-}
-
-/// The same as [`encode_by_length`], for builds whose vectors have 32 bytes: for others it is slower.
-#[inline(always)]
-pub fn encode_wide(src: &[u8], dst: &mut [u8], upper: bool)
-    requires { length dst.old ≡ 2 * length src.now }
-    ensures { dst.new ≡ text upper src.now }
-{
-    match src.len() {
-        0..=512 => encode_by_length(src, dst, upper),
-        _ => encode_blocks::<Multiplied, 16, 32>(src, dst, upper),
     }
 }

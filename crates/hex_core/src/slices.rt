@@ -11,7 +11,6 @@ ghost use Rattle.hex_core.specs.Refusal.{decode_refusal, encode_refusal};
 use crate::backend::Backend;
 use crate::digit::CheckCase;
 use crate::error::Error;
-use crate::plain::encode_wide;
 
 // The number of bytes that `src` decodes to, or its length's error in this room.
 #[inline(always)]
@@ -107,24 +106,6 @@ impl Backend {
         let written = encoded_len(src, dst.len())?;
         self.encode(src, &mut dst[..written], upper);
         Ok(written)
-    }
-
-    /// The same as [`Backend::encode_into`] under the plain plan, by instructions that are faster
-    /// only in a build for processors with vectors of 32 bytes.
-    ///
-    /// ```rust
-    /// let mut digits = [0; 2048];
-    /// let written = Backend::encode_wide_into(&[0xab; 1024], &mut digits, true)?;
-    /// assert_eq!(rt; written, 2048);
-    /// assert!(rt; digits.chunks(2).all(|pair| pair == b"AB".as_slice()));
-    /// ```
-    #[inline(always)]
-    pub fn encode_wide_into(src: &[u8], dst: &mut [u8], upper: bool) -> Result<usize, Error>
-        ensures { Encodes upper src.now dst.old dst.new result }
-    {
-        let required = encoded_len(src, dst.len())?;
-        encode_wide(src, &mut dst[..required], upper);
-        Ok(required)
     }
 
     /// Decodes all of `src` into the start of `dst` and returns the written part of `dst`,
