@@ -12,7 +12,6 @@ ghost use Rattle.hex_core.specs.Search.{first_invalid};
 ghost use Rattle.faster_hex_c.specs.Answers.{DecodesBy, DecodesTo, EncodesTo, FindsInvalid, answer_of, policy_of};
 ghost use Rattle.faster_hex_c.specs.Answers.{DecodesGrouped, EncodesGrouped, group_answer_of};
 
-use hex_codec::decode::first_invalid_by;
 use hex_codec::grouped::{read_by, write_by};
 use hex_codec::{Group, GroupFault};
 use hex_core::{Backend, CheckCase, Error, backends};
@@ -146,7 +145,7 @@ pub extern "C" fn faster_hex_first_invalid(src: &[u8], case: u8) -> Answer
     let Some(case) = policy(case) else {
         return NO_POLICY;
     };
-    match first_invalid_by(plan(), src, case) {
+    match plan().find_invalid(src, case) {
         None => answer_of(Ok(0)),
         Some(index) => answer_of(Err(Error::InvalidChar {
             index,

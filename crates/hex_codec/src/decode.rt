@@ -45,33 +45,6 @@ pub fn hex_check_with_case(src: &[u8], case: CheckCase) -> bool
     Backend::plain().check(src, case)
 }
 
-/// Returns the index of the first byte of `src` that is no hex digit by `case`, or `None`.
-///
-/// Tests all of `src` by `plan` first: so valid digits, which may be secret, are looked up in no table.
-///
-/// ```rust
-/// use hex_codec::decode::first_invalid_by;
-/// use hex_core::Backend;
-///
-/// assert_eq!(rt;
-///     first_invalid_by(Backend::plain(), b"00aBcD", CheckCase::None),
-///     None
-/// );
-/// assert_eq!(rt;
-///     first_invalid_by(Backend::plain(), b"00aBcD", CheckCase::Lower),
-///     Some(3)
-/// );
-/// ```
-#[inline(never)]
-pub fn first_invalid_by(plan: Backend, src: &[u8], case: CheckCase) -> Option<usize>
-    ensures { result ≡ first_invalid case src.now }
-{
-    if plan.check(src, case) {
-        return None;
-    }
-    plan.first_invalid(src, case)
-}
-
 /// Decodes all of `src` into the start of `dst`, accepting letters of either case, and returns the
 /// written part of `dst`.
 ///
@@ -216,7 +189,7 @@ pub fn hex_decode_array_with_case<const N: usize>(
         });
     }
     let mut bytes = [0u8; N];
-    match decode_whole(src, &mut bytes, case) {
+    match decode_discarding(src, &mut bytes, case) {
         Ok(()) => Ok(bytes),
         Err(e) => Err(e),
     }
@@ -275,20 +248,20 @@ pub fn hex_decode_vec_with_case<A: Allocator + Drop>(
     let Ok(mut bytes) = Vec::from_elem(alloc, 0u8, src.len() / 2) else {
         return Err(Error::OutOfMemory);
     };
-    decode_whole(src, bytes.as_mut_slice(), case)?;
+    decode_discarding(src, bytes.as_mut_slice(), case)?;
     Ok(bytes)
 }
 
-// A buffer longer than this, discarded on failure, is decoded block by block, in one pass.
-const OWNED: usize = 1024;
+// A longer buffer that is discarded on failure is decoded block by block, in one pass.
+const OWNED_OVER: usize = 1024;
 
 // Decodes over all of a buffer that is discarded on failure.
 #[inline(always)]
-fn decode_whole(src: &[u8], dst: &mut [u8], case: CheckCase) -> Result<(), Error>
+fn decode_discarding(src: &[u8], dst: &mut [u8], case: CheckCase) -> Result<(), Error>
     requires { length src.now ≡ 2 * length dst.old }
     ensures { Answers (first_bad_char case src.now) (λ _. Spells case src.now dst.new) result }
 {
-    let decoded = if dst.len() > OWNED {
+    let decoded = if dst.len() > OWNED_OVER {
         Backend::plain().decode_owned(src, dst, case)
     } else {
         Backend::plain().decode(src, dst, case)

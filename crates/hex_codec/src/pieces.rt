@@ -7,13 +7,12 @@ ghost use Rattle.hex_core.specs.Text.{Spells, text};
 ghost use Rattle.hex_codec.specs.Grouped.{grouped, piece_len};
 ghost use Rattle.hex_codec.specs.GroupedText.{GroupSpells, first_wrong, grouped_len};
 
-use crate::decode::first_invalid_by;
 use crate::group::Group;
-use hex_core::look_ups::{are_pairs, write_bytes, write_digits};
+use hex_core::look_ups::{are_digits, write_bytes, write_digits};
 use hex_core::{Backend, CheckCase};
 
-// For fewer bytes, a call takes longer than inlined look-ups.
-const CALLED: usize = 8;
+// From so many bytes on, a call takes no longer than inlined look-ups.
+const CALL_FROM: usize = 8;
 
 // The first invalid digit of a piece.
 #[inline(always)]
@@ -21,10 +20,10 @@ fn first_invalid(plan: Backend, digits: &[u8], case: CheckCase) -> Option<usize>
     requires { length digits.now % 2 ≡ 0 }
     ensures { result ≡ first_invalid case digits.now }
 {
-    if digits.len() < 2 * CALLED && are_pairs(digits, case) {
+    if digits.len() < 2 * CALL_FROM && are_digits(digits, case) {
         return None;
     }
-    first_invalid_by(plan, digits, case)
+    plan.find_invalid(digits, case)
 }
 
 // Decodes the valid digits of a piece.
@@ -34,7 +33,7 @@ fn read_piece(plan: Backend, digits: &[u8], bytes: &mut [u8], case: CheckCase)
     requires valid { first_invalid case digits.now ≡ None }
     ensures { Spells case digits.now bytes.new }
 {
-    if bytes.len() < CALLED {
+    if bytes.len() < CALL_FROM {
         return write_bytes(digits, bytes, case);
     }
     read_long_piece(plan, digits, bytes, case);
@@ -56,7 +55,7 @@ fn write_piece(plan: Backend, bytes: &[u8], digits: &mut [u8], upper: bool)
     requires { length digits.old ≡ 2 * length bytes.now }
     ensures { digits.new ≡ text upper bytes.now }
 {
-    if bytes.len() < CALLED {
+    if bytes.len() < CALL_FROM {
         return write_digits(bytes, digits, upper);
     }
     plan.encode(bytes, digits, upper);

@@ -21,7 +21,7 @@ mod widths;
 
 /// Look-ups for short pieces, inlined because a call would take longer.
 pub mod look_ups {
-    pub use crate::scalar::{are_pairs, write_bytes, write_digits};
+    pub use crate::scalar::{are_digits, write_bytes, write_digits};
 }
 
 /// The plans, and probes that search under them.

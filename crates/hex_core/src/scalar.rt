@@ -75,16 +75,17 @@ fn word_of(src: &[u8], case: CheckCase) -> Option<u64>
     Some(word)
 }
 
-/// Returns whether fewer than 16 digits, two for each byte, are valid under `case`.
+/// Returns whether all of `src`, fewer than 16 bytes and an even number, are digits that `case`
+/// accepts.
 ///
 /// ```rust
-/// use hex_core::look_ups::are_pairs;
+/// use hex_core::look_ups::are_digits;
 ///
-/// assert!(rt; are_pairs(b"00aB", CheckCase::None));
-/// assert!(rt; !are_pairs(b"00aB", CheckCase::Lower));
+/// assert!(rt; are_digits(b"00aB", CheckCase::None));
+/// assert!(rt; !are_digits(b"00aB", CheckCase::Lower));
 /// ```
 #[inline(always)]
-pub fn are_pairs(src: &[u8], case: CheckCase) -> bool
+pub fn are_digits(src: &[u8], case: CheckCase) -> bool
     requires few { length src.now < 16 }
     requires pairs { length src.now % 2 ≡ 0 }
     ensures { IsTrue result ↔ (first_invalid case src.now ≡ None) }
@@ -136,7 +137,7 @@ pub fn decode_by_table(src: &[u8], dst: &mut [u8], case: CheckCase) -> bool
     valid
 }
 
-/// Encodes `src` over all of `dst`.
+/// [`write_digits`] as a call, for the plans.
 #[inline(never)]
 pub fn encode_by_table(src: &[u8], dst: &mut [u8], upper: bool)
     requires { length dst.old ≡ 2 * length src.now }

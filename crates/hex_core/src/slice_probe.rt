@@ -105,6 +105,23 @@ impl Backend {
         locate(&mut SliceProbe::new(self, src, case))
     }
 
+    /// Like [`Backend::first_invalid`], but checks all of `src` first: so under `plain` valid digits,
+    /// which may be secret, are looked up in no table.
+    ///
+    /// ```rust
+    /// assert_eq!(rt; Backend::plain().find_invalid(b"00aBcD", CheckCase::None), None);
+    /// assert_eq!(rt; Backend::plain().find_invalid(b"00aBcD", CheckCase::Lower), Some(3));
+    /// ```
+    #[inline(never)]
+    pub fn find_invalid(self, src: &[u8], case: CheckCase) -> Option<usize>
+        ensures { result ≡ first_invalid case src.now }
+    {
+        if self.check(src, case) {
+            return None;
+        }
+        self.first_invalid(src, case)
+    }
+
     /// Returns the first byte of `src` that is invalid under `case`, as an [`Error::InvalidChar`]
     /// with its index in bytes.
     ///

@@ -6,7 +6,7 @@ use Rattle.hex_core.specs.declared.digit.CheckCase.{CheckCase}
 use Rattle.hex_core.specs.Search.{first_invalid}
 use Rattle.hex_core.specs.Text.{Spells}
 use Rattle.hex_core.proofs.LawProofs.{valid-spelled}
-use Rattle.hex_core.proofs.scalar.are_pairs.Goals as goal
+use Rattle.hex_core.proofs.scalar.are_digits.Goals as goal
 
 told : (c : CheckCase) (s : List ℕ) (o : Option ℕ) → MatchOption o (first_invalid c s ≢ None) (λ word. Spells c s (bytes_high_first (length s / 2) word))
     → (IsTrue (is_some o) → first_invalid c s ≡ None) × (first_invalid c s ≡ None → IsTrue (is_some o))
