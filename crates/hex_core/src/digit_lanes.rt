@@ -1,6 +1,6 @@
 //! Digits in a vector, lane by lane: which are valid, their values, and the digits of bytes.
 
-ghost use Rattle.std.specs.Prelude.{◌≡◌, ◌↔◌, ℕ, ◌≤◌, ◌<◌, EachIndex, is_some, map, slice_index};
+ghost use Rattle.std.specs.Prelude.{◌≡◌, ◌↔◌, ℕ, ◌≤◌, ◌<◌, EachIndex, IsTrue, is_some, map, slice_index};
 ghost use Rattle.hex_core.specs.declared.digit.CheckCase.{CheckCase};
 ghost use Rattle.std.specs.Simd.Lanes.{mask_l};
 ghost use Rattle.hex_core.specs.inside.Arithmetic.{AreLow, first_letter, fold_of, letter, reach};
@@ -11,8 +11,9 @@ ghost use Rattle.hex_core.specs.Lanes.{AreChecked, AreNibbles, AreValues};
 ghost use Rattle.hex_core.specs.Text.{text};
 
 use crate::digit::CheckCase;
+use crate::lanes::admitted_16;
 use crate::vector::{
-    averages, both_nibbles, high_bits, masked, saturating_add, saturating_differences,
+    averages, both_nibbles, has_no_sign, high_bits, masked, saturating_add, saturating_differences,
     saturating_sub, sign_flipped, smaller, with_bits, wrapping_differences, wrapping_sub,
     zero_bits,
 };
@@ -206,6 +207,12 @@ pub trait Nibbles<const N: usize> {
         ensures { AreValues case v.entry result };
 }
 
+/// The map's test of a block.
+pub trait Tests<const N: usize> {
+    fn is_valid(block: Simd<u8, N>, case: CheckCase) -> bool
+        ensures { IsTrue result ↔ AllValid case block.entry 0 N };
+}
+
 /// By saturating sums and differences, for any number of lanes.
 pub struct Saturating;
 
@@ -216,6 +223,15 @@ impl<const N: usize> Nibbles<N> for Saturating {
         ensures { AreValues case v.entry result }
     {
         saturated(v, case)
+    }
+}
+
+impl Tests<16> for Saturating {
+    #[inline(always)]
+    fn is_valid(block: u8x16, case: CheckCase) -> bool
+        ensures { IsTrue result ↔ AllValid case block 0 16 }
+    {
+        admitted_16(&block.to_array(), case) == u16::MAX
     }
 }
 
@@ -231,6 +247,24 @@ where
         ensures { AreValues _case v.entry result }
     {
         hashed_values(v)
+    }
+}
+
+impl Tests<32> for Hashed {
+    #[inline(always)]
+    fn is_valid(block: u8x32, case: CheckCase) -> bool
+        ensures { IsTrue result ↔ AllValid case block 0 32 }
+    {
+        has_no_sign(hashed_checks(block, case))
+    }
+}
+
+impl Tests<64> for Hashed {
+    #[inline(always)]
+    fn is_valid(block: u8x64, case: CheckCase) -> bool
+        ensures { IsTrue result ↔ AllValid case block 0 64 }
+    {
+        has_no_sign(hashed_checks(block, case))
     }
 }
 

@@ -11,8 +11,8 @@ ghost use Rattle.hex_core.specs.Search.{AllValid, first_invalid};
 ghost use Rattle.hex_core.specs.Text.{Spells, text};
 
 use crate::digit::CheckCase;
-use crate::digit_lanes::{Encode, Nibbles, Valid, reach};
-use crate::lane_probe::{Tests, check_lanes};
+use crate::digit_lanes::{Encode, Nibbles, Tests, Valid, reach};
+use crate::lane_probe::check_lanes;
 use crate::vector::{is_low, larger};
 use crate::widths::{Lanes, Pack};
 use std::simd::prelude::*;

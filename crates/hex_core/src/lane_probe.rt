@@ -1,50 +1,15 @@
 //! Checks by lanes: a probe whose test of a block takes all its bytes at once.
 
 ghost use Rattle.std.specs.Prelude.{◌≡◌, ◌↔◌, ◌+◌, ◌<◌, IsTrue, None};
-ghost use Rattle.hex_core.specs.Search.{AllValid, first_invalid};
+ghost use Rattle.hex_core.specs.Search.{first_invalid};
 ghost use Rattle.hex_core.specs.inside.Blocks.{HasBlock};
 
 use crate::digit::CheckCase;
-use crate::digit_lanes::{Hashed, Saturating, hashed_checks};
-use crate::lanes::admitted_16;
+use crate::digit_lanes::Tests;
 use crate::scalar::check_by_table;
 use crate::search::{Probe, covered};
-use crate::vector::has_no_sign;
 use std::marker::PhantomData;
 use std::simd::prelude::*;
-
-/// A map's test of a block.
-pub trait Tests<const N: usize> {
-    fn is_valid(block: Simd<u8, N>, case: CheckCase) -> bool
-        ensures { IsTrue result ↔ AllValid case block.entry 0 N };
-}
-
-impl Tests<16> for Saturating {
-    #[inline(always)]
-    fn is_valid(block: u8x16, case: CheckCase) -> bool
-        ensures { IsTrue result ↔ AllValid case block 0 16 }
-    {
-        admitted_16(&block.to_array(), case) == u16::MAX
-    }
-}
-
-impl Tests<32> for Hashed {
-    #[inline(always)]
-    fn is_valid(block: u8x32, case: CheckCase) -> bool
-        ensures { IsTrue result ↔ AllValid case block 0 32 }
-    {
-        has_no_sign(hashed_checks(block, case))
-    }
-}
-
-impl Tests<64> for Hashed {
-    #[inline(always)]
-    fn is_valid(block: u8x64, case: CheckCase) -> bool
-        ensures { IsTrue result ↔ AllValid case block 0 64 }
-    {
-        has_no_sign(hashed_checks(block, case))
-    }
-}
 
 // A probe over a slice, whose test of a whole block of `N` bytes is one of a map.
 #[derive(Drop)]

@@ -1,6 +1,6 @@
 use Rattle.std.proofs.Common.{eqb-true, refl}
 use Rattle.hex_core.proofs.ByteLemmas.{full_16}
-use Rattle.hex_core.proofs.lane_probe.SaturatingTests16.is_valid.Goals as goal
+use Rattle.hex_core.proofs.digit_lanes.SaturatingTests16.is_valid.Goals as goal
 
 pub returns : goal.returns
 returns c =
