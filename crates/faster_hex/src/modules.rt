@@ -138,8 +138,8 @@ pub mod withpfx_ignorecase {
 pub mod nopfx_ignorecase {
     use super::*;
 
-    /// Writes two lowercase digits for each byte, like [`crate::serialize`] but without a prefix. The empty
-    /// text allocates nothing.
+    /// Writes two lowercase digits for each byte, like [`crate::serialize`] but without a prefix.
+    /// The empty text allocates nothing.
     pub fn serialize(alloc: Global, src: &[u8]) -> Result<Value, AdapterError>
         ensures answer { AnswersWrite wire.nopfx_ignorecase src.now result }
         ensures read { IsReadBack wire.nopfx_ignorecase src.now result }
@@ -181,8 +181,8 @@ pub mod nopfx_ignorecase {
     }
 }
 
-/// `0x`, then digits, as in `"0xab01"`: writes and accepts only lowercase. An uppercase letter is an
-/// `InvalidChar`.
+/// `0x`, then digits, as in `"0xab01"`: writes and accepts only lowercase. An uppercase letter is
+/// an `InvalidChar`.
 pub mod withpfx_lowercase {
     use super::*;
 
@@ -245,8 +245,8 @@ pub mod withpfx_lowercase {
 pub mod nopfx_lowercase {
     use super::*;
 
-    /// Writes two lowercase digits for each byte, like [`crate::serialize`] but without a prefix. The empty
-    /// text allocates nothing.
+    /// Writes two lowercase digits for each byte, like [`crate::serialize`] but without a prefix.
+    /// The empty text allocates nothing.
     pub fn serialize(alloc: Global, src: &[u8]) -> Result<Value, AdapterError>
         ensures answer { AnswersWrite wire.nopfx_lowercase src.now result }
         ensures read { IsReadBack wire.nopfx_lowercase src.now result }
@@ -340,8 +340,8 @@ pub mod withpfx_uppercase {
 pub mod nopfx_uppercase {
     use super::*;
 
-    /// Writes two uppercase digits for each byte, like [`crate::serialize`] but without a prefix. The empty
-    /// text allocates nothing.
+    /// Writes two uppercase digits for each byte, like [`crate::serialize`] but without a prefix.
+    /// The empty text allocates nothing.
     pub fn serialize(alloc: Global, src: &[u8]) -> Result<Value, AdapterError>
         ensures answer { AnswersWrite wire.nopfx_uppercase src.now result }
         ensures read { IsReadBack wire.nopfx_uppercase src.now result }

@@ -1,6 +1,6 @@
-//! Six modules, each of which reads and writes `Option`s in the format of one module of bytes, with `null` for
-//! `None`. `null` has no error. Any other value has the errors of that module, in its order. The example of
-//! [`option_nopfx_lowercase`] has the calls of all.
+//! Six modules, each of which reads and writes `Option`s in the format of one module of bytes, with
+//! `null` for `None`. `null` has no error. Any other value has the errors of that module, in its
+//! order. The example of [`option_nopfx_lowercase`] has the calls of all.
 
 ghost use Rattle.std.specs.Prelude.{None, Some, option_map};
 ghost use Rattle.faster_hex.specs.Adapters.{AnswersOptionArrayRead, AnswersOptionRead, AnswersOptionWrite, OptionArrayIsRead, OptionIsReadBack, OptionVecIsRead};

@@ -138,7 +138,7 @@ impl Backend {
         ensures { dst.new ≡ text upper src.now }
     {
         match (self.0, src.len()) {
-            // With a function that chooses by length in it for `wide`, `encode` would not be inlined.
+            // A function of its own for `wide` would keep `encode` from being inlined.
             (Kind::Wide, 513..) => encode_blocks::<Multiplied, 16, 32>(src, dst, upper),
             (Kind::Plain | Kind::Wide, _) => encode_by_length(src, dst, upper),
             (Kind::Scalar, _) | (_, 0..8) => encode_by_table(src, dst, upper),
@@ -238,8 +238,8 @@ impl Backend {
         self.decode(&src[2 * at..2 * end], &mut dst[at..end], case)
     }
 
-    // Decodes `src` over all of `dst`, or returns false after writing the whole blocks of `SIZE` bytes
-    // before the first invalid byte.
+    // Decodes `src` over all of `dst`, or returns false after writing the whole blocks of `SIZE`
+    // bytes before the first invalid byte.
     #[inline(always)]
     fn decode_each_block<const SIZE: usize>(
         self,

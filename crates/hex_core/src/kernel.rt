@@ -1,5 +1,5 @@
-//! Checks, decodes and encodes block by block, for any number of lanes and any map. If the length is
-//! not a multiple of a block, the last block overlaps the one before.
+//! Checks, decodes and encodes block by block, for any number of lanes and any map. If the length
+//! is not a multiple of a block, the last block overlaps the one before.
 
 ghost use Rattle.std.specs.Prelude.{◌≡◌, ◌↔◌, ◌+◌, ◌*◌, ◌<◌, ◌≤◌, IsTrue, None, length};
 ghost use Rattle.std.specs.Simd.Lanes.{chunk, put_chunk};
@@ -178,8 +178,8 @@ where
     text.copy_to_slice(&mut dst[2 * at..]);
 }
 
-/// Encodes a block or more over all of `dst`. It is a function of its own, so that the compiler does
-/// not know `upper`: else it reloads the table in every iteration.
+/// Encodes a block or more over all of `dst`. It is a function of its own, so that the compiler
+/// does not know `upper`: else it reloads the table in every iteration.
 #[inline(never)]
 pub fn encode_blocks<E, const N: usize, const TWICE: usize>(src: &[u8], dst: &mut [u8], upper: bool)
 where

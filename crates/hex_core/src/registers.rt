@@ -63,7 +63,7 @@ where
     pack_at(back, dst, end - HALF);
 }
 
-/// Decodes `N` to `2 * N` digits, both ends as one vector. Tests all of them before the first store.
+/// Decodes `N` to `2 * N` digits, both ends as one vector. Tests all before the first store.
 #[inline(always)]
 pub fn decode_ends<const N: usize, const TWICE: usize, const HALF: usize>(
     src: &[u8],

@@ -105,8 +105,8 @@ impl Backend {
         locate(&mut SliceProbe::new(self, src, case))
     }
 
-    /// Like [`Backend::first_invalid`], but checks all of `src` first: so under `plain` valid digits,
-    /// which may be secret, are looked up in no table.
+    /// Like [`Backend::first_invalid`], but checks all of `src` first: so under `plain` valid
+    /// digits, which may be secret, are looked up in no table.
     ///
     /// ```rust
     /// assert_eq!(rt; Backend::plain().find_invalid(b"00aBcD", CheckCase::None), None);

@@ -139,8 +139,8 @@ pub fn decode_stream<R: Read, S: Sink>(
 ///
 /// # Errors
 ///
-/// Those of [`decode_stream`], at the same events. [`Error::InvalidChar`] has the first byte that is
-/// neither white space nor a hex digit, and its index in the whole stream.
+/// Those of [`decode_stream`], at the same events. [`Error::InvalidChar`] has the first byte that
+/// is neither white space nor a hex digit, and its index in the whole stream.
 ///
 /// ```rust
 /// let mut input: &[u8] = b"6865 6C6\nc6f\n";
