@@ -48,5 +48,5 @@ pub use hex_core::{
 };
 pub use hex_io::{
     Align, Hex, HexFlags, Sink, SinkFault, SliceSink, WriteFault, WriterSink, digests, format,
-    sink, stream,
+    stream,
 };

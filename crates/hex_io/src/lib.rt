@@ -8,8 +8,9 @@ pub mod format;
 pub mod laws;
 mod lines;
 mod padding;
-pub mod sink;
+mod sink;
 pub mod stream;
 
-pub use crate::format::{Align, Hex, HexFlags};
-pub use crate::sink::{Sink, SinkFault, SliceSink, WriteFault, WriterSink, put_all};
+pub use crate::format::{
+    Align, Hex, HexFlags, Sink, SinkFault, SliceSink, WriteFault, WriterSink, put_all,
+};
