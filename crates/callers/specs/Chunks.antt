@@ -1,4 +1,4 @@
--- Digits that come bit by bit.
+-- Digits that come in parts.
 use Rattle.std.specs.Prelude.{◌≡◌, ℕ, ◌%◌, ◌==◌, if◌then◌else◌, List, [], ◌++◌, length, Option, None, Some, Result, MatchResult}
 use Rattle.std.specs.Option.{option_or}
 use Rattle.hex_core.specs.declared.digit.CheckCase.TheVariants as policy
@@ -9,14 +9,14 @@ use Rattle.hex_io.specs.Decoder.{PairsSpell, feed_refusal, position_of, reading_
 use Rattle.hex_io.specs.Reading.{plain}
 use Rattle.hex_io.specs.declared.stream.decoder.Decoder.{Decoder}
 
--- what two parts are refused for: the first one, then the second, and then a digit without a partner
+-- what two parts are refused for: the first part, else the second, else a digit without a partner
 abbrev pub parts_refusal : List ℕ → List ℕ → ℕ → ℕ → Option Error
 parts_refusal first second front back = option_or (feed_refusal (plain policy.None) [] first front)
     (option_or (feed_refusal (plain policy.None) first second back) (if length (first ++ second) % 2 == 1 then Some OddLength else None))
 
--- a decoder was fed as many bytes as it counts, and the whole pairs of their digits spell what it has
--- written: so do those of all bytes with those that now stand over the old ones; or the refusal, and
--- nothing changes
+-- a decoder was fed as many bytes as it counts, and wrote what the whole pairs of their digits spell.
+-- `Ok`: with the bytes that are now at the start of the destination, so it did for all bytes; `Err`: the
+-- refusal, and nothing changes
 abbrev pub DecodesMore : Decoder → Decoder → List ℕ → List ℕ → List ℕ → Result ℕ Error → Type 0
 DecodesMore decoder decoder' more old new result = let r = reading_of decoder in
     (fed : List ℕ) × (written : List ℕ) × (position_of decoder ≡ length fed) × PairsSpell r fed written × MatchResult result

@@ -15,23 +15,23 @@ use Rattle.callers.specs.declared.digest.Digest.{Digest}
 abbrev pub entry_of : Digest → Bor (List ℕ) → Entry 32
 entry_of digest name = record { digest = digest.bytes; binary = false; name = name }
 
--- its list stands over the old bytes, and is read as it; or its name is bad, and the buffer stays; or
--- the list does not fit
+-- its list is written to the start of the buffer, and is read as the entry; or its name is bad, and the
+-- buffer is unchanged; or the list does not fit
 abbrev pub WritesChecksum : Entry 32 → List ℕ → List ℕ → Result ℕ ListWriteFault → Type 0
 WritesChecksum entry old new (Ok len) = (list : List ℕ) × (list ≡ list_of lowercase (entry ∷ [])) × Lists policy.Lower list (entry ∷ [])
     × (len ≡ length list) × (new ≡ with_front old list)
 WritesChecksum entry old new (Err (BadName place)) = (place ≡ 0) × (is_bad_name entry.name.now ≡ true) × (new ≡ old)
 WritesChecksum entry old new (Err (Write _)) = (is_bad_name entry.name.now ≡ false) × (length old < length (list_of lowercase (entry ∷ [])))
 
--- the digest of the first entry, where there is one
+-- the digest of the first entry, if there is one
 abbrev pub digest_of : Entry 32 → Digest
 digest_of e = record { bytes = e.digest }
 
 abbrev pub first_digest : List (Entry 32) → Option Digest
 first_digest entries = option_map digest_of (slice_get entries 0)
 
--- a source is a list with this digest first, or why it is not read; and where it is a list, that is its
--- first digest, or memory was refused
+-- a source is a list with this digest first, or an error of reading it; and if it is a list, that is its
+-- first digest, or an allocation failed
 abbrev pub ReadsChecksum : List ℕ → Result (Option Digest) ListFault → Type 0
 ReadsChecksum s result = MatchResult result
     (λ found. ((entries : List (Entry 32)) × Lists policy.None s entries)

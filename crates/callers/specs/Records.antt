@@ -1,11 +1,11 @@
--- What is answered of a record's field.
+-- What is returned for a record's field.
 use Rattle.std.specs.Prelude.{◌≡◌, ℕ, List, Option, None, Some, Result, Ok, Err}
 use Rattle.serde_json.specs.Data.{Data}
 use Rattle.faster_hex.specs.declared.adapters.AdapterError.{AdapterError}
 use Rattle.faster_hex.specs.Adapters.{Reads, array_read_refusal}
 use Rattle.faster_hex.specs.WireFormats.{withpfx_ignorecase}
 
--- none where there is no field; or the field is there, and four bytes are read from it, or refused
+-- `None` if there is no field; else four bytes are read from it, or it is refused
 abbrev pub AnswersField : Option Data → Result (Option (List ℕ)) AdapterError → Type 0
 AnswersField field (Ok None) = field ≡ None
 AnswersField field (Ok (Some id)) = (d : Data) × (field ≡ Some d) × Reads withpfx_ignorecase None d id

@@ -7,12 +7,12 @@ use Rattle.faster_hex.specs.declared.adapters.WireFormat.{WireFormat}
 use Rattle.faster_hex.specs.declared.adapters.AdapterError.TheVariants.{OverBound}
 use Rattle.faster_hex.specs.Adapters.{ReadFailure, Reads, ReadsItsOwn, ReadsOption, Writes, WritesOption, array_read_refusal, wire_text}
 
--- a bounded read takes exactly what the unbounded one takes with at most so many bytes
+-- a bounded read accepts exactly what an unbounded one accepts with at most that many bytes
 abbrev pub BoundedReadsWhatFits : Type 0
 BoundedReadsWhatFits = (p : WireFormat) (max : ℕ) (d : Data) (bytes : List ℕ)
     → Reads p (Some max) d bytes ↔ (Reads p None d bytes × (length bytes ≤ max))
 
--- a read without a bound does not fail for one, and no more does one into an array
+-- a read without a bound has no `OverBound`, and neither has one into an array
 abbrev pub UnboundedHasNoBound : Type 0
 UnboundedHasNoBound = (p : WireFormat) (d : Data) (max actual : ℕ)
     → ReadFailure p None d (OverBound max actual)
@@ -22,7 +22,7 @@ abbrev pub ArrayHasNoBound : Type 0
 ArrayHasNoBound = (p : WireFormat) (n : ℕ) (d : Data) (max actual : ℕ)
     → array_read_refusal p n d ≢ Some (OverBound max actual)
 
--- what a format that reads its own writes, it reads as the same bytes
+-- a format that reads what it writes reads the same bytes
 abbrev pub ReadingInvertsWriting : Type 0
 ReadingInvertsWriting = (p : WireFormat) (bytes : List ℕ) (d : Data)
     → ReadsItsOwn p
@@ -30,7 +30,7 @@ ReadingInvertsWriting = (p : WireFormat) (bytes : List ℕ) (d : Data)
     → Writes p bytes d
     → Reads p None d bytes
 
--- and none as none
+-- the same for an `Option`
 abbrev pub OptionReadingInvertsWriting : Type 0
 OptionReadingInvertsWriting = (p : WireFormat) (bytes : Option (List ℕ)) (d : Data)
     → ReadsItsOwn p
@@ -38,22 +38,22 @@ OptionReadingInvertsWriting = (p : WireFormat) (bytes : Option (List ℕ)) (d : 
     → WritesOption p bytes d
     → ReadsOption p None d bytes
 
--- no value is written for none and for a list, the empty one too
+-- no value is written both for `None` and for a list, also for the empty one
 abbrev pub WritesNoneApart : Type 0
 WritesNoneApart = (p : WireFormat) (d : Data) (bytes : List ℕ)
     → WritesOption p None d
     → WritesOption p (Some bytes) d
     → ⊥
 
--- no value is read as none and as a list
+-- no value is read both as `None` and as a list
 abbrev pub ReadsNoneApart : Type 0
 ReadsNoneApart = (p : WireFormat) (max : Option ℕ) (d : Data) (bytes : List ℕ)
     → ReadsOption p max d None
     → ReadsOption p max d (Some bytes)
     → ⊥
 
--- by a format that reads the letters alone that it writes, a value that is read as a list is the one
--- that is written for it
+-- a format that accepts only the letters that it writes reads as a list only the value that it writes for
+-- that list
 abbrev pub WritingInvertsStrictReading : Type 0
 WritingInvertsStrictReading = (p : WireFormat) (d : Data) (bytes : List ℕ)
     → p.case ≡ strict p.upper

@@ -1,4 +1,4 @@
--- The six formats: whether `0x` stands before the digits, which letters are written, which are read.
+-- The six formats: whether `0x` comes before the digits, which letters are written, and which accepted.
 use Rattle.std.specs.Prelude.{true, false}
 use Rattle.hex_core.specs.declared.digit.CheckCase.TheVariants.{None, Lower, Upper}
 use Rattle.faster_hex.specs.declared.adapters.WireFormat.{WireFormat}

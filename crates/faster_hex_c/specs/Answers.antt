@@ -1,4 +1,4 @@
--- What the exported calls answer.
+-- What the exported calls return.
 use Rattle.std.specs.Prelude.{◌≡◌, ℕ, ◌==◌, if◌then◌else◌, Bool, List, slice_index}
 use Rattle.std.specs.Prelude.{Option, Some, None, MatchOption, Result, Ok, Err}
 use Rattle.hex_core.specs.declared.digit.CheckCase.{CheckCase}
@@ -22,11 +22,11 @@ policy_of n =
     else if n == 2 then Some policy.Upper
     else None
 
--- the answer for a number that names none
+-- the answer for a number that names no policy
 abbrev pub no_policy : Answer
 no_policy = record { number = 0; status = 5; byte = 0 }
 
--- the answer that tells a result; the errors of the last case never come of a call into a destination
+-- the answer for a result; calls that write to a destination never have the errors of the last case
 abbrev pub answer_of : Result ℕ Error → Answer
 answer_of (Ok written) = record { number = written; status = 0; byte = 0 }
 answer_of (Err OddLength) = record { number = 0; status = 1; byte = 0 }
@@ -35,7 +35,7 @@ answer_of (Err (InvalidChar index byte)) = record { number = index; status = 3; 
 answer_of (Err Overflow) = record { number = 0; status = 4; byte = 0 }
 answer_of (Err e) = record { number = 0; status = 4; byte = 0 }
 
--- the answer that tells the first invalid byte of a source, if there is one
+-- the answer for the first invalid byte of a source, if there is one
 abbrev pub answer_for : List ℕ → Option ℕ → Answer
 answer_for s None = record { number = 0; status = 0; byte = 0 }
 answer_for s (Some i) = record { number = i; status = 3; byte = slice_index s i }
@@ -48,7 +48,7 @@ DecodesTo c s old new answer = (result : Result ℕ Error) × Decodes c s old ne
 abbrev pub EncodesTo : Bool → List ℕ → List ℕ → List ℕ → Answer → Type 0
 EncodesTo upper bytes old new answer = (result : Result ℕ Error) × Encodes upper bytes old new result × (answer ≡ answer_of result)
 
--- decoding by the policy that a number names; where it names none the destination is as it was
+-- decoding by the policy that a number names; if it names none, the destination is unchanged
 abbrev pub DecodesBy : ℕ → List ℕ → List ℕ → List ℕ → Answer → Type 0
 DecodesBy n s old new answer = MatchOption (policy_of n) ((answer ≡ no_policy) × (new ≡ old)) (λ c. DecodesTo c s old new answer)
 
@@ -56,18 +56,18 @@ DecodesBy n s old new answer = MatchOption (policy_of n) ((answer ≡ no_policy)
 abbrev pub FindsInvalid : ℕ → List ℕ → Answer → Type 0
 FindsInvalid n s answer = MatchOption (policy_of n) (answer ≡ no_policy) (λ c. answer ≡ answer_for s (first_invalid c s))
 
--- the answer for numbers that make none
+-- the answer for numbers that make no group
 abbrev pub no_group : Answer
 no_group = record { number = 0; status = 6; byte = 0 }
 
--- the answer that tells how a grouped text was read
+-- the answer for a result of reading a grouped text
 abbrev pub group_answer_of : Result ℕ GroupFault → Answer
 group_answer_of (Ok written) = record { number = written; status = 0; byte = 0 }
 group_answer_of (Err (fault.OutputTooSmall required)) = record { number = required; status = 2; byte = 0 }
 group_answer_of (Err (fault.InvalidByte index byte)) = record { number = index; status = 3; byte = byte }
 group_answer_of (Err fault.BadLength) = record { number = 0; status = 7; byte = 0 }
 
--- by the group that two numbers make; where they make none the destination is as it was
+-- by the group that two numbers make; if they make none, the destination is unchanged
 abbrev pub ByGroup : ℕ → ℕ → List ℕ → List ℕ → Answer → (Group → Type 0) → Type 0
 ByGroup every sep old new answer Holds =
     (made : Option Group) × MakesGroup every sep made × MatchOption made ((answer ≡ no_group) × (new ≡ old)) Holds
@@ -77,7 +77,7 @@ abbrev pub EncodesGrouped : ℕ → ℕ → Bool → List ℕ → List ℕ → L
 EncodesGrouped every sep upper bytes old new answer = ByGroup every sep old new answer
     (λ group. (result : Result ℕ Error) × WritesGrouped group upper bytes old new result × (answer ≡ answer_of result))
 
--- grouped reading by such a group and by the policy that a number names, which is looked at first
+-- grouped reading by such a group and by the policy that a number names, which is tested first
 abbrev pub DecodesGrouped : ℕ → ℕ → ℕ → List ℕ → List ℕ → List ℕ → Answer → Type 0
 DecodesGrouped n every sep s old new answer = MatchOption (policy_of n) ((answer ≡ no_policy) × (new ≡ old)) (λ c. ByGroup every sep old new answer
     (λ group. (result : Result ℕ GroupFault) × Reads c group s old new result × (answer ≡ group_answer_of result)))

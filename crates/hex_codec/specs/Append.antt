@@ -6,8 +6,8 @@ use Rattle.hex_core.specs.Text.{text}
 use Rattle.hex_codec.specs.Calls.{EncodesBehind}
 use Rattle.hex_codec.specs.Failure.{GrowthFailure}
 
--- what a string ends as after an append of a list's digits: these are behind its text, or it has its
--- text alone, and it gives no room back
+-- a string after an append of a list's digits: it has its text and then the digits, or after an error its
+-- text alone; its capacity never falls
 abbrev pub AppendsDigits : {A T : Type 0} → Bool → List ℕ → Result T Error → String A → String A → Type 0
 AppendsDigits upper bytes result old new =
     MatchResult result
@@ -16,14 +16,14 @@ AppendsDigits upper bytes result old new =
     × OnOk result (string_len new ≡ string_len old + 2 * length bytes)
     × (string_capacity old ≤ string_capacity new)
 
--- an append of a list's digits behind `had` bytes: their end is a `usize`, or a failure
+-- an append of a list's digits after `had` bytes. `Ok`: the whole length fits `usize`; `Err`: a failure
 abbrev pub FitsBehind : {T : Type 0} → ℕ → List ℕ → Result T Error → Type 0
 FitsBehind had bytes result = MatchResult result (λ _. had + 2 * length bytes < 2 ^ 64) (λ e. GrowthFailure had (2 * length bytes) e)
 
--- there is no error where the spare room of the string holds the digits
+-- there is no error if the digits fit the spare capacity of the string
 abbrev pub SucceedsInSpareRoom : {A T : Type 0} → List ℕ → String A → Result T Error → Type 0
 SucceedsInSpareRoom bytes old result = string_len old + 2 * length bytes ≤ string_capacity old → IsOk result
 
--- an append that answers the new suffix: the digits, or a failure
+-- an append that returns the new suffix: the digits, or a failure
 abbrev pub AnswersSuffix : {A S : Type 0} → (S → List ℕ) → Bool → List ℕ → String A → Result S Error → Type 0
 AnswersSuffix shown upper bytes old result = EncodesBehind shown (string_len old) upper bytes result × SucceedsInSpareRoom bytes old result

@@ -1,10 +1,10 @@
--- Why a text was not made, or not appended.
+-- The errors of making or appending a text.
 use Rattle.std.specs.Prelude.{ℕ, ◌+◌, ◌^◌, ◌<◌, ◌≤◌}
 use Rattle.hex_core.specs.declared.error.Error.{Error}
 use Rattle.hex_core.specs.declared.error.Error.TheVariants.{Overflow, OutOfMemory}
 
--- an error of growing by this many bytes behind `had` ones: `Overflow` where the whole length is no
--- `usize`, want of memory only where it is one and there is something to grow by, and no other error
+-- an error of growing by this many bytes after `had` ones: `Overflow` if the whole length exceeds `usize`;
+-- `OutOfMemory` only if it fits and there are bytes to grow by; no other error
 abbrev pub GrowthFailure : ℕ → ℕ → Error → Type 0
 GrowthFailure had added Overflow = 2 ^ 64 ≤ had + added
 GrowthFailure had added OutOfMemory = (0 < added) × (had + added < 2 ^ 64)

@@ -1,4 +1,4 @@
--- What reading and writing a grouped text answers and leaves.
+-- What reading and writing a grouped text returns, and what it writes.
 use Rattle.std.specs.Prelude.{◌≡◌, ◌≤◌, ℕ, Bool, List, length, Result, Ok}
 use Rattle.std.specs.Borrow.{MutBor}
 use Rattle.hex_core.specs.declared.digit.CheckCase.{CheckCase}
@@ -11,20 +11,20 @@ use Rattle.hex_codec.specs.declared.grouped.GroupFault.{GroupFault}
 use Rattle.hex_codec.specs.Grouped.{grouped, piece_len}
 use Rattle.hex_codec.specs.GroupedText.{GroupSpells, group_refusal, grouped_len}
 
--- reading into the front of a destination: what the text spells
+-- reading to the start of a destination: writes what the text spells
 abbrev pub Reads : CheckCase → Group → List ℕ → List ℕ → List ℕ → Result ℕ GroupFault → Type 0
 Reads c group s old new result = Fills (group_refusal c group s (length old)) (GroupSpells c group s) old new result
 
--- a list that the text spells is what reading it answers, in the front of a destination with room for it
+-- if the text spells a list, reading it writes that list to a destination with room for it
 abbrev pub FrontIsRead : CheckCase → Group → List ℕ → List ℕ → List ℕ → Result ℕ GroupFault → Type 0
 FrontIsRead c group s old new result = (bytes : List ℕ) → GroupSpells c group s bytes → length bytes ≤ length old
     → (result ≡ Ok (length bytes)) × (new ≡ with_front old bytes)
 
--- reading that lends the written front of this much room: what the text spells, or the refusal
+-- reading that returns the written part of a destination with this much room: what the text spells
 abbrev pub ReadsFront : CheckCase → Group → List ℕ → ℕ → Result (MutBor (List ℕ)) GroupFault → Type 0
 ReadsFront c group s room = Answers (group_refusal c group s room) (λ front. GroupSpells c group s front.now)
 
--- grouped writing into the front of a destination: the grouped text
+-- grouped writing to the start of a destination: writes the grouped text
 abbrev pub WritesGrouped : Group → Bool → List ℕ → List ℕ → List ℕ → Result ℕ Error → Type 0
 WritesGrouped group upper bytes old new result =
     Fills (room_refusal (grouped_len (piece_len group) (length bytes)) (length old)) (λ digits. digits ≡ grouped group upper bytes) old new result

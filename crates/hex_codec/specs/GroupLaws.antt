@@ -21,7 +21,7 @@ GroupingInvertsStrictReading = (group : Group) (upper : Bool) (s bytes : List �
     → GroupSpells (strict upper) group s bytes
     → grouped group upper bytes ≡ s
 
--- a grouped text is read exactly where it spells some list that fits
+-- a grouped text is read exactly if it spells some list that fits
 abbrev pub ReadsWhatGroupSpells : Type 0
 ReadsWhatGroupSpells = (c : CheckCase) (group : Group) (s : List ℕ) (room : ℕ)
     → (group_refusal c group s room ≡ None) ↔ ((bytes : List ℕ) × GroupSpells c group s bytes × (length bytes ≤ room))
@@ -33,7 +33,7 @@ GroupSpellsOneList = (c : CheckCase) (group : Group) (s bytes others : List ℕ)
     → GroupSpells c group s others
     → bytes ≡ others
 
--- how long a grouped text is, by the number of its bytes
+-- the length of a grouped text, by the number of its bytes
 abbrev pub GroupedTextsAreLong : Type 0
 GroupedTextsAreLong = (group : Group) (upper : Bool) (bytes : List ℕ)
     → length (grouped group upper bytes) ≡ grouped_len (piece_len group) (length bytes)
@@ -50,14 +50,14 @@ TextsAreDigits = (upper : Bool) (bytes : List ℕ)
     → AreBytes bytes
     → All (λ b. IsSome (value (strict upper) b)) (text upper bytes)
 
--- the first piece is the front of a list, and the other pieces are those of the rest
+-- the first piece of a list is its start, and the other pieces are those of the rest
 abbrev pub FirstPieceIsTheFront : Type 0
 FirstPieceIsTheFront = (every : ℕ) (bytes : List ℕ)
     → 0 < every
     → 0 < length bytes
     → pieces every bytes ≡ take every bytes ∷ pieces every (drop every bytes)
 
--- the text of whole pieces joined to more is the two texts, joined by the separator
+-- the grouped text of whole pieces and more bytes is their two texts, joined by the separator
 abbrev pub WholePiecesJoin : Type 0
 WholePiecesJoin = (group : Group) (upper : Bool) (front back : List ℕ)
     → length front % piece_len group ≡ 0

@@ -6,23 +6,23 @@ use Rattle.hex_core.specs.Text.{text}
 use Rattle.hex_codec.specs.declared.group.Group.{Group}
 use Rattle.hex_codec.specs.Groups.{IsGroup}
 
--- how many bytes a piece has, and what stands between two pieces
+-- the number of bytes in a piece, and the byte between two pieces
 abbrev pub piece_len : Group → ℕ
 piece_len group = group.every
 
 abbrev pub separator : Group → ℕ
 separator group = group.sep
 
--- making a group: it has these pieces and this separator, or no group has them
+-- making a group: it has this piece length and this separator, or no group has
 abbrev pub MakesGroup : ℕ → ℕ → Option Group → Type 0
 MakesGroup every sep result = MatchOption result (IsGroup every sep → ⊥)
     (λ group. IsGroup every sep × (piece_len group ≡ every) × (separator group ≡ sep))
 
--- how many pieces n bytes make: n divided by a piece's length, rounded up
+-- the number of pieces of n bytes: n divided by a piece's length, rounded up
 abbrev pub piece_count : ℕ → ℕ → ℕ
 piece_count every n = div_ceil n every
 
--- the pieces of a list, each of so many bytes but the last, which may be shorter
+-- the pieces of a list, each of this many bytes except the last, which may be shorter
 abbrev pub pieces : ℕ → List ℕ → List (List ℕ)
 pieces every bytes = map (λ i. take every (drop (i * every) bytes)) (range_with_len 0 (piece_count every (length bytes)))
 

@@ -7,19 +7,19 @@ use Rattle.hex_core.specs.declared.digit.CheckCase.TheVariants as policy
 abbrev pub between : ℕ → ℕ → ℕ → Bool
 between low high b = nat_le low b && nat_le b high
 
--- whether the policy reads `a` to `f`
+-- whether the policy accepts `a` to `f`
 abbrev pub reads_lower : CheckCase → Bool
 reads_lower policy.None = true
 reads_lower policy.Lower = true
 reads_lower policy.Upper = false
 
--- whether the policy reads `A` to `F`
+-- whether the policy accepts `A` to `F`
 abbrev pub reads_upper : CheckCase → Bool
 reads_upper policy.None = true
 reads_upper policy.Lower = false
 reads_upper policy.Upper = true
 
--- the value of a byte: three intervals, and no other byte
+-- the value of a byte in one of three intervals; no other byte has one
 abbrev pub value : CheckCase → ℕ → Option ℕ
 value c b =
     if between 48 57 b then Some (b - 48)  -- `0` to `9`
@@ -31,7 +31,7 @@ value c b =
 abbrev pub digit : Bool → ℕ → ℕ
 digit upper n = if nat_lt n 10 then 48 + n else if upper then 55 + n else 87 + n
 
--- the policy that reads exactly the digits that are written in this case
+-- the policy that accepts exactly the digits that are written in this case
 abbrev pub strict : Bool → CheckCase
 strict true = policy.Upper
 strict false = policy.Lower

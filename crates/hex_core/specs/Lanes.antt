@@ -4,15 +4,15 @@ use Rattle.std.specs.Int.{bit_at}
 use Rattle.hex_core.specs.declared.digit.CheckCase.{CheckCase}
 use Rattle.hex_core.specs.Digit.{value}
 
--- bit i of a mask is set exactly where byte i has a value
+-- bit i of a mask is set exactly if byte i is valid
 abbrev pub Admits : CheckCase → List ℕ → ℕ → Type 0
 Admits c bytes mask = EachIndex bytes (λ i. (bit_at mask i ≡ 1) ↔ IsSome (value c (slice_index bytes i)))
 
--- a number that stands for a byte's value: the value itself, or at least 16 where there is none
+-- a byte's value as a number, or any number from 16 on if it has none
 abbrev pub IsNibble : Option ℕ → ℕ → Type 0
 IsNibble o n = MatchOption o (16 ≤ n) (λ v. n ≡ v)
 
--- each lane stands for its byte's value
+-- each lane is its byte's value as a number, in this sense
 abbrev pub AreNibbles : CheckCase → List ℕ → List ℕ → Type 0
 AreNibbles c bytes nibbles = EachIndex bytes (λ i. IsNibble (value c (slice_index bytes i)) (slice_index nibbles i))
 
@@ -24,10 +24,10 @@ AreSmall nibbles = EachIndex nibbles (λ i. slice_index nibbles i < 16)
 abbrev pub ArePacked : List ℕ → List ℕ → Type 0
 ArePacked nibbles bytes = EachIndex bytes (λ i. slice_index bytes i ≡ 16 * slice_index nibbles (2 * i) + slice_index nibbles (2 * i + 1))
 
--- each lane is its byte's value, where there is one
+-- each lane is its byte's value, if it has one
 abbrev pub AreValues : CheckCase → List ℕ → List ℕ → Type 0
 AreValues c bytes nibbles = EachIndex bytes (λ i. IfSome (value c (slice_index bytes i)) (λ v. slice_index nibbles i ≡ v))
 
--- each check is below 128 exactly where its byte has a value
+-- each check is below 128 exactly if its byte is valid
 abbrev pub AreChecked : CheckCase → List ℕ → List ℕ → Type 0
 AreChecked c bytes checked = EachIndex bytes (λ i. (slice_index checked i < 128) ↔ IsSome (value c (slice_index bytes i)))

@@ -29,7 +29,7 @@ SpellsOneList = (c : CheckCase) (s bytes others : List ℕ)
 abbrev pub SpellsBytes : Type 0
 SpellsBytes = (c : CheckCase) (s bytes : List ℕ) → Spells c s bytes → AreBytes bytes
 
--- a source is accepted exactly where it spells some list
+-- a source is accepted exactly if it spells some list
 abbrev pub AcceptsWhatSpells : Type 0
 AcceptsWhatSpells = (c : CheckCase) (s : List ℕ)
     → (source_refusal c s ≡ None) ↔ ((bytes : List ℕ) × Spells c s bytes)
@@ -51,12 +51,12 @@ abbrev pub StrictAcceptsTexts : Type 0
 StrictAcceptsTexts = (upper : Bool) (s : List ℕ)
     → (source_refusal (strict upper) s ≡ None) ↔ ((bytes : List ℕ) × AreBytes bytes × (text upper bytes ≡ s))
 
--- a source is read under either case exactly as its lowercased form is under lowercase
+-- a source spells under either case what its lowercased form spells under lowercase
 abbrev pub EitherCaseIsLowercased : Type 0
 EitherCaseIsLowercased = (s bytes : List ℕ)
     → Spells policy.None s bytes ↔ Spells policy.Lower (str_to_ascii_lowercase s) bytes
 
--- encoding what was read under either case gives the source's lowercased form
+-- encoding what was decoded under either case gives the source's lowercased form
 abbrev pub EncodingLowercases : Type 0
 EncodingLowercases = (s bytes : List ℕ)
     → Spells policy.None s bytes
@@ -77,66 +77,66 @@ TextsAreAscii = (upper : Bool) (bytes : List ℕ)
     → AreBytes bytes
     → IsAscii (text upper bytes) × IsUtf8 (text upper bytes)
 
--- a place is the first invalid byte exactly where it is in the source, its byte has no value, and all
--- before it have one
+-- an index is that of the first invalid byte exactly if it is in the source, its byte has no value, and
+-- all bytes before it have one
 abbrev pub FirstInvalidIsFirst : Type 0
 FirstInvalidIsFirst = (c : CheckCase) (s : List ℕ) (f : ℕ)
     → (first_invalid c s ≡ Some f) ↔ ((f < length s) × (value c (slice_index s f) ≡ None) × AllValid c s 0 f)
 
--- there is none exactly where all bytes have a value
+-- no byte is invalid exactly if all have a value
 abbrev pub NoneIsInvalidWhereAllAreValid : Type 0
 NoneIsInvalidWhereAllAreValid = (c : CheckCase) (s : List ℕ)
     → (first_invalid c s ≡ None) ↔ AllValid c s 0 (length s)
 
--- a part has no invalid byte exactly where all bytes of its range are valid
+-- a part has no invalid byte exactly if all bytes in its range are valid
 abbrev pub PartsAreValidWhereTheirRangesAre : Type 0
 PartsAreValidWhereTheirRangesAre = (c : CheckCase) (s : List ℕ) (start end : ℕ)
     → end ≤ length s
     → (first_invalid c (slice_range s start end) ≡ None) ↔ AllValid c s start end
 
--- where a refusal is an invalid character, it names the first invalid byte of the source: its place,
--- and the byte there, which has no value
+-- an `InvalidChar` has the index of the first invalid byte of the source, and that byte, which has no
+-- value
 abbrev pub NamesFirstInvalid : (CheckCase → List ℕ → Option Error) → Type 0
 NamesFirstInvalid refusal = (c : CheckCase) (s : List ℕ) (i b : ℕ)
     → refusal c s ≡ Some (InvalidChar i b)
     → (first_invalid c s ≡ Some i) × (b ≡ slice_index s i) × (value c b ≡ None)
 
--- the front of old bytes with a new front is that front
+-- `with_front` begins with its list
 abbrev pub FrontsAreKept : Type 0
 FrontsAreKept = (old bytes : List ℕ) → take (length bytes) (with_front old bytes) ≡ bytes
 
--- what two sources spell, the joined source spells joined
+-- two sources joined spell their two lists joined
 abbrev pub JoinedSourcesSpellJoined : Type 0
 JoinedSourcesSpellJoined = (c : CheckCase) (front back xs ys : List ℕ)
     → Spells c front xs
     → Spells c back ys
     → Spells c (front ++ back) (xs ++ ys)
 
--- what a joined source spells, its parts spell in parts, where it is cut behind a whole pair
+-- the parts of a source that is cut after a whole pair spell the parts of its list
 abbrev pub PartsSpellParts : Type 0
 PartsSpellParts = (c : CheckCase) (front back bytes : List ℕ)
     → length front % 2 ≡ 0
     → Spells c (front ++ back) bytes
     → Spells c front (take (length front / 2) bytes) × Spells c back (drop (length front / 2) bytes)
 
--- the first invalid byte of a joined source is that of the first part, or else that of the second,
--- behind the first's length
+-- the first invalid byte of a joined source is that of the first part, or else that of the second, whose
+-- index counts from the end of the first
 abbrev pub FirstInvalidOfJoined : Type 0
 FirstInvalidOfJoined = (c : CheckCase) (front back : List ℕ)
     → first_invalid c (front ++ back) ≡ option_or (first_invalid c front) (option_map (λ i. length front + i) (first_invalid c back))
 
--- a front as long as what it lies over is all of it
+-- `with_front` of a list as long as the old bytes is that list
 abbrev pub WholeFrontsAreAll : Type 0
 WholeFrontsAreAll = (old bytes : List ℕ) → length bytes ≡ length old → with_front old bytes ≡ bytes
 
--- what lies behind the blocks of a decoding that was given up stays
+-- a refused `decode_owned` leaves the bytes after its blocks unchanged
 abbrev pub BytesBehindBlocksStay : Type 0
 BytesBehindBlocksStay = (block : ℕ) (c : CheckCase) (s old new : List ℕ) (i : ℕ)
     → StoresBlocks block c s old new
     → digits_before block c s / 2 ≤ i
     → slice_index new i ≡ slice_index old i
 
--- two texts in one case compare as their lists do
+-- texts in one case are ordered as their lists are
 abbrev pub TextsCompareAsLists : Type 0
 TextsCompareAsLists = (upper : Bool) (bytes others : List ℕ)
     → AreBytes bytes

@@ -21,12 +21,13 @@ kind_name Wide = codes "wide"
 abbrev pub name_of : Backend → List ℕ
 name_of b = kind_name b.0
 
--- the names of the plans that are listed, in their order; the plan of the plain calls is not
+-- the names of the plans that `backends` lists, in order
 abbrev pub plan_names : List (List ℕ)
 plan_names =
     codes "scalar" ∷ codes "sse41" ∷ codes "avx2" ∷ codes "avx512" ∷ codes "neon" ∷ []
 
--- how many digits a plan decodes at a time into a buffer that is given up on a refusal, by the plan's name: 0 where it stores nothing before it has tested all
+-- the digits in a block of `decode_owned`, by the plan's name: a block is stored once its own digits are
+-- tested; 0 if nothing is stored before all digits are
 abbrev pub owned_block : List ℕ → ℕ
 owned_block name =
     if bytes_eq name (codes "avx512") then 128
@@ -34,11 +35,11 @@ owned_block name =
     else if bytes_eq name (codes "avx2") || bytes_eq name (codes "neon") then 64
     else 0
 
--- how many digits stand in whole blocks before the first invalid byte; none where a block is 0 digits
+-- the number of digits in whole blocks before the first invalid byte; 0 if a block has none
 abbrev pub digits_before : ℕ → CheckCase → List ℕ → ℕ
 digits_before block c s = unwrap_or (option_map (λ f. block * (f / block)) (first_invalid c s)) 0
 
--- a refusal has stored the bytes that the whole blocks before the first invalid byte spell, and nothing else
+-- a refusal stored the bytes that the whole blocks before the first invalid byte spell, and nothing else
 pub record StoresBlocks (block : ℕ) (c : CheckCase) (s old new : List ℕ) : Type 0 where
   pub bytes : List ℕ
   pub spelled : Spells c (take (digits_before block c s) s) bytes

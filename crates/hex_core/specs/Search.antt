@@ -1,4 +1,4 @@
--- The first byte of a source that has no value, and what it takes to find it.
+-- The first invalid byte of a source, and the steps that find it.
 use Rattle.std.specs.Prelude.{ℕ, ◌+◌, ◌-◌, ◌*◌, ◌/◌, ◌%◌, ◌<◌, ◌≤◌, nat_lt, if◌then◌else◌, Option, Some, None, List, length, min, position, is_none, slice_index, IsSome}
 use Rattle.std.specs.Int.{div_ceil}
 use Rattle.hex_core.specs.declared.digit.CheckCase.{CheckCase}
@@ -8,30 +8,30 @@ use Rattle.hex_core.specs.Digit.{value}
 abbrev pub first_invalid : CheckCase → List ℕ → Option ℕ
 first_invalid c s = position (λ b. is_none (value c b)) s
 
--- all bytes of a range, from start up to end, have a value
+-- all bytes from start up to end are valid, which means that they have a value
 abbrev pub AllValid : CheckCase → List ℕ → ℕ → ℕ → Type 0
 AllValid c s start end = (k : ℕ) → start ≤ k → k < end → IsSome (value c (slice_index s k))
 
--- how many blocks of 64 bytes are tested: the whole ones, and none where the source is at most one block
+-- the number of blocks of 64 bytes that a search tests: all whole ones, but none if there is only one
 abbrev pub tested_blocks : ℕ → ℕ
 tested_blocks len = if nat_lt 64 len then len / 64 else 0
 
--- what finding the first invalid byte takes: tests of blocks, and looks at single bytes
+-- the steps of a search: tests of blocks, and looks at single bytes
 pub record Steps : Type 0 where
   pub tests : ℕ
   pub looks : ℕ
 
--- the steps in a source of this length: up to this first invalid byte, or to the end where there is none
+-- the steps in a source of this length, up to this first invalid byte, or to the end if there is none
 abbrev pub steps_to : ℕ → Option ℕ → Steps
 steps_to len (Some f) = record { tests = min (tested_blocks len) (f / 64 + 1); looks = f % 64 + 1 }
 steps_to len None = record { tests = tested_blocks len; looks = len - 64 * tested_blocks len }
 
--- how many tests of blocks that cover a source of this length are made: those up to this first
--- invalid byte, or to the end where there is none
+-- the number of tests if blocks cover a source of this length: those up to this first invalid byte, or
+-- to the end if there is none
 abbrev pub covering_to : ℕ → ℕ → Option ℕ → ℕ
 covering_to block len (Some f) = min (div_ceil len block) (f / block + 1)
 covering_to block len None = div_ceil len block
 
--- the steps in a source: those up to its own first invalid byte
+-- the steps in a source, up to its own first invalid byte
 abbrev pub steps : CheckCase → List ℕ → Steps
 steps c s = steps_to (length s) (first_invalid c s)

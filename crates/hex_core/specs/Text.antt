@@ -4,7 +4,7 @@ use Rattle.std.specs.List.{flat_map}
 use Rattle.hex_core.specs.declared.digit.CheckCase.{CheckCase}
 use Rattle.hex_core.specs.Digit.{value, digit}
 
--- in which case letters are written
+-- the case of the letters that are written
 abbrev pub lowercase : Bool
 lowercase = false
 
@@ -19,7 +19,7 @@ digits upper byte = digit upper (byte / 16) ∷ digit upper (byte % 16) ∷ []
 abbrev pub text : Bool → List ℕ → List ℕ
 text upper bytes = flat_map (digits upper) bytes
 
--- a pair of digits spells the byte at a place: they are its quotient and its remainder by 16
+-- a pair of digits spells the byte at index i: their values are its quotient and its remainder by 16
 pub record SpellsAt (c : CheckCase) (s bytes : List ℕ) (i : ℕ) : Type 0 where
   pub high : value c (slice_index s (2 * i)) ≡ Some (slice_index bytes i / 16)
   pub low : value c (slice_index s (2 * i + 1)) ≡ Some (slice_index bytes i % 16)
@@ -29,6 +29,6 @@ pub record Spells (c : CheckCase) (s bytes : List ℕ) : Type 0 where
   pub twice : length s ≡ 2 * length bytes
   pub each : EachIndex bytes (SpellsAt c s bytes)
 
--- old bytes with a new front: the list, and what was behind its length
+-- the list, and then the old bytes after as many
 abbrev pub with_front : List ℕ → List ℕ → List ℕ
 with_front old bytes = bytes ++ drop (length bytes) old

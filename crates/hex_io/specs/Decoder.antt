@@ -9,7 +9,7 @@ use Rattle.hex_io.specs.Reading.{SpellsBut, digits_in, stray_of}
 use Rattle.hex_io.specs.declared.stream.decoder.Decoder.{Decoder}
 use Rattle.hex_io.specs.declared.stream.decoder.Reading.{Reading}
 
--- how a decoder reads, how many bytes it has been fed, and the digit that waits, if one does
+-- a decoder's reading, the number of bytes it was fed, and the digit that waits, if there is one
 abbrev pub reading_of : Decoder → Reading
 reading_of decoder = decoder.reading
 
@@ -19,17 +19,17 @@ position_of decoder = decoder.position
 abbrev pub waiting_in : Decoder → List ℕ
 waiting_in decoder = option_to_list decoder.waiting
 
--- a decoder has been fed this source, and has written what its digits spell, but for the one that waits
+-- a decoder was fed this source, and wrote what its digits spell, except for one that waits
 abbrev pub HasFed : Decoder → List ℕ → List ℕ → Type 0
 HasFed decoder fed written = let r = reading_of decoder in
     (position_of decoder ≡ length fed) × SpellsBut r.case (digits_in r fed) written (waiting_in decoder)
 
--- how many more pairs are whole, once n digits follow `had` ones
+-- how many more pairs are whole after n more digits than `had`
 abbrev pub pairs_more : ℕ → ℕ → ℕ
 pairs_more had n = (had + n) / 2 - had / 2
 
--- what a feed refuses: more bytes in all than a `usize` counts, then too little room for what this
--- many digits spell, then the first byte of all that was fed that should be a digit and is none
+-- what a feed refuses: more bytes in all than `usize` counts, else too little room for `more` bytes, else
+-- `stray`, the first byte of all that was fed that should be a digit and is none
 abbrev pub refusal_by : ℕ → ℕ → ℕ → Option Error → Option Error
 refusal_by all more room stray =
     if nat_le (2 ^ 64) all then Some Overflow
@@ -40,8 +40,8 @@ abbrev pub feed_refusal : Reading → List ℕ → List ℕ → ℕ → Option E
 feed_refusal r fed src room =
     refusal_by (length fed + length src) (pairs_more (length (digits_in r fed)) (length (digits_in r src))) room (stray_of r (fed ++ src))
 
--- a feed: the number of bytes, which stand over the old ones and with which all that was fed is
--- written; or the refusal
+-- a feed. `Ok`: the number of bytes written to the start of the destination; with them the decoder wrote
+-- what all that it was fed spells. `Err`: the refusal
 abbrev pub Feeds : Decoder → Decoder → List ℕ → List ℕ → List ℕ → Result ℕ Error → Type 0
 Feeds decoder decoder' src old new result = (fed written : List ℕ) → HasFed decoder fed written
     → MatchResult result
@@ -53,18 +53,18 @@ Feeds decoder decoder' src old new result = (fed written : List ℕ) → HasFed 
 abbrev pub PairsSpell : Reading → List ℕ → List ℕ → Type 0
 PairsSpell r s bytes = Spells r.case (take (2 * (length (digits_in r s) / 2)) (digits_in r s)) bytes
 
--- a decoder has written what those of all that it was fed spell, and a last digit behind them waits
+-- a decoder wrote what the whole pairs of all that it was fed spell, and an odd last digit waits
 abbrev pub WritesAsOneCall : Type 0
 WritesAsOneCall = (decoder : Decoder) (fed written : List ℕ)
     → HasFed decoder fed written
     → let digits = digits_in (reading_of decoder) fed in
     PairsSpell (reading_of decoder) fed written × (waiting_in decoder ≡ drop (2 * (length digits / 2)) digits)
 
--- every decoder has been fed some source, and has written what its digits spell
+-- every decoder was fed some source, and wrote what its digits spell
 abbrev pub DecodersWereFed : Type 0
 DecodersWereFed = (decoder : Decoder) → (fed : List ℕ) × (written : List ℕ) × HasFed decoder fed written
 
--- the end of a decoding: what was written is what all that was fed spells, or a digit waits
+-- the end of a decoding: what was written is what all that was fed spells, or a digit still waits
 abbrev pub Finished : {T : Type 0} → Decoder → Result T Error → Type 0
 Finished decoder result = (fed written : List ℕ) → HasFed decoder fed written → let r = reading_of decoder in
     Answers (if length (digits_in r fed) % 2 == 1 then Some OddLength else None) (λ _. Spells r.case (digits_in r fed) written) result

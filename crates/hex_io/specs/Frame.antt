@@ -9,11 +9,11 @@ use Rattle.hex_io.specs.declared.format.Align.TheVariants.{Left, Right, Center}
 use Rattle.hex_io.specs.declared.format.Hex.{Hex}
 use Rattle.hex_io.specs.declared.format.HexFlags.{HexFlags}
 
--- the bytes that a view shows
+-- the bytes that a view prints
 abbrev pub hex_bytes : Hex → List ℕ
 hex_bytes hex = hex.bytes.now
 
--- no sign, no prefix, lowercase, no group, and no padding: spaces would stand before the text
+-- no sign, no prefix, lowercase, no group, and no width: the fill would be spaces, before the text
 abbrev pub plain_flags : HexFlags
 plain_flags = record { plus = false; prefix = false; zero = false; width = None; fill = 32; align = Right; upper = false; group = None }
 
@@ -21,7 +21,7 @@ plain_flags = record { plus = false; prefix = false; zero = false; width = None;
 abbrev pub sign_and_prefix : HexFlags → List ℕ
 sign_and_prefix flags = (if flags.plus then codes "+" else []) ++ (if flags.prefix then codes "0x" else [])
 
--- the digits of a list, grouped where there is a group
+-- the digits of a list, grouped if there is a group
 abbrev pub digits_by : Option Group → Bool → List ℕ → List ℕ
 digits_by None upper bytes = text upper bytes
 digits_by (Some group) upper bytes = grouped group upper bytes
@@ -30,16 +30,16 @@ digits_by (Some group) upper bytes = grouped group upper bytes
 abbrev pub digits_of : HexFlags → List ℕ → List ℕ
 digits_of flags bytes = digits_by flags.group flags.upper bytes
 
--- how many characters a text of this length lacks of the width, if there is one
+-- how many characters a text of this length is shorter than the width, if there is one
 abbrev pub missing : Option ℕ → ℕ → ℕ
 missing None len = 0
 missing (Some width) len = width - len
 
--- how many characters of padding there are; sign, prefix and digits have a byte a character
+-- the number of padding characters; each character of sign, prefix and digits is one byte
 abbrev pub padding_of : HexFlags → List ℕ → ℕ
 padding_of flags bytes = missing flags.width (length (sign_and_prefix flags ++ digits_of flags bytes))
 
--- how many of the fill characters stand before the sign; at `Center` an odd one stands behind
+-- how many of the fill characters come before the sign; with `Center` an odd one comes after the digits
 abbrev pub left_padding : Align → ℕ → ℕ
 left_padding Left padding = 0
 left_padding Right padding = padding

@@ -9,39 +9,39 @@ use Rattle.hex_io.specs.declared.digests.Entry.{Entry}
 use Rattle.hex_io.specs.declared.digests.LineFault.{LineFault}
 use Rattle.hex_io.specs.Lists.{FirstFault, Lists, first_bad_name, list_of, with_last_newline}
 
--- an entry's digest is one of N bytes, as that of each entry in a program is
+-- an entry's digest has N bytes, as in each entry of a program
 abbrev pub HasDigest : {N : ℕ} → Entry N → Type 0
 HasDigest {N} e = (length e.digest ≡ N) × AreBytes e.digest
 
--- the list of some entries, none of which has a bad name, is read as the same entries, under the
--- strict policy of its digits' case and under either case
+-- the list of entries without a bad name is read as the same entries, under the strict policy of its
+-- digits' case and under either case
 abbrev pub ReadingInvertsWriting : Type 0
 ReadingInvertsWriting = (N : ℕ) (upper : Bool) (entries : List (Entry N))
     → AllByRecursion HasDigest entries
     → first_bad_name entries ≡ None
     → Lists (strict upper) (list_of upper entries) entries × Lists policy.None (list_of upper entries) entries
 
--- a source that has a line with a fault is no list, whatever the entries
+-- a source that has a line with a fault is the list of no entries
 abbrev pub FaultyListsNothing : Type 0
 FaultyListsNothing = (N : ℕ) (c : CheckCase) (s : List ℕ) (line : ℕ) (why : LineFault) (entries : List (Entry N))
     → FirstFault c N s line why
     → Lists c s entries
     → ⊥
 
--- two entries have one digest, one mark and one name
+-- two entries have the same digest, mark and name
 pub record SameEntry {N : ℕ} (e other : Entry N) : Type 0 where
   pub digest : e.digest ≡ other.digest
   pub binary : e.binary ≡ other.binary
   pub name : e.name.now ≡ other.name.now
 
--- a source is the list of one list of entries at most: two are as long, and the same entry by entry
+-- a source is the list of at most one list of entries: two have the same length and the same entries
 abbrev pub ListsOneList : Type 0
 ListsOneList = (N : ℕ) (c : CheckCase) (s : List ℕ) (entries others : List (Entry N))
     → Lists c s entries
     → Lists c s others
     → AllZip SameEntry entries others
 
--- what a strict policy reads is written as its source, with a newline behind the last line
+-- what a strict policy reads is written as its source, with a newline after the last line
 abbrev pub WritingInvertsStrictReading : Type 0
 WritingInvertsStrictReading = (N : ℕ) (upper : Bool) (s : List ℕ) (entries : List (Entry N))
     → Lists (strict upper) s entries

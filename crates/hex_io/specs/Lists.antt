@@ -1,4 +1,4 @@
--- Digest lists: a line for each entry, of the digits of its digest, its mark and its name.
+-- Digest lists: a line for each entry, with the digits of its digest, its mark and its name.
 use Rattle.std.specs.Prelude.{◌≡◌, ◌<◌, ℕ, ◌+◌, ◌-◌, ◌*◌, ◌==◌, nat_lt, Bool, ◌&&◌, ◌||◌, if◌then◌else◌, List, [], ◌∷◌, ◌++◌, length, take, drop, slice_index, position, Option, Some, None}
 use Rattle.std.specs.List.{AllByRecursion, AllZip, flat_map, list_any, slice_split}
 use Rattle.hex_core.specs.declared.digit.CheckCase.{CheckCase}
@@ -22,13 +22,13 @@ line_of upper e = text upper e.digest ++ (32 ∷ mark e.binary ∷ e.name.now)
 abbrev pub list_of : {N : ℕ} → Bool → List (Entry N) → List ℕ
 list_of upper entries = flat_map (λ e. line_of upper e ++ (10 ∷ [])) entries
 
--- some parts without an empty last one
+-- parts without the last one, if that is empty
 abbrev pub without_empty_end : List (List ℕ) → List (List ℕ)
 without_empty_end ([] ∷ []) = []
 without_empty_end (line ∷ lines) = line ∷ without_empty_end lines
 without_empty_end [] = []
 
--- the lines of a source: the parts between its newlines, but for an empty one behind the last
+-- the lines of a source: the parts between its newlines, without an empty one after the last newline
 abbrev pub lines_of : List ℕ → List (List ℕ)
 lines_of s = without_empty_end (slice_split (λ b. b == 10) s)
 
@@ -42,22 +42,21 @@ pub record LineIs {N : ℕ} (c : CheckCase) (line : List ℕ) (e : Entry N) : Ty
 abbrev pub Lists : {N : ℕ} → CheckCase → List ℕ → List (Entry N) → Type 0
 Lists c s entries = AllZip (LineIs c) (lines_of s) entries
 
--- whether a line has a space and a mark behind the digits of n bytes
+-- whether a line has a space and a mark after the digits of n bytes
 abbrev pub has_mark : ℕ → List ℕ → Bool
 has_mark n line = slice_index line (2 * n) == 32 && (slice_index line (2 * n + 1) == 32 || slice_index line (2 * n + 1) == 42)
 
--- what is wrong with a line that is long enough: its first invalid digit, if there is one, and else
--- its mark
+-- the fault of a line that is long enough: its first invalid digit, else its mark
 abbrev pub fault_in : ℕ → List ℕ → Option ℕ → Option LineFault
 fault_in n line (Some i) = Some (InvalidByte i (slice_index line i))
 fault_in n line None = if has_mark n line then None else Some BadMark
 
--- what is wrong with a line for a digest of n bytes, if anything: first it may be too short for the
--- digits, a space, a mark and a name
+-- the fault of a line for a digest of n bytes, if it has one: it is too short for the digits, a space, a
+-- mark and a name, else the fault above
 abbrev pub line_fault : CheckCase → ℕ → List ℕ → Option LineFault
 line_fault c n line = if nat_lt (length line) (2 * n + 3) then Some ShortLine else fault_in n line (first_invalid c (take (2 * n) line))
 
--- a line of a source, counted from 1, is the first one with a fault, and this is it
+-- the first line of a source with a fault, counted from 1, and that fault
 pub record FirstFault (c : CheckCase) (n : ℕ) (s : List ℕ) (line : ℕ) (why : LineFault) : Type 0 where
   pub before : List (List ℕ)
   pub here : List ℕ
@@ -67,13 +66,13 @@ pub record FirstFault (c : CheckCase) (n : ℕ) (s : List ℕ) (line : ℕ) (why
   pub count : line ≡ length before + 1
   pub fault : line_fault c n here ≡ Some why
 
--- why a source is not read: for its first line with a fault, or for want of memory, which is not asked
--- for before the first line is known to have none
+-- an error of reading a source: its first line with a fault, or a failed allocation, which comes only
+-- after the first line was read without a fault
 abbrev pub ReadFailure : CheckCase → ℕ → List ℕ → ListFault → Type 0
 ReadFailure c n s (Line line why) = FirstFault c n s line why
 ReadFailure c n s OutOfMemory = (first : List ℕ) × (rest : List (List ℕ)) × (lines_of s ≡ first ∷ rest) × (line_fault c n first ≡ None)
 
--- whether no line can end with a name: it is empty, or holds a newline
+-- whether a name cannot end a line: it is empty or has a newline
 abbrev pub is_bad_name : List ℕ → Bool
 is_bad_name name = length name == 0 || list_any (λ b. b == 10) name
 
@@ -81,6 +80,6 @@ is_bad_name name = length name == 0 || list_any (λ b. b == 10) name
 abbrev pub first_bad_name : {N : ℕ} → List (Entry N) → Option ℕ
 first_bad_name entries = position (λ e. is_bad_name e.name.now) entries
 
--- a source with a newline behind its last line, which may lack it
+-- a source with a newline after its last line, which may lack it
 abbrev pub with_last_newline : List ℕ → List ℕ
 with_last_newline s = if length s == 0 || slice_index s (length s - 1) == 10 then s else s ++ (10 ∷ [])

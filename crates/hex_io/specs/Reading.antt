@@ -9,7 +9,7 @@ use Rattle.hex_core.specs.Search.{first_invalid}
 use Rattle.hex_core.specs.Text.{Spells}
 use Rattle.hex_io.specs.declared.stream.decoder.Reading.{Reading}
 
--- as digits alone, or with ASCII white space skipped
+-- digits alone, or ASCII white space skipped
 abbrev pub plain : CheckCase → Reading
 plain c = record { case = c; skips = false }
 
@@ -23,22 +23,22 @@ is_solid b = not (is_ascii_whitespace b)
 abbrev pub unspaced : List ℕ → List ℕ
 unspaced s = filter is_solid s
 
--- what has to be digits
+-- the bytes that should be digits
 abbrev pub digits_in : Reading → List ℕ → List ℕ
 digits_in r s = if r.skips then unspaced s else s
 
--- whether a byte of that is no digit, and the index of the first such byte of a source
+-- whether a byte should be a digit and is none, and the index of the first such byte of a source
 abbrev pub is_stray : Reading → ℕ → Bool
 is_stray r b = (not r.skips || is_solid b) && is_none (value r.case b)
 
 abbrev pub first_stray : Reading → List ℕ → Option ℕ
 first_stray r s = position (is_stray r) s
 
--- that byte as an error
+-- the error of that byte
 abbrev pub stray_of : Reading → List ℕ → Option Error
 stray_of r s = option_map (λ i. InvalidChar i (slice_index s i)) (first_stray r s)
 
--- digits spell a list but for those that wait behind them: all are valid, and the others spell it
+-- digits are valid and, except for those that wait at their end, spell a list
 pub record SpellsBut (c : CheckCase) (digits bytes waiting : List ℕ) : Type 0 where
   pub valid : first_invalid c digits ≡ None
   pub pairs : List ℕ

@@ -1,4 +1,4 @@
--- What the sinks of this crate show.
+-- The states of the two sinks of this crate.
 use Rattle.std.specs.Prelude.{◌≡◌, ℕ, ◌-◌, ◌==◌, nat_lt, ◌&&◌, if◌then◌else◌, min, List, [], length, take, drop, Option, Some, None, IsSome, Result, Ok, Err, MatchResult, OnErr}
 use Rattle.std.specs.Borrow.{MutBor}
 use Rattle.std.specs.Io.KnownBytes.{Keeps}
@@ -8,15 +8,15 @@ use Rattle.hex_io.specs.declared.sink.SliceSink.{SliceSink}
 use Rattle.hex_io.specs.declared.sink.WriterSink.{WriterSink}
 use Rattle.hex_io.specs.Sink.{PutsPiece, SinkState}
 
--- the bytes that a slice's sink has taken: the front of its buffer
+-- the bytes that a `SliceSink` took: the start of its buffer
 abbrev pub written_bytes : SliceSink → List ℕ
 written_bytes sink = take sink.used sink.buf.now
 
--- how many more bytes a slice's sink has room for
+-- how many more bytes a `SliceSink` has room for
 abbrev pub free_len : SliceSink → ℕ
 free_len sink = length sink.buf.now - sink.used
 
--- what a slice's sink shows
+-- the state of a `SliceSink`
 abbrev pub slice_state : SliceSink → SinkState
 slice_state sink = record {
   taken = Some (written_bytes sink);
@@ -25,39 +25,39 @@ slice_state sink = record {
   loan = Some sink.buf.ghost_name;
 }
 
--- the writer inside a writer's sink
+-- the writer in a `WriterSink`
 abbrev pub writer_of : {W : Type 0} → WriterSink W → W
 writer_of sink = sink.writer
 
--- the error that a writer's sink keeps: the last that its writer gave
+-- the error that a `WriterSink` keeps: the last one of its writer
 abbrev pub kept_error : {W : Type 0} → WriterSink W → Option Error
 kept_error sink = sink.last_error
 
--- what it shows, by what its writer tells to hold
+-- its state, by the contents of its writer
 abbrev pub writer_state : {W : Type 0} → (W → Option (List ℕ)) → WriterSink W → SinkState
 writer_state contents sink = record { taken = contents sink.writer; failures = sink.failed; free = None; loan = None }
 
--- a writer's sink is over this writer, keeps no error and has counted none
+-- a `WriterSink` has this writer, no error and no failures
 abbrev pub IsFreshOver : {W : Type 0} → (W → Option (List ℕ)) → W → WriterSink W → Type 0
 IsFreshOver contents writer sink = (writer_of sink ≡ writer) × (kept_error sink ≡ None) × ((writer_state contents sink).failures ≡ 0)
 
--- what a new slice's sink shows: it has taken nothing, and all of the buffer that it is lent is free
+-- the state of a new `SliceSink`: it took nothing, and all of its buffer is free
 abbrev pub fresh_state : MutBor (List ℕ) → SinkState
 fresh_state buf = record { taken = Some []; failures = 0; free = Some buf.now; loan = Some buf.ghost_name }
 
--- a put into a slice's sink is refused where nothing is free and the piece has some bytes, and takes
--- nothing then; else it takes what fits
+-- a put into a `SliceSink` is refused if nothing is free and the piece is nonempty, and takes nothing then;
+-- else it takes what fits
 abbrev pub TakesWhatFits : SliceSink → SliceSink → Result ℕ SinkFault → List ℕ → Type 0
 TakesWhatFits old new result piece =
     (result ≡ (if free_len old == 0 && nat_lt 0 (length piece) then Err (record {}) else Ok (min (length piece) (free_len old))))
     × OnErr result (written_bytes new ≡ written_bytes old)
 
--- a put into a writer's sink is one put, by what its writer tells to hold
+-- a put into a `WriterSink`, by the contents of its writer
 abbrev pub PutsIntoWriter : {W : Type 0} → (W → Option (List ℕ)) → WriterSink W → WriterSink W → Result ℕ SinkFault → List ℕ → Type 0
 PutsIntoWriter contents old new result piece = PutsPiece (writer_state contents old) (writer_state contents new) result piece
 
--- a put into a writer's sink keeps an error where it is refused, and then the writer has taken
--- nothing; else the error is that of before
+-- a put into a `WriterSink` that is refused keeps an error, and the writer took nothing; else the error is
+-- unchanged
 abbrev pub KeepsError : {W : Type 0} → (W → Option (List ℕ)) → WriterSink W → WriterSink W → Result ℕ SinkFault → Type 0
 KeepsError contents old new result = MatchResult result
     (λ _. kept_error new ≡ kept_error old)

@@ -1,4 +1,4 @@
--- What decoding and encoding a stream answer, and what they do to the reader and the sink.
+-- What decoding and encoding a stream return, and what they do to the reader and the sink.
 use Rattle.std.specs.Prelude.{◌≡◌, ◌≤◌, ◌^◌, ℕ, Bool, List, ◌++◌, length, Option, Some, None, Result, Ok, Err}
 use Rattle.std.specs.Io.KnownBytes.{Consumes, IsAtEnd}
 use Rattle.std.specs.Option.{option_to_list}
@@ -13,21 +13,21 @@ use Rattle.hex_io.specs.declared.stream.StreamFault.{StreamFault}
 use Rattle.hex_io.specs.declared.stream.decoder.Reading.{Reading}
 use Rattle.hex_io.specs.declared.stream.StreamFault.TheVariants.{Codec, Read, Write}
 
--- why a source is refused: more than a `usize` counts, at the end a last digit without a partner, or
+-- why a source is refused: more bytes than `usize` counts, at its end a last digit without a partner, or
 -- the first byte that should be a digit and is none
 abbrev pub RefusedBy : Reading → List ℕ → Option (List ℕ) → Error → Type 0
 RefusedBy r s left Overflow = 2 ^ 64 ≤ length s
 RefusedBy r s left OddLength = (source_refusal r.case (digits_in r s) ≡ Some OddLength) × (stray_of r s ≡ None) × IsAtEnd left
 RefusedBy r s left e = stray_of r s ≡ Some e
 
--- the sink did this with what digits spell, but for a last one that waits
+-- the sink did this with what digits spell, except for a last one that waits
 pub record Wrote (c : CheckCase) (digits : List ℕ) (Does : List ℕ → Type 0) : Type 0 where
   pub bytes : List ℕ
   pub waiting : Option ℕ
   pub spelled : SpellsBut c digits bytes (option_to_list waiting)
   pub put : Does bytes
 
--- the sink took what the digits before the last chunk spell, which is no longer than a read can be
+-- the sink took what the digits before the last chunk spell; a chunk is at most as long as a read
 pub record WroteBefore (r : Reading) (s : List ℕ) (old new : SinkState) : Type 0 where
   pub fed : List ℕ
   pub chunk : List ℕ
@@ -37,15 +37,15 @@ pub record WroteBefore (r : Reading) (s : List ℕ) (old new : SinkState) : Type
 
 -- the answer for the bytes that were read
 abbrev pub EndsDecoding : Reading → List ℕ → Option (List ℕ) → SinkState → SinkState → Result ℕ StreamFault → Type 0
--- at `Ok` they are all that there were, and the sink took the bytes that their digits spell
+-- `Ok`: they are all that there were, and the sink took the bytes that their digits spell
 EndsDecoding r s left old new (Ok count) = (bytes : List ℕ) × Spells r.case (digits_in r s) bytes × (count ≡ length bytes) × Takes old new bytes × IsAtEnd left
--- where a read failed it took those of the whole pairs
+-- a read failed: it took those of the whole pairs
 EndsDecoding r s left old new (Err Read) = Wrote r.case (digits_in r s) (Takes old new)
--- where the last digit has no partner, too
+-- the last digit has no partner: it took those of the whole pairs, too
 EndsDecoding r s left old new (Err (Codec OddLength)) = Wrote r.case (digits_in r s) (Takes old new) × RefusedBy r s left OddLength
--- where the source is refused for more, those of the chunks before
+-- any other refusal: it took those of the chunks before
 EndsDecoding r s left old new (Err (Codec e)) = WroteBefore r s old new × RefusedBy r s left e
--- where a put failed, a beginning of those of the whole pairs
+-- a put failed: it took a leading part of those of the whole pairs
 EndsDecoding r s left old new (Err (Write _)) = Wrote r.case (digits_in r s) (Stops old new)
 
 -- some bytes were read, and they were decoded: all as digits, or with white space among them
@@ -60,13 +60,13 @@ DecodesSpacedStream c = DecodesSource (spaced c)
 
 -- the answer for the bytes that were read
 abbrev pub EndsEncoding : Bool → List ℕ → Option (List ℕ) → SinkState → SinkState → Result ℕ StreamFault → Type 0
--- at `Ok` they are all that there were, and their number, and the sink took their text
+-- `Ok`: they are all that there were, this many, and the sink took their text
 EndsEncoding upper bytes left old new (Ok count) = (count ≡ length bytes) × Takes old new (text upper bytes) × IsAtEnd left
--- where a read failed it took their text
+-- a read failed: it took their text
 EndsEncoding upper bytes left old new (Err Read) = Takes old new (text upper bytes)
--- where they are more than a `usize` counts, too; no other refusal comes
+-- they are more than `usize` counts: it took their text, too; there is no other refusal
 EndsEncoding upper bytes left old new (Err (Codec e)) = (e ≡ Overflow) × (2 ^ 64 ≤ length bytes) × Takes old new (text upper bytes)
--- where a put failed, a beginning of it
+-- a put failed: it took a leading part of it
 EndsEncoding upper bytes left old new (Err (Write _)) = Stops old new (text upper bytes)
 
 -- some bytes were read, and they were encoded

@@ -8,15 +8,16 @@ use Rattle.hex_core.specs.Text.{with_front}
 use Rattle.hex_io.specs.Reading.{SpellsBut, digits_in, first_stray}
 use Rattle.hex_io.specs.declared.stream.decoder.Reading.{Reading}
 
--- the first byte of a chunk that should be a digit and is none, behind `had` bytes, as an error
+-- the error of the first byte of a chunk, after `had` bytes, that should be a digit and is none
 abbrev pub stray_behind : Reading → ℕ → List ℕ → Option Error
 stray_behind r had src = option_map (λ i. InvalidChar (had + i) (slice_index src i)) (first_stray r src)
 
--- digits are decoded: what they spell stands over the old bytes, and the digit behind them waits
+-- digits are decoded: what they spell is written to the start of a destination, and an odd last digit
+-- waits
 abbrev pub DecodesDigits : CheckCase → List ℕ → List ℕ → List ℕ → Option ℕ → Type 0
 DecodesDigits c digits old new waiting = (bytes : List ℕ) × SpellsBut c digits bytes (option_to_list waiting) × (new ≡ with_front old bytes)
 
--- so are a digit that waits and those of a chunk; or the chunk has such a byte, and nothing is written
+-- a digit that waits and those of a chunk are; or the chunk has such a byte, and nothing is written
 abbrev pub DecodesChunk : Reading → Option ℕ → List ℕ → List ℕ → List ℕ → Option (Option ℕ) → Type 0
 DecodesChunk r waiting src old new result =
     MatchOption result ((first_stray r src ≢ None) × (new ≡ old)) (DecodesDigits r.case (option_to_list waiting ++ digits_in r src) old new)

@@ -1,4 +1,4 @@
--- The operations of `fhex`: their words, their outputs and refusals, and what a run tells.
+-- The operations of `fhex`: their words, outputs, refusals and results.
 use Rattle.std.specs.Prelude.{◌≡◌, ◌<◌, ◌%◌, ℕ, Bool, if◌then◌else◌, List, [], ◌∷◌, ◌++◌, length, codes, Option, Some, None, Result, MatchResult}
 use Rattle.std.specs.Str.{bytes_eq}
 use Rattle.std.specs.Io.BufRead.{strip_last}
@@ -23,13 +23,13 @@ op_of_word word =
     else if bytes_eq word (codes "decode-upper") then Some DecodeUpper
     else None
 
--- the operation that the program's words name: there has to be one word
+-- the operation that the program's words name, if there is exactly one word
 abbrev pub op_of_words : List (List ℕ) → Option Op
 op_of_words [] = None
 op_of_words (word ∷ []) = op_of_word word
 op_of_words (word ∷ another ∷ rest) = None
 
--- the input without one final newline, where it has one
+-- the input without one final newline, if it has one
 abbrev pub without_newline : List ℕ → List ℕ
 without_newline input = strip_last 10 input
 
@@ -49,18 +49,18 @@ IsOutput = by_op (λ upper input output. output ≡ text upper input ++ 10 ∷ [
 abbrev pub op_refusal : Op → List ℕ → Option Error
 op_refusal = by_op (λ upper input. None) (λ case input. source_refusal case (without_newline input))
 
--- whether an operation may want memory: in decoding, where the digits are even in number, and not none
+-- an operation may fail to allocate only if it decodes a nonempty, even number of digits
 abbrev pub MayWantMemory : Op → List ℕ → Type 0
 MayWantMemory = by_op (λ upper input. ⊥) (λ case input. let digits = length (without_newline input) in (digits % 2 ≡ 0) × (0 < digits))
 
--- what a fault of an operation's run tells, with what the sink shows before and after it
+-- what a fault of an operation's run says, by the states of the sink before and after it
 abbrev pub FailsRun : Op → List ℕ → SinkState → SinkState → RunFault → Type 0
 FailsRun op input old new (fault.Codec e) = (op_refusal op input ≡ Some e) × (new ≡ old)
 FailsRun op input old new (fault.Write why) = (output : List ℕ) × IsOutput op input output × Stops old new output
 FailsRun op input old new fault.OutOfMemory = MayWantMemory op input × (new ≡ old)
 
--- an operation's run over this input: at `Ok` the sink took exactly the output more and no put failed,
--- at `Err` what the fault tells
+-- an operation's run over this input. `Ok`: the sink took exactly the output more, and no put failed;
+-- `Err`: what the fault says
 abbrev pub Runs : Op → List ℕ → SinkState → SinkState → Result (Unit {0}) RunFault → Type 0
 Runs op input old new result = MatchResult result
     (λ _. (output : List ℕ) × IsOutput op input output × Takes old new output)

@@ -23,15 +23,15 @@ failure_text WriteFailed = codes "write failed"
 failure_text OutOfMemory = codes "out of memory"
 failure_text InputTooLong = codes "input too long"
 
--- how long an input may be, in bytes
+-- the greatest length of an input, in bytes
 abbrev pub input_limit : ℕ
 input_limit = 16777216
 
--- all of an input was read, and it is no longer than the limit
+-- all of an input was read, and it is at most as long as the limit
 abbrev pub ReadsAll : Option (List ℕ) → Option (List ℕ) → List ℕ → Type 0
 ReadsAll left left' input = Consumes left left' input × IsAtEnd left' × (length input ≤ input_limit)
 
--- the input was read, and the operation's output was written more
+-- the input was read, and exactly the operation's output was written
 pub record Served (op : Op) (left left' held held' : Option (List ℕ)) : Type 0 where
   pub input : List ℕ
   pub output : List ℕ
@@ -47,14 +47,14 @@ pub record Refused (op : Op) (left left' held held' : Option (List ℕ)) : Type 
   pub is_refusal : op_refusal op input ≡ Some refusal
   pub kept : Keeps held held'
 
--- how an operation's program ends: 0 where it is done, 1 where the input is refused, 3 for another fault
+-- how the program of an operation ends: 0 if it is done, 1 if the input is refused, 3 for other faults
 pub record ServesOp (op : Op) (left left' held held' : Option (List ℕ)) (status : ℕ) : Type 0 where
   pub done : status ≡ 0 → Served op left left' held held'
   pub refused : status ≡ 1 → Refused op left left' held held'
   pub statuses : (status ≡ 0) ⊎ (status ≡ 1) ⊎ (status ≡ 3)
 
--- the program, by its words: an operation; the stored vectors, for which nothing is read; or words
--- that name neither, for which nothing is read or written to the output
+-- the program, by its words: an operation; the stored vectors, for which nothing is read; or words that
+-- name neither, for which nothing is read and no output written
 pub record Serves (words : List (List ℕ)) (left left' held held' : Option (List ℕ)) (status : ℕ) : Type 0 where
   pub operation : (op : Op) → op_of_words words ≡ Some op → ServesOp op left left' held held' status
   pub vectors : words ≡ codes "vectors" ∷ [] → left' ≡ left

@@ -6,7 +6,7 @@ use Rattle.hex_program.specs.declared.operation.RunFault.TheVariants as fault
 use Rattle.hex_program.specs.declared.failure.Failure.{Failure}
 use Rattle.hex_program.specs.declared.failure.Failure.TheVariants.{Codec, WriteFailed, OutOfMemory}
 
--- how a program ends after a run: behind one that went well it has no failure but a failed write
+-- how a program ends after a run: after one without a fault only a write can still fail
 abbrev pub EndsRun : Result (Unit {0}) RunFault → Result (Unit {0}) Failure → Type 0
 EndsRun (Ok done) ended = IfErr ended (λ failure. failure ≡ WriteFailed)
 EndsRun (Err (fault.Codec e)) ended = ended ≡ Err (Codec e)

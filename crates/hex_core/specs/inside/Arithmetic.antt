@@ -23,31 +23,32 @@ wrapping_sub a b = (a + (256 - b)) % 256
 abbrev pub saturating_add : ℕ → ℕ → ℕ
 saturating_add a b = min (a + b) 255
 
--- the bit that makes a letter lowercase, where both cases are read
+-- the bit that makes a letter lowercase, if both cases are accepted
 abbrev pub fold_of : CheckCase → ℕ
 fold_of policy.None = 0x20
 fold_of policy.Lower = 0
 fold_of policy.Upper = 0
 
--- the first letter that is read, once folded
+-- the first letter that is accepted, once folded
 abbrev pub first_letter : CheckCase → ℕ
 first_letter policy.None = 97
 first_letter policy.Lower = 97
 first_letter policy.Upper = 65
 
--- how far a byte is past the first letter that is read, once folded
+-- how far a byte is past the first letter that is accepted, once folded
 abbrev pub letter : CheckCase → ℕ → ℕ
 letter c b = wrapping_sub (bit_or b (fold_of c)) (first_letter c)
 
--- how far a byte reaches past the first four of ten digits, or past the first of six letters: below 6 exactly where it has a value
+-- how far a byte is past the digit 4, or past the first of six letters: below 6 exactly if it has a value
 abbrev pub reach : CheckCase → ℕ → ℕ
 reach c b = min (wrapping_sub b 48 - 4) (letter c b)
 
--- the value of a byte that has one, which is the same under every policy that reads it
+-- the value of a byte that has one, which is the same under every policy that accepts it
 abbrev pub valid_nibble : ℕ → ℕ
 valid_nibble b = min (bit_and b 0x4f) (wrapping_sub (bit_and b 0x4f) 55)
 
--- the byte of a word of two nibbles: 4097 is 2 ^ 12 + 1, so bits 8 to 15 become those of the first nibble over those of the second
+-- the byte of a word of two nibbles: 4097 is 2 ^ 12 + 1, so bits 8 to 15 become 16 times the first nibble
+-- plus the second
 abbrev pub pair_byte : ℕ → ℕ
 pair_byte w = w * 4097 % 65536 / 256
 

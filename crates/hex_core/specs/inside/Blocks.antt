@@ -1,4 +1,4 @@
--- The sizes that bodies over blocks take, and what they have done, place by place.
+-- The sizes of blocks, and what was written by them, byte by byte.
 use Rattle.std.specs.Prelude.{◌≡◌, ◌↔◌, ℕ, ◌+◌, ◌*◌, ◌<◌, ◌≤◌, Bool, IsTrue, List, length, slice_index}
 use Rattle.std.specs.Bool.{OnFalse, OnTrue}
 use Rattle.hex_core.specs.declared.digit.CheckCase.{CheckCase}
@@ -7,18 +7,18 @@ use Rattle.hex_core.specs.Lanes.{IsNibble}
 use Rattle.hex_core.specs.Search.{AllValid}
 use Rattle.hex_core.specs.Text.{SpellsAt}
 
--- n lanes that stand for the values of the bytes from a place on
+-- n lanes with the values of the bytes from an index on
 pub record NibblesFrom (c : CheckCase) (s : List ℕ) (at n : ℕ) (lanes : List ℕ) : Type 0 where
   pub long : length lanes ≡ n
   pub each : (k : ℕ) → k < n → IsNibble (value c (slice_index s (at + k))) (slice_index lanes k)
 
--- the bytes of a range were decoded, and the others are as they were
+-- the bytes of a range were decoded, and the others are unchanged
 pub record DecodesRange (c : CheckCase) (s old new : List ℕ) (start end : ℕ) : Type 0 where
   pub decoded : (k : ℕ) → start ≤ k → k < end → SpellsAt c s new k
   pub before : (k : ℕ) → k < start → slice_index new k ≡ slice_index old k
   pub behind : (k : ℕ) → end ≤ k → slice_index new k ≡ slice_index old k
 
--- blocks of n lanes, of which a source has one at least
+-- a block of n lanes, of which a source has one at least
 abbrev pub HasBlock : ℕ → List ℕ → Type 0
 HasBlock n s = (1 ≤ n) × (n ≤ length s)
 
@@ -26,11 +26,11 @@ HasBlock n s = (1 ≤ n) × (n ≤ length s)
 abbrev pub EndsCover : ℕ → List ℕ → Type 0
 EndsCover n s = (n ≤ length s) × (length s ≤ 2 * n)
 
--- n digits in a vector spell half as many bytes, and so does a whole source over a destination
+-- n digits spell half as many bytes, and a whole source as many as a destination has
 abbrev pub Halves : ℕ → ℕ → List ℕ → List ℕ → Type 0
 Halves n half s dst = (n ≡ 2 * half) × (length s ≡ 2 * length dst)
 
--- a destination of what a source spells has so many bytes from a place on
+-- a destination for a whole source has this many bytes from an index on
 abbrev pub HasRoom : ℕ → ℕ → List ℕ → List ℕ → Type 0
 HasRoom at size s dst = (length s ≡ 2 * length dst) × (at + size ≤ length dst)
 

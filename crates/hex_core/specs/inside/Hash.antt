@@ -1,25 +1,26 @@
--- The hash map of the lanes. Of the next byte of its word a lane sees three bits alone, which stand for themselves as k.
+-- The map of lanes by a hash. A lane sees only three bits of the next byte of its word, which are k here.
 use Rattle.std.specs.Prelude.{◌≡◌, ℕ, ◌+◌, ◌-◌, ◌*◌, ◌/◌, ◌%◌, ◌<◌, ◌==◌, if◌then◌else◌, bit_xor, List, [], ◌∷◌, slice_index}
 use Rattle.hex_core.specs.declared.digit.CheckCase.{CheckCase}
 use Rattle.hex_core.specs.declared.digit.CheckCase.TheVariants as policy
 use Rattle.hex_core.specs.inside.Arithmetic.{wrapping_sub}
 use Rattle.hex_core.specs.inside.Tables.{entry}
 
--- what is added to bits 3 to 7 of a byte, by its low four bits: with it digits come to slots 4 and 9, and letters to 5 and 7
+-- what is added to bits 3 to 7 of a byte, by its low four bits: so digits come to slots 4 and 9, and letters
+-- to slots 5 and 7
 abbrev pub hash_row : List ℕ
 hash_row = 1 ∷ 1 ∷ 1 ∷ 1 ∷ 1 ∷ 1 ∷ 1 ∷ 11 ∷ 11 ∷ 11 ∷ 15 ∷ 15 ∷ 15 ∷ 15 ∷ 15 ∷ 15 ∷ []
 
--- what is taken from a byte to get its value, in each slot
+-- what is subtracted from a byte to get its value, by its slot
 abbrev pub value_row : List ℕ
 value_row = 128 ∷ 128 ∷ 128 ∷ 128 ∷ 48 ∷ 55 ∷ 128 ∷ 87 ∷ 128 ∷ 48 ∷ 128 ∷ 128 ∷ 128 ∷ 128 ∷ 128 ∷ 128 ∷ []
 
--- what is taken from a byte to check it, in each slot: the least byte that has a value there, or 128 where none has
+-- what is subtracted from a byte to check it, by its slot: the least byte there that has a value, or 128
 abbrev pub check_row : CheckCase → List ℕ
 check_row policy.None = 128 ∷ 128 ∷ 128 ∷ 128 ∷ 48 ∷ 65 ∷ 128 ∷ 97 ∷ 128 ∷ 55 ∷ 128 ∷ 128 ∷ 128 ∷ 128 ∷ 128 ∷ 128 ∷ []
 check_row policy.Lower = 128 ∷ 128 ∷ 128 ∷ 128 ∷ 48 ∷ 128 ∷ 128 ∷ 97 ∷ 128 ∷ 55 ∷ 128 ∷ 128 ∷ 128 ∷ 128 ∷ 128 ∷ 128 ∷ []
 check_row policy.Upper = 128 ∷ 128 ∷ 128 ∷ 128 ∷ 48 ∷ 65 ∷ 128 ∷ 128 ∷ 128 ∷ 55 ∷ 128 ∷ 128 ∷ 128 ∷ 128 ∷ 128 ∷ 128 ∷ []
 
--- the low three bits of the next byte of a lane's word of four, or 0 where the lane is the word's last
+-- the low three bits of the next byte of a lane's word of four, or 0 if the lane is the word's last
 abbrev pub neighbour_bits : List ℕ → ℕ → ℕ
 neighbour_bits v i = if i % 4 == 3 then 0 else slice_index v (i + 1) % 8
 
@@ -34,14 +35,14 @@ average a b = (a + b + 1) / 2
 abbrev pub hash : ℕ → ℕ → ℕ
 hash b k = average (b / 8 + 32 * k) (entry hash_row b)
 
--- a hash of the byte, whatever its neighbour is
+-- a number is a hash of the byte, whatever its neighbour is
 abbrev pub IsHash : ℕ → ℕ → Type 0
 IsHash b r = (k : ℕ) × (k < 8) × (r ≡ hash b k)
 
--- the byte less its check offset, both read as signed, which stays at -128
+-- the byte minus its check offset, both signed, at least -128
 abbrev pub hashed_check : CheckCase → ℕ → ℕ → ℕ
 hashed_check c b slot = bit_xor (bit_xor b 128 - entry (check_row c) slot) 128
 
--- the byte less its value offset, modulo 256
+-- the byte minus its value offset, modulo 256
 abbrev pub hashed_value : ℕ → ℕ → ℕ
 hashed_value b slot = wrapping_sub b (entry value_row slot)

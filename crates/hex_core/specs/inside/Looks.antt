@@ -1,10 +1,10 @@
--- Where the looks of a search begin.
+-- The index from which a search looks at single bytes.
 use Rattle.std.specs.Prelude.{ℕ, ◌*◌, ◌/◌, length, min, Option, Some, None}
 use Rattle.hex_core.specs.Probe.{ProbeState, invalid_in}
 use Rattle.hex_core.specs.Search.{tested_blocks}
 
--- where the looks begin, in a source of this length with this first invalid byte: at the block of
--- that byte, or behind the whole blocks
+-- that index in a source of this length with this first invalid byte: the start of that byte's block, or
+-- the end of the tested blocks
 abbrev pub looks_behind : ℕ → Option ℕ → ℕ
 looks_behind len (Some f) = 64 * min (tested_blocks len) (f / 64)
 looks_behind len None = 64 * tested_blocks len

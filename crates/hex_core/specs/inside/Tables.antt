@@ -5,7 +5,7 @@ use Rattle.hex_core.specs.declared.digit.CheckCase.{CheckCase}
 use Rattle.hex_core.specs.Digit.{value}
 use Rattle.hex_core.specs.Text.{text}
 
--- each byte's value under a policy, in the order of the bytes, and 255 where there is none
+-- each byte's value under a policy, in the order of the bytes, or 255 if it has none
 unfoldable pub value_table : CheckCase → List ℕ
 value_table c = map (λ b. unwrap_or (value c b) 255) (range_with_len 0 256)
 
