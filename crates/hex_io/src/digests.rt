@@ -29,14 +29,6 @@ pub struct Entry<'a, const N: usize> {
 }
 
 /// The first of these faults that a line has.
-///
-/// [`Display`](fmt::Display) prints exactly these texts:
-///
-/// | Case | Text |
-/// |---|---|
-/// | `ShortLine` | `line too short` |
-/// | `InvalidByte` | `invalid hex byte 0x67 at index 2` |
-/// | `BadMark` | `invalid mark` |
 #[derive(Clone, Copy, Debug, PartialEq, Eq)]
 pub enum LineFault {
     /// The line is too short for the digits, a space, a mark and a name: it has fewer than
@@ -68,13 +60,6 @@ impl fmt::Display for LineFault {
 impl error::Error for LineFault {}
 
 /// An error of reading a list.
-///
-/// [`Display`](fmt::Display) prints exactly these texts:
-///
-/// | Case | Text |
-/// |---|---|
-/// | `Line` | `line 2: invalid mark`, with that of the [`LineFault`] |
-/// | `OutOfMemory` | `out of memory` |
 ///
 /// ```rust
 /// let texts = [
@@ -119,21 +104,12 @@ impl error::Error for ListFault {}
 
 /// An error of writing a list.
 ///
-/// [`Display`](fmt::Display) prints exactly these texts:
-///
-/// | Case | Text |
-/// |---|---|
-/// | `BadName` | `invalid name in entry 1` |
-/// | `Write` | that of the [`WriteFault`] |
-///
 /// ```rust
 /// let fault = ListWriteFault::BadName { entry: 1 };
 /// assert_eq!(rt;
 ///     fault.to_string(rt.alloc())?.as_str(),
 ///     "invalid name in entry 1"
 /// );
-/// let fault = ListWriteFault::from(WriteFault::TookNothing);
-/// assert_eq!(rt; fault.to_string(rt.alloc())?.as_str(), "sink took nothing");
 /// ```
 #[derive(Clone, Copy, Debug, PartialEq, Eq)]
 pub enum ListWriteFault {

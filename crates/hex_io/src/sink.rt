@@ -11,8 +11,6 @@ use std::{error, fmt};
 
 /// The error of a [`Sink`] that refused a piece. Only the sink knows why.
 ///
-/// [`Display`](fmt::Display) prints exactly `sink refused`.
-///
 /// ```rust
 /// assert_eq!(rt; SinkFault.to_string(rt.alloc())?.as_str(), "sink refused");
 /// ```
@@ -61,16 +59,7 @@ pub trait Sink {
 /// Why a text was not written in full. A leading part may have been taken, and nothing was put
 /// after the fault.
 ///
-/// [`Display`](fmt::Display) prints exactly these texts:
-///
-/// | Case | Text |
-/// |---|---|
-/// | `Sink` | `sink refused`, that of [`SinkFault`] |
-/// | `TookNothing` | `sink took nothing` |
-///
 /// ```rust
-/// let fault = WriteFault::from(SinkFault);
-/// assert_eq!(rt; fault.to_string(rt.alloc())?.as_str(), "sink refused");
 /// let fault = WriteFault::TookNothing;
 /// assert_eq!(rt; fault.to_string(rt.alloc())?.as_str(), "sink took nothing");
 /// ```

@@ -37,24 +37,9 @@ const STREAM_CHUNK: usize = 4_096;
 
 /// An error of decoding or encoding a stream.
 ///
-/// [`Display`](fmt::Display) prints exactly these texts:
-///
-/// | Case | Text |
-/// |---|---|
-/// | `Read` | `read failed` |
-/// | `Codec` | that of the [`Error`] |
-/// | `Write` | that of the [`WriteFault`] |
-///
 /// ```rust
 /// let fault = StreamFault::Read;
 /// assert_eq!(rt; fault.to_string(rt.alloc())?.as_str(), "read failed");
-/// let fault = StreamFault::from(Error::OddLength);
-/// assert_eq!(rt;
-///     fault.to_string(rt.alloc())?.as_str(),
-///     "hex input length must be even"
-/// );
-/// let fault = StreamFault::from(WriteFault::TookNothing);
-/// assert_eq!(rt; fault.to_string(rt.alloc())?.as_str(), "sink took nothing");
 /// ```
 #[derive(Clone, Copy, Debug, PartialEq, Eq)]
 pub enum StreamFault {
