@@ -100,12 +100,12 @@ impl Calls for Destination {
             return false;
         };
         match call {
-            Call::Decode => slices::slice_row(false, row, self),
-            Call::Encode => slices::slice_row(true, row, self),
+            Call::Decode => slices::decode_row(row, self),
+            Call::Encode => slices::encode_row(row, self),
             Call::Sized(call) => sized::row(call, row, self),
             Call::Check => slices::check_row(row, self),
-            Call::Find => search::find_row(false, row, self),
-            Call::Cover => search::find_row(true, row, self),
+            Call::Find => search::find_row(row, self),
+            Call::Cover => search::cover_row(row, self),
             Call::Owned => wholes::owned_row(row, self),
             Call::Vector => strings::vector_row(row, self),
             Call::String => strings::string_row(row, self),

@@ -5,7 +5,7 @@ use crate::terms::{Destination, PLANS, number_or, plan, source};
 use arrayvec::ArrayString;
 use hex_core::{Backend, CheckCase, Probe, SliceProbe, backends, covered, digit_value, locate};
 use std::fmt::Write;
-use test_kit::Row;
+use test_kit::{Row, Words};
 
 /// `value POLICY BYTE`.
 pub fn value_row(row: &mut Row) -> bool {
@@ -17,29 +17,53 @@ pub fn value_row(row: &mut Row) -> bool {
 // What a search finds: a place, by how many tests and looks.
 type Found = (Option<usize>, usize, usize);
 
-// Whether the search under a plan finds this, or, where `is_cover` is true, a plan covers a source,
-// or finds that it can't.
-fn is_found(plan: Backend, src: &[u8], case: CheckCase, is_cover: bool, found: Found) -> bool {
-    let (place, tests, looks) = found;
-    let mut probe = SliceProbe::new(plan, src, case);
-    let is_so = if is_cover {
-        src.len() >= 64 && covered(&mut probe) == place.is_none()
-    } else {
-        locate(&mut probe) == place
-    };
-    let is_counted = probe.tests() == tests && probe.looks() == looks;
-    is_so && is_counted && plan.first_invalid(src, case) == place
+// The place of the first invalid byte, or `none`, the tests and the looks.
+fn take_found(answer: &mut Words) -> Found {
+    (
+        number_or(answer, b"none"),
+        answer.take_number(),
+        answer.take_number(),
+    )
 }
 
-/// `find POLICY DIGITS`, or `cover`: the place of the first invalid byte, or `none`, the tests and the
-/// looks.
-pub fn find_row(is_cover: bool, row: &mut Row, to: &mut Destination) -> bool {
+// Whether each search under a plan finds this.
+fn is_found(plan: Backend, src: &[u8], case: CheckCase, found: Found) -> bool {
+    let mut probe = SliceProbe::new(plan, src, case);
+    let place = locate(&mut probe);
+    (place, probe.tests(), probe.looks()) == found
+        && plan.first_invalid(src, case) == place
+        && plan.find_invalid(src, case) == place
+}
+
+/// `find POLICY DIGITS`.
+pub fn find_row(row: &mut Row, to: &mut Destination) -> bool {
     let case = row.call.take_policy();
     let src = source(&mut row.call, &mut row.given, to.from);
-    let place = number_or(&mut row.answer, b"none");
-    let found = (place, row.answer.take_number(), row.answer.take_number());
+    let found = take_found(&mut row.answer);
     for number in 0..PLANS {
-        if !is_found(plan(number), src, case, is_cover, found) {
+        if !is_found(plan(number), src, case, found) {
+            return false;
+        }
+    }
+    true
+}
+
+// Whether a plan covers a source, or finds that it can't.
+fn is_covered(plan: Backend, src: &[u8], case: CheckCase, found: Found) -> bool {
+    let (place, tests, looks) = found;
+    let mut probe = SliceProbe::new(plan, src, case);
+    src.len() >= 64
+        && covered(&mut probe) == place.is_none()
+        && (probe.tests(), probe.looks()) == (tests, looks)
+}
+
+/// `cover POLICY DIGITS`.
+pub fn cover_row(row: &mut Row, to: &mut Destination) -> bool {
+    let case = row.call.take_policy();
+    let src = source(&mut row.call, &mut row.given, to.from);
+    let found = take_found(&mut row.answer);
+    for number in 0..PLANS {
+        if !is_covered(plan(number), src, case, found) {
             return false;
         }
     }

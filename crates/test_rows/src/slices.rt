@@ -54,25 +54,28 @@ pub fn encodes(given: Given<'_>, to: &mut Destination, want: Answer<'_>) -> bool
         && to.has(want)
 }
 
-/// `decode POLICY ROOM DIGITS`, or `encode CASE ROOM BYTES` where `is_encoded` is true.
-pub fn slice_row(is_encoded: bool, row: &mut Row, to: &mut Destination) -> bool {
+/// `decode POLICY ROOM DIGITS`.
+pub fn decode_row(row: &mut Row, to: &mut Destination) -> bool {
     let given = Given::read(&mut row.call, &mut row.given, to.from);
     let want = answer(&mut row.answer, &mut row.wanted);
     for number in 0..PLANS {
-        let is_so = if is_encoded {
-            plan_encodes(plan(number), given, to, want)
-        } else {
-            plan_decodes(plan(number), given, to, want)
-        };
-        if !is_so {
+        if !plan_decodes(plan(number), given, to, want) {
             return false;
         }
     }
-    if is_encoded {
-        encodes(given, to, want)
-    } else {
-        decodes(given, to, want)
+    decodes(given, to, want)
+}
+
+/// `encode CASE ROOM BYTES`.
+pub fn encode_row(row: &mut Row, to: &mut Destination) -> bool {
+    let given = Given::read(&mut row.call, &mut row.given, to.from);
+    let want = answer(&mut row.answer, &mut row.wanted);
+    for number in 0..PLANS {
+        if !plan_encodes(plan(number), given, to, want) {
+            return false;
+        }
     }
+    encodes(given, to, want)
 }
 
 /// `check POLICY DIGITS`.

@@ -14,12 +14,16 @@ const GUARD: usize = 64;
 // The longest destination, with what stands beside it.
 const WHOLE: usize = 8_600;
 
-/// How many plans there are: those that are listed, and behind them the one that is not.
-pub const PLANS: usize = 6;
+/// How many plans there are: those that are listed, and after them the two that are not.
+pub const PLANS: usize = 7;
 
 /// Returns the plan of this number.
 pub fn plan(number: usize) -> Backend {
-    backends().get(number).copied().unwrap_or(Backend::plain())
+    match backends().get(number) {
+        Some(plan) => *plan,
+        None if number == 5 => Backend::plain(),
+        None => Backend::wide(),
+    }
 }
 
 /// Where a call writes to: so many bytes of a larger buffer, which is filled anew for each call.
