@@ -308,26 +308,26 @@ fn decode_pairs(
     ensures { DecodesChunk (plain case) waiting src.now dst.old dst.new result }
 {
     let Some(high) = waiting else {
-        return decode_whole(src, dst, case);
+        return decode_pairs_of(src, dst, case);
     };
     if src.is_empty() {
         return Some(waiting);
     }
     let byte = pair_byte(high, src[0], case)?;
-    let waiting = decode_whole(&src[1..], &mut dst[1..], case)?;
+    let waiting = decode_pairs_of(&src[1..], &mut dst[1..], case)?;
     dst[0] = byte;
     Some(waiting)
 }
 
 // Decodes the whole pairs of digits, and returns the digit after them.
 #[inline(always)]
-fn decode_whole(src: &[u8], dst: &mut [u8], case: CheckCase) -> Option<Option<u8>>
+fn decode_pairs_of(src: &[u8], dst: &mut [u8], case: CheckCase) -> Option<Option<u8>>
     requires { length src.now / 2 ≤ length dst.old }
     ensures { DecodesChunk (plain case) None src.now dst.old dst.new result }
 {
     let end = src.len() - src.len() % 2;
-    let waiting = digit_behind(src, end);
-    if !is_read(waiting, case) {
+    let waiting = digit_after(src, end);
+    if !is_valid(waiting, case) {
         return None;
     }
     // A chunk of one digit has no pair of its own, and needs no call.
@@ -342,7 +342,7 @@ fn decode_whole(src: &[u8], dst: &mut [u8], case: CheckCase) -> Option<Option<u8
 
 // The digit after the whole pairs of a source, if it has one.
 #[inline(always)]
-fn digit_behind(src: &[u8], end: usize) -> Option<u8>
+fn digit_after(src: &[u8], end: usize) -> Option<u8>
     requires { length src.now ≤ end + 1 }
     ensures { option_to_list result ≡ drop end src.now }
 {
@@ -355,7 +355,7 @@ fn digit_behind(src: &[u8], end: usize) -> Option<u8>
 
 // Whether a digit that is to wait, if there is one, is valid.
 #[inline(always)]
-fn is_read(waiting: Option<u8>, case: CheckCase) -> bool
+fn is_valid(waiting: Option<u8>, case: CheckCase) -> bool
     ensures { IsTrue result ↔ ForSome waiting (λ digit. IsSome (value case digit)) }
 {
     match waiting {
