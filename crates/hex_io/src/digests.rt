@@ -305,7 +305,7 @@ pub fn write_to<S: Sink, const N: usize>(
         return Err(ListWriteFault::BadName { entry });
     }
     for entry in entries {
-        if let Err(fault) = put_line(sink, upper, entry) {
+        if let Err(fault) = put_line(sink, entry, upper) {
             return Err(ListWriteFault::Write(fault));
         }
     }
@@ -341,8 +341,8 @@ fn mark_of(binary: bool) -> u8
 // Puts an entry's line, with its newline.
 fn put_line<S: Sink, const N: usize>(
     sink: &mut S,
-    upper: bool,
     entry: &Entry<'_, N>,
+    upper: bool,
 ) -> Result<(), WriteFault>
     requires { (S.state sink.old).failures < 2 ^ 64 - 1 }
     ensures { Puts (S.state sink.old) (S.state sink.new) result (line_of upper entry.now ++ (10 ∷ [])) }

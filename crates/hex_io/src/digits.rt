@@ -59,13 +59,13 @@ pub fn put_digits<S: Sink>(
     ensures { Puts (S.state sink.old) (S.state sink.new) result (digits_by group upper bytes.now) }
 {
     match group {
-        None => put_text(sink, upper, bytes),
-        Some(group) => put_grouped(sink, upper, group, bytes),
+        None => put_text(sink, bytes, upper),
+        Some(group) => put_grouped(sink, bytes, upper, group),
     }
 }
 
 // Puts the text of `bytes`, a chunk at a time.
-fn put_text<S: Sink>(sink: &mut S, upper: bool, bytes: &[u8]) -> Result<(), WriteFault>
+fn put_text<S: Sink>(sink: &mut S, bytes: &[u8], upper: bool) -> Result<(), WriteFault>
     requires { (S.state sink.old).failures < 2 ^ 64 - 1 }
     ensures { Puts (S.state sink.old) (S.state sink.new) result (text upper bytes.now) }
 {
@@ -84,9 +84,9 @@ fn put_text<S: Sink>(sink: &mut S, upper: bool, bytes: &[u8]) -> Result<(), Writ
 // one longer piece.
 fn put_grouped<S: Sink>(
     sink: &mut S,
+    bytes: &[u8],
     upper: bool,
     group: Group,
-    bytes: &[u8],
 ) -> Result<(), WriteFault>
     requires { (S.state sink.old).failures < 2 ^ 64 - 1 }
     ensures { Puts (S.state sink.old) (S.state sink.new) result (grouped group upper bytes.now) }
@@ -100,10 +100,10 @@ fn put_grouped<S: Sink>(
     let size = part_len(group);
     let mut at = 0;
     'parts: while bytes.len() - at > size {
-        put_part(sink, upper, group, &bytes[at..at + size], true, &mut buffer)?;
+        put_part(sink, &bytes[at..at + size], upper, group, true, &mut buffer)?;
         at += size;
     }
-    put_part(sink, upper, group, &bytes[at..], false, &mut buffer)
+    put_part(sink, &bytes[at..], upper, group, false, &mut buffer)
 }
 
 // The bytes in a part.
@@ -116,12 +116,12 @@ fn part_len(group: Group) -> usize
     (ENCODE_CHUNK / every).max(1) * every
 }
 
-// Puts the grouped text of a part, with a separator behind it if more parts follow.
+// Puts the grouped text of a part, and then a separator if more parts follow.
 fn put_part<S: Sink>(
     sink: &mut S,
+    bytes: &[u8],
     upper: bool,
     group: Group,
-    bytes: &[u8],
     more: bool,
     buffer: &mut [u8; 3 * ENCODE_CHUNK],
 ) -> Result<(), WriteFault>
@@ -132,7 +132,7 @@ fn put_part<S: Sink>(
         (grouped group upper bytes.now ++ (if more then separator group ∷ [] else [])) }
 {
     if bytes.len() > ENCODE_CHUNK {
-        put_text(sink, upper, bytes)?;
+        put_text(sink, bytes, upper)?;
         return put_all(sink, &[group.sep()][..usize::from(more)]);
     }
     let end = write_into(bytes, buffer, group, upper).unwrap();
