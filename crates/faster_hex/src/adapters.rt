@@ -20,16 +20,6 @@ use std::{error, fmt};
 
 /// An error of reading or writing bytes as a JSON string.
 ///
-/// [`Display`](fmt::Display) prints exactly these texts:
-///
-/// | Case | Text |
-/// |---|---|
-/// | `NotText` | `expected a string` |
-/// | `InvalidPrefix` | `invalid prefix` |
-/// | `InvalidLength` | `invalid length` |
-/// | `OverBound` | `expected at most 2 decoded bytes, got 3` |
-/// | `Codec` | that of the [`Error`] |
-///
 /// ```rust
 /// use serde_json::Value;
 ///

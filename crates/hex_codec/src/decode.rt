@@ -113,11 +113,7 @@ pub fn hex_decode_with_case<'a>(
 ///
 /// # Errors
 ///
-/// In this order; each leaves all of `dst` unchanged:
-///
-/// 1. [`Error::OddLength`] if `src` has an odd number of bytes;
-/// 2. [`Error::OutputTooSmall`] if `dst` has fewer than `src.len() / 2` bytes;
-/// 3. [`Error::InvalidChar`] with the first byte that `case` does not accept, and its index.
+/// Those of [`hex_decode_with_case`], in its order; each leaves all of `dst` unchanged.
 ///
 /// ```rust
 /// let mut buffer = [0xa5; 4];

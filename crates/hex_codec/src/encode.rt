@@ -69,10 +69,7 @@ pub fn hex_encode_upper<'a>(src: &[u8], dst: &'a mut [u8]) -> Result<&'a mut [u8
 ///
 /// # Errors
 ///
-/// In this order; each leaves all of `dst` unchanged:
-///
-/// 1. [`Error::Overflow`] if `2 * src.len()` exceeds `usize`;
-/// 2. [`Error::OutputTooSmall`] if `dst` has fewer than `2 * src.len()` bytes.
+/// Those of [`hex_encode`], in its order; each leaves all of `dst` unchanged.
 ///
 /// ```rust
 /// let mut buffer = [b'-'; 5];

@@ -61,10 +61,7 @@ pub fn hex_string_upper<A: Allocator + Drop>(alloc: A, src: &[u8]) -> Result<Str
 ///
 /// # Errors
 ///
-/// In this order; each leaves the text of `dst` unchanged:
-///
-/// 1. [`Error::Overflow`] if `dst.len() + 2 * src.len()` exceeds `usize`;
-/// 2. [`Error::OutOfMemory`] if the allocation fails, so never if `src` is empty.
+/// Those of [`hex_append`], in the same order; each leaves the text of `dst` unchanged.
 ///
 /// ```rust
 /// let mut text = String::from_str(rt.alloc(), "id: ")?;

@@ -113,12 +113,7 @@ impl Backend {
     ///
     /// # Errors
     ///
-    /// In this order; each leaves all of `dst` unchanged:
-    ///
-    /// 1. [`Error::OddLength`] if `src` has an odd number of bytes;
-    /// 2. [`Error::OutputTooSmall`] if `dst` has fewer than `src.len() / 2` bytes;
-    /// 3. [`Error::InvalidChar`] with the first byte of `src` that `case` does not accept, and its
-    ///    index in bytes.
+    /// Those of [`Backend::decode_into`], in its order; each leaves all of `dst` unchanged.
     ///
     /// ```rust
     /// let [_, _, avx2, ..] = backends();
@@ -149,10 +144,7 @@ impl Backend {
     ///
     /// # Errors
     ///
-    /// In this order; each leaves all of `dst` unchanged:
-    ///
-    /// 1. [`Error::Overflow`] if `2 * src.len()` exceeds `usize`;
-    /// 2. [`Error::OutputTooSmall`] if `dst` has fewer than `2 * src.len()` bytes.
+    /// Those of [`Backend::encode_into`], in its order; each leaves all of `dst` unchanged.
     ///
     /// ```rust
     /// let [_, _, avx2, ..] = backends();
