@@ -94,7 +94,7 @@ make_tools() {
 /^target triple = "x86_64/ { unwinds = 1 }
 /^attributes / && unwinds { sub(/ nounwind /, " nounwind uwtable ") }
 { print }
-END { exit calls != 1 }
+END { if (calls != 1) { print "build.sh: level is called " calls + 0 " times, and not once" >"/dev/stderr"; exit 1 } }
 END
     cat >"$1/bin/clang" <<END
 #!/bin/sh -eu
