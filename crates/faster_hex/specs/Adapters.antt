@@ -54,7 +54,7 @@ abbrev pub payload : WireFormat → List ℕ → Option (List ℕ)
 payload p t = if bytes_eq (take (length (prefix p)) t) (prefix p) then Some (drop (length (prefix p)) t) else None
 
 -- a value's payload, which is its text after the prefix; or the first error: it is no text, the prefix is
--- missing, or the payload is odd
+-- missing, or the payload's length is odd
 abbrev pub even_payload : Option (List ℕ) → Result (List ℕ) AdapterError
 even_payload None = Err InvalidPrefix
 even_payload (Some s) = if length s % 2 == 1 then Err InvalidLength else Ok s
