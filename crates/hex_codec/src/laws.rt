@@ -19,8 +19,8 @@ pub fn a_grouped_text_is_read_where_it_spells_a_list()
     ensures one { GroupSpellsOneList }
 {}
 
-/// A grouped text has two digits for each byte and a separator between two pieces. Each of its bytes
-/// is a digit or the separator, and each byte of a text without groups is a digit.
+/// A grouped text has two digits for each byte and a separator between two pieces. Each of its
+/// bytes is a digit or the separator, and each byte of a text without groups is a digit.
 pub fn a_grouped_text_is_digits_and_separators()
     ensures long { GroupedTextsAreLong }
     ensures bytes { GroupedTextsAreDigitsAndSeparators }

@@ -24,8 +24,8 @@ pub fn every_decoder_has_been_fed()
     decoding_inverts_encoding();
 }
 
-/// Consecutive puts are one put of the joined bytes, also if the last one failed; no put at all is a
-/// put of nothing.
+/// Consecutive puts are one put of the joined bytes, also if the last one failed; no put at all is
+/// a put of nothing.
 pub fn puts_in_a_row_are_one()
     ensures taken { TakesInARow }
     ensures stopped { StopsInARow }
@@ -35,8 +35,8 @@ pub fn puts_in_a_row_are_one()
     ensures none { TakesNothing }
 {}
 
-/// A put of the first bytes of a text and then of the rest is a put of the text, also if one failed:
-/// for a text that begins with constant bytes.
+/// A put of the first bytes of a text and then of the rest is a put of the text, also if one
+/// failed: for a text that begins with constant bytes.
 pub fn a_text_is_put_from_its_front()
     ensures front { FrontsFail }
     ensures rest { RestsFollow }

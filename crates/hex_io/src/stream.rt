@@ -1,14 +1,5 @@
 //! For digits that exceed memory: a decoder that is fed chunks of any length, and calls that decode
 //! or encode all that a reader gives into a sink, in constant memory.
-//!
-//! ```rust
-//! let mut input: &[u8] = b"68656c6C6F";
-//! let mut buffer = [0; 5];
-//! let mut sink = SliceSink::new(&mut buffer);
-//! let written = decode_stream(&mut input, &mut sink, CheckCase::None);
-//! assert_eq!(rt; written, Ok(5));
-//! assert_eq!(rt; sink.written(), b"hello".as_slice());
-//! ```
 
 ghost use Rattle.std.specs.Prelude.{◌≡◌, ◌<◌, ◌-◌, ◌^◌, ◌↔◌, ℕ, [], IsErrAnd, IsTrue, List, MatchResult, Some, length};
 ghost use Rattle.std.specs.Io.{ReadsAtMost};
