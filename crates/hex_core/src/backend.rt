@@ -9,7 +9,7 @@ ghost use Rattle.hex_core.specs.inside.Blocks.{DecodesAt, HasRoom};
 
 use crate::digit::CheckCase;
 use crate::digit_lanes::{Hashed, Interleaved, Multiplied, Saturating};
-use crate::kernel::{decode_or_nothing, encode_blocks};
+use crate::kernel::{decode_or_nothing, encode_blocks, encode_fours};
 use crate::lane_probe::check_lanes;
 use crate::plain::{check_by_length, decode_by_length, encode_by_length};
 use crate::registers::{decode_four, decode_two};
@@ -139,7 +139,7 @@ impl Backend {
     {
         match (self.0, src.len()) {
             // A function of its own for `wide` would keep `encode` from being inlined.
-            (Kind::Wide, 513..) => encode_blocks::<Multiplied, 16, 32>(src, dst, upper),
+            (Kind::Wide, 256..) => encode_fours::<Multiplied, 16, 32>(src, dst, upper),
             (Kind::Plain | Kind::Wide, _) => encode_by_length(src, dst, upper),
             (Kind::Scalar, _) | (_, 0..8) => encode_by_table(src, dst, upper),
             (_, 8..16) => encode_blocks::<Interleaved, 8, 16>(src, dst, upper),

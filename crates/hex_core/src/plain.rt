@@ -11,7 +11,8 @@ use crate::digit::CheckCase;
 use crate::digit_lanes::Interleaved;
 use crate::kernel::{check_runs, decode_long, encode_blocks};
 use crate::registers::{
-    check_two, decode_ends, decode_four, decode_three, decode_two, encode_one, encode_two,
+    check_three, check_two, decode_ends, decode_four, decode_three, decode_two, encode_four,
+    encode_one, encode_two,
 };
 
 /// Returns whether every byte of `src` is valid under `case`.
@@ -24,6 +25,7 @@ pub fn check_by_length(src: &[u8], case: CheckCase) -> bool
         16..=32 => check_two::<16>(src, case),
         33..=64 => check_two::<32>(src, case),
         65..=128 => check_two::<64>(src, case),
+        129..=192 => check_three::<64>(src, case),
         _ => check_runs(src, case),
     }
 }
@@ -100,6 +102,7 @@ pub fn encode_by_length(src: &[u8], dst: &mut [u8], upper: bool)
         32 => encode_one::<32, 64>(src, dst, upper),
         17..=31 => encode_two::<16, 32>(src, dst, upper),
         33..=64 => encode_two::<32, 64>(src, dst, upper),
+        65..=128 => encode_four::<32, 64>(src, dst, upper),
         _ => encode_blocks::<Interleaved, 32, 64>(src, dst, upper),
     }
 }

@@ -16,7 +16,7 @@ ghost use Rattle.hex_core.specs.inside.Blocks.{EndsCover, Halves, NibblesFrom};
 use crate::digit::CheckCase;
 use crate::digit_lanes::{Interleaved, reach, saturated};
 use crate::kernel::{encode_at, pack_at};
-use crate::vector::{either, is_low, is_small, larger};
+use crate::vector::{either, is_low, is_small, is_small_by_sign, larger};
 use crate::widths::{Interleave, Lanes, LookUp, Pack};
 use std::simd::prelude::*;
 
@@ -30,6 +30,20 @@ pub fn check_two<const N: usize>(src: &[u8], case: CheckCase) -> bool
     let front = reach(Simd::<u8, N>::from_slice(src), case);
     let back = reach(Simd::<u8, N>::from_slice(&src[src.len() - N..]), case);
     is_low(larger(front, back))
+}
+
+/// Returns whether `src`, `2 * N` to `3 * N` bytes, is valid.
+#[inline(always)]
+pub fn check_three<const N: usize>(src: &[u8], case: CheckCase) -> bool
+    requires lanes { N ≤ 64 }
+    requires least { 2 * N ≤ length src.now }
+    requires most { length src.now ≤ 3 * N }
+    ensures { IsTrue result ↔ (first_invalid case src.now ≡ None) }
+{
+    let first = reach(Simd::<u8, N>::from_slice(src), case);
+    let second = reach(Simd::<u8, N>::from_slice(&src[N..]), case);
+    let last = reach(Simd::<u8, N>::from_slice(&src[src.len() - N..]), case);
+    is_low(larger(larger(first, second), last))
 }
 
 // `N` nibbles from index `at`.
@@ -153,6 +167,7 @@ pub fn decode_four<const N: usize, const HALF: usize>(
 ) -> bool
 where
     Lanes: Pack<N, HALF>,
+    requires lanes { N ≤ 64 }
     requires sizes { Halves N HALF src.now dst.old }
     requires covered { EndsCover (2 * N) src.now }
     ensures { DecodesWhole case src.now dst.old dst.new result }
@@ -162,7 +177,7 @@ where
     let second = nibbles_at::<N>(src, N, case);
     let third = nibbles_at::<N>(src, len - 2 * N, case);
     let last = nibbles_at::<N>(src, len - N, case);
-    if !is_small(either(either(first, second), either(third, last))) {
+    if !is_small_by_sign(either(either(first, second), either(third, last))) {
         return false;
     }
     let end = dst.len();
@@ -196,4 +211,21 @@ where
 {
     encode_at::<Interleaved, N, TWICE>(src, dst, 0, upper);
     encode_at::<Interleaved, N, TWICE>(src, dst, src.len() - N, upper);
+}
+
+/// Encodes `2 * N` to `4 * N` bytes.
+#[inline(always)]
+pub fn encode_four<const N: usize, const TWICE: usize>(src: &[u8], dst: &mut [u8], upper: bool)
+where
+    Lanes: Interleave<N, TWICE> + LookUp<TWICE>,
+    requires lanes { TWICE ≡ 2 * N }
+    requires twice { length dst.old ≡ 2 * length src.now }
+    requires covered { EndsCover (2 * N) src.now }
+    ensures { dst.new ≡ text upper src.now }
+{
+    let len = src.len();
+    encode_at::<Interleaved, N, TWICE>(src, dst, 0, upper);
+    encode_at::<Interleaved, N, TWICE>(src, dst, N, upper);
+    encode_at::<Interleaved, N, TWICE>(src, dst, len - 2 * N, upper);
+    encode_at::<Interleaved, N, TWICE>(src, dst, len - N, upper);
 }

@@ -131,6 +131,17 @@ pub fn is_small<const N: usize>(v: Simd<u8, N>) -> bool
     is_zero(masked(v, 0xf0))
 }
 
+/// The same, by the sign bits: of [`is_small`] the compiler makes a long reduction where a caller
+/// also returns the answer.
+#[inline(always)]
+pub fn is_small_by_sign<const N: usize>(v: Simd<u8, N>) -> bool
+    requires { N ≤ 64 }
+    ensures { IsTrue result ↔ AreSmall v.entry }
+{
+    // 16 becomes 128.
+    has_no_sign(saturating_add(v, 112))
+}
+
 // Multiplying by it puts the byte of two nibbles into the high half of their word.
 const FACTOR: u16 = 4097;
 

@@ -1,0 +1,10 @@
+use Rattle.std.proofs.Common.{◌<◌, arith}
+use std.Logic.{↔_trans}
+use Rattle.hex_core.specs.inside.Arithmetic.{saturating_add}
+use Rattle.hex_core.proofs.LaneLemmas.{passes_where}
+use Rattle.hex_core.proofs.vector.is_small_by_sign.Goals as goal
+
+pub returns : goal.returns
+returns g c =
+    ↔_trans c.has_no_sign.ensures
+    (passes_where (λ x. saturating_add x 112) (λ x. x < 128) (λ x. x < 16) (λ x h. (λ z. omega arith, λ lt. omega arith)) c.args.v c.fits-v.1 c.saturating_add.ensures)
