@@ -1,7 +1,7 @@
 //! Testing digits, and decoding them.
 
 #[cfg(feature = "alloc")]
-use alloc::{vec, vec::Vec};
+use alloc::vec::Vec;
 
 use crate::{library, Error};
 
@@ -91,8 +91,8 @@ pub fn hex_decode_with_case<'a>(
     dst: &'a mut [u8],
     check_case: CheckCase,
 ) -> Result<&'a mut [u8], Error> {
-    let written = library::decode(src, dst, check_case)?;
-    Ok(&mut dst[..written])
+    // SAFETY: decoded bytes alone are written there.
+    library::decode(src, unsafe { library::room(dst) }, check_case)
 }
 
 /// Decodes digits of either case to an array of exactly `N` bytes. This needs no buffer and no allocator.
@@ -132,15 +132,7 @@ pub fn hex_decode_array_with_case<const N: usize>(
     src: &[u8],
     check_case: CheckCase,
 ) -> Result<[u8; N], Error> {
-    if src.len() % 2 == 0 && src.len() / 2 != N {
-        return Err(Error::LengthMismatch {
-            expected: N,
-            actual: src.len() / 2,
-        });
-    }
-    let mut bytes = [0; N];
-    library::decode_array(src, &mut bytes, check_case)?;
-    Ok(bytes)
+    library::decode_array(src, check_case)
 }
 
 /// Decodes digits of either case to a new vector, whose capacity is its length. Requires the feature `alloc`.
@@ -180,7 +172,9 @@ pub fn hex_decode_vec_with_case(src: &[u8], check_case: CheckCase) -> Result<Vec
     if src.len() % 2 == 1 {
         return Err(Error::OddLength);
     }
-    let mut bytes = vec![0; src.len() / 2];
-    library::decode(src, &mut bytes, check_case)?;
+    let mut bytes = Vec::with_capacity(src.len() / 2);
+    let written = library::decode(src, bytes.spare_capacity_mut(), check_case)?.len();
+    // SAFETY: so many bytes were written.
+    unsafe { bytes.set_len(written) };
     Ok(bytes)
 }

@@ -1,7 +1,7 @@
 //! Encoding bytes as digits.
 
 #[cfg(feature = "alloc")]
-use alloc::string::String;
+use alloc::{string::String, vec::Vec};
 use core::str;
 
 use crate::{library, Error};
@@ -9,9 +9,8 @@ use crate::{library, Error};
 /// Writes the digits of `src` to the front of `dst` and returns them, for the calls of this crate.
 #[inline]
 pub(crate) fn encode<'a>(src: &[u8], dst: &'a mut [u8], upper: bool) -> Result<&'a mut str, Error> {
-    let written = library::encode(src, dst, upper)?;
-    // SAFETY: what was written is ASCII.
-    Ok(unsafe { str::from_utf8_unchecked_mut(&mut dst[..written]) })
+    // SAFETY: digits alone are written there.
+    library::encode(src, unsafe { library::room(dst) }, upper)
 }
 
 /// Writes the lowercase digits of `src` into the front of `dst`, two for each byte, and returns them. The rest
@@ -117,23 +116,29 @@ pub fn hex_append_upper<'a>(src: &[u8], dst: &'a mut String) -> &'a mut str {
 }
 
 #[cfg(feature = "alloc")]
+#[inline]
 fn new_string(src: &[u8], upper: bool) -> String {
-    let mut text = String::with_capacity(src.len().checked_mul(2).expect(OVERFLOW));
-    append(src, &mut text, upper);
-    text
+    let mut bytes = Vec::with_capacity(src.len().checked_mul(2).expect(OVERFLOW));
+    let digits = library::encode(src, bytes.spare_capacity_mut(), upper).expect(OVERFLOW);
+    let written = digits.len();
+    // SAFETY: so many digits were written, which are ASCII.
+    unsafe {
+        bytes.set_len(written);
+        String::from_utf8_unchecked(bytes)
+    }
 }
 
 /// Appends the digits of `src` to `dst` and returns them, for the calls of this crate.
 #[cfg(feature = "alloc")]
 pub(crate) fn append<'a>(src: &[u8], dst: &'a mut String, upper: bool) -> &'a mut str {
     let start = dst.len();
-    let end = src
-        .len()
-        .checked_mul(2)
-        .and_then(|len| start.checked_add(len))
-        .expect(OVERFLOW);
-    // SAFETY: what is put behind the text is ASCII at every moment, first zeros and then digits.
-    let bytes = unsafe { dst.as_mut_vec() };
-    bytes.resize(end, b'0');
-    encode(src, &mut bytes[start..], upper).expect(OVERFLOW)
+    dst.reserve(src.len().checked_mul(2).expect(OVERFLOW));
+    // SAFETY: the text grows by the digits that were written after it, which are ASCII.
+    unsafe {
+        let bytes = dst.as_mut_vec();
+        let digits = library::encode(src, bytes.spare_capacity_mut(), upper).expect(OVERFLOW);
+        let end = start + digits.len();
+        bytes.set_len(end);
+        str::from_utf8_unchecked_mut(&mut bytes[start..])
+    }
 }

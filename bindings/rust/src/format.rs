@@ -1,14 +1,16 @@
 //! A view of bytes that prints them as hex digits.
 
 use core::fmt::{self, Alignment, Write};
+use core::mem::MaybeUninit;
 
-use crate::encode::encode;
+use crate::library;
 
-/// Up to how many bytes a text is made whole.
-const SHORT: usize = 64;
-
-/// How many bytes of a longer one are encoded at a time.
+/// How many bytes are encoded at a time.
 const CHUNK: usize = 512;
+
+/// Copies of the usual fills, which are written together.
+const SPACES: &str = "                                ";
+const ZEROS: &str = "00000000000000000000000000000000";
 
 /// A view of bytes that prints them as digits: lowercase by `{}` and `{:x}`, uppercase by `{:X}`. It borrows
 /// the bytes, and allocates nothing.
@@ -43,26 +45,30 @@ impl<'a> Hex<'a> {
 
     /// Writes the text by the formatter's flags.
     fn show(&self, f: &mut fmt::Formatter<'_>, upper: bool) -> fmt::Result {
-        if self.bytes.len() > SHORT {
-            return self.show_long(f, upper);
-        }
-        let mut room = [0; 2 * SHORT];
-        let digits = encode(self.bytes, &mut room, upper).map_err(|_| fmt::Error)?;
-        f.pad_integral(true, "0x", digits)
-    }
-
-    /// The same, with the digits of a chunk at a time.
-    fn show_long(&self, f: &mut fmt::Formatter<'_>, upper: bool) -> fmt::Result {
         let front = match (f.sign_plus(), f.alternate()) {
             (true, true) => "+0x",
             (true, false) => "+",
             (false, true) => "0x",
             (false, false) => "",
         };
+        if let Some(width) = f.width() {
+            return self.show_padded(f, upper, front, width);
+        }
+        if !front.is_empty() {
+            f.write_str(front)?;
+        }
+        self.write_digits(f, upper)
+    }
+
+    fn show_padded(
+        &self,
+        f: &mut fmt::Formatter<'_>,
+        upper: bool,
+        front: &str,
+        width: usize,
+    ) -> fmt::Result {
         // Counted down, since the length of the digits may be no `usize`.
-        let missing = f
-            .width()
-            .unwrap_or(0)
+        let missing = width
             .saturating_sub(front.len())
             .saturating_sub(self.bytes.len())
             .saturating_sub(self.bytes.len());
@@ -84,18 +90,25 @@ impl<'a> Hex<'a> {
     }
 
     fn write_digits(&self, f: &mut fmt::Formatter<'_>, upper: bool) -> fmt::Result {
-        let mut room = [0; 2 * CHUNK];
+        let mut room = [MaybeUninit::uninit(); 2 * CHUNK];
         for chunk in self.bytes.chunks(CHUNK) {
-            let digits = encode(chunk, &mut room, upper).map_err(|_| fmt::Error)?;
+            let digits = library::encode(chunk, &mut room, upper).map_err(|_| fmt::Error)?;
             f.write_str(digits)?;
         }
         Ok(())
     }
 }
 
-fn write_copies(f: &mut fmt::Formatter<'_>, fill: char, count: usize) -> fmt::Result {
-    for _ in 0..count {
-        f.write_char(fill)?;
+fn write_copies(f: &mut fmt::Formatter<'_>, fill: char, mut count: usize) -> fmt::Result {
+    let copies = match fill {
+        ' ' => SPACES,
+        '0' => ZEROS,
+        _ => return (0..count).try_for_each(|_| f.write_char(fill)),
+    };
+    while count > 0 {
+        let some = count.min(copies.len());
+        f.write_str(&copies[..some])?;
+        count -= some;
     }
     Ok(())
 }

@@ -1,5 +1,8 @@
 //! Safe calls over those of a build.
 
+use core::mem::MaybeUninit;
+use core::{slice, str};
+
 use crate::{builds, CheckCase, Error};
 
 /// `struct faster_hex_answer`.
@@ -57,40 +60,67 @@ pub fn check(src: &[u8], case: CheckCase) -> bool {
     }
 }
 
-/// Writes the digits of `src` to the front of `dst`, which are ASCII, and returns how many.
+/// A buffer as room for a call below.
+///
+/// # Safety
+///
+/// Only bytes are written there, none of which is uninitialized.
 #[inline]
-pub fn encode(src: &[u8], dst: &mut [u8], upper: bool) -> Result<usize, Error> {
-    let (from, len, to, room) = (src.as_ptr(), src.len(), dst.as_mut_ptr(), dst.len());
-    // SAFETY: both pointers are good for their slices' lengths, and a slice that is lent to be
-    // written overlaps no other.
-    result_of(unsafe { builds::encode(from, len, to, room, upper) })
+pub unsafe fn room(dst: &mut [u8]) -> &mut [MaybeUninit<u8>] {
+    slice::from_raw_parts_mut(dst.as_mut_ptr().cast(), dst.len())
 }
 
-/// Writes the bytes that `src` spells to the front of `dst`, and returns how many.
+/// Writes the digits of `src` to the front of `dst`, and returns them.
 #[inline]
-pub fn decode(src: &[u8], dst: &mut [u8], case: CheckCase) -> Result<usize, Error> {
-    let (from, len, to, room) = (src.as_ptr(), src.len(), dst.as_mut_ptr(), dst.len());
+pub fn encode<'a>(
+    src: &[u8],
+    dst: &'a mut [MaybeUninit<u8>],
+    upper: bool,
+) -> Result<&'a mut str, Error> {
+    let (from, len, to, room) = (src.as_ptr(), src.len(), dst.as_mut_ptr().cast(), dst.len());
+    // SAFETY: both pointers are good for their slices' lengths, and a slice that is lent to be
+    // written overlaps no other. As many bytes as the call tells were written then, all ASCII.
+    unsafe {
+        let written = result_of(builds::encode(from, len, to, room, upper))?;
+        let digits = slice::from_raw_parts_mut(to, written);
+        Ok(str::from_utf8_unchecked_mut(digits))
+    }
+}
+
+/// Writes the bytes that `src` spells to the front of `dst`, and returns them.
+#[inline]
+pub fn decode<'a>(
+    src: &[u8],
+    dst: &'a mut [MaybeUninit<u8>],
+    case: CheckCase,
+) -> Result<&'a mut [u8], Error> {
+    let (from, len, to, room) = (src.as_ptr(), src.len(), dst.as_mut_ptr().cast(), dst.len());
     // SAFETY: as in `encode`.
-    result_of(unsafe {
-        match case {
+    unsafe {
+        let written = result_of(match case {
             CheckCase::None => builds::decode(from, len, to, room),
             _ => builds::decode_with_case(from, len, to, room, number_of(case)),
-        }
-    })
+        })?;
+        Ok(slice::from_raw_parts_mut(to, written))
+    }
 }
 
-/// Writes the bytes that `src` spells to an array. The lengths of most digests have calls of their own, for
-/// digits of either case, which tell no error.
+/// Returns the bytes that `src` spells, of which there are `N`. The lengths of most digests have
+/// calls of their own, for digits of either case, which tell no error.
 #[inline]
-pub fn decode_array<const N: usize>(
-    src: &[u8],
-    dst: &mut [u8; N],
-    case: CheckCase,
-) -> Result<(), Error> {
+pub fn decode_array<const N: usize>(src: &[u8], case: CheckCase) -> Result<[u8; N], Error> {
+    if src.len() % 2 == 0 && src.len() / 2 != N {
+        return Err(Error::LengthMismatch {
+            expected: N,
+            actual: src.len() / 2,
+        });
+    }
+    let mut bytes = [MaybeUninit::uninit(); N];
+    let mut is_done = false;
     if src.len() == 2 * N && case == CheckCase::None {
-        let (from, to) = (src.as_ptr(), dst.as_mut_ptr());
+        let (from, to) = (src.as_ptr(), bytes.as_mut_ptr());
         // SAFETY: as in `encode`: there are as many digits, and room for as many bytes.
-        let done = unsafe {
+        is_done = unsafe {
             match N {
                 16 => builds::decode_16(from.cast(), to.cast()),
                 20 => builds::decode_20(from.cast(), to.cast()),
@@ -99,11 +129,12 @@ pub fn decode_array<const N: usize>(
                 _ => false,
             }
         };
-        if done {
-            return Ok(());
-        }
     }
-    decode(src, dst, case).map(drop)
+    if !is_done {
+        decode(src, &mut bytes, case)?;
+    }
+    // SAFETY: a call that succeeds has written a byte for two digits, so all of them.
+    Ok(unsafe { bytes.as_ptr().cast::<[u8; N]>().read() })
 }
 
 #[cfg(test)]
