@@ -1,7 +1,8 @@
 # `make` builds libfaster_hex.a and libfaster_hex.so.1.0.0 from the assembly in generated/, by a C compiler
 # alone, and fhex where there is the Rattle toolchain; `make lib` and `make fhex` one of them. TARGET=aarch64,
 # or a compiler for it, builds the libraries for Linux on ARM, one for Windows the archive and a DLL, and one
-# for macOS the archive. CC, CFLAGS, CPPFLAGS, LDFLAGS and AR are taken.
+# for macOS the archive; any other, and TARGET=portable, those in plain C. CC, CFLAGS, CPPFLAGS, LDFLAGS and AR
+# are taken.
 # `make generate` proves the sources and writes generated/ anew. `make test` runs the examples and the gate,
 # `make check` all that the gate can't, the bindings beside a checkout RUST of the Rust crate faster-hex 1.0.0,
 # `make deep` what a release takes beside it, `make test-c` the tests in C alone, by the command RUN if it is
@@ -14,20 +15,25 @@ JSON = yes
 ifneq ($(filter-out yes no,$(JSON)),)
 $(error JSON=$(JSON) is neither yes nor no)
 endif
+C = crates/faster_hex_c
 ifeq ($(TARGET)$(origin CC),aarch64default)
 CC = aarch64-linux-gnu-gcc
 endif
-MACHINE := $(shell { $(CC) -dumpmachine || uname -m; } 2>/dev/null)
+MACHINE := $(shell $(CC) -dumpmachine 2>/dev/null)
+PROCESSOR := $(firstword $(subst -, ,$(or $(MACHINE),$(TARGET),$(shell uname -m))))
+PROCESSOR := $(patsubst arm64,aarch64,$(patsubst amd64,x86_64,$(PROCESSOR)))
+PROCESSOR := $(if $(filter -m32,$(CC) $(CPPFLAGS) $(CFLAGS)),i386,$(PROCESSOR))
 ifndef TARGET
-TARGET := $(patsubst arm64,aarch64,$(patsubst amd64,x86_64,$(firstword $(subst -, ,$(MACHINE)))))
+TARGET := $(PROCESSOR)
+else ifeq ($(filter $(PROCESSOR) portable,$(TARGET))$(filter file,$(origin TARGET)),)
+$(error TARGET=$(TARGET), but $(CC) makes code for $(PROCESSOR))
+endif
+ifeq ($(TARGET),portable)
+override CPPFLAGS += -DFASTER_HEX_PORTABLE
 endif
 SYSTEM := $(if $(findstring mingw,$(MACHINE)),windows)$(if $(findstring apple,$(MACHINE)),macos)
-ifneq ($(filter-out x86_64 aarch64,$(TARGET)),)
-$(error TARGET=$(TARGET) is neither x86_64 nor aarch64)
-endif
 
-C = crates/faster_hex_c
-OUT = $(C)/out$(addprefix /,$(SYSTEM))$(addprefix /,$(filter aarch64,$(TARGET)))
+OUT = $(C)/out$(addprefix /,$(SYSTEM))$(addprefix /,$(filter-out x86_64,$(TARGET)))
 OBJECTS = $(OUT)/builds.o $(OUT)/dispatch.o
 ARCHIVE = $(OUT)/libfaster_hex.a
 ifeq ($(SYSTEM),)
@@ -75,11 +81,11 @@ generate:
 
 lib: $(ARCHIVE) $(SHARED)
 
-$(OUT)/builds.o: generated/builds.S $(wildcard generated/*.s generated/*.inc) | current
+$(OUT)/builds.o: generated/builds.S $(wildcard generated/*.s generated/*.inc) $(C)/assembly.h | current
 	@mkdir -p $(OUT)
 	$(CC) $(CPPFLAGS) $(CFLAGS) -Wno-unused-command-line-argument -c -o $(MADE) $< && $(DONE)
 
-$(OUT)/dispatch.o: $(C)/dispatch.c $(C)/faster_hex.h | current
+$(OUT)/dispatch.o: $(C)/dispatch.c $(wildcard $(C)/*.h) | current
 	@mkdir -p $(OUT)
 	$(CC) $(CPPFLAGS) -ffunction-sections $(CFLAGS) -std=c11 -fPIC -fno-lto -fno-stack-protector \
 		-c -o $(MADE) $< && $(DONE)
@@ -111,6 +117,7 @@ test-c: lib $(firstword $(LOADED))
 	$(TRY) examples/c/digits.c $(ARCHIVE) && $(TRIED)
 ifeq ($(TARGET),x86_64)
 	$(TRY) tests/c/choice.c $(ARCHIVE) && $(TRIED)
+	$(TRY) tests/c/portable.c $(ARCHIVE) && $(TRIED)
 endif
 
 check: all
@@ -127,7 +134,7 @@ TO = .
 PACK = $(TO)/faster_hex-$(VERSION).tar
 PACKED = Makefile CMakeLists.txt Cargo.toml CHANGELOG.md LICENSE bindings/cmake bindings/faster_hex.pc.in \
 	bindings/rust docs/faster_hex.3 examples generated scripts/install.sh \
-	$(addprefix $(C)/,dispatch.c faster_hex.h faster_hex.def faster_hex.map) tests/c
+	$(addprefix $(C)/,dispatch.c assembly.h portable.h faster_hex.h faster_hex.def faster_hex.map) tests/c
 dist: current
 	git -c tar.umask=0022 archive --prefix=faster_hex-$(VERSION)/ --add-file=docs/release/README.md \
 		-o "$(PACK)" $$(git stash create | grep . || echo HEAD) $(PACKED) && gzip -9nf "$(PACK)"

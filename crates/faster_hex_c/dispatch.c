@@ -1,15 +1,12 @@
 /* The calls of faster_hex.h over the builds in generated/, which are compiled from proved code. For x86-64
  * there are three, and each call takes the widest that the processor and the system run; for aarch64 there
- * is one. No proof sees this file.
+ * is one. Where assembly.h has none, the calls are those of portable.h. No proof sees this file.
  *
  * The level is written once, by a constructor. A call before that, as from another constructor, takes the
  * first build, which runs on any of these processors. Branches in place of pointers let a linker drop the
  * calls that a program does not make. */
+#include "assembly.h"
 #include "faster_hex.h"
-
-#if SIZE_MAX != UINT64_MAX || !(defined __x86_64__ || defined __aarch64__ && !defined __AARCH64EB__)
-#error "there is no build of faster_hex for this processor and compiler"
-#endif
 
 /* A build's call has the version in its name, so that no other version in the program has it. */
 #define JOIN(major, minor, patch, build, call) faster_hex_##major##_##minor##_##patch##_##build##_##call
@@ -23,7 +20,7 @@
 #define BUILD __attribute__((sysv_abi))
 #endif
 
-#ifdef __x86_64__
+#ifdef FASTER_HEX_X86_64
 #include <cpuid.h>
 #include <stdatomic.h>
 
@@ -70,25 +67,37 @@ __attribute__((constructor)) static void raise_level(void) {
     level = level_of(processor());
 }
 
-#define CALL(answer, call, parameters, arguments)                                 \
-    BUILD answer OF(x86_64, call) parameters;                                     \
-    BUILD answer OF(x86_64_v2, call) parameters;                                  \
-    BUILD answer OF(x86_64_v3, call) parameters;                                  \
-    answer faster_hex_##call parameters {                                         \
-        unsigned char known = atomic_load_explicit(&level, memory_order_relaxed); \
+#define CHOSEN(answer, call, parameters, arguments)                                \
+    BUILD answer OF(x86_64, call) parameters;                                      \
+    BUILD answer OF(x86_64_v2, call) parameters;                                   \
+    BUILD answer OF(x86_64_v3, call) parameters;                                   \
+    static answer chosen_##call parameters {                                       \
+        unsigned char known = atomic_load_explicit(&level, memory_order_relaxed);  \
         if (__builtin_expect(known == 3, 1)) return OF(x86_64_v3, call) arguments; \
-        if (known == 2) return OF(x86_64_v2, call) arguments;                     \
-        return OF(x86_64, call) arguments;                                        \
+        if (known == 2) return OF(x86_64_v2, call) arguments;                      \
+        return OF(x86_64, call) arguments;                                         \
+    }
+#elif defined FASTER_HEX_AARCH64
+#define CHOSEN(answer, call, parameters, arguments) \
+    BUILD answer OF(aarch64, call) parameters;      \
+    static answer chosen_##call parameters {        \
+        return OF(aarch64, call) arguments;         \
     }
 #else
-#define CALL(answer, call, parameters, arguments) \
-    BUILD answer OF(aarch64, call) parameters;    \
-    answer faster_hex_##call parameters {         \
-        return OF(aarch64, call) arguments;       \
+#include "portable.h"
+#define CHOSEN(answer, call, parameters, arguments) \
+    static answer chosen_##call parameters {        \
+        return portable_##call arguments;           \
     }
 #endif
 
 typedef struct faster_hex_answer told;
+
+#define CALL(answer, call, parameters, arguments)                       \
+    CHOSEN(answer, call, parameters, arguments)                         \
+    answer faster_hex_##call parameters {                               \
+        return chosen_##call arguments;                                 \
+    }
 
 CALL(bool, check, (const void *src, size_t len), (src, len))
 CALL(told, first_invalid, (const void *src, size_t len, uint8_t policy), (src, len, policy))
