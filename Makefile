@@ -16,6 +16,11 @@ ifneq ($(filter-out yes no,$(JSON)),)
 $(error JSON=$(JSON) is neither yes nor no)
 endif
 C = crates/faster_hex_c
+# For what the last `make` built: `make install` and `make uninstall` take it, if told neither CC nor TARGET.
+LAST = $(C)/out/last
+ifeq ($(origin CC)$(TARGET)$(filter-out install uninstall,$(firstword $(MAKECMDGOALS) all)),default)
+-include $(LAST)
+endif
 ifeq ($(TARGET)$(origin CC),aarch64default)
 CC = aarch64-linux-gnu-gcc
 endif
@@ -80,6 +85,8 @@ generate:
 	@scripts/generate $(QUIET)
 
 lib: $(ARCHIVE) $(SHARED)
+	@grep -sqxF 'CC = $(CC)' $(LAST) && grep -qxF 'TARGET = $(TARGET)' $(LAST) || \
+		printf '%s\n' 'CC = $(CC)' 'TARGET = $(TARGET)' >$(LAST)
 
 $(OUT)/builds.o: generated/builds.S $(wildcard generated/*.s generated/*.inc) $(C)/assembly.h | current
 	@mkdir -p $(OUT)
@@ -139,7 +146,8 @@ dist: current
 	git -c tar.umask=0022 archive --prefix=faster_hex-$(VERSION)/ --add-file=docs/release/README.md \
 		-o "$(PACK)" $$(git stash create | grep . || echo HEAD) $(PACKED) && gzip -9nf "$(PACK)"
 
-install: lib
+install: $(if $(SYSTEM),,lib)
+	$(if $(SYSTEM),$(error for $(SYSTEM) CMake installs, by -DFASTER_HEX_INSTALL=ON))
 	@VERSION=$(VERSION) TARGET=$(TARGET) scripts/install.sh
 
 uninstall:

@@ -3,7 +3,7 @@
 # PREFIX/lib, both below DESTDIR, and notes in share/faster_hex/TARGET.installed each file, and each folder
 # that was not there; or takes away what is noted there and for no other target, of folders the empty ones.
 # Usage: PREFIX=.. LIBDIR=.. DESTDIR=.. VERSION=.. TARGET=.. scripts/install.sh [--remove], as `make
-# install` and `make uninstall` do it. TARGET is x86_64, or aarch64, which has no program.
+# install` and `make uninstall` do it. TARGET is x86_64, or another, which has no program.
 # The first command that fails has said why, and ends it: so none that may fail stands in a condition.
 set -eu
 export LC_ALL=C
@@ -90,7 +90,7 @@ if [ "${1:-}" = --remove ]; then
     paths=$(sort -ru "$noted")
     printf '%s\n' "$paths" | while IFS= read -r path; do
         case $path in
-        */) [ ! -d "$DESTDIR$path" ] || rmdir --ignore-fail-on-non-empty "$DESTDIR$path" ;;
+        */) [ ! -d "$DESTDIR$path" ] || [ -n "$(ls -A "$DESTDIR$path")" ] || rmdir "$DESTDIR$path" ;;
         *) of_others "$path" || rm -f "$DESTDIR$path" ;;
         esac
     done
@@ -143,4 +143,11 @@ put "$rust" 644 Cargo.toml LICENSE
 put "$rust/bindings/rust" 644 bindings/rust/README.md
 put "$rust/bindings/rust/src" 644 bindings/rust/src/*.rs
 put "$rust/generated" 644 generated/*
+# An upgrade takes the library of the earlier version away.
+while IFS= read -r path; do
+    case $path in
+    "$LIBDIR/libfaster_hex.so.$VERSION") ;;
+    "$LIBDIR"/libfaster_hex.so.1.*) rm -f "$DESTDIR$path" ;;
+    esac
+done <"$noted"
 sort -u -o "$noted" "$noted"
