@@ -93,22 +93,56 @@ __attribute__((constructor)) static void raise_level(void) {
 
 typedef struct faster_hex_answer told;
 
-#define CALL(answer, call, parameters, arguments)                       \
+/* Sanitizers see nothing of assembly: they are told what a call read, where it did, and what it wrote. */
+#ifdef __has_feature
+#define SANITIZES(what) __has_feature(what)
+#else
+#define SANITIZES(what) 0
+#endif
+#if defined __SANITIZE_ADDRESS__ || SANITIZES(address_sanitizer)
+void __asan_loadN(const void *, size_t);
+void __asan_storeN(void *, size_t);
+#define READ(src, len) __asan_loadN(src, len)
+#define WROTE(dst, len) __asan_storeN(dst, len)
+#elif SANITIZES(memory_sanitizer)
+void __msan_check_mem_is_initialized(const volatile void *, size_t);
+void __msan_unpoison(const volatile void *, size_t);
+#define READ(src, len) __msan_check_mem_is_initialized(src, len)
+#define WROTE(dst, len) __msan_unpoison(dst, len)
+#endif
+#ifdef READ
+static told seen_told(told it, const void *src, size_t len, void *dst) {
+    bool is_done = it.status == FASTER_HEX_DONE;
+    if (len > 0 && (is_done || it.status == FASTER_HEX_INVALID_CHAR)) READ(src, len);
+    if (dst != NULL && it.number > 0 && is_done) WROTE(dst, it.number);
+    return it;
+}
+
+static bool seen_bool(bool it, const void *src, size_t len, void *dst) {
+    seen_told((told){ 0, FASTER_HEX_DONE, 0 }, src, len, dst);
+    return it;
+}
+#else
+#define seen_told(it, src, len, dst) it
+#define seen_bool(it, src, len, dst) it
+#endif
+
+#define CALL(answer, call, parameters, arguments, dst)                  \
     CHOSEN(answer, call, parameters, arguments)                         \
     answer faster_hex_##call parameters {                               \
-        return chosen_##call arguments;                                 \
+        return seen_##answer(chosen_##call arguments, src, len, dst);   \
     }
 
-CALL(bool, check, (const void *src, size_t len), (src, len))
-CALL(told, first_invalid, (const void *src, size_t len, uint8_t policy), (src, len, policy))
+CALL(bool, check, (const void *src, size_t len), (src, len), NULL)
+CALL(told, first_invalid, (const void *src, size_t len, uint8_t policy), (src, len, policy), NULL)
 CALL(told, encode, (const void *src, size_t len, void *dst, size_t room, bool upper),
-     (src, len, dst, room, upper))
-CALL(told, decode, (const void *src, size_t len, void *dst, size_t room), (src, len, dst, room))
+     (src, len, dst, room, upper), dst)
+CALL(told, decode, (const void *src, size_t len, void *dst, size_t room), (src, len, dst, room), dst)
 CALL(told, decode_with_case, (const void *src, size_t len, void *dst, size_t room, uint8_t policy),
-     (src, len, dst, room, policy))
+     (src, len, dst, room, policy), dst)
 CALL(told, encode_grouped,
      (const void *src, size_t len, void *dst, size_t room, bool upper, size_t every, uint8_t sep),
-     (src, len, dst, room, upper, every, sep))
+     (src, len, dst, room, upper, every, sep), dst)
 CALL(told, decode_grouped,
      (const void *src, size_t len, void *dst, size_t room, uint8_t policy, size_t every, uint8_t sep),
-     (src, len, dst, room, policy, every, sep))
+     (src, len, dst, room, policy, every, sep), dst)
