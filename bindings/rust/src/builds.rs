@@ -3,17 +3,11 @@
 
 use core::arch::global_asm;
 
-#[cfg(target_arch = "x86_64")]
-use crate::level;
-use crate::library::Answer;
+use super::Answer;
 
-#[cfg(not(all(
-    target_pointer_width = "64",
-    target_endian = "little",
-    any(unix, all(windows, target_arch = "x86_64")),
-    any(target_arch = "x86_64", target_arch = "aarch64")
-)))]
-compile_error!("this crate is for x86-64 and aarch64, on Windows for x86-64 alone");
+#[cfg(target_arch = "x86_64")]
+#[path = "level.rs"]
+mod level;
 
 /// The assembly, behind the macros of a format of object files.
 macro_rules! assemble {

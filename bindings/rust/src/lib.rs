@@ -91,18 +91,30 @@
 
 #[cfg(feature = "alloc")]
 extern crate alloc;
-#[cfg(feature = "std")]
+#[cfg(any(feature = "std", test))]
 extern crate std;
 
 #[cfg(feature = "serde")]
 mod adapters;
-mod builds;
+// Miri and these targets run no assembly of ours.
+#[cfg_attr(
+    any(
+        miri,
+        faster_hex_portable,
+        not(all(
+            target_pointer_width = "64",
+            target_endian = "little",
+            any(target_arch = "x86_64", target_arch = "aarch64"),
+            any(unix, all(windows, target_arch = "x86_64"))
+        ))
+    ),
+    path = "portable.rs"
+)]
+mod calls;
 mod decode;
 mod encode;
 mod error;
 mod format;
-#[cfg(target_arch = "x86_64")]
-mod level;
 mod library;
 
 #[cfg(feature = "serde")]

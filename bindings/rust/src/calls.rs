@@ -1,0 +1,172 @@
+//! The calls by a build. Where there is none, `portable.rs` stands in the place of this file.
+
+use core::mem::MaybeUninit;
+
+use crate::{CheckCase, Error};
+
+#[path = "builds.rs"]
+mod builds;
+#[cfg(test)]
+#[path = "portable.rs"]
+mod portable;
+
+/// `struct faster_hex_answer`.
+#[repr(C)]
+pub struct Answer {
+    number: usize,
+    status: u8,
+    byte: u8,
+}
+
+/// The number of a policy in `faster_hex.h`.
+const fn number_of(case: CheckCase) -> u8 {
+    match case {
+        CheckCase::None => 0,
+        CheckCase::Lower => 1,
+        CheckCase::Upper => 2,
+    }
+}
+
+/// What an answer tells.
+#[inline]
+fn result_of(answer: Answer) -> Result<usize, Error> {
+    match answer.status {
+        0 => Ok(answer.number),
+        _ => Err(error_of(answer)),
+    }
+}
+
+/// The error of a refusal. The calls here get no status about policies or groups. Apart and cold, so that a
+/// call that succeeds passes one test.
+#[cold]
+fn error_of(answer: Answer) -> Error {
+    match answer.status {
+        1 => Error::OddLength,
+        2 => Error::OutputTooSmall {
+            required: answer.number,
+        },
+        3 => Error::InvalidChar {
+            index: answer.number,
+            byte: answer.byte,
+        },
+        _ => Error::Overflow,
+    }
+}
+
+/// Whether every byte is a digit by the policy.
+#[inline]
+pub fn check(src: &[u8], case: CheckCase) -> bool {
+    // SAFETY: the pointer is good for reading the slice's length, and the call only reads there.
+    unsafe {
+        match case {
+            CheckCase::None => builds::check(src.as_ptr(), src.len()),
+            _ => builds::first_invalid(src.as_ptr(), src.len(), number_of(case)).status == 0,
+        }
+    }
+}
+
+/// Writes the digits of `src` to the front of `dst`, and returns how many.
+#[inline]
+pub fn encode(src: &[u8], dst: &mut [MaybeUninit<u8>], upper: bool) -> Result<usize, Error> {
+    let (from, len, to, room) = (src.as_ptr(), src.len(), dst.as_mut_ptr().cast(), dst.len());
+    // SAFETY: both pointers are good for their slices' lengths, and a slice that is lent to be
+    // written overlaps no other.
+    result_of(unsafe { builds::encode(from, len, to, room, upper) })
+}
+
+/// Writes the bytes that `src` spells to the front of `dst`, and returns how many.
+#[inline]
+pub fn decode(src: &[u8], dst: &mut [MaybeUninit<u8>], case: CheckCase) -> Result<usize, Error> {
+    let (from, len, to, room) = (src.as_ptr(), src.len(), dst.as_mut_ptr().cast(), dst.len());
+    // SAFETY: as in `encode`.
+    result_of(unsafe {
+        match case {
+            CheckCase::None => builds::decode(from, len, to, room),
+            _ => builds::decode_with_case(from, len, to, room, number_of(case)),
+        }
+    })
+}
+
+/// Writes the bytes that `src` spells, in digits of either case, to all of `dst`. The lengths of most digests have
+/// calls of their own, which tell no error: `false`, as for any other length, says that nothing was written.
+#[inline]
+pub fn decode_digest<const N: usize>(src: &[u8], dst: &mut [MaybeUninit<u8>; N]) -> bool {
+    let (from, to) = (src.as_ptr(), dst.as_mut_ptr());
+    // SAFETY: as in `encode`: there are as many digits, and room for as many bytes.
+    src.len() == 2 * N
+        && unsafe {
+            match N {
+                16 => builds::decode_16(from.cast(), to.cast()),
+                20 => builds::decode_20(from.cast(), to.cast()),
+                32 => builds::decode_32(from.cast(), to.cast()),
+                64 => builds::decode_64(from.cast(), to.cast()),
+                _ => false,
+            }
+        }
+}
+
+#[cfg(test)]
+mod tests {
+    use super::*;
+
+    /// A slice is too short for some of these.
+    #[test]
+    fn each_status_has_its_error() {
+        let (number, byte) = (7, b'g');
+        let told = |status| {
+            result_of(Answer {
+                number,
+                status,
+                byte,
+            })
+        };
+        assert_eq!(told(0), Ok(7));
+        assert_eq!(told(1), Err(Error::OddLength));
+        assert_eq!(told(2), Err(Error::OutputTooSmall { required: 7 }));
+        assert_eq!(told(3), Err(Error::InvalidChar { index: 7, byte }));
+        assert_eq!(told(4), Err(Error::Overflow));
+    }
+
+    /// A random number below another.
+    fn below(state: &mut u64, bound: usize) -> usize {
+        *state ^= *state << 13;
+        *state ^= *state >> 7;
+        *state ^= *state << 17;
+        (*state >> 20) as usize % bound
+    }
+
+    /// By 20,000 random calls, or as many as ROUNDS says.
+    #[test]
+    fn portable_calls_answer_as_builds_do() {
+        let rounds = std::env::var("ROUNDS").map_or(20_000, |it| it.parse().unwrap());
+        let state = &mut 1;
+        for _ in 0..rounds {
+            let case = [CheckCase::None, CheckCase::Lower, CheckCase::Upper][below(state, 3)];
+            let letters = [
+                b"0123456789aBcDeF",
+                b"0123456789abcdef",
+                b"0123456789ABCDEF",
+            ];
+            let (mut src, len, upper) = ([0; 300], below(state, 300), below(state, 2) == 1);
+            src.fill_with(|| letters[case as usize][below(state, 16)]);
+            if below(state, 2) == 1 {
+                src[below(state, 300)] = below(state, 256) as u8;
+            }
+            let (src, room) = (&src[..len], below(state, 700));
+            let mut places = [[MaybeUninit::new(0); 700]; 2];
+            let [ours, theirs] = &mut places;
+            assert_eq!(check(src, case), portable::check(src, case));
+            assert!(!portable::decode_digest(
+                src,
+                &mut [MaybeUninit::new(0); 16]
+            ));
+            let told = encode(src, &mut ours[..room], upper);
+            assert_eq!(told, portable::encode(src, &mut theirs[..room], upper));
+            let told = decode(src, &mut ours[room..], case);
+            assert_eq!(told, portable::decode(src, &mut theirs[room..], case));
+            // SAFETY: all were zeros at first.
+            let bytes = places.map(|it| it.map(|byte| unsafe { byte.assume_init() }));
+            assert_eq!(bytes[0], bytes[1]);
+        }
+    }
+}
