@@ -141,7 +141,7 @@ TO = .
 PACK = $(TO)/faster_hex-$(VERSION).tar
 PACKED = Makefile CMakeLists.txt Cargo.toml CHANGELOG.md LICENSE bindings/cmake bindings/faster_hex.pc.in \
 	bindings/rust docs/faster_hex.3 examples generated scripts/install.sh \
-	$(addprefix $(C)/,dispatch.c assembly.h portable.h faster_hex.h faster_hex.def faster_hex.map) tests/c
+	$(addprefix $(C)/,dispatch.c assembly.h portable.h faster_hex.h faster_hex.hpp faster_hex.def faster_hex.map) tests/c
 dist: current
 	git -c tar.umask=0022 archive --prefix=faster_hex-$(VERSION)/ --add-file=docs/release/README.md \
 		-o "$(PACK)" $$(git stash create | grep . || echo HEAD) $(PACKED) && gzip -9nf "$(PACK)"

@@ -116,7 +116,7 @@ if [ "$TARGET" = x86_64 ]; then
         echo 'fhex is left out: `make fhex` builds it by the Rattle toolchain'
     fi
 fi
-put "$PREFIX/include" 644 $c/faster_hex.h
+put "$PREFIX/include" 644 $c/faster_hex.h $c/faster_hex.hpp
 put "$LIBDIR" 644 "$out/libfaster_hex.a"
 put "$LIBDIR" 755 "$out/libfaster_hex.so.$VERSION"
 link "$LIBDIR" libfaster_hex.so.1 "libfaster_hex.so.$VERSION"
@@ -135,7 +135,7 @@ fill "$cmake" faster_hexConfig.cmake bindings/cmake/faster_hexConfig.cmake.in "s
 fill "$cmake" faster_hexConfigVersion.cmake bindings/cmake/faster_hexConfigVersion.cmake.in \
     "set(PACKAGE_VERSION $VERSION)"
 put "$share/man/man3" 644 docs/faster_hex.3
-for call in $(sed -n 's/^[^*].* \(faster_hex_[a-z_]*\)(.*/\1/p' $c/faster_hex.h); do
+for call in $(sed -n 's/^[^*].*[ *]\(faster_hex_[a-z_]*\)(.*/\1/p' $c/faster_hex.h); do
     link "$share/man/man3" "$call.3" faster_hex.3
 done
 put "$share/doc/faster_hex" 644 LICENSE

@@ -10,7 +10,9 @@ import pytest
 TOP = Path(__file__).resolve().parent.parent
 TESTS_IN_C = TOP / "tests/c"
 CRATE = TOP / "crates/faster_hex_c"
+# The calls that the builds have, and all names of the header.
 CALLS = re.findall(r"^[^*\n].* (faster_hex_[a-z_]*)\(", (CRATE / "faster_hex.h").read_text(), re.M)
+NAMES = [*CALLS, "faster_hex_status_text", "faster_hex_version"]
 VERSION = re.search("^VERSION = (.*)", (TOP / "Makefile").read_text(), re.M)[1]
 SHARED = "libfaster_hex.so", "libfaster_hex.so.1", f"libfaster_hex.so.{VERSION}"
 CC, CXX = os.environ.get("CC") or "cc", os.environ.get("CXX") or "c++"
@@ -24,11 +26,11 @@ HELLO = "68656c6c6f\n"
 BY_RUST = HELLO + "hello\ninvalid hex byte 0x46 at index 2\ndigits up to index 4\n"
 PRINTED = BY_RUST + "00:1B:21:AB\n4 bytes, the last 0xab\n"
 # The files of an installed copy, without the program's, which a package has not.
-INSTALLED = """include/faster_hex.h lib/libfaster_hex.a lib/pkgconfig/faster_hex.pc share/doc/faster_hex/LICENSE
+INSTALLED = """include/faster_hex.h include/faster_hex.hpp lib/libfaster_hex.a lib/pkgconfig/faster_hex.pc
     lib/cmake/faster_hex/faster_hexConfig.cmake lib/cmake/faster_hex/faster_hexConfigVersion.cmake
     share/faster_hex/rust/Cargo.toml share/faster_hex/rust/LICENSE share/faster_hex/x86_64.installed
-    share/faster_hex/rust/bindings/rust/README.md share/man/man3/faster_hex.3""".split()
-INSTALLED += [f"lib/{name}" for name in SHARED] + [f"share/man/man3/{name}.3" for name in CALLS]
+    share/faster_hex/rust/bindings/rust/README.md share/man/man3/faster_hex.3 share/doc/faster_hex/LICENSE""".split()
+INSTALLED += [f"lib/{name}" for name in SHARED] + [f"share/man/man3/{name}.3" for name in NAMES]
 OF_RUST = *TOP.glob("bindings/rust/src/*.rs"), *TOP.glob("generated/*")
 INSTALLED += [f"share/faster_hex/rust/{it.relative_to(TOP)}" for it in OF_RUST]
 STRICT = ["-Wall", "-Wextra", "-Wpedantic", "-Wconversion", "-Werror", f"-I{CRATE}"]

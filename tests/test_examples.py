@@ -3,7 +3,8 @@ import re
 
 import pytest
 
-from commands import ARM_CC, CALLS, CC, CXX, ON_ARM, PRINTED, SHARED, TOP, compiled, is_locked, needs, ran, runs
+from commands import (ARM_CC, CC, CXX, NAMES, ON_ARM, PRINTED, SHARED, TESTS_IN_C, TOP, compiled, is_locked, needs,
+                      passes, ran, runs)
 
 
 @pytest.fixture(params=["x86_64", "aarch64"])
@@ -26,7 +27,7 @@ def test_names_and_state_of_the_archive(target):
     folder, *_, runner = target
     said = ran(["readelf", "-SsW", folder / "libfaster_hex.a"]).stdout
     found = re.findall(r"^ *\d+: \w+ +\w+ \w+ +(GLOBAL|WEAK) +(\w+) +(\w+) (\S+)$", said, re.M)
-    assert {name for _, sight, place, name in found if place != "UND" and sight == "DEFAULT"} == {*CALLS}
+    assert {name for _, sight, place, name in found if place != "UND" and sight == "DEFAULT"} == {*NAMES}
     given = {name for *_, place, name in found if place != "UND"}
     assert {name for *_, place, name in found if place == "UND"} <= given
     assert {*re.findall(r" \.text\.faster_hex_\d\S+ .* (\d+)$", said, re.M)} == {"64"}
@@ -39,14 +40,21 @@ def test_names_and_state_of_the_archive(target):
 def test_names_of_the_shared_library(target):
     shared = target[0] / SHARED[2]
     said = ran(["readelf", "-W", "--dyn-syms", shared]).stdout
-    assert {*re.findall(r" (\w+)@@FASTER_HEX_1$", said, re.M)} == {*CALLS}
+    assert {*re.findall(r" (\w+)@@FASTER_HEX_1$", said, re.M)} == {*NAMES}
     is_locked(shared)
 
 
-@pytest.mark.parametrize("source, options", [("c", "-std=c99"), ("cpp", "-std=c++11 -Wold-style-cast")])
+@pytest.mark.parametrize("source, options", [("c", "-std=c99"), ("cpp", "-std=c++17 -Wold-style-cast")])
 def test_example(tmp_path, target, source, options):
     folder, cc, cxx, runner = target
     needs(*runner.split()[:1])
     words = [*options.split(), "-O2", TOP / f"examples/{source}/digits.{source}", folder / "libfaster_hex.a"]
     program = compiled(cc if source == "c" else cxx, tmp_path / "digits", *words)
     runs([*runner.split(), program], out=PRINTED)
+
+
+@pytest.mark.parametrize("standard", ["c++17", "c++20", "c++23"])
+@pytest.mark.parametrize("compiler", [CXX, "clang++"])
+def test_header_of_cpp(tmp_path, library, compiler, standard):
+    words = [f"-std={standard}", "-Wold-style-cast", TESTS_IN_C / "strings.cpp", library / "libfaster_hex.a"]
+    passes([compiled(compiler, tmp_path / "strings", *words)])

@@ -3,7 +3,7 @@ import re
 
 import pytest
 
-from commands import CALLS, CRATE, TESTS_IN_C, TOP, WINDOWS_CC, by_cmake, make, needs, passes, ran, runs
+from commands import CALLS, CRATE, NAMES, TESTS_IN_C, TOP, WINDOWS_CC, by_cmake, make, needs, passes, ran, runs
 
 # What a call on Windows keeps.
 KEPT = [*"%rbx %rbp %rsi %rdi %r12 %r13 %r14 %r15".split(), *(f"%xmm{it}" for it in range(6, 16))]
@@ -36,7 +36,7 @@ def test_in_c(windows):
 def test_names_and_stack(windows):
     """Windows may overwrite what stands below the stack, and wants each of its pages touched in turn."""
     said = ran([WINDOWS_CC.replace("gcc", "objdump"), "-pd", windows / "libfaster_hex.dll"]).stdout
-    assert {*re.findall(r"^\s+\[ *\d+\] (\w+)$", said, re.M)} == {*CALLS}
+    assert {*re.findall(r"^\s+\[ *\d+\] (\w+)$", said, re.M)} == {*NAMES}
     assert "(%rsp)" in said and not re.findall(r"-0x\w+\(%rsp.*|sub +\$0x\w{4,},%rsp", said)
 
 
@@ -66,5 +66,5 @@ def test_names_for(tmp_path, target):
         objects.append(tmp_path / f"{source.stem}.o")
         runs(["clang", "-target", target, "-ffreestanding", "-O2", "-c", "-o", objects[-1], source])
     found = re.findall(r" (\w) _?(\w+)$", ran(["llvm-nm", "-g", *objects]).stdout, re.M)
-    assert {name for _, name in found if not re.match(r"faster_hex_\d", name)} == {*CALLS}
+    assert {name for _, name in found if not re.match(r"faster_hex_\d", name)} == {*NAMES}
     assert {name for _, name in found} == {name for kind, name in found if kind != "U"}

@@ -146,3 +146,17 @@ CALL(told, encode_grouped,
 CALL(told, decode_grouped,
      (const void *src, size_t len, void *dst, size_t room, uint8_t policy, size_t every, uint8_t sep),
      (src, len, dst, room, policy, every, sep), dst)
+
+const char *faster_hex_version(void) {
+    return FASTER_HEX_VERSION;
+}
+
+/* Texts of one length, since pointers to them would be written when a program is loaded. */
+const char *faster_hex_status_text(uint8_t status) {
+    static const char texts[][32] = {
+        "done", "hex input length must be even", "output is too small", "invalid hex byte",
+        "encoded length overflow", "unknown policy", "not a group", "invalid length of grouped hex",
+        "unknown status",
+    };
+    return texts[status <= FASTER_HEX_BAD_LENGTH ? status : FASTER_HEX_BAD_LENGTH + 1];
+}

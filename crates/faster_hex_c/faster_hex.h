@@ -1,7 +1,8 @@
 /* Converts bytes to hex digits and back. Link libfaster_hex.so or libfaster_hex.a, which `make install`
  * puts beside this header: cc prog.c $(pkg-config --cflags --libs faster_hex)
  *
- * The library for x86-64 runs on every x86-64 processor, and uses AVX2 or SSE4.2 if there is one.
+ * The library for x86-64 runs on every x86-64 processor, and uses AVX2 or SSE4.2 if there is one. For processors
+ * other than x86-64 and aarch64 it is plain C, which is tested and not proved.
  *
  * For every call, unless it says otherwise:
  *
@@ -115,6 +116,12 @@ struct faster_hex_answer faster_hex_encode_grouped(const void *src, size_t len, 
  * then FASTER_HEX_OUTPUT_TOO_SMALL, then FASTER_HEX_INVALID_CHAR, also for a wrong separator. */
 struct faster_hex_answer faster_hex_decode_grouped(const void *src, size_t len, void *dst, size_t room,
                                                    uint8_t policy, size_t every, uint8_t sep);
+
+/* A status in words, which stay where they are: "invalid hex byte" for FASTER_HEX_INVALID_CHAR. */
+const char *faster_hex_status_text(uint8_t status);
+
+/* FASTER_HEX_VERSION of the library that is loaded. */
+const char *faster_hex_version(void);
 
 #ifdef __clang__
 #pragma clang diagnostic pop

@@ -1,0 +1,76 @@
+// Tries faster_hex.hpp, the texts of statuses and the version. Prints `N passed, M failed`.
+#include <array>
+#include <cstdio>
+#include <set>
+#if __cplusplus >= 202002L
+#include <span>
+#endif
+
+#include "faster_hex.hpp"
+
+static_assert(sizeof(faster_hex_answer) == 2 * sizeof(std::size_t), "two words");
+
+static int passed, failed;
+
+static void count(bool holds, const char *what) {
+    if (!holds) std::printf("failed: %s\n", what);
+    ++(holds ? passed : failed);
+}
+
+template <class Call> static faster_hex_answer refused(Call call) {
+    try {
+        call();
+    } catch (const faster_hex::error &it) {
+        count(std::string(it.what()) == faster_hex_status_text(it.answer.status), it.what());
+        return it.answer;
+    }
+    return {0, FASTER_HEX_DONE, 0};
+}
+
+static void values() {
+    const std::array<unsigned char, 3> bytes{{0, 0xab, 0xff}};
+    const std::vector<unsigned char> list(bytes.begin(), bytes.end());
+    count(faster_hex::encode(bytes) == "00abff", "encode of an array");
+    count(faster_hex::encode(list, faster_hex::letters::uppercase) == "00ABFF", "encode in uppercase");
+    count(faster_hex::encode("hello", 5) == "68656c6c6f", "encode of a pointer and a length");
+    count(faster_hex::encode(std::string()).empty(), "encode of nothing");
+    count(faster_hex::decode("00aBfF") == list, "decode");
+    unsigned char room[4] = {1, 1, 1, 1};
+    count(faster_hex::decode("00abff", room, sizeof room, FASTER_HEX_LOWERCASE) == 3 && room[3] == 1, "decode there");
+#if __cplusplus >= 202002L
+    count(faster_hex::encode(std::span(bytes)) == "00abff", "encode of a span");
+#endif
+}
+
+static void refusals() {
+    unsigned char room[1] = {7};
+    faster_hex_answer told = refused([] { faster_hex::decode("0aBg", FASTER_HEX_UPPERCASE); });
+    count(told.status == FASTER_HEX_INVALID_CHAR && told.number == 1 && told.byte == 'a', "a letter in lowercase");
+    told = refused([] { faster_hex::decode("0aB"); });
+    count(told.status == FASTER_HEX_ODD_LENGTH, "an odd length");
+    told = refused([&] { faster_hex::decode("0aBc", room, sizeof room); });
+    count(told.status == FASTER_HEX_OUTPUT_TOO_SMALL && told.number == 2 && room[0] == 7, "a small room");
+    told = refused([] { faster_hex::decode("", 3); });
+    count(told.status == FASTER_HEX_UNKNOWN_POLICY, "no policy");
+    told = refused([] { faster_hex::encode("", SIZE_MAX / 2 + 1); });
+    count(told.status == FASTER_HEX_OVERFLOW, "a length above all texts");
+}
+
+static void texts() {
+    std::set<std::string> found;
+    for (unsigned status = 0; status < 256; status++) {
+        found.insert(faster_hex_status_text(static_cast<uint8_t>(status)));
+    }
+    count(found.size() == FASTER_HEX_BAD_LENGTH + 2, "a text for each status, and one for others");
+    count(faster_hex_status_text(255) == std::string("unknown status"), "the text for others");
+    count(faster_hex_status_text(FASTER_HEX_DONE) == std::string("done"), "the first text");
+    count(faster_hex_version() == std::string(FASTER_HEX_VERSION), "the version");
+}
+
+int main() {
+    values();
+    refusals();
+    texts();
+    std::printf("%d passed, %d failed\n", passed, failed);
+    return failed != 0;
+}
