@@ -1,6 +1,8 @@
 //! The stored vectors, which `fhex vectors` runs.
 
+use Call::{Decode, Encode, ReadGrouped, ReadList, WriteGrouped, WriteList};
 use hex_codec::{Group, GroupFault, grouped};
+use hex_core::CheckCase::{Lower, None as Either, Upper};
 use hex_core::Error::{InvalidChar, OddLength, OutputTooSmall};
 use hex_core::{Backend, CheckCase, Error, backends};
 use hex_io::digests::{Entry, ListFault, read_in, write_to};
@@ -10,19 +12,13 @@ use std::alloc::{AllocError, Allocator};
 // Every byte of a destination before a call.
 const FILL: u8 = 0xa5;
 
-/// The call of a stored vector: the first five under each plan, the others without one.
+/// The call of a stored vector: the first two under each plan, the others without one.
 #[derive(Clone, Copy, PartialEq, Eq)]
 pub enum Call {
-    /// `encode_slice`, in lowercase.
-    Encode,
-    /// `encode_slice`, in uppercase.
-    EncodeUpper,
-    /// `decode_slice`.
-    Decode,
-    /// `decode_slice`, which does not accept `A` to `F`.
-    DecodeLower,
-    /// `decode_slice`, which does not accept `a` to `f`.
-    DecodeUpper,
+    /// `encode_slice`, and whether in uppercase.
+    Encode(bool),
+    /// `decode_slice`, and which digits it accepts.
+    Decode(CheckCase),
     /// [`Hex::write_to`] into a [`SliceSink`], with a colon between two bytes and the next two.
     WriteGrouped,
     /// [`grouped::read`] of such a text. An invalid byte is an invalid digit in the result.
@@ -63,41 +59,41 @@ pub struct Vector<'a> {
 
 // One vector per line: name, call, source, result, and destination.
 macro_rules! vectors {
-    ($($name:literal $call:ident $source:expr, $answer:expr, $left:expr;)*) => {
-        [$(Vector { name: $name, call: Call::$call, source: $source, answer: $answer, left: $left }),*]
+    ($($name:literal $call:expr, $source:expr, $answer:expr, $left:expr;)*) => {
+        [$(Vector { name: $name, call: $call, source: $source, answer: $answer, left: $left }),*]
     };
 }
 
 /// The stored vectors, in their order.
 pub static VECTORS: [Vector<'static>; 20] = vectors! {
-    "v01" Encode b"hello", Ok(10), b"68656c6c6f";
-    "v02" EncodeUpper b"\x00\xab\xff", Ok(6), b"00ABFF";
-    "v03" Encode b"\xab\xcd", Err(OutputTooSmall { required: 4 }), &[FILL; 3];
-    "v04" Decode b"00aBcD", Ok(3), b"\x00\xab\xcd\xa5\xa5";
-    "v05" Decode b"00ff0g", Err(InvalidChar { index: 5, byte: b'g' }), &[FILL; 3];
-    "v06" Decode b"g", Err(OddLength), &[FILL; 32];
-    "v07" Decode b"gg", Err(OutputTooSmall { required: 1 }), &[];
-    "v08" Decode b"0A0bg!ff", Err(InvalidChar { index: 4, byte: b'g' }), &[FILL; 4];
-    "v09" DecodeLower b"0A0bg!ff", Err(InvalidChar { index: 1, byte: b'A' }), &[FILL; 4];
-    "v10" DecodeUpper b"0A0bg!ff", Err(InvalidChar { index: 3, byte: b'b' }), &[FILL; 4];
-    "v11" Decode b"\xc3\xa9", Err(InvalidChar { index: 0, byte: 0xc3 }), &[FILL; 4];
-    "v12" Decode b"7\xff77777777777777777777777777777777777777777777777777777777777777",
+    "v01" Encode(false), b"hello", Ok(10), b"68656c6c6f";
+    "v02" Encode(true), b"\x00\xab\xff", Ok(6), b"00ABFF";
+    "v03" Encode(false), b"\xab\xcd", Err(OutputTooSmall { required: 4 }), &[FILL; 3];
+    "v04" Decode(Either), b"00aBcD", Ok(3), b"\x00\xab\xcd\xa5\xa5";
+    "v05" Decode(Either), b"00ff0g", Err(InvalidChar { index: 5, byte: b'g' }), &[FILL; 3];
+    "v06" Decode(Either), b"g", Err(OddLength), &[FILL; 32];
+    "v07" Decode(Either), b"gg", Err(OutputTooSmall { required: 1 }), &[];
+    "v08" Decode(Either), b"0A0bg!ff", Err(InvalidChar { index: 4, byte: b'g' }), &[FILL; 4];
+    "v09" Decode(Lower), b"0A0bg!ff", Err(InvalidChar { index: 1, byte: b'A' }), &[FILL; 4];
+    "v10" Decode(Upper), b"0A0bg!ff", Err(InvalidChar { index: 3, byte: b'b' }), &[FILL; 4];
+    "v11" Decode(Either), b"\xc3\xa9", Err(InvalidChar { index: 0, byte: 0xc3 }), &[FILL; 4];
+    "v12" Decode(Either), b"7\xff77777777777777777777777777777777777777777777777777777777777777",
         Err(InvalidChar { index: 1, byte: 0xff }), &[FILL; 32];
-    "v13" Decode b"11111111111111111111111111111111111111111111111111111111111111111\
+    "v13" Decode(Either), b"11111111111111111111111111111111111111111111111111111111111111111\
         1111111111111111111111111111111111111111111111111111111111111111!",
         Err(InvalidChar { index: 129, byte: b'!' }), &[FILL; 65];
-    "v14" Encode b"\x00\x01\x02\x03\x04\x05\x06\x07\x08\x09\x0a\x0b\x0c\x0d\x0e\x0f\
+    "v14" Encode(false), b"\x00\x01\x02\x03\x04\x05\x06\x07\x08\x09\x0a\x0b\x0c\x0d\x0e\x0f\
         \x10\x11\x12\x13\x14\x15\x16\x17\x18\x19\x1a\x1b\x1c\x1d\x1e\x1f\x20",
         Ok(66), b"000102030405060708090a0b0c0d0e0f101112131415161718191a1b1c1d1e1f20";
-    "v15" DecodeUpper b"000102030405060708090A0B0C0D0E0F101112131415161718191A1B1C1D1E1F20",
+    "v15" Decode(Upper), b"000102030405060708090A0B0C0D0E0F101112131415161718191A1B1C1D1E1F20",
         Ok(33), b"\x00\x01\x02\x03\x04\x05\x06\x07\x08\x09\x0a\x0b\x0c\x0d\x0e\x0f\
         \x10\x11\x12\x13\x14\x15\x16\x17\x18\x19\x1a\x1b\x1c\x1d\x1e\x1f\x20\
         \xa5\xa5\xa5\xa5\xa5\xa5\xa5";
-    "v16" Decode b"", Ok(0), &[FILL; 3];
-    "v17" WriteGrouped b"\x00\x01\x02", Ok(7), b"0001:02";
-    "v18" ReadGrouped b"00:0102", Err(InvalidChar { index: 2, byte: b':' }), &[FILL; 3];
-    "v19" ReadList b"ab01 *b", Ok(1), b"\xab\x01*b";
-    "v20" WriteList b"\xab\x01*b", Ok(8), b"AB01 *b\n";
+    "v16" Decode(Either), b"", Ok(0), &[FILL; 3];
+    "v17" WriteGrouped, b"\x00\x01\x02", Ok(7), b"0001:02";
+    "v18" ReadGrouped, b"00:0102", Err(InvalidChar { index: 2, byte: b':' }), &[FILL; 3];
+    "v19" ReadList, b"ab01 *b", Ok(1), b"\xab\x01*b";
+    "v20" WriteList, b"\xab\x01*b", Ok(8), b"AB01 *b\n";
 };
 
 // Reads an entry of a list as the table has it: a digest of two bytes, the mark and the name.
@@ -162,11 +158,8 @@ fn read_grouped<'a>(source: &[u8], destination: &'a mut [u8]) -> Result<&'a mut 
 fn answers(plan: Backend, vector: &Vector<'_>, destination: &mut [u8]) -> bool {
     let source = vector.source;
     let answer = match vector.call {
-        Call::Encode => plan.encode_slice(source, destination, false),
-        Call::EncodeUpper => plan.encode_slice(source, destination, true),
-        Call::Decode => plan.decode_slice(source, destination, CheckCase::None),
-        Call::DecodeLower => plan.decode_slice(source, destination, CheckCase::Lower),
-        Call::DecodeUpper => plan.decode_slice(source, destination, CheckCase::Upper),
+        Call::Encode(upper) => plan.encode_slice(source, destination, upper),
+        Call::Decode(check_case) => plan.decode_slice(source, destination, check_case),
         Call::ReadGrouped => read_grouped(source, destination),
         _ => return writes(vector, destination),
     };

@@ -1,6 +1,6 @@
 //! Rows of vectors: how one runs, as those do that `fhex vectors` has stored, and what is stored.
 
-use hex_core::Error;
+use hex_core::{CheckCase, Error};
 use hex_program::program::serve_vectors;
 use hex_program::vectors::{Call, VECTORS, Vector};
 use std::alloc::Global;
@@ -9,7 +9,7 @@ use test_kit::{Row, Words};
 // One that passes.
 const SOUND: Vector<'static> = Vector {
     name: "sound",
-    call: Call::Decode,
+    call: Call::Decode(CheckCase::None),
     source: b"00aB",
     answer: Ok(2),
     left: b"\x00\xab\xa5",
@@ -51,11 +51,11 @@ fn is_stored(place: usize, vector: Vector<'_>, name: &[u8]) -> bool {
 }
 
 const CALLS: [(&str, Call); 9] = [
-    ("encode", Call::Encode),
-    ("encode-upper", Call::EncodeUpper),
-    ("decode", Call::Decode),
-    ("decode-lower", Call::DecodeLower),
-    ("decode-upper", Call::DecodeUpper),
+    ("encode", Call::Encode(false)),
+    ("encode-upper", Call::Encode(true)),
+    ("decode", Call::Decode(CheckCase::None)),
+    ("decode-lower", Call::Decode(CheckCase::Lower)),
+    ("decode-upper", Call::Decode(CheckCase::Upper)),
     ("write-grouped", Call::WriteGrouped),
     ("read-grouped", Call::ReadGrouped),
     ("write-list", Call::WriteList),
