@@ -1,8 +1,8 @@
-# `make` builds libfaster_hex.a and libfaster_hex.so.1.0.0 from the assembly in generated/, by a C compiler
-# alone, and fhex where there is the Rattle toolchain; `make lib` and `make fhex` one of them. TARGET=aarch64,
-# or a compiler for it, builds the libraries for Linux on ARM, one for Windows the archive and a DLL, and one
-# for macOS the archive; any other, and TARGET=portable, those in plain C. CC, CFLAGS, CPPFLAGS, LDFLAGS and AR
-# are taken.
+# `make` builds out/libfaster_hex.a, out/libfaster_hex.so.1.0.0 and out/fhex from the assembly in generated/, by
+# a C compiler alone; `make lib` and `make fhex` one of them. TARGET=aarch64, or a compiler for it, builds them
+# for Linux on ARM in out/aarch64, one for Windows the archive, a DLL and fhex.exe in out/windows, and one for
+# macOS the archive; any other, and TARGET=portable, the libraries in plain C. CC, CFLAGS, CPPFLAGS, LDFLAGS and
+# AR are taken.
 # `make generate` proves the sources and writes generated/ anew. `make test` runs the examples and the gate,
 # `make check` all that the gate can't, the bindings beside a checkout RUST of the Rust crate faster-hex 1.0.0,
 # `make deep` what a release takes beside it, `make test-c` the tests in C alone, by the command RUN if it is
@@ -17,7 +17,7 @@ $(error JSON=$(JSON) is neither yes nor no)
 endif
 C = crates/faster_hex_c
 # For what the last `make` built: `make install` and `make uninstall` take it, if told neither CC nor TARGET.
-LAST = $(C)/out/last
+LAST = out/last
 ifeq ($(origin CC)$(TARGET)$(filter-out install uninstall,$(firstword $(MAKECMDGOALS) all)),default)
 -include $(LAST)
 endif
@@ -38,9 +38,10 @@ override CPPFLAGS += -DFASTER_HEX_PORTABLE
 endif
 SYSTEM := $(if $(findstring mingw,$(MACHINE)),windows)$(if $(findstring apple,$(MACHINE)),macos)
 
-OUT = $(C)/out$(addprefix /,$(SYSTEM))$(addprefix /,$(filter-out x86_64,$(TARGET)))
+OUT = out$(addprefix /,$(SYSTEM))$(addprefix /,$(filter-out x86_64,$(TARGET)))
 OBJECTS = $(OUT)/builds.o $(OUT)/dispatch.o
 ARCHIVE = $(OUT)/libfaster_hex.a
+PROGRAM = $(if $(filter x86_64 aarch64 x86_64windows,$(TARGET)$(SYSTEM)),$(OUT)/fhex$(if $(SYSTEM),.exe))
 ifeq ($(SYSTEM),)
 SHARED = $(OUT)/libfaster_hex.so.$(VERSION)
 SHOWN = -Wl,-soname,libfaster_hex.so.1 -Wl,-z,relro,-z,now,-z,text -Wl,--version-script=$(C)/faster_hex.map
@@ -65,21 +66,18 @@ JOBS = $(shell n=$$(nproc); echo $$((n < 4 ? n : 4)))
 
 # What runs beside another takes what processors there are.
 .NOTPARALLEL:
-.PHONY: all lib fhex current generate test test-c check deep dist install uninstall vendor clean
+.PHONY: all lib fhex current current-fhex generate test test-c check deep dist install uninstall vendor clean
 
-all: lib
-ifeq ($(TARGET)$(wildcard crates/fhex),x86_64crates/fhex)
-	@if command -v rt >/dev/null; then scripts/build.sh fhex $(QUIET); \
-		else echo 'fhex is left out: it takes the Rattle toolchain' >&2; fi
-endif
-
-fhex:
-	@scripts/build.sh fhex $(QUIET)
+all: lib $(if $(PROGRAM),fhex)
 
 # A release has generated/ without the sources.
+IS_CURRENT = [ ! -d crates/hex_core ] || grep -qxF "sources $$(scripts/sources $(2))" $(1)/PROVED || { \
+	echo '$(1)/ is not made of these sources: run `make generate`' >&2; exit 1; }
 current:
-	@[ ! -d crates/hex_core ] || grep -qxF "sources $$(scripts/sources)" generated/PROVED || { \
-		echo 'generated/ is not made of these sources: run `make generate`' >&2; exit 1; }
+	@$(call IS_CURRENT,generated,hex_core hex_codec faster_hex_c)
+
+current-fhex:
+	@$(call IS_CURRENT,generated/program,hex_core hex_codec hex_io hex_program fhex)
 
 generate:
 	@scripts/generate $(QUIET)
@@ -87,6 +85,9 @@ generate:
 lib: $(ARCHIVE) $(SHARED)
 	@grep -sqxF 'CC = $(CC)' $(LAST) && grep -qxF 'TARGET = $(TARGET)' $(LAST) || \
 		printf '%s\n' 'CC = $(CC)' 'TARGET = $(TARGET)' >$(LAST)
+
+fhex: $(PROGRAM)
+	$(if $(PROGRAM),,$(error there is no assembly of fhex for $(TARGET) $(SYSTEM)))
 
 $(OUT)/builds.o: generated/builds.S $(wildcard generated/*.s generated/*.inc) $(C)/assembly.h | current
 	@mkdir -p $(OUT)
@@ -103,11 +104,16 @@ $(ARCHIVE): $(OBJECTS)
 $(OUT)/libfaster_hex.so.$(VERSION) $(OUT)/libfaster_hex.dll: $(OBJECTS) $(C)/faster_hex.map $(C)/faster_hex.def
 	$(CC) $(CFLAGS) $(LDFLAGS) -shared -o $(MADE) $(OBJECTS) $(SHOWN) && $(DONE)
 
+$(OUT)/fhex $(OUT)/fhex.exe: crates/fhex/fhex.c $(wildcard generated/program/* generated/*.inc) | current-fhex
+	@mkdir -p $(OUT)
+	$(CC) $(CPPFLAGS) $(CFLAGS) $(LDFLAGS) -std=gnu11 -Wno-unused-command-line-argument -o $(MADE) \
+		$< generated/program/builds.S && $(DONE)
+
 $(OUT)/libfaster_hex.so.1: $(SHARED)
 	cp $< $@
 
 ifneq ($(wildcard crates/hex_core),)
-test: current
+test: current current-fhex
 	tests/header.sh
 	scripts/examples
 	RT_JOBS=$(JOBS) rt ci
@@ -118,13 +124,17 @@ endif
 
 TRY = $(CC) $(CPPFLAGS) $(CFLAGS) -std=gnu99 -pthread -I$(C) $(OF_TESTS) -o $(OUT)/try.exe
 TRIED = $(RUN) $(OUT)/try.exe
-test-c: lib $(firstword $(LOADED))
+test-c: all $(firstword $(LOADED))
 	$(TRY) tests/c/library.c $(ARCHIVE) && $(TRIED) && $(TRIED) threads
 	$(if $(LOADED),$(TRY) tests/c/library.c $(LOADED) && $(TRIED))
 	$(TRY) examples/c/digits.c $(ARCHIVE) && $(TRIED)
 ifeq ($(TARGET),x86_64)
 	$(TRY) tests/c/choice.c $(ARCHIVE) && $(TRIED)
 	$(TRY) tests/c/portable.c $(ARCHIVE) && $(TRIED)
+endif
+ifneq ($(PROGRAM),)
+	printf hello | $(RUN) $(PROGRAM) encode | $(RUN) $(PROGRAM) decode | grep -qx hello
+	$(RUN) $(PROGRAM) vectors | grep -x 'total 84 passed 84 failed 0'
 endif
 
 check: all
@@ -140,13 +150,13 @@ deep: all
 TO = .
 PACK = $(TO)/faster_hex-$(VERSION).tar
 PACKED = Makefile CMakeLists.txt Cargo.toml CHANGELOG.md LICENSE bindings/cmake bindings/faster_hex.pc.in \
-	bindings/rust docs/faster_hex.3 examples generated scripts/install.sh \
+	bindings/rust crates/fhex/fhex.c docs/faster_hex.3 docs/fhex.1 examples generated scripts/install.sh \
 	$(addprefix $(C)/,dispatch.c assembly.h portable.h faster_hex.h faster_hex.hpp faster_hex.def faster_hex.map) tests/c
-dist: current
+dist: current current-fhex
 	git -c tar.umask=0022 archive --prefix=faster_hex-$(VERSION)/ --add-file=docs/release/README.md \
 		-o "$(PACK)" $$(git stash create | grep . || echo HEAD) $(PACKED) && gzip -9nf "$(PACK)"
 
-install: $(if $(SYSTEM),,lib)
+install: $(if $(SYSTEM),,all)
 	$(if $(SYSTEM),$(error for $(SYSTEM) CMake installs, by -DFASTER_HEX_INSTALL=ON))
 	@VERSION=$(VERSION) TARGET=$(TARGET) scripts/install.sh
 
@@ -157,4 +167,4 @@ vendor:
 	scripts/vendor $(if $(filter no,$(JSON)),--no-json) "$(DIR)"
 
 clean:
-	rm -rf crates/*/out
+	rm -rf out crates/*/out

@@ -1,9 +1,9 @@
 #!/bin/sh
-# Proves a crate and those below it, lowest first, and builds of it the program crates/NAME/out/NAME, or of a
-# library the assembly crates/NAME/out/assembly/BUILD.s of each build, as clang writes it: `scripts/generate`
-# makes of it what is committed. What the last run proved is not proved again where its files, and those of
-# the crates below, are the same. What is said of each crate goes to build.log beside what is made, of which
-# the end is printed where something fails.
+# Proves a crate and those below it, lowest first, and builds of it, a library or a program, the assembly
+# crates/NAME/out/assembly/BUILD.s of each build, as clang writes it: `scripts/generate` makes of it what is
+# committed. What the last run proved is not proved again where its files, and those of the crates below, are
+# the same. What is said of each crate goes to build.log beside what is made, of which the end is printed
+# where something fails.
 # Usage: scripts/build.sh NAME
 #
 # It calls `rattle` and not `rt`, which has no word for this: a library is built as its statements, so
@@ -23,15 +23,15 @@ cd "$(dirname "$0")/.."
 top=$PWD
 kit=$(dirname "$(rt doc)")
 version=$(rt version)
-kind=assembly
+kind=library
 [ ! -f "crates/$target/src/main.rt" ] || kind=program
 
 # The builds: a name, the architecture and its processor, and the number that `level` of faster_hex_c returns
-# there, by which all calls take their plan.
+# there, by which all calls take their plan. A program is built for each architecture once.
 builds() {
-    echo x86-64 x86_64 x86-64 1
+    [ $kind = program ] || echo x86-64 x86_64 x86-64 1
     echo x86-64-v2 x86_64 x86-64-v2 2
-    echo x86-64-v3 x86_64 x86-64-v3 3
+    [ $kind = program ] || echo x86-64-v3 x86_64 x86-64-v3 3
     echo aarch64 aarch64 generic 2
 }
 
@@ -79,23 +79,36 @@ prove() {
         --links "$name=" --jobs "$jobs")
 }
 
+# edits: what awk edits in LLVM's text. A library has its level in place of the call of `level`, so that the
+# other plans vanish. Where it moves no instruction, on x86-64, a debugger can walk out of each function. Of a
+# program the toolchain's `main` becomes private, and vanishes; the proved one, which it calls, is exported.
+edits() {
+    if [ $kind = library ]; then
+        cat <<'END'
+{ edits += gsub(/call i8 @"faster_hex_c::level"\(\)/, "add i8 0, " level) }
+/^target triple = "x86_64/ { unwinds = 1 }
+/^attributes / && unwinds { sub(/ nounwind /, " nounwind uwtable ") }
+END
+    else
+        cat <<'END'
+/^define .*@main\(/ { sub(/^define /, "define internal ") }
+/^define internal .*@"[a-z_]+::main\+start"\(/ { edits += sub(/ internal /, " ") }
+END
+    fi
+    echo '{ print }'
+    echo 'END { if (edits != 1) { print "build.sh: " edits + 0 " edits, and not one" >"/dev/stderr"; exit 1 } }'
+}
+
 # make_tools FOLDER ARCHITECTURE LEVEL: makes a toolchain there whose clang leaves as FOLDER/made.s what it
-# compiles. LEVEL stands in place of the call of `level`, so that the other plans vanish; the clang fails unless
-# there is exactly one such call. Where this moves no instruction, on x86-64, a debugger can walk out of each
-# function. `rattle` clears the environment.
+# compiles once it is edited, and fails where there is not exactly one place for that. `rattle` clears the
+# environment.
 make_tools() {
     rm -rf "$1/bin" "$1/lib"
     mkdir "$1/bin"
     ln -s "$kit"/toolchain/bin/* "$1/bin"
     ln -s "$kit/toolchain/lib" "$1/lib"
     rm "$1/bin/clang"
-    cat >"$1/edit.awk" <<'END'
-{ calls += gsub(/call i8 @"faster_hex_c::level"\(\)/, "add i8 0, " level) }
-/^target triple = "x86_64/ { unwinds = 1 }
-/^attributes / && unwinds { sub(/ nounwind /, " nounwind uwtable ") }
-{ print }
-END { if (calls != 1) { print "build.sh: level is called " calls + 0 " times, and not once" >"/dev/stderr"; exit 1 } }
-END
+    edits >"$1/edit.awk"
     cat >"$1/bin/clang" <<END
 #!/bin/sh -eu
 compile() { "$kit/toolchain/bin/clang" "\$@" -Wno-unused-command-line-argument; }
@@ -115,22 +128,22 @@ END
     chmod +x "$1/bin/clang"
 }
 
-# build_all NAME: the assembly of each build of a library, each proved by itself.
+# build_all NAME: the assembly of each build, each proved by itself.
 build_all() {
+    what='src/lib.rt --crate-type staticlib'
+    [ $kind = library ] || what=src/main.rt
     builds | while read -r build architecture processor level; do
         make_tools "$tools" "$architecture" "$level"
-        prove "$1" src/lib.rt --crate-type staticlib --target "$architecture-unknown-linux-gnu" \
-            --cpu "$processor" --toolchain "$tools" -o "out/assembly/$build.a" </dev/null || exit 1
+        prove "$1" $what --target "$architecture-unknown-linux-gnu" \
+            --cpu "$processor" --toolchain "$tools" -o "out/assembly/$build.made" </dev/null || exit 1
         mv "$tools/made.s" "crates/$1/out/assembly/$build.s"
     done
 }
 
-# build CRATE: of the target a program, not yet linked, or its assembly, and of another one its statements.
+# build CRATE: of the target its assembly, and of another one its statements.
 build() {
     if [ "$1" != "$target" ]; then
         prove "$1" src/lib.rt --statements -o "out/statements/$1.rlib"
-    elif [ "$kind" = program ]; then
-        prove "$1" src/main.rt --toolchain "$kit/toolchain" -o "out/program/$1.o"
     else
         build_all "$1"
     fi
@@ -145,7 +158,7 @@ anew=
 for crate in $(below "$target"); do
     number=$((number + 1))
     out=crates/$crate/out/statements
-    [ "$crate" != "$target" ] || out=crates/$crate/out/$kind
+    [ "$crate" != "$target" ] || out=crates/$crate/out/assembly
     sum=$(sum_of "$crate")
     if [ -z "$anew" ] && [ "$sum" = "$(cat "$out/made-of" 2>/dev/null)" ]; then
         continue
@@ -160,11 +173,3 @@ for crate in $(below "$target"); do
     echo "$sum" >"$out/made-of"
     echo "[$number/$all] $crate proved"
 done
-if [ "$kind" = program ]; then
-    log=crates/$target/out/program/link.log
-    "$kit/bin/rattle-link" --target x86_64-unknown-linux-gnu --toolchain "$kit/toolchain" \
-        -o "crates/$target/out/$target" "crates/$target/out/program/$target.o" \
-        "$kit/c/libos_c.a" "$kit/c/liblibc_c.a" >"$log" 2>&1
-    log=/dev/null
-    echo "$target is crates/$target/out/$target"
-fi

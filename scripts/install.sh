@@ -3,7 +3,7 @@
 # PREFIX/lib, both below DESTDIR, and notes in share/faster_hex/TARGET.installed each file, and each folder
 # that was not there; or takes away what is noted there and for no other target, of folders the empty ones.
 # Usage: PREFIX=.. LIBDIR=.. DESTDIR=.. VERSION=.. TARGET=.. scripts/install.sh [--remove], as `make
-# install` and `make uninstall` do it. TARGET is x86_64, or another, which has no program.
+# install` and `make uninstall` do it. TARGET is x86_64, or another.
 # The first command that fails has said why, and ends it: so none that may fail stands in a condition.
 set -eu
 export LC_ALL=C
@@ -106,18 +106,16 @@ made=$(missing "$share/faster_hex")
 mkdir -p "$notes"
 printf '%s\n' ${made:+"$made"} "$share/faster_hex/$TARGET.installed" >>"$noted"
 
-out=$c/out/$TARGET
-if [ "$TARGET" = x86_64 ]; then
-    out=$c/out
-    if [ -f crates/fhex/out/fhex ]; then
-        put "$PREFIX/bin" 755 crates/fhex/out/fhex
-        put "$share/man/man1" 644 docs/fhex.1
-    elif [ -d crates/fhex ]; then
-        echo 'fhex is left out: `make fhex` builds it by the Rattle toolchain'
-    fi
+out=out
+[ "$TARGET" = x86_64 ] || out=out/$TARGET
+if of_others "$PREFIX/bin/fhex"; then
+    echo "install.sh: $PREFIX/bin/fhex stays, since it is of another target" >&2
+elif [ -f $out/fhex ]; then
+    put "$PREFIX/bin" 755 $out/fhex
+    put "$share/man/man1" 644 docs/fhex.1
 fi
 put "$PREFIX/include" 644 $c/faster_hex.h $c/faster_hex.hpp
-put "$LIBDIR" 644 "$out/libfaster_hex.a"
+put "$LIBDIR" 644 $out/libfaster_hex.a
 put "$LIBDIR" 755 "$out/libfaster_hex.so.$VERSION"
 link "$LIBDIR" libfaster_hex.so.1 "libfaster_hex.so.$VERSION"
 link "$LIBDIR" libfaster_hex.so libfaster_hex.so.1
@@ -142,7 +140,7 @@ put "$share/doc/faster_hex" 644 LICENSE
 put "$rust" 644 Cargo.toml LICENSE
 put "$rust/bindings/rust" 644 bindings/rust/README.md
 put "$rust/bindings/rust/src" 644 bindings/rust/src/*.rs
-put "$rust/generated" 644 generated/*
+put "$rust/generated" 644 generated/*.* generated/PROVED
 # An upgrade takes the library of the earlier version away.
 while IFS= read -r path; do
     case $path in

@@ -5,7 +5,7 @@ from pathlib import Path
 import pytest
 
 pytest.register_assert_rewrite("commands")
-from commands import ARM_CC, CARGO, CRATE, TOP, copied, make, needs, ran, runs
+from commands import ARM_CC, CARGO, OUT, TOP, copied, make, needs, ran, runs
 from packages import REGISTRY
 
 
@@ -25,23 +25,24 @@ def library():
     if named := os.environ.get("FASTER_HEX_LIB"):
         return Path(named).absolute()
     runs(make("lib"))
-    return CRATE / "out"
+    return OUT
 
 
 @pytest.fixture(scope="session")
 def arm():
-    """The folder of the library for aarch64."""
+    """The folder of library and program for aarch64."""
     needs(ARM_CC)
-    runs(make("lib", "TARGET=aarch64", f"CC={ARM_CC}"))
-    return CRATE / "out/aarch64"
+    runs(make("TARGET=aarch64", f"CC={ARM_CC}"))
+    return OUT / "aarch64"
 
 
 @pytest.fixture(scope="session")
 def fhex():
     """The program: the one that FHEX names, or that of `make fhex`."""
-    program = Path(os.environ.get("FHEX") or TOP / "crates/fhex/out/fhex").absolute()
-    assert program.is_file(), "run `make fhex` before"
-    return program
+    if named := os.environ.get("FHEX"):
+        return Path(named).absolute()
+    runs(make("fhex"))
+    return OUT / "fhex"
 
 
 @pytest.fixture

@@ -3,8 +3,8 @@
 # same order, which no proof sees; of each function its name, its result and its parameters, where a
 # slice is a pointer and a length; and the numbers of the statuses. Then its version, those of the crate for
 # Rust, of CMake and of the man pages, and that in the names of generated/ with VERSION of the Makefile, and
-# the sums of generated/PROVED with its files, and its prover with README.md. Prints what differs; its status
-# is then 1.
+# the sums of each PROVED in generated/ with its files, and the prover with README.md. Prints what differs; its
+# status is then 1.
 set -eu
 
 cd "$(dirname "$0")/../crates/faster_hex_c"
@@ -53,7 +53,9 @@ wanted=$(sed -n 's/^VERSION = //p' ../../Makefile)
 versions | awk -v wanted="$wanted" '
     $2 != wanted { print $1 ": version " $2 ", and not " wanted " as in the Makefile"; wrong = 1 }
     END { exit wrong }' || status=1
-(cd ../../generated && sed -n 's/^sha256 //p' PROVED | sha256sum -c --quiet) || status=1
+for folder in ../../generated ../../generated/program; do
+    (cd $folder && sed -n 's/^sha256 //p' PROVED | sha256sum -c --quiet) || status=1
+done
 prover=$(sed -n 's/^prover //p' ../../generated/PROVED)
 grep -qF "\`$prover\`" ../../README.md || { echo "README.md does not name the prover $prover" && status=1; }
 exit "$status"

@@ -32,7 +32,7 @@ def without(manifest, names):
 
 def files_of_package():
     words = re.search(r"^include = \[(.*)\]", (TOP / "Cargo.toml").read_text(), re.M)[1]
-    found = [it for pattern in re.findall('"/(.*?)"', words) for it in TOP.glob(pattern)]
+    found = [it for pattern in re.findall('"/(.*?)"', words) for it in TOP.glob(pattern) if it.is_file()]
     return ["Cargo.toml", *(str(it.relative_to(TOP)) for it in found)]
 
 

@@ -20,8 +20,9 @@ def test_processor(build):
 
 @pytest.mark.parametrize("is_copy", [False, True])
 def test_made_of_these_sources(tmp_path, copy, is_copy):
-    runs([(copy if is_copy else TOP) / "scripts/generate", tmp_path / "anew"])
-    made = {it.name: it.read_bytes() for it in (tmp_path / "anew").iterdir()}
+    anew = tmp_path / "anew"
+    runs([(copy if is_copy else TOP) / "scripts/generate", anew])
+    made = {it.relative_to(anew): it.read_bytes() for it in anew.rglob("*") if it.is_file()}
     assert made and made == {name: (GENERATED / name).read_bytes() for name in made}
 
 

@@ -6,7 +6,6 @@ import pytest
 
 from commands import ARM_CC, HELLO, INSTALLED, SHARED, TOP, VERSION, BY_SYSTEM, has_files, make, needs, ran, runs
 
-ALL = [*INSTALLED, "bin/fhex", "share/man/man1/fhex.1"]
 # It builds nothing, and takes no tool of those that build.
 MAKE = make("TARGET=x86_64", "CC=false", "INSTALL=false")
 # Where the programs of README.md stand.
@@ -22,7 +21,7 @@ def test_files_that_anybody_may_read(tmp_path):
     there = tmp_path / "bl ank"
     how = {"preexec_fn": lambda: os.umask(0o077), "env": BY_SYSTEM}
     runs([*MAKE, "install", f"PREFIX={there}", "DESTDIR="], out="", err="", **how)
-    has_files(there, ALL)
+    has_files(there, INSTALLED)
     programs = there / "bin/fhex", there / "lib" / SHARED[2]
     found = {it: it.stat().st_mode & 0o777 for it in there.rglob("*") if not it.is_symlink()}
     assert found == {it: 0o755 if it.is_dir() or it in programs else 0o644 for it in found}
@@ -33,18 +32,19 @@ def test_files_that_anybody_may_read(tmp_path):
 
 @pytest.mark.parametrize("beside_others", [False, True])
 def test_two_targets(tmp_path, arm, beside_others):
-    """Each takes away its own files alone, without being told LIBDIR, and the last one all folders, but none that
-    has a file of somebody else."""
+    """The program of the first stays. Each takes away its own files alone, without being told LIBDIR, and the last
+    one all folders, but none that has a file of somebody else."""
     usr, common = tmp_path / "usr", ["PREFIX=/usr", f"DESTDIR={tmp_path}"]
     by_arm, places = make("TARGET=aarch64", f"CC={ARM_CC}", *common), ("lib/arm", "lib/aarch64")
-    of_arm = [it.replace("x86_64.", "aarch64.") for it in INSTALLED if not it.startswith("lib/")]
+    of_arm = [it.replace("x86_64.", "aarch64.") for it in INSTALLED if not re.match("lib/|bin/|.*fhex.1$", it)]
     of_arm += [f"{it}/{name[4:]}" for it in places for name in INSTALLED if name.startswith("lib/")]
     runs([*MAKE, "install", *common])
     done = ran([*by_arm, "install"])
     assert done.returncode and "set LIBDIR" in done.stdout
     for place in places:
-        runs([*by_arm, "install", f"LIBDIR=/usr/{place}"])
-    has_files(usr, {*ALL, *of_arm})
+        assert "bin/fhex stays" in ran([*by_arm, "install", f"LIBDIR=/usr/{place}"]).stdout
+    has_files(usr, {*INSTALLED, *of_arm})
+    runs([usr / "bin/fhex", "encode"], out=HELLO, input="hello")
     foreign = [it / "foreign" for it in (usr, *usr.rglob("*")) if beside_others and it.is_dir()]
     for file in foreign:
         file.touch()
@@ -84,5 +84,6 @@ def test_readme(tmp_path):
             continue
         for line in block.splitlines():
             words, _, told = (it.strip() for it in line.partition("  # "))
-            done = ran(["bash", "-c", exports + words], cwd=TOP if words.startswith("make") else tmp_path)
+            place = TOP if words.startswith("make") or "out/" in words else tmp_path
+            done = ran(["bash", "-c", exports + words], cwd=place)
             assert done.stdout.strip().splitlines()[-1:] == [told] if told else done.returncode == 0, done.stdout

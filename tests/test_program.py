@@ -1,10 +1,10 @@
-"""The built fhex: its statuses, outputs and messages, byte for byte."""
+"""The built fhex: its statuses, outputs and messages, byte for byte, by several compilers."""
 import os
 import subprocess
 
 import pytest
 
-from commands import TOP, ran
+from commands import ARM_CC, CC, ON_ARM, TOP, needs, ran, runs
 
 USAGE = b"usage: fhex encode|encode-upper|decode|decode-lower|decode-upper|vectors\n"
 ODD = b"hex input length must be even\n"
@@ -34,17 +34,47 @@ NO_WORDS = [], [""], ["encode", "decode"], ["vectors", "vectors"], ["Encode"], [
 RUNS += [(words, b"hello", 2, b"", USAGE) for words in NO_WORDS]
 
 
+SANITIZERS = "-g -O1 -fsanitize=address,undefined -fno-sanitize-recover=all"
+# What builds it, by which options, and what runs it; one is as `make` builds it.
+BUILDS = {
+    "make": (CC, "", ""),
+    "clang": ("clang", "-O2", ""),
+    "sanitizers": (CC, SANITIZERS, ""),
+    "lto": (CC, "-O2 -flto", ""),
+    "static-pie": (CC, "-O2 -static-pie", ""),
+    "musl": ("musl-gcc", "-O2 -static", ""),
+    "aarch64": (ARM_CC, "-O2", ON_ARM),
+}
+
+
+def built(folder, compiler, options, *more):
+    """The program by a compiler."""
+    needs(compiler)
+    sources = TOP / "crates/fhex/fhex.c", TOP / "generated/program/builds.S", *more
+    runs([compiler, *options.split(), "-o", folder / "fhex", *sources])
+    return folder / "fhex"
+
+
+@pytest.fixture(scope="module", params=BUILDS)
+def program(request, fhex, tmp_path_factory):
+    """How each program is called."""
+    compiler, options, tool = BUILDS[request.param]
+    needs(*tool.split()[:1])
+    is_made = request.param == "make"
+    return [*tool.split(), fhex if is_made else built(tmp_path_factory.mktemp("built"), compiler, options)]
+
+
 def ended(*words, **how):
     done = ran(words, **{"stderr": subprocess.PIPE, "text": None, "errors": None, **how})
     return done.returncode, done.stdout, done.stderr
 
 
 @pytest.mark.parametrize("words, given, status, out, err", RUNS, ids=[f"{it[0]} {it[1]}" for it in RUNS])
-def test_run(fhex, words, given, status, out, err):
-    assert ended(fhex, *words, input=given) == (status, out, err)
+def test_run(program, words, given, status, out, err):
+    assert ended(*program, *words, input=given) == (status, out, err)
 
 
-def test_streams_that_fail(fhex):
+def test_streams_that_fail(program):
     folder, full = os.open(TOP, os.O_RDONLY), os.open("/dev/full", os.O_WRONLY)
-    assert ended(fhex, "encode", stdin=folder) == (3, b"", b"read failed\n")
-    assert ended(fhex, "decode", input=b"00\n", stdout=full) == (3, None, b"write failed\n")
+    assert ended(*program, "encode", stdin=folder) == (3, b"", b"read failed\n")
+    assert ended(*program, "decode", input=b"00\n", stdout=full) == (3, None, b"write failed\n")

@@ -1,51 +1,52 @@
 """What `make` says of bad words, how it builds in a copy, and the copies of `make vendor`, without proofs."""
 import re
-import shutil
 import subprocess
 
 import pytest
 
 from commands import SHARED, TOP, BY_SYSTEM, is_locked, make, ran, runs
 
-OUT = "crates/faster_hex_c/out"
 # How often a build says each of the user's words.
-WORDS = {"CC": 3, "CFLAGS": 3, "CPPFLAGS": 2, "LDFLAGS": 1, "AR": 1}
+WORDS = {"CC": 4, "CFLAGS": 4, "CPPFLAGS": 3, "LDFLAGS": 2, "AR": 1}
 PAGES = {"CALLING.md", "DIFFERENCES.md", "proving.md", "security.md"}
 
 
-def test_words_that_are_not_taken_and_no_toolchain():
+def test_words_that_are_not_taken():
     for word, names in ("TARGET=arm", "x86_64 nor aarch64"), ("JSON=false", "yes nor no"):
         done = ran(make("-n", "vendor", word))
         assert done.returncode == 2 and names in done.stdout and done.stdout.count("\n") == 1
-    done = ran([shutil.which("make"), *make("fhex")[1:]], env={"PATH": "none"})
-    assert done.stdout.startswith("build.sh: there is no rt on PATH")
 
 
 def test_six_makes_at_once(copy):
     how = {"env": BY_SYSTEM, "stdout": subprocess.PIPE, "stderr": subprocess.STDOUT, "text": True}
     many = [subprocess.Popen(make(top=copy), **how) for _ in range(6)]
-    said = {it.communicate()[0] for it in many}
-    assert said == {"fhex is left out: it takes the Rattle toolchain\n"}
+    assert {it.communicate()[0] for it in many} == {""}
     assert [it.returncode for it in many] == 6 * [0]
-    half_made = [*(copy / OUT).glob("*.*.[0-9]*[0-9][0-9]")]
-    assert (copy / OUT / SHARED[2]).is_file() and not half_made
+    made = {"builds.o", "dispatch.o", "libfaster_hex.a", SHARED[2], "fhex", "last"}
+    assert {it.name for it in (copy / "out").iterdir()} == made
 
 
 def test_words_of_the_user(copy):
     words = [f"{name}={'cc' * (name == 'CC')} -D{name}_IS" for name in WORDS]
-    said = ran(make("-n", "lib", *words, top=copy), env=BY_SYSTEM).stdout
+    said = ran(make("-n", *words, top=copy), env=BY_SYSTEM).stdout
     assert {it: said.count(f" -D{it}_IS") for it in WORDS} == WORDS
     runs(make("lib", "LDFLAGS=-Wl,-z,norelro,-z,lazy", top=copy), env=BY_SYSTEM)
-    is_locked(copy / OUT / SHARED[2])
+    is_locked(copy / "out" / SHARED[2])
 
 
-def test_library_of_other_sources(copy):
-    with (copy / "crates/hex_core/src/lib.rt").open("a") as source:
-        source.write("\n")
-    done = ran(make("lib", top=copy), env=BY_SYSTEM)
-    said = [it for it in done.stdout.splitlines() if not it.startswith("make: ")]
-    assert done.returncode == 2 and len(said) == 1 and "`make generate`" in said[0]
-    assert not (copy / OUT).exists()
+def test_other_sources(copy):
+    """Those of the library stop library and program, those of the program the program alone."""
+    for crate, made in ("hex_core", {"lib": 2, "fhex": 2}), ("hex_program", {"lib": 0, "fhex": 2}):
+        source = copy / f"crates/{crate}/src/lib.rt"
+        text = source.read_text()
+        source.write_text(text + "\n")
+        for word, status in made.items():
+            done = ran(make(word, top=copy), env=BY_SYSTEM)
+            said = [it for it in done.stdout.splitlines() if not it.startswith("make: ")]
+            assert done.returncode == status and len(said) == (status > 0), said
+            assert all("`make generate`" in it for it in said)
+        source.write_text(text)
+    assert not (copy / "out/fhex").exists()
 
 
 @pytest.mark.parametrize("place", ["own", "listed", "listed/crates.txt", "missing"])

@@ -3,7 +3,7 @@ import re
 
 import pytest
 
-from commands import CALLS, CRATE, NAMES, TESTS_IN_C, TOP, WINDOWS_CC, by_cmake, make, needs, passes, ran, runs
+from commands import CALLS, CRATE, NAMES, OUT, TESTS_IN_C, TOP, WINDOWS_CC, by_cmake, make, needs, passes, ran, runs
 
 # What a call on Windows keeps.
 KEPT = [*"%rbx %rbp %rsi %rdi %r12 %r13 %r14 %r15".split(), *(f"%xmm{it}" for it in range(6, 16))]
@@ -13,10 +13,10 @@ OTHERS = "x86_64-apple-macos11 arm64-apple-macos11 aarch64-unknown-freebsd13 x86
 
 @pytest.fixture(scope="module")
 def windows():
-    """The folder of the library for Windows."""
+    """The folder of library and program for Windows."""
     needs(WINDOWS_CC)
-    runs(make("lib", f"CC={WINDOWS_CC}"))
-    return CRATE / "out/windows"
+    runs(make(f"CC={WINDOWS_CC}"))
+    return OUT / "windows"
 
 
 def keeping(call):

@@ -1,0 +1,48 @@
+/* For `ld --wrap`, below fhex.c: of the calls of a name, the one that FAILS='NAME NUMBER REASON' tells
+ * fails for this reason, or moves nothing if it is 0; and reading and writing move at most PIECE bytes. */
+#include <errno.h>
+#include <stdbool.h>
+#include <stdio.h>
+#include <stdlib.h>
+#include <string.h>
+#include <unistd.h>
+
+ssize_t __real_read(int file, void *to, size_t length);
+ssize_t __real_write(int file, const void *from, size_t length);
+void *__real_malloc(size_t size);
+void *__real_realloc(void *at, size_t size);
+
+static bool fails(const char *call) {
+    static int made;
+    char name[16];
+    int number, reason;
+    const char *told = getenv("FAILS");
+    if (!told || sscanf(told, "%15s %d %d", name, &number, &reason) != 3) return false;
+    if (strcmp(name, call) != 0 || ++made != number) return false;
+    errno = reason;
+    return true;
+}
+
+static size_t piece_of(size_t length) {
+    const char *told = getenv("PIECE");
+    size_t most = told ? strtoul(told, NULL, 10) : length;
+    return length < most ? length : most;
+}
+
+ssize_t __wrap_read(int file, void *to, size_t length) {
+    if (fails("read")) return errno ? -1 : 0;
+    return __real_read(file, to, piece_of(length));
+}
+
+ssize_t __wrap_write(int file, const void *from, size_t length) {
+    if (fails("write")) return errno ? -1 : 0;
+    return __real_write(file, from, piece_of(length));
+}
+
+void *__wrap_malloc(size_t size) {
+    return fails("malloc") ? NULL : __real_malloc(size);
+}
+
+void *__wrap_realloc(void *at, size_t size) {
+    return fails("realloc") ? NULL : __real_realloc(at, size);
+}
