@@ -100,10 +100,10 @@ typedef struct faster_hex_answer told;
 #define SANITIZES(what) 0
 #endif
 #if defined __SANITIZE_ADDRESS__ || SANITIZES(address_sanitizer)
-void __asan_loadN(const void *, size_t);
-void __asan_storeN(void *, size_t);
-#define READ(src, len) __asan_loadN(src, len)
-#define WROTE(dst, len) __asan_storeN(dst, len)
+void __asan_loadN(void *, intptr_t);
+void __asan_storeN(void *, intptr_t);
+#define READ(src, len) __asan_loadN((void *)src, (intptr_t)len)
+#define WROTE(dst, len) __asan_storeN(dst, (intptr_t)len)
 #elif SANITIZES(memory_sanitizer)
 void __msan_check_mem_is_initialized(const volatile void *, size_t);
 void __msan_unpoison(const volatile void *, size_t);

@@ -284,6 +284,7 @@ static void too_long(struct memory to) {
                   FASTER_HEX_OVERFLOW));
 }
 
+#if SIZE_MAX > UINT32_MAX
 static bool has_room(struct faster_hex_answer answer, size_t written) {
     return is_told(answer, written, FASTER_HEX_DONE);
 }
@@ -292,7 +293,6 @@ static bool wants(struct faster_hex_answer answer, size_t required) {
     return is_told(answer, required, FASTER_HEX_OUTPUT_TOO_SMALL);
 }
 
-#if SIZE_MAX > UINT32_MAX
 /* A source of so many zeros, which stand nowhere: its first byte is no digit. */
 static void wide_source(size_t len) {
     void *src = mmap(NULL, len, PROT_READ, MAP_PRIVATE | MAP_ANONYMOUS, -1, 0);

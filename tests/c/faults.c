@@ -1,0 +1,31 @@
+/* Makes one call with a fault, which a sanitizer must report, or none, and then ends with 0.
+ * Usage: faults none|short-destination|short-source|freed|unwritten */
+#include <stdlib.h>
+#include <string.h>
+
+#include "faster_hex.h"
+
+static const char DIGITS[] = "00112233445566778899aabbccddeeff0011223344556677";
+
+/* As many bytes on the heap as a call takes for that, or fewer. */
+static int made(const char *fault, char *bytes, char *digits) {
+    bool is_short = strcmp(fault, "short-destination") == 0;
+    if (is_short || strcmp(fault, "none") == 0) {
+        struct faster_hex_answer told = faster_hex_decode(DIGITS, 48, bytes, 24);
+        return told.status == FASTER_HEX_DONE && (is_short || bytes[3] == 0x33) ? 0 : 3;
+    }
+    if (strcmp(fault, "unwritten") != 0) memset(digits, '0', 4);
+    if (strcmp(fault, "freed") == 0) free(digits);
+    return faster_hex_check(digits, strcmp(fault, "short-source") == 0 ? 48 : 4) ? 0 : 3;
+}
+
+int main(int words, char **word) {
+    if (words < 2) return 2;
+    bool is_short = strcmp(word[1], "short-destination") == 0;
+    char *bytes = malloc(is_short ? 4 : 24), *digits = malloc(4);
+    if (bytes == NULL || digits == NULL) return 2;
+    int status = made(word[1], bytes, digits);
+    free(bytes);
+    if (strcmp(word[1], "freed") != 0) free(digits);
+    return status;
+}

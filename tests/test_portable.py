@@ -1,0 +1,49 @@
+"""The portable calls, in C and in Rust: beside the builds on random calls, and by the tests of the builds, on this
+processor and by qemu on those that have no build."""
+import os
+
+import pytest
+
+from commands import CC, CRATE, TESTS_IN_C, make, needs, passes, ran, runs
+from libraries import compiled, tries
+from packages import OF_SERDE, lacking, packed, without
+
+# A compiler, where its programs run, and the folder of the library.
+TARGETS = {"riscv64-linux-gnu-gcc": ("qemu-riscv64 -L /usr/riscv64-linux-gnu", "riscv64")}
+TARGETS |= {"arm-linux-gnueabihf-gcc": ("qemu-arm -L /usr/arm-linux-gnueabihf", "arm")}
+TARGETS |= {"s390x-linux-gnu-gcc": ("qemu-s390x -L /usr/s390x-linux-gnu", "s390x")}
+TARGETS |= {"i686-linux-gnu-gcc": ("qemu-i386 -L /usr/i686-linux-gnu", "i686")}
+# Where no file of C's own library is needed.
+FREESTANDING = "wasm32", "powerpc64le-linux-gnu", "aarch64-windows-gnu", "aarch64-none-elf -mgeneral-regs-only"
+
+
+def test_random_calls_beside_the_builds(tmp_path, library):
+    words = ["-O2", "-std=gnu99", TESTS_IN_C / "portable.c", library / "libfaster_hex.a"]
+    passes([compiled(CC, tmp_path / "portable", *words), "2000000", "7"])
+
+
+@pytest.mark.parametrize("words", ["", "threads"])
+@pytest.mark.parametrize("compiler", [CC, *TARGETS])
+def test_in_c(tmp_path, compiler, words):
+    runner, folder = TARGETS.get(compiler, ("", "portable"))
+    needs(compiler, *runner.split()[:1])
+    runs(make("lib", f"CC={compiler}", *["TARGET=portable"] * (compiler == CC)), out="", err="")
+    tries(tmp_path, compiler, CRATE / f"out/{folder}/libfaster_hex.a", "-DFASTER_HEX_PORTABLE", runner, words)
+
+
+@pytest.mark.parametrize("target", FREESTANDING)
+def test_names_for(tmp_path, target):
+    needs("clang", "llvm-nm")
+    words = ["clang", "-target", *target.split(), "-ffreestanding", "-O2", "-c", "-o", tmp_path / "made.o"]
+    runs([*words, CRATE / "dispatch.c"])
+    found = ran(["llvm-nm", "-g", tmp_path / "made.o"]).stdout
+    assert "faster_hex_decode" in found and "faster_hex_1_0_0" not in found and "level" not in found
+
+
+@pytest.mark.parametrize("features", ["", "alloc", "std"])
+def test_in_rust(tmp_path, cargo, features):
+    package = packed(tmp_path / "package")
+    without(package / "Cargo.toml", OF_SERDE if lacking(OF_SERDE[:2]) else [])
+    env = {**os.environ, "RUSTFLAGS": "--cfg faster_hex_portable"}
+    words = [*cargo, "test", "-q", "--no-default-features", "--features", features]
+    passes(words, cwd=package, env=env)

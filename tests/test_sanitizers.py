@@ -1,0 +1,32 @@
+"""What sanitizers report of calls that are not theirs to see, once the library is built by the same options: each
+fault of faults.c, and none where there is none; and that `make` builds so."""
+import pytest
+
+from commands import CRATE, TESTS_IN_C, TOP, make, needs, ran, runs
+from libraries import compiled
+
+OF_ADDRESS = {"none": "", "short-destination": "heap-buffer-overflow", "short-source": "heap-buffer-overflow"}
+OF_ADDRESS |= {"freed": "heap-use-after-free", "unwritten": ""}
+OF_MEMORY = {"none": "", "unwritten": "use-of-uninitialized-value", "freed": "use-of-uninitialized-value"}
+CASES = [(compiler, "address", *it) for compiler in ("gcc", "clang") for it in OF_ADDRESS.items()]
+CASES += [("clang", "memory", *it) for it in OF_MEMORY.items()]
+
+
+@pytest.mark.parametrize("compiler, sanitizer, fault, report", CASES)
+def test_fault(tmp_path, compiler, sanitizer, fault, report):
+    sources = TESTS_IN_C / "faults.c", CRATE / "dispatch.c", TOP / "generated/builds.S"
+    words = ["-std=gnu99", "-g", f"-fsanitize={sanitizer}", "-fPIE", "-pie", *sources]
+    done = ran([compiled(compiler, tmp_path / "faults", *words), fault])
+    if report:
+        assert done.returncode not in (0, 3) and report in done.stdout
+    elif fault == "none":
+        assert done.returncode == 0, done.stdout
+    else:
+        assert "Sanitizer" not in done.stdout
+
+
+@pytest.mark.parametrize("compiler", ["gcc", "clang"])
+def test_library_under_its_own_tests(copy, compiler):
+    needs(compiler)
+    words = f"CC={compiler}", "CFLAGS=-O1 -g -fsanitize=address,undefined -fno-sanitize-recover=all"
+    runs(make("test-c", *words, top=copy))
