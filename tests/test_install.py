@@ -75,6 +75,8 @@ def test_readme(tmp_path):
     """Writes the programs and runs the lines of README.md up to those for Rattle, in order: each prints what its
     comment says."""
     needs("pkg-config", "cargo")
+    # `make install` takes what was built last, which may be for another target.
+    runs(make("lib"))
     (tmp_path / "src").mkdir()
     text = (TOP / "README.md").read_text().partition("\n## Rattle\n")[0].replace("$HOME", f"{tmp_path}")
     exports = "set -e\n" + "\n".join(re.findall("^export .*", text, re.M)) + "\n"
