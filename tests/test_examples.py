@@ -53,7 +53,7 @@ def test_example(tmp_path, target, source, options):
     runs([*runner.split(), program], out=PRINTED)
 
 
-@pytest.mark.parametrize("standard", ["c++17", "c++20", "c++23"])
+@pytest.mark.parametrize("standard", ["c++17", "c++20", "c++2b"])
 @pytest.mark.parametrize("compiler", [CXX, "clang++"])
 def test_header_of_cpp(tmp_path, library, compiler, standard):
     words = [f"-std={standard}", "-Wold-style-cast", TESTS_IN_C / "strings.cpp", library / "libfaster_hex.a"]
