@@ -17,9 +17,7 @@ NO_MEMORY, NOT_READ, NOT_WRITTEN = ((3, b"", it) for it in (b"out of memory\n", 
 WRAPPED = "-Wl,--wrap=read,--wrap=write,--wrap=malloc,--wrap=realloc"
 # A call that fails, its number among those of its name, why, and how `encode` then ends.
 FAILURES = [
-    ("read", 1, errno.EINTR, (0, DIGITS, b"")),
-    ("read", 2, errno.EINTR, (0, DIGITS, b"")),
-    ("read", 1, errno.EAGAIN, NOT_READ),
+    ("read", 1, errno.EINTR, NOT_READ),
     ("read", 2, errno.EIO, NOT_READ),
     ("write", 1, errno.EINTR, NOT_WRITTEN),
     ("write", 1, errno.ENOSPC, NOT_WRITTEN),
