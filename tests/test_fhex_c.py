@@ -66,9 +66,11 @@ def test_words_of_each_length(failing):
     assert ended(failing, *words, input=BYTES) == (2, b"", USAGE)
 
 
-@pytest.mark.parametrize("length", [1, 257, 100_000])
-def test_long_second_word(fhex, length):
-    assert ended(fhex, "encode", "a" * length, input=BYTES) == (2, b"", USAGE)
+def test_long_second_words(fhex):
+    """Of each all bytes are read: they are UTF-8, or end with one that is not."""
+    for word in b"a", b"a" * 257, b"a" * 100_000, b"a" + b"\xc3\xa9" * 50_000:
+        assert ended(fhex, "encode", word, input=BYTES) == (2, b"", USAGE)
+    assert ended(fhex, "encode", b"a" * 100_000 + b"\xff", input=BYTES) == NOT_READ
 
 
 def test_closed_pipe(fhex):

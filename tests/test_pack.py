@@ -5,7 +5,7 @@ import shutil
 
 import pytest
 
-from commands import (ARM_CC, BY_RUST, CARGO, CC, CXX, INSTALLED, ON_ARM, PRINTED, RUSTC, TOP, VERSION, by_cmake,
+from commands import (ARM_CC, BY_RUST, CARGO, CC, CXX, HELLO, INSTALLED, ON_ARM, PRINTED, RUSTC, TOP, VERSION, by_cmake,
                       has_files, make, needs, only, passes, ran, runs)
 
 NAME = f"faster_hex-{VERSION}"
@@ -96,8 +96,10 @@ def test_pages_of_man(top):
 
 
 def test_cmake(tmp_path, top, env):
-    """Over the sources, and over the installed copy, which is asked for twice."""
+    """Over the sources, with the program, and over the installed copy, which is asked for twice."""
     by_cmake(top / "examples/c", tmp_path / "built", f"-DFASTER_HEX={top}", env=env)
+    runs(["cmake", "--build", tmp_path / "built", "--target", "fhex"], env=env)
+    runs([*(tmp_path / "built").rglob("fhex"), "encode"], out=HELLO, input="hello")
     twice = shutil.copytree(top / "examples/c", tmp_path / "twice") / "CMakeLists.txt"
     twice.write_text(re.sub(r"^(find_package.*\n)", r"\1\1", twice.read_text(), flags=re.M))
     by_cmake(twice.parent, tmp_path / "over", f"-DCMAKE_PREFIX_PATH={top.parent}/there", env=env)
