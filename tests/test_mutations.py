@@ -126,8 +126,8 @@ def test_the_gate_tries_the_first_alone_and_once(top):
     needs("rt")
     for how in r", \d+ s of processor", " by an earlier run":
         done = tries(top, "--gate")
-        assert re.search(f"^tiny: 1 of 1 refused{how}\n1 found, 0 passed\n$", done.stdout, re.M), done.stdout
-        assert done.returncode == 0
+        assert re.search(f"^tiny: 1 of 1 refused{how}\n1 found, 1 passed\n$", done.stdout, re.M), done.stdout
+        assert done.stdout.startswith("error: tiny: can not be applied: ") and done.returncode == 1
 
 
 def test_a_word_names_some(top):
