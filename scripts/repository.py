@@ -31,11 +31,19 @@ def below(names, top=TOP):
     return found
 
 
+def list_crates(names, to, top=TOP):
+    """Writes the lines of crates into the crates.txt of the repository at a folder: each in the place of one that
+    has its name, or last."""
+    listed, lines = Path(to) / "crates.txt", {it: lines_of(top)[it] for it in names}
+    listed.touch()
+    new = [lines.pop(re.match(r"\w*", it)[0], it) for it in listed.read_text().splitlines()]
+    listed.write_text("".join(f"{it}\n" for it in (*new, *lines.values())))
+
+
 def copy(names, to, parts=None, top=TOP):
     """Copies crates and their lines of crates.txt into the repository at a folder: these parts of each, or all
     but out/."""
-    with (Path(to) / "crates.txt").open("a") as listed:
-        listed.writelines(f"{lines_of(top)[it]}\n" for it in names)
+    list_crates(names, to, top)
     for name in names:
         of, mine = Path(top) / "crates" / name, Path(to) / "crates" / name
         mine.mkdir(parents=True, exist_ok=True)

@@ -1,10 +1,10 @@
-"""What `make` says of bad words, how it builds in a copy, and the copies of `make vendor`, without proofs."""
+"""What `make` says of bad words, how it builds in a copy, and the copies of `make vendor`."""
 import re
 import subprocess
 
 import pytest
 
-from commands import SHARED, TOP, BY_SYSTEM, is_locked, make, ran, runs
+from commands import SHARED, BY_SYSTEM, is_locked, make, ran, runs
 
 # How often a build says each of the user's words.
 WORDS = {"CC": 6, "CFLAGS": 4, "CPPFLAGS": 3, "LDFLAGS": 2, "AR": 1}
@@ -65,8 +65,8 @@ def test_vendor_refuses(tmp_path, place):
 def test_copies_of_vendor(tmp_path):
     """With JSON, and then in its place without."""
     (tmp_path / "crates.txt").write_text("app: std")
-    for words, last in ([], "faster_hex"), (["--no-json"], "hex_io"):
-        runs([TOP / "scripts/vendor", "--no-proofs", *words, tmp_path])
+    for json, last in ("yes", "faster_hex"), ("no", "hex_io"):
+        runs(make("vendor", f"JSON={json}", f"DIR={tmp_path}"), out="", err="")
         listed = (tmp_path / "crates.txt").read_text().splitlines()
         assert listed[0] == "app: std" and len({*listed}) == len(listed)
         found = {it.name: it.read_text() for it in tmp_path.glob(f"crates/{last}/*.md")}
@@ -75,3 +75,15 @@ def test_copies_of_vendor(tmp_path):
         ignored = [it.read_text() for it in tmp_path.glob("crates/*/.gitignore")]
         assert ignored and all("\nout/\n" in it for it in ignored)
     assert not (tmp_path / "crates/faster_hex").exists()
+
+
+def test_copy_of_vendor_over_another(tmp_path):
+    """What `rt` keeps in it stays, and each line stays where it stands."""
+    runs(make("vendor", f"DIR={tmp_path}"))
+    kept, listed = tmp_path / "crates/hex_core/out/kept", tmp_path / "crates.txt"
+    kept.parent.mkdir()
+    kept.touch()
+    listed.write_text("app: std\n" + listed.read_text() + "last: hex_core\n")
+    before = listed.read_text()
+    runs(make("vendor", f"DIR={tmp_path}"))
+    assert kept.exists() and listed.read_text() == before
