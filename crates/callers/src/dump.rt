@@ -1,6 +1,6 @@
 //! Callers that write and read a line of a dump, as `xxd -g` prints it without its text column.
 
-ghost use Rattle.std.specs.Prelude.{◌≡◌, ◌≤◌, ◌<◌, ◌-◌, ◌^◌, ◌++◌, ◌∷◌, [], ℕ, List, IfNone, IfSome, MatchOption, Some, length};
+ghost use Rattle.std.specs.Prelude.{◌≡◌, ◌≤◌, ◌++◌, ◌∷◌, [], ℕ, List, IfNone, IfSome, MatchOption, Some, length};
 ghost use Rattle.hex_core.specs.Laws.{AreBytes};
 ghost use Rattle.hex_core.specs.Text.{lowercase, text, with_front};
 ghost use Rattle.hex_codec.specs.Grouped.{grouped};
@@ -31,7 +31,6 @@ pub fn write_line<S: Sink>(
     group: Group,
     sink: &mut S,
 ) -> Result<(), WriteFault>
-    requires { (S.state sink.old).failures < 2 ^ 64 - 1 }
     ensures { Puts (S.state sink.old) (S.state sink.new) result
         (text lowercase offset.now ++ (58 ∷ 32 ∷ []) ++ grouped group lowercase bytes.now ++ (10 ∷ [])) }
 {

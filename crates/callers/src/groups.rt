@@ -1,6 +1,6 @@
 //! Callers that decode and encode grouped digits, each proved.
 
-ghost use Rattle.std.specs.Prelude.{◌≡◌, ◌↔◌, IsTrue, ◌<◌, ◌≤◌, ◌-◌, ◌%◌, ◌^◌, ◌++◌, ◌∷◌, [], ℕ, List, Some, length};
+ghost use Rattle.std.specs.Prelude.{◌≡◌, ◌↔◌, IsTrue, ◌<◌, ◌≤◌, ◌%◌, ◌++◌, ◌∷◌, [], ℕ, List, Some, length};
 ghost use Rattle.hex_core.specs.declared.digit.CheckCase.TheVariants as policy;
 ghost use Rattle.hex_core.specs.Calls.{Fills};
 ghost use Rattle.hex_core.specs.Text.{lowercase};
@@ -106,7 +106,6 @@ pub fn write_two_parts<S: Sink>(
     group: Group,
     sink: &mut S,
 ) -> Result<(), WriteFault>
-    requires counts { (S.state sink.old).failures < 2 ^ 64 - 1 }
     requires whole { length front.now % piece_len group ≡ 0 }
     requires both { (0 < length front.now) × (0 < length back.now) }
     ensures { Puts (S.state sink.old) (S.state sink.new) result (grouped group lowercase (front.now ++ back.now)) }

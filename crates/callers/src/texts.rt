@@ -1,6 +1,6 @@
 //! Callers that keep digits as text, each proved.
 
-ghost use Rattle.std.specs.Prelude.{◌≡◌, ◌+◌, ◌-◌, ◌*◌, ◌^◌, ◌<◌, ◌≤◌, ◌++◌, MatchResult, codes, length, string_bytes, string_len, string_capacity};
+ghost use Rattle.std.specs.Prelude.{◌≡◌, ◌+◌, ◌*◌, ◌≤◌, ◌++◌, MatchResult, codes, length, string_bytes, string_len, string_capacity};
 ghost use Rattle.std.specs.Str.{str_to_ascii_lowercase};
 ghost use Rattle.hex_core.specs.declared.digit.CheckCase.TheVariants as policy;
 ghost use Rattle.hex_core.specs.Refusal.{OwnedFailure};
@@ -78,7 +78,6 @@ pub fn lowercased(alloc: Global, digits: &[u8]) -> Result<String, Error>
 /// assert!(rt; text.starts_with(b"sha256:abab"));
 /// ```
 pub fn put_labelled<S: Sink>(digest: &[u8; 32], sink: &mut S) -> Result<(), WriteFault>
-    requires { (S.state sink.old).failures < 2 ^ 64 - 1 }
     ensures { Puts (S.state sink.old) (S.state sink.new) result (codes "sha256:" ++ text lowercase digest.now) }
 {
     a_text_is_put_from_its_front();

@@ -4,7 +4,7 @@ use Rattle.std.proofs.Common.{IsErr, IfOk, refl, ap, ◌∙◌, arith, append_as
 use Rattle.std.proofs.lemmas.List.{drop-drop, length-take-le}
 use Rattle.std.proofs.KnownBytes.{Appends-nil, Appends-trans}
 use Rattle.hex_io.specs.declared.sink.SinkFault.{SinkFault}
-use Rattle.hex_io.specs.Sink.{FillsBy, Puts, PutsPiece, SinkState, Stops, Takes, room}
+use Rattle.hex_io.specs.Sink.{FillsBy, Puts, PutsPiece, SinkState, Stops, Takes, one_more, room}
 
 -- the free bytes after some are taken, and then some more
 FillsBy-then : (m n : ℕ) (a b c : SinkState) → FillsBy m a b → FillsBy n b c → FillsBy (m + n) a c
@@ -15,7 +15,7 @@ FillsBy-then m n a b c p q = (rw (q.0, p.0) (grind (arith, drop-drop)), q.1 ∙ 
 -- it took some bytes
 pub PutsPiece-takes : (a b : SinkState) (n : ℕ) (piece : List ℕ) → 0 < n → PutsPiece a b (Ok n) piece → Takes a b (take n piece)
 PutsPiece-takes a b zero piece some p = absurd (omega arith)
-PutsPiece-takes a b (suc n) piece some p = record { appended = p.0.1; unfailed = omega (arith, p.1); filled = rw (length-take-le (suc n) piece p.0.0) p.0.2 }
+PutsPiece-takes a b (suc n) piece some p = record { appended = p.0.1; unfailed = p.1; filled = rw (length-take-le (suc n) piece p.0.0) p.0.2 }
 
 -- it took none, or was refused
 pub PutsPiece-stops : (a b : SinkState) (r : Result ℕ SinkFault) (piece : List ℕ) → 0 < length piece → IfOk r (λ n. n ≡ 0) → PutsPiece a b r piece → Stops a b piece
@@ -47,7 +47,7 @@ Stops-then a b c xs ys p q =
         appended = Appends-trans _ _ _ _ _ p.appended begun.appended;
         filled = rw length-append (FillsBy-then _ _ a b c p.filled begun.filled);
       };
-      failed = q.failed ∙ ap (λ n. n + 1) p.unfailed;
+      failed = q.failed ∙ ap one_more p.unfailed;
       short = simp length-append (omega (arith, q.short, left));
     }
 

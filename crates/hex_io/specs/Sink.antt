@@ -1,5 +1,5 @@
 -- The state of a sink, and how puts change it.
-use Rattle.std.specs.Prelude.{◌≡◌, ℕ, zero, suc, ◌+◌, ◌<◌, ◌≤◌, List, [], ◌∷◌, ◌++◌, length, take, drop, Option, Result, Ok, Err, MatchResult, option_map, unwrap_or}
+use Rattle.std.specs.Prelude.{◌≡◌, ℕ, zero, suc, ◌+◌, ◌-◌, ◌^◌, ◌<◌, ◌≤◌, min, List, [], ◌∷◌, ◌++◌, length, take, drop, Option, Result, Ok, Err, MatchResult, option_map, unwrap_or}
 use Rattle.std.specs.Borrow.{GName}
 use Rattle.std.specs.Io.KnownBytes.{Appends}
 use Rattle.hex_io.specs.declared.sink.SinkFault.{SinkFault}
@@ -28,12 +28,16 @@ pub record AppendsBeginning (old new : SinkState) (bs : List ℕ) : Type 0 where
   pub appended : Appends old.taken new.taken front
   pub filled : FillsBy (length front) old new
 
--- the number of failures that a put counts: one if it refuses, or takes none of a nonempty piece
-abbrev pub faults_of : Result ℕ SinkFault → List ℕ → ℕ
-faults_of (Ok zero) [] = 0
-faults_of (Ok zero) (b ∷ piece) = 1
-faults_of (Ok (suc n)) piece = 0
-faults_of (Err fault) piece = 1
+-- one failure more, as far as a `u64` counts
+abbrev pub one_more : ℕ → ℕ
+one_more n = min (n + 1) (2 ^ 64 - 1)
+
+-- the number of failures after a put: one more if it refuses, or takes none of a nonempty piece
+abbrev pub failures_after : ℕ → Result ℕ SinkFault → List ℕ → ℕ
+failures_after n (Ok zero) [] = n
+failures_after n (Ok zero) (b ∷ piece) = one_more n
+failures_after n (Ok (suc taken)) piece = n
+failures_after n (Err fault) piece = one_more n
 
 -- one put of a piece. `Ok`: this many of its first bytes were taken; `Err`: a leading part of it was. The
 -- failure is counted, and a nonempty piece that fits is taken whole
@@ -41,7 +45,7 @@ abbrev pub PutsPiece : SinkState → SinkState → Result ℕ SinkFault → List
 PutsPiece old new result piece = MatchResult result
     (λ n. (n ≤ length piece) × Appends old.taken new.taken (take n piece) × FillsBy n old new)
     (λ _. AppendsBeginning old new piece)
-    × (new.failures ≡ old.failures + faults_of result piece)
+    × (new.failures ≡ failures_after old.failures result piece)
     × (0 < length piece → length piece ≤ room old → result ≡ Ok (length piece))
 
 -- some puts in a row took all of bs, and none failed
@@ -53,7 +57,7 @@ pub record Takes (old new : SinkState) (bs : List ℕ) : Type 0 where
 -- or they ended early: a leading part of bs was taken, one put failed, and not all of bs fits
 pub record Stops (old new : SinkState) (bs : List ℕ) : Type 0 where
   pub begun : AppendsBeginning old new bs
-  pub failed : new.failures ≡ old.failures + 1
+  pub failed : new.failures ≡ one_more old.failures
   pub short : room old < length bs
 
 -- some puts in a row. `Ok`: they took all of bs; `Err`: they ended early

@@ -1,6 +1,6 @@
 //! Digest lists: one line per entry, with the digits of its digest, its mark and its name.
 
-ghost use Rattle.std.specs.Prelude.{◌≡◌, ◌≢◌, ◌≤◌, ◌<◌, ◌-◌, ◌*◌, ◌^◌, ◌++◌, ◌∷◌, [], None, Some, length, take};
+ghost use Rattle.std.specs.Prelude.{◌≡◌, ◌≢◌, ◌≤◌, ◌*◌, ◌++◌, ◌∷◌, [], None, Some, length, take};
 ghost use Rattle.hex_core.specs.Calls.{Answers};
 ghost use Rattle.hex_core.specs.Search.{first_invalid};
 ghost use Rattle.hex_io.specs.ListCalls.{ReadsList, WritesList};
@@ -298,7 +298,6 @@ pub fn write_to<S: Sink, const N: usize>(
     sink: &mut S,
     upper: bool,
 ) -> Result<(), ListWriteFault>
-    requires { (S.state sink.old).failures < 2 ^ 64 - 1 }
     ensures { WritesList upper entries.now (S.state sink.old) (S.state sink.new) result }
 {
     if let Some(entry) = bad_name(entries) {
@@ -344,7 +343,6 @@ fn put_line<S: Sink, const N: usize>(
     entry: &Entry<'_, N>,
     upper: bool,
 ) -> Result<(), WriteFault>
-    requires { (S.state sink.old).failures < 2 ^ 64 - 1 }
     ensures { Puts (S.state sink.old) (S.state sink.new) result (line_of upper entry.now ++ (10 ∷ [])) }
 {
     put_digits(sink, &entry.digest, upper, None)?;

@@ -1,6 +1,6 @@
 //! Puts of digits: the text of some bytes, with separators between pieces if grouped.
 
-ghost use Rattle.std.specs.Prelude.{◌≡◌, ◌-◌, ◌*◌, ◌%◌, ◌^◌, ◌<◌, ◌≤◌, ◌∷◌, ◌++◌, [], IsTrue, if◌then◌else◌, length};
+ghost use Rattle.std.specs.Prelude.{◌≡◌, ◌*◌, ◌%◌, ◌<◌, ◌≤◌, ◌∷◌, ◌++◌, [], IsTrue, if◌then◌else◌, length};
 ghost use Rattle.std.specs.Str.{IsAscii};
 ghost use Rattle.hex_core.specs.Text.{text};
 ghost use Rattle.hex_codec.specs.Grouped.{grouped, piece_len, separator};
@@ -55,7 +55,6 @@ pub fn put_digits<S: Sink>(
     upper: bool,
     group: Option<Group>,
 ) -> Result<(), WriteFault>
-    requires { (S.state sink.old).failures < 2 ^ 64 - 1 }
     ensures { Puts (S.state sink.old) (S.state sink.new) result (digits_by group upper bytes.now) }
 {
     match group {
@@ -66,7 +65,6 @@ pub fn put_digits<S: Sink>(
 
 // Puts the text of `bytes`, a chunk at a time.
 fn put_text<S: Sink>(sink: &mut S, bytes: &[u8], upper: bool) -> Result<(), WriteFault>
-    requires { (S.state sink.old).failures < 2 ^ 64 - 1 }
     ensures { Puts (S.state sink.old) (S.state sink.new) result (text upper bytes.now) }
 {
     if bytes.len() <= SHORT_SOURCE {
@@ -88,7 +86,6 @@ fn put_grouped<S: Sink>(
     upper: bool,
     group: Group,
 ) -> Result<(), WriteFault>
-    requires { (S.state sink.old).failures < 2 ^ 64 - 1 }
     ensures { Puts (S.state sink.old) (S.state sink.new) result (grouped group upper bytes.now) }
 {
     if bytes.len() <= SHORT_SOURCE {
@@ -125,7 +122,6 @@ fn put_part<S: Sink>(
     more: bool,
     buffer: &mut [u8; 3 * ENCODE_CHUNK],
 ) -> Result<(), WriteFault>
-    requires counts { (S.state sink.old).failures < 2 ^ 64 - 1 }
     requires some { IsTrue more → 0 < length bytes.now }
     requires one { ENCODE_CHUNK < length bytes.now → length bytes.now ≤ piece_len group }
     ensures { Puts (S.state sink.old) (S.state sink.new) result

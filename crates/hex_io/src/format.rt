@@ -1,6 +1,6 @@
 //! A view of bytes that prints them as hex digits, with padding.
 
-ghost use Rattle.std.specs.Prelude.{◌≡◌, ◌-◌, ◌^◌, ◌<◌, None, Some, false};
+ghost use Rattle.std.specs.Prelude.{◌≡◌, None, Some, false};
 ghost use Rattle.std.specs.Fmt.{WritesOnOk};
 ghost use Rattle.std.specs.Str.{IsAscii};
 ghost use Rattle.hex_core.specs.Text.{lowercase, text};
@@ -112,7 +112,6 @@ impl<'a> Hex<'a> {
     /// assert_eq!(rt; sink.written(), b"0x0000ab".as_slice());
     /// ```
     pub fn write_to<S: Sink>(&self, sink: &mut S, flags: &HexFlags) -> Result<(), WriteFault>
-        requires { (S.state sink.old).failures < 2 ^ 64 - 1 }
         ensures framed { Puts (S.state sink.old) (S.state sink.new) result (frame flags.now (hex_bytes self.now)) }
         ensures bare { flags.now.plus ≡ false → flags.now.prefix ≡ false → flags.now.width ≡ None
             → Puts (S.state sink.old) (S.state sink.new) result (digits_of flags.now (hex_bytes self.now)) }
@@ -123,7 +122,6 @@ impl<'a> Hex<'a> {
 
 // Puts the text of some bytes, padded as `flags` say: the parts of the frame, one after another.
 fn put_framed<S: Sink>(bytes: &[u8], sink: &mut S, flags: &HexFlags) -> Result<(), WriteFault>
-    requires { (S.state sink.old).failures < 2 ^ 64 - 1 }
     ensures { Puts (S.state sink.old) (S.state sink.new) result (frame flags.now bytes.now) }
 {
     let front = sign_and_prefix(flags);

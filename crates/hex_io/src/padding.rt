@@ -1,6 +1,6 @@
 //! Padding: how much of it a text has, and copies of a character.
 
-ghost use Rattle.std.specs.Prelude.{◌≡◌, ◌-◌, ◌*◌, ◌^◌, ◌<◌, ◌≤◌, encode_utf8, length};
+ghost use Rattle.std.specs.Prelude.{◌≡◌, ◌*◌, ◌≤◌, encode_utf8, length};
 ghost use Rattle.std.specs.List.{repeat};
 ghost use Rattle.hex_io.specs.Frame.{left_padding, padding_of, sign_and_prefix};
 ghost use Rattle.hex_io.specs.Sink.{Puts};
@@ -46,7 +46,6 @@ pub fn before_text(align: Align, padding: usize) -> usize
 
 /// Puts `count` copies of a character.
 pub fn put_copies<S: Sink>(sink: &mut S, fill: char, count: usize) -> Result<(), WriteFault>
-    requires { (S.state sink.old).failures < 2 ^ 64 - 1 }
     ensures { Puts (S.state sink.old) (S.state sink.new) result (repeat count (encode_utf8 fill)) }
 {
     if count == 0 {

@@ -1,6 +1,6 @@
 //! Sinks, which take bytes piece by piece, and two of them: over a slice and over a writer.
 
-ghost use Rattle.std.specs.Prelude.{◌≡◌, ◌-◌, ◌^◌, ◌<◌, ◌≤◌, None, Some, length};
+ghost use Rattle.std.specs.Prelude.{◌≡◌, ◌≤◌, None, Some, length};
 ghost use Rattle.std.specs.Option.{option_copied};
 ghost use Rattle.hex_io.specs.Message.{sink_fault_text, write_fault_text};
 ghost use Rattle.hex_io.specs.Sink.{Puts, PutsPiece, SinkState};
@@ -38,21 +38,19 @@ pub trait Sink {
     // borrow. Any other sink has `None` for the last two.
     ghost state: { Self → SinkState };
 
-    /// Returns the number of failed puts.
+    /// Returns the number of failed puts, or `u64::MAX` if they are more.
     fn failures(&self) -> u64
         ensures { result ≡ (state self.now).failures };
 
     /// Offers a piece and returns how many of its first bytes were taken.
     ///
-    /// Counts one more failure exactly if this returns an error, or takes none of a nonempty piece.
-    /// Requires the count to be below `u64::MAX`. A sink over a borrowed buffer takes all of a
-    /// nonempty piece if it fits.
+    /// Counts one more failure exactly if this returns an error, or takes none of a nonempty piece,
+    /// up to `u64::MAX`. A sink over a borrowed buffer takes all of a nonempty piece if it fits.
     ///
     /// # Errors
     ///
     /// [`SinkFault`] if the sink refuses; it may have taken a leading part of the piece.
     fn put(&mut self, piece: &[u8]) -> Result<usize, SinkFault>
-        requires { (state self.old).failures < 2 ^ 64 - 1 }
         ensures { PutsPiece (state self.old) (state self.new) result piece.now };
 }
 
@@ -113,7 +111,6 @@ impl From<SinkFault> for WriteFault {
 /// assert_eq!(rt; sink.written(), b"abc".as_slice());
 /// ```
 pub fn put_all<S: Sink>(sink: &mut S, piece: &[u8]) -> Result<(), WriteFault>
-    requires { (S.state sink.old).failures < 2 ^ 64 - 1 }
     ensures { Puts (S.state sink.old) (S.state sink.new) result piece.now }
 {
     let mut at = 0;
@@ -201,14 +198,13 @@ impl Sink for SliceSink<'_> {
     ///
     /// [`SinkFault`] exactly if `piece` is nonempty and the slice is full; nothing is taken then.
     fn put(&mut self, piece: &[u8]) -> Result<usize, SinkFault>
-        requires { (slice_state self.old).failures < 2 ^ 64 - 1 }
         ensures puts { PutsPiece (slice_state self.old) (slice_state self.new) result piece.now }
         // Takes all that fits. A refusal takes nothing.
         ensures fits { TakesWhatFits self.old self.new result piece.now }
     {
         let free = self.buf.len() - self.used;
         if free == 0 && !piece.is_empty() {
-            self.refused += 1;
+            self.refused = self.refused.saturating_add(1);
             return Err(SinkFault);
         }
         let count = piece.len().min(free);
@@ -279,7 +275,6 @@ impl<W: Write> Sink for WriterSink<W> {
     ///
     /// [`SinkFault`] if the writer returned an error, which is kept; nothing is taken then.
     fn put(&mut self, piece: &[u8]) -> Result<usize, SinkFault>
-        requires { (writer_state W.contents self.old).failures < 2 ^ 64 - 1 }
         ensures puts { PutsIntoWriter W.contents self.old self.new result piece.now }
         // A refusal takes nothing and keeps an error: no clause can name which.
         ensures error { KeepsError W.contents self.old self.new result }
@@ -287,13 +282,13 @@ impl<W: Write> Sink for WriterSink<W> {
         match self.writer.write(piece) {
             Ok(count) => {
                 if count == 0 && !piece.is_empty() {
-                    self.failed += 1;
+                    self.failed = self.failed.saturating_add(1);
                 }
                 Ok(count)
             }
             Err(error) => {
                 self.last_error = Some(error);
-                self.failed += 1;
+                self.failed = self.failed.saturating_add(1);
                 Err(SinkFault)
             }
         }

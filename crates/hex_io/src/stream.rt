@@ -1,7 +1,7 @@
 //! For digits that exceed memory: a decoder that is fed chunks of any length, and calls that decode
 //! or encode all that a reader gives into a sink, in constant memory.
 
-ghost use Rattle.std.specs.Prelude.{◌≡◌, ◌<◌, ◌-◌, ◌^◌, ◌↔◌, ℕ, [], IsErrAnd, IsTrue, List, MatchResult, Some, length};
+ghost use Rattle.std.specs.Prelude.{◌≡◌, ◌↔◌, ℕ, [], IsErrAnd, IsTrue, List, MatchResult, Some, length};
 ghost use Rattle.std.specs.Io.{ReadsAtMost};
 ghost use Rattle.std.specs.Io.KnownBytes.{ReadConsumes};
 ghost use Rattle.std.specs.IoError.{error_kind};
@@ -103,7 +103,6 @@ pub fn decode_stream<R: Read, S: Sink>(
     sink: &mut S,
     case: CheckCase,
 ) -> Result<usize, StreamFault>
-    requires { (S.state sink.old).failures < 2 ^ 64 - 1 }
     ensures { DecodesStream case (R.remaining reader.old) (R.remaining reader.new)
         (S.state sink.old) (S.state sink.new) result }
 {
@@ -131,7 +130,6 @@ pub fn decode_spaced_stream<R: Read, S: Sink>(
     sink: &mut S,
     case: CheckCase,
 ) -> Result<usize, StreamFault>
-    requires { (S.state sink.old).failures < 2 ^ 64 - 1 }
     ensures { DecodesSpacedStream case (R.remaining reader.old) (R.remaining reader.new)
         (S.state sink.old) (S.state sink.new) result }
 {
@@ -144,7 +142,6 @@ fn decode_by<R: Read, S: Sink>(
     sink: &mut S,
     mut decoder: Decoder,
 ) -> Result<usize, StreamFault>
-    requires room { (S.state sink.old).failures < 2 ^ 64 - 1 }
     requires fresh { HasFed decoder [] [] }
     ensures { DecodesSource (reading_of decoder) (R.remaining reader.old) (R.remaining reader.new)
         (S.state sink.old) (S.state sink.new) result }
@@ -194,7 +191,6 @@ pub fn encode_stream<R: Read, S: Sink>(
     sink: &mut S,
     upper: bool,
 ) -> Result<usize, StreamFault>
-    requires { (S.state sink.old).failures < 2 ^ 64 - 1 }
     ensures { EncodesStream upper (R.remaining reader.old) (R.remaining reader.new)
         (S.state sink.old) (S.state sink.new) result }
 {

@@ -1,6 +1,6 @@
 //! The operations of `fhex`, and running one over an input and a sink.
 
-ghost use Rattle.std.specs.Prelude.{◌≡◌, ◌++◌, ◌∷◌, [], ◌<◌, ◌-◌, ◌^◌, map};
+ghost use Rattle.std.specs.Prelude.{◌≡◌, ◌++◌, ◌∷◌, [], map};
 ghost use Rattle.hex_core.specs.Text.{text};
 ghost use Rattle.hex_io.specs.Sink.{Puts};
 ghost use Rattle.hex_program.specs.Operations.{Runs, op_of_word, op_of_words, without_newline};
@@ -80,7 +80,6 @@ fn digits_in(input: &[u8]) -> &[u8]
 
 // Puts the digits of some bytes, and a newline. Allocates nothing.
 fn put_text_line<S: Sink>(sink: &mut S, upper: bool, bytes: &[u8]) -> Result<(), WriteFault>
-    requires { (S.state sink.old).failures < 2 ^ 64 - 1 }
     ensures { Puts (S.state sink.old) (S.state sink.new) result (text upper bytes.now ++ 10 ∷ []) }
 {
     puts_in_a_row_are_one();
@@ -99,7 +98,6 @@ pub fn run_in<A: Allocator + Drop, S: Sink>(
     input: &[u8],
     sink: &mut S,
 ) -> Result<(), RunFault>
-    requires { (S.state sink.old).failures < 2 ^ 64 - 1 }
     ensures { Runs op input.now (S.state sink.old) (S.state sink.new) result }
 {
     let case = match op {
@@ -142,7 +140,6 @@ pub fn run_in<A: Allocator + Drop, S: Sink>(
 /// assert_eq!(rt; sink.written(), b"AB\n".as_slice());
 /// ```
 pub fn run<S: Sink>(alloc: Global, op: Op, input: &[u8], sink: &mut S) -> Result<(), RunFault>
-    requires { (S.state sink.old).failures < 2 ^ 64 - 1 }
     ensures { Runs op input.now (S.state sink.old) (S.state sink.new) result }
 {
     run_in(alloc, op, input, sink)

@@ -1,6 +1,6 @@
 //! A sink that takes what is put in six ways, five of which fail, and what is put into sinks.
 
-ghost use Rattle.std.specs.Prelude.{◌≡◌, ◌≤◌, ◌^◌, ◌-◌, ◌<◌, None};
+ghost use Rattle.std.specs.Prelude.{◌≡◌, ◌≤◌, ◌<◌, None};
 
 use crate::terms::Destination;
 use hex_io::digests::{self, Entry, ListWriteFault};
@@ -118,7 +118,7 @@ impl Sink for Taking<'_> {
         self.taken += count;
         if is_refused || (count == 0 && !piece.is_empty()) {
             self.has_failed = true;
-            self.failed += 1;
+            self.failed = self.failed.saturating_add(1);
         }
         if is_refused {
             Err(SinkFault)
@@ -167,8 +167,7 @@ pub enum Put<'a, const N: usize> {
 impl<'a, const N: usize> Put<'a, N> {
     // Puts it.
     fn write_to<S: Sink>(self, sink: &mut S, flags: &HexFlags) -> Result<(), ListWriteFault>
-        requires fits { (S.state sink.old).failures < 2 ^ 64 - 1 }
-        requires sized { N < 10000 }
+        requires { N < 10000 }
     {
         match self {
             Put::Padded(bytes) => match Hex::new(bytes).write_to(sink, flags) {

@@ -22,7 +22,7 @@ returns-clause-puts c =
 pub returns-then-not-is_empty-clause-puts : goal.returns-then-not-is_empty-clause-puts
 returns-then-not-is_empty-clause-puts c = (
   record { front = []; rest = c.args.piece.now; parts = refl; appended = search rules; filled = (refl, refl) },
-  refl,
+  c.saturating_add-self.ensures,
   λ some le. absurd (omega (arith, some, simp length-drop at le)),
 )
 
