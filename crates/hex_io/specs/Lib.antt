@@ -6,6 +6,7 @@ pub mod Sink
 pub mod Sinks
 pub mod SinkLaws
 pub mod Stream
+pub mod DecoderLaws
 pub mod Lists
 pub mod Message
 pub mod ListCalls

@@ -2,6 +2,7 @@
 //! does nothing. A proof that needs one calls it.
 
 ghost use Rattle.hex_io.specs.Decoder.{DecodersWereFed, WritesAsOneCall};
+ghost use Rattle.hex_io.specs.DecoderLaws.{EndsRefuseStreams, FeedsAreCounted, RoomyFeedsRefuseStreams, WritesAtMostHalf};
 ghost use Rattle.hex_io.specs.ListLaws.{FaultyListsNothing, ListsOneList, ReadNamesAreGood, ReadingInvertsWriting, WritingInvertsStrictReading};
 ghost use Rattle.hex_io.specs.SinkLaws.{FrontsFail, PutsInARow, RestsFollow, StopsEarlier, StopsFail, StopsInARow, TakesInARow, TakesNothing};
 
@@ -23,6 +24,21 @@ pub fn every_decoder_has_been_fed()
 {
     decoding_inverts_encoding();
 }
+
+/// What a decoder refuses, a stream of all that it was fed is refused for, if it was fed into a
+/// buffer of half the length. So a loop over a decoder promises what
+/// [`decode_stream`](crate::stream::decode_stream) does.
+pub fn a_decoder_with_room_refuses_as_a_stream()
+    ensures feed { RoomyFeedsRefuseStreams }
+    ensures finish { EndsRefuseStreams }
+{}
+
+/// A decoder has written at most half as many bytes as it was fed, and a `usize` counts these: so a
+/// loop over a decoder ends, and its sums do not overflow.
+pub fn a_decoder_writes_half_of_what_it_is_fed()
+    ensures half { WritesAtMostHalf }
+    ensures counted { FeedsAreCounted }
+{}
 
 /// Consecutive puts are one put of the joined bytes, also if the last one failed; no put at all is
 /// a put of nothing.

@@ -1,7 +1,7 @@
 use Rattle.std.proofs.Common.{◌≡◌, ◌∙◌, ◌∷◌, ◌++◌, [], ℕ, List, append_assoc, ap, drop, subst, sym, take}
 use Rattle.std.proofs.Math.Seq.{drop-append_seam, take-append_seam}
 use Rattle.std.proofs.lemmas.List.{drop-drop, take_rest}
-use Rattle.callers.proofs.dump.parts_of.Goals as goal
+use Rattle.callers.proofs.undump.parts_of.Goals as goal
 
 pub returns-clause-all : goal.returns-clause-all
 returns-clause-all c = λ front back eight is.
