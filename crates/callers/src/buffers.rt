@@ -64,7 +64,6 @@ pub fn bad_place(text: &[u8]) -> Option<usize>
     ensures eight { length text.now ≡ 8 → result ≡ first_invalid policy.None text.now }
 {
     an_invalid_char_is_the_first_invalid_byte();
-    the_first_invalid_byte_is_the_first();
     match hex_decode_array::<4>(text) {
         Err(Error::InvalidChar { index, .. }) => Some(index),
         _ => None,

@@ -11,10 +11,13 @@ ghost use Rattle.faster_hex.specs.WireFormats as wire;
 ghost use Rattle.callers.specs.Records.{AnswersField};
 
 use faster_hex::laws::{
-    a_bound_refuses_what_is_longer_alone, none_and_an_empty_list_stay_apart,
-    strict_writing_inverts_reading,
+    a_bound_refuses_what_is_longer_alone, an_optional_array_has_its_length,
+    none_and_an_empty_list_stay_apart, strict_writing_inverts_reading,
 };
-use faster_hex::{AdapterError, array, nopfx_ignorecase, nopfx_lowercase, option_nopfx_uppercase};
+use faster_hex::{
+    AdapterError, array, nopfx_ignorecase, nopfx_lowercase, option_nopfx_lowercase,
+    option_nopfx_uppercase,
+};
 use serde_json::Value;
 use std::alloc::Global;
 
@@ -87,6 +90,30 @@ pub fn reread_note(alloc: Global, note: &Option<Vec<u8>>) -> Result<Option<Vec<u
     };
     let value = option_nopfx_uppercase::serialize(alloc, bytes)?;
     option_nopfx_uppercase::deserialize(alloc, &value)
+}
+
+/// Writes the identifier of a parent that may be missing as a value, and reads it back: it is the same,
+/// or memory ran out.
+///
+/// ```rust
+/// let parent = Some(*b"hello, 16 bytes!");
+/// assert_eq!(rt; reread_parent(rt.alloc(), &parent)?, parent);
+/// assert_eq!(rt; reread_parent(rt.alloc(), &None)?, None);
+/// ```
+pub fn reread_parent(
+    alloc: Global,
+    parent: &Option<[u8; 16]>,
+) -> Result<Option<[u8; 16]>, AdapterError>
+    ensures { IfOk result (λ read. read ≡ parent.now) }
+{
+    an_optional_array_has_its_length(parent);
+    let bytes = if let Some(id) = parent {
+        Some(id.as_slice())
+    } else {
+        None
+    };
+    let value = option_nopfx_lowercase::serialize(alloc, bytes)?;
+    option_nopfx_lowercase::array::deserialize(&value)
 }
 
 /// Returns whether a value of an `option_` module is that of `None`. A list's never is, even an

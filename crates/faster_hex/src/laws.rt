@@ -1,6 +1,8 @@
 //! Laws of the adapters, each as the contract of a function that does nothing. A proof that needs
 //! one calls it.
 
+ghost use Rattle.std.specs.Prelude.{◌≡◌, length};
+ghost use Rattle.std.specs.Option.{ForSome};
 ghost use Rattle.faster_hex.specs.AdapterLaws.{ArrayHasNoBound, BoundedReadsWhatFits, OptionReadingInvertsWriting, ReadingInvertsWriting, ReadsNoneApart, UnboundedHasNoBound, WritesNoneApart, WritingInvertsStrictReading};
 
 use hex_core::laws::{decoding_inverts_encoding, encoding_inverts_strict_decoding};
@@ -35,3 +37,8 @@ pub fn strict_writing_inverts_reading()
 {
     encoding_inverts_strict_decoding();
 }
+
+/// An array that may be missing has its length, as reading an option of one requires.
+pub fn an_optional_array_has_its_length<const N: usize>(bytes: &Option<[u8; N]>)
+    ensures sized { ForSome bytes.now (λ array. length array ≡ N) }
+{}

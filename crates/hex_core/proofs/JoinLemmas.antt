@@ -62,5 +62,5 @@ valid-parts c a b = (none_joined (lacks c) a b).0
 -- and moves behind digits that are valid
 pub bad-behind : (c : CheckCase) (a b : List ℕ) (i byte : ℕ) → first_invalid c a ≡ None → first_bad_char c b ≡ Some (InvalidChar i byte) → first_bad_char c (a ++ b) ≡ Some (InvalidChar (length a + i) byte)
 bad-behind c a b i byte none is =
-    let (at, read, _) = bad_char_names_first c b i byte is in
+    let (at, read, _, _) = bad_char_names_first c b i byte is in
     rw (invalid-joined c a b, none, at, back_at a b i (length a + i) refl, read) refl

@@ -94,12 +94,12 @@ PartsAreValidWhereTheirRangesAre = (c : CheckCase) (s : List ℕ) (start end : �
     → end ≤ length s
     → (first_invalid c (slice_range s start end) ≡ None) ↔ AllValid c s start end
 
--- an `InvalidChar` has the index of the first invalid byte of the source, and that byte, which has no
--- value
+-- an `InvalidChar` has the index of the first invalid byte of the source, which is in it, and that
+-- byte, which has no value
 abbrev pub NamesFirstInvalid : (CheckCase → List ℕ → Option Error) → Type 0
 NamesFirstInvalid refusal = (c : CheckCase) (s : List ℕ) (i b : ℕ)
     → refusal c s ≡ Some (InvalidChar i b)
-    → (first_invalid c s ≡ Some i) × (b ≡ slice_index s i) × (value c b ≡ None)
+    → (first_invalid c s ≡ Some i) × (b ≡ slice_index s i) × (value c b ≡ None) × (i < length s)
 
 -- `with_front` begins with its list
 abbrev pub FrontsAreKept : Type 0

@@ -64,7 +64,7 @@ pub fn the_first_invalid_byte_is_the_first()
 {}
 
 /// If decoding into a slice, an array or new memory returns `InvalidChar`, that has the index of
-/// the first invalid byte, and the byte itself, which is invalid.
+/// the first invalid byte, which is in the source, and the byte itself, which is invalid.
 pub fn an_invalid_char_is_the_first_invalid_byte()
     ensures slice { (room : ℕ) → NamesFirstInvalid (λ c s. decode_refusal c s room) }
     ensures array { (n : ℕ) → NamesFirstInvalid (λ c s. array_refusal c s n) }

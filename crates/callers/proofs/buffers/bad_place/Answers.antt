@@ -6,5 +6,4 @@ pub returns-in-Err-InvalidChar-clause-bad : goal.returns-in-Err-InvalidChar-clau
 returns-in-Err-InvalidChar-clause-bad c =
     let text = c.args.text.now in
     let named = c.an_invalid_char_is_the_first_invalid_byte.ensures.array 4 policy.None text _ _ (rw c.in-Err-InvalidChar.field-0-is at c.in-Err-InvalidChar.ensures.answer) in
-    let first = (c.the_first_invalid_byte_is_the_first.ensures.first policy.None text _).0 named.0 in
-    (first.0, first.1)
+    (named.3, rw named.1 at named.2)
