@@ -4,7 +4,7 @@ pub mod GroupLemmas
 mod GroupTextLemmas
 pub mod ListLemmas
 mod ReadBack
-pub mod SpelledLemmas
+mod SpelledLemmas
 mod PartLemmas
-pub mod WriteLemmas
+mod WriteLemmas
 mod WrongLemmas

@@ -1,21 +1,21 @@
 pub mod AsciiLemmas
-pub mod BlockLemmas
+mod BlockLemmas
 pub mod ByteLemmas
-pub mod HashLemmas
+mod HashLemmas
 pub mod JoinLemmas
-pub mod LaneLemmas
+mod LaneLemmas
 pub mod LawProofs
-pub mod LookupLemmas
-pub mod OwnedLemmas
-pub mod PairLemmas
+mod LookupLemmas
+mod OwnedLemmas
+mod PairLemmas
 pub mod PositionLemmas
-pub mod ProbeLemmas
+mod ProbeLemmas
 pub mod SearchLemmas
-pub mod RefusalLemmas
-pub mod ShiftLemmas
+mod RefusalLemmas
+mod ShiftLemmas
 pub mod SliceWalk
-pub mod SpellsLemmas
-pub mod TableLemmas
-pub mod TextBlockLemmas
+mod SpellsLemmas
+mod TableLemmas
+mod TextBlockLemmas
 pub mod TextLemmas
 mod WordLemmas

@@ -1,6 +1,6 @@
 mod ChunkFacts
-pub mod FrameFacts
-pub mod PutsLemmas
+mod FrameFacts
+mod PutsLemmas
 mod Repeats
 mod DecoderLemmas
 mod StreamLemmas
