@@ -1,6 +1,6 @@
 /* Tries the calls of faster_hex.h beside models of a few lines: between guarded pages at all lengths
- * from 0 to 300, with NULL, with sources too long for any text, with numbers above 2^32, with source and
- * destination that touch, at all alignments, and in threads.
+ * from 0 to 300 and some long ones, with NULL, with sources too long for any text, with numbers above
+ * 2^32, with source and destination that touch, at all alignments, and in threads.
  * `tests/test_library.py` builds and runs it. Prints a line for each thing that failed, and
  * `N passed, M failed` at the end.
  * Usage: library [threads] */
@@ -15,6 +15,16 @@
 #include "faster_hex.h"
 
 enum { LONGEST = 300, OLD = 0xa5, THREADS = 8, TURNS = 200 };
+
+/* The header's macros are constants, with sums in them and around them. */
+#define IS(expression) __extension__ _Static_assert(expression, #expression)
+IS(FASTER_HEX_ENCODED_LEN(0) == 0);
+IS(7 % FASTER_HEX_ENCODED_LEN(1 + 1) == 3);
+IS(FASTER_HEX_DECODED_LEN(3) == 1);
+IS(8 / FASTER_HEX_DECODED_LEN(3 + 1) == 4);
+IS(FASTER_HEX_GROUPED_LEN(0, 1) == 0 && FASTER_HEX_GROUPED_LEN(1, 1) == 2);
+IS(7 % FASTER_HEX_GROUPED_LEN(1 + 1, 1) == 2);
+IS(FASTER_HEX_GROUPED_LEN(4, 1 + 1) == 9 && FASTER_HEX_GROUPED_LEN(5, 2) == 12);
 
 static const char *const NAMES[] = {
     "check", "first_invalid", "encode", "decode", "decode_with_case", "encode_grouped", "decode_grouped",
@@ -160,7 +170,7 @@ static void count(bool holds) {
 }
 
 /* A text that a call reads: bytes, or digits, in groups where the call reads groups, with a byte in
- * four that is none. `turn` tells the texts of a length apart. */
+ * four that is none, or one of the wrong case. `turn` tells the texts of a length apart. */
 static void fill(const struct job *it, uint8_t *text, unsigned turn) {
     static const char *const letters[] = { "0123456789aBcDeF", "0123456789abcdef", "0123456789ABCDEF" };
     for (size_t i = 0; i < it->len; i++) {
@@ -169,7 +179,8 @@ static void fill(const struct job *it, uint8_t *text, unsigned turn) {
         else if (it->call == DECODE_GROUPED && it->every != 0 && separates(i, it->every)) text[i] = it->sep;
         else text[i] = (uint8_t)letters[turn % 3][mixed % 16];
     }
-    if (it->len > 0 && turn % 4 == 3) text[(turn * 7919u) % it->len] = (uint8_t)(turn * 37);
+    uint8_t wrong = turn % 8 == 3 ? (uint8_t)"zAa"[turn % 3] : (uint8_t)(turn * 37);
+    if (it->len > 0 && turn % 4 == 3) text[(turn * 7919u) % it->len] = wrong;
 }
 
 /* How much room a call takes. */
@@ -200,16 +211,16 @@ static bool tries(struct job it, uint8_t *src, uint8_t *dst, unsigned turn, stru
     return agrees(&it, around);
 }
 
-/* Pages between two that nobody may touch. */
-static struct memory guarded(void) {
-    size_t page = (size_t)sysconf(_SC_PAGESIZE);
-    uint8_t *all = mmap(NULL, 3 * page, PROT_NONE, MAP_PRIVATE | MAP_ANONYMOUS, -1, 0);
-    struct memory memory = { all + page, page, malloc(2 * page) };
-    if (all == MAP_FAILED || memory.kept == NULL || mprotect(memory.start, page, PROT_READ | PROT_WRITE) != 0) {
+/* Pages for so many bytes, between two that nobody may touch. */
+static struct memory guarded(size_t bytes) {
+    size_t page = (size_t)sysconf(_SC_PAGESIZE), size = (bytes + page - 1) / page * page;
+    uint8_t *all = mmap(NULL, size + 2 * page, PROT_NONE, MAP_PRIVATE | MAP_ANONYMOUS, -1, 0);
+    struct memory memory = { all + page, size, malloc(2 * size) };
+    if (all == MAP_FAILED || memory.kept == NULL || mprotect(memory.start, size, PROT_READ | PROT_WRITE) != 0) {
         perror("no guarded pages");
         exit(2);
     }
-    memset(memory.start, OLD, page);
+    memset(memory.start, OLD, size);
     return memory;
 }
 
@@ -224,23 +235,30 @@ static void refuses_unwritten(const struct job *it, struct memory to) {
 
 /* Source and destination each at the front or at the end of guarded pages; the source's can't be
  * written while the call runs, nor the destination's where it refuses. */
-static void between_guards(struct memory from, struct memory to) {
-    for (size_t len = 0; len <= LONGEST; len++) {
-        bool holds = true;
-        for (unsigned at = 0; at < CALLS * 60; at++) {
-            unsigned turn = at % 60;
-            struct job it = job_of((enum call)(at / 60), len, turn);
-            uint8_t *src = turn & 1 ? from.start + from.size - len : from.start;
-            it.src = src;
-            it.dst = turn & 2 ? to.start + to.size - it.room : to.start;
-            fill(&it, src, turn);
-            mprotect(from.start, from.size, PROT_READ);
-            holds = agrees(&it, to) && holds;
-            refuses_unwritten(&it, to);
-            mprotect(from.start, from.size, PROT_READ | PROT_WRITE);
-        }
-        count(holds);
+static void at_length(size_t len, unsigned turns, struct memory from, struct memory to) {
+    bool holds = true;
+    for (unsigned at = 0; at < CALLS * turns; at++) {
+        unsigned turn = at % turns;
+        struct job it = job_of((enum call)(at / turns), len, turn);
+        uint8_t *src = turn & 1 ? from.start + from.size - len : from.start;
+        it.src = src;
+        it.dst = turn & 2 ? to.start + to.size - it.room : to.start;
+        fill(&it, src, turn);
+        mprotect(from.start, from.size, PROT_READ);
+        holds = agrees(&it, to) && holds;
+        refuses_unwritten(&it, to);
+        mprotect(from.start, from.size, PROT_READ | PROT_WRITE);
     }
+    count(holds);
+}
+
+/* The longer one is that of whole texts in groups of 1, 2, 3, 4, 17 and 300 bytes. */
+static void at_long_lengths(void) {
+    struct memory from = guarded(70004), to = guarded(3 * 70004 + 7);
+    at_length(4097, 12, from, to);
+    at_length(70004, 12, from, to);
+    free(from.kept);
+    free(to.kept);
 }
 
 /* NULL where a length is 0: as the source, as the destination, as both. */
@@ -293,17 +311,8 @@ static bool wants(struct faster_hex_answer answer, size_t required) {
     return is_told(answer, required, FASTER_HEX_OUTPUT_TOO_SMALL);
 }
 
-/* A source of so many zeros, which stand nowhere: its first byte is no digit. */
-static void wide_source(size_t len) {
-    void *src = mmap(NULL, len, PROT_READ, MAP_PRIVATE | MAP_ANONYMOUS, -1, 0);
-    count(src != MAP_FAILED && !faster_hex_check(src, len));
-    count(src != MAP_FAILED && faster_hex_first_invalid(src, len, 0).status == FASTER_HEX_INVALID_CHAR);
-    munmap(src, len);
-}
-
-/* Rooms, groups and lengths whose low 32 bits say something else. */
-static void above_32_bits(uint8_t *dst) {
-    const size_t wide = ((size_t)1 << 32) + 2;
+/* Rooms and groups whose lower bits say something else. */
+static void wide_rooms(size_t wide, uint8_t *dst) {
     const char *src = "00ff0A1b";
     count(has_room(faster_hex_decode(src, 8, dst, wide), 4));
     count(has_room(faster_hex_decode_with_case(src, 8, dst, wide, 0), 4));
@@ -311,12 +320,26 @@ static void above_32_bits(uint8_t *dst) {
     count(has_room(faster_hex_encode_grouped(src, 8, dst, wide, false, 1, ':'), 23));
     count(has_room(faster_hex_encode_grouped(src, 8, dst, 16, false, wide, ':'), 16));
     count(has_room(faster_hex_decode_grouped(src, 8, dst, wide, 0, wide, ':'), 4));
+}
+
+/* Lengths whose lower bits say something else. No call reads on after the zeros, which are no digits. */
+static void wide_lengths(size_t wide) {
+    static const uint8_t src[4096] = { 0 };
+    count(!faster_hex_check(src, wide - 2));
+    count(faster_hex_first_invalid(src, wide - 2, 0).status == FASTER_HEX_INVALID_CHAR);
     count(wants(faster_hex_decode(src, wide, NULL, 0), wide / 2));
     count(wants(faster_hex_decode_with_case(src, wide, NULL, 0, 0), wide / 2));
     count(wants(faster_hex_encode(src, wide, NULL, 0, true), 2 * wide));
     count(wants(faster_hex_encode_grouped(src, wide, NULL, 0, true, wide - 1, ':'), 2 * wide + 1));
     count(wants(faster_hex_decode_grouped(src, wide, NULL, 0, 0, wide, ':'), wide / 2));
-    wide_source(wide - 2);
+}
+
+static void above_32_bits(uint8_t *dst) {
+    for (unsigned bit = 32; bit < 64; bit++) {
+        size_t wide = ((size_t)1 << bit) + 2;
+        wide_rooms(wide, dst);
+        if (bit < 63) wide_lengths(wide);
+    }
 }
 #endif
 
@@ -419,8 +442,9 @@ int main(int words, char **word) {
     if (words > 1 && strcmp(word[1], "threads") == 0) {
         in_threads();
     } else {
-        struct memory from = guarded(), to = guarded();
-        between_guards(from, to);
+        struct memory from = guarded(LONGEST), to = guarded(3 * LONGEST);
+        for (size_t len = 0; len <= LONGEST; len++) at_length(len, 60, from, to);
+        at_long_lengths();
         with_null(to);
         too_long(to);
         other_policies();
