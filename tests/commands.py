@@ -129,9 +129,10 @@ def alone(made, build):
 
 
 def is_locked(shared):
-    """Has nobody write a shared library once it is loaded."""
+    """Has nobody write a shared library once it is loaded, or run its stack."""
     said = ran(["readelf", "-ldW", shared]).stdout
     assert all(it in said for it in ("GNU_RELRO", "BIND_NOW", "[libfaster_hex.so.1]")) and "TEXTREL" not in said
+    assert re.search(" GNU_STACK .* RW ", said) and " RWE " not in said
 
 
 def takes(made, model, program, out):

@@ -37,6 +37,15 @@ def test_names_and_state_of_the_archive(target):
     assert found == ([] if runner else [("1", "level")])
 
 
+def test_sections_of_the_archive(target):
+    """Only addresses, which a loader fills in, and the choice of a build can be written. No stack is run."""
+    said = ran(["readelf", "-SW", target[0] / "libfaster_hex.a"]).stdout
+    found = re.findall(r"\] (\.\S+) +[A-Z_]+ +0{16} \w+ (\w+) \w+ +([A-Z]*) +\d+ +\d+ +\d+$", said, re.M)
+    written = [name for name, size, flags in found if "W" in flags and int(size, 16)]
+    assert written and all(re.match(r"\.(data\.rel\.ro|init_array|bss)\b", it) for it in written)
+    assert [it for name, _, it in found if name == ".note.GNU-stack"] == said.count("File: ") * [""]
+
+
 def test_names_of_the_shared_library(target):
     shared = target[0] / SHARED[2]
     said = ran(["readelf", "-W", "--dyn-syms", shared]).stdout
