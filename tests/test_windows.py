@@ -7,6 +7,8 @@ from commands import CALLS, CRATE, NAMES, OUT, TESTS_IN_C, TOP, WINDOWS_CC, by_c
 
 # What a call on Windows keeps.
 KEPT = [*"%rbx %rbp %rsi %rdi %r12 %r13 %r14 %r15".split(), *(f"%xmm{it}" for it in range(6, 16))]
+# How the tests in C are built for it.
+BUILT = f"{WINDOWS_CC} -std=gnu99 -pthread -static -I{CRATE} -I{TESTS_IN_C}/windows -o".split()
 # Where the library is assembled and never run.
 OTHERS = "x86_64-apple-macos11 arm64-apple-macos11 aarch64-unknown-freebsd13 x86_64-unknown-netbsd9".split()
 
@@ -48,10 +50,19 @@ def test_registers(tmp_path, windows):
     data = [f"{name}: .byte {','.join(f'{7 * it % 251}' for it in range(288))}" for name in ("want", "seen")]
     text = [".comm own,512", ".data", *data, ".text", *(it for call in CALLS for it in keeping(call)), ""]
     (tmp_path / "kept.s").write_text("\n".join(text))
-    words = f"{WINDOWS_CC} -std=gnu99 -pthread -static -I{CRATE} -I{TESTS_IN_C}/windows -o".split()
-    words += [tmp_path / "kept.exe", TESTS_IN_C / "library.c", tmp_path / "kept.s", windows / "libfaster_hex.a"]
-    runs([*words, *(f"-Wl,--wrap={it}" for it in CALLS)])
+    words = [tmp_path / "kept.exe", TESTS_IN_C / "library.c", tmp_path / "kept.s", windows / "libfaster_hex.a"]
+    runs([*BUILT, *words, *(f"-Wl,--wrap={it}" for it in CALLS)])
     passes(["wine", tmp_path / "kept.exe"])
+
+
+def test_build_that_moves_the_stack(tmp_path, windows):
+    """That for x86-64-v2 alone does, which a newer processor does not take."""
+    needs("wine")
+    text, taken = (CRATE / "dispatch.c").read_text(), "level_of(processor())"
+    assert text.count(taken) == 1
+    (tmp_path / "dispatch.c").write_text(text.replace(taken, "2"))
+    runs([*BUILT, tmp_path / "lower.exe", TESTS_IN_C / "library.c", tmp_path / "dispatch.c", windows / "builds.o"])
+    passes(["wine", tmp_path / "lower.exe"])
 
 
 def test_cmake(tmp_path):
@@ -81,3 +92,19 @@ def test_program_for(tmp_path, target):
     asked = {*re.findall(r" U (\w+)$", ran(["llvm-nm", tmp_path / "fhex.o"]).stdout, re.M)}
     has = re.findall(r"^PROVED .*\b(fhex_\w+)\(.*\{", (TOP / "crates/fhex/fhex.c").read_text(), re.M)
     assert asked == {*(it for it in has if "_mem" not in it), "memcpy", "memmove", "memset"}
+
+
+@pytest.mark.parametrize("processor, files", [("arm64", "aarch64.s"), ("x86_64", "x86-64*.s")])
+def test_places_and_names_on_macos(tmp_path, processor, files):
+    """Calls are private and aligned; addresses alone can be written; constants are found by page and offset."""
+    needs("clang", "llvm-nm", "llvm-objdump")
+    text, built = "".join(it.read_text() for it in TOP.glob(f"generated/{files}")), tmp_path / "builds.o"
+    runs(["clang", "-target", f"{processor}-apple-macos11", "-c", "-o", built, TOP / "generated/builds.S"])
+    named = lambda macro: {*re.findall(rf"^\t{macro}\t(.*)", text, re.M)}
+    found = re.findall(r"^(\w+) \((\S+)\) (.*) ((?!ltmp)\S+)$", ran(["llvm-nm", "-m", built]).stdout, re.M)
+    assert {name[1:] for *_, kind, name in found if kind == "weak private external"} == named("hex_export")
+    assert {name for _, place, _, name in found if place.startswith("__DATA,")} == named("hex_addresses")
+    assert {int(at, 16) % 64 for at, place, *_ in found if place == "__TEXT,__text"} == {0}
+    said = ran(["llvm-objdump", "-r", built]).stdout
+    assert said.count("_PAGE21 ") == text.count("\thex_page\t")
+    assert said.count("_PAGEOFF12 ") == len(re.findall(r"\thex_(?:address|value)\t", text))
