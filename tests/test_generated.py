@@ -9,6 +9,8 @@ GENERATED = TOP / "generated"
 # Words of each build's assembly: some that stand there, and some that don't.
 SPEAKS = {"x86-64": ("%xmm", "pshufb|%ymm|%zmm"), "x86-64-v2": ("\tpshufb", "%ymm|%zmm")}
 SPEAKS |= {"x86-64-v3": ("\tvpshufb\t.*%ymm", "%zmm"), "aarch64": (r"\ttbl\t", "%")}
+# Functions that are called in some builds though they are marked to be inlined, and why.
+CALLED = {"codec_pieces_write_by": "it has the code for all lengths twice, and a call is small beside its loop"}
 CRATES = "hex_core", "hex_codec"
 
 
@@ -42,4 +44,4 @@ def test_inlined(path):
     """The toolchain drops the mark from a function that would grow very large, and says nothing."""
     build, names = r"\d+_\d+_\d+_(?:x86_64(?:_v\d)?|aarch64)", "|".join(marked())
     symbol = rf"^\thex_function\tfaster_hex_{build}_({names})_*,"
-    assert not re.findall(symbol, path.read_text(), re.M)
+    assert {*re.findall(symbol, path.read_text(), re.M)} <= {*CALLED}

@@ -110,7 +110,8 @@ pub fn read_pieces(plan: Backend, src: &[u8], dst: &mut [u8], group: Group, case
     read_piece(plan, &src[at..], &mut dst[done..], case);
 }
 
-// Writes the grouped text of `src` over all of `dst`.
+// Writes the grouped text of `src` over all of `dst`. The toolchain inlines it for x86-64 alone.
+#[inline(always)]
 fn write_by(plan: Backend, src: &[u8], dst: &mut [u8], every: usize, group: Group, upper: bool)
     requires every { every ≡ piece_len group }
     requires room { length dst.old ≡ grouped_len (piece_len group) (length src.now) }
