@@ -65,7 +65,8 @@ def program(request, fhex, tmp_path_factory):
 
 
 def ended(*words, **how):
-    done = ran(words, **{"stderr": subprocess.PIPE, "text": None, "errors": None, **how})
+    """How a program ends, which it does within a minute."""
+    done = ran(words, **{"stderr": subprocess.PIPE, "text": None, "errors": None, "timeout": 60, **how})
     return done.returncode, done.stdout, done.stderr
 
 
