@@ -6,7 +6,7 @@
 # `make generate` proves the sources and writes generated/ anew. `make test` runs the examples and the gate,
 # `make check` all that the gate can't, the bindings beside a checkout RUST of the Rust crate faster-hex 1.0.0,
 # `make deep` what a release takes beside it, `make test-c` the tests in C alone, by the command RUN if it is
-# told, and `make dist` packs what users of C and Rust need.
+# told, and `make dist` packs the repository.
 # `make install PREFIX=DIR` puts what is built into DIR, the libraries into LIBDIR, both below DESTDIR, and
 # `make uninstall` takes the same files away. `make vendor DIR=DIR` copies the library for Rattle into the
 # repository at DIR, with JSON=no the crates that have no JSON. `make -s` prints nothing where all goes well.
@@ -66,18 +66,15 @@ JOBS = $(shell n=$$(nproc); echo $$((n < 4 ? n : 4)))
 
 # What runs beside another takes what processors there are.
 .NOTPARALLEL:
-.PHONY: all lib fhex current current-fhex generate test test-c check deep dist install uninstall vendor clean
+.PHONY: all lib fhex current current-fhex generate test test-c check deep dist install uninstall vendor help clean
 
 all: lib $(if $(PROGRAM),fhex)
 
-# A release has generated/ without the sources.
-IS_CURRENT = [ ! -d crates/hex_core ] || grep -qxF "sources $$(scripts/sources $(2))" $(1)/PROVED || { \
-	echo '$(1)/ is not made of these sources: run `make generate`' >&2; exit 1; }
 current:
-	@$(call IS_CURRENT,generated,hex_core hex_codec faster_hex_c)
+	@scripts/current generated hex_core hex_codec faster_hex_c
 
 current-fhex:
-	@$(call IS_CURRENT,generated/program,hex_core hex_codec hex_io hex_program fhex)
+	@scripts/current generated/program hex_core hex_codec hex_io hex_program fhex
 
 generate:
 	@scripts/generate $(QUIET)
@@ -112,7 +109,7 @@ $(OUT)/fhex $(OUT)/fhex.exe: crates/fhex/fhex.c $(wildcard generated/program/* g
 $(OUT)/libfaster_hex.so.1: $(SHARED)
 	cp $< $@
 
-ifneq ($(wildcard crates/hex_core),)
+ifneq ($(shell command -v rt),)
 test: current current-fhex
 	tests/header.sh
 	scripts/examples
@@ -120,6 +117,7 @@ test: current current-fhex
 	MUTATIONS_JOBS=$(JOBS) scripts/mutations --gate
 else
 test: test-c
+	@echo 'these were the tests in C: the others take the Rattle toolchain' >&2
 endif
 
 TRY = $(CC) $(CPPFLAGS) $(CFLAGS) -std=gnu99 -pthread -I$(C) $(OF_TESTS) -o $(OUT)/try.exe
@@ -149,12 +147,9 @@ deep: all
 # As the last commit has it, or where files have changed, these; the same bytes whoever packs it.
 TO = .
 PACK = $(TO)/faster_hex-$(VERSION).tar
-PACKED = Makefile CMakeLists.txt Cargo.toml CHANGELOG.md LICENSE bindings/cmake bindings/faster_hex.pc.in \
-	bindings/rust crates/fhex/fhex.c docs/faster_hex.3 docs/fhex.1 examples generated scripts/install.sh \
-	$(addprefix $(C)/,dispatch.c assembly.h portable.h faster_hex.h faster_hex.hpp faster_hex.def faster_hex.map) tests/c
 dist: current current-fhex
-	git -c tar.umask=0022 archive --prefix=faster_hex-$(VERSION)/ --add-file=docs/release/README.md \
-		-o "$(PACK)" $$(git stash create | grep . || echo HEAD) $(PACKED) && gzip -9nf "$(PACK)"
+	git -c tar.umask=0022 archive --prefix=faster_hex-$(VERSION)/ -o "$(PACK)" \
+		$$(git stash create | grep . || echo HEAD) && gzip -9nf "$(PACK)"
 
 install: $(if $(SYSTEM),,all)
 	$(if $(SYSTEM),$(error for $(SYSTEM) CMake installs, by -DFASTER_HEX_INSTALL=ON))
@@ -165,6 +160,9 @@ uninstall:
 
 vendor:
 	scripts/vendor $(if $(filter no,$(JSON)),--no-json) "$(DIR)"
+
+help:
+	@sed -n '/^[^#]/q; s/^# //p' Makefile
 
 clean:
 	rm -rf out crates/*/out

@@ -5,16 +5,26 @@ import shutil
 
 import pytest
 
-from commands import (ARM_CC, BY_RUST, CARGO, CC, CXX, HELLO, INSTALLED, ON_ARM, PRINTED, RUSTC, TOP, VERSION, by_cmake,
-                      has_files, make, needs, only, passes, ran, runs)
+from commands import (ARM_CC, BY_RUST, CARGO, CC, CXX, HELLO, INSTALLED, ON_ARM, PRINTED, RUSTC, SHARED, TOP, VERSION,
+                      WINDOWS_CC, by_cmake, has_files, make, needs, only, passes, ran, runs)
 
 NAME = f"faster_hex-{VERSION}"
 # What builds, tests and installs a pack.
 TOOLS = f"""sh make {CC} {CXX} gcc clang musl-gcc {ARM_CC} qemu-aarch64 ar as ld cp ln rm mv mkdir install cat
-    sed grep sort dirname rmdir cmake pkg-config {CARGO} {RUSTC} env uname"""
+    sed grep sort dirname rmdir find xargs cksum cmake pkg-config {CARGO} {RUSTC} env uname"""
 RUNNERS = {CC: "", "clang": "", "musl-gcc": "", ARM_CC: ON_ARM}
 # What CMake asks for, and whether it is refused.
 VERSIONS = {"1": 0, "1.0": 0, "1.0.0 EXACT": 0, "1.0.1": 1, "1.1": 1, "2": 1, "0.9": 1}
+# A library over ours, which is exported.
+OVER = """cmake_minimum_required(VERSION 3.14)
+project(over C)
+add_subdirectory(${TOP} faster_hex)
+file(WRITE ${CMAKE_BINARY_DIR}/over.c "#include <faster_hex.h>\\nbool is_hex(void) { return faster_hex_check(0, 0); }")
+add_library(over STATIC ${CMAKE_BINARY_DIR}/over.c)
+target_link_libraries(over PUBLIC faster_hex::archive)
+install(TARGETS over EXPORT over)
+install(EXPORT over DESTINATION lib)
+"""
 
 
 def packed(to, umask, top=TOP):
@@ -103,6 +113,27 @@ def test_cmake(tmp_path, top, env):
     twice = shutil.copytree(top / "examples/c", tmp_path / "twice") / "CMakeLists.txt"
     twice.write_text(re.sub(r"^(find_package.*\n)", r"\1\1", twice.read_text(), flags=re.M))
     by_cmake(twice.parent, tmp_path / "over", f"-DCMAKE_PREFIX_PATH={top.parent}/there", env=env)
+
+
+def test_what_cmake_installs(tmp_path, top, env):
+    """The library, below a library over it that is exported too, and for Windows."""
+    for name, *options in ("here",), ("windows", "SYSTEM_NAME=Windows", f"C_COMPILER={WINDOWS_CC}"):
+        built, there = tmp_path / name, tmp_path / f"{name} installed"
+        options += ["INSTALL_LIBDIR=lib", f"INSTALL_PREFIX={there}"]
+        words = ["cmake", "-S", top, "-B", built, "-DFASTER_HEX_INSTALL=ON", *(f"-DCMAKE_{it}" for it in options)]
+        if name == "windows" and not shutil.which(WINDOWS_CC):
+            continue
+        for line in words, ["cmake", "--build", built], ["cmake", "--install", built]:
+            runs(line)
+        shared = "bin/libfaster_hex.dll" if name == "windows" else f"lib/{SHARED[1]}"
+        assert all((there / it).exists() for it in (shared, "lib/libfaster_hex.a", "include/faster_hex.hpp"))
+    by_cmake(top / "examples/c", tmp_path / "over", f"-DCMAKE_PREFIX_PATH={tmp_path}/here installed", env=env)
+    (tmp_path / "CMakeLists.txt").write_text(OVER)
+    words = ["cmake", "-S", tmp_path, "-B", tmp_path / "exported", "-DFASTER_HEX_INSTALL=ON", f"-DTOP={top}"]
+    runs([*words, f"-DCMAKE_INSTALL_PREFIX={tmp_path}/both"])
+    runs(["cmake", "--build", tmp_path / "exported"])
+    runs(["cmake", "--install", tmp_path / "exported"])
+    assert "faster_hex::archive" in (tmp_path / "both/lib/over.cmake").read_text()
 
 
 @pytest.mark.parametrize("version", VERSIONS)
