@@ -82,8 +82,10 @@
 //! # Platforms
 //!
 //! The README beside it names them. On x86-64 the first call asks the processor which of three builds runs:
-//! for x86-64, x86-64-v2 or x86-64-v3, which uses AVX2. On aarch64 there is one, with NEON. Which build runs changes the speed alone. Rust 1.81 or later. Miri runs no assembly, so
-//! it cannot run this crate. Several versions of it, and the library for C, may stand in one program.
+//! for x86-64, x86-64-v2 or x86-64-v3, which uses AVX2. On aarch64 there is one, with NEON. Which build runs
+//! changes the speed alone. Elsewhere, as on riscv64, wasm32, bare metal and under Miri, the calls are plain,
+//! safe Rust: that is not proved, but tested beside the builds. Rust 1.81 or later. Several versions of the
+//! crate, and the library for C, may stand in one program.
 //!
 //! It also says how this crate takes the place of `faster-hex`, and what that crate has and this one not.
 #![no_std]
