@@ -4,8 +4,7 @@ import os
 
 import pytest
 
-from commands import CC, CRATE, TESTS_IN_C, make, needs, passes, ran, runs
-from libraries import compiled, tries
+from commands import CC, CRATE, OUT, TESTS_IN_C, compiled, make, needs, passes, ran, runs, tries
 from packages import OF_SERDE, lacking, packed, without
 
 # A compiler, where its programs run, and the folder of the library.
@@ -28,7 +27,7 @@ def test_in_c(tmp_path, compiler, words):
     runner, folder = TARGETS.get(compiler, ("", "portable"))
     needs(compiler, *runner.split()[:1])
     runs(make("lib", f"CC={compiler}", *["TARGET=portable"] * (compiler == CC)), out="", err="")
-    tries(tmp_path, compiler, CRATE / f"out/{folder}/libfaster_hex.a", "-DFASTER_HEX_PORTABLE", runner, words)
+    tries(tmp_path, compiler, OUT / folder / "libfaster_hex.a", "-DFASTER_HEX_PORTABLE", runner, words)
 
 
 @pytest.mark.parametrize("target", FREESTANDING)

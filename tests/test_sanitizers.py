@@ -2,8 +2,7 @@
 fault of faults.c, and none where there is none; and that `make` builds so."""
 import pytest
 
-from commands import CRATE, TESTS_IN_C, TOP, make, needs, ran, runs
-from libraries import compiled
+from commands import CRATE, TESTS_IN_C, TOP, compiled, make, needs, ran, runs
 
 OF_ADDRESS = {"none": "", "short-destination": "heap-buffer-overflow", "short-source": "heap-buffer-overflow"}
 OF_ADDRESS |= {"freed": "heap-use-after-free", "unwritten": ""}
