@@ -1,5 +1,5 @@
 """scripts/mutations over a small crate: wrong bodies are refused, also where one writes a text that another one
-looks for; a right one among them is named as passed, also where a function that it calls or one of the same name is
+looks for; a right one among them is named as missed, also where a function that it calls or one of the same name is
 wrong, and so is a wrong one that a weak contract lets through; what can't be compiled or applied is an error, and
 what is refused only since a name is gone, also where that is told over two lines."""
 import os
@@ -53,7 +53,7 @@ FUNCTIONS = [
 # What is said of each mutation: its sentence, the text that stands there, another one, and how what is said begins.
 # They are tried in this order, and a list is halved where it can't be read: the first two stay in one check, and so
 # would the two of `size` if their names were not told apart.
-PROVED = "passed: tiny: {}: its crate is still proved$"
+PROVED = "missed: tiny: {}: its crate is still proved$"
 REFUSED = "refused: tiny: {}: (?!alone: )"
 LOST = "error: tiny: {}: it is refused only since names are gone"
 EDIT = "right over a wrong one", "doubled(x) + doubled(x)", "2 * doubled(x)", PROVED
@@ -119,14 +119,14 @@ def test_each_is_told(all_tried, sentence, said):
 
 def test_they_are_counted(all_tried):
     assert re.search("^tiny: 5 of 12 refused, ", all_tried.stdout, re.M)
-    assert all_tried.stdout.endswith("\n5 found, 7 passed\n") and all_tried.returncode == 1
+    assert all_tried.stdout.endswith("\n5 passed, 7 failed\n") and all_tried.returncode == 1
 
 
 def test_the_gate_tries_the_first_alone_and_once(top):
     needs("rt")
     for how in r", \d+ s of processor", " by an earlier run":
         done = tries(top, "--gate")
-        assert re.search(f"^tiny: 1 of 1 refused{how}\n1 found, 1 passed\n$", done.stdout, re.M), done.stdout
+        assert re.search(f"^tiny: 1 of 1 refused{how}\n1 passed, 1 failed\n$", done.stdout, re.M), done.stdout
         assert done.stdout.startswith("error: tiny: can not be applied: ") and done.returncode == 1
 
 
