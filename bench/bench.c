@@ -1,34 +1,28 @@
-// Times this repository's calls and others', all in turn in one run, and prints the least time of each in
-// nanoseconds: a line of the table, the call, the number of bytes and the time, with tabs between them. First it
-// checks the answers. bench/run writes the list of calls, calls.h, and tells KERNEL, the name of the Rust crate's
-// kernel whose vectors are as wide as this build's.
-// Usage: bench [sweep | shared]. A sweep times three calls at many lengths, and `shared` those of the shared
-// library beside the Rust crate's public ones.
-#include <stdbool.h>
-#include <stdint.h>
+// Times the calls of generated/ beside others', all in turn in one run, and prints the least time of each in
+// nanoseconds: a line of the call, the number of decoded bytes and the time, with tabs between them. First it
+// checks the answers. bench/run builds it.
+#include <faster_hex.h>
 #include <stdio.h>
 #include <stdlib.h>
 #include <string.h>
 #include <time.h>
 
 // The rounds of a size are spread over the whole run, since a shared machine has slow seconds.
-#define PASSES 20
-// A sweep, with few calls, has time for more.
-#define SWEEP_PASSES 40
+#define PASSES 40
 // How far below the last one a pass begins: twenty go round a page.
 #define PLACE 208
 #define PAGE 4096
 #define ROUNDS 12
-#define TURNS_NS 30000
+#define TURNS_NS 20000
 #define LARGEST 65536
 #define OLD 0xa5
 #define MOST_SIZES 160
 
-enum mode { ALL, SWEEP, SHARED };
 enum kind { CHECK, ENCODE, DECODE, WRITE, READ, KINDS };
 
-// The lengths in decoded bytes, which a sweep puts its own in place of.
-static size_t sizes[MOST_SIZES + 1] = {6, 8, 64, 256, 4096, LARGEST};
+// The numbers of decoded bytes of grouped calls, and of the others, which main fills in.
+static const size_t few[] = {6, 64, LARGEST, 0};
+static size_t swept[MOST_SIZES + 1];
 
 struct task {
     const uint8_t *src;
@@ -37,46 +31,86 @@ struct task {
     size_t room;
 };
 
-// A loop for each call, so that the call is a direct one: how well a processor foresees an indirect
-// one depends on what else the machine does.
-#define CALL(kind, side, plan, name, modes) \
-    size_t side##_##plan##_##name(const uint8_t *src, size_t len, uint8_t *dst, size_t room); \
-    static __attribute__((noinline)) size_t side##_##plan##_##name##_loop( \
-        const struct task *task, long turns) { \
-        struct task its = *task; \
-        size_t sum = 0; \
+// A build's calls: plain ones, in groups of 1 and 16 bytes, and those of arrays, of which each has one length.
+#define OF(build, call) faster_hex_1_0_0_x86_64_##build##_##call
+#define GROUPED(build, n) \
+    CALL(WRITE, 0, build##_write_##n, OF(build, encode_grouped)(src, len, dst, room, false, n, ':').number) \
+    CALL(READ, 0, build##_read_##n, OF(build, decode_grouped)(src, len, dst, room, 0, n, ':').number)
+#define ARRAY(build, n) CALL(DECODE, n, build##_decode_##n, n * OF(build, decode_##n)(src, dst))
+#define OURS(build) \
+    CALL(CHECK, 0, build##_check, OF(build, check)(src, len)) \
+    CALL(ENCODE, 0, build##_encode, OF(build, encode)(src, len, dst, room, false).number) \
+    CALL(DECODE, 0, build##_decode, OF(build, decode)(src, len, dst, room).number) \
+    GROUPED(build, 1) GROUPED(build, 16) \
+    ARRAY(build, 16) ARRAY(build, 20) ARRAY(build, 32) ARRAY(build, 64)
+// The Rust crate's calls, of a kernel or on slices, and the loops of loops.c.
+#define RUST(side) \
+    CALL(CHECK, 0, side##_check, rust_##side##_check(src, len, dst, room)) \
+    CALL(ENCODE, 0, side##_encode, rust_##side##_encode(src, len, dst, room)) \
+    CALL(DECODE, 0, side##_decode, rust_##side##_decode(src, len, dst, room))
+#define LOOPS(n) \
+    CALL(WRITE, 0, loop_write_##n, write_by_##n(src, len, dst)) \
+    CALL(READ, 0, loop_read_##n, read_by_##n(src, len, dst))
+#define EACH OURS(v2) OURS(v3) RUST(sse41) RUST(avx2) RUST(slices_v2) RUST(slices_v3) LOOPS(1) LOOPS(16)
+
+#define DECLARED(build) \
+    __typeof__(faster_hex_check) OF(build, check); \
+    __typeof__(faster_hex_encode) OF(build, encode); \
+    __typeof__(faster_hex_decode) OF(build, decode); \
+    __typeof__(faster_hex_encode_grouped) OF(build, encode_grouped); \
+    __typeof__(faster_hex_decode_grouped) OF(build, decode_grouped); \
+    bool OF(build, decode_16)(const void *src, void *dst), OF(build, decode_20)(const void *src, void *dst); \
+    bool OF(build, decode_32)(const void *src, void *dst), OF(build, decode_64)(const void *src, void *dst);
+DECLARED(v2)
+DECLARED(v3)
+typedef size_t other(const uint8_t *src, size_t len, uint8_t *dst, size_t room);
+typedef size_t grouping(const uint8_t *src, size_t len, uint8_t *dst);
+other rust_sse41_check, rust_sse41_encode, rust_sse41_decode, rust_avx2_check, rust_avx2_encode, rust_avx2_decode;
+other rust_slices_v2_check, rust_slices_v2_encode, rust_slices_v2_decode;
+other rust_slices_v3_check, rust_slices_v3_encode, rust_slices_v3_decode;
+grouping write_by_1, write_by_16, read_by_1, read_by_16;
+
+// A loop for each call, so that the call is a direct one: how well a processor foresees an indirect one
+// depends on what else the machine does.
+#define CALL(kind, only, name, made) \
+    static __attribute__((noinline)) size_t name##_loop(const struct task *task, long turns) { \
+        const uint8_t *src = task->src; \
+        uint8_t *dst = task->dst; \
+        size_t len = task->len, room = task->room, sum = 0; \
+        (void)len, (void)dst, (void)room; \
         for (long i = 0; i < turns; i++) { \
-            sum += side##_##plan##_##name(its.src, its.len, its.dst, its.room); \
+            sum += made; \
         } \
         return sum; \
     }
-#include "calls.h"
+EACH
 #undef CALL
 
 struct call {
     enum kind kind;
-    const char *table;
-    const char *side;
-    const char *plan;
+    size_t only;
     const char *name;
-    int modes;
     size_t (*loop)(const struct task *task, long turns);
 };
 
-#define CALL(kind, side, plan, name, modes) \
-    {kind, #kind, #side, #plan, #name, modes, side##_##plan##_##name##_loop},
-static const struct call calls[] = {
-#include "calls.h"
-};
+#define CALL(kind, only, name, made) {kind, only, #name, name##_loop},
+static const struct call calls[] = {EACH};
 #define CALLS (sizeof calls / sizeof *calls)
 
-static bool is_left_out[CALLS];
 static double least[CALLS][MOST_SIZES];
 static volatile size_t sink;
 
 // The same bytes, and their text in lowercase and in both cases.
 static uint8_t bytes[LARGEST], lower[2 * LARGEST], mixed[2 * LARGEST];
 static uint8_t out[3 * LARGEST + PAGE] __attribute__((aligned(64)));
+
+static const size_t *sizes_of(enum kind kind) {
+    return kind == WRITE || kind == READ ? few : swept;
+}
+
+static bool has(const struct call *call, enum kind kind, size_t size) {
+    return call->kind == kind && (!call->only || call->only == size);
+}
 
 // A number with no pattern, the same ones in each run.
 static uint32_t next(void) {
@@ -96,11 +130,11 @@ static void fill(void) {
     }
 }
 
-// Puts colons between pieces of so many bytes of a text, where there are any, and returns its new length.
+// Puts colons between pieces of so many bytes of a text, and returns its new length.
 static size_t group(uint8_t *to, const uint8_t *text, size_t size, size_t every) {
     size_t at = 0;
     for (size_t i = 0; i < size; i++) {
-        if (every && i && i % every == 0) {
+        if (i && i % every == 0) {
             to[at++] = ':';
         }
         memcpy(to + at, text + 2 * i, 2);
@@ -109,9 +143,9 @@ static size_t group(uint8_t *to, const uint8_t *text, size_t size, size_t every)
     return at;
 }
 
-// How many bytes a piece has: the number in a plan `by_N`.
+// How many bytes a piece has: the number behind the name of a grouped call.
 static size_t every_of(const struct call *call) {
-    return strtoul(call->plan + 3, NULL, 10);
+    return strtoul(strrchr(call->name, '_') + 1, NULL, 10);
 }
 
 // The text in both cases in pieces. Those of fewer bytes are its fronts.
@@ -120,7 +154,7 @@ static struct task grouped(size_t every, size_t size) {
     if (!texts[every][0]) {
         group(texts[every], mixed, LARGEST, every);
     }
-    return (struct task){texts[every], 2 * size + (every ? (size - 1) / every : 0), out, size};
+    return (struct task){texts[every], 2 * size + (size - 1) / every, out, size};
 }
 
 static struct task task_of(const struct call *call, size_t size) {
@@ -157,16 +191,16 @@ static double spent(const struct call *call, const struct task *task, long turns
 
 // Times the calls of one kind in turn, so that each meets the same machine. A call's turns are long
 // enough for the clock not to count, and run once before they are timed: a processor may first have
-// to wake its wide vectors. Behind these some are slower for a while, which else would always meet
+// to wake its wide vectors. After these some are slower for a while, which else would always meet
 // the same calls, so each round has another order.
 static void measure(enum kind kind, size_t at_size, size_t place) {
     struct task tasks[CALLS];
     size_t order[CALLS], count = 0;
     long turns[CALLS];
     for (size_t at = 0; at < CALLS; at++) {
-        if (calls[at].kind == kind && !is_left_out[at]) {
+        if (has(&calls[at], kind, sizes_of(kind)[at_size])) {
             order[count++] = at;
-            tasks[at] = task_of(&calls[at], sizes[at_size]);
+            tasks[at] = task_of(&calls[at], sizes_of(kind)[at_size]);
             tasks[at].dst += place;
             turns[at] = 1;
             while (spent(&calls[at], &tasks[at], turns[at]) < TURNS_NS) {
@@ -192,46 +226,18 @@ static void measure(enum kind kind, size_t at_size, size_t place) {
 // a seventh longer from some places, and one place held for a whole run. A likely cause is that a load
 // waits for a store whose address has the same low twelve bits. So the output too begins so far on in
 // a page, at a multiple of 64: else it and each source would have these bits in common.
-static void measure_below(size_t bytes, enum kind kind, size_t at_size) {
-    volatile char room[bytes];
+static void measure_below(size_t below, enum kind kind, size_t at_size) {
+    volatile char room[below];
     room[0] = 0;
-    measure(kind, at_size, bytes % PAGE / 64 * 64);
+    measure(kind, at_size, below % PAGE / 64 * 64);
     (void)room[0];
 }
 
 static void check(const struct call *call) {
-    for (const size_t *size = sizes; *size; size++) {
-        if (!is_right(call, *size)) {
-            fprintf(stderr, "%s %s %s gives something else than it should on %zu bytes\n", call->side,
-                call->plan, call->name, *size);
+    for (const size_t *size = sizes_of(call->kind); *size; size++) {
+        if (has(call, call->kind, *size) && !is_right(call, *size)) {
+            fprintf(stderr, "%s gives something else than it should on %zu bytes\n", call->name, *size);
             exit(1);
-        }
-    }
-}
-
-// Checks all calls, and then times them.
-static void run(int passes) {
-    for (size_t at = 0; at < CALLS; at++) {
-        if (!is_left_out[at]) {
-            check(&calls[at]);
-        }
-    }
-    for (int pass = 0; pass < passes; pass++) {
-        for (enum kind kind = 0; kind < KINDS; kind++) {
-            for (size_t at = 0; sizes[at]; at++) {
-                measure_below(PLACE * (pass + 1), kind, at);
-            }
-        }
-    }
-}
-
-// Prints each time that was taken.
-static void print(const char *table) {
-    for (size_t at = 0; at < CALLS; at++) {
-        const struct call *call = &calls[at];
-        for (size_t size = 0; sizes[size] && !is_left_out[at]; size++) {
-            printf("%s\t%s %s %s\t%zu\t%.2f\n", table ? table : call->table, call->side, call->plan,
-                call->name, sizes[size], least[at][size]);
         }
     }
 }
@@ -239,32 +245,34 @@ static void print(const char *table) {
 // Every length to 64, since short calls have ways of their own, every second to 160, every fourth to
 // 320, and eight more.
 static void set_swept_sizes(void) {
-    static const size_t more[] = {384, 512, 1024, 2048, 4096, 8192, 16384, 65536};
+    static const size_t more[] = {384, 512, 1024, 2048, 4096, 8192, 16384, LARGEST};
     size_t count = 0;
     for (size_t size = 1; size <= 320; size += size < 64 ? 1 : size < 160 ? 2 : 4) {
-        sizes[count++] = size;
+        swept[count++] = size;
     }
-    memcpy(sizes + count, more, sizeof more);
+    memcpy(swept + count, more, sizeof more);
 }
 
-// Leaves out the kernels that the processor does not run, and what is not of the mode.
-static void leave_out(enum mode mode) {
-    bool rust_has(const char *name);
-    for (size_t at = 0; at < CALLS; at++) {
-        bool is_missing = !strcmp(calls[at].side, "rust") && !rust_has(calls[at].plan);
-        is_left_out[at] = is_missing || (calls[at].modes & mode) != mode;
-    }
-}
-
-int main(int count, char **words) {
-    enum mode mode = count != 2 ? ALL : !strcmp(words[1], "sweep") ? SWEEP : SHARED;
+int main(void) {
     fill();
-    if (mode == SWEEP) {
-        set_swept_sizes();
+    set_swept_sizes();
+    for (size_t at = 0; at < CALLS; at++) {
+        check(&calls[at]);
     }
-    leave_out(mode);
-    run(mode == SWEEP ? SWEEP_PASSES : PASSES);
-    printf("# kernel %s\n", KERNEL);
-    print(mode == SWEEP ? "SWEEP" : NULL);
+    for (int pass = 0; pass < PASSES; pass++) {
+        for (enum kind kind = 0; kind < KINDS; kind++) {
+            for (size_t at = 0; sizes_of(kind)[at]; at++) {
+                measure_below(PLACE * (pass + 1), kind, at);
+            }
+        }
+    }
+    for (size_t at = 0; at < CALLS; at++) {
+        const size_t *sizes = sizes_of(calls[at].kind);
+        for (size_t size = 0; sizes[size]; size++) {
+            if (least[at][size]) {
+                printf("%s\t%zu\t%.2f\n", calls[at].name, sizes[size], least[at][size]);
+            }
+        }
+    }
     return 0;
 }

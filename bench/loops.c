@@ -1,12 +1,8 @@
 // The loops that a user would have written for grouped digits: one that writes, by two look-ups a byte and a
-// separator between two pieces, and for reading one that tests all and one that stores. Then the calls of the
-// shared library. bench/run writes the functions that make them, c_calls.h, where the number of bytes of a piece
-// is a constant.
+// separator between two pieces, and for reading one that tests all and one that stores.
 #include <stdbool.h>
 #include <stddef.h>
 #include <stdint.h>
-#include <stdio.h>
-#include <stdlib.h>
 
 #define INLINE static inline __attribute__((always_inline))
 
@@ -74,25 +70,9 @@ INLINE size_t read_by(const uint8_t *src, size_t len, uint8_t *dst, size_t every
     return to - dst;
 }
 
-#ifdef SHARED_LIBRARY
-#include <dlfcn.h>
-#include <faster_hex.h>
-
-static __typeof__(faster_hex_check) *check;
-static __typeof__(faster_hex_encode) *encode;
-static __typeof__(faster_hex_decode) *decode;
-
-// They are looked up, since bench is linked with an archive of the same names too.
-static __attribute__((constructor)) void load(void) {
-    void *library = dlopen(SHARED_LIBRARY, RTLD_NOW);
-    check = library ? dlsym(library, "faster_hex_check") : NULL;
-    encode = library ? dlsym(library, "faster_hex_encode") : NULL;
-    decode = library ? dlsym(library, "faster_hex_decode") : NULL;
-    if (!check || !encode || !decode) {
-        fprintf(stderr, "%s\n", dlerror());
-        exit(2);
-    }
-}
-#endif
-
-#include "c_calls.h"
+// The same where the number of bytes of a piece is a constant.
+#define BY(n) \
+    size_t write_by_##n(const uint8_t *src, size_t len, uint8_t *dst) { return write_by(src, len, dst, n); } \
+    size_t read_by_##n(const uint8_t *src, size_t len, uint8_t *dst) { return read_by(src, len, dst, n); }
+BY(1)
+BY(16)

@@ -1,126 +1,175 @@
-//! Times the public calls of `bindings/rust`, here the crate `ours`, beside those of the Rust crate, `theirs`,
-//! as a program calls them that swaps one for the other. Prints two lines for each call and number of decoded
-//! bytes, `bindings<TAB>ours hex_check<TAB>bytes<TAB>ns`, and so of `theirs`.
+//! Times the public calls of `bindings/rust`, here the crate `ours`, beside those of the Rust crate: `theirs`, and
+//! `narrow`, which is the same where AVX2 is the widest. A program calls them so that swaps one for the other. Prints
+//! a line for each crate, call and number of decoded bytes, `ours hex_check<TAB>bytes<TAB>ns`.
 //!
 //! A time is the least of so many rounds, from 20 places of the source and the destination, and from four of
-//! the loop round the call: a short call may take a third longer where a jump crosses 32 bytes.
+//! the loop round the call: a short call may take a third longer where a jump crosses 32 bytes. A round has
+//! all calls, in another order each time, since a shared machine has slow seconds.
 
 use std::arch::asm;
+use std::fmt::Write;
 use std::hint::black_box;
 use std::time::Instant;
 
-const SIZES: [usize; 5] = [8, 64, 256, 4_096, 65_536];
-const ROUNDS: usize = 240;
-const ROUND_NS: f64 = 20_000.0;
+const LARGEST: usize = 65_536;
+const ROUNDS: usize = 800;
+const ROUND_NS: f64 = 10_000.0;
 const PLACES: usize = 20;
 const LOOPS: usize = 4;
 /// From a place to the next, in bytes.
 const STEP: usize = 64;
+const SPAN: usize = PLACES * STEP;
 
-/// What a call reads and writes: `bytes` and `digits` spell one another.
+/// What a call reads and writes. `lower` and `mixed` are digits.
 struct Task<'a> {
     bytes: &'a [u8],
-    digits: &'a [u8],
+    lower: &'a [u8],
+    mixed: &'a [u8],
     room: &'a mut [u8],
+    /// Text from `start` on is written anew.
+    text: &'a mut String,
+    start: usize,
 }
 
 /// Makes a call so many times.
 type Loop = fn(&mut Task, usize);
 
-/// The loops round a call, `NOPS` bytes behind a multiple of 64.
+/// The loops round calls on `N` decoded bytes, `NOPS` bytes behind a multiple of 64.
 macro_rules! loops {
-    ($name:ident, $task:ident, $call:expr) => {
-        fn $name<const NOPS: usize>($task: &mut Task, turns: usize) {
-            // SAFETY: this does nothing.
-            unsafe { asm!(".p2align 6", ".rept {}", "nop", ".endr", const NOPS) };
-            for _ in 0..turns {
-                black_box($call);
+    ($($shown:literal $name:ident($task:ident) $call:expr;)*) => {
+        $(
+            fn $name<const NOPS: usize, const N: usize>($task: &mut Task, turns: usize) {
+                // SAFETY: this does nothing.
+                unsafe { asm!(".p2align 6", ".rept {}", "nop", ".endr", const NOPS) };
+                for _ in 0..turns {
+                    black_box($call);
+                }
             }
+        )*
+
+        /// The loops round each call, by its name.
+        pub fn calls<const N: usize>() -> Vec<(&'static str, [Loop; LOOPS])> {
+            vec![$(($shown, [$name::<0, N>, $name::<16, N>, $name::<32, N>, $name::<48, N>])),*]
         }
     };
 }
 
-macro_rules! calls {
-    ($krate:ident) => {
-        mod $krate {
-            use super::*;
-            use ::$krate::{hex_check, hex_decode, hex_encode};
+macro_rules! crates {
+    ($($krate:ident)*) => {
+        $(
+            mod $krate {
+                use super::*;
+                use ::$krate::*;
 
-            loops!(check, it, hex_check(black_box(it.digits)));
-            loops!(encode, it, hex_encode(black_box(it.bytes), black_box(it.room)).unwrap().len());
-            loops!(decode, it, hex_decode(black_box(it.digits), black_box(it.room)).unwrap().len());
+                loops! {
+                    "hex_check" check(it) hex_check(black_box(it.mixed));
+                    "hex_check_with_case" check_case(it) {
+                        hex_check_with_case(black_box(it.lower), CheckCase::Lower)
+                    };
+                    "hex_encode" encode(it) {
+                        hex_encode(black_box(it.bytes), black_box(it.room)).unwrap().len()
+                    };
+                    "hex_decode" decode(it) {
+                        hex_decode(black_box(it.mixed), black_box(it.room)).unwrap().len()
+                    };
+                    "hex_decode_array" array(it) hex_decode_array::<N>(black_box(it.mixed));
+                    "hex_decode_vec" vec(it) hex_decode_vec(black_box(it.mixed));
+                    "hex_string" string(it) hex_string(black_box(it.bytes));
+                    "hex_append" append(it) {
+                        it.text.truncate(it.start);
+                        hex_append(black_box(it.bytes), black_box(it.text)).len()
+                    };
+                    "{}" shown(it) {
+                        it.text.truncate(it.start);
+                        write!(black_box(&mut *it.text), "{}", Hex::new(black_box(it.bytes)))
+                    };
+                    "{:>}" padded(it) {
+                        it.text.truncate(it.start);
+                        write!(black_box(&mut *it.text), "{:>1$}", Hex::new(black_box(it.bytes)), (2 * N + 12).min(65_535))
+                    };
+                }
+            }
+        )*
 
-            pub const CHECK: [Loop; LOOPS] = [check::<0>, check::<16>, check::<32>, check::<48>];
-            pub const ENCODE: [Loop; LOOPS] = [encode::<0>, encode::<16>, encode::<32>, encode::<48>];
-            pub const DECODE: [Loop; LOOPS] = [decode::<0>, decode::<16>, decode::<32>, decode::<48>];
+        fn cells_of<const N: usize>() -> impl Iterator<Item = Cell> {
+            let cell = |krate, (call, loops)| Cell { krate, call, size: N, loops, turns: 1, least: f64::INFINITY };
+            let of = [$((stringify!($krate), $krate::calls::<N>())),*];
+            of.into_iter().flat_map(move |(krate, calls)| calls.into_iter().map(move |it| cell(krate, it)))
         }
     };
 }
 
-calls!(ours);
-calls!(theirs);
+crates!(ours theirs narrow);
 
-const CALLS: [(&str, [[Loop; LOOPS]; 2]); 3] = [
-    ("hex_check", [ours::CHECK, theirs::CHECK]),
-    ("hex_encode", [ours::ENCODE, theirs::ENCODE]),
-    ("hex_decode", [ours::DECODE, theirs::DECODE]),
-];
-
-/// Bytes, and digits that spell them in both cases.
-fn source(size: usize) -> (Vec<u8>, Vec<u8>) {
-    let bytes: Vec<u8> = (0..size).map(|at| (at * 151 + 7) as u8).collect();
-    let pair = |(at, byte): (usize, &u8)| match at % 3 {
-        0 => format!("{byte:02X}"),
-        _ => format!("{byte:02x}"),
-    };
-    let digits: String = bytes.iter().enumerate().map(pair).collect();
-    (bytes, digits.into_bytes())
+/// A call of a crate on so many decoded bytes, and the least time that it took.
+struct Cell {
+    krate: &'static str,
+    call: &'static str,
+    size: usize,
+    loops: [Loop; LOOPS],
+    turns: usize,
+    least: f64,
 }
 
-fn spent(call: Loop, task: &mut Task, turns: usize) -> f64 {
-    let start = Instant::now();
-    call(task, turns);
-    start.elapsed().as_nanos() as f64
+fn cells() -> Vec<Cell> {
+    let few = cells_of::<4>().chain(cells_of::<8>()).chain(cells_of::<16>()).chain(cells_of::<20>());
+    let more = cells_of::<32>().chain(cells_of::<64>()).chain(cells_of::<128>()).chain(cells_of::<256>());
+    let many = cells_of::<1_024>().chain(cells_of::<4_096>()).chain(cells_of::<LARGEST>());
+    few.chain(more).chain(many).collect()
 }
 
-/// The time of a call in a round. What it has just run wakes wide vectors, and fills the round.
-fn time_of(call: Loop, task: &mut Task) -> f64 {
-    let mut turns = 1;
-    while spent(call, task, turns) < ROUND_NS {
-        turns *= 2;
+impl Cell {
+    fn spent(&self, task: &mut Task, round: usize) -> f64 {
+        let start = Instant::now();
+        self.loops[round / PLACES % LOOPS](task, self.turns);
+        start.elapsed().as_nanos() as f64
     }
-    spent(call, task, turns) / turns as f64
+
+    /// Times the call in a round. What it has just run wakes wide vectors, and fills the round.
+    fn time(&mut self, task: &mut Task, round: usize) {
+        while self.spent(task, round) < ROUND_NS {
+            self.turns *= 2;
+        }
+        self.least = self.least.min(self.spent(task, round) / self.turns as f64);
+    }
 }
 
-/// Both times of a call.
-fn times(loops: [[Loop; LOOPS]; 2], size: usize) -> [f64; 2] {
-    let (bytes, digits) = source(size);
-    let span = PLACES * STEP;
-    let (mut from, mut from_digits) = (vec![0; size + span], vec![0; 2 * size + span]);
-    let mut room = vec![0; 2 * size + span];
-    let mut least = [f64::INFINITY; 2];
-    for round in 0..ROUNDS {
-        let at = round % PLACES * STEP;
-        from[at..][..size].copy_from_slice(&bytes);
-        from_digits[at..][..2 * size].copy_from_slice(&digits);
-        let mut task = Task {
-            bytes: &from[at..][..size],
-            digits: &from_digits[at..][..2 * size],
-            room: &mut room[span - at..][..2 * size],
-        };
-        for (least, loops) in least.iter_mut().zip(loops) {
-            *least = least.min(time_of(loops[round / PLACES % LOOPS], &mut task));
-        }
+/// Puts a list in another order, by numbers that are the same in each run.
+fn shuffle(list: &mut [usize], state: &mut u64) {
+    for left in (1..list.len()).rev() {
+        *state = state.wrapping_mul(6_364_136_223_846_793_005).wrapping_add(1_442_695_040_888_963_407);
+        list.swap(left, (*state >> 33) as usize % (left + 1));
     }
-    least
 }
 
 fn main() {
-    for (name, loops) in CALLS {
-        for size in SIZES {
-            for (whose, time) in ["ours", "theirs"].iter().zip(times(loops, size)) {
-                println!("bindings\t{whose} {name}\t{size}\t{time:.2}");
-            }
+    let mut cells = cells();
+    let bytes: Vec<u8> = (0..LARGEST + SPAN).map(|at| (at * 151 + at / 256 * 7) as u8).collect();
+    let lower: Vec<u8> = bytes.iter().flat_map(|it| format!("{it:02x}").into_bytes()).collect();
+    let both = |(at, it): (usize, &u8)| if at % 3 == 0 { it.to_ascii_uppercase() } else { *it };
+    let mixed: Vec<u8> = lower.iter().enumerate().map(both).collect();
+    let mut room = vec![0; 2 * LARGEST + SPAN];
+    let mut text = String::with_capacity(2 * LARGEST + SPAN);
+    let (mut order, mut state): (Vec<usize>, u64) = ((0..cells.len()).collect(), 1);
+    for round in 0..ROUNDS {
+        shuffle(&mut order, &mut state);
+        let at = round % PLACES * STEP;
+        text.clear();
+        text.extend(std::iter::repeat_n('-', at));
+        for cell in &order {
+            let size = cells[*cell].size;
+            let mut task = Task {
+                bytes: &bytes[at..][..size],
+                lower: &lower[at..][..2 * size],
+                mixed: &mixed[at..][..2 * size],
+                room: &mut room[SPAN - at..][..2 * size],
+                text: &mut text,
+                start: at,
+            };
+            cells[*cell].time(&mut task, round);
         }
+    }
+    for Cell { krate, call, size, least, .. } in cells {
+        println!("{krate} {call}\t{size}\t{least:.2}");
     }
 }
