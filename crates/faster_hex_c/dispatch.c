@@ -134,6 +134,7 @@ static bool seen_bool(bool it, const void *src, size_t len, void *dst) {
     }
 
 CALL(bool, check, (const void *src, size_t len), (src, len), NULL)
+CALL(bool, check_with_case, (const void *src, size_t len, uint8_t policy), (src, len, policy), NULL)
 CALL(told, first_invalid, (const void *src, size_t len, uint8_t policy), (src, len, policy), NULL)
 CALL(told, encode, (const void *src, size_t len, void *dst, size_t room, bool upper),
      (src, len, dst, room, upper), dst)

@@ -89,6 +89,9 @@ struct faster_hex_answer {
 /* Whether all bytes are digits of either case; any length. */
 bool faster_hex_check(const void *src, size_t len);
 
+/* The same under a policy; false for any other number. */
+bool faster_hex_check_with_case(const void *src, size_t len, uint8_t policy);
+
 /* Finds the first byte that is not a digit under the policy: FASTER_HEX_UNKNOWN_POLICY, then
  * FASTER_HEX_INVALID_CHAR, otherwise FASTER_HEX_DONE with number 0; any length. */
 struct faster_hex_answer faster_hex_first_invalid(const void *src, size_t len, uint8_t policy);

@@ -77,6 +77,10 @@ static bool portable_check(const void *src, size_t len) {
     return search(src, len, FASTER_HEX_EITHER_CASE, WHOLE, 0).status == FASTER_HEX_DONE;
 }
 
+static bool portable_check_with_case(const void *src, size_t len, uint8_t policy) {
+    return policy <= FASTER_HEX_UPPERCASE && search(src, len, policy, WHOLE, 0).status == FASTER_HEX_DONE;
+}
+
 static told portable_first_invalid(const void *src, size_t len, uint8_t policy) {
     if (policy > FASTER_HEX_UPPERCASE) return told_number(FASTER_HEX_UNKNOWN_POLICY, 0);
     return search(src, len, policy, WHOLE, 0);

@@ -63,6 +63,8 @@ static void make_calls(size_t len) {
         end(faster_hex_check(digits[0], 2 * len - (odd && len)));
     }
     for (uint8_t policy = 0; policy < 3; policy++) {
+        begin("faster_hex_check_with_case", policy, 2 * len);
+        end(faster_hex_check_with_case(digits[policy], 2 * len, policy));
         begin("faster_hex_first_invalid", policy, 2 * len);
         end(faster_hex_first_invalid(digits[policy], 2 * len, policy).number);
         begin("faster_hex_decode_with_case", policy, 2 * len);

@@ -27,9 +27,12 @@ IS(7 % FASTER_HEX_GROUPED_LEN(1 + 1, 1) == 2);
 IS(FASTER_HEX_GROUPED_LEN(4, 1 + 1) == 9 && FASTER_HEX_GROUPED_LEN(5, 2) == 12);
 
 static const char *const NAMES[] = {
-    "check", "first_invalid", "encode", "decode", "decode_with_case", "encode_grouped", "decode_grouped",
+    "check", "check_with_case", "first_invalid", "encode", "decode", "decode_with_case", "encode_grouped",
+    "decode_grouped",
 };
-enum call { CHECK, FIRST_INVALID, ENCODE, DECODE, DECODE_WITH_CASE, ENCODE_GROUPED, DECODE_GROUPED, CALLS };
+enum call {
+    CHECK, CHECK_WITH_CASE, FIRST_INVALID, ENCODE, DECODE, DECODE_WITH_CASE, ENCODE_GROUPED, DECODE_GROUPED, CALLS
+};
 
 struct job {
     enum call call;
@@ -50,6 +53,7 @@ static struct faster_hex_answer told(size_t number, uint8_t status, uint8_t byte
 static struct faster_hex_answer run(const struct job *it) {
     switch (it->call) {
     case CHECK: return told(faster_hex_check(it->src, it->len), 0, 0);
+    case CHECK_WITH_CASE: return told(faster_hex_check_with_case(it->src, it->len, it->policy), 0, 0);
     case FIRST_INVALID: return faster_hex_first_invalid(it->src, it->len, it->policy);
     case ENCODE: return faster_hex_encode(it->src, it->len, it->dst, it->room, it->upper);
     case DECODE: return faster_hex_decode(it->src, it->len, it->dst, it->room);
@@ -121,6 +125,9 @@ static struct faster_hex_answer model(const struct job *it) {
     const size_t whole = 1 << 20; /* longer than any text here, so without a separator */
     switch (it->call) {
     case CHECK: return told(model_search(it, FASTER_HEX_EITHER_CASE, whole).status == FASTER_HEX_DONE, 0, 0);
+    case CHECK_WITH_CASE:
+        return told(it->policy <= FASTER_HEX_UPPERCASE &&
+                    model_search(it, it->policy, whole).status == FASTER_HEX_DONE, 0, 0);
     case ENCODE: return model_encode(it, whole);
     case DECODE: return model_decode(it, FASTER_HEX_EITHER_CASE, whole, FASTER_HEX_ODD_LENGTH);
     case ENCODE_GROUPED:
@@ -325,7 +332,7 @@ static void wide_rooms(size_t wide, uint8_t *dst) {
 /* Lengths whose lower bits say something else. No call reads on after the zeros, which are no digits. */
 static void wide_lengths(size_t wide) {
     static const uint8_t src[4096] = { 0 };
-    count(!faster_hex_check(src, wide - 2));
+    count(!faster_hex_check(src, wide - 2) && !faster_hex_check_with_case(src, wide - 2, 0));
     count(faster_hex_first_invalid(src, wide - 2, 0).status == FASTER_HEX_INVALID_CHAR);
     count(wants(faster_hex_decode(src, wide, NULL, 0), wide / 2));
     count(wants(faster_hex_decode_with_case(src, wide, NULL, 0, 0), wide / 2));
@@ -347,6 +354,7 @@ static void above_32_bits(uint8_t *dst) {
 static void other_policies(void) {
     for (unsigned policy = 3; policy < 256; policy++) {
         uint8_t byte = 0xa5, number = (uint8_t)policy;
+        count(!faster_hex_check_with_case("00", 2, number));
         count(is_told(faster_hex_first_invalid("00", 2, number), 0, FASTER_HEX_UNKNOWN_POLICY) &&
               is_told(faster_hex_decode_with_case("00", 2, &byte, 1, number), 0, FASTER_HEX_UNKNOWN_POLICY) &&
               is_told(faster_hex_decode_grouped("00", 2, &byte, 1, number, 1, ':'), 0,

@@ -76,7 +76,7 @@ macro_rules! calls {
 
 calls! {
     check(src: *const u8, len: usize) -> bool;
-    first_invalid(src: *const u8, len: usize, policy: u8) -> Answer;
+    check_with_case(src: *const u8, len: usize, policy: u8) -> bool;
     encode(src: *const u8, len: usize, dst: *mut u8, room: usize, upper: bool) -> Answer;
     decode(src: *const u8, len: usize, dst: *mut u8, room: usize) -> Answer;
     decode_with_case(src: *const u8, len: usize, dst: *mut u8, room: usize, policy: u8) -> Answer;

@@ -60,7 +60,7 @@ pub fn check(src: &[u8], case: CheckCase) -> bool {
     unsafe {
         match case {
             CheckCase::None => builds::check(src.as_ptr(), src.len()),
-            _ => builds::first_invalid(src.as_ptr(), src.len(), number_of(case)).status == 0,
+            _ => builds::check_with_case(src.as_ptr(), src.len(), number_of(case)),
         }
     }
 }

@@ -1,5 +1,5 @@
 -- What the exported calls return.
-use Rattle.std.specs.Prelude.{◌≡◌, ℕ, ◌==◌, if◌then◌else◌, Bool, List, slice_index}
+use Rattle.std.specs.Prelude.{◌≡◌, ◌↔◌, ℕ, ◌==◌, if◌then◌else◌, Bool, false, IsTrue, List, slice_index}
 use Rattle.std.specs.Prelude.{Option, Some, None, MatchOption, Result, Ok, Err}
 use Rattle.hex_core.specs.declared.digit.CheckCase.{CheckCase}
 use Rattle.hex_core.specs.declared.digit.CheckCase.TheVariants as policy
@@ -51,6 +51,10 @@ EncodesTo upper bytes old new answer = (result : Result ℕ Error) × Encodes up
 -- decoding by the policy that a number names; if it names none, the destination is unchanged
 abbrev pub DecodesBy : ℕ → List ℕ → List ℕ → List ℕ → Answer → Type 0
 DecodesBy n s old new answer = MatchOption (policy_of n) ((answer ≡ no_policy) × (new ≡ old)) (λ c. DecodesTo c s old new answer)
+
+-- whether all bytes are digits by the policy that a number names; if it names none, they are not
+abbrev pub ChecksBy : ℕ → List ℕ → Bool → Type 0
+ChecksBy n s answer = MatchOption (policy_of n) (answer ≡ false) (λ c. IsTrue answer ↔ (first_invalid c s ≡ None))
 
 -- the first invalid byte by the policy that a number names
 abbrev pub FindsInvalid : ℕ → List ℕ → Answer → Type 0

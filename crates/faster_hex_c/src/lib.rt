@@ -9,7 +9,7 @@ mod tests;
 ghost use Rattle.std.specs.Prelude.{◌≡◌, ◌↔◌, IsTrue, None};
 ghost use Rattle.hex_core.specs.declared.digit.CheckCase.TheVariants as policy;
 ghost use Rattle.hex_core.specs.Search.{first_invalid};
-ghost use Rattle.faster_hex_c.specs.Answers.{DecodesBy, DecodesTo, EncodesTo, FindsInvalid, answer_of, policy_of};
+ghost use Rattle.faster_hex_c.specs.Answers.{ChecksBy, DecodesBy, DecodesTo, EncodesTo, FindsInvalid, answer_of, policy_of};
 ghost use Rattle.faster_hex_c.specs.Answers.{DecodesGrouped, EncodesGrouped, group_answer_of};
 
 use hex_codec::grouped::{read_by, write_by};
@@ -135,6 +135,17 @@ pub extern "C" fn faster_hex_check(src: &[u8]) -> bool
     ensures { IsTrue result ↔ (first_invalid policy.None src.now ≡ None) }
 {
     plan().check(src, CheckCase::None)
+}
+
+/// The same under a policy: 0 accepts either case, 1 lowercase, 2 uppercase, any other nothing.
+#[unsafe(no_mangle)]
+pub extern "C" fn faster_hex_check_with_case(src: &[u8], case: u8) -> bool
+    ensures { ChecksBy case src.now result }
+{
+    match policy(case) {
+        Some(case) => plan().check(src, case),
+        None => false,
+    }
 }
 
 /// Finds the first invalid byte under a policy: 0 accepts either case, 1 lowercase, 2 uppercase.
