@@ -20,15 +20,17 @@ use crate::vector::{
 use crate::widths::{Interleave, Lanes, LookUp, Shift};
 use std::simd::prelude::*;
 
+// Both tables are in the order of the policies. A look-up avoids a branch in the kernels.
+static FOLDS: [u8; 3] = [0x20, 0, 0];
+
+static FIRST_LETTERS: [u8; 3] = [b'a', b'a', b'A'];
+
 // The bit that makes a letter lowercase, if the policy accepts both cases.
 #[inline(always)]
 fn fold_of(case: CheckCase) -> u8
     ensures { result ≡ fold_of case }
 {
-    match case {
-        CheckCase::None => 0x20,
-        CheckCase::Lower | CheckCase::Upper => 0,
-    }
+    FOLDS[case as u8 as usize]
 }
 
 // The first letter that the policy accepts, folded.
@@ -36,10 +38,7 @@ fn fold_of(case: CheckCase) -> u8
 fn first_letter(case: CheckCase) -> u8
     ensures { result ≡ first_letter case }
 {
-    match case {
-        CheckCase::None | CheckCase::Lower => b'a',
-        CheckCase::Upper => b'A',
-    }
+    FIRST_LETTERS[case as u8 as usize]
 }
 
 // Each lane minus the first letter that the policy accepts, once folded.
@@ -88,16 +87,24 @@ const VALUE_ROW: [u8; 16] = [
     128, 128, 128, 128, 48, 55, 128, 87, 128, 48, 128, 128, 128, 128, 128, 128,
 ];
 
-// What a check subtracts. A policy that does not accept a case has no letters of it.
+// One row for each policy, in the order of the policies.
+static CHECK_ROWS: [[u8; 16]; 3] = [
+    [
+        128, 128, 128, 128, 48, 65, 128, 97, 128, 55, 128, 128, 128, 128, 128, 128,
+    ],
+    [
+        128, 128, 128, 128, 48, 128, 128, 97, 128, 55, 128, 128, 128, 128, 128, 128,
+    ],
+    [
+        128, 128, 128, 128, 48, 65, 128, 128, 128, 55, 128, 128, 128, 128, 128, 128,
+    ],
+];
+
 #[inline(always)]
 fn check_row(case: CheckCase) -> u8x16
     ensures { result ≡ check_row case }
 {
-    let upper = if case == CheckCase::Lower { 128 } else { 65 };
-    let lower = if case == CheckCase::Upper { 128 } else { 97 };
-    u8x16::from_array([
-        128, 128, 128, 128, 48, upper, 128, lower, 128, 55, 128, 128, 128, 128, 128, 128,
-    ])
+    u8x16::from_array(CHECK_ROWS[case as u8 as usize])
 }
 
 // The slot of each lane in both rows. A neighbour changes only bits above the low four, which a
