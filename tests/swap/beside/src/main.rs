@@ -1,7 +1,8 @@
 //! Calls the bindings and the Rust crate on the same random inputs, and compares answers, texts of errors,
-//! whole destinations, capacities, and how much memory was asked for how often. The table in `calls` has
-//! every public name of both. `tests/test_swap.py` builds and runs it. Prints the first input of each kind
-//! of call on which the two differ, and `N passed, M failed` at the end, of the kinds.
+//! whole destinations, capacities, and how much memory was asked for how often; and strings of all lengths
+//! up to 4,200. The table in `calls` has every public name of both. `tests/test_swap.py` builds and runs it.
+//! Prints the first input of each kind of call on which the two differ, and `N passed, M failed` at the end,
+//! of the kinds.
 //! Usage: beside ROUNDS SEED
 
 mod given;
@@ -9,7 +10,7 @@ mod given;
 use std::alloc::{GlobalAlloc, Layout, System};
 use std::collections::BTreeSet;
 use std::env;
-use std::fmt::{Arguments, Debug, Display, Write};
+use std::fmt::{self, Arguments, Debug, Display, Write};
 use std::sync::atomic::{AtomicUsize, Ordering::Relaxed};
 
 use given::{Input, Random};
@@ -51,6 +52,20 @@ fn text(written: Arguments) -> String {
     text
 }
 
+/// A writer of a text with room for so many bytes of it.
+struct Room(usize);
+
+impl Write for Room {
+    fn write_str(&mut self, text: &str) -> fmt::Result {
+        self.0 = self.0.checked_sub(text.len()).ok_or(fmt::Error)?;
+        Ok(())
+    }
+}
+
+fn fits(room: usize, written: Arguments) -> bool {
+    Room(room).write_fmt(written).is_ok()
+}
+
 /// What the calls of a module for serde write and read, of which the crate's root has the same.
 macro_rules! module {
     ($($path:ident)::+, $it:ident, $data:expr) => {{
@@ -79,7 +94,7 @@ macro_rules! module {
 macro_rules! calls {
     ($side:ident, $krate:ident) => {
         mod $side {
-            use super::{text, told, Input};
+            use super::{fits, text, told, Input};
             use $krate::*;
 
             fn case(it: &Input) -> CheckCase {
@@ -107,28 +122,35 @@ macro_rules! calls {
                 told(answer.map(|bytes| (bytes.capacity(), bytes)))
             }
 
-            fn array<const N: usize>(it: &Input, case: Option<CheckCase>) -> String {
+            fn array<const N: usize>(digits: &[u8], case: Option<CheckCase>) -> String {
                 told(match case {
-                    Option::None => hex_decode_array::<N>(&it.digits),
-                    Some(case) => hex_decode_array_with_case::<N>(&it.digits, case),
+                    Option::None => hex_decode_array::<N>(digits),
+                    Some(case) => hex_decode_array_with_case::<N>(digits, case),
                 })
             }
 
             fn arrays(it: &Input, case: Option<CheckCase>) -> String {
                 let of = [
                     array::<0>, array::<1>, array::<2>, array::<3>, array::<4>, array::<8>, array::<16>,
-                    array::<20>, array::<31>, array::<32>, array::<33>, array::<64>, array::<300>,
+                    array::<20>, array::<31>, array::<32>, array::<33>, array::<48>, array::<64>, array::<300>,
                 ];
-                of.map(|array| array(it, case)).join(" ")
+                let repeated: Vec<u8> = it.digits.iter().copied().cycle().take(1000).collect();
+                of.map(|array| array(&it.digits, case)).join(" ") + &array::<500>(&repeated, case)
             }
 
             fn error(e: &dyn std::error::Error, n: usize) -> String {
                 text(format_args!("{e}|{e:?}|{e:>n$}|{e:*<80.9}|{e:#^+090}|{:?}", e.source()))
             }
 
-            fn hex(h: Hex, n: usize) -> String {
-                let plain = text(format_args!("{h}|{h:x}|{h:X}|{h:?}|{h:#}|{h:+#X}|{h:n$}|{h:<n$}"));
-                plain + &text(format_args!("{h:*>+n$X}|{h:💠^#n$x}|{h:#0n$}|{h:*<+#0n$X}|{h:-^n$.3}"))
+            fn hex(h: Hex, n: usize, room: usize) -> String {
+                let plain = text(format_args!("{h}|{h:x}|{h:X}|{h:?}|{h:#}|{h:#X}|{h:+#X}|{h:n$}|{h:<n$}"));
+                let cut = [fits(room, format_args!("{h:>n$}")), fits(room, format_args!("{h:💠<#n$}"))];
+                plain + &text(format_args!("{h:*>+n$X}|{h:💠^#n$x}|{h:#0n$}|{h:*<+#0n$X}|{h:-^n$.3}|{cut:?}"))
+            }
+
+            pub fn strings(bytes: &[u8]) -> [String; 4] {
+                let h = Hex::new(bytes);
+                [hex_string(bytes), hex_string_upper(bytes), h.to_string(), format!("{h:X}")]
             }
 
             pub const CALLS: &[(&str, fn(&Input) -> String)] = &[
@@ -154,7 +176,7 @@ macro_rules! calls {
                     let refused = refused.and(hex_encode(&it.bytes, &mut [0; 20]).map(drop));
                     error(&refused.err().unwrap_or(Error::Overflow), it.width)
                 }),
-                ("Hex", |it| hex(Hex::new(&it.bytes), it.width)),
+                ("Hex", |it| hex(Hex::new(&it.bytes), it.width, it.room)),
                 ("array deserialize deserialize_bounded serialize", |it| module!($krate, it, &it.bytes)),
                 ("withpfx_ignorecase", |it| module!($krate::withpfx_ignorecase, it, &it.bytes)),
                 ("withpfx_lowercase", |it| module!($krate::withpfx_lowercase, it, &it.bytes)),
@@ -221,5 +243,11 @@ fn main() {
             }
         }
     }
-    println!("{} passed, {failed} failed", ours::CALLS.len() + 2 - failed);
+    let bytes: Vec<u8> = (0..9000).map(|at| (at * 73 + at / 7) as u8).collect();
+    let mut lengths = (0..=4200).chain([bytes.len()]);
+    if let Some(len) = lengths.find(|&len| ours::strings(&bytes[..len]) != theirs::strings(&bytes[..len])) {
+        println!("failed: the strings of {len} bytes");
+        failed += 1;
+    }
+    println!("{} passed, {failed} failed", ours::CALLS.len() + 3 - failed);
 }
