@@ -16,7 +16,8 @@ ifneq ($(filter-out yes no,$(JSON)),)
 $(error JSON=$(JSON) is neither yes nor no)
 endif
 C = crates/faster_hex_c
-# For what the last `make` built: `make install` and `make uninstall` take it, if told neither CC nor TARGET.
+# For what `make` built last, not for a test: `make install` and `make uninstall` take it, if told neither CC nor
+# TARGET.
 LAST = out/last
 ifeq ($(origin CC)$(TARGET)$(filter-out install uninstall,$(firstword $(MAKECMDGOALS) all)),default)
 -include $(LAST)
@@ -80,8 +81,9 @@ generate:
 	@scripts/generate $(QUIET)
 
 lib: $(ARCHIVE) $(SHARED)
-	@grep -sqxF 'CC = $(CC)' $(LAST) && grep -qxF 'TARGET = $(TARGET)' $(LAST) || \
-		printf '%s\n' 'CC = $(CC)' 'TARGET = $(TARGET)' >$(LAST)
+	@$(if $(filter all lib install,$(firstword $(MAKECMDGOALS) all)),\
+		grep -sqxF 'CC = $(CC)' $(LAST) && grep -qxF 'TARGET = $(TARGET)' $(LAST) || \
+		printf '%s\n' 'CC = $(CC)' 'TARGET = $(TARGET)' >$(LAST))
 
 fhex: $(PROGRAM)
 	$(if $(PROGRAM),,$(error there is no assembly of fhex for $(TARGET) $(SYSTEM)))

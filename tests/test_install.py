@@ -4,7 +4,8 @@ import re
 
 import pytest
 
-from commands import ARM_CC, HELLO, INSTALLED, SHARED, TOP, VERSION, BY_SYSTEM, has_files, make, needs, ran, runs
+from commands import (ARM_CC, BY_SYSTEM, HELLO, INSTALLED, SHARED, TOP, VERSION, WINDOWS_CC, has_files, make, needs,
+                      ran, runs)
 
 # It builds nothing, and takes no tool of those that build.
 MAKE = make("TARGET=x86_64", "CC=false", "INSTALL=false")
@@ -54,6 +55,31 @@ def test_two_targets(tmp_path, arm, beside_others):
     runs([*by_arm, "uninstall"])
     has_files(usr, others)
     assert usr.exists() == beside_others
+
+
+def test_what_was_built_last(tmp_path, copy):
+    """Not by a test. For Windows nothing is installed, but a line names what installs there."""
+    needs(ARM_CC, WINDOWS_CC)
+    there = tmp_path / "there"
+    runs(make("lib", f"CC={ARM_CC}", top=copy), env=BY_SYSTEM)
+    runs(make("test-c", top=copy), env=BY_SYSTEM)
+    done = ran(make("install", f"CC={WINDOWS_CC}", f"PREFIX={there}", top=copy), env=BY_SYSTEM)
+    assert done.returncode == 2 and "CMake installs" in done.stdout and done.stdout.count("\n") == 1
+    assert not there.exists()
+    runs(make("install", f"PREFIX={there}", top=copy), env=BY_SYSTEM)
+    assert "AArch64" in ran(["readelf", "-h", there / "lib" / SHARED[2]]).stdout
+    done = ran(make("lib", "TARGET=aarch64", "CC=cc", top=copy), env=BY_SYSTEM)
+    assert done.returncode == 2 and done.stdout.count("\n") == 1
+
+
+def test_upgrade(tmp_path):
+    earlier = tmp_path / "lib/libfaster_hex.so.1.0.9"
+    runs([*MAKE, "install", f"PREFIX={tmp_path}"])
+    earlier.touch()
+    with (tmp_path / "share/faster_hex/x86_64.installed").open("a") as noted:
+        noted.write(f"{earlier}\n")
+    runs([*MAKE, "install", f"PREFIX={tmp_path}"])
+    has_files(tmp_path, INSTALLED)
 
 
 @pytest.mark.parametrize("prefix", FAILING)

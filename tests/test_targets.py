@@ -4,7 +4,7 @@ import subprocess
 
 import pytest
 
-from commands import SHARED, BY_SYSTEM, is_locked, make, ran, runs
+from commands import BY_SYSTEM, SHARED, TOP, is_locked, make, only, ran, runs
 
 # How often a build says each of the user's words.
 WORDS = {"CC": 6, "CFLAGS": 4, "CPPFLAGS": 3, "LDFLAGS": 2, "AR": 1}
@@ -12,7 +12,7 @@ PAGES = {"CALLING.md", "DIFFERENCES.md", "proving.md", "security.md"}
 
 
 def test_words_that_are_not_taken():
-    for word, names in ("TARGET=arm", "makes code for x86_64"), ("JSON=false", "yes nor no"):
+    for word, names in ("TARGET=arm", "makes code for"), ("JSON=false", "yes nor no"):
         done = ran(make("-n", "vendor", word))
         assert done.returncode == 2 and names in done.stdout and done.stdout.count("\n") == 1
 
@@ -47,6 +47,22 @@ def test_other_sources(copy):
             assert all("`make generate`" in it for it in said)
         source.write_text(text)
     assert not (copy / "out/fhex").exists()
+
+
+def test_what_is_wrong_with_generated(copy, tmp_path):
+    """A file that was changed, and a missing tool, a line each."""
+    tools = only(tmp_path / "tools", {it: it for it in "make sh dirname find sort xargs cc as ld".split()})
+    with (copy / "generated/x86-64.s").open("a") as file:
+        file.write("\n")
+    for env, line in (BY_SYSTEM, "not as PROVED says"), (tools, "there is no cksum"):
+        done = ran(make("lib", top=copy), env=env)
+        said = [it for it in done.stdout.splitlines() if not it.startswith("make: ")]
+        assert done.returncode == 2 and len(said) == 1 and line in said[0], said
+
+
+def test_tests_without_the_toolchain(copy):
+    done = ran(make("test", top=copy), env=BY_SYSTEM)
+    assert done.returncode == 0 and done.stdout.endswith("the others take the Rattle toolchain\n"), done.stdout
 
 
 @pytest.mark.parametrize("place", ["own", "listed", "listed/crates.txt", "missing"])
