@@ -40,7 +40,7 @@ versions() {
     sed -n 's/^#define FASTER_HEX_VERSION "\(.*\)"$/faster_hex.h \1/p' faster_hex.h
     echo "its-numbers $(sed -n 's/^#define FASTER_HEX_VERSION_[A-Z]* \([0-9]*\)$/\1/p' faster_hex.h |
         tr '\n' . | sed 's/\.$//')"
-    sed -n 's/^version = "\(.*\)"$/bindings \1/p' ../../Cargo.toml
+    sed -n 's/^version = "\(.*\)+bunkmedlar"$/bindings \1/p' ../../Cargo.toml
     sed -n 's/^project(.* VERSION \([0-9.]*\) .*/CMakeLists.txt \1/p' ../../CMakeLists.txt
     sed -n 's/^\.TH \([A-Z_]*\) .* "Bunkmedlar \([0-9.]*\)" .*/\1 \2/p' ../../docs/*.[13]
     sed -n 's/^\thex_export\tfaster_hex_\([0-9]*\)_\([0-9]*\)_\([0-9]*\)_\(.*\)/\4 \1.\2.\3/p' ../../generated/*.s

@@ -74,7 +74,7 @@ def test_two_versions_and_the_archive_in_one_program(tmp_path, library, words):
     needs(CARGO)
     crate, later = packed(tmp_path / "crate"), packed(tmp_path / "later")
     for file in later / "Cargo.toml", later / "bindings/rust/src/builds.rs", *later.glob("generated/*.s"):
-        text = file.read_text().replace('"1.0.0"', '"1.0.1"').replace("1_0_0", "1_0_1")
+        text = file.read_text().replace('"1.0.0', '"1.0.1').replace("1_0_0", "1_0_1")
         file.write_text(text.replace(".L100", ".L101"))
     both = f'faster-hex = {{ path = "{crate}" }}', f'later = {{ package = "faster-hex", path = "{later}" }}'
     own, env = program_over(tmp_path / "own", BOTH, *both), {**os.environ, "RUSTFLAGS": f"-L native={library}"}
