@@ -76,6 +76,14 @@ def test_pack_by_another_umask_in_another_folder(tmp_path, pack):
     assert packed(tmp_path, 0o077, tmp_path / "clone").read_bytes() == pack.read_bytes()
 
 
+def test_pages_name_what_is_there(tmp_path, pack):
+    top = unpacked(pack, tmp_path)
+    for page in top.rglob("*.md"):
+        links = re.findall(r"\]\(([^)#:]+)(?:#[^)]*)?\)", page.read_text())
+        assert not [it for it in links if not (page.parent / it).exists()], page
+    assert [*top.glob("crates/hex_core/src/*.rt")] and (top / "scripts/generate").is_file()
+
+
 @pytest.mark.parametrize("compiler", RUNNERS)
 def test_pack(tmp_path, pack, env, compiler):
     needs(compiler, *RUNNERS[compiler].split()[:1])

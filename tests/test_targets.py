@@ -60,6 +60,13 @@ def test_what_is_wrong_with_generated(copy, tmp_path):
         assert done.returncode == 2 and len(said) == 1 and line in said[0], said
 
 
+def test_clone_that_changes_line_ends(tmp_path):
+    """As Git for Windows makes it, if it is not told."""
+    runs(["git", "clone", "-q", "-c", "core.autocrlf=true", TOP, tmp_path / "clone"])
+    assert "w/crlf" not in ran(["git", "ls-files", "--eol"], cwd=tmp_path / "clone").stdout
+    runs(make("help", top=tmp_path / "clone"), env=BY_SYSTEM)
+
+
 def test_tests_without_the_toolchain(copy):
     done = ran(make("test", top=copy), env=BY_SYSTEM)
     assert done.returncode == 0 and done.stdout.endswith("the others take the Rattle toolchain\n"), done.stdout
