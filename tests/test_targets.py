@@ -1,6 +1,8 @@
 """What `make` says of bad words, how it builds in a copy, and the copies of `make vendor`."""
+import os
 import re
 import subprocess
+import time
 
 import pytest
 
@@ -85,6 +87,15 @@ def test_vendor_refuses(tmp_path, place):
     assert [*(tmp_path / "own").rglob("*.*")] == [own] and listed.read_text() == "hex_codec: mine\n"
 
 
+def has_parts(crate):
+    """Compares a copied crate's sources, specs and license with those here."""
+    for part in "src", "specs":
+        own = TOP / "crates" / crate.name / part
+        files = {it.relative_to(own): it.read_bytes() for it in own.rglob("*") if it.is_file()}
+        assert files == {it: (crate / part / it).read_bytes() for it in files}
+    assert (crate / "LICENSE").read_bytes() == (TOP / "LICENSE").read_bytes()
+
+
 def test_copies_of_vendor(tmp_path):
     """With JSON, and then in its place without."""
     (tmp_path / "crates.txt").write_text("app: std")
@@ -97,7 +108,11 @@ def test_copies_of_vendor(tmp_path):
         assert {*re.findall(r"\]\(([^)]*\.md)\)", "".join(found.values()))} <= PAGES
         ignored = [it.read_text() for it in tmp_path.glob("crates/*/.gitignore")]
         assert ignored and all("\nout/\n" in it for it in ignored)
-    assert not (tmp_path / "crates/faster_hex").exists()
+        for crate in {"hex_core", "hex_codec", "hex_io", last}:
+            has_parts(tmp_path / "crates" / crate)
+        (tmp_path / "crates/hex_core/of_the_user").touch()
+    assert not (tmp_path / "crates/faster_hex").exists() and (tmp_path / "crates/hex_core/of_the_user").exists()
+    assert "--no-json" in ran(make("-n", "vendor", "JSON=no")).stdout
 
 
 def test_copy_of_vendor_over_another(tmp_path):
@@ -110,3 +125,17 @@ def test_copy_of_vendor_over_another(tmp_path):
     before = listed.read_text()
     runs(make("vendor", f"DIR={tmp_path}"))
     assert kept.exists() and listed.read_text() == before
+
+
+def test_what_is_built_anew_and_what_is_cleaned(copy):
+    how, built = {"env": BY_SYSTEM}, "-c -o"
+    generated = sorted(it.name for it in (copy / "generated").iterdir())
+    runs(make("lib", top=copy), **how)
+    assert built not in runs(make("-n", "lib", top=copy), **how)
+    for file in copy.glob("generated/*.[sSi]*"):
+        before = file.stat().st_mtime
+        os.utime(file, (before, time.time() + 9))
+        assert built in runs(make("-n", "lib", top=copy), **how), file
+        os.utime(file, (before, before))
+    runs(make("clean", top=copy))
+    assert not (copy / "out").exists() and generated == sorted(it.name for it in (copy / "generated").iterdir())
