@@ -115,3 +115,13 @@ def test_readme(tmp_path):
             place = TOP if words.startswith("make") or "out/" in words else tmp_path
             done = ran(["bash", "-c", exports + words], cwd=place)
             assert done.stdout.strip().splitlines()[-1:] == [told] if told else done.returncode == 0, done.stdout
+
+
+def test_prefix_that_is_relative(tmp_path):
+    """It is told from the repository on, and no slash stands twice."""
+    words, there = ["PREFIX=some//where/", f"DESTDIR={tmp_path}"], tmp_path / f"{TOP}/some/where"[1:]
+    runs([*MAKE, "install", *words])
+    has_files(there, ALL)
+    assert f"prefix={TOP}/some/where\n" in (there / "lib/pkgconfig/faster_hex.pc").read_text()
+    runs([*MAKE, "uninstall", *words])
+    assert not [*tmp_path.iterdir()]
