@@ -84,6 +84,15 @@ def test_pages_name_what_is_there(tmp_path, pack):
     assert [*top.glob("crates/hex_core/src/*.rt")] and (top / "scripts/generate").is_file()
 
 
+def test_files_of_the_pack(tmp_path, pack):
+    """They are those here. No name and no time stand before them."""
+    top = unpacked(pack, tmp_path)
+    found = {str(it.relative_to(top)): it.read_bytes() for it in top.rglob("*") if it.is_file()}
+    assert {"README.md", "CHANGELOG.md", "LICENSE"} <= {*found}
+    assert found == {it: (TOP / it).read_bytes() for it in found}
+    assert pack.read_bytes()[3:8] == bytes(5)
+
+
 @pytest.mark.parametrize("compiler", RUNNERS)
 def test_pack(tmp_path, pack, env, compiler):
     needs(compiler, *RUNNERS[compiler].split()[:1])
