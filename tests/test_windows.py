@@ -12,6 +12,10 @@ BUILT = f"{WINDOWS_CC} -std=gnu99 -pthread -static -I{CRATE} -I{TESTS_IN_C}/wind
 # Where the library is assembled and never run.
 OTHERS = "x86_64-apple-macos11 arm64-apple-macos11 aarch64-unknown-freebsd13 x86_64-unknown-netbsd9".split()
 
+# Processors, and the builds that a compiler for one takes.
+TAKEN = {"x86_64-linux-gnu": ["X86_64"], "aarch64-linux-gnu": ["AARCH64"]}
+TAKEN |= dict.fromkeys(("x86_64-linux-gnux32", "aarch64_be-linux-gnu", "i686-linux-gnu", "riscv64-linux-gnu"), [])
+
 
 @pytest.fixture(scope="module")
 def windows():
@@ -92,6 +96,13 @@ def test_program_for(tmp_path, target):
     asked = {*re.findall(r" U (\w+)$", ran(["llvm-nm", tmp_path / "fhex.o"]).stdout, re.M)}
     has = re.findall(r"^PROVED .*\b(fhex_\w+)\(.*\{", (TOP / "crates/fhex/fhex.c").read_text(), re.M)
     assert asked == {*(it for it in has if "_mem" not in it), "memcpy", "memmove", "memset"}
+
+
+@pytest.mark.parametrize("target", TAKEN)
+def test_builds_taken_for(target):
+    needs("clang")
+    said = runs(["clang", "-target", target, "-dM", "-E", CRATE / "assembly.h"])
+    assert re.findall("^#define FASTER_HEX_(.*) 1$", said, re.M) == TAKEN[target]
 
 
 @pytest.mark.parametrize("processor, files", [("arm64", "aarch64.s"), ("x86_64", "x86-64*.s")])
