@@ -58,7 +58,8 @@ impl State {
     }
 }
 
-// Whether each put answers as the writer does, with one call of it, which is given the whole piece.
+// Whether each put answers as the writer does, with one call of it, which is given the whole piece, and
+// none to flush it.
 fn are_put(alloc: Global) -> bool {
     let mut writer = Taker::new(Pattern::once(TAKEN));
     writer.script = &ANSWERS;
@@ -85,6 +86,7 @@ fn are_put(alloc: Global) -> bool {
     writer.is_filled()
         && writer.script.is_empty()
         && writer.given == PUT.len()
+        && writer.flushes == 0
         && state.failures == 10
 }
 
