@@ -4,7 +4,6 @@ toolchain links."""
 import errno
 import os
 import random
-import subprocess
 
 import pytest
 
