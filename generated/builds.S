@@ -1,12 +1,8 @@
 /* The builds for the processor, behind the macros of the format of its object files; without any, nothing. */
 #include "../crates/faster_hex_c/assembly.h"
+#include "note.inc"
 
-#if !defined FASTER_HEX_X86_64 && !defined FASTER_HEX_AARCH64
-#ifdef __ELF__
-	.section .note.GNU-stack,"",%progbits
-#endif
-#else
-
+#if defined FASTER_HEX_X86_64 || defined FASTER_HEX_AARCH64
 #ifdef __ELF__
 #include "elf.inc"
 #elif defined __MACH__

@@ -82,6 +82,7 @@ prove() {
 # edits: what awk edits in LLVM's text. A library has its level in place of the call of `level`, so that the
 # other plans vanish. Where it moves no instruction, on x86-64, a debugger can walk out of each function. Of a
 # program the toolchain's `main` becomes private, and vanishes; the proved one, which it calls, is exported.
+# Where an indirect branch may come out clang puts the mark that processors ask for.
 edits() {
     if [ $kind = library ]; then
         cat <<'END'
@@ -96,6 +97,8 @@ END
 END
     fi
     echo '{ print }'
+    echo 'END { print "!llvm.module.flags = !{!9999}" }'
+    echo 'END { print "!9999 = !{i32 8, !\"" mark "\", i32 1}" }'
     echo 'END { if (edits != 1) { print "build.sh: " edits + 0 " edits, and not one" >"/dev/stderr"; exit 1 } }'
 }
 
@@ -109,13 +112,18 @@ make_tools() {
     ln -s "$kit/toolchain/lib" "$1/lib"
     rm "$1/bin/clang"
     edits >"$1/edit.awk"
+    mark=cf-protection-branch
+    [ "$2" = x86_64 ] || mark=branch-target-enforcement
     cat >"$1/bin/clang" <<END
 #!/bin/sh -eu
-compile() { "$kit/toolchain/bin/clang" "\$@" -Wno-unused-command-line-argument; }
+# A jump table would want a mark at each of its places.
+compile() {
+    "$kit/toolchain/bin/clang" "\$@" -Wno-unused-command-line-argument -mllvm -min-jump-table-entries=99
+}
 case " \$* " in *" module.bc "*)
     compile --target=$2-unknown-linux-gnu -S -emit-llvm -Xclang -disable-llvm-passes \\
         -o whole.ll -x ir module.bc
-    awk -v level=$3 -f "$1/edit.awk" whole.ll >module.bc
+    awk -v level=$3 -v mark=$mark -f "$1/edit.awk" whole.ll >module.bc
     # Only once the plan is inlined, the other plans vanish from functions that are not.
     if [ $3 = 1 ]; then
         compile "\$@" -S -emit-llvm -o once.ll
