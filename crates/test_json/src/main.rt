@@ -12,14 +12,12 @@ mod writings;
 use crate::readings::Reading;
 use crate::terms::refusal;
 use std::io::{self, BufReader};
-use test_kit::{Calls, Row, judge};
+use test_kit::{Calls, Row, judge, prints};
 
 // `print REFUSAL`: whether it prints the text that the answer is, which no flag changes.
 fn is_printed(row: &mut Row) -> bool {
     let error = refusal(&mut row.call);
-    let (alloc, want) = (row.alloc, row.answer.take_rest());
-    matches!(format!(in alloc; "{error}"), Ok(text) if text.as_str().as_bytes() == want)
-        && matches!(format!(in alloc; "{error:*>+#90.3}"), Ok(text) if text.as_str().as_bytes() == want)
+    prints(row.alloc, &error, row.answer.take_rest())
 }
 
 // What a row calls.

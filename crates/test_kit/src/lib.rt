@@ -21,7 +21,14 @@ pub use crate::notation::Bytes;
 pub use crate::words::Words;
 use crate::words::first_word;
 use std::alloc::Global;
+use std::fmt::Display;
 use std::io::{self, BufRead, Write};
+
+/// Whether a value prints this text, which no flag changes.
+pub fn prints<T: Display>(alloc: Global, value: &T, want: &[u8]) -> bool {
+    matches!(format!(in alloc; "{value}"), Ok(text) if text.as_str().as_bytes() == want)
+        && matches!(format!(in alloc; "{value:*>+#90.3}"), Ok(text) if text.as_str().as_bytes() == want)
+}
 
 /// A row: its words, what they are read into, and where its call takes memory from.
 #[derive(Drop)]

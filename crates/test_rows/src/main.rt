@@ -7,6 +7,7 @@ mod feeds;
 mod grouped;
 mod lanes;
 mod lists;
+mod prints;
 mod search;
 mod sized;
 mod slices;
@@ -123,7 +124,7 @@ impl Calls for Destination {
             Call::Show => texts::show_row(row),
             Call::Separates => texts::separates_row(row),
             Call::Value => search::value_row(row),
-            Call::Print => search::print_row(row),
+            Call::Print => prints::print_row(row),
             Call::Plans => search::plans_row(row),
             Call::Lanes(call) => lanes::row(call, row),
             Call::Long => strings::long_row(row),

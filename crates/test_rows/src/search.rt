@@ -1,10 +1,7 @@
-//! Rows of digit values, of the counted search for the first invalid byte, and of the texts that
-//! errors print.
+//! Rows of digit values, and of the counted search for the first invalid byte.
 
 use crate::terms::{Destination, PLANS, number_or, plan, source};
-use arrayvec::ArrayString;
 use hex_core::{Backend, CheckCase, Probe, SliceProbe, backends, covered, digit_value, locate};
-use std::fmt::Write;
 use test_kit::{Row, Words};
 
 /// `value POLICY BYTE`.
@@ -68,17 +65,6 @@ pub fn cover_row(row: &mut Row, to: &mut Destination) -> bool {
         }
     }
     true
-}
-
-/// `print REFUSAL`: the text, which no flag changes.
-pub fn print_row(row: &mut Row) -> bool {
-    let error = row.call.take_refusal();
-    let mut text: ArrayString<100> = ArrayString::new();
-    let mut flagged: ArrayString<100> = ArrayString::new();
-    write!(text, "{error}").is_ok()
-        && write!(flagged, "{error:*>+#60.3}").is_ok()
-        && text.as_str() == flagged.as_str()
-        && text.as_str().as_bytes() == row.answer.take_rest()
 }
 
 /// `plans`: the name of each plan, in their order.

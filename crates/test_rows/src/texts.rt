@@ -2,12 +2,10 @@
 
 use crate::taking::{Mode, Put, Taken};
 use crate::terms::{Destination, group, number_or};
-use arrayvec::ArrayString;
 use hex_codec::Group;
 use hex_io::{Align, Hex, HexFlags, Sink, WriterSink};
-use std::fmt::Write;
 use test_kit::fakes::{Pattern, Taker};
-use test_kit::{Bytes, Row, Words};
+use test_kit::{Bytes, Row, Words, prints};
 
 // Where a text stands in its width, by the letters of its flags.
 fn align(letters: &[u8]) -> Align {
@@ -116,13 +114,15 @@ pub fn put_row(row: &mut Row) -> bool {
     is_put && writer.is_filled() && writer.script.is_empty() && writer.flushes == 0
 }
 
-/// `show BYTES`: the text as `{}` prints it.
+/// `show BYTES`: the text as `{}` prints it, which no flag changes.
 pub fn show_row(row: &mut Row) -> bool {
     row.call.take_bytes(&mut row.given);
     row.answer.take_bytes(&mut row.wanted);
-    let mut text: ArrayString<8400> = ArrayString::new();
-    write!(text, "{}", Hex::new(row.given.as_slice())).is_ok()
-        && text.as_str().as_bytes() == row.wanted.as_slice()
+    prints(
+        row.alloc,
+        &Hex::new(row.given.as_slice()),
+        row.wanted.as_slice(),
+    )
 }
 
 /// `separates EVERY BYTE`: whether that is a group.
