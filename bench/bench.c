@@ -8,12 +8,12 @@
 #include <time.h>
 
 // The rounds of a size are spread over the whole run, since a shared machine has slow seconds.
-#define PASSES 40
+#define PASSES 20
 // How far below the last one a pass begins: twenty go round a page.
 #define PLACE 208
 #define PAGE 4096
 #define ROUNDS 12
-#define TURNS_NS 20000
+#define TURNS_NS 10000
 #define LARGEST 65536
 #define OLD 0xa5
 #define MOST_SIZES 160

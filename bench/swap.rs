@@ -85,7 +85,8 @@ macro_rules! crates {
                     };
                     "{:>}" padded(it) {
                         it.text.truncate(it.start);
-                        write!(black_box(&mut *it.text), "{:>1$}", Hex::new(black_box(it.bytes)), (2 * N + 12).min(65_535))
+                        let (bytes, width) = (Hex::new(black_box(it.bytes)), (2 * N + 12).min(65_535));
+                        write!(black_box(&mut *it.text), "{bytes:>width$}")
                     };
                 }
             }
