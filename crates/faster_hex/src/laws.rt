@@ -5,7 +5,9 @@ ghost use Rattle.std.specs.Prelude.{◌≡◌, length};
 ghost use Rattle.std.specs.Option.{ForSome};
 ghost use Rattle.faster_hex.specs.AdapterLaws.{ArrayHasNoBound, BoundedReadsWhatFits, OptionReadingInvertsWriting, ReadingInvertsWriting, ReadsNoneApart, UnboundedHasNoBound, WritesNoneApart, WritingInvertsStrictReading};
 
-use hex_core::laws::{decoding_inverts_encoding, encoding_inverts_strict_decoding};
+use hex_core::laws::{
+    a_slice_holds_bytes, decoding_inverts_encoding, encoding_inverts_strict_decoding,
+};
 
 /// A bounded read accepts exactly what the unbounded one reads as at most so many bytes, with the
 /// same result; an unbounded read and one into an array never fail for a bound.
@@ -41,4 +43,8 @@ pub fn strict_writing_inverts_reading()
 /// An array that may be missing has its length, as reading an option of one requires.
 pub fn an_optional_array_has_its_length<const N: usize>(bytes: &Option<[u8; N]>)
     ensures sized { ForSome bytes.now (λ array. length array ≡ N) }
-{}
+{
+    if let Some(array) = bytes {
+        a_slice_holds_bytes(array);
+    }
+}
