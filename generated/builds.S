@@ -1,6 +1,22 @@
 /* The builds for the processor, behind the macros of the format of its object files; without any, nothing. */
 #include "../crates/faster_hex_c/assembly.h"
-#include "note.inc"
+
+/* For ELF: no stack is executed, every place where an indirect branch may come out is marked, and no return address
+ * is changed. The note speaks of all of an object, so it is not in elf.inc, which Rust takes beside its own. */
+#ifdef __ELF__
+	.section .note.GNU-stack,"",%progbits
+#if defined __LP64__ && (defined __x86_64__ || defined __aarch64__)
+	.section .note.gnu.property,"a"
+	.p2align 3
+	.long 4,16,5
+	.asciz "GNU"
+#ifdef __x86_64__
+	.long 0xc0000002,4,3,0
+#else
+	.long 0xc0000000,4,1,0
+#endif
+#endif
+#endif
 
 #if defined FASTER_HEX_X86_64 || defined FASTER_HEX_AARCH64
 #ifdef __ELF__

@@ -80,15 +80,19 @@ prove() {
 }
 
 # edits: what awk edits in LLVM's text. A library has its level in place of the call of `level`, so that the
-# other plans vanish. Where it moves no instruction, on x86-64, a debugger can walk out of each function. Of a
-# program the toolchain's `main` becomes private, and vanishes; the proved one, which it calls, is exported.
-# Where an indirect branch may come out clang puts the mark that processors ask for.
+# other plans vanish, and clang marks where an indirect branch may come out. Where it moves no instruction, on
+# x86-64, a debugger can walk out of each function. Of a program the toolchain's `main` becomes private, and
+# vanishes; the proved one, which it calls, is exported.
 edits() {
     if [ $kind = library ]; then
         cat <<'END'
 { edits += gsub(/call i8 @"faster_hex_c::level"\(\)/, "add i8 0, " level) }
 /^target triple = "x86_64/ { unwinds = 1 }
 /^attributes / && unwinds { sub(/ nounwind /, " nounwind uwtable ") }
+END {
+    mark = unwinds ? "cf-protection-branch" : "branch-target-enforcement"
+    print "!llvm.module.flags = !{!9999}\n!9999 = !{i32 8, !\"" mark "\", i32 1}"
+}
 END
     else
         cat <<'END'
@@ -97,8 +101,6 @@ END
 END
     fi
     echo '{ print }'
-    echo 'END { print "!llvm.module.flags = !{!9999}" }'
-    echo 'END { print "!9999 = !{i32 8, !\"" mark "\", i32 1}" }'
     echo 'END { if (edits != 1) { print "build.sh: " edits + 0 " edits, and not one" >"/dev/stderr"; exit 1 } }'
 }
 
@@ -112,18 +114,16 @@ make_tools() {
     ln -s "$kit/toolchain/lib" "$1/lib"
     rm "$1/bin/clang"
     edits >"$1/edit.awk"
-    mark=cf-protection-branch
-    [ "$2" = x86_64 ] || mark=branch-target-enforcement
+    # A jump table would want a mark at each of its places.
+    tables=
+    [ $kind = program ] || tables='-mllvm -min-jump-table-entries=99'
     cat >"$1/bin/clang" <<END
 #!/bin/sh -eu
-# A jump table would want a mark at each of its places.
-compile() {
-    "$kit/toolchain/bin/clang" "\$@" -Wno-unused-command-line-argument -mllvm -min-jump-table-entries=99
-}
+compile() { "$kit/toolchain/bin/clang" "\$@" -Wno-unused-command-line-argument $tables; }
 case " \$* " in *" module.bc "*)
     compile --target=$2-unknown-linux-gnu -S -emit-llvm -Xclang -disable-llvm-passes \\
         -o whole.ll -x ir module.bc
-    awk -v level=$3 -v mark=$mark -f "$1/edit.awk" whole.ll >module.bc
+    awk -v level=$3 -f "$1/edit.awk" whole.ll >module.bc
     # Only once the plan is inlined, the other plans vanish from functions that are not.
     if [ $3 = 1 ]; then
         compile "\$@" -S -emit-llvm -o once.ll

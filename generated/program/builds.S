@@ -1,5 +1,4 @@
 /* The program for the processor, behind the macros of the format of its object files. */
-#include "../note.inc"
 #ifdef __ELF__
 #include "../elf.inc"
 #else
