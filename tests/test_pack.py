@@ -11,7 +11,7 @@ from commands import (ARM_CC, BY_RUST, CARGO, CC, CXX, HELLO, INSTALLED, ON_ARM,
 NAME = f"faster_hex-{VERSION}"
 # What builds, tests and installs a pack.
 TOOLS = f"""sh make {CC} {CXX} gcc clang musl-gcc {ARM_CC} qemu-aarch64 ar as ld cp ln rm mv mkdir install cat
-    sed grep sort dirname rmdir find xargs cksum cmake pkg-config {CARGO} {RUSTC} env uname"""
+    sed grep sort dirname ls rmdir find xargs cksum cmake pkg-config {CARGO} {RUSTC} env uname"""
 RUNNERS = {CC: "", "clang": "", "musl-gcc": "", ARM_CC: ON_ARM}
 # What CMake asks for, and whether it is refused.
 VERSIONS = {"1": 0, "1.0": 0, "1.0.0 EXACT": 0, "1.0.1": 1, "1.1": 1, "2": 1, "0.9": 1}
