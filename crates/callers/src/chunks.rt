@@ -1,20 +1,13 @@
 //! Callers that decode digits in chunks, each proved.
 
 ghost use Rattle.std.specs.Prelude.{◌≡◌, ◌++◌, ℕ, List, Some, MatchResult, length};
-ghost use Rattle.std.specs.Io.KnownBytes.{Consumes, IsAtEnd};
 ghost use Rattle.hex_core.specs.declared.digit.CheckCase.TheVariants as policy;
 ghost use Rattle.hex_core.specs.Text.{Spells, with_front};
-ghost use Rattle.hex_io.specs.Reading.{spaced, unspaced};
-ghost use Rattle.hex_io.specs.Stream.{RefusedBy};
 ghost use Rattle.callers.specs.Chunks.{DecodesMore, parts_refusal};
 
-use faster_hex::stream::{Decoder, StreamFault};
+use faster_hex::stream::Decoder;
 use faster_hex::{CheckCase, Error};
-use hex_io::laws::{
-    a_decoder_with_room_refuses_as_a_stream, a_decoder_writes_half_of_what_it_is_fed,
-    any_cutting_is_decoded_as_one_call, every_decoder_has_been_fed,
-};
-use std::io::Read;
+use hex_io::laws::{any_cutting_is_decoded_as_one_call, every_decoder_has_been_fed};
 
 /// Decodes digits in two parts, of which the first may end within a pair, each into the start of
 /// its own buffer, and returns the number of bytes in each.
@@ -70,41 +63,4 @@ pub fn decode_more(decoder: &mut Decoder, more: &[u8], buffer: &mut [u8]) -> Res
     any_cutting_is_decoded_as_one_call();
     every_decoder_has_been_fed();
     decoder.feed(more, buffer)
-}
-
-/// Reads hex digits with white space among them to the end of a reader, and returns how many bytes
-/// they spell.
-///
-/// # Errors
-///
-/// [`StreamFault::Read`] if a read failed; [`StreamFault::Codec`] with what the digits are refused
-/// for.
-///
-/// ```rust
-/// let mut input: &[u8] = b"6865 6C6\nc6f\n";
-/// assert_eq!(rt; count_bytes(&mut input), Ok(5));
-/// ```
-pub fn count_bytes<R: Read>(reader: &mut R) -> Result<usize, StreamFault>
-    ensures { (s : List ℕ) × Consumes (R.remaining reader.old) (R.remaining reader.new) s × MatchResult result
-        (λ count. (bytes : List ℕ) × Spells policy.None (unspaced s) bytes × (count ≡ length bytes)
-        × IsAtEnd (R.remaining reader.new))
-        (λ why. (e : Error) → why ≡ StreamFault.Codec e → RefusedBy (spaced policy.None) s (R.remaining reader.new) e) }
-{
-    a_decoder_with_room_refuses_as_a_stream();
-    a_decoder_writes_half_of_what_it_is_fed();
-    let mut total = 0;
-    let mut decoder = Decoder::spaced(CheckCase::None);
-    let mut digits = [0; 512];
-    let mut decoded = [0; 256];
-    'reads: loop {
-        let count = match reader.read(&mut digits) {
-            Ok(count) => count,
-            Err(_) => return Err(StreamFault::Read),
-        };
-        if count == 0 {
-            decoder.finish()?;
-            return Ok(total);
-        }
-        total += decoder.feed(&digits[..count], &mut decoded)?;
-    }
 }

@@ -9,6 +9,5 @@ pub mod dump;
 pub mod groups;
 pub mod json;
 pub mod probes;
-pub mod spaced;
 pub mod texts;
 pub mod undump;
