@@ -109,8 +109,9 @@ impl Backend {
     /// digits, which may be secret, are looked up in no table.
     ///
     /// ```rust
-    /// assert_eq!(rt; Backend::plain().find_invalid(b"00aBcD", CheckCase::None), None);
-    /// assert_eq!(rt; Backend::plain().find_invalid(b"00aBcD", CheckCase::Lower), Some(3));
+    /// let plain = Backend::plain();
+    /// assert_eq!(rt; plain.find_invalid(b"00aBcD", CheckCase::None), None);
+    /// assert_eq!(rt; plain.find_invalid(b"00aBcD", CheckCase::Lower), Some(3));
     /// ```
     #[inline(never)]
     pub fn find_invalid(self, src: &[u8], case: CheckCase) -> Option<usize>
