@@ -1,5 +1,5 @@
 -- Sources that come in chunks.
-use Rattle.std.proofs.Common.{◌≡◌, ℕ, ◌+◌, ◌*◌, ◌/◌, ◌^◌, ◌<◌, ◌≤◌, Bool, true, false, List, [], ◌∷◌, ◌++◌, length, length-append}
+use Rattle.std.proofs.Common.{◌≡◌, ◌≢◌, ℕ, ◌+◌, ◌*◌, ◌/◌, ◌^◌, ◌<◌, ◌≤◌, Bool, true, false, List, [], ◌∷◌, ◌++◌, length, length-append}
 use Rattle.std.proofs.Common.{take, drop, length-drop, ◌-◌, slice_index, Option, Some, None}
 use Rattle.std.proofs.Common.{refl, sym, ◌∙◌, ap, append_assoc, arith, not}
 use Rattle.std.specs.Prelude.{◌↔◌, ◌&&◌, filter, option_map, position, IsSome}
@@ -12,6 +12,7 @@ use Rattle.std.proofs.lemmas.List.Elements.{filter-append}
 use Rattle.std.proofs.lemmas.List.Filters.{length-filter_both}
 use borrow.Rule.Slice.PartMut.{put_mid}
 use Rattle.hex_core.specs.declared.digit.CheckCase.{CheckCase}
+use Rattle.hex_core.specs.declared.digit.CheckCase.TheVariants as policy
 use Rattle.hex_core.specs.declared.error.Error.{Error}
 use Rattle.hex_core.specs.declared.error.Error.TheVariants.{InvalidChar, Overflow}
 use Rattle.hex_core.specs.Digit.{value}
@@ -20,7 +21,7 @@ use Rattle.hex_core.specs.Text.{Spells, with_front}
 use Rattle.hex_core.proofs.JoinLemmas.{back_at, spells-joined, valid-both, valid-parts}
 use Rattle.hex_core.proofs.LawProofs.{valid-spelled}
 use Rattle.hex_core.proofs.PositionLemmas.{none_joined, position-joined}
-use Rattle.hex_core.proofs.SearchLemmas.{lacks, none_valid}
+use Rattle.hex_core.proofs.SearchLemmas.{has_value, lacks, none_valid}
 use Rattle.hex_codec.proofs.ListLemmas.{put-behind}
 use Rattle.hex_io.specs.Decoder.{PairsSpell, feed_refusal, pairs_more, refusal_by}
 use Rattle.hex_io.specs.Reading.{SpellsBut, digits_in, first_stray, is_solid, is_stray, plain, spaced, stray_of, unspaced}
@@ -56,6 +57,27 @@ pub none-stray : (c : CheckCase) (skips : Bool) (s : List ℕ) → let r : Readi
     first_invalid c (digits_in r s) ≡ None → first_stray r s ≡ None
 none-stray c true s valid = (solid-valid c s).1 valid
 none-stray c false s valid = valid
+
+-- digits are no white space
+digit-solid : (c : CheckCase) (b : ℕ) → lacks c b ≡ false → is_solid b ≡ true
+digit-solid policy.None b is = grind (arith, nat_tests, is)
+digit-solid policy.Lower b is = grind (arith, nat_tests, is)
+digit-solid policy.Upper b is = grind (arith, nat_tests, is)
+
+pub digits-solid : (c : CheckCase) (s : List ℕ) → first_invalid c s ≡ None → unspaced s ≡ s
+digits-solid c [] none = refl
+digits-solid c (b ∷ s) none =
+    let rest = digits-solid c s ((none_joined (lacks c) (b ∷ []) s).0 none).1 in
+    rw (digit-solid c b (has_value c (b ∷ s) 0 none (omega arith)), rest) refl
+
+-- a source that loses nothing keeps all
+pub all-solid : (s : List ℕ) → length (unspaced s) ≡ length s → unspaced s ≡ s
+all-solid [] is = refl
+all-solid (b ∷ s) is = by_first (is_solid b) refl (all-solid s)
+  where
+    by_first : (t : Bool) → is_solid b ≡ t → (length (unspaced s) ≡ length s → unspaced s ≡ s) → unspaced (b ∷ s) ≡ b ∷ s
+    by_first true kept rest = let fewer : length (unspaced s) ≡ length s = omega (arith, rw kept at is) in rw (kept, rest fewer) refl
+    by_first false left rest = absurd (omega (arith, digits-le policy.None true s, rw left at is))
 
 -- ---- single digits
 
@@ -105,6 +127,19 @@ pub solid-read : (c : CheckCase) (block digits : List ℕ) (w : Option ℕ) (old
     → digits ≡ unspaced block → DecodesChunk (plain c) w digits old new result → IsSome result
 solid-read c block digits w old new (Some more) none is read = refl
 solid-read c block digits w old new None none is refused = absurd (refused.0 (rw is ((solid-valid c block).0 none)))
+
+-- a chunk that loses nothing is read as digits alone
+pub whole-read : (c : CheckCase) (skips : Bool) (w : Option ℕ) (src old new : List ℕ) (result : Option (Option ℕ)) → let r : Reading = record { case = c; skips = skips } in
+    length (digits_in r src) ≡ length src → DecodesChunk (plain c) w src old new result → DecodesChunk r w src old new result
+whole-read c false w src old new result is read = read
+whole-read c true w src old new (Some next) is read = let same = all-solid src is in rw same read
+whole-read c true w src old new None is refused =
+    let same = all-solid src is in (λ none. let valid = (solid-valid c src).0 none in refused.0 (rw same at valid), refused.1)
+
+-- one that loses something is read with white space skipped
+pub loses-spaces : (c : CheckCase) (skips : Bool) (s : List ℕ) → length (digits_in (record { case = c; skips = skips }) s) ≢ length s → skips ≡ true
+loses-spaces c true s loses = refl
+loses-spaces c false s loses = absurd (loses refl)
 
 -- two of three parts are no longer than the whole
 pub two-le : (a b c d e : List ℕ) → a ++ (b ++ c) ≡ d ++ e → length a + length b ≤ length d + length e

@@ -9,7 +9,7 @@
 //! assert_eq!(rt; text.as_slice(), b"00abcd".as_slice());
 //! ```
 
-ghost use Rattle.std.specs.Prelude.{◌≡◌, ◌≢◌, ◌↔◌, ◌+◌, ◌-◌, ◌/◌, ◌%◌, ◌^◌, ◌<◌, ◌≤◌, ◌++◌, ◌∷◌, [], None, Some, drop, take, false, length, IfOk, IsSome, IsTrue, MatchOption, OnErr};
+ghost use Rattle.std.specs.Prelude.{◌≡◌, ◌≢◌, ◌↔◌, ◌+◌, ◌-◌, ◌/◌, ◌%◌, ◌^◌, ◌<◌, ◌≤◌, ◌++◌, ◌∷◌, [], None, Some, drop, take, false, true, length, IfOk, IsSome, IsTrue, MatchOption, OnErr};
 ghost use Rattle.std.specs.Option.{ForSome, option_to_list};
 ghost use Rattle.hex_core.specs.Digit.{value};
 ghost use Rattle.hex_core.specs.Text.{Spells};
@@ -141,11 +141,12 @@ impl Decoder {
         let Some(position) = self.position.checked_add(src.len()) else {
             return Err(Error::Overflow);
         };
-        let required = self.whole_pairs(self.digit_count(src));
+        let (count, is_clean) = self.survey(src);
+        let required = self.whole_pairs(count);
         if dst.len() < required {
             return Err(Error::OutputTooSmall { required });
         }
-        let Some(waiting) = self.decode(src, dst) else {
+        let Some(waiting) = self.decode(src, dst, count, is_clean) else {
             return Err(self.error_in(src));
         };
         *self = Decoder {
@@ -176,15 +177,18 @@ impl Decoder {
         Ok(())
     }
 
-    // How many digits a chunk has, if each byte is one that should be.
+    // How many digits a chunk has, if each byte is one that should be; and whether each is, where
+    // white space is skipped: else decoding tells.
     #[inline(always)]
-    fn digit_count(&self, src: &[u8]) -> usize
-        ensures { result ≡ length (digits_in (reading_of self.now) src.now) }
+    fn survey(&self, src: &[u8]) -> (usize, bool)
+        ensures count { result.0 ≡ length (digits_in (reading_of self.now) src.now) }
+        ensures clean { self.now.reading.skips ≡ true →
+            (IsTrue result.1 ↔ (first_stray (reading_of self.now) src.now ≡ None)) }
     {
         if self.reading.skips {
-            solid_count(src)
+            survey(src, self.reading.case)
         } else {
-            src.len()
+            (src.len(), true)
         }
     }
 
@@ -199,18 +203,21 @@ impl Decoder {
         }
     }
 
-    // Decodes the pairs that a chunk completes, and returns the digit that then waits; or nothing, if
-    // a byte should be a digit and is none.
+    // Decodes the pairs that a surveyed chunk completes, and returns the digit that then waits; or
+    // nothing, if a byte should be a digit and is none. Without white space it is taken as it is.
     #[inline(always)]
-    fn decode(&self, src: &[u8], dst: &mut [u8]) -> Option<Option<u8>>
-        requires { (length (waiting_in self.now) + length (digits_in (reading_of self.now) src.now)) / 2 ≤ length dst.old }
+    fn decode(&self, src: &[u8], dst: &mut [u8], count: usize, is_clean: bool) -> Option<Option<u8>>
+        requires count { count ≡ length (digits_in (reading_of self.now) src.now) }
+        requires clean { self.now.reading.skips ≡ true →
+            (IsTrue is_clean ↔ (first_stray (reading_of self.now) src.now ≡ None)) }
+        requires room { (length (waiting_in self.now) + count) / 2 ≤ length dst.old }
         ensures { DecodesChunk (reading_of self.now) self.now.waiting src.now dst.old dst.new result }
     {
-        let Reading { case, skips } = self.reading;
-        if !skips {
+        let case = self.reading.case;
+        if count == src.len() {
             return decode_pairs(self.waiting, src, dst, case);
         }
-        if !is_clean(src, case) {
+        if !is_clean {
             return None;
         }
         Some(decode_spaced(self.waiting, src, dst, case))
@@ -243,23 +250,33 @@ impl Decoder {
     }
 }
 
-// How many bytes of a source are no white space.
-fn solid_count(src: &[u8]) -> usize
-    ensures { result ≡ length (unspaced src.now) }
+// How many bytes of a source are no white space, and whether all of these are digits.
+fn survey(src: &[u8], case: CheckCase) -> (usize, bool)
+    ensures count { result.0 ≡ length (unspaced src.now) }
+    ensures clean { IsTrue result.1 ↔ (first_stray (spaced case) src.now ≡ None) }
 {
-    src.iter()
-        .filter(|byte| !byte.is_ascii_whitespace())
-        .count()
+    let mut count = src.len();
+    let mut clean = true;
+    for block in src.chunks(SPACED_BLOCK) {
+        let (more, is_clean) = survey_block(block, case);
+        count -= block.len() - more;
+        clean = clean && is_clean;
+    }
+    (count, clean)
 }
 
-// Whether each byte of a source is white space or a digit. A test that ends at the first other byte
-// would branch at each.
-fn is_clean(src: &[u8], case: CheckCase) -> bool
-    ensures { IsTrue result ↔ (first_stray (spaced case) src.now ≡ None) }
+// The same of a block, of which nothing is copied where all is digits.
+fn survey_block(block: &[u8], case: CheckCase) -> (usize, bool)
+    requires { length block.now ≤ SPACED_BLOCK }
+    ensures count { result.0 ≡ length (unspaced block.now) }
+    ensures clean { IsTrue result.1 ↔ (first_stray (spaced case) block.now ≡ None) }
 {
-    src.iter().fold(true, |clean, byte| {
-        clean & (byte.is_ascii_whitespace() | digit_value(*byte, case).is_some())
-    })
+    if Backend::plain().check(block, case) {
+        return (block.len(), true);
+    }
+    let mut digits = [0; SPACED_BLOCK];
+    let count = copy_unspaced(block, &mut digits);
+    (count, Backend::plain().check(&digits[..count], case))
 }
 
 // Decodes digits among which white space stands and nothing else, and returns the one that then waits.
@@ -269,15 +286,39 @@ fn decode_spaced(mut waiting: Option<u8>, src: &[u8], dst: &mut [u8], case: Chec
     requires room { (length (option_to_list waiting) + length (unspaced src.now)) / 2 ≤ length dst.old }
     ensures { DecodesDigits case (option_to_list waiting ++ unspaced src.now) dst.old dst.new result }
 {
-    let mut digits = [0; SPACED_BLOCK];
     let mut done = 0;
     for block in src.chunks(SPACED_BLOCK) {
-        let count = copy_unspaced(block, &mut digits);
-        let had = usize::from(waiting.is_some());
-        waiting = decode_pairs(waiting, &digits[..count], &mut dst[done..], case).unwrap();
-        done += (had + count) / 2;
+        let (next, written) = decode_block(waiting, block, &mut dst[done..], case);
+        waiting = next;
+        done += written;
     }
     waiting
+}
+
+// The same of a block, and how many bytes it gives. Nothing is copied where all is digits.
+fn decode_block(
+    waiting: Option<u8>,
+    block: &[u8],
+    dst: &mut [u8],
+    case: CheckCase,
+) -> (Option<u8>, usize)
+    requires few { length block.now ≤ SPACED_BLOCK }
+    requires tested { ForSome waiting (λ digit. IsSome (value case digit)) }
+    requires valid { first_stray (spaced case) block.now ≡ None }
+    requires room { (length (option_to_list waiting) + length (unspaced block.now)) / 2 ≤ length dst.old }
+    ensures decoded { DecodesDigits case (option_to_list waiting ++ unspaced block.now)
+        dst.old dst.new result.0 }
+    ensures count { result.1 ≡ (length (option_to_list waiting) + length (unspaced block.now)) / 2 }
+{
+    let had = usize::from(waiting.is_some());
+    if Backend::plain().check(block, case) {
+        let next = decode_pairs(waiting, block, dst, case).unwrap();
+        return (next, (had + block.len()) / 2);
+    }
+    let mut digits = [0; SPACED_BLOCK];
+    let count = copy_unspaced(block, &mut digits);
+    let next = decode_pairs(waiting, &digits[..count], dst, case).unwrap();
+    (next, (had + count) / 2)
 }
 
 // Copies the bytes that are no white space to the start of a block, and returns their number.

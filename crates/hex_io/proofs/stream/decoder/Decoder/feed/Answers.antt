@@ -9,7 +9,7 @@ pub returns-in_default-decode-clause-feeds : goal.returns-in_default-decode-clau
 returns-in_default-decode-clause-feeds c = λ fed written has.
     let d = c.args.self.now in let src = c.args.src.now in
     refused-byte d.reading fed src (length c.args.dst.now) (omega (arith, has.0, c.in-Some.ensures))
-    (omega (arith, count-but d.reading.case (digits_in d.reading fed) written d.waiting has.1, c.digit_count.ensures, c.whole_pairs-required.ensures, c.if-dst-required.false))
+    (omega (arith, count-but d.reading.case (digits_in d.reading fed) written d.waiting has.1, c.survey-count.ensures.count, c.whole_pairs-required.ensures, c.if-dst-required.false))
     ∙ sym (stray-behind-all d.reading fed src d.position (none-stray d.reading.case d.reading.skips fed has.1.valid) has.0) ∙ c.error_in.ensures
 
 pub invariant_of-self : goal.invariant_of-self
@@ -32,10 +32,10 @@ returns-clause-feeds c = λ fed written has.
     let after = count-but r.case _ decoded.0 c.in-Some-decode.waiting decoded.1 in
     let joined = rw (← digits-joined r.case r.skips fed src) at (but-joined r.case (digits_in r fed) (digits_in r src) written decoded.0 (option_to_list d.waiting) _ has.1 decoded.1) in (
       refused-byte r fed src (length c.args.dst.now) (omega (arith, has.0, c.in-Some.ensures))
-          (omega (arith, before, c.digit_count.ensures, c.whole_pairs-required.ensures, c.if-dst-required.false)) ∙ none-refused r (fed ++ src) joined.valid,
+          (omega (arith, before, c.survey-count.ensures.count, c.whole_pairs-required.ensures, c.if-dst-required.false)) ∙ none-refused r (fed ++ src) joined.valid,
       (
         decoded.0,
-        omega (arith, c.digit_count.ensures, c.whole_pairs-required.ensures, after, length-append (option_to_list d.waiting) (digits_in r src)),
+        omega (arith, c.survey-count.ensures.count, c.whole_pairs-required.ensures, after, length-append (option_to_list d.waiting) (digits_in r src)),
         decoded.2,
         (omega (arith, c.in-Some.ensures, has.0, length-append fed src), joined),
       ),
