@@ -4,6 +4,6 @@
 #if defined FASTER_HEX_PORTABLE || defined __ILP32__
 #elif defined __x86_64__
 #define FASTER_HEX_X86_64 1
-#elif defined __aarch64__ && !defined __AARCH64EB__ && (defined __ELF__ || defined __MACH__)
+#elif defined __aarch64__ && defined __ARM_NEON && !defined __AARCH64EB__ && (defined __ELF__ || defined __MACH__)
 #define FASTER_HEX_AARCH64 1
 #endif

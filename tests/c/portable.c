@@ -31,8 +31,10 @@ static told run(const struct job *it, bool by_library, uint8_t *dst) {
 #define CALL(name, ...) (by_library ? faster_hex_##name(it->src, it->len, __VA_ARGS__) \
                                     : portable_##name(it->src, it->len, __VA_ARGS__))
     bool is_hex = by_library ? faster_hex_check(it->src, it->len) : portable_check(it->src, it->len);
+    bool is_strict = by_library ? faster_hex_check_with_case(it->src, it->len, it->policy)
+                                : portable_check_with_case(it->src, it->len, it->policy);
     switch (it->call) {
-    case 0: return told_number(FASTER_HEX_DONE, is_hex);
+    case 0: return told_number(FASTER_HEX_DONE, 2u * is_strict + is_hex);
     case 1: return CALL(first_invalid, it->policy);
     case 2: return CALL(encode, dst, it->room, it->upper);
     case 3: return CALL(decode, dst, it->room);
