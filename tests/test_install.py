@@ -107,10 +107,9 @@ def test_readme(tmp_path):
     text = (TOP / "README.md").read_text().partition("\n## Rattle\n")[0].replace("$HOME", f"{tmp_path}")
     exports = "set -e\n" + "\n".join(re.findall("^export .*", text, re.M)) + "\n"
     for kind, block in re.findall(r"^```(\w+)\n(.*?)^```$", text, re.M | re.S):
-        if kind != "sh":
+        if kind in FILES:
             (tmp_path / FILES[kind]).write_text(block)
-            continue
-        for line in block.splitlines():
+        for line in block.splitlines() if kind == "sh" else ():
             words, _, told = (it.strip() for it in line.partition("  # "))
             place = TOP if words.startswith("make") or "out/" in words else tmp_path
             done = ran(["bash", "-c", exports + words], cwd=place)
