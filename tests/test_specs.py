@@ -1,4 +1,6 @@
-"""Whether specs/inside/ has what no public contract uses, by the words of contracts, and CALLING.md what is there."""
+"""Whether specs/inside/ has what no public contract uses, by the words of contracts, and whether what CALLING.md and
+theorem.md name is there."""
+import functools
 import re
 
 from commands import TOP
@@ -7,6 +9,9 @@ WORD = r"[^\W\d][\w-]*"
 # A function with its clauses, or a ghost member, both with their indentation.
 FUNCTION = re.compile(r"^( *)(pub )?(?:[a-z]\S* |.C. )*fn (\w+)(.*?)(?:^\1\{\}?$|\{\}?$|;$)", re.M | re.S)
 MEMBER = re.compile(r"^( +)(ghost) (?!use )(\w+)(.*)", re.M)
+# A line of the table of theorem.md: a definition, a function whose contract uses it, and a mutation.
+LINE = re.compile(r"\[`(\w+)\.(\w+)`\]\(\.\./crates/(\w+)/specs/\S+ \| "
+                  r"\[`(\w+)`\]\(\.\./(\S+)\) \| \[(.*)\]\(\.\./(crates/\w+/mutations)\) \|")
 
 
 def words(text):
@@ -42,16 +47,23 @@ def contracts(crate):
                 yield f"{path.relative_to(TOP)}: {name}", clauses, imported(text)
 
 
-def used():
-    """The definitions that public contracts use, each with one of these; and all definitions."""
+@functools.cache
+def definitions_and_uses():
+    """All definitions; and those that the clauses of public contracts name, each with one of these contracts."""
     texts = {}
     for path in TOP.glob("crates/*/specs/**/*.antt"):
         module = ".".join(path.relative_to(TOP / "crates").with_suffix("").parts)
         for block in path.read_text().split("\n\n"):
             for name in re.findall(rf"^(?:\w+ )?pub (?:record )?({WORD}).* [:]", block, re.M):
                 texts[module, name] = block, imported(path.read_text())
-    todo = [(names[word], where) for crate in TOP.glob("crates/*") if (crate / "src/lib.rt").exists()
-            for where, clauses, names in contracts(crate) for word in words(clauses) if word in names]
+    return texts, [(names[word], where) for crate in TOP.glob("crates/*") if (crate / "src/lib.rt").exists()
+                   for where, clauses, names in contracts(crate) for word in words(clauses) if word in names]
+
+
+def used(by=None):
+    """The definitions that public contracts use, or this one, each with a contract; and all definitions."""
+    texts, uses = definitions_and_uses()
+    todo = [it for it in uses if by in (None, it[1])]
     found = {}
     while todo:
         it, where = todo.pop()
@@ -80,3 +92,12 @@ def test_inside():
 def test_calling():
     listed = {*named((TOP / "crates/faster_hex/CALLING.md").read_text())}
     assert listed and listed <= {*used()[1]}
+
+
+def test_theorem():
+    lines = (TOP / "docs/theorem.md").read_text().partition("\n---|")[2].partition("\n\n")[0].splitlines()[1:]
+    found = LINE.findall("\n".join(lines))
+    assert lines and len(found) == len(lines)
+    for module, name, crate, function, path, mutation, table in found:
+        assert (f"{crate}.specs.{module}", name) in used(f"{path}: {function}")[0]
+        assert mutation in (TOP / table).read_text().partition("# Tests notice")[0].splitlines()
