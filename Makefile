@@ -5,8 +5,8 @@
 # AR are taken.
 # `make generate` proves the sources and writes generated/ anew. `make test` runs the examples and the gate,
 # `make check` all that the gate can't, the bindings beside a checkout RUST of the Rust crate faster-hex 1.0.0,
-# `make deep` what a release takes beside it, `make test-c` the tests in C alone, by the command RUN if it is
-# told, and `make dist` packs the repository.
+# `make deep` what a release takes beside it, `make test-c` the tests in C alone, by the command RUN if there
+# is one, and `make dist` packs the repository.
 # `make install PREFIX=DIR` puts what is built into DIR, the libraries into LIBDIR, both below DESTDIR, and
 # `make uninstall` takes the same files away. `make vendor DIR=DIR` copies the library for Rattle into the
 # repository at DIR, with JSON=no the crates that have no JSON. `make -s` prints nothing where all goes well.
@@ -16,8 +16,8 @@ ifneq ($(filter-out yes no,$(JSON)),)
 $(error JSON=$(JSON) is neither yes nor no)
 endif
 C = crates/faster_hex_c
-# For what `make` built last, not for a test: `make install` and `make uninstall` take it, if told neither CC nor
-# TARGET.
+# For what `make` built last, not for a test: `make install` and `make uninstall` take it, if neither CC nor
+# TARGET is set.
 LAST = out/last
 ifeq ($(origin CC)$(TARGET)$(filter-out install uninstall,$(firstword $(MAKECMDGOALS) all)),default)
 -include $(LAST)

@@ -143,7 +143,7 @@ static size_t group(uint8_t *to, const uint8_t *text, size_t size, size_t every)
     return at;
 }
 
-// How many bytes a piece has: the number behind the name of a grouped call.
+// How many bytes a piece has: the number after the name of a grouped call.
 static size_t every_of(const struct call *call) {
     return strtoul(strrchr(call->name, '_') + 1, NULL, 10);
 }

@@ -34,7 +34,7 @@ struct Task<'a> {
 /// Makes a call so many times.
 type Loop = fn(&mut Task, usize);
 
-/// The loops round calls on `N` decoded bytes, `NOPS` bytes behind a multiple of 64.
+/// The loops round calls on `N` decoded bytes, `NOPS` bytes after a multiple of 64.
 macro_rules! loops {
     ($($shown:literal $name:ident($task:ident) $call:expr;)*) => {
         $(

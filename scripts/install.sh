@@ -1,5 +1,5 @@
 #!/bin/sh
-# Puts what `make` built into PREFIX, if not told /usr/local, the libraries into LIBDIR, if not told
+# Puts what `make` built into PREFIX, by default /usr/local, the libraries into LIBDIR, by default
 # PREFIX/lib, both below DESTDIR, and notes in share/faster_hex/TARGET.installed each file, and each folder
 # that was not there; or takes away what is noted there and for no other target, of folders the empty ones.
 # Usage: PREFIX=.. LIBDIR=.. DESTDIR=.. VERSION=.. TARGET=.. scripts/install.sh [--remove], as `make
@@ -119,7 +119,7 @@ put "$LIBDIR" 644 $out/libfaster_hex.a
 put "$LIBDIR" 755 "$out/libfaster_hex.so.$VERSION"
 link "$LIBDIR" libfaster_hex.so.1 "libfaster_hex.so.$VERSION"
 link "$LIBDIR" libfaster_hex.so libfaster_hex.so.1
-# Folders below PREFIX are told from there, so that they may be moved together.
+# Folders below PREFIX are named from there, so that they may be moved together.
 below=${LIBDIR#"$PREFIX"/}
 up=$(echo "$below/cmake/faster_hex" | sed 's|[^/][^/]*|..|g')
 if [ "$below" = "$LIBDIR" ]; then

@@ -1,4 +1,4 @@
-"""What several tests share: paths, compilers, commands that must end as told, and programs over a library."""
+"""What several tests share: paths, compilers, commands that must end as a test says, and programs over a library."""
 import os
 import re
 import shutil
@@ -69,7 +69,7 @@ def ran(words, **how):
 
 
 def runs(words, status=0, out=None, err=None, **how):
-    """What a command prints, which must end with this status and print this, where some is told."""
+    """What a command prints, which must end with this status and print this, where some is given."""
     done = ran(words, **{"stderr": subprocess.PIPE, **how})
     said = f"{words} ended with {done.returncode}:\n{done.stdout}{done.stderr}"
     assert done.returncode == status, said

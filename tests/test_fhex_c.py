@@ -26,7 +26,7 @@ FAILURES = [
 
 @pytest.fixture(scope="session")
 def failing(tmp_path_factory):
-    """The program under sanitizers, which fails as it is told."""
+    """The program under sanitizers, which fails as asked."""
     return built(tmp_path_factory.mktemp("failing"), CC, f"{SANITIZERS} {WRAPPED}", TESTS_IN_C / "failing.c")
 
 

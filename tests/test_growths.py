@@ -5,7 +5,7 @@ import pytest
 
 from commands import TOP, ran, runs
 
-# The examples that make the four calls that take memory, and what tells want of it.
+# The examples that make the four calls that take memory, and what reports want of it.
 FOUR = r"(faster_hex_lib::lib|(faster_hex_(option_)?modules|long)::(option_)?(with|no)pfx_[a-z]*)_example"
 # The same four calls of a module, of many bytes, after one that writes none where it can.
 LONG = """
@@ -51,7 +51,7 @@ def is_refused(name, growth, passes, told):
     if re.fullmatch(FOUR, name):
         refused = growth <= 4 and re.search(r"^ *error: Codec\(OutOfMemory\)$", told, re.M)
         passes = growth > 4 and passes
-    # The allocator that refuses growths tells another end of its own examples.
+    # The allocator that refuses growths has its own examples end otherwise.
     assert passes or refused or name.startswith("test_kit_refusing"), f"{name}, growth {growth}: {told}"
     return bool(refused)
 
@@ -80,7 +80,7 @@ def wants_memory(word, growth, given, answer, status=0):
 
 
 def test_fhex_decode():
-    """It can do without some growths, as that of room for any input, but with three in a row none is left."""
+    """It can do without some growths, as that for any input, but with three in a row none is left."""
     found = []
     while len(found) < 3 or any(found[-3:]):
         found.append(wants_memory("decode", len(found) + 1, "68656c6c6f\n", "hello"))

@@ -33,7 +33,7 @@ def test_files_that_anybody_may_read(tmp_path):
 
 @pytest.mark.parametrize("beside_others", [False, True])
 def test_two_targets(tmp_path, arm, beside_others):
-    """The program of the first stays. Each takes away its own files alone, without being told LIBDIR, and the last
+    """The program of the first stays. Each takes away its own files alone, without LIBDIR, and the last
     one all folders, but none that has a file of somebody else."""
     usr, common = tmp_path / "usr", ["PREFIX=/usr", f"DESTDIR={tmp_path}"]
     by_arm, places = make("TARGET=aarch64", f"CC={ARM_CC}", *common), ("lib/arm", "lib/aarch64")
@@ -117,7 +117,7 @@ def test_readme(tmp_path):
 
 
 def test_prefix_that_is_relative(tmp_path):
-    """It is told from the repository on, and no slash stands twice."""
+    """It counts from the repository on, and no slash stands twice."""
     words, there = ["PREFIX=some//where/", f"DESTDIR={tmp_path}"], tmp_path / f"{TOP}/some/where"[1:]
     runs([*MAKE, "install", *words])
     has_files(there, INSTALLED)

@@ -1,7 +1,7 @@
 """scripts/mutations over a small crate: wrong bodies are refused, also where one writes a text that another one
 looks for; a right one among them is named as missed, also where a function that it calls or one of the same name is
 wrong, and so is a wrong one that a weak contract lets through; what can't be compiled or applied is an error, and
-what is refused only since a name is gone, also where that is told over two lines."""
+what is refused only since a name is gone, also where that is said over two lines."""
 import os
 import re
 import shutil
@@ -52,7 +52,7 @@ FUNCTIONS = [
 ]
 # What is said of each mutation: its sentence, the text that stands there, another one, and how what is said begins.
 # They are tried in this order, and a list is halved where it can't be read: the first two stay in one check, and so
-# would the two of `size` if their names were not told apart.
+# would the two of `size` if their names were taken for one.
 PROVED = "missed: tiny: {}: its crate is still proved$"
 REFUSED = "refused: tiny: {}: (?!alone: )"
 LOST = "error: tiny: {}: it is refused only since names are gone"

@@ -60,7 +60,7 @@ def top(tmp_path_factory, pack, env):
 
 @pytest.fixture
 def flags(top, env):
-    """What pkg-config tells of the installed copy, which is where it is now."""
+    """What pkg-config says of the installed copy, which is where it is now."""
     needs("pkg-config")
     words = ["pkg-config", "--define-prefix", "--cflags", "--libs", f"faster_hex = {VERSION}"]
     there = top.parent / "there"

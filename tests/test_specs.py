@@ -75,7 +75,7 @@ def used(by=None):
 
 
 def named(page):
-    """The definitions that the tables of CALLING.md name, each in its crate: that of the head, if not told."""
+    """The definitions that the tables of CALLING.md name, each in its crate: by default that of the head."""
     for table in page.split("\n\n"):
         if head := re.match(r"`(\w+)`.*\| (?:Promise|Meaning)\n", table):
             for crate, module, name in re.findall(r"`(?:(hex_\w+|faster_hex)\.)?([A-Z]\w*)\.(\w+)", table):

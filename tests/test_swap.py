@@ -1,4 +1,4 @@
-"""Our Rust crate in the place of the original, faster-hex 1.0.0, of which RUST names a checkout: that crate's own
+"""Our Rust crate in the place of faster-hex 1.0.0, of which RUST names a checkout: that crate's own
 tests and examples, without those of the features heapless-08 and defmt-03, which ours has not; and both beside
 one another on random inputs, as many as ROUNDS says, drawn from SEED."""
 import os

@@ -63,7 +63,7 @@ def test_what_is_wrong_with_generated(copy, tmp_path):
 
 
 def test_clone_that_changes_line_ends(tmp_path):
-    """As Git for Windows makes it, if it is not told."""
+    """As Git for Windows makes it by default."""
     runs(["git", "clone", "-q", "-c", "core.autocrlf=true", TOP, tmp_path / "clone"])
     assert "w/crlf" not in ran(["git", "ls-files", "--eol"], cwd=tmp_path / "clone").stdout
     runs(make("help", top=tmp_path / "clone"), env=BY_SYSTEM)

@@ -1,4 +1,4 @@
-/* For `ld --wrap`, below fhex.c: of the calls of a name, the one that FAILS='NAME NUMBER REASON' tells
+/* For `ld --wrap`, below fhex.c: of the calls of a name, the one that FAILS='NAME NUMBER REASON' names
  * fails for this reason, or moves nothing if it is 0; and reading and writing move at most PIECE bytes. */
 #include <errno.h>
 #include <stdbool.h>

@@ -78,7 +78,7 @@ static bool is_group(size_t every, uint8_t sep) {
     return every != 0 && sep < 0x80 && value(FASTER_HEX_EITHER_CASE, sep) < 0;
 }
 
-/* The models write behind no text whose length is a size_t: the tests' lengths are short. */
+/* The models have no overflow: the tests' lengths are short. */
 static struct faster_hex_answer model_encode(const struct job *it, size_t every) {
     const char *digits = it->upper ? "0123456789ABCDEF" : "0123456789abcdef";
     size_t required = 2 * it->len + (it->len == 0 ? 0 : (it->len - 1) / every), at = 0;
@@ -177,7 +177,7 @@ static void count(bool holds) {
 }
 
 /* A text that a call reads: bytes, or digits, in groups where the call reads groups, with a byte in
- * four that is none, or one of the wrong case. `turn` tells the texts of a length apart. */
+ * four that is none, or one of the wrong case. The texts of a length differ by `turn`. */
 static void fill(const struct job *it, uint8_t *text, unsigned turn) {
     static const char *const letters[] = { "0123456789aBcDeF", "0123456789abcdef", "0123456789ABCDEF" };
     for (size_t i = 0; i < it->len; i++) {
@@ -190,14 +190,14 @@ static void fill(const struct job *it, uint8_t *text, unsigned turn) {
     if (it->len > 0 && turn % 4 == 3) text[(turn * 7919u) % it->len] = wrong;
 }
 
-/* How much room a call takes. */
+/* How long a destination a call takes. */
 static size_t takes(const struct job *it) {
     if (it->call == ENCODE) return FASTER_HEX_ENCODED_LEN(it->len);
     if (it->call == ENCODE_GROUPED && it->every != 0) return FASTER_HEX_GROUPED_LEN(it->len, it->every);
     return FASTER_HEX_DECODED_LEN(it->len);
 }
 
-/* The parameters of a turn: every policy, every room beside the right one, groups and what is none. */
+/* The parameters of a turn: every policy, destinations of the right length and of others, groups and what is none. */
 static struct job job_of(enum call call, size_t len, unsigned turn) {
     static const size_t pieces[] = { 1, 2, 3, 4, 16, 17, LONGEST, 0 };
     static const char separators[] = { ':', '-', ' ', '\n', ':', 'a', '.' };

@@ -39,7 +39,7 @@ impl WireFormat {
         serializer.serialize_str(str::from_utf8(&room[..len]).map_err(ser::Error::custom)?)
     }
 
-    /// What stands behind the prefix, which is even.
+    /// What comes after the prefix, an even number of bytes.
     fn digits<E: de::Error>(self, text: &str) -> Result<&[u8], E> {
         let digits = text
             .strip_prefix(self.prefix)

@@ -9,7 +9,7 @@ use super::Answer;
 #[path = "level.rs"]
 mod level;
 
-/// The assembly, behind the macros of a format of object files.
+/// The assembly, after the macros of a format of object files.
 macro_rules! assemble {
     ($macros:literal) => {
         #[cfg(target_arch = "aarch64")]

@@ -27,7 +27,7 @@ const fn number_of(case: CheckCase) -> u8 {
     }
 }
 
-/// What an answer tells.
+/// An answer as a result.
 #[inline]
 fn result_of(answer: Answer) -> Result<usize, Error> {
     match answer.status {
@@ -88,11 +88,11 @@ pub fn decode(src: &[u8], dst: &mut [MaybeUninit<u8>], case: CheckCase) -> Resul
 }
 
 /// Writes the bytes that `src` spells, in digits of either case, to all of `dst`. The lengths of most digests have
-/// calls of their own, which tell no error: `false`, as for any other length, says that nothing was written.
+/// calls of their own, which name no error: `false`, as for any other length, says that nothing was written.
 #[inline]
 pub fn decode_digest<const N: usize>(src: &[u8], dst: &mut [MaybeUninit<u8>; N]) -> bool {
     let (from, to) = (src.as_ptr(), dst.as_mut_ptr());
-    // SAFETY: as in `encode`: there are as many digits, and room for as many bytes.
+    // SAFETY: as in `encode`: there are as many digits, and the destination has as many bytes.
     src.len() == 2 * N
         && unsafe {
             match N {

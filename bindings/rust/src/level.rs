@@ -20,7 +20,7 @@ pub fn find() -> u8 {
     known()
 }
 
-/// What `cpuid` and `xgetbv` tell.
+/// What `cpuid` and `xgetbv` say.
 #[derive(Clone, Copy)]
 struct Processor {
     /// The highest leaf, `ecx` of leaf 1 and `ebx` of leaf 7.
@@ -61,7 +61,7 @@ fn has(word: u32, bits: &[u32]) -> bool {
     bits.iter().all(|bit| word >> bit & 1 == 1)
 }
 
-/// The highest level that has a build and all of whose bits are set. A leaf above the highest one tells of
+/// The highest level that has a build and all of whose bits are set. A leaf above the highest one says
 /// something else, and so counts as 0.
 fn level_of(it: &Processor) -> u8 {
     let leaf = |is_there: bool, word: u32| if is_there { word } else { 0 };

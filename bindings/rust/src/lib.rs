@@ -23,7 +23,7 @@
 //! | to print bytes as digits, with a width or `0x` | [`Hex`], by `{}`, `{:x}` or `{:X}` |
 //! | to test digits, without decoding them | [`hex_check`], [`hex_check_with_case`] |
 //! | digits in a new string (`alloc`) | `hex_string`, `hex_string_upper` |
-//! | digits behind a string that you have (`alloc`) | `hex_append`, `hex_append_upper` |
+//! | digits after a string that you have (`alloc`) | `hex_append`, `hex_append_upper` |
 //! | bytes in a new vector (`alloc`) | `hex_decode_vec`, `hex_decode_vec_with_case` |
 //! | a field of a `serde` type (`serde`) | the modules below |
 //!
@@ -60,7 +60,7 @@
 //!
 //! # Modules for `serde`
 //!
-//! A module stands behind `with` at a field: `#[serde(with = "faster_hex::nopfx_lowercase")]`. The bytes become
+//! A module's name follows `with` at a field: `#[serde(with = "faster_hex::nopfx_lowercase")]`. The bytes become
 //! a string in every data format, also in binary ones.
 //!
 //! | Module | Prefix | Writes | Reads |

@@ -6,7 +6,7 @@ use core::{slice, str};
 pub use crate::calls::check;
 use crate::{calls, CheckCase, Error};
 
-/// A buffer as room for a call below.
+/// A buffer as the destination of a call below.
 ///
 /// # Safety
 ///
@@ -24,7 +24,7 @@ pub fn encode<'a>(
     upper: bool,
 ) -> Result<&'a mut str, Error> {
     let written = calls::encode(src, dst, upper)?;
-    // SAFETY: as many bytes as the call tells were written there, all ASCII.
+    // SAFETY: as many bytes as the call returned were written there, all ASCII.
     unsafe {
         let digits = slice::from_raw_parts_mut(dst.as_mut_ptr().cast(), written);
         Ok(str::from_utf8_unchecked_mut(digits))
@@ -39,7 +39,7 @@ pub fn decode<'a>(
     case: CheckCase,
 ) -> Result<&'a mut [u8], Error> {
     let written = calls::decode(src, dst, case)?;
-    // SAFETY: as many bytes as the call tells were written there.
+    // SAFETY: as many bytes as the call returned were written there.
     Ok(unsafe { slice::from_raw_parts_mut(dst.as_mut_ptr().cast(), written) })
 }
 

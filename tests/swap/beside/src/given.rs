@@ -47,7 +47,7 @@ impl Random {
 pub struct Input {
     pub bytes: Vec<u8>,
     pub digits: Vec<u8>,
-    /// How much room the destination has: about as much as it takes, or any.
+    /// How long the destination is: about as long as it must be, or any length.
     pub room: usize,
     pub case: usize,
     pub width: usize,

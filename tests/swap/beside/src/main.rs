@@ -45,14 +45,14 @@ fn told<T: Debug, E: Debug + Display>(answer: Result<T, E>) -> String {
     }
 }
 
-/// A text in a string with room for any: how a crate cuts its writes is its own matter.
+/// A text in a string with capacity for any: how a crate cuts its writes is its own matter.
 fn text(written: Arguments) -> String {
     let mut text = String::with_capacity(1 << 17);
     text.write_fmt(written).unwrap();
     text
 }
 
-/// A writer of a text with room for so many bytes of it.
+/// A writer that takes so many bytes of a text.
 struct Room(usize);
 
 impl Write for Room {
@@ -205,7 +205,7 @@ fn public(root: &str) -> BTreeSet<&str> {
     names.flat_map(|it| it.split([' ', ',', '{', '}', '\n'])).filter(|it| !it.is_empty()).collect()
 }
 
-/// What a call tells, and how often it asked for memory, and for how much.
+/// What a call returns, and how often it asked for memory, and for how much.
 fn observed(call: fn(&Input) -> String, input: &Input) -> (String, usize, usize) {
     REQUESTS.store(0, Relaxed);
     BYTES.store(0, Relaxed);
