@@ -19,7 +19,7 @@ use hex_io::laws::a_text_is_put_from_its_front;
 use std::alloc::{AllocError, Allocator, Global};
 use std::str;
 
-/// Appends the digits of two parts to a text that has room for both, which can't fail: they are
+/// Appends the digits of two parts to a text that has capacity for both, which can't fail: they are
 /// those of the joined parts.
 pub fn append_both<A: Allocator>(line: &mut String<A>, first: &[u8], second: &[u8])
     requires { string_len line.old + 2 * length first.now + 2 * length second.now

@@ -13,7 +13,7 @@ use hex_core::laws::{
 };
 
 /// Reads a line that [`write_line`](crate::dump::write_line) writes, without its newline: its bytes
-/// into the start of a buffer with room for them. Returns its offset and their number, or `None` if
+/// into the start of a buffer that is long enough. Returns its offset and their number, or `None` if
 /// the line is no such line of so few bytes, with the buffer unchanged.
 ///
 /// ```rust
@@ -47,7 +47,7 @@ pub fn read_line(line: &[u8], group: Group, buffer: &mut [u8]) -> Option<([u8; 4
     }
 }
 
-// Returns the eight digits before a colon and a space, and what is behind.
+// Returns the eight digits before a colon and a space, and what comes after them.
 fn parts_of(line: &[u8]) -> Option<(&[u8], &[u8])>
     ensures parts { IfSome result (λ parts. line.now ≡ parts.0.now ++ (58 ∷ 32 ∷ []) ++ parts.1.now) }
     ensures all { (front back : List ℕ) → length front ≡ 8 → line.now ≡ front ++ (58 ∷ 32 ∷ []) ++ back

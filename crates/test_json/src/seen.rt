@@ -7,7 +7,7 @@ use faster_hex::AdapterError;
 use serde_json::Value;
 use std::alloc::Allocator;
 
-/// Whether a reading of bytes or none answers so, in no more room than they need.
+/// Whether a reading of bytes or none answers so, in no more capacity than they need.
 pub fn is_option<A: Allocator + Drop>(
     got: Result<Option<Vec<u8, A>>, AdapterError>,
     want: Answer<'_>,
@@ -27,7 +27,7 @@ pub fn is_bytes<A: Allocator + Drop>(
     is_option(got.map(Some), want)
 }
 
-/// Whether a text that was written has no more room than it needs.
+/// Whether a text that was written has no more capacity than it needs.
 pub fn is_exact(value: &Value) -> bool {
     match value {
         Value::String(text) => text.capacity() == text.len(),

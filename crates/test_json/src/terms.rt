@@ -43,7 +43,7 @@ impl Place {
     }
 }
 
-// Reads what stands in a table: at the number behind this word, or beside a name.
+// Reads what stands in a table: at the number after this word, or beside a name.
 fn entry<T: Copy>(call: &mut Words, word: &[u8], table: &[(&str, T)]) -> Option<T> {
     if !call.takes(word) {
         return call.one_of(table);

@@ -74,7 +74,7 @@ fn hash(words: &[u8], turn: usize, bytes: &mut Bytes, line: &mut Bytes) -> Optio
     Some(fnv(line.as_slice()))
 }
 
-// Puts the digits of a word behind a line: of a number in brackets, of the bytes that it writes, or of the
+// Puts the digits of a word after a line: of a number in brackets, of the bytes that it writes, or of the
 // word itself where it writes none.
 fn put_word(word: &[u8], turn: usize, bytes: &mut Bytes, line: &mut Bytes) -> Option<()> {
     let number = notation::number(word, turn);

@@ -10,7 +10,7 @@ use arrayvec::ArrayVec;
 /// One side of a row as a turn reads it.
 pub type Side = ArrayVec<u8, 4_000>;
 
-// What stands before the first such byte, and what behind.
+// What stands before the first such byte, and what after it.
 fn split_once(text: &[u8], byte: u8) -> Option<(&[u8], &[u8])> {
     let place = text.iter().position(|it| *it == byte)?;
     Some((text.get(..place)?, text.get(place.checked_add(1)?..)?))

@@ -1,4 +1,4 @@
-//! A reader and a writer for tests, which fail where they are told to.
+//! A reader and a writer for tests, which fail where a test says.
 
 use std::io::{self, ErrorKind, Read, Write};
 
@@ -6,7 +6,7 @@ use std::io::{self, ErrorKind, Read, Write};
 pub const WORDS: &str = "no more is taken";
 
 /// What a call of a writer answers: how many bytes it takes at most, or, below 0, the code of the system's
-/// error that it ends with; -1 stands for an error of [`WORDS`], which is told as a time-out.
+/// error that it ends with; -1 stands for an error of [`WORDS`], which is reported as a time-out.
 pub type Told = i32;
 
 // The code of an interrupted call.
@@ -53,7 +53,7 @@ impl<'a> Pattern<'a> {
     }
 }
 
-/// Gives some bytes, and then a failure where it is told to.
+/// Gives some bytes, and then a failure where a test says.
 #[derive(Drop)]
 pub struct Giver<'a> {
     /// How many bytes a read gives at most.
@@ -64,7 +64,7 @@ pub struct Giver<'a> {
     pub failure: Option<ErrorKind>,
     /// How many reads were made.
     pub reads: usize,
-    /// How many of them were made behind the last byte.
+    /// How many of them were made after the last byte.
     pub ended: usize,
     bytes: Pattern<'a>,
     place: usize,
@@ -72,7 +72,7 @@ pub struct Giver<'a> {
 }
 
 impl<'a> Giver<'a> {
-    /// Returns one that gives these bytes, as many a read as there is room for.
+    /// Returns one that gives these bytes, as many a read as fit.
     pub fn new(bytes: Pattern<'a>) -> Giver<'a> {
         Giver {
             every: usize::MAX,
@@ -121,13 +121,13 @@ impl Read for Giver<'_> {
     }
 }
 
-/// Answers its first writes as it is told to. Each one behind them takes one byte, but for one that
+/// Answers its first writes as a test says. Each one after them takes one byte, but for one that
 /// fails. It compares what it takes with what is wanted.
 #[derive(Drop)]
 pub struct Taker<'a> {
     /// What the next writes answer.
     pub script: &'a [Told],
-    /// How many bytes it takes behind them before the write that fails.
+    /// How many bytes it takes after them before the write that fails.
     pub room: usize,
     /// What a flush answers.
     pub flush: Result<(), i32>,

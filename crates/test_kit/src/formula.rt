@@ -1,7 +1,7 @@
 //! How a word of a row writes a list by a formula.
 //!
 //! `(73i+i/7)^100` are 100 bytes, the one at place `i` being `73 * i + i / 7` modulo 256. The quotient
-//! may be left out, and the factor where it is 1; `+5` behind them adds a number, and `(8:73i+i/7)`
+//! may be left out, and the factor where it is 1; `+5` after them adds a number, and `(8:73i+i/7)`
 //! begins at place 8.
 //! Behind the parenthesis `x` stands for the digits of these bytes in lowercase, `X` in uppercase,
 //! and `m` in uppercase at each third place and else in lowercase: `(73i+i/7)x^200` are those of 100
@@ -17,7 +17,7 @@ pub struct Formula {
     // 0 where there is no quotient.
     divisor: usize,
     added: usize,
-    // The letter behind the parenthesis, or 0 where there is none.
+    // The letter after the parenthesis, or 0 where there is none.
     form: u8,
 }
 
@@ -47,7 +47,7 @@ impl Formula {
         Some(formula)
     }
 
-    // Reads what stands behind the factor.
+    // Reads what stands after the factor.
     fn read_sum(&mut self, word: &mut Cursor<'_>) -> Option<()> {
         if !word.takes(b'i') {
             return None;

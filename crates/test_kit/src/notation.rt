@@ -1,6 +1,6 @@
 //! How a word of a row writes bytes and numbers.
 //!
-//! Bytes are parts behind one another, with a comma between two: `0*129,g`. A part is its own
+//! Bytes are parts one after another, with a comma between two: `0*129,g`. A part is its own
 //! letters, and `\xhh` any byte; `#00abff` are the bytes of these digits. Behind a part `*3` repeats
 //! it, `^100` repeats it up to 100 bytes, and `~4:` puts a `:` between the digits of each 4 bytes and the
 //! next. Several of these follow one another, as in `00ab^100~4:`. Behind the last part `&3:g` puts a `g` at place 3,
@@ -58,7 +58,7 @@ fn write_formula(word: &mut Cursor<'_>, bytes: &mut Bytes) -> Option<()> {
     Some(())
 }
 
-// Puts a byte behind the digits of each `every` bytes behind `from`, but for the last ones.
+// Puts a byte after the digits of each `every` bytes after `from`, but for the last ones.
 fn separate(bytes: &mut Bytes, from: usize, every: usize, separator: u8) -> Option<()> {
     let digits = every.saturating_mul(2);
     let piece = digits.saturating_add(1);
@@ -80,7 +80,7 @@ fn separate(bytes: &mut Bytes, from: usize, every: usize, separator: u8) -> Opti
     Some(())
 }
 
-// Changes the part behind `from` as the next byte says. Returns whether that is one that does.
+// Changes the part after `from` as the next byte says. Returns whether that is one that does.
 fn is_changed(word: &mut Cursor<'_>, bytes: &mut Bytes, from: usize) -> Option<bool> {
     let once = bytes.len().checked_sub(from)?;
     if word.takes(b'*') {

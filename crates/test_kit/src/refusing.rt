@@ -43,7 +43,7 @@ struct Counts {
     left: Cell<u64>,
     asked: Cell<u64>,
     held: Cell<u64>,
-    // How many it grants behind one that it refuses.
+    // How many it grants after one that it refuses.
     behind: u64,
 }
 
@@ -61,7 +61,7 @@ impl<B: Allocator> Refusing<B> {
         }
     }
 
-    /// An allocator that grants `left` allocations, refuses one, and grants those behind it.
+    /// An allocator that grants `left` allocations, refuses one, and grants those after it.
     pub fn once(inner: B, left: u64) -> Refusing<B> {
         let mut refusing = Refusing::new(inner, left);
         refusing.counts.behind = u64::MAX;

@@ -35,7 +35,7 @@ fn beside<T: Copy>(word: &[u8], table: &[(&str, T)]) -> Option<T> {
 
 /// One side of a row: its words, with one space between two, as one turn reads them.
 ///
-/// A word that can't be read as what a call takes it for is noted, so that the row is told.
+/// A word that can't be read as what a call takes it for is noted, so that the row is reported.
 #[derive(Drop)]
 pub struct Words {
     text: Side,

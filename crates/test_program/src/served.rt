@@ -28,7 +28,7 @@ fn output<'a>(answer: &mut Words, unit: &'a mut Bytes, end: &'a mut Bytes) -> Pa
     }
 }
 
-// What is taken of a message: all, with the newline behind it, or so much as a row tells.
+// What is taken of a message: all, with the newline after it, or so much as a row says.
 fn message(text: &[u8], room: Room) -> Pattern<'_> {
     let is_whole = !text.is_empty() && room.count == usize::MAX;
     let end: &[u8] = if is_whole { b"\n" } else { &[] };
@@ -85,7 +85,7 @@ fn ends(setup: Setup, alloc: Global, words: &[&str], input: &[u8], want: End<'_>
     let Ok((got, out, err)) = ended else {
         return false;
     };
-    // Each is flushed behind all that it is to take, and not behind a failure.
+    // Each is flushed after all that it is to take, and not after a failure.
     let is_flush = want.status == 0 || want.status == 3 && setup.out.is_unflushed;
     let is_message = !want.err.end.is_empty();
     let is_told = is_done(&out, is_flush, setup.is_buffered && want.status == 0)

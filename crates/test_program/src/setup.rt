@@ -19,7 +19,7 @@ pub struct Room {
 }
 
 impl Room {
-    // Reads a number, `stuck` or `unflushed` behind this word. Where it does not stand there, all is taken.
+    // Reads a number, `stuck` or `unflushed` after this word. Where it does not stand there, all is taken.
     fn read(call: &mut Words, word: &[u8]) -> Room {
         let is_told = call.takes(word);
         let is_stuck = is_told && call.takes(b"stuck");
@@ -51,9 +51,9 @@ impl Room {
 pub struct Setup {
     /// `buffered`: whether the output is kept back in a buffer.
     pub is_buffered: bool,
-    // `granted N`: the growths behind so many are refused.
+    // `granted N`: the growths after so many are refused.
     granted: u64,
-    // `refused N`: the growth behind so many is refused alone.
+    // `refused N`: the growth after so many is refused alone.
     refused: u64,
     // `every N`: a read gives at most so many bytes.
     every: usize,
@@ -113,7 +113,7 @@ impl Setup {
     }
 }
 
-/// Reads a number behind this word, or returns `other` where the word does not stand there.
+/// Reads a number after this word, or returns `other` where the word does not stand there.
 pub fn number_behind(words: &mut Words, word: &[u8], other: usize) -> usize {
     if words.takes(word) {
         words.take_number()

@@ -15,7 +15,7 @@ const SOUND: Vector<'static> = Vector {
     left: b"\x00\xab\xa5",
 };
 
-// What a run prints of a vector that fails under each plan, and of a sound one behind it.
+// What a run prints of a vector that fails under each plan, and of a sound one after it.
 const FAILED: &[u8] = b"\
     scalar stating fail\nscalar sound pass\n\
     sse41 stating fail\nsse41 sound pass\n\
@@ -29,7 +29,7 @@ const FAILED_PLAIN: &[u8] = b"\
     scalar sound pass\nsse41 sound pass\navx2 sound pass\navx512 sound pass\nneon sound pass\n\
     plain stating fail\ntotal 6 passed 5 failed 1\n";
 
-// Whether a run of this vector, and of a sound one behind it, ends so, and prints this where it fails; and
+// Whether a run of this vector, and of a sound one after it, ends so, and prints this where it fails; and
 // whether it ends so where the vector stands there twice.
 fn ends(alloc: Global, vector: Vector<'_>, failed: Option<&[u8]>) -> bool {
     let (out, err) = (Vec::new(alloc), Vec::new(alloc));

@@ -41,8 +41,8 @@ fn feed_all(decoder: &mut Decoder, given: Given<'_>, dst: &mut [u8]) -> (usize, 
 }
 
 /// `feed POLICY SEED DIGITS`: the bytes of the whole pairs before the first invalid byte, or of all,
-/// and behind them the refusal, if there is one. A cutting that is refused has written those of its
-/// chunks before. The decoder then stands behind all digits, or not behind the invalid one.
+/// and after them the refusal, if there is one. A cutting that is refused has written those of its
+/// chunks before. The decoder then stands after all digits, or not past the invalid one.
 pub fn feed_row(row: &mut Row, to: &mut Destination) -> bool {
     let given = Given::read(&mut row.call, &mut row.given, to.from);
     row.answer.take_bytes(&mut row.wanted);

@@ -65,8 +65,8 @@ fn first(want: Reading<'_>, count: usize) -> Reading<'_> {
     }
 }
 
-// Whether both calls read each beginning of a grouped text so that has this place and is one, into just
-// as much room.
+// Whether both calls read each beginning of a grouped text so that has this place and is one, into a
+// destination that is just as long.
 fn are_read(
     given: Given<'_>,
     group: Group,

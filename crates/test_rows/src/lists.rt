@@ -89,8 +89,8 @@ pub fn is_read<const N: usize>(
             ))
 }
 
-/// Returns whether a slice and each kind of sink takes a list as its entries are written, into as much
-/// room as is given.
+/// Returns whether a slice and each kind of sink takes a list as its entries are written, into as many
+/// bytes as are given.
 pub fn is_written<const N: usize>(
     given: Given<'_>,
     alloc: Global,

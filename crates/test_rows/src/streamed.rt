@@ -38,9 +38,9 @@ const STREAMS: [(&str, Stream); 3] = [
 
 /// `stream decode POLICY BYTES LENGTH EVERY HALTS END ROOM FAILURES`, or `spaced`, or `encode` and a
 /// letter case: so many bytes, which repeat these, in reads of at most so many, before each of which so
-/// many are interrupted, and then the end or a failed read; into a sink of so much room that has counted
+/// many are interrupted, and then the end or a failed read; into a sink of so much capacity that has counted
 /// so many failures. The answer, and how many bytes the sink has taken, which repeat those that stand
-/// behind. No more reads are made than there are chunks.
+/// after it. No more reads are made than there are chunks.
 pub fn stream_row(row: &mut Row) -> bool {
     let Some(stream) = row.call.one_of(&STREAMS) else {
         return false;

@@ -14,7 +14,7 @@ use test_kit::refusing::Refusing;
 // A string that is appended to.
 type Text<'r> = String<&'r Refusing<Global>>;
 
-// Whether a vector is read so, in no more room than it needs, by the call that names no policy where
+// Whether a vector is read so, in no more capacity than it needs, by the call that names no policy where
 // `is_plain` is true.
 fn is_read(alloc: &Refusing<Global>, given: Given<'_>, is_plain: bool, want: Answer<'_>) -> bool {
     let got = if is_plain {
@@ -42,7 +42,7 @@ pub fn vector_row(row: &mut Row, to: &mut Destination) -> bool {
     is_so && is_read(&refusing, given, true, want) && refusing.is_settled(asked)
 }
 
-// Whether a string is written so, in no more room than it needs.
+// Whether a string is written so, in no more capacity than it needs.
 fn is_written(alloc: &Refusing<Global>, given: Given<'_>, want: Answer<'_>) -> bool {
     let got = if given.is_upper() {
         hex_string_upper(alloc, given.src)
@@ -102,7 +102,7 @@ struct Appended<'a> {
 }
 
 impl Appended<'_> {
-    // Whether an append answers so and leaves the text afterwards, in no more room than a growth gave
+    // Whether an append answers so and leaves the text afterwards, in no more capacity than a growth gave
     // it: the call that lends the suffix where `is_lent` is true, and else the one that answers nothing.
     fn is_left(self, alloc: Global, given: Given<'_>, is_lent: bool, want: Answer<'_>) -> bool {
         let refusing = Refusing::new(alloc, 1);
@@ -182,7 +182,7 @@ fn is_shown(alloc: Global, bytes: &[u8], text: &[u8]) -> bool {
 }
 
 /// `appends CAPACITY TEXT CASE BYTES CASE BYTES CASE BYTES`: the suffix that each of three answers, and
-/// the text behind the last one. None of them asks for a growth.
+/// the text after the last one. None of them asks for a growth.
 pub fn appends_row(row: &mut Row) -> bool {
     let refusing = Refusing::new(row.alloc, 1);
     let capacity = row.call.take_number();

@@ -36,7 +36,7 @@ pub const MODES: [Mode; 6] = [
 ];
 
 impl Mode {
-    // The fault that a put into a sink that fails in this way is told as.
+    // The fault that a put into a sink that fails in this way is reported as.
     fn fault(self) -> WriteFault {
         match self {
             Mode::OneByte | Mode::ThenTakesNone => WriteFault::TookNothing,
@@ -178,7 +178,7 @@ impl<'a, const N: usize> Put<'a, N> {
         }
     }
 
-    /// Whether a slice of so much room takes it so.
+    /// Whether a slice of so many bytes takes it so.
     pub fn fills(self, flags: &HexFlags, room: usize, want: Taken<'_>, to: &mut Destination) -> bool
         requires { N < 10000 }
     {

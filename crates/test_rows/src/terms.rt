@@ -8,7 +8,7 @@ use test_kit::{Bytes, Words};
 // What a destination holds before a call, and what stands beside it. No policy reads it.
 const FILL: u8 = 0xa5;
 
-// How many bytes stand on each side of a destination, and behind a source.
+// How many bytes stand on each side of a destination, and after a source.
 const GUARD: usize = 64;
 
 // The longest destination, with what stands beside it.
@@ -97,7 +97,7 @@ impl Destination {
 }
 
 /// Reads a source, before which stand `from` bytes that no policy reads, at most as many as a guard
-/// has, and behind which stand more of them.
+/// has, and after which stand more of them.
 pub fn source<'a>(words: &mut Words, bytes: &'a mut Bytes, from: usize) -> &'a [u8] {
     words.take_bytes(bytes);
     let len = bytes.len();
@@ -132,7 +132,7 @@ impl<'a> Given<'a> {
         Given { case, number, src }
     }
 
-    /// Reads all three, the source behind `from` bytes.
+    /// Reads all three, the source after `from` bytes.
     pub fn read(words: &mut Words, bytes: &'a mut Bytes, from: usize) -> Given<'a> {
         let (case, number) = (words.take_policy(), words.take_number());
         Given::new(case, number, source(words, bytes, from))
@@ -152,7 +152,7 @@ impl<'a> Given<'a> {
 /// What a call answers: bytes, or a refusal.
 pub type Answer<'a, E = Error> = Result<&'a [u8], E>;
 
-/// Reads an answer: `ok` and bytes, or a refusal, behind which stands `kept` where a call leaves its
+/// Reads an answer: `ok` and bytes, or a refusal, after which stands `kept` where a call leaves its
 /// destination as it was.
 pub fn answer<'a>(words: &mut Words, bytes: &'a mut Bytes) -> Answer<'a> {
     if words.takes(b"ok") {

@@ -54,7 +54,7 @@ fn flags(words: &mut Words, bytes: &mut Bytes) -> HexFlags {
     }
 }
 
-/// `pad FLAGS BYTES`: the text, which a slice takes, and a sink that has room for it a byte at a time.
+/// `pad FLAGS BYTES`: the text, which a slice takes, and a sink that takes it a byte at a time.
 pub fn pad_row(row: &mut Row, to: &mut Destination) -> bool {
     let flags = flags(&mut row.call, &mut row.given);
     row.call.take_bytes(&mut row.given);
@@ -76,7 +76,7 @@ const SINKS: [(&str, Option<Mode>); 6] = [
     ("refuses-long", Some(Mode::RefusesLong)),
 ];
 
-/// `pad-into SINK ROOM FLAGS BYTES`: what the sink has taken, which is as much as there is room for
+/// `pad-into SINK ROOM FLAGS BYTES`: what the sink has taken, which is as much as fits
 /// where it is stopped, and else the whole text. One that refuses the rest is also tried taking none.
 pub fn pad_into_row(row: &mut Row, to: &mut Destination) -> bool {
     let Some(sink) = row.call.one_of(&SINKS) else {
@@ -99,7 +99,7 @@ pub fn pad_into_row(row: &mut Row, to: &mut Destination) -> bool {
 }
 
 /// `put COUNT`: whether a put into a writer is one write of all of so many bytes, and one of none a write
-/// of none, behind neither of which the writer is flushed.
+/// of none, after neither of which the writer is flushed.
 pub fn put_row(row: &mut Row) -> bool {
     let count = row.call.take_number();
     let Ok(piece) = Vec::from_elem(row.alloc, b'a', count) else {

@@ -1,4 +1,4 @@
-//! Rows of calls into exactly as much room as their answer takes.
+//! Rows of calls into destinations exactly as long as their answer.
 
 use crate::slices;
 use crate::terms::{Destination, Given, PLANS, plan, source};

@@ -18,7 +18,7 @@ fn marks(got: Result<&mut [u8], Error>, want: &[u8], place: usize, mark: &[u8]) 
     is_answered
 }
 
-// Whether marks over a decoded front, an encoded one and an empty one leave what is behind them.
+// Whether marks over a decoded front, an encoded one and an empty one leave what is after them.
 fn are_marked(decoded: &mut [u8; 5], encoded: &mut [u8; 8], empty: &mut [u8; 5]) -> bool {
     let bytes = [0, 0xab, 0xcd];
     let is_decoded = marks(hex_decode(b"00aBcD", decoded), &bytes, 0, &[0xff]);

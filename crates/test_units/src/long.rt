@@ -54,7 +54,7 @@ fn a_long_piece_is_one_write(rt: HostRuntime) {
     assert!(rt; is_one_write(rt.alloc()) == Some(true));
 }
 
-// In room for the longest one, and for one more read, 65,536 bytes.
+// With capacity for the longest one, and for one more read, 65,536 bytes.
 #[test]
 fn an_input_takes_no_more_memory_than_the_longest(rt: HostRuntime) {
     let held = read_input(rt.alloc(), &mut b"hello".as_slice());
