@@ -142,7 +142,7 @@ impl WireFormat {
     /// assert_eq!(rt; prefix, b"0x".as_slice());
     /// ```
     pub fn prefix(self) -> &'static [u8]
-        ensures { result.now ≡ prefix self }
+        ensures text { result.now ≡ prefix self }
     {
         if self.prefixed { b"0x" } else { b"" }
     }
@@ -325,7 +325,7 @@ pub fn text_of<A: Allocator + Drop>(
     format: WireFormat,
     src: &[u8],
 ) -> Result<String<A>, AdapterError>
-    ensures { MatchResult result
+    ensures answer { MatchResult result
         (λ string. (length (wire_text format src.now) < 2 ^ 64)
         × (string_bytes string ≡ wire_text format src.now))
         (λ e. WriteFailure format src.now e) }

@@ -35,7 +35,7 @@ pub fn none_and_an_empty_list_stay_apart()
 /// If a format accepts only the letters that it writes, a value that is read is the one written for
 /// its bytes.
 pub fn strict_writing_inverts_reading()
-    ensures { WritingInvertsStrictReading }
+    ensures inverts { WritingInvertsStrictReading }
 {
     encoding_inverts_strict_decoding();
 }

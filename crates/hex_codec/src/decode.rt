@@ -25,7 +25,7 @@ use std::alloc::Allocator;
 /// ```
 #[inline(always)]
 pub fn hex_check(src: &[u8]) -> bool
-    ensures { IsTrue result ↔ (first_invalid policy.None src.now ≡ None) }
+    ensures valid { IsTrue result ↔ (first_invalid policy.None src.now ≡ None) }
 {
     hex_check_with_case(src, CheckCase::None)
 }
@@ -40,7 +40,7 @@ pub fn hex_check(src: &[u8]) -> bool
 /// ```
 #[inline(always)]
 pub fn hex_check_with_case(src: &[u8], case: CheckCase) -> bool
-    ensures { IsTrue result ↔ (first_invalid case src.now ≡ None) }
+    ensures valid { IsTrue result ↔ (first_invalid case src.now ≡ None) }
 {
     Backend::plain().check(src, case)
 }

@@ -78,7 +78,7 @@ pub fn hex_encode_upper<'a>(src: &[u8], dst: &'a mut [u8]) -> Result<&'a mut [u8
 /// ```
 #[inline(always)]
 pub fn hex_encode_into(src: &[u8], dst: &mut [u8], upper: bool) -> Result<usize, Error>
-    ensures { Encodes upper src.now dst.old dst.new result }
+    ensures answer { Encodes upper src.now dst.old dst.new result }
 {
     Backend::plain().encode_into(src, dst, upper)
 }

@@ -31,7 +31,7 @@ impl Group {
     /// assert!(rt; Group::new(2, b'a').is_none());
     /// ```
     pub fn new(every: usize, sep: u8) -> Option<Group>
-        ensures { MakesGroup every sep result }
+        ensures answer { MakesGroup every sep result }
     {
         if every == 0 || !sep.is_ascii() || digit_value(sep, CheckCase::None).is_some() {
             return None;
@@ -46,7 +46,7 @@ impl Group {
     /// assert_eq!(rt; group.every(), 4);
     /// ```
     pub fn every(self) -> usize
-        ensures { result ≡ piece_len self }
+        ensures value { result ≡ piece_len self }
     {
         self.every
     }
@@ -58,7 +58,7 @@ impl Group {
     /// assert_eq!(rt; group.sep(), b' ');
     /// ```
     pub fn sep(self) -> u8
-        ensures { result ≡ separator self }
+        ensures value { result ≡ separator self }
     {
         self.sep
     }

@@ -162,7 +162,7 @@ pub fn read_by(
     group: Group,
     case: CheckCase,
 ) -> Result<usize, GroupFault>
-    ensures { Reads case group src.now dst.old dst.new result }
+    ensures answer { Reads case group src.now dst.old dst.new result }
 {
     let count = required(src.len(), dst.len(), group)?;
     if let Some(index) = first_wrong(plan, src, count, group, case) {
@@ -235,7 +235,7 @@ fn grouped_len(len: usize, every: usize) -> Option<usize>
 /// assert_eq!(rt; &buffer[..written], b"0001:AB".as_slice());
 /// ```
 pub fn write_into(src: &[u8], dst: &mut [u8], group: Group, upper: bool) -> Result<usize, Error>
-    ensures { WritesGrouped group upper src.now dst.old dst.new result }
+    ensures answer { WritesGrouped group upper src.now dst.old dst.new result }
 {
     write_by(Backend::plain(), src, dst, group, upper)
 }
@@ -256,7 +256,7 @@ pub fn write_by(
     group: Group,
     upper: bool,
 ) -> Result<usize, Error>
-    ensures { WritesGrouped group upper src.now dst.old dst.new result }
+    ensures answer { WritesGrouped group upper src.now dst.old dst.new result }
 {
     let Some(required) = grouped_len(src.len(), group.every()) else {
         return Err(Error::Overflow);

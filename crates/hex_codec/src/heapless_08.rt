@@ -28,7 +28,7 @@ use hex_core::Error;
 /// assert_eq!(rt; refused, Some(Error::OutputTooSmall { required: 4 }));
 /// ```
 pub fn hex_string<const N: usize>(src: &[u8]) -> Result<ArrayString<N>, Error>
-    ensures { EncodesWithin (λ string. string.bytes) lowercase src.now N result }
+    ensures answer { EncodesWithin (λ string. string.bytes) lowercase src.now N result }
 {
     string_of(src, false)
 }
@@ -45,7 +45,7 @@ pub fn hex_string<const N: usize>(src: &[u8]) -> Result<ArrayString<N>, Error>
 /// assert_eq!(rt; text.as_str(), "AB01");
 /// ```
 pub fn hex_string_upper<const N: usize>(src: &[u8]) -> Result<ArrayString<N>, Error>
-    ensures { EncodesWithin (λ string. string.bytes) uppercase src.now N result }
+    ensures answer { EncodesWithin (λ string. string.bytes) uppercase src.now N result }
 {
     string_of(src, true)
 }

@@ -5,12 +5,12 @@
 ghost use Rattle.hex_codec.specs.GroupLaws.{FirstPieceIsTheFront, GroupSpellsOneList, GroupedTextsAreDigitsAndSeparators, GroupedTextsAreLong, GroupingInvertsStrictReading, ReadingInvertsGrouping, ReadsWhatGroupSpells, TextsAreDigits, WholePiecesJoin};
 /// A grouped text is decoded by its group to the same bytes, under its own case or either.
 pub fn reading_inverts_grouping()
-    ensures { ReadingInvertsGrouping }
+    ensures inverts { ReadingInvertsGrouping }
 {}
 
 /// What a group decodes under a strict policy, it encodes in that case as the same text.
 pub fn grouping_inverts_strict_reading()
-    ensures { GroupingInvertsStrictReading }
+    ensures inverts { GroupingInvertsStrictReading }
 {}
 
 /// A grouped text is accepted exactly if it decodes to a list that fits, and to at most one list.
@@ -29,10 +29,10 @@ pub fn a_grouped_text_is_digits_and_separators()
 
 /// The first piece of a list is its front, and the other pieces are those of the rest.
 pub fn the_first_piece_is_the_front()
-    ensures { FirstPieceIsTheFront }
+    ensures front { FirstPieceIsTheFront }
 {}
 
 /// The text of whole pieces followed by more is the two texts, joined by the separator.
 pub fn whole_pieces_are_joined_by_the_separator()
-    ensures { WholePiecesJoin }
+    ensures joined { WholePiecesJoin }
 {}

@@ -30,7 +30,7 @@ use std::str;
 /// assert_eq!(rt; text.as_str(), "00abff");
 /// ```
 pub fn hex_string<A: Allocator + Drop>(alloc: A, src: &[u8]) -> Result<String<A>, Error>
-    ensures { EncodesBehind string_bytes 0 lowercase src.now result }
+    ensures answer { EncodesBehind string_bytes 0 lowercase src.now result }
 {
     string_of(alloc, src, false)
 }
@@ -48,7 +48,7 @@ pub fn hex_string<A: Allocator + Drop>(alloc: A, src: &[u8]) -> Result<String<A>
 /// assert_eq!(rt; text.as_str(), "00ABFF");
 /// ```
 pub fn hex_string_upper<A: Allocator + Drop>(alloc: A, src: &[u8]) -> Result<String<A>, Error>
-    ensures { EncodesBehind string_bytes 0 uppercase src.now result }
+    ensures answer { EncodesBehind string_bytes 0 uppercase src.now result }
 {
     string_of(alloc, src, true)
 }
@@ -169,7 +169,7 @@ pub fn prefixed_string<A: Allocator + Drop>(
     upper: bool,
 ) -> Result<String<A>, Error>
     requires { IsAscii prefix.now }
-    ensures { EncodesPrefixed prefix.now upper src.now result }
+    ensures answer { EncodesPrefixed prefix.now upper src.now result }
 {
     let Some(digits_len) = src.len().checked_mul(2) else {
         return Err(Error::Overflow);

@@ -41,7 +41,7 @@ pub struct Backend(Kind);
 /// assert_eq!(rt; scalar.name(), "scalar");
 /// ```
 pub fn backends() -> [Backend; 5]
-    ensures { map name_of result ≡ plan_names }
+    ensures names { map name_of result ≡ plan_names }
 {
     [
         Backend(Kind::Scalar),
@@ -61,7 +61,7 @@ impl Backend {
     /// ```
     #[inline(always)]
     pub fn plain() -> Backend
-        ensures { name_of result ≡ codes "plain" }
+        ensures name { name_of result ≡ codes "plain" }
     {
         Backend(Kind::Plain)
     }
@@ -79,7 +79,7 @@ impl Backend {
     /// ```
     #[inline(always)]
     pub fn wide() -> Backend
-        ensures { name_of result ≡ codes "wide" }
+        ensures name { name_of result ≡ codes "wide" }
     {
         Backend(Kind::Wide)
     }
@@ -91,7 +91,7 @@ impl Backend {
     /// assert_eq!(rt; avx2.name(), "avx2");
     /// ```
     pub fn name(self) -> &'static str
-        ensures { result.now ≡ name_of self }
+        ensures name { result.now ≡ name_of self }
     {
         match self.0 {
             Kind::Scalar => "scalar",
@@ -112,7 +112,7 @@ impl Backend {
     /// ```
     #[inline(always)]
     pub fn check(self, src: &[u8], case: CheckCase) -> bool
-        ensures { IsTrue result ↔ (first_invalid case src.now ≡ None) }
+        ensures valid { IsTrue result ↔ (first_invalid case src.now ≡ None) }
     {
         match (self.0, src.len()) {
             (Kind::Plain | Kind::Wide, _) => check_by_length(src, case),
@@ -135,7 +135,7 @@ impl Backend {
     #[inline(always)]
     pub fn encode(self, src: &[u8], dst: &mut [u8], upper: bool)
         requires { length dst.old ≡ 2 * length src.now }
-        ensures { dst.new ≡ text upper src.now }
+        ensures text { dst.new ≡ text upper src.now }
     {
         match (self.0, src.len()) {
             // A function of its own for `wide` would keep `encode` from being inlined.
@@ -165,7 +165,7 @@ impl Backend {
     #[inline(always)]
     pub fn decode(self, src: &[u8], dst: &mut [u8], case: CheckCase) -> bool
         requires { length src.now ≡ 2 * length dst.old }
-        ensures { DecodesWhole case src.now dst.old dst.new result }
+        ensures answer { DecodesWhole case src.now dst.old dst.new result }
     {
         match self.0 {
             Kind::Plain | Kind::Wide => decode_by_length(src, dst, case),
@@ -213,7 +213,8 @@ impl Backend {
     #[inline(never)]
     pub fn decode_owned(self, src: &[u8], dst: &mut [u8], case: CheckCase) -> bool
         requires { length src.now ≡ 2 * length dst.old }
-        ensures { DecodesOwned (owned_block (name_of self)) case src.now dst.old dst.new result }
+        ensures answer { DecodesOwned (owned_block (name_of self)) case src.now dst.old dst.new
+            result }
     {
         match self.0 {
             Kind::Scalar | Kind::Sse41 => self.decode(src, dst, case),

@@ -39,7 +39,7 @@ impl Default for CheckCase {
 /// assert_eq!(rt; digit_value(b'g', CheckCase::None), None);
 /// ```
 pub fn digit_value(byte: u8, case: CheckCase) -> Option<u8>
-    ensures { result ≡ value case byte }
+    ensures value { result ≡ value case byte }
 {
     match byte {
         b'0'..=b'9' => Some(byte - b'0'),

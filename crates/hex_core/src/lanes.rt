@@ -17,7 +17,7 @@ use std::simd::prelude::*;
 #[tactic(auto, using(crate::proofs::ByteLemmas::admits))]
 #[inline(always)]
 pub fn admitted_16(bytes: &[u8; 16], case: CheckCase) -> u16
-    ensures { Admits case bytes.now result }
+    ensures admitted { Admits case bytes.now result }
 {
     admitted(u8x16::from_array(*bytes), case) as u16
 }
@@ -32,7 +32,7 @@ pub fn admitted_16(bytes: &[u8; 16], case: CheckCase) -> u16
 #[tactic(auto, using(crate::proofs::ByteLemmas::admits))]
 #[inline(always)]
 pub fn admitted_32(bytes: &[u8; 32], case: CheckCase) -> u32
-    ensures { Admits case bytes.now result }
+    ensures admitted { Admits case bytes.now result }
 {
     admitted(u8x32::from_array(*bytes), case) as u32
 }
@@ -47,7 +47,7 @@ pub fn admitted_32(bytes: &[u8; 32], case: CheckCase) -> u32
 #[tactic(auto, using(crate::proofs::ByteLemmas::admits))]
 #[inline(always)]
 pub fn admitted_64(bytes: &[u8; 64], case: CheckCase) -> u64
-    ensures { Admits case bytes.now result }
+    ensures admitted { Admits case bytes.now result }
 {
     admitted(u8x64::from_array(*bytes), case)
 }
@@ -60,7 +60,7 @@ pub fn admitted_64(bytes: &[u8; 64], case: CheckCase) -> u64
 /// ```
 #[inline(always)]
 pub fn nibbles_saturating_16(bytes: &[u8; 16], case: CheckCase) -> [u8; 16]
-    ensures { AreNibbles case bytes.now result }
+    ensures nibbles { AreNibbles case bytes.now result }
 {
     saturated(u8x16::from_array(*bytes), case).to_array()
 }
@@ -120,7 +120,7 @@ pub fn nibbles_hashed_64(bytes: &[u8; 64], case: CheckCase) -> ([u8; 64], [u8; 6
 #[inline(always)]
 pub fn pack_16(nibbles: &[u8; 16]) -> [u8; 8]
     requires { AreSmall nibbles.now }
-    ensures { ArePacked nibbles.now result }
+    ensures packed { ArePacked nibbles.now result }
 {
     Lanes::pack(u8x16::from_array(*nibbles)).to_array()
 }
@@ -136,7 +136,7 @@ pub fn pack_16(nibbles: &[u8; 16]) -> [u8; 8]
 #[inline(always)]
 pub fn pack_32(nibbles: &[u8; 32]) -> [u8; 16]
     requires { AreSmall nibbles.now }
-    ensures { ArePacked nibbles.now result }
+    ensures packed { ArePacked nibbles.now result }
 {
     Lanes::pack(u8x32::from_array(*nibbles)).to_array()
 }
@@ -152,7 +152,7 @@ pub fn pack_32(nibbles: &[u8; 32]) -> [u8; 16]
 #[inline(always)]
 pub fn pack_64(nibbles: &[u8; 64]) -> [u8; 32]
     requires { AreSmall nibbles.now }
-    ensures { ArePacked nibbles.now result }
+    ensures packed { ArePacked nibbles.now result }
 {
     Lanes::pack(u8x64::from_array(*nibbles)).to_array()
 }
@@ -165,7 +165,7 @@ pub fn pack_64(nibbles: &[u8; 64]) -> [u8; 32]
 /// ```
 #[inline(always)]
 pub fn encode_8(bytes: &[u8; 8], upper: bool) -> [u8; 16]
-    ensures { result ≡ text upper bytes.now }
+    ensures text { result ≡ text upper bytes.now }
 {
     Interleaved::encoded(u8x8::from_array(*bytes), upper).to_array()
 }
@@ -178,7 +178,7 @@ pub fn encode_8(bytes: &[u8; 8], upper: bool) -> [u8; 16]
 /// ```
 #[inline(always)]
 pub fn encode_16(bytes: &[u8; 16], upper: bool) -> [u8; 32]
-    ensures { result ≡ text upper bytes.now }
+    ensures text { result ≡ text upper bytes.now }
 {
     Interleaved::encoded(u8x16::from_array(*bytes), upper).to_array()
 }
@@ -190,7 +190,7 @@ pub fn encode_16(bytes: &[u8; 16], upper: bool) -> [u8; 32]
 /// ```
 #[inline(always)]
 pub fn encode_32(bytes: &[u8; 32], upper: bool) -> [u8; 64]
-    ensures { result ≡ text upper bytes.now }
+    ensures text { result ≡ text upper bytes.now }
 {
     Interleaved::encoded(u8x32::from_array(*bytes), upper).to_array()
 }

@@ -8,7 +8,7 @@ ghost use Rattle.hex_core.specs.Refusal.{array_refusal, decode_refusal, source_r
 
 /// A slice holds bytes, as laws about bytes require.
 pub fn a_slice_holds_bytes(bytes: &[u8])
-    ensures { AreBytes bytes.now }
+    ensures bytes { AreBytes bytes.now }
 {}
 
 /// A text decodes to at most one list, which is a list of bytes.
@@ -19,22 +19,22 @@ pub fn a_text_spells_one_list()
 
 /// A source of even length has no invalid byte exactly if it decodes to some list.
 pub fn a_source_is_accepted_where_it_spells_a_list()
-    ensures { AcceptsWhatSpells }
+    ensures accepted { AcceptsWhatSpells }
 {}
 
 /// Encoded bytes decode to the same bytes, under the text's own case or either.
 pub fn decoding_inverts_encoding()
-    ensures { DecodingInvertsEncoding }
+    ensures inverts { DecodingInvertsEncoding }
 {}
 
 /// What a strict policy decodes is encoded, in its case, as the same text.
 pub fn encoding_inverts_strict_decoding()
-    ensures { EncodingInvertsStrictDecoding }
+    ensures inverts { EncodingInvertsStrictDecoding }
 {}
 
 /// A strict policy accepts exactly the encoded texts in its case.
 pub fn a_strict_policy_accepts_the_texts_of_its_case()
-    ensures { StrictAcceptsTexts }
+    ensures accepted { StrictAcceptsTexts }
 {}
 
 /// Decoding either case is decoding the lowercased source as lowercase, to the same bytes.
@@ -45,7 +45,7 @@ pub fn either_case_is_the_lowercased_source()
 
 /// The text of a joined list is the two texts joined.
 pub fn the_text_of_a_joined_list_is_the_texts_joined()
-    ensures { JoinedTexts }
+    ensures joined { JoinedTexts }
 {}
 
 /// Encoded text is ASCII, so it is UTF-8, and twice as long as its bytes.
@@ -79,12 +79,12 @@ pub fn a_new_front_is_the_front()
 
 /// Failed decoding leaves the bytes after its blocks unchanged.
 pub fn what_lies_behind_the_blocks_stays()
-    ensures { BytesBehindBlocksStay }
+    ensures kept { BytesBehindBlocksStay }
 {}
 
 /// Two texts in one case compare, digit by digit, as their lists do, byte by byte.
 pub fn texts_compare_as_their_lists()
-    ensures { TextsCompareAsLists }
+    ensures order { TextsCompareAsLists }
 {}
 
 /// Two joined sources decode to their two lists joined. If a source is cut after a whole pair, its
@@ -97,5 +97,5 @@ pub fn a_joined_source_spells_the_joined_list()
 /// The first invalid byte of two joined sources is that of the first, or else of the second, after
 /// the first's length.
 pub fn the_first_invalid_byte_of_a_joined_source()
-    ensures { FirstInvalidOfJoined }
+    ensures first { FirstInvalidOfJoined }
 {}

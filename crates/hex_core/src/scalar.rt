@@ -45,7 +45,7 @@ fn packed(high: u8, low: u8) -> u8
 pub fn write_bytes(src: &[u8], dst: &mut [u8], case: CheckCase)
     requires twice { length src.now ≡ 2 * length dst.old }
     requires valid { first_invalid case src.now ≡ None }
-    ensures { Spells case src.now dst.new }
+    ensures spelled { Spells case src.now dst.new }
 {
     let values = values_of(case);
     'bytes: for i in 0..dst.len() {
@@ -88,7 +88,7 @@ fn word_of(src: &[u8], case: CheckCase) -> Option<u64>
 pub fn are_digits(src: &[u8], case: CheckCase) -> bool
     requires few { length src.now < 16 }
     requires pairs { length src.now % 2 ≡ 0 }
-    ensures { IsTrue result ↔ (first_invalid case src.now ≡ None) }
+    ensures valid { IsTrue result ↔ (first_invalid case src.now ≡ None) }
 {
     word_of(src, case).is_some()
 }
@@ -158,7 +158,7 @@ pub fn encode_by_table(src: &[u8], dst: &mut [u8], upper: bool)
 #[inline(always)]
 pub fn write_digits(src: &[u8], dst: &mut [u8], upper: bool)
     requires { length dst.old ≡ 2 * length src.now }
-    ensures { dst.new ≡ text upper src.now }
+    ensures text { dst.new ≡ text upper src.now }
 {
     let digits = digit_pairs_of(upper);
     'digits: for i in 0..src.len() {

@@ -27,23 +27,23 @@ pub trait Probe {
 
     /// Returns the source's length, in bytes.
     fn len(&self) -> usize
-        ensures { result ≡ length (state self.now).source };
+        ensures value { result ≡ length (state self.now).source };
 
     /// Returns the policy under which a byte is valid.
     fn case(&self) -> CheckCase
-        ensures { result ≡ (state self.now).policy };
+        ensures value { result ≡ (state self.now).policy };
 
     /// Returns the block: the width of the widest test, in bytes.
     fn block(&self) -> usize
-        ensures { result ≡ (state self.now).block };
+        ensures value { result ≡ (state self.now).block };
 
     /// Returns the number of looks made.
     fn looks(&self) -> usize
-        ensures { result ≡ (state self.now).looks };
+        ensures value { result ≡ (state self.now).looks };
 
     /// Returns the number of tests made.
     fn tests(&self) -> usize
-        ensures { result ≡ (state self.now).tests };
+        ensures value { result ≡ (state self.now).tests };
 
     /// Returns byte `i` of the source and adds one look.
     ///

@@ -37,7 +37,7 @@ impl<'a> SliceProbe<'a> {
     /// assert_eq!(rt; locate(&mut probe), Some(5));
     /// ```
     pub fn new(backend: Backend, src: &'a [u8], case: CheckCase) -> Self
-        ensures { ⟦<SliceProbe<'a> as Probe>⟧.state result ≡ fresh_probe src.now case 64 }
+        ensures fresh { ⟦<SliceProbe<'a> as Probe>⟧.state result ≡ fresh_probe src.now case 64 }
     {
         SliceProbe {
             backend,
@@ -100,7 +100,7 @@ impl Backend {
     /// ```
     #[inline(always)]
     pub fn first_invalid(self, src: &[u8], case: CheckCase) -> Option<usize>
-        ensures { result ≡ first_invalid case src.now }
+        ensures place { result ≡ first_invalid case src.now }
     {
         locate(&mut SliceProbe::new(self, src, case))
     }
@@ -115,7 +115,7 @@ impl Backend {
     /// ```
     #[inline(never)]
     pub fn find_invalid(self, src: &[u8], case: CheckCase) -> Option<usize>
-        ensures { result ≡ first_invalid case src.now }
+        ensures place { result ≡ first_invalid case src.now }
     {
         if self.check(src, case) {
             return None;
@@ -140,7 +140,7 @@ impl Backend {
     #[inline(never)]
     pub fn first_error(self, src: &[u8], case: CheckCase) -> Error
         requires { first_invalid case src.now ≢ None }
-        ensures { first_bad_char case src.now ≡ Some result }
+        ensures error { first_bad_char case src.now ≡ Some result }
     {
         let index = self.first_invalid(src, case).unwrap();
         Error::InvalidChar {

@@ -74,7 +74,7 @@ impl Backend {
     /// ```
     #[inline(always)]
     pub fn decode_into(self, src: &[u8], dst: &mut [u8], case: CheckCase) -> Result<usize, Error>
-        ensures { Decodes case src.now dst.old dst.new result }
+        ensures answer { Decodes case src.now dst.old dst.new result }
     {
         let required = decoded_len(src, dst.len())?;
         if !self.decode(src, &mut dst[..required], case) {
@@ -101,7 +101,7 @@ impl Backend {
     /// ```
     #[inline(always)]
     pub fn encode_into(self, src: &[u8], dst: &mut [u8], upper: bool) -> Result<usize, Error>
-        ensures { Encodes upper src.now dst.old dst.new result }
+        ensures answer { Encodes upper src.now dst.old dst.new result }
     {
         let written = encoded_len(src, dst.len())?;
         self.encode(src, &mut dst[..written], upper);

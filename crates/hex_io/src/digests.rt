@@ -175,7 +175,7 @@ pub fn read<'a, const N: usize>(
     src: &'a [u8],
     case: CheckCase,
 ) -> Result<Vec<Entry<'a, N>>, ListFault>
-    ensures { ReadsList case N src.entry.now result }
+    ensures answer { ReadsList case N src.entry.now result }
 {
     read_in(alloc, src, case)
 }
@@ -195,7 +195,7 @@ pub fn read_in<'a, A: Allocator + Drop, const N: usize>(
     src: &'a [u8],
     case: CheckCase,
 ) -> Result<Vec<Entry<'a, N>, A>, ListFault>
-    ensures { ReadsList case N src.entry.now result }
+    ensures answer { ReadsList case N src.entry.now result }
 {
     let mut entries = Vec::new(alloc);
     let mut at = 0;
@@ -298,7 +298,7 @@ pub fn write_to<S: Sink, const N: usize>(
     sink: &mut S,
     upper: bool,
 ) -> Result<(), ListWriteFault>
-    ensures { WritesList upper entries.now (S.state sink.old) (S.state sink.new) result }
+    ensures answer { WritesList upper entries.now (S.state sink.old) (S.state sink.new) result }
 {
     if let Some(entry) = bad_name(entries) {
         return Err(ListWriteFault::BadName { entry });

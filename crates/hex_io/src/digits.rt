@@ -55,7 +55,8 @@ pub fn put_digits<S: Sink>(
     upper: bool,
     group: Option<Group>,
 ) -> Result<(), WriteFault>
-    ensures { Puts (S.state sink.old) (S.state sink.new) result (digits_by group upper bytes.now) }
+    ensures puts { Puts (S.state sink.old) (S.state sink.new) result
+        (digits_by group upper bytes.now) }
 {
     match group {
         None => put_text(sink, bytes, upper),

@@ -80,7 +80,7 @@ pub struct Hex<'a> {
 impl<'a> Hex<'a> {
     /// Returns a view of `bytes`, without copying.
     pub fn new(bytes: &'a [u8]) -> Hex<'a>
-        ensures { hex_bytes result ≡ bytes.entry.now }
+        ensures bytes { hex_bytes result ≡ bytes.entry.now }
     {
         Hex { bytes }
     }

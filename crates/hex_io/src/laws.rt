@@ -14,13 +14,13 @@ use hex_core::laws::{
 /// A decoder has written what one call writes for the whole pairs of all it was fed, whatever the
 /// chunks were.
 pub fn any_cutting_is_decoded_as_one_call()
-    ensures { WritesAsOneCall }
+    ensures same { WritesAsOneCall }
 {}
 
 /// Every decoder has been fed some digits and has written their bytes, so the contract of a feed
 /// also covers a decoder that is passed in.
 pub fn every_decoder_has_been_fed()
-    ensures { DecodersWereFed }
+    ensures fed { DecodersWereFed }
 {
     decoding_inverts_encoding();
 }
@@ -60,7 +60,7 @@ pub fn a_text_is_put_from_its_front()
 
 /// A written list is read as the same entries, under the digits' own case or either.
 pub fn reading_inverts_writing()
-    ensures { ReadingInvertsWriting }
+    ensures inverts { ReadingInvertsWriting }
 {
     decoding_inverts_encoding();
 }
@@ -68,7 +68,7 @@ pub fn reading_inverts_writing()
 /// A source with a faulty line is no list of any entries, so reading a list fails only if memory
 /// runs out.
 pub fn a_faulty_source_is_no_list()
-    ensures { FaultyListsNothing }
+    ensures none { FaultyListsNothing }
 {
     a_source_is_accepted_where_it_spells_a_list();
 }
@@ -76,7 +76,7 @@ pub fn a_faulty_source_is_no_list()
 /// A source lists at most one list of entries: two have the same length, and entry by entry the
 /// same digest, mark and name.
 pub fn a_source_lists_one_list()
-    ensures { ListsOneList }
+    ensures one { ListsOneList }
 {
     a_text_spells_one_list();
 }
@@ -84,12 +84,12 @@ pub fn a_source_lists_one_list()
 /// Entries read under a strict policy are written in its case as the source, with a newline after
 /// the last line if it had none.
 pub fn writing_inverts_strict_reading()
-    ensures { WritingInvertsStrictReading }
+    ensures inverts { WritingInvertsStrictReading }
 {
     encoding_inverts_strict_decoding();
 }
 
 /// Writing refuses no name that reading returned.
 pub fn what_was_read_can_be_written()
-    ensures { ReadNamesAreGood }
+    ensures written { ReadNamesAreGood }
 {}

@@ -40,7 +40,7 @@ pub trait Sink {
 
     /// Returns the number of failed puts, or `u64::MAX` if they are more.
     fn failures(&self) -> u64
-        ensures { result ≡ (state self.now).failures };
+        ensures count { result ≡ (state self.now).failures };
 
     /// Offers a piece and returns how many of its first bytes were taken.
     ///
@@ -51,7 +51,7 @@ pub trait Sink {
     ///
     /// [`SinkFault`] if the sink refuses; it may have taken a leading part of the piece.
     fn put(&mut self, piece: &[u8]) -> Result<usize, SinkFault>
-        ensures { PutsPiece (state self.old) (state self.new) result piece.now };
+        ensures puts { PutsPiece (state self.old) (state self.new) result piece.now };
 }
 
 /// Why a text was not written in full. A leading part may have been taken, and nothing was put
@@ -111,7 +111,7 @@ impl From<SinkFault> for WriteFault {
 /// assert_eq!(rt; sink.written(), b"abc".as_slice());
 /// ```
 pub fn put_all<S: Sink>(sink: &mut S, piece: &[u8]) -> Result<(), WriteFault>
-    ensures { Puts (S.state sink.old) (S.state sink.new) result piece.now }
+    ensures puts { Puts (S.state sink.old) (S.state sink.new) result piece.now }
 {
     let mut at = 0;
     while at < piece.len() {
@@ -166,7 +166,7 @@ impl<'a> SliceSink<'a> {
 
     /// Returns a sink that has taken nothing, with all of `buf` free and no failure.
     pub fn new(buf: &'a mut [u8]) -> SliceSink<'a>
-        ensures { slice_state result ≡ fresh_state buf.entry }
+        ensures fresh { slice_state result ≡ fresh_state buf.entry }
     {
         SliceSink {
             buf,
@@ -177,7 +177,7 @@ impl<'a> SliceSink<'a> {
 
     /// Returns the bytes taken so far, in order.
     pub fn written(&self) -> &[u8]
-        ensures { result.now ≡ written_bytes self.now }
+        ensures bytes { result.now ≡ written_bytes self.now }
     {
         &self.buf[..self.used]
     }
@@ -235,7 +235,7 @@ impl<W: Write> WriterSink<W> {
 
     /// Returns a sink over `writer`, with no error and no failures.
     pub fn new(writer: W) -> WriterSink<W>
-        ensures { IsFreshOver W.contents writer result }
+        ensures fresh { IsFreshOver W.contents writer result }
     {
         WriterSink {
             writer,
@@ -247,14 +247,14 @@ impl<W: Write> WriterSink<W> {
     /// Returns the writer's last error, if any. A `write` that took none of a nonempty piece is a
     /// failure without an error.
     pub fn last_error(&self) -> Option<&io::Error>
-        ensures { option_copied result ≡ kept_error self.now }
+        ensures error { option_copied result ≡ kept_error self.now }
     {
         self.last_error.as_ref()
     }
 
     /// Returns the writer, with what it took; writes and flushes nothing.
     pub fn into_inner(self) -> W
-        ensures { result ≡ writer_of self }
+        ensures writer { result ≡ writer_of self }
     {
         self.writer
     }

@@ -103,7 +103,7 @@ pub fn decode_stream<R: Read, S: Sink>(
     sink: &mut S,
     case: CheckCase,
 ) -> Result<usize, StreamFault>
-    ensures { DecodesStream case (R.remaining reader.old) (R.remaining reader.new)
+    ensures answer { DecodesStream case (R.remaining reader.old) (R.remaining reader.new)
         (S.state sink.old) (S.state sink.new) result }
 {
     decode_by(reader, sink, Decoder::new(case))
@@ -130,7 +130,7 @@ pub fn decode_spaced_stream<R: Read, S: Sink>(
     sink: &mut S,
     case: CheckCase,
 ) -> Result<usize, StreamFault>
-    ensures { DecodesSpacedStream case (R.remaining reader.old) (R.remaining reader.new)
+    ensures answer { DecodesSpacedStream case (R.remaining reader.old) (R.remaining reader.new)
         (S.state sink.old) (S.state sink.new) result }
 {
     decode_by(reader, sink, Decoder::spaced(case))
@@ -191,7 +191,7 @@ pub fn encode_stream<R: Read, S: Sink>(
     sink: &mut S,
     upper: bool,
 ) -> Result<usize, StreamFault>
-    ensures { EncodesStream upper (R.remaining reader.old) (R.remaining reader.new)
+    ensures answer { EncodesStream upper (R.remaining reader.old) (R.remaining reader.new)
         (S.state sink.old) (S.state sink.new) result }
 {
     let mut chunk = [0; STREAM_CHUNK];

@@ -34,7 +34,7 @@ impl Op {
     /// assert_eq!(rt; Op::from_word("Encode"), None);
     /// ```
     pub fn from_word(word: &str) -> Option<Op>
-        ensures { result ≡ op_of_word word.now }
+        ensures answer { result ≡ op_of_word word.now }
     {
         match word {
             "encode" => Some(Op::Encode),
@@ -98,7 +98,7 @@ pub fn run_in<A: Allocator + Drop, S: Sink>(
     input: &[u8],
     sink: &mut S,
 ) -> Result<(), RunFault>
-    ensures { Runs op input.now (S.state sink.old) (S.state sink.new) result }
+    ensures answer { Runs op input.now (S.state sink.old) (S.state sink.new) result }
 {
     let case = match op {
         Op::Encode => return put_text_line(sink, false, input).map_err(RunFault::Write),
@@ -140,7 +140,7 @@ pub fn run_in<A: Allocator + Drop, S: Sink>(
 /// assert_eq!(rt; sink.written(), b"AB\n".as_slice());
 /// ```
 pub fn run<S: Sink>(alloc: Global, op: Op, input: &[u8], sink: &mut S) -> Result<(), RunFault>
-    ensures { Runs op input.now (S.state sink.old) (S.state sink.new) result }
+    ensures answer { Runs op input.now (S.state sink.old) (S.state sink.new) result }
 {
     run_in(alloc, op, input, sink)
 }

@@ -34,7 +34,7 @@ fn finish<W: Write>(out: &mut W, ran: Result<(), RunFault>) -> Result<(), Failur
 /// Writes the line of a failure to `err`, and returns the failure's status and `err`. An error of
 /// `err` ends the line and does not change the status. No error is retried.
 pub fn refuse<E: Write>(err: E, failure: Failure) -> (u8, E)
-    ensures { result.0 ≡ status_of failure }
+    ensures status { result.0 ≡ status_of failure }
 {
     let mut line = ArrayString::<MESSAGE>::new();
     // No message is longer, so all of it is written.
@@ -80,7 +80,7 @@ pub fn serve_vectors<A: Allocator, W: Write, E: Write>(
     out: W,
     err: E,
 ) -> (u8, W, E)
-    ensures { (result.0 ≡ 0) ⊎ (result.0 ≡ 1) ⊎ (result.0 ≡ 3) }
+    ensures status { (result.0 ≡ 0) ⊎ (result.0 ≡ 1) ⊎ (result.0 ≡ 3) }
 {
     let Ok(report) = run_vectors(alloc, table) else {
         let (status, err) = refuse(err, Failure::OutOfMemory);
@@ -106,8 +106,8 @@ pub fn serve_in<A: Allocator, R: Read, W: Write, E: Write>(
     out: W,
     err: E,
 ) -> (u8, W, E)
-    ensures { Serves (map (λ w. w.now) words.now) (R.remaining input.old) (R.remaining input.new)
-        (W.contents out) (W.contents result.1) result.0 }
+    ensures answer { Serves (map (λ w. w.now) words.now) (R.remaining input.old)
+        (R.remaining input.new) (W.contents out) (W.contents result.1) result.0 }
 {
     if let ["vectors"] = words {
         return serve_vectors(alloc, &VECTORS, out, err);
@@ -159,8 +159,8 @@ pub fn serve<R: Read, W: Write, E: Write>(
     out: W,
     err: E,
 ) -> (u8, W, E)
-    ensures { Serves (map (λ w. w.now) words.now) (R.remaining input.old) (R.remaining input.new)
-        (W.contents out) (W.contents result.1) result.0 }
+    ensures answer { Serves (map (λ w. w.now) words.now) (R.remaining input.old)
+        (R.remaining input.new) (W.contents out) (W.contents result.1) result.0 }
 {
     serve_in(&alloc, words, input, out, err)
 }

@@ -101,7 +101,7 @@ impl Decoder {
     /// assert_eq!(rt; decoder.position(), 3);
     /// ```
     pub fn position(&self) -> usize
-        ensures { result ≡ position_of self.now }
+        ensures position { result ≡ position_of self.now }
     {
         self.position
     }
@@ -169,7 +169,7 @@ impl Decoder {
     /// assert_eq!(rt; decoder.finish(), Err(Error::OddLength));
     /// ```
     pub fn finish(self) -> Result<(), Error>
-        ensures { Finished self result }
+        ensures answer { Finished self result }
     {
         if self.waiting.is_some() {
             return Err(Error::OddLength);

@@ -4,5 +4,5 @@ use Rattle.callers.proofs.buffers.is_canonical.Goals as goal
 
 pub returns : goal.returns
 returns c =
-    let law = c.a_strict_policy_accepts_the_texts_of_its_case.ensures lowercase c.args.digits.now in
+    let law = c.a_strict_policy_accepts_the_texts_of_its_case.ensures.accepted lowercase c.args.digits.now in
     (λ yes. law.0 (c.is_accepted.ensures.0 yes), λ some. c.is_accepted.ensures.1 (law.1 some))

@@ -18,6 +18,6 @@ fed-more law start end fed written digits old new (Err e) has feeds same kept =
 
 pub returns : goal.returns
 returns c =
-    let was = c.every_decoder_has_been_fed.ensures c.args.decoder.now in
-    fed-more c.any_cutting_is_decoded_as_one_call.ensures c.args.decoder.now c.feed.new.self was.0 was.1 c.args.more.now c.args.buffer.now
+    let was = c.every_decoder_has_been_fed.ensures.fed c.args.decoder.now in
+    fed-more c.any_cutting_is_decoded_as_one_call.ensures.same c.args.decoder.now c.feed.new.self was.0 was.1 c.args.more.now c.args.buffer.now
     c.feed.new.dst c.feed.result was.2 c.feed.ensures.feeds c.feed.ensures.reading c.feed.ensures.unchanged

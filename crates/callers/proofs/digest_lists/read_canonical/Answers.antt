@@ -5,4 +5,4 @@ use Rattle.hex_core.specs.Text.{lowercase}
 use Rattle.callers.proofs.digest_lists.read_canonical.Goals as goal
 
 pub returns-clause-written : goal.returns-clause-written
-returns-clause-written c = MatchResult-weaker c.read.result c.read.ensures (λ entries lists. c.writing_inverts_strict_reading.ensures 32 lowercase c.args.list.now (vec_items entries) lists) (λ e why. tt)
+returns-clause-written c = MatchResult-weaker c.read.result c.read.ensures.answer (λ entries lists. c.writing_inverts_strict_reading.ensures.inverts 32 lowercase c.args.list.now (vec_items entries) lists) (λ e why. tt)

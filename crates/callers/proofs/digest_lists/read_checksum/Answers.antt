@@ -21,7 +21,7 @@ found law s items slice first lists is at =
     ((items, lists), λ entries other. ap (option_map digest_of) (at ∙ ap (λ l. slice_get l 0) is) ∙ same-digest items entries (law 32 policy.None s items entries lists other))
 
 pub returns-in-Some : goal.returns-in-Some
-returns-in-Some c = found c.a_source_lists_one_list.ensures c.args.file.now c.in_ok-entries.entries.items c.deref.result.now (Some c.in-Some.entry.now) c.in_ok-entries.ensures c.deref.ensures.value c.in-Some.ensures.value
+returns-in-Some c = found c.a_source_lists_one_list.ensures.one c.args.file.now c.in_ok-entries.entries.items c.deref.result.now (Some c.in-Some.entry.now) c.in_ok-entries.ensures.answer c.deref.ensures.value c.in-Some.ensures.value
 
 pub returns : goal.returns
-returns c = found c.a_source_lists_one_list.ensures c.args.file.now c.in_ok-entries.entries.items c.deref.result.now None c.in_ok-entries.ensures c.deref.ensures.value c.in-None.ensures.value
+returns c = found c.a_source_lists_one_list.ensures.one c.args.file.now c.in_ok-entries.entries.items c.deref.result.now None c.in_ok-entries.ensures.answer c.deref.ensures.value c.in-None.ensures.value

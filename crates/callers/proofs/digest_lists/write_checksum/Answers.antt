@@ -19,7 +19,7 @@ pub returns : goal.returns
 returns c =
     let e = entry_of c.args.digest.now c.args.name in
     let size : length e.digest ≡ 32 = search rules in
-    let read = (c.reading_inverts_writing.ensures 32 lowercase (e ∷ []) ((size, c.a_slice_holds_bytes.ensures), tt) c.in_ok-write_to.ensures.0).0 in
-    let takes = subst (λ start. Takes start (slice_state c.write_to.new.sink) (list_of lowercase (e ∷ []))) c.new-sink.ensures c.in_ok-write_to.ensures.1 in
+    let read = (c.reading_inverts_writing.ensures.inverts 32 lowercase (e ∷ []) ((size, c.a_slice_holds_bytes.ensures.bytes), tt) c.in_ok-write_to.ensures.answer.0).0 in
+    let takes = subst (λ start. Takes start (slice_state c.write_to.new.sink) (list_of lowercase (e ∷ []))) c.new-sink.ensures.fresh c.in_ok-write_to.ensures.answer.1 in
     let front = taken-over (record { ref_ptr = c.args.buffer.ref_ptr; ghost_name = _; now = c.args.buffer.now }) c.write_to.new.sink (list_of lowercase (e ∷ [])) takes in
     (list_of lowercase (e ∷ []), refl, read, search rules, search (rules, front, takes.filled.1))

@@ -8,6 +8,6 @@ pub returns : goal.returns
 returns g c =
     let first = c.args.first.now in let second = c.args.second.now in
     rw (
-      c.the_text_of_a_joined_list_is_the_texts_joined.ensures lowercase first second,
+      c.the_text_of_a_joined_list_is_the_texts_joined.ensures.joined lowercase first second,
       ← append_assoc (string_bytes c.args.line.now) (text lowercase first) (text lowercase second),
     ) (search rules)

@@ -30,4 +30,4 @@ read_option law p None d own_case all writes = writes
 read_option law p (Some bytes) d own_case all writes = law p bytes d own_case all writes
 
 pub returns : goal.returns
-returns c = let law = read c.decoding_inverts_encoding.ensures in record { bytes = law; option = read_option law }
+returns c = let law = read c.decoding_inverts_encoding.ensures.inverts in record { bytes = law; option = read_option law }

@@ -35,4 +35,4 @@ written law p (string t) bytes same h =
     ap string (parts (prefix p) t h.payload (bytes_eq (take (length (prefix p)) t) (prefix p)) refl h.is_payload ∙ ap (λ l. prefix p ++ l) (sym spelled))
 
 pub returns : goal.returns
-returns c = written c.encoding_inverts_strict_decoding.ensures
+returns c = record { inverts = written c.encoding_inverts_strict_decoding.ensures.inverts }

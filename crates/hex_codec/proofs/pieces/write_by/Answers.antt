@@ -10,7 +10,7 @@ taken at n = omega arith
 pub pieces-preserved : goal.pieces-preserved
 pieces-preserved c =
     let more = rw c.requires.every at c.pieces-test.true in
-    rw (c.write_piece.ensures, c.sep.ensures, taken c.pieces.at c.args.every, taken c.pieces.done (2 * c.args.every), c.requires.every)
+    rw (c.write_piece.ensures, c.sep.ensures.value, taken c.pieces.at c.args.every, taken c.pieces.done (2 * c.args.every), c.requires.every)
     (writes-more c.args.group c.args.upper c.args.src.now c.pieces.dst c.pieces.at c.pieces.done c.pieces.invariant more)
 
 pub returns : goal.returns

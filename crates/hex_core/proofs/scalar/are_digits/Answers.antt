@@ -14,4 +14,4 @@ told c s None h = (λ t. cc, λ e. absurd (h e))
 told c s (Some word) h = (λ t. valid-spelled c s _ h, λ e. refl)
 
 pub returns : goal.returns
-returns c = rw c.is_some.ensures (told c.args.case c.args.src.now c.word_of.result c.word_of.ensures)
+returns c = record { valid = rw c.is_some.ensures (told c.args.case c.args.src.now c.word_of.result c.word_of.ensures) }

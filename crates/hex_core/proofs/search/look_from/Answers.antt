@@ -13,7 +13,7 @@ pub returns-then-not-has_value : goal.returns-then-not-has_value
 returns-then-not-has_value g c =
     let p = g.P.Probe.state c.args.p.now in let kept = c.loop-i.invariant in let at = c.loop-i.i in
     let inside : at < length p.source = omega arith in
-    let read = read_along p.policy _ p.source _ at _ _ refl c.case-case.ensures c.look.ensures.byte kept.counted.2.0 in
+    let read = read_along p.policy _ p.source _ at _ _ refl c.case-case.ensures.value c.look.ensures.byte kept.counted.2.0 in
     let here = first_invalid_is p.policy p.source at inside kept.valid (sym (c.has_value.ensures ∙ ap is_some read) ∙ c.if-not-has_value.true) in
     let looks = looks_found p.policy p.source c.args.start at _ refl here c.requires.start in
     record {

@@ -7,13 +7,13 @@ pub returns-then-is_err : goal.returns-then-is_err
 returns-then-is_err g c =
     let step = line-at c.args.src.now c.loop-at.at c.line_end-end.result c.loop-at-test.true c.line_end-end.ensures.end in
     let so_far = c.loop-at.invariant.so_far in
-    clear-first c.args.case g.row.N c.args.src.now so_far.done _ _ (rw step at so_far.lines) so_far.clear c.in-Ok.ensures.0
+    record { answer = clear-first c.args.case g.row.N c.args.src.now so_far.done _ _ (rw step at so_far.lines) so_far.clear c.in-Ok.ensures.0 }
 
 pub returns-in-Err : goal.returns-in-Err
 returns-in-Err g c =
     let step = line-at c.args.src.now c.loop-at.at c.line_end-end.result c.loop-at-test.true c.line_end-end.ensures.end in
     let so_far = c.loop-at.invariant.so_far in
-    record { before = so_far.done; here = _; after = _; lines = rw step at so_far.lines; clear = so_far.clear; count = so_far.count; fault = c.in-Err.ensures }
+    record { answer = record { before = so_far.done; here = _; after = _; lines = rw step at so_far.lines; clear = so_far.clear; count = so_far.count; fault = c.in-Err.ensures } }
 
 pub loop-at-preserved : goal.loop-at-preserved
 loop-at-preserved g c =

@@ -8,4 +8,4 @@ pub returns-clause-whole : goal.returns-clause-whole
 returns-clause-whole c =
     let every = piece_len c.args.group in let count = c.max.result in
     let all : count * every + 0 ≡ count * every = omega arith in
-    rw c.every-every.ensures (rw all at (mod-mul-add count every 0 c.args.group.is_group.0))
+    rw c.every-every.ensures.value (rw all at (mod-mul-add count every 0 c.args.group.is_group.0))

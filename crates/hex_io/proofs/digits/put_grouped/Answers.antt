@@ -45,7 +45,7 @@ returns-in_err-put_part g c =
 
 pub returns-then-bytes-le-SHORT_SOURCE : goal.returns-then-bytes-le-SHORT_SOURCE
 returns-then-bytes-le-SHORT_SOURCE g c =
-    rw (filled-front _ (grouped c.args.group c.args.upper c.args.bytes.now) _ _ _ _ c.unwrap-end.ensures c.write_into.ensures).1 at c.put_all.ensures
+    rw (filled-front _ (grouped c.args.group c.args.upper c.args.bytes.now) _ _ _ _ c.unwrap-end.ensures c.write_into.ensures.answer).1 at c.put_all.ensures.puts
 
 pub returns : goal.returns
 returns g c =

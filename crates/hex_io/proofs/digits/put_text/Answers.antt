@@ -17,7 +17,7 @@ loop-chunk-preserved g c =
       steps.0 ∙ c.loop-chunk.invariant.2,
       (
         so_far.0 ++ chunk,
-        rw (text-append c.args.upper so_far.0 chunk, ← c.encoded-in-loop-chunk.ensures.text) (Takes-then _ _ _ _ _ so_far.1 c.in_ok-put_all.ensures),
+        rw (text-append c.args.upper so_far.0 chunk, ← c.encoded-in-loop-chunk.ensures.text) (Takes-then _ _ _ _ _ so_far.1 c.in_ok-put_all.ensures.puts),
         append_assoc so_far.0 chunk (chunks_rest c.next.new.self) ∙ rw steps.1.0 at so_far.2,
       ),
     )
@@ -26,7 +26,7 @@ pub returns-in_err-put_all : goal.returns-in_err-put_all
 returns-in_err-put_all g c =
     let so_far = c.loop-chunk.invariant.3 in
     rw (← so_far.2, c.in-Some.ensures.steps.1.0, text-append, text-append, ← c.encoded-in-loop-chunk.ensures.text)
-    (Puts-then _ _ _ _ _ _ so_far.1 (Puts-stop _ _ c.from_residual.ensures.0 c.in_err-put_all.ensures))
+    (Puts-then _ _ _ _ _ _ so_far.1 (Puts-stop _ _ c.from_residual.ensures.0 c.in_err-put_all.ensures.puts))
 
 pub returns : goal.returns
 returns g c =

@@ -3,4 +3,4 @@ use Rattle.hex_io.proofs.EntryLemmas.{same-entries}
 use Rattle.hex_io.proofs.laws.a_source_lists_one_list.Goals as goal
 
 pub returns : goal.returns
-returns c n case s entries others a b = same-entries case (lines_of s) entries others c.a_text_spells_one_list.ensures.one a b
+returns c = record { one = λ n case s entries others a b. same-entries case (lines_of s) entries others c.a_text_spells_one_list.ensures.one a b }

@@ -12,6 +12,6 @@ returns c =
     let size : length (digits_of flags bytes) ≡ 2 * length bytes + c.match-flags-2.separators = elim c.match-flags-2.branch [
       | in-None w ↦ rw w.in-None.is (omega (arith, w.separators-is, length-text flags.upper bytes))
       | in-Some-group w ↦ rw w.in-Some-group.is
-          (omega (arith, w.separators-is, w.saturating_sub-separators.ensures, rw w.every.ensures at w.div_ceil.ensures, length-grouped w.in-Some-group.group flags.upper bytes))
+          (omega (arith, w.separators-is, w.saturating_sub-separators.ensures, rw w.every.ensures.value at w.div_ceil.ensures, length-grouped w.in-Some-group.group flags.upper bytes))
     ] in
     rw c.in-Some.is (omega (arith, ap length c.requires, length-append (sign_and_prefix flags) (digits_of flags bytes), size))

@@ -8,13 +8,13 @@ use Rattle.hex_io.proofs.sink.put_all.Goals as goal
 pub returns-in-Ok-eq0 : goal.returns-in-Ok-eq0
 returns-in-Ok-eq0 g c =
     let piece = c.args.piece.now in let at = c.loop-at.at in
-    let stopped = PutsPiece-stops _ _ (Ok c.in-Ok-eq0.field-0) (drop at piece) (simp length-drop (omega arith)) c.in-Ok-eq0.field-0-test (rw (take_rest piece at) at c.in-Ok-eq0.ensures) in
-    rw (← take-append-drop at piece) (Stops-then _ _ _ _ _ c.loop-at.invariant.taken stopped)
+    let stopped = PutsPiece-stops _ _ (Ok c.in-Ok-eq0.field-0) (drop at piece) (simp length-drop (omega arith)) c.in-Ok-eq0.field-0-test (rw (take_rest piece at) at c.in-Ok-eq0.ensures.puts) in
+    record { puts = rw (← take-append-drop at piece) (Stops-then _ _ _ _ _ c.loop-at.invariant.taken stopped) }
 
 pub loop-at-preserved : goal.loop-at-preserved
 loop-at-preserved g c =
     let piece = c.args.piece.now in let at = c.loop-at.at in
-    let put = rw (take_rest piece at) at c.in-Ok.ensures in
+    let put = rw (take_rest piece at) at c.in-Ok.ensures.puts in
     let more = PutsPiece-takes _ _ c.in-Ok.count (drop at piece) (omega arith) put in
     record {
       within = omega (arith, put.0.0, length-drop at piece);
@@ -24,8 +24,8 @@ loop-at-preserved g c =
 pub returns-in-Err : goal.returns-in-Err
 returns-in-Err g c =
     let piece = c.args.piece.now in let at = c.loop-at.at in
-    let stopped = PutsPiece-stops _ _ (Err c.in-Err.fault) (drop at piece) (simp length-drop (omega arith)) tt (rw (take_rest piece at) at c.in-Err.ensures) in
-    rw (← take-append-drop at piece) (Stops-then _ _ _ _ _ c.loop-at.invariant.taken stopped)
+    let stopped = PutsPiece-stops _ _ (Err c.in-Err.fault) (drop at piece) (simp length-drop (omega arith)) tt (rw (take_rest piece at) at c.in-Err.ensures.puts) in
+    record { puts = rw (← take-append-drop at piece) (Stops-then _ _ _ _ _ c.loop-at.invariant.taken stopped) }
 
 pub returns : goal.returns
-returns g c = rw (take_all c.loop-at.at c.args.piece.now (omega arith)) at c.loop-at.invariant.taken
+returns g c = record { puts = rw (take_all c.loop-at.at c.args.piece.now (omega arith)) at c.loop-at.invariant.taken }

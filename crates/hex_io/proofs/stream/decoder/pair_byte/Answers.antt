@@ -6,8 +6,8 @@ use Rattle.hex_io.proofs.stream.decoder.pair_byte.Goals as goal
 pub returns : goal.returns
 returns c =
     let high = c.unwrap-high.result in let low = c.in_ok-low.low in
-    let second = sym c.digit_value-2.ensures ∙ c.in_ok-low.was in
+    let second = sym c.digit_value-2.ensures.value ∙ c.in_ok-low.was in
     let quotient : (16 * high + low) / 16 ≡ high = omega (arith, value_small c.args.case c.args.low low second) in
     let remainder : (16 * high + low) % 16 ≡ low = omega (arith, value_small c.args.case c.args.low low second) in
-    let first = sym c.digit_value.ensures ∙ c.unwrap-high.ensures in
+    let first = sym c.digit_value.ensures.value ∙ c.unwrap-high.ensures in
     record { twice = refl; each = λ i lt. (let at : i ≡ 0 = omega arith in rw at (record { high = rw quotient first; low = rw remainder second })) }
