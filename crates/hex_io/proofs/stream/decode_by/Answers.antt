@@ -44,7 +44,7 @@ pub returns-in-Err-put_all : goal.returns-in-Err-put_all
 returns-in-Err-put_all g c =
     let so_far = c.reads.invariant.1 in
     let fed = (c.in-Ok-feed.ensures.feeds so_far.0 so_far.1.0 so_far.1.1).1 in
-    let put = rw (fed.2, fed.1, take-append_seam) at c.in-Err-put_all.ensures in
+    let put = rw (fed.2, fed.1, take-append_seam) at c.in-Err-put_all.ensures.puts in
     rw (← c.reads.invariant.0, ← c.in-Ok-feed.ensures.reading) (
       so_far.0 ++ take c.in-Ok.count c.read_again.new.buf,
       Consumes-trans _ _ _ _ _ so_far.1.3 c.in-Ok.ensures.bytes.0,
@@ -64,7 +64,7 @@ pub reads-preserved : goal.reads-preserved
 reads-preserved g c =
     let so_far = c.reads.invariant.1 in
     let fed = (c.in-Ok-feed.ensures.feeds so_far.0 so_far.1.0 so_far.1.1).1 in
-    let put = rw (fed.2, fed.1, take-append_seam) at c.in_default.ensures in (
+    let put = rw (fed.2, fed.1, take-append_seam) at c.in_default.ensures.puts in (
       c.in-Ok-feed.ensures.reading ∙ c.reads.invariant.0,
       (
         so_far.0 ++ take c.in-Ok.count c.read_again.new.buf,

@@ -17,15 +17,15 @@ returns-in-Err-put_all g c =
 pub returns-in-None : goal.returns-in-None
 returns-in-None g c =
     let so_far = c.reads.invariant in let piece = take c.in-Ok.count c.read_again.new.buf in
-    let size = length-take-le c.in-Ok.count c.read_again.new.buf c.in-Ok.ensures.bound.0 in (
+    let size = length-take-le c.in-Ok.count c.read_again.new.buf c.in-Ok.ensures.bound.0 in record { answer = (
       so_far.0 ++ piece,
       Consumes-trans _ _ _ _ _ so_far.1 c.in-Ok.ensures.bytes.0,
       (
         refl,
         omega (arith, c.in-None.ensures, so_far.2, size, length-append so_far.0 piece),
-        rw text-append (Takes-then _ _ _ _ _ so_far.3 (rw c.encoded-digits.ensures.text at c.in_default.ensures)),
+        rw text-append (Takes-then _ _ _ _ _ so_far.3 (rw c.encoded-digits.ensures.text at c.in_default.ensures.puts)),
       ),
-    )
+    ) }
 
 pub reads-preserved : goal.reads-preserved
 reads-preserved g c =
@@ -34,5 +34,5 @@ reads-preserved g c =
       so_far.0 ++ piece,
       Consumes-trans _ _ _ _ _ so_far.1 c.in-Ok.ensures.bytes.0,
       omega (arith, c.in-Some.ensures, so_far.2, size, length-append so_far.0 piece),
-      rw text-append (Takes-then _ _ _ _ _ so_far.3 (rw c.encoded-digits.ensures.text at c.in_default.ensures)),
+      rw text-append (Takes-then _ _ _ _ _ so_far.3 (rw c.encoded-digits.ensures.text at c.in_default.ensures.puts)),
     )

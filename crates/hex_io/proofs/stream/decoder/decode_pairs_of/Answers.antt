@@ -31,8 +31,8 @@ returns-then-end-eq0 c =
 pub returns-then-not-decode : goal.returns-then-not-decode
 returns-then-not-decode c =
     let s = c.args.src.now in let end = end_of s in (
-      λ none. c.if-not-decode.ensures.0 (valid-parts c.args.case (take end s) (drop end s) (rw (take-append-drop end s) none)).0,
-      rw c.if-not-decode.ensures.1 (take-append-drop (end / 2) c.args.dst.now),
+      λ none. c.if-not-decode.ensures.answer.0 (valid-parts c.args.case (take end s) (drop end s) (rw (take-append-drop end s) none)).0,
+      rw c.if-not-decode.ensures.answer.1 (take-append-drop (end / 2) c.args.dst.now),
     )
 
 pub returns : goal.returns
@@ -41,8 +41,8 @@ returns c =
     let read : IsTrue c.is_valid.result = search rules in
     let parts : s ≡ take end s ++ option_to_list c.digit_after-waiting.result = rw c.digit_after-waiting.ensures (sym (take-append-drop end s)) in
     let size = length-take-le end s (omega arith) in
-    let long : end / 2 ≡ length c.decode.new.dst = omega (arith, size, c.if-not-decode.ensures.1.twice) in (
+    let long : end / 2 ≡ length c.decode.new.dst = omega (arith, size, c.if-not-decode.ensures.answer.1.twice) in (
       c.decode.new.dst,
-      spells-but _ _ _ c.decode.new.dst c.digit_after-waiting.result parts c.if-not-decode.ensures.1 (c.is_valid.ensures.0 read),
+      spells-but _ _ _ c.decode.new.dst c.digit_after-waiting.result parts c.if-not-decode.ensures.answer.1 (c.is_valid.ensures.0 read),
       ap (λ k. c.decode.new.dst ++ drop k c.args.dst.now) long,
     )
