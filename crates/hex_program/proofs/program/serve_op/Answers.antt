@@ -44,4 +44,4 @@ returns g c =
     let kept = rw c.into_inner-out.ensures.writer at c.finish-ended.ensures.kept in
     let all = rw (sym c.as_slice.ensures.value) at c.in-Ok.ensures.ok in
     let served = serves_run c.args.op c.as_slice.result.now _ _ _ (shows c.new-sink.result) (shows c.run_in-ran.new.sink) c.run_in-ran.result c.finish-ended.result all c.run_in-ran.ensures.answer kept c.finish-ended.ensures.ended in
-    rw c.new-sink.ensures.0 at served
+    rw c.new-sink.ensures.fresh.0 at served
