@@ -31,7 +31,7 @@ struct processor {
     unsigned wide;             /* leaf 7, ebx */
     unsigned highest_extended; /* leaf 0x80000000, eax */
     unsigned extended;         /* leaf 0x80000001, ecx */
-    unsigned saved;            /* the registers that the system saves, if it tells */
+    unsigned saved;            /* the registers that the system saves, if it says so */
 };
 
 static bool has(unsigned word, unsigned bits) {
@@ -91,9 +91,9 @@ __attribute__((constructor)) static void raise_level(void) {
     }
 #endif
 
-typedef struct faster_hex_answer told;
+typedef struct faster_hex_answer answer;
 
-/* Sanitizers see nothing of assembly: they are told what a call read, where it did, and what it wrote. */
+/* Sanitizers see nothing of assembly. This code reports what a call read, where it did, and what it wrote. */
 #ifdef __has_feature
 #define SANITIZES(what) __has_feature(what)
 #else
@@ -111,7 +111,7 @@ void __msan_unpoison(const volatile void *, size_t);
 #define WROTE(dst, len) __msan_unpoison(dst, len)
 #endif
 #ifdef READ
-static told seen_told(told it, const void *src, size_t len, void *dst) {
+static answer seen_answer(answer it, const void *src, size_t len, void *dst) {
     bool is_done = it.status == FASTER_HEX_DONE;
     if (len > 0 && (is_done || it.status == FASTER_HEX_INVALID_CHAR)) READ(src, len);
     if (dst != NULL && it.number > 0 && is_done) WROTE(dst, it.number);
@@ -119,11 +119,11 @@ static told seen_told(told it, const void *src, size_t len, void *dst) {
 }
 
 static bool seen_bool(bool it, const void *src, size_t len, void *dst) {
-    seen_told((told){ 0, FASTER_HEX_DONE, 0 }, src, len, dst);
+    seen_answer((answer){ 0, FASTER_HEX_DONE, 0 }, src, len, dst);
     return it;
 }
 #else
-#define seen_told(it, src, len, dst) it
+#define seen_answer(it, src, len, dst) it
 #define seen_bool(it, src, len, dst) it
 #endif
 
@@ -135,16 +135,16 @@ static bool seen_bool(bool it, const void *src, size_t len, void *dst) {
 
 CALL(bool, check, (const void *src, size_t len), (src, len), NULL)
 CALL(bool, check_with_case, (const void *src, size_t len, uint8_t policy), (src, len, policy), NULL)
-CALL(told, first_invalid, (const void *src, size_t len, uint8_t policy), (src, len, policy), NULL)
-CALL(told, encode, (const void *src, size_t len, void *dst, size_t room, bool upper),
+CALL(answer, first_invalid, (const void *src, size_t len, uint8_t policy), (src, len, policy), NULL)
+CALL(answer, encode, (const void *src, size_t len, void *dst, size_t room, bool upper),
      (src, len, dst, room, upper), dst)
-CALL(told, decode, (const void *src, size_t len, void *dst, size_t room), (src, len, dst, room), dst)
-CALL(told, decode_with_case, (const void *src, size_t len, void *dst, size_t room, uint8_t policy),
+CALL(answer, decode, (const void *src, size_t len, void *dst, size_t room), (src, len, dst, room), dst)
+CALL(answer, decode_with_case, (const void *src, size_t len, void *dst, size_t room, uint8_t policy),
      (src, len, dst, room, policy), dst)
-CALL(told, encode_grouped,
+CALL(answer, encode_grouped,
      (const void *src, size_t len, void *dst, size_t room, bool upper, size_t every, uint8_t sep),
      (src, len, dst, room, upper, every, sep), dst)
-CALL(told, decode_grouped,
+CALL(answer, decode_grouped,
      (const void *src, size_t len, void *dst, size_t room, uint8_t policy, size_t every, uint8_t sep),
      (src, len, dst, room, policy, every, sep), dst)
 

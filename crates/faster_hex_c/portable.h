@@ -2,10 +2,10 @@
  * are not proved: tests compare them with the builds. */
 #include "faster_hex.h"
 
-typedef struct faster_hex_answer told;
+typedef struct faster_hex_answer answer;
 
-static told told_number(uint8_t status, size_t number) {
-    return (told){ number, status, 0 };
+static answer answer_of(uint8_t status, size_t number) {
+    return (answer){ number, status, 0 };
 }
 
 /* The value of a digit under a policy, or 16. */
@@ -28,23 +28,23 @@ static size_t span_of(size_t every) {
     return every <= SIZE_MAX / 2 ? 2 * every + 1 : SIZE_MAX;
 }
 
-static told search(const uint8_t *src, size_t len, uint8_t policy, size_t every, uint8_t sep) {
+static answer search(const uint8_t *src, size_t len, uint8_t policy, size_t every, uint8_t sep) {
     for (size_t at = 0, digits = span_of(every) - 1; at < len; at++) {
         bool separates = digits == 0;
         if (separates ? src[at] != sep : value_of(src[at], policy) == 16) {
-            return (told){ at, FASTER_HEX_INVALID_CHAR, src[at] };
+            return (answer){ at, FASTER_HEX_INVALID_CHAR, src[at] };
         }
         digits = separates ? span_of(every) - 1 : digits - 1;
     }
-    return told_number(FASTER_HEX_DONE, 0);
+    return answer_of(FASTER_HEX_DONE, 0);
 }
 
-static told write_groups(const uint8_t *src, size_t len, uint8_t *dst, size_t room, bool upper,
+static answer write_groups(const uint8_t *src, size_t len, uint8_t *dst, size_t room, bool upper,
                          size_t every, uint8_t sep) {
     const char *digits = upper ? "0123456789ABCDEF" : "0123456789abcdef";
     size_t separators = len == 0 ? 0 : (len - 1) / every, required = 2 * len + separators;
-    if (len > SIZE_MAX / 2 || required < separators) return told_number(FASTER_HEX_OVERFLOW, 0);
-    if (room < required) return told_number(FASTER_HEX_OUTPUT_TOO_SMALL, required);
+    if (len > SIZE_MAX / 2 || required < separators) return answer_of(FASTER_HEX_OVERFLOW, 0);
+    if (room < required) return answer_of(FASTER_HEX_OUTPUT_TOO_SMALL, required);
     for (size_t at = 0, bytes = every; at < len; at++, bytes--) {
         if (bytes == 0) {
             *dst++ = sep;
@@ -53,15 +53,15 @@ static told write_groups(const uint8_t *src, size_t len, uint8_t *dst, size_t ro
         *dst++ = (uint8_t)digits[src[at] / 16];
         *dst++ = (uint8_t)digits[src[at] % 16];
     }
-    return told_number(FASTER_HEX_DONE, required);
+    return answer_of(FASTER_HEX_DONE, required);
 }
 
-static told read_groups(const uint8_t *src, size_t len, uint8_t *dst, size_t room, uint8_t policy,
+static answer read_groups(const uint8_t *src, size_t len, uint8_t *dst, size_t room, uint8_t policy,
                         size_t every, uint8_t sep, uint8_t bad_length) {
     size_t rest = len % span_of(every), required = len / span_of(every) * every + rest / 2;
-    if (rest % 2 == 1 || (rest == 0 && len > 0)) return told_number(bad_length, 0);
-    if (room < required) return told_number(FASTER_HEX_OUTPUT_TOO_SMALL, required);
-    told found = search(src, len, policy, every, sep);
+    if (rest % 2 == 1 || (rest == 0 && len > 0)) return answer_of(bad_length, 0);
+    if (room < required) return answer_of(FASTER_HEX_OUTPUT_TOO_SMALL, required);
+    answer found = search(src, len, policy, every, sep);
     if (found.status != FASTER_HEX_DONE) return found;
     for (size_t at = 0, bytes = every; at < required; at++, bytes--, src += 2) {
         if (bytes == 0) {
@@ -70,7 +70,7 @@ static told read_groups(const uint8_t *src, size_t len, uint8_t *dst, size_t roo
         }
         dst[at] = (uint8_t)(16 * value_of(src[0], policy) + value_of(src[1], policy));
     }
-    return told_number(FASTER_HEX_DONE, required);
+    return answer_of(FASTER_HEX_DONE, required);
 }
 
 static bool portable_check(const void *src, size_t len) {
@@ -81,33 +81,33 @@ static bool portable_check_with_case(const void *src, size_t len, uint8_t policy
     return policy <= FASTER_HEX_UPPERCASE && search(src, len, policy, WHOLE, 0).status == FASTER_HEX_DONE;
 }
 
-static told portable_first_invalid(const void *src, size_t len, uint8_t policy) {
-    if (policy > FASTER_HEX_UPPERCASE) return told_number(FASTER_HEX_UNKNOWN_POLICY, 0);
+static answer portable_first_invalid(const void *src, size_t len, uint8_t policy) {
+    if (policy > FASTER_HEX_UPPERCASE) return answer_of(FASTER_HEX_UNKNOWN_POLICY, 0);
     return search(src, len, policy, WHOLE, 0);
 }
 
-static told portable_encode(const void *src, size_t len, void *dst, size_t room, bool upper) {
+static answer portable_encode(const void *src, size_t len, void *dst, size_t room, bool upper) {
     return write_groups(src, len, dst, room, upper, WHOLE, 0);
 }
 
-static told portable_decode_with_case(const void *src, size_t len, void *dst, size_t room, uint8_t policy) {
-    if (policy > FASTER_HEX_UPPERCASE) return told_number(FASTER_HEX_UNKNOWN_POLICY, 0);
+static answer portable_decode_with_case(const void *src, size_t len, void *dst, size_t room, uint8_t policy) {
+    if (policy > FASTER_HEX_UPPERCASE) return answer_of(FASTER_HEX_UNKNOWN_POLICY, 0);
     return read_groups(src, len, dst, room, policy, WHOLE, 0, FASTER_HEX_ODD_LENGTH);
 }
 
-static told portable_decode(const void *src, size_t len, void *dst, size_t room) {
+static answer portable_decode(const void *src, size_t len, void *dst, size_t room) {
     return portable_decode_with_case(src, len, dst, room, FASTER_HEX_EITHER_CASE);
 }
 
-static told portable_encode_grouped(const void *src, size_t len, void *dst, size_t room, bool upper,
+static answer portable_encode_grouped(const void *src, size_t len, void *dst, size_t room, bool upper,
                                     size_t every, uint8_t sep) {
-    if (!is_group(every, sep)) return told_number(FASTER_HEX_NOT_A_GROUP, 0);
+    if (!is_group(every, sep)) return answer_of(FASTER_HEX_NOT_A_GROUP, 0);
     return write_groups(src, len, dst, room, upper, every, sep);
 }
 
-static told portable_decode_grouped(const void *src, size_t len, void *dst, size_t room, uint8_t policy,
+static answer portable_decode_grouped(const void *src, size_t len, void *dst, size_t room, uint8_t policy,
                                     size_t every, uint8_t sep) {
-    if (policy > FASTER_HEX_UPPERCASE) return told_number(FASTER_HEX_UNKNOWN_POLICY, 0);
-    if (!is_group(every, sep)) return told_number(FASTER_HEX_NOT_A_GROUP, 0);
+    if (policy > FASTER_HEX_UPPERCASE) return answer_of(FASTER_HEX_UNKNOWN_POLICY, 0);
+    if (!is_group(every, sep)) return answer_of(FASTER_HEX_NOT_A_GROUP, 0);
     return read_groups(src, len, dst, room, policy, every, sep, FASTER_HEX_BAD_LENGTH);
 }

@@ -27,14 +27,14 @@ static size_t below(size_t bound) {
     return (size_t)(state >> 20) % bound;
 }
 
-static told run(const struct job *it, bool by_library, uint8_t *dst) {
+static answer run(const struct job *it, bool by_library, uint8_t *dst) {
 #define CALL(name, ...) (by_library ? faster_hex_##name(it->src, it->len, __VA_ARGS__) \
                                     : portable_##name(it->src, it->len, __VA_ARGS__))
     bool is_hex = by_library ? faster_hex_check(it->src, it->len) : portable_check(it->src, it->len);
     bool is_strict = by_library ? faster_hex_check_with_case(it->src, it->len, it->policy)
                                 : portable_check_with_case(it->src, it->len, it->policy);
     switch (it->call) {
-    case 0: return told_number(FASTER_HEX_DONE, 2u * is_strict + is_hex);
+    case 0: return answer_of(FASTER_HEX_DONE, 2u * is_strict + is_hex);
     case 1: return CALL(first_invalid, it->policy);
     case 2: return CALL(encode, dst, it->room, it->upper);
     case 3: return CALL(decode, dst, it->room);
@@ -75,7 +75,7 @@ int main(int words, char **word) {
         uint8_t by_library[ROOM] = { 0 }, by_portable[ROOM] = { 0 };
         struct job it;
         choose(&it);
-        told wanted = run(&it, true, by_library), found = run(&it, false, by_portable);
+        answer wanted = run(&it, true, by_library), found = run(&it, false, by_portable);
         bool same = wanted.number == found.number && wanted.status == found.status &&
                     wanted.byte == found.byte && memcmp(by_library, by_portable, ROOM) == 0;
         if (!same) {

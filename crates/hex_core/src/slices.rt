@@ -12,7 +12,7 @@ use crate::backend::Backend;
 use crate::digit::CheckCase;
 use crate::error::Error;
 
-// The number of bytes that `src` decodes to, or its length's error in this room.
+// The number of bytes that `src` decodes to, or its length's error for `room` bytes.
 #[inline(always)]
 fn decoded_len(src: &[u8], room: usize) -> Result<usize, Error>
     ensures { MatchResult result
@@ -29,7 +29,7 @@ fn decoded_len(src: &[u8], room: usize) -> Result<usize, Error>
     Ok(required)
 }
 
-// The number of digits of `src`, or the error of encoding it into this room.
+// The number of digits of `src`, or the error of encoding it into `room` bytes.
 #[inline(always)]
 fn encoded_len(src: &[u8], room: usize) -> Result<usize, Error>
     ensures { Answers (encode_refusal src.now room) (λ n. n ≡ 2 * length src.now) result }

@@ -282,8 +282,8 @@ fn invalid_digit<const N: usize>(line: &[u8], case: CheckCase) -> LineFault
 ///
 /// for name in [b"".as_slice(), b"\n", b"a\n", b"a\nb"] {
 ///     let bad = Entry { name, ..entry };
-///     let mut room = [0; 40];
-///     let mut sink = SliceSink::new(&mut room);
+///     let mut buffer = [0; 40];
+///     let mut sink = SliceSink::new(&mut buffer);
 ///     let first = write_to(&[bad], &mut sink, false);
 ///     let second = write_to(&[entry, bad], &mut sink, false);
 ///     let third = write_to(&[entry, entry, bad, bad], &mut sink, false);

@@ -13,7 +13,7 @@ const COPIES: usize = 64;
 
 const LONGEST_CHARACTER: usize = 4;
 
-/// The number of padding characters for the digits of `bytes` behind a sign and prefix. Subtracts
+/// The number of padding characters for the digits of `bytes` after a sign and prefix. Subtracts
 /// from the width, since a sum of lengths may exceed `usize`.
 pub fn padding_len(flags: &HexFlags, front: &[u8], bytes: &[u8]) -> usize
     requires { front.now ≡ sign_and_prefix flags.now }

@@ -141,7 +141,7 @@ fn writes(vector: &Vector<'_>, destination: &mut [u8]) -> bool {
     is_written && vector.answer == Ok(written.len()) && vector.left.starts_with(written)
 }
 
-// Reads grouped text. Its faults are told as those of digits.
+// Reads grouped text. Its faults are reported as those of digits.
 fn read_grouped<'a>(source: &[u8], destination: &'a mut [u8]) -> Result<&'a mut [u8], Error> {
     let Some(group) = Group::new(2, b':') else {
         return Err(Error::Overflow);

@@ -178,7 +178,7 @@ impl Decoder {
     }
 
     // How many digits a chunk has, if each byte is one that should be; and whether each is, where
-    // white space is skipped: else decoding tells.
+    // white space is skipped: else decoding finds out.
     #[inline(always)]
     fn survey(&self, src: &[u8]) -> (usize, bool)
         ensures count { result.0 ≡ length (digits_in (reading_of self.now) src.now) }
