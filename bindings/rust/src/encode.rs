@@ -118,12 +118,13 @@ pub fn hex_append_upper<'a>(src: &[u8], dst: &'a mut String) -> &'a mut str {
 #[cfg(feature = "alloc")]
 #[inline]
 fn new_string(src: &[u8], upper: bool) -> String {
-    let mut bytes = Vec::with_capacity(src.len().checked_mul(2).expect(OVERFLOW));
-    let digits = library::encode(src, bytes.spare_capacity_mut(), upper).expect(OVERFLOW);
-    let written = digits.len();
+    let len = src.len().checked_mul(2).expect(OVERFLOW);
+    let mut bytes = Vec::with_capacity(len);
+    // No error is printed, since code for that would keep the call from being inlined.
+    assert!(library::encode(src, bytes.spare_capacity_mut(), upper).is_ok());
     // SAFETY: so many digits were written, which are ASCII.
     unsafe {
-        bytes.set_len(written);
+        bytes.set_len(len);
         String::from_utf8_unchecked(bytes)
     }
 }
