@@ -192,9 +192,9 @@ where
 /// By a product in words of 16 bits, which is faster only with vectors of 32 bytes.
 pub struct Multiplied;
 
-impl Encode<16, 32> for Multiplied {
+impl Encode<32, 64> for Multiplied {
     #[inline(always)]
-    fn encoded(v: u8x16, upper: bool) -> u8x32
+    fn encoded(v: u8x32, upper: bool) -> u8x64
         ensures { result ≡ text upper v }
     {
         Lanes::look_up(digits(upper), both_nibbles(v))

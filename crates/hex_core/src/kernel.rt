@@ -196,30 +196,3 @@ where
         encode_at::<E, N, TWICE>(src, dst, src.len() - N, upper);
     }
 }
-
-/// Encodes four blocks or more, four at a time; the last four may overlap those before.
-#[inline(never)]
-pub fn encode_fours<E, const N: usize, const TWICE: usize>(src: &[u8], dst: &mut [u8], upper: bool)
-where
-    E: Encode<N, TWICE>,
-    requires lanes { TWICE ≡ 2 * N }
-    requires twice { length dst.old ≡ 2 * length src.now }
-    requires some { 1 ≤ N }
-    requires block { 4 * N ≤ length src.now }
-    ensures { dst.new ≡ text upper src.now }
-{
-    'turns: for i in 0..src.len() / (4 * N) {
-        let at = i * (4 * N);
-        encode_at::<E, N, TWICE>(src, dst, at, upper);
-        encode_at::<E, N, TWICE>(src, dst, at + N, upper);
-        encode_at::<E, N, TWICE>(src, dst, at + 2 * N, upper);
-        encode_at::<E, N, TWICE>(src, dst, at + 3 * N, upper);
-    }
-    if src.len() % (4 * N) != 0 {
-        let at = src.len() - 4 * N;
-        encode_at::<E, N, TWICE>(src, dst, at, upper);
-        encode_at::<E, N, TWICE>(src, dst, at + N, upper);
-        encode_at::<E, N, TWICE>(src, dst, at + 2 * N, upper);
-        encode_at::<E, N, TWICE>(src, dst, at + 3 * N, upper);
-    }
-}

@@ -8,7 +8,7 @@ ghost use Rattle.hex_core.specs.Search.{first_invalid};
 ghost use Rattle.hex_core.specs.Text.{text};
 
 use crate::digit::CheckCase;
-use crate::digit_lanes::Interleaved;
+use crate::digit_lanes::{Interleaved, Multiplied};
 use crate::kernel::{check_runs, decode_long, encode_blocks};
 use crate::registers::{
     check_three, check_two, decode_ends, decode_four, decode_three, decode_two, encode_four,
@@ -21,12 +21,23 @@ pub fn check_by_length(src: &[u8], case: CheckCase) -> bool
     ensures { IsTrue result ↔ (first_invalid case src.now ≡ None) }
 {
     match src.len() {
-        0..16 => check_short(src, case),
-        16..=32 => check_two::<16>(src, case),
-        33..=64 => check_two::<32>(src, case),
+        0..=64 => check_few(src, case),
         65..=128 => check_two::<64>(src, case),
         129..=192 => check_three::<64>(src, case),
         _ => check_runs(src, case),
+    }
+}
+
+// The same for at most 64 bytes. A `match` tests for the shortest first.
+#[inline(always)]
+fn check_few(src: &[u8], case: CheckCase) -> bool
+    requires { length src.now ≤ 64 }
+    ensures { IsTrue result ↔ (first_invalid case src.now ≡ None) }
+{
+    match src.len() {
+        0..16 => check_short(src, case),
+        16..=32 => check_two::<16>(src, case),
+        _ => check_two::<32>(src, case),
     }
 }
 
@@ -53,9 +64,7 @@ pub fn decode_by_length(src: &[u8], dst: &mut [u8], case: CheckCase) -> bool
     ensures { DecodesWhole case src.now dst.old dst.new result }
 {
     match src.len() {
-        0..=16 => decode_short(src, dst, case),
-        17..=32 => decode_ends::<16, 32, 8>(src, dst, case),
-        33..=64 => decode_ends::<32, 64, 16>(src, dst, case),
+        0..=64 => decode_few(src, dst, case),
         65..=128 => decode_two::<64, 32>(src, dst, case),
         129..=192 => decode_three::<64, 32>(src, dst, case),
         193..=256 => decode_in_registers(src, dst, case),
@@ -63,15 +72,29 @@ pub fn decode_by_length(src: &[u8], dst: &mut [u8], case: CheckCase) -> bool
     }
 }
 
-// The same for at most 16 digits.
+// The same for at most 64 digits.
 #[inline(always)]
-fn decode_short(src: &[u8], dst: &mut [u8], case: CheckCase) -> bool
+fn decode_few(src: &[u8], dst: &mut [u8], case: CheckCase) -> bool
     requires twice { length src.now ≡ 2 * length dst.old }
-    requires few { length src.now ≤ 16 }
+    requires few { length src.now ≤ 64 }
     ensures { DecodesWhole case src.now dst.old dst.new result }
 {
     match src.len() {
-        8..=16 => decode_ends::<8, 16, 4>(src, dst, case),
+        0..16 => decode_short(src, dst, case),
+        16..=32 => decode_ends::<16, 32, 8>(src, dst, case),
+        _ => decode_ends::<32, 64, 16>(src, dst, case),
+    }
+}
+
+// The same for fewer than 16 digits.
+#[inline(always)]
+fn decode_short(src: &[u8], dst: &mut [u8], case: CheckCase) -> bool
+    requires twice { length src.now ≡ 2 * length dst.old }
+    requires few { length src.now < 16 }
+    ensures { DecodesWhole case src.now dst.old dst.new result }
+{
+    match src.len() {
+        8..16 => decode_ends::<8, 16, 4>(src, dst, case),
         4..8 => decode_ends::<4, 8, 2>(src, dst, case),
         2..4 => decode_ends::<2, 4, 1>(src, dst, case),
         _ => true,
@@ -98,11 +121,11 @@ pub fn encode_by_length(src: &[u8], dst: &mut [u8], upper: bool)
 {
     match src.len() {
         0..8 => encode_short(src, dst, upper),
-        8..=16 => encode_two::<8, 16>(src, dst, upper),
-        32 => encode_one::<32, 64>(src, dst, upper),
-        17..=31 => encode_two::<16, 32>(src, dst, upper),
-        33..=64 => encode_two::<32, 64>(src, dst, upper),
-        65..=128 => encode_four::<32, 64>(src, dst, upper),
+        8..=16 => encode_two::<Interleaved, 8, 16>(src, dst, upper),
+        32 => encode_one::<Interleaved, 32, 64>(src, dst, upper),
+        17..=31 => encode_two::<Interleaved, 16, 32>(src, dst, upper),
+        33..=64 => encode_two::<Interleaved, 32, 64>(src, dst, upper),
+        65..=128 => encode_four::<Interleaved, 32, 64>(src, dst, upper),
         _ => encode_blocks::<Interleaved, 32, 64>(src, dst, upper),
     }
 }
@@ -115,9 +138,36 @@ fn encode_short(src: &[u8], dst: &mut [u8], upper: bool)
     ensures { dst.new ≡ text upper src.now }
 {
     match src.len() {
-        4..8 => encode_two::<4, 8>(src, dst, upper),
-        2..4 => encode_two::<2, 4>(src, dst, upper),
-        1 => encode_one::<1, 2>(src, dst, upper),
+        4..8 => encode_two::<Interleaved, 4, 8>(src, dst, upper),
+        2..4 => encode_two::<Interleaved, 2, 4>(src, dst, upper),
+        1 => encode_one::<Interleaved, 1, 2>(src, dst, upper),
         _ => (),
+    }
+}
+
+/// Encodes more than 32 bytes by products over all of `dst`.
+#[inline(always)]
+pub fn encode_wide(src: &[u8], dst: &mut [u8], upper: bool)
+    requires twice { length dst.old ≡ 2 * length src.now }
+    requires many { 32 < length src.now }
+    ensures { dst.new ≡ text upper src.now }
+{
+    match src.len() {
+        0..=64 => encode_two::<Multiplied, 32, 64>(src, dst, upper),
+        _ => encode_wider(src, dst, upper),
+    }
+}
+
+// The same for more than 64 bytes, apart: with its blocks in it, `Backend::encode` would not be
+// inlined.
+#[inline(never)]
+fn encode_wider(src: &[u8], dst: &mut [u8], upper: bool)
+    requires twice { length dst.old ≡ 2 * length src.now }
+    requires more { 64 < length src.now }
+    ensures { dst.new ≡ text upper src.now }
+{
+    match src.len() {
+        0..=128 => encode_four::<Multiplied, 32, 64>(src, dst, upper),
+        _ => encode_blocks::<Multiplied, 32, 64>(src, dst, upper),
     }
 }

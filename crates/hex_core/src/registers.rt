@@ -14,10 +14,10 @@ ghost use Rattle.hex_core.specs.inside.Arithmetic.{packed};
 ghost use Rattle.hex_core.specs.inside.Blocks.{EndsCover, Halves, NibblesFrom};
 
 use crate::digit::CheckCase;
-use crate::digit_lanes::{Interleaved, reach, saturated};
+use crate::digit_lanes::{Encode, reach, saturated};
 use crate::kernel::{encode_at, pack_at};
 use crate::vector::{either, is_low, is_small, is_small_by_sign, larger};
-use crate::widths::{Interleave, Lanes, LookUp, Pack};
+use crate::widths::{Lanes, Pack};
 use std::simd::prelude::*;
 
 /// Returns whether `src`, `N` to `2 * N` bytes, is valid.
@@ -188,44 +188,44 @@ where
 
 /// Encodes `N` bytes.
 #[inline(always)]
-pub fn encode_one<const N: usize, const TWICE: usize>(src: &[u8], dst: &mut [u8], upper: bool)
+pub fn encode_one<E, const N: usize, const TWICE: usize>(src: &[u8], dst: &mut [u8], upper: bool)
 where
-    Lanes: Interleave<N, TWICE> + LookUp<TWICE>,
+    E: Encode<N, TWICE>,
     requires lanes { TWICE ≡ 2 * N }
     requires twice { length dst.old ≡ 2 * length src.now }
     requires whole { length src.now ≡ N }
     ensures { dst.new ≡ text upper src.now }
 {
-    encode_at::<Interleaved, N, TWICE>(src, dst, 0, upper);
+    encode_at::<E, N, TWICE>(src, dst, 0, upper);
 }
 
 /// Encodes `N` to `2 * N` bytes.
 #[inline(always)]
-pub fn encode_two<const N: usize, const TWICE: usize>(src: &[u8], dst: &mut [u8], upper: bool)
+pub fn encode_two<E, const N: usize, const TWICE: usize>(src: &[u8], dst: &mut [u8], upper: bool)
 where
-    Lanes: Interleave<N, TWICE> + LookUp<TWICE>,
+    E: Encode<N, TWICE>,
     requires lanes { TWICE ≡ 2 * N }
     requires twice { length dst.old ≡ 2 * length src.now }
     requires covered { EndsCover N src.now }
     ensures { dst.new ≡ text upper src.now }
 {
-    encode_at::<Interleaved, N, TWICE>(src, dst, 0, upper);
-    encode_at::<Interleaved, N, TWICE>(src, dst, src.len() - N, upper);
+    encode_at::<E, N, TWICE>(src, dst, 0, upper);
+    encode_at::<E, N, TWICE>(src, dst, src.len() - N, upper);
 }
 
 /// Encodes `2 * N` to `4 * N` bytes.
 #[inline(always)]
-pub fn encode_four<const N: usize, const TWICE: usize>(src: &[u8], dst: &mut [u8], upper: bool)
+pub fn encode_four<E, const N: usize, const TWICE: usize>(src: &[u8], dst: &mut [u8], upper: bool)
 where
-    Lanes: Interleave<N, TWICE> + LookUp<TWICE>,
+    E: Encode<N, TWICE>,
     requires lanes { TWICE ≡ 2 * N }
     requires twice { length dst.old ≡ 2 * length src.now }
     requires covered { EndsCover (2 * N) src.now }
     ensures { dst.new ≡ text upper src.now }
 {
     let len = src.len();
-    encode_at::<Interleaved, N, TWICE>(src, dst, 0, upper);
-    encode_at::<Interleaved, N, TWICE>(src, dst, N, upper);
-    encode_at::<Interleaved, N, TWICE>(src, dst, len - 2 * N, upper);
-    encode_at::<Interleaved, N, TWICE>(src, dst, len - N, upper);
+    encode_at::<E, N, TWICE>(src, dst, 0, upper);
+    encode_at::<E, N, TWICE>(src, dst, N, upper);
+    encode_at::<E, N, TWICE>(src, dst, len - 2 * N, upper);
+    encode_at::<E, N, TWICE>(src, dst, len - N, upper);
 }

@@ -2,6 +2,7 @@
 
 ghost use Rattle.std.specs.Prelude.{◌≡◌, ◌≢◌, None, Some};
 ghost use Rattle.hex_core.specs.Probe.{fresh_probe};
+ghost use Rattle.hex_core.specs.declared.error.Error.TheVariants.{InvalidChar};
 ghost use Rattle.hex_core.specs.Refusal.{first_bad_char};
 ghost use Rattle.hex_core.specs.Search.{first_invalid};
 
@@ -136,16 +137,24 @@ impl Backend {
     /// };
     /// assert_eq!(rt; error, first);
     /// ```
-    #[cold]
-    #[inline(never)]
+    #[inline(always)]
     pub fn first_error(self, src: &[u8], case: CheckCase) -> Error
         requires { first_invalid case src.now ≢ None }
         ensures error { first_bad_char case src.now ≡ Some result }
     {
+        let (index, byte) = self.first_bad(src, case);
+        Error::InvalidChar { index, byte }
+    }
+
+    // The index and the byte, which fit registers: for an error, callers that succeed would also
+    // fill memory with zeros.
+    #[cold]
+    #[inline(never)]
+    fn first_bad(self, src: &[u8], case: CheckCase) -> (usize, u8)
+        requires { first_invalid case src.now ≢ None }
+        ensures { first_bad_char case src.now ≡ Some (InvalidChar result.0 result.1) }
+    {
         let index = self.first_invalid(src, case).unwrap();
-        Error::InvalidChar {
-            index,
-            byte: src[index],
-        }
+        (index, src[index])
     }
 }

@@ -156,7 +156,7 @@ pub fn pair_bytes<const N: usize>(v: Simd<u16, N>) -> Simd<u8, N>
 /// Both nibbles of each lane, the high one first: the product's word, shifted, is the low nibble
 /// above the high one.
 #[inline(always)]
-pub fn both_nibbles(v: u8x16) -> u8x32
+pub fn both_nibbles(v: u8x32) -> u8x64
     ensures { result ≡ interleaved (map (λ x. x / 16) v) (map (λ x. bit_and x 15) v) }
 {
     ((v.cast::<u16>() * Simd::splat(FACTOR)) >> Simd::splat(4)).to_le_bytes()

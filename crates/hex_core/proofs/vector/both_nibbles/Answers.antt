@@ -7,4 +7,4 @@ use Rattle.hex_core.proofs.vector.both_nibbles.Goals as goal
 pub returns : goal.returns
 returns c =
     let v = c.args.v in
-    rw (map-id v, splat_twice (λ a b. a * b % 2 ^ 16) (λ a b. a / 2 ^ b) v 16 4097 4 c.fits-v.0) (nibbles_of_words 32 v (omega (arith, c.fits-v.0)) c.fits-v.1)
+    rw (map-id v, splat_twice (λ a b. a * b % 2 ^ 16) (λ a b. a / 2 ^ b) v 32 4097 4 c.fits-v.0) (nibbles_of_words 64 v (omega (arith, c.fits-v.0)) c.fits-v.1)

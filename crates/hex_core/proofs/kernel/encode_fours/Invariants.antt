@@ -1,7 +1,0 @@
--- The text of the blocks before this turn has been written.
-use Rattle.std.proofs.Common.{◌*◌}
-use Rattle.hex_core.proofs.TextBlockLemmas.{Written}
-use Rattle.hex_core.proofs.kernel.encode_fours.Given as goal
-
-abbrev pub invariant-turns : goal.invariant-turns
-invariant-turns g l = Written l.fn.upper l.src l.dst (l.i * (4 * g.row.N))
