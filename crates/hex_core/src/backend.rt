@@ -8,11 +8,11 @@ ghost use Rattle.hex_core.specs.Text.{text};
 ghost use Rattle.hex_core.specs.inside.Blocks.{DecodesAt, HasRoom};
 
 use crate::digit::CheckCase;
-use crate::digit_lanes::{Hashed, Interleaved, Saturating};
+use crate::digit_lanes::{Hashed, Interleaved, Multiplied, Saturating};
 use crate::kernel::{decode_or_nothing, encode_blocks};
 use crate::lane_probe::check_lanes;
-use crate::plain::{check_by_length, decode_by_length, encode_by_length, encode_wide};
-use crate::registers::{decode_four, decode_two};
+use crate::plain::{check_by_length, decode_by_length, encode_by_length};
+use crate::registers::{decode_four, decode_two, encode_two};
 use crate::scalar::{check_by_table, decode_by_table, encode_by_table};
 
 /// The name of a plan, by which its bodies are chosen.
@@ -138,7 +138,9 @@ impl Backend {
         ensures text { dst.new ≡ text upper src.now }
     {
         match (self.0, src.len()) {
-            (Kind::Wide, 33..) => encode_wide(src, dst, upper),
+            // Others between would keep `encode` from being inlined.
+            (Kind::Wide, 33..=64) => encode_two::<Multiplied, 32, 64>(src, dst, upper),
+            (Kind::Wide, 129..) => encode_blocks::<Multiplied, 32, 64>(src, dst, upper),
             (Kind::Plain | Kind::Wide, _) => encode_by_length(src, dst, upper),
             (Kind::Scalar, _) | (_, 0..8) => encode_by_table(src, dst, upper),
             (_, 8..16) => encode_blocks::<Interleaved, 8, 16>(src, dst, upper),

@@ -8,7 +8,7 @@ ghost use Rattle.hex_core.specs.Search.{first_invalid};
 ghost use Rattle.hex_core.specs.Text.{text};
 
 use crate::digit::CheckCase;
-use crate::digit_lanes::{Interleaved, Multiplied};
+use crate::digit_lanes::Interleaved;
 use crate::kernel::{check_runs, decode_long, encode_blocks};
 use crate::registers::{
     check_three, check_two, decode_ends, decode_four, decode_three, decode_two, encode_four,
@@ -142,32 +142,5 @@ fn encode_short(src: &[u8], dst: &mut [u8], upper: bool)
         2..4 => encode_two::<Interleaved, 2, 4>(src, dst, upper),
         1 => encode_one::<Interleaved, 1, 2>(src, dst, upper),
         _ => (),
-    }
-}
-
-/// Encodes more than 32 bytes by products over all of `dst`.
-#[inline(always)]
-pub fn encode_wide(src: &[u8], dst: &mut [u8], upper: bool)
-    requires twice { length dst.old ≡ 2 * length src.now }
-    requires many { 32 < length src.now }
-    ensures { dst.new ≡ text upper src.now }
-{
-    match src.len() {
-        0..=64 => encode_two::<Multiplied, 32, 64>(src, dst, upper),
-        _ => encode_wider(src, dst, upper),
-    }
-}
-
-// The same for more than 64 bytes, apart: with its blocks in it, `Backend::encode` would not be
-// inlined.
-#[inline(never)]
-fn encode_wider(src: &[u8], dst: &mut [u8], upper: bool)
-    requires twice { length dst.old ≡ 2 * length src.now }
-    requires more { 64 < length src.now }
-    ensures { dst.new ≡ text upper src.now }
-{
-    match src.len() {
-        0..=128 => encode_four::<Multiplied, 32, 64>(src, dst, upper),
-        _ => encode_blocks::<Multiplied, 32, 64>(src, dst, upper),
     }
 }
