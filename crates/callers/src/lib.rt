@@ -7,6 +7,7 @@ pub mod digest;
 pub mod digest_lists;
 pub mod dump;
 pub mod groups;
+pub mod hashed;
 pub mod json;
 pub mod probes;
 pub mod texts;
