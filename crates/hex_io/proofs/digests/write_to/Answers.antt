@@ -14,11 +14,13 @@ loop-entry-preserved g c =
 
 pub returns-in-Err : goal.returns-in-Err
 returns-in-Err g c =
-    let es = c.args.entries.now in let i = c.loop-entry.entry-index in record { answer = (
-      sym c.bad_name.ensures ∙ c.in_default.is,
-      rw (← take-append-drop i es, flat_map-append, drop_more es i c.entry-item.result c.loop-entry-test.true, ← c.entry-item.is)
-          (Stops-then _ _ _ _ _ c.loop-entry.invariant (Stops-stop _ _ _ _ c.in-Err.ensures)),
-    ) }
+    let es = c.args.entries.now in let i = c.loop-entry.entry-index in record {
+      answer = (
+        sym c.bad_name.ensures ∙ c.in_default.is,
+        rw (← take-append-drop i es, flat_map-append, drop_more es i c.entry-item.result c.loop-entry-test.true, ← c.entry-item.is)
+            (Stops-then _ _ _ _ _ c.loop-entry.invariant (Stops-stop _ _ _ _ c.in-Err.ensures)),
+      );
+    }
 
 pub returns : goal.returns
 returns g c = record { answer = (sym c.bad_name.ensures ∙ c.in_default.is, rw (take_all c.loop-entry.entry-index c.args.entries.now (omega arith)) at c.loop-entry.invariant) }

@@ -41,5 +41,7 @@ was-fed law c true position o read counted paired =
     (fed, [], (omega (arith, counted, size, length-replicate {A = ℕ} blanks 32), rw (digit-kept c o blanks read) (spells-none c o read)))
 
 pub returns : goal.returns
-returns c = record { fed = λ decoder. let r = decoder.reading in
-    was-fed c.decoding_inverts_encoding.ensures.inverts r.case r.skips decoder.position decoder.waiting decoder.tested decoder.counted decoder.paired }
+returns c = record {
+  fed = λ decoder. let r = decoder.reading in
+      was-fed c.decoding_inverts_encoding.ensures.inverts r.case r.skips decoder.position decoder.waiting decoder.tested decoder.counted decoder.paired;
+}
