@@ -232,90 +232,76 @@
 	retq
 	hex_end	faster_hex_1_0_0_x86_64_core_backend_Backend_decode_named
 	hex_cfi	endproc
-	hex_function	faster_hex_1_0_0_x86_64_core_backend_Backend_first_error,.text.unlikely
+	hex_function	faster_hex_1_0_0_x86_64_core_backend_Backend_first_bad,.text.unlikely
 	hex_cfi	startproc
-	pushq	%rbp
-	hex_cfi	def_cfa_offset 16
 	pushq	%r15
-	hex_cfi	def_cfa_offset 24
+	hex_cfi	def_cfa_offset 16
 	pushq	%r14
-	hex_cfi	def_cfa_offset 32
+	hex_cfi	def_cfa_offset 24
 	pushq	%r13
-	hex_cfi	def_cfa_offset 40
+	hex_cfi	def_cfa_offset 32
 	pushq	%r12
-	hex_cfi	def_cfa_offset 48
+	hex_cfi	def_cfa_offset 40
 	pushq	%rbx
-	hex_cfi	def_cfa_offset 56
-	pushq	%rax
-	hex_cfi	def_cfa_offset 64
-	hex_cfi	offset %rbx,-56
-	hex_cfi	offset %r12,-48
-	hex_cfi	offset %r13,-40
-	hex_cfi	offset %r14,-32
-	hex_cfi	offset %r15,-24
-	hex_cfi	offset %rbp,-16
-	movq	%rdx,%r14
-	movq	%rsi,%r15
-	movq	%rdi,%rbx
-	movzbl	%cl,%r12d
-	cmpq	$65,%rdx
+	hex_cfi	def_cfa_offset 48
+	hex_cfi	offset %rbx,-48
+	hex_cfi	offset %r12,-40
+	hex_cfi	offset %r13,-32
+	hex_cfi	offset %r14,-24
+	hex_cfi	offset %r15,-16
+	movq	%rsi,%rbx
+	movq	%rdi,%r14
+	movzbl	%dl,%r12d
+	cmpq	$65,%rsi
 	jb	1f
-	movq	%r14,%rbp
-	shrq	$6,%rbp
-	xorl	%r13d,%r13d
+	movq	%rbx,%r13
+	shrq	$6,%r13
+	xorl	%r15d,%r15d
 	.p2align	4
 3:
-	leaq	(%r15,%r13),%rdi
+	leaq	(%r14,%r15),%rdi
 	movl	$64,%esi
 	movl	%r12d,%edx
 	callq	faster_hex_1_0_0_x86_64_core_scalar_check_by_table
 	testb	%al,%al
 	je	6f
-	addq	$64,%r13
-	decq	%rbp
+	addq	$64,%r15
+	decq	%r13
 	jne	3b
-	movq	%r14,%r13
-	andq	$-64,%r13
+	movq	%rbx,%r15
+	andq	$-64,%r15
 	jmp	6f
 1:
-	xorl	%r13d,%r13d
+	xorl	%r15d,%r15d
 6:
-	cmpq	%r14,%r13
+	cmpq	%rbx,%r15
 	jae	10f
 	leaq	.L100_switch.table.faster_hex_1_0_0_x86_64_decode_grouped.17(%rip),%rax
 	movq	(%rax,%r12,8),%rax
 	.p2align	4
 8:
-	movzbl	(%r15,%r13),%ecx
-	cmpb	$-1,(%rax,%rcx)
+	movzbl	(%r14,%r15),%edx
+	cmpb	$-1,(%rax,%rdx)
 	je	11f
-	incq	%r13
-	cmpq	%r13,%r14
+	incq	%r15
+	cmpq	%r15,%rbx
 	jne	8b
 10:
 	ud2
 11:
-	movq	$0,(%rbx)
-	movq	%r13,8(%rbx)
-	movb	%cl,16(%rbx)
-	movl	$0,17(%rbx)
-	movl	$0,20(%rbx)
-	addq	$8,%rsp
-	hex_cfi	def_cfa_offset 56
+	movq	%r15,%rax
 	popq	%rbx
-	hex_cfi	def_cfa_offset 48
-	popq	%r12
 	hex_cfi	def_cfa_offset 40
-	popq	%r13
+	popq	%r12
 	hex_cfi	def_cfa_offset 32
-	popq	%r14
+	popq	%r13
 	hex_cfi	def_cfa_offset 24
-	popq	%r15
+	popq	%r14
 	hex_cfi	def_cfa_offset 16
-	popq	%rbp
+	popq	%r15
 	hex_cfi	def_cfa_offset 8
 	retq
-	hex_end	faster_hex_1_0_0_x86_64_core_backend_Backend_first_error
+	hex_end	faster_hex_1_0_0_x86_64_core_backend_Backend_first_bad
 	hex_cfi	endproc
 	hex_function	faster_hex_1_0_0_x86_64_core_slices_no_room,.text.unlikely
 	hex_cfi	startproc
@@ -461,8 +447,6 @@
 	hex_cfi	def_cfa_offset 24
 	pushq	%rbx
 	hex_cfi	def_cfa_offset 32
-	subq	$32,%rsp
-	hex_cfi	def_cfa_offset 64
 	hex_cfi	offset %rbx,-32
 	hex_cfi	offset %r14,-24
 	hex_cfi	offset %rbp,-16
@@ -481,8 +465,6 @@
 	callq	faster_hex_1_0_0_x86_64_core_backend_Backend_decode_named
 	testb	%al,%al
 	je	3f
-	addq	$32,%rsp
-	hex_cfi	def_cfa_offset 32
 	popq	%rbx
 	hex_cfi	def_cfa_offset 24
 	popq	%r14
@@ -491,12 +473,11 @@
 	hex_cfi	def_cfa_offset 8
 	retq
 3:
-	hex_cfi	def_cfa_offset 64
-	leaq	8(%rsp),%rdi
-	movq	%r14,%rsi
-	movq	%rbx,%rdx
-	movl	%ebp,%ecx
-	callq	faster_hex_1_0_0_x86_64_core_backend_Backend_first_error
+	hex_cfi	def_cfa_offset 32
+	movq	%r14,%rdi
+	movq	%rbx,%rsi
+	movl	%ebp,%edx
+	callq	faster_hex_1_0_0_x86_64_core_backend_Backend_first_bad
 4:
 	ud2
 	hex_end	faster_hex_1_0_0_x86_64_codec_pieces_read_long_piece
@@ -527,41 +508,28 @@
 	hex_cfi	def_cfa_offset 24
 	pushq	%rbx
 	hex_cfi	def_cfa_offset 32
-	subq	$32,%rsp
-	hex_cfi	def_cfa_offset 64
 	hex_cfi	offset %rbx,-32
 	hex_cfi	offset %r14,-24
 	hex_cfi	offset %r15,-16
-	xorl	%r9d,%r9d
+	xorl	%r10d,%r10d
 	testq	%rdi,%rdi
-	sete	%r11b
-	xorl	%r8d,%r8d
+	sete	%bl
+	xorl	%r9d,%r9d
 	testq	%rdx,%rdx
-	sete	%r10b
-	xorps	%xmm0,%xmm0
-	movaps	%xmm0,(%rsp)
-	movq	$0,16(%rsp)
+	sete	%r11b
 	testb	$1,%sil
-	jne	3f
+	jne	1f
 	movq	%rsi,%rax
 	shrq	%rax
+	movl	$2,%r8d
 	cmpq	%rax,%rcx
-	jae	5f
-2:
-	movl	$2,%edx
-	jmp	7f
-3:
-	movl	$1,%edx
-4:
-	xorl	%eax,%eax
-	jmp	7f
-5:
+	jb	6f
+	movb	%bl,%r10b
+	shll	$12,%r10d
+	addq	%r10,%rdi
 	movb	%r11b,%r9b
 	shll	$12,%r9d
-	addq	%r9,%rdi
-	movb	%r10b,%r8b
-	shll	$12,%r8d
-	addq	%r8,%rdx
+	addq	%r9,%rdx
 	movq	%rdi,%r14
 	movq	%rsi,%rbx
 	movq	%rax,%r15
@@ -569,12 +537,15 @@
 	xorl	%r8d,%r8d
 	callq	faster_hex_1_0_0_x86_64_core_backend_Backend_decode_named
 	testb	%al,%al
-	je	8f
-	xorl	%edx,%edx
+	je	5f
 	movq	%r15,%rax
-7:
-	addq	$32,%rsp
-	hex_cfi	def_cfa_offset 32
+	xorl	%r8d,%r8d
+	jmp	6f
+1:
+	movl	$1,%r8d
+	xorl	%eax,%eax
+6:
+	movq	%r8,%rdx
 	popq	%rbx
 	hex_cfi	def_cfa_offset 24
 	popq	%r14
@@ -582,39 +553,16 @@
 	popq	%r15
 	hex_cfi	def_cfa_offset 8
 	retq
-8:
-	hex_cfi	def_cfa_offset 64
-	movq	%rsp,%rdi
-	movq	%r14,%rsi
-	movq	%rbx,%rdx
-	xorl	%ecx,%ecx
-	callq	faster_hex_1_0_0_x86_64_core_backend_Backend_first_error
-	movzbl	(%rsp),%ecx
-	cmpl	$2,%ecx
-	jg	12f
-	movq	8(%rsp),%rax
-	testl	%ecx,%ecx
-	je	14f
-	cmpl	$1,%ecx
-	je	2b
-	jmp	13f
-12:
-	addl	$-4,%ecx
-	cmpl	$2,%ecx
-	movl	$0,%eax
-	jae	15f
-13:
-	movl	$4,%edx
-	jmp	4b
-14:
-	movq	16(%rsp),%rcx
-	shll	$8,%ecx
-	movzwl	%cx,%edx
-	orq	$3,%rdx
-	jmp	7b
-15:
-	movl	$1,%edx
-	jmp	7b
+5:
+	hex_cfi	def_cfa_offset 32
+	movq	%r14,%rdi
+	movq	%rbx,%rsi
+	xorl	%edx,%edx
+	callq	faster_hex_1_0_0_x86_64_core_backend_Backend_first_bad
+	movzbl	%dl,%r8d
+	shll	$8,%r8d
+	orq	$3,%r8
+	jmp	6b
 	hex_end	faster_hex_1_0_0_x86_64_decode
 	hex_cfi	endproc
 	hex_export	faster_hex_1_0_0_x86_64_decode_16
@@ -1752,8 +1700,8 @@
 	hex_cfi	def_cfa_offset 32
 	pushq	%rbx
 	hex_cfi	def_cfa_offset 40
-	subq	$24,%rsp
-	hex_cfi	def_cfa_offset 64
+	pushq	%rax
+	hex_cfi	def_cfa_offset 48
 	hex_cfi	offset %rbx,-40
 	hex_cfi	offset %r12,-32
 	hex_cfi	offset %r14,-24
@@ -1765,23 +1713,24 @@
 	testq	%rdx,%rdx
 	sete	%r11b
 	cmpb	$2,%r8b
-	ja	4f
-	xorps	%xmm0,%xmm0
-	movaps	%xmm0,(%rsp)
-	movq	$0,16(%rsp)
+	ja	1f
 	testb	$1,%sil
-	jne	13f
+	jne	3f
 	movq	%rsi,%rax
 	shrq	%rax
 	cmpq	%rax,%rcx
-	jae	5f
-3:
+	jae	6f
 	movl	$2,%edx
-	jmp	15f
-4:
+	jmp	9f
+1:
 	movl	$5,%edx
-	jmp	14f
-5:
+	xorl	%eax,%eax
+	jmp	9f
+3:
+	movl	$1,%edx
+	xorl	%eax,%eax
+	jmp	9f
+6:
 	movb	%bl,%r10b
 	shll	$12,%r10d
 	addq	%r10,%rdi
@@ -1796,38 +1745,11 @@
 	movl	%ebx,%r8d
 	callq	faster_hex_1_0_0_x86_64_core_backend_Backend_decode_named
 	testb	%al,%al
-	je	7f
+	je	8f
 	xorl	%edx,%edx
 	movq	%r12,%rax
-	jmp	15f
-7:
-	movq	%rsp,%rdi
-	movq	%r15,%rsi
-	movq	%r14,%rdx
-	movl	%ebx,%ecx
-	callq	faster_hex_1_0_0_x86_64_core_backend_Backend_first_error
-	movzbl	(%rsp),%ecx
-	cmpl	$2,%ecx
-	jg	11f
-	movq	8(%rsp),%rax
-	testl	%ecx,%ecx
-	je	16f
-	cmpl	$1,%ecx
-	je	3b
-	jmp	12f
-11:
-	addl	$-4,%ecx
-	cmpl	$2,%ecx
-	jae	13f
-12:
-	movl	$4,%edx
-	jmp	14f
-13:
-	movl	$1,%edx
-14:
-	xorl	%eax,%eax
-15:
-	addq	$24,%rsp
+9:
+	addq	$8,%rsp
 	hex_cfi	def_cfa_offset 40
 	popq	%rbx
 	hex_cfi	def_cfa_offset 32
@@ -1838,13 +1760,16 @@
 	popq	%r15
 	hex_cfi	def_cfa_offset 8
 	retq
-16:
-	hex_cfi	def_cfa_offset 64
-	movq	16(%rsp),%rcx
-	shll	$8,%ecx
-	movzwl	%cx,%edx
+8:
+	hex_cfi	def_cfa_offset 48
+	movq	%r15,%rdi
+	movq	%r14,%rsi
+	movl	%ebx,%edx
+	callq	faster_hex_1_0_0_x86_64_core_backend_Backend_first_bad
+	movzbl	%dl,%edx
+	shll	$8,%edx
 	orq	$3,%rdx
-	jmp	15b
+	jmp	9b
 	hex_end	faster_hex_1_0_0_x86_64_decode_with_case
 	hex_cfi	endproc
 	hex_export	faster_hex_1_0_0_x86_64_first_invalid
