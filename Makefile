@@ -144,6 +144,7 @@ check: all
 deep: all
 	scripts/mutations
 	scripts/examples --prove
+	cd tests && /usr/bin/python3 -m machine record 128
 	$(PYTEST) tests
 
 # As the last commit has it, or where files have changed, these; the same bytes whoever packs it.

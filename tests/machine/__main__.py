@@ -1,0 +1,62 @@
+"""In tests/, by the system's Python: `python3 -m machine v3 decode 32` says what is shown of a call in a build of the
+library that `make` built, for a source of so many bytes, `python3 -m machine v2 check 0 64` for each length from one to
+another. `python3 -m machine record 128` shows all calls for all lengths up to so many decoded bytes, which takes some
+twenty minutes, and writes generated/SHOWN."""
+import hashlib
+import os
+import sys
+import tempfile
+from pathlib import Path
+
+from . import Refused
+from .image import Image, linked
+from .statements import ARRAYS, CALLS, shown
+from .values import forget
+
+TOP = Path(__file__).resolve().parents[2]
+# What the code that is executed is made of.
+SOURCES = """generated/x86-64-v2.s generated/x86-64-v3.s generated/builds.S generated/elf.inc
+    crates/faster_hex_c/dispatch.c crates/faster_hex_c/assembly.h""".split()
+
+
+def sums():
+    return "".join(f"sha256 {hashlib.sha256((TOP / it).read_bytes()).hexdigest()}  {it}\n" for it in SOURCES)
+
+
+def lengths_of(call, most):
+    """The lengths of a source of up to so many decoded bytes; fewer for the search, which each decoding does too."""
+    longest = {"encode": most, "first_invalid": most // 2}.get(call, 2 * most)
+    return [ARRAYS[call]] if call in ARRAYS else range(longest + 1)
+
+
+def record(images, most):
+    lines = sums()
+    for build, image in images.items():
+        for call in CALLS:
+            lengths, tests = lengths_of(call, most), 0
+            for length in lengths:
+                tests = max(tests, *[it.tests for it in shown(image, build, call, length)])
+            forget()
+            lines += f"x86-64-{build} {call} of {lengths[0]} to {lengths[-1]} bytes, {tests} branches on valid digits\n"
+            print(lines.splitlines()[-1], flush=True)
+    (TOP / "generated/SHOWN").write_text(lines)
+
+
+def main(words):
+    library = Path(os.environ.get("FASTER_HEX_LIB", TOP / "out")) / "libfaster_hex.a"
+    with tempfile.TemporaryDirectory() as folder:
+        made = linked(Path(folder) / "image", library)
+        images = {build: Image(made, int(build[1])) for build in ("v2", "v3")}
+    if words[0] == "record":
+        return record(images, int(words[1]))
+    for length in range(int(words[2]), int(words[-1]) + 1):
+        print(*shown(images[words[0]], *words[:2], length), sep="\n", flush=True)
+
+
+if __name__ == "__main__":
+    try:
+        main(sys.argv[1:])
+    except Refused as why:
+        sys.exit(f"refused: {why}")
+    except (IndexError, KeyError, ValueError):
+        sys.exit(__doc__)

@@ -1,0 +1,133 @@
+"""What is shown of the calls of faster_hex.h and of those for arrays, of one length."""
+import operator
+
+import z3
+
+from . import Refused, hexadecimal
+from .execution import DESTINATION, SOURCE, Machine, State, digit_at
+from .values import X, Value, apply, bytes_of, constant, is_proved, joined, unknown
+
+DONE, ODD_LENGTH, TOO_SMALL, INVALID, _, UNKNOWN_POLICY = range(6)
+OTHER = 3   # Any policy that is none.
+REGISTERS = "rdi", "rsi", "rdx", "rcx", "r8"
+CALLS = {
+    "check": "source length", "check_with_case": "source length policy", "first_invalid": "source length policy",
+    "encode": "source length destination room upper", "decode": "source length destination room",
+    "decode_with_case": "source length destination room policy",
+}
+# With the lengths of their sources.
+ARRAYS = {f"decode_{it}": 2 * it for it in (16, 20, 32, 64)}
+CALLS |= dict.fromkeys(ARRAYS, "source destination")
+ROOM, POLICY = Value(z3.BitVec("room", 64)), Value(z3.BitVec("policy", 8))
+# A pointer to so many bytes may be null if they are none, and does not wrap.
+is_there = lambda pointer, length: z3.And(z3.Or(pointer != 0, length == 0), z3.ULE(pointer, ~length))
+is_other = lambda policy: z3.UGT(policy, hexadecimal.UPPERCASE)
+
+
+class Shown:
+    """A call of one length, with any room, under a policy or in a case of letters: refused, or shown."""
+
+    def __init__(self, image, build, call, length, policy, is_upper):
+        self.call, self.length, self.policy, self.is_upper = call, length, policy, is_upper
+        self.is_encoding, self.has_room = call == "encode", "room" in CALLS[call]
+        self.writes = 2 * length if self.is_encoding else length // 2 if call.startswith("decode") else 0
+        facts = apply(is_there, SOURCE, constant(length, 8)), apply(is_there, DESTINATION, ROOM)
+        self.machine = Machine(image, length, self.writes, None if self.is_encoding else policy % OTHER,
+                               (*facts, apply(is_other, POLICY)))
+        of_build = (it for it in image.symbols if it.endswith(f"x86_64_{build}_{call}"))
+        state = State(image.symbols.get(f"faster_hex_{call}") or image.symbols[next(of_build)])
+        state.registers.update(zip(REGISTERS, map(self.argument, CALLS[call].split())))
+        self.ends = self.machine.run(state)
+        for it in self.ends:
+            self.check(it)
+        # Branches on the bytes where no digit is invalid.
+        self.tests = max(it.tests for it in self.ends if not it.refused)
+
+    def argument(self, word):
+        """What stands in the register of an argument; above a byte anything."""
+        policy = POLICY if self.policy == OTHER else constant(self.policy, 1)
+        byte = {"upper": constant(int(self.is_upper), 1), "policy": policy}.get(word)
+        known = {"source": SOURCE, "destination": DESTINATION, "room": ROOM, "length": constant(self.length, 8)}
+        return joined([byte, unknown("above an argument", 7)]) if byte else known[word]
+
+    def expected(self, state):
+        """The status, the number and the byte that the definitions give on a path."""
+        if self.policy == OTHER:
+            return UNKNOWN_POLICY, 0, constant(0, 1)
+        if self.call.startswith("decode") and self.length % 2:
+            return ODD_LENGTH, 0, constant(0, 1)
+        is_small = apply(z3.ULT, ROOM, constant(self.writes, 8))
+        if self.has_room and self.machine.holds(state, is_small):
+            return TOO_SMALL, self.writes, constant(0, 1)
+        if self.has_room and not self.machine.holds(state, apply(z3.Not, is_small)):
+            raise Refused("does not look at the room")
+        if not state.refused:
+            return DONE, self.writes, constant(0, 1)
+        # The first digit that is not known to be valid must be known to be invalid, where that is reported.
+        at = next(at for at, it in self.machine.source.items() if it.of[0] not in state.valid)
+        is_first = any(it - state.valid == {self.machine.source[at].of[0]} for it in state.refused)
+        return INVALID, at if is_first else None, self.machine.source[at]
+
+    def check(self, state):
+        status, number, byte = self.expected(state)
+        if len(state.written) != (self.writes if status == DONE else 0):
+            raise Refused("writes too much or too little")
+        if self.has_room or self.call == "first_invalid":
+            self.check_answer(state, status, number, byte)
+        else:
+            self.check_bool(state, status)
+        for at, it in state.written.items():
+            self.check_byte(at, it)
+
+    def check_answer(self, state, status, number, byte):
+        """A record: the number in rax, the status and the byte in rdx."""
+        rdx = bytes_of(state.registers["rdx"])
+        reported = state.registers["rax"].number, rdx[0].number
+        if number is None or reported != (number, status) or not rdx[1].is_same(byte):
+            raise Refused("answers wrongly")
+        if status == DONE and state.valid != self.machine.names and not self.is_encoding:
+            raise Refused("does not look at all digits")
+
+    def check_bool(self, state, status):
+        """True exactly if all digits are valid."""
+        al = bytes_of(state.registers["rax"])[0]
+        is_true, is_false = (apply(operator.eq, al, constant(it, 1)) for it in (1, 0))
+        if not apply(z3.Not, is_true).is_same(is_false):
+            raise Refused("answers neither true nor false")
+        if status == DONE and state.valid != self.machine.names:
+            digits, sign = self.machine.asked(is_true)
+            if not sign or digits | state.valid != self.machine.names:
+                raise Refused("does not answer whether all digits are valid")
+        elif not self.machine.holds(state, is_true if status == DONE else is_false):
+            raise Refused("answers wrongly")
+
+    def check_byte(self, at, value):
+        """A byte of the list, or one of the two digits of a byte."""
+        names = [self.machine.source[it].of[0] for it in ([at // 2] if self.is_encoding else (2 * at, 2 * at + 1))]
+        if sorted(value.of) != sorted(names):
+            raise Refused(f"what is written at {at} depends on {value.of}")
+        places = [value.of.index(it) for it in names]
+        key = "written", value.id, *places, self.is_encoding, self.policy, self.is_upper, at % 2
+        if not is_proved(key, lambda: self.differs(value.term, places, at % 2)):
+            raise Refused(f"what is written at {at} is wrong")
+
+    def differs(self, term, places, digit):
+        """That a byte is not what the definitions give, where the digits are valid."""
+        given = [X[it] for it in places]
+        if self.is_encoding:
+            return [term != hexadecimal.digits_of(*given, self.is_upper)[digit]]
+        return [*[digit_at(it, self.policy) for it in places], term != hexadecimal.byte_of(*given)]
+
+    def __str__(self):
+        way = f", policy {self.policy if self.policy != OTHER else 'unknown'}" * ("policy" in CALLS[self.call])
+        way += f", {'upper' if self.is_upper else 'lower'} case" * self.is_encoding
+        refused = len([it for it in self.ends if it.refused])
+        return f"{self.call} of {self.length} bytes{way}: shown; {len(self.ends)} paths, {refused} of them with an " \
+               f"invalid digit, the others with {self.tests} branches on the bytes"
+
+
+def shown(image, build, call, length):
+    """A call of one length under each policy, and under any that is none, or in both cases of letters."""
+    for policy in range(OTHER + 1 if "policy" in CALLS[call] else 1):
+        for is_upper in (False, True) if "upper" in CALLS[call] else (False,):
+            yield Shown(image, build, call, length, policy, is_upper)

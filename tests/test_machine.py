@@ -1,0 +1,155 @@
+"""The machine code of the calls, executed on unknown bytes by machine/ and compared with hex; changed copies of it,
+which must be refused; and what machine/ takes instructions to mean, beside the processor."""
+import ctypes
+import random
+import re
+from pathlib import Path
+
+import pytest
+
+z3 = pytest.importorskip("z3")
+pytest.importorskip("capstone")
+from commands import CC, TOP, needs, runs
+from machine import Refused, execution, values
+from machine.__main__ import lengths_of, sums
+from machine.image import Image, linked
+from machine.instructions import EACH, TABLE
+from machine.statements import CALLS, shown
+
+GENERATED = TOP / "generated"
+# Decoded bytes: all lengths up to there, and some above.
+ALL, SOME = 64, (65, 79, 80, 81, 95, 96, 97, 111, 112, 113, 127, 128)
+
+
+def rows(name):
+    return [it for it in (TOP / "tests/machine" / name).read_text().splitlines() if it[0] != "#"]
+
+
+@pytest.fixture(scope="module")
+def image(library, tmp_path_factory):
+    needs("ld")
+    return linked(tmp_path_factory.mktemp("made") / "image", library / "libfaster_hex.a")
+
+
+@pytest.fixture(autouse=True)
+def forgets():
+    yield
+    values.forget()
+
+
+@pytest.mark.parametrize("call", CALLS)
+@pytest.mark.parametrize("build", ["v2", "v3"])
+def test_call(image, build, call):
+    code = Image(image, int(build[1]))
+    for length in [*lengths_of(call, ALL), *(lengths_of(call, it)[-1] for it in SOME)]:
+        assert list(shown(code, build, call, length))
+
+
+def test_record():
+    """What generated/SHOWN says was shown of these sources."""
+    assert (GENERATED / "SHOWN").read_text().startswith(sums())
+
+
+def changed(build, function, rule):
+    """The assembly of a build with a line of a function changed, or with each that fits."""
+    number, pattern, instead = re.fullmatch(r"(\d+) (.*) => ?(.*)", rule).groups()
+    text = (GENERATED / f"x86-64-{build}.s").read_text()
+    begin, end = 0, len(text)
+    if function != "anywhere":
+        begin, end = re.search(rf"\thex_\w+\t\w+_{build}_{function}\b(?s:.*?)\thex_end", text).span()
+        begin = text.rindex("\thex_end", 0, begin)
+    lines = [it.strip().replace("\t", " ") for it in text[begin:end].split("\n")]
+    fitting = [at for at, it in enumerate(lines) if re.fullmatch(pattern, it)]
+    for at in fitting if number == "0" else [fitting[int(number) - 1]]:
+        line = lines[at]
+        lines[at] = re.sub(f"^{pattern}$", instead.replace(r"\0", r"\g<0>"), line).replace("; ", "\n")
+        assert lines[at] != line
+    return text[:begin] + "\n".join(lines) + text[end:]
+
+
+def assembled(folder, text):
+    """An object, and an image of it alone."""
+    (folder / "made.S").write_text(text)
+    runs([CC, "-c", f"-I{GENERATED}", "-o", folder / "made.o", folder / "made.S"])
+    return Image(linked(folder / "image", folder / "made.o"))
+
+
+@pytest.mark.parametrize("row", rows("changes.txt"))
+def test_change(tmp_path, row):
+    where, rule, _ = row.split(" | ")
+    build, call, *lengths = where.split()
+    function = call if lengths[-1].isdigit() else lengths.pop()
+    code = assembled(tmp_path, '#include "elf.inc"\n' + changed(build, function, rule))
+    with pytest.raises(Refused):
+        for length in lengths:
+            list(shown(code, build, call, int(length)))
+
+
+# A block of registers, flags and memory, which a program of instructions changes.
+BLOCK = {"vector 0": 32, "vector 1": 32, "vector 2": 32, "rax": 8, "rcx": 8, "rdx": 8, "flags": 8, "memory": 64}
+NAMES = [f"{it} {at}" for it, size in BLOCK.items() for at in range(size)]
+FLAGS = {"c": 0, "z": 6, "s": 7, "o": 11}
+HAS_FLAG = {flag: (lambda it, bit=bit: z3.Extract(bit, bit, it) == 1) for flag, bit in FLAGS.items()}
+PROGRAM = """
+    .globl run_{0}
+run_{0}: mov %rdi,%r11
+    vmovdqu (%r11),%ymm0; vmovdqu 32(%r11),%ymm1; vmovdqu 64(%r11),%ymm2
+    mov 96(%r11),%rax; mov 104(%r11),%rcx; mov 112(%r11),%rdx; lea 128(%r11),%rdi; push 120(%r11); popfq
+begin_{0}: {1}
+end_{0}: pushfq; pop 120(%r11); mov %rax,96(%r11); mov %rcx,104(%r11); mov %rdx,112(%r11)
+    vmovdqu %ymm0,(%r11); vmovdqu %ymm1,32(%r11); vmovdqu %ymm2,64(%r11); vzeroupper
+    ret
+"""
+INSTRUCTIONS = [it.partition(": ")[::2] for it in rows("instructions.txt")]
+
+
+def test_each_instruction_is_run():
+    run = {name for names, _ in INSTRUCTIONS for name in names.split()}
+    assert {*TABLE, *EACH} - {kind + it for kind in ("set", "cmov") for it in EACH} <= run
+
+
+def modelled(code, begin, end, known):
+    """What a program makes of a block by the model, byte by byte, and its flags. Bytes are known, or not."""
+    block = {it: [known.get(f"{it} {at}", byte) for at, byte in enumerate(values.bytes_of(values.unknown(it, size)))]
+             for it, size in BLOCK.items()}
+    machine, state = execution.Machine(code, 0, 64, None, ()), execution.State(begin)
+    state.registers.update({it: values.joined(block[it]) for it in ("rax", "rcx", "rdx")}, rdi=execution.DESTINATION)
+    state.vectors[:3] = [block[f"vector {it}"] for it in range(3)]
+    state.written.update(enumerate(block["memory"]))
+    state.flags = {flag: (function, values.joined(block["flags"])) for flag, function in HAS_FLAG.items()}
+    while state.at != end:
+        machine.advances(state)
+    made = [*state.vectors[:3], *[values.bytes_of(state.registers[it]) for it in ("rax", "rcx", "rdx")]]
+    flags = {flag: values.apply(*it) for flag, it in state.flags.items() if it}
+    return sum(made, []), [*state.written.values()], flags
+
+
+def same(program, made, known, done):
+    """Whether the model's bytes and flags, once all is known, are those that the processor made."""
+    there = lambda it: z3.simplify(z3.substitute(it.term, *[
+        (values.X[at], known[name].term) for at, name in enumerate(it.of)]))
+    registers, memory, flags = made
+    assert bytes(there(it).as_long() for it in [*registers, *memory]) == done[:120] + done[128:], program
+    word = int.from_bytes(done[120:128], "little")
+    assert all(z3.is_true(there(it)) == bool(word >> FLAGS[flag] & 1) for flag, it in flags.items()), program
+
+
+@pytest.mark.parametrize("names, forms", INSTRUCTIONS)
+def test_instruction(tmp_path, names, forms):
+    if "avx2" not in Path("/proc/cpuinfo").read_text():
+        pytest.skip("the processor has no avx2")
+    programs = [*dict.fromkeys(form.format(name) for form in forms.split(" | ") for name in names.split())]
+    code = assembled(tmp_path, "".join(map(PROGRAM.format, range(len(programs)), programs)))
+    runs([CC, "-shared", "-nostdlib", "-o", tmp_path / "made.so", tmp_path / "made.o"])
+    library = ctypes.CDLL(tmp_path / "made.so")
+    random.seed(names)
+    for at, program in enumerate(programs):
+        places = code.symbols[f"begin_{at}"], code.symbols[f"end_{at}"]
+        made = None if re.search(r"\bj|call", program) else modelled(code, *places, {})
+        for _ in range(10):
+            block = bytearray(random.choice((0, 1, 127, 128, 255, random.randrange(256))) for _ in NAMES)
+            block[120:128] = bytes([block[120] & 0xc1 | 2, block[121] & 8, 0, 0, 0, 0, 0, 0])
+            known = {name: values.constant(it, 1) for name, it in zip(NAMES, block)}
+            done = (ctypes.c_char * len(block)).from_buffer_copy(block)
+            library[f"run_{at}"](done)
+            same(program, made or modelled(code, *places, known), known, done.raw)
