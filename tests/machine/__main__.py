@@ -16,7 +16,9 @@ from .values import forget
 TOP = Path(__file__).resolve().parents[2]
 # What the code that is executed is made of.
 SOURCES = """generated/x86-64-v2.s generated/x86-64-v3.s generated/builds.S generated/elf.inc
-    crates/faster_hex_c/dispatch.c crates/faster_hex_c/assembly.h""".split()
+    crates/faster_hex_c/dispatch.c crates/faster_hex_c/assembly.h crates/faster_hex_c/faster_hex.h""".split()
+# What shows it, too: a change there wants a new record.
+SOURCES += sorted(f"tests/machine/{it.name}" for it in Path(__file__).parent.glob("*.py"))
 
 
 def sums():

@@ -100,7 +100,7 @@ class Machine:
         read, state.at = self.image.instruction(state.at)
         step, name = Step(self, state, read), read.mnemonic.split()[-1]
         try:
-            if name == "ret":
+            if name == "ret" and not read.operands:
                 return self.returns(state, step.pop())
             if name == "call":
                 step.push(constant(state.at, 8))
@@ -185,6 +185,13 @@ class Machine:
     def end_of(self, state):
         """Where the frame ends, from where the stack began."""
         return self.place(state.registers["rsp"])[1] - RED_ZONE
+
+    def lowers(self, state):
+        """The stack pointer stays in the frame, and what is below the frame is lost: a signal may write there."""
+        base, at = self.place(state.registers["rsp"])
+        if base is not STACK or at > 8:
+            raise Refused("the stack pointer leaves the frame")
+        state.stack = {it: value for it, value in state.stack.items() if it >= at - RED_ZONE}
 
     def load(self, state, address, size):
         if address.of and state.refused and size == 1:
@@ -291,8 +298,12 @@ class Step:
             vector[:] = values + ([ZERO] * (32 - len(values)) if self.is_vex else vector[len(values):])
         else:
             name, size = REGISTERS[self.register(self.operands[0].reg)]
+            if size < 4 and len(values) != size:
+                raise Refused("not what the register holds")
             above = bytes_of(self.state.registers[name])[size:] if size < 4 else [ZERO] * (8 - len(values))
             self.state.registers[name] = joined(values + above)
+            if name == "rsp":
+                self.machine.lowers(self.state)
 
     def get(self, at):
         return joined(self.bytes(at, self.size(0 if self.operands[at].type == X86_OP_IMM else at)))
@@ -308,14 +319,20 @@ class Step:
         """What movdqa and SSE ask of whole vectors. The stack begins 8 bytes beyond such a place."""
         if count >= 16 and (self.name == "movdqa" or not self.is_vex and self.name != "movdqu"):
             base, distance = self.machine.place(self.address(at))
-            if base in (SOURCE, DESTINATION) or (distance + 8 * (base is STACK)) % (16 if base else count):
+            # Of the stack's alignment no more is known than 16 bytes.
+            is_known = base is None or base is STACK and count == 16
+            if not is_known or (distance + 8 * (base is STACK)) % count:
                 raise Refused("not aligned")
 
     def push(self, value):
+        if value.term.size() != 64:
+            raise Refused("not eight bytes")
         end = self.state.registers["rsp"] = apply(below, self.state.registers["rsp"])
         self.machine.store(self.state, end, bytes_of(value))
 
     def pop(self):
         end = self.state.registers["rsp"]
+        value = joined(self.machine.load(self.state, end, 8))
         self.state.registers["rsp"] = apply(above, end)
-        return joined(self.machine.load(self.state, end, 8))
+        self.machine.lowers(self.state)
+        return value

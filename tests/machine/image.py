@@ -6,6 +6,10 @@ import capstone
 
 from . import Refused
 
+PREFIXES = b"\x66\x67\xf2\xf3\xf0\x2e\x36\x3e\x26\x64\x65"
+# What the prefix 66 makes another thing of in Capstone than on some processors.
+NEVER_SHORT = "j", "call", "ret", "push", "pop"
+
 
 def linked(made, *objects):
     """The file of all that stands in these objects or archives."""
@@ -22,7 +26,8 @@ class Image:
         data, self.sections = path.read_bytes(), []
         for *numbers, flags in re.findall(r"PROGBITS +(\w+) (\w+) (\w+) \w+ +(\w+)", said("readelf", "-SW")):
             at, begin, size = (int(it, 16) for it in numbers)
-            self.sections += [] if "W" in flags else [(at, data[begin:begin + size], "X" in flags)]
+            is_constant = "A" in flags and "W" not in flags
+            self.sections += [(at, data[begin:begin + size], "X" in flags)] if is_constant else []
         self.level = {} if level is None else {self.symbols["level"]: bytes([level])}
         self.reader = capstone.Cs(capstone.CS_ARCH_X86, capstone.CS_MODE_64)
         self.reader.detail = True
@@ -49,8 +54,12 @@ class Image:
         skipped = skipped if code[skipped:skipped + 2] == b"\x0f\x1f" else 0
         if code[:1] == b"\xc4" and code[1] & 31 == 2 and code[3] == 0x5a:
             code = code[:3] + b"\x1a" + code[4:]
-        found = next(self.reader.disasm(code[skipped:], at + skipped, 1), None)
-        # EVEX has masks and wider registers.
-        if found is None or code[:1] == b"\x62":
+        code, at = code[skipped:], at + skipped
+        found = next(self.reader.disasm(code, at, 1), None)
+        rest = code.lstrip(PREFIXES)
+        # Of two prefixes Capstone and processors take different ones. EVEX, 62, has masks and wider registers.
+        if found is None or len(code) - len(rest) > 1 or rest[0] == 0x62:
             raise Refused(f"no instruction at {at:#x}")
-        return found, at + skipped + found.size
+        if code[0] == 0x66 and found.mnemonic.split()[-1].startswith(NEVER_SHORT):
+            raise Refused(f"a short branch or push at {at:#x}")
+        return found, at + found.size

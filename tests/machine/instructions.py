@@ -51,7 +51,6 @@ broadcast = lambda size, step: step.bytes(1, size) * (step.width // size)
 extend_signs = lambda size, step: spread(apply(SIGN_EXTENDED[size], it) for it in step.bytes(1, step.width // size))
 signs_to_register = lambda size, step: bytes_of(apply(bits, *signs_of(step.bytes(1, step.size(1)), size)))[:4]
 move_low = lambda size, step: step.bytes(1, size) + [ZERO] * (16 - size if step.vector(0) else 0)
-extract = lambda size, step: step.bytes(1, max(16, 2 * size))[size * step.number(2):][:size]
 pack = lambda a, b: [apply(saturated, joined(it)) for it in lanes_of(a + b, 2)]
 
 
@@ -128,9 +127,16 @@ def choose_half(step, number):
     return [ZERO] * 16 if number & 8 else halves[number & 3]
 
 
+def extract(size, step):
+    """The lane that a number names, of which the lowest bits count."""
+    lanes = lanes_of(step.bytes(1, max(16, 2 * size)), size)
+    return lanes[step.number(2) % len(lanes)]
+
+
 def insert(size, step):
     """The vector with some bytes in place of the lane that a number names."""
-    values, at = step.bytes(-3, max(16, 2 * size)), size * step.number(-1)
+    values = step.bytes(-3, max(16, 2 * size))
+    at = size * step.number(-1) % len(values)
     return values[:at] + step.bytes(-2, size) + values[at + size:]
 
 
@@ -157,7 +163,8 @@ HALVES = {"pshufb": shuffle_bytes, "packuswb": pack, "punpcklbw": partial(unpack
           "punpckhbw": partial(unpack, 1, 8), "punpcklqdq": partial(unpack, 8, 0)}
 SHIFTED = {"psllw": (2, SHIFTS["shl"]), "psrlw": (2, LShR), "psrld": (4, LShR)}
 WRITTEN = {it: lambda step: step.bytes(1, step.size(0)) for it in ("mov", "movdqa", "movdqu")} | {
-    "movzx": lambda step: step.bytes(1, step.size(1)), "pop": lambda step: bytes_of(step.pop()),
+    "movzx": lambda step: step.bytes(1, step.size(1)) + [ZERO] * (step.size(0) - step.size(1)),
+    "pop": lambda step: bytes_of(step.pop()),
     "lea": lambda step: bytes_of(step.address(1))[:step.size(0)],
     "perm2i128": lambda step: choose_half(step, step.number(3)) + choose_half(step, step.number(3) >> 4),
     "pmovzxbw": lambda step: [it for byte in step.bytes(1, step.width // 2) for it in (byte, ZERO)],

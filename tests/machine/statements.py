@@ -42,6 +42,8 @@ class Shown:
             self.check(it)
         # Branches on the bytes where no digit is invalid.
         self.tests = max(it.tests for it in self.ends if not it.refused)
+        if self.tests > (call == "first_invalid" or call.startswith("decode")):
+            raise Refused("branches on valid digits more often than it may")
 
     def argument(self, word):
         """What stands in the register of an argument; above a byte anything."""
