@@ -35,6 +35,7 @@ pub fn append_bytes<R: Read>(reader: &mut R, bytes: &mut Vec<u8>) -> Result<usiz
         × Consumes (R.remaining reader.old) (R.remaining reader.new) s
         × IsAtEnd (R.remaining reader.new) × Spells CheckCase.None (unspaced s) new
         × (vec_items bytes.new ≡ vec_items bytes.old ++ new) × (count ≡ length new)) }
+    ensures kept { (new : List ℕ) × (vec_items bytes.new ≡ vec_items bytes.old ++ new) }
     ensures refusal { (e : Error) → result ≡ Err (StreamFault.Codec e) → e ≢ Error.OutOfMemory
         → (s : List ℕ) × Consumes (R.remaining reader.old) (R.remaining reader.new) s
         × RefusedBy (spaced CheckCase.None) s (R.remaining reader.new) e }
