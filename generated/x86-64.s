@@ -3,7 +3,7 @@
 	testq	%rsi,%rsi
 	je	1f
 	movzbl	%dl,%eax
-	leaq	.L100_switch.table.faster_hex_1_0_0_x86_64_decode_grouped.17(%rip),%rcx
+	leaq	.L100_switch.table.faster_hex_1_0_0_x86_64_decode_grouped.16(%rip),%rcx
 	movq	(%rcx,%rax,8),%rcx
 	movl	%esi,%edx
 	andl	$3,%edx
@@ -80,7 +80,7 @@
 	shrq	%rsi
 	je	2f
 	movzbl	%r8b,%eax
-	leaq	.L100_switch.table.faster_hex_1_0_0_x86_64_decode_grouped.17(%rip),%rcx
+	leaq	.L100_switch.table.faster_hex_1_0_0_x86_64_decode_grouped.16(%rip),%rcx
 	movq	(%rcx,%rax,8),%r8
 	xorl	%ecx,%ecx
 	xorl	%ebx,%ebx
@@ -119,7 +119,7 @@
 	movb	$1,%al
 	testq	%r15,%r15
 	je	24f
-	leaq	.L100_switch.table.faster_hex_1_0_0_x86_64_decode_grouped.17(%rip),%rcx
+	leaq	.L100_switch.table.faster_hex_1_0_0_x86_64_decode_grouped.16(%rip),%rcx
 	movq	(%rcx,%r14,8),%rcx
 	cmpq	$1,%r15
 	jne	20f
@@ -232,6 +232,65 @@
 	retq
 	hex_end	faster_hex_1_0_0_x86_64_core_backend_Backend_decode_named
 	hex_cfi	endproc
+	hex_function	faster_hex_1_0_0_x86_64_core_backend_Backend_decode_or_find,.text
+	hex_cfi	startproc
+	pushq	%rbp
+	hex_cfi	def_cfa_offset 16
+	pushq	%r15
+	hex_cfi	def_cfa_offset 24
+	pushq	%r14
+	hex_cfi	def_cfa_offset 32
+	pushq	%rbx
+	hex_cfi	def_cfa_offset 40
+	pushq	%rax
+	hex_cfi	def_cfa_offset 48
+	hex_cfi	offset %rbx,-40
+	hex_cfi	offset %r14,-32
+	hex_cfi	offset %r15,-24
+	hex_cfi	offset %rbp,-16
+	movq	%rdx,%r14
+	movq	%rsi,%r15
+	movq	%rdi,%rbx
+	movzbl	%r9b,%ebp
+	cmpq	$193,%rdx
+	jb	4f
+	movq	%r15,%rdi
+	movq	%r14,%rsi
+	movq	%rcx,%rdx
+	movq	%r8,%rcx
+	movl	%ebp,%r8d
+	callq	faster_hex_1_0_0_x86_64_core_backend_Backend_decode_named
+	testb	%al,%al
+	je	4f
+	xorps	%xmm0,%xmm0
+	movups	%xmm0,(%rbx)
+	movq	$0,16(%rbx)
+3:
+	addq	$8,%rsp
+	hex_cfi	def_cfa_offset 40
+	popq	%rbx
+	hex_cfi	def_cfa_offset 32
+	popq	%r14
+	hex_cfi	def_cfa_offset 24
+	popq	%r15
+	hex_cfi	def_cfa_offset 16
+	popq	%rbp
+	hex_cfi	def_cfa_offset 8
+	retq
+4:
+	hex_cfi	def_cfa_offset 48
+	movq	%r15,%rdi
+	movq	%r14,%rsi
+	movl	%ebp,%edx
+	callq	faster_hex_1_0_0_x86_64_core_backend_Backend_first_bad
+	movq	$1,(%rbx)
+	movq	%rax,8(%rbx)
+	movb	%dl,16(%rbx)
+	movl	$0,17(%rbx)
+	movl	$0,20(%rbx)
+	jmp	3b
+	hex_end	faster_hex_1_0_0_x86_64_core_backend_Backend_decode_or_find
+	hex_cfi	endproc
 	hex_function	faster_hex_1_0_0_x86_64_core_backend_Backend_first_bad,.text.unlikely
 	hex_cfi	startproc
 	pushq	%r15
@@ -276,7 +335,7 @@
 6:
 	cmpq	%rbx,%r15
 	jae	10f
-	leaq	.L100_switch.table.faster_hex_1_0_0_x86_64_decode_grouped.17(%rip),%rax
+	leaq	.L100_switch.table.faster_hex_1_0_0_x86_64_decode_grouped.16(%rip),%rax
 	movq	(%rax,%r12,8),%rax
 	.p2align	4
 8:
@@ -302,22 +361,6 @@
 	hex_cfi	def_cfa_offset 8
 	retq
 	hex_end	faster_hex_1_0_0_x86_64_core_backend_Backend_first_bad
-	hex_cfi	endproc
-	hex_function	faster_hex_1_0_0_x86_64_core_slices_no_room,.text.unlikely
-	hex_cfi	startproc
-	movq	%rsi,%rax
-	shrq	$63,%rax
-	leaq	(%rax,%rax,2),%rax
-	incq	%rax
-	xorl	%ecx,%ecx
-	testq	%rsi,%rsi
-	cmovgq	%rsi,%rcx
-	addq	%rcx,%rcx
-	movq	%rax,(%rdi)
-	movq	%rcx,8(%rdi)
-	movq	$0,16(%rdi)
-	retq
-	hex_end	faster_hex_1_0_0_x86_64_core_slices_no_room
 	hex_cfi	endproc
 	hex_function	faster_hex_1_0_0_x86_64_core_scalar_encode_by_table,.text
 	hex_cfi	startproc
@@ -407,7 +450,7 @@
 	cmpq	%r14,%rbx
 	jae	12f
 8:
-	leaq	.L100_switch.table.faster_hex_1_0_0_x86_64_decode_grouped.17(%rip),%rax
+	leaq	.L100_switch.table.faster_hex_1_0_0_x86_64_decode_grouped.16(%rip),%rax
 	movq	(%rax,%r12,8),%rax
 	.p2align	4
 9:
@@ -443,42 +486,67 @@
 	hex_cfi	startproc
 	pushq	%rbp
 	hex_cfi	def_cfa_offset 16
-	pushq	%r14
+	pushq	%r15
 	hex_cfi	def_cfa_offset 24
-	pushq	%rbx
+	pushq	%r14
 	hex_cfi	def_cfa_offset 32
-	hex_cfi	offset %rbx,-32
-	hex_cfi	offset %r14,-24
+	pushq	%r12
+	hex_cfi	def_cfa_offset 40
+	pushq	%rbx
+	hex_cfi	def_cfa_offset 48
+	subq	$32,%rsp
+	hex_cfi	def_cfa_offset 80
+	hex_cfi	offset %rbx,-48
+	hex_cfi	offset %r12,-40
+	hex_cfi	offset %r14,-32
+	hex_cfi	offset %r15,-24
 	hex_cfi	offset %rbp,-16
-	movq	%rsi,%rbx
-	testb	$1,%bl
-	jne	4f
-	movq	%rcx,%rax
-	movq	%rbx,%rcx
-	shrq	%rcx
-	cmpq	%rcx,%rax
-	jb	4f
-	movq	%rdi,%r14
+	movq	%rsi,%r14
+	testb	$1,%r14b
+	jne	5f
+	movq	%r14,%r12
+	shrq	%r12
+	cmpq	%r12,%rcx
+	jb	5f
+	movq	%rdx,%rbx
+	movq	%rdi,%r15
 	movzbl	%r8b,%ebp
-	movq	%rbx,%rsi
+	cmpq	$193,%r14
+	jae	4f
+	movq	%r15,%rdi
+	movq	%r14,%rsi
+	movq	%rbx,%rdx
+	movq	%r12,%rcx
 	movl	%ebp,%r8d
 	callq	faster_hex_1_0_0_x86_64_core_backend_Backend_decode_named
 	testb	%al,%al
-	je	3f
+	jne	6f
+4:
+	leaq	8(%rsp),%rdi
+	movq	%r15,%rsi
+	movq	%r14,%rdx
+	movq	%rbx,%rcx
+	movq	%r12,%r8
+	movl	%ebp,%r9d
+	callq	faster_hex_1_0_0_x86_64_core_backend_Backend_decode_or_find
+	cmpb	$0,8(%rsp)
+	jne	5f
+6:
+	addq	$32,%rsp
+	hex_cfi	def_cfa_offset 48
 	popq	%rbx
-	hex_cfi	def_cfa_offset 24
+	hex_cfi	def_cfa_offset 40
+	popq	%r12
+	hex_cfi	def_cfa_offset 32
 	popq	%r14
+	hex_cfi	def_cfa_offset 24
+	popq	%r15
 	hex_cfi	def_cfa_offset 16
 	popq	%rbp
 	hex_cfi	def_cfa_offset 8
 	retq
-3:
-	hex_cfi	def_cfa_offset 32
-	movq	%r14,%rdi
-	movq	%rbx,%rsi
-	movl	%ebp,%edx
-	callq	faster_hex_1_0_0_x86_64_core_backend_Backend_first_bad
-4:
+5:
+	hex_cfi	def_cfa_offset 80
 	ud2
 	hex_end	faster_hex_1_0_0_x86_64_codec_pieces_read_long_piece
 	hex_cfi	endproc
@@ -499,70 +567,138 @@
 	retq
 	hex_end	faster_hex_1_0_0_x86_64_check
 	hex_cfi	endproc
+	hex_export	faster_hex_1_0_0_x86_64_check_lower
+	hex_cfi	startproc
+	endbr64
+	pushq	%rax
+	hex_cfi	def_cfa_offset 16
+	xorl	%eax,%eax
+	testq	%rdi,%rdi
+	sete	%al
+	shll	$12,%eax
+	addq	%rax,%rdi
+	movl	$1,%edx
+	callq	faster_hex_1_0_0_x86_64_core_scalar_check_by_table
+	popq	%rcx
+	hex_cfi	def_cfa_offset 8
+	retq
+	hex_end	faster_hex_1_0_0_x86_64_check_lower
+	hex_cfi	endproc
+	hex_export	faster_hex_1_0_0_x86_64_check_upper
+	hex_cfi	startproc
+	endbr64
+	pushq	%rax
+	hex_cfi	def_cfa_offset 16
+	xorl	%eax,%eax
+	testq	%rdi,%rdi
+	sete	%al
+	shll	$12,%eax
+	addq	%rax,%rdi
+	movl	$2,%edx
+	callq	faster_hex_1_0_0_x86_64_core_scalar_check_by_table
+	popq	%rcx
+	hex_cfi	def_cfa_offset 8
+	retq
+	hex_end	faster_hex_1_0_0_x86_64_check_upper
+	hex_cfi	endproc
 	hex_export	faster_hex_1_0_0_x86_64_decode
 	hex_cfi	startproc
 	endbr64
-	pushq	%r15
-	hex_cfi	def_cfa_offset 16
-	pushq	%r14
-	hex_cfi	def_cfa_offset 24
-	pushq	%rbx
-	hex_cfi	def_cfa_offset 32
-	hex_cfi	offset %rbx,-32
-	hex_cfi	offset %r14,-24
-	hex_cfi	offset %r15,-16
-	xorl	%r10d,%r10d
-	testq	%rdi,%rdi
-	sete	%bl
 	xorl	%r9d,%r9d
-	testq	%rdx,%rdx
+	testq	%rdi,%rdi
 	sete	%r11b
+	xorl	%r8d,%r8d
+	testq	%rdx,%rdx
+	sete	%r10b
 	testb	$1,%sil
 	jne	1f
 	movq	%rsi,%rax
 	shrq	%rax
-	movl	$2,%r8d
 	cmpq	%rax,%rcx
-	jb	6f
-	movb	%bl,%r10b
-	shll	$12,%r10d
-	addq	%r10,%rdi
+	jae	3f
+	movl	$2,%edx
+	retq
+1:
+	movl	$1,%edx
+	xorl	%eax,%eax
+	retq
+3:
+	pushq	%r15
+	hex_cfi	def_cfa_offset 16
+	pushq	%r14
+	hex_cfi	def_cfa_offset 24
+	pushq	%r12
+	hex_cfi	def_cfa_offset 32
+	pushq	%rbx
+	hex_cfi	def_cfa_offset 40
+	subq	$24,%rsp
+	hex_cfi	def_cfa_offset 64
+	hex_cfi	offset %rbx,-40
+	hex_cfi	offset %r12,-32
+	hex_cfi	offset %r14,-24
+	hex_cfi	offset %r15,-16
 	movb	%r11b,%r9b
 	shll	$12,%r9d
-	addq	%r9,%rdx
-	movq	%rdi,%r14
-	movq	%rsi,%rbx
-	movq	%rax,%r15
+	addq	%r9,%rdi
+	movb	%r10b,%r8b
+	shll	$12,%r8d
+	addq	%r8,%rdx
+	cmpq	$192,%rsi
+	ja	6f
+	movq	%rdi,%rbx
+	movq	%rsi,%r14
+	movq	%rdx,%r15
 	movq	%rax,%rcx
 	xorl	%r8d,%r8d
+	movq	%rax,%r12
 	callq	faster_hex_1_0_0_x86_64_core_backend_Backend_decode_named
-	testb	%al,%al
-	je	5f
-	movq	%r15,%rax
-	xorl	%r8d,%r8d
-	jmp	6f
-1:
-	movl	$1,%r8d
-	xorl	%eax,%eax
+	movq	%rbx,%rdi
+	movq	%r14,%rsi
+	movq	%r15,%rdx
+	movl	%eax,%ecx
+	movq	%r12,%rax
+	testb	%cl,%cl
+	je	6f
+	xorl	%edx,%edx
+	jmp	11f
 6:
-	movq	%r8,%rdx
+	movq	%rsp,%rcx
+	movq	%rdi,%r8
+	movq	%rcx,%rdi
+	movq	%rsi,%r9
+	movq	%r8,%rsi
+	movq	%rdx,%rcx
+	movq	%r9,%rdx
+	movq	%rax,%rbx
+	movq	%rax,%r8
+	xorl	%r9d,%r9d
+	callq	faster_hex_1_0_0_x86_64_core_backend_Backend_decode_or_find
+	cmpb	$0,(%rsp)
+	je	7f
+	movq	8(%rsp),%rax
+	movzbl	16(%rsp),%edx
+	shll	$8,%edx
+	orq	$3,%rdx
+	jmp	11f
+7:
+	xorl	%edx,%edx
+	movq	%rbx,%rax
+11:
+	addq	$24,%rsp
+	hex_cfi	def_cfa_offset 40
 	popq	%rbx
+	hex_cfi	def_cfa_offset 32
+	popq	%r12
 	hex_cfi	def_cfa_offset 24
 	popq	%r14
 	hex_cfi	def_cfa_offset 16
 	popq	%r15
 	hex_cfi	def_cfa_offset 8
+	hex_cfi	restore %rbx
+	hex_cfi	restore %r12
+	hex_cfi	restore %r14
+	hex_cfi	restore %r15
 	retq
-5:
-	hex_cfi	def_cfa_offset 32
-	movq	%r14,%rdi
-	movq	%rbx,%rsi
-	xorl	%edx,%edx
-	callq	faster_hex_1_0_0_x86_64_core_backend_Backend_first_bad
-	movzbl	%dl,%r8d
-	shll	$8,%r8d
-	orq	$3,%r8
-	jmp	6b
 	hex_end	faster_hex_1_0_0_x86_64_decode
 	hex_cfi	endproc
 	hex_export	faster_hex_1_0_0_x86_64_decode_16
@@ -630,13 +766,24 @@
 	endbr64
 	pushq	%rbx
 	hex_cfi	def_cfa_offset 16
-	subq	$32,%rsp
-	hex_cfi	def_cfa_offset 48
 	hex_cfi	offset %rbx,-16
+	movq	%rsi,%rbx
 	shrq	%rcx
-	cmpq	%rsi,%rcx
-	jb	2f
 	xorl	%eax,%eax
+	cmpq	%rsi,%rcx
+	jae	1f
+	testq	%rbx,%rbx
+	cmovgq	%rbx,%rax
+	shrq	$63,%rbx
+	leaq	2(,%rbx,2),%rdx
+	movq	%rax,%rbx
+	addq	%rbx,%rbx
+	movq	%rbx,%rax
+	popq	%rbx
+	hex_cfi	def_cfa_offset 8
+	retq
+1:
+	hex_cfi	def_cfa_offset 16
 	testq	%rdx,%rdx
 	sete	%al
 	shll	$12,%eax
@@ -646,65 +793,15 @@
 	sete	%dl
 	shll	$12,%edx
 	addq	%rdi,%rdx
-	leaq	(%rsi,%rsi),%rbx
 	movzbl	%r8b,%ecx
 	andl	$1,%ecx
 	movq	%rdx,%rdi
+	movq	%rbx,%rsi
 	movq	%rax,%rdx
 	callq	faster_hex_1_0_0_x86_64_core_scalar_encode_by_table
 	xorl	%edx,%edx
+	addq	%rbx,%rbx
 	movq	%rbx,%rax
-	addq	$32,%rsp
-	hex_cfi	def_cfa_offset 16
-	popq	%rbx
-	hex_cfi	def_cfa_offset 8
-	retq
-2:
-	hex_cfi	def_cfa_offset 48
-	leaq	8(%rsp),%rdi
-	callq	faster_hex_1_0_0_x86_64_core_slices_no_room
-	movzbl	8(%rsp),%eax
-	cmpl	$2,%eax
-	jg	6f
-	movq	16(%rsp),%rbx
-	testl	%eax,%eax
-	je	8f
-	cmpl	$1,%eax
-	jne	9f
-	movl	$2,%edx
-	movq	%rbx,%rax
-	addq	$32,%rsp
-	hex_cfi	def_cfa_offset 16
-	popq	%rbx
-	hex_cfi	def_cfa_offset 8
-	retq
-6:
-	hex_cfi	def_cfa_offset 48
-	addl	$-4,%eax
-	cmpl	$2,%eax
-	jae	7f
-9:
-	movl	$4,%edx
-	jmp	10f
-8:
-	movq	24(%rsp),%rax
-	shll	$8,%eax
-	movzwl	%ax,%edx
-	orq	$3,%rdx
-	movq	%rbx,%rax
-	addq	$32,%rsp
-	hex_cfi	def_cfa_offset 16
-	popq	%rbx
-	hex_cfi	def_cfa_offset 8
-	retq
-7:
-	hex_cfi	def_cfa_offset 48
-	movl	$1,%edx
-10:
-	xorl	%ebx,%ebx
-	movq	%rbx,%rax
-	addq	$32,%rsp
-	hex_cfi	def_cfa_offset 16
 	popq	%rbx
 	hex_cfi	def_cfa_offset 8
 	retq
@@ -1367,7 +1464,7 @@
 	movq	%rax,%rcx
 	shrq	%rcx
 	je	39f
-	leaq	.L100_switch.table.faster_hex_1_0_0_x86_64_decode_grouped.17(%rip),%r8
+	leaq	.L100_switch.table.faster_hex_1_0_0_x86_64_decode_grouped.16(%rip),%r8
 	movq	(%r8,%r12,8),%r8
 	movq	40(%rsp),%r10
 	addq	%rbx,%r10
@@ -1545,7 +1642,7 @@
 	testq	%rcx,%rcx
 	movq	32(%rsp),%rdx
 	je	66f
-	leaq	.L100_switch.table.faster_hex_1_0_0_x86_64_decode_grouped.17(%rip),%rax
+	leaq	.L100_switch.table.faster_hex_1_0_0_x86_64_decode_grouped.16(%rip),%rax
 	movq	(%rax,%rdx,8),%rax
 	movzbl	(%rbp),%edx
 	movzbl	(%rax,%rdx),%edx
@@ -1696,14 +1793,17 @@
 	hex_cfi	def_cfa_offset 16
 	pushq	%r14
 	hex_cfi	def_cfa_offset 24
-	pushq	%r12
+	pushq	%r13
 	hex_cfi	def_cfa_offset 32
-	pushq	%rbx
+	pushq	%r12
 	hex_cfi	def_cfa_offset 40
-	pushq	%rax
+	pushq	%rbx
 	hex_cfi	def_cfa_offset 48
-	hex_cfi	offset %rbx,-40
-	hex_cfi	offset %r12,-32
+	subq	$32,%rsp
+	hex_cfi	def_cfa_offset 80
+	hex_cfi	offset %rbx,-48
+	hex_cfi	offset %r12,-40
+	hex_cfi	offset %r13,-32
 	hex_cfi	offset %r14,-24
 	hex_cfi	offset %r15,-16
 	xorl	%r10d,%r10d
@@ -1713,47 +1813,30 @@
 	testq	%rdx,%rdx
 	sete	%r11b
 	cmpb	$2,%r8b
-	ja	1f
+	ja	4f
 	testb	$1,%sil
-	jne	3f
+	jne	5f
 	movq	%rsi,%rax
 	shrq	%rax
 	cmpq	%rax,%rcx
-	jae	6f
+	jae	8f
 	movl	$2,%edx
-	jmp	9f
-1:
+	jmp	7f
+4:
 	movl	$5,%edx
-	xorl	%eax,%eax
-	jmp	9f
-3:
+	jmp	6f
+5:
 	movl	$1,%edx
-	xorl	%eax,%eax
-	jmp	9f
 6:
-	movb	%bl,%r10b
-	shll	$12,%r10d
-	addq	%r10,%rdi
-	movb	%r11b,%r9b
-	shll	$12,%r9d
-	addq	%r9,%rdx
-	movzbl	%r8b,%ebx
-	movq	%rdi,%r15
-	movq	%rsi,%r14
-	movq	%rax,%r12
-	movq	%rax,%rcx
-	movl	%ebx,%r8d
-	callq	faster_hex_1_0_0_x86_64_core_backend_Backend_decode_named
-	testb	%al,%al
-	je	8f
-	xorl	%edx,%edx
-	movq	%r12,%rax
-9:
-	addq	$8,%rsp
-	hex_cfi	def_cfa_offset 40
+	xorl	%eax,%eax
+7:
+	addq	$32,%rsp
+	hex_cfi	def_cfa_offset 48
 	popq	%rbx
-	hex_cfi	def_cfa_offset 32
+	hex_cfi	def_cfa_offset 40
 	popq	%r12
+	hex_cfi	def_cfa_offset 32
+	popq	%r13
 	hex_cfi	def_cfa_offset 24
 	popq	%r14
 	hex_cfi	def_cfa_offset 16
@@ -1761,15 +1844,55 @@
 	hex_cfi	def_cfa_offset 8
 	retq
 8:
-	hex_cfi	def_cfa_offset 48
-	movq	%r15,%rdi
-	movq	%r14,%rsi
-	movl	%ebx,%edx
-	callq	faster_hex_1_0_0_x86_64_core_backend_Backend_first_bad
-	movzbl	%dl,%edx
+	hex_cfi	def_cfa_offset 80
+	movb	%bl,%r10b
+	shll	$12,%r10d
+	addq	%r10,%rdi
+	movb	%r11b,%r9b
+	shll	$12,%r9d
+	addq	%r9,%rdx
+	movzbl	%r8b,%ebx
+	cmpq	$192,%rsi
+	ja	11f
+	movq	%rdi,%r14
+	movq	%rsi,%r15
+	movq	%rdx,%r12
+	movq	%rax,%rcx
+	movl	%ebx,%r8d
+	movq	%rax,%r13
+	callq	faster_hex_1_0_0_x86_64_core_backend_Backend_decode_named
+	movq	%r14,%rdi
+	movq	%r15,%rsi
+	movq	%r12,%rdx
+	movl	%eax,%ecx
+	movq	%r13,%rax
+	testb	%cl,%cl
+	je	11f
+	xorl	%edx,%edx
+	jmp	7b
+11:
+	leaq	8(%rsp),%rcx
+	movq	%rdi,%r8
+	movq	%rcx,%rdi
+	movq	%rsi,%r9
+	movq	%r8,%rsi
+	movq	%rdx,%rcx
+	movq	%r9,%rdx
+	movq	%rax,%r14
+	movq	%rax,%r8
+	movl	%ebx,%r9d
+	callq	faster_hex_1_0_0_x86_64_core_backend_Backend_decode_or_find
+	cmpb	$0,8(%rsp)
+	je	13f
+	movq	16(%rsp),%rax
+	movzbl	24(%rsp),%edx
 	shll	$8,%edx
 	orq	$3,%rdx
-	jmp	9b
+	jmp	7b
+13:
+	xorl	%edx,%edx
+	movq	%r14,%rax
+	jmp	7b
 	hex_end	faster_hex_1_0_0_x86_64_decode_with_case
 	hex_cfi	endproc
 	hex_export	faster_hex_1_0_0_x86_64_first_invalid
@@ -1840,9 +1963,9 @@
 	hex_constant	.L100_static.9
 .L100_static.9:
 	.ascii	"000102030405060708090a0b0c0d0e0f101112131415161718191a1b1c1d1e1f202122232425262728292a2b2c2d2e2f303132333435363738393a3b3c3d3e3f404142434445464748494a4b4c4d4e4f505152535455565758595a5b5c5d5e5f606162636465666768696a6b6c6d6e6f707172737475767778797a7b7c7d7e7f808182838485868788898a8b8c8d8e8f909192939495969798999a9b9c9d9e9fa0a1a2a3a4a5a6a7a8a9aaabacadaeafb0b1b2b3b4b5b6b7b8b9babbbcbdbebfc0c1c2c3c4c5c6c7c8c9cacbcccdcecfd0d1d2d3d4d5d6d7d8d9dadbdcdddedfe0e1e2e3e4e5e6e7e8e9eaebecedeeeff0f1f2f3f4f5f6f7f8f9fafbfcfdfeff"
-	hex_addresses	.L100_switch.table.faster_hex_1_0_0_x86_64_decode_grouped.17
+	hex_addresses	.L100_switch.table.faster_hex_1_0_0_x86_64_decode_grouped.16
 	.p2align	3,0x0
-.L100_switch.table.faster_hex_1_0_0_x86_64_decode_grouped.17:
+.L100_switch.table.faster_hex_1_0_0_x86_64_decode_grouped.16:
 	.quad	.L100_static.3
 	.quad	.L100_static.4
 	.quad	.L100_static.5

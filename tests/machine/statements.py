@@ -1,4 +1,4 @@
-"""What is shown of the calls of faster_hex.h and of those for arrays, of one length."""
+"""What is shown of the calls of faster_hex.h and of those for Rust, of one length."""
 import operator
 
 import z3
@@ -15,6 +15,9 @@ CALLS = {
     "encode": "source length destination room upper", "decode": "source length destination room",
     "decode_with_case": "source length destination room policy",
 }
+# What Rust calls beside, with its policy.
+POLICIES = {"check_lower": 1, "check_upper": 2}
+CALLS |= dict.fromkeys(POLICIES, "source length")
 # With the lengths of their sources.
 ARRAYS = {f"decode_{it}": 2 * it for it in (16, 20, 32, 64)}
 CALLS |= dict.fromkeys(ARRAYS, "source destination")
@@ -130,6 +133,6 @@ class Shown:
 
 def shown(image, build, call, length):
     """A call of one length under each policy, and under any that is none, or in both cases of letters."""
-    for policy in range(OTHER + 1 if "policy" in CALLS[call] else 1):
+    for policy in range(OTHER + 1) if "policy" in CALLS[call] else [POLICIES.get(call, 0)]:
         for is_upper in (False, True) if "upper" in CALLS[call] else (False,):
             yield Shown(image, build, call, length, policy, is_upper)

@@ -76,7 +76,8 @@ macro_rules! calls {
 
 calls! {
     check(src: *const u8, len: usize) -> bool;
-    check_with_case(src: *const u8, len: usize, policy: u8) -> bool;
+    check_lower(src: *const u8, len: usize) -> bool;
+    check_upper(src: *const u8, len: usize) -> bool;
     encode(src: *const u8, len: usize, dst: *mut u8, room: usize, upper: bool) -> Answer;
     decode(src: *const u8, len: usize, dst: *mut u8, room: usize) -> Answer;
     decode_with_case(src: *const u8, len: usize, dst: *mut u8, room: usize, policy: u8) -> Answer;

@@ -56,13 +56,13 @@ fn error_of(answer: Answer) -> Error {
 /// Whether every byte is a digit by the policy.
 #[inline]
 pub fn check(src: &[u8], case: CheckCase) -> bool {
-    // SAFETY: the pointer is good for reading the slice's length, and the call only reads there.
-    unsafe {
-        match case {
-            CheckCase::None => builds::check(src.as_ptr(), src.len()),
-            _ => builds::check_with_case(src.as_ptr(), src.len(), number_of(case)),
-        }
-    }
+    let call = match case {
+        CheckCase::None => builds::check,
+        CheckCase::Lower => builds::check_lower,
+        CheckCase::Upper => builds::check_upper,
+    };
+    // SAFETY: the pointer is good for reading the slice's length, and each call only reads there.
+    unsafe { call(src.as_ptr(), src.len()) }
 }
 
 /// Writes the digits of `src` to the front of `dst`, and returns how many.

@@ -1,9 +1,10 @@
 //! Each status once, and that a refusal leaves the destination unchanged.
 
 use crate::{
-    Answer, faster_hex_check, faster_hex_check_with_case, faster_hex_decode,
-    faster_hex_decode_grouped, faster_hex_decode_with_case, faster_hex_encode,
-    faster_hex_encode_grouped, faster_hex_first_invalid,
+    Answer, faster_hex_check, faster_hex_check_lower, faster_hex_check_upper,
+    faster_hex_check_with_case, faster_hex_decode, faster_hex_decode_grouped,
+    faster_hex_decode_with_case, faster_hex_encode, faster_hex_encode_grouped,
+    faster_hex_first_invalid,
 };
 
 // A number, a status and a byte.
@@ -61,6 +62,10 @@ fn statuses_of_encoding_and_of_a_search(rt: HostRuntime) {
         && finds(b"g", 7, (0, 5, 0))
         && faster_hex_check(b"00aB0")
         && !faster_hex_check(b"00ag")
+        && faster_hex_check_lower(b"0ab")
+        && !faster_hex_check_lower(b"0aB")
+        && faster_hex_check_upper(b"0AB")
+        && !faster_hex_check_upper(b"0aB")
         && faster_hex_check_with_case(b"aB", 0)
         && faster_hex_check_with_case(b"ab", 1)
         && !faster_hex_check_with_case(b"aB", 1)

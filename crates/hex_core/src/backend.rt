@@ -8,11 +8,11 @@ ghost use Rattle.hex_core.specs.Text.{text};
 ghost use Rattle.hex_core.specs.inside.Blocks.{DecodesAt, HasRoom};
 
 use crate::digit::CheckCase;
-use crate::digit_lanes::{Hashed, Interleaved, Multiplied, Saturating};
+use crate::digit_lanes::{Hashed, Interleaved, Saturating};
 use crate::kernel::{decode_or_nothing, encode_blocks};
 use crate::lane_probe::check_lanes;
 use crate::plain::{check_by_length, decode_by_length, encode_by_length};
-use crate::registers::{decode_four, decode_two, encode_two};
+use crate::registers::{decode_four, decode_two};
 use crate::scalar::{check_by_table, decode_by_table, encode_by_table};
 
 /// The name of a plan, by which its bodies are chosen.
@@ -66,7 +66,7 @@ impl Backend {
         Backend(Kind::Plain)
     }
 
-    /// Returns a plan that differs from [`Backend::plain`] only in how it encodes more than 32
+    /// Returns a plan that differs from [`Backend::plain`] only in how it encodes more than 128
     /// bytes, which is faster in a build for vectors of 32 bytes, and slower in others. Its name
     /// is `wide`.
     ///
@@ -138,10 +138,10 @@ impl Backend {
         ensures text { dst.new ≡ text upper src.now }
     {
         match (self.0, src.len()) {
-            // Others between would keep `encode` from being inlined.
-            (Kind::Wide, 33..=64) => encode_two::<Multiplied, 32, 64>(src, dst, upper),
-            (Kind::Wide, 129..) => encode_blocks::<Multiplied, 32, 64>(src, dst, upper),
-            (Kind::Plain | Kind::Wide, _) => encode_by_length(src, dst, upper),
+            (Kind::Plain | Kind::Wide, _) => {
+                let wide = matches!(self.0, Kind::Wide);
+                encode_by_length(src, dst, upper, wide)
+            }
             (Kind::Scalar, _) | (_, 0..8) => encode_by_table(src, dst, upper),
             (_, 8..16) => encode_blocks::<Interleaved, 8, 16>(src, dst, upper),
             (Kind::Sse41 | Kind::Neon, _) | (_, 16..32) => encode_blocks::<Interleaved, 16, 32>(

@@ -38,7 +38,7 @@ fn reach_of(src: &[u8], at: usize, count: usize, case: CheckCase) -> u8x64
 
 /// Returns whether `src`, a block or more, is valid. Tests run after run, and then the remaining
 /// whole blocks and the last block at once.
-#[inline(never)]
+#[inline(always)]
 pub fn check_runs(src: &[u8], case: CheckCase) -> bool
     requires { 64 ≤ length src.now }
     ensures { IsTrue result ↔ (first_invalid case src.now ≡ None) }
@@ -100,7 +100,7 @@ where
 }
 
 /// Decodes a block or more of valid digits over all of `dst`.
-#[inline(never)]
+#[inline(always)]
 pub fn write_blocks<M, const N: usize, const HALF: usize>(
     src: &[u8],
     dst: &mut [u8],

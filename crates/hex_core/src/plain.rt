@@ -8,7 +8,7 @@ ghost use Rattle.hex_core.specs.Search.{first_invalid};
 ghost use Rattle.hex_core.specs.Text.{text};
 
 use crate::digit::CheckCase;
-use crate::digit_lanes::Interleaved;
+use crate::digit_lanes::{Interleaved, Multiplied};
 use crate::kernel::{check_runs, decode_long, encode_blocks};
 use crate::registers::{
     check_three, check_two, decode_ends, decode_four, decode_three, decode_two, encode_four,
@@ -22,13 +22,14 @@ pub fn check_by_length(src: &[u8], case: CheckCase) -> bool
 {
     match src.len() {
         0..=64 => check_few(src, case),
-        65..=128 => check_two::<64>(src, case),
+        65..=96 => check_three::<32>(src, case),
+        97..=128 => check_two::<64>(src, case),
         129..=192 => check_three::<64>(src, case),
-        _ => check_runs(src, case),
+        _ => check_long(src, case),
     }
 }
 
-// The same for at most 64 bytes. A `match` tests for the shortest first.
+// The same for at most 64 bytes, apart, so that a longer source passes one test before its own.
 #[inline(always)]
 fn check_few(src: &[u8], case: CheckCase) -> bool
     requires { length src.now ≤ 64 }
@@ -56,6 +57,18 @@ fn check_short(src: &[u8], case: CheckCase) -> bool
     }
 }
 
+// The same for a block or more, apart: its loops are too long to be inlined in each caller.
+#[inline(never)]
+fn check_long(src: &[u8], case: CheckCase) -> bool
+    requires { 64 ≤ length src.now }
+    ensures { IsTrue result ↔ (first_invalid case src.now ≡ None) }
+{
+    check_runs(src, case)
+}
+
+/// The most digits that [`decode_by_length`] decodes without a call.
+pub const MOST_INLINE: usize = 192;
+
 /// Decodes `src` over all of `dst`, or returns false and writes nothing. Up to 192 digits are
 /// decoded inline, so that a length known to the caller needs no choice at run time.
 #[inline(always)]
@@ -67,8 +80,7 @@ pub fn decode_by_length(src: &[u8], dst: &mut [u8], case: CheckCase) -> bool
         0..=64 => decode_few(src, dst, case),
         65..=128 => decode_two::<64, 32>(src, dst, case),
         129..=192 => decode_three::<64, 32>(src, dst, case),
-        193..=256 => decode_in_registers(src, dst, case),
-        _ => decode_long(src, dst, case),
+        _ => decode_apart(src, dst, case),
     }
 }
 
@@ -101,32 +113,47 @@ fn decode_short(src: &[u8], dst: &mut [u8], case: CheckCase) -> bool
     }
 }
 
-// The same for 193 to 256 digits, apart: with its blocks in it, `decode_by_length` would not be
+// The same for more than 128 digits, apart: with its blocks in it, `decode_by_length` would not be
 // inlined.
 #[inline(never)]
-fn decode_in_registers(src: &[u8], dst: &mut [u8], case: CheckCase) -> bool
+fn decode_apart(src: &[u8], dst: &mut [u8], case: CheckCase) -> bool
     requires twice { length src.now ≡ 2 * length dst.old }
-    requires more { 128 ≤ length src.now }
-    requires most { length src.now ≤ 256 }
+    requires more { 128 < length src.now }
     ensures { DecodesWhole case src.now dst.old dst.new result }
 {
-    decode_four::<64, 32>(src, dst, case)
+    match src.len() {
+        0..=256 => decode_four::<64, 32>(src, dst, case),
+        _ => decode_long(src, dst, case),
+    }
 }
 
-/// Encodes `src` over all of `dst`.
+/// Encodes `src` over all of `dst`, and if `wide` is true, more than 128 bytes by products.
 #[inline(always)]
-pub fn encode_by_length(src: &[u8], dst: &mut [u8], upper: bool)
+pub fn encode_by_length(src: &[u8], dst: &mut [u8], upper: bool, wide: bool)
     requires { length dst.old ≡ 2 * length src.now }
     ensures { dst.new ≡ text upper src.now }
 {
     match src.len() {
-        0..8 => encode_short(src, dst, upper),
-        8..=16 => encode_two::<Interleaved, 8, 16>(src, dst, upper),
-        32 => encode_one::<Interleaved, 32, 64>(src, dst, upper),
-        17..=31 => encode_two::<Interleaved, 16, 32>(src, dst, upper),
+        0..=32 => encode_few(src, dst, upper),
         33..=64 => encode_two::<Interleaved, 32, 64>(src, dst, upper),
         65..=128 => encode_four::<Interleaved, 32, 64>(src, dst, upper),
+        _ if wide => encode_blocks::<Multiplied, 32, 64>(src, dst, upper),
         _ => encode_blocks::<Interleaved, 32, 64>(src, dst, upper),
+    }
+}
+
+// The same for at most 32 bytes.
+#[inline(always)]
+fn encode_few(src: &[u8], dst: &mut [u8], upper: bool)
+    requires twice { length dst.old ≡ 2 * length src.now }
+    requires few { length src.now ≤ 32 }
+    ensures { dst.new ≡ text upper src.now }
+{
+    match src.len() {
+        32 => encode_one::<Interleaved, 32, 64>(src, dst, upper),
+        0..8 => encode_short(src, dst, upper),
+        8..=16 => encode_two::<Interleaved, 8, 16>(src, dst, upper),
+        _ => encode_two::<Interleaved, 16, 32>(src, dst, upper),
     }
 }
 

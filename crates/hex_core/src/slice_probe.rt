@@ -150,7 +150,7 @@ impl Backend {
     // fill memory with zeros.
     #[cold]
     #[inline(never)]
-    fn first_bad(self, src: &[u8], case: CheckCase) -> (usize, u8)
+    pub(crate) fn first_bad(self, src: &[u8], case: CheckCase) -> (usize, u8)
         requires { first_invalid case src.now ≢ None }
         ensures { first_bad_char case src.now ≡ Some (InvalidChar result.0 result.1) }
     {

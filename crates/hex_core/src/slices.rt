@@ -1,16 +1,20 @@
 //! The slice calls under a plan, for any length: they write to the start of a destination, and can
 //! return the written part.
 
-ghost use Rattle.std.specs.Prelude.{◌≡◌, ◌*◌, ◌<◌, ◌≤◌, ℕ, Some, length, MatchResult};
+ghost use Rattle.std.specs.Prelude.{◌≡◌, ◌≢◌, ◌*◌, ◌<◌, ◌≤◌, ℕ, None, Some, length, MatchOption, MatchResult};
 ghost use Rattle.std.specs.Borrow.{sem};
 ghost use Rattle.hex_core.specs.declared.digit.CheckCase.{CheckCase};
 ghost use Rattle.hex_core.specs.Calls.{Answers, Decodes, DecodesFront, Encodes, EncodesFront};
 ghost use Rattle.hex_core.specs.Loan.{LendsAnswer};
-ghost use Rattle.hex_core.specs.Refusal.{decode_refusal, encode_refusal};
+ghost use Rattle.hex_core.specs.Refusal.{decode_refusal, encode_refusal, first_bad_char};
+ghost use Rattle.hex_core.specs.declared.error.Error.TheVariants.{InvalidChar};
+ghost use Rattle.hex_core.specs.Search.{first_invalid};
+ghost use Rattle.hex_core.specs.Text.{Spells};
 
 use crate::backend::Backend;
 use crate::digit::CheckCase;
 use crate::error::Error;
+use crate::plain::MOST_INLINE;
 
 // The number of bytes that `src` decodes to, or its length's error for `room` bytes.
 #[inline(always)]
@@ -42,8 +46,7 @@ fn encoded_len(src: &[u8], room: usize) -> Result<usize, Error>
 }
 
 // The error of encoding `src` if its digits do not fit.
-#[cold]
-#[inline(never)]
+#[inline(always)]
 fn no_room(src: &[u8]) -> Error
     ensures { (room : ℕ) → room < 2 * length src.now → encode_refusal src.now room ≡ Some result }
 {
@@ -77,10 +80,30 @@ impl Backend {
         ensures answer { Decodes case src.now dst.old dst.new result }
     {
         let required = decoded_len(src, dst.len())?;
-        if !self.decode(src, &mut dst[..required], case) {
-            return Err(self.first_error(src, case));
+        if src.len() <= MOST_INLINE && self.decode(src, &mut dst[..required], case) {
+            return Ok(required);
         }
-        Ok(required)
+        match self.decode_or_find(src, &mut dst[..required], case) {
+            None => Ok(required),
+            Some((index, byte)) => Err(Error::InvalidChar { index, byte }),
+        }
+    }
+
+    // Decodes a longer source over all of `dst`, or finds the first invalid byte of any. What takes
+    // a call is here, so that a short source that is valid needs no stack.
+    #[inline(never)]
+    fn decode_or_find(self, src: &[u8], dst: &mut [u8], case: CheckCase) -> Option<(usize, u8)>
+        requires twice { length src.now ≡ 2 * length dst.old }
+        requires refused { length src.now ≤ MOST_INLINE → first_invalid case src.now ≢ None }
+        ensures { MatchOption result
+            ((first_invalid case src.now ≡ None) × Spells case src.now dst.new)
+            (λ bad. (first_bad_char case src.now ≡ Some (InvalidChar bad.0 bad.1))
+            × (dst.new ≡ dst.old)) }
+    {
+        if src.len() > MOST_INLINE && self.decode(src, dst, case) {
+            return None;
+        }
+        Some(self.first_bad(src, case))
     }
 
     /// Encodes all of `src` into the start of `dst`, in uppercase if `upper` is true, and returns

@@ -21,6 +21,9 @@ use hex_core::{Backend, CheckCase, Error, digit_value};
 // Bytes of a source that are freed of white space at a time.
 const SPACED_BLOCK: usize = 512;
 
+// Bytes that are counted at a time: with fewer, more blocks have no white space, and are not copied.
+const SURVEY_BLOCK: usize = 32;
+
 // How a source is read: under which policy, and whether white space among its digits is skipped.
 #[derive(Clone, Copy, Debug, PartialEq, Eq)]
 struct Reading {
@@ -257,24 +260,24 @@ fn survey(src: &[u8], case: CheckCase) -> (usize, bool)
 {
     let mut count = src.len();
     let mut clean = true;
-    for block in src.chunks(SPACED_BLOCK) {
+    for block in src.chunks(SURVEY_BLOCK) {
         let (more, is_clean) = survey_block(block, case);
         count -= block.len() - more;
-        clean = clean && is_clean;
+        clean &= is_clean;
     }
     (count, clean)
 }
 
 // The same of a block, of which nothing is copied where all is digits.
 fn survey_block(block: &[u8], case: CheckCase) -> (usize, bool)
-    requires { length block.now ≤ SPACED_BLOCK }
+    requires { length block.now ≤ SURVEY_BLOCK }
     ensures count { result.0 ≡ length (unspaced block.now) }
     ensures clean { IsTrue result.1 ↔ (first_stray (spaced case) block.now ≡ None) }
 {
     if Backend::plain().check(block, case) {
         return (block.len(), true);
     }
-    let mut digits = [0; SPACED_BLOCK];
+    let mut digits = [0; SURVEY_BLOCK];
     let count = copy_unspaced(block, &mut digits);
     (count, Backend::plain().check(&digits[..count], case))
 }
@@ -323,10 +326,10 @@ fn decode_block(
 
 // Copies the bytes that are no white space to the start of a block, and returns their number.
 #[tactic(auto, using(std::proofs::lemmas::List::Elements::filter_more))]
-fn copy_unspaced(src: &[u8], block: &mut [u8; SPACED_BLOCK]) -> usize
-    requires { length src.now ≤ SPACED_BLOCK }
+fn copy_unspaced<const N: usize>(src: &[u8], block: &mut [u8; N]) -> usize
+    requires { length src.now ≤ N }
     ensures copied { take result block.new ≡ unspaced src.now }
-    ensures room { result ≤ SPACED_BLOCK }
+    ensures room { result ≤ N }
 {
     let mut count = 0;
     for i in 0..src.len() {

@@ -1,5 +1,5 @@
 -- Half as many bytes hold what so many digits spell.
-use Rattle.std.proofs.Common.{◌≡◌, ◌*◌, ◌+◌, ◌++◌, ◌≤◌, length, arith}
+use Rattle.std.proofs.Common.{◌++◌, ◌≤◌, length, arith}
 use Rattle.hex_io.specs.Decoder.{pairs_more}
 use Rattle.hex_io.specs.Reading.{digits_in}
 use Rattle.hex_io.specs.Stream.{RefusedBy}

@@ -4,4 +4,4 @@ use Rattle.hex_io.specs.Reading.{unspaced}
 use Rattle.hex_io.proofs.stream.decoder.copy_unspaced.Given as goal
 
 abbrev pub invariant-loop-i : goal.invariant-loop-i
-invariant-loop-i l = (l.count ≤ l.i) × (length l.block ≡ 512) × (take l.count l.block ≡ unspaced (take l.i l.src))
+invariant-loop-i g l = (l.count ≤ l.i) × (length l.block ≡ g.row.N) × (take l.count l.block ≡ unspaced (take l.i l.src))
