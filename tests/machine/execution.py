@@ -317,7 +317,7 @@ class Step:
 
     def is_aligned(self, at, count):
         """What movdqa and SSE ask of whole vectors. The stack begins 8 bytes beyond such a place."""
-        if count >= 16 and (self.name == "movdqa" or not self.is_vex and self.name != "movdqu"):
+        if count >= 16 and (self.name == "movdqa" or not self.is_vex and self.name not in ("movdqu", "movups")):
             base, distance = self.machine.place(self.address(at))
             # Of the stack's alignment no more is known than 16 bytes.
             is_known = base is None or base is STACK and count == 16

@@ -38,7 +38,8 @@ LANES = {
     "paddusb": (1, lambda a, b: If(ULT(a + b, a), BitVecVal(255, 8), a + b)),
     "psubusb": (1, lambda a, b: If(ULT(a, b), BitVecVal(0, 8), a - b)), "pmullw": (2, lambda a, b: a * b),
     "pminub": (1, lambda a, b: If(ULT(a, b), a, b)), "pmaxub": (1, lambda a, b: If(ULT(a, b), b, a)),
-    "por": (1, lambda a, b: a | b), "pand": (1, lambda a, b: a & b), "pxor": (1, lambda a, b: a ^ b),
+    "por": (1, lambda a, b: a | b), "pand": (1, lambda a, b: a & b),
+    "pxor": (1, lambda a, b: a ^ b), "xorps": (1, lambda a, b: a ^ b),
     "pcmpeqb": (1, lambda a, b: If(a == b, BitVecVal(255, 8), BitVecVal(0, 8))),
     "pcmpeqd": (4, lambda a, b: If(a == b, BitVecVal(-1, 32), BitVecVal(0, 32))),
 }
@@ -162,7 +163,7 @@ SIZED = (
 HALVES = {"pshufb": shuffle_bytes, "packuswb": pack, "punpcklbw": partial(unpack, 1, 0),
           "punpckhbw": partial(unpack, 1, 8), "punpcklqdq": partial(unpack, 8, 0)}
 SHIFTED = {"psllw": (2, SHIFTS["shl"]), "psrlw": (2, LShR), "psrld": (4, LShR)}
-WRITTEN = {it: lambda step: step.bytes(1, step.size(0)) for it in ("mov", "movdqa", "movdqu")} | {
+WRITTEN = {it: lambda step: step.bytes(1, step.size(0)) for it in ("mov", "movdqa", "movdqu", "movups")} | {
     "movzx": lambda step: step.bytes(1, step.size(1)) + [ZERO] * (step.size(0) - step.size(1)),
     "pop": lambda step: bytes_of(step.pop()),
     "lea": lambda step: bytes_of(step.address(1))[:step.size(0)],

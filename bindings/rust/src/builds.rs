@@ -1,5 +1,5 @@
-//! The calls of `faster_hex.h` by the build that fits the processor. The proved code itself is the assembly
-//! in `generated/`, whose names carry the version, so that two versions can stand in one program.
+//! The calls of `faster_hex.h`, and those for Rust alone, by the build that fits the processor. The proved code
+//! itself is the assembly in `generated/`, whose names carry the version, so that two can stand in one program.
 
 use core::arch::global_asm;
 

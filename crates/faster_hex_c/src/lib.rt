@@ -2,7 +2,7 @@
 //! declares them and says what the caller must ensure: nothing here can check a pointer.
 #![tactic(auto)]
 
-mod arrays;
+mod for_rust;
 #[cfg(test)]
 mod tests;
 
@@ -135,22 +135,6 @@ pub extern "C" fn faster_hex_check(src: &[u8]) -> bool
     ensures { IsTrue result ↔ (first_invalid policy.None src.now ≡ None) }
 {
     plan().check(src, CheckCase::None)
-}
-
-/// The same, of lowercase alone. The Rust crate calls it, since its callers name the policy.
-#[unsafe(no_mangle)]
-pub extern "C" fn faster_hex_check_lower(src: &[u8]) -> bool
-    ensures { IsTrue result ↔ (first_invalid policy.Lower src.now ≡ None) }
-{
-    plan().check(src, CheckCase::Lower)
-}
-
-/// The same, of uppercase alone.
-#[unsafe(no_mangle)]
-pub extern "C" fn faster_hex_check_upper(src: &[u8]) -> bool
-    ensures { IsTrue result ↔ (first_invalid policy.Upper src.now ≡ None) }
-{
-    plan().check(src, CheckCase::Upper)
 }
 
 /// The same under a policy: 0 accepts either case, 1 lowercase, 2 uppercase, any other nothing.

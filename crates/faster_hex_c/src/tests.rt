@@ -1,10 +1,10 @@
 //! Each status once, and that a refusal leaves the destination unchanged.
 
+use crate::for_rust::{faster_hex_check_lower, faster_hex_check_upper};
 use crate::{
-    Answer, faster_hex_check, faster_hex_check_lower, faster_hex_check_upper,
-    faster_hex_check_with_case, faster_hex_decode, faster_hex_decode_grouped,
-    faster_hex_decode_with_case, faster_hex_encode, faster_hex_encode_grouped,
-    faster_hex_first_invalid,
+    Answer, faster_hex_check, faster_hex_check_with_case, faster_hex_decode,
+    faster_hex_decode_grouped, faster_hex_decode_with_case, faster_hex_encode,
+    faster_hex_encode_grouped, faster_hex_first_invalid,
 };
 
 // A number, a status and a byte.

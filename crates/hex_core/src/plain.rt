@@ -29,7 +29,7 @@ pub fn check_by_length(src: &[u8], case: CheckCase) -> bool
     }
 }
 
-// The same for at most 64 bytes, apart, so that a longer source passes one test before its own.
+// The same for at most 64 bytes: a longer source passes one test for all of these.
 #[inline(always)]
 fn check_few(src: &[u8], case: CheckCase) -> bool
     requires { length src.now ≤ 64 }

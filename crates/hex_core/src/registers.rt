@@ -226,7 +226,7 @@ where
     let len = src.len();
     encode_at::<E, N, TWICE>(src, dst, 0, upper);
     encode_at::<E, N, TWICE>(src, dst, N, upper);
-    // A third block is enough if it reaches the second.
+    // Of at most 3 * N bytes the last block reaches the second.
     if len > 3 * N {
         encode_at::<E, N, TWICE>(src, dst, len - 2 * N, upper);
     }

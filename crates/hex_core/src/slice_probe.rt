@@ -146,8 +146,7 @@ impl Backend {
         Error::InvalidChar { index, byte }
     }
 
-    // The index and the byte, which fit registers: for an error, callers that succeed would also
-    // fill memory with zeros.
+    // The index and the byte, which fit registers, as an error would not.
     #[cold]
     #[inline(never)]
     pub(crate) fn first_bad(self, src: &[u8], case: CheckCase) -> (usize, u8)

@@ -89,8 +89,8 @@ impl Backend {
         }
     }
 
-    // Decodes a longer source over all of `dst`, or finds the first invalid byte of any. What takes
-    // a call is here, so that a short source that is valid needs no stack.
+    // Decodes more digits than `MOST_INLINE`, or finds the first invalid byte of any source. Apart,
+    // since a call in `decode_into` may cost short sources a frame.
     #[inline(never)]
     fn decode_or_find(self, src: &[u8], dst: &mut [u8], case: CheckCase) -> Option<(usize, u8)>
         requires twice { length src.now ≡ 2 * length dst.old }

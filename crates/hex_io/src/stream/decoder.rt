@@ -18,7 +18,7 @@ ghost use Rattle.hex_io.specs.inside.{DecodesChunk, DecodesDigits, stray_behind}
 
 use hex_core::{Backend, CheckCase, Error, digit_value};
 
-// Bytes of a source that are freed of white space at a time.
+// Bytes that are decoded at a time, freed of white space.
 const SPACED_BLOCK: usize = 512;
 
 // Bytes that are counted at a time: with fewer, more blocks have no white space, and are not copied.
@@ -258,6 +258,9 @@ fn survey(src: &[u8], case: CheckCase) -> (usize, bool)
     ensures count { result.0 ≡ length (unspaced src.now) }
     ensures clean { IsTrue result.1 ↔ (first_stray (spaced case) src.now ≡ None) }
 {
+    if Backend::plain().check(src, case) {
+        return (src.len(), true);
+    }
     let mut count = src.len();
     let mut clean = true;
     for block in src.chunks(SURVEY_BLOCK) {

@@ -1,14 +1,32 @@
-//! Decoding of exactly 16, 20, 32 and 64 bytes, from digits of either case, for `hex_decode_array`
-//! of the Rust crate: a call whose lengths its type says tests no pointer and no length.
+//! Functions that the Rust crate alone links. `hex_check_with_case` knows its policy, which as a
+//! parameter would be read from a table. `hex_decode_array` knows its lengths: these decode exactly
+//! 16, 20, 32 and 64 bytes, from digits of either case, and test no pointer and no length.
 
-ghost use Rattle.std.specs.Prelude.{◌≡◌, ◌*◌, length};
+ghost use Rattle.std.specs.Prelude.{◌≡◌, ◌↔◌, ◌*◌, IsTrue, None, length};
 ghost use Rattle.hex_core.specs.declared.digit.CheckCase.TheVariants as policy;
 ghost use Rattle.hex_core.specs.Calls.{DecodesWhole};
+ghost use Rattle.hex_core.specs.Search.{first_invalid};
 
 use crate::plan;
 use hex_core::CheckCase;
 
-// The body of all functions here.
+/// Returns whether every byte is a digit, in lowercase.
+#[unsafe(no_mangle)]
+pub extern "C" fn faster_hex_check_lower(src: &[u8]) -> bool
+    ensures { IsTrue result ↔ (first_invalid policy.Lower src.now ≡ None) }
+{
+    plan().check(src, CheckCase::Lower)
+}
+
+/// Returns whether every byte is a digit, in uppercase.
+#[unsafe(no_mangle)]
+pub extern "C" fn faster_hex_check_upper(src: &[u8]) -> bool
+    ensures { IsTrue result ↔ (first_invalid policy.Upper src.now ≡ None) }
+{
+    plan().check(src, CheckCase::Upper)
+}
+
+// The body of all functions below.
 #[inline(always)]
 fn decode_whole(src: &[u8], dst: &mut [u8]) -> bool
     requires { length src.now ≡ 2 * length dst.old }
