@@ -364,7 +364,7 @@
 .L100v3_CPI1_8:
 	.zero	32,10
 .L100v3_CPI1_9:
-	.zero	32,112
+	.zero	32,240
 	hex_merged	4
 	.p2align	2,0x0
 .L100v3_CPI1_10:
@@ -376,143 +376,137 @@
 .L100v3_CPI1_13:
 	.zero	4,10
 .L100v3_CPI1_14:
-	.zero	4,112
-.L100v3_CPI1_15:
 	.zero	4,208
-.L100v3_CPI1_16:
+.L100v3_CPI1_15:
 	.zero	4,4
-.L100v3_CPI1_17:
+.L100v3_CPI1_16:
 	.zero	4,122
-.L100v3_CPI1_18:
+.L100v3_CPI1_17:
 	.zero	4,79
-.L100v3_CPI1_19:
+.L100v3_CPI1_18:
 	.zero	4,201
 	hex_function	faster_hex_1_0_0_x86_64_v3_core_plain_decode_apart,.text
 	hex_cfi	startproc
 	.p2align	5,,10
 	cmpq	$256,%rsi
 	ja	3f
-	vpbroadcastd	.L100v3_CPI1_10(%rip),%ymm2
-	vmovdqu	(%rdi),%ymm0
-	vmovdqu	32(%rdi),%ymm1
-	vmovdqu	64(%rdi),%ymm3
-	vmovdqu	96(%rdi),%ymm4
-	vpaddb	%ymm2,%ymm1,%ymm6
-	vpaddb	%ymm2,%ymm0,%ymm7
-	vpbroadcastd	.L100v3_CPI1_11(%rip),%ymm5
-	vpsubusb	%ymm5,%ymm7,%ymm7
-	vpsubusb	%ymm5,%ymm6,%ymm8
-	vpbroadcastd	.L100v3_CPI1_12(%rip),%ymm6
-	vpaddb	%ymm6,%ymm8,%ymm11
+	vpbroadcastd	.L100v3_CPI1_10(%rip),%ymm0
+	vmovdqu	(%rdi),%ymm1
+	vmovdqu	32(%rdi),%ymm2
+	vmovdqu	64(%rdi),%ymm5
+	vmovdqu	96(%rdi),%ymm6
+	vpaddb	%ymm0,%ymm2,%ymm4
+	vpaddb	%ymm0,%ymm1,%ymm7
+	vpbroadcastd	.L100v3_CPI1_11(%rip),%ymm3
+	vpsubusb	%ymm3,%ymm7,%ymm7
+	vpsubusb	%ymm3,%ymm4,%ymm8
+	vpbroadcastd	.L100v3_CPI1_12(%rip),%ymm4
+	vpaddb	%ymm4,%ymm8,%ymm10
+	vpaddb	%ymm4,%ymm7,%ymm11
 	movzbl	%r8b,%eax
 	leaq	.L100v3_static.0(%rip),%r8
-	vpbroadcastb	(%rax,%r8),%ymm8
-	vpaddb	%ymm6,%ymm7,%ymm7
-	vpor	%ymm1,%ymm8,%ymm1
-	vpor	%ymm0,%ymm8,%ymm0
+	vpbroadcastb	(%rax,%r8),%ymm7
+	vpor	%ymm2,%ymm7,%ymm2
 	leaq	.L100v3_static.1(%rip),%r8
-	vpbroadcastb	(%rax,%r8),%ymm9
-	vpsubb	%ymm9,%ymm0,%ymm0
-	vpsubb	%ymm9,%ymm1,%ymm1
-	vpbroadcastd	.L100v3_CPI1_13(%rip),%ymm10
-	vpaddusb	%ymm1,%ymm10,%ymm1
+	vpbroadcastb	(%rax,%r8),%ymm8
+	vpor	%ymm1,%ymm7,%ymm1
+	vpsubb	%ymm8,%ymm1,%ymm1
+	vpsubb	%ymm8,%ymm2,%ymm2
+	vpbroadcastd	.L100v3_CPI1_13(%rip),%ymm9
+	vpaddusb	%ymm2,%ymm9,%ymm2
+	vpminub	%ymm2,%ymm10,%ymm2
+	vpaddusb	%ymm1,%ymm9,%ymm1
 	vpminub	%ymm1,%ymm11,%ymm1
-	vpaddusb	%ymm0,%ymm10,%ymm0
-	vpminub	%ymm0,%ymm7,%ymm0
-	vpaddb	%ymm2,%ymm4,%ymm7
-	vpaddb	%ymm2,%ymm3,%ymm11
-	vpsubusb	%ymm5,%ymm11,%ymm11
-	vpsubusb	%ymm5,%ymm7,%ymm7
-	vpaddb	%ymm6,%ymm7,%ymm7
-	vpaddb	%ymm6,%ymm11,%ymm11
-	vpor	%ymm4,%ymm8,%ymm4
-	vpor	%ymm3,%ymm8,%ymm3
-	vpsubb	%ymm9,%ymm3,%ymm3
-	vpsubb	%ymm9,%ymm4,%ymm4
-	vpaddusb	%ymm4,%ymm10,%ymm4
-	vpminub	%ymm4,%ymm7,%ymm4
-	vpaddusb	%ymm3,%ymm10,%ymm3
-	vpminub	%ymm3,%ymm11,%ymm3
-	vmovdqu	-128(%rdi,%rsi),%ymm7
+	vpaddb	%ymm0,%ymm6,%ymm10
+	vpaddb	%ymm0,%ymm5,%ymm11
+	vpsubusb	%ymm3,%ymm11,%ymm11
+	vpsubusb	%ymm3,%ymm10,%ymm10
+	vpaddb	%ymm4,%ymm10,%ymm10
+	vpaddb	%ymm4,%ymm11,%ymm11
+	vpor	%ymm7,%ymm6,%ymm6
+	vpor	%ymm7,%ymm5,%ymm5
+	vpsubb	%ymm8,%ymm5,%ymm5
+	vpsubb	%ymm8,%ymm6,%ymm6
+	vpaddusb	%ymm6,%ymm9,%ymm6
+	vpminub	%ymm6,%ymm10,%ymm6
+	vpaddusb	%ymm5,%ymm9,%ymm5
+	vpminub	%ymm5,%ymm11,%ymm5
+	vmovdqu	-128(%rdi,%rsi),%ymm10
 	vmovdqu	-96(%rdi,%rsi),%ymm11
 	vmovdqu	-64(%rdi,%rsi),%ymm12
 	vmovdqu	-32(%rdi,%rsi),%ymm13
-	vpaddb	%ymm2,%ymm7,%ymm14
-	vpaddb	%ymm2,%ymm11,%ymm15
-	vpsubusb	%ymm5,%ymm15,%ymm15
-	vpsubusb	%ymm5,%ymm14,%ymm14
-	vpaddb	%ymm6,%ymm14,%ymm14
-	vpaddb	%ymm6,%ymm15,%ymm15
-	vpor	%ymm7,%ymm8,%ymm7
-	vpor	%ymm8,%ymm11,%ymm11
-	vpsubb	%ymm9,%ymm11,%ymm11
-	vpsubb	%ymm9,%ymm7,%ymm7
-	vpaddusb	%ymm7,%ymm10,%ymm7
-	vpminub	%ymm7,%ymm14,%ymm7
-	vpaddusb	%ymm10,%ymm11,%ymm11
+	vpaddb	%ymm0,%ymm10,%ymm14
+	vpaddb	%ymm0,%ymm11,%ymm15
+	vpsubusb	%ymm3,%ymm15,%ymm15
+	vpsubusb	%ymm3,%ymm14,%ymm14
+	vpaddb	%ymm4,%ymm14,%ymm14
+	vpaddb	%ymm4,%ymm15,%ymm15
+	vpor	%ymm7,%ymm10,%ymm10
+	vpor	%ymm7,%ymm11,%ymm11
+	vpsubb	%ymm8,%ymm11,%ymm11
+	vpsubb	%ymm8,%ymm10,%ymm10
+	vpaddusb	%ymm9,%ymm10,%ymm10
+	vpminub	%ymm10,%ymm14,%ymm10
+	vpaddusb	%ymm9,%ymm11,%ymm11
 	vpminub	%ymm11,%ymm15,%ymm11
-	vpaddb	%ymm2,%ymm13,%ymm14
-	vpaddb	%ymm2,%ymm12,%ymm2
-	vpsubusb	%ymm5,%ymm2,%ymm2
-	vpsubusb	%ymm5,%ymm14,%ymm5
-	vpaddb	%ymm6,%ymm5,%ymm5
-	vpaddb	%ymm6,%ymm2,%ymm2
-	vpor	%ymm8,%ymm13,%ymm6
-	vpor	%ymm8,%ymm12,%ymm8
-	vpsubb	%ymm9,%ymm8,%ymm8
-	vpsubb	%ymm9,%ymm6,%ymm6
-	vpaddusb	%ymm6,%ymm10,%ymm6
-	vpminub	%ymm6,%ymm5,%ymm5
-	vpaddusb	%ymm10,%ymm8,%ymm6
-	vpminub	%ymm6,%ymm2,%ymm2
-	vpor	%ymm4,%ymm1,%ymm6
-	vpor	%ymm3,%ymm0,%ymm8
-	vpor	%ymm5,%ymm11,%ymm9
-	vpor	%ymm6,%ymm9,%ymm6
-	vpor	%ymm2,%ymm7,%ymm9
-	vpor	%ymm9,%ymm8,%ymm8
-	vpbroadcastd	.L100v3_CPI1_14(%rip),%ymm9
-	vpaddusb	%ymm9,%ymm8,%ymm8
-	vpaddusb	%ymm6,%ymm9,%ymm6
-	vpor	%ymm6,%ymm8,%ymm6
-	vpmovmskb	%ymm6,%eax
-	.p2align	5,,10
-	testl	%eax,%eax
+	vpaddb	%ymm0,%ymm13,%ymm14
+	vpaddb	%ymm0,%ymm12,%ymm0
+	vpsubusb	%ymm3,%ymm0,%ymm0
+	vpsubusb	%ymm3,%ymm14,%ymm3
+	vpaddb	%ymm4,%ymm3,%ymm3
+	vpaddb	%ymm4,%ymm0,%ymm0
+	vpor	%ymm7,%ymm13,%ymm4
+	vpor	%ymm7,%ymm12,%ymm7
+	vpsubb	%ymm8,%ymm7,%ymm7
+	vpsubb	%ymm8,%ymm4,%ymm4
+	vpaddusb	%ymm4,%ymm9,%ymm4
+	vpminub	%ymm4,%ymm3,%ymm3
+	vpaddusb	%ymm7,%ymm9,%ymm4
+	vpminub	%ymm4,%ymm0,%ymm0
+	vpor	%ymm6,%ymm2,%ymm4
+	vpor	%ymm5,%ymm1,%ymm7
+	vpor	%ymm3,%ymm11,%ymm8
+	vpor	%ymm4,%ymm8,%ymm4
+	vpor	%ymm0,%ymm10,%ymm8
+	vpor	%ymm7,%ymm8,%ymm7
+	vpor	%ymm4,%ymm7,%ymm4
+	vptest	.L100v3_CPI1_9(%rip),%ymm4
+	.p2align	5,,6
 	jne	2f
-	vpsllw	$12,%ymm1,%ymm6
-	vpaddw	%ymm6,%ymm1,%ymm1
-	vpsllw	$12,%ymm0,%ymm6
-	vpaddw	%ymm6,%ymm0,%ymm0
+	vpsllw	$12,%ymm2,%ymm4
+	vpaddw	%ymm4,%ymm2,%ymm2
+	vpsllw	$12,%ymm1,%ymm4
+	vpaddw	%ymm4,%ymm1,%ymm1
+	vpsrlw	$8,%ymm1,%ymm1
+	vpsrlw	$8,%ymm2,%ymm2
+	vpackuswb	%ymm2,%ymm1,%ymm1
+	vpermq	$216,%ymm1,%ymm1
+	vmovdqu	%ymm1,(%rdx)
+	vpsllw	$12,%ymm6,%ymm1
+	vpaddw	%ymm1,%ymm6,%ymm1
+	vpsllw	$12,%ymm5,%ymm2
+	vpaddw	%ymm2,%ymm5,%ymm2
+	vpsrlw	$8,%ymm2,%ymm2
+	vpsrlw	$8,%ymm1,%ymm1
+	vpackuswb	%ymm1,%ymm2,%ymm1
+	vpermq	$216,%ymm1,%ymm1
+	vmovdqu	%ymm1,32(%rdx)
+	vpsllw	$12,%ymm11,%ymm1
+	vpaddw	%ymm1,%ymm11,%ymm1
+	vpsllw	$12,%ymm10,%ymm2
+	vpaddw	%ymm2,%ymm10,%ymm2
+	vpsrlw	$8,%ymm2,%ymm2
+	vpsrlw	$8,%ymm1,%ymm1
+	vpackuswb	%ymm1,%ymm2,%ymm1
+	vpermq	$216,%ymm1,%ymm1
+	vmovdqu	%ymm1,-64(%rdx,%rcx)
+	vpsllw	$12,%ymm3,%ymm1
+	vpaddw	%ymm1,%ymm3,%ymm1
+	vpsllw	$12,%ymm0,%ymm2
+	vpaddw	%ymm2,%ymm0,%ymm0
 	vpsrlw	$8,%ymm0,%ymm0
 	vpsrlw	$8,%ymm1,%ymm1
 	vpackuswb	%ymm1,%ymm0,%ymm0
-	vpermq	$216,%ymm0,%ymm0
-	vmovdqu	%ymm0,(%rdx)
-	vpsllw	$12,%ymm4,%ymm0
-	vpaddw	%ymm0,%ymm4,%ymm0
-	vpsllw	$12,%ymm3,%ymm1
-	vpaddw	%ymm1,%ymm3,%ymm1
-	vpsrlw	$8,%ymm1,%ymm1
-	vpsrlw	$8,%ymm0,%ymm0
-	vpackuswb	%ymm0,%ymm1,%ymm0
-	vpermq	$216,%ymm0,%ymm0
-	vmovdqu	%ymm0,32(%rdx)
-	vpsllw	$12,%ymm11,%ymm0
-	vpaddw	%ymm0,%ymm11,%ymm0
-	vpsllw	$12,%ymm7,%ymm1
-	vpaddw	%ymm1,%ymm7,%ymm1
-	vpsrlw	$8,%ymm1,%ymm1
-	vpsrlw	$8,%ymm0,%ymm0
-	vpackuswb	%ymm0,%ymm1,%ymm0
-	vpermq	$216,%ymm0,%ymm0
-	vmovdqu	%ymm0,-64(%rdx,%rcx)
-	vpsllw	$12,%ymm5,%ymm0
-	vpaddw	%ymm0,%ymm5,%ymm0
-	vpsllw	$12,%ymm2,%ymm1
-	vpaddw	%ymm1,%ymm2,%ymm1
-	vpsrlw	$8,%ymm1,%ymm1
-	vpsrlw	$8,%ymm0,%ymm0
-	vpackuswb	%ymm0,%ymm1,%ymm0
 	vpermq	$216,%ymm0,%ymm0
 	vmovdqu	%ymm0,-32(%rdx,%rcx)
 	movb	$1,%al
@@ -533,14 +527,14 @@
 	leaq	448(%rdi),%r10
 	.p2align	4
 5:
-	vpbroadcastd	.L100v3_CPI1_15(%rip),%ymm2
+	vpbroadcastd	.L100v3_CPI1_14(%rip),%ymm2
 	vmovdqu	-448(%r10),%ymm4
 	vmovdqu	-416(%r10),%ymm5
 	vmovdqu	-384(%r10),%ymm6
 	vmovdqu	-352(%r10),%ymm7
 	vpaddb	%ymm2,%ymm4,%ymm8
 	vpaddb	%ymm2,%ymm5,%ymm9
-	vpbroadcastd	.L100v3_CPI1_16(%rip),%ymm3
+	vpbroadcastd	.L100v3_CPI1_15(%rip),%ymm3
 	vpsubusb	%ymm3,%ymm9,%ymm9
 	vpsubusb	%ymm3,%ymm8,%ymm8
 	vpor	%ymm4,%ymm0,%ymm4
@@ -645,7 +639,7 @@
 	vpsubb	%ymm1,%ymm7,%ymm4
 	vpminub	%ymm4,%ymm3,%ymm3
 	vpmaxub	%ymm3,%ymm5,%ymm3
-	vpbroadcastd	.L100v3_CPI1_17(%rip),%ymm4
+	vpbroadcastd	.L100v3_CPI1_16(%rip),%ymm4
 	vpaddusb	%ymm4,%ymm3,%ymm3
 	vpaddusb	%ymm4,%ymm2,%ymm2
 	vpor	%ymm3,%ymm2,%ymm2
@@ -675,10 +669,10 @@
 	andq	$-512,%rsi
 	vmovdqu	(%rdi,%rsi),%ymm2
 	vmovdqu	32(%rdi,%rsi),%ymm3
-	vpbroadcastd	.L100v3_CPI1_15(%rip),%ymm4
+	vpbroadcastd	.L100v3_CPI1_14(%rip),%ymm4
 	vpaddb	%ymm4,%ymm3,%ymm6
 	vpaddb	%ymm4,%ymm2,%ymm7
-	vpbroadcastd	.L100v3_CPI1_16(%rip),%ymm5
+	vpbroadcastd	.L100v3_CPI1_15(%rip),%ymm5
 	vpsubusb	%ymm5,%ymm7,%ymm7
 	vpsubusb	%ymm5,%ymm6,%ymm6
 	vpor	%ymm3,%ymm0,%ymm3
@@ -818,10 +812,10 @@
 19:
 	vmovdqu	(%rdi,%rax),%ymm4
 	vmovdqu	32(%rdi,%rax),%ymm5
-	vpbroadcastd	.L100v3_CPI1_15(%rip),%ymm6
+	vpbroadcastd	.L100v3_CPI1_14(%rip),%ymm6
 	vpaddb	%ymm6,%ymm4,%ymm7
 	vpaddb	%ymm6,%ymm5,%ymm6
-	vpbroadcastd	.L100v3_CPI1_16(%rip),%ymm8
+	vpbroadcastd	.L100v3_CPI1_15(%rip),%ymm8
 	vpsubusb	%ymm8,%ymm6,%ymm6
 	vpsubusb	%ymm8,%ymm7,%ymm7
 	vpor	%ymm4,%ymm0,%ymm4
@@ -832,7 +826,7 @@
 	vpsubb	%ymm1,%ymm0,%ymm0
 	vpminub	%ymm0,%ymm6,%ymm0
 	vpmaxub	%ymm0,%ymm3,%ymm0
-	vpbroadcastd	.L100v3_CPI1_17(%rip),%ymm1
+	vpbroadcastd	.L100v3_CPI1_16(%rip),%ymm1
 	vpaddusb	%ymm1,%ymm2,%ymm2
 	vpaddusb	%ymm1,%ymm0,%ymm0
 	vpor	%ymm2,%ymm0,%ymm0
@@ -862,10 +856,10 @@
 	xorl	%eax,%eax
 	.p2align	4
 25:
-	vpbroadcastd	.L100v3_CPI1_18(%rip),%ymm0
+	vpbroadcastd	.L100v3_CPI1_17(%rip),%ymm0
 	vpand	-32(%rdi,%r9,2),%ymm0,%ymm1
 	vpand	-64(%rdi,%r9,2),%ymm0,%ymm2
-	vpbroadcastd	.L100v3_CPI1_19(%rip),%ymm3
+	vpbroadcastd	.L100v3_CPI1_18(%rip),%ymm3
 	vpaddb	%ymm3,%ymm2,%ymm4
 	vpaddb	%ymm3,%ymm1,%ymm5
 	vpminub	%ymm5,%ymm1,%ymm1
@@ -905,11 +899,11 @@
 27:
 	movq	%rax,%rsi
 	shlq	$6,%rax
-	vpbroadcastd	.L100v3_CPI1_18(%rip),%ymm0
+	vpbroadcastd	.L100v3_CPI1_17(%rip),%ymm0
 	vpand	32(%rdi,%rax),%ymm0,%ymm1
 	vpand	(%rdi,%rax),%ymm0,%ymm0
 	shlq	$5,%rsi
-	vpbroadcastd	.L100v3_CPI1_19(%rip),%ymm2
+	vpbroadcastd	.L100v3_CPI1_18(%rip),%ymm2
 	vpaddb	%ymm2,%ymm0,%ymm3
 	vpaddb	%ymm2,%ymm1,%ymm2
 	vpminub	%ymm2,%ymm1,%ymm1
@@ -928,10 +922,10 @@
 	.p2align	5,,10
 	testb	$31,%cl
 	je	30b
-	vpbroadcastd	.L100v3_CPI1_18(%rip),%ymm0
+	vpbroadcastd	.L100v3_CPI1_17(%rip),%ymm0
 	vpand	-32(%rdi,%rcx,2),%ymm0,%ymm1
 	vpand	-64(%rdi,%rcx,2),%ymm0,%ymm0
-	vpbroadcastd	.L100v3_CPI1_19(%rip),%ymm2
+	vpbroadcastd	.L100v3_CPI1_18(%rip),%ymm2
 	vpaddb	%ymm2,%ymm0,%ymm3
 	vpaddb	%ymm2,%ymm1,%ymm2
 	vpminub	%ymm2,%ymm1,%ymm1
@@ -1133,12 +1127,18 @@
 .L100v3_CPI4_1:
 	.byte	48,49,50,51,52,53,54,55,56,57,97,98,99,100,101,102
 	.byte	48,49,50,51,52,53,54,55,56,57,97,98,99,100,101,102
+.L100v3_CPI4_2:
+	.zero	32,15
 	hex_merged	16
 	.p2align	4,0x0
-.L100v3_CPI4_2:
-	.byte	48,49,50,51,52,53,54,55,56,57,97,98,99,100,101,102
 .L100v3_CPI4_3:
+	.byte	48,49,50,51,52,53,54,55,56,57,97,98,99,100,101,102
+.L100v3_CPI4_5:
 	.byte	48,49,50,51,52,53,54,55,56,57,65,66,67,68,69,70
+	hex_merged	4
+	.p2align	2,0x0
+.L100v3_CPI4_4:
+	.zero	4,15
 	hex_function	faster_hex_1_0_0_x86_64_v3_core_kernel_encode_blocks,.text
 	hex_cfi	startproc
 	movq	%rsi,%r8
@@ -1146,7 +1146,7 @@
 	.p2align	5,,10
 	testl	%ecx,%ecx
 	jne	1f
-	vbroadcasti128	.L100v3_CPI4_2(%rip),%ymm0
+	vbroadcasti128	.L100v3_CPI4_3(%rip),%ymm0
 	.p2align	5,,10
 	cmpq	$1,%r8
 	je	4f
@@ -1157,30 +1157,27 @@
 	xorl	%eax,%eax
 	.p2align	4
 6:
-	vpmovzxbw	-16(%rdi,%r10),%ymm1
-	vpmovzxbw	-32(%rdi,%r10),%ymm2
-	vpsllw	$12,%ymm2,%ymm3
-	vpor	%ymm3,%ymm2,%ymm2
-	vpsllw	$12,%ymm1,%ymm3
-	vpor	%ymm3,%ymm1,%ymm1
-	vpsrlw	$4,%ymm1,%ymm1
-	vpsrlw	$4,%ymm2,%ymm2
-	vpshufb	%ymm2,%ymm0,%ymm2
+	vpermq	$216,-32(%rdi,%r10),%ymm1
+	vpsrlw	$4,%ymm1,%ymm2
+	vpbroadcastd	.L100v3_CPI4_4(%rip),%ymm3
+	vpand	%ymm3,%ymm2,%ymm2
+	vpand	%ymm3,%ymm1,%ymm1
+	vpunpckhbw	%ymm1,%ymm2,%ymm4
+	vpunpcklbw	%ymm1,%ymm2,%ymm1
 	vpshufb	%ymm1,%ymm0,%ymm1
-	vmovdqu	%ymm1,-32(%rdx,%r10,2)
-	vmovdqu	%ymm2,-64(%rdx,%r10,2)
-	vpmovzxbw	16(%rdi,%r10),%ymm1
-	vpmovzxbw	(%rdi,%r10),%ymm2
-	vpsllw	$12,%ymm2,%ymm3
-	vpor	%ymm3,%ymm2,%ymm2
-	vpsllw	$12,%ymm1,%ymm3
-	vpor	%ymm3,%ymm1,%ymm1
-	vpsrlw	$4,%ymm1,%ymm1
-	vpsrlw	$4,%ymm2,%ymm2
-	vpshufb	%ymm2,%ymm0,%ymm2
+	vpshufb	%ymm4,%ymm0,%ymm2
+	vmovdqu	%ymm2,-32(%rdx,%r10,2)
+	vmovdqu	%ymm1,-64(%rdx,%r10,2)
+	vpermq	$216,(%rdi,%r10),%ymm1
+	vpsrlw	$4,%ymm1,%ymm2
+	vpand	%ymm3,%ymm2,%ymm2
+	vpand	%ymm3,%ymm1,%ymm1
+	vpunpckhbw	%ymm1,%ymm2,%ymm3
+	vpunpcklbw	%ymm1,%ymm2,%ymm1
 	vpshufb	%ymm1,%ymm0,%ymm1
-	vmovdqu	%ymm1,32(%rdx,%r10,2)
-	vmovdqu	%ymm2,(%rdx,%r10,2)
+	vpshufb	%ymm3,%ymm0,%ymm2
+	vmovdqu	%ymm2,32(%rdx,%r10,2)
+	vmovdqu	%ymm1,(%rdx,%r10,2)
 	addq	$2,%rax
 	addq	$64,%r10
 	.p2align	5,,10
@@ -1196,7 +1193,7 @@
 	vzeroupper
 	retq
 1:
-	vbroadcasti128	.L100v3_CPI4_3(%rip),%ymm0
+	vbroadcasti128	.L100v3_CPI4_5(%rip),%ymm0
 	.p2align	5,,10
 	cmpq	$1,%r8
 	jne	5b
@@ -1205,39 +1202,37 @@
 8:
 	movq	%rax,%r8
 	shlq	$5,%r8
-	vpmovzxbw	16(%rdi,%r8),%ymm1
-	vpmovzxbw	(%rdi,%r8),%ymm2
-	vpsllw	$12,%ymm2,%ymm3
-	vpor	%ymm3,%ymm2,%ymm2
-	vpsllw	$12,%ymm1,%ymm3
-	vpor	%ymm3,%ymm1,%ymm1
-	vpsrlw	$4,%ymm1,%ymm1
-	vpsrlw	$4,%ymm2,%ymm2
-	vpshufb	%ymm2,%ymm0,%ymm2
-	vpshufb	%ymm1,%ymm0,%ymm0
+	vpermq	$216,(%rdi,%r8),%ymm1
+	vpsrlw	$4,%ymm1,%ymm2
+	vpbroadcastd	.L100v3_CPI4_4(%rip),%ymm3
+	vpand	%ymm3,%ymm2,%ymm2
+	vpand	%ymm3,%ymm1,%ymm1
+	vpunpckhbw	%ymm1,%ymm2,%ymm3
+	vpunpcklbw	%ymm1,%ymm2,%ymm1
+	vpshufb	%ymm1,%ymm0,%ymm1
+	vpshufb	%ymm3,%ymm0,%ymm0
 	shlq	$6,%rax
 	vmovdqu	%ymm0,32(%rdx,%rax)
-	vmovdqu	%ymm2,(%rdx,%rax)
+	vmovdqu	%ymm1,(%rdx,%rax)
 	.p2align	5,,10
 	testb	$31,%sil
 	je	14b
 10:
-	vpmovzxbw	-16(%rdi,%rsi),%ymm0
-	vpmovzxbw	-32(%rdi,%rsi),%ymm1
-	vpsllw	$12,%ymm1,%ymm2
-	vpor	%ymm2,%ymm1,%ymm1
-	vpsllw	$12,%ymm0,%ymm2
-	vpor	%ymm2,%ymm0,%ymm0
-	vpsrlw	$4,%ymm0,%ymm0
-	vpsrlw	$4,%ymm1,%ymm1
+	vpermq	$216,-32(%rdi,%rsi),%ymm0
+	vpsrlw	$4,%ymm0,%ymm1
+	vpbroadcastd	.L100v3_CPI4_4(%rip),%ymm2
+	vpand	%ymm2,%ymm1,%ymm1
+	vpand	%ymm2,%ymm0,%ymm2
+	vpunpckhbw	%ymm2,%ymm1,%ymm0
+	vpunpcklbw	%ymm2,%ymm1,%ymm1
 	.p2align	5,,10
 	testb	%cl,%cl
 	jne	11f
-	vbroadcasti128	.L100v3_CPI4_2(%rip),%ymm2
+	vbroadcasti128	.L100v3_CPI4_3(%rip),%ymm2
 	.p2align	5,,6
 	jmp	13f
 11:
-	vbroadcasti128	.L100v3_CPI4_3(%rip),%ymm2
+	vbroadcasti128	.L100v3_CPI4_5(%rip),%ymm2
 13:
 	vpshufb	%ymm1,%ymm2,%ymm1
 	vpshufb	%ymm0,%ymm2,%ymm0

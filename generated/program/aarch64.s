@@ -4710,204 +4710,197 @@
 	stp	d11,d10,[sp,#16]
 	stp	d9,d8,[sp,#32]
 	b.hi	3f
-	movi	v7.16b,#198
+	movi	v1.16b,#198
+	ldp	q4,q3,[x0]
+	movi	v20.16b,#6
 	and	x8,x4,#0xff
 	hex_page	x9,.Lstatic.16
 	hex_address	x9,x9,.Lstatic.16
-	ldp	q3,q4,[x0,#32]
-	add	x9,x9,x8
-	movi	v20.16b,#6
 	movi	v0.16b,#16
-	ld1r	{ v18.16b },[x9]
+	add	x9,x9,x8
+	ldp	q7,q6,[x0,#32]
+	add	v16.16b,v3.16b,v1.16b
+	ld1r	{ v5.16b },[x9]
 	hex_page	x9,.Lstatic.17
 	hex_address	x9,x9,.Lstatic.17
+	add	v19.16b,v4.16b,v1.16b
 	add	x8,x9,x8
-	add	v19.16b,v3.16b,v7.16b
-	add	v17.16b,v4.16b,v7.16b
-	ldp	q1,q2,[x0]
-	ld1r	{ v16.16b },[x8]
-	orr	v4.16b,v18.16b,v4.16b
-	ldp	q21,q23,[x0,#64]
-	uqsub	v22.16b,v19.16b,v20.16b
-	movi	v19.16b,#10
-	orr	v3.16b,v18.16b,v3.16b
-	add	v5.16b,v1.16b,v7.16b
-	add	v6.16b,v2.16b,v7.16b
-	orr	v2.16b,v18.16b,v2.16b
-	orr	v1.16b,v18.16b,v1.16b
-	sub	v4.16b,v4.16b,v16.16b
-	add	v25.16b,v21.16b,v7.16b
-	orr	v26.16b,v21.16b,v18.16b
-	ldp	q24,q21,[x0,#96]
-	uqsub	v5.16b,v5.16b,v20.16b
-	uqsub	v6.16b,v6.16b,v20.16b
+	add	v17.16b,v6.16b,v1.16b
+	add	v18.16b,v7.16b,v1.16b
+	uqsub	v21.16b,v16.16b,v20.16b
+	ld1r	{ v2.16b },[x8]
+	orr	v6.16b,v5.16b,v6.16b
+	orr	v3.16b,v5.16b,v3.16b
+	orr	v4.16b,v5.16b,v4.16b
+	movi	v16.16b,#10
+	ldp	q25,q22,[x0,#64]
 	uqsub	v17.16b,v17.16b,v20.16b
-	sub	v1.16b,v1.16b,v16.16b
-	sub	v2.16b,v2.16b,v16.16b
-	uqadd	v27.16b,v4.16b,v19.16b
-	add	v4.16b,v23.16b,v7.16b
-	orr	v23.16b,v23.16b,v18.16b
-	add	v28.16b,v24.16b,v7.16b
-	orr	v24.16b,v24.16b,v18.16b
-	sub	v3.16b,v3.16b,v16.16b
-	uqsub	v25.16b,v25.16b,v20.16b
-	uqadd	v1.16b,v1.16b,v19.16b
-	sub	v26.16b,v26.16b,v16.16b
-	uqadd	v2.16b,v2.16b,v19.16b
-	uqsub	v4.16b,v4.16b,v20.16b
-	sub	v23.16b,v23.16b,v16.16b
-	uqsub	v28.16b,v28.16b,v20.16b
-	sub	v24.16b,v24.16b,v16.16b
-	add	v6.16b,v6.16b,v0.16b
-	add	x8,x0,x1
-	add	v5.16b,v5.16b,v0.16b
-	add	v17.16b,v17.16b,v0.16b
-	uqadd	v29.16b,v3.16b,v19.16b
-	uqadd	v26.16b,v26.16b,v19.16b
-	ldp	q31,q8,[x8,#-32]
-	uqadd	v23.16b,v23.16b,v19.16b
-	uqadd	v24.16b,v24.16b,v19.16b
-	add	v22.16b,v22.16b,v0.16b
-	umin	v1.16b,v5.16b,v1.16b
-	add	v25.16b,v25.16b,v0.16b
-	umin	v3.16b,v6.16b,v2.16b
-	add	v6.16b,v4.16b,v0.16b
-	umin	v5.16b,v17.16b,v27.16b
-	add	v17.16b,v28.16b,v0.16b
-	umin	v4.16b,v22.16b,v29.16b
-	ldp	q29,q30,[x8,#-64]
-	umin	v2.16b,v25.16b,v26.16b
-	add	v22.16b,v21.16b,v7.16b
-	add	v12.16b,v8.16b,v7.16b
-	umin	v6.16b,v6.16b,v23.16b
-	ldp	q25,q23,[x8,#-96]
-	umin	v17.16b,v17.16b,v24.16b
-	ldp	q26,q24,[x8,#-128]
-	add	v11.16b,v29.16b,v7.16b
-	hex_page	x8,.LCPI8_0
-	add	v13.16b,v31.16b,v7.16b
-	add	v27.16b,v25.16b,v7.16b
-	add	v28.16b,v23.16b,v7.16b
-	orr	v21.16b,v21.16b,v18.16b
-	add	v9.16b,v26.16b,v7.16b
-	add	v10.16b,v24.16b,v7.16b
-	add	v7.16b,v30.16b,v7.16b
-	orr	v26.16b,v26.16b,v18.16b
-	orr	v24.16b,v24.16b,v18.16b
-	orr	v25.16b,v25.16b,v18.16b
-	orr	v23.16b,v23.16b,v18.16b
-	orr	v8.16b,v8.16b,v18.16b
-	orr	v31.16b,v31.16b,v18.16b
-	orr	v30.16b,v30.16b,v18.16b
-	orr	v18.16b,v29.16b,v18.16b
-	uqsub	v22.16b,v22.16b,v20.16b
-	uqsub	v28.16b,v28.16b,v20.16b
+	orr	v7.16b,v5.16b,v7.16b
+	uqsub	v19.16b,v19.16b,v20.16b
+	sub	v6.16b,v6.16b,v2.16b
+	add	v23.16b,v21.16b,v0.16b
+	ldp	q21,q24,[x0,#96]
+	sub	v3.16b,v3.16b,v2.16b
+	sub	v4.16b,v4.16b,v2.16b
+	add	v26.16b,v22.16b,v1.16b
+	orr	v22.16b,v22.16b,v5.16b
+	add	v28.16b,v25.16b,v1.16b
+	orr	v25.16b,v25.16b,v5.16b
+	add	v27.16b,v24.16b,v1.16b
+	orr	v24.16b,v24.16b,v5.16b
+	uqsub	v18.16b,v18.16b,v20.16b
+	sub	v7.16b,v7.16b,v2.16b
+	uqadd	v3.16b,v3.16b,v16.16b
+	uqsub	v26.16b,v26.16b,v20.16b
+	sub	v22.16b,v22.16b,v2.16b
+	uqadd	v6.16b,v6.16b,v16.16b
+	uqadd	v29.16b,v4.16b,v16.16b
 	uqsub	v27.16b,v27.16b,v20.16b
+	sub	v24.16b,v24.16b,v2.16b
+	uqsub	v28.16b,v28.16b,v20.16b
+	sub	v25.16b,v25.16b,v2.16b
+	add	v17.16b,v17.16b,v0.16b
+	add	v19.16b,v19.16b,v0.16b
+	uqadd	v7.16b,v7.16b,v16.16b
+	uqadd	v22.16b,v22.16b,v16.16b
+	add	x8,x0,x1
+	uqadd	v24.16b,v24.16b,v16.16b
+	add	v18.16b,v18.16b,v0.16b
+	umin	v3.16b,v23.16b,v3.16b
+	uqadd	v25.16b,v25.16b,v16.16b
+	ldp	q8,q31,[x8,#-32]
+	add	v23.16b,v26.16b,v0.16b
+	umin	v4.16b,v17.16b,v6.16b
+	add	v26.16b,v27.16b,v0.16b
+	umin	v17.16b,v19.16b,v29.16b
+	ldp	q30,q29,[x8,#-64]
+	add	v19.16b,v28.16b,v0.16b
+	umin	v18.16b,v18.16b,v7.16b
+	add	v27.16b,v21.16b,v1.16b
+	umin	v6.16b,v23.16b,v22.16b
+	umin	v7.16b,v26.16b,v24.16b
+	add	v12.16b,v8.16b,v1.16b
+	ldp	q22,q24,[x8,#-96]
+	add	v11.16b,v29.16b,v1.16b
+	umin	v19.16b,v19.16b,v25.16b
+	ldp	q23,q25,[x8,#-128]
+	add	v13.16b,v30.16b,v1.16b
+	orr	v21.16b,v21.16b,v5.16b
+	orr	v8.16b,v8.16b,v5.16b
+	add	v28.16b,v22.16b,v1.16b
+	add	v10.16b,v24.16b,v1.16b
+	orr	v24.16b,v24.16b,v5.16b
+	add	v26.16b,v23.16b,v1.16b
+	add	v9.16b,v25.16b,v1.16b
+	add	v1.16b,v31.16b,v1.16b
+	orr	v25.16b,v25.16b,v5.16b
+	orr	v23.16b,v23.16b,v5.16b
+	orr	v22.16b,v22.16b,v5.16b
+	orr	v30.16b,v30.16b,v5.16b
+	orr	v31.16b,v31.16b,v5.16b
+	orr	v5.16b,v29.16b,v5.16b
+	uqsub	v27.16b,v27.16b,v20.16b
+	uqsub	v28.16b,v28.16b,v20.16b
+	uqsub	v26.16b,v26.16b,v20.16b
 	uqsub	v10.16b,v10.16b,v20.16b
 	uqsub	v9.16b,v9.16b,v20.16b
 	uqsub	v11.16b,v11.16b,v20.16b
-	uqsub	v7.16b,v7.16b,v20.16b
+	uqsub	v1.16b,v1.16b,v20.16b
 	uqsub	v13.16b,v13.16b,v20.16b
 	uqsub	v20.16b,v12.16b,v20.16b
-	sub	v21.16b,v21.16b,v16.16b
-	sub	v24.16b,v24.16b,v16.16b
-	sub	v26.16b,v26.16b,v16.16b
-	sub	v23.16b,v23.16b,v16.16b
-	sub	v25.16b,v25.16b,v16.16b
-	sub	v29.16b,v8.16b,v16.16b
-	sub	v18.16b,v18.16b,v16.16b
-	sub	v30.16b,v30.16b,v16.16b
-	sub	v16.16b,v31.16b,v16.16b
-	uqadd	v21.16b,v21.16b,v19.16b
-	uqadd	v26.16b,v26.16b,v19.16b
-	uqadd	v24.16b,v24.16b,v19.16b
-	uqadd	v23.16b,v23.16b,v19.16b
-	uqadd	v25.16b,v25.16b,v19.16b
-	uqadd	v29.16b,v29.16b,v19.16b
-	add	v27.16b,v27.16b,v0.16b
-	uqadd	v16.16b,v16.16b,v19.16b
-	uqadd	v30.16b,v30.16b,v19.16b
-	uqadd	v19.16b,v18.16b,v19.16b
-	add	v18.16b,v22.16b,v0.16b
-	add	v28.16b,v28.16b,v0.16b
-	add	v31.16b,v9.16b,v0.16b
-	add	v8.16b,v20.16b,v0.16b
-	add	v9.16b,v11.16b,v0.16b
-	add	v10.16b,v10.16b,v0.16b
-	add	v11.16b,v13.16b,v0.16b
-	add	v12.16b,v7.16b,v0.16b
-	umin	v20.16b,v27.16b,v25.16b
-	umin	v22.16b,v18.16b,v21.16b
-	umin	v18.16b,v28.16b,v23.16b
-	umin	v21.16b,v31.16b,v26.16b
-	umin	v0.16b,v9.16b,v19.16b
-	umin	v7.16b,v8.16b,v29.16b
-	umin	v23.16b,v10.16b,v24.16b
-	umin	v19.16b,v12.16b,v30.16b
-	umin	v16.16b,v11.16b,v16.16b
-	orr	v25.16b,v4.16b,v17.16b
-	orr	v24.16b,v5.16b,v22.16b
-	orr	v26.16b,v1.16b,v2.16b
-	orr	v29.16b,v3.16b,v6.16b
-	orr	v27.16b,v18.16b,v7.16b
-	orr	v28.16b,v21.16b,v0.16b
-	movi	v8.16b,#112
-	orr	v30.16b,v20.16b,v16.16b
-	orr	v31.16b,v23.16b,v19.16b
-	orr	v24.16b,v24.16b,v27.16b
-	orr	v26.16b,v26.16b,v28.16b
-	hex_value	q28,x8,.LCPI8_0
-	orr	v25.16b,v25.16b,v30.16b
-	orr	v27.16b,v29.16b,v31.16b
-	uqadd	v26.16b,v26.16b,v8.16b
-	uqadd	v24.16b,v24.16b,v8.16b
-	uqadd	v27.16b,v27.16b,v8.16b
-	uqadd	v25.16b,v25.16b,v8.16b
-	cmlt	v24.16b,v24.16b,#0
-	cmlt	v26.16b,v26.16b,#0
-	cmlt	v25.16b,v25.16b,#0
-	cmlt	v27.16b,v27.16b,#0
-	and	v26.16b,v26.16b,v28.16b
-	and	v24.16b,v24.16b,v28.16b
-	and	v27.16b,v27.16b,v28.16b
-	and	v25.16b,v25.16b,v28.16b
-	addp	v26.16b,v26.16b,v27.16b
-	addp	v24.16b,v25.16b,v24.16b
-	addp	v24.16b,v26.16b,v24.16b
-	addp	v24.16b,v24.16b,v24.16b
+	sub	v21.16b,v21.16b,v2.16b
+	sub	v24.16b,v24.16b,v2.16b
+	sub	v25.16b,v25.16b,v2.16b
+	sub	v22.16b,v22.16b,v2.16b
+	sub	v23.16b,v23.16b,v2.16b
+	sub	v29.16b,v8.16b,v2.16b
+	sub	v5.16b,v5.16b,v2.16b
+	sub	v31.16b,v31.16b,v2.16b
+	sub	v2.16b,v30.16b,v2.16b
+	uqadd	v21.16b,v21.16b,v16.16b
+	uqadd	v25.16b,v25.16b,v16.16b
+	uqadd	v24.16b,v24.16b,v16.16b
+	uqadd	v30.16b,v23.16b,v16.16b
+	uqadd	v22.16b,v22.16b,v16.16b
+	uqadd	v29.16b,v29.16b,v16.16b
+	uqadd	v8.16b,v2.16b,v16.16b
+	uqadd	v31.16b,v31.16b,v16.16b
+	uqadd	v5.16b,v5.16b,v16.16b
+	add	v2.16b,v27.16b,v0.16b
+	add	v16.16b,v26.16b,v0.16b
+	add	v26.16b,v28.16b,v0.16b
+	add	v27.16b,v9.16b,v0.16b
+	add	v28.16b,v10.16b,v0.16b
+	add	v20.16b,v20.16b,v0.16b
+	add	v9.16b,v13.16b,v0.16b
+	add	v1.16b,v1.16b,v0.16b
+	add	v10.16b,v11.16b,v0.16b
+	umin	v23.16b,v2.16b,v21.16b
+	umin	v2.16b,v26.16b,v22.16b
+	umin	v21.16b,v16.16b,v30.16b
+	umin	v16.16b,v28.16b,v24.16b
+	umin	v22.16b,v27.16b,v25.16b
+	umin	v0.16b,v20.16b,v29.16b
+	umin	v5.16b,v10.16b,v5.16b
+	umin	v1.16b,v1.16b,v31.16b
+	umin	v20.16b,v9.16b,v8.16b
+	orr	v24.16b,v18.16b,v23.16b
+	orr	v25.16b,v17.16b,v19.16b
+	orr	v26.16b,v4.16b,v7.16b
+	orr	v27.16b,v3.16b,v6.16b
+	orr	v28.16b,v2.16b,v0.16b
+	orr	v29.16b,v21.16b,v20.16b
+	orr	v30.16b,v16.16b,v1.16b
+	orr	v31.16b,v22.16b,v5.16b
+	orr	v24.16b,v24.16b,v28.16b
+	orr	v25.16b,v25.16b,v29.16b
+	orr	v26.16b,v26.16b,v30.16b
+	orr	v27.16b,v27.16b,v31.16b
+	orr	v26.16b,v27.16b,v26.16b
+	orr	v24.16b,v25.16b,v24.16b
+	movi	v25.16b,#240
+	orr	v24.16b,v24.16b,v26.16b
+	and	v24.16b,v24.16b,v25.16b
+	ext	v25.16b,v24.16b,v24.16b,#8
+	orr	v24.8b,v24.8b,v25.8b
 	fmov	x8,d24
-	cbnz	x8,18f
+	orr	x8,x8,x8,lsr #32
+	lsr	x9,x8,#16
+	orr	w8,w8,w9
+	orr	w8,w8,w8,lsr #8
+	tst	w8,#0xff
+	b.ne	18f
 	mov	w8,#4097
 	dup	v24.8h,w8
 	add	x8,x2,x3
 	mul	v3.8h,v3.8h,v24.8h
-	mul	v1.8h,v1.8h,v24.8h
-	mul	v4.8h,v4.8h,v24.8h
-	mul	v5.8h,v5.8h,v24.8h
-	mul	v6.8h,v6.8h,v24.8h
-	mul	v2.8h,v2.8h,v24.8h
 	mul	v17.8h,v17.8h,v24.8h
-	mul	v22.8h,v22.8h,v24.8h
-	mul	v23.8h,v23.8h,v24.8h
-	mul	v21.8h,v21.8h,v24.8h
 	mul	v18.8h,v18.8h,v24.8h
-	mul	v0.8h,v0.8h,v24.8h
-	uzp2	v1.16b,v1.16b,v3.16b
-	mul	v3.8h,v20.8h,v24.8h
+	mul	v4.8h,v4.8h,v24.8h
+	mul	v6.8h,v6.8h,v24.8h
+	mul	v19.8h,v19.8h,v24.8h
+	mul	v23.8h,v23.8h,v24.8h
 	mul	v7.8h,v7.8h,v24.8h
-	uzp2	v4.16b,v4.16b,v5.16b
-	mul	v5.8h,v19.8h,v24.8h
-	uzp2	v2.16b,v2.16b,v6.16b
-	mul	v6.8h,v16.8h,v24.8h
-	uzp2	v16.16b,v17.16b,v22.16b
-	uzp2	v17.16b,v21.16b,v23.16b
-	stp	q1,q4,[x2]
-	uzp2	v1.16b,v3.16b,v18.16b
-	uzp2	v0.16b,v0.16b,v5.16b
-	stp	q2,q16,[x2,#32]
-	uzp2	v2.16b,v6.16b,v7.16b
-	stp	q17,q1,[x8,#-64]
-	stp	q0,q2,[x8,#-32]
+	mul	v22.8h,v22.8h,v24.8h
+	mul	v21.8h,v21.8h,v24.8h
+	mul	v2.8h,v2.8h,v24.8h
+	mul	v16.8h,v16.8h,v24.8h
+	uzp2	v3.16b,v17.16b,v3.16b
+	mul	v5.8h,v5.8h,v24.8h
+	mul	v17.8h,v20.8h,v24.8h
+	uzp2	v4.16b,v18.16b,v4.16b
+	mul	v0.8h,v0.8h,v24.8h
+	mul	v1.8h,v1.8h,v24.8h
+	uzp2	v6.16b,v19.16b,v6.16b
+	uzp2	v7.16b,v23.16b,v7.16b
+	uzp2	v18.16b,v21.16b,v22.16b
+	uzp2	v2.16b,v2.16b,v16.16b
+	stp	q3,q4,[x2]
+	uzp2	v3.16b,v17.16b,v5.16b
+	uzp2	v0.16b,v0.16b,v1.16b
+	stp	q6,q7,[x2,#32]
+	stp	q18,q2,[x8,#-64]
+	stp	q3,q0,[x8,#-32]
 	b	24f
 3:
 	sub	x9,x1,#64
@@ -5542,8 +5535,6 @@
 	.byte	1,1,1,1,1,1,1,11,11,11,15,15,15,15,15,15
 .LCPI9_1:
 	.byte	128,128,128,128,48,55,128,87,128,48,128,128,128,128,128,128
-.LCPI9_2:
-	.byte	1,2,4,8,16,32,64,128,1,2,4,8,16,32,64,128
 	hex_function	core_backend_Backend_decode_named,.text
 	stp	x29,x30,[sp,#-48]!
 	and	w8,w0,#0xff
@@ -5715,7 +5706,6 @@
 	uqsub	v17.16b,v17.16b,v1.16b
 	uqsub	v18.16b,v18.16b,v1.16b
 	uqsub	v19.16b,v19.16b,v1.16b
-	hex_page	x8,.LCPI9_2
 	uqsub	v0.16b,v0.16b,v1.16b
 	sub	v1.16b,v4.16b,v16.16b
 	sub	v4.16b,v5.16b,v16.16b
@@ -5731,20 +5721,22 @@
 	add	v0.16b,v0.16b,v3.16b
 	umin	v3.16b,v6.16b,v1.16b
 	umin	v2.16b,v2.16b,v4.16b
-	movi	v6.16b,#15
+	movi	v6.16b,#240
 	umin	v1.16b,v16.16b,v5.16b
 	umin	v0.16b,v0.16b,v7.16b
 	orr	v4.16b,v3.16b,v2.16b
 	orr	v5.16b,v1.16b,v0.16b
 	orr	v4.16b,v4.16b,v5.16b
-	hex_value	q5,x8,.LCPI9_2
-	cmhi	v4.16b,v4.16b,v6.16b
-	and	v4.16b,v4.16b,v5.16b
-	addp	v4.16b,v4.16b,v4.16b
-	addp	v4.16b,v4.16b,v4.16b
-	addp	v4.16b,v4.16b,v4.16b
-	umov	w8,v4.h[0]
-	cbz	w8,39f
+	and	v4.16b,v4.16b,v6.16b
+	ext	v5.16b,v4.16b,v4.16b,#8
+	orr	v4.8b,v4.8b,v5.8b
+	fmov	x8,d4
+	orr	x8,x8,x8,lsr #32
+	lsr	x9,x8,#16
+	orr	w8,w8,w9
+	orr	w8,w8,w8,lsr #8
+	tst	w8,#0xff
+	b.eq	39f
 	mov	w0,wzr
 24:
 	ldp	x20,x19,[sp,#32]
@@ -5920,7 +5912,6 @@
 	sub	v4.16b,v5.16b,v17.16b
 	sub	v5.16b,v6.16b,v17.16b
 	sub	v3.16b,v3.16b,v17.16b
-	hex_page	x8,.LCPI9_2
 	add	v6.16b,v7.16b,v2.16b
 	uqadd	v1.16b,v1.16b,v16.16b
 	uqadd	v4.16b,v4.16b,v16.16b
@@ -5931,20 +5922,22 @@
 	add	v0.16b,v0.16b,v2.16b
 	umin	v3.16b,v6.16b,v1.16b
 	umin	v2.16b,v16.16b,v4.16b
-	movi	v6.16b,#15
+	movi	v6.16b,#240
 	umin	v1.16b,v17.16b,v5.16b
 	umin	v0.16b,v0.16b,v7.16b
 	orr	v4.16b,v3.16b,v2.16b
 	orr	v5.16b,v1.16b,v0.16b
 	orr	v4.16b,v4.16b,v5.16b
-	hex_value	q5,x8,.LCPI9_2
-	cmhi	v4.16b,v4.16b,v6.16b
-	and	v4.16b,v4.16b,v5.16b
-	addp	v4.16b,v4.16b,v4.16b
-	addp	v4.16b,v4.16b,v4.16b
-	addp	v4.16b,v4.16b,v4.16b
-	umov	w8,v4.h[0]
-	cbz	w8,57f
+	and	v4.16b,v4.16b,v6.16b
+	ext	v5.16b,v4.16b,v4.16b,#8
+	orr	v4.8b,v4.8b,v5.8b
+	fmov	x8,d4
+	orr	x8,x8,x8,lsr #32
+	lsr	x9,x8,#16
+	orr	w8,w8,w9
+	orr	w8,w8,w8,lsr #8
+	tst	w8,#0xff
+	b.eq	57f
 	mov	w0,wzr
 	ldp	x20,x19,[sp,#32]
 	ldp	x22,x21,[sp,#16]

@@ -5064,27 +5064,26 @@
 .LCPI7_8:
 	.zero	16,10
 .LCPI7_9:
-	.zero	16,112
+	.zero	16,240
 	hex_function	core_plain_decode_apart,.text
 	hex_lower
-	subq	$24,%rsp
+	pushq	%rax
 	cmpq	$256,%rsi
 	ja	3f
-	movdqu	(%rdi),%xmm0
-	movdqu	16(%rdi),%xmm1
-	movdqu	32(%rdi),%xmm8
+	movdqu	(%rdi),%xmm9
+	movdqu	16(%rdi),%xmm10
+	movdqu	32(%rdi),%xmm0
 	movdqu	48(%rdi),%xmm6
-	movdqa	.LCPI7_5(%rip),%xmm9
-	movdqa	%xmm1,%xmm5
-	movdqa	%xmm1,%xmm7
-	paddb	%xmm9,%xmm5
-	movdqa	%xmm0,%xmm3
-	movdqa	%xmm0,%xmm10
-	paddb	%xmm9,%xmm3
-	movdqa	%xmm8,%xmm2
-	paddb	%xmm9,%xmm2
-	movdqa	%xmm6,%xmm1
-	paddb	%xmm9,%xmm1
+	movdqa	.LCPI7_5(%rip),%xmm8
+	movdqa	%xmm0,%xmm5
+	movdqa	%xmm0,%xmm7
+	paddb	%xmm8,%xmm5
+	movdqa	%xmm9,%xmm3
+	paddb	%xmm8,%xmm3
+	movdqa	%xmm6,%xmm2
+	paddb	%xmm8,%xmm2
+	movdqa	%xmm10,%xmm1
+	paddb	%xmm8,%xmm1
 	movdqa	.LCPI7_6(%rip),%xmm11
 	psubusb	%xmm11,%xmm1
 	psubusb	%xmm11,%xmm2
@@ -5102,269 +5101,261 @@
 	pxor	%xmm4,%xmm4
 	pshufb	%xmm4,%xmm0
 	por	%xmm0,%xmm7
-	por	%xmm0,%xmm10
-	por	%xmm0,%xmm8
+	por	%xmm0,%xmm9
 	por	%xmm0,%xmm6
+	por	%xmm0,%xmm10
 	leaq	.Lstatic.17(%rip),%r8
 	movzbl	(%rax,%r8),%eax
 	movd	%eax,%xmm14
 	pshufb	%xmm4,%xmm14
-	psubb	%xmm14,%xmm6
-	psubb	%xmm14,%xmm8
 	psubb	%xmm14,%xmm10
+	psubb	%xmm14,%xmm6
+	psubb	%xmm14,%xmm9
 	psubb	%xmm14,%xmm7
 	movdqa	.LCPI7_8(%rip),%xmm4
 	paddusb	%xmm4,%xmm7
 	pminub	%xmm5,%xmm7
-	movdqa	%xmm7,.Lhex_below-128(%rsp)
-	paddusb	%xmm4,%xmm10
-	pminub	%xmm3,%xmm10
-	movdqa	%xmm10,.Lhex_below-96(%rsp)
-	paddusb	%xmm4,%xmm8
-	pminub	%xmm2,%xmm8
-	movdqa	%xmm8,.Lhex_below-80(%rsp)
+	movdqa	%xmm7,.Lhex_below-80(%rsp)
+	paddusb	%xmm4,%xmm9
+	pminub	%xmm3,%xmm9
+	movdqa	%xmm9,.Lhex_below-112(%rsp)
 	paddusb	%xmm4,%xmm6
-	movdqa	%xmm4,%xmm10
-	pminub	%xmm1,%xmm6
-	movdqa	%xmm6,.Lhex_below+0(%rsp)
+	pminub	%xmm2,%xmm6
+	movdqa	%xmm6,.Lhex_below-16(%rsp)
+	paddusb	%xmm4,%xmm10
+	movdqa	%xmm4,%xmm6
+	pminub	%xmm1,%xmm10
+	movdqa	%xmm10,.Lhex_below-32(%rsp)
+	movdqu	80(%rdi),%xmm4
 	movdqu	112(%rdi),%xmm3
-	movdqu	96(%rdi),%xmm4
 	movdqu	64(%rdi),%xmm5
-	movdqu	80(%rdi),%xmm7
+	movdqu	96(%rdi),%xmm7
 	movdqa	%xmm7,%xmm2
-	paddb	%xmm9,%xmm2
+	paddb	%xmm8,%xmm2
 	movdqa	%xmm5,%xmm1
-	paddb	%xmm9,%xmm1
-	movdqa	%xmm11,%xmm8
+	paddb	%xmm8,%xmm1
+	movdqa	%xmm11,%xmm10
 	psubusb	%xmm11,%xmm2
 	paddb	%xmm12,%xmm2
 	por	%xmm0,%xmm7
 	psubb	%xmm14,%xmm7
-	paddusb	%xmm10,%xmm7
+	paddusb	%xmm6,%xmm7
 	pminub	%xmm2,%xmm7
-	movdqa	%xmm4,%xmm2
-	paddb	%xmm9,%xmm2
+	movdqa	%xmm3,%xmm2
+	paddb	%xmm8,%xmm2
 	psubusb	%xmm11,%xmm1
 	paddb	%xmm12,%xmm1
 	por	%xmm0,%xmm5
 	psubb	%xmm14,%xmm5
-	paddusb	%xmm10,%xmm5
+	paddusb	%xmm6,%xmm5
 	pminub	%xmm1,%xmm5
-	movdqa	%xmm5,.Lhex_below-112(%rsp)
-	movdqa	%xmm3,%xmm1
-	paddb	%xmm9,%xmm1
+	movdqa	%xmm5,.Lhex_below-96(%rsp)
+	movdqa	%xmm4,%xmm1
+	paddb	%xmm8,%xmm1
 	psubusb	%xmm11,%xmm1
 	psubusb	%xmm11,%xmm2
 	paddb	%xmm12,%xmm2
 	paddb	%xmm12,%xmm1
-	por	%xmm0,%xmm4
 	por	%xmm0,%xmm3
-	psubb	%xmm14,%xmm3
+	por	%xmm0,%xmm4
 	psubb	%xmm14,%xmm4
-	paddusb	%xmm10,%xmm4
-	pminub	%xmm2,%xmm4
-	movdqa	%xmm4,.Lhex_below-16(%rsp)
-	paddusb	%xmm10,%xmm3
-	pminub	%xmm1,%xmm3
-	movdqa	%xmm3,.Lhex_below-32(%rsp)
-	movdqu	-80(%rdi,%rsi),%xmm15
+	psubb	%xmm14,%xmm3
+	paddusb	%xmm6,%xmm3
+	pminub	%xmm2,%xmm3
+	movdqa	%xmm3,.Lhex_below-128(%rsp)
+	paddusb	%xmm6,%xmm4
+	pminub	%xmm1,%xmm4
+	movdqa	%xmm4,.Lhex_below-48(%rsp)
+	movdqu	-112(%rdi,%rsi),%xmm15
 	movdqa	%xmm15,%xmm1
-	paddb	%xmm9,%xmm1
+	paddb	%xmm8,%xmm1
 	psubusb	%xmm11,%xmm1
-	movdqa	%xmm12,%xmm4
 	paddb	%xmm12,%xmm1
 	por	%xmm0,%xmm15
 	psubb	%xmm14,%xmm15
-	movdqa	%xmm10,%xmm2
-	paddusb	%xmm10,%xmm15
+	paddusb	%xmm6,%xmm15
 	pminub	%xmm1,%xmm15
-	movdqu	-96(%rdi,%rsi),%xmm10
-	movdqa	%xmm10,%xmm1
-	paddb	%xmm9,%xmm1
+	movdqu	-80(%rdi,%rsi),%xmm9
+	movdqa	%xmm9,%xmm1
+	paddb	%xmm8,%xmm1
 	psubusb	%xmm11,%xmm1
 	paddb	%xmm12,%xmm1
-	por	%xmm0,%xmm10
-	psubb	%xmm14,%xmm10
-	paddusb	%xmm2,%xmm10
-	pminub	%xmm1,%xmm10
-	movdqu	-128(%rdi,%rsi),%xmm11
-	movdqa	%xmm11,%xmm1
-	paddb	%xmm9,%xmm1
-	psubusb	%xmm8,%xmm1
-	paddb	%xmm12,%xmm1
-	por	%xmm0,%xmm11
-	psubb	%xmm14,%xmm11
-	paddusb	%xmm2,%xmm11
-	pminub	%xmm1,%xmm11
-	movdqu	-112(%rdi,%rsi),%xmm12
-	movdqa	%xmm12,%xmm1
-	paddb	%xmm9,%xmm1
-	psubusb	%xmm8,%xmm1
-	paddb	%xmm4,%xmm1
-	por	%xmm0,%xmm12
-	psubb	%xmm14,%xmm12
-	paddusb	%xmm2,%xmm12
-	pminub	%xmm1,%xmm12
-	movdqu	-48(%rdi,%rsi),%xmm5
-	movdqa	%xmm5,%xmm3
-	paddb	%xmm9,%xmm3
-	movdqu	-64(%rdi,%rsi),%xmm13
-	movdqa	%xmm13,%xmm2
-	paddb	%xmm9,%xmm2
-	movdqu	-32(%rdi,%rsi),%xmm4
-	movdqa	%xmm4,%xmm1
-	paddb	%xmm9,%xmm1
-	movdqu	-16(%rdi,%rsi),%xmm6
-	paddb	%xmm6,%xmm9
-	psubusb	%xmm8,%xmm9
-	psubusb	%xmm8,%xmm1
-	psubusb	%xmm8,%xmm2
-	psubusb	%xmm8,%xmm3
-	movdqa	.LCPI7_7(%rip),%xmm8
-	paddb	%xmm8,%xmm3
-	paddb	%xmm8,%xmm2
+	por	%xmm0,%xmm9
+	psubb	%xmm14,%xmm9
+	paddusb	%xmm6,%xmm9
+	pminub	%xmm1,%xmm9
+	movdqu	-128(%rdi,%rsi),%xmm2
+	movdqa	%xmm2,%xmm1
 	paddb	%xmm8,%xmm1
-	paddb	%xmm8,%xmm9
+	psubusb	%xmm11,%xmm1
+	paddb	%xmm12,%xmm1
+	por	%xmm0,%xmm2
+	psubb	%xmm14,%xmm2
+	paddusb	%xmm6,%xmm2
+	pminub	%xmm1,%xmm2
+	movdqu	-96(%rdi,%rsi),%xmm3
+	movdqa	%xmm3,%xmm1
+	paddb	%xmm8,%xmm1
+	psubusb	%xmm11,%xmm1
+	paddb	%xmm12,%xmm1
+	por	%xmm0,%xmm3
+	psubb	%xmm14,%xmm3
+	paddusb	%xmm6,%xmm3
+	pminub	%xmm1,%xmm3
+	movdqu	-32(%rdi,%rsi),%xmm5
+	movdqa	%xmm5,%xmm1
+	paddb	%xmm8,%xmm1
+	movdqu	-64(%rdi,%rsi),%xmm4
+	movdqa	%xmm4,%xmm12
+	paddb	%xmm8,%xmm12
+	movdqu	-16(%rdi,%rsi),%xmm13
+	movdqa	%xmm13,%xmm11
+	paddb	%xmm8,%xmm11
+	movdqu	-48(%rdi,%rsi),%xmm6
+	paddb	%xmm6,%xmm8
+	psubusb	%xmm10,%xmm8
+	psubusb	%xmm10,%xmm11
+	psubusb	%xmm10,%xmm12
+	psubusb	%xmm10,%xmm1
+	movdqa	.LCPI7_7(%rip),%xmm10
+	paddb	%xmm10,%xmm1
+	paddb	%xmm10,%xmm12
+	paddb	%xmm10,%xmm11
+	paddb	%xmm10,%xmm8
 	por	%xmm0,%xmm5
-	por	%xmm0,%xmm13
 	por	%xmm0,%xmm4
+	por	%xmm0,%xmm13
 	por	%xmm6,%xmm0
 	psubb	%xmm14,%xmm0
-	psubb	%xmm14,%xmm4
 	psubb	%xmm14,%xmm13
+	psubb	%xmm14,%xmm4
 	psubb	%xmm14,%xmm5
-	movdqa	.LCPI7_8(%rip),%xmm8
-	paddusb	%xmm8,%xmm5
-	pminub	%xmm3,%xmm5
-	paddusb	%xmm8,%xmm13
-	pminub	%xmm2,%xmm13
-	paddusb	%xmm8,%xmm4
-	pminub	%xmm1,%xmm4
-	paddusb	%xmm8,%xmm0
-	pminub	%xmm9,%xmm0
-	movdqa	.Lhex_below-128(%rsp),%xmm2
-	movdqa	%xmm7,.Lhex_below-48(%rsp)
-	por	%xmm7,%xmm2
-	movdqa	%xmm12,%xmm1
-	por	%xmm5,%xmm1
-	por	%xmm2,%xmm1
-	movdqa	.Lhex_below-96(%rsp),%xmm2
-	por	.Lhex_below-112(%rsp),%xmm2
 	movdqa	.Lhex_below-32(%rsp),%xmm14
-	movdqa	.Lhex_below-16(%rsp),%xmm8
-	movdqa	%xmm11,%xmm3
-	por	%xmm13,%xmm3
-	por	%xmm2,%xmm3
-	movdqa	.Lhex_below-80(%rsp),%xmm2
-	por	%xmm8,%xmm2
-	movdqa	%xmm10,%xmm6
-	por	%xmm4,%xmm6
-	por	%xmm2,%xmm6
-	movdqa	.Lhex_below+0(%rsp),%xmm2
-	movdqa	%xmm2,%xmm7
-	por	%xmm14,%xmm2
-	movdqa	%xmm15,.Lhex_below-64(%rsp)
-	por	%xmm0,%xmm15
-	por	%xmm2,%xmm15
-	movdqa	.LCPI7_9(%rip),%xmm2
-	paddusb	%xmm2,%xmm15
-	paddusb	%xmm2,%xmm6
-	por	%xmm15,%xmm6
-	paddusb	%xmm2,%xmm3
-	paddusb	%xmm2,%xmm1
-	por	%xmm3,%xmm1
-	por	%xmm6,%xmm1
-	pmovmskb	%xmm1,%eax
-	testl	%eax,%eax
+	movdqa	.LCPI7_8(%rip),%xmm6
+	paddusb	%xmm6,%xmm5
+	pminub	%xmm1,%xmm5
+	paddusb	%xmm6,%xmm4
+	pminub	%xmm12,%xmm4
+	paddusb	%xmm6,%xmm13
+	pminub	%xmm11,%xmm13
+	paddusb	%xmm6,%xmm0
+	pminub	%xmm8,%xmm0
+	movdqa	.Lhex_below-80(%rsp),%xmm1
+	movdqa	.Lhex_below-16(%rsp),%xmm11
+	movdqa	%xmm7,.Lhex_below-64(%rsp)
+	por	%xmm7,%xmm1
+	movdqa	%xmm3,%xmm6
+	por	%xmm5,%xmm6
+	por	%xmm1,%xmm6
+	movdqa	.Lhex_below-112(%rsp),%xmm1
+	por	.Lhex_below-96(%rsp),%xmm1
+	movdqa	.Lhex_below-48(%rsp),%xmm10
+	movdqa	%xmm2,%xmm8
+	por	%xmm4,%xmm8
+	por	%xmm1,%xmm8
+	por	%xmm6,%xmm8
+	movdqa	%xmm11,%xmm7
+	movdqa	%xmm11,%xmm1
+	por	.Lhex_below-128(%rsp),%xmm1
+	movdqa	%xmm9,%xmm6
+	por	%xmm13,%xmm6
+	por	%xmm1,%xmm6
+	movdqa	%xmm14,%xmm12
+	por	%xmm10,%xmm14
+	movdqa	%xmm15,%xmm11
+	por	%xmm0,%xmm11
+	por	%xmm14,%xmm11
+	por	%xmm6,%xmm11
+	por	%xmm8,%xmm11
+	ptest	.LCPI7_9(%rip),%xmm11
 	jne	2f
 	movdqa	%xmm7,%xmm1
 	psllw	$12,%xmm1
 	paddw	%xmm7,%xmm1
-	movdqa	.Lhex_below-80(%rsp),%xmm3
-	movdqa	%xmm3,%xmm2
-	psllw	$12,%xmm2
-	paddw	%xmm3,%xmm2
-	movdqa	.Lhex_below-128(%rsp),%xmm6
-	movdqa	%xmm6,%xmm3
-	psllw	$12,%xmm3
-	paddw	%xmm6,%xmm3
-	movdqa	.Lhex_below-96(%rsp),%xmm7
+	movdqa	.Lhex_below-80(%rsp),%xmm7
 	movdqa	%xmm7,%xmm6
 	psllw	$12,%xmm6
 	paddw	%xmm7,%xmm6
-	psrlw	$8,%xmm6
-	psrlw	$8,%xmm3
-	packuswb	%xmm3,%xmm6
-	psrlw	$8,%xmm2
-	psrlw	$8,%xmm1
-	packuswb	%xmm1,%xmm2
-	movdqu	%xmm6,(%rdx)
-	movdqu	%xmm2,16(%rdx)
-	movdqa	%xmm14,%xmm1
-	psllw	$12,%xmm1
-	paddw	%xmm14,%xmm1
-	movdqa	%xmm8,%xmm2
-	psllw	$12,%xmm2
-	paddw	%xmm8,%xmm2
-	movdqa	.Lhex_below-48(%rsp),%xmm6
-	movdqa	%xmm6,%xmm3
-	psllw	$12,%xmm3
-	paddw	%xmm6,%xmm3
+	movdqa	%xmm12,%xmm8
+	psllw	$12,%xmm8
+	paddw	%xmm12,%xmm8
 	movdqa	.Lhex_below-112(%rsp),%xmm7
+	movdqa	%xmm7,%xmm11
+	psllw	$12,%xmm11
+	paddw	%xmm7,%xmm11
+	psrlw	$8,%xmm11
+	psrlw	$8,%xmm8
+	packuswb	%xmm8,%xmm11
+	psrlw	$8,%xmm6
+	psrlw	$8,%xmm1
+	packuswb	%xmm1,%xmm6
+	movdqu	%xmm11,(%rdx)
+	movdqu	%xmm6,16(%rdx)
+	movdqa	.Lhex_below-128(%rsp),%xmm6
+	movdqa	%xmm6,%xmm1
+	psllw	$12,%xmm1
+	paddw	%xmm6,%xmm1
+	movdqa	.Lhex_below-64(%rsp),%xmm7
 	movdqa	%xmm7,%xmm6
 	psllw	$12,%xmm6
 	paddw	%xmm7,%xmm6
+	movdqa	%xmm10,%xmm7
+	psllw	$12,%xmm7
+	paddw	%xmm10,%xmm7
+	movdqa	.Lhex_below-96(%rsp),%xmm10
+	movdqa	%xmm10,%xmm8
+	psllw	$12,%xmm8
+	paddw	%xmm10,%xmm8
+	psrlw	$8,%xmm8
+	psrlw	$8,%xmm7
+	packuswb	%xmm7,%xmm8
 	psrlw	$8,%xmm6
-	psrlw	$8,%xmm3
-	packuswb	%xmm3,%xmm6
-	psrlw	$8,%xmm2
 	psrlw	$8,%xmm1
-	packuswb	%xmm1,%xmm2
-	movdqu	%xmm6,32(%rdx)
-	movdqu	%xmm2,48(%rdx)
-	movdqa	%xmm12,%xmm1
+	packuswb	%xmm1,%xmm6
+	movdqu	%xmm8,32(%rdx)
+	movdqu	%xmm6,48(%rdx)
+	movdqa	%xmm15,%xmm1
 	psllw	$12,%xmm1
-	paddw	%xmm12,%xmm1
-	movdqa	%xmm11,%xmm2
-	psllw	$12,%xmm2
-	paddw	%xmm11,%xmm2
-	movdqa	.Lhex_below-64(%rsp),%xmm6
-	movdqa	%xmm6,%xmm3
-	psllw	$12,%xmm3
-	paddw	%xmm6,%xmm3
-	movdqa	%xmm10,%xmm6
+	paddw	%xmm15,%xmm1
+	movdqa	%xmm2,%xmm6
 	psllw	$12,%xmm6
-	paddw	%xmm10,%xmm6
-	psrlw	$8,%xmm6
-	psrlw	$8,%xmm3
-	packuswb	%xmm3,%xmm6
-	psrlw	$8,%xmm2
-	psrlw	$8,%xmm1
-	packuswb	%xmm1,%xmm2
-	movdqu	%xmm6,-48(%rdx,%rcx)
-	movdqu	%xmm2,-64(%rdx,%rcx)
-	movdqa	%xmm5,%xmm1
-	psllw	$12,%xmm1
-	paddw	%xmm5,%xmm1
-	movdqa	%xmm13,%xmm2
+	paddw	%xmm2,%xmm6
+	movdqa	%xmm9,%xmm2
 	psllw	$12,%xmm2
-	paddw	%xmm13,%xmm2
-	movdqa	%xmm0,%xmm3
-	psllw	$12,%xmm3
-	paddw	%xmm0,%xmm3
+	paddw	%xmm9,%xmm2
+	movdqa	%xmm3,%xmm7
+	psllw	$12,%xmm7
+	paddw	%xmm3,%xmm7
+	psrlw	$8,%xmm7
+	psrlw	$8,%xmm2
+	packuswb	%xmm2,%xmm7
+	psrlw	$8,%xmm6
+	psrlw	$8,%xmm1
+	packuswb	%xmm1,%xmm6
+	movdqu	%xmm7,-48(%rdx,%rcx)
+	movdqu	%xmm6,-64(%rdx,%rcx)
+	movdqa	%xmm0,%xmm1
+	psllw	$12,%xmm1
+	paddw	%xmm0,%xmm1
 	movdqa	%xmm4,%xmm0
 	psllw	$12,%xmm0
 	paddw	%xmm4,%xmm0
-	psrlw	$8,%xmm0
+	movdqa	%xmm13,%xmm2
+	psllw	$12,%xmm2
+	paddw	%xmm13,%xmm2
+	movdqa	%xmm5,%xmm3
+	psllw	$12,%xmm3
+	paddw	%xmm5,%xmm3
 	psrlw	$8,%xmm3
-	packuswb	%xmm3,%xmm0
 	psrlw	$8,%xmm2
+	packuswb	%xmm2,%xmm3
+	psrlw	$8,%xmm0
 	psrlw	$8,%xmm1
-	packuswb	%xmm1,%xmm2
-	movdqu	%xmm0,-16(%rdx,%rcx)
-	movdqu	%xmm2,-32(%rdx,%rcx)
+	packuswb	%xmm1,%xmm0
+	movdqu	%xmm3,-16(%rdx,%rcx)
+	movdqu	%xmm0,-32(%rdx,%rcx)
 	movb	$1,%al
-	addq	$24,%rsp
+	popq	%rcx
 	hex_raise
 	retq
 3:
@@ -6000,7 +5991,7 @@
 	je	21f
 2:
 	xorl	%eax,%eax
-	addq	$24,%rsp
+	popq	%rcx
 	hex_raise
 	retq
 21:
@@ -6100,7 +6091,7 @@
 	movdqu	%xmm2,-16(%rdx,%rcx)
 	movdqu	%xmm0,-32(%rdx,%rcx)
 26:
-	addq	$24,%rsp
+	popq	%rcx
 	hex_raise
 	retq
 	hex_end	core_plain_decode_apart
@@ -6161,17 +6152,17 @@
 6:
 	cmpq	$64,%rdx
 	jne	9f
-	movdqa	.LCPI8_3(%rip),%xmm5
+	movdqa	.LCPI8_3(%rip),%xmm4
 	movdqu	(%rsi),%xmm3
 	movdqu	16(%rsi),%xmm1
 	movdqu	32(%rsi),%xmm0
-	movdqu	48(%rsi),%xmm6
+	movdqu	48(%rsi),%xmm5
 	movdqa	%xmm3,%xmm10
-	paddb	%xmm5,%xmm10
-	movdqa	.LCPI8_4(%rip),%xmm7
-	psubusb	%xmm7,%xmm10
-	movdqa	.LCPI8_5(%rip),%xmm4
 	paddb	%xmm4,%xmm10
+	movdqa	.LCPI8_4(%rip),%xmm6
+	psubusb	%xmm6,%xmm10
+	movdqa	.LCPI8_5(%rip),%xmm7
+	paddb	%xmm7,%xmm10
 	movzbl	%r9b,%eax
 	leaq	.Lstatic.16(%rip),%rdx
 	movzbl	(%rax,%rdx),%edx
@@ -6188,37 +6179,34 @@
 	paddusb	%xmm9,%xmm3
 	pminub	%xmm10,%xmm3
 	movdqa	%xmm1,%xmm10
-	paddb	%xmm5,%xmm10
-	psubusb	%xmm7,%xmm10
 	paddb	%xmm4,%xmm10
+	psubusb	%xmm6,%xmm10
+	paddb	%xmm7,%xmm10
 	por	%xmm2,%xmm1
 	psubb	%xmm8,%xmm1
 	paddusb	%xmm9,%xmm1
 	pminub	%xmm10,%xmm1
 	movdqa	%xmm0,%xmm10
-	paddb	%xmm5,%xmm10
-	psubusb	%xmm7,%xmm10
 	paddb	%xmm4,%xmm10
+	psubusb	%xmm6,%xmm10
+	paddb	%xmm7,%xmm10
 	por	%xmm2,%xmm0
 	psubb	%xmm8,%xmm0
 	paddusb	%xmm9,%xmm0
 	pminub	%xmm10,%xmm0
-	paddb	%xmm6,%xmm5
-	psubusb	%xmm7,%xmm5
-	paddb	%xmm4,%xmm5
-	por	%xmm6,%xmm2
+	paddb	%xmm5,%xmm4
+	psubusb	%xmm6,%xmm4
+	paddb	%xmm7,%xmm4
+	por	%xmm5,%xmm2
 	psubb	%xmm8,%xmm2
 	paddusb	%xmm9,%xmm2
-	pminub	%xmm5,%xmm2
-	movdqa	%xmm3,%xmm5
-	por	%xmm1,%xmm5
-	movdqa	%xmm0,%xmm6
-	por	%xmm2,%xmm6
-	por	%xmm5,%xmm6
-	pmaxub	%xmm6,%xmm4
-	pcmpeqb	%xmm6,%xmm4
-	pmovmskb	%xmm4,%eax
-	testl	%eax,%eax
+	pminub	%xmm4,%xmm2
+	movdqa	%xmm3,%xmm4
+	por	%xmm1,%xmm4
+	movdqa	%xmm0,%xmm5
+	por	%xmm2,%xmm5
+	por	%xmm4,%xmm5
+	ptest	.LCPI8_7(%rip),%xmm5
 	jne	63f
 	movdqa	%xmm3,%xmm4
 	psllw	$12,%xmm4
@@ -6250,15 +6238,15 @@
 	jb	33f
 	cmpq	$63,%rdx
 	ja	50f
-	movdqa	.LCPI8_3(%rip),%xmm4
+	movdqa	.LCPI8_3(%rip),%xmm3
 	movdqu	(%rsi),%xmm2
 	movdqu	16(%rsi),%xmm1
-	movdqa	%xmm2,%xmm5
-	paddb	%xmm4,%xmm5
-	movdqa	.LCPI8_4(%rip),%xmm6
-	psubusb	%xmm6,%xmm5
-	movdqa	.LCPI8_5(%rip),%xmm3
-	paddb	%xmm3,%xmm5
+	movdqa	%xmm2,%xmm6
+	paddb	%xmm3,%xmm6
+	movdqa	.LCPI8_4(%rip),%xmm4
+	psubusb	%xmm4,%xmm6
+	movdqa	.LCPI8_5(%rip),%xmm5
+	paddb	%xmm5,%xmm6
 	movzbl	%r9b,%eax
 	leaq	.Lstatic.16(%rip),%rdi
 	movzbl	(%rax,%rdi),%edi
@@ -6273,41 +6261,38 @@
 	psubb	%xmm7,%xmm2
 	movdqa	.LCPI8_6(%rip),%xmm8
 	paddusb	%xmm8,%xmm2
-	pminub	%xmm5,%xmm2
-	movdqa	%xmm1,%xmm5
-	paddb	%xmm4,%xmm5
-	psubusb	%xmm6,%xmm5
-	paddb	%xmm3,%xmm5
+	pminub	%xmm6,%xmm2
+	movdqa	%xmm1,%xmm6
+	paddb	%xmm3,%xmm6
+	psubusb	%xmm4,%xmm6
+	paddb	%xmm5,%xmm6
 	por	%xmm0,%xmm1
 	psubb	%xmm7,%xmm1
 	paddusb	%xmm8,%xmm1
-	pminub	%xmm5,%xmm1
-	movdqu	-32(%rsi,%rdx),%xmm5
+	pminub	%xmm6,%xmm1
+	movdqu	-32(%rsi,%rdx),%xmm6
 	movdqu	-16(%rsi,%rdx),%xmm9
-	movdqa	%xmm5,%xmm10
-	paddb	%xmm4,%xmm10
-	psubusb	%xmm6,%xmm10
+	movdqa	%xmm6,%xmm10
 	paddb	%xmm3,%xmm10
-	por	%xmm0,%xmm5
-	psubb	%xmm7,%xmm5
-	paddusb	%xmm8,%xmm5
-	pminub	%xmm10,%xmm5
-	paddb	%xmm9,%xmm4
-	psubusb	%xmm6,%xmm4
-	paddb	%xmm3,%xmm4
+	psubusb	%xmm4,%xmm10
+	paddb	%xmm5,%xmm10
+	por	%xmm0,%xmm6
+	psubb	%xmm7,%xmm6
+	paddusb	%xmm8,%xmm6
+	pminub	%xmm10,%xmm6
+	paddb	%xmm9,%xmm3
+	psubusb	%xmm4,%xmm3
+	paddb	%xmm5,%xmm3
 	por	%xmm9,%xmm0
 	psubb	%xmm7,%xmm0
 	paddusb	%xmm8,%xmm0
-	pminub	%xmm4,%xmm0
-	movdqa	%xmm2,%xmm4
-	por	%xmm1,%xmm4
-	movdqa	%xmm5,%xmm6
-	por	%xmm0,%xmm6
-	por	%xmm4,%xmm6
-	pmaxub	%xmm6,%xmm3
-	pcmpeqb	%xmm6,%xmm3
-	pmovmskb	%xmm3,%eax
-	testl	%eax,%eax
+	pminub	%xmm3,%xmm0
+	movdqa	%xmm2,%xmm3
+	por	%xmm1,%xmm3
+	movdqa	%xmm6,%xmm4
+	por	%xmm0,%xmm4
+	por	%xmm3,%xmm4
+	ptest	.LCPI8_7(%rip),%xmm4
 	jne	63f
 	movdqa	%xmm2,%xmm3
 	psllw	$12,%xmm3
@@ -6319,9 +6304,9 @@
 	psrlw	$8,%xmm2
 	packuswb	%xmm2,%xmm3
 	movdqu	%xmm3,(%rcx)
-	movdqa	%xmm5,%xmm1
+	movdqa	%xmm6,%xmm1
 	psllw	$12,%xmm1
-	paddw	%xmm5,%xmm1
+	paddw	%xmm6,%xmm1
 	psrlw	$8,%xmm1
 	movdqa	%xmm0,%xmm2
 	psllw	$12,%xmm2

@@ -1,8 +1,7 @@
 -- Neighbouring lanes: words of two, packed nibbles, and two vectors taken in turn.
-use Rattle.std.proofs.Common.{◌≡◌, ℕ, zero, suc, ◌+◌, ◌*◌, ◌/◌, ◌%◌, ◌<◌, List, [], ◌∷◌, ◌++◌, map, length, length-drop, get_or, take, drop, drop-cons, bit_and, refl, sym, ap, ap₂, ◌∙◌, Fits, w8, arith}
+use Rattle.std.proofs.Common.{◌≡◌, ℕ, zero, suc, ◌+◌, ◌*◌, ◌/◌, ◌%◌, ◌<◌, List, [], ◌∷◌, ◌++◌, map, length, length-drop, get_or, take, drop, drop-cons, refl, sym, ap, ap₂, ◌∙◌, arith}
 use Rattle.std.proofs.lemmas.List.{drop_all, drop_at, get_or_append_left, get_or-append_right, length-take-le, take-append-drop, take_all, take_at}
-use Rattle.std.proofs.lemmas.Nat.{and_mask}
-use lib.Lanes.{Each1, chunk, number_l, digits_l, pick_l}
+use lib.Lanes.{chunk, number_l, digits_l, pick_l}
 use Rattle.hex_core.specs.inside.Arithmetic.{interleaved, packed, pair_byte}
 use Rattle.hex_core.specs.Lanes.{ArePacked, AreSmall}
 
@@ -20,18 +19,6 @@ packs_words (suc n) (a ∷ b ∷ v) e small =
     let B : b < 16 = small 1 (omega arith) in
     ap₂ (λ x r. x ∷ r) (ap pair_byte (omega arith) ∙ one_pair a b A B)
     (ap (λ k. map pair_byte (digits_l 65536 n k)) (omega arith) ∙ packs_words n v (omega arith) (λ i h. small (suc (suc i)) (omega arith)))
-
--- the nibbles of bytes, as std reads them out of one number: bits 4 to 15 of a byte's product with 4097 are its low nibble over the byte
-pub nibbles_of_words : (n : ℕ) (v : List ℕ) → n ≡ 2 * length v → Each1 (Fits w8) v
-    → digits_l 256 n (number_l 65536 (map (λ x. x * 4097 % 65536 / 16) v)) ≡ interleaved (map (λ x. x / 16) v) (map (λ x. bit_and x 15) v)
-nibbles_of_words zero [] e fits = refl
-nibbles_of_words zero (x ∷ v) e fits = absurd (omega arith)
-nibbles_of_words (suc n) [] e fits = absurd (omega arith)
-nibbles_of_words (suc zero) (x ∷ v) e fits = absurd (omega arith)
-nibbles_of_words (suc (suc n)) (x ∷ v) e fits =
-    let byte : x < 256 = fits.0.fits in
-    ap₂ (λ a r. a ∷ r) (omega arith)
-    (ap₂ (λ a r. a ∷ r) (omega arith ∙ sym (and_mask x 4)) (ap (digits_l 256 n) (omega arith) ∙ nibbles_of_words n v (omega arith) fits.1))
 
 pub length-packed : (v : List ℕ) → length (packed v) ≡ length v / 2
 length-packed [] = refl
@@ -84,3 +71,17 @@ pick_turns xs ys i (suc m) e h =
 
 pub in_turn : (n : ℕ) (xs ys : List ℕ) → length xs ≡ n → length ys ≡ n → pick_l 0 (xs ++ ys) (turns n 0 n) ≡ interleaved xs ys
 in_turn n xs ys p q = ap₂ (λ k m. pick_l 0 (xs ++ ys) (turns k 0 m)) (sym p) (sym p) ∙ pick_turns xs ys 0 (length xs) (p ∙ sym q) (omega arith)
+
+-- the places from i on, and what is picked of them in two vectors: the first one
+abbrev pub places : ℕ → ℕ → List ℕ
+places i zero = []
+places i (suc m) = i ∷ places (suc i) m
+
+pick_places : (xs ys : List ℕ) (i m : ℕ) → i + m ≡ length xs → pick_l 0 (xs ++ ys) (places i m) ≡ drop i xs
+pick_places xs ys i zero e = sym (drop_all i xs (omega arith))
+pick_places xs ys i (suc m) e =
+    ap₂ (λ a r. a ∷ r) (get_or_append_left xs ys 0 i (omega arith)) (pick_places xs ys (suc i) m (omega arith))
+    ∙ sym (drop-cons xs i 0 (omega arith))
+
+pub all_picked : (n : ℕ) (xs ys : List ℕ) → length xs ≡ n → pick_l 0 (xs ++ ys) (places 0 n) ≡ xs
+all_picked n xs ys e = pick_places xs ys 0 n (omega (arith, e))

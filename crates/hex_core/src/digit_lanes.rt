@@ -189,10 +189,10 @@ where
     }
 }
 
-/// By a product in words of 16 bits, which is faster only with vectors of 32 bytes.
-pub struct Multiplied;
+/// By interleaving within the halves of 32 lanes, which is faster only with vectors of 32 bytes.
+pub struct Halved;
 
-impl Encode<32, 64> for Multiplied {
+impl Encode<32, 64> for Halved {
     #[inline(always)]
     fn encoded(v: u8x32, upper: bool) -> u8x64
         ensures { result ≡ text upper v }

@@ -8,7 +8,7 @@ ghost use Rattle.hex_core.specs.Search.{first_invalid};
 ghost use Rattle.hex_core.specs.Text.{text};
 
 use crate::digit::CheckCase;
-use crate::digit_lanes::{Interleaved, Multiplied};
+use crate::digit_lanes::{Halved, Interleaved};
 use crate::kernel::{check_runs, decode_long, encode_blocks};
 use crate::registers::{
     check_three, check_two, decode_ends, decode_four, decode_three, decode_two, encode_four,
@@ -127,7 +127,7 @@ fn decode_apart(src: &[u8], dst: &mut [u8], case: CheckCase) -> bool
     }
 }
 
-/// Encodes `src` over all of `dst`, and if `wide` is true, more than 128 bytes by products.
+/// Encodes `src` over all of `dst`, and if `wide` is true, more than 128 bytes within halves.
 #[inline(always)]
 pub fn encode_by_length(src: &[u8], dst: &mut [u8], upper: bool, wide: bool)
     requires { length dst.old ≡ 2 * length src.now }
@@ -137,7 +137,7 @@ pub fn encode_by_length(src: &[u8], dst: &mut [u8], upper: bool, wide: bool)
         0..=32 => encode_few(src, dst, upper),
         33..=64 => encode_two::<Interleaved, 32, 64>(src, dst, upper),
         65..=128 => encode_four::<Interleaved, 32, 64>(src, dst, upper),
-        _ if wide => encode_blocks::<Multiplied, 32, 64>(src, dst, upper),
+        _ if wide => encode_blocks::<Halved, 32, 64>(src, dst, upper),
         _ => encode_blocks::<Interleaved, 32, 64>(src, dst, upper),
     }
 }

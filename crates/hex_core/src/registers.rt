@@ -16,7 +16,7 @@ ghost use Rattle.hex_core.specs.inside.Blocks.{EndsCover, Halves, NibblesFrom};
 use crate::digit::CheckCase;
 use crate::digit_lanes::{Encode, reach, saturated};
 use crate::kernel::{encode_at, pack_at};
-use crate::vector::{either, is_low, is_small, is_small_by_sign, larger};
+use crate::vector::{either, is_low, is_small, larger};
 use crate::widths::{Lanes, Pack};
 use std::simd::prelude::*;
 
@@ -167,7 +167,6 @@ pub fn decode_four<const N: usize, const HALF: usize>(
 ) -> bool
 where
     Lanes: Pack<N, HALF>,
-    requires lanes { N ≤ 64 }
     requires sizes { Halves N HALF src.now dst.old }
     requires covered { EndsCover (2 * N) src.now }
     ensures { DecodesWhole case src.now dst.old dst.new result }
@@ -177,7 +176,7 @@ where
     let second = nibbles_at::<N>(src, N, case);
     let third = nibbles_at::<N>(src, len - 2 * N, case);
     let last = nibbles_at::<N>(src, len - N, case);
-    if !is_small_by_sign(either(either(first, second), either(third, last))) {
+    if !is_small(either(either(first, second), either(third, last))) {
         return false;
     }
     let end = dst.len();

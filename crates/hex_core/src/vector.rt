@@ -131,17 +131,6 @@ pub fn is_small<const N: usize>(v: Simd<u8, N>) -> bool
     is_zero(masked(v, 0xf0))
 }
 
-/// The same, by the sign bits: of [`is_small`] the compiler makes a long reduction where a caller
-/// also returns the answer.
-#[inline(always)]
-pub fn is_small_by_sign<const N: usize>(v: Simd<u8, N>) -> bool
-    requires { N ≤ 64 }
-    ensures { IsTrue result ↔ AreSmall v.entry }
-{
-    // 16 becomes 128.
-    has_no_sign(saturating_add(v, 112))
-}
-
 // Multiplying by it puts the byte of two nibbles into the high half of their word.
 const FACTOR: u16 = 4097;
 
@@ -153,13 +142,24 @@ pub fn pair_bytes<const N: usize>(v: Simd<u16, N>) -> Simd<u8, N>
     ((v * Simd::splat(FACTOR)) >> Simd::splat(8)).cast::<u8>()
 }
 
-/// Both nibbles of each lane, the high one first: the product's word, shifted, is the low nibble
-/// above the high one.
+/// Both nibbles of each lane, the high one first. AVX2 interleaves within both halves of a vector:
+/// with the middle quarters swapped before, each half has the lanes that go to one vector.
 #[inline(always)]
 pub fn both_nibbles(v: u8x32) -> u8x64
     ensures { result ≡ interleaved (map (λ x. x / 16) v) (map (λ x. bit_and x 15) v) }
 {
-    ((v.cast::<u16>() * Simd::splat(FACTOR)) >> Simd::splat(4)).to_le_bytes()
+    let v = v.swizzle([
+        0, 1, 2, 3, 4, 5, 6, 7, 16, 17, 18, 19, 20, 21, 22, 23, 8, 9, 10, 11, 12, 13, 14, 15, 24,
+        25, 26, 27, 28, 29, 30, 31,
+    ]);
+    high_bits(v).shuffle(
+        masked(v, 0x0f),
+        [
+            0, 32, 1, 33, 2, 34, 3, 35, 4, 36, 5, 37, 6, 38, 7, 39, 16, 48, 17, 49, 18, 50, 19, 51,
+            20, 52, 21, 53, 22, 54, 23, 55, 8, 40, 9, 41, 10, 42, 11, 43, 12, 44, 13, 45, 14, 46,
+            15, 47, 24, 56, 25, 57, 26, 58, 27, 59, 28, 60, 29, 61, 30, 62, 31, 63,
+        ],
+    )
 }
 
 /// Flips the sign bit of each lane, so that signed bytes sort like unsigned ones.

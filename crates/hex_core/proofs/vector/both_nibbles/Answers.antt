@@ -1,10 +1,9 @@
-use Rattle.std.proofs.Common.{◌*◌, ◌/◌, ◌%◌, ◌^◌, arith}
-use Rattle.std.proofs.lemmas.List.{map-id}
-use Rattle.hex_core.proofs.LaneLemmas.{splat_twice}
-use Rattle.hex_core.proofs.PairLemmas.{nibbles_of_words}
+use Rattle.std.proofs.Common.{◌/◌, map, bit_and, ap}
+use Rattle.hex_core.specs.inside.Arithmetic.{interleaved}
+use Rattle.hex_core.proofs.PairLemmas.{all_picked}
 use Rattle.hex_core.proofs.vector.both_nibbles.Goals as goal
 
 pub returns : goal.returns
 returns c =
-    let v = c.args.v in
-    rw (map-id v, splat_twice (λ a b. a * b % 2 ^ 16) (λ a b. a / 2 ^ b) v 32 4097 4 c.fits-v.0) (nibbles_of_words 64 v (omega (arith, c.fits-v.0)) c.fits-v.1)
+    let both = ap (λ l. interleaved (map (λ x. x / 16) l) (map (λ x. bit_and x 15) l)) (all_picked 32 c.args.v c.args.v c.fits-v.0) in
+    rw (c.high_bits.ensures, c.masked.ensures) both
