@@ -31,26 +31,24 @@ struct task {
     size_t room;
 };
 
-// A build's calls: plain ones, in groups of 1 and 16 bytes, and those of arrays, of which each has one length.
+// A build's calls: plain ones, and in groups of 1 and 16 bytes.
 #define OF(build, call) faster_hex_1_0_0_x86_64_##build##_##call
 #define GROUPED(build, n) \
-    CALL(WRITE, 0, build##_write_##n, OF(build, encode_grouped)(src, len, dst, room, false, n, ':').number) \
-    CALL(READ, 0, build##_read_##n, OF(build, decode_grouped)(src, len, dst, room, 0, n, ':').number)
-#define ARRAY(build, n) CALL(DECODE, n, build##_decode_##n, n * OF(build, decode_##n)(src, dst))
+    CALL(WRITE, build##_write_##n, OF(build, encode_grouped)(src, len, dst, room, false, n, ':').number) \
+    CALL(READ, build##_read_##n, OF(build, decode_grouped)(src, len, dst, room, 0, n, ':').number)
 #define OURS(build) \
-    CALL(CHECK, 0, build##_check, OF(build, check)(src, len)) \
-    CALL(ENCODE, 0, build##_encode, OF(build, encode)(src, len, dst, room, false).number) \
-    CALL(DECODE, 0, build##_decode, OF(build, decode)(src, len, dst, room).number) \
-    GROUPED(build, 1) GROUPED(build, 16) \
-    ARRAY(build, 16) ARRAY(build, 20) ARRAY(build, 32) ARRAY(build, 64)
+    CALL(CHECK, build##_check, OF(build, check)(src, len)) \
+    CALL(ENCODE, build##_encode, OF(build, encode)(src, len, dst, room, false).number) \
+    CALL(DECODE, build##_decode, OF(build, decode)(src, len, dst, room).number) \
+    GROUPED(build, 1) GROUPED(build, 16)
 // The Rust crate's calls, of a kernel or on slices, and the loops of loops.c.
 #define RUST(side) \
-    CALL(CHECK, 0, side##_check, rust_##side##_check(src, len, dst, room)) \
-    CALL(ENCODE, 0, side##_encode, rust_##side##_encode(src, len, dst, room)) \
-    CALL(DECODE, 0, side##_decode, rust_##side##_decode(src, len, dst, room))
+    CALL(CHECK, side##_check, rust_##side##_check(src, len, dst, room)) \
+    CALL(ENCODE, side##_encode, rust_##side##_encode(src, len, dst, room)) \
+    CALL(DECODE, side##_decode, rust_##side##_decode(src, len, dst, room))
 #define LOOPS(n) \
-    CALL(WRITE, 0, loop_write_##n, write_by_##n(src, len, dst)) \
-    CALL(READ, 0, loop_read_##n, read_by_##n(src, len, dst))
+    CALL(WRITE, loop_write_##n, write_by_##n(src, len, dst)) \
+    CALL(READ, loop_read_##n, read_by_##n(src, len, dst))
 #define EACH OURS(v2) OURS(v3) RUST(sse41) RUST(avx2) RUST(slices_v2) RUST(slices_v3) LOOPS(1) LOOPS(16)
 
 #define DECLARED(build) \
@@ -58,9 +56,7 @@ struct task {
     __typeof__(faster_hex_encode) OF(build, encode); \
     __typeof__(faster_hex_decode) OF(build, decode); \
     __typeof__(faster_hex_encode_grouped) OF(build, encode_grouped); \
-    __typeof__(faster_hex_decode_grouped) OF(build, decode_grouped); \
-    bool OF(build, decode_16)(const void *src, void *dst), OF(build, decode_20)(const void *src, void *dst); \
-    bool OF(build, decode_32)(const void *src, void *dst), OF(build, decode_64)(const void *src, void *dst);
+    __typeof__(faster_hex_decode_grouped) OF(build, decode_grouped);
 DECLARED(v2)
 DECLARED(v3)
 typedef size_t other(const uint8_t *src, size_t len, uint8_t *dst, size_t room);
@@ -72,7 +68,7 @@ grouping write_by_1, write_by_16, read_by_1, read_by_16;
 
 // A loop for each call, so that the call is a direct one: how well a processor foresees an indirect one
 // depends on what else the machine does.
-#define CALL(kind, only, name, made) \
+#define CALL(kind, name, made) \
     static __attribute__((noinline)) size_t name##_loop(const struct task *task, long turns) { \
         const uint8_t *src = task->src; \
         uint8_t *dst = task->dst; \
@@ -88,12 +84,11 @@ EACH
 
 struct call {
     enum kind kind;
-    size_t only;
     const char *name;
     size_t (*loop)(const struct task *task, long turns);
 };
 
-#define CALL(kind, only, name, made) {kind, only, #name, name##_loop},
+#define CALL(kind, name, made) {kind, #name, name##_loop},
 static const struct call calls[] = {EACH};
 #define CALLS (sizeof calls / sizeof *calls)
 
@@ -106,10 +101,6 @@ static uint8_t out[3 * LARGEST + PAGE] __attribute__((aligned(64)));
 
 static const size_t *sizes_of(enum kind kind) {
     return kind == WRITE || kind == READ ? few : swept;
-}
-
-static bool has(const struct call *call, enum kind kind, size_t size) {
-    return call->kind == kind && (!call->only || call->only == size);
 }
 
 // A number with no pattern, the same ones in each run.
@@ -198,7 +189,7 @@ static void measure(enum kind kind, size_t at_size, size_t place) {
     size_t order[CALLS], count = 0;
     long turns[CALLS];
     for (size_t at = 0; at < CALLS; at++) {
-        if (has(&calls[at], kind, sizes_of(kind)[at_size])) {
+        if (calls[at].kind == kind) {
             order[count++] = at;
             tasks[at] = task_of(&calls[at], sizes_of(kind)[at_size]);
             tasks[at].dst += place;
@@ -235,7 +226,7 @@ static void measure_below(size_t below, enum kind kind, size_t at_size) {
 
 static void check(const struct call *call) {
     for (const size_t *size = sizes_of(call->kind); *size; size++) {
-        if (has(call, call->kind, *size) && !is_right(call, *size)) {
+        if (!is_right(call, *size)) {
             fprintf(stderr, "%s gives something else than it should on %zu bytes\n", call->name, *size);
             exit(1);
         }
@@ -269,9 +260,7 @@ int main(void) {
     for (size_t at = 0; at < CALLS; at++) {
         const size_t *sizes = sizes_of(calls[at].kind);
         for (size_t size = 0; sizes[size]; size++) {
-            if (least[at][size]) {
-                printf("%s\t%zu\t%.2f\n", calls[at].name, sizes[size], least[at][size]);
-            }
+            printf("%s\t%zu\t%.2f\n", calls[at].name, sizes[size], least[at][size]);
         }
     }
     return 0;

@@ -1,7 +1,7 @@
 #!/bin/sh
 # Compares faster_hex.h with the exported functions: the fields of the answer, of the same types in the
-# same order, which no proof sees; of each function its name, its result and its parameters, where a
-# slice is a pointer and a length; and the numbers of the statuses. Then its version, those of the crate for
+# same order, which no proof sees; of each function its name, its result and its parameters, where a Source
+# or a Destination is a pointer and a length; and the numbers of the statuses. Then its version, those of the crate for
 # Rust, of CMake and of the man pages, and that in the names of generated/ with VERSION of the Makefile, and
 # the sums of each PROVED in generated/ with its files, and the prover with README.md. Prints what differs; its
 # status is then 1.
@@ -13,8 +13,8 @@ trap 'rm -rf "$made"' EXIT
 
 # The header without its comments, a declaration a line, and its types by their names in Rust.
 sed '/^#/d; s/.*\\$//' faster_hex.h | tr '\n' ' ' | sed 's|/\*[^*]*\*\([^*/][^*]*\*\)*/||g' | tr ';{' '\n\n' | sed '
-    s/const void \*[a-z]*, size_t [a-z]*/\&[u8]/g
-    s/void \*[a-z]*, size_t [a-z]*/\&mut [u8]/g
+    s/const void \*[a-z]*, size_t [a-z]*/Source/g
+    s/void \*[a-z]*, size_t [a-z]*/Destination/g
     s/struct faster_hex_answer \(faster\)/Answer \1/
     s/size_t/usize/g
     s/uint8_t/u8/g

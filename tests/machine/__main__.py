@@ -10,7 +10,7 @@ from pathlib import Path
 
 from . import Refused
 from .image import Image, linked
-from .statements import ARRAYS, CALLS, shown
+from .statements import CALLS, shown
 from .values import forget
 
 TOP = Path(__file__).resolve().parents[2]
@@ -27,8 +27,7 @@ def sums():
 
 def lengths_of(call, most):
     """The lengths of a source of up to so many decoded bytes; fewer for the search, which each decoding does too."""
-    longest = {"encode": most, "first_invalid": most // 2}.get(call, 2 * most)
-    return [ARRAYS[call]] if call in ARRAYS else range(longest + 1)
+    return range({"encode": most, "first_invalid": most // 2}.get(call, 2 * most) + 1)
 
 
 def record(images, most):

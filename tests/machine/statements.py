@@ -18,9 +18,6 @@ CALLS = {
 # What Rust calls beside, with its policy.
 POLICIES = {"check_lower": 1, "check_upper": 2}
 CALLS |= dict.fromkeys(POLICIES, "source length")
-# With the lengths of their sources.
-ARRAYS = {f"decode_{it}": 2 * it for it in (16, 20, 32, 64)}
-CALLS |= dict.fromkeys(ARRAYS, "source destination")
 ROOM, POLICY = Value(z3.BitVec("room", 64)), Value(z3.BitVec("policy", 8))
 # A pointer to so many bytes may be null if they are none, and does not wrap.
 is_there = lambda pointer, length: z3.And(z3.Or(pointer != 0, length == 0), z3.ULE(pointer, ~length))

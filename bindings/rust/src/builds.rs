@@ -81,8 +81,4 @@ calls! {
     encode(src: *const u8, len: usize, dst: *mut u8, room: usize, upper: bool) -> Answer;
     decode(src: *const u8, len: usize, dst: *mut u8, room: usize) -> Answer;
     decode_with_case(src: *const u8, len: usize, dst: *mut u8, room: usize, policy: u8) -> Answer;
-    decode_16(src: *const [u8; 32], dst: *mut [u8; 16]) -> bool;
-    decode_20(src: *const [u8; 40], dst: *mut [u8; 20]) -> bool;
-    decode_32(src: *const [u8; 64], dst: *mut [u8; 32]) -> bool;
-    decode_64(src: *const [u8; 128], dst: *mut [u8; 64]) -> bool;
 }

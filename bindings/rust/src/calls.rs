@@ -87,24 +87,6 @@ pub fn decode(src: &[u8], dst: &mut [MaybeUninit<u8>], case: CheckCase) -> Resul
     })
 }
 
-/// Writes the bytes that `src` spells, in digits of either case, to all of `dst`. The lengths of most digests have
-/// calls of their own, which name no error: `false`, as for any other length, says that nothing was written.
-#[inline]
-pub fn decode_digest<const N: usize>(src: &[u8], dst: &mut [MaybeUninit<u8>; N]) -> bool {
-    let (from, to) = (src.as_ptr(), dst.as_mut_ptr());
-    // SAFETY: as in `encode`: there are as many digits, and the destination has as many bytes.
-    src.len() == 2 * N
-        && unsafe {
-            match N {
-                16 => builds::decode_16(from.cast(), to.cast()),
-                20 => builds::decode_20(from.cast(), to.cast()),
-                32 => builds::decode_32(from.cast(), to.cast()),
-                64 => builds::decode_64(from.cast(), to.cast()),
-                _ => false,
-            }
-        }
-}
-
 #[cfg(test)]
 mod tests {
     use super::*;
@@ -156,10 +138,6 @@ mod tests {
             let mut places = [[MaybeUninit::new(0); 700]; 2];
             let [ours, theirs] = &mut places;
             assert_eq!(check(src, case), portable::check(src, case));
-            assert!(!portable::decode_digest(
-                src,
-                &mut [MaybeUninit::new(0); 16]
-            ));
             let told = encode(src, &mut ours[..room], upper);
             assert_eq!(told, portable::encode(src, &mut theirs[..room], upper));
             let told = decode(src, &mut ours[room..], case);

@@ -58,8 +58,3 @@ pub fn decode(src: &[u8], dst: &mut [MaybeUninit<u8>], case: CheckCase) -> Resul
     }
     Ok(required)
 }
-
-/// No length has a call of its own here.
-pub fn decode_digest<const N: usize>(_: &[u8], _: &mut [MaybeUninit<u8>; N]) -> bool {
-    false
-}

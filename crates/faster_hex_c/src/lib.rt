@@ -33,6 +33,17 @@ const NOT_A_GROUP: u8 = 6;
 
 const BAD_LENGTH: u8 = 7;
 
+/// Bytes to read. C passes a pointer and a length, as for a slice that is a parameter by itself;
+/// but for that each call would first replace a null pointer, which has length 0 and is not read.
+#[repr(C)]
+#[derive(Clone, Copy)]
+pub struct Source<'a>(pub &'a [u8]);
+
+/// Bytes to write to, passed likewise.
+#[repr(C)]
+#[derive(Drop)]
+pub struct Destination<'a>(pub &'a mut [u8]);
+
 /// The result of a call.
 #[repr(C)]
 #[derive(Clone, Copy, Debug, PartialEq, Eq)]
@@ -131,63 +142,63 @@ fn plan() -> Backend {
 
 /// Returns whether every byte is a digit, of either case.
 #[unsafe(no_mangle)]
-pub extern "C" fn faster_hex_check(src: &[u8]) -> bool
-    ensures { IsTrue result ↔ (first_invalid policy.None src.now ≡ None) }
+pub extern "C" fn faster_hex_check(src: Source) -> bool
+    ensures { IsTrue result ↔ (first_invalid policy.None src.entry.0.now ≡ None) }
 {
-    plan().check(src, CheckCase::None)
+    plan().check(src.0, CheckCase::None)
 }
 
 /// The same under a policy: 0 accepts either case, 1 lowercase, 2 uppercase, any other nothing.
 #[unsafe(no_mangle)]
-pub extern "C" fn faster_hex_check_with_case(src: &[u8], case: u8) -> bool
-    ensures { ChecksBy case src.now result }
+pub extern "C" fn faster_hex_check_with_case(src: Source, case: u8) -> bool
+    ensures { ChecksBy case src.entry.0.now result }
 {
     match policy(case) {
-        Some(case) => plan().check(src, case),
+        Some(case) => plan().check(src.0, case),
         None => false,
     }
 }
 
 /// Finds the first invalid byte under a policy: 0 accepts either case, 1 lowercase, 2 uppercase.
 #[unsafe(no_mangle)]
-pub extern "C" fn faster_hex_first_invalid(src: &[u8], case: u8) -> Answer
-    ensures { FindsInvalid case src.now result }
+pub extern "C" fn faster_hex_first_invalid(src: Source, case: u8) -> Answer
+    ensures { FindsInvalid case src.entry.0.now result }
 {
     let Some(case) = policy(case) else {
         return NO_POLICY;
     };
-    match plan().find_invalid(src, case) {
+    match plan().find_invalid(src.0, case) {
         None => answer_of(Ok(0)),
         Some(index) => answer_of(Err(Error::InvalidChar {
             index,
-            byte: src[index],
+            byte: src.0[index],
         })),
     }
 }
 
 /// Writes the digits of `src` into the start of `dst`.
 #[unsafe(no_mangle)]
-pub extern "C" fn faster_hex_encode(src: &[u8], dst: &mut [u8], upper: bool) -> Answer
-    ensures { EncodesTo upper src.now dst.old dst.new result }
+pub extern "C" fn faster_hex_encode(src: Source, dst: Destination, upper: bool) -> Answer
+    ensures { EncodesTo upper src.entry.0.now dst.entry.0.now dst.exit.0.now result }
 {
-    answer_of(plan().encode_into(src, dst, upper))
+    answer_of(plan().encode_into(src.0, dst.0, upper))
 }
 
 /// Decodes digits of either case into the start of `dst`.
 #[unsafe(no_mangle)]
-pub extern "C" fn faster_hex_decode(src: &[u8], dst: &mut [u8]) -> Answer
-    ensures { DecodesTo policy.None src.now dst.old dst.new result }
+pub extern "C" fn faster_hex_decode(src: Source, dst: Destination) -> Answer
+    ensures { DecodesTo policy.None src.entry.0.now dst.entry.0.now dst.exit.0.now result }
 {
-    answer_of(plan().decode_into(src, dst, CheckCase::None))
+    answer_of(plan().decode_into(src.0, dst.0, CheckCase::None))
 }
 
 /// The same under a policy: 0 accepts either case, 1 lowercase, 2 uppercase.
 #[unsafe(no_mangle)]
-pub extern "C" fn faster_hex_decode_with_case(src: &[u8], dst: &mut [u8], case: u8) -> Answer
-    ensures { DecodesBy case src.now dst.old dst.new result }
+pub extern "C" fn faster_hex_decode_with_case(src: Source, dst: Destination, case: u8) -> Answer
+    ensures { DecodesBy case src.entry.0.now dst.entry.0.now dst.exit.0.now result }
 {
     match policy(case) {
-        Some(case) => answer_of(plan().decode_into(src, dst, case)),
+        Some(case) => answer_of(plan().decode_into(src.0, dst.0, case)),
         None => NO_POLICY,
     }
 }
@@ -196,16 +207,16 @@ pub extern "C" fn faster_hex_decode_with_case(src: &[u8], dst: &mut [u8], case: 
 /// `dst`.
 #[unsafe(no_mangle)]
 pub extern "C" fn faster_hex_encode_grouped(
-    src: &[u8],
-    dst: &mut [u8],
+    src: Source,
+    dst: Destination,
     upper: bool,
     every: usize,
     sep: u8,
 ) -> Answer
-    ensures { EncodesGrouped every sep upper src.now dst.old dst.new result }
+    ensures { EncodesGrouped every sep upper src.entry.0.now dst.entry.0.now dst.exit.0.now result }
 {
     match Group::new(every, sep) {
-        Some(group) => answer_of(write_by(plan(), src, dst, group, upper)),
+        Some(group) => answer_of(write_by(plan(), src.0, dst.0, group, upper)),
         None => NO_GROUP,
     }
 }
@@ -214,19 +225,19 @@ pub extern "C" fn faster_hex_encode_grouped(
 /// lowercase, 2 uppercase.
 #[unsafe(no_mangle)]
 pub extern "C" fn faster_hex_decode_grouped(
-    src: &[u8],
-    dst: &mut [u8],
+    src: Source,
+    dst: Destination,
     case: u8,
     every: usize,
     sep: u8,
 ) -> Answer
-    ensures { DecodesGrouped case every sep src.now dst.old dst.new result }
+    ensures { DecodesGrouped case every sep src.entry.0.now dst.entry.0.now dst.exit.0.now result }
 {
     let Some(case) = policy(case) else {
         return NO_POLICY;
     };
     match Group::new(every, sep) {
-        Some(group) => group_answer_of(read_by(plan(), src, dst, group, case)),
+        Some(group) => group_answer_of(read_by(plan(), src.0, dst.0, group, case)),
         None => NO_GROUP,
     }
 }

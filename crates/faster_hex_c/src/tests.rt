@@ -2,7 +2,7 @@
 
 use crate::for_rust::{faster_hex_check_lower, faster_hex_check_upper};
 use crate::{
-    Answer, faster_hex_check, faster_hex_check_with_case, faster_hex_decode,
+    Answer, Destination, Source, faster_hex_check, faster_hex_check_with_case, faster_hex_decode,
     faster_hex_decode_grouped, faster_hex_decode_with_case, faster_hex_encode,
     faster_hex_encode_grouped, faster_hex_first_invalid,
 };
@@ -19,14 +19,21 @@ const OLD: [u8; 4] = [0xa5; 4];
 // Whether a call returns this, and a destination of this many bytes of 0xa5 ends so.
 fn decodes(src: &[u8], room: usize, case: u8, wanted: Wanted, ends: &[u8; 4]) -> bool {
     let mut buffer = OLD;
-    let told = faster_hex_decode_with_case(src, &mut buffer[..room.min(4)], case);
+    let told = faster_hex_decode_with_case(
+        Source(src),
+        Destination(&mut buffer[..room.min(4)]),
+        case,
+    );
     is(told, wanted) && buffer == *ends
 }
 
 // The same for the call without a policy.
 fn decodes_plainly(src: &[u8], wanted: Wanted, ends: &[u8; 4]) -> bool {
     let mut buffer = OLD;
-    is(faster_hex_decode(src, &mut buffer), wanted) && buffer == *ends
+    is(
+        faster_hex_decode(Source(src), Destination(&mut buffer)),
+        wanted,
+    ) && buffer == *ends
 }
 
 #[test]
@@ -46,11 +53,14 @@ fn statuses_of_decoding(rt: HostRuntime) {
 // Whether a call returns this, and a destination of 0xa5 ends so.
 fn encodes(src: &[u8], upper: bool, wanted: Wanted, ends: &[u8; 4]) -> bool {
     let mut buffer = OLD;
-    is(faster_hex_encode(src, &mut buffer, upper), wanted) && buffer == *ends
+    is(
+        faster_hex_encode(Source(src), Destination(&mut buffer), upper),
+        wanted,
+    ) && buffer == *ends
 }
 
 fn finds(src: &[u8], case: u8, wanted: Wanted) -> bool {
-    is(faster_hex_first_invalid(src, case), wanted)
+    is(faster_hex_first_invalid(Source(src), case), wanted)
 }
 
 #[test]
@@ -60,31 +70,37 @@ fn statuses_of_encoding_and_of_a_search(rt: HostRuntime) {
         && finds(b"00aB", 0, (0, 0, 0))
         && finds(b"00aBg", 1, (3, 3, b'B'))
         && finds(b"g", 7, (0, 5, 0))
-        && faster_hex_check(b"00aB0")
-        && !faster_hex_check(b"00ag")
-        && faster_hex_check_lower(b"0ab")
-        && !faster_hex_check_lower(b"0aB")
-        && faster_hex_check_upper(b"0AB")
-        && !faster_hex_check_upper(b"0aB")
-        && faster_hex_check_with_case(b"aB", 0)
-        && faster_hex_check_with_case(b"ab", 1)
-        && !faster_hex_check_with_case(b"aB", 1)
-        && faster_hex_check_with_case(b"AB", 2)
-        && !faster_hex_check_with_case(b"", 3);
+        && faster_hex_check(Source(b"00aB0"))
+        && !faster_hex_check(Source(b"00ag"))
+        && faster_hex_check_lower(Source(b"0ab"))
+        && !faster_hex_check_lower(Source(b"0aB"))
+        && faster_hex_check_upper(Source(b"0AB"))
+        && !faster_hex_check_upper(Source(b"0aB"))
+        && faster_hex_check_with_case(Source(b"aB"), 0)
+        && faster_hex_check_with_case(Source(b"ab"), 1)
+        && !faster_hex_check_with_case(Source(b"aB"), 1)
+        && faster_hex_check_with_case(Source(b"AB"), 2)
+        && !faster_hex_check_with_case(Source(b""), 3);
     assert!(rt; holds);
 }
 
 // Whether a destination of 0xa5 ends so after bytes are written into it in groups.
 fn groups(src: &[u8], every: usize, sep: u8, wanted: Wanted, ends: &[u8; 6]) -> bool {
     let mut buffer = [0xa5; 6];
-    let told = faster_hex_encode_grouped(src, &mut buffer, true, every, sep);
+    let told = faster_hex_encode_grouped(Source(src), Destination(&mut buffer), true, every, sep);
     is(told, wanted) && buffer == *ends
 }
 
 // Whether decoding groups of one byte returns this, and a destination ends so.
 fn reads(src: &[u8], room: usize, case: u8, sep: u8, wanted: Wanted, ends: &[u8; 4]) -> bool {
     let mut buffer = OLD;
-    let told = faster_hex_decode_grouped(src, &mut buffer[..room.min(4)], case, 1, sep);
+    let told = faster_hex_decode_grouped(
+        Source(src),
+        Destination(&mut buffer[..room.min(4)]),
+        case,
+        1,
+        sep,
+    );
     is(told, wanted) && buffer == *ends
 }
 

@@ -38,3 +38,8 @@ written-more {upper} {src} {dst} {n} i w m at le e room p so_far =
       long = length-put_chunk at dst block ∙ so_far.long;
       front = rw (take_more_put_chunk at dst block (2 * m) (omega (arith, long)) (omega (arith, so_far.long)), before, e, take-add i w src) (sym (text-append upper (take i src) (chunk i w src)));
     }
+
+-- one block of all bytes is their text
+pub one_block : (upper : Bool) (src dst : List ℕ) (n : ℕ) → n ≡ length src → length dst ≡ 2 * length src → put_chunk 0 dst (text upper (chunk 0 n src)) ≡ text upper src
+one_block upper src dst n whole long =
+    written-all n whole (written-more 0 n n 0 (omega arith) (omega arith) (omega (arith, whole)) refl (written-none upper src dst long))

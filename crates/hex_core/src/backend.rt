@@ -66,16 +66,14 @@ impl Backend {
         Backend(Kind::Plain)
     }
 
-    /// Returns a plan that differs from [`Backend::plain`] only in how it encodes more than 128
+    /// Returns a plan that differs from [`Backend::plain`] only in how it encodes more than 64
     /// bytes, which is faster in a build for vectors of 32 bytes, and slower in others. Its name
     /// is `wide`.
     ///
     /// ```rust
-    /// let wide = Backend::wide();
-    /// let mut digits = [0; 2048];
-    /// wide.encode(&[0xab; 1024], &mut digits, true);
+    /// let mut digits = [0; 256];
+    /// Backend::wide().encode(&[0xab; 128], &mut digits, true);
     /// assert!(rt; digits.chunks(2).all(|pair| pair == b"AB".as_slice()));
-    /// assert_eq!(rt; wide.name(), "wide");
     /// ```
     #[inline(always)]
     pub fn wide() -> Backend
@@ -137,17 +135,27 @@ impl Backend {
         requires { length dst.old ≡ 2 * length src.now }
         ensures text { dst.new ≡ text upper src.now }
     {
-        match (self.0, src.len()) {
-            (Kind::Plain | Kind::Wide, _) => {
-                let wide = matches!(self.0, Kind::Wide);
-                encode_by_length(src, dst, upper, wide)
+        match self.0 {
+            Kind::Plain | Kind::Wide => {
+                encode_by_length(src, dst, upper, matches!(self.0, Kind::Wide))
             }
+            _ => self.encode_named(src, dst, upper),
+        }
+    }
+
+    // The same for the other plans, apart, as `decode_named`.
+    #[inline(never)]
+    fn encode_named(self, src: &[u8], dst: &mut [u8], upper: bool)
+        requires { length dst.old ≡ 2 * length src.now }
+        ensures { dst.new ≡ text upper src.now }
+    {
+        match (self.0, src.len()) {
             (Kind::Scalar, _) | (_, 0..8) => encode_by_table(src, dst, upper),
             (_, 8..16) => encode_blocks::<Interleaved, 8, 16>(src, dst, upper),
             (Kind::Sse41 | Kind::Neon, _) | (_, 16..32) => encode_blocks::<Interleaved, 16, 32>(
                 src, dst, upper,
             ),
-            (Kind::Avx2 | Kind::Avx512, _) => encode_blocks::<Interleaved, 32, 64>(src, dst, upper),
+            _ => encode_blocks::<Interleaved, 32, 64>(src, dst, upper),
         }
     }
 
@@ -223,9 +231,7 @@ impl Backend {
             Kind::Avx2 => Backend(Kind::Avx2).decode_each_block::<32>(src, dst, case),
             Kind::Neon => Backend(Kind::Neon).decode_each_block::<32>(src, dst, case),
             Kind::Avx512 => Backend(Kind::Avx512).decode_each_block::<64>(src, dst, case),
-            Kind::Plain | Kind::Wide => {
-                Backend(Kind::Plain).decode_each_block::<64>(src, dst, case)
-            }
+            _ => Backend(Kind::Plain).decode_each_block::<64>(src, dst, case),
         }
     }
 

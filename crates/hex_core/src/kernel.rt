@@ -178,9 +178,8 @@ where
     text.copy_to_slice(&mut dst[2 * at..]);
 }
 
-/// Encodes a block or more over all of `dst`. It is a function of its own, so that the compiler
-/// does not know `upper`: else it reloads the table in every iteration.
-#[inline(never)]
+/// Encodes a block or more over all of `dst`.
+#[inline(always)]
 pub fn encode_blocks<E, const N: usize, const TWICE: usize>(src: &[u8], dst: &mut [u8], upper: bool)
 where
     E: Encode<N, TWICE>,

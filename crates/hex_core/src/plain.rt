@@ -9,10 +9,10 @@ ghost use Rattle.hex_core.specs.Text.{text};
 
 use crate::digit::CheckCase;
 use crate::digit_lanes::{Halved, Interleaved};
-use crate::kernel::{check_runs, decode_long, encode_blocks};
+use crate::kernel::{check_runs, decode_long, encode_at, encode_blocks};
 use crate::registers::{
     check_three, check_two, decode_ends, decode_four, decode_three, decode_two, encode_four,
-    encode_one, encode_two,
+    encode_two,
 };
 
 /// Returns whether every byte of `src` is valid under `case`.
@@ -21,7 +21,9 @@ pub fn check_by_length(src: &[u8], case: CheckCase) -> bool
     ensures { IsTrue result ↔ (first_invalid case src.now ≡ None) }
 {
     match src.len() {
-        0..=64 => check_few(src, case),
+        0..16 => check_short(src, case),
+        16..=32 => check_two::<16>(src, case),
+        33..=64 => check_two::<32>(src, case),
         65..=96 => check_three::<32>(src, case),
         97..=128 => check_two::<64>(src, case),
         129..=192 => check_three::<64>(src, case),
@@ -29,17 +31,13 @@ pub fn check_by_length(src: &[u8], case: CheckCase) -> bool
     }
 }
 
-// The same for at most 64 bytes: a longer source passes one test for all of these.
-#[inline(always)]
-fn check_few(src: &[u8], case: CheckCase) -> bool
-    requires { length src.now ≤ 64 }
+// The same for a block or more, apart: its loops are too long to be inlined in each caller.
+#[inline(never)]
+fn check_long(src: &[u8], case: CheckCase) -> bool
+    requires { 64 ≤ length src.now }
     ensures { IsTrue result ↔ (first_invalid case src.now ≡ None) }
 {
-    match src.len() {
-        0..16 => check_short(src, case),
-        16..=32 => check_two::<16>(src, case),
-        _ => check_two::<32>(src, case),
-    }
+    check_runs(src, case)
 }
 
 // The same for fewer than 16 bytes.
@@ -57,15 +55,6 @@ fn check_short(src: &[u8], case: CheckCase) -> bool
     }
 }
 
-// The same for a block or more, apart: its loops are too long to be inlined in each caller.
-#[inline(never)]
-fn check_long(src: &[u8], case: CheckCase) -> bool
-    requires { 64 ≤ length src.now }
-    ensures { IsTrue result ↔ (first_invalid case src.now ≡ None) }
-{
-    check_runs(src, case)
-}
-
 /// The most digits that [`decode_by_length`] decodes without a call.
 pub const MOST_INLINE: usize = 192;
 
@@ -77,24 +66,12 @@ pub fn decode_by_length(src: &[u8], dst: &mut [u8], case: CheckCase) -> bool
     ensures { DecodesWhole case src.now dst.old dst.new result }
 {
     match src.len() {
-        0..=64 => decode_few(src, dst, case),
+        0..16 => decode_short(src, dst, case),
+        16..=32 => decode_ends::<16, 32, 8>(src, dst, case),
+        33..=64 => decode_ends::<32, 64, 16>(src, dst, case),
         65..=128 => decode_two::<64, 32>(src, dst, case),
         129..=192 => decode_three::<64, 32>(src, dst, case),
         _ => decode_apart(src, dst, case),
-    }
-}
-
-// The same for at most 64 digits.
-#[inline(always)]
-fn decode_few(src: &[u8], dst: &mut [u8], case: CheckCase) -> bool
-    requires twice { length src.now ≡ 2 * length dst.old }
-    requires few { length src.now ≤ 64 }
-    ensures { DecodesWhole case src.now dst.old dst.new result }
-{
-    match src.len() {
-        0..16 => decode_short(src, dst, case),
-        16..=32 => decode_ends::<16, 32, 8>(src, dst, case),
-        _ => decode_ends::<32, 64, 16>(src, dst, case),
     }
 }
 
@@ -113,12 +90,12 @@ fn decode_short(src: &[u8], dst: &mut [u8], case: CheckCase) -> bool
     }
 }
 
-// The same for more than 128 digits, apart: with its blocks in it, `decode_by_length` would not be
+// The same for more than 192 digits, apart: with its blocks in it, `decode_by_length` would not be
 // inlined.
 #[inline(never)]
 fn decode_apart(src: &[u8], dst: &mut [u8], case: CheckCase) -> bool
     requires twice { length src.now ≡ 2 * length dst.old }
-    requires more { 128 < length src.now }
+    requires more { MOST_INLINE < length src.now }
     ensures { DecodesWhole case src.now dst.old dst.new result }
 {
     match src.len() {
@@ -127,33 +104,25 @@ fn decode_apart(src: &[u8], dst: &mut [u8], case: CheckCase) -> bool
     }
 }
 
-/// Encodes `src` over all of `dst`, and if `wide` is true, more than 128 bytes within halves.
+/// Encodes `src` over all of `dst`. If `wide` is true, long sources are encoded by [`Halved`].
 #[inline(always)]
 pub fn encode_by_length(src: &[u8], dst: &mut [u8], upper: bool, wide: bool)
     requires { length dst.old ≡ 2 * length src.now }
     ensures { dst.new ≡ text upper src.now }
 {
     match src.len() {
-        0..=32 => encode_few(src, dst, upper),
+        // Longer sources pass one test for all of these.
+        0..=32 => match src.len() {
+            32 => encode_at::<Interleaved, 32, 64>(src, dst, 0, upper),
+            0..8 => encode_short(src, dst, upper),
+            8..=16 => encode_two::<Interleaved, 8, 16>(src, dst, upper),
+            _ => encode_two::<Interleaved, 16, 32>(src, dst, upper),
+        },
         33..=64 => encode_two::<Interleaved, 32, 64>(src, dst, upper),
+        65..=128 if wide => encode_four::<Halved, 32, 64>(src, dst, upper),
         65..=128 => encode_four::<Interleaved, 32, 64>(src, dst, upper),
         _ if wide => encode_blocks::<Halved, 32, 64>(src, dst, upper),
         _ => encode_blocks::<Interleaved, 32, 64>(src, dst, upper),
-    }
-}
-
-// The same for at most 32 bytes.
-#[inline(always)]
-fn encode_few(src: &[u8], dst: &mut [u8], upper: bool)
-    requires twice { length dst.old ≡ 2 * length src.now }
-    requires few { length src.now ≤ 32 }
-    ensures { dst.new ≡ text upper src.now }
-{
-    match src.len() {
-        32 => encode_one::<Interleaved, 32, 64>(src, dst, upper),
-        0..8 => encode_short(src, dst, upper),
-        8..=16 => encode_two::<Interleaved, 8, 16>(src, dst, upper),
-        _ => encode_two::<Interleaved, 16, 32>(src, dst, upper),
     }
 }
 
@@ -167,7 +136,7 @@ fn encode_short(src: &[u8], dst: &mut [u8], upper: bool)
     match src.len() {
         4..8 => encode_two::<Interleaved, 4, 8>(src, dst, upper),
         2..4 => encode_two::<Interleaved, 2, 4>(src, dst, upper),
-        1 => encode_one::<Interleaved, 1, 2>(src, dst, upper),
+        1 => encode_at::<Interleaved, 1, 2>(src, dst, 0, upper),
         _ => (),
     }
 }

@@ -5,12 +5,9 @@
 //! twice with equal bytes.
 
 ghost use Rattle.std.specs.Prelude.{◌≡◌, ◌↔◌, ◌+◌, ◌-◌, ◌*◌, ◌<◌, ◌≤◌, IsTrue, None, length};
-ghost use Rattle.std.specs.Simd.Lanes.{put_chunk};
 ghost use Rattle.hex_core.specs.Calls.{DecodesWhole};
-ghost use Rattle.hex_core.specs.Lanes.{AreSmall};
 ghost use Rattle.hex_core.specs.Search.{first_invalid};
 ghost use Rattle.hex_core.specs.Text.{text};
-ghost use Rattle.hex_core.specs.inside.Arithmetic.{packed};
 ghost use Rattle.hex_core.specs.inside.Blocks.{EndsCover, Halves, NibblesFrom};
 
 use crate::digit::CheckCase;
@@ -53,28 +50,6 @@ fn nibbles_at<const N: usize>(src: &[u8], at: usize, case: CheckCase) -> Simd<u8
     ensures { NibblesFrom case src.now at N result }
 {
     saturated(Simd::<u8, N>::from_slice(&src[at..]), case)
-}
-
-// Writes the bytes of two blocks of nibbles, one at each end of a range.
-#[inline(always)]
-fn pack_two<const N: usize, const HALF: usize>(
-    front: Simd<u8, N>,
-    back: Simd<u8, N>,
-    dst: &mut [u8],
-    start: usize,
-    end: usize,
-)
-where
-    Lanes: Pack<N, HALF>,
-    requires front { AreSmall front }
-    requires back { AreSmall back }
-    requires least { start + HALF ≤ end }
-    requires inside { end ≤ length dst.old }
-    ensures { dst.new ≡ put_chunk (end - HALF) (put_chunk start dst.old (packed front.entry))
-        (packed back.entry) }
-{
-    pack_at(front, dst, start);
-    pack_at(back, dst, end - HALF);
 }
 
 /// Decodes `N` to `2 * N` digits, both ends as one vector. Tests all before the first store.
@@ -128,7 +103,8 @@ where
         return false;
     }
     let end = dst.len();
-    pack_two(front, back, dst, 0, end);
+    pack_at(front, dst, 0);
+    pack_at(back, dst, end - HALF);
     true
 }
 
@@ -153,7 +129,8 @@ where
         return false;
     }
     let end = dst.len();
-    pack_two(first, second, dst, 0, N);
+    pack_at(first, dst, 0);
+    pack_at(second, dst, HALF);
     pack_at(last, dst, end - HALF);
     true
 }
@@ -180,22 +157,11 @@ where
         return false;
     }
     let end = dst.len();
-    pack_two(first, second, dst, 0, N);
-    pack_two(third, last, dst, end - N, end);
+    pack_at(first, dst, 0);
+    pack_at(second, dst, HALF);
+    pack_at(third, dst, end - N);
+    pack_at(last, dst, end - HALF);
     true
-}
-
-/// Encodes `N` bytes.
-#[inline(always)]
-pub fn encode_one<E, const N: usize, const TWICE: usize>(src: &[u8], dst: &mut [u8], upper: bool)
-where
-    E: Encode<N, TWICE>,
-    requires lanes { TWICE ≡ 2 * N }
-    requires twice { length dst.old ≡ 2 * length src.now }
-    requires whole { length src.now ≡ N }
-    ensures { dst.new ≡ text upper src.now }
-{
-    encode_at::<E, N, TWICE>(src, dst, 0, upper);
 }
 
 /// Encodes `N` to `2 * N` bytes.

@@ -39,21 +39,13 @@ fn encoded_len(src: &[u8], room: usize) -> Result<usize, Error>
     ensures { Answers (encode_refusal src.now room) (λ n. n ≡ 2 * length src.now) result }
 {
     // Multiplies only what is known to fit `usize`.
-    if room / 2 < src.len() {
-        return Err(no_room(src));
+    if src.len() <= room / 2 {
+        return Ok(2 * src.len());
     }
-    Ok(2 * src.len())
-}
-
-// The error of encoding `src` if its digits do not fit.
-#[inline(always)]
-fn no_room(src: &[u8]) -> Error
-    ensures { (room : ℕ) → room < 2 * length src.now → encode_refusal src.now room ≡ Some result }
-{
-    match src.len().checked_mul(2) {
+    Err(match src.len().checked_mul(2) {
         None => Error::Overflow,
         Some(required) => Error::OutputTooSmall { required },
-    }
+    })
 }
 
 impl Backend {

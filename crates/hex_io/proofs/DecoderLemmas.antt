@@ -70,6 +70,10 @@ digits-solid c (b ∷ s) none =
     let rest = digits-solid c s ((none_joined (lacks c) (b ∷ []) s).0 none).1 in
     rw (digit-solid c b (has_value c (b ∷ s) 0 none (omega arith)), rest) refl
 
+-- so of valid digits all are counted, and none is stray
+pub valid-solid : (c : CheckCase) (s : List ℕ) → first_invalid c s ≡ None → (length s ≡ length (unspaced s)) × (first_stray (spaced c) s ≡ None)
+valid-solid c s valid = let solid = digits-solid c s valid in (ap length (sym solid), (solid-valid c s).1 (rw solid valid))
+
 -- a source that loses nothing keeps all
 pub all-solid : (s : List ℕ) → length (unspaced s) ≡ length s → unspaced s ≡ s
 all-solid [] is = refl

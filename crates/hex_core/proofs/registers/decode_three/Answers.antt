@@ -1,4 +1,4 @@
-use Rattle.std.proofs.Common.{◌+◌, ◌-◌, length, refl, arith}
+use Rattle.std.proofs.Common.{◌+◌, ◌-◌, length, refl, ◌∙◌, arith}
 use Rattle.std.proofs.lemmas.Bool.{iff_false}
 use Rattle.hex_core.specs.inside.Blocks.{DecodesRange}
 use Rattle.hex_core.proofs.BlockLemmas.{block_decodes, decodes_over, decodes_whole, pair_decodes, pair_valid, parts_tested, small_valid}
@@ -18,9 +18,9 @@ returns g c =
     let pair = pair_valid (n + n) c.either.ensures.small first second refl (omega arith) (omega arith) in
     let test = parts_tested case s (n + n) (length s - n) (length s) c.is_small.ensures c.either-2.ensures.small pair (small_valid (length s) last (omega arith)) refl (omega arith) (omega arith) in
     let small = c.either-2.ensures.small.0 (c.is_small.ensures.0 c.if-not-is_small.false) in
-    let mid = c.pack_two.new.dst in
+    let mid = c.pack_at-2.new.dst in
     let front : DecodesRange case s old mid 0 n =
-    pair_decodes (n - w) w first second (c.either.ensures.small.0 small.0) c.pack_two.ensures (omega arith) refl (omega arith) (omega arith) (omega arith) (omega arith) (omega arith) in
-    let back : DecodesRange case s mid c.pack_at.new.dst (end - w) end =
-    block_decodes w last small.1 c.pack_at.ensures (omega arith) (omega arith) (omega arith) (omega arith) in
+    pair_decodes w w first second (c.either.ensures.small.0 small.0) (c.pack_at-2.ensures ∙ rw c.pack_at.ensures refl) (omega arith) (omega arith) (omega arith) (omega arith) (omega arith) (omega arith) (omega arith) in
+    let back : DecodesRange case s mid c.pack_at-3.new.dst (end - w) end =
+    block_decodes w last small.1 c.pack_at-3.ensures (omega arith) (omega arith) (omega arith) (omega arith) in
     (test.0 c.if-not-is_small.false, decodes_whole (decodes_over front back (omega arith) (omega arith) (omega arith)) (omega arith) (omega arith))

@@ -1,4 +1,4 @@
-use Rattle.std.proofs.Common.{◌-◌, length, refl, arith}
+use Rattle.std.proofs.Common.{◌-◌, length, refl, ◌∙◌, arith}
 use Rattle.std.proofs.lemmas.Bool.{iff_false}
 use Rattle.hex_core.proofs.BlockLemmas.{decodes_whole, pair_decodes, pair_tested}
 use Rattle.hex_core.proofs.registers.decode_two.Goals as goal
@@ -14,6 +14,6 @@ returns g c =
     let front = c.nibbles_at-front.ensures in let back = c.nibbles_at-back.ensures in let w = g.row.HALF in let end = length c.args.dst.now in
     let small = c.either.ensures.small.0 (c.is_small.ensures.0 c.if-not-is_small.false) in (
       (pair_tested c.is_small.ensures c.either.ensures.small front back (omega arith) (omega arith)).0 c.if-not-is_small.false,
-      decodes_whole {n = end}
-          (pair_decodes (end - w) w front back small c.pack_two.ensures (omega arith) refl (omega arith) (omega arith) (omega arith) (omega arith) (omega arith)) (omega arith) (omega arith),
+      decodes_whole {old = c.args.dst.now} {n = end}
+          (pair_decodes (end - w) w front back small (c.pack_at-2.ensures ∙ rw c.pack_at.ensures refl) (omega arith) refl (omega arith) (omega arith) (omega arith) (omega arith) (omega arith)) (omega arith) (omega arith),
     )

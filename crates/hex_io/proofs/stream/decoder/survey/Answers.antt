@@ -1,10 +1,10 @@
-use Rattle.std.proofs.Common.{rules, arith, ap, refl, sym, ◌≡◌, None, ◌∙◌, ◌++◌, [], true, length, length-append, append_assoc}
+use Rattle.std.proofs.Common.{rules, arith, ap, refl, ◌∙◌, ◌++◌, [], true, length, length-append, append_assoc}
 use Rattle.std.specs.Slice.Iter.{chunks_rest}
 use Rattle.std.proofs.Math.Bool.{and-eq-true_iff}
 use Rattle.std.proofs.lemmas.List.Elements.{filter-append}
 use Rattle.hex_core.proofs.PositionLemmas.{none_joined}
-use Rattle.hex_io.specs.Reading.{first_stray, is_solid, is_stray, spaced, unspaced}
-use Rattle.hex_io.proofs.DecoderLemmas.{digits-le, digits-solid, solid-valid}
+use Rattle.hex_io.specs.Reading.{is_solid, is_stray, spaced, unspaced}
+use Rattle.hex_io.proofs.DecoderLemmas.{digits-le, valid-solid}
 use Rattle.hex_io.proofs.stream.decoder.survey.Goals as goal
 
 pub loop-block-init : goal.loop-block-init
@@ -38,10 +38,8 @@ loop-block-preserved c =
 
 pub returns-then-check-clause-count : goal.returns-then-check-clause-count
 returns-then-check-clause-count c =
-    ap length (sym (digits-solid c.args.case c.args.src.now (c.check.ensures.valid.0 c.if-check.true)))
+    (valid-solid c.args.case c.args.src.now (c.check.ensures.valid.0 c.if-check.true)).0
 
 pub returns-then-check-clause-clean : goal.returns-then-check-clause-clean
 returns-then-check-clause-clean c =
-    let valid = c.check.ensures.valid.0 c.if-check.true in let solid = digits-solid c.args.case c.args.src.now valid in
-    let clean : first_stray (spaced c.args.case) c.args.src.now ≡ None = (solid-valid c.args.case c.args.src.now).1 (rw solid valid) in
-    (λ _. clean, λ _. refl)
+    (λ _. (valid-solid c.args.case c.args.src.now (c.check.ensures.valid.0 c.if-check.true)).1, λ _. refl)
