@@ -25,6 +25,8 @@ sed '/^#/d; s/.*\\$//' faster_hex.h | tr '\n' ' ' | sed 's|/\*[^*]*\*\([^*/][^*]
     sed -n 's/^\(bool\|Answer\) \(faster_hex_[a-z_]*\)(\(.*\))$/\2(\3) -> \1/p' "$made/header" |
         sed 's/\(u8\|usize\|bool\) [a-z]*\([,)]\)/\1\2/g'
     sed -n 's/^ *FASTER_HEX_\([A-Z_]*\) = \([0-9]*\).*/\1 \2/p' faster_hex.h | sed '/CASE /d'
+    echo "#[repr(C)] pub struct Source<'a>(pub &'a [u8]);"
+    echo "#[repr(C)] pub struct Destination<'a>(pub &'a mut [u8]);"
 } >"$made/declared"
 
 {
@@ -33,6 +35,7 @@ sed '/^#/d; s/.*\\$//' faster_hex.h | tr '\n' ' ' | sed 's|/\*[^*]*\*\([^*/][^*]
         sed -n 's/^\(faster_hex_[a-z_]*\)( *\([^)]*[^ ,]\),\{0,1\} *) -> \([A-Za-z]*\) .*/\1(\2) -> \3/p' |
         sed 's/[a-z]*: //g; s/, */, /g; s/  */ /g'
     sed -n 's/^const \([A-Z_]*\): u8 = \([0-9]*\);$/\1 \2/p' src/lib.rt
+    sed '/^#\[derive/d' src/lib.rt | grep -B1 '^pub struct [A-Z][a-z]*<' | grep -v '^--' | paste -d ' ' - -
 } >"$made/exported"
 
 # versions: each place that names the version, by its name.

@@ -7715,13 +7715,14 @@
 .LCPI23_0:
 	.byte	1,2,4,8,16,32,64,128,1,2,4,8,16,32,64,128
 	hex_function	core_backend_Backend_find_invalid,.text
-	stp	x29,x30,[sp,#-48]!
+	str	d8,[sp,#-48]!
 	cmp	x1,#15
-	str	x21,[sp,#16]
-	mov	x29,sp
+	stp	x29,x30,[sp,#8]
+	add	x29,sp,#8
+	str	x21,[sp,#24]
 	stp	x20,x19,[sp,#32]
 	b.hi	4f
-	cbz	x1,29f
+	cbz	x1,31f
 	cmp	x1,#1
 	b.ne	8f
 	ldrb	w8,[x0]
@@ -7736,8 +7737,8 @@
 	csel	w8,w9,w8,lo
 	cmp	w8,#6
 	mov	x8,xzr
-	b.lo	17f
-	b	25f
+	b.lo	21f
+	b	27f
 4:
 	cmp	x1,#33
 	b.hs	6f
@@ -7769,8 +7770,8 @@
 	addp	v0.16b,v0.16b,v0.16b
 	umov	w9,v0.h[0]
 	mov	x8,xzr
-	cbnz	w9,25f
-	b	17f
+	cbnz	w9,27f
+	b	21f
 6:
 	cmp	x1,#64
 	b.hi	10f
@@ -7817,11 +7818,11 @@
 	addp	v0.16b,v0.16b,v0.16b
 	fmov	w9,s0
 	mov	x8,xzr
-	cbnz	w9,25f
-	b	17f
+	cbnz	w9,27f
+	b	21f
 8:
 	cmp	x1,#3
-	b.hi	12f
+	b.hi	14f
 	add	x8,x0,x1
 	ldr	h0,[x0]
 	movi	v2.2s,#208
@@ -7853,72 +7854,88 @@
 	umaxp	v0.2s,v0.2s,v0.2s
 	fmov	w9,s0
 	mov	x8,xzr
-	tbnz	w9,#0,25f
-	b	17f
+	tbnz	w9,#0,27f
+	b	21f
 10:
-	cmp	x1,#96
+	cmp	x1,#128
 	hex_page	x21,.LCPI23_0
-	b.hi	14f
+	b.hi	16f
 	movi	v0.16b,#208
-	ldp	q1,q2,[x0]
-	movi	v3.16b,#32
-	ldp	q6,q7,[x0,#32]
-	movi	v4.16b,#4
+	movi	v1.16b,#32
 	add	x8,x0,x1
-	movi	v5.16b,#159
-	ldp	q17,q16,[x8,#-32]
-	add	v18.16b,v2.16b,v0.16b
-	add	v19.16b,v1.16b,v0.16b
+	ldp	q5,q4,[x0]
+	movi	v2.16b,#4
+	ldp	q7,q6,[x0,#32]
+	movi	v3.16b,#159
+	ldp	q18,q19,[x8,#-32]
+	cmp	x1,#97
+	add	v16.16b,v5.16b,v0.16b
+	add	v17.16b,v4.16b,v0.16b
+	orr	v5.16b,v5.16b,v1.16b
+	orr	v4.16b,v4.16b,v1.16b
 	add	v20.16b,v7.16b,v0.16b
 	add	v21.16b,v6.16b,v0.16b
-	orr	v2.16b,v2.16b,v3.16b
-	orr	v1.16b,v1.16b,v3.16b
-	orr	v7.16b,v7.16b,v3.16b
-	orr	v6.16b,v6.16b,v3.16b
-	add	v22.16b,v17.16b,v0.16b
-	add	v0.16b,v16.16b,v0.16b
-	uqsub	v18.16b,v18.16b,v4.16b
-	uqsub	v19.16b,v19.16b,v4.16b
-	uqsub	v21.16b,v21.16b,v4.16b
-	uqsub	v20.16b,v20.16b,v4.16b
-	add	v1.16b,v1.16b,v5.16b
-	add	v2.16b,v2.16b,v5.16b
-	orr	v17.16b,v17.16b,v3.16b
-	orr	v3.16b,v16.16b,v3.16b
-	add	v6.16b,v6.16b,v5.16b
-	add	v7.16b,v7.16b,v5.16b
-	uqsub	v16.16b,v22.16b,v4.16b
-	uqsub	v0.16b,v0.16b,v4.16b
-	umin	v1.16b,v19.16b,v1.16b
-	umin	v2.16b,v18.16b,v2.16b
-	add	v4.16b,v17.16b,v5.16b
-	add	v3.16b,v3.16b,v5.16b
-	umin	v7.16b,v20.16b,v7.16b
+	orr	v7.16b,v7.16b,v1.16b
+	orr	v6.16b,v6.16b,v1.16b
+	add	v22.16b,v19.16b,v0.16b
+	uqsub	v16.16b,v16.16b,v2.16b
+	uqsub	v17.16b,v17.16b,v2.16b
+	add	v23.16b,v18.16b,v0.16b
+	add	v4.16b,v4.16b,v3.16b
+	add	v5.16b,v5.16b,v3.16b
+	uqsub	v21.16b,v21.16b,v2.16b
+	uqsub	v20.16b,v20.16b,v2.16b
+	orr	v19.16b,v19.16b,v1.16b
+	add	v6.16b,v6.16b,v3.16b
+	add	v7.16b,v7.16b,v3.16b
+	orr	v18.16b,v18.16b,v1.16b
+	umin	v16.16b,v16.16b,v5.16b
+	uqsub	v5.16b,v22.16b,v2.16b
+	umin	v17.16b,v17.16b,v4.16b
+	uqsub	v4.16b,v23.16b,v2.16b
+	add	v19.16b,v19.16b,v3.16b
 	umin	v6.16b,v21.16b,v6.16b
-	umin	v4.16b,v16.16b,v4.16b
-	umin	v0.16b,v0.16b,v3.16b
-	movi	v3.16b,#122
-	umax	v1.16b,v1.16b,v6.16b
-	umax	v2.16b,v2.16b,v7.16b
-	umax	v0.16b,v2.16b,v0.16b
-	umax	v1.16b,v1.16b,v4.16b
-	hex_value	q2,x21,.LCPI23_0
-	uqadd	v1.16b,v1.16b,v3.16b
-	uqadd	v0.16b,v0.16b,v3.16b
+	umin	v20.16b,v20.16b,v7.16b
+	add	v7.16b,v18.16b,v3.16b
+	umin	v5.16b,v5.16b,v19.16b
+	umin	v4.16b,v4.16b,v7.16b
+	umax	v7.16b,v17.16b,v6.16b
+	umax	v6.16b,v16.16b,v20.16b
+	b.lo	13f
+	ldp	q17,q16,[x8,#-64]
+	add	v18.16b,v17.16b,v0.16b
+	add	v0.16b,v16.16b,v0.16b
+	orr	v17.16b,v17.16b,v1.16b
+	orr	v1.16b,v16.16b,v1.16b
+	uqsub	v0.16b,v0.16b,v2.16b
+	uqsub	v2.16b,v18.16b,v2.16b
+	add	v1.16b,v1.16b,v3.16b
+	add	v3.16b,v17.16b,v3.16b
+	umin	v2.16b,v2.16b,v3.16b
+	umin	v0.16b,v0.16b,v1.16b
+	umax	v7.16b,v7.16b,v0.16b
+	umax	v6.16b,v6.16b,v2.16b
+13:
+	movi	v0.16b,#122
+	umax	v1.16b,v7.16b,v5.16b
+	umax	v2.16b,v6.16b,v4.16b
+	uqadd	v2.16b,v2.16b,v0.16b
+	uqadd	v0.16b,v1.16b,v0.16b
 	cmlt	v0.16b,v0.16b,#0
-	cmlt	v1.16b,v1.16b,#0
+	cmlt	v1.16b,v2.16b,#0
+	hex_value	q2,x21,.LCPI23_0
 	and	v1.16b,v1.16b,v2.16b
 	and	v0.16b,v0.16b,v2.16b
 	addp	v0.16b,v1.16b,v0.16b
 	addp	v0.16b,v0.16b,v0.16b
 	addp	v0.16b,v0.16b,v0.16b
 	fmov	w8,s0
-	cbnz	w8,21f
-	b	28f
-12:
+	cbnz	w8,23f
+	b	30f
+14:
 	cmp	x1,#7
 	add	x8,x0,x1
-	b.hi	16f
+	b.hi	20f
 	ldr	s0,[x0]
 	movi	v1.4h,#208
 	ldur	s2,[x8,#-4]
@@ -7946,86 +7963,141 @@
 	umaxv	h0,v0.4h
 	fmov	w9,s0
 	mov	x8,xzr
-	tbnz	w9,#0,25f
-	b	17f
-14:
-	cmp	x1,#128
-	b.hi	18f
-	movi	v0.16b,#208
-	add	x8,x0,x1
+	tbnz	w9,#0,27f
+	b	21f
+16:
+	cmp	x1,#256
+	b.hi	22f
+	movi	v2.16b,#208
 	movi	v1.16b,#32
-	ldp	q2,q3,[x0]
-	movi	v6.16b,#4
-	ldp	q5,q4,[x0,#32]
-	movi	v23.16b,#159
-	ldp	q20,q19,[x8,#-32]
-	ldp	q22,q21,[x8,#-64]
-	add	v7.16b,v2.16b,v0.16b
-	add	v16.16b,v3.16b,v0.16b
-	add	v17.16b,v5.16b,v0.16b
-	add	v18.16b,v4.16b,v0.16b
-	add	v26.16b,v20.16b,v0.16b
-	orr	v2.16b,v2.16b,v1.16b
-	orr	v3.16b,v3.16b,v1.16b
-	add	v24.16b,v22.16b,v0.16b
-	add	v25.16b,v21.16b,v0.16b
-	add	v0.16b,v19.16b,v0.16b
+	add	x8,x0,x1
+	ldp	q7,q4,[x0,#32]
+	movi	v0.16b,#4
+	ldp	q5,q6,[x0]
+	movi	v3.16b,#159
+	ldp	q21,q20,[x0,#96]
+	cmp	x1,#193
+	add	v17.16b,v4.16b,v2.16b
+	add	v19.16b,v7.16b,v2.16b
+	orr	v7.16b,v7.16b,v1.16b
+	add	v16.16b,v5.16b,v2.16b
+	add	v18.16b,v6.16b,v2.16b
 	orr	v5.16b,v5.16b,v1.16b
+	orr	v6.16b,v6.16b,v1.16b
 	orr	v4.16b,v4.16b,v1.16b
-	orr	v22.16b,v22.16b,v1.16b
+	add	v26.16b,v21.16b,v2.16b
+	ldp	q24,q23,[x0,#64]
+	uqsub	v22.16b,v17.16b,v0.16b
+	uqsub	v19.16b,v19.16b,v0.16b
+	uqsub	v17.16b,v18.16b,v0.16b
+	uqsub	v16.16b,v16.16b,v0.16b
+	add	v6.16b,v6.16b,v3.16b
+	add	v5.16b,v5.16b,v3.16b
+	add	v4.16b,v4.16b,v3.16b
+	add	v18.16b,v7.16b,v3.16b
+	add	v25.16b,v23.16b,v2.16b
+	add	v27.16b,v20.16b,v2.16b
 	orr	v21.16b,v21.16b,v1.16b
+	umin	v7.16b,v16.16b,v5.16b
+	umin	v17.16b,v17.16b,v6.16b
+	add	v5.16b,v24.16b,v2.16b
+	umin	v18.16b,v19.16b,v18.16b
+	umin	v19.16b,v22.16b,v4.16b
+	orr	v4.16b,v20.16b,v1.16b
+	uqsub	v6.16b,v27.16b,v0.16b
+	uqsub	v16.16b,v26.16b,v0.16b
+	uqsub	v20.16b,v25.16b,v0.16b
+	ldp	q25,q26,[x8,#-32]
+	orr	v22.16b,v23.16b,v1.16b
+	orr	v23.16b,v24.16b,v1.16b
+	ldp	q24,q27,[x8,#-64]
+	uqsub	v5.16b,v5.16b,v0.16b
+	add	v4.16b,v4.16b,v3.16b
+	add	v21.16b,v21.16b,v3.16b
+	add	v28.16b,v26.16b,v2.16b
+	add	v29.16b,v25.16b,v2.16b
+	add	v22.16b,v22.16b,v3.16b
+	add	v30.16b,v24.16b,v2.16b
+	add	v31.16b,v27.16b,v2.16b
+	orr	v26.16b,v26.16b,v1.16b
+	orr	v25.16b,v25.16b,v1.16b
+	add	v23.16b,v23.16b,v3.16b
+	orr	v27.16b,v27.16b,v1.16b
+	orr	v24.16b,v24.16b,v1.16b
+	uqsub	v29.16b,v29.16b,v0.16b
+	uqsub	v28.16b,v28.16b,v0.16b
+	uqsub	v30.16b,v30.16b,v0.16b
+	uqsub	v31.16b,v31.16b,v0.16b
+	add	v26.16b,v26.16b,v3.16b
+	add	v25.16b,v25.16b,v3.16b
+	umin	v8.16b,v6.16b,v4.16b
+	add	v4.16b,v27.16b,v3.16b
+	add	v24.16b,v24.16b,v3.16b
+	umin	v23.16b,v5.16b,v23.16b
+	umin	v20.16b,v20.16b,v22.16b
+	umin	v21.16b,v16.16b,v21.16b
+	umin	v6.16b,v28.16b,v26.16b
+	umin	v5.16b,v29.16b,v25.16b
+	umin	v4.16b,v31.16b,v4.16b
+	umax	v19.16b,v19.16b,v8.16b
+	umin	v16.16b,v30.16b,v24.16b
+	umax	v17.16b,v17.16b,v20.16b
+	umax	v7.16b,v7.16b,v23.16b
+	umax	v18.16b,v18.16b,v21.16b
+	b.lo	19f
+	ldp	q21,q20,[x8,#-96]
+	ldp	q23,q22,[x8,#-128]
+	add	v24.16b,v21.16b,v2.16b
+	add	v25.16b,v20.16b,v2.16b
 	orr	v20.16b,v20.16b,v1.16b
-	orr	v1.16b,v19.16b,v1.16b
-	uqsub	v18.16b,v18.16b,v6.16b
-	uqsub	v17.16b,v17.16b,v6.16b
-	uqsub	v16.16b,v16.16b,v6.16b
-	uqsub	v7.16b,v7.16b,v6.16b
-	uqsub	v0.16b,v0.16b,v6.16b
-	uqsub	v19.16b,v26.16b,v6.16b
-	uqsub	v25.16b,v25.16b,v6.16b
-	uqsub	v6.16b,v24.16b,v6.16b
-	add	v3.16b,v3.16b,v23.16b
-	add	v2.16b,v2.16b,v23.16b
-	add	v4.16b,v4.16b,v23.16b
-	add	v1.16b,v1.16b,v23.16b
-	add	v22.16b,v22.16b,v23.16b
-	add	v5.16b,v5.16b,v23.16b
-	add	v20.16b,v20.16b,v23.16b
-	add	v21.16b,v21.16b,v23.16b
-	umin	v3.16b,v16.16b,v3.16b
-	movi	v16.16b,#122
-	umin	v2.16b,v7.16b,v2.16b
-	umin	v4.16b,v18.16b,v4.16b
-	umin	v0.16b,v0.16b,v1.16b
-	umin	v6.16b,v6.16b,v22.16b
-	umin	v1.16b,v17.16b,v5.16b
-	umin	v7.16b,v19.16b,v20.16b
-	umin	v5.16b,v25.16b,v21.16b
-	umax	v0.16b,v4.16b,v0.16b
-	hex_value	q4,x21,.LCPI23_0
-	umax	v2.16b,v2.16b,v6.16b
-	umax	v1.16b,v1.16b,v7.16b
-	umax	v3.16b,v3.16b,v5.16b
-	uqadd	v0.16b,v0.16b,v16.16b
-	uqadd	v2.16b,v2.16b,v16.16b
-	uqadd	v1.16b,v1.16b,v16.16b
-	uqadd	v3.16b,v3.16b,v16.16b
-	cmlt	v0.16b,v0.16b,#0
-	cmlt	v2.16b,v2.16b,#0
+	add	v26.16b,v23.16b,v2.16b
+	add	v2.16b,v22.16b,v2.16b
+	orr	v23.16b,v23.16b,v1.16b
+	orr	v22.16b,v22.16b,v1.16b
+	orr	v1.16b,v21.16b,v1.16b
+	uqsub	v21.16b,v25.16b,v0.16b
+	uqsub	v24.16b,v24.16b,v0.16b
+	add	v20.16b,v20.16b,v3.16b
+	uqsub	v2.16b,v2.16b,v0.16b
+	uqsub	v0.16b,v26.16b,v0.16b
+	add	v1.16b,v1.16b,v3.16b
+	add	v22.16b,v22.16b,v3.16b
+	add	v3.16b,v23.16b,v3.16b
+	umin	v20.16b,v21.16b,v20.16b
+	umin	v0.16b,v0.16b,v3.16b
+	umin	v2.16b,v2.16b,v22.16b
+	umin	v1.16b,v24.16b,v1.16b
+	umax	v19.16b,v19.16b,v20.16b
+	umax	v18.16b,v18.16b,v1.16b
+	umax	v17.16b,v17.16b,v2.16b
+	umax	v7.16b,v7.16b,v0.16b
+19:
+	movi	v0.16b,#122
+	umax	v1.16b,v7.16b,v16.16b
+	umax	v2.16b,v19.16b,v6.16b
+	umax	v3.16b,v18.16b,v5.16b
+	umax	v4.16b,v17.16b,v4.16b
+	uqadd	v1.16b,v1.16b,v0.16b
+	uqadd	v4.16b,v4.16b,v0.16b
+	uqadd	v3.16b,v3.16b,v0.16b
+	uqadd	v0.16b,v2.16b,v0.16b
+	hex_value	q2,x21,.LCPI23_0
 	cmlt	v1.16b,v1.16b,#0
 	cmlt	v3.16b,v3.16b,#0
-	and	v0.16b,v0.16b,v4.16b
-	and	v2.16b,v2.16b,v4.16b
-	and	v1.16b,v1.16b,v4.16b
-	and	v3.16b,v3.16b,v4.16b
+	cmlt	v4.16b,v4.16b,#0
+	cmlt	v0.16b,v0.16b,#0
+	and	v1.16b,v1.16b,v2.16b
+	and	v4.16b,v4.16b,v2.16b
+	and	v3.16b,v3.16b,v2.16b
+	and	v0.16b,v0.16b,v2.16b
+	addp	v1.16b,v1.16b,v4.16b
+	addp	v0.16b,v3.16b,v0.16b
 	addp	v0.16b,v1.16b,v0.16b
-	addp	v2.16b,v2.16b,v3.16b
-	addp	v0.16b,v2.16b,v0.16b
 	addp	v0.16b,v0.16b,v0.16b
 	fmov	x8,d0
-	cbnz	x8,21f
-	b	28f
-16:
+	cbnz	x8,23f
+	b	30f
+20:
 	movi	v0.8b,#208
 	movi	v1.8b,#32
 	ldr	d2,[x0]
@@ -8048,118 +8120,16 @@
 	umaxv	b0,v0.8b
 	fmov	w9,s0
 	mov	x8,xzr
-	tbnz	w9,#0,25f
-17:
+	tbnz	w9,#0,27f
+21:
 	mov	w0,wzr
 	mov	x1,x8
 	ldp	x20,x19,[sp,#32]
-	ldr	x21,[sp,#16]
-	ldp	x29,x30,[sp],#48
+	ldr	x21,[sp,#24]
+	ldp	x29,x30,[sp,#8]
+	ldr	d8,[sp],#48
 	ret
-18:
-	cmp	x1,#192
-	b.hi	20f
-	movi	v2.16b,#208
-	movi	v3.16b,#32
-	add	x8,x0,x1
-	ldp	q6,q5,[x0,#32]
-	movi	v0.16b,#4
-	ldp	q4,q7,[x0]
-	movi	v1.16b,#159
-	ldp	q22,q20,[x0,#96]
-	add	v18.16b,v6.16b,v2.16b
-	add	v16.16b,v5.16b,v2.16b
-	orr	v6.16b,v6.16b,v3.16b
-	add	v17.16b,v4.16b,v2.16b
-	add	v19.16b,v7.16b,v2.16b
-	orr	v4.16b,v4.16b,v3.16b
-	orr	v5.16b,v5.16b,v3.16b
-	orr	v7.16b,v7.16b,v3.16b
-	add	v23.16b,v20.16b,v2.16b
-	uqsub	v18.16b,v18.16b,v0.16b
-	uqsub	v16.16b,v16.16b,v0.16b
-	orr	v20.16b,v20.16b,v3.16b
-	uqsub	v17.16b,v17.16b,v0.16b
-	uqsub	v19.16b,v19.16b,v0.16b
-	add	v21.16b,v4.16b,v1.16b
-	add	v4.16b,v6.16b,v1.16b
-	ldp	q24,q25,[x0,#64]
-	add	v5.16b,v5.16b,v1.16b
-	add	v7.16b,v7.16b,v1.16b
-	add	v20.16b,v20.16b,v1.16b
-	ldp	q27,q26,[x8,#-32]
-	umin	v4.16b,v18.16b,v4.16b
-	uqsub	v18.16b,v23.16b,v0.16b
-	umin	v5.16b,v16.16b,v5.16b
-	umin	v6.16b,v19.16b,v7.16b
-	umin	v7.16b,v17.16b,v21.16b
-	add	v16.16b,v22.16b,v2.16b
-	add	v17.16b,v25.16b,v2.16b
-	add	v19.16b,v24.16b,v2.16b
-	orr	v21.16b,v22.16b,v3.16b
-	ldp	q23,q22,[x8,#-64]
-	orr	v25.16b,v25.16b,v3.16b
-	orr	v24.16b,v24.16b,v3.16b
-	umin	v18.16b,v18.16b,v20.16b
-	add	v29.16b,v27.16b,v2.16b
-	uqsub	v19.16b,v19.16b,v0.16b
-	uqsub	v17.16b,v17.16b,v0.16b
-	add	v20.16b,v23.16b,v2.16b
-	add	v28.16b,v22.16b,v2.16b
-	add	v2.16b,v26.16b,v2.16b
-	uqsub	v16.16b,v16.16b,v0.16b
-	orr	v23.16b,v23.16b,v3.16b
-	orr	v22.16b,v22.16b,v3.16b
-	orr	v27.16b,v27.16b,v3.16b
-	orr	v3.16b,v26.16b,v3.16b
-	add	v24.16b,v24.16b,v1.16b
-	add	v25.16b,v25.16b,v1.16b
-	add	v21.16b,v21.16b,v1.16b
-	uqsub	v26.16b,v28.16b,v0.16b
-	uqsub	v20.16b,v20.16b,v0.16b
-	uqsub	v2.16b,v2.16b,v0.16b
-	uqsub	v0.16b,v29.16b,v0.16b
-	add	v22.16b,v22.16b,v1.16b
-	add	v23.16b,v23.16b,v1.16b
-	umin	v19.16b,v19.16b,v24.16b
-	add	v3.16b,v3.16b,v1.16b
-	umin	v16.16b,v16.16b,v21.16b
-	umin	v17.16b,v17.16b,v25.16b
-	add	v1.16b,v27.16b,v1.16b
-	umax	v5.16b,v5.16b,v18.16b
-	umin	v20.16b,v20.16b,v23.16b
-	umin	v21.16b,v26.16b,v22.16b
-	umin	v2.16b,v2.16b,v3.16b
-	umax	v3.16b,v7.16b,v19.16b
-	umax	v4.16b,v4.16b,v16.16b
-	umin	v0.16b,v0.16b,v1.16b
-	umax	v1.16b,v6.16b,v17.16b
-	movi	v6.16b,#122
-	umax	v2.16b,v5.16b,v2.16b
-	umax	v3.16b,v3.16b,v20.16b
-	umax	v0.16b,v4.16b,v0.16b
-	hex_value	q4,x21,.LCPI23_0
-	umax	v1.16b,v1.16b,v21.16b
-	uqadd	v3.16b,v3.16b,v6.16b
-	uqadd	v2.16b,v2.16b,v6.16b
-	uqadd	v1.16b,v1.16b,v6.16b
-	uqadd	v0.16b,v0.16b,v6.16b
-	cmlt	v2.16b,v2.16b,#0
-	cmlt	v3.16b,v3.16b,#0
-	cmlt	v0.16b,v0.16b,#0
-	cmlt	v1.16b,v1.16b,#0
-	and	v3.16b,v3.16b,v4.16b
-	and	v2.16b,v2.16b,v4.16b
-	and	v1.16b,v1.16b,v4.16b
-	and	v0.16b,v0.16b,v4.16b
-	addp	v1.16b,v3.16b,v1.16b
-	addp	v0.16b,v0.16b,v2.16b
-	addp	v0.16b,v1.16b,v0.16b
-	addp	v0.16b,v0.16b,v0.16b
-	fmov	x8,d0
-	cbnz	x8,21f
-	b	28f
-20:
+22:
 	mov	w2,wzr
 	mov	x19,x0
 	mov	x20,x1
@@ -8167,12 +8137,12 @@
 	mov	x1,x20
 	mov	w8,w0
 	mov	x0,x19
-	tbnz	w8,#0,28f
-21:
+	tbnz	w8,#0,30f
+23:
 	mov	x8,xzr
 	lsr	x9,x1,#6
 	mov	x10,x0
-22:
+24:
 	movi	v0.16b,#208
 	movi	v1.16b,#32
 	movi	v4.16b,#4
@@ -8213,45 +8183,47 @@
 	addp	v0.16b,v0.16b,v0.16b
 	addp	v0.16b,v0.16b,v0.16b
 	fmov	w11,s0
-	cbnz	w11,31f
+	cbnz	w11,33f
 	subs	x9,x9,#1
 	sub	x8,x8,#64
 	add	x10,x10,#64
-	b.ne	22b
+	b.ne	24b
 	and	x8,x1,#0xffffffffffffffc0
-25:
+27:
 	cmp	x8,x1
-	b.hs	28f
-26:
+	b.hs	30f
+28:
 	ldrb	w9,[x0,x8]
 	hex_page	x10,.Lstatic.18
 	hex_address	x10,x10,.Lstatic.18
 	ldrb	w9,[x10,x9]
 	cmp	w9,#255
-	b.eq	30f
+	b.eq	32f
 	add	x8,x8,#1
 	cmp	x1,x8
-	b.ne	26b
-28:
+	b.ne	28b
+30:
 	mov	x1,xzr
-29:
+31:
 	mov	w0,wzr
 	ldp	x20,x19,[sp,#32]
-	ldr	x21,[sp,#16]
-	ldp	x29,x30,[sp],#48
+	ldr	x21,[sp,#24]
+	ldp	x29,x30,[sp,#8]
+	ldr	d8,[sp],#48
 	ret
-30:
+32:
 	mov	w0,#1
 	mov	x1,x8
 	ldp	x20,x19,[sp,#32]
-	ldr	x21,[sp,#16]
-	ldp	x29,x30,[sp],#48
+	ldr	x21,[sp,#24]
+	ldp	x29,x30,[sp,#8]
+	ldr	d8,[sp],#48
 	ret
-31:
+33:
 	neg	x8,x8
 	cmp	x8,x1
-	b.lo	26b
-	b	28b
+	b.lo	28b
+	b	30b
 	hex_end	core_backend_Backend_find_invalid
 	hex_function	io_digits_put_digits,.text
 	stp	x29,x30,[sp,#-96]!

@@ -8656,12 +8656,15 @@
 .LCPI21_20:
 	.byte	5,5,0,0,0,0,0,0,0,0,0,0,0,0,0,0
 	hex_function	core_backend_Backend_find_invalid,.text
+	pushq	%r14
+	pushq	%rbx
+	subq	$56,%rsp
 	cmpq	$15,%rsi
-	ja	10f
+	ja	5f
 	testq	%rsi,%rsi
-	je	2f
+	je	9f
 	cmpq	$1,%rsi
-	jne	5f
+	jne	10f
 	movzbl	(%rdi),%eax
 	leal	-48(%rax),%ecx
 	xorl	%edx,%edx
@@ -8676,10 +8679,13 @@
 	movl	$0,%eax
 	cmpb	$6,%cl
 	jae	29f
+	addq	$56,%rsp
+	popq	%rbx
+	popq	%r14
 	retq
-10:
+5:
 	cmpq	$33,%rsi
-	jae	11f
+	jae	7f
 	movdqu	(%rdi),%xmm0
 	movdqa	.LCPI21_0(%rip),%xmm1
 	movdqa	%xmm0,%xmm2
@@ -8705,10 +8711,10 @@
 	xorl	%edx,%edx
 	testl	%eax,%eax
 	jne	29f
-	jmp	34f
-11:
+	jmp	33f
+7:
 	cmpq	$64,%rsi
-	ja	13f
+	ja	12f
 	movdqu	(%rdi),%xmm0
 	movdqu	16(%rdi),%xmm1
 	movdqa	.LCPI21_0(%rip),%xmm2
@@ -8750,14 +8756,17 @@
 	xorl	%edx,%edx
 	testl	%eax,%eax
 	jne	29f
-	jmp	34f
-2:
+	jmp	33f
+9:
 	xorl	%eax,%eax
 	movq	%rsi,%rdx
+	addq	$56,%rsp
+	popq	%rbx
+	popq	%r14
 	retq
-5:
+10:
 	cmpq	$3,%rsi
-	ja	7f
+	ja	16f
 	movzwl	(%rdi),%eax
 	movd	%eax,%xmm0
 	movdqa	.LCPI21_16(%rip),%xmm1
@@ -8788,72 +8797,89 @@
 	xorl	%edx,%edx
 	testl	%eax,%eax
 	jne	29f
-34:
-	xorl	%eax,%eax
-	retq
-13:
-	cmpq	$96,%rsi
-	ja	15f
-	movdqa	.LCPI21_0(%rip),%xmm1
-	movdqu	(%rdi),%xmm7
-	movdqu	16(%rdi),%xmm6
+	jmp	33f
+12:
+	cmpq	$128,%rsi
+	ja	18f
+	movdqa	.LCPI21_0(%rip),%xmm2
+	movdqu	(%rdi),%xmm6
+	movdqu	16(%rdi),%xmm7
 	movdqu	32(%rdi),%xmm0
-	movdqu	48(%rdi),%xmm2
+	movdqu	48(%rdi),%xmm1
 	movdqa	%xmm6,%xmm8
-	paddb	%xmm1,%xmm8
+	paddb	%xmm2,%xmm8
 	movdqa	%xmm7,%xmm9
-	paddb	%xmm1,%xmm9
-	movdqa	.LCPI21_1(%rip),%xmm4
-	psubusb	%xmm4,%xmm9
-	psubusb	%xmm4,%xmm8
+	paddb	%xmm2,%xmm9
+	movdqa	.LCPI21_1(%rip),%xmm3
+	psubusb	%xmm3,%xmm9
+	psubusb	%xmm3,%xmm8
 	movdqa	.LCPI21_2(%rip),%xmm5
 	por	%xmm5,%xmm6
 	por	%xmm5,%xmm7
-	movdqa	.LCPI21_3(%rip),%xmm3
-	paddb	%xmm3,%xmm7
+	movdqa	.LCPI21_3(%rip),%xmm4
+	paddb	%xmm4,%xmm7
 	pminub	%xmm9,%xmm7
-	paddb	%xmm3,%xmm6
+	paddb	%xmm4,%xmm6
 	pminub	%xmm8,%xmm6
-	movdqa	%xmm2,%xmm8
-	paddb	%xmm1,%xmm8
-	movdqa	%xmm0,%xmm9
-	paddb	%xmm1,%xmm9
-	psubusb	%xmm4,%xmm9
-	psubusb	%xmm4,%xmm8
-	por	%xmm5,%xmm2
+	movdqa	%xmm0,%xmm8
+	paddb	%xmm2,%xmm8
+	movdqa	%xmm1,%xmm9
+	paddb	%xmm2,%xmm9
+	psubusb	%xmm3,%xmm9
+	psubusb	%xmm3,%xmm8
 	por	%xmm5,%xmm0
-	paddb	%xmm3,%xmm0
-	pminub	%xmm9,%xmm0
-	pmaxub	%xmm7,%xmm0
-	paddb	%xmm3,%xmm2
-	pminub	%xmm8,%xmm2
-	pmaxub	%xmm6,%xmm2
-	movdqu	-32(%rdi,%rsi),%xmm6
-	movdqu	-16(%rdi,%rsi),%xmm7
+	por	%xmm5,%xmm1
+	paddb	%xmm4,%xmm1
+	pminub	%xmm9,%xmm1
+	pmaxub	%xmm7,%xmm1
+	paddb	%xmm4,%xmm0
+	pminub	%xmm8,%xmm0
+	pmaxub	%xmm6,%xmm0
+	movdqu	-32(%rdi,%rsi),%xmm7
+	movdqu	-16(%rdi,%rsi),%xmm6
 	movdqa	%xmm6,%xmm8
-	paddb	%xmm1,%xmm8
-	paddb	%xmm7,%xmm1
-	psubusb	%xmm4,%xmm1
-	psubusb	%xmm4,%xmm8
+	paddb	%xmm2,%xmm8
+	movdqa	%xmm7,%xmm9
+	paddb	%xmm2,%xmm9
+	psubusb	%xmm3,%xmm9
+	psubusb	%xmm3,%xmm8
 	por	%xmm5,%xmm6
 	por	%xmm5,%xmm7
-	paddb	%xmm3,%xmm7
-	pminub	%xmm1,%xmm7
-	pmaxub	%xmm2,%xmm7
-	paddb	%xmm3,%xmm6
+	paddb	%xmm4,%xmm7
+	pminub	%xmm9,%xmm7
+	paddb	%xmm4,%xmm6
 	pminub	%xmm8,%xmm6
-	pmaxub	%xmm0,%xmm6
-	movdqa	.LCPI21_4(%rip),%xmm0
-	paddusb	%xmm0,%xmm6
-	paddusb	%xmm0,%xmm7
-	por	%xmm6,%xmm7
-	pmovmskb	%xmm7,%eax
+	cmpq	$97,%rsi
+	jb	15f
+	movdqu	-64(%rdi,%rsi),%xmm8
+	movdqu	-48(%rdi,%rsi),%xmm9
+	movdqa	%xmm8,%xmm10
+	paddb	%xmm2,%xmm10
+	paddb	%xmm9,%xmm2
+	psubusb	%xmm3,%xmm2
+	psubusb	%xmm3,%xmm10
+	por	%xmm5,%xmm8
+	por	%xmm5,%xmm9
+	paddb	%xmm4,%xmm9
+	pminub	%xmm2,%xmm9
+	paddb	%xmm4,%xmm8
+	pminub	%xmm10,%xmm8
+	pmaxub	%xmm9,%xmm1
+	pmaxub	%xmm8,%xmm0
+15:
+	pmaxub	%xmm7,%xmm0
+	pmaxub	%xmm6,%xmm1
+	movdqa	.LCPI21_4(%rip),%xmm2
+	paddusb	%xmm2,%xmm0
+	paddusb	%xmm2,%xmm1
+	por	%xmm0,%xmm1
+	pmovmskb	%xmm1,%eax
 	testl	%eax,%eax
-	jne	21f
-	jmp	33f
-7:
+	jne	25f
+	jmp	32f
+16:
 	cmpq	$7,%rsi
-	ja	9f
+	ja	22f
 	movd	(%rdi),%xmm0
 	movdqa	.LCPI21_11(%rip),%xmm1
 	movdqa	%xmm0,%xmm2
@@ -8882,86 +8908,162 @@
 	xorl	%edx,%edx
 	testl	%eax,%eax
 	jne	29f
-	jmp	34b
-15:
-	cmpq	$128,%rsi
-	ja	17f
-	movdqu	(%rdi),%xmm2
-	movdqu	16(%rdi),%xmm3
-	movdqu	32(%rdi),%xmm1
-	movdqu	48(%rdi),%xmm0
+	jmp	33f
+18:
+	cmpq	$256,%rsi
+	ja	23f
+	movdqu	(%rdi),%xmm8
+	movdqu	16(%rdi),%xmm9
+	movdqu	32(%rdi),%xmm10
+	movdqu	48(%rdi),%xmm11
 	movdqa	.LCPI21_0(%rip),%xmm4
+	movdqa	%xmm8,%xmm0
+	paddb	%xmm4,%xmm0
+	movdqa	%xmm9,%xmm1
+	paddb	%xmm4,%xmm1
+	movdqa	%xmm10,%xmm2
+	paddb	%xmm4,%xmm2
+	movdqa	%xmm11,%xmm3
+	paddb	%xmm4,%xmm3
+	movdqa	.LCPI21_1(%rip),%xmm14
+	psubusb	%xmm14,%xmm3
+	psubusb	%xmm14,%xmm2
+	psubusb	%xmm14,%xmm1
+	psubusb	%xmm14,%xmm0
+	movdqa	.LCPI21_2(%rip),%xmm15
+	por	%xmm15,%xmm8
+	por	%xmm15,%xmm9
+	por	%xmm15,%xmm10
+	por	%xmm15,%xmm11
+	movdqa	.LCPI21_3(%rip),%xmm7
+	paddb	%xmm7,%xmm11
+	pminub	%xmm3,%xmm11
+	paddb	%xmm7,%xmm10
+	pminub	%xmm2,%xmm10
+	paddb	%xmm7,%xmm9
+	pminub	%xmm1,%xmm9
+	paddb	%xmm7,%xmm8
+	pminub	%xmm0,%xmm8
+	movdqu	112(%rdi),%xmm3
+	movdqu	96(%rdi),%xmm1
+	movdqu	80(%rdi),%xmm0
+	movdqu	64(%rdi),%xmm2
+	movdqa	%xmm2,%xmm12
+	paddb	%xmm4,%xmm12
 	movdqa	%xmm0,%xmm5
 	paddb	%xmm4,%xmm5
-	movdqa	%xmm1,%xmm7
-	paddb	%xmm4,%xmm7
-	movdqa	%xmm2,%xmm8
-	paddb	%xmm4,%xmm8
-	movdqa	%xmm3,%xmm9
-	paddb	%xmm4,%xmm9
-	movdqa	.LCPI21_1(%rip),%xmm10
-	psubusb	%xmm10,%xmm9
-	psubusb	%xmm10,%xmm8
-	psubusb	%xmm10,%xmm7
-	psubusb	%xmm10,%xmm5
-	movdqa	.LCPI21_2(%rip),%xmm11
-	por	%xmm11,%xmm0
-	por	%xmm11,%xmm1
-	por	%xmm11,%xmm2
-	por	%xmm11,%xmm3
-	movdqa	.LCPI21_3(%rip),%xmm6
-	paddb	%xmm6,%xmm3
-	pminub	%xmm9,%xmm3
-	paddb	%xmm6,%xmm2
-	pminub	%xmm8,%xmm2
-	paddb	%xmm6,%xmm1
-	pminub	%xmm7,%xmm1
-	paddb	%xmm6,%xmm0
-	pminub	%xmm5,%xmm0
-	movdqu	-64(%rdi,%rsi),%xmm7
-	movdqu	-48(%rdi,%rsi),%xmm5
-	movdqu	-32(%rdi,%rsi),%xmm8
-	movdqu	-16(%rdi,%rsi),%xmm9
-	movdqa	%xmm9,%xmm12
-	paddb	%xmm4,%xmm12
-	movdqa	%xmm8,%xmm13
+	movdqa	%xmm1,%xmm6
+	paddb	%xmm4,%xmm6
+	movdqa	%xmm3,%xmm13
 	paddb	%xmm4,%xmm13
-	movdqa	%xmm7,%xmm14
+	psubusb	%xmm14,%xmm13
+	psubusb	%xmm14,%xmm6
+	psubusb	%xmm14,%xmm5
+	psubusb	%xmm14,%xmm12
+	por	%xmm15,%xmm2
+	por	%xmm15,%xmm0
+	por	%xmm15,%xmm1
+	por	%xmm15,%xmm3
+	paddb	%xmm7,%xmm3
+	pminub	%xmm13,%xmm3
+	pmaxub	%xmm11,%xmm3
+	paddb	%xmm7,%xmm1
+	pminub	%xmm6,%xmm1
+	pmaxub	%xmm10,%xmm1
+	paddb	%xmm7,%xmm0
+	pminub	%xmm5,%xmm0
+	pmaxub	%xmm9,%xmm0
+	paddb	%xmm7,%xmm2
+	pminub	%xmm12,%xmm2
+	pmaxub	%xmm8,%xmm2
+	movdqu	-64(%rdi,%rsi),%xmm9
+	movdqu	-48(%rdi,%rsi),%xmm8
+	movdqu	-32(%rdi,%rsi),%xmm10
+	movdqu	-16(%rdi,%rsi),%xmm11
+	movdqa	%xmm11,%xmm12
+	paddb	%xmm4,%xmm12
+	movdqa	%xmm10,%xmm5
+	paddb	%xmm4,%xmm5
+	movdqa	%xmm8,%xmm6
+	paddb	%xmm4,%xmm6
+	movdqa	%xmm9,%xmm13
+	paddb	%xmm4,%xmm13
+	psubusb	%xmm14,%xmm13
+	psubusb	%xmm14,%xmm6
+	psubusb	%xmm14,%xmm5
+	psubusb	%xmm14,%xmm12
+	por	%xmm15,%xmm11
+	por	%xmm15,%xmm10
+	por	%xmm15,%xmm8
+	por	%xmm15,%xmm9
+	paddb	%xmm7,%xmm9
+	pminub	%xmm13,%xmm9
+	paddb	%xmm7,%xmm8
+	pminub	%xmm6,%xmm8
+	paddb	%xmm7,%xmm10
+	pminub	%xmm5,%xmm10
+	paddb	%xmm7,%xmm11
+	pminub	%xmm12,%xmm11
+	cmpq	$193,%rsi
+	jb	21f
+	movdqu	-128(%rdi,%rsi),%xmm12
+	movdqu	-112(%rdi,%rsi),%xmm13
+	movdqu	-96(%rdi,%rsi),%xmm14
+	movdqu	-80(%rdi,%rsi),%xmm15
+	movdqa	%xmm12,%xmm5
+	paddb	%xmm4,%xmm5
+	movdqa	%xmm13,%xmm6
+	paddb	%xmm4,%xmm6
+	movdqa	%xmm14,%xmm7
+	paddb	%xmm4,%xmm7
+	movdqa	%xmm7,(%rsp)
+	paddb	%xmm15,%xmm4
+	movdqa	.LCPI21_1(%rip),%xmm7
+	psubusb	%xmm7,%xmm4
+	movdqa	(%rsp),%xmm7
+	psubusb	.LCPI21_1(%rip),%xmm7
+	movdqa	%xmm7,(%rsp)
+	movdqa	.LCPI21_1(%rip),%xmm7
+	psubusb	%xmm7,%xmm6
+	movdqa	%xmm6,16(%rsp)
+	psubusb	%xmm7,%xmm5
+	movdqa	%xmm5,32(%rsp)
+	movdqa	.LCPI21_2(%rip),%xmm5
+	por	%xmm5,%xmm12
+	por	%xmm5,%xmm13
+	por	%xmm5,%xmm14
+	por	%xmm5,%xmm15
+	paddb	.LCPI21_3(%rip),%xmm15
+	pminub	%xmm4,%xmm15
+	movdqa	.LCPI21_3(%rip),%xmm4
 	paddb	%xmm4,%xmm14
-	paddb	%xmm5,%xmm4
-	psubusb	%xmm10,%xmm4
-	psubusb	%xmm10,%xmm14
-	psubusb	%xmm10,%xmm13
-	psubusb	%xmm10,%xmm12
-	por	%xmm11,%xmm9
-	por	%xmm11,%xmm8
-	por	%xmm11,%xmm7
-	por	%xmm11,%xmm5
-	paddb	%xmm6,%xmm5
-	pminub	%xmm4,%xmm5
-	pmaxub	%xmm3,%xmm5
-	paddb	%xmm6,%xmm7
-	pminub	%xmm14,%xmm7
-	pmaxub	%xmm2,%xmm7
-	paddb	%xmm6,%xmm8
-	pminub	%xmm13,%xmm8
-	pmaxub	%xmm1,%xmm8
-	paddb	%xmm6,%xmm9
-	pminub	%xmm12,%xmm9
-	pmaxub	%xmm0,%xmm9
-	movdqa	.LCPI21_4(%rip),%xmm0
-	paddusb	%xmm0,%xmm9
-	paddusb	%xmm0,%xmm8
-	por	%xmm9,%xmm8
-	paddusb	%xmm0,%xmm7
-	paddusb	%xmm0,%xmm5
-	por	%xmm7,%xmm5
-	por	%xmm8,%xmm5
-	pmovmskb	%xmm5,%eax
+	pminub	(%rsp),%xmm14
+	paddb	%xmm4,%xmm13
+	pminub	16(%rsp),%xmm13
+	paddb	%xmm4,%xmm12
+	pminub	32(%rsp),%xmm12
+	pmaxub	%xmm15,%xmm3
+	pmaxub	%xmm14,%xmm1
+	pmaxub	%xmm13,%xmm0
+	pmaxub	%xmm12,%xmm2
+21:
+	pmaxub	%xmm11,%xmm3
+	pmaxub	%xmm10,%xmm1
+	pmaxub	%xmm9,%xmm2
+	pmaxub	%xmm8,%xmm0
+	movdqa	.LCPI21_4(%rip),%xmm4
+	paddusb	%xmm4,%xmm3
+	paddusb	%xmm4,%xmm1
+	por	%xmm3,%xmm1
+	paddusb	%xmm4,%xmm2
+	paddusb	%xmm4,%xmm0
+	por	%xmm2,%xmm0
+	por	%xmm1,%xmm0
+	pmovmskb	%xmm0,%eax
 	testl	%eax,%eax
-	jne	21f
-	jmp	33f
-9:
+	jne	25f
+	jmp	32f
+22:
 	movq	(%rdi),%xmm0
 	movdqa	.LCPI21_6(%rip),%xmm1
 	movdqa	%xmm0,%xmm2
@@ -8987,121 +9089,8 @@
 	xorl	%edx,%edx
 	xorb	$-1,%al
 	jne	29f
-	jmp	34b
-17:
-	cmpq	$192,%rsi
-	ja	22f
-	movdqu	(%rdi),%xmm7
-	movdqu	16(%rdi),%xmm5
-	movdqu	32(%rdi),%xmm9
-	movdqu	48(%rdi),%xmm11
-	movdqa	.LCPI21_0(%rip),%xmm0
-	movdqa	%xmm5,%xmm4
-	paddb	%xmm0,%xmm4
-	movdqa	%xmm7,%xmm6
-	paddb	%xmm0,%xmm6
-	movdqa	%xmm9,%xmm8
-	paddb	%xmm0,%xmm8
-	movdqa	%xmm11,%xmm10
-	paddb	%xmm0,%xmm10
-	movdqa	.LCPI21_1(%rip),%xmm2
-	psubusb	%xmm2,%xmm10
-	psubusb	%xmm2,%xmm8
-	psubusb	%xmm2,%xmm6
-	psubusb	%xmm2,%xmm4
-	movdqa	.LCPI21_2(%rip),%xmm3
-	por	%xmm3,%xmm5
-	por	%xmm3,%xmm7
-	por	%xmm3,%xmm9
-	por	%xmm3,%xmm11
-	movdqa	.LCPI21_3(%rip),%xmm1
-	paddb	%xmm1,%xmm11
-	pminub	%xmm10,%xmm11
-	paddb	%xmm1,%xmm9
-	pminub	%xmm8,%xmm9
-	paddb	%xmm1,%xmm7
-	pminub	%xmm6,%xmm7
-	paddb	%xmm1,%xmm5
-	pminub	%xmm4,%xmm5
-	movdqu	112(%rdi),%xmm4
-	movdqu	96(%rdi),%xmm6
-	movdqu	64(%rdi),%xmm8
-	movdqu	80(%rdi),%xmm10
-	movdqa	%xmm10,%xmm12
-	paddb	%xmm0,%xmm12
-	movdqa	%xmm8,%xmm13
-	paddb	%xmm0,%xmm13
-	movdqa	%xmm6,%xmm14
-	paddb	%xmm0,%xmm14
-	movdqa	%xmm4,%xmm15
-	paddb	%xmm0,%xmm15
-	psubusb	%xmm2,%xmm15
-	psubusb	%xmm2,%xmm14
-	psubusb	%xmm2,%xmm13
-	psubusb	%xmm2,%xmm12
-	por	%xmm3,%xmm10
-	por	%xmm3,%xmm8
-	por	%xmm3,%xmm6
-	por	%xmm3,%xmm4
-	paddb	%xmm1,%xmm4
-	pminub	%xmm15,%xmm4
-	pmaxub	%xmm11,%xmm4
-	paddb	%xmm1,%xmm6
-	pminub	%xmm14,%xmm6
-	pmaxub	%xmm9,%xmm6
-	paddb	%xmm1,%xmm8
-	pminub	%xmm13,%xmm8
-	pmaxub	%xmm7,%xmm8
-	paddb	%xmm1,%xmm10
-	pminub	%xmm12,%xmm10
-	pmaxub	%xmm5,%xmm10
-	movdqu	-64(%rdi,%rsi),%xmm7
-	movdqu	-48(%rdi,%rsi),%xmm5
-	movdqu	-32(%rdi,%rsi),%xmm9
-	movdqu	-16(%rdi,%rsi),%xmm11
-	movdqa	%xmm11,%xmm12
-	paddb	%xmm0,%xmm12
-	movdqa	%xmm9,%xmm13
-	paddb	%xmm0,%xmm13
-	movdqa	%xmm7,%xmm14
-	paddb	%xmm0,%xmm14
-	paddb	%xmm5,%xmm0
-	psubusb	%xmm2,%xmm0
-	psubusb	%xmm2,%xmm14
-	psubusb	%xmm2,%xmm13
-	psubusb	%xmm2,%xmm12
-	por	%xmm3,%xmm11
-	por	%xmm3,%xmm9
-	por	%xmm3,%xmm7
-	por	%xmm3,%xmm5
-	paddb	%xmm1,%xmm5
-	pminub	%xmm0,%xmm5
-	pmaxub	%xmm10,%xmm5
-	paddb	%xmm1,%xmm7
-	pminub	%xmm14,%xmm7
-	pmaxub	%xmm8,%xmm7
-	paddb	%xmm1,%xmm9
-	pminub	%xmm13,%xmm9
-	pmaxub	%xmm6,%xmm9
-	paddb	%xmm1,%xmm11
-	pminub	%xmm12,%xmm11
-	pmaxub	%xmm4,%xmm11
-	movdqa	.LCPI21_4(%rip),%xmm0
-	paddusb	%xmm0,%xmm11
-	paddusb	%xmm0,%xmm9
-	por	%xmm11,%xmm9
-	paddusb	%xmm0,%xmm7
-	paddusb	%xmm0,%xmm5
-	por	%xmm7,%xmm5
-	por	%xmm9,%xmm5
-	pmovmskb	%xmm5,%eax
-	testl	%eax,%eax
-	jne	21f
 	jmp	33f
-22:
-	pushq	%r14
-	pushq	%rbx
-	pushq	%rax
+23:
 	movq	%rdi,%rbx
 	movq	%rsi,%r14
 	xorl	%edx,%edx
@@ -9109,19 +9098,19 @@
 	movq	%rbx,%rdi
 	movq	%r14,%rsi
 	testb	%al,%al
-	leaq	8(%rsp),%rsp
-	popq	%rbx
-	popq	%r14
-	je	21f
+	je	25f
 	xorl	%eax,%eax
 	xorl	%edx,%edx
+	addq	$56,%rsp
+	popq	%rbx
+	popq	%r14
 	retq
-21:
+25:
 	movq	%rsi,%rax
 	shrq	$6,%rax
 	xorl	%edx,%edx
 	.p2align	4
-27:
+26:
 	movdqa	.LCPI21_0(%rip),%xmm4
 	movdqu	(%rdi,%rdx),%xmm2
 	movdqu	16(%rdi,%rdx),%xmm3
@@ -9164,27 +9153,34 @@
 	jne	29f
 	addq	$64,%rdx
 	decq	%rax
-	jne	27b
+	jne	26b
 	movq	%rsi,%rdx
 	andq	$-64,%rdx
 29:
 	cmpq	%rsi,%rdx
-	jae	33f
+	jae	32f
 	.p2align	4
 30:
 	movzbl	(%rdi,%rdx),%eax
 	leaq	.Lstatic.18(%rip),%rcx
 	cmpb	$-1,(%rax,%rcx)
-	je	31f
+	je	34f
 	incq	%rdx
 	cmpq	%rdx,%rsi
 	jne	30b
-33:
+32:
 	xorl	%edx,%edx
+33:
 	xorl	%eax,%eax
+	addq	$56,%rsp
+	popq	%rbx
+	popq	%r14
 	retq
-31:
+34:
 	movb	$1,%al
+	addq	$56,%rsp
+	popq	%rbx
+	popq	%r14
 	retq
 	hex_end	core_backend_Backend_find_invalid
 	hex_function	io_digits_put_digits,.text

@@ -33,8 +33,8 @@ const NOT_A_GROUP: u8 = 6;
 
 const BAD_LENGTH: u8 = 7;
 
-/// Bytes to read. C passes a pointer and a length, as for a slice that is a parameter by itself;
-/// but for that each call would first replace a null pointer, which has length 0 and is not read.
+/// Bytes to read. C passes a pointer and a length. A slice as a parameter would be passed alike,
+/// but each call would first replace a null pointer. Null has length 0, so it is never read.
 #[repr(C)]
 #[derive(Clone, Copy)]
 pub struct Source<'a>(pub &'a [u8]);

@@ -67,8 +67,7 @@ impl Backend {
     }
 
     /// Returns a plan that differs from [`Backend::plain`] only in how it encodes more than 64
-    /// bytes, which is faster in a build for vectors of 32 bytes, and slower in others. Its name
-    /// is `wide`.
+    /// bytes: faster in a build for vectors of 32 bytes, slower in others. Its name is `wide`.
     ///
     /// ```rust
     /// let mut digits = [0; 256];

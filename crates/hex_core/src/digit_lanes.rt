@@ -158,7 +158,7 @@ pub fn valid_nibbles<const N: usize>(v: Simd<u8, N>) -> Simd<u8, N>
 fn digits(upper: bool) -> u8x16
     ensures { (n : ℕ) → n < 16 → slice_index result n ≡ digit upper n }
 {
-    // Of a slice the compiler makes one load, and of an array sixteen.
+    // From a slice the compiler makes one load, from an array sixteen.
     u8x16::from_slice(match upper {
         true => b"0123456789ABCDEF",
         false => b"0123456789abcdef",

@@ -11,7 +11,7 @@ use crate::digit::CheckCase;
 use crate::digit_lanes::{Halved, Interleaved};
 use crate::kernel::{check_runs, decode_long, encode_at, encode_blocks};
 use crate::registers::{
-    check_three, check_two, decode_ends, decode_four, decode_three, decode_two, encode_four,
+    check_four, check_two, decode_ends, decode_four, decode_three, decode_two, encode_four,
     encode_two,
 };
 
@@ -24,17 +24,16 @@ pub fn check_by_length(src: &[u8], case: CheckCase) -> bool
         0..16 => check_short(src, case),
         16..=32 => check_two::<16>(src, case),
         33..=64 => check_two::<32>(src, case),
-        65..=96 => check_three::<32>(src, case),
-        97..=128 => check_two::<64>(src, case),
-        129..=192 => check_three::<64>(src, case),
+        65..=128 => check_four::<32>(src, case),
+        129..=256 => check_four::<64>(src, case),
         _ => check_long(src, case),
     }
 }
 
-// The same for a block or more, apart: its loops are too long to be inlined in each caller.
+// The same for more than 256 bytes, apart: its loops are too long to be inlined in each caller.
 #[inline(never)]
 fn check_long(src: &[u8], case: CheckCase) -> bool
-    requires { 64 ≤ length src.now }
+    requires { 256 < length src.now }
     ensures { IsTrue result ↔ (first_invalid case src.now ≡ None) }
 {
     check_runs(src, case)
@@ -111,7 +110,6 @@ pub fn encode_by_length(src: &[u8], dst: &mut [u8], upper: bool, wide: bool)
     ensures { dst.new ≡ text upper src.now }
 {
     match src.len() {
-        // Longer sources pass one test for all of these.
         0..=32 => match src.len() {
             32 => encode_at::<Interleaved, 32, 64>(src, dst, 0, upper),
             0..8 => encode_short(src, dst, upper),

@@ -1,4 +1,4 @@
-//! Bodies that hold a short source in registers, as one block to four.
+//! Bodies that hold a short source in registers, as two blocks to four.
 //!
 //! A vector has `N` lanes, and `HALF` is half of that: `N` digits decode to `HALF` bytes. The last
 //! block ends with the source and may overlap the one before: the overlap is read twice, or written
@@ -29,18 +29,23 @@ pub fn check_two<const N: usize>(src: &[u8], case: CheckCase) -> bool
     is_low(larger(front, back))
 }
 
-/// Returns whether `src`, `2 * N` to `3 * N` bytes, is valid.
+/// Returns whether `src`, `2 * N` to `4 * N` bytes, is valid.
 #[inline(always)]
-pub fn check_three<const N: usize>(src: &[u8], case: CheckCase) -> bool
+pub fn check_four<const N: usize>(src: &[u8], case: CheckCase) -> bool
     requires lanes { N ≤ 64 }
-    requires least { 2 * N ≤ length src.now }
-    requires most { length src.now ≤ 3 * N }
+    requires covered { EndsCover (2 * N) src.now }
     ensures { IsTrue result ↔ (first_invalid case src.now ≡ None) }
 {
     let first = reach(Simd::<u8, N>::from_slice(src), case);
     let second = reach(Simd::<u8, N>::from_slice(&src[N..]), case);
     let last = reach(Simd::<u8, N>::from_slice(&src[src.len() - N..]), case);
-    is_low(larger(larger(first, second), last))
+    let mut front = larger(first, second);
+    // Of at most 3 * N bytes the last block reaches the second.
+    if src.len() > 3 * N {
+        let third = Simd::<u8, N>::from_slice(&src[src.len() - 2 * N..]);
+        front = larger(front, reach(third, case));
+    }
+    is_low(larger(front, last))
 }
 
 // `N` nibbles from index `at`.

@@ -82,7 +82,7 @@ impl Backend {
     }
 
     // Decodes more digits than `MOST_INLINE`, or finds the first invalid byte of any source. Apart,
-    // since a call in `decode_into` may cost short sources a frame.
+    // so that `decode_into` saves one register for it, and not five.
     #[inline(never)]
     fn decode_or_find(self, src: &[u8], dst: &mut [u8], case: CheckCase) -> Option<(usize, u8)>
         requires twice { length src.now ≡ 2 * length dst.old }
