@@ -27,9 +27,9 @@ always _ = true
 
 -- ---- every map at every byte
 
--- how far a reach is past those of digits and letters: 0 exactly where there is a value
+-- how far a byte is past the digits, or past the letters if that is less: 0 exactly where there is a value
 abbrev pub excess : CheckCase → ℕ → ℕ
-excess c b = reach c b - 5
+excess c b = min (wrapping_sub b 48 - 9) (letter c b - 5)
 
 -- a byte's value, or at least 16: for a byte that is no digit (no letter) the first (second) number is large
 abbrev pub saturated : CheckCase → ℕ → ℕ

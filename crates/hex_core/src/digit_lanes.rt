@@ -11,7 +11,7 @@ ghost use Rattle.hex_core.specs.Lanes.{AreChecked, AreNibbles, AreValues};
 ghost use Rattle.hex_core.specs.Text.{text};
 
 use crate::digit::CheckCase;
-use crate::lanes::admitted_16;
+use crate::lanes::{admitted_16, nibbles_hashed_32, nibbles_hashed_64};
 use crate::vector::{
     averages, both_nibbles, has_no_sign, high_bits, masked, saturating_add, saturating_differences,
     saturating_sub, sign_flipped, smaller, with_bits, wrapping_differences, wrapping_sub,
@@ -66,7 +66,9 @@ pub fn admitted<const N: usize>(v: Simd<u8, N>, case: CheckCase) -> u64
     requires { N ≤ 64 }
     ensures { result ≡ mask_l (map (λ b. is_some (value case b)) v.entry) }
 {
-    zero_bits(saturating_sub(reach(v, case), 5))
+    let digits = saturating_sub(wrapping_sub(v, b'0'), 9);
+    let past = saturating_sub(letters(v, case), 5);
+    zero_bits(smaller(digits, past))
 }
 
 /// The value of each lane, or at least 16.
@@ -238,15 +240,21 @@ impl Tests<16> for Saturating {
 /// By a hash, which finds in rows of sixteen what to subtract from a byte.
 pub struct Hashed;
 
-impl<const N: usize> Nibbles<N> for Hashed
-where
-    Lanes: LookUp<N> + Shift<N>,
-{
+impl Nibbles<32> for Hashed {
     #[inline(always)]
-    fn nibbles(v: Simd<u8, N>, _case: CheckCase) -> Simd<u8, N>
-        ensures { AreValues _case v.entry result }
+    fn nibbles(v: u8x32, case: CheckCase) -> u8x32
+        ensures { AreValues case v result }
     {
-        hashed_values(v)
+        u8x32::from_array(nibbles_hashed_32(&v.to_array(), case).0)
+    }
+}
+
+impl Nibbles<64> for Hashed {
+    #[inline(always)]
+    fn nibbles(v: u8x64, case: CheckCase) -> u8x64
+        ensures { AreValues case v result }
+    {
+        u8x64::from_array(nibbles_hashed_64(&v.to_array(), case).0)
     }
 }
 
@@ -255,7 +263,7 @@ impl Tests<32> for Hashed {
     fn is_valid(block: u8x32, case: CheckCase) -> bool
         ensures { IsTrue result ↔ AllValid case block 0 32 }
     {
-        has_no_sign(hashed_checks(block, case))
+        has_no_sign(u8x32::from_array(nibbles_hashed_32(&block.to_array(), case).1))
     }
 }
 
@@ -264,7 +272,7 @@ impl Tests<64> for Hashed {
     fn is_valid(block: u8x64, case: CheckCase) -> bool
         ensures { IsTrue result ↔ AllValid case block 0 64 }
     {
-        has_no_sign(hashed_checks(block, case))
+        has_no_sign(u8x64::from_array(nibbles_hashed_64(&block.to_array(), case).1))
     }
 }
 
