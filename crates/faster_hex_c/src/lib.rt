@@ -167,7 +167,7 @@ pub extern "C" fn faster_hex_first_invalid(src: Source, case: u8) -> Answer
     let Some(case) = policy(case) else {
         return NO_POLICY;
     };
-    match plan().find_invalid(src.0, case) {
+    match plan().first_invalid(src.0, case) {
         None => answer_of(Ok(0)),
         Some(index) => answer_of(Err(Error::InvalidChar {
             index,

@@ -23,7 +23,7 @@ fn first_invalid(plan: Backend, digits: &[u8], case: CheckCase) -> Option<usize>
     if digits.len() < 2 * CALL_FROM && are_digits(digits, case) {
         return None;
     }
-    plan.find_invalid(digits, case)
+    plan.first_invalid(digits, case)
 }
 
 // Decodes the valid digits of a piece.

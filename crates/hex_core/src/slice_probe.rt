@@ -91,37 +91,22 @@ impl Backend {
     /// Returns the index of the first byte of `src` that is invalid under `case`, in bytes, or
     /// `None` if all are valid, whatever the length.
     ///
-    /// It is [`locate`] over a [`SliceProbe`], without the counts: the contract covers only the
-    /// index, not the steps.
-    ///
-    /// ```rust
-    /// let [scalar, ..] = backends();
-    /// assert_eq!(rt; scalar.first_invalid(b"00ff0g", CheckCase::None), Some(5));
-    /// assert_eq!(rt; scalar.first_invalid(b"00FF", CheckCase::Upper), None);
-    /// ```
-    #[inline(always)]
-    pub fn first_invalid(self, src: &[u8], case: CheckCase) -> Option<usize>
-        ensures place { result ≡ first_invalid case src.now }
-    {
-        locate(&mut SliceProbe::new(self, src, case))
-    }
-
-    /// Like [`Backend::first_invalid`], but checks all of `src` first: so under `plain` valid
+    /// It checks all of `src` before it searches by [`locate`]. So under [`Backend::plain`] valid
     /// digits, which may be secret, are looked up in no table.
     ///
     /// ```rust
     /// let plain = Backend::plain();
-    /// assert_eq!(rt; plain.find_invalid(b"00aBcD", CheckCase::None), None);
-    /// assert_eq!(rt; plain.find_invalid(b"00aBcD", CheckCase::Lower), Some(3));
+    /// assert_eq!(rt; plain.first_invalid(b"00aBcD", CheckCase::None), None);
+    /// assert_eq!(rt; plain.first_invalid(b"00aBcD", CheckCase::Lower), Some(3));
     /// ```
     #[inline(never)]
-    pub fn find_invalid(self, src: &[u8], case: CheckCase) -> Option<usize>
+    pub fn first_invalid(self, src: &[u8], case: CheckCase) -> Option<usize>
         ensures place { result ≡ first_invalid case src.now }
     {
         if self.check(src, case) {
             return None;
         }
-        self.first_invalid(src, case)
+        locate(&mut SliceProbe::new(self, src, case))
     }
 
     /// Returns the first byte of `src` that is invalid under `case`, as an [`Error::InvalidChar`]
@@ -153,7 +138,7 @@ impl Backend {
         requires { first_invalid case src.now ≢ None }
         ensures { first_bad_char case src.now ≡ Some (InvalidChar result.0 result.1) }
     {
-        let index = self.first_invalid(src, case).unwrap();
+        let index = locate(&mut SliceProbe::new(self, src, case)).unwrap();
         (index, src[index])
     }
 }
