@@ -128,8 +128,8 @@ fn level() -> u8 {
     2
 }
 
-// The plan of all calls. Without byte shuffles tables are as fast as vectors; `wide` is for vectors
-// of 32 bytes.
+// The plan of all calls. Few programs call the build without byte shuffles, so it takes the plan with
+// the least code. `wide` is for vectors of 32 bytes.
 #[inline(always)]
 fn plan() -> Backend {
     let [scalar, ..] = backends();

@@ -188,14 +188,12 @@ impl Backend {
         ensures { DecodesWhole case src.now dst.old dst.new result }
     {
         match (self.0, src.len()) {
-            (Kind::Plain | Kind::Wide | Kind::Scalar, _) | (_, 0..16) => {
-                decode_by_table(src, dst, case)
-            }
+            (Kind::Scalar, _) | (_, 0..16) => decode_by_table(src, dst, case),
             (_, 16..32) => decode_two::<16, 8>(src, dst, case),
             (Kind::Sse41 | Kind::Neon, 32..=64) => decode_four::<16, 8>(src, dst, case),
             (Kind::Sse41 | Kind::Neon, _) => decode_or_nothing::<Saturating, 16, 8>(src, dst, case),
-            (Kind::Avx2, _) | (_, 32..64) => decode_or_nothing::<Hashed, 32, 16>(src, dst, case),
-            (Kind::Avx512, _) => decode_or_nothing::<Hashed, 64, 32>(src, dst, case),
+            (Kind::Avx512, 64..) => decode_or_nothing::<Hashed, 64, 32>(src, dst, case),
+            _ => decode_or_nothing::<Hashed, 32, 16>(src, dst, case),
         }
     }
 

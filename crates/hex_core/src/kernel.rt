@@ -1,5 +1,6 @@
-//! Checks, decodes and encodes block by block, for any number of lanes and any map. If the length
-//! is not a multiple of a block, the last block overlaps the one before.
+//! Checks, decodes and encodes block by block. If the length is not a multiple of a block, the last
+//! block overlaps the one before. The check here takes blocks of 64 bytes. Decoding and encoding
+//! take any number of lanes and any map.
 
 ghost use Rattle.std.specs.Prelude.{◌≡◌, ◌↔◌, ◌+◌, ◌*◌, ◌<◌, ◌≤◌, IsTrue, None, length};
 ghost use Rattle.std.specs.Simd.Lanes.{chunk, put_chunk};
@@ -145,10 +146,10 @@ where
     valid
 }
 
-/// Decodes more than 128 digits. Tests all of them before the first store.
+/// Decodes a block of 64 digits or more. Tests all of them before the first store.
 #[inline(always)]
 pub fn decode_long(src: &[u8], dst: &mut [u8], case: CheckCase) -> bool
-    requires more { 128 < length src.now }
+    requires block { 64 ≤ length src.now }
     requires twice { length src.now ≡ 2 * length dst.old }
     ensures { DecodesWhole case src.now dst.old dst.new result }
 {

@@ -1,5 +1,6 @@
-//! Vectors by width: an operation that moves lanes cannot be generic in their number, so each trait
-//! here is implemented for each width.
+//! Operations on vectors that cannot be generic in the number of lanes: the positions of a shuffle
+//! are literals, and a vector of words is made of bytes by a function of its own width. Each trait
+//! here is implemented for the widths that are used.
 
 ghost use Rattle.std.specs.Prelude.{◌≡◌, EachIndex, map, slice_index};
 ghost use Rattle.hex_core.specs.Lanes.{AreSmall};
