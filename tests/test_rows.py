@@ -26,6 +26,8 @@ PLANTED = {
         r"168 group 1 \x20 [any|lower|upper] 19 70*19~1\x20&55:g&[0+1/3]:[G|A|a] = invalid [0+1/3] [G|A|g] kept",
         r"114 group 4 \x20 [any|lower|upper] 19 70*19~4\x20&[0+1/3+1/24]:\x20 = invalid [0+1/3+1/27] \x20 kept",
         "stream decode any 00abfF1032 21001 1 1 ends 10500 0 = odd-length 10499 #00abff1032",
+        "3 cover any 0*[0|64|129],!,0*[129|65|0] = [0|64|125] [1+1] 0",
+        r"decode any 4 \xc3\xa9 = invalid 0 \ic3 kept",
     ],
     "test_json": [
         '14 read-within module [0+1/2] 2 ["0x000102"|"0xgggggg"] = invalid 0 g',

@@ -121,8 +121,7 @@ impl<'a> Cursor<'a> {
             return self.pair();
         }
         if self.takes(b'\\') {
-            self.skip();
-            return self.pair();
+            return if self.takes(b'x') { self.pair() } else { None };
         }
         let byte = self.peek();
         self.skip();

@@ -49,6 +49,7 @@ fn is_covered(plan: Backend, src: &[u8], case: CheckCase, found: Found) -> bool 
     let mut probe = SliceProbe::new(plan, src, case);
     src.len() >= 64
         && covered(&mut probe) == place.is_none()
+        && plan.first_invalid(src, case) == place
         && (probe.tests(), probe.looks()) == (tests, looks)
 }
 
