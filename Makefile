@@ -2,7 +2,8 @@
 # a C compiler alone; `make lib` and `make fhex` one of them. TARGET=aarch64, or a compiler for it, builds them
 # for Linux on ARM in out/aarch64, one for Windows the archive, a DLL and fhex.exe in out/windows, and one for
 # macOS the archive; any other, and TARGET=portable, the libraries in plain C. CC, CFLAGS, CPPFLAGS, LDFLAGS and
-# AR are taken.
+# AR are taken, and other words than those of the last run build all anew. UNPROVED=yes builds sources or assembly
+# that were changed, and faster_hex_version then says so.
 # `make generate` proves the sources and writes generated/ anew. `make test` runs the examples and the gate,
 # `make check` all that the gate can't, the bindings beside a checkout RUST of the Rust crate faster-hex 1.0.0,
 # `make deep` what a release takes beside it, `make test-c` the tests in C alone, by the command RUN if there
@@ -12,37 +13,40 @@
 # repository at DIR, with JSON=no the crates that have no JSON. `make -s` prints nothing where all goes well.
 VERSION = 1.0.0
 JSON = yes
-ifneq ($(filter-out yes no,$(JSON)),)
-$(error JSON=$(JSON) is neither yes nor no)
+ifneq ($(filter-out yes no,$(JSON) $(UNPROVED)),)
+$(error JSON=$(JSON) or UNPROVED=$(UNPROVED) is neither yes nor no)
 endif
 C = crates/faster_hex_c
-# For what `make` built last, not for a test: `make install` and `make uninstall` take it, if neither CC nor
-# TARGET is set.
-LAST = out/last
-ifeq ($(origin CC)$(TARGET)$(filter-out install uninstall,$(firstword $(MAKECMDGOALS) all)),default)
--include $(LAST)
+# By which words all in out/ was built. Where they differ it is built anew; `make install` and `make test` take
+# them where none is given.
+BUILT = out/built
+WORDS = CC CPPFLAGS CFLAGS LDFLAGS TARGET UNPROVED
+GIVEN = $(filter command,$(foreach word,$(WORDS),$(origin $(word))))
+ifeq ($(filter-out install test test-c,$(or $(MAKECMDGOALS),all))$(GIVEN),)
+$(foreach word,$(and $(wildcard $(BUILT)),$(WORDS)),\
+	$(eval $(word) := $$(shell sed -n 's/^$(word) = //p' $(BUILT))))
 endif
 ifeq ($(TARGET)$(origin CC),aarch64default)
 CC = aarch64-linux-gnu-gcc
 endif
+CFLAGS ?= -O2
 MACHINE := $(shell $(CC) -dumpmachine 2>/dev/null)
 PROCESSOR := $(firstword $(subst -, ,$(or $(MACHINE),$(TARGET),$(shell uname -m))))
 PROCESSOR := $(patsubst arm64,aarch64,$(patsubst amd64,x86_64,$(PROCESSOR)))
 PROCESSOR := $(if $(filter -m32,$(CC) $(CPPFLAGS) $(CFLAGS)),i386,$(PROCESSOR))
-ifndef TARGET
+ifeq ($(TARGET),)
 TARGET := $(PROCESSOR)
-else ifeq ($(filter $(PROCESSOR) portable,$(TARGET))$(filter file,$(origin TARGET)),)
+else ifeq ($(filter $(PROCESSOR) portable,$(TARGET)),)
 $(error TARGET=$(TARGET), but $(CC) makes code for $(PROCESSOR))
-endif
-ifeq ($(TARGET),portable)
-override CPPFLAGS += -DFASTER_HEX_PORTABLE
 endif
 SYSTEM := $(if $(findstring mingw,$(MACHINE)),windows)$(if $(findstring apple,$(MACHINE)),macos)
 
 OUT = out$(addprefix /,$(SYSTEM))$(addprefix /,$(filter-out x86_64,$(TARGET)))
 OBJECTS = $(OUT)/builds.o $(OUT)/dispatch.o
 ARCHIVE = $(OUT)/libfaster_hex.a
-PROGRAM = $(if $(filter x86_64 aarch64 x86_64windows,$(TARGET)$(SYSTEM)),$(OUT)/fhex$(if $(SYSTEM),.exe))
+# Each is crates/fhex/fhex.c over the assembly of its name in generated/.
+PROGRAMS = fhex
+MADE_PROGRAMS = $(if $(filter x86_64 aarch64 x86_64windows,$(TARGET)$(SYSTEM)),$(PROGRAMS:%=$(OUT)/%$(EXE)))
 ifeq ($(SYSTEM),)
 SHARED = $(OUT)/libfaster_hex.so.$(VERSION)
 SHOWN = -Wl,-soname,libfaster_hex.so.1 -Wl,-z,relro,-z,now,-z,text -Wl,--version-script=$(C)/faster_hex.map
@@ -52,49 +56,49 @@ SHARED = $(OUT)/libfaster_hex.dll
 SHOWN = $(C)/faster_hex.def
 LOADED = $(SHARED)
 OF_TESTS = -static -Itests/c/windows
+EXE = .exe
 endif
-CFLAGS ?= -O2
+COMPILE = $(CC) $(CPPFLAGS) $(if $(filter portable,$(TARGET)),-DFASTER_HEX_PORTABLE) \
+	$(if $(filter yes,$(UNPROVED)),-DFASTER_HEX_UNPROVED)
 # No file is there half made for another make.
 MADE = $@.$$$$
 DONE = mv $(MADE) $@
 QUIET = $(if $(findstring s,$(firstword -$(MAKEFLAGS))),>/dev/null)
 # Debian calls pytest so.
-PYTEST = $(or $(shell command -v pytest-3 || command -v pytest),$(error make check takes pytest: \
-	apt-get install python3-pytest))
+PYTEST = $(shell command -v pytest-3 || command -v pytest)
 # How many tasks of the gate run at a time. Each has one job, since a second one reads all libraries
 # once more: a crate over serde_json took 118 seconds of processor by four jobs, and 81 by one.
 JOBS = $(shell n=$$(nproc); echo $$((n < 4 ? n : 4)))
 
 # What runs beside another takes what processors there are.
 .NOTPARALLEL:
-.PHONY: all lib fhex current current-fhex generate test test-c check deep dist install uninstall vendor help clean
+CURRENT = current $(PROGRAMS:%=current/%)
+.PHONY: all lib $(PROGRAMS) $(CURRENT) anew generate test test-c check deep dist install uninstall vendor help clean
 
-all: lib $(if $(PROGRAM),fhex)
+all: lib $(MADE_PROGRAMS)
 
-current:
-	@scripts/current generated hex_core hex_codec faster_hex_c
+lib: $(ARCHIVE) $(SHARED)
 
-current-fhex:
-	@scripts/current generated/program hex_core hex_codec hex_io hex_program fhex
+$(PROGRAMS): %: $(if $(MADE_PROGRAMS),$(OUT)/%$(EXE))
+	$(if $(MADE_PROGRAMS),,$(error there is no assembly of $@ for $(TARGET) $(SYSTEM)))
+
+$(CURRENT): current%:
+	@UNPROVED=$(UNPROVED) scripts/current generated$*
 
 generate:
 	@scripts/generate $(QUIET)
 
-lib: $(ARCHIVE) $(SHARED)
-	@$(if $(filter all lib install,$(firstword $(MAKECMDGOALS) all)),\
-		grep -sqxF 'CC = $(CC)' $(LAST) && grep -qxF 'TARGET = $(TARGET)' $(LAST) || \
-		printf '%s\n' 'CC = $(CC)' 'TARGET = $(TARGET)' >$(LAST))
+LINES = $(foreach word,$(WORDS),'$(word) = $(subst ','\'',$($(word)))')
+$(BUILT): $(shell [ -d $(OUT) ] && [ "$$(cat $(BUILT) 2>&1)" = "$$(printf '%s\n' $(LINES))" ] || echo anew)
+	@mkdir -p $(OUT) && printf '%s\n' $(LINES) >$(MADE) && $(DONE)
 
-fhex: $(PROGRAM)
-	$(if $(PROGRAM),,$(error there is no assembly of fhex for $(TARGET) $(SYSTEM)))
+$(OUT)/builds.o: generated/builds.S $(wildcard generated/*.s) $(C)/assembly.h | current
+$(PROGRAMS:%=$(OUT)/%.o): $(OUT)/%.o: generated/%/builds.S $(wildcard generated/*/*.s) | current/%
+$(OUT)/builds.o $(PROGRAMS:%=$(OUT)/%.o): $(wildcard generated/*.inc) $(BUILT)
+	$(COMPILE) $(CFLAGS) -Wno-unused-command-line-argument -c -o $(MADE) $(filter %.S,$^) && $(DONE)
 
-$(OUT)/builds.o: generated/builds.S $(wildcard generated/*.s generated/*.inc) $(C)/assembly.h | current
-	@mkdir -p $(OUT)
-	$(CC) $(CPPFLAGS) $(CFLAGS) -Wno-unused-command-line-argument -c -o $(MADE) $< && $(DONE)
-
-$(OUT)/dispatch.o: $(C)/dispatch.c $(wildcard $(C)/*.h) | current
-	@mkdir -p $(OUT)
-	$(CC) $(CPPFLAGS) -ffunction-sections $(CFLAGS) -std=c11 -fPIC -fno-lto -fno-stack-protector \
+$(OUT)/dispatch.o: $(C)/dispatch.c $(wildcard $(C)/*.h) $(BUILT) | current
+	$(COMPILE) -ffunction-sections $(CFLAGS) -std=c11 -fPIC -fno-lto -fno-stack-protector \
 		-c -o $(MADE) $< && $(DONE)
 
 $(ARCHIVE): $(OBJECTS)
@@ -103,16 +107,15 @@ $(ARCHIVE): $(OBJECTS)
 $(OUT)/libfaster_hex.so.$(VERSION) $(OUT)/libfaster_hex.dll: $(OBJECTS) $(C)/faster_hex.map $(C)/faster_hex.def
 	$(CC) $(CFLAGS) $(LDFLAGS) -shared -o $(MADE) $(OBJECTS) $(SHOWN) && $(DONE)
 
-$(OUT)/fhex $(OUT)/fhex.exe: crates/fhex/fhex.c $(wildcard generated/program/* generated/*.inc) | current-fhex
-	@mkdir -p $(OUT)
-	$(CC) $(CPPFLAGS) $(CFLAGS) $(LDFLAGS) -std=gnu11 -Wno-unused-command-line-argument -o $(MADE) \
-		$< generated/program/builds.S && $(DONE)
+# The name of an object of its own: that of a temporary one would stand in the program.
+$(PROGRAMS:%=$(OUT)/%$(EXE)): %$(EXE): crates/fhex/fhex.c %.o
+	$(COMPILE) $(CFLAGS) $(LDFLAGS) -std=gnu11 -Wno-unused-command-line-argument -o $(MADE) $^ && $(DONE)
 
 $(OUT)/libfaster_hex.so.1: $(SHARED)
 	cp $< $@
 
 ifneq ($(shell command -v rt),)
-test: current current-fhex
+test: $(CURRENT)
 	tests/header.sh
 	scripts/examples
 	RT_JOBS=$(JOBS) rt ci
@@ -122,7 +125,7 @@ test: test-c
 	@echo 'these were the tests in C: the others take the Rattle toolchain' >&2
 endif
 
-TRY = $(CC) $(CPPFLAGS) $(CFLAGS) -std=gnu99 -pthread -I$(C) $(OF_TESTS) -o $(OUT)/try.exe
+TRY = $(COMPILE) $(CFLAGS) -std=gnu99 -pthread -I$(C) $(OF_TESTS) -o $(OUT)/try.exe
 TRIED = $(RUN) $(OUT)/try.exe
 test-c: all $(firstword $(LOADED))
 	$(TRY) tests/c/library.c $(ARCHIVE) && $(TRIED) && $(TRIED) threads
@@ -132,34 +135,34 @@ ifeq ($(TARGET),x86_64)
 	$(TRY) tests/c/choice.c $(ARCHIVE) && $(TRIED)
 	$(TRY) tests/c/portable.c $(ARCHIVE) && $(TRIED)
 endif
-ifneq ($(PROGRAM),)
-	printf hello | $(RUN) $(PROGRAM) encode | $(RUN) $(PROGRAM) decode | grep -qx hello
-	$(RUN) $(PROGRAM) vectors | grep -x 'total 84 passed 84 failed 0'
+ifneq ($(MADE_PROGRAMS),)
+	printf hello | $(RUN) $(OUT)/fhex$(EXE) encode | $(RUN) $(OUT)/fhex$(EXE) decode | grep -qx hello
+	$(RUN) $(OUT)/fhex$(EXE) vectors | grep -x 'total 84 passed 84 failed 0'
 endif
 
 check: all
-	$(PYTEST) tests
+	$(or $(PYTEST),$(error make check takes pytest: apt-get install python3-pytest)) tests
 
 # Before a release. It stops at the first that fails.
 deep: all
 	scripts/mutations
 	scripts/examples --prove
 	cd tests && /usr/bin/python3 -m machine record 128
-	$(PYTEST) tests
+	$(MAKE) check
 
 # As the last commit has it, or where files have changed, these; the same bytes whoever packs it.
 TO = .
 PACK = $(TO)/faster_hex-$(VERSION).tar
-dist: current current-fhex
+dist: $(CURRENT)
+	@[ -e .git ] || { echo 'make dist takes a clone by git: this is a package already' >&2; exit 1; }
 	git -c tar.umask=0022 archive --prefix=faster_hex-$(VERSION)/ -o "$(PACK)" \
 		$$(git stash create | grep . || echo HEAD) && gzip -9nf "$(PACK)"
 
 install: $(if $(SYSTEM),,all)
+install uninstall:
 	$(if $(SYSTEM),$(error for $(SYSTEM) CMake installs, by -DFASTER_HEX_INSTALL=ON))
-	@VERSION=$(VERSION) TARGET=$(TARGET) scripts/install.sh
-
-uninstall:
-	@TARGET=$(TARGET) scripts/install.sh --remove
+	@VERSION=$(VERSION) OUT=$(OUT) PROGRAMS='$(if $(MADE_PROGRAMS),$(PROGRAMS))' \
+		scripts/install.sh $(if $(filter uninstall,$@),--remove)
 
 vendor:
 	scripts/vendor $(if $(filter no,$(JSON)),--no-json) "$(DIR)"

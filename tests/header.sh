@@ -56,7 +56,7 @@ wanted=$(sed -n 's/^VERSION = //p' ../../Makefile)
 versions | awk -v wanted="$wanted" '
     $2 != wanted { print $1 ": version " $2 ", and not " wanted " as in the Makefile"; wrong = 1 }
     END { exit wrong }' || status=1
-for folder in ../../generated ../../generated/program; do
+for folder in ../../generated ../../generated/fhex; do
     (cd $folder && sed -n 's/^sha256 //p' PROVED | sha256sum -c --quiet) || status=1
 done
 prover=$(sed -n 's/^prover //p' ../../generated/PROVED)

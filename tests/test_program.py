@@ -50,7 +50,7 @@ BUILDS = {
 def built(folder, compiler, options, *more):
     """The program by a compiler."""
     needs(compiler)
-    sources = TOP / "crates/fhex/fhex.c", TOP / "generated/program/builds.S", *more
+    sources = TOP / "crates/fhex/fhex.c", TOP / "generated/fhex/builds.S", *more
     runs([compiler, *options.split(), "-o", folder / "fhex", *sources])
     return folder / "fhex"
 

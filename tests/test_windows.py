@@ -92,7 +92,7 @@ def test_names_for(tmp_path, target):
 def test_program_for(tmp_path, target):
     """It asks for what fhex.c has, and for three functions of C."""
     needs("clang", "llvm-nm")
-    runs(["clang", "-target", target, "-c", "-o", tmp_path / "fhex.o", TOP / "generated/program/builds.S"])
+    runs(["clang", "-target", target, "-c", "-o", tmp_path / "fhex.o", TOP / "generated/fhex/builds.S"])
     asked = {*re.findall(r" U (\w+)$", ran(["llvm-nm", tmp_path / "fhex.o"]).stdout, re.M)}
     has = re.findall(r"^PROVED .*\b(fhex_\w+)\(.*\{", (TOP / "crates/fhex/fhex.c").read_text(), re.M)
     assert asked == {*(it for it in has if "_mem" not in it), "memcpy", "memmove", "memset"}
