@@ -89,6 +89,12 @@ def has_files(folder, files):
     assert {str(it.relative_to(folder)) for it in folder.rglob("*") if not it.is_dir()} == {*files}
 
 
+def own_files():
+    """The names of what the repository has of its own."""
+    said = ran(["git", "ls-files", "-co", "--exclude-standard"], cwd=TOP).stdout
+    return [it for it in said.splitlines() if (TOP / it).is_file()]
+
+
 def copied(names, to):
     """Copies these files of the repository to a folder."""
     for name in names:

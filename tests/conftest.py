@@ -5,7 +5,7 @@ from pathlib import Path
 import pytest
 
 pytest.register_assert_rewrite("commands")
-from commands import ARM_CC, CARGO, OUT, TOP, copied, make, needs, ran, runs
+from commands import ARM_CC, CARGO, OUT, copied, make, needs, own_files, runs
 from packages import REGISTRY
 
 
@@ -48,8 +48,7 @@ def fhex():
 @pytest.fixture
 def copy(tmp_path):
     """A copy of what the repository has of its own, as it stands here."""
-    said = ran(["git", "ls-files", "-co", "--exclude-standard"], cwd=TOP).stdout
-    return copied([it for it in said.splitlines() if (TOP / it).is_file()], tmp_path / "a copy")
+    return copied(own_files(), tmp_path / "a copy")
 
 
 @pytest.fixture(scope="session")

@@ -4,105 +4,102 @@ import re
 
 import pytest
 
-from commands import (ARM_CC, BY_SYSTEM, HELLO, INSTALLED, SHARED, TOP, VERSION, WINDOWS_CC, has_files, make, needs,
-                      ran, runs)
+from commands import (ARM_CC, BY_SYSTEM, HELLO, INSTALLED, SHARED, TOP, VERSION, WINDOWS_CC, copied, has_files, make,
+                      needs, only, own_files, ran, runs)
 
-# It builds nothing, and takes no tool of those that build.
-MAKE = make("TARGET=x86_64", "CC=false", "INSTALL=false")
+# What `make install` takes: none of these tools builds anything.
+TOOLS = "sh make dirname sed cat cut rm mv ln mkdir rmdir find sort xargs grep install sha256sum env uname"
 # Where the programs of README.md stand.
 FILES = {"c": "digits.c", "rust": "src/main.rs"}
-# Prefixes with which `make install` fails, where each names nothing or what the test makes, and whether
-# `make uninstall` fails too.
-FAILING = {"": True, "file/there": True, "half": False, "taken": True}
-
-pytestmark = pytest.mark.usefixtures("library", "fhex")
+# Prefixes where `make install` fails: each names nothing, or what the test makes. Whether `make uninstall` fails too.
+FAILING = {"": True, "file/there": False, "half": False, "taken": True}
 
 
-def test_files_that_anybody_may_read(tmp_path):
+@pytest.fixture(scope="module")
+def top(tmp_path_factory):
+    """A copy of the repository, where all is built."""
+    top = copied(own_files(), tmp_path_factory.mktemp("top") / "a copy")
+    runs(make(top=top), env=BY_SYSTEM)
+    return top
+
+
+@pytest.fixture(scope="module")
+def env(tmp_path_factory):
+    return only(tmp_path_factory.mktemp("bin") / "tools", {it: it for it in TOOLS.split()})
+
+
+def files_below(folder):
+    return [it for it in folder.rglob("*") if not it.is_dir()]
+
+
+@pytest.mark.parametrize("word", [[], ["DESTDIR="]])
+def test_files_that_anybody_may_read(tmp_path, top, env, word):
     there = tmp_path / "bl ank"
-    how = {"preexec_fn": lambda: os.umask(0o077), "env": BY_SYSTEM}
-    runs([*MAKE, "install", f"PREFIX={there}", "DESTDIR="], out="", err="", **how)
+    how = {"preexec_fn": lambda: os.umask(0o077), "env": env}
+    runs(make("install", f"PREFIX={there}", *word, top=top), out="", err="", **how)
     has_files(there, INSTALLED)
     programs = there / "bin/fhex", there / "lib" / SHARED[2]
     found = {it: it.stat().st_mode & 0o777 for it in there.rglob("*") if not it.is_symlink()}
     assert found == {it: 0o755 if it.is_dir() or it in programs else 0o644 for it in found}
     runs([there / "bin/fhex", "encode"], out=HELLO, input="hello")
-    runs([*MAKE, "uninstall", f"PREFIX={there}", "DESTDIR="])
-    assert not there.exists()
+    runs(make("uninstall", f"PREFIX={there}", *word, top=top), out="", err="", env=env)
+    assert not files_below(there)
 
 
-@pytest.mark.parametrize("beside_others", [False, True])
-def test_two_targets(tmp_path, arm, beside_others):
-    """The program of the first stays. Each takes away its own files alone, without LIBDIR, and the last
-    one all folders, but none that has a file of somebody else."""
-    usr, common = tmp_path / "usr", ["PREFIX=/usr", f"DESTDIR={tmp_path}"]
-    by_arm, places = make("TARGET=aarch64", f"CC={ARM_CC}", *common), ("lib/arm", "lib/aarch64")
-    of_arm = [it.replace("x86_64.", "aarch64.") for it in INSTALLED if not re.match("lib/|bin/|.*fhex.1$", it)]
-    of_arm += [f"{it}/{name[4:]}" for it in places for name in INSTALLED if name.startswith("lib/")]
-    runs([*MAKE, "install", *common])
-    done = ran([*by_arm, "install"])
-    assert done.returncode and "set LIBDIR" in done.stdout
-    for place in places:
-        assert "bin/fhex stays" in ran([*by_arm, "install", f"LIBDIR=/usr/{place}"]).stdout
-    has_files(usr, {*INSTALLED, *of_arm})
-    runs([usr / "bin/fhex", "encode"], out=HELLO, input="hello")
-    foreign = [it / "foreign" for it in (usr, *usr.rglob("*")) if beside_others and it.is_dir()]
-    for file in foreign:
-        file.touch()
-    others = [str(it.relative_to(usr)) for it in foreign]
-    runs([*MAKE, "uninstall", *common])
-    has_files(usr, [*of_arm, *others])
-    runs([*by_arm, "uninstall"])
-    has_files(usr, others)
-    assert usr.exists() == beside_others
+def test_files_of_others(tmp_path, top, env):
+    """They stay, in the library's own folders too, of which no other is left."""
+    there = ["PREFIX=/usr", f"DESTDIR={tmp_path}"]
+    for keeps in False, True:
+        runs(make("install", *there, top=top), env=env)
+        foreign = [it / "foreign" for it in (tmp_path, *tmp_path.rglob("*")) if keeps and it.is_dir()]
+        for file in foreign:
+            file.touch()
+        runs(make("uninstall", *there, top=top), out="", err="", env=env)
+        assert {*files_below(tmp_path)} == {*foreign}
+        assert any(tmp_path.rglob("*/faster_hex")) == keeps
 
 
 def test_what_was_built_last(tmp_path, copy):
-    """Not by a test. For Windows nothing is installed, but a line names what installs there."""
+    """For Windows nothing is installed, but a line names what installs there."""
     needs(ARM_CC, WINDOWS_CC)
     there = tmp_path / "there"
-    runs(make("lib", f"CC={ARM_CC}", top=copy), env=BY_SYSTEM)
-    runs(make("test-c", top=copy), env=BY_SYSTEM)
+    runs(make("lib", f"CC={ARM_CC}", "CFLAGS=-O1", top=copy), env=BY_SYSTEM)
     done = ran(make("install", f"CC={WINDOWS_CC}", f"PREFIX={there}", top=copy), env=BY_SYSTEM)
     assert done.returncode == 2 and "CMake installs" in done.stdout and done.stdout.count("\n") == 1
     assert not there.exists()
     runs(make("install", f"PREFIX={there}", top=copy), env=BY_SYSTEM)
     assert "AArch64" in ran(["readelf", "-h", there / "lib" / SHARED[2]]).stdout
+    assert "CFLAGS = -O1\n" in (copy / "out/built").read_text()
     done = ran(make("lib", "TARGET=aarch64", "CC=cc", top=copy), env=BY_SYSTEM)
     assert done.returncode == 2 and done.stdout.count("\n") == 1
 
 
-def test_upgrade(tmp_path):
-    earlier = tmp_path / "lib/libfaster_hex.so.1.0.9"
-    runs([*MAKE, "install", f"PREFIX={tmp_path}"])
-    earlier.touch()
-    with (tmp_path / "share/faster_hex/x86_64.installed").open("a") as noted:
-        noted.write(f"{earlier}\n")
-    runs([*MAKE, "install", f"PREFIX={tmp_path}"])
+def test_upgrade(tmp_path, top, env):
+    (tmp_path / "lib").mkdir()
+    (tmp_path / "lib/libfaster_hex.so.1.0.9").touch()
+    runs(make("install", f"PREFIX={tmp_path}", top=top), env=env)
     has_files(tmp_path, INSTALLED)
 
 
 @pytest.mark.parametrize("prefix", FAILING)
-def test_failure(tmp_path, prefix):
+def test_failure(tmp_path, top, prefix):
     """It ends with a status and one line."""
     (tmp_path / "taken/bin/fhex").mkdir(parents=True)
     (tmp_path / "half").mkdir()
     for name in "file", "half/lib":
         (tmp_path / name).touch()
     there = prefix and f"{tmp_path / prefix}"
-    told = {"DESTDIR": "", "VERSION": VERSION, "TARGET": "x86_64", "PREFIX": there, "LIBDIR": f"{there}/lib"}
+    told = {"DESTDIR": "", "VERSION": VERSION, "OUT": "out", "PROGRAMS": "fhex", "PREFIX": there}
     for words, is_refused in ([], True), (["--remove"], FAILING[prefix]):
-        done = ran([TOP / "scripts/install.sh", *words], env={**os.environ, **told}, stderr=-1)
+        done = ran([top / "scripts/install.sh", *words], env={**os.environ, **told}, stderr=-1)
         assert (done.returncode > 0, done.stderr.count("\n"), done.stdout) == (is_refused, is_refused, "")
-    has_files(tmp_path / "half", ["lib"])
+    assert (tmp_path / "half/lib").is_file() and (tmp_path / "taken/bin/fhex").is_dir()
 
 
 def test_readme(tmp_path):
     """Writes the programs and runs the lines of README.md up to those for Rattle, in order: each prints what its
     comment says."""
     needs("pkg-config", "cargo")
-    # `make install` takes what was built last, which may be for another target.
-    runs(make("lib"))
     (tmp_path / "src").mkdir()
     text = (TOP / "README.md").read_text().partition("\n## Rattle\n")[0].replace("$HOME", f"{tmp_path}")
     exports = "set -e\n" + "\n".join(re.findall("^export .*", text, re.M)) + "\n"
@@ -116,11 +113,11 @@ def test_readme(tmp_path):
             assert done.stdout.strip().splitlines()[-1:] == [told] if told else done.returncode == 0, done.stdout
 
 
-def test_prefix_that_is_relative(tmp_path):
+def test_prefix_that_is_relative(tmp_path, top, env):
     """It counts from the repository on, and no slash stands twice."""
-    words, there = ["PREFIX=some//where/", f"DESTDIR={tmp_path}"], tmp_path / f"{TOP}/some/where"[1:]
-    runs([*MAKE, "install", *words])
+    words, there = ["PREFIX=some//where/", f"DESTDIR={tmp_path}"], tmp_path / f"{top}/some/where"[1:]
+    runs(make("install", *words, top=top), env=env)
     has_files(there, INSTALLED)
-    assert f"prefix={TOP}/some/where\n" in (there / "lib/pkgconfig/faster_hex.pc").read_text()
-    runs([*MAKE, "uninstall", *words])
-    assert not [*tmp_path.iterdir()]
+    assert f"prefix={top}/some/where\n" in (there / "lib/pkgconfig/faster_hex.pc").read_text()
+    runs(make("uninstall", *words, top=top), env=env)
+    assert not files_below(tmp_path)

@@ -1,15 +1,21 @@
 """What `make` says of bad words, how it builds in a copy, and the copies of `make vendor`."""
 import os
 import re
+import shutil
 import subprocess
 import time
 
 import pytest
 
-from commands import BY_SYSTEM, SHARED, TOP, is_locked, make, only, ran, runs
+from commands import BY_SYSTEM, SHARED, TOP, VERSION, is_locked, make, only, ran, runs
 
 # How often a build says each of the user's words.
-WORDS = {"CC": 6, "CFLAGS": 4, "CPPFLAGS": 3, "LDFLAGS": 2, "AR": 1}
+WORDS = {"CC": 5, "CFLAGS": 5, "CPPFLAGS": 4, "LDFLAGS": 2, "AR": 1}
+# Words by which all is built anew, and how a build by them ends.
+OTHERS = {"CFLAGS=-O1 -g": 0, "CPPFLAGS=-DX='a  $$b'": 0, "LDFLAGS=-Wl,-O1": 0, "CC=gcc": 0, "UNPROVED=yes": 0}
+OTHERS |= {"CC=nonexistent": 2}
+WARNINGS = {f"warning: {folder}/ {what}" for folder in ("generated", "generated/fhex") for what in
+            ("is not made of these sources", "has a file that is not as PROVED says")}
 PAGES = {"CALLING.md", "DIFFERENCES.md", "proving.md", "security.md"}
 
 
@@ -24,13 +30,56 @@ def test_six_makes_at_once(copy):
     many = [subprocess.Popen(make(top=copy), **how) for _ in range(6)]
     assert {it.communicate()[0] for it in many} == {""}
     assert [it.returncode for it in many] == 6 * [0]
-    made = {"builds.o", "dispatch.o", "libfaster_hex.a", SHARED[2], "fhex", "last"}
+    made = {"builds.o", "dispatch.o", "libfaster_hex.a", SHARED[2], "fhex.o", "fhex", "built"}
     assert {it.name for it in (copy / "out").iterdir()} == made
+
+
+@pytest.mark.parametrize("word", OTHERS)
+def test_other_words(copy, word):
+    """They build anew each file, and so do none again. `make install` builds nothing."""
+    how, out = {"env": BY_SYSTEM}, copy / "out"
+    runs(make(top=copy), **how)
+    before = {it: it.stat().st_mtime_ns for it in out.iterdir()}
+    done = ran(make(word, top=copy), **how)
+    assert done.returncode == OTHERS[word] and ("nonexistent: " in done.stdout) == (done.returncode > 0)
+    for words in (["install"], [word], []) if not done.returncode else ():
+        assert (words == []) == (" -o " in runs(make("-n", *words, top=copy), **how))
+        assert not [it for it in before if it.stat().st_mtime_ns <= before[it]]
+    runs(make(top=copy), **how)
+    assert not [it for it in before if it.stat().st_mtime_ns <= before[it]]
+
+
+def test_builds_in_two_folders(copy, tmp_path):
+    """Each file has the same bytes, also with what a debugger needs, if that names no folder."""
+    other = shutil.copytree(copy, tmp_path / "other")
+    for flags in "-O2", "-O2 -g -ffile-prefix-map='{}'=.":
+        for top in copy, other:
+            runs(make(f"CFLAGS={flags.format(top)}", top=top), env=BY_SYSTEM)
+        made = {it.name: it.read_bytes() for it in (copy / "out").iterdir() if it.name != "built"}
+        assert "fhex" in made and made == {it: (other / "out" / it).read_bytes() for it in made}
+
+
+@pytest.mark.parametrize("name", ["generated/x86-64.s", "generated/fhex/x86-64-v2.s", "crates/hex_core/src/lib.rt"])
+def test_unproved(copy, name):
+    """A change of the assembly or of the sources is built only by UNPROVED=yes, which the library's version says."""
+    with (copy / name).open("a") as file:
+        file.write("\n")
+    how, program = {"env": BY_SYSTEM}, copy / "version"
+    assert ran(make(top=copy), **how).returncode == 2
+    done = ran(make("UNPROVED=yes", top=copy), **how)
+    assert done.returncode == 0 and set(done.stdout.splitlines()) <= WARNINGS and "warning: " in done.stdout
+    assert set(ran(make("install", f"PREFIX={copy}/there", top=copy), **how).stdout.splitlines()) <= WARNINGS
+    (copy / "version.c").write_text('#include <faster_hex.h>\n#include <stdio.h>\n'
+                                    'int main(void) { puts(faster_hex_version()); }\n')
+    runs(["cc", "-I", copy / "there/include", "-o", program, f"{program}.c", copy / "there/lib/libfaster_hex.a"])
+    runs([program], out=f"{VERSION}+unproved\n")
+    assert ran(make(top=copy), **how).returncode == 2
 
 
 def test_words_of_the_user(copy):
     words = [f"{name}={'cc' * (name == 'CC')} -D{name}_IS" for name in WORDS]
-    said = ran(make("-n", *words, top=copy), env=BY_SYSTEM).stdout
+    said = ran(make("-n", *words, top=copy), env=BY_SYSTEM).stdout.partition("-o out/builds.o")
+    said = "cc" + said[0].rpartition("cc")[2] + "".join(said[1:])
     assert {it: said.count(f" -D{it}_IS") for it in WORDS} == WORDS
     runs(make("lib", "LDFLAGS=-Wl,-z,norelro,-z,lazy", top=copy), env=BY_SYSTEM)
     is_locked(copy / "out" / SHARED[2])
@@ -53,10 +102,11 @@ def test_other_sources(copy):
 
 def test_what_is_wrong_with_generated(copy, tmp_path):
     """A file that was changed, and a missing tool, a line each."""
-    tools = only(tmp_path / "tools", {it: it for it in "make sh dirname find sort xargs cc as ld".split()})
+    tools = "make sh dirname mkdir mv sed cat cut find sort xargs cc as ld"
+    tools = only(tmp_path / "tools", {it: it for it in tools.split()})
     with (copy / "generated/x86-64.s").open("a") as file:
         file.write("\n")
-    for env, line in (BY_SYSTEM, "not as PROVED says"), (tools, "there is no cksum"):
+    for env, line in (BY_SYSTEM, "not as PROVED says"), (tools, "there is no sha256sum"):
         done = ran(make("lib", top=copy), env=env)
         said = [it for it in done.stdout.splitlines() if not it.startswith("make: ")]
         assert done.returncode == 2 and len(said) == 1 and line in said[0], said

@@ -149,7 +149,11 @@ CALL(answer, decode_grouped,
      (src, len, dst, room, policy, every, sep), dst)
 
 const char *faster_hex_version(void) {
+#ifdef FASTER_HEX_UNPROVED
+    return FASTER_HEX_VERSION "+unproved";
+#else
     return FASTER_HEX_VERSION;
+#endif
 }
 
 /* Texts of one length, since pointers to them would be written when a program is loaded. */

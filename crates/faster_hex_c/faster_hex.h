@@ -123,7 +123,8 @@ struct faster_hex_answer faster_hex_decode_grouped(const void *src, size_t len, 
 /* A status in words, which stay where they are: "invalid hex byte" for FASTER_HEX_INVALID_CHAR. */
 const char *faster_hex_status_text(uint8_t status);
 
-/* FASTER_HEX_VERSION of the library that is loaded. */
+/* FASTER_HEX_VERSION of the library that is loaded. After it stands "+unproved" if the library was built by
+ * `make UNPROVED=yes`, which does not ask whether its code was made of the proved sources. */
 const char *faster_hex_version(void);
 
 #ifdef __clang__

@@ -1,4 +1,4 @@
-/* The command fhex: `main`, and all that its proved part, generated/program/, asks of the system.
+/* The command fhex: `main`, and all that its proved part, generated/fhex/, asks of the system.
  * No proof sees this file: the proved part assumes of each function what the comment on it says. */
 #include <errno.h>
 #include <signal.h>
