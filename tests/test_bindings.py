@@ -22,6 +22,30 @@ BOTH = """
         println!("{text}\\n{}", later::Hex::new(&later::hex_decode_vec(text.as_bytes()).unwrap()));
     }"""
 
+# A library that a program loads, and that hands on the crate; and calls of all builds in a program.
+DYLIB = """[package]
+name = "between"
+edition = "2021"
+[lib]
+crate-type = ["dylib"]
+[dependencies]
+faster-hex = {{ path = "{}" }}
+"""
+CALLED = """
+use between::faster_hex;
+
+#[used]
+static CALLED: fn() = || {
+    use faster_hex::CheckCase::{Lower, None, Upper};
+    for case in [None, Lower, Upper] {
+        let (mut bytes, mut text) = ([0; 2], [0; 4]);
+        assert!(faster_hex::hex_check_with_case(b"0123", case));
+        assert!(faster_hex::hex_decode_with_case(b"0123", &mut bytes, case).is_ok());
+        assert!(faster_hex::hex_decode(b"0123", &mut bytes).is_ok() && faster_hex::hex_encode(&bytes, &mut text).is_ok());
+    }
+};
+"""
+
 
 @pytest.fixture(scope="module")
 def package(tmp_path_factory):
@@ -79,6 +103,21 @@ def test_two_versions_and_the_archive_in_one_program(tmp_path, library, words):
     both = f'faster-hex = {{ path = "{crate}" }}', f'later = {{ package = "faster-hex", path = "{later}" }}'
     own, env = program_over(tmp_path / "own", BOTH, *both), {**os.environ, "RUSTFLAGS": f"-L native={library}"}
     runs([CARGO, "run", "-q", *words], out=2 * HELLO, cwd=own, env=env)
+
+
+@pytest.mark.parametrize("words", [[], ["--release"]])
+def test_program_over_a_dylib(tmp_path, words):
+    """What is inlined into the program finds each build in the library between."""
+    needs(CARGO)
+    crate, between = packed(tmp_path / "crate"), tmp_path / "between"
+    texts = {"src/lib.rs": "pub use faster_hex;\n", "Cargo.toml": DYLIB.format(crate)}
+    for name, text in texts.items():
+        (between / name).parent.mkdir(parents=True, exist_ok=True)
+        (between / name).write_text(text)
+    source = (EXAMPLE / "src/main.rs").read_text() + CALLED
+    own = program_over(tmp_path / "own", source, f'between = {{ path = "{between}" }}')
+    (own / "Cargo.toml").write_text((own / "Cargo.toml").read_text().replace('lto = "fat"', ""))
+    runs([CARGO, "run", "-q", *words], out=BY_RUST, cwd=own)
 
 
 @pytest.fixture(scope="module")

@@ -2,6 +2,11 @@
 //! itself is the assembly in `generated/`, whose names carry the version, so that two can stand in one program.
 
 use core::arch::global_asm;
+#[cfg(target_arch = "x86_64")]
+use core::{
+    mem::transmute,
+    sync::atomic::{AtomicPtr, Ordering::Relaxed},
+};
 
 use super::Answer;
 
@@ -33,45 +38,51 @@ assemble!("macho.inc");
 #[cfg(not(any(windows, target_vendor = "apple")))]
 assemble!("elf.inc");
 
+// Only the library that holds the assembly finds its names, which are hidden. So a call, which is inlined into crates
+// that may be linked with a `dylib` of this one, takes the address of its build from a static.
 macro_rules! calls {
-    ($($call:ident($($word:ident: $kind:ty),*) -> $answer:ty;)*) => {
+    ($($call:ident($($word:ident: $kind:ty),*) -> $answer:ty;)*) => { $(
         #[cfg(target_arch = "aarch64")]
-        extern "C" { $(
-            #[link_name = concat!("faster_hex_1_0_0_aarch64_", stringify!($call))]
-            pub fn $call($($word: $kind),*) -> $answer;
-        )* }
-
-        $(
-            #[cfg(target_arch = "x86_64")]
-            #[inline]
-            pub unsafe fn $call($($word: $kind),*) -> $answer {
-                extern "sysv64" {
-                    #[link_name = concat!("faster_hex_1_0_0_x86_64_", stringify!($call))]
-                    fn v1($($word: $kind),*) -> $answer;
-                    #[link_name = concat!("faster_hex_1_0_0_x86_64_v2_", stringify!($call))]
-                    fn v2($($word: $kind),*) -> $answer;
-                    #[link_name = concat!("faster_hex_1_0_0_x86_64_v3_", stringify!($call))]
-                    fn v3($($word: $kind),*) -> $answer;
-                }
-
-                // Apart, and by the same convention, so that a call of the widest build takes a load and a
-                // comparison more, and no frame.
-                #[cold]
-                unsafe extern "sysv64" fn other($($word: $kind),*) -> $answer {
-                    match level::find() {
-                        3 => v3($($word),*),
-                        2 => v2($($word),*),
-                        _ => v1($($word),*),
-                    }
-                }
-
-                match level::known() {
-                    3 => v3($($word),*),
-                    _ => other($($word),*),
-                }
+        #[inline]
+        pub unsafe fn $call($($word: $kind),*) -> $answer {
+            extern "C" {
+                #[link_name = concat!("faster_hex_1_0_0_aarch64_", stringify!($call))]
+                fn only($($word: $kind),*) -> $answer;
             }
-        )*
-    };
+            static BUILD: unsafe extern "C" fn($($kind),*) -> $answer = only;
+            BUILD($($word),*)
+        }
+
+        #[cfg(target_arch = "x86_64")]
+        #[inline]
+        pub unsafe fn $call($($word: $kind),*) -> $answer {
+            extern "sysv64" {
+                #[link_name = concat!("faster_hex_1_0_0_x86_64_", stringify!($call))]
+                fn v1($($word: $kind),*) -> $answer;
+                #[link_name = concat!("faster_hex_1_0_0_x86_64_v2_", stringify!($call))]
+                fn v2($($word: $kind),*) -> $answer;
+                #[link_name = concat!("faster_hex_1_0_0_x86_64_v3_", stringify!($call))]
+                fn v3($($word: $kind),*) -> $answer;
+            }
+            type Build = unsafe extern "sysv64" fn($($kind),*) -> $answer;
+            // A `Build`: the one for the processor, once a call has asked for its level.
+            static BUILD: AtomicPtr<()> = AtomicPtr::new(first as *const () as *mut ());
+
+            #[cold]
+            #[inline(never)]
+            unsafe extern "sysv64" fn first($($word: $kind),*) -> $answer {
+                let build: Build = match level::find() {
+                    3 => v3,
+                    2 => v2,
+                    _ => v1,
+                };
+                BUILD.store(build as *mut (), Relaxed);
+                build($($word),*)
+            }
+
+            transmute::<*mut (), Build>(BUILD.load(Relaxed))($($word),*)
+        }
+    )* };
 }
 
 calls! {

@@ -6,18 +6,12 @@ use core::sync::atomic::{AtomicU8, Ordering::Relaxed};
 /// 1, 2 or 3, or 0 until a call has asked the processor.
 static LEVEL: AtomicU8 = AtomicU8::new(0);
 
-/// The level, or 0 until it is found.
-#[inline]
-pub fn known() -> u8 {
-    LEVEL.load(Relaxed)
-}
-
 /// The level.
 pub fn find() -> u8 {
-    if known() == 0 {
+    if LEVEL.load(Relaxed) == 0 {
         LEVEL.store(level_of(&Processor::read()), Relaxed);
     }
-    known()
+    LEVEL.load(Relaxed)
 }
 
 /// What `cpuid` and `xgetbv` say.
