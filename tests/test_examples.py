@@ -3,8 +3,25 @@ import re
 
 import pytest
 
-from commands import (ARM_CC, CC, CXX, NAMES, ON_ARM, PRINTED, SHARED, TESTS_IN_C, TOP, compiled, is_locked, needs,
-                      passes, ran, runs)
+from commands import (ARM_CC, CC, CXX, NAMES, ON_ARM, PRINTED, SHARED, STRICT, TESTS_IN_C, TOP, compiled, is_locked,
+                      needs, passes, ran, runs)
+
+
+# What faster_hex.hpp refuses, and what the only error says of it, by gcc or by clang.
+LITERAL, BYTES, DELETED, NONE = "string literal", "must be bytes", "deleted", "no matching function"
+REFUSED = {
+    'encode("hello")': LITERAL,
+    'encode(u8"hello")': LITERAL,
+    "encode(text.c_str())": LITERAL,
+    "encode(std::vector<int>(2))": BYTES,
+    "decode(std::vector<int>(2))": BYTES,
+    "encode(text, true)": NONE,
+    'decode("0123", FASTER_HEX_LOWERCASE)': DELETED,
+    "decode(text, FASTER_HEX_LOWERCASE)": DELETED,
+    "decode(text, 1)": NONE,
+    "decode(text, room, sizeof room, FASTER_HEX_LOWERCASE)": NONE,
+    "decode(text.data(), text.size(), room, sizeof room, 1)": NONE,
+}
 
 
 @pytest.fixture(params=["x86_64", "aarch64"])
@@ -67,3 +84,20 @@ def test_example(tmp_path, target, source, options):
 def test_header_of_cpp(tmp_path, library, compiler, standard):
     words = [f"-std={standard}", "-Wold-style-cast", TESTS_IN_C / "strings.cpp", library / "libfaster_hex.a"]
     passes([compiled(compiler, tmp_path / "strings", *words)])
+
+
+@pytest.mark.parametrize("call", REFUSED)
+@pytest.mark.parametrize("compiler", [CXX, "clang++"])
+def test_what_the_header_of_cpp_refuses(tmp_path, compiler, call):
+    """A call that would read something else than it says is not compiled, and one error says why."""
+    needs(compiler)
+    source = tmp_path / "refused.cpp"
+    source.write_text(f"""#include "faster_hex.hpp"
+        std::string text = "0123";
+        unsigned char room[2];
+        void refused() {{ (void)faster_hex::{call}; }}
+        """)
+    for standard in "c++17", "c++20":
+        done = ran([compiler, f"-std={standard}", *STRICT, "-fsyntax-only", source])
+        errors = [it for it in done.stdout.splitlines() if "error:" in it]
+        assert done.returncode and len(errors) == 1 and REFUSED[call] in errors[0], done.stdout

@@ -1,12 +1,15 @@
-/* faster_hex.h for C++17 and later: digits as std::string, bytes as what has data() and size(), such as
- * std::span, std::vector and std::string, or as a pointer and a length. A refusal is thrown. */
+/* faster_hex.h for C++17 and later: digits as std::string, bytes as std::vector. Both are also read from what has
+ * data() and size(), such as std::span, std::vector and std::string_view, from arrays of unsigned char and std::byte,
+ * and from a pointer and a length. A refusal is thrown. */
 #ifndef FASTER_HEX_HPP
 #define FASTER_HEX_HPP
 
 #include <cstddef>
+#include <iterator>
 #include <stdexcept>
 #include <string>
 #include <string_view>
+#include <type_traits>
 #include <vector>
 
 #include "faster_hex.h"
@@ -14,6 +17,13 @@
 namespace faster_hex {
 
 enum class letters : bool { lowercase, uppercase };
+
+/* Which letters are digits. */
+enum class policy : uint8_t {
+    either_case = FASTER_HEX_EITHER_CASE,
+    lowercase = FASTER_HEX_LOWERCASE,
+    uppercase = FASTER_HEX_UPPERCASE
+};
 
 /* A refusal: the status in words, and the answer of the call. */
 class error : public std::invalid_argument {
@@ -28,28 +38,69 @@ inline std::size_t written(const faster_hex_answer &told) {
     return told.number;
 }
 
-inline std::string encode(const void *src, std::size_t len, letters by = letters::lowercase) {
+[[nodiscard]] inline std::string encode(const void *src, std::size_t len, letters by = letters::lowercase) {
     std::string digits(FASTER_HEX_ENCODED_LEN(len), '0');
     written(faster_hex_encode(src, len, &digits[0], digits.size(), by == letters::uppercase));
     return digits;
 }
 
-template <class Bytes> std::string encode(const Bytes &src, letters by = letters::lowercase) {
-    static_assert(sizeof *src.data() == 1, "bytes");
-    return encode(src.data(), src.size(), by);
+template <class Bytes> [[nodiscard]] std::string encode(const Bytes &src, letters by = letters::lowercase) {
+#ifdef __cpp_char8_t
+    constexpr bool is_u8 = std::is_convertible_v<const Bytes &, const char8_t *>;
+#else
+    constexpr bool is_u8 = false;
+#endif
+    constexpr bool is_text = is_u8 || std::is_convertible_v<const Bytes &, const char *>;
+    static_assert(!is_text, "the zero at the end of a string literal or a char * is none of its bytes: "
+                            "write std::string_view(text), or a pointer and a length");
+    if constexpr (is_text) {
+        return {};
+    } else {
+        static_assert(sizeof *std::data(src) == 1, "the elements must be bytes");
+        return encode(std::data(src), std::size(src), by);
+    }
 }
 
 /* Decodes into the front of a place, and returns how many bytes. */
-inline std::size_t decode(std::string_view digits, void *dst, std::size_t room,
-                          uint8_t policy = FASTER_HEX_EITHER_CASE) {
-    return written(faster_hex_decode_with_case(digits.data(), digits.size(), dst, room, policy));
+inline std::size_t decode(const void *digits, std::size_t len, void *dst, std::size_t room,
+                          policy by = policy::either_case) {
+    return written(faster_hex_decode_with_case(digits, len, dst, room, static_cast<uint8_t>(by)));
 }
 
-inline std::vector<unsigned char> decode(std::string_view digits, uint8_t policy = FASTER_HEX_EITHER_CASE) {
-    std::vector<unsigned char> bytes(FASTER_HEX_DECODED_LEN(digits.size()));
-    decode(digits, bytes.data(), bytes.size(), policy);
+[[nodiscard]] inline std::vector<unsigned char> decode(const void *digits, std::size_t len,
+                                                       policy by = policy::either_case) {
+    std::vector<unsigned char> bytes(FASTER_HEX_DECODED_LEN(len));
+    decode(digits, len, bytes.data(), bytes.size(), by);
     return bytes;
 }
+
+/* The digits of a string, which ends before its first zero if it is a char * or an array of char, or of other bytes. */
+template <class Digits> std::string_view digits_of(const Digits &src) {
+    if constexpr (std::is_array_v<Digits> && std::is_convertible_v<const Digits &, const char *>) {
+        const std::string_view whole(src, std::size(src));
+        return whole.substr(0, whole.find('\0'));
+    } else if constexpr (std::is_convertible_v<const Digits &, std::string_view>) {
+        return src;
+    } else {
+        static_assert(sizeof *std::data(src) == 1, "the elements must be bytes");
+        return {reinterpret_cast<const char *>(std::data(src)), std::size(src)};
+    }
+}
+
+template <class Digits> std::size_t decode(const Digits &digits, void *dst, std::size_t room,
+                                           policy by = policy::either_case) {
+    const std::string_view text = digits_of(digits);
+    return decode(text.data(), text.size(), dst, room, by);
+}
+
+template <class Digits> [[nodiscard]] std::vector<unsigned char> decode(const Digits &digits,
+                                                                        policy by = policy::either_case) {
+    const std::string_view text = digits_of(digits);
+    return decode(text.data(), text.size(), by);
+}
+
+/* A policy of C would be taken for a length. */
+template <class Digits> void decode(const Digits &digits, decltype(FASTER_HEX_EITHER_CASE) by) = delete;
 
 } // namespace faster_hex
 

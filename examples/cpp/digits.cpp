@@ -13,7 +13,7 @@ int main(int count, char **words) {
 
     unsigned char bytes[4];
     try {
-        faster_hex::decode("00Ff", bytes, sizeof bytes, FASTER_HEX_LOWERCASE);
+        faster_hex::decode("00Ff", bytes, sizeof bytes, faster_hex::policy::lowercase);
     } catch (const faster_hex::error &it) {
         std::printf("%s 0x%02x at index %zu\n", it.what(), unsigned{it.answer.byte}, it.answer.number);
     }

@@ -10,6 +10,8 @@
 
 static_assert(sizeof(faster_hex_answer) == 2 * sizeof(std::size_t), "two words");
 
+using faster_hex::policy;
+
 static int passed, failed;
 
 static void count(bool holds, const char *what) {
@@ -36,23 +38,44 @@ static void values() {
     count(faster_hex::encode(std::string()).empty(), "encode of nothing");
     count(faster_hex::decode("00aBfF") == list, "decode");
     unsigned char room[4] = {1, 1, 1, 1};
-    count(faster_hex::decode("00abff", room, sizeof room, FASTER_HEX_LOWERCASE) == 3 && room[3] == 1, "decode there");
+    count(faster_hex::decode("00abff", room, sizeof room, policy::lowercase) == 3 && room[3] == 1, "decode there");
+    count(faster_hex::decode("00abff!", 6, room, sizeof room) == 3 && room[2] == 0xff, "a length before a place");
+    count(faster_hex::decode("00abff!", 6) == list, "decode of a pointer and a length");
+    count(faster_hex::decode("00ABFF!", 6, policy::uppercase) == list, "a pointer, a length and a policy");
+    const char text[] = {'0', '0', 'a', 'b', 'f', 'f'}, ended[] = "00abff\0!";
+    count(faster_hex::decode(text) == list && faster_hex::decode(ended) == list, "decode up to the end or a zero");
 #if __cplusplus >= 202002L
     count(faster_hex::encode(std::span(bytes)) == "00abff", "encode of a span");
+    count(faster_hex::decode(std::span(text)) == list, "decode of a span");
 #endif
+}
+
+/* Both directions, from an array, a std::array and a vector. */
+template <class Byte> static void elements(const char *what) {
+    const Byte bytes[] = {Byte{'0'}, Byte{'1'}, Byte{'f'}, Byte{'F'}};
+    const std::array<Byte, 4> array{{bytes[0], bytes[1], bytes[2], bytes[3]}};
+    const std::vector<Byte> list(array.begin(), array.end());
+    count(faster_hex::encode(bytes) == "30316646", what);
+    count(faster_hex::encode(array) == "30316646" && faster_hex::encode(list) == "30316646", what);
+    const std::vector<unsigned char> wanted{0x01, 0xff};
+    count(faster_hex::decode(bytes) == wanted, what);
+    count(faster_hex::decode(array) == wanted && faster_hex::decode(list) == wanted, what);
+    unsigned char room[2];
+    count(faster_hex::decode(bytes, room, sizeof room) == 2 && room[1] == 0xff, what);
+    count(refused([&] { (void)faster_hex::decode(list, policy::lowercase); }).number == 3, what);
 }
 
 static void refusals() {
     unsigned char room[1] = {7};
-    faster_hex_answer told = refused([] { faster_hex::decode("0aBg", FASTER_HEX_UPPERCASE); });
+    faster_hex_answer told = refused([] { (void)faster_hex::decode("0aBg", policy::uppercase); });
     count(told.status == FASTER_HEX_INVALID_CHAR && told.number == 1 && told.byte == 'a', "a letter in lowercase");
-    told = refused([] { faster_hex::decode("0aB"); });
+    told = refused([] { (void)faster_hex::decode("0aB"); });
     count(told.status == FASTER_HEX_ODD_LENGTH, "an odd length");
     told = refused([&] { faster_hex::decode("0aBc", room, sizeof room); });
     count(told.status == FASTER_HEX_OUTPUT_TOO_SMALL && told.number == 2 && room[0] == 7, "a small room");
-    told = refused([] { faster_hex::decode("", 3); });
+    told = refused([] { (void)faster_hex::decode("", static_cast<policy>(3)); });
     count(told.status == FASTER_HEX_UNKNOWN_POLICY, "no policy");
-    told = refused([] { faster_hex::encode("", SIZE_MAX / 2 + 1); });
+    told = refused([] { (void)faster_hex::encode("", SIZE_MAX / 2 + 1); });
     count(told.status == FASTER_HEX_OVERFLOW, "a length above all texts");
 }
 
@@ -69,6 +92,8 @@ static void texts() {
 
 int main() {
     values();
+    elements<unsigned char>("unsigned char");
+    elements<std::byte>("std::byte");
     refusals();
     texts();
     std::printf("%d passed, %d failed\n", passed, failed);
