@@ -13,6 +13,7 @@ trap 'rm -rf "$made"' EXIT
 
 # The header without its comments, a declaration a line, and its types by their names in Rust.
 sed '/^#/d; s/.*\\$//' faster_hex.h | tr '\n' ' ' | sed 's|/\*[^*]*\*\([^*/][^*]*\*\)*/||g' | tr ';{' '\n\n' | sed '
+    s/FASTER_HEX_MUST_USE//
     s/const void \*[a-z]*, size_t [a-z]*/Source/g
     s/void \*[a-z]*, size_t [a-z]*/Destination/g
     s/struct faster_hex_answer \(faster\)/Answer \1/

@@ -3,10 +3,12 @@ import re
 
 import pytest
 
-from commands import (ARM_CC, CC, CXX, NAMES, ON_ARM, PRINTED, SHARED, STRICT, TESTS_IN_C, TOP, compiled, is_locked,
-                      needs, passes, ran, runs)
+from commands import (ARM_CC, CALLS, CC, CRATE, CXX, NAMES, ON_ARM, PRINTED, SHARED, STRICT, TESTS_IN_C, TOP, compiled,
+                      is_locked, needs, passes, ran, runs)
 
-
+# The calls of the header, with what follows a source and its length.
+WORDS = {"check": "", "check_with_case": "0", "first_invalid": "0", "encode": "dst, 8, 0", "decode": "dst, 2"}
+WORDS |= {"decode_with_case": "dst, 2, 0", "encode_grouped": "dst, 11, 0, 1, 58", "decode_grouped": "dst, 2, 0, 1, 58"}
 # What faster_hex.hpp refuses, and what the only error says of it, by gcc or by clang.
 LITERAL, BYTES, DELETED, NONE = "string literal", "must be bytes", "deleted", "no matching function"
 REFUSED = {
@@ -37,6 +39,19 @@ def test_header(standard):
     language = standard.rstrip("0123456789")
     words = ["-x", language, f"-std={standard}", "-fsyntax-only", TOP / "examples/c/digits.c"]
     compiled(CC if language == "c" else CXX, "/dev/null", *words)
+
+
+@pytest.mark.parametrize("compiler", [CC, "clang", CXX])
+def test_results_that_are_not_used(tmp_path, compiler):
+    """The compiler warns of each."""
+    needs(compiler)
+    source = tmp_path / ("unused.cpp" if compiler == CXX else "unused.c")
+    lines = [f"faster_hex_{name}(src, 4{', ' * (words != '')}{words});" for name, words in WORDS.items()]
+    source.write_text('#include "faster_hex.h"\nvoid f(const char *src, char *dst) {\n' + "\n".join(lines) + "\n}\n")
+    said = ran([compiler, f"-I{CRATE}", "-c", "-o", tmp_path / "unused.o", source]).stdout
+    found = re.findall(r"unused\.c(?:pp)?:(\d+):.* warning: ignoring return value", said)
+    assert {f"faster_hex_{it}" for it in WORDS} == {*CALLS}
+    assert {int(it) - 3 for it in found} == {*range(len(CALLS))} and len(found) == len(CALLS)
 
 
 def test_names_and_state_of_the_archive(target):

@@ -15,13 +15,19 @@
  * - The library needs no symbols, and may be linked into a shared library.
  * - The answer reports the first error that the call lists. A call that refuses writes nothing. Any other
  *   call writes to the front of the destination and leaves the rest unchanged.
- * - In tests of the x86-64-v2 and x86-64-v3 code, encoding, and decoding or checking valid digits, used no
- *   address and no branch that depends on the bytes. The grouped calls were not tested, and nothing of this is
- *   proved.
+ * - Compilers that can do so warn where a result is not used.
  *
- * What a call answers and writes is proved for `len` and `room` below 2^63. `make check` tests that encoding
- * answers FASTER_HEX_OVERFLOW from there on, and that all calls stay inside source and destination, allocate
- * nothing, change no state and may run in threads.
+ * What is proved is the source of each call: what it returns and writes, for `len` and `room` below 2^63. The machine
+ * code is compiled from that source, and nothing is proved of it, nor of what is around it:
+ *
+ * - Of the machine code for x86-64-v2 and x86-64-v3, calls that are not grouped were executed on unknown bytes, for
+ *   each length up to 128 bytes of data, and faster_hex_first_invalid up to 64 digits: the result is right, and
+ *   nothing else is read or written, also where an empty source or destination is NULL.
+ * - There, encoding, and decoding or checking valid digits, use no address and no branch that depends on the bytes
+ *   of a key, but for one branch on whether all of them are digits. Up to 320 bytes this was tested. The build for
+ *   older processors looks bytes up in tables; the grouped calls were not looked at.
+ * - Tests alone speak of the rest: longer sources, the grouped calls, the other builds, FASTER_HEX_OVERFLOW for 2^63
+ *   bytes and more, and that calls allocate nothing, change no state and may run in threads.
  */
 #ifndef FASTER_HEX_H
 #define FASTER_HEX_H
@@ -47,9 +53,16 @@
 #define FASTER_HEX_ENCODED_LEN(n) (FASTER_HEX_SIZE(2) * (n))
 #define FASTER_HEX_DECODED_LEN(n) (FASTER_HEX_SIZE(n) / 2)
 
-/* The length of n bytes as digits in groups of `every` bytes, which must not be 0. */
+/* The length of n bytes as digits in groups of `every` bytes, which must not be 0. It evaluates n more than once. */
 #define FASTER_HEX_GROUPED_LEN(n, every) \
     (FASTER_HEX_ENCODED_LEN(n) + ((n) == 0 ? FASTER_HEX_SIZE(0) : (FASTER_HEX_SIZE(n) - 1) / (every)))
+
+/* Before a call whose result says whether it was refused. */
+#ifdef __GNUC__
+#define FASTER_HEX_MUST_USE __attribute__((warn_unused_result))
+#else
+#define FASTER_HEX_MUST_USE
+#endif
 
 #ifdef __cplusplus
 extern "C" {
@@ -87,36 +100,44 @@ struct faster_hex_answer {
 };
 
 /* Whether all bytes are digits of either case; any length. */
+FASTER_HEX_MUST_USE
 bool faster_hex_check(const void *src, size_t len);
 
 /* The same under a policy; false for any other number. */
+FASTER_HEX_MUST_USE
 bool faster_hex_check_with_case(const void *src, size_t len, uint8_t policy);
 
 /* Finds the first byte that is not a digit under the policy: FASTER_HEX_UNKNOWN_POLICY, then
  * FASTER_HEX_INVALID_CHAR, otherwise FASTER_HEX_DONE with number 0; any length. */
+FASTER_HEX_MUST_USE
 struct faster_hex_answer faster_hex_first_invalid(const void *src, size_t len, uint8_t policy);
 
 /* Writes 2 * len digits, without a terminating zero: FASTER_HEX_OVERFLOW, then FASTER_HEX_OUTPUT_TOO_SMALL. */
+FASTER_HEX_MUST_USE
 struct faster_hex_answer faster_hex_encode(const void *src, size_t len,
                                            void *dst, size_t room, bool upper);
 
 /* Decodes digits of either case to len / 2 bytes: FASTER_HEX_ODD_LENGTH, then FASTER_HEX_OUTPUT_TOO_SMALL,
  * then FASTER_HEX_INVALID_CHAR. */
+FASTER_HEX_MUST_USE
 struct faster_hex_answer faster_hex_decode(const void *src, size_t len,
                                            void *dst, size_t room);
 
 /* The same under a policy: FASTER_HEX_UNKNOWN_POLICY comes before the others. */
+FASTER_HEX_MUST_USE
 struct faster_hex_answer faster_hex_decode_with_case(const void *src, size_t len,
                                                      void *dst, size_t room, uint8_t policy);
 
 /* Writes the digits in groups of `every` bytes, the last possibly shorter, with `sep` between groups, as in
  * 00:1b:21 or 0001 1b21: FASTER_HEX_NOT_A_GROUP, then FASTER_HEX_OVERFLOW, then
  * FASTER_HEX_OUTPUT_TOO_SMALL. */
+FASTER_HEX_MUST_USE
 struct faster_hex_answer faster_hex_encode_grouped(const void *src, size_t len, void *dst, size_t room,
                                                    bool upper, size_t every, uint8_t sep);
 
 /* Decodes such a text: FASTER_HEX_UNKNOWN_POLICY, then FASTER_HEX_NOT_A_GROUP, then FASTER_HEX_BAD_LENGTH,
  * then FASTER_HEX_OUTPUT_TOO_SMALL, then FASTER_HEX_INVALID_CHAR, also for a wrong separator. */
+FASTER_HEX_MUST_USE
 struct faster_hex_answer faster_hex_decode_grouped(const void *src, size_t len, void *dst, size_t room,
                                                    uint8_t policy, size_t every, uint8_t sep);
 
