@@ -34,8 +34,11 @@ MACHINE := $(shell $(CC) -dumpmachine 2>/dev/null)
 PROCESSOR := $(firstword $(subst -, ,$(or $(MACHINE),$(TARGET),$(shell uname -m))))
 PROCESSOR := $(patsubst arm64,aarch64,$(patsubst amd64,x86_64,$(PROCESSOR)))
 PROCESSOR := $(if $(filter -m32,$(CC) $(CPPFLAGS) $(CFLAGS)),i386,$(PROCESSOR))
+# Where the assembly was tried.
+TRIED := $(if $(findstring android,$(MACHINE)),,$(foreach system,linux freebsd netbsd darwin mingw,\
+	$(findstring $(system),$(or $(MACHINE),linux))))
 ifeq ($(TARGET),)
-TARGET := $(PROCESSOR)
+TARGET := $(if $(strip $(TRIED))$(filter-out x86_64 aarch64,$(PROCESSOR)),$(PROCESSOR),portable)
 else ifeq ($(filter $(PROCESSOR) portable,$(TARGET)),)
 $(error TARGET=$(TARGET), but $(CC) makes code for $(PROCESSOR))
 endif

@@ -22,6 +22,8 @@ BOTH = """
         println!("{text}\\n{}", later::Hex::new(&later::hex_decode_vec(text.as_bytes()).unwrap()));
     }"""
 
+# Versions of faster-hex that a program asks for, and whether this crate may take its place.
+ASKED = {"1": True, "1.0": True, "1.0.1": False, "1.1": False}
 # A library that a program loads, and that hands on the crate; and calls of all builds in a program.
 DYLIB = """[package]
 name = "between"
@@ -118,6 +120,25 @@ def test_program_over_a_dylib(tmp_path, words):
     own = program_over(tmp_path / "own", source, f'between = {{ path = "{between}" }}')
     (own / "Cargo.toml").write_text((own / "Cargo.toml").read_text().replace('lto = "fat"', ""))
     runs([CARGO, "run", "-q", *words], out=BY_RUST, cwd=own)
+
+
+@pytest.mark.parametrize("asked", ASKED)
+def test_versions_that_a_patch_replaces(tmp_path, asked):
+    """Beside later versions of faster-hex, from a folder in place of a registry."""
+    needs(CARGO)
+    crate, own = packed(tmp_path / "crate"), tmp_path / "own"
+    without(crate / "Cargo.toml", OF_SERDE)
+    for version in "1.0.9", "1.1.0":
+        other = program_over(tmp_path / f"registry/faster-hex-{version}", "pub fn hex_string(_: &[u8]) -> u8 { 0 }")
+        (other / "src/main.rs").rename(other / "src/lib.rs")
+        named = (other / "Cargo.toml").read_text().replace('"over"', f'"faster-hex"\nversion = "{version}"')
+        (other / "Cargo.toml").write_text(named.partition("[profile")[0] + '[features]\nstd = []\ndefault = ["std"]\n')
+        (other / ".cargo-checksum.json").write_text('{"files": {}}')
+    program_over(own, 'fn main() { println!("{}", faster_hex::hex_string(b"hello")) }', f'faster-hex = "{asked}"',
+                 f'[patch.crates-io]\nfaster-hex = {{ path = "{crate}" }}')
+    here = f'source.here.directory="{tmp_path}/registry"'
+    words = [CARGO, "--config", 'source.crates-io.replace-with="here"', "--config", here, "run", "-q", "--offline"]
+    runs(words, out=HELLO if ASKED[asked] else "0\n", cwd=own)
 
 
 @pytest.fixture(scope="module")

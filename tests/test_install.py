@@ -97,20 +97,22 @@ def test_failure(tmp_path, top, prefix):
 
 
 def test_readme(tmp_path):
-    """Writes the programs and runs the lines of README.md up to those for Rattle, in order: each prints what its
-    comment says."""
+    """Writes the programs and runs the lines of README.md up to those for Rattle, each part in a new shell and in a
+    folder beside the clone: each prints what its comment says."""
     needs("pkg-config", "cargo")
-    (tmp_path / "src").mkdir()
+    (tmp_path / "bunkmedlar").symlink_to(TOP)
     text = (TOP / "README.md").read_text().partition("\n## Rattle\n")[0].replace("$HOME", f"{tmp_path}")
-    exports = "set -e\n" + "\n".join(re.findall("^export .*", text, re.M)) + "\n"
-    for kind, block in re.findall(r"^```(\w+)\n(.*?)^```$", text, re.M | re.S):
-        if kind in FILES:
-            (tmp_path / FILES[kind]).write_text(block)
-        for line in block.splitlines() if kind == "sh" else ():
-            words, _, told = (it.strip() for it in line.partition("  # "))
-            place = TOP if words.startswith("make") or "out/" in words else tmp_path
-            done = ran(["bash", "-c", exports + words], cwd=place)
-            assert done.stdout.strip().splitlines()[-1:] == [told] if told else done.returncode == 0, done.stdout
+    for at, part in enumerate(text.split("\n## ")):
+        exports, own = "set -e\n" + "\n".join(re.findall("^export .*", part, re.M)) + "\n", tmp_path / f"{at}"
+        (own / "src").mkdir(parents=True)
+        for kind, block in re.findall(r"^```(\w+)\n(.*?)^```$", part, re.M | re.S):
+            if kind in FILES:
+                (own / FILES[kind]).write_text(block)
+            for line in block.splitlines() if kind == "sh" else ():
+                words, _, told = (it.strip() for it in line.partition("  # "))
+                place = TOP if words.startswith("make") or "out/" in words else own
+                done = ran(["bash", "-c", exports + words], cwd=place)
+                assert done.stdout.strip().splitlines()[-1:] == [told] if told else done.returncode == 0, done.stdout
 
 
 def test_prefix_that_is_relative(tmp_path, top, env):

@@ -1,5 +1,6 @@
 """The built fhex: its statuses, outputs and messages, byte for byte, by several compilers."""
 import os
+import re
 import subprocess
 
 import pytest
@@ -68,6 +69,13 @@ def ended(*words, **how):
     """How a program ends, which it does within a minute."""
     done = ran(words, **{"stderr": subprocess.PIPE, "text": None, "errors": None, "timeout": 60, **how})
     return done.returncode, done.stdout, done.stderr
+
+
+def test_usage_in_man():
+    """At 80 columns no word of the line is broken."""
+    needs("man")
+    said = runs(["man", "-l", TOP / "docs/fhex.1"], env={**os.environ, "MANWIDTH": "80"})
+    assert re.search(USAGE.decode().strip().replace(" ", r"\s+").replace("|", r"\|"), said), said
 
 
 @pytest.mark.parametrize("words, given, status, out, err", RUNS, ids=[f"{it[0]} {it[1]}" for it in RUNS])

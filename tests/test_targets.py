@@ -14,6 +14,11 @@ WORDS = {"CC": 5, "CFLAGS": 5, "CPPFLAGS": 4, "LDFLAGS": 2, "AR": 1}
 # Words by which all is built anew, and how a build by them ends.
 OTHERS = {"CFLAGS=-O1 -g": 0, "CPPFLAGS=-DX='a  $$b'": 0, "LDFLAGS=-Wl,-O1": 0, "CC=gcc": 0, "UNPROVED=yes": 0}
 OTHERS |= {"CC=nonexistent": 2}
+# What compilers say that they build for, and whether the libraries are plain C, and whether there is fhex.
+SYSTEMS = dict.fromkeys(("x86_64-linux-gnu", "aarch64-alpine-linux-musl", "amd64-unknown-freebsd14.0"), (False, True))
+SYSTEMS |= {"x86_64-w64-mingw32": (False, True), "arm64-apple-darwin23": (False, False)}
+SYSTEMS |= dict.fromkeys(("x86_64-unknown-openbsd7.4", "x86_64-pc-solaris2.11", "aarch64-none-linux-android21"),
+                         (True, False))
 WARNINGS = {f"warning: {folder}/ {what}" for folder in ("generated", "generated/fhex") for what in
             ("is not made of these sources", "has a file that is not as PROVED says")}
 PAGES = {"CALLING.md", "DIFFERENCES.md", "proving.md", "security.md"}
@@ -83,6 +88,17 @@ def test_words_of_the_user(copy):
     assert {it: said.count(f" -D{it}_IS") for it in WORDS} == WORDS
     runs(make("lib", "LDFLAGS=-Wl,-z,norelro,-z,lazy", top=copy), env=BY_SYSTEM)
     is_locked(copy / "out" / SHARED[2])
+
+
+@pytest.mark.parametrize("system", SYSTEMS)
+def test_systems(tmp_path, system):
+    """Elsewhere than README.md says the libraries are plain C, and there is no fhex."""
+    compiler = tmp_path / "cc"
+    compiler.write_text(f"#!/bin/sh\necho {system}\n")
+    compiler.chmod(0o755)
+    said = ran(make("-n", f"CC={compiler}")).stdout
+    assert "libfaster_hex.a" in said
+    assert (" -DFASTER_HEX_PORTABLE" in said, "/fhex" in said) == SYSTEMS[system]
 
 
 def test_other_sources(copy):

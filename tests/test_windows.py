@@ -3,7 +3,8 @@ import re
 
 import pytest
 
-from commands import CALLS, CRATE, NAMES, OUT, TESTS_IN_C, TOP, WINDOWS_CC, by_cmake, make, needs, passes, ran, runs
+from commands import (CALLS, CRATE, NAMES, OUT, RUSTC, TESTS_IN_C, TOP, WINDOWS_CC, by_cmake, make, needs, passes, ran,
+                      runs)
 
 # What a call on Windows keeps.
 KEPT = [*"%rbx %rbp %rsi %rdi %r12 %r13 %r14 %r15".split(), *(f"%xmm{it}" for it in range(6, 16))]
@@ -15,6 +16,10 @@ OTHERS = "x86_64-apple-macos11 arm64-apple-macos11 aarch64-unknown-freebsd13 x86
 # Processors, and the builds that a compiler for one takes.
 TAKEN = {"x86_64-linux-gnu": ["X86_64"], "aarch64-linux-gnu": ["AARCH64"]}
 TAKEN |= dict.fromkeys(("x86_64-linux-gnux32", "aarch64_be-linux-gnu", "i686-linux-gnu", "riscv64-linux-gnu"), [])
+# Systems, by their names for clang and for rustc, and whether a compiler takes builds there.
+SYSTEMS = dict.fromkeys(("unknown-linux-gnu", "unknown-linux-musl", "unknown-freebsd", "unknown-netbsd"), True)
+SYSTEMS |= dict.fromkeys(("unknown-openbsd", "unknown-illumos", "linux-android", "unknown-haiku", "apple-ios"), False)
+SYSTEMS |= {"apple-darwin": True, "pc-windows-gnu": True, "pc-windows-msvc": False}
 
 
 @pytest.fixture(scope="module")
@@ -103,6 +108,31 @@ def test_builds_taken_for(target):
     needs("clang")
     said = runs(["clang", "-target", target, "-dM", "-E", CRATE / "assembly.h"])
     assert re.findall("^#define FASTER_HEX_(.*) 1$", said, re.M) == TAKEN[target]
+
+
+@pytest.mark.parametrize("system", SYSTEMS)
+@pytest.mark.parametrize("processor", ["x86_64", "aarch64"])
+def test_systems_of_builds(processor, system):
+    """C and Rust take assembly exactly where the table of README.md has it; on Windows by mingw for x86-64 alone."""
+    needs("clang", RUSTC)
+    named, has = f"{processor}-{system}", SYSTEMS[system] and (processor, system) != ("aarch64", "pc-windows-gnu")
+    target = {"apple-darwin": "apple-macos11", "apple-ios": "apple-ios14"}.get(system, system)
+    said = runs(["clang", "-target", f"{processor}-{target}", "-dM", "-E", CRATE / "assembly.h"])
+    assert ("#define FASTER_HEX_" in said) == has
+    known = ran([RUSTC, "--print", "cfg", "--target", named])
+    if known.returncode:
+        assert "could not find specification" in known.stdout
+    else:
+        assert is_portable({*known.stdout.splitlines()}) != has
+
+
+def is_portable(known):
+    """Whether bindings/rust takes its portable calls, by what is known of a target."""
+    text = (TOP / "bindings/rust/src/lib.rs").read_text()
+    asked = re.search(r"#\[cfg_attr\(\s*(any\(.*?\)),\s*path = \"portable.rs\"", text, re.S)[1]
+    holds = lambda it: repr((f"{it[1]}={it[2]}" if it[2] else it[1]) in known)
+    asked = re.sub(r"\b(?!(?:all|any|not)\()(\w+)(?: = (\"\w+\"))?", holds, asked)
+    return eval(asked, {"all": lambda *it: all(it), "any": lambda *it: any(it)})
 
 
 @pytest.mark.parametrize("processor, files", [("arm64", "aarch64.s"), ("x86_64", "x86-64*.s")])

@@ -107,7 +107,13 @@ mod adapters;
             target_pointer_width = "64",
             target_endian = "little",
             any(target_arch = "x86_64", target_arch = "aarch64"),
-            any(unix, all(windows, target_arch = "x86_64"))
+            any(
+                target_os = "linux",
+                target_os = "freebsd",
+                target_os = "netbsd",
+                target_os = "macos",
+                all(windows, target_env = "gnu", target_arch = "x86_64")
+            )
         ))
     ),
     path = "portable.rs"
