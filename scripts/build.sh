@@ -1,7 +1,7 @@
 #!/bin/sh
-# Proves a crate and those below it, lowest first, and builds of it, a library or a program, the assembly
+# Proves a crate and those below it, lowest first, and builds of it, a static library or a program, the assembly
 # crates/NAME/out/assembly/BUILD.s of each build, as clang writes it: `scripts/generate` makes of it what is
-# committed. What the last run proved is not proved again where its files, and those of the crates below, are
+# committed. Of another library it builds nothing. What the last run proved is not proved again where its files, and those of the crates below, are
 # the same. What is said of each crate goes to build.log beside what is made, of which the end is printed
 # where something fails.
 # Usage: scripts/build.sh NAME
@@ -23,7 +23,8 @@ cd "$(dirname "$0")/.."
 top=$PWD
 kit=$(dirname "$(rt doc)")
 version=$(rt version)
-kind=library
+kind=statements
+! grep -q "^$target staticlib:" crates.txt || kind=library
 [ ! -f "crates/$target/src/main.rt" ] || kind=program
 
 # The builds: a name, the architecture and its processor, and the number that `level` of faster_hex_c returns
@@ -43,10 +44,15 @@ below() {
     scripts/repository.py below "$1"
 }
 
+# is_built NAME: whether its assembly is built, and not what it states alone.
+is_built() {
+    [ "$1" = "$target" ] && [ $kind != statements ]
+}
+
 # sum_of NAME: a sum of the toolchain, of a crate and those below it, and for the target of this file.
 sum_of() {
     {
-        [ "$1" != "$target" ] || cat scripts/build.sh
+        ! is_built "$1" || cat scripts/build.sh
         for it in $(below "$1"); do
             echo "$version $it: $(uses "$it")"
             scripts/sources "$it"
@@ -148,12 +154,12 @@ build_all() {
     done
 }
 
-# build CRATE: of the target its assembly, and of another one its statements.
+# build CRATE: its assembly, or its statements.
 build() {
-    if [ "$1" != "$target" ]; then
-        prove "$1" src/lib.rt --statements -o "out/statements/$1.rlib"
-    else
+    if is_built "$1"; then
         build_all "$1"
+    else
+        prove "$1" src/lib.rt --statements -o "out/statements/$1.rlib"
     fi
 }
 
@@ -166,7 +172,7 @@ anew=
 for crate in $(below "$target"); do
     number=$((number + 1))
     out=crates/$crate/out/statements
-    [ "$crate" != "$target" ] || out=crates/$crate/out/assembly
+    ! is_built "$crate" || out=crates/$crate/out/assembly
     sum=$(sum_of "$crate")
     if [ -z "$anew" ] && [ "$sum" = "$(cat "$out/made-of" 2>/dev/null)" ]; then
         continue

@@ -2,9 +2,9 @@
 # Compares faster_hex.h with the exported functions: the fields of the answer, of the same types in the
 # same order, which no proof sees; of each function its name, its result and its parameters, where a Source
 # or a Destination is a pointer and a length; and the numbers of the statuses. Then its version, those of the crate for
-# Rust, of CMake and of the man pages, and that in the names of generated/ with VERSION of the Makefile, and
-# the sums of each PROVED in generated/ with its files, and the prover with README.md. Prints what differs; its
-# status is then 1.
+# Rust, of CMake and of the man pages, and that in the names of generated/ with VERSION of the Makefile; the functions
+# of dispatch.c with the header; and each PROVED in generated/ with the sources, the files and README.md. Prints what
+# differs; its status is then 1.
 set -eu
 
 cd "$(dirname "$0")/../crates/faster_hex_c"
@@ -50,16 +50,39 @@ versions() {
     sed -n 's/^\thex_export\tfaster_hex_\([0-9]*\)_\([0-9]*\)_\([0-9]*\)_\(.*\)/\4 \1.\2.\3/p' ../../generated/*.s
 }
 
+# The calls that dispatch.c makes, but for two that are written out there.
+{
+    sed -n 's/^CALL(\([a-z]*\), \([a-z_]*\),.*/faster_hex_\2/p' dispatch.c
+    sed -n 's/^const char \*\(faster_hex_[a-z_]*\)(.*{$/\1/p' dispatch.c
+} | sort >"$made/dispatched"
+sed 's/.*[ *]\(faster_hex_[a-z_]*\)(.*/\1/; t; d' "$made/header" | sort >"$made/named"
+
 status=0
 [ -s "$made/declared" ] || { echo 'nothing is declared' && status=1; }
 diff "$made/declared" "$made/exported" || status=1
+diff "$made/named" "$made/dispatched" || status=1
 wanted=$(sed -n 's/^VERSION = //p' ../../Makefile)
 versions | awk -v wanted="$wanted" '
     $2 != wanted { print $1 ": version " $2 ", and not " wanted " as in the Makefile"; wrong = 1 }
     END { exit wrong }' || status=1
-for folder in ../../generated ../../generated/fhex; do
-    (cd $folder && sed -n 's/^sha256 //p' PROVED | sha256sum -c --quiet) || status=1
+
+# proved FOLDER CRATE: whether its record tells the proofs of a crate and those below it, from these sources, by the
+# prover that README.md names, and whether the files are those that it tells.
+proved() {
+    crates=$(scripts/repository.py below "$2" | sort)
+    told=$(sed -n 's/ logic=proved .*//p' "$1/PROVED" | sort -u)
+    [ "$told" = "$crates" ] || { echo "$1/PROVED tells of" $told ", and not of" $crates && return 1; }
+    grep -qxF "sources $(scripts/sources $crates)" "$1/PROVED" ||
+        { echo "$1/PROVED is of other sources: \`make generate\` makes it anew" && return 1; }
+    prover=$(sed -n 's/^prover //p' "$1/PROVED")
+    grep -qF "\`$prover\`" README.md || { echo "README.md does not name the prover $prover" && return 1; }
+    sed -n 's/^sha256 //p' "$1/PROVED" >"$made/sums"
+    [ ! -s "$made/sums" ] || (cd "$1" && sha256sum -c --quiet "$made/sums")
+}
+cd ../..
+proved generated faster_hex_c || status=1
+for program in $(sed -n 's/^PROGRAMS = //p' Makefile); do
+    proved "generated/$program" "$(echo "$program" | tr - _)" || status=1
 done
-prover=$(sed -n 's/^prover //p' ../../generated/PROVED)
-grep -qF "\`$prover\`" ../../README.md || { echo "README.md does not name the prover $prover" && status=1; }
+proved generated/rattle callers || status=1
 exit "$status"
