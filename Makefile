@@ -4,41 +4,36 @@
 # macOS the archive; any other, and TARGET=portable, the libraries in plain C. CC, CFLAGS, CPPFLAGS, LDFLAGS and
 # AR are taken, and other words than those of the last run build all anew. UNPROVED=yes builds sources or assembly
 # that were changed, and faster_hex_version then says so.
-# `make generate` proves the sources and writes generated/ anew. `make test` runs the examples and the gate,
-# `make check` all that the gate can't, the bindings beside a checkout RUST of the Rust crate faster-hex 1.0.0,
-# `make deep` what a release takes beside it, `make test-c` the tests in C alone, by the command RUN if there
-# is one, and `make dist` packs the repository.
+# `make generate` proves the sources and writes generated/ anew. `make test` runs the examples, a quick part of
+# `make check`, if there is pytest, and the gate; `make check` all that the gate can't, the bindings beside a
+# checkout RUST of the Rust crate faster-hex 1.0.0; `make deep` what a release takes beside it; `make test-c` the
+# tests in C alone, by the command RUN if there is one. `make dist` packs the repository.
 # `make install PREFIX=DIR` puts what is built into DIR, the libraries into LIBDIR, both below DESTDIR, and
 # `make uninstall` takes the same files away. `make vendor DIR=DIR` copies the library for Rattle into the
 # repository at DIR, with JSON=no the crates that have no JSON. `make -s` prints nothing where all goes well.
 VERSION = 1.0.0
 JSON = yes
-ifneq ($(filter-out yes no,$(JSON) $(UNPROVED)),)
-$(error JSON=$(JSON) or UNPROVED=$(UNPROVED) is neither yes nor no)
-endif
+$(if $(filter-out yes no,$(JSON) $(UNPROVED)),$(error JSON=$(JSON) or UNPROVED=$(UNPROVED) is neither yes nor no))
 C = crates/faster_hex_c
 # By which words all in out/ was built. Where they differ it is built anew; `make install` and `make test` take
 # them where none is given.
 BUILT = out/built
 WORDS = CC CPPFLAGS CFLAGS LDFLAGS TARGET UNPROVED
-GIVEN = $(filter command,$(foreach word,$(WORDS),$(origin $(word))))
-ifeq ($(filter-out install test test-c,$(or $(MAKECMDGOALS),all))$(GIVEN),)
-$(foreach word,$(and $(wildcard $(BUILT)),$(WORDS)),\
-	$(eval $(word) := $$(shell sed -n 's/^$(word) = //p' $(BUILT))))
-endif
+TAKEN := $(if $(filter-out install test test-c,$(or $(MAKECMDGOALS),all))$(findstring command,$(foreach \
+	word,$(WORDS),$(origin $(word)))),,$(wildcard $(BUILT)))
+$(foreach word,$(and $(TAKEN),$(WORDS)),$(eval $(word) := $$(shell sed -n 's/^$(word) = //p' $(BUILT))))
 ifeq ($(TARGET)$(origin CC),aarch64default)
 CC = aarch64-linux-gnu-gcc
 endif
 CFLAGS ?= -O2
 MACHINE := $(shell $(CC) -dumpmachine 2>/dev/null)
-PROCESSOR := $(firstword $(subst -, ,$(or $(MACHINE),$(TARGET),$(shell uname -m))))
-PROCESSOR := $(patsubst arm64,aarch64,$(patsubst amd64,x86_64,$(PROCESSOR)))
+PARTS := $(subst -, ,$(or $(MACHINE),$(or $(TARGET),$(shell uname -m))-linux))
+PROCESSOR := $(patsubst arm64,aarch64,$(patsubst amd64,x86_64,$(firstword $(PARTS))))
 PROCESSOR := $(if $(filter -m32,$(CC) $(CPPFLAGS) $(CFLAGS)),i386,$(PROCESSOR))
 # Where the assembly was tried.
-TRIED := $(if $(findstring android,$(MACHINE)),,$(foreach system,linux freebsd netbsd darwin mingw,\
-	$(findstring $(system),$(or $(MACHINE),linux))))
+TRIED := $(if $(filter android%,$(PARTS)),,$(filter linux freebsd% netbsd% darwin% mingw%,$(PARTS)))
 ifeq ($(TARGET),)
-TARGET := $(if $(strip $(TRIED))$(filter-out x86_64 aarch64,$(PROCESSOR)),$(PROCESSOR),portable)
+TARGET := $(if $(TRIED)$(filter-out x86_64 aarch64,$(PROCESSOR)),$(PROCESSOR),portable)
 else ifeq ($(filter $(PROCESSOR) portable,$(TARGET)),)
 $(error TARGET=$(TARGET), but $(CC) makes code for $(PROCESSOR))
 endif
@@ -69,6 +64,8 @@ DONE = mv $(MADE) $@
 QUIET = $(if $(findstring s,$(firstword -$(MAKEFLAGS))),>/dev/null)
 # Debian calls pytest so.
 PYTEST = $(shell command -v pytest-3 || command -v pytest)
+QUICK = @$(if $(PYTEST),grep -l mark.quick tests/test_*.py | xargs -P $(JOBS) -n 1 $(PYTEST) -q -m quick,\
+	echo 'there is no pytest: the quick part of make check is left out' >&2)
 # How many tasks of the gate run at a time. Each has one job, since a second one reads all libraries
 # once more: a crate over serde_json took 118 seconds of processor by four jobs, and 81 by one.
 JOBS = $(shell n=$$(nproc); echo $$((n < 4 ? n : 4)))
@@ -79,9 +76,7 @@ CURRENT = current $(PROGRAMS:%=current/%)
 .PHONY: all lib $(PROGRAMS) $(CURRENT) anew generate test test-c check deep dist install uninstall vendor help clean
 
 all: lib $(MADE_PROGRAMS)
-
 lib: $(ARCHIVE) $(SHARED)
-
 $(PROGRAMS): %: $(if $(MADE_PROGRAMS),$(OUT)/%$(EXE))
 	$(if $(MADE_PROGRAMS),,$(error there is no assembly of $@ for $(TARGET) $(SYSTEM)))
 
@@ -101,8 +96,7 @@ $(OUT)/builds.o $(PROGRAMS:%=$(OUT)/%.o): $(wildcard generated/*.inc) $(BUILT)
 	$(COMPILE) $(CFLAGS) -Wno-unused-command-line-argument -c -o $(MADE) $(filter %.S,$^) && $(DONE)
 
 $(OUT)/dispatch.o: $(C)/dispatch.c $(wildcard $(C)/*.h) $(BUILT) | current
-	$(COMPILE) -ffunction-sections $(CFLAGS) -std=c11 -fPIC -fno-lto -fno-stack-protector \
-		-c -o $(MADE) $< && $(DONE)
+	$(COMPILE) -ffunction-sections $(CFLAGS) -std=c11 -fPIC -fno-lto -fno-stack-protector -c -o $(MADE) $< && $(DONE)
 
 $(ARCHIVE): $(OBJECTS)
 	rm -f $(MADE) && $(AR) rcs $(MADE) $(OBJECTS) && $(DONE)
@@ -121,23 +115,23 @@ ifneq ($(shell command -v rt),)
 test: $(CURRENT)
 	tests/header.sh
 	scripts/examples
+	$(QUICK)
 	RT_JOBS=$(JOBS) rt ci
 	MUTATIONS_JOBS=$(JOBS) scripts/mutations --gate
 else
 test: test-c
+	$(QUICK)
 	@echo 'these were the tests in C: the others take the Rattle toolchain' >&2
 endif
 
 TRY = $(COMPILE) $(CFLAGS) -std=gnu99 -pthread -I$(C) $(OF_TESTS) -o $(OUT)/try.exe
-TRIED = $(RUN) $(OUT)/try.exe
+RUNS = $(RUN) $(OUT)/try.exe
 test-c: all $(firstword $(LOADED))
-	$(TRY) tests/c/library.c $(ARCHIVE) && $(TRIED) && $(TRIED) threads
-	$(if $(LOADED),$(TRY) tests/c/library.c $(LOADED) && $(TRIED))
-	$(TRY) examples/c/digits.c $(ARCHIVE) && $(TRIED)
-ifeq ($(TARGET),x86_64)
-	$(TRY) tests/c/choice.c $(ARCHIVE) && $(TRIED)
-	$(TRY) tests/c/portable.c $(ARCHIVE) && $(TRIED)
-endif
+	$(TRY) tests/c/library.c $(ARCHIVE) && $(RUNS) && $(RUNS) threads
+	$(if $(LOADED),$(TRY) tests/c/library.c $(LOADED) && $(RUNS))
+	$(TRY) examples/c/digits.c $(ARCHIVE) && $(RUNS)
+	$(if $(filter x86_64,$(TARGET)),$(TRY) tests/c/choice.c $(ARCHIVE) && $(RUNS))
+	$(if $(filter x86_64,$(TARGET)),$(TRY) tests/c/portable.c $(ARCHIVE) && $(RUNS))
 ifneq ($(MADE_PROGRAMS),)
 	printf hello | $(RUN) $(OUT)/fhex$(EXE) encode | $(RUN) $(OUT)/fhex$(EXE) decode | grep -qx hello
 	$(RUN) $(OUT)/fhex$(EXE) vectors | grep -x 'total 84 passed 84 failed 0'

@@ -2,6 +2,7 @@
 import os
 import re
 import shutil
+import signal
 import subprocess
 from pathlib import Path
 
@@ -22,6 +23,8 @@ ARM_CC, ON_ARM = "aarch64-linux-gnu-gcc", "qemu-aarch64 -L /usr/aarch64-linux-gn
 WINDOWS_CC = "x86_64-w64-mingw32-gcc"
 # Without tools that the system did not bring, as the Rattle toolchain.
 BY_SYSTEM = {"PATH": "/usr/bin:/bin"}
+# How many seconds a command of a test may take, and one that proves.
+LIMIT, OF_PROOFS = 900, 14400
 # What the examples in Rust print, and those in C and C++.
 HELLO = "68656c6c6f\n"
 BY_RUST = HELLO + "hello\ninvalid hex byte 0x46 at index 2\ndigits up to index 4\n"
@@ -58,13 +61,25 @@ def only(folder, tools):
     folder.mkdir()
     for name in filter(lambda it: shutil.which(tools[it]), tools):
         (folder / name).symlink_to(shutil.which(tools[name]))
-    return {"PATH": f"{folder}", "HOME": os.environ.get("HOME", "/")}
+    kept = {it: os.environ[it] for it in ("HOME", "RUSTUP_HOME", "CARGO_HOME") if it in os.environ}
+    return {"HOME": "/", **kept, "PATH": f"{folder}"}
 
 
-def ran(words, **how):
-    """A command that has ended, with what it printed."""
-    pipes = {"stdout": subprocess.PIPE, "stderr": subprocess.STDOUT}
-    return subprocess.run(words, **{**pipes, "text": True, "errors": "replace", **how})
+def ran(words, timeout=LIMIT, **how):
+    """A command that has ended, with what it printed. After so many seconds it is ended, with all that it started."""
+    pipes = {"stdout": subprocess.PIPE, "stderr": subprocess.STDOUT, "text": True, "errors": "replace"}
+    given = how.pop("input", None)
+    if given is not None:
+        how["stdin"] = subprocess.PIPE
+    with subprocess.Popen(words, start_new_session=True, **{**pipes, **how}) as process:
+        try:
+            out, err = process.communicate(given, timeout)
+        except BaseException as why:
+            os.killpg(process.pid, signal.SIGKILL)
+            if isinstance(why, subprocess.TimeoutExpired):
+                pytest.fail(f"{words} did not end within {timeout} s:\n{process.communicate()[0]}")
+            raise
+    return subprocess.CompletedProcess(words, process.returncode, out, err)
 
 
 def runs(words, status=0, out=None, err=None, **how):

@@ -6,7 +6,7 @@ import pytest
 
 pytest.register_assert_rewrite("commands")
 from commands import ARM_CC, CARGO, OUT, copied, make, needs, own_files, runs
-from packages import REGISTRY
+from packages import REGISTRY, over
 
 
 @pytest.fixture(scope="session", autouse=True)
@@ -55,5 +55,4 @@ def copy(tmp_path):
 def cargo(tmp_path_factory):
     """How cargo is called over a folder of crates, without a network. It refuses a folder that is not there."""
     needs(CARGO)
-    crates = REGISTRY if REGISTRY.is_dir() else tmp_path_factory.mktemp("crates")
-    return [CARGO, "--config", 'source.crates-io.replace-with="here"', "--config", f'source.here.directory="{crates}"']
+    return over(REGISTRY if REGISTRY.is_dir() else tmp_path_factory.mktemp("crates"))

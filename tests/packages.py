@@ -1,11 +1,13 @@
 """Packages of the Rust crate, and crates that cargo takes from a folder in place of a registry."""
+import functools
 import os
 import re
+import tempfile
 from pathlib import Path
 
 import pytest
 
-from commands import TOP, copied
+from commands import CARGO, TOP, copied, ran
 
 # The folder of crates that CRATES names, or that of Debian's packages, which have such names as librust-hex-dev.
 REGISTRY = Path(os.environ.get("CRATES") or "/usr/share/cargo/registry").absolute()
@@ -13,9 +15,30 @@ REGISTRY = Path(os.environ.get("CRATES") or "/usr/share/cargo/registry").absolut
 OF_SERDE = ["serde", "serde_json", "bincode"]
 
 
-def lacking(names):
-    """Those of these crates of which no version is there."""
-    return [name for name in names if not any(REGISTRY.glob(f"{name}-[0-9]*"))]
+# The features that tests want of crates.
+FEATURES = {"serde": ["derive"]}
+
+
+def over(registry):
+    """How cargo is called over a folder of crates, without a network."""
+    return [CARGO, "--config", 'source.crates-io.replace-with="here"', "--config", f'source.here.directory="{registry}"']
+
+
+@functools.cache
+def is_there(name, registry):
+    """Whether a folder of crates has one, and all that it needs."""
+    if not any(registry.glob(f"{name}-[0-9]*")):
+        return False
+    with tempfile.TemporaryDirectory() as own:
+        (Path(own) / "lib.rs").touch()
+        wanted = f'{name} = {{ version = "*", features = {FEATURES.get(name, [])} }}'.replace("'", '"')
+        (Path(own) / "Cargo.toml").write_text('[package]\nname = "wants"\n[lib]\npath = "lib.rs"\n[dependencies]\n' + wanted)
+        return not ran([*over(registry), "generate-lockfile", "--offline"], cwd=own).returncode
+
+
+def lacking(names, registry=REGISTRY):
+    """Those of these crates which are not there, or of which something that they need is not."""
+    return [name for name in names if not is_there(name, registry)]
 
 
 def needs_crates(*names):

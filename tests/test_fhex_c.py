@@ -7,7 +7,7 @@ import random
 
 import pytest
 
-from commands import CC, TESTS_IN_C, TOP, needs, runs
+from commands import CC, OF_PROOFS, TESTS_IN_C, TOP, needs, runs
 from test_program import SANITIZERS, USAGE, built, ended
 
 BYTES = bytes(range(256)) * 300
@@ -110,7 +110,7 @@ def a_run(chance):
 def test_alike(fhex):
     """The program that the toolchain links, by its own `main` and C functions, answers alike."""
     needs("rt")
-    runs(["rt", "run", "--", "encode"], cwd=TOP / "crates/fhex", input="hello")
+    runs(["rt", "run", "--", "encode"], cwd=TOP / "crates/fhex", input="hello", timeout=OF_PROOFS)
     chance = random.Random(os.environ.get("SEED") or "1")
     for _ in range(3000):
         words, given = a_run(chance)

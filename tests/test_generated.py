@@ -3,7 +3,7 @@ import re
 
 import pytest
 
-from commands import TOP, runs
+from commands import OF_PROOFS, TOP, runs
 
 GENERATED = TOP / "generated"
 # Words of each build's assembly: some that stand there, and some that don't.
@@ -23,7 +23,7 @@ def test_processor(build):
 @pytest.mark.parametrize("is_copy", [False, True])
 def test_made_of_these_sources(tmp_path, copy, is_copy):
     anew = tmp_path / "anew"
-    runs([(copy if is_copy else TOP) / "scripts/generate", anew])
+    runs([(copy if is_copy else TOP) / "scripts/generate", anew], timeout=OF_PROOFS)
     made = {it.relative_to(anew): it.read_bytes() for it in anew.rglob("*") if it.is_file()}
     assert made and made == {name: (GENERATED / name).read_bytes() for name in made}
 

@@ -7,6 +7,7 @@ import pytest
 from commands import (ARM_CC, BY_SYSTEM, HELLO, INSTALLED, SHARED, TOP, VERSION, WINDOWS_CC, copied, has_files, make,
                       needs, only, own_files, ran, runs)
 
+pytestmark = pytest.mark.quick
 # What `make install` takes: none of these tools builds anything.
 TOOLS = "sh make dirname sed cat cut rm mv ln mkdir rmdir find sort xargs grep install sha256sum env uname"
 # Where the programs of README.md stand.
@@ -96,11 +97,11 @@ def test_failure(tmp_path, top, prefix):
     assert (tmp_path / "half/lib").is_file() and (tmp_path / "taken/bin/fhex").is_dir()
 
 
-def test_readme(tmp_path):
+def test_readme(tmp_path, top):
     """Writes the programs and runs the lines of README.md up to those for Rattle, each part in a new shell and in a
     folder beside the clone: each prints what its comment says."""
     needs("pkg-config", "cargo")
-    (tmp_path / "bunkmedlar").symlink_to(TOP)
+    (tmp_path / "bunkmedlar").symlink_to(top)
     text = (TOP / "README.md").read_text().partition("\n## Rattle\n")[0].replace("$HOME", f"{tmp_path}")
     for at, part in enumerate(text.split("\n## ")):
         exports, own = "set -e\n" + "\n".join(re.findall("^export .*", part, re.M)) + "\n", tmp_path / f"{at}"
@@ -110,7 +111,7 @@ def test_readme(tmp_path):
                 (own / FILES[kind]).write_text(block)
             for line in block.splitlines() if kind == "sh" else ():
                 words, _, told = (it.strip() for it in line.partition("  # "))
-                place = TOP if words.startswith("make") or "out/" in words else own
+                place = top if words.startswith("make") or "out/" in words else own
                 done = ran(["bash", "-c", exports + words], cwd=place)
                 assert done.stdout.strip().splitlines()[-1:] == [told] if told else done.returncode == 0, done.stdout
 

@@ -17,8 +17,8 @@ from machine.instructions import EACH, TABLE
 from machine.statements import CALLS, shown
 
 GENERATED = TOP / "generated"
-# Decoded bytes: all lengths up to there, and some above.
-ALL, SOME = 64, (65, 79, 80, 81, 95, 96, 97, 111, 112, 113, 127, 128)
+# Decoded bytes: all lengths up to the first number, all up to the second, and some above.
+SHORT, ALL, SOME = 16, 64, (65, 79, 80, 81, 95, 96, 97, 111, 112, 113, 127, 128)
 
 
 def rows(name):
@@ -39,12 +39,16 @@ def forgets():
 
 @pytest.mark.parametrize("call", CALLS)
 @pytest.mark.parametrize("build", ["v2", "v3"])
-def test_call(image, build, call):
+@pytest.mark.parametrize("is_short", [pytest.param(True, marks=pytest.mark.quick), False])
+def test_call(image, is_short, build, call):
+    short = lengths_of(call, SHORT)
+    others = [*lengths_of(call, ALL)[len(short):], *(lengths_of(call, it)[-1] for it in SOME)]
     code = Image(image, int(build[1]))
-    for length in [*lengths_of(call, ALL), *(lengths_of(call, it)[-1] for it in SOME)]:
+    for length in short if is_short else others:
         assert list(shown(code, build, call, length))
 
 
+@pytest.mark.quick
 def test_record():
     """What generated/SHOWN says was shown of these sources."""
     assert (GENERATED / "SHOWN").read_text().startswith(sums())

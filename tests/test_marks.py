@@ -6,6 +6,7 @@ import pytest
 
 from commands import ARM_CC, CC, CRATE, TOP, needs, ran, runs
 
+pytestmark = pytest.mark.quick
 # What the note says, the mark, a branch that is indirect, and the options by which compiler and linker want marks.
 X86_64 = "IBT, SHSTK", "endbr64", r"\tjmpq?\t\*", "-fcf-protection=full -Wl,-z,cet-report=error"
 AARCH64 = "BTI", r"hint\t#34", r"\tbr\t", "-mbranch-protection=standard -Wl,-z,force-bti"

@@ -8,7 +8,7 @@ import shutil
 
 import pytest
 
-from commands import TOP, needs, ran
+from commands import OF_PROOFS, TOP, needs, ran
 
 HEAD = """//! Functions with bodies to be put out.
 #![tactic(auto)]
@@ -101,7 +101,7 @@ def tries(top, *words):
     room = top / "room"
     room.mkdir(exist_ok=True)
     places = {"MUTATIONS_TOP": str(top), "TMPDIR": str(room), "XDG_CACHE_HOME": str(top / "kept")}
-    done = ran([TOP / "scripts/mutations", *words], env={**os.environ, **places})
+    done = ran([TOP / "scripts/mutations", *words], env={**os.environ, **places}, timeout=OF_PROOFS)
     assert not any(room.iterdir()) and not (top / "crates/tiny/out").exists()
     return done
 

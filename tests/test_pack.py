@@ -8,6 +8,7 @@ import pytest
 from commands import (ARM_CC, BY_RUST, CARGO, CC, CXX, HELLO, INSTALLED, ON_ARM, PRINTED, RUSTC, SHARED, TOP, VERSION,
                       WINDOWS_CC, by_cmake, has_files, make, needs, only, passes, ran, runs)
 
+pytestmark = pytest.mark.quick
 NAME = f"faster_hex-{VERSION}"
 # What builds, tests and installs a pack.
 TOOLS = f"""sh make {CC} {CXX} gcc clang musl-gcc {ARM_CC} qemu-aarch64 ar as ld cp ln rm mv mkdir install cat

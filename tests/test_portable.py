@@ -11,7 +11,9 @@ from packages import OF_SERDE, lacking, packed, without
 TARGETS = {"riscv64-linux-gnu-gcc": ("qemu-riscv64 -L /usr/riscv64-linux-gnu", "riscv64")}
 TARGETS |= {"arm-linux-gnueabihf-gcc": ("qemu-arm -L /usr/arm-linux-gnueabihf", "arm")}
 TARGETS |= {"s390x-linux-gnu-gcc": ("qemu-s390x -L /usr/s390x-linux-gnu", "s390x")}
-TARGETS |= {"i686-linux-gnu-gcc": ("qemu-i386 -L /usr/i686-linux-gnu", "i686")}
+# (where the system has libraries for i386 of its own, those of the processor are taken by this word alone)
+I386 = "qemu-i386 -L /usr/i686-linux-gnu -E LD_LIBRARY_PATH=/usr/i686-linux-gnu/lib"
+TARGETS |= {"i686-linux-gnu-gcc": (I386, "i686")}
 # Where no file of C's own library is needed.
 FREESTANDING = "wasm32", "powerpc64le-linux-gnu", "aarch64-windows-gnu", "aarch64-none-elf -mgeneral-regs-only"
 

@@ -7,6 +7,7 @@ import pytest
 
 from commands import ARM_CC, CC, ON_ARM, TOP, needs, ran, runs
 
+pytestmark = pytest.mark.quick
 USAGE = b"usage: fhex encode|encode-upper|decode|decode-lower|decode-upper|vectors\n"
 ODD = b"hex input length must be even\n"
 INVALID = b"invalid hex byte 0x%x at index %d\n"

@@ -2,7 +2,7 @@
 rows whose answers are made wrong, and no other."""
 import pytest
 
-from commands import TOP, needs, ran
+from commands import OF_PROOFS, TOP, needs, ran
 
 CRATES = TOP / "crates"
 # Of each program some rows with a wrong answer.
@@ -51,7 +51,7 @@ PLANTED = {
 def program(request):
     """The name of a program of rows, which is built."""
     needs("rt")
-    ran(["rt", "run"], cwd=CRATES / request.param, input="")
+    ran(["rt", "run"], cwd=CRATES / request.param, input="", timeout=OF_PROOFS)
     return request.param
 
 

@@ -4,6 +4,7 @@ import pytest
 
 from commands import CRATE, TESTS_IN_C, TOP, compiled, make, needs, ran, runs
 
+pytestmark = pytest.mark.quick
 OF_ADDRESS = {"none": "", "short-destination": "heap-buffer-overflow", "short-source": "heap-buffer-overflow"}
 OF_ADDRESS |= {"freed": "heap-use-after-free", "unwritten": ""}
 OF_MEMORY = {"none": "", "unwritten": "use-of-uninitialized-value", "freed": "use-of-uninitialized-value"}

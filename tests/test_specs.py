@@ -3,8 +3,11 @@ theorem.md name is there."""
 import functools
 import re
 
+import pytest
+
 from commands import TOP
 
+pytestmark = pytest.mark.quick
 WORD = r"[^\W\d][\w-]*"
 # A function with its clauses, or a ghost member, both with their indentation.
 FUNCTION = re.compile(r"^( *)(pub )?(?:[a-z]\S* |.C. )*fn (\w+)(.*?)(?:^\1\{\}?$|\{\}?$|;$)", re.M | re.S)

@@ -9,11 +9,14 @@ import pytest
 
 from commands import BY_SYSTEM, SHARED, TOP, VERSION, is_locked, make, only, ran, runs
 
+pytestmark = pytest.mark.quick
 # How often a build says each of the user's words.
 WORDS = {"CC": 5, "CFLAGS": 5, "CPPFLAGS": 4, "LDFLAGS": 2, "AR": 1}
 # Words by which all is built anew, and how a build by them ends.
 OTHERS = {"CFLAGS=-O1 -g": 0, "CPPFLAGS=-DX='a  $$b'": 0, "LDFLAGS=-Wl,-O1": 0, "CC=gcc": 0, "UNPROVED=yes": 0}
 OTHERS |= {"CC=nonexistent": 2}
+# What `make test` takes where neither Rattle nor pytest is.
+TOOLS = """sh make cc as ld ar mv mkdir rm cp cat grep sed sort find xargs sha256sum cut dirname uname nproc"""
 # What compilers say that they build for, and whether the libraries are plain C, and whether there is fhex.
 SYSTEMS = dict.fromkeys(("x86_64-linux-gnu", "aarch64-alpine-linux-musl", "amd64-unknown-freebsd14.0"), (False, True))
 SYSTEMS |= {"x86_64-w64-mingw32": (False, True), "arm64-apple-darwin23": (False, False)}
@@ -135,9 +138,21 @@ def test_clone_that_changes_line_ends(tmp_path):
     runs(make("help", top=tmp_path / "clone"), env=BY_SYSTEM)
 
 
-def test_tests_without_the_toolchain(copy):
-    done = ran(make("test", top=copy), env=BY_SYSTEM)
-    assert done.returncode == 0 and done.stdout.endswith("the others take the Rattle toolchain\n"), done.stdout
+def test_tests_without_the_toolchain(copy, tmp_path):
+    """With no pytest either, and with one, which stands here for it."""
+    env = only(tmp_path / "tools", {it: it for it in TOOLS.split()})
+    for has_pytest in False, True:
+        done = ran(make("test", top=copy), env=env)
+        assert done.returncode == 0 and done.stdout.endswith("the others take the Rattle toolchain\n"), done.stdout
+        assert ("there is no pytest: " in done.stdout) == (not has_pytest)
+        has_quick = {it.name for it in copy.glob("tests/test_*.py") if "mark.quick" in it.read_text()}
+        assert {*re.findall(r"^given -q -m quick tests/(\S+)$", done.stdout, re.M)} == (has_quick if has_pytest else set())
+        for name in "pytest", "rt":
+            (tmp_path / "tools" / name).write_text('#!/bin/sh\necho "given $*"\n')
+        (tmp_path / "tools/pytest").chmod(0o755)
+    (tmp_path / "tools/rt").chmod(0o755)
+    said = [*runs(make("-n", "test", top=copy), env=env).splitlines()]
+    assert " -m quick" in said[-3] and "rt ci" in said[-2] and "mutations --gate" in said[-1]
 
 
 @pytest.mark.parametrize("place", ["own", "listed", "listed/crates.txt", "missing"])
