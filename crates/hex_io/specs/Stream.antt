@@ -7,6 +7,8 @@ use Rattle.hex_core.specs.declared.error.Error.{Error}
 use Rattle.hex_core.specs.declared.error.Error.TheVariants.{OddLength, Overflow}
 use Rattle.hex_core.specs.Refusal.{source_refusal}
 use Rattle.hex_core.specs.Text.{Spells, text}
+use Rattle.hex_codec.specs.declared.group.Group.{Group}
+use Rattle.hex_codec.specs.Grouped.{grouped}
 use Rattle.hex_io.specs.Reading.{SpellsBut, digits_in, plain, spaced, stray_of}
 use Rattle.hex_io.specs.Sink.{SinkState, Stops, Takes}
 use Rattle.hex_io.specs.declared.stream.StreamFault.{StreamFault}
@@ -32,7 +34,7 @@ pub record WroteBefore (r : Reading) (s : List ℕ) (old new : SinkState) : Type
   pub fed : List ℕ
   pub chunk : List ℕ
   pub parts : s ≡ fed ++ chunk
-  pub short : length chunk ≤ 8192
+  pub short : length chunk ≤ 16384
   pub wrote : Wrote r.case (digits_in r fed) (Takes old new)
 
 -- the answer for the bytes that were read
@@ -58,17 +60,23 @@ DecodesStream c = DecodesSource (plain c)
 abbrev pub DecodesSpacedStream : CheckCase → Option (List ℕ) → Option (List ℕ) → SinkState → SinkState → Result ℕ StreamFault → Type 0
 DecodesSpacedStream c = DecodesSource (spaced c)
 
--- the answer for the bytes that were read
-abbrev pub EndsEncoding : Bool → List ℕ → Option (List ℕ) → SinkState → SinkState → Result ℕ StreamFault → Type 0
+-- the answer for the bytes that were read, by the text that a list of bytes has
+abbrev pub EndsEncoding : (List ℕ → List ℕ) → List ℕ → Option (List ℕ) → SinkState → SinkState → Result ℕ StreamFault → Type 0
 -- `Ok`: they are all that there were, this many, and the sink took their text
-EndsEncoding upper bytes left old new (Ok count) = (count ≡ length bytes) × Takes old new (text upper bytes) × IsAtEnd left
+EndsEncoding shown bytes left old new (Ok count) = (count ≡ length bytes) × Takes old new (shown bytes) × IsAtEnd left
 -- a read failed: it took their text
-EndsEncoding upper bytes left old new (Err Read) = Takes old new (text upper bytes)
+EndsEncoding shown bytes left old new (Err Read) = Takes old new (shown bytes)
 -- they are more than `usize` counts: it took their text, too; there is no other refusal
-EndsEncoding upper bytes left old new (Err (Codec e)) = (e ≡ Overflow) × (2 ^ 64 ≤ length bytes) × Takes old new (text upper bytes)
+EndsEncoding shown bytes left old new (Err (Codec e)) = (e ≡ Overflow) × (2 ^ 64 ≤ length bytes) × Takes old new (shown bytes)
 -- a put failed: it took a leading part of it
-EndsEncoding upper bytes left old new (Err (Write _)) = Stops old new (text upper bytes)
+EndsEncoding shown bytes left old new (Err (Write _)) = Stops old new (shown bytes)
 
--- some bytes were read, and they were encoded
+-- some bytes were read, and they were encoded: as digits alone, or as a grouped text
+abbrev pub EncodesSource : (List ℕ → List ℕ) → Option (List ℕ) → Option (List ℕ) → SinkState → SinkState → Result ℕ StreamFault → Type 0
+EncodesSource shown before left old new result = (bytes : List ℕ) × Consumes before left bytes × EndsEncoding shown bytes left old new result
+
 abbrev pub EncodesStream : Bool → Option (List ℕ) → Option (List ℕ) → SinkState → SinkState → Result ℕ StreamFault → Type 0
-EncodesStream upper before left old new result = (bytes : List ℕ) × Consumes before left bytes × EndsEncoding upper bytes left old new result
+EncodesStream upper = EncodesSource (text upper)
+
+abbrev pub EncodesGroupedStream : Group → Bool → Option (List ℕ) → Option (List ℕ) → SinkState → SinkState → Result ℕ StreamFault → Type 0
+EncodesGroupedStream group upper = EncodesSource (grouped group upper)

@@ -1,10 +1,12 @@
--- What private functions of a decoder do with one chunk. No public contract rests on it.
-use Rattle.std.specs.Prelude.{◌≡◌, ◌≢◌, ℕ, ◌+◌, List, ◌++◌, slice_index, Option, None, option_map, MatchOption}
+-- What private functions do with one chunk of a stream. No public contract rests on it.
+use Rattle.std.specs.Prelude.{◌≡◌, ◌≢◌, ◌<◌, ◌≤◌, ℕ, ◌+◌, ◌%◌, List, ◌++◌, length, slice_index, Option, Some, None, option_map, MatchOption}
 use Rattle.std.specs.Option.{option_to_list}
 use Rattle.hex_core.specs.declared.digit.CheckCase.{CheckCase}
 use Rattle.hex_core.specs.declared.error.Error.{Error}
 use Rattle.hex_core.specs.declared.error.Error.TheVariants.{InvalidChar}
 use Rattle.hex_core.specs.Text.{with_front}
+use Rattle.hex_codec.specs.declared.group.Group.{Group}
+use Rattle.hex_codec.specs.Grouped.{piece_len}
 use Rattle.hex_io.specs.Reading.{SpellsBut, digits_in, first_stray}
 use Rattle.hex_io.specs.declared.stream.decoder.Reading.{Reading}
 
@@ -21,3 +23,12 @@ DecodesDigits c digits old new waiting = (bytes : List ℕ) × SpellsBut c digit
 abbrev pub DecodesChunk : Reading → Option ℕ → List ℕ → List ℕ → List ℕ → Option (Option ℕ) → Type 0
 DecodesChunk r waiting src old new result =
     MatchOption result ((first_stray r src ≢ None) × (new ≡ old)) (DecodesDigits r.case (option_to_list waiting ++ digits_in r src) old new)
+
+-- n bytes behind `total` others do not pass the end of a piece that those begin
+abbrev pub FitsPiece : Option Group → ℕ → ℕ → Type 0
+FitsPiece None total n = 0 ≤ n
+FitsPiece (Some group) total n = 0 < total % piece_len group → total % piece_len group + n ≤ piece_len group
+
+-- behind the text of any list of this length, this is what is missing of the text of it and these bytes
+abbrev pub Continues : (List ℕ → List ℕ) → ℕ → List ℕ → List ℕ → Type 0
+Continues shown total bytes more = (done : List ℕ) → length done ≡ total → shown done ++ more ≡ shown (done ++ bytes)

@@ -1,0 +1,104 @@
+-- What follows a text, where more bytes come.
+use Rattle.std.proofs.Common.{◌≡◌, ◌∙◌, ap, sym, refl, arith, ℕ, suc, ◌+◌, ◌-◌, ◌*◌, ◌/◌, ◌%◌, ◌<◌, ◌≤◌, Bool, true, false}
+use Rattle.std.proofs.Common.{List, [], ◌∷◌, ◌++◌, length, take, drop, append_assoc, length-append, length-drop, take-append-drop}
+use Rattle.std.proofs.Common.{Option, Some, None, Result, Ok, Err, slice_set}
+use Rattle.std.specs.Prelude.{◌==◌, not, if◌then◌else◌}
+use Rattle.std.specs.Result.{IsOk}
+use Rattle.std.proofs.lemmas.Bool.Decides.{nat_tests}
+use Rattle.std.proofs.lemmas.List.{length-take-le, take-append-le}
+use Rattle.std.proofs.lemmas.Nat.{div-add-mod', mod-mul-add}
+use borrow.Rule.Slice.PartMut.{mid_of, post_of, put_mid}
+use mir.Val.{bool_byte}
+use Rattle.hex_core.specs.Calls.{Fills}
+use Rattle.hex_core.specs.declared.error.Error.{Error}
+use Rattle.hex_core.proofs.TextLemmas.{text-append}
+use Rattle.hex_codec.specs.declared.group.Group.{Group}
+use Rattle.hex_codec.specs.Grouped.{grouped, piece_len, separator}
+use Rattle.hex_codec.specs.GroupCalls.{WritesGrouped}
+use Rattle.hex_codec.proofs.CountLemmas.{len-most}
+use Rattle.hex_codec.proofs.GroupLemmas.{grouped-last, joined-pieces, no_pieces}
+use Rattle.hex_io.specs.Frame.{digits_by}
+use Rattle.hex_io.specs.inside.{FitsPiece}
+
+-- a separator, and what was written behind it
+pub behind : (follows : Bool) (mark k end : ℕ) (old new shown : List ℕ) → 0 < length old → end ≤ length new → take end new ≡ shown
+    → mid_of (bool_byte (not follows)) (1 + end - bool_byte (not follows)) (put_mid 1 k (slice_set old 0 mark) new) ≡ (if follows then mark ∷ [] else []) ++ shown
+behind true mark k end [] new shown some fits is = absurd (omega arith)
+behind true mark k end (b ∷ old) new shown some fits is =
+    let count : 1 + end - 0 ≡ suc end = omega arith in rw count (ap (λ l. mark ∷ l) (take-append-le end new (post_of 1 k (mark ∷ old)) fits ∙ is))
+behind false mark k end [] new shown some fits is = absurd (omega arith)
+behind false mark k end (b ∷ old) new shown some fits is =
+    let count : 1 + end - 1 ≡ end = omega arith in rw count (take-append-le end new (post_of 1 k (mark ∷ old)) fits ∙ is)
+
+-- what was written is in the destination
+pub inside : {E : Type 0} (refusal : Option E) (shown old new : List ℕ) (r : Result ℕ E) (n : ℕ) → r ≡ Ok n → Fills refusal (λ bytes. bytes ≡ shown) old new r → n ≤ length new
+inside {E} refusal shown old new r n is h =
+    let done : Fills refusal (λ bytes. bytes ≡ shown) old new (Ok n) = rw is at h in
+    rw (done.1.3, done.1.2) (omega (arith, length-append done.1.0 (drop (length done.1.0) old)))
+
+-- a chunk's grouped text has room behind a separator
+pub chunk-fits : (group : Group) (upper : Bool) (bytes old new : List ℕ) (r : Result ℕ Error) → WritesGrouped group upper bytes old new r
+    → 0 < length bytes → length bytes ≤ 8192 → 24575 ≤ length old → IsOk r
+chunk-fits group upper bytes old new (Ok n) h some few room = refl
+chunk-fits group upper bytes old new (Err e) h some few room =
+    let most = len-most (piece_len group) (length bytes) group.is_group.0 in grind (arith, nat_tests, h.0, most, some, few, room)
+
+module _ (group : Group) (upper : Bool) where
+  abbrev shown : List ℕ → List ℕ
+  shown bytes = grouped group upper bytes
+
+  -- in a piece
+  within : (last chunk : List ℕ) → length last + length chunk ≤ piece_len group → shown last ++ shown chunk ≡ shown (last ++ chunk)
+  within last chunk fits =
+      rw (
+        grouped-last group upper last (omega (arith, fits)),
+        grouped-last group upper chunk (omega (arith, fits)),
+        grouped-last group upper (last ++ chunk) (omega (arith, fits, length-append last chunk)),
+        text-append upper last chunk,
+      ) refl
+
+  -- in a piece behind whole ones
+  behind-whole : (front last chunk : List ℕ) → length front % piece_len group ≡ 0 → 0 < length last → length last + length chunk ≤ piece_len group
+      → shown (front ++ last) ++ shown chunk ≡ shown ((front ++ last) ++ chunk)
+  behind-whole [] last chunk whole some fits = within last chunk fits
+  behind-whole (b ∷ front) last chunk whole some fits =
+      let all = b ∷ front in
+      ap (λ l. l ++ shown chunk) (joined-pieces group upper all last whole (omega arith) some)
+      ∙ append_assoc (shown all) (separator group ∷ shown last) (shown chunk)
+      ∙ ap (λ l. shown all ++ (separator group ∷ l)) (within last chunk fits)
+      ∙ sym (joined-pieces group upper all (last ++ chunk) whole (omega arith) (omega (arith, some, length-append last chunk)))
+      ∙ ap shown (sym (append_assoc all last chunk))
+
+  -- in a piece that was begun
+  in-piece : (done chunk : List ℕ) → 0 < length done % piece_len group → length done % piece_len group + length chunk ≤ piece_len group
+      → shown done ++ shown chunk ≡ shown (done ++ chunk)
+  in-piece done chunk some fits =
+      let every = piece_len group in let pos = group.is_group.0 in
+      let count = length done / every in
+      let at = count * every in
+      let sum = div-add-mod' (length done) every in
+      let last = length-drop at done in
+      let front = length-take-le at done (omega (arith, sum)) in
+      let whole : length (take at done) % every ≡ 0 = rw front (let all : count * every + 0 ≡ at = omega arith in rw all at (mod-mul-add count every 0 pos)) in
+      let left : length (drop at done) ≡ length done % every = omega (arith, sum, last) in
+      rw (take-append-drop at done) at (behind-whole (take at done) (drop at done) chunk whole (omega (arith, left, some)) (omega (arith, left, fits)))
+
+  -- the first bytes, or those behind some
+  pub next-first : (done chunk : List ℕ) → length done ≡ 0 → shown done ++ shown chunk ≡ shown (done ++ chunk)
+  next-first [] chunk none = rw (no_pieces (piece_len group)) refl
+  next-first (b ∷ done) chunk none = absurd (omega arith)
+
+  pub next-more : (total : ℕ) (done chunk : List ℕ) → length done ≡ total → 0 < total → 0 < length chunk → FitsPiece (Some group) total (length chunk)
+      → shown done ++ ((if total % piece_len group == 0 then separator group ∷ [] else []) ++ shown chunk) ≡ shown (done ++ chunk)
+  next-more total done chunk is some more fits = rw (← is) (by_end (length done % piece_len group == 0) refl)
+    where
+      by_end : (t : Bool) → (length done % piece_len group == 0) ≡ t → shown done ++ ((if t then separator group ∷ [] else []) ++ shown chunk) ≡ shown (done ++ chunk)
+      by_end true whole = sym (joined-pieces group upper done chunk (grind (arith, nat_tests, whole)) (omega (arith, is, some)) more)
+      by_end false begun =
+          let inside : 0 < length done % piece_len group = grind (arith, nat_tests, begun) in
+          in-piece done chunk inside (rw (← is) at fits inside)
+
+-- nothing has no text
+pub no-digits : (group : Option Group) (upper : Bool) → digits_by group upper [] ≡ []
+no-digits None upper = refl
+no-digits (Some group) upper = rw (no_pieces (piece_len group)) refl
