@@ -1,6 +1,7 @@
 mod ChunkFacts
 mod FrameFacts
 mod PutsLemmas
+mod RunLemmas
 mod ContinueLemmas
 mod Repeats
 mod DecoderLemmas

@@ -1,5 +1,5 @@
 -- What private functions do with one chunk of a stream. No public contract rests on it.
-use Rattle.std.specs.Prelude.{◌≡◌, ◌≢◌, ◌<◌, ◌≤◌, ℕ, ◌+◌, ◌%◌, List, ◌++◌, length, slice_index, Option, Some, None, option_map, MatchOption}
+use Rattle.std.specs.Prelude.{◌≡◌, ◌≢◌, ◌<◌, ◌≤◌, ℕ, ◌+◌, ◌%◌, List, ◌++◌, length, take, slice_index, Option, Some, None, option_map, MatchOption}
 use Rattle.std.specs.Option.{option_to_list}
 use Rattle.hex_core.specs.declared.digit.CheckCase.{CheckCase}
 use Rattle.hex_core.specs.declared.error.Error.{Error}
@@ -7,7 +7,7 @@ use Rattle.hex_core.specs.declared.error.Error.TheVariants.{InvalidChar}
 use Rattle.hex_core.specs.Text.{with_front}
 use Rattle.hex_codec.specs.declared.group.Group.{Group}
 use Rattle.hex_codec.specs.Grouped.{piece_len}
-use Rattle.hex_io.specs.Reading.{SpellsBut, digits_in, first_stray}
+use Rattle.hex_io.specs.Reading.{SpellsBut, digits_in, first_stray, unspaced}
 use Rattle.hex_io.specs.declared.stream.decoder.Reading.{Reading}
 
 -- the error of the first byte of a chunk, after `had` bytes, that should be a digit and is none
@@ -32,3 +32,7 @@ FitsPiece (Some group) total n = 0 < total % piece_len group → total % piece_l
 -- behind the text of any list of this length, this is what is missing of the text of it and these bytes
 abbrev pub Continues : (List ℕ → List ℕ) → ℕ → List ℕ → List ℕ → Type 0
 Continues shown total bytes more = (done : List ℕ) → length done ≡ total → shown done ++ more ≡ shown (done ++ bytes)
+
+-- the first `at` bytes of a source were copied to the start of a block, where they are `count` without white space
+abbrev pub HasCopied : List ℕ → ℕ → List ℕ → ℕ → Type 0
+HasCopied s at block count = (count ≤ at) × (take count block ≡ unspaced (take at s))

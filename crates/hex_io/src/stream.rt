@@ -18,6 +18,7 @@ ghost use Rattle.hex_io.specs.inside.{Continues, FitsPiece};
 ghost use Rattle.hex_io.specs.declared.stream.StreamFault.TheVariants as fault;
 
 mod decoder;
+mod unspaced;
 
 use crate::digits::encoded;
 use crate::sink::{Sink, WriteFault, put_all};

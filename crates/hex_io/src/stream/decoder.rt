@@ -9,20 +9,18 @@
 //! assert_eq!(rt; text.as_slice(), b"00abcd".as_slice());
 //! ```
 
-ghost use Rattle.std.specs.Prelude.{◌≡◌, ◌≢◌, ◌↔◌, ◌+◌, ◌-◌, ◌/◌, ◌%◌, ◌^◌, ◌<◌, ◌≤◌, ◌++◌, ◌∷◌, [], None, Some, drop, take, false, true, length, IfOk, IsSome, IsTrue, MatchOption, OnErr};
+ghost use Rattle.std.specs.Prelude.{◌≡◌, ◌≢◌, ◌↔◌, ◌+◌, ◌-◌, ◌/◌, ◌%◌, ◌^◌, ◌<◌, ◌≤◌, ◌++◌, ◌∷◌, [], None, Some, drop, false, true, length, IfOk, IsSome, IsTrue, MatchOption, OnErr};
 ghost use Rattle.std.specs.Option.{ForSome, option_to_list};
 ghost use Rattle.hex_core.specs.Digit.{value};
 ghost use Rattle.hex_core.specs.Text.{Spells};
 ghost use Rattle.hex_io.specs.Reading.{digits_in, first_stray, plain, spaced, unspaced};
 ghost use Rattle.hex_io.specs.inside.{DecodesChunk, DecodesDigits, stray_behind};
 
+use crate::stream::unspaced::copy_unspaced;
 use hex_core::{Backend, CheckCase, Error, digit_value};
 
-// Bytes that are decoded at a time, freed of white space.
-const SPACED_BLOCK: usize = 512;
-
-// Bytes that are counted at a time: with fewer, more blocks have no white space, and are not copied.
-const SURVEY_BLOCK: usize = 32;
+// Bytes that are freed of white space at a time.
+const SPACED_BLOCK: usize = 2_048;
 
 // How a source is read: under which policy, and whether white space among its digits is skipped.
 #[derive(Clone, Copy, Debug, PartialEq, Eq)]
@@ -263,7 +261,7 @@ fn survey(src: &[u8], case: CheckCase) -> (usize, bool)
     }
     let mut count = src.len();
     let mut clean = true;
-    for block in src.chunks(SURVEY_BLOCK) {
+    for block in src.chunks(SPACED_BLOCK) {
         let (more, is_clean) = survey_block(block, case);
         count -= block.len() - more;
         clean &= is_clean;
@@ -271,16 +269,13 @@ fn survey(src: &[u8], case: CheckCase) -> (usize, bool)
     (count, clean)
 }
 
-// The same of a block, of which nothing is copied where all is digits.
+// The same of a block.
 fn survey_block(block: &[u8], case: CheckCase) -> (usize, bool)
-    requires { length block.now ≤ SURVEY_BLOCK }
+    requires { length block.now ≤ SPACED_BLOCK }
     ensures count { result.0 ≡ length (unspaced block.now) }
     ensures clean { IsTrue result.1 ↔ (first_stray (spaced case) block.now ≡ None) }
 {
-    if Backend::plain().check(block, case) {
-        return (block.len(), true);
-    }
-    let mut digits = [0; SURVEY_BLOCK];
+    let mut digits = [0; SPACED_BLOCK];
     let count = copy_unspaced(block, &mut digits);
     (count, Backend::plain().check(&digits[..count], case))
 }
@@ -301,7 +296,7 @@ fn decode_spaced(mut waiting: Option<u8>, src: &[u8], dst: &mut [u8], case: Chec
     waiting
 }
 
-// The same of a block, and how many bytes it gives. Nothing is copied where all is digits.
+// The same of a block, and how many bytes it gives.
 fn decode_block(
     waiting: Option<u8>,
     block: &[u8],
@@ -317,29 +312,10 @@ fn decode_block(
     ensures count { result.1 ≡ (length (option_to_list waiting) + length (unspaced block.now)) / 2 }
 {
     let had = usize::from(waiting.is_some());
-    if Backend::plain().check(block, case) {
-        let next = decode_pairs(waiting, block, dst, case).unwrap();
-        return (next, (had + block.len()) / 2);
-    }
     let mut digits = [0; SPACED_BLOCK];
     let count = copy_unspaced(block, &mut digits);
     let next = decode_pairs(waiting, &digits[..count], dst, case).unwrap();
     (next, (had + count) / 2)
-}
-
-// Copies the bytes that are no white space to the start of a block, and returns their number.
-#[tactic(auto, using(std::proofs::lemmas::List::Elements::filter_more))]
-fn copy_unspaced<const N: usize>(src: &[u8], block: &mut [u8; N]) -> usize
-    requires { length src.now ≤ N }
-    ensures copied { take result block.new ≡ unspaced src.now }
-    ensures room { result ≤ N }
-{
-    let mut count = 0;
-    for i in 0..src.len() {
-        block[count] = src[i];
-        count += usize::from(!src[i].is_ascii_whitespace());
-    }
-    count
 }
 
 // Decodes the pairs that more digits complete, and returns the digit that then waits.

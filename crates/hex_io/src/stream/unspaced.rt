@@ -1,0 +1,84 @@
+//! Copies of bytes without their white space.
+
+ghost use Rattle.std.specs.Prelude.{◌≡◌, ◌+◌, ◌*◌, ◌≤◌, length, map, nat_le, take};
+ghost use Rattle.std.specs.Simd.Lanes.{chunk, mask_l, put_chunk};
+ghost use Rattle.hex_io.specs.Reading.{unspaced};
+ghost use Rattle.hex_io.specs.inside.{HasCopied};
+
+use std::simd::prelude::*;
+
+// Bytes looked at, and bytes copied, at a time.
+const LANES: usize = 32;
+
+/// Copies the bytes that are no white space to the start of a block, and returns their number.
+pub fn copy_unspaced<const N: usize>(src: &[u8], block: &mut [u8; N]) -> usize
+    requires { length src.now ≤ N }
+    ensures copied { take result block.new ≡ unspaced src.now }
+    ensures room { result ≤ N }
+{
+    let mut count = 0;
+    // A run is copied with some bytes behind it, which are there behind each whole block but the last.
+    let blocks = (src.len() / LANES).saturating_sub(1);
+    'turns: for i in 0..blocks {
+        count = copy_runs(src, LANES * i, block, count);
+    }
+    copy_each(src, LANES * blocks, block, count)
+}
+
+// The same for `LANES` bytes from `start` on, behind the `had` bytes that the block has. A run ends
+// before each byte that may be white space, which is copied only if it is none.
+#[inline(always)]
+fn copy_runs(src: &[u8], start: usize, block: &mut [u8], had: usize) -> usize
+    requires near { start + 2 * LANES ≤ length src.now }
+    requires room { length src.now ≤ length block.old }
+    requires before { HasCopied src.now start block.old had }
+    ensures { HasCopied src.now (start + LANES) block.new result }
+{
+    let end = start + LANES;
+    let mut at = start;
+    let mut count = had;
+    let mut marks = low_bits(u8x32::from_slice(&src[start..]));
+    'runs: while marks != 0 {
+        let run = marks.trailing_zeros() as usize;
+        copy_lanes(src, at, block, count);
+        let is_solid = !src[at + run].is_ascii_whitespace();
+        at += run + 1;
+        count += run + usize::from(is_solid);
+        marks >>= run + 1;
+    }
+    copy_lanes(src, at, block, count);
+    count + (end - at)
+}
+
+// A mask whose bit i is set if lane i is at most a space, as all white space is.
+#[inline(always)]
+fn low_bits(block: u8x32) -> u64
+    ensures { result ≡ mask_l (map (λ b. nat_le b 32) block) }
+{
+    block.simd_le(Simd::splat(b' ')).to_bitmask()
+}
+
+// Copies a whole vector, of which a run may be a part: what comes next is written over the rest.
+#[inline(always)]
+fn copy_lanes(src: &[u8], at: usize, block: &mut [u8], count: usize)
+    requires src { at + LANES ≤ length src.now }
+    requires block { count + LANES ≤ length block.old }
+    ensures { block.new ≡ put_chunk count block.old (chunk at LANES src.now) }
+{
+    u8x32::from_slice(&src[at..]).copy_to_slice(&mut block[count..]);
+}
+
+// The same for the bytes from `at` on, one by one.
+fn copy_each(src: &[u8], at: usize, block: &mut [u8], had: usize) -> usize
+    requires at { at ≤ length src.now }
+    requires room { length src.now ≤ length block.old }
+    requires before { HasCopied src.now at block.old had }
+    ensures { HasCopied src.now (length src.now) block.new result }
+{
+    let mut count = had;
+    for i in at..src.len() {
+        block[count] = src[i];
+        count += usize::from(!src[i].is_ascii_whitespace());
+    }
+    count
+}
