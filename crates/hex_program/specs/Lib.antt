@@ -1,3 +1,4 @@
 pub mod Operations
 pub mod Serving
+pub mod Streaming
 pub mod inside

@@ -6,18 +6,20 @@ use Rattle.hex_core.specs.declared.error.Error.{Error}
 use Rattle.hex_program.specs.Operations.{IsOutput, op_of_words, op_refusal}
 use Rattle.hex_program.specs.declared.operation.Op.{Op}
 use Rattle.hex_program.specs.declared.failure.Failure.{Failure}
-use Rattle.hex_program.specs.declared.failure.Failure.TheVariants.{Codec, Usage, ReadFailed, WriteFailed, OutOfMemory, InputTooLong}
+use Rattle.hex_program.specs.declared.failure.Failure.TheVariants.{Codec, Usage, StreamUsage, ReadFailed, WriteFailed, OutOfMemory, InputTooLong}
 
 -- the exit status of a failure
 abbrev pub status_of : Failure → ℕ
 status_of (Codec e) = 1
 status_of Usage = 2
+status_of StreamUsage = 2
 status_of _ = 3
 
 -- what a failure prints, byte for byte
 abbrev pub failure_text : Failure → List ℕ
 failure_text (Codec e) = error_text e
 failure_text Usage = codes "usage: fhex encode|encode-upper|decode|decode-lower|decode-upper|vectors"
+failure_text StreamUsage = codes "usage: fhex-stream encode|encode-lines|decode"
 failure_text ReadFailed = codes "read failed"
 failure_text WriteFailed = codes "write failed"
 failure_text OutOfMemory = codes "out of memory"

@@ -1,10 +1,16 @@
 -- Definitions that private functions use. No public contract rests on them.
-use Rattle.std.specs.Prelude.{◌≡◌, ℕ, Result, Ok, Err, IfErr}
+use Rattle.std.specs.Prelude.{◌≡◌, ◌⊎◌, ◌≤◌, ℕ, List, [], ◌∷◌, length, Option, Result, Ok, Err, IfErr}
 use Rattle.hex_program.specs.Serving.{status_of}
+use Rattle.hex_program.specs.Streaming.{Begins, IsStreamOutput, Refuses}
+use Rattle.hex_program.specs.declared.stream.StreamOp.{StreamOp}
 use Rattle.hex_program.specs.declared.operation.RunFault.{RunFault}
 use Rattle.hex_program.specs.declared.operation.RunFault.TheVariants as fault
+use Rattle.std.specs.Io.KnownBytes.{Appends, Consumes, IsAtEnd}
+use Rattle.hex_io.specs.Sink.{SinkState, Stops, Takes}
+use Rattle.hex_io.specs.declared.stream.StreamFault.{StreamFault}
+use Rattle.hex_io.specs.declared.stream.StreamFault.TheVariants as stream_fault
 use Rattle.hex_program.specs.declared.failure.Failure.{Failure}
-use Rattle.hex_program.specs.declared.failure.Failure.TheVariants.{Codec, WriteFailed, OutOfMemory}
+use Rattle.hex_program.specs.declared.failure.Failure.TheVariants.{Codec, ReadFailed, WriteFailed, OutOfMemory}
 
 -- how a program ends after a run: after one without a fault only a write can still fail
 abbrev pub EndsRun : Result (Unit {0}) RunFault → Result (Unit {0}) Failure → Type 0
@@ -17,3 +23,29 @@ EndsRun (Err fault.OutOfMemory) ended = ended ≡ Err OutOfMemory
 abbrev pub status_after : Result (Unit {0}) Failure → ℕ
 status_after (Ok done) = 0
 status_after (Err failure) = status_of failure
+
+-- the failure of a stream's fault
+abbrev pub failure_of : StreamFault → Failure
+failure_of stream_fault.Read = ReadFailed
+failure_of (stream_fault.Codec e) = Codec e
+failure_of (stream_fault.Write why) = WriteFailed
+
+-- how `fhex-stream` ends after a run: as that did, or the output could not be flushed
+abbrev pub EndsStreamRun : Result (Unit {0}) StreamFault → Result (Unit {0}) Failure → Type 0
+EndsStreamRun (Ok done) ended = (ended ≡ Err WriteFailed) ⊎ (ended ≡ Ok tt)
+EndsStreamRun (Err why) ended = (ended ≡ Err WriteFailed) ⊎ (ended ≡ Err (failure_of why))
+
+-- a newline was put
+abbrev pub EndsLine : SinkState → SinkState → Result (Unit {0}) StreamFault → Type 0
+EndsLine old new (Ok done) = Takes old new (10 ∷ [])
+EndsLine old new (Err (stream_fault.Write why)) = Stops old new (10 ∷ [])
+EndsLine old new (Err why) = ⊥
+
+-- the end of a run of `fhex-stream` over what was read
+abbrev pub EndsStream : StreamOp → List ℕ → Option (List ℕ) → Option (List ℕ) → Option (List ℕ) → Result (Unit {0}) StreamFault → Type 0
+EndsStream op input left' held held' (Ok done) = IsAtEnd left' × ((output : List ℕ) × IsStreamOutput op input output × Appends held held' output)
+EndsStream op input left' held held' (Err (stream_fault.Codec e)) = Refuses op input left' held held' e
+EndsStream op input left' held held' (Err why) = 0 ≤ length input
+
+abbrev pub RunsStream : StreamOp → Option (List ℕ) → Option (List ℕ) → Option (List ℕ) → Option (List ℕ) → Result (Unit {0}) StreamFault → Type 0
+RunsStream op left left' held held' result = (input : List ℕ) × Consumes left left' input × Begins op input held held' × EndsStream op input left' held held' result

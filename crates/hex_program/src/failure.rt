@@ -1,4 +1,4 @@
-//! The failures of `fhex`: the exit status and the line of each.
+//! The failures of `fhex` and `fhex-stream`: the exit status and the line of each.
 
 ghost use Rattle.std.specs.Prelude.{◌≡◌, Some};
 ghost use Rattle.hex_program.specs.Serving.{failure_text, status_of};
@@ -6,13 +6,15 @@ ghost use Rattle.hex_program.specs.Serving.{failure_text, status_of};
 use hex_core::Error;
 use std::fmt;
 
-/// Why `fhex` failed. Its `Display` is the line written to standard error.
+/// Why `fhex` or `fhex-stream` failed. Its `Display` is the line written to standard error.
 #[derive(Clone, Copy, Debug, PartialEq, Eq)]
 pub enum Failure {
     /// The operation refuses the input.
     Codec(Error),
-    /// The arguments do not name one operation or the vectors.
+    /// The arguments of `fhex` do not name one operation or the vectors.
     Usage,
+    /// The arguments of `fhex-stream` do not name one operation.
+    StreamUsage,
     /// A read failed.
     ReadFailed,
     /// A write or a flush failed.
@@ -30,7 +32,7 @@ impl Failure {
     {
         match self {
             Failure::Codec(_) => 1,
-            Failure::Usage => 2,
+            Failure::Usage | Failure::StreamUsage => 2,
             Failure::ReadFailed
             | Failure::WriteFailed
             | Failure::OutOfMemory
@@ -48,6 +50,7 @@ impl fmt::Display for Failure {
             Failure::Usage => f.write_str(
                 "usage: fhex encode|encode-upper|decode|decode-lower|decode-upper|vectors",
             ),
+            Failure::StreamUsage => f.write_str("usage: fhex-stream encode|encode-lines|decode"),
             Failure::ReadFailed => f.write_str("read failed"),
             Failure::WriteFailed => f.write_str("write failed"),
             Failure::OutOfMemory => f.write_str("out of memory"),

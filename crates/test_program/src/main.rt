@@ -14,13 +14,15 @@ use test_kit::{Bytes, Calls, Row, judge};
 #[derive(Clone, Copy)]
 enum Call {
     Serve,
+    Stream,
     Run,
     Vector,
     Stored,
 }
 
-const CALLS: [(&str, Call); 4] = [
+const CALLS: [(&str, Call); 5] = [
     ("serve", Call::Serve),
+    ("stream", Call::Stream),
     ("run", Call::Run),
     ("vector", Call::Vector),
     ("stored", Call::Stored),
@@ -35,7 +37,8 @@ struct Program {
 impl Calls for Program {
     fn is_answered(&mut self, row: &mut Row) -> bool {
         match row.call.one_of(&CALLS) {
-            Some(Call::Serve) => served::is_answered(row, &mut self.end),
+            Some(Call::Serve) => served::is_answered(row, &mut self.end, false),
+            Some(Call::Stream) => served::is_answered(row, &mut self.end, true),
             Some(Call::Run) => runs::is_answered(row),
             Some(Call::Vector) => vectors::is_answered(row, false),
             Some(Call::Stored) => vectors::is_answered(row, true),

@@ -2,7 +2,7 @@
 
 use crate::setup::{Room, Setup, number_behind, word};
 use hex_program::program::serve_in;
-use hex_program::{Op, Unretried, serve};
+use hex_program::{Op, StreamOp, Unretried, serve, serve_stream};
 use std::alloc::Global;
 use std::io::{self, BufWriter};
 use test_kit::fakes::{Giver, Pattern, Taker};
@@ -70,12 +70,31 @@ fn serve_buffered<'a>(
     Ok((status, unretried.inner, err))
 }
 
-// Whether a run ends so.
-fn ends(setup: Setup, alloc: Global, words: &[&str], input: &[u8], want: End<'_>) -> bool {
+// Whether the words name an operation of `fhex`, or of `fhex-stream`.
+fn is_op(words: &[&str], is_stream: bool) -> bool {
+    match words {
+        [word] if is_stream => StreamOp::from_word(word).is_some(),
+        [word] => Op::from_word(word).is_some(),
+        _ => false,
+    }
+}
+
+// Whether a run of `fhex`, or of `fhex-stream`, ends so.
+fn ends(
+    setup: Setup,
+    alloc: Global,
+    is_stream: bool,
+    words: &[&str],
+    input: &[u8],
+    want: End<'_>,
+) -> bool {
     let mut giver = setup.giver(input);
+    giver.halts = usize::from(is_stream);
     let (out, err) = (setup.out.taker(want.out), setup.err.taker(want.err));
     let refusing = setup.refusing(alloc);
-    let ended = if setup.is_buffered {
+    let ended = if is_stream {
+        Ok(serve_stream(words, &mut giver, out, err))
+    } else if setup.is_buffered {
         serve_buffered(alloc, words, &mut giver, out, err)
     } else if setup.refuses() {
         Ok(serve_in(&refusing, words, &mut giver, out, err))
@@ -85,22 +104,28 @@ fn ends(setup: Setup, alloc: Global, words: &[&str], input: &[u8], want: End<'_>
     let Ok((got, out, err)) = ended else {
         return false;
     };
-    // Each is flushed after all that it is to take, and not after a failure.
-    let is_flush = want.status == 0 || want.status == 3 && setup.out.is_unflushed;
+    // Each is flushed after all that it is to take, and not after a failed write. `fhex-stream` flushes what
+    // it wrote before a refusal or a failed read.
+    let is_flush = match want.status {
+        0 => true,
+        1 => is_stream,
+        _ => want.status == 3 && (setup.out.is_unflushed || is_stream && setup.failure.is_some()),
+    };
     let is_message = !want.err.end.is_empty();
     let is_told = is_done(&out, is_flush, setup.is_buffered && want.status == 0)
         && is_done(&err, is_message, is_message);
-    let is_op = matches!(words, [word] if Op::from_word(word).is_some());
-    let is_read = giver.ended < 2 && giver.is_read_by(65_536) && (is_op || giver.reads == 0);
+    let is_read = giver.ended < 2 && giver.is_read_by(65_536);
+    let is_unread = is_op(words, is_stream) || giver.reads == 0;
     let is_left = giver.left().min(input.len()) == want.left;
     let is_asked = refusing.asked() == want.asked || !setup.refuses();
     let is_settled = is_asked && refusing.is_settled(refusing.asked());
-    is_told && is_read && is_left && is_settled && usize::from(got) == want.status
+    let is_read = is_read && is_unread && is_left;
+    is_told && is_read && is_settled && usize::from(got) == want.status
 }
 
-/// Whether `serve SETUP WORDS INPUT` is answered `left N asks N STATUS OUTPUT MESSAGE`. The first two are
-/// left out where they are 0.
-pub fn is_answered(row: &mut Row, end: &mut Bytes) -> bool {
+/// Whether `serve SETUP WORDS INPUT`, or `stream` before the same, is answered
+/// `left N asks N STATUS OUTPUT MESSAGE`. The first two are left out where they are 0.
+pub fn is_answered(row: &mut Row, end: &mut Bytes, is_stream: bool) -> bool {
     let setup = Setup::read(&mut row.call);
     let first = word_of(&mut row.call, &mut row.first, setup.words > 0);
     let second = word_of(&mut row.call, &mut row.second, setup.words > 1);
@@ -115,7 +140,10 @@ pub fn is_answered(row: &mut Row, end: &mut Bytes) -> bool {
         asked,
     };
     match [first, second].get(..setup.words) {
-        Some(words) => ends(setup, row.alloc, words, row.given.as_slice(), want),
+        Some(words) => {
+            let input = row.given.as_slice();
+            ends(setup, row.alloc, is_stream, words, input, want)
+        }
         None => false,
     }
 }

@@ -57,8 +57,8 @@ pub struct Setup {
     refused: u64,
     // `every N`: a read gives at most so many bytes.
     every: usize,
-    // `fails N`: the code of the error that a read fails with in the place of the end.
-    failure: Option<ErrorKind>,
+    /// `fails N`: the code of the error that a read fails with in the place of the end.
+    pub failure: Option<ErrorKind>,
     // `many BYTE N`: a byte that comes so often before the input.
     many: ([u8; 1], usize),
     /// `out ROOM`: what is taken of the output.

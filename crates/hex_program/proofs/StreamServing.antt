@@ -1,0 +1,220 @@
+-- What a run put, and how it ends, is how `fhex-stream` serves an operation.
+use Rattle.std.proofs.Common.{◌≡◌, inl, inr, ◌∙◌, ap, sym, refl, arith, ℕ, ◌<◌, ◌≤◌}
+use Rattle.std.proofs.Common.{List, [], ◌∷◌, ◌++◌, length, take, drop, append-nil, append_assoc, Option, None, Result, Ok, Err}
+use Rattle.std.specs.List.{flat_map, join_by}
+use Rattle.std.specs.Io.KnownBytes.{Appends, Keeps}
+use Rattle.std.proofs.KnownBytes.{Appends-kept}
+use Rattle.hex_core.specs.declared.digit.CheckCase.{CheckCase}
+use Rattle.hex_core.specs.declared.digit.CheckCase.TheVariants as policy
+use Rattle.hex_core.specs.declared.error.Error.{Error}
+use Rattle.hex_core.specs.declared.error.Error.TheVariants as error
+use Rattle.hex_core.specs.Text.{lowercase, text}
+use Rattle.hex_core.proofs.LawProofs.{valid-spelled}
+use Rattle.hex_codec.specs.declared.group.Group.{Group}
+use Rattle.hex_codec.specs.Grouped.{grouped, piece_len, pieces, separator}
+use Rattle.hex_codec.proofs.GroupLemmas.{no_pieces, pieces-next}
+use Rattle.hex_io.specs.Reading.{SpellsBut, spaced, unspaced}
+use Rattle.hex_io.specs.Sink.{SinkState, Stops, Takes}
+use Rattle.hex_io.specs.SinkLaws.{StopsInARow, TakesInARow}
+use Rattle.hex_io.specs.Stream.{EndsDecoding, EndsEncoding, RefusedBy, Wrote, WroteBefore}
+use Rattle.hex_io.specs.declared.stream.StreamFault.{StreamFault}
+use Rattle.hex_io.specs.declared.stream.StreamFault.TheVariants as fault
+use Rattle.hex_program.specs.declared.failure.Failure.{Failure}
+use Rattle.hex_program.specs.declared.stream.StreamOp.{StreamOp}
+use Rattle.hex_program.specs.declared.stream.StreamOp.TheVariants.{Encode, EncodeLines, Decode}
+use Rattle.hex_program.specs.Streaming.{Begins, Refuses, ServesStreamOp, WritesPart, line}
+use Rattle.hex_program.specs.inside.{EndsLine, EndsStream, EndsStreamRun, RunsStream, status_after}
+
+-- ---- leading parts
+
+part-all : (old new : SinkState) (bs more all : List ℕ) → bs ++ more ≡ all → Takes old new bs → WritesPart old.taken new.taken all
+part-all old new bs more all is took = (bs, (more, is, took.appended))
+
+part-of : (old new : SinkState) (bs more all : List ℕ) → bs ++ more ≡ all → Stops old new bs → WritesPart old.taken new.taken all
+part-of old new bs more all is stopped =
+    let begun = stopped.begun in
+    (begun.front, (begun.rest ++ more, sym (append_assoc begun.front begun.rest more) ∙ ap (λ l. l ++ more) begun.parts ∙ is, begun.appended))
+
+part-kept : (a b c : Option (List ℕ)) (bs : List ℕ) → WritesPart a b bs → Keeps b c → WritesPart a c bs
+part-kept a b c bs part kept = (part.0, (part.1.0, part.1.1, Appends-kept a b c part.0 part.1.2 kept))
+
+wrote-by : (c : CheckCase) (digits : List ℕ) (P Q : List ℕ → Type 0) → ((bs : List ℕ) → P bs → Q bs) → Wrote c digits P → Wrote c digits Q
+wrote-by c digits P Q by_put wrote = record { bytes = wrote.bytes; waiting = wrote.waiting; spelled = wrote.spelled; put = by_put wrote.bytes wrote.put }
+
+begins-kept : (op : StreamOp) (input : List ℕ) (a b c : Option (List ℕ)) → Begins op input a b → Keeps b c → Begins op input a c
+begins-kept Encode input a b c begun kept = part-kept a b c _ begun kept
+begins-kept EncodeLines input a b c begun kept = part-kept a b c _ begun kept
+begins-kept Decode input a b c begun kept =
+    (begun.0, (begun.1.0, begun.1.1, wrote-by policy.None (unspaced begun.0) (WritesPart a b) (WritesPart a c) (λ bs part. part-kept a b c bs part kept) begun.1.2))
+
+refuses-kept : (op : StreamOp) (input : List ℕ) (left a b c : Option (List ℕ)) (e : Error) → Refuses op input left a b e → Keeps b c → Refuses op input left a c e
+refuses-kept Encode input left a b c e refuses kept = refuses
+refuses-kept EncodeLines input left a b c e refuses kept = refuses
+refuses-kept Decode input left a b c e r kept = record {
+  is_refusal = r.is_refusal;
+  front = r.front;
+  rest = r.rest;
+  parts = r.parts;
+  short = r.short;
+  wrote = wrote-by policy.None (unspaced r.front) (Appends a b) (Appends a c) (λ bs h. Appends-kept a b c bs h kept) r.wrote;
+}
+
+-- ---- lines
+
+-- texts that are joined by a mark and end with one are texts that each end with one
+joined-marks : (f : List ℕ → List ℕ) (mark p : List ℕ) (ps : List (List ℕ)) → join_by f mark (p ∷ ps) ++ mark ≡ flat_map (λ p. f p ++ mark) (p ∷ ps)
+joined-marks f mark p [] = ap (λ l. l ++ mark) (append-nil (f p)) ∙ sym (append-nil (f p ++ mark))
+joined-marks f mark p (q ∷ ps) =
+    let more = flat_map (λ y. mark ++ f y) ps in
+    ap (λ l. (f p ++ l) ++ mark) (append_assoc mark (f q) more)
+    ∙ append_assoc (f p) (mark ++ (f q ++ more)) mark
+    ∙ ap (λ l. f p ++ l) (append_assoc mark (f q ++ more) mark)
+    ∙ sym (append_assoc (f p) mark ((f q ++ more) ++ mark))
+    ∙ ap (λ l. (f p ++ mark) ++ l) (joined-marks f mark q ps)
+
+-- a group of this length and this separator joins the pieces by it
+by-pieces : (lines : Group) (bytes : List ℕ) → piece_len lines ≡ 30 → separator lines ≡ 10 → grouped lines lowercase bytes ≡ join_by (text lowercase) (10 ∷ []) (pieces 30 bytes)
+by-pieces lines bytes long newline =
+    ap (λ n. join_by (text lowercase) (separator lines ∷ []) (pieces n bytes)) long ∙ ap (λ m. join_by (text lowercase) (m ∷ []) (pieces 30 bytes)) newline
+
+-- the grouped text of some bytes and a newline are their lines, and nothing has no line
+grouped-lines : (lines : Group) (b : ℕ) (bytes : List ℕ) → piece_len lines ≡ 30 → separator lines ≡ 10
+    → grouped lines lowercase (b ∷ bytes) ++ (10 ∷ []) ≡ flat_map line (pieces 30 (b ∷ bytes))
+grouped-lines lines b bytes long newline =
+    let all = b ∷ bytes in
+    let next = pieces-next 30 all (omega arith) (omega arith) in
+    ap (λ l. l ++ (10 ∷ [])) (by-pieces lines all long newline ∙ ap (join_by (text lowercase) (10 ∷ [])) next)
+    ∙ joined-marks (text lowercase) (10 ∷ []) (take 30 all) (pieces 30 (drop 30 all)) ∙ sym (ap (flat_map line) next)
+
+no-lines : (lines : Group) → piece_len lines ≡ 30 → separator lines ≡ 10 → grouped lines lowercase [] ≡ flat_map line (pieces 30 [])
+no-lines lines long newline = by-pieces lines [] long newline ∙ ap (join_by (text lowercase) (10 ∷ [])) (no_pieces 30) ∙ sym (ap (flat_map line) (no_pieces 30))
+
+-- what is missing of the lines behind the grouped text
+lines-more : (lines : Group) (bytes : List ℕ) → piece_len lines ≡ 30 → separator lines ≡ 10 → (more : List ℕ) × (grouped lines lowercase bytes ++ more ≡ flat_map line (pieces 30 bytes))
+lines-more lines [] long newline = ([], append-nil _ ∙ no-lines lines long newline)
+lines-more lines (b ∷ bytes) long newline = (10 ∷ [], grouped-lines lines b bytes long newline)
+
+-- ---- encoding
+
+pub line-ended : TakesInARow → StopsInARow → (bytes : List ℕ) (left : Option (List ℕ)) (old mid new : SinkState) (count : ℕ) (result : Result (Unit {0}) StreamFault)
+    → EndsEncoding (text lowercase) bytes left old mid (Ok count) → EndsLine mid new result
+    → Begins Encode bytes old.taken new.taken × EndsStream Encode bytes left old.taken new.taken result
+line-ended takes stops bytes left old mid new count (Ok done) h line =
+    let took = takes old mid new (text lowercase bytes) (10 ∷ []) line h.1 in
+    (part-all old new _ [] _ (append-nil _) took, (h.2, (_, refl, took.appended)))
+line-ended takes stops bytes left old mid new count (Err (fault.Write why)) h line =
+    (part-of old new _ [] _ (append-nil _) (stops old mid new (text lowercase bytes) (10 ∷ []) line h.1), omega arith)
+line-ended takes stops bytes left old mid new count (Err fault.Read) h line = absurd line
+line-ended takes stops bytes left old mid new count (Err (fault.Codec e)) h line = absurd line
+
+pub line-failed : (bytes : List ℕ) (left : Option (List ℕ)) (old new : SinkState) (why : StreamFault) → EndsEncoding (text lowercase) bytes left old new (Err why)
+    → Begins Encode bytes old.taken new.taken × EndsStream Encode bytes left old.taken new.taken (Err why)
+line-failed bytes left old new fault.Read h = (part-all old new _ (10 ∷ []) _ refl h, omega arith)
+line-failed bytes left old new (fault.Codec e) h = (part-all old new _ (10 ∷ []) _ refl h.2, (h.0, h.1))
+line-failed bytes left old new (fault.Write why) h = (part-of old new _ (10 ∷ []) _ refl h, omega arith)
+
+module _ (lines : Group) (long : piece_len lines ≡ 30) (newline : separator lines ≡ 10) where
+  pub lines-none : (bytes : List ℕ) (left : Option (List ℕ)) (old new : SinkState) (count : ℕ) → count ≡ 0 → EndsEncoding (grouped lines lowercase) bytes left old new (Ok count)
+      → Begins EncodeLines bytes old.taken new.taken × EndsStream EncodeLines bytes left old.taken new.taken (Ok tt)
+  lines-none [] left old new count none h =
+      let more = lines-more lines [] long newline in
+      (part-all old new _ more.0 _ more.1 h.1, (h.2, (grouped lines lowercase [], no-lines lines long newline, h.1.appended)))
+  lines-none (b ∷ bytes) left old new count none h = absurd (omega (arith, h.0, none))
+
+  pub lines-ended : TakesInARow → StopsInARow → (bytes : List ℕ) (left : Option (List ℕ)) (old mid new : SinkState) (count : ℕ) (result : Result (Unit {0}) StreamFault) → 0 < count
+      → EndsEncoding (grouped lines lowercase) bytes left old mid (Ok count) → EndsLine mid new result
+      → Begins EncodeLines bytes old.taken new.taken × EndsStream EncodeLines bytes left old.taken new.taken result
+  lines-ended takes stops [] left old mid new count result some h line = absurd (omega (arith, h.0, some))
+  lines-ended takes stops (b ∷ bytes) left old mid new count (Ok done) some h line =
+      let is = grouped-lines lines b bytes long newline in
+      let took = takes old mid new (grouped lines lowercase (b ∷ bytes)) (10 ∷ []) line h.1 in
+      (part-all old new _ [] _ (append-nil _ ∙ is) took, (h.2, (_, is, took.appended)))
+  lines-ended takes stops (b ∷ bytes) left old mid new count (Err (fault.Write why)) some h line =
+      (part-of old new _ [] _ (append-nil _ ∙ grouped-lines lines b bytes long newline) (stops old mid new (grouped lines lowercase (b ∷ bytes)) (10 ∷ []) line h.1), omega arith)
+  lines-ended takes stops (b ∷ bytes) left old mid new count (Err fault.Read) some h line = absurd line
+  lines-ended takes stops (b ∷ bytes) left old mid new count (Err (fault.Codec e)) some h line = absurd line
+
+  pub lines-failed : (bytes : List ℕ) (left : Option (List ℕ)) (old new : SinkState) (why : StreamFault) → EndsEncoding (grouped lines lowercase) bytes left old new (Err why)
+      → Begins EncodeLines bytes old.taken new.taken × EndsStream EncodeLines bytes left old.taken new.taken (Err why)
+  lines-failed bytes left old new fault.Read h = let more = lines-more lines bytes long newline in (part-all old new _ more.0 _ more.1 h, omega arith)
+  lines-failed bytes left old new (fault.Codec e) h = let more = lines-more lines bytes long newline in (part-all old new _ more.0 _ more.1 h.2, (h.0, h.1))
+  lines-failed bytes left old new (fault.Write why) h = let more = lines-more lines bytes long newline in (part-of old new _ more.0 _ more.1 h, omega arith)
+
+-- ---- decoding
+
+-- what was written is what the whole pairs of a leading part spell
+decoded-part : (s front rest : List ℕ) (old new : SinkState) → s ≡ front ++ rest → Wrote policy.None (unspaced front) (Takes old new) → Begins Decode s old.taken new.taken
+decoded-part s front rest old new parts wrote =
+    (front, (rest, parts, wrote-by policy.None (unspaced front) (Takes old new) (WritesPart old.taken new.taken) (λ bs took. part-all old new bs [] bs (append-nil bs) took) wrote))
+
+pub decode-ended : (s : List ℕ) (left : Option (List ℕ)) (old new : SinkState) (count : ℕ) → EndsDecoding (spaced policy.None) s left old new (Ok count)
+    → Begins Decode s old.taken new.taken × EndsStream Decode s left old.taken new.taken (Ok tt)
+decode-ended s left old new count h =
+    let digits = unspaced s in
+    let spelled : SpellsBut policy.None digits h.0 [] = record { valid = valid-spelled policy.None digits h.0 h.1; pairs = digits; parts = sym (append-nil digits); spelled = h.1 } in (
+      decoded-part s s [] old new (sym (append-nil s)) (record { bytes = h.0; waiting = None; spelled = spelled; put = h.3 }),
+      (h.4, (h.0, h.1, h.3.appended)),
+    )
+
+refused-at : (s front rest : List ℕ) (left : Option (List ℕ)) (old new : SinkState) (e : Error) → s ≡ front ++ rest → length rest ≤ 16384 → Wrote policy.None (unspaced front) (Takes old new)
+    → RefusedBy (spaced policy.None) s left e → Begins Decode s old.taken new.taken × EndsStream Decode s left old.taken new.taken (Err (fault.Codec e))
+refused-at s front rest left old new e parts short wrote refused = (
+  decoded-part s front rest old new parts wrote,
+  record { is_refusal = refused; front = front; rest = rest; parts = parts; short = short; wrote = wrote-by policy.None (unspaced front) (Takes old new) (Appends old.taken new.taken) (λ bs took. took.appended) wrote },
+)
+
+refused-before : (s : List ℕ) (left : Option (List ℕ)) (old new : SinkState) (e : Error) → WroteBefore (spaced policy.None) s old new → RefusedBy (spaced policy.None) s left e
+    → Begins Decode s old.taken new.taken × EndsStream Decode s left old.taken new.taken (Err (fault.Codec e))
+refused-before s left old new e before refused = refused-at s before.fed before.chunk left old new e before.parts before.short before.wrote refused
+
+pub decode-failed : (s : List ℕ) (left : Option (List ℕ)) (old new : SinkState) (why : StreamFault) → EndsDecoding (spaced policy.None) s left old new (Err why)
+    → Begins Decode s old.taken new.taken × EndsStream Decode s left old.taken new.taken (Err why)
+decode-failed s left old new fault.Read h = (decoded-part s s [] old new (sym (append-nil s)) h, omega arith)
+decode-failed s left old new (fault.Write why) h = (
+  (s, ([], sym (append-nil s), wrote-by policy.None (unspaced s) (Stops old new) (WritesPart old.taken new.taken) (λ bs stopped. part-of old new bs [] bs (append-nil bs) stopped) h)),
+  omega arith,
+)
+decode-failed s left old new (fault.Codec error.OddLength) h = refused-at s s [] left old new error.OddLength (sym (append-nil s)) (omega arith) h.0 h.1
+decode-failed s left old new (fault.Codec error.Overflow) h = refused-before s left old new error.Overflow h.0 h.1
+decode-failed s left old new (fault.Codec error.OutOfMemory) h = refused-before s left old new error.OutOfMemory h.0 h.1
+decode-failed s left old new (fault.Codec (error.InvalidChar i b)) h = refused-before s left old new (error.InvalidChar i b) h.0 h.1
+decode-failed s left old new (fault.Codec (error.OutputTooSmall n)) h = refused-before s left old new (error.OutputTooSmall n) h.0 h.1
+decode-failed s left old new (fault.Codec (error.LengthMismatch m n)) h = refused-before s left old new (error.LengthMismatch m n) h.0 h.1
+
+-- ---- serving
+
+pub serves : (op : StreamOp) (left left' held' : Option (List ℕ)) (old new : SinkState) (ran : Result (Unit {0}) StreamFault) (ended : Result (Unit {0}) Failure)
+    → RunsStream op left left' old.taken new.taken ran → Keeps new.taken held' → EndsStreamRun ran ended → ServesStreamOp op left left' old.taken held' (status_after ended)
+serves op left left' held' old new ran ended run kept ends = by_end ran run.3 ends
+  where
+    at_three : (status : ℕ) → status ≡ 3 → ServesStreamOp op left left' old.taken held' status
+    at_three status three = record {
+      input = run.0;
+      read = run.1;
+      begun = begins-kept op run.0 old.taken new.taken held' run.2 kept;
+      done = λ is_zero. absurd (omega (arith, three, is_zero));
+      refused = λ is_one. absurd (omega (arith, three, is_one));
+      statuses = inr (inr three);
+    }
+
+    by_end : (ran : Result (Unit {0}) StreamFault) → EndsStream op run.0 left' old.taken new.taken ran → EndsStreamRun ran ended → ServesStreamOp op left left' old.taken held' (status_after ended)
+    by_end (Ok done) h (inl is) = at_three _ (ap status_after is)
+    by_end (Ok done) h (inr is) = rw is (record {
+      input = run.0;
+      read = run.1;
+      begun = begins-kept op run.0 old.taken new.taken held' run.2 kept;
+      done = λ is_zero. (h.0, (h.1.0, h.1.1, Appends-kept old.taken new.taken held' h.1.0 h.1.2 kept));
+      refused = λ is_one. absurd (omega (arith, is_one));
+      statuses = inl refl;
+    })
+    by_end (Err why) h (inl is) = at_three _ (ap status_after is)
+    by_end (Err fault.Read) h (inr is) = at_three _ (ap status_after is)
+    by_end (Err (fault.Write why)) h (inr is) = at_three _ (ap status_after is)
+    by_end (Err (fault.Codec e)) h (inr is) = rw is (record {
+      input = run.0;
+      read = run.1;
+      begun = begins-kept op run.0 old.taken new.taken held' run.2 kept;
+      done = λ is_zero. absurd (omega (arith, is_zero));
+      refused = λ is_one. (e, refuses-kept op run.0 left' old.taken new.taken held' e h kept);
+      statuses = inr (inl refl);
+    })

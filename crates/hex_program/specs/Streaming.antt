@@ -1,0 +1,79 @@
+-- What all of `fhex-stream` does with its words and with what it reads, and how it ends.
+use Rattle.std.specs.Prelude.{◌≡◌, ◌⊎◌, ◌≤◌, ◌^◌, ℕ, if◌then◌else◌, List, [], ◌∷◌, ◌++◌, length, codes, Option, Some, None}
+use Rattle.std.specs.Str.{bytes_eq}
+use Rattle.std.specs.List.{flat_map}
+use Rattle.std.specs.Io.KnownBytes.{Appends, Consumes, IsAtEnd}
+use Rattle.hex_core.specs.declared.digit.CheckCase.TheVariants as policy
+use Rattle.hex_core.specs.declared.error.Error.{Error}
+use Rattle.hex_core.specs.declared.error.Error.TheVariants.{Overflow}
+use Rattle.hex_core.specs.Text.{Spells, lowercase, text}
+use Rattle.hex_codec.specs.Grouped.{pieces}
+use Rattle.hex_io.specs.Reading.{spaced, unspaced}
+use Rattle.hex_io.specs.Stream.{RefusedBy, Wrote}
+use Rattle.hex_program.specs.declared.stream.StreamOp.{StreamOp}
+use Rattle.hex_program.specs.declared.stream.StreamOp.TheVariants.{Encode, EncodeLines, Decode}
+
+-- the operation that a word names
+abbrev pub stream_op_of_word : List ℕ → Option StreamOp
+stream_op_of_word word =
+    if bytes_eq word (codes "encode") then Some Encode
+    else if bytes_eq word (codes "encode-lines") then Some EncodeLines
+    else if bytes_eq word (codes "decode") then Some Decode
+    else None
+
+-- the operation that the program's words name, if there is exactly one word
+abbrev pub stream_op_of_words : List (List ℕ) → Option StreamOp
+stream_op_of_words [] = None
+stream_op_of_words (word ∷ []) = stream_op_of_word word
+stream_op_of_words (word ∷ another ∷ rest) = None
+
+-- a line: the digits of some bytes and a newline
+abbrev pub line : List ℕ → List ℕ
+line bytes = text lowercase bytes ++ 10 ∷ []
+
+-- the output of an operation: one line, a line for every 30 bytes, or the bytes that the digits of the
+-- input spell
+abbrev pub IsStreamOutput : StreamOp → List ℕ → List ℕ → Type 0
+IsStreamOutput Encode input output = output ≡ line input
+IsStreamOutput EncodeLines input output = output ≡ flat_map line (pieces 30 input)
+IsStreamOutput Decode input output = Spells policy.None (unspaced input) output
+
+-- a leading part of a list was written
+abbrev pub WritesPart : Option (List ℕ) → Option (List ℕ) → List ℕ → Type 0
+WritesPart held held' bs = (front : List ℕ) × ((rest : List ℕ) × (front ++ rest ≡ bs) × Appends held held' front)
+
+-- of what was read so far a leading part of the output was written: of the lines that it gives if it ends here, or
+-- of what the whole pairs of digits in a leading part of it spell
+abbrev pub Begins : StreamOp → List ℕ → Option (List ℕ) → Option (List ℕ) → Type 0
+Begins Encode input held held' = WritesPart held held' (line input)
+Begins EncodeLines input held held' = WritesPart held held' (flat_map line (pieces 30 input))
+Begins Decode input held held' = (front : List ℕ) × ((rest : List ℕ) × (input ≡ front ++ rest) × Wrote policy.None (unspaced front) (WritesPart held held'))
+
+-- a decoding refuses what was read: the index in a refusal counts all bytes of it. All but those of the last read,
+-- which are at most 16384, were decoded and written
+pub record RefusesStream (input : List ℕ) (left' held held' : Option (List ℕ)) (refusal : Error) : Type 0 where
+  pub is_refusal : RefusedBy (spaced policy.None) input left' refusal
+  pub front : List ℕ
+  pub rest : List ℕ
+  pub parts : input ≡ front ++ rest
+  pub short : length rest ≤ 16384
+  pub wrote : Wrote policy.None (unspaced front) (Appends held held')
+
+abbrev pub Refuses : StreamOp → List ℕ → Option (List ℕ) → Option (List ℕ) → Option (List ℕ) → Error → Type 0
+Refuses Decode input left' held held' refusal = RefusesStream input left' held held' refusal
+Refuses op input left' held held' refusal = (refusal ≡ Overflow) × (2 ^ 64 ≤ length input)
+
+-- how an operation ends: some input was read, and whatever the status, a leading part of the right output was
+-- written. 0: all was read, and exactly its output was written; 1: what was read is refused; 3: other faults
+pub record ServesStreamOp (op : StreamOp) (left left' held held' : Option (List ℕ)) (status : ℕ) : Type 0 where
+  pub input : List ℕ
+  pub read : Consumes left left' input
+  pub begun : Begins op input held held'
+  pub done : status ≡ 0 → IsAtEnd left' × ((output : List ℕ) × IsStreamOutput op input output × Appends held held' output)
+  pub refused : status ≡ 1 → (refusal : Error) × Refuses op input left' held held' refusal
+  pub statuses : (status ≡ 0) ⊎ (status ≡ 1) ⊎ (status ≡ 3)
+
+-- the program, by its words: an operation, or words that name none, for which nothing is read or written
+pub record ServesStream (words : List (List ℕ)) (left left' held held' : Option (List ℕ)) (status : ℕ) : Type 0 where
+  pub operation : (op : StreamOp) → stream_op_of_words words ≡ Some op → ServesStreamOp op left left' held held' status
+  pub usage : stream_op_of_words words ≡ None → (left' ≡ left) × (held' ≡ held) × (status ≡ 2)

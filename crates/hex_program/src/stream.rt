@@ -1,0 +1,199 @@
+//! All of `fhex-stream` over given arguments, an input of any length and two outputs. It allocates
+//! nothing.
+
+ghost use Rattle.std.specs.Prelude.{◌≡◌, map};
+ghost use Rattle.std.specs.Io.KnownBytes.{Keeps};
+ghost use Rattle.hex_program.specs.Streaming.{ServesStream, ServesStreamOp, stream_op_of_word, stream_op_of_words};
+ghost use Rattle.hex_program.specs.inside.{EndsLine, EndsStreamRun, RunsStream, status_after};
+ghost use Rattle.hex_program.specs.declared.stream.StreamOp.TheVariants.{Encode, EncodeLines, Decode};
+
+use crate::failure::Failure;
+use crate::program::refuse;
+use hex_codec::Group;
+use hex_core::CheckCase;
+use hex_io::laws::puts_in_a_row_are_one;
+use hex_io::stream::{StreamFault, decode_spaced_stream, encode_grouped_stream, encode_stream};
+use hex_io::{Sink, WriterSink, put_all};
+use std::io::{Read, Write};
+
+// Bytes in a line of `encode-lines`, which has twice as many digits: as those of `xxd -p`.
+const LINE: usize = 30;
+
+/// What `fhex-stream` does with its input.
+#[derive(Clone, Copy, Debug, PartialEq, Eq)]
+pub enum StreamOp {
+    /// Writes the lowercase digits of all bytes, and a newline.
+    Encode,
+    /// Writes the same digits in lines of 60, each with a newline. Of an empty input it writes
+    /// nothing.
+    EncodeLines,
+    /// Decodes digits of either case, and skips white space wherever it stands.
+    Decode,
+}
+
+impl StreamOp {
+    /// Returns the operation that a word names, or `None` for any other word.
+    ///
+    /// ```rust
+    /// assert_eq!(rt; StreamOp::from_word("encode-lines"), Some(StreamOp::EncodeLines));
+    /// assert_eq!(rt; StreamOp::from_word("vectors"), None);
+    /// ```
+    pub fn from_word(word: &str) -> Option<StreamOp>
+        ensures answer { result ≡ stream_op_of_word word.now }
+    {
+        match word {
+            "encode" => Some(StreamOp::Encode),
+            "encode-lines" => Some(StreamOp::EncodeLines),
+            "decode" => Some(StreamOp::Decode),
+            _ => None,
+        }
+    }
+
+    // Returns the operation that the program's arguments name: there must be just one.
+    fn from_words(words: &[&str]) -> Option<StreamOp>
+        ensures { result ≡ stream_op_of_words (map (λ w. w.now) words.now) }
+    {
+        match words {
+            [word] => StreamOp::from_word(word),
+            _ => None,
+        }
+    }
+}
+
+// Puts the newline behind the digits.
+fn end_line<S: Sink>(sink: &mut S) -> Result<(), StreamFault>
+    ensures { EndsLine (S.state sink.old) (S.state sink.new) result }
+{
+    match put_all(sink, b"\n") {
+        Ok(()) => Ok(()),
+        Err(fault) => Err(StreamFault::Write(fault)),
+    }
+}
+
+// Encodes an input as one line.
+fn encode<R: Read, S: Sink>(input: &mut R, sink: &mut S) -> Result<(), StreamFault>
+    ensures { RunsStream Encode (R.remaining input.old) (R.remaining input.new) (S.state sink.old).taken (S.state sink.new).taken result }
+{
+    puts_in_a_row_are_one();
+    match encode_stream(input, sink, false) {
+        Ok(_) => end_line(sink),
+        Err(fault) => Err(fault),
+    }
+}
+
+// Encodes an input as lines.
+fn encode_lines<R: Read, S: Sink>(input: &mut R, sink: &mut S) -> Result<(), StreamFault>
+    ensures { RunsStream EncodeLines (R.remaining input.old) (R.remaining input.new) (S.state sink.old).taken (S.state sink.new).taken result }
+{
+    puts_in_a_row_are_one();
+    let lines = Group::new(LINE, b'\n').unwrap();
+    match encode_grouped_stream(input, sink, lines, false) {
+        Ok(0) => Ok(()),
+        Ok(_) => end_line(sink),
+        Err(fault) => Err(fault),
+    }
+}
+
+// Decodes an input.
+fn decode<R: Read, S: Sink>(input: &mut R, sink: &mut S) -> Result<(), StreamFault>
+    ensures { RunsStream Decode (R.remaining input.old) (R.remaining input.new) (S.state sink.old).taken (S.state sink.new).taken result }
+{
+    match decode_spaced_stream(input, sink, CheckCase::None) {
+        Ok(_) => Ok(()),
+        Err(fault) => Err(fault),
+    }
+}
+
+// Runs an operation from a reader into a sink.
+fn run_stream<R: Read, S: Sink>(
+    op: StreamOp,
+    input: &mut R,
+    sink: &mut S,
+) -> Result<(), StreamFault>
+    ensures { RunsStream op (R.remaining input.old) (R.remaining input.new) (S.state sink.old).taken (S.state sink.new).taken result }
+{
+    match op {
+        StreamOp::Encode => encode(input, sink),
+        StreamOp::EncodeLines => encode_lines(input, sink),
+        StreamOp::Decode => decode(input, sink),
+    }
+}
+
+// Ends a run: flushes what was put, also before a refusal, but not after a failed put.
+fn finish_stream<W: Write>(out: &mut W, ran: Result<(), StreamFault>) -> Result<(), Failure>
+    ensures ended { EndsStreamRun ran result }
+    ensures kept { Keeps (W.contents out.old) (W.contents out.new) }
+{
+    let ended = match ran {
+        Ok(()) => Ok(()),
+        Err(StreamFault::Read) => Err(Failure::ReadFailed),
+        Err(StreamFault::Codec(refusal)) => Err(Failure::Codec(refusal)),
+        Err(StreamFault::Write(_)) => return Err(Failure::WriteFailed),
+    };
+    match out.flush() {
+        Ok(()) => ended,
+        Err(_) => Err(Failure::WriteFailed),
+    }
+}
+
+// Runs an operation and flushes its output.
+fn serve_stream_op<R: Read, W: Write>(
+    op: StreamOp,
+    input: &mut R,
+    out: W,
+) -> (Result<(), Failure>, W)
+    ensures { ServesStreamOp op (R.remaining input.old) (R.remaining input.new)
+        (W.contents out) (W.contents result.1) (status_after result.0) }
+{
+    let mut sink = WriterSink::new(out);
+    let ran = run_stream(op, input, &mut sink);
+    let mut out = sink.into_inner();
+    let ended = finish_stream(&mut out, ran);
+    (ended, out)
+}
+
+/// Runs `fhex-stream` over what it is given, and returns the exit status and the two writers.
+///
+/// `words` are the program's arguments, without its name, and are tested first. If there is one and
+/// it names a [`StreamOp`], reads `input` to its end, writes the output meanwhile, and flushes it.
+/// However it ends, a leading part of the right output went to `out`.
+///
+/// | Status | When | Written to `err`, as one line |
+/// |---|---|---|
+/// | 0 | done: the whole output went to `out` | nothing |
+/// | 1 | the input is refused; what was read before the last read was decoded | the [`Error`](hex_core::Error)'s text |
+/// | 2 | no word, several, or another one; nothing was read, nothing went to `out` | the usage |
+/// | 3 | a failure of the system | `read failed`, `write failed` |
+///
+/// An interrupted read is tried again, and no other error. An error of `err` does not change the
+/// status. The contract covers the bytes read and written if the types of reader and writer model
+/// them, and not `err`.
+///
+/// ```rust
+/// let mut input: &[u8] = b"68 65\n6C6C6f\n";
+/// let (out, err) = (Vec::new(rt.alloc()), Vec::new(rt.alloc()));
+/// let (status, out, _) = serve_stream(&["decode"], &mut input, out, err);
+/// assert_eq!(rt; status, 0);
+/// assert_eq!(rt; out.as_slice(), b"hello".as_slice());
+/// ```
+pub fn serve_stream<R: Read, W: Write, E: Write>(
+    words: &[&str],
+    input: &mut R,
+    out: W,
+    err: E,
+) -> (u8, W, E)
+    ensures answer { ServesStream (map (λ w. w.now) words.now) (R.remaining input.old)
+        (R.remaining input.new) (W.contents out) (W.contents result.1) result.0 }
+{
+    let (ended, out) = match StreamOp::from_words(words) {
+        Some(op) => serve_stream_op(op, input, out),
+        None => (Err(Failure::StreamUsage), out),
+    };
+    match ended {
+        Ok(()) => (0, out, err),
+        Err(failure) => {
+            let (status, err) = refuse(err, failure);
+            (status, out, err)
+        }
+    }
+}
