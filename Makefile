@@ -1,7 +1,7 @@
-# `make` builds out/libfaster_hex.a, out/libfaster_hex.so.1.0.0 and out/fhex from the assembly in generated/, by
-# a C compiler alone; `make lib` and `make fhex` one of them. TARGET=aarch64, or a compiler for it, builds them
-# for Linux on ARM in out/aarch64, one for Windows the archive, a DLL and fhex.exe in out/windows, and one for
-# macOS the archive; any other, and TARGET=portable, the libraries in plain C. CC, CFLAGS, CPPFLAGS, LDFLAGS and
+# `make` builds out/libfaster_hex.a, out/libfaster_hex.so.1.0.0, out/fhex and out/fhex-stream from the assembly in
+# generated/, by a C compiler alone; `make lib`, `make fhex` and `make fhex-stream` one of them. TARGET=aarch64, or a
+# compiler for it, builds them for Linux on ARM in out/aarch64, one for Windows the archive, a DLL and both programs
+# in out/windows, and one for macOS the archive; any other, and TARGET=portable, the libraries in plain C. CC, CFLAGS, CPPFLAGS, LDFLAGS and
 # AR are taken, and other words than those of the last run build all anew. UNPROVED=yes builds sources or assembly
 # that were changed, and faster_hex_version then says so.
 # `make generate` proves the sources and writes generated/ anew. `make test` runs the examples, a quick part of
@@ -43,7 +43,7 @@ OUT = out$(addprefix /,$(SYSTEM))$(addprefix /,$(filter-out x86_64,$(TARGET)))
 OBJECTS = $(OUT)/builds.o $(OUT)/dispatch.o
 ARCHIVE = $(OUT)/libfaster_hex.a
 # Each is crates/fhex/fhex.c over the assembly of its name in generated/.
-PROGRAMS = fhex
+PROGRAMS = fhex fhex-stream
 MADE_PROGRAMS = $(if $(filter x86_64 aarch64 x86_64windows,$(TARGET)$(SYSTEM)),$(PROGRAMS:%=$(OUT)/%$(EXE)))
 ifeq ($(SYSTEM),)
 SHARED = $(OUT)/libfaster_hex.so.$(VERSION)
@@ -135,6 +135,7 @@ test-c: all $(firstword $(LOADED))
 ifneq ($(MADE_PROGRAMS),)
 	printf hello | $(RUN) $(OUT)/fhex$(EXE) encode | $(RUN) $(OUT)/fhex$(EXE) decode | grep -qx hello
 	$(RUN) $(OUT)/fhex$(EXE) vectors | grep -x 'total 84 passed 84 failed 0'
+	printf hello | $(RUN) $(OUT)/fhex-stream$(EXE) encode-lines | $(RUN) $(OUT)/fhex-stream$(EXE) decode | grep -qx hello
 endif
 
 check: all

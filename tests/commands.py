@@ -30,10 +30,11 @@ HELLO = "68656c6c6f\n"
 BY_RUST = HELLO + "hello\ninvalid hex byte 0x46 at index 2\ndigits up to index 4\n"
 PRINTED = BY_RUST + "00:1B:21:AB\n4 bytes, the last 0xab\n"
 # The files of an installed copy.
-INSTALLED = """bin/fhex share/man/man1/fhex.1 include/faster_hex.h include/faster_hex.hpp lib/libfaster_hex.a
-    lib/cmake/faster_hex/faster_hexConfig.cmake lib/cmake/faster_hex/faster_hexConfigVersion.cmake
-    lib/pkgconfig/faster_hex.pc share/faster_hex/rust/Cargo.toml share/faster_hex/rust/LICENSE
-    share/faster_hex/rust/bindings/rust/README.md share/man/man3/faster_hex.3 share/doc/faster_hex/LICENSE""".split()
+INSTALLED = """bin/fhex bin/fhex-stream share/man/man1/fhex.1 share/man/man1/fhex-stream.1 include/faster_hex.h
+    include/faster_hex.hpp lib/libfaster_hex.a lib/cmake/faster_hex/faster_hexConfig.cmake
+    lib/cmake/faster_hex/faster_hexConfigVersion.cmake lib/pkgconfig/faster_hex.pc share/faster_hex/rust/Cargo.toml
+    share/faster_hex/rust/LICENSE share/faster_hex/rust/bindings/rust/README.md share/man/man3/faster_hex.3
+    share/doc/faster_hex/LICENSE""".split()
 INSTALLED += [f"lib/{name}" for name in SHARED] + [f"share/man/man3/{name}.3" for name in NAMES]
 OF_RUST = *TOP.glob("bindings/rust/src/*.rs"), *TOP.glob("generated/*.*"), TOP / "generated/PROVED"
 INSTALLED += [f"share/faster_hex/rust/{it.relative_to(TOP)}" for it in OF_RUST]

@@ -89,7 +89,7 @@ def test_longest_input(fhex, length, how):
 def test_processor_that_lacks(fhex, lacks):
     needs("qemu-x86_64")
     words = "qemu-x86_64", "-cpu", f"Nehalem,-{lacks}", fhex, "encode"
-    said = b"fhex: this processor does not support x86-64-v2\n"
+    said = b"this processor does not support x86-64-v2\n"
     assert ended(*words, input=b"hello") == (127, b"", said)
 
 

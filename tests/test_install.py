@@ -39,10 +39,11 @@ def test_files_that_anybody_may_read(tmp_path, top, env, word):
     how = {"preexec_fn": lambda: os.umask(0o077), "env": env}
     runs(make("install", f"PREFIX={there}", *word, top=top), out="", err="", **how)
     has_files(there, INSTALLED)
-    programs = there / "bin/fhex", there / "lib" / SHARED[2]
+    programs = there / "bin/fhex", there / "bin/fhex-stream", there / "lib" / SHARED[2]
     found = {it: it.stat().st_mode & 0o777 for it in there.rglob("*") if not it.is_symlink()}
     assert found == {it: 0o755 if it.is_dir() or it in programs else 0o644 for it in found}
-    runs([there / "bin/fhex", "encode"], out=HELLO, input="hello")
+    for program in "fhex", "fhex-stream":
+        runs([there / "bin" / program, "encode"], out=HELLO, input="hello")
     runs(make("uninstall", f"PREFIX={there}", *word, top=top), out="", err="", env=env)
     assert not files_below(there)
 

@@ -134,8 +134,9 @@ def test_pages_of_man(top):
 def test_cmake(tmp_path, top, env):
     """Over the sources, with the program, and over the installed copy, which is asked for twice."""
     by_cmake(top / "examples/c", tmp_path / "built", f"-DFASTER_HEX={top}", env=env)
-    runs(["cmake", "--build", tmp_path / "built", "--target", "fhex"], env=env)
-    runs([tmp_path / "built/faster_hex/fhex", "encode"], out=HELLO, input="hello")
+    for program in "fhex", "fhex-stream":
+        runs(["cmake", "--build", tmp_path / "built", "--target", program], env=env)
+        runs([tmp_path / "built/faster_hex" / program, "encode"], out=HELLO, input="hello")
     twice = shutil.copytree(top / "examples/c", tmp_path / "twice") / "CMakeLists.txt"
     twice.write_text(re.sub(r"^(find_package.*\n)", r"\1\1", twice.read_text(), flags=re.M))
     by_cmake(twice.parent, tmp_path / "over", f"-DCMAKE_PREFIX_PATH={top.parent}/there", env=env)

@@ -11,7 +11,7 @@ from commands import BY_SYSTEM, SHARED, TOP, VERSION, is_locked, make, only, ran
 
 pytestmark = pytest.mark.quick
 # How often a build says each of the user's words.
-WORDS = {"CC": 5, "CFLAGS": 5, "CPPFLAGS": 4, "LDFLAGS": 2, "AR": 1}
+WORDS = {"CC": 7, "CFLAGS": 7, "CPPFLAGS": 6, "LDFLAGS": 3, "AR": 1}
 # Words by which all is built anew, and how a build by them ends.
 OTHERS = {"CFLAGS=-O1 -g": 0, "CPPFLAGS=-DX='a  $$b'": 0, "LDFLAGS=-Wl,-O1": 0, "CC=gcc": 0, "UNPROVED=yes": 0}
 OTHERS |= {"CC=nonexistent": 2}
@@ -22,8 +22,8 @@ SYSTEMS = dict.fromkeys(("x86_64-linux-gnu", "aarch64-alpine-linux-musl", "amd64
 SYSTEMS |= {"x86_64-w64-mingw32": (False, True), "arm64-apple-darwin23": (False, False)}
 SYSTEMS |= dict.fromkeys(("x86_64-unknown-openbsd7.4", "x86_64-pc-solaris2.11", "aarch64-none-linux-android21"),
                          (True, False))
-WARNINGS = {f"warning: {folder}/ {what}" for folder in ("generated", "generated/fhex") for what in
-            ("is not made of these sources", "has a file that is not as PROVED says")}
+WARNINGS = {f"warning: {folder}/ {what}" for folder in ("generated", "generated/fhex", "generated/fhex-stream")
+            for what in ("is not made of these sources", "has a file that is not as PROVED says")}
 PAGES = {"CALLING.md", "DIFFERENCES.md", "proving.md", "security.md"}
 
 
@@ -38,7 +38,8 @@ def test_six_makes_at_once(copy):
     many = [subprocess.Popen(make(top=copy), **how) for _ in range(6)]
     assert {it.communicate()[0] for it in many} == {""}
     assert [it.returncode for it in many] == 6 * [0]
-    made = {"builds.o", "dispatch.o", "libfaster_hex.a", SHARED[2], "fhex.o", "fhex", "built"}
+    made = {"builds.o", "dispatch.o", "libfaster_hex.a", SHARED[2], "built"}
+    made |= {f"{program}{end}" for program in ("fhex", "fhex-stream") for end in ("", ".o")}
     assert {it.name for it in (copy / "out").iterdir()} == made
 
 
@@ -105,9 +106,10 @@ def test_systems(tmp_path, system):
 
 
 def test_other_sources(copy):
-    """Those of the library stop library and program, those of the program the program alone."""
-    for crate, made in ("hex_core", {"lib": 2, "fhex": 2}), ("hex_program", {"lib": 0, "fhex": 2}):
-        source = copy / f"crates/{crate}/src/lib.rt"
+    """Those of the library stop library and programs, those of a program itself alone."""
+    for name, made in (("hex_core/src/lib.rt", {"lib": 2, "fhex": 2, "fhex-stream": 2}),
+                       ("fhex_stream/src/main.rt", {"lib": 0, "fhex": 0, "fhex-stream": 2})):
+        source = copy / "crates" / name
         text = source.read_text()
         source.write_text(text + "\n")
         for word, status in made.items():
@@ -116,7 +118,7 @@ def test_other_sources(copy):
             assert done.returncode == status and len(said) == (status > 0), said
             assert all("`make generate`" in it for it in said)
         source.write_text(text)
-    assert not (copy / "out/fhex").exists()
+    assert (copy / "out/fhex").exists() and not (copy / "out/fhex-stream").exists()
 
 
 def test_what_is_wrong_with_generated(copy, tmp_path):

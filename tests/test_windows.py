@@ -49,9 +49,10 @@ def test_names_and_stack(windows):
     said = ran([WINDOWS_CC.replace("gcc", "objdump"), "-pd", windows / "libfaster_hex.dll"]).stdout
     assert {*re.findall(r"^\s+\[ *\d+\] (\w+)$", said, re.M)} == {*NAMES}
     assert "(%rsp)" in said and not re.findall(r"-0x\w+\(%rsp.*|sub +\$0x\w{4,},%rsp", said)
-    said = ran([WINDOWS_CC.replace("gcc", "objdump"), "-d", windows / "fhex.exe"]).stdout
-    said = "".join(re.findall(r"^\w+ <fhex_\w+>:\n(?:.+\n)+", said, re.M))
-    assert "(%rsp)" in said and not re.findall(r"-0x\w+\(%rsp\)|sub +\$0x\w{4,},%rsp", said)
+    for program in "fhex", "fhex-stream":
+        said = ran([WINDOWS_CC.replace("gcc", "objdump"), "-d", windows / f"{program}.exe"]).stdout
+        said = "".join(re.findall(r"^\w+ <fhex_\w+>:\n(?:.+\n)+", said, re.M))
+        assert "(%rsp)" in said and not re.findall(r"-0x\w+\(%rsp\)|sub +\$0x\w{4,},%rsp", said)
 
 
 def test_registers(tmp_path, windows):
@@ -93,11 +94,12 @@ def test_names_for(tmp_path, target):
     assert {name for _, name in found} == {name for kind, name in found if kind != "U"}
 
 
+@pytest.mark.parametrize("program", ["fhex", "fhex-stream"])
 @pytest.mark.parametrize("target", OTHERS[2:])
-def test_program_for(tmp_path, target):
+def test_program_for(tmp_path, target, program):
     """It asks for what fhex.c has, and for three functions of C."""
     needs("clang", "llvm-nm")
-    runs(["clang", "-target", target, "-c", "-o", tmp_path / "fhex.o", TOP / "generated/fhex/builds.S"])
+    runs(["clang", "-target", target, "-c", "-o", tmp_path / "fhex.o", TOP / f"generated/{program}/builds.S"])
     asked = {*re.findall(r" U (\w+)$", ran(["llvm-nm", tmp_path / "fhex.o"]).stdout, re.M)}
     has = re.findall(r"^PROVED .*\b(fhex_\w+)\(.*\{", (TOP / "crates/fhex/fhex.c").read_text(), re.M)
     assert asked == {*(it for it in has if "_mem" not in it), "memcpy", "memmove", "memset"}

@@ -1,4 +1,5 @@
-/* The command fhex: `main`, and all that its proved part, generated/fhex/, asks of the system.
+/* The programs fhex and fhex-stream: `main`, and all that the proved part of each, generated/fhex/ or
+ * generated/fhex-stream/, asks of the system.
  * No proof sees this file: the proved part assumes of each function what the comment on it says. */
 #include <errno.h>
 #include <signal.h>
@@ -28,7 +29,7 @@ int main(int argc, char **argv) {
 #ifdef __x86_64__
     if (!__builtin_cpu_supports("ssse3") || !__builtin_cpu_supports("sse4.1") ||
         !__builtin_cpu_supports("sse4.2") || !__builtin_cpu_supports("popcnt")) {
-        fputs("fhex: this processor does not support x86-64-v2\n", stderr);
+        fputs("this processor does not support x86-64-v2\n", stderr);
         return 127;
     }
 #endif

@@ -1,0 +1,16 @@
+/* The program for the processor, behind the macros of the format of its object files. */
+#ifdef __ELF__
+#include "../elf.inc"
+#else
+#include "../coff.inc"
+/* Where the C library has another convention, fhex.c calls it. */
+#define memcpy fhex_memcpy
+#define memmove fhex_memmove
+#define memset fhex_memset
+#endif
+
+#ifdef __x86_64__
+#include "x86-64-v2.s"
+#else
+#include "aarch64.s"
+#endif
