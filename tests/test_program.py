@@ -49,12 +49,12 @@ BUILDS = {
 }
 
 
-def built(folder, compiler, options, *more):
-    """The program by a compiler."""
+def built(folder, compiler, options, *more, name="fhex"):
+    """A program by a compiler."""
     needs(compiler)
-    sources = TOP / "crates/fhex/fhex.c", TOP / "generated/fhex/builds.S", *more
-    runs([compiler, *options.split(), "-o", folder / "fhex", *sources])
-    return folder / "fhex"
+    sources = TOP / "crates/fhex/fhex.c", TOP / f"generated/{name}/builds.S", *more
+    runs([compiler, *options.split(), "-o", folder / name, *sources])
+    return folder / name
 
 
 @pytest.fixture(scope="module", params=BUILDS)

@@ -1,0 +1,212 @@
+"""The built fhex-stream beside a model of it: what it writes, also before a refusal, its statuses and messages; white
+space and invalid bytes at each place; real streams that are full, closed, slow or long."""
+import errno
+import os
+import random
+import subprocess
+from pathlib import Path
+
+import pytest
+
+from commands import CC, OUT, TESTS_IN_C, make, needs, runs
+from test_program import BUILDS, ODD, SANITIZERS, built, ended
+
+USAGE = b"usage: fhex-stream encode|encode-lines|decode\n"
+INVALID = b"invalid hex byte 0x%02x at index %d\n"
+NOT_READ, NOT_WRITTEN = b"read failed\n", b"write failed\n"
+# The bytes that a read of `decode` takes, the bytes that are freed of white space at a time, and those looked at.
+READ, BLOCK, LANES = 16384, 2048, 32
+SPACES = b" \t\n\r\f"
+DIGITS = b"0123456789abcdefABCDEF"
+BORDERS = sorted({at + by for at in (0, LANES, 2 * LANES, BLOCK, READ, 2 * READ) for by in (-1, 0, 1) if at + by >= 0})
+LENGTHS = 0, 1, 2, 29, 30, 31, 59, 60, 61, 90, 8189, 8190, 8191, 8192, 8193, 16380, 100_000
+CHANCE = random.Random(os.environ.get("SEED") or "1")
+BYTES = CHANCE.randbytes(200_000)
+# The words, the input, the status, the standard output and the standard error.
+RUNS = [
+    (["encode"], b"hello", 0, b"68656c6c6f\n", b""),
+    (["encode"], b"", 0, b"\n", b""),
+    (["encode-lines"], b"\0\xab\xff", 0, b"00abff\n", b""),
+    (["encode-lines"], b"", 0, b"", b""),
+    (["encode-lines"], b"\n" * 31, 0, b"0a" * 30 + b"\n0a\n", b""),
+    (["decode"], b"", 0, b"", b""),
+    (["decode"], SPACES, 0, b"", b""),
+    (["decode"], b"00aBcD\n\n", 0, b"\0\xab\xcd", b""),
+    (["decode"], b" 6 8\t6\r\n5\f", 0, b"he", b""),
+    (["decode"], b"68656", 1, b"he", ODD),
+    (["decode"], b"6\n", 1, b"", ODD),
+    (["decode"], b"0g", 1, b"", INVALID % (0x67, 1)),
+    (["decode"], b"0\r\n g", 1, b"", INVALID % (0x67, 4)),
+    (["decode"], b"0x00", 1, b"", INVALID % (0x78, 1)),
+    (["decode"], b"0\v0", 1, b"", INVALID % (0x0b, 1)),
+    (["decode"], b"00\0", 1, b"", INVALID % (0, 2)),
+    (["decode"], b"00\xa0", 1, b"", INVALID % (0xa0, 2)),
+    (["decode"], b"00;00", 1, b"", INVALID % (0x3b, 2)),
+    ([b"\xff"], b"hello", 3, b"", NOT_READ),  # no UTF-8
+]
+NO_WORDS = [], [""], ["encode", "decode"], ["vectors"], ["Encode"], ["encode-upper"], ["encode-lines "], ["--help"]
+RUNS += [(words, b"hello", 2, b"", USAGE) for words in NO_WORDS]
+
+
+@pytest.fixture(scope="session")
+def stream():
+    """The program: the one that FHEX_STREAM names, or that of `make fhex-stream`."""
+    if named := os.environ.get("FHEX_STREAM"):
+        return Path(named).absolute()
+    runs(make("fhex-stream"))
+    return OUT / "fhex-stream"
+
+
+@pytest.fixture(scope="module", params=BUILDS)
+def program(request, stream, tmp_path_factory):
+    """How each program is called."""
+    compiler, options, tool = BUILDS[request.param]
+    needs(*tool.split()[:1])
+    made = lambda: built(tmp_path_factory.mktemp("built"), compiler, options, name="fhex-stream")
+    return [*tool.split(), stream if request.param == "make" else made()]
+
+
+@pytest.fixture(scope="session")
+def failing(tmp_path_factory):
+    """The program under sanitizers, whose reads and writes fail as asked."""
+    options = f"{SANITIZERS} " + " ".join(f"-Wl,--wrap={it}" for it in ("read", "write", "malloc", "realloc"))
+    return built(tmp_path_factory.mktemp("failing"), CC, options, TESTS_IN_C / "failing.c", name="fhex-stream")
+
+
+def lines_of(given):
+    return b"".join(given[at:at + 30].hex().encode() + b"\n" for at in range(0, len(given), 30))
+
+
+def model(word, given):
+    """The status, the whole output, how many of its bytes may be missing, and the message."""
+    if word != "decode":
+        return 0, given.hex().encode() + b"\n" if word == "encode" else lines_of(given), 0, b""
+    bad = next((at for at, byte in enumerate(given) if byte not in DIGITS + SPACES), None)
+    digits = bytes(byte for byte in given[:bad] if byte not in SPACES)
+    output = bytes.fromhex(digits[:len(digits) // 2 * 2].decode())
+    if bad is not None:
+        return 1, output, READ // 2, INVALID % (given[bad], bad)
+    return (1, output, 0, ODD) if len(digits) % 2 else (0, output, 0, b"")
+
+
+def answers(program, word, given, **how):
+    """Whether the program does what the model says."""
+    status, output, missing, message = model(word, given)
+    found, out, err = ended(program, word, input=given, **how)
+    return (found, err) == (status, message) and output.startswith(out) and len(output) - len(out) <= missing
+
+
+def put(text, at, *more):
+    """A text with these bytes in place of as many."""
+    return text[:at] + bytes(more) + text[at + len(more):]
+
+
+@pytest.mark.parametrize("words, given, status, out, err", RUNS, ids=[f"{it[0]} {it[1]}" for it in RUNS])
+def test_run(program, words, given, status, out, err):
+    assert ended(*program, *words, input=given) == (status, out, err)
+
+
+@pytest.mark.parametrize("length", LENGTHS)
+@pytest.mark.parametrize("word", ["encode", "encode-lines"])
+def test_encoded(stream, word, length):
+    assert answers(stream, word, BYTES[:length])
+
+
+@pytest.mark.parametrize("length", LENGTHS)
+@pytest.mark.parametrize("every", [2, 60, 61, None])
+def test_decoded(stream, length, every):
+    """Digits of either case, in lines or on one, that end with and without a newline, whole and with one more."""
+    text = (BYTES[:length // 2].hex() + BYTES[length // 2:length].hex().upper()).encode()
+    lines = b"\r\n".join(text[at:at + every] for at in range(0, len(text), every)) if every else text
+    assert all(answers(stream, "decode", lines + end) for end in (b"", b"\n", b"f", b"f\n", b"\ng"))
+
+
+@pytest.mark.parametrize("space", SPACES)
+def test_white_space_at_each_place(stream, space):
+    """Of the first blocks and around each border: alone, twice, and with a digit or another space between."""
+    text = BYTES[:READ].hex().encode()
+    for at in {*range(2 * LANES + 2), *BORDERS}:
+        for more in [space], [space, space], [space, 0x66, space], [space, *SPACES], [space] * (LANES + 1):
+            assert answers(stream, "decode", put(text, at, *more)), (at, more)
+
+
+@pytest.mark.parametrize("byte", [b"g", b"\v", b"\0", b"\x1f", b"!", b"\xff"])
+@pytest.mark.parametrize("at", BORDERS)
+def test_invalid_byte(stream, at, byte):
+    """Among digits, in lines, at the end, and before another one."""
+    text = BYTES[:READ + 99].hex().encode()
+    spaced = b"\n".join(text[at:at + 60] for at in range(0, len(text), 60))
+    for given in put(text, at, *byte), put(spaced, at, *byte), text[:at] + byte, put(text, at, *byte, *b"zz"):
+        assert answers(stream, "decode", given)
+
+
+@pytest.mark.parametrize("word", ["encode", "encode-lines", "decode"])
+def test_random_inputs_and_cuttings(stream, failing, word):
+    for _ in range(int(os.environ.get("ROUNDS") or 20_000) // 100):
+        given = CHANCE.randbytes(CHANCE.choice((0, 1, 70, 5000, 40_000)) + CHANCE.randrange(90))
+        if word == "decode":
+            given = bytes(CHANCE.choice(SPACES) if byte < 8 else DIGITS[byte % 22] for byte in given)
+            for _ in range(CHANCE.choice((0, 0, 0, 1, 2))):
+                given = put(given, CHANCE.randrange(len(given) + 1), CHANCE.randrange(256))
+        assert answers(stream, word, given)
+        piece = CHANCE.choice((1, 7, 29, 4095)) if len(given) < 9000 else 4095
+        assert answers(failing, word, given, env={**os.environ, "PIECE": f"{piece}"})
+
+
+@pytest.mark.parametrize("word", ["encode", "encode-lines", "decode"])
+def test_failed_calls(failing, word):
+    """An interrupted read is tried again; another failure ends it, behind the beginning of the right output."""
+    text = BYTES.hex().encode()
+    given, output = (text, BYTES) if word == "decode" else (BYTES, model(word, BYTES)[1])
+    for call, number, reason, how in [
+        ("read", 1, errno.EINTR, (0, b"")), ("read", 3, errno.EINTR, (0, b"")), ("read", 1, errno.EIO, (3, NOT_READ)),
+        ("read", 4, errno.EIO, (3, NOT_READ)), ("write", 1, errno.EINTR, (3, NOT_WRITTEN)),
+        ("write", 3, errno.ENOSPC, (3, NOT_WRITTEN)), ("write", 2, 0, (3, NOT_WRITTEN)),
+        ("malloc", 1, errno.ENOMEM, (3, b"out of memory\n")),
+    ]:
+        env = {**os.environ, "FAILS": f"{call} {number} {reason}"}
+        status, out, err = ended(failing, word, input=given, env=env)
+        assert (status, err) == how and (out == output if status == 0 else output.startswith(out) and out != output)
+        assert (out != b"") == (status == 0 or number > 1)
+
+
+@pytest.mark.parametrize("word, given, status", [
+    ("encode", b"", 3), ("encode", b"a", 3), ("encode-lines", b"a", 3), ("encode-lines", b"", 0),
+    ("decode", b"00\n", 3), ("decode", b"\n", 0), ("decode", b"0", 1)])
+def test_full_disk(stream, word, given, status):
+    """What has no output is not written."""
+    with open("/dev/full", "wb") as full:
+        found, _, err = ended(stream, word, input=given, stdout=full)
+    assert (found, err) == (status, {0: b"", 1: ODD, 3: NOT_WRITTEN}[status])
+
+
+@pytest.mark.parametrize("word, how, status, err", [
+    ("encode", "<&-", 3, NOT_READ), ("decode", "<&-", 3, NOT_READ), ("encode", "<.", 3, NOT_READ),
+    ("encode-lines", ">&-", 3, NOT_WRITTEN), ("decode", ">&-", 3, NOT_WRITTEN), ("Encode", "2>&-", 2, b""),
+    ("encode-lines", "| exec true", 3, NOT_WRITTEN)])
+def test_streams_that_are_closed(stream, word, how, status, err):
+    """The status stays the same where the line of a failure cannot be written."""
+    said = f"{stream} {word} {how}; echo ${{PIPESTATUS[0]}} >&3" if how[0] == "|" else f"{stream} {word} {how}; echo $? >&3"
+    given = "00" * 100_000
+    done = subprocess.run(["bash", "-c", f"exec 3>&1; {{ {said}; }} >/dev/null"], input=given.encode(), capture_output=True)
+    assert (done.stdout, done.stderr) == (b"%d\n" % status, err)
+
+
+def test_slow_pipe(stream):
+    """Each piece comes out before the next goes in."""
+    for word, pieces in ("decode", [(b"68 6", b"h"), (b"5\n6c", b"el"), (b"6C", b"l")]), ("encode", [(b"he", b"6865")]):
+        with subprocess.Popen([stream, word], stdin=subprocess.PIPE, stdout=subprocess.PIPE, bufsize=0) as process:
+            for given, out in pieces:
+                process.stdin.write(given)
+                assert process.stdout.read(len(out)) == out
+            process.stdin.close()
+            assert process.stdout.read() == {"decode": b"", "encode": b"\n"}[word]
+        assert process.returncode == 0
+
+
+@pytest.mark.parametrize("word", ["encode", "encode-lines"])
+def test_300_mb_in_64_mb(stream, word):
+    """There and back through pipes, where each program has 64 MB of address space."""
+    some = f"head -c 300M /dev/zero | tr '\\0' '\\225'"
+    said = f"set -o pipefail; {some} | (ulimit -v 65536; {stream} {word} | {stream} decode) | cmp - <({some})"
+    runs(["bash", "-c", said], out="", err="")
