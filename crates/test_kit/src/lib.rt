@@ -13,11 +13,13 @@ mod cursor;
 pub mod fakes;
 pub mod formula;
 pub mod notation;
+mod note;
 pub mod refusing;
 mod words;
 
 use crate::carried::Carried;
 pub use crate::notation::Bytes;
+pub use crate::note::{Came, Note};
 pub use crate::words::Words;
 use crate::words::first_word;
 use std::alloc::Global;
@@ -45,6 +47,8 @@ pub struct Row {
     pub first: Bytes,
     /// More of them.
     pub second: Bytes,
+    /// What a call of it gave that is not wanted.
+    pub note: Note,
     /// Where the call takes memory from.
     pub alloc: Global,
 }
@@ -59,6 +63,7 @@ impl Row {
             wanted: Bytes::new(),
             first: Bytes::new(),
             second: Bytes::new(),
+            note: Note::new(),
             alloc,
         }
     }
@@ -66,6 +71,26 @@ impl Row {
     // Whether no word is left on either side, and none was misread.
     fn is_read(&self) -> bool {
         self.call.are_read() && self.answer.are_read()
+    }
+
+    // Holds the words of a turn.
+    fn hold(&mut self, call: &[u8], answer: &str, turn: usize) {
+        self.call.hold(call, turn);
+        self.answer.hold(answer.as_bytes(), turn);
+    }
+
+    // Prints the words as the turn reads them, and the call that was noted.
+    fn put<W: Write>(&mut self, output: &mut W) -> io::Result<()> {
+        output.write_all(b"  ")?;
+        self.call.put(&mut self.first, output)?;
+        output.write_all(b" = ")?;
+        self.answer.put(&mut self.first, output)?;
+        let what = if self.note.text().is_empty() {
+            "answered otherwise"
+        } else {
+            self.note.text()
+        };
+        writeln!(output, "\n  {what}")
     }
 }
 
@@ -102,11 +127,11 @@ fn turn_missed<C: Calls>(
     counts: &mut Counts,
 ) -> Option<usize> {
     let mut missed = None;
+    row.note = Note::new();
     let (call, answer) = line.split_once(" = ").unwrap_or((line, ""));
     let (count, call) = turns(call.as_bytes());
     for turn in 0..count {
-        row.call.hold(call, turn);
-        row.answer.hold(answer.as_bytes(), turn);
+        row.hold(call, answer, turn);
         counts
             .carried
             .add(&row.call, &mut row.first, &mut row.second);
@@ -115,13 +140,18 @@ fn turn_missed<C: Calls>(
         if !is_answered || !row.is_read() {
             counts.otherwise = counts.otherwise.saturating_add(1);
             missed = missed.or(Some(turn));
+            row.note.close();
         }
+    }
+    if let Some(turn) = missed {
+        row.hold(call, answer, turn);
     }
     missed
 }
 
 /// Judges each row of `input`, writes those that are answered otherwise or can't be read to
-/// `output`, each with the number of its line and its first such turn, and then how many there are. Behind
+/// `output`, each with the number of its line, its first such turn, the words as this turn reads them, and the call
+/// that differs where the row noted it; and then how many there are. Behind
 /// the rows of each test of the Rust crate it writes its name, how many turns they have and their sum.
 ///
 /// # Errors
@@ -148,6 +178,7 @@ pub fn judge<C: Calls, R: BufRead + Drop, W: Write>(
             counts.carried.begin(line);
         } else if let Some(turn) = turn_missed(calls, &mut row, line, &mut counts) {
             writeln!(output, "line {number}, turn {turn}: {line}")?;
+            row.put(output)?;
         }
     }
     counts.carried.end(output)?;

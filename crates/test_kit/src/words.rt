@@ -2,7 +2,12 @@
 
 use crate::choices::{self, Side};
 use crate::notation::{self, Bytes};
+use crate::note::{Text, put_bytes};
 use hex_core::{CheckCase, Error};
+use std::io::{self, Write};
+
+// How many bytes of a word are shown.
+const SHOWN: usize = 200;
 
 const POLICIES: [(&str, CheckCase); 3] = [
     ("any", CheckCase::None),
@@ -31,6 +36,29 @@ fn beside<T: Copy>(word: &[u8], table: &[(&str, T)]) -> Option<T> {
         }
     }
     None
+}
+
+// Prints a word as a turn reads it: a number in brackets as its digits, and bytes that are not written as they are as
+// hex digits.
+fn put_word<W: Write>(
+    word: &[u8],
+    turn: usize,
+    bytes: &mut Bytes,
+    output: &mut W,
+) -> io::Result<()> {
+    let number = notation::number(word, turn);
+    if let (Some(b'['), Some(number)) = (word.first(), number) {
+        return write!(output, "{number}");
+    }
+    let is_written = word
+        .iter()
+        .any(|byte| matches!(byte, b'[' | b'*' | b'^' | b'(' | b'&'));
+    if !is_written || notation::write(word, turn, bytes).is_none() {
+        return output.write_all(word);
+    }
+    let mut text = Text::new();
+    let _ = put_bytes(&mut text, bytes.as_slice(), 0, SHOWN).is_ok();
+    output.write_all(text.as_str().as_bytes())
 }
 
 /// One side of a row: its words, with one space between two, as one turn reads them.
@@ -183,6 +211,21 @@ impl Words {
     /// Returns the words as they are written in this turn, and the turn.
     pub fn written(&self) -> (&[u8], usize) {
         (self.text.as_slice(), self.turn)
+    }
+
+    /// Prints the words as their turn reads them. The bytes are overwritten.
+    pub fn put<W: Write>(&self, bytes: &mut Bytes, output: &mut W) -> io::Result<()> {
+        let mut rest = self.text.as_slice();
+        for _ in 0..self.text.len() {
+            let word = first_word(rest);
+            put_word(word, self.turn, bytes, output)?;
+            let Some(behind) = rest.get(word.len().saturating_add(1)..) else {
+                break;
+            };
+            output.write_all(b" ")?;
+            rest = behind;
+        }
+        Ok(())
     }
 
     /// Returns whether no word is left, and none was misread.

@@ -61,7 +61,7 @@ pub fn each_byte_row(row: &mut Row, to: &mut Destination) -> bool {
         put_nibble(row.wanted.as_mut_slice(), place, value);
     }
     let place = if value.is_none() { Some(place) } else { None };
-    Read::new(row.given.as_slice(), case, place).all_leave(row.wanted.as_slice(), to)
+    Read::new(row.given.as_slice(), case, place).all_leave(&mut row.note, row.wanted.as_slice(), to)
 }
 
 // What a pair of bytes spells.
@@ -97,5 +97,6 @@ pub fn each_pair_row(row: &mut Row, to: &mut Destination) -> bool {
     }
     let given = Given::new(case, 34, row.given.as_slice());
     let want = repeated(spelled, row.wanted.as_slice());
-    slices::decodes(given, to, want) && hex_check_with_case(given.src, case) == spelled.is_ok()
+    slices::decodes(&mut row.note, given, to, want)
+        && hex_check_with_case(given.src, case) == spelled.is_ok()
 }

@@ -1,8 +1,8 @@
 //! Rows of digit values, and of the counted search for the first invalid byte.
 
-use crate::terms::{Destination, PLANS, number_or, plan, source};
+use crate::terms::{Destination, PLANS, is_place, number_or, plan, source};
 use hex_core::{Backend, CheckCase, Probe, SliceProbe, backends, covered, digit_value, locate};
-use test_kit::{Row, Words};
+use test_kit::{Note, Row, Words};
 
 /// `value POLICY BYTE`.
 pub fn value_row(row: &mut Row) -> bool {
@@ -24,10 +24,18 @@ fn take_found(answer: &mut Words) -> Found {
 }
 
 // Whether each search under a plan finds this.
-fn is_found(plan: Backend, src: &[u8], case: CheckCase, found: Found) -> bool {
+fn is_found(note: &mut Note, plan: Backend, src: &[u8], case: CheckCase, found: Found) -> bool {
+    let (place, tests, looks) = found;
     let mut probe = SliceProbe::new(plan, src, case);
-    let place = locate(&mut probe);
-    (place, probe.tests(), probe.looks()) == found && plan.first_invalid(src, case) == place
+    note.by(plan.name());
+    is_place(note.of("locate"), locate(&mut probe), place)
+        && is_place(note.of("tests of locate"), Some(probe.tests()), Some(tests))
+        && is_place(note.of("looks of locate"), Some(probe.looks()), Some(looks))
+        && is_place(
+            note.of("first_invalid"),
+            plan.first_invalid(src, case),
+            place,
+        )
 }
 
 /// `find POLICY DIGITS`.
@@ -36,7 +44,7 @@ pub fn find_row(row: &mut Row, to: &mut Destination) -> bool {
     let src = source(&mut row.call, &mut row.given, to.from);
     let found = take_found(&mut row.answer);
     for number in 0..PLANS {
-        if !is_found(plan(number), src, case, found) {
+        if !is_found(&mut row.note, plan(number), src, case, found) {
             return false;
         }
     }

@@ -4,21 +4,30 @@ ghost use Rattle.std.specs.Prelude.{◌<◌};
 
 use crate::lists;
 use crate::taking::Taken;
-use crate::terms::{Answer, Destination, Given, answer, is_answer, source};
+use crate::terms::{Answer, Destination, Given, answer, is_answer, is_same, source};
 use hex_codec::{heapless_08, hex_decode_array, hex_decode_array_with_case};
 use hex_core::CheckCase;
-use test_kit::Row;
+use test_kit::{Note, Row};
 
 // Whether both calls of an array of `N` bytes answer so.
-fn reads<const N: usize>(given: Given<'_>, want: Answer<'_>) -> bool
+fn reads<const N: usize>(note: &mut Note, given: Given<'_>, want: Answer<'_>) -> bool
     requires { N < 10000 }
 {
-    is_answer(hex_decode_array_with_case::<N>(given.src, given.case), want)
-        && (!given.is_plain() || is_answer(hex_decode_array::<N>(given.src), want))
+    let got = hex_decode_array_with_case::<N>(given.src, given.case);
+    let is_read = is_answer(note.of("hex_decode_array_with_case"), got, want);
+    if !given.is_plain() {
+        return is_read;
+    }
+    is_read
+        && is_answer(
+            note.of("hex_decode_array"),
+            hex_decode_array::<N>(given.src),
+            want,
+        )
 }
 
 // Whether a text of at most `N` digits answers so.
-fn writes<const N: usize>(given: Given<'_>, want: Answer<'_>) -> bool
+fn writes<const N: usize>(note: &mut Note, given: Given<'_>, want: Answer<'_>) -> bool
     requires { N < 10000 }
 {
     let got = if given.is_upper() {
@@ -26,9 +35,10 @@ fn writes<const N: usize>(given: Given<'_>, want: Answer<'_>) -> bool
     } else {
         heapless_08::hex_string::<N>(given.src)
     };
+    note.of("heapless_08::hex_string");
     match got {
-        Ok(text) => want == Ok(text.as_str().as_bytes()),
-        Err(e) => want == Err(e),
+        Ok(text) => is_same(note, Ok(text.as_str().as_bytes()), want),
+        Err(e) => is_same(note, Err(e), want),
     }
 }
 
@@ -59,8 +69,8 @@ fn is_sized<const N: usize>(
     let given = Given::new(case, number, src);
     let (words, bytes) = (&mut row.answer, &mut row.wanted);
     match call {
-        Call::Array => reads::<N>(given, answer(words, bytes)),
-        Call::Fixed => writes::<N>(given, answer(words, bytes)),
+        Call::Array => reads::<N>(&mut row.note, given, answer(words, bytes)),
+        Call::Fixed => writes::<N>(&mut row.note, given, answer(words, bytes)),
         Call::List => lists::is_read::<N>(given, row.alloc, words, bytes),
         Call::Relist => { lists::is_written::<N>(given, row.alloc, Taken::read(words, bytes), to) }
     }

@@ -1,57 +1,75 @@
 //! Rows of the slice calls, each by all calls that do the same: those that name no plan, and those
 //! of each plan.
 
-use crate::terms::{Answer, Destination, Given, PLANS, answer, is_answer, is_count, plan, source};
+use crate::terms::{
+    Answer, Destination, Given, PLANS, answer, is_answer, is_count, is_so, plan, source,
+};
 use hex_codec::{
     hex_check, hex_check_with_case, hex_decode, hex_decode_into, hex_decode_with_case, hex_encode,
     hex_encode_into, hex_encode_upper,
 };
 use hex_core::{Backend, CheckCase};
-use test_kit::Row;
+use test_kit::{Note, Row};
 
 // Whether both calls of a plan decode so, and write nothing but the answer.
-fn plan_decodes(plan: Backend, given: Given<'_>, to: &mut Destination, want: Answer<'_>) -> bool {
+fn plan_decodes(
+    note: &mut Note,
+    plan: Backend,
+    given: Given<'_>,
+    to: &mut Destination,
+    want: Answer<'_>,
+) -> bool {
     let Given { case, number, src } = given;
-    is_answer(plan.decode_slice(src, to.lend(number), case), want)
-        && to.has(want)
-        && is_count(plan.decode_into(src, to.lend(number), case), want)
-        && to.has(want)
+    note.by(plan.name());
+    let got = plan.decode_slice(src, to.lend(number), case);
+    let is_lent = is_answer(note.of("decode_slice"), got, want) && to.has(note, want);
+    let got = plan.decode_into(src, to.lend(number), case);
+    is_lent && is_count(note.of("decode_into"), got, want) && to.has(note, want)
 }
 
 /// Returns whether the calls that name no plan do so.
-pub fn decodes(given: Given<'_>, to: &mut Destination, want: Answer<'_>) -> bool {
+pub fn decodes(note: &mut Note, given: Given<'_>, to: &mut Destination, want: Answer<'_>) -> bool {
     let Given { case, number, src } = given;
-    let is_decoded = is_answer(hex_decode_with_case(src, to.lend(number), case), want)
-        && to.has(want)
-        && is_count(hex_decode_into(src, to.lend(number), case), want)
-        && to.has(want);
+    note.by("");
+    let got = hex_decode_with_case(src, to.lend(number), case);
+    let is_lent = is_answer(note.of("hex_decode_with_case"), got, want) && to.has(note, want);
+    let got = hex_decode_into(src, to.lend(number), case);
+    let is_decoded = is_count(note.of("hex_decode_into"), got, want) && to.has(note, want);
     if !given.is_plain() {
-        return is_decoded;
+        return is_lent && is_decoded;
     }
-    is_decoded && is_answer(hex_decode(src, to.lend(number)), want) && to.has(want)
+    let got = hex_decode(src, to.lend(number));
+    is_lent && is_decoded && is_answer(note.of("hex_decode"), got, want) && to.has(note, want)
 }
 
 // Whether both calls of a plan encode so, and write nothing but the answer.
-fn plan_encodes(plan: Backend, given: Given<'_>, to: &mut Destination, want: Answer<'_>) -> bool {
+fn plan_encodes(
+    note: &mut Note,
+    plan: Backend,
+    given: Given<'_>,
+    to: &mut Destination,
+    want: Answer<'_>,
+) -> bool {
     let (room, src, upper) = (given.number, given.src, given.is_upper());
-    is_answer(plan.encode_slice(src, to.lend(room), upper), want)
-        && to.has(want)
-        && is_count(plan.encode_into(src, to.lend(room), upper), want)
-        && to.has(want)
+    note.by(plan.name());
+    let got = plan.encode_slice(src, to.lend(room), upper);
+    let is_lent = is_answer(note.of("encode_slice"), got, want) && to.has(note, want);
+    let got = plan.encode_into(src, to.lend(room), upper);
+    is_lent && is_count(note.of("encode_into"), got, want) && to.has(note, want)
 }
 
 /// Returns whether both calls that name no plan do so.
-pub fn encodes(given: Given<'_>, to: &mut Destination, want: Answer<'_>) -> bool {
+pub fn encodes(note: &mut Note, given: Given<'_>, to: &mut Destination, want: Answer<'_>) -> bool {
     let (room, src, upper) = (given.number, given.src, given.is_upper());
+    note.by("");
     let got = if upper {
         hex_encode_upper(src, to.lend(room))
     } else {
         hex_encode(src, to.lend(room))
     };
-    is_answer(got, want)
-        && to.has(want)
-        && is_count(hex_encode_into(src, to.lend(room), upper), want)
-        && to.has(want)
+    let is_lent = is_answer(note.of("hex_encode"), got, want) && to.has(note, want);
+    let got = hex_encode_into(src, to.lend(room), upper);
+    is_lent && is_count(note.of("hex_encode_into"), got, want) && to.has(note, want)
 }
 
 /// `decode POLICY ROOM DIGITS`.
@@ -59,11 +77,11 @@ pub fn decode_row(row: &mut Row, to: &mut Destination) -> bool {
     let given = Given::read(&mut row.call, &mut row.given, to.from);
     let want = answer(&mut row.answer, &mut row.wanted);
     for number in 0..PLANS {
-        if !plan_decodes(plan(number), given, to, want) {
+        if !plan_decodes(&mut row.note, plan(number), given, to, want) {
             return false;
         }
     }
-    decodes(given, to, want)
+    decodes(&mut row.note, given, to, want)
 }
 
 /// `encode CASE ROOM BYTES`.
@@ -71,11 +89,11 @@ pub fn encode_row(row: &mut Row, to: &mut Destination) -> bool {
     let given = Given::read(&mut row.call, &mut row.given, to.from);
     let want = answer(&mut row.answer, &mut row.wanted);
     for number in 0..PLANS {
-        if !plan_encodes(plan(number), given, to, want) {
+        if !plan_encodes(&mut row.note, plan(number), given, to, want) {
             return false;
         }
     }
-    encodes(given, to, want)
+    encodes(&mut row.note, given, to, want)
 }
 
 /// `check POLICY DIGITS`.
@@ -84,10 +102,19 @@ pub fn check_row(row: &mut Row, to: &mut Destination) -> bool {
     let src = source(&mut row.call, &mut row.given, to.from);
     let is_valid = row.answer.is_either(b"yes", b"no");
     for number in 0..PLANS {
-        if plan(number).check(src, case) != is_valid {
+        row.note.by(plan(number).name());
+        if !is_so(
+            row.note.of("check"),
+            plan(number).check(src, case),
+            is_valid,
+        ) {
             return false;
         }
     }
-    hex_check_with_case(src, case) == is_valid
-        && (case != CheckCase::None || hex_check(src) == is_valid)
+    row.note.by("");
+    is_so(
+        row.note.of("hex_check_with_case"),
+        hex_check_with_case(src, case),
+        is_valid,
+    ) && (case != CheckCase::None || is_so(row.note.of("hex_check"), hex_check(src), is_valid))
 }

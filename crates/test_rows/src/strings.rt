@@ -1,6 +1,6 @@
 //! Rows of the calls that return a vector or a string, or append to one, and of long texts.
 
-use crate::terms::{Answer, Destination, Given, answer, is_answer};
+use crate::terms::{Answer, Destination, Given, answer, is_answer, is_same};
 use hex_codec::{
     hex_append, hex_append_into, hex_append_upper, hex_decode_vec, hex_decode_vec_with_case,
     hex_string, hex_string_upper,
@@ -8,23 +8,42 @@ use hex_codec::{
 use hex_core::CheckCase;
 use hex_io::Hex;
 use std::alloc::Global;
-use test_kit::Row;
 use test_kit::refusing::Refusing;
+use test_kit::{Came, Note, Row};
 
 // A string that is appended to.
 type Text<'r> = String<&'r Refusing<Global>>;
 
+// Whether a capacity is this length.
+fn is_exact(note: &mut Note, capacity: usize, len: usize) -> bool {
+    capacity == len || note.differs(Came::Count(capacity), Came::Count(len))
+}
+
 // Whether a vector is read so, in no more capacity than it needs, by the call that names no policy where
 // `is_plain` is true.
-fn is_read(alloc: &Refusing<Global>, given: Given<'_>, is_plain: bool, want: Answer<'_>) -> bool {
+fn is_read(
+    note: &mut Note,
+    alloc: &Refusing<Global>,
+    given: Given<'_>,
+    is_plain: bool,
+    want: Answer<'_>,
+) -> bool {
+    note.of(if is_plain {
+        "hex_decode_vec"
+    } else {
+        "hex_decode_vec_with_case"
+    });
     let got = if is_plain {
         hex_decode_vec(alloc, given.src)
     } else {
         hex_decode_vec_with_case(alloc, given.src, given.case)
     };
     match got {
-        Ok(bytes) => bytes.capacity() == bytes.len() && want == Ok(bytes.as_slice()),
-        Err(e) => want == Err(e),
+        Ok(bytes) => {
+            is_exact(note, bytes.capacity(), bytes.len())
+                && is_same(note, Ok(bytes.as_slice()), want)
+        }
+        Err(e) => is_same(note, Err(e), want),
     }
 }
 
@@ -34,24 +53,34 @@ pub fn vector_row(row: &mut Row, to: &mut Destination) -> bool {
     let asked = row.answer.take_growths();
     let want = answer(&mut row.answer, &mut row.wanted);
     let refusing = Refusing::new(row.alloc, given.number as u64);
-    let is_so = is_read(&refusing, given, false, want) && refusing.is_settled(asked);
+    let note = &mut row.note;
+    let is_so = is_read(note, &refusing, given, false, want) && refusing.is_settled(asked);
     if !given.is_plain() {
         return is_so;
     }
     let refusing = Refusing::new(row.alloc, given.number as u64);
-    is_so && is_read(&refusing, given, true, want) && refusing.is_settled(asked)
+    is_so && is_read(note, &refusing, given, true, want) && refusing.is_settled(asked)
 }
 
 // Whether a string is written so, in no more capacity than it needs.
-fn is_written(alloc: &Refusing<Global>, given: Given<'_>, want: Answer<'_>) -> bool {
+fn is_written(
+    note: &mut Note,
+    alloc: &Refusing<Global>,
+    given: Given<'_>,
+    want: Answer<'_>,
+) -> bool {
+    note.of("hex_string");
     let got = if given.is_upper() {
         hex_string_upper(alloc, given.src)
     } else {
         hex_string(alloc, given.src)
     };
     match got {
-        Ok(text) => text.capacity() == text.len() && want == Ok(text.as_str().as_bytes()),
-        Err(e) => want == Err(e),
+        Ok(text) => {
+            is_exact(note, text.capacity(), text.len())
+                && is_same(note, Ok(text.as_str().as_bytes()), want)
+        }
+        Err(e) => is_same(note, Err(e), want),
     }
 }
 
@@ -61,7 +90,7 @@ pub fn string_row(row: &mut Row, to: &mut Destination) -> bool {
     let asked = row.answer.take_growths();
     let want = answer(&mut row.answer, &mut row.wanted);
     let refusing = Refusing::new(row.alloc, given.number as u64);
-    is_written(&refusing, given, want) && refusing.is_settled(asked)
+    is_written(&mut row.note, &refusing, given, want) && refusing.is_settled(asked)
 }
 
 // A string of this capacity that holds this text, in the one growth that is granted.
@@ -75,21 +104,23 @@ fn with_text<'r>(alloc: &'r Refusing<Global>, capacity: usize, text: &[u8]) -> O
 }
 
 // Whether the call that lends the suffix answers so.
-fn lends(given: Given<'_>, text: &mut Text<'_>, want: Answer<'_>) -> bool {
+fn lends(note: &mut Note, given: Given<'_>, text: &mut Text<'_>, want: Answer<'_>) -> bool {
     let got = if given.is_upper() {
         hex_append_upper(given.src, text)
     } else {
         hex_append(given.src, text)
     };
-    is_answer(got, want)
+    is_answer(note.of("hex_append"), got, want)
 }
 
 // Whether the call that answers nothing does so.
-fn appends(given: Given<'_>, text: &mut Text<'_>, want: Answer<'_>) -> bool {
-    match hex_append_into(given.src, text, given.is_upper()) {
-        Ok(()) => want.is_ok(),
-        Err(e) => want == Err(e),
-    }
+fn appends(note: &mut Note, given: Given<'_>, text: &mut Text<'_>, want: Answer<'_>) -> bool {
+    let got = hex_append_into(given.src, text, given.is_upper());
+    is_same(
+        note.of("hex_append_into"),
+        got.map(|()| want.unwrap_or_default()),
+        want,
+    )
 }
 
 // What an append finds and leaves.
@@ -104,7 +135,14 @@ struct Appended<'a> {
 impl Appended<'_> {
     // Whether an append answers so and leaves the text afterwards, in no more capacity than a growth gave
     // it: the call that lends the suffix where `is_lent` is true, and else the one that answers nothing.
-    fn is_left(self, alloc: Global, given: Given<'_>, is_lent: bool, want: Answer<'_>) -> bool {
+    fn is_left(
+        self,
+        note: &mut Note,
+        alloc: Global,
+        given: Given<'_>,
+        is_lent: bool,
+        want: Answer<'_>,
+    ) -> bool {
         let refusing = Refusing::new(alloc, 1);
         let Some(mut text) = with_text(&refusing, self.capacity, self.before) else {
             return false;
@@ -112,14 +150,14 @@ impl Appended<'_> {
         let before = refusing.asked();
         refusing.set_left(given.number as u64);
         let is_answered = if is_lent {
-            lends(given, &mut text, want)
+            lends(note, given, &mut text, want)
         } else {
-            appends(given, &mut text, want)
+            appends(note, given, &mut text, want)
         };
         let is_kept = self.asked == 0 || want.is_err();
         is_answered
             && refusing.asked().wrapping_sub(before) == self.asked
-            && text.as_str().as_bytes() == self.after
+            && is_same(note, Ok(text.as_str().as_bytes()), Ok(self.after))
             && (is_kept || text.capacity() == text.len())
     }
 }
@@ -139,7 +177,9 @@ pub fn append_row(row: &mut Row) -> bool {
         after: row.second.as_slice(),
         asked,
     };
-    text.is_left(row.alloc, given, true, want) && text.is_left(row.alloc, given, false, want)
+    let note = &mut row.note;
+    text.is_left(note, row.alloc, given, true, want)
+        && text.is_left(note, row.alloc, given, false, want)
 }
 
 /// `long POLICY COUNT`: whether so many bytes are written, printed, and read again as they were.
@@ -153,11 +193,17 @@ pub fn long_row(row: &mut Row) -> bool {
         return false;
     };
     row.answer.wants(b"alike");
-    are_long(row.alloc, case, bytes.as_slice(), text.as_slice())
+    are_long(
+        &mut row.note,
+        row.alloc,
+        case,
+        bytes.as_slice(),
+        text.as_slice(),
+    )
 }
 
 // Whether each call that takes memory, or prints, makes this text of these bytes, or reads them from it.
-fn are_long(alloc: Global, case: CheckCase, bytes: &[u8], text: &[u8]) -> bool {
+fn are_long(note: &mut Note, alloc: Global, case: CheckCase, bytes: &[u8], text: &[u8]) -> bool {
     let refusing = Refusing::new(alloc, u64::MAX);
     let (from, to) = (Given::new(case, 1, bytes), Given::new(case, 0, text));
     let appended = Appended {
@@ -166,11 +212,11 @@ fn are_long(alloc: Global, case: CheckCase, bytes: &[u8], text: &[u8]) -> bool {
         after: text,
         asked: 1,
     };
-    is_written(&refusing, from, Ok(text))
-        && is_read(&refusing, to, to.is_plain(), Ok(bytes))
-        && is_read(&refusing, to, false, Ok(bytes))
-        && appended.is_left(alloc, from, true, Ok(text))
-        && appended.is_left(alloc, from, false, Ok(text))
+    is_written(note, &refusing, from, Ok(text))
+        && is_read(note, &refusing, to, to.is_plain(), Ok(bytes))
+        && is_read(note, &refusing, to, false, Ok(bytes))
+        && appended.is_left(note, alloc, from, true, Ok(text))
+        && appended.is_left(note, alloc, from, false, Ok(text))
         && (from.is_upper() || is_shown(alloc, bytes, text))
 }
 
@@ -197,7 +243,8 @@ pub fn appends_row(row: &mut Row) -> bool {
         row.call.take_bytes(&mut row.given);
         row.answer.take_bytes(&mut row.wanted);
         let given = Given::new(case, 0, row.given.as_slice());
-        is_right = is_right && lends(given, &mut text, Ok(row.wanted.as_slice()));
+        let want = Ok(row.wanted.as_slice());
+        is_right = is_right && lends(&mut row.note, given, &mut text, want);
     }
     row.answer.take_bytes(&mut row.second);
     is_right && refusing.asked() == asked && text.as_str().as_bytes() == row.second.as_slice()

@@ -3,7 +3,7 @@
 use hex_codec::Group;
 use hex_core::{Backend, CheckCase, Error, backends};
 use std::convert::AsSlice;
-use test_kit::{Bytes, Words};
+use test_kit::{Bytes, Came, Note, Words};
 
 // What a destination holds before a call, and what stands beside it. No policy reads it.
 const FILL: u8 = 0xa5;
@@ -90,9 +90,17 @@ impl Destination {
         self.filled.get(..bytes.len()) == Some(bytes)
     }
 
+    /// Returns whether the call that is noted wrote these bytes and no others.
+    pub fn is_left(&self, note: &mut Note, front: &[u8]) -> bool {
+        let start = self.start();
+        let end = start.saturating_add(front.len());
+        let left = self.whole.get(start..end).unwrap_or_default();
+        self.holds(front) || note.differs(Came::Bytes(left), Came::Bytes(front))
+    }
+
     /// Returns whether nothing but an answer was written.
-    pub fn has(&self, answer: Answer<'_>) -> bool {
-        self.holds(answer.unwrap_or_default())
+    pub fn has(&self, note: &mut Note, answer: Answer<'_>) -> bool {
+        self.is_left(note, answer.unwrap_or_default())
     }
 }
 
@@ -164,20 +172,42 @@ pub fn answer<'a>(words: &mut Words, bytes: &'a mut Bytes) -> Answer<'a> {
     Err(refusal)
 }
 
+/// Returns whether the call that is noted answers so.
+pub fn is_same(note: &mut Note, got: Answer<'_>, want: Answer<'_>) -> bool {
+    got == want || note.differs(Came::answer(got), Came::answer(want))
+}
+
 /// Returns whether a call that answers bytes answers so.
-pub fn is_answer<T: AsSlice<u8> + Drop>(got: Result<T, Error>, want: Answer<'_>) -> bool {
+pub fn is_answer<T: AsSlice<u8> + Drop>(
+    note: &mut Note,
+    got: Result<T, Error>,
+    want: Answer<'_>,
+) -> bool {
     match got {
-        Ok(bytes) => want == Ok(bytes.as_slice()),
-        Err(e) => want == Err(e),
+        Ok(bytes) => is_same(note, Ok(bytes.as_slice()), want),
+        Err(e) => is_same(note, Err(e), want),
     }
 }
 
 /// Returns whether a call that counts what it writes answers so.
-pub fn is_count(got: Result<usize, Error>, want: Answer<'_>) -> bool {
+pub fn is_count(note: &mut Note, got: Result<usize, Error>, want: Answer<'_>) -> bool {
     match got {
-        Ok(count) => want.is_ok() && count == want.unwrap_or_default().len(),
-        Err(e) => want == Err(e),
+        Ok(count) => {
+            (want.is_ok() && count == want.unwrap_or_default().len())
+                || note.differs(Came::Count(count), Came::answer(want))
+        }
+        Err(e) => is_same(note, Err(e), want),
     }
+}
+
+/// Returns whether the call that is noted gives this place, or none.
+pub fn is_place(note: &mut Note, got: Option<usize>, want: Option<usize>) -> bool {
+    got == want || note.differs(Came::place(got), Came::place(want))
+}
+
+/// Returns whether the call that is noted answers yes or no so.
+pub fn is_so(note: &mut Note, got: bool, want: bool) -> bool {
+    got == want || note.differs(Came::Is(got), Came::Is(want))
 }
 
 /// Reads a number, or a word that stands for none.

@@ -1,9 +1,9 @@
 //! Rows of calls into destinations exactly as long as their answer.
 
 use crate::slices;
-use crate::terms::{Destination, Given, PLANS, plan, source};
+use crate::terms::{Destination, Given, PLANS, is_place, is_so, plan, source};
 use hex_core::{Backend, CheckCase};
-use test_kit::Row;
+use test_kit::{Note, Row};
 
 // How many digits each plan decodes at a time into a buffer that is given up; 0 where it decodes all
 // of them at once.
@@ -32,7 +32,14 @@ impl<'a> Read<'a> {
 
     // Whether a plan decodes a source of even length so and leaves these bytes, into a buffer that
     // is given up on a refusal where `is_owned` is true.
-    fn decodes(self, plan: Backend, is_owned: bool, left: &[u8], to: &mut Destination) -> bool {
+    fn decodes(
+        self,
+        note: &mut Note,
+        plan: Backend,
+        is_owned: bool,
+        left: &[u8],
+        to: &mut Destination,
+    ) -> bool {
         let dst = to.lend(self.src.len() / 2);
         if self.src.len() % 2 == 1 || dst.len() != self.src.len() / 2 {
             return self.src.len() % 2 == 1;
@@ -42,22 +49,30 @@ impl<'a> Read<'a> {
         } else {
             plan.decode(self.src, dst, self.case)
         };
-        is_decoded == self.place.is_none() && to.holds(left)
+        let call = if is_owned { "decode_owned" } else { "decode" };
+        is_so(note.of(call), is_decoded, self.place.is_none()) && to.is_left(note, left)
     }
 
     // Whether a plan checks and searches a source so, and decodes it so: a refused one leaves `left`
     // where the buffer is given up, and else none.
-    fn leaves(self, plan: Backend, left: &[u8], to: &mut Destination) -> bool {
+    fn leaves(self, note: &mut Note, plan: Backend, left: &[u8], to: &mut Destination) -> bool {
         let decoded = if self.place.is_none() { left } else { &[] };
-        plan.check(self.src, self.case) == self.place.is_none()
-            && plan.first_invalid(self.src, self.case) == self.place
-            && self.decodes(plan, false, decoded, to)
-            && self.decodes(plan, true, left, to)
+        note.by(plan.name());
+        is_so(
+            note.of("check"),
+            plan.check(self.src, self.case),
+            self.place.is_none(),
+        ) && is_place(
+            note.of("first_invalid"),
+            plan.first_invalid(self.src, self.case),
+            self.place,
+        ) && self.decodes(note, plan, false, decoded, to)
+            && self.decodes(note, plan, true, left, to)
     }
 
     /// Returns whether each plan reads a source so, where `bytes` are those of its pairs, or of those
     /// before its first invalid byte.
-    pub fn all_leave(self, bytes: &[u8], to: &mut Destination) -> bool {
+    pub fn all_leave(self, note: &mut Note, bytes: &[u8], to: &mut Destination) -> bool {
         for number in 0..PLANS {
             let left = match self.place {
                 Some(place) => bytes
@@ -65,7 +80,7 @@ impl<'a> Read<'a> {
                     .unwrap_or_default(),
                 None => bytes,
             };
-            if !self.leaves(plan(number), left, to) {
+            if !self.leaves(note, plan(number), left, to) {
                 return false;
             }
         }
@@ -81,28 +96,36 @@ pub fn owned_row(row: &mut Row, to: &mut Destination) -> bool {
     let is_refused = row.answer.is_either(b"at", b"ok");
     let place = is_refused.then(|| row.answer.take_number());
     row.answer.take_bytes(&mut row.wanted);
-    Read::new(src, case, place).all_leave(row.wanted.as_slice(), to)
+    Read::new(src, case, place).all_leave(&mut row.note, row.wanted.as_slice(), to)
 }
 
 // Whether each plan, and the calls that name none, write this text of some bytes.
-fn all_write(given: Given<'_>, text: &[u8], to: &mut Destination) -> bool {
+fn all_write(note: &mut Note, given: Given<'_>, text: &[u8], to: &mut Destination) -> bool {
     for number in 0..PLANS {
         let dst = to.lend(text.len());
         if given.src.len() != dst.len() / 2 || dst.len() % 2 == 1 {
             return false;
         }
         plan(number).encode(given.src, dst, given.is_upper());
-        if !to.holds(text) {
+        note.by(plan(number).name());
+        if !to.is_left(note.of("encode"), text) {
             return false;
         }
     }
-    slices::encodes(given, to, Ok(text))
+    slices::encodes(note, given, to, Ok(text))
 }
 
 // Whether they read the bytes from the text under this policy.
-fn all_read(text: &[u8], bytes: &[u8], case: CheckCase, to: &mut Destination) -> bool {
+fn all_read(
+    note: &mut Note,
+    text: &[u8],
+    bytes: &[u8],
+    case: CheckCase,
+    to: &mut Destination,
+) -> bool {
     let given = Given::new(case, bytes.len(), text);
-    Read::new(text, case, None).all_leave(bytes, to) && slices::decodes(given, to, Ok(bytes))
+    Read::new(text, case, None).all_leave(note, bytes, to)
+        && slices::decodes(note, given, to, Ok(bytes))
 }
 
 /// `both CASE BYTES`: the text, which stands where it was written to when it is read, and the bytes are
@@ -111,7 +134,10 @@ pub fn both_row(row: &mut Row, to: &mut Destination) -> bool {
     let case = row.call.take_policy();
     let src = source(&mut row.call, &mut row.given, to.from);
     let text = source(&mut row.answer, &mut row.wanted, to.shift);
-    let is_written = all_write(Given::new(case, text.len(), src), text, to);
+    let note = &mut row.note;
+    let is_written = all_write(note, Given::new(case, text.len(), src), text, to);
     to.shift = to.from;
-    is_written && all_read(text, src, case, to) && all_read(text, src, CheckCase::None, to)
+    is_written
+        && all_read(note, text, src, case, to)
+        && all_read(note, text, src, CheckCase::None, to)
 }
