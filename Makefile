@@ -70,6 +70,10 @@ QUICK = @$(if $(PYTEST),grep -l mark.quick tests/test_*.py | xargs -P $(JOBS) -n
 # once more: a crate over serde_json took 118 seconds of processor by four jobs, and 81 by one.
 JOBS = $(shell n=$$(nproc); echo $$((n < 4 ? n : 4)))
 
+# What a target says at its end: how long it took, and what it left out.
+BEGAN := $(shell date +%s)
+ENDED = @echo "make $@ took $$(($$(date +%s) - $(BEGAN))) s; left out: $(1)"
+
 # What runs beside another takes what processors there are.
 .NOTPARALLEL:
 CURRENT = current $(PROGRAMS:%=current/%)
@@ -85,6 +89,7 @@ $(CURRENT): current%:
 
 generate:
 	@scripts/generate $(QUIET)
+	$(if $(QUIET),,$(call ENDED,tests and mutations))
 
 LINES = $(foreach word,$(WORDS),'$(word) = $(subst ','\'',$($(word)))')
 $(BUILT): $(shell [ -d $(OUT) ] && [ "$$(cat $(BUILT) 2>&1)" = "$$(printf '%s\n' $(LINES))" ] || echo anew)
@@ -117,11 +122,11 @@ test: $(CURRENT)
 	scripts/examples
 	$(QUICK)
 	RT_JOBS=$(JOBS) rt ci
-	MUTATIONS_JOBS=$(JOBS) scripts/mutations --gate
+	MUTATIONS_JOBS=$(JOBS) MUTATIONS_AFTER=$(BEGAN) scripts/mutations --gate
 else
 test: test-c
 	$(QUICK)
-	@echo 'these were the tests in C: the others take the Rattle toolchain' >&2
+	$(call ENDED,all but the tests in C: the others take the Rattle toolchain)
 endif
 
 TRY = $(COMPILE) $(CFLAGS) -std=gnu99 -pthread -I$(C) $(OF_TESTS) -o $(OUT)/try.exe
@@ -140,6 +145,7 @@ endif
 
 check: all
 	$(or $(PYTEST),$(error make check takes pytest: apt-get install python3-pytest)) tests
+	$(call ENDED,what the summary says; the gate; mutations; examples)
 
 # Before a release. It stops at the first that fails.
 deep: all
@@ -147,6 +153,7 @@ deep: all
 	scripts/examples --prove
 	cd tests && /usr/bin/python3 -m machine record 128
 	$(MAKE) check
+	$(call ENDED,what the summary says; the gate)
 
 # As the last commit has it, or where files have changed, these; the same bytes whoever packs it.
 TO = .
@@ -167,6 +174,7 @@ vendor:
 
 help:
 	@sed -n '/^[^#]/q; s/^# //p' Makefile
+	@echo && sed -n '/^You changed/,/^$$/p' tests/README.md
 
 clean:
 	rm -rf out crates/*/out

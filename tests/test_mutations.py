@@ -15,12 +15,9 @@ HEAD = """//! Functions with bodies to be put out.
 
 ghost use Rattle.std.specs.Prelude.{◌≡◌, ◌+◌, ◌*◌, ◌≤◌};
 
-const LARGEST: u8 = 10;
+pub mod sizes;
 
-pub trait Small {
-    fn size(&self) -> u8
-        ensures { result ≤ 5 };
-}
+const LARGEST: u8 = 10;
 """
 FUNCTION = "\npub fn {}\n    ensures {{ {} }}\n{{\n    {}\n}}\n"
 # Its proof names a local of its body.
@@ -39,6 +36,15 @@ pub returns : goal.returns
 returns c = omega (arith, c.doubled-{1}.ensures)
 """
 NAMED = ("fourfold", "twice"), ("fourfold_by_doubling_the_double_of_a_byte_that_is_handed_in", "double")
+MODULE = """//! Sizes.
+
+ghost use Rattle.std.specs.Prelude.{◌≤◌};
+
+pub trait Small {
+    fn size(&self) -> u8
+        ensures { result ≤ 5 };
+}
+"""
 METHOD = "\npub struct {0};\n\nimpl Small for {0} {{\n    fn size(&self) -> u8 {{\n        {1}\n    }}\n}}\n"
 FUNCTIONS = [
     FUNCTION.format("doubled(x: u8) -> u16", "result ≡ x + x", "u16::from(x) + u16::from(x)"),
@@ -46,14 +52,12 @@ FUNCTIONS = [
     FUNCTION.format("twice_doubled(x: u8) -> u16", "result ≡ 4 * x", "doubled(x) + doubled(x)"),
     FUNCTION.format("five() -> u8", "result ≡ 5", "5"),
     FUNCTION.format("six() -> u8", "result ≡ 6", "6"),
-    METHOD.format("One", 1),
-    METHOD.format("Many", 3),
     *(NAMING.format(*names) for names in NAMED),
 ]
 # What is said of each mutation: its sentence, the text that stands there, another one, and how what is said begins.
-# They are tried in this order, and a list is halved where it can't be read: the first two stay in one check, and so
-# would the two of `size` if their names were taken for one.
-PROVED = "missed: tiny: {}: its crate is still proved$"
+# They are tried in this order, and a list is halved where it can't be read: the first two stay in one check. Methods of
+# one name are not tried in one.
+PROVED = "missed: tiny: {}: each goal of .* is still proved$"
 REFUSED = "refused: tiny: {}: (?!alone: )"
 LOST = "error: tiny: {}: it is refused only since names are gone"
 EDIT = "right over a wrong one", "doubled(x) + doubled(x)", "2 * doubled(x)", PROVED
@@ -64,18 +68,20 @@ OTHERS = [
     ("can not be applied", "x.max(LARGEST)", "x", "error: tiny: {}: .* stands 0 times"),
     ("five is six", "    5", "    6", REFUSED),
     ("is let through", "x.min(LARGEST)", "x.min(9)", PROVED),
-    ("one is large", "        1", "        9", REFUSED),
-    ("one is right beside its namesake", "        3", "        4", PROVED),
     ("six is seven", "    6", "    7", REFUSED),
     ("the largest is larger", "LARGEST: u8 = 10", "LARGEST: u8 = 11", "refused: tiny: {}: alone: "),
     ("unknown to the compiler", "x.min(LARGEST)", "x.least()", "error: tiny: {}: it can't be read"),
 ]
+IN_A_MODULE = [
+    ("one is large", "        1", "        9", REFUSED),
+    ("one is right beside its namesake", "        3", "        4", PROVED),
+]
 
 
-def table_of(heading, mutations):
+def table_of(heading, file, mutations):
     """A part of a table of mutations."""
     parts = [f"{sentence}\n-{old}\n+{new}\n" for sentence, old, new, _ in mutations]
-    return "".join([f"# {heading}\nfile src/lib.rt\n", *parts])
+    return "".join([f"# {heading}\nfile src/{file}\n", *parts])
 
 
 @pytest.fixture(scope="module")
@@ -85,10 +91,12 @@ def top(tmp_path_factory):
     own = top / "crates/tiny"
     texts = {top / "crates.txt": "tiny:\n", top / "HANDLES": "Handles allowed: none.\n"}
     texts[own / "src/lib.rt"] = HEAD + "".join(FUNCTIONS)
+    texts[own / "src/sizes.rt"] = MODULE + METHOD.format("One", 1) + METHOD.format("Many", 3)
     texts |= {own / f"proofs/{names[0]}/Answers.antt": ANSWER.format(*names) for names in NAMED}
     name, old, new, _ = EDIT
     texts[own / f"must-fail/{name.replace(' ', '_')}.edit"] = f"file: src/lib.rt\nold: {old}\nnew: {new}\n"
-    tables = table_of("The prover refuses, at every commit", AT_EVERY_COMMIT), table_of("The prover refuses", OTHERS)
+    tables = [table_of("The prover refuses, at every commit", "lib.rt", AT_EVERY_COMMIT)]
+    tables += table_of("The prover refuses", "lib.rt", OTHERS), table_of("The prover refuses", "sizes.rt", IN_A_MODULE)
     texts[own / "mutations"] = "\n".join(tables)
     for path, text in texts.items():
         path.parent.mkdir(parents=True, exist_ok=True)
@@ -112,21 +120,23 @@ def all_tried(top):
     return tries(top)
 
 
-@pytest.mark.parametrize("sentence, said", [(it[0], it[3]) for it in (EDIT, *AT_EVERY_COMMIT, *OTHERS)])
+@pytest.mark.parametrize("sentence, said", [(it[0], it[3]) for it in (EDIT, *AT_EVERY_COMMIT, *OTHERS, *IN_A_MODULE)])
 def test_each_is_told(all_tried, sentence, said):
     assert re.search(f"^{said.format(sentence)}", all_tried.stdout, re.M), all_tried.stdout
 
 
 def test_they_are_counted(all_tried):
     assert re.search("^tiny: 5 of 12 refused, ", all_tried.stdout, re.M)
-    assert all_tried.stdout.endswith("\n5 passed, 7 failed\n") and all_tried.returncode == 1
+    end = r"\n\d+ s of processor; left out: 0 other mutations, .*\n5 passed, 7 failed\n$"
+    assert re.search(end, all_tried.stdout) and all_tried.returncode == 1
 
 
 def test_the_gate_tries_the_first_alone_and_once(top):
     needs("rt")
     for how in r", \d+ s of processor", " by an earlier run":
         done = tries(top, "--gate")
-        assert re.search(f"^tiny: 1 of 1 refused{how}\n1 passed, 1 failed\n$", done.stdout, re.M), done.stdout
+        end = r"\n\d+ s of processor; left out: 11 other mutations, .*\n1 passed, 1 failed\n$"
+        assert re.search(f"^tiny: 1 of 1 refused{how}{end}", done.stdout, re.M), done.stdout
         assert done.stdout.startswith("error: tiny: can not be applied: ") and done.returncode == 1
 
 

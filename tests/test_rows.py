@@ -1,5 +1,6 @@
 """The gate sees wrong answers in files of rows: each program of rows answers its file as it stands, and prints the
-rows whose answers are made wrong, and no other."""
+rows whose answers are made wrong, and no other. Below such a row it prints the words of its first wrong turn, and the
+call that differs, what is wanted of it and what came."""
 import pytest
 
 from commands import OF_PROOFS, TOP, needs, ran
@@ -47,6 +48,41 @@ PLANTED = {
 }
 
 
+# Rows of five kinds with a wrong answer, the turn that is told of each, its words, and what is said of its call.
+TOLD = [
+    (
+        r"3 decode [any|lower|upper] 2 00[aB|ab|AC] = ok #00ab",
+        2,
+        "decode upper 2 00AC = ok #00ab",
+        "decode_slice of scalar: wanted #00ab, came #00ac",
+    ),
+    (
+        "516 both [lower|upper] (73i+i/7)^[0+1/2] = (73i+i/7)x^[0+2/2]",
+        9,
+        "both upper #004992db = 004992db",
+        "encode of scalar: wanted 004992db, came 004992DB",
+    ),
+    (
+        "3 array [any|lower|upper] 4 0A0bg!ff = invalid [4|1|2] [g|A|b]",
+        2,
+        "array upper 4 0A0bg!ff = invalid 2 b",
+        "hex_decode_array_with_case: wanted invalid hex byte 0x62 at index 2, came invalid hex byte 0x62 at index 3",
+    ),
+    (
+        "2 vector [any|lower] 1 0001 = 1 ok #00[01|02]",
+        1,
+        "vector lower 1 0001 = 1 ok #0002",
+        "hex_decode_vec_with_case: wanted #0002, came #0001",
+    ),
+    (
+        "3 find [any|lower|upper] 00 = none 0 [2|2|3]",
+        2,
+        "find upper 00 = none 0 3",
+        "looks of locate of scalar: wanted 3, came 2",
+    ),
+]
+
+
 @pytest.fixture(scope="module", params=PLANTED)
 def program(request):
     """The name of a program of rows, which is built."""
@@ -72,3 +108,11 @@ def test_wrong_answers_are_printed(program):
     assert [row for row in by_call.values() if f": {row}\n" not in said] == []
     assert len([line for line in said.split("\n") if line.startswith("line ")]) == len(by_call)
     assert said.split("\n")[-2] != wanted.split("\n")[-2]
+
+
+@pytest.mark.parametrize("row, turn, words, call", TOLD)
+def test_a_wrong_answer_is_told(row, turn, words, call):
+    needs("rt")
+    ran(["rt", "run"], cwd=CRATES / "test_rows", input="")
+    said = answered("test_rows", f"{row}\n").split("\n")
+    assert said[:3] == [f"line 1, turn {turn}: {row}", f"  {words}", f"  {call}"]

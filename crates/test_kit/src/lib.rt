@@ -85,12 +85,10 @@ impl Row {
         self.call.put(&mut self.first, output)?;
         output.write_all(b" = ")?;
         self.answer.put(&mut self.first, output)?;
-        let what = if self.note.text().is_empty() {
-            "answered otherwise"
-        } else {
-            self.note.text()
-        };
-        writeln!(output, "\n  {what}")
+        if self.note.text().is_empty() {
+            return writeln!(output);
+        }
+        writeln!(output, "\n  {}", self.note.text())
     }
 }
 

@@ -57,13 +57,21 @@ fn put(text: &mut Text, came: Came<'_>, from: usize) -> fmt::Result {
     }
 }
 
-/// Writes the digits of some bytes, from a place and at most so many, and how many bytes there are where these are
-/// not all.
+/// Writes some bytes from a place, at most so many, and how many there are where these are not all: as they are where
+/// all can be seen, and else their digits.
 pub fn put_bytes(text: &mut Text, bytes: &[u8], from: usize, shown: usize) -> fmt::Result {
     let rest = bytes.get(from..).unwrap_or_default();
-    text.write_str(if from > 0 { "..#" } else { "#" })?;
-    for byte in rest.get(..shown).unwrap_or(rest) {
-        write!(text, "{byte:02x}")?;
+    let part = rest.get(..shown).unwrap_or(rest);
+    if from > 0 {
+        text.write_str("..")?;
+    }
+    if !part.is_empty() && part.iter().all(u8::is_ascii_graphic) {
+        text.write_str(str::from_utf8(part).unwrap_or_default())?;
+    } else {
+        text.write_str("#")?;
+        for byte in part {
+            write!(text, "{byte:02x}")?;
+        }
     }
     if bytes.len() > shown {
         write!(text, ".. ({} bytes)", bytes.len())?;
