@@ -53,7 +53,7 @@ impl<'a> Pattern<'a> {
     }
 }
 
-/// Gives some bytes, and then a failure where a test says.
+/// Gives some bytes, and then a failure where a test says: once, so that who reads again meets the end.
 #[derive(Drop)]
 pub struct Giver<'a> {
     /// How many bytes a read gives at most.
@@ -109,7 +109,7 @@ impl Read for Giver<'_> {
         let count = buf.len().min(self.every).min(self.left());
         if self.left() == 0 {
             self.ended = self.ended.saturating_add(1);
-            if let Some(kind) = self.failure {
+            if let Some(kind) = self.failure.take() {
                 return Err(io::Error::from(kind));
             }
         }

@@ -2,8 +2,12 @@
 //! has taken at the end.
 
 use crate::taking::{Mode, Taking};
+use crate::terms::group;
+use hex_codec::Group;
 use hex_core::CheckCase;
-use hex_io::stream::{StreamFault, decode_spaced_stream, decode_stream, encode_stream};
+use hex_io::stream::{
+    StreamFault, decode_spaced_stream, decode_stream, encode_grouped_stream, encode_stream,
+};
 use hex_io::{SinkFault, WriteFault};
 use std::io::ErrorKind;
 use test_kit::fakes::{Giver, Pattern};
@@ -28,19 +32,31 @@ enum Stream {
     Decode,
     DecodeSpaced,
     Encode,
+    EncodeGrouped,
 }
 
-const STREAMS: [(&str, Stream); 3] = [
+const STREAMS: [(&str, Stream); 4] = [
     ("decode", Stream::Decode),
     ("spaced", Stream::DecodeSpaced),
     ("encode", Stream::Encode),
+    ("grouped", Stream::EncodeGrouped),
 ];
 
+// Whether no more reads were made than of 8,192 bytes each, or of all that a read gives. In groups a read
+// that gives less may end within a piece, and one more goes to the end of it.
+fn is_read_by(reader: &Giver<'_>, pieces: Option<Group>) -> bool {
+    match pieces {
+        None => reader.is_read_by(8192),
+        Some(_) => reader.is_read_by(reader.every.min(8192).div_ceil(2)),
+    }
+}
+
 /// `stream decode POLICY BYTES LENGTH EVERY HALTS END ROOM FAILURES`, or `spaced`, or `encode` and a
-/// letter case: so many bytes, which repeat these, in reads of at most so many, before each of which so
-/// many are interrupted, and then the end or a failed read; into a sink of so much capacity that has counted
-/// so many failures. The answer, and how many bytes the sink has taken, which repeat those that stand
-/// after it. No more reads are made than there are chunks.
+/// letter case, or `grouped` and behind all this the length of a piece and a separator: so many bytes,
+/// which repeat these, in reads of at most so many, before each of which so many are interrupted, and
+/// then the end or a failed read; into a sink of so much capacity that has counted so many failures. The
+/// answer, and how many bytes the sink has taken, which repeat those that stand after it. No more reads
+/// are made than a stream needs.
 pub fn stream_row(row: &mut Row) -> bool {
     let Some(stream) = row.call.one_of(&STREAMS) else {
         return false;
@@ -57,6 +73,10 @@ pub fn stream_row(row: &mut Row) -> bool {
     let fails = row.call.is_either(b"fails", b"ends");
     reader.failure = fails.then_some(ErrorKind::WouldBlock);
     let (room, failures) = (row.call.take_number(), row.call.take_growths());
+    let pieces = match stream {
+        Stream::EncodeGrouped => group(&mut row.call),
+        _ => None,
+    };
     let want = answer(&mut row.answer);
     let taken = row.answer.take_number();
     row.answer.take_bytes(&mut row.wanted);
@@ -66,15 +86,18 @@ pub fn stream_row(row: &mut Row) -> bool {
         end: &[],
     };
     let mut sink = Taking::new(Mode::ThenRefuses, text, room, failures);
+    let is_upper = case == CheckCase::Upper;
     let got = match stream {
         Stream::Decode => decode_stream(&mut reader, &mut sink, case),
         Stream::DecodeSpaced => decode_spaced_stream(&mut reader, &mut sink, case),
-        Stream::Encode => encode_stream(&mut reader, &mut sink, case == CheckCase::Upper),
+        Stream::Encode | Stream::EncodeGrouped => match pieces {
+            None => encode_stream(&mut reader, &mut sink, is_upper),
+            Some(group) => encode_grouped_stream(&mut reader, &mut sink, group, is_upper),
+        },
     };
     let is_full = matches!(got, Err(StreamFault::Write(_)));
-    // A chunk has 4,096 bytes or more.
     got == want
         && reader.ended < 2
-        && reader.is_read_by(4096)
+        && is_read_by(&reader, pieces)
         && sink.is_filled(failures.saturating_add(u64::from(is_full)))
 }
