@@ -12,7 +12,7 @@ use Rattle.hex_core.specs.declared.digit.CheckCase.{CheckCase}
 use Rattle.hex_core.specs.Digit.{strict}
 use Rattle.hex_core.specs.Laws.{EncodingInvertsStrictDecoding, SpellsOneList}
 use Rattle.hex_io.specs.declared.digests.Entry.{Entry}
-use Rattle.hex_io.specs.ListLaws.{SameEntry}
+use Rattle.hex_io.specs.ListLaws.{SameEntry, entry_parts}
 use Rattle.hex_io.specs.Lists.{LineIs, line_of, lines_of, list_of, mark, with_last_newline}
 use Rattle.hex_io.proofs.LineLemmas.{newline, next-line}
 
@@ -37,6 +37,12 @@ same-entries c [] (e ∷ entries) others one a b = absurd a
 same-entries c (line ∷ lines) [] others one a b = absurd a
 same-entries c (line ∷ lines) (e ∷ entries) [] one a b = absurd b
 same-entries c (line ∷ lines) (e ∷ entries) (f ∷ others) one a b = (same-entry c line e f one a.0 b.0, same-entries c lines entries others one a.1 b.1)
+
+pub same-parts : {N : ℕ} (entries others : List (Entry N)) → AllZip SameEntry entries others → map entry_parts entries ≡ map entry_parts others
+same-parts [] [] same = refl
+same-parts [] (f ∷ others) same = absurd same
+same-parts (e ∷ entries) [] same = absurd same
+same-parts (e ∷ entries) (f ∷ others) same = rw (same.0.digest, same.0.binary, same.0.name, same-parts entries others same.1) refl
 
 -- ---- one source
 

@@ -4,6 +4,7 @@ mod PutsLemmas
 mod RunLemmas
 mod ContinueLemmas
 mod Repeats
+mod UnspacedLemmas
 mod DecoderLemmas
 mod StreamLemmas
 mod EntryLemmas

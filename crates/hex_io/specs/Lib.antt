@@ -7,6 +7,7 @@ pub mod Sinks
 pub mod SinkLaws
 pub mod Stream
 pub mod DecoderLaws
+pub mod UnspacedLaws
 pub mod Lists
 pub mod Message
 pub mod ListCalls

@@ -1,5 +1,5 @@
 -- Facts on digest lists that the definitions imply.
-use Rattle.std.specs.Prelude.{◌≡◌, ℕ, Bool, List, length, None}
+use Rattle.std.specs.Prelude.{◌≡◌, ℕ, Bool, List, length, map, None}
 use Rattle.std.specs.List.{AllByRecursion, AllZip}
 use Rattle.hex_core.specs.declared.digit.CheckCase.{CheckCase}
 use Rattle.hex_core.specs.declared.digit.CheckCase.TheVariants as policy
@@ -40,6 +40,17 @@ ListsOneList = (N : ℕ) (c : CheckCase) (s : List ℕ) (entries others : List (
     → Lists c s entries
     → Lists c s others
     → AllZip SameEntry entries others
+
+-- the digest, mark and name of an entry
+abbrev pub entry_parts : {N : ℕ} → Entry N → List ℕ × Bool × List ℕ
+entry_parts e = (e.digest, e.binary, e.name.now)
+
+-- two such lists have the same parts, place by place
+abbrev pub ListsSameParts : Type 0
+ListsSameParts = (N : ℕ) (c : CheckCase) (s : List ℕ) (entries others : List (Entry N))
+    → Lists c s entries
+    → Lists c s others
+    → map entry_parts entries ≡ map entry_parts others
 
 -- what a strict policy reads is written as its source, with a newline after the last line
 abbrev pub WritingInvertsStrictReading : Type 0

@@ -149,6 +149,9 @@ impl From<WriteFault> for ListWriteFault {
 /// line may lack. `case` selects the letters accepted. An empty source has no entries. The names
 /// are slices of `src`.
 ///
+/// So a list of `sha256sum` is read, except for names that it escapes: its line of a name with a
+/// backslash, a newline or a CR begins with a backslash, which is no digit.
+///
 /// # Errors
 ///
 /// Lines are read in order, and the first error ends the call:

@@ -3,8 +3,9 @@
 
 ghost use Rattle.hex_io.specs.Decoder.{DecodersWereFed, WritesAsOneCall};
 ghost use Rattle.hex_io.specs.DecoderLaws.{EndsRefuseStreams, FeedsAreCounted, RoomyFeedsRefuseStreams, WritesAtMostHalf};
-ghost use Rattle.hex_io.specs.ListLaws.{FaultyListsNothing, ListsOneList, ReadNamesAreGood, ReadingInvertsWriting, WritingInvertsStrictReading};
+ghost use Rattle.hex_io.specs.ListLaws.{FaultyListsNothing, ListsOneList, ListsSameParts, ReadNamesAreGood, ReadingInvertsWriting, WritingInvertsStrictReading};
 ghost use Rattle.hex_io.specs.SinkLaws.{FrontsFail, PutsInARow, RestsFollow, StopsEarlier, StopsFail, StopsInARow, TakesInARow, TakesNothing};
+ghost use Rattle.hex_io.specs.UnspacedLaws.{TextsAreSolid, UnspacedGroupsAreTexts, UnspacedPartsJoin};
 
 use hex_core::laws::{
     a_source_is_accepted_where_it_spells_a_list, a_text_spells_one_list, decoding_inverts_encoding,
@@ -38,6 +39,15 @@ pub fn a_decoder_with_room_refuses_as_a_stream()
 pub fn a_decoder_writes_half_of_what_it_is_fed()
     ensures half { WritesAtMostHalf }
     ensures counted { FeedsAreCounted }
+{}
+
+/// White space is left out of each part of a source alone, and of a text in groups that it separates
+/// the text without groups is left. So [`decode_spaced_stream`](crate::stream::decode_spaced_stream)
+/// reads back what was written in lines.
+pub fn a_grouped_text_unspaced_is_the_text()
+    ensures text { TextsAreSolid }
+    ensures grouped { UnspacedGroupsAreTexts }
+    ensures joined { UnspacedPartsJoin }
 {}
 
 /// Consecutive puts are one put of the joined bytes, also if the last one failed; no put at all is
@@ -74,9 +84,10 @@ pub fn a_faulty_source_is_no_list()
 }
 
 /// A source lists at most one list of entries: two have the same length, and entry by entry the
-/// same digest, mark and name.
+/// same digest, mark and name, which `entry_parts` are.
 pub fn a_source_lists_one_list()
     ensures one { ListsOneList }
+    ensures parts { ListsSameParts }
 {
     a_text_spells_one_list();
 }
