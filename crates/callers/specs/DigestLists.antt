@@ -1,5 +1,5 @@
 -- The checksum file of one file.
-use Rattle.std.specs.Prelude.{◌≡◌, ◌<◌, ℕ, false, true, List, [], ◌∷◌, length, slice_get, Option, option_map, Result, Ok, Err, MatchResult}
+use Rattle.std.specs.Prelude.{◌≡◌, ◌<◌, ℕ, Bool, false, true, List, [], ◌∷◌, length, map, slice_get, Option, option_map, Result, Ok, Err, MatchResult}
 use Rattle.std.specs.Borrow.{Bor}
 use Rattle.hex_core.specs.declared.digit.CheckCase.TheVariants as policy
 use Rattle.hex_core.specs.Text.{lowercase, with_front}
@@ -8,6 +8,7 @@ use Rattle.hex_io.specs.declared.digests.ListFault.{ListFault}
 use Rattle.hex_io.specs.declared.digests.ListFault.TheVariants.{OutOfMemory}
 use Rattle.hex_io.specs.declared.digests.ListWriteFault.{ListWriteFault}
 use Rattle.hex_io.specs.declared.digests.ListWriteFault.TheVariants.{BadName, Write}
+use Rattle.hex_io.specs.ListLaws.{entry_parts}
 use Rattle.hex_io.specs.Lists.{Lists, ReadFailure, is_bad_name, list_of}
 use Rattle.callers.specs.declared.digest.Digest.{Digest}
 
@@ -23,17 +24,17 @@ WritesChecksum entry old new (Ok len) = (list : List ℕ) × (list ≡ list_of l
 WritesChecksum entry old new (Err (BadName place)) = (place ≡ 0) × (is_bad_name entry.name.now ≡ true) × (new ≡ old)
 WritesChecksum entry old new (Err (Write _)) = (is_bad_name entry.name.now ≡ false) × (length old < length (list_of lowercase (entry ∷ [])))
 
--- the digest of the first entry, if there is one
-abbrev pub digest_of : Entry 32 → Digest
-digest_of e = record { bytes = e.digest }
+-- the digest of the first entry, if there is one, by the entries' parts
+abbrev pub digest_of : List ℕ × Bool × List ℕ → Digest
+digest_of parts = record { bytes = parts.0 }
 
-abbrev pub first_digest : List (Entry 32) → Option Digest
-first_digest entries = option_map digest_of (slice_get entries 0)
+abbrev pub first_digest : List (List ℕ × Bool × List ℕ) → Option Digest
+first_digest parts = option_map digest_of (slice_get parts 0)
 
 -- a source is a list with this digest first, or an error of reading it; and if it is a list, that is its
 -- first digest, or an allocation failed
 abbrev pub ReadsChecksum : List ℕ → Result (Option Digest) ListFault → Type 0
 ReadsChecksum s result = MatchResult result
     (λ found. ((entries : List (Entry 32)) × Lists policy.None s entries)
-    × ((entries : List (Entry 32)) → Lists policy.None s entries → found ≡ first_digest entries))
+    × ((entries : List (Entry 32)) → Lists policy.None s entries → found ≡ first_digest (map entry_parts entries)))
     (λ e. ReadFailure policy.None 32 s e × ((entries : List (Entry 32)) → Lists policy.None s entries → e ≡ OutOfMemory))

@@ -1,3 +1,5 @@
+pub mod Checksums
 pub mod Chunks
 pub mod DigestLists
+pub mod PlainDumps
 pub mod Records

@@ -1,5 +1,5 @@
 -- What is returned for a record's field.
-use Rattle.std.specs.Prelude.{◌≡◌, ℕ, List, Option, None, Some, Result, Ok, Err}
+use Rattle.std.specs.Prelude.{◌≡◌, ℕ, List, MatchOption, Option, None, Some, Result, Ok, Err}
 use Rattle.serde_json.specs.Data.{Data}
 use Rattle.faster_hex.specs.declared.adapters.AdapterError.{AdapterError}
 use Rattle.faster_hex.specs.Adapters.{Reads, array_read_refusal}
@@ -8,5 +8,5 @@ use Rattle.faster_hex.specs.WireFormats.{withpfx_ignorecase}
 -- `None` if there is no field; else four bytes are read from it, or it is refused
 abbrev pub AnswersField : Option Data → Result (Option (List ℕ)) AdapterError → Type 0
 AnswersField field (Ok None) = field ≡ None
-AnswersField field (Ok (Some id)) = (d : Data) × (field ≡ Some d) × Reads withpfx_ignorecase None d id
-AnswersField field (Err e) = (d : Data) × (field ≡ Some d) × (array_read_refusal withpfx_ignorecase 4 d ≡ Some e)
+AnswersField field (Ok (Some id)) = MatchOption field ⊥ (λ d. Reads withpfx_ignorecase None d id)
+AnswersField field (Err e) = MatchOption field ⊥ (λ d. array_read_refusal withpfx_ignorecase 4 d ≡ Some e)

@@ -2,12 +2,14 @@
 #![tactic(auto)]
 
 pub mod buffers;
+pub mod checksum;
 pub mod chunks;
 pub mod digest;
 pub mod digest_lists;
 pub mod dump;
 pub mod groups;
 pub mod json;
+pub mod plain_dump;
 pub mod probes;
 pub mod spaced;
 pub mod texts;
