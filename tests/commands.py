@@ -105,8 +105,17 @@ def has_files(folder, files):
     assert {str(it.relative_to(folder)) for it in folder.rglob("*") if not it.is_dir()} == {*files}
 
 
+def needs_clone():
+    """Leaves a test out in an unpacked package."""
+    if not (TOP / ".git").exists():
+        pytest.skip("this is no clone by git")
+
+
 def own_files():
-    """The names of what the repository has of its own."""
+    """The names of what the repository has of its own, or of what an unpacked package has and no command made."""
+    if not (TOP / ".git").exists():
+        found = (it.relative_to(TOP) for it in TOP.rglob("*") if it.is_file())
+        return [f"{it}" for it in found if not {"out", "__pycache__", ".pytest_cache"} & {*it.parts}]
     said = ran(["git", "ls-files", "-co", "--exclude-standard"], cwd=TOP).stdout
     return [it for it in said.splitlines() if (TOP / it).is_file()]
 

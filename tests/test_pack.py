@@ -5,11 +5,33 @@ import shutil
 
 import pytest
 
-from commands import (ARM_CC, BY_RUST, CARGO, CC, CXX, HELLO, INSTALLED, ON_ARM, PRINTED, RUSTC, SHARED, TOP, VERSION,
-                      WINDOWS_CC, by_cmake, has_files, make, needs, only, passes, ran, runs)
+from commands import (ARM_CC, BY_RUST, BY_SYSTEM, CARGO, CC, CXX, HELLO, INSTALLED, ON_ARM, PRINTED, RUSTC, SHARED, TOP,
+                      VERSION, WINDOWS_CC, by_cmake, has_files, make, needs, needs_clone, only, passes, ran, runs)
 
 pytestmark = pytest.mark.quick
 NAME = f"faster_hex-{VERSION}"
+# A package of Debian, which `dh` builds.
+DEBIAN = {"control": """Source: digits
+Maintainer: nobody <nobody@example.org>
+Build-Depends: debhelper-compat (= 13)
+Rules-Requires-Root: no
+
+Package: digits
+Architecture: any
+Description: hexadecimal digits
+"""}
+DEBIAN |= {"changelog": """digits (1.0.0) unstable; urgency=low
+
+  * The first one.
+
+ -- nobody <nobody@example.org>  Sun, 29 Nov 2026 00:00:00 +0000
+""", "rules": """#!/usr/bin/make -f
+%:
+	{}
+
+override_dh_auto_install:
+	dh_auto_install -- PREFIX=/usr
+"""}
 # What builds, tests and installs a pack.
 TOOLS = f"""sh make {CC} {CXX} gcc clang musl-gcc {ARM_CC} qemu-aarch64 ar as ld cp ln rm mv mkdir install cat
     sed grep sort dirname ls rmdir find xargs sha256sum cut cmake pkg-config {CARGO} {RUSTC} env uname"""
@@ -40,6 +62,7 @@ def unpacked(pack, to):
 
 @pytest.fixture(scope="module")
 def pack(tmp_path_factory):
+    needs_clone()
     return packed(tmp_path_factory.mktemp("pack"), 0o022)
 
 
@@ -171,6 +194,21 @@ def test_version_that_cmake_asks_for(tmp_path, top, version):
     (tmp_path / "CMakeLists.txt").write_text(f"cmake_minimum_required(VERSION 3.16)\nproject(asks C)\n{find}")
     words = ["cmake", "-S", tmp_path, "-B", tmp_path, f"-DCMAKE_PREFIX_PATH={top.parent}/there"]
     runs(words, VERSIONS[version])
+
+
+def test_debian_package(tmp_path, pack):
+    """By the words for debhelper on the package's page: all files are in the package."""
+    needs("dh", "dpkg-deb")
+    top = unpacked(pack, tmp_path)
+    words = re.search(r"`(dh \$@ .*?)`", (top / "docs/release/README.md").read_text())[1]
+    (top / "debian").mkdir()
+    for name, text in DEBIAN.items():
+        (top / "debian" / name).write_text(text.format(words))
+    (top / "debian/rules").chmod(0o755)
+    runs(["debian/rules", "binary"], cwd=top, env={**BY_SYSTEM, "HOME": f"{tmp_path}", "DEB_BUILD_OPTIONS": "nocheck"})
+    found = {re.sub(r"\.gz$", "", str(it.relative_to(top / "debian/digits/usr")))
+             for it in (top / "debian/digits/usr").rglob("*") if not it.is_dir()}
+    assert found - {"share/doc/digits/changelog"} == {*INSTALLED}
 
 
 def test_cargo(tmp_path, top, env):

@@ -7,7 +7,7 @@ import time
 
 import pytest
 
-from commands import BY_SYSTEM, SHARED, TOP, VERSION, is_locked, make, only, ran, runs
+from commands import BY_SYSTEM, SHARED, TOP, VERSION, is_locked, make, needs_clone, only, ran, runs
 
 pytestmark = pytest.mark.quick
 # How often a build says each of the user's words.
@@ -135,6 +135,7 @@ def test_what_is_wrong_with_generated(copy, tmp_path):
 
 def test_clone_that_changes_line_ends(tmp_path):
     """As Git for Windows makes it by default."""
+    needs_clone()
     runs(["git", "clone", "-q", "-c", "core.autocrlf=true", TOP, tmp_path / "clone"])
     assert "w/crlf" not in ran(["git", "ls-files", "--eol"], cwd=tmp_path / "clone").stdout
     runs(make("help", top=tmp_path / "clone"), env=BY_SYSTEM)
