@@ -1,9 +1,9 @@
 #!/bin/sh
 # Proves a crate and those below it, lowest first, and builds of it, a static library or a program, the assembly
 # crates/NAME/out/assembly/BUILD.s of each build, as clang writes it: `scripts/generate` makes of it what is
-# committed. Of another library it builds nothing. What the last run proved is not proved again where its files, and those of the crates below, are
-# the same. What is said of each crate goes to build.log beside what is made, of which the end is printed
-# where something fails.
+# committed. Of another library it builds nothing. What the last run proved is not proved again where its files,
+# and those of the crates below, are the same. What is said of each crate goes to build.log beside what is made, of
+# which the end is printed where something fails.
 # Usage: scripts/build.sh NAME
 #
 # It calls `rattle` and not `rt`, which has no word for this: a library is built as its statements, so

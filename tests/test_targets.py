@@ -15,6 +15,15 @@ WORDS = {"CC": 7, "CFLAGS": 7, "CPPFLAGS": 6, "LDFLAGS": 3, "AR": 1}
 # Words by which all is built anew, and how a build by them ends.
 OTHERS = {"CFLAGS=-O1 -g": 0, "CPPFLAGS=-DX='a  $$b'": 0, "LDFLAGS=-Wl,-O1": 0, "CC=gcc": 0, "UNPROVED=yes": 0}
 OTHERS |= {"CC=nonexistent": 2}
+# A file, what stands there, what comes in its place, and what tests/header.sh says of it.
+DIFFERENCES = [
+    ("generated/PROVED", r"^sources \w", "sources z", "generated/PROVED is of other sources"),
+    ("generated/fhex/PROVED", "^prover .*", "prover another", "does not name the prover another"),
+    ("generated/rattle/PROVED", r"^callers .*\n", "", "generated/rattle/PROVED tells of"),
+    ("crates/callers/src/lib.rt", r"\Z", "\n", "generated/rattle/PROVED is of other sources"),
+    ("generated/x86-64.s", r"\A", "\n", "x86-64.s: FAILED"),
+    ("crates/faster_hex_c/dispatch.c", r"^CALL\(bool, check, .*\n", "", "faster_hex_check"),
+]
 # What `make test` takes where neither Rattle nor pytest is.
 TOOLS = """sh make cc as ld ar mv mkdir rm cp cat grep sed sort find xargs sha256sum cut dirname uname nproc"""
 # What compilers say that they build for, and whether the libraries are plain C, and whether there is fhex.
@@ -92,6 +101,15 @@ def test_words_of_the_user(copy):
     assert {it: said.count(f" -D{it}_IS") for it in WORDS} == WORDS
     runs(make("lib", "LDFLAGS=-Wl,-z,norelro,-z,lazy", top=copy), env=BY_SYSTEM)
     is_locked(copy / "out" / SHARED[2])
+
+
+@pytest.mark.parametrize("name, old, new, told", DIFFERENCES)
+def test_header(copy, name, old, new, told):
+    """tests/header.sh tells each difference."""
+    text = (copy / name).read_text()
+    (copy / name).write_text(re.sub(old, new, text, 1, re.M))
+    done = ran([copy / "tests/header.sh"])
+    assert (copy / name).read_text() != text and done.returncode == 1 and told in done.stdout, done.stdout
 
 
 @pytest.mark.parametrize("system", SYSTEMS)
