@@ -31,6 +31,7 @@
 #include "x86-64.s"
 #include "x86-64-v2.s"
 #include "x86-64-v3.s"
+#include "x86-64-v4.s"
 #else
 #include "aarch64.s"
 #endif

@@ -28,11 +28,13 @@ kind=statements
 [ ! -f "crates/$target/src/main.rt" ] || kind=program
 
 # The builds: a name, the architecture and its processor, and the number that `level` of faster_hex_c returns
-# there, by which all calls take their plan. A program is built for each architecture once.
+# there, by which all calls take their plan. A program is built for each architecture once. `rattle` takes no
+# processor with AVX-512: level 4 is proved for the processor of level 3, and clang alone is given its own.
 builds() {
     [ $kind = program ] || echo x86-64 x86_64 x86-64 1
     echo x86-64-v2 x86_64 x86-64-v2 2
     [ $kind = program ] || echo x86-64-v3 x86_64 x86-64-v3 3
+    [ $kind = program ] || echo x86-64-v4 x86_64 x86-64-v3 4
     echo aarch64 aarch64 generic 2
 }
 
@@ -87,12 +89,15 @@ prove() {
 
 # edits: what awk edits in LLVM's text. A library has its level in place of the call of `level`, so that the
 # other plans vanish, and clang marks where an indirect branch may come out. Where it moves no instruction, on
-# x86-64, a debugger can walk out of each function. Of a program the toolchain's `main` becomes private, and
-# vanishes; the proved one, which it calls, is exported.
+# x86-64, a debugger can walk out of each function. At level 4 the calls that do more than test and decode become
+# private, and vanish: there clang makes slower code of them. Of a program so does the toolchain's `main`; the
+# proved one, which it calls, is exported.
 edits() {
     if [ $kind = library ]; then
         cat <<'END'
 { edits += gsub(/call i8 @"faster_hex_c::level"\(\)/, "add i8 0, " level) }
+level == 4 { sub(/"target-cpu"="x86-64-v3"/, "\"target-cpu\"=\"x86-64-v4\"") }
+level == 4 && /^define .*@faster_hex_(encode|decode_grouped|first_invalid)/ { sub(/^define /, "define internal ") }
 /^target triple = "x86_64/ { unwinds = 1 }
 /^attributes / && unwinds { sub(/ nounwind /, " nounwind uwtable ") }
 END {

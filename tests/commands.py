@@ -41,7 +41,7 @@ INSTALLED += [f"share/faster_hex/rust/{it.relative_to(TOP)}" for it in OF_RUST]
 STRICT = ["-Wall", "-Wextra", "-Wpedantic", "-Wconversion", "-Werror", f"-I{CRATE}"]
 BUILT = "-std=gnu99 -O1 -g -pthread".split()
 # The builds for x86-64, each with a flag of the processors that run it.
-BUILDS = {"x86-64": "sse2", "x86-64-v2": "sse4_2", "x86-64-v3": "avx2"}
+BUILDS = {"x86-64": "sse2", "x86-64-v2": "sse4_2", "x86-64-v3": "avx2", "x86-64-v4": "avx512bw"}
 # Models of processors of qemu, and the build that a call takes there.
 MODELS = {"qemu64": "x86_64", "Nehalem": "x86_64_v2", "Haswell": "x86_64_v3"}
 MODELS |= dict.fromkeys(("Haswell,-avx2", "Haswell,-avx", "Haswell,-xsave"), "x86_64_v2")
@@ -150,11 +150,15 @@ def shared_of(made, folder):
 
 
 def alone(made, build):
-    """What links one build alone: a file that gives its calls the names of the header."""
+    """What links one build alone: a file that gives its calls the names of the header. Those that the build for
+    AVX-512 leaves out are of the one for AVX2."""
     if not re.search(rf"\b{BUILDS[build]}\b", Path("/proc/cpuinfo").read_text()):
         pytest.skip(f"the processor has no {BUILDS[build]}")
-    prefix, names = f"hex_{VERSION}_{build}_".replace(".", "_").replace("-", "_"), made / f"names-{build}"
-    names.write_text("\n".join(f"-Wl,--defsym={it}={it.replace('hex_', prefix)}" for it in CALLS))
+    named = lambda it, build: it.replace("hex_", f"hex_{VERSION}_{build}_").replace(".", "_").replace("-", "_")
+    exported = re.findall(r"^\thex_export\t(\w+)", (TOP / f"generated/{build}.s").read_text(), re.M)
+    own, names = {it: named(it, build) for it in CALLS}, made / f"names-{build}"
+    taken = {it: name if name in exported else named(it, "x86-64-v3") for it, name in own.items()}
+    names.write_text("\n".join(f"-Wl,--defsym={it}={name}" for it, name in taken.items()))
     return f"@{names}"
 
 

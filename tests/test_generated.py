@@ -8,7 +8,8 @@ from commands import OF_PROOFS, TOP, runs
 GENERATED = TOP / "generated"
 # Words of each build's assembly: some that stand there, and some that don't.
 SPEAKS = {"x86-64": ("%rax", "pshufb|%ymm|%zmm"), "x86-64-v2": ("\tpshufb", "%ymm|%zmm")}
-SPEAKS |= {"x86-64-v3": ("\tvpshufb\t.*%ymm", "%zmm"), "aarch64": (r"\ttbl\t", "%")}
+SPEAKS |= {"x86-64-v3": ("\tvpshufb\t.*%ymm", "%zmm"), "x86-64-v4": ("\tvptestm.*%zmm", "_encode|_grouped")}
+SPEAKS |= {"aarch64": (r"\ttbl\t", "%")}
 # Functions that are called in some builds though they are marked to be inlined, and why.
 CALLED = {"codec_pieces_write_by": "it has the code for all lengths twice, and a call is small beside its loop"}
 CRATES = "hex_core", "hex_codec"

@@ -1,6 +1,6 @@
 /* The calls of faster_hex.h over the builds in generated/, which are compiled from proved code. For x86-64
- * there are three, and each call takes the widest that the processor and the system run; for aarch64 there
- * is one. Where assembly.h has none, the calls are those of portable.h. No proof sees this file.
+ * there are four, and each call takes the widest that has it and that the processor and the system run; for
+ * aarch64 there is one. Where assembly.h has none, the calls are those of portable.h. No proof sees this file.
  *
  * The level is written once, by a constructor. A call before that, as from another constructor, takes the
  * first build, which runs on any of these processors. Branches in place of pointers let a linker drop the
@@ -38,7 +38,7 @@ static bool has(unsigned word, unsigned bits) {
     return (word & bits) == bits;
 }
 
-/* The level of x86-64 that a processor and its system have: 3, 2, or 0 for the first. */
+/* The level of x86-64 that a processor and its system have: 4, 3, 2, or 0 for the first. */
 static unsigned char level_of(struct processor it) {
     unsigned basic = it.highest >= 1 ? it.basic : 0, wide = it.highest >= 7 ? it.wide : 0;
     unsigned extended = it.highest_extended >= 0x80000001 ? it.extended : 0;
@@ -46,7 +46,9 @@ static unsigned char level_of(struct processor it) {
     if (!has(extended, bit_LAHF_LM)) return 0;
     if (!has(basic, bit_FMA | bit_MOVBE | bit_OSXSAVE | bit_AVX | bit_F16C)) return 2;
     if (!has(wide, bit_AVX2 | bit_BMI | bit_BMI2) || !has(extended, bit_LZCNT)) return 2;
-    return has(it.saved, 6) ? 3 : 2; /* the registers of SSE and AVX */
+    if (!has(it.saved, 0x06)) return 2; /* the registers of SSE and AVX */
+    if (!has(wide, bit_AVX512F | bit_AVX512DQ | bit_AVX512CD | bit_AVX512BW | bit_AVX512VL)) return 3;
+    return has(it.saved, 0xe0) ? 4 : 3; /* those of AVX-512 */
 }
 
 static struct processor processor(void) {
@@ -67,27 +69,32 @@ __attribute__((constructor)) static void raise_level(void) {
     level = level_of(processor());
 }
 
-#define CHOSEN(answer, call, parameters, arguments)                                \
-    BUILD answer OF(x86_64, call) parameters;                                      \
-    BUILD answer OF(x86_64_v2, call) parameters;                                   \
-    BUILD answer OF(x86_64_v3, call) parameters;                                   \
-    static answer chosen_##call parameters {                                       \
-        unsigned char known = atomic_load_explicit(&level, memory_order_relaxed);  \
-        if (__builtin_expect(known == 3, 1)) return OF(x86_64_v3, call) arguments; \
-        if (known == 2) return OF(x86_64_v2, call) arguments;                      \
-        return OF(x86_64, call) arguments;                                         \
+/* Level 3 is asked for first, so that a processor without AVX-512 takes no step for it; calls whose widest build is
+ * that one ask once. */
+#define CHOSEN(answer, call, parameters, arguments, widest)                               \
+    BUILD answer OF(x86_64, call) parameters;                                             \
+    BUILD answer OF(x86_64_v2, call) parameters;                                          \
+    BUILD answer OF(x86_64_v3, call) parameters;                                          \
+    BUILD answer OF(x86_64_v##widest, call) parameters;                                   \
+    static answer chosen_##call parameters {                                              \
+        unsigned char known = atomic_load_explicit(&level, memory_order_relaxed);         \
+        bool is_3 = widest == 3 ? known >= 3 : known == 3;                                \
+        if (__builtin_expect(is_3, 1)) return OF(x86_64_v3, call) arguments;              \
+        if (__builtin_expect(known == 4, 1)) return OF(x86_64_v##widest, call) arguments; \
+        if (known == 2) return OF(x86_64_v2, call) arguments;                             \
+        return OF(x86_64, call) arguments;                                                \
     }
 #elif defined FASTER_HEX_AARCH64
-#define CHOSEN(answer, call, parameters, arguments) \
-    BUILD answer OF(aarch64, call) parameters;      \
-    static answer chosen_##call parameters {        \
-        return OF(aarch64, call) arguments;         \
+#define CHOSEN(answer, call, parameters, arguments, widest) \
+    BUILD answer OF(aarch64, call) parameters;              \
+    static answer chosen_##call parameters {                \
+        return OF(aarch64, call) arguments;                 \
     }
 #else
 #include "portable.h"
-#define CHOSEN(answer, call, parameters, arguments) \
-    static answer chosen_##call parameters {        \
-        return portable_##call arguments;           \
+#define CHOSEN(answer, call, parameters, arguments, widest) \
+    static answer chosen_##call parameters {                \
+        return portable_##call arguments;                   \
     }
 #endif
 
@@ -127,26 +134,27 @@ static bool seen_bool(bool it, const void *src, size_t len, void *dst) {
 #define seen_bool(it, src, len, dst) it
 #endif
 
-#define CALL(answer, call, parameters, arguments, dst)                  \
-    CHOSEN(answer, call, parameters, arguments)                         \
+/* Each call with the level of the widest build that has it. */
+#define CALL(answer, call, parameters, arguments, dst, widest)          \
+    CHOSEN(answer, call, parameters, arguments, widest)                 \
     answer faster_hex_##call parameters {                               \
         return seen_##answer(chosen_##call arguments, src, len, dst);   \
     }
 
-CALL(bool, check, (const void *src, size_t len), (src, len), NULL)
-CALL(bool, check_with_case, (const void *src, size_t len, uint8_t policy), (src, len, policy), NULL)
-CALL(answer, first_invalid, (const void *src, size_t len, uint8_t policy), (src, len, policy), NULL)
+CALL(bool, check, (const void *src, size_t len), (src, len), NULL, 4)
+CALL(bool, check_with_case, (const void *src, size_t len, uint8_t policy), (src, len, policy), NULL, 4)
+CALL(answer, first_invalid, (const void *src, size_t len, uint8_t policy), (src, len, policy), NULL, 3)
 CALL(answer, encode, (const void *src, size_t len, void *dst, size_t room, bool upper),
-     (src, len, dst, room, upper), dst)
-CALL(answer, decode, (const void *src, size_t len, void *dst, size_t room), (src, len, dst, room), dst)
+     (src, len, dst, room, upper), dst, 3)
+CALL(answer, decode, (const void *src, size_t len, void *dst, size_t room), (src, len, dst, room), dst, 4)
 CALL(answer, decode_with_case, (const void *src, size_t len, void *dst, size_t room, uint8_t policy),
-     (src, len, dst, room, policy), dst)
+     (src, len, dst, room, policy), dst, 4)
 CALL(answer, encode_grouped,
      (const void *src, size_t len, void *dst, size_t room, bool upper, size_t every, uint8_t sep),
-     (src, len, dst, room, upper, every, sep), dst)
+     (src, len, dst, room, upper, every, sep), dst, 3)
 CALL(answer, decode_grouped,
      (const void *src, size_t len, void *dst, size_t room, uint8_t policy, size_t every, uint8_t sep),
-     (src, len, dst, room, policy, every, sep), dst)
+     (src, len, dst, room, policy, every, sep), dst, 3)
 
 const char *faster_hex_version(void) {
 #ifdef FASTER_HEX_UNPROVED

@@ -1,7 +1,7 @@
 /* Converts bytes to hex digits and back. Link libfaster_hex.so or libfaster_hex.a, which `make install`
  * puts beside this header: cc prog.c $(pkg-config --cflags --libs faster_hex)
  *
- * The library for x86-64 runs on every x86-64 processor, and uses AVX2 or SSE4.2 if there is one. For processors
+ * The library for x86-64 runs on every x86-64 processor, and uses AVX-512, AVX2 or SSE4.2 if it can. For processors
  * other than x86-64 and aarch64 it is plain C, which is tested and not proved.
  *
  * For every call, unless it says otherwise:

@@ -20,7 +20,7 @@ macro_rules! assemble {
         #[cfg(target_arch = "aarch64")]
         assemble!(raw: $macros "aarch64.s");
         #[cfg(target_arch = "x86_64")]
-        assemble!(att_syntax, raw: $macros "x86-64.s" "x86-64-v2.s" "x86-64-v3.s");
+        assemble!(att_syntax, raw: $macros "x86-64.s" "x86-64-v2.s" "x86-64-v3.s" "x86-64-v4.s");
     };
     ($($option:ident),*: $($file:literal)*) => {
         global_asm!(
@@ -41,7 +41,7 @@ assemble!("elf.inc");
 // Only the library that holds the assembly finds its names, which are hidden. So a call, which is inlined into crates
 // that may be linked with a `dylib` of this one, takes the address of its build from a static.
 macro_rules! calls {
-    ($($call:ident($($word:ident: $kind:ty),*) -> $answer:ty;)*) => { $(
+    ($($call:ident($($word:ident: $kind:ty),*) -> $answer:ty, $widest:literal;)*) => { $(
         #[cfg(target_arch = "aarch64")]
         #[inline]
         pub unsafe fn $call($($word: $kind),*) -> $answer {
@@ -63,6 +63,8 @@ macro_rules! calls {
                 fn v2($($word: $kind),*) -> $answer;
                 #[link_name = concat!("faster_hex_1_0_0_x86_64_v3_", stringify!($call))]
                 fn v3($($word: $kind),*) -> $answer;
+                #[link_name = concat!("faster_hex_1_0_0_x86_64_", $widest, "_", stringify!($call))]
+                fn widest($($word: $kind),*) -> $answer;
             }
             type Build = unsafe extern "sysv64" fn($($kind),*) -> $answer;
             // A `Build`: the one for the processor, once a call has asked for its level.
@@ -72,6 +74,7 @@ macro_rules! calls {
             #[inline(never)]
             unsafe extern "sysv64" fn first($($word: $kind),*) -> $answer {
                 let build: Build = match level::find() {
+                    4 => widest,
                     3 => v3,
                     2 => v2,
                     _ => v1,
@@ -85,11 +88,12 @@ macro_rules! calls {
     )* };
 }
 
+// Each with the widest build that has it.
 calls! {
-    check(src: *const u8, len: usize) -> bool;
-    check_lower(src: *const u8, len: usize) -> bool;
-    check_upper(src: *const u8, len: usize) -> bool;
-    encode(src: *const u8, len: usize, dst: *mut u8, room: usize, upper: bool) -> Answer;
-    decode(src: *const u8, len: usize, dst: *mut u8, room: usize) -> Answer;
-    decode_with_case(src: *const u8, len: usize, dst: *mut u8, room: usize, policy: u8) -> Answer;
+    check(src: *const u8, len: usize) -> bool, "v4";
+    check_lower(src: *const u8, len: usize) -> bool, "v4";
+    check_upper(src: *const u8, len: usize) -> bool, "v4";
+    encode(src: *const u8, len: usize, dst: *mut u8, room: usize, upper: bool) -> Answer, "v3";
+    decode(src: *const u8, len: usize, dst: *mut u8, room: usize) -> Answer, "v4";
+    decode_with_case(src: *const u8, len: usize, dst: *mut u8, room: usize, policy: u8) -> Answer, "v4";
 }

@@ -3,7 +3,7 @@
 use core::arch::x86_64::{__cpuid, __cpuid_count, _xgetbv};
 use core::sync::atomic::{AtomicU8, Ordering::Relaxed};
 
-/// 1, 2 or 3, or 0 until a call has asked the processor.
+/// 1 to 4, or 0 until a call has asked the processor.
 static LEVEL: AtomicU8 = AtomicU8::new(0);
 
 /// The level.
@@ -71,7 +71,9 @@ fn level_of(it: &Processor) -> u8 {
         && has(wide, &[3, 5, 8])
         && has(extended, &[5])
         && has(it.saved, &[1, 2]);
-    2 + u8::from(is_3)
+    // AVX512F, AVX512DQ, AVX512CD, AVX512BW and AVX512VL; their registers.
+    let is_4 = is_3 && has(wide, &[16, 17, 28, 30, 31]) && has(it.saved, &[5, 6, 7]);
+    2 + u8::from(is_3) + u8::from(is_4)
 }
 
 #[cfg(test)]
@@ -96,13 +98,15 @@ mod tests {
     #[test]
     fn each_missing_bit_gives_the_next_lower_level() {
         type Word = fn(&mut Processor) -> &mut u32;
-        let wanted: [(Word, &[u32], u8); 6] = [
+        let wanted: [(Word, &[u32], u8); 8] = [
             (|it| &mut it.basic, &[0, 9, 13, 19, 20, 23], 1),
             (|it| &mut it.extended, &[0], 1),
             (|it| &mut it.basic, &[12, 22, 27, 28, 29], 2),
             (|it| &mut it.wide, &[3, 5, 8], 2),
             (|it| &mut it.extended, &[5], 2),
             (|it| &mut it.saved, &[1, 2], 2),
+            (|it| &mut it.wide, &[16, 17, 28, 30, 31], 3),
+            (|it| &mut it.saved, &[5, 6, 7], 3),
         ];
         let mut least = ALL;
         (least.basic, least.wide, least.extended, least.saved) = (0, 0, 0, 0);
@@ -112,7 +116,7 @@ mod tests {
                 *word(&mut least) |= 1 << bit;
             }
         }
-        assert_eq!((level_of(&ALL), level_of(&least)), (3, 3));
+        assert_eq!((level_of(&ALL), level_of(&least)), (4, 4));
     }
 
     #[test]
@@ -124,9 +128,10 @@ mod tests {
     }
 
     #[test]
-    fn an_old_system_saves_the_registers_of_sse_alone() {
-        assert_eq!(level(|it| it.saved = 0b011), 2);
-        assert_eq!(level(|it| it.saved = 0b111), 3);
+    fn an_old_system_saves_fewer_registers() {
+        assert_eq!(level(|it| it.saved = 0b0000_0011), 2);
+        assert_eq!(level(|it| it.saved = 0b0000_0111), 3);
+        assert_eq!(level(|it| it.saved = 0b1110_0111), 4);
         assert_eq!(level(|it| (it.basic, it.saved) = (!(1 << 27), 0)), 2);
     }
 }

@@ -81,9 +81,9 @@
 //!
 //! # Platforms
 //!
-//! The README beside it names them. On x86-64 the first call asks the processor which of three builds runs:
-//! for x86-64, x86-64-v2 or x86-64-v3, which uses AVX2. On aarch64 there is one, with NEON. Which build runs
-//! changes the speed alone. Elsewhere, as on riscv64, wasm32, bare metal and under Miri, the calls are plain,
+//! The README beside it names them. On x86-64 the first call asks the processor which of four builds runs:
+//! for x86-64, x86-64-v2, x86-64-v3, which uses AVX2, or x86-64-v4, which checks and decodes with AVX-512. On
+//! aarch64 there is one, with NEON. Which build runs changes the speed alone. Elsewhere, as on riscv64, wasm32, bare metal and under Miri, the calls are plain,
 //! safe Rust: that is not proved, but tested beside the builds. Rust 1.81 or later. Several versions of the
 //! crate, and the library for C, may stand in one program.
 //!

@@ -129,13 +129,14 @@ fn level() -> u8 {
 }
 
 // The plan of all calls. Few programs call the build without byte shuffles, so it takes the plan with
-// the least code. `wide` is for vectors of 32 bytes.
+// the least code.
 #[inline(always)]
 fn plan() -> Backend {
     let [scalar, ..] = backends();
     match level() {
         1 => scalar,
-        3 => Backend::wide(),
+        3 => Backend::plain_for(32),
+        4 => Backend::plain_for(64),
         _ => Backend::plain(),
     }
 }

@@ -1,7 +1,8 @@
 -- Neighbouring lanes: words of two, packed nibbles, and two vectors taken in turn.
 use Rattle.std.proofs.Common.{◌≡◌, ℕ, zero, suc, ◌+◌, ◌*◌, ◌/◌, ◌%◌, ◌<◌, List, [], ◌∷◌, ◌++◌, map, length, length-drop, get_or, take, drop, drop-cons, refl, sym, ap, ap₂, ◌∙◌, arith}
-use Rattle.std.proofs.lemmas.List.{drop_all, drop_at, get_or_append_left, get_or-append_right, length-take-le, take-append-drop, take_all, take_at}
-use lib.Lanes.{chunk, number_l, digits_l, pick_l}
+use Rattle.std.proofs.lemmas.List.{drop_all, drop_at, get_or_append_left, get_or-append_right, length-map, length-take-le, take-append-drop, take_all, take_at}
+use Rattle.std.proofs.lemmas.Simd.{map-map}
+use lib.Lanes.{Each1, chunk, number_l, digits_l, pick_l}
 use Rattle.hex_core.specs.inside.Arithmetic.{interleaved, packed, pair_byte}
 use Rattle.hex_core.specs.Lanes.{ArePacked, AreSmall}
 
@@ -19,6 +20,53 @@ packs_words (suc n) (a ∷ b ∷ v) e small =
     let B : b < 16 = small 1 (omega arith) in
     ap₂ (λ x r. x ∷ r) (ap pair_byte (omega arith) ∙ one_pair a b A B)
     (ap (λ k. map pair_byte (digits_l 65536 n k)) (omega arith) ∙ packs_words n v (omega arith) (λ i h. small (suc (suc i)) (omega arith)))
+
+-- every second lane
+abbrev pub seconds : List ℕ → List ℕ
+seconds [] = []
+seconds (x ∷ []) = []
+seconds (x ∷ y ∷ v) = y ∷ seconds v
+
+seconds_joined : (xs ys : List ℕ) → length xs % 2 ≡ 0 → seconds (xs ++ ys) ≡ seconds xs ++ seconds ys
+seconds_joined [] ys even = refl
+seconds_joined (x ∷ []) ys even = absurd (omega arith)
+seconds_joined (x ∷ y ∷ xs) ys even = ap (λ r. y ∷ r) (seconds_joined xs ys (omega arith))
+
+-- the places of every second lane, from lane i on
+abbrev pub second_places : ℕ → ℕ → List ℕ
+second_places i zero = []
+second_places i (suc m) = suc i ∷ second_places (suc (suc i)) m
+
+pick_seconds : (v : List ℕ) (i m : ℕ) → i + 2 * m ≡ length v → pick_l 0 v (second_places i m) ≡ seconds (drop i v)
+pick_seconds v i zero e = sym (ap seconds (drop_all i v (omega arith)))
+pick_seconds v i (suc m) e =
+    ap (λ r. get_or v (suc i) 0 ∷ r) (pick_seconds v (suc (suc i)) m (omega arith))
+    ∙ sym (ap seconds (drop-cons v i 0 (omega arith) ∙ ap (λ l. get_or v i 0 ∷ l) (drop-cons v (suc i) 0 (omega arith))))
+
+abbrev pub product : ℕ → ℕ
+product w = w * 4097 % 65536
+
+-- the high bytes of the products of words of nibbles
+high_bytes : (m n : ℕ) (v : List ℕ) → m ≡ 2 * n → length v ≡ m → AreSmall v → seconds (digits_l 256 m (number_l 65536 (map product (digits_l 65536 n (number_l 256 v))))) ≡ packed v
+high_bytes zero n [] twice long small = refl
+high_bytes (suc m) n [] twice long small = absurd (omega arith)
+high_bytes m n (a ∷ []) twice long small = absurd (omega arith)
+high_bytes zero n (a ∷ b ∷ v) twice long small = absurd (omega arith)
+high_bytes (suc zero) n (a ∷ b ∷ v) twice long small = absurd (omega arith)
+high_bytes (suc (suc m)) zero (a ∷ b ∷ v) twice long small = absurd (omega arith)
+high_bytes (suc (suc m)) (suc n) (a ∷ b ∷ v) twice long small =
+    let A : a < 16 = small 0 (omega arith) in let B : b < 16 = small 1 (omega arith) in let k = number_l 256 v in let all = a + 256 * (b + 256 * k) in
+    let rest : ℕ → ℕ = λ t. number_l 65536 (map product (digits_l 65536 n t)) in let p = product (all % 65536) + 65536 * rest (all / 65536) in
+    let next : all / 65536 ≡ k = omega arith in let past : p / 256 / 256 ≡ rest (all / 65536) = omega arith in
+    ap₂ (λ x r. x ∷ r) (omega arith) (ap (λ t. seconds (digits_l 256 m t)) (past ∙ ap rest next) ∙ high_bytes m n v (omega arith) (omega arith) (λ i h. small (suc (suc i)) (omega arith)))
+
+-- the bytes of two vectors of nibbles, picked from the products of their words
+pub packs_both : (a b p q : List ℕ) → length a ≡ 64 → length b ≡ 64 → AreSmall a → AreSmall b → p ≡ map product (digits_l 65536 32 (number_l 256 a)) → q ≡ map product (digits_l 65536 32 (number_l 256 b))
+    → pick_l 0 (digits_l 256 64 (number_l 65536 p) ++ digits_l 256 64 (number_l 65536 q)) (second_places 0 64) ≡ packed a ++ packed b
+packs_both a b p q long wide A B first second =
+    let front = digits_l 256 64 (number_l 65536 p) in let back = digits_l 256 64 (number_l 65536 q) in
+    pick_seconds (front ++ back) 0 64 refl ∙ seconds_joined front back refl
+    ∙ ap₂ (λ x y. x ++ y) (ap (λ l. seconds (digits_l 256 64 (number_l 65536 l))) first ∙ high_bytes 64 32 a refl long A) (ap (λ l. seconds (digits_l 256 64 (number_l 65536 l))) second ∙ high_bytes 64 32 b refl wide B)
 
 pub length-packed : (v : List ℕ) → length (packed v) ≡ length v / 2
 length-packed [] = refl

@@ -3,7 +3,7 @@ use Rattle.std.specs.Prelude.{◌≡◌, ℕ, ◌*◌, ◌/◌, List, [], ◌∷
 use Rattle.hex_core.specs.declared.digit.CheckCase.{CheckCase}
 use Rattle.hex_core.specs.declared.backend.Backend.{Backend}
 use Rattle.hex_core.specs.declared.backend.Kind.{Kind}
-use Rattle.hex_core.specs.declared.backend.Kind.TheVariants.{Scalar, Sse41, Avx2, Avx512, Neon, Plain, Wide}
+use Rattle.hex_core.specs.declared.backend.Kind.TheVariants.{Scalar, Sse41, Avx2, Avx512, Neon, Plain}
 use Rattle.hex_core.specs.Search.{first_invalid}
 use Rattle.hex_core.specs.Text.{Spells, with_front}
 
@@ -14,8 +14,7 @@ kind_name Sse41 = codes "sse41"
 kind_name Avx2 = codes "avx2"
 kind_name Avx512 = codes "avx512"
 kind_name Neon = codes "neon"
-kind_name Plain = codes "plain"
-kind_name Wide = codes "wide"
+kind_name (Plain width) = codes "plain"
 
 -- the bytes of a plan's name
 abbrev pub name_of : Backend → List ℕ
@@ -30,8 +29,7 @@ plan_names =
 -- tested; 0 if nothing is stored before all digits are
 abbrev pub owned_block : List ℕ → ℕ
 owned_block name =
-    if bytes_eq name (codes "avx512") then 128
-    else if bytes_eq name (codes "plain") || bytes_eq name (codes "wide") then 128
+    if bytes_eq name (codes "avx512") || bytes_eq name (codes "plain") then 128
     else if bytes_eq name (codes "avx2") || bytes_eq name (codes "neon") then 64
     else 0
 

@@ -23,8 +23,8 @@ pub enum Kind {
     Avx2,
     Avx512,
     Neon,
-    Plain,
-    Wide,
+    /// With the bytes in a vector of the build that takes it.
+    Plain(u8),
 }
 
 /// A plan: one implementation of check, encode and decode.
@@ -63,25 +63,26 @@ impl Backend {
     pub fn plain() -> Backend
         ensures name { name_of result ≡ codes "plain" }
     {
-        Backend(Kind::Plain)
+        Backend::plain_for(16)
     }
 
-    /// Returns a plan that differs from [`Backend::plain`] only in how it encodes more than 64
-    /// bytes: faster in a build for vectors of 32 bytes, slower in others. Its name is `wide`.
+    /// Returns [`Backend::plain`] for a build whose vectors have `width` bytes. It takes other steps
+    /// from 32 on to encode more than 64 bytes, and from 64 on to check and decode 129 to 256:
+    /// faster in such a build, slower in others.
     ///
     /// ```rust
-    /// let mut digits = [0; 256];
-    /// Backend::wide().encode(&[0xab; 128], &mut digits, true);
-    /// assert!(rt; digits.chunks(2).all(|pair| pair == b"AB".as_slice()));
+    /// let mut bytes = [0; 256];
+    /// assert!(rt; Backend::plain_for(64).decode(&[b'a'; 512], &mut bytes, CheckCase::None));
+    /// assert_eq!(rt; bytes, [0xaa; 256]);
     /// ```
     #[inline(always)]
-    pub fn wide() -> Backend
-        ensures name { name_of result ≡ codes "wide" }
+    pub fn plain_for(width: u8) -> Backend
+        ensures name { name_of result ≡ codes "plain" }
     {
-        Backend(Kind::Wide)
+        Backend(Kind::Plain(width))
     }
 
-    /// Returns the plan's name: `scalar`, `sse41`, `avx2`, `avx512`, `neon`, `plain` or `wide`.
+    /// Returns the plan's name: `scalar`, `sse41`, `avx2`, `avx512`, `neon` or `plain`.
     ///
     /// ```rust
     /// let [_, _, avx2, ..] = backends();
@@ -96,8 +97,7 @@ impl Backend {
             Kind::Avx2 => "avx2",
             Kind::Avx512 => "avx512",
             Kind::Neon => "neon",
-            Kind::Plain => "plain",
-            Kind::Wide => "wide",
+            Kind::Plain(_) => "plain",
         }
     }
 
@@ -112,7 +112,7 @@ impl Backend {
         ensures valid { IsTrue result ↔ (first_invalid case src.now ≡ None) }
     {
         match (self.0, src.len()) {
-            (Kind::Plain | Kind::Wide, _) => check_by_length(src, case),
+            (Kind::Plain(width), _) => check_by_length(src, case, width),
             (Kind::Scalar, _) | (_, 0..16) => check_by_table(src, case),
             (Kind::Sse41 | Kind::Neon, _) | (_, 16..32) => check_lanes::<Saturating, 16>(src, case),
             (Kind::Avx2, _) | (_, 32..64) => check_lanes::<Hashed, 32>(src, case),
@@ -135,9 +135,7 @@ impl Backend {
         ensures text { dst.new ≡ text upper src.now }
     {
         match self.0 {
-            Kind::Plain | Kind::Wide => {
-                encode_by_length(src, dst, upper, matches!(self.0, Kind::Wide))
-            }
+            Kind::Plain(width) => encode_by_length(src, dst, upper, width),
             _ => self.encode_named(src, dst, upper),
         }
     }
@@ -176,7 +174,7 @@ impl Backend {
         ensures answer { DecodesWhole case src.now dst.old dst.new result }
     {
         match self.0 {
-            Kind::Plain | Kind::Wide => decode_by_length(src, dst, case),
+            Kind::Plain(width) => decode_by_length(src, dst, case, width),
             _ => self.decode_named(src, dst, case),
         }
     }
@@ -201,8 +199,8 @@ impl Backend {
     ///
     /// Then `avx2` and `neon` have written exactly the bytes of the whole blocks of 64 digits
     /// before the one with the first invalid byte, or of all whole blocks if that byte comes after
-    /// them; `avx512`, `plain` and `wide` those of blocks of 128 digits; `scalar` and `sse41`
-    /// nothing. The bytes after them are unchanged.
+    /// them; `avx512` and `plain` those of blocks of 128 digits; `scalar` and `sse41` nothing. The
+    /// bytes after them are unchanged.
     ///
     /// Requires `src` to be exactly twice as long as `dst`, in bytes.
     ///
@@ -228,7 +226,7 @@ impl Backend {
             Kind::Avx2 => Backend(Kind::Avx2).decode_each_block::<32>(src, dst, case),
             Kind::Neon => Backend(Kind::Neon).decode_each_block::<32>(src, dst, case),
             Kind::Avx512 => Backend(Kind::Avx512).decode_each_block::<64>(src, dst, case),
-            _ => Backend(Kind::Plain).decode_each_block::<64>(src, dst, case),
+            _ => Backend::plain().decode_each_block::<64>(src, dst, case),
         }
     }
 

@@ -2,10 +2,10 @@
 //! block overlaps the one before. The check here takes blocks of 64 bytes. Decoding and encoding
 //! take any number of lanes and any map.
 
-ghost use Rattle.std.specs.Prelude.{◌≡◌, ◌↔◌, ◌+◌, ◌*◌, ◌<◌, ◌≤◌, IsTrue, None, length};
+ghost use Rattle.std.specs.Prelude.{◌≡◌, ◌↔◌, ◌+◌, ◌*◌, ◌/◌, ◌<◌, ◌≤◌, IsTrue, None, length};
 ghost use Rattle.std.specs.Simd.Lanes.{chunk, put_chunk};
 ghost use Rattle.hex_core.specs.inside.Arithmetic.{AreLow, packed};
-ghost use Rattle.hex_core.specs.inside.Blocks.{DecodesRange, Halves, HasBlock, HasRoom, NibblesFrom};
+ghost use Rattle.hex_core.specs.inside.Blocks.{DecodesRange, EndsCover, Halves, HasBlock, HasRoom, NibblesFrom};
 ghost use Rattle.hex_core.specs.Calls.{DecodesWhole};
 ghost use Rattle.hex_core.specs.Lanes.{AreSmall};
 ghost use Rattle.hex_core.specs.Search.{AllValid, first_invalid};
@@ -14,8 +14,8 @@ ghost use Rattle.hex_core.specs.Text.{Spells, text};
 use crate::digit::CheckCase;
 use crate::digit_lanes::{Encode, Nibbles, Tests, Valid, reach};
 use crate::lane_probe::check_lanes;
-use crate::vector::{is_low, larger};
-use crate::widths::{Lanes, Pack};
+use crate::vector::{has_no_sign, is_low, larger, saturating_add};
+use crate::widths::{Lanes, Pack, PackTwo};
 use std::simd::prelude::*;
 
 // Bytes in a block, and blocks in one test: with more blocks, an invalid byte is found later.
@@ -37,23 +37,54 @@ fn reach_of(src: &[u8], at: usize, count: usize, case: CheckCase) -> u8x64
     farthest
 }
 
-/// Returns whether `src`, a block or more, is valid. Tests run after run, and then the remaining
-/// whole blocks and the last block at once.
+// Whether every lane is below 6: 6 becomes 128. Narrow vectors are tested faster by their signs.
 #[inline(always)]
-pub fn check_runs(src: &[u8], case: CheckCase) -> bool
+fn are_low(v: u8x64, wide: bool) -> bool
+    ensures { IsTrue result ↔ AreLow v }
+{
+    if wide {
+        is_low(v)
+    } else {
+        has_no_sign(saturating_add(v, 122))
+    }
+}
+
+/// Returns whether `src`, a block or more, is valid. Tests run after run, and then the remaining
+/// whole blocks and the last block at once. If `wide` is true, it is for vectors of 64 bytes.
+#[inline(always)]
+pub fn check_runs(src: &[u8], case: CheckCase, wide: bool) -> bool
     requires { 64 ≤ length src.now }
     ensures { IsTrue result ↔ (first_invalid case src.now ≡ None) }
 {
     let last = src.len() - CHECK_BLOCK;
     let runs = last / (CHECK_RUN * CHECK_BLOCK);
     'turns: for i in 0..runs {
-        if !is_low(reach_of(src, i * (CHECK_RUN * CHECK_BLOCK), CHECK_RUN, case)) {
+        let run = reach_of(src, i * (CHECK_RUN * CHECK_BLOCK), CHECK_RUN, case);
+        if !are_low(run, wide) {
             return false;
         }
     }
     let done = runs * (CHECK_RUN * CHECK_BLOCK);
     let front = reach_of(src, done, (last - done).div_ceil(CHECK_BLOCK), case);
-    is_low(larger(front, reach(u8x64::from_slice(&src[last..]), case)))
+    let rest = larger(front, reach(u8x64::from_slice(&src[last..]), case));
+    are_low(rest, wide)
+}
+
+/// Returns whether `src`, 256 to 512 bytes, is valid. It has one branch for the length, where
+/// [`check_runs`] has one for each block.
+#[inline(always)]
+pub fn check_eight(src: &[u8], case: CheckCase) -> bool
+    requires covered { EndsCover 256 src.now }
+    ensures { IsTrue result ↔ (first_invalid case src.now ≡ None) }
+{
+    let len = src.len();
+    let mut front = reach_of(src, 0, 4, case);
+    let last = reach_of(src, len - 2 * CHECK_BLOCK, 2, case);
+    // Of at most six blocks the last two reach the fourth.
+    if len > 6 * CHECK_BLOCK {
+        front = larger(front, reach_of(src, len - 4 * CHECK_BLOCK, 2, case));
+    }
+    is_low(larger(front, last))
 }
 
 // The values of `N` valid digits from index `at`.
@@ -146,16 +177,65 @@ where
     valid
 }
 
-/// Decodes a block of 64 digits or more. Tests all of them before the first store.
+// Decodes 128 valid digits into `dst` from index `at`.
 #[inline(always)]
-pub fn decode_long(src: &[u8], dst: &mut [u8], case: CheckCase) -> bool
-    requires block { 64 ≤ length src.now }
+fn write_pair(src: &[u8], dst: &mut [u8], at: usize, case: CheckCase)
+    requires room { HasRoom at 64 src.now dst.old }
+    requires valid { first_invalid case src.now ≡ None }
+    ensures { DecodesRange case src.now dst.old dst.new at (at + 64) }
+{
+    let front = values_at::<Valid, 64>(src, 2 * at, case);
+    let back = values_at::<Valid, 64>(src, 2 * at + 64, case);
+    Lanes::pack_two(front, back, dst, at, case);
+}
+
+// Decodes valid digits into the front of `dst`, 256 in each turn, and returns the number of bytes.
+#[inline(always)]
+fn write_quads(src: &[u8], dst: &mut [u8], case: CheckCase) -> usize
+    requires twice { length src.now ≡ 2 * length dst.old }
+    requires valid { first_invalid case src.now ≡ None }
+    ensures whole { result ≡ length dst.old / 128 * 128 }
+    ensures bytes { DecodesRange case src.now dst.old dst.new 0 result }
+{
+    let turns = dst.len() / 128;
+    'turns: for i in 0..turns {
+        write_pair(src, dst, i * 128, case);
+        write_pair(src, dst, i * 128 + 64, case);
+    }
+    turns * 128
+}
+
+// Decodes 128 valid digits or more over all of `dst`, 256 in each turn if `wide` is true.
+#[inline(always)]
+fn write_pairs(src: &[u8], dst: &mut [u8], case: CheckCase, wide: bool)
+    requires twice { length src.now ≡ 2 * length dst.old }
+    requires least { 128 ≤ length src.now }
+    requires valid { first_invalid case src.now ≡ None }
+    ensures { Spells case src.now dst.new }
+{
+    let done = if wide { write_quads(src, dst, case) } else { 0 };
+    'turns: for i in done / 64..dst.len() / 64 {
+        write_pair(src, dst, i * 64, case);
+    }
+    let len = dst.len();
+    if len % 64 > 32 {
+        write_pair(src, dst, len - 64, case);
+    } else if len % 64 != 0 {
+        write_at::<Valid, 64, 32>(src, dst, len - 32, case);
+    }
+}
+
+/// Decodes 128 digits or more, if `wide` is true for vectors of 64 bytes. Tests all of them before
+/// the first store.
+#[inline(always)]
+pub fn decode_long(src: &[u8], dst: &mut [u8], case: CheckCase, wide: bool) -> bool
+    requires least { 128 ≤ length src.now }
     requires twice { length src.now ≡ 2 * length dst.old }
     ensures { DecodesWhole case src.now dst.old dst.new result }
 {
-    let valid = check_runs(src, case);
+    let valid = check_runs(src, case, wide);
     if valid {
-        write_blocks::<Valid, 64, 32>(src, dst, case);
+        write_pairs(src, dst, case, wide);
     }
     valid
 }

@@ -9,15 +9,16 @@ ghost use Rattle.hex_core.specs.Text.{text};
 
 use crate::digit::CheckCase;
 use crate::digit_lanes::{Halved, Interleaved};
-use crate::kernel::{check_runs, decode_long, encode_at, encode_blocks};
+use crate::kernel::{check_eight, check_runs, decode_long, encode_at, encode_blocks};
 use crate::registers::{
-    check_four, check_two, decode_ends, decode_four, decode_three, decode_two, encode_four,
-    encode_two,
+    check_four, check_two, decode_eight, decode_ends, decode_four, decode_six, decode_three,
+    decode_two, encode_four, encode_two,
 };
 
-/// Returns whether every byte of `src` is valid under `case`.
+/// Returns whether every byte of `src` is valid under `case`, in a build whose vectors have `width`
+/// bytes.
 #[inline(always)]
-pub fn check_by_length(src: &[u8], case: CheckCase) -> bool
+pub fn check_by_length(src: &[u8], case: CheckCase, width: u8) -> bool
     ensures { IsTrue result ↔ (first_invalid case src.now ≡ None) }
 {
     match src.len() {
@@ -26,6 +27,7 @@ pub fn check_by_length(src: &[u8], case: CheckCase) -> bool
         33..=64 => check_two::<32>(src, case),
         65..=128 => check_four::<32>(src, case),
         129..=256 => check_four::<64>(src, case),
+        _ if width >= 64 => check_held(src, case),
         _ => check_long(src, case),
     }
 }
@@ -36,7 +38,19 @@ fn check_long(src: &[u8], case: CheckCase) -> bool
     requires { 256 < length src.now }
     ensures { IsTrue result ↔ (first_invalid case src.now ≡ None) }
 {
-    check_runs(src, case)
+    check_runs(src, case, false)
+}
+
+// The same in a build with vectors of 64 bytes.
+#[inline(never)]
+fn check_held(src: &[u8], case: CheckCase) -> bool
+    requires { 256 < length src.now }
+    ensures { IsTrue result ↔ (first_invalid case src.now ≡ None) }
+{
+    match src.len() {
+        0..=512 => check_eight(src, case),
+        _ => check_runs(src, case, true),
+    }
 }
 
 // The same for fewer than 16 bytes.
@@ -57,10 +71,11 @@ fn check_short(src: &[u8], case: CheckCase) -> bool
 /// The most digits that [`decode_by_length`] decodes without a call.
 pub const MOST_INLINE: usize = 192;
 
-/// Decodes `src` over all of `dst`, or returns false and writes nothing. Up to 192 digits are
-/// decoded inline, so that a length known to the caller needs no choice at run time.
+/// Decodes `src` over all of `dst`, or returns false and writes nothing, in a build whose vectors
+/// have `width` bytes. Up to 192 digits are decoded inline, so that a length known to the caller
+/// needs no choice at run time.
 #[inline(always)]
-pub fn decode_by_length(src: &[u8], dst: &mut [u8], case: CheckCase) -> bool
+pub fn decode_by_length(src: &[u8], dst: &mut [u8], case: CheckCase, width: u8) -> bool
     requires { length src.now ≡ 2 * length dst.old }
     ensures { DecodesWhole case src.now dst.old dst.new result }
 {
@@ -70,6 +85,7 @@ pub fn decode_by_length(src: &[u8], dst: &mut [u8], case: CheckCase) -> bool
         33..=64 => decode_ends::<32, 64, 16>(src, dst, case),
         65..=128 => decode_two::<64, 32>(src, dst, case),
         129..=192 => decode_three::<64, 32>(src, dst, case),
+        _ if width >= 64 => decode_held(src, dst, case),
         _ => decode_apart(src, dst, case),
     }
 }
@@ -99,13 +115,28 @@ fn decode_apart(src: &[u8], dst: &mut [u8], case: CheckCase) -> bool
 {
     match src.len() {
         0..=256 => decode_four::<64, 32>(src, dst, case),
-        _ => decode_long(src, dst, case),
+        _ => decode_long(src, dst, case, false),
     }
 }
 
-/// Encodes `src` over all of `dst`. If `wide` is true, long sources are encoded by [`Halved`].
+// The same in a build with vectors of 64 bytes: up to 512 digits are held in them.
+#[inline(never)]
+fn decode_held(src: &[u8], dst: &mut [u8], case: CheckCase) -> bool
+    requires twice { length src.now ≡ 2 * length dst.old }
+    requires more { MOST_INLINE < length src.now }
+    ensures { DecodesWhole case src.now dst.old dst.new result }
+{
+    match src.len() {
+        ..=256 => decode_four::<64, 32>(src, dst, case),
+        257..=384 => decode_six(src, dst, case),
+        385..=512 => decode_eight(src, dst, case),
+        _ => decode_long(src, dst, case, true),
+    }
+}
+
+/// Encodes `src` over all of `dst`, in a build whose vectors have `width` bytes.
 #[inline(always)]
-pub fn encode_by_length(src: &[u8], dst: &mut [u8], upper: bool, wide: bool)
+pub fn encode_by_length(src: &[u8], dst: &mut [u8], upper: bool, width: u8)
     requires { length dst.old ≡ 2 * length src.now }
     ensures { dst.new ≡ text upper src.now }
 {
@@ -117,9 +148,9 @@ pub fn encode_by_length(src: &[u8], dst: &mut [u8], upper: bool, wide: bool)
             _ => encode_two::<Interleaved, 16, 32>(src, dst, upper),
         },
         33..=64 => encode_two::<Interleaved, 32, 64>(src, dst, upper),
-        65..=128 if wide => encode_four::<Halved, 32, 64>(src, dst, upper),
+        65..=128 if width >= 32 => encode_four::<Halved, 32, 64>(src, dst, upper),
         65..=128 => encode_four::<Interleaved, 32, 64>(src, dst, upper),
-        _ if wide => encode_blocks::<Halved, 32, 64>(src, dst, upper),
+        _ if width >= 32 => encode_blocks::<Halved, 32, 64>(src, dst, upper),
         _ => encode_blocks::<Interleaved, 32, 64>(src, dst, upper),
     }
 }

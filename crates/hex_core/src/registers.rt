@@ -8,13 +8,13 @@ ghost use Rattle.std.specs.Prelude.{◌≡◌, ◌↔◌, ◌+◌, ◌-◌, ◌*
 ghost use Rattle.hex_core.specs.Calls.{DecodesWhole};
 ghost use Rattle.hex_core.specs.Search.{first_invalid};
 ghost use Rattle.hex_core.specs.Text.{text};
-ghost use Rattle.hex_core.specs.inside.Blocks.{EndsCover, Halves, NibblesFrom};
+ghost use Rattle.hex_core.specs.inside.Blocks.{DecodesAt, EndsCover, Halves, HasRoom, NibblesFrom};
 
 use crate::digit::CheckCase;
 use crate::digit_lanes::{Encode, reach, saturated};
 use crate::kernel::{encode_at, pack_at};
 use crate::vector::{either, is_low, is_small, larger};
-use crate::widths::{Lanes, Pack};
+use crate::widths::{Lanes, Pack, PackTwo};
 use std::simd::prelude::*;
 
 /// Returns whether `src`, `N` to `2 * N` bytes, is valid.
@@ -148,7 +148,7 @@ pub fn decode_four<const N: usize, const HALF: usize>(
     case: CheckCase,
 ) -> bool
 where
-    Lanes: Pack<N, HALF>,
+    Lanes: PackTwo<N, HALF>,
     requires sizes { Halves N HALF src.now dst.old }
     requires covered { EndsCover (2 * N) src.now }
     ensures { DecodesWhole case src.now dst.old dst.new result }
@@ -162,10 +162,65 @@ where
         return false;
     }
     let end = dst.len();
-    pack_at(first, dst, 0);
-    pack_at(second, dst, HALF);
-    pack_at(third, dst, end - N);
-    pack_at(last, dst, end - HALF);
+    Lanes::pack_two(first, second, dst, 0, case);
+    Lanes::pack_two(third, last, dst, end - N, case);
+    true
+}
+
+// Decodes 256 digits to index `at`.
+#[inline(always)]
+fn decode_part(src: &[u8], dst: &mut [u8], at: usize, case: CheckCase) -> bool
+    requires room { HasRoom at 128 src.now dst.old }
+    ensures { DecodesAt case src.now dst.old dst.new at 128 result }
+{
+    let end = at + 128;
+    decode_four::<64, 32>(&src[2 * at..2 * end], &mut dst[at..end], case)
+}
+
+/// Decodes 256 to 384 digits: holds the last 128 while [`decode_four`] decodes the first 256. Tests
+/// all of them before the first store.
+#[inline(always)]
+pub fn decode_six(src: &[u8], dst: &mut [u8], case: CheckCase) -> bool
+    requires twice { length src.now ≡ 2 * length dst.old }
+    requires least { 256 ≤ length src.now }
+    requires most { length src.now ≤ 384 }
+    ensures { DecodesWhole case src.now dst.old dst.new result }
+{
+    let len = src.len();
+    let end = dst.len();
+    let fifth = nibbles_at::<64>(src, len - 128, case);
+    let last = nibbles_at::<64>(src, len - 64, case);
+    if !is_small(either(fifth, last)) {
+        return false;
+    }
+    if !decode_part(src, dst, 0, case) {
+        return false;
+    }
+    Lanes::pack_two(fifth, last, dst, end - 64, case);
+    true
+}
+
+/// Decodes 256 to 512 digits likewise, and holds the last 256.
+#[inline(always)]
+pub fn decode_eight(src: &[u8], dst: &mut [u8], case: CheckCase) -> bool
+    requires twice { length src.now ≡ 2 * length dst.old }
+    requires covered { EndsCover 256 src.now }
+    ensures { DecodesWhole case src.now dst.old dst.new result }
+{
+    let len = src.len();
+    let end = dst.len();
+    let fifth = nibbles_at::<64>(src, len - 256, case);
+    let sixth = nibbles_at::<64>(src, len - 192, case);
+    let seventh = nibbles_at::<64>(src, len - 128, case);
+    let last = nibbles_at::<64>(src, len - 64, case);
+    if !is_small(either(either(fifth, sixth), either(seventh, last))) {
+        return false;
+    }
+    if !decode_part(src, dst, 0, case) {
+        return false;
+    }
+    Lanes::pack_two(fifth, sixth, dst, end - 128, case);
+    Lanes::pack_two(seventh, last, dst, end - 64, case);
     true
 }
 

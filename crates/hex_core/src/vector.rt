@@ -1,11 +1,12 @@
 //! Operations on vectors: each function does one on all lanes, whatever their number.
 
-ghost use Rattle.std.specs.Prelude.{◌≡◌, ◌↔◌, ◌-◌, ◌/◌, ◌^◌, ◌≤◌, ◌<◌, ◌==◌, IsTrue, max, min, map, bit_and, bit_or, bit_xor};
+ghost use Rattle.std.specs.Prelude.{◌≡◌, ◌↔◌, ◌-◌, ◌/◌, ◌^◌, ◌≤◌, ◌<◌, ◌==◌, ◌*◌, ◌%◌, ◌++◌, IsTrue, max, min, map, bit_and, bit_or, bit_xor};
 ghost use Rattle.std.specs.Simd.Lanes.{Each1, mask_l, zip2};
-ghost use Rattle.hex_core.specs.inside.Arithmetic.{AreLow, AreUnsigned, AreZero, interleaved, pair_byte, saturating_add, wrapping_sub};
+ghost use Rattle.hex_core.specs.inside.Arithmetic.{AreLow, AreUnsigned, AreZero, interleaved, packed, pair_byte, saturating_add, wrapping_sub};
 ghost use Rattle.hex_core.specs.inside.Hash.{average};
 ghost use Rattle.hex_core.specs.Lanes.{AreSmall};
 
+use crate::digit::CheckCase;
 use std::simd::prelude::*;
 
 /// Subtracts `by`, modulo 256.
@@ -116,11 +117,9 @@ pub fn has_no_sign<const N: usize>(v: Simd<u8, N>) -> bool
 /// Whether every lane is below 6.
 #[inline(always)]
 pub fn is_low<const N: usize>(v: Simd<u8, N>) -> bool
-    requires { N ≤ 64 }
     ensures { IsTrue result ↔ AreLow v.entry }
 {
-    // 6 becomes 128.
-    has_no_sign(saturating_add(v, 122))
+    is_zero(saturating_sub(v, 5))
 }
 
 /// Whether every lane is below 16.
@@ -134,12 +133,53 @@ pub fn is_small<const N: usize>(v: Simd<u8, N>) -> bool
 // Multiplying by it puts the byte of two nibbles into the high half of their word.
 const FACTOR: u16 = 4097;
 
+// The same number for each policy, and another one behind them: the compiler multiplies by what it
+// reads here, but by a number that it knows it shifts and adds, which takes longer in long decoding.
+static FACTORS: [u16; 4] = [FACTOR, FACTOR, FACTOR, 0];
+
+#[inline(always)]
+fn factor(case: CheckCase) -> u16
+    ensures { result ≡ 4097 }
+{
+    FACTORS[case as u8 as usize]
+}
+
 /// The byte of each word of two nibbles, whose low byte is the high nibble.
 #[inline(always)]
 pub fn pair_bytes<const N: usize>(v: Simd<u16, N>) -> Simd<u8, N>
     ensures { result ≡ map pair_byte v.entry }
 {
     ((v * Simd::splat(FACTOR)) >> Simd::splat(8)).cast::<u8>()
+}
+
+/// Each word of two nibbles times 4097, modulo 65536: its high byte is the byte of both.
+#[tactic(auto, using(std::proofs::lemmas::Simd::zip2_splat))]
+#[inline(always)]
+pub fn products<const N: usize>(v: Simd<u16, N>, case: CheckCase) -> Simd<u16, N>
+    ensures { result ≡ map (λ w. w * 4097 % 65536) v.entry }
+{
+    v * Simd::splat(factor(case))
+}
+
+/// The bytes of two vectors of nibbles, one behind the other. Taken from both products at once they
+/// cost AVX-512 three moves of lanes, and four from one after the other.
+#[inline(always)]
+pub fn pack_both(front: u8x64, back: u8x64, case: CheckCase) -> u8x64
+    requires front { AreSmall front }
+    requires back { AreSmall back }
+    ensures { result ≡ packed front ++ packed back }
+{
+    let front = products(u16x32::from_le_bytes(front), case).to_le_bytes();
+    let back = products(u16x32::from_le_bytes(back), case).to_le_bytes();
+    front.shuffle(
+        back,
+        [
+            1, 3, 5, 7, 9, 11, 13, 15, 17, 19, 21, 23, 25, 27, 29, 31, 33, 35, 37, 39, 41, 43, 45,
+            47, 49, 51, 53, 55, 57, 59, 61, 63, 65, 67, 69, 71, 73, 75, 77, 79, 81, 83, 85, 87, 89,
+            91, 93, 95, 97, 99, 101, 103, 105, 107, 109, 111, 113, 115, 117, 119, 121, 123, 125,
+            127,
+        ],
+    )
 }
 
 /// Both nibbles of each lane, the high one first. AVX2 interleaves within both halves of a vector:

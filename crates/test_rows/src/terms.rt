@@ -14,15 +14,16 @@ const GUARD: usize = 64;
 // The longest destination, with what stands beside it.
 const WHOLE: usize = 8_600;
 
-/// How many plans there are: those that are listed, and after them the two that are not.
-pub const PLANS: usize = 7;
+/// How many plans there are: those that are listed, and after them `plain` for each width.
+pub const PLANS: usize = 8;
 
 /// Returns the plan of this number.
 pub fn plan(number: usize) -> Backend {
     match backends().get(number) {
         Some(plan) => *plan,
         None if number == 5 => Backend::plain(),
-        None => Backend::wide(),
+        None if number == 6 => Backend::plain_for(32),
+        None => Backend::plain_for(64),
     }
 }
 

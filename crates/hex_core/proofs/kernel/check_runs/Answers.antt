@@ -3,10 +3,10 @@ use std.Logic.{↔_trans}
 use Rattle.hex_core.proofs.BlockLemmas.{behind_valid, part_fails, parts_tested, valid_chunk}
 use Rattle.hex_core.proofs.kernel.check_runs.Goals as goal
 
-pub returns-then-not-is_low : goal.returns-then-not-is_low
-returns-then-not-is_low c =
+pub returns-then-not-are_low : goal.returns-then-not-are_low
+returns-then-not-are_low c =
     let at = c.turns.i * 512 in
-    part_fails c.args.case c.args.src.now at (at + 512) (omega arith) (↔_trans c.is_low.ensures c.reach_of.ensures) c.if-not-is_low.true
+    part_fails c.args.case c.args.src.now at (at + 512) (omega arith) (↔_trans c.are_low.ensures c.reach_of-run.ensures) c.if-not-are_low.true
 
 pub returns : goal.returns
 returns c =
@@ -15,4 +15,4 @@ returns c =
     let middle = done + c.div_ceil.result * 64 in
     let front = ↔_trans c.reach_of-front.ensures (behind_valid case s done middle (omega arith) (rw all at c.turns.invariant)) in
     let back = ↔_trans c.reach.ensures.low (valid_chunk case s last 64 (length s) (omega arith) (omega arith)) in
-    parts_tested case s middle last (length s) c.is_low-2.ensures c.larger.ensures.low front back refl (omega arith) (omega arith)
+    parts_tested case s middle last (length s) c.are_low-2.ensures c.larger-rest.ensures.low front back refl (omega arith) (omega arith)

@@ -1,4 +1,4 @@
-use Rattle.std.proofs.Common.{◌-◌, length, refl, ◌∙◌, arith}
+use Rattle.std.proofs.Common.{◌+◌, ◌-◌, length, refl, arith}
 use Rattle.std.proofs.lemmas.Bool.{iff_false}
 use Rattle.hex_core.specs.inside.Blocks.{DecodesRange}
 use Rattle.hex_core.proofs.BlockLemmas.{decodes_over, decodes_whole, pair_decodes, pairs_tested}
@@ -16,9 +16,9 @@ returns g c =
     let first = c.nibbles_at-first.ensures in let second = c.nibbles_at-second.ensures in let third = c.nibbles_at-third.ensures in let last = c.nibbles_at-last.ensures in
     let test = pairs_tested c.is_small.ensures c.either-3.ensures.small c.either.ensures.small c.either-2.ensures.small first second third last (omega arith) (omega arith) (omega arith) in
     let small = c.either-3.ensures.small.0 (c.is_small.ensures.0 c.if-not-is_small.false) in
-    let mid = c.pack_at-2.new.dst in
+    let mid = c.pack_two.new.dst in
     let front : DecodesRange case s old mid 0 n =
-    pair_decodes w w first second (c.either.ensures.small.0 small.0) (c.pack_at-2.ensures ∙ rw c.pack_at.ensures refl) (omega arith) (omega arith) (omega arith) (omega arith) (omega arith) (omega arith) (omega arith) in
-    let back : DecodesRange case s mid c.pack_at-4.new.dst (end - n) end =
-    pair_decodes (end - w) w third last (c.either-2.ensures.small.0 small.1) (c.pack_at-4.ensures ∙ rw c.pack_at-3.ensures refl) (omega arith) (omega arith) (omega arith) (omega arith) (omega arith) (omega arith) (omega arith) in
+    pair_decodes (0 + w) w first second (c.either.ensures.small.0 small.0) c.pack_two.ensures (omega arith) (omega arith) (omega arith) (omega arith) (omega arith) (omega arith) (omega arith) in
+    let back : DecodesRange case s mid c.pack_two-2.new.dst (end - n) end =
+    pair_decodes (end - n + w) w third last (c.either-2.ensures.small.0 small.1) c.pack_two-2.ensures (omega arith) (omega arith) (omega arith) (omega arith) (omega arith) (omega arith) (omega arith) in
     (test.0 c.if-not-is_small.false, decodes_whole (decodes_over front back (omega arith) (omega arith) (omega arith)) (omega arith) (omega arith))
