@@ -167,7 +167,7 @@ pub fn hex_decode_vec(src: &[u8]) -> Result<Vec<u8>, Error> {
 /// # Ok::<(), faster_hex::Error>(())
 /// ```
 #[cfg(feature = "alloc")]
-#[inline]
+#[inline(always)]
 pub fn hex_decode_vec_with_case(src: &[u8], check_case: CheckCase) -> Result<Vec<u8>, Error> {
     if src.len() % 2 == 1 {
         return Err(Error::OddLength);

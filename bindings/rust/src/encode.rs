@@ -115,8 +115,9 @@ pub fn hex_append_upper<'a>(src: &[u8], dst: &'a mut String) -> &'a mut str {
     append(src, dst, true)
 }
 
+// As a call it would return a string by memory, from where it is slow to load: 20 ns for 12.
 #[cfg(feature = "alloc")]
-#[inline]
+#[inline(always)]
 fn new_string(src: &[u8], upper: bool) -> String {
     let len = src.len().checked_mul(2).expect(OVERFLOW);
     let mut bytes = Vec::with_capacity(len);

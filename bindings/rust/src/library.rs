@@ -46,14 +46,29 @@ pub fn decode<'a>(
 /// Returns the bytes that `src` spells, of which there are `N`.
 #[inline]
 pub fn decode_array<const N: usize>(src: &[u8], case: CheckCase) -> Result<[u8; N], Error> {
-    if src.len() % 2 == 0 && src.len() / 2 != N {
-        return Err(Error::LengthMismatch {
+    let error = if src.len() == 2 * N {
+        let mut bytes = [MaybeUninit::uninit(); N];
+        match calls::decode(src, &mut bytes, case) {
+            // SAFETY: a call that succeeds has written a byte for two digits, so all of them.
+            Ok(_) => return Ok(unsafe { bytes.as_ptr().cast::<[u8; N]>().read() }),
+            Err(error) => error,
+        }
+    } else if src.len() % 2 == 1 {
+        Error::OddLength
+    } else {
+        Error::LengthMismatch {
             expected: N,
             actual: src.len() / 2,
-        });
-    }
-    let mut bytes = [MaybeUninit::uninit(); N];
-    calls::decode(src, &mut bytes, case)?;
-    // SAFETY: a call that succeeds has written a byte for two digits, so all of them.
-    Ok(unsafe { bytes.as_ptr().cast::<[u8; N]>().read() })
+        }
+    };
+    refused(error)
+}
+
+/// Returns an error in place of an array.
+// Since this is a call, rustc keeps the result of `decode_array` whole in memory. It would else copy an array by
+// the parts that an error has, of which some load what two stores wrote: 11 ns for 7.
+#[cold]
+#[inline(never)]
+fn refused<const N: usize>(error: Error) -> Result<[u8; N], Error> {
+    Err(error)
 }
