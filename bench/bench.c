@@ -31,45 +31,54 @@ struct task {
     size_t room;
 };
 
-// A build's calls: plain ones, and in groups of 1 and 16 bytes. That for AVX-512 tests and decodes; with such a
-// processor the build for AVX2 encodes.
+// A build's calls: plain ones, and in groups of 1 and 16 bytes.
 #define OF(build, call) faster_hex_1_0_0_x86_64_##build##_##call
 #define GROUPED(build, n) \
     CALL(WRITE, build##_write_##n, OF(build, encode_grouped)(src, len, dst, room, false, n, ':').number) \
     CALL(READ, build##_read_##n, OF(build, decode_grouped)(src, len, dst, room, 0, n, ':').number)
-#define PLAIN(build, encoding) \
+#define DECODING(build) \
     CALL(CHECK, build##_check, OF(build, check)(src, len)) \
-    CALL(ENCODE, build##_encode, OF(encoding, encode)(src, len, dst, room, false).number) \
     CALL(DECODE, build##_decode, OF(build, decode)(src, len, dst, room).number)
-#define OURS(build) PLAIN(build, build) GROUPED(build, 1) GROUPED(build, 16)
+#define OURS(build) \
+    DECODING(build) \
+    CALL(ENCODE, build##_encode, OF(build, encode)(src, len, dst, room, false).number) \
+    GROUPED(build, 1) GROUPED(build, 16)
 // The Rust crate's calls, of a kernel or on slices, and the loops of loops.c.
-#define RUST(side) \
+#define RUST_DECODING(side) \
     CALL(CHECK, side##_check, rust_##side##_check(src, len, dst, room)) \
-    CALL(ENCODE, side##_encode, rust_##side##_encode(src, len, dst, room)) \
     CALL(DECODE, side##_decode, rust_##side##_decode(src, len, dst, room))
+#define RUST(side) \
+    RUST_DECODING(side) \
+    CALL(ENCODE, side##_encode, rust_##side##_encode(src, len, dst, room))
 #define LOOPS(n) \
     CALL(WRITE, loop_write_##n, write_by_##n(src, len, dst)) \
     CALL(READ, loop_read_##n, read_by_##n(src, len, dst))
+// The build for AVX-512 has no other calls, and the Rust crate no other code for it.
+#ifdef WIDEST
+#define EACH_WIDEST DECODING(v4) RUST_DECODING(avx512) RUST_DECODING(slices_v4)
+#else
+#define EACH_WIDEST
+#endif
 #define EACH \
-    OURS(v2) OURS(v3) PLAIN(v4, v3) RUST(sse41) RUST(avx2) RUST(avx512) \
-    RUST(slices_v2) RUST(slices_v3) RUST(slices_v4) LOOPS(1) LOOPS(16)
+    OURS(v2) OURS(v3) RUST(sse41) RUST(avx2) RUST(slices_v2) RUST(slices_v3) EACH_WIDEST LOOPS(1) LOOPS(16)
 
+#define DECLARED_DECODING(build) \
+    __typeof__(faster_hex_check) OF(build, check); \
+    __typeof__(faster_hex_decode) OF(build, decode);
 #define DECLARED(build) \
+    DECLARED_DECODING(build) \
     __typeof__(faster_hex_encode) OF(build, encode); \
     __typeof__(faster_hex_encode_grouped) OF(build, encode_grouped); \
     __typeof__(faster_hex_decode_grouped) OF(build, decode_grouped);
-#define TESTED(build) \
-    __typeof__(faster_hex_check) OF(build, check); \
-    __typeof__(faster_hex_decode) OF(build, decode);
-TESTED(v2) TESTED(v3) TESTED(v4)
-DECLARED(v2) DECLARED(v3)
+DECLARED(v2)
+DECLARED(v3)
+DECLARED_DECODING(v4)
 typedef size_t other(const uint8_t *src, size_t len, uint8_t *dst, size_t room);
 typedef size_t grouping(const uint8_t *src, size_t len, uint8_t *dst);
 other rust_sse41_check, rust_sse41_encode, rust_sse41_decode, rust_avx2_check, rust_avx2_encode, rust_avx2_decode;
-other rust_avx512_check, rust_avx512_encode, rust_avx512_decode;
 other rust_slices_v2_check, rust_slices_v2_encode, rust_slices_v2_decode;
 other rust_slices_v3_check, rust_slices_v3_encode, rust_slices_v3_decode;
-other rust_slices_v4_check, rust_slices_v4_encode, rust_slices_v4_decode;
+other rust_avx512_check, rust_avx512_decode, rust_slices_v4_check, rust_slices_v4_decode;
 grouping write_by_1, write_by_16, read_by_1, read_by_16;
 
 // A loop for each call, so that the call is a direct one: how well a processor foresees an indirect one
@@ -97,12 +106,6 @@ struct call {
 #define CALL(kind, name, made) {kind, #name, name##_loop},
 static const struct call calls[] = {EACH};
 #define CALLS (sizeof calls / sizeof *calls)
-
-// Whether the processor has what a call takes.
-static bool runs(const struct call *call) {
-    bool is_wide = strstr(call->name, "v4_") || strstr(call->name, "avx512_");
-    return !is_wide || __builtin_cpu_supports("avx512bw");
-}
 
 static double least[CALLS][MOST_SIZES];
 static volatile size_t sink;
@@ -201,7 +204,7 @@ static void measure(enum kind kind, size_t at_size, size_t place) {
     size_t order[CALLS], count = 0;
     long turns[CALLS];
     for (size_t at = 0; at < CALLS; at++) {
-        if (calls[at].kind == kind && runs(&calls[at])) {
+        if (calls[at].kind == kind) {
             order[count++] = at;
             tasks[at] = task_of(&calls[at], sizes_of(kind)[at_size]);
             tasks[at].dst += place;
@@ -237,7 +240,7 @@ static void measure_below(size_t below, enum kind kind, size_t at_size) {
 }
 
 static void check(const struct call *call) {
-    for (const size_t *size = sizes_of(call->kind); *size && runs(call); size++) {
+    for (const size_t *size = sizes_of(call->kind); *size; size++) {
         if (!is_right(call, *size)) {
             fprintf(stderr, "%s gives something else than it should on %zu bytes\n", call->name, *size);
             exit(1);
@@ -271,7 +274,7 @@ int main(void) {
     }
     for (size_t at = 0; at < CALLS; at++) {
         const size_t *sizes = sizes_of(calls[at].kind);
-        for (size_t size = 0; sizes[size] && runs(&calls[at]); size++) {
+        for (size_t size = 0; sizes[size]; size++) {
             printf("%s\t%zu\t%.2f\n", calls[at].name, sizes[size], least[at][size]);
         }
     }

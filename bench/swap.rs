@@ -1,6 +1,7 @@
 //! Times the public calls of `bindings/rust`, here the crate `ours`, beside those of the Rust crate: `theirs`, and
-//! `narrow`, which is the same where AVX2 is the widest. A program calls them so that swaps one for the other. Prints
-//! a line for each crate, call and number of decoded bytes, `ours hex_check<TAB>bytes<TAB>ns`.
+//! `narrow`, which is the same where AVX2 is the widest. A program calls them so that swaps one for the other, which
+//! cargo builds for a release. It opens each result: a copy out of a `Result` may take longer than the call itself.
+//! Prints a line for each crate, call and number of decoded bytes, `ours hex_check<TAB>bytes<TAB>ns`.
 //!
 //! A time is the least of so many rounds, from 20 places of the source and the destination, and from four of
 //! the loop round the call: a short call may take a third longer where a jump crosses 32 bytes. A round has
@@ -72,8 +73,8 @@ macro_rules! crates {
                     "hex_decode" decode(it) {
                         hex_decode(black_box(it.mixed), black_box(it.room)).unwrap().len()
                     };
-                    "hex_decode_array" array(it) hex_decode_array::<N>(black_box(it.mixed));
-                    "hex_decode_vec" vec(it) hex_decode_vec(black_box(it.mixed));
+                    "hex_decode_array" array(it) hex_decode_array::<N>(black_box(it.mixed)).unwrap();
+                    "hex_decode_vec" vec(it) hex_decode_vec(black_box(it.mixed)).unwrap();
                     "hex_string" string(it) hex_string(black_box(it.bytes));
                     "hex_append" append(it) {
                         it.text.truncate(it.start);
@@ -81,12 +82,12 @@ macro_rules! crates {
                     };
                     "{}" shown(it) {
                         it.text.truncate(it.start);
-                        write!(black_box(&mut *it.text), "{}", Hex::new(black_box(it.bytes)))
+                        write!(black_box(&mut *it.text), "{}", Hex::new(black_box(it.bytes))).unwrap()
                     };
                     "{:>}" padded(it) {
                         it.text.truncate(it.start);
                         let (bytes, width) = (Hex::new(black_box(it.bytes)), (2 * N + 12).min(65_535));
-                        write!(black_box(&mut *it.text), "{bytes:>width$}")
+                        write!(black_box(&mut *it.text), "{bytes:>width$}").unwrap()
                     };
                 }
             }
