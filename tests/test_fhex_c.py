@@ -4,6 +4,7 @@ toolchain links."""
 import errno
 import os
 import random
+from pathlib import Path
 
 import pytest
 
@@ -13,7 +14,8 @@ from test_program import SANITIZERS, USAGE, built, ended
 BYTES = bytes(range(256)) * 300
 DIGITS = BYTES.hex().encode() + b"\n"
 NO_MEMORY, NOT_READ, NOT_WRITTEN = ((3, b"", it) for it in (b"out of memory\n", b"read failed\n", b"write failed\n"))
-WRAPPED = "-Wl,--wrap=read,--wrap=write,--wrap=malloc,--wrap=realloc"
+WRAPPED = "-Wl,--wrap=read,--wrap=write,--wrap=malloc,--wrap=realloc,--wrap=madvise"
+LARGE_PAGES = 14
 # A call that fails, its number among those of its name, why, and how `encode` then ends.
 FAILURES = [
     ("read", 1, errno.EINTR, NOT_READ),
@@ -51,6 +53,19 @@ def test_refused_memory(failing, call, word):
         found.append(fails(failing, call, at, errno.ENOMEM, word, given=DIGITS))
     assert {*found} <= {ample, NO_MEMORY}
     assert call == "realloc" or NO_MEMORY in found
+
+
+@pytest.mark.parametrize("reason", [None, errno.EINVAL])
+def test_large_pages(failing, tmp_path, reason):
+    """Only blocks from 4 MiB on ask for them: the input's, and that of a long output. A system may have none."""
+    if not Path("/sys/kernel/mm/transparent_hugepage").is_dir():
+        pytest.skip("the system has no large pages")
+    given, log = b"a1" * 2**22, tmp_path / "log"
+    env = {**os.environ, "ADVISED": log, "FAILS": f"madvise 1 {reason}" if reason else ""}
+    assert ended(failing, "decode", input=given, env=env) == (0, b"\xa1" * 2**22, b"")
+    asked = [[int(it) for it in line.split()] for line in log.read_text().splitlines()]
+    assert [it[1:] for it in asked] == [[LARGE_PAGES, -1 if reason else 0], [LARGE_PAGES, 0]]
+    assert all(2**22 <= it[0] < 2**25 for it in asked)
 
 
 def test_pieces(failing):

@@ -5,6 +5,7 @@
 #include <signal.h>
 #include <stdbool.h>
 #include <stddef.h>
+#include <stdint.h>
 #include <stdio.h>
 #include <stdlib.h>
 #include <string.h>
@@ -16,6 +17,7 @@
 #include <io.h>
 #define PROVED __attribute__((sysv_abi))
 #else
+#include <sys/mman.h>
 #define PROVED __attribute__((visibility("hidden")))
 #endif
 
@@ -78,16 +80,31 @@ static struct block block_at(void *at) {
     return (struct block){ at != NULL, at != NULL ? at : &nowhere };
 }
 
+/* Asks the system for large pages below a block from 4 MiB on, and returns it. To fill a page at its first use
+ * takes longer than to decode what stands in it, and a large page is filled at once. All pages that the block
+ * touches are named, so that its mapping stays one, which can grow. If the system refuses, nothing changes. */
+static void *in_large_pages(void *at, size_t size) {
+#ifdef MADV_HUGEPAGE
+    if (at != NULL && size >= (size_t)4 << 20) {
+        uintptr_t page = (uintptr_t)getpagesize(), begin = (uintptr_t)at / page * page;
+        madvise((void *)begin, (uintptr_t)at - begin + size, MADV_HUGEPAGE);
+    }
+#else
+    (void)size;
+#endif
+    return at;
+}
+
 /* A block of `size` bytes, less than 2^63, at a multiple of `align`, which divides 16. */
 PROVED struct block fhex_alloc(size_t size, size_t align) {
-    return block_at(malloc(size > 0 ? size : align));
+    return block_at(in_large_pages(malloc(size > 0 ? size : align), size));
 }
 
 /* A block of `size` bytes in place of that at `at`, of which it has the first `kept` bytes. If
  * there is no memory, that one stays as it was. */
 PROVED struct block fhex_realloc(void *at, size_t kept, size_t size, size_t align) {
     (void)kept;
-    return block_at(realloc(at, size > 0 ? size : align));
+    return block_at(in_large_pages(realloc(at, size > 0 ? size : align), size));
 }
 
 PROVED void fhex_dealloc(void *at) { free(at); }

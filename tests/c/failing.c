@@ -1,5 +1,6 @@
 /* For `ld --wrap`, below fhex.c: of the calls of a name, the one that FAILS='NAME NUMBER REASON' names
- * fails for this reason, or moves nothing if it is 0; and reading and writing move at most PIECE bytes. */
+ * fails for this reason, or moves nothing if it is 0; reading and writing move at most PIECE bytes; and the file
+ * ADVISED gets a line for each call of madvise, of a length, an advice and an answer. */
 #include <errno.h>
 #include <stdbool.h>
 #include <stdio.h>
@@ -11,6 +12,7 @@ ssize_t __real_read(int file, void *to, size_t length);
 ssize_t __real_write(int file, const void *from, size_t length);
 void *__real_malloc(size_t size);
 void *__real_realloc(void *at, size_t size);
+int __real_madvise(void *at, size_t length, int advice);
 
 static bool fails(const char *call) {
     static int made;
@@ -45,4 +47,15 @@ void *__wrap_malloc(size_t size) {
 
 void *__wrap_realloc(void *at, size_t size) {
     return fails("realloc") ? NULL : __real_realloc(at, size);
+}
+
+int __wrap_madvise(void *at, size_t length, int advice) {
+    int answer = fails("madvise") ? -1 : __real_madvise(at, length, advice);
+    const char *name = getenv("ADVISED");
+    FILE *file = name ? fopen(name, "a") : NULL;
+    if (file) {
+        fprintf(file, "%zu %d %d\n", length, advice, answer);
+        fclose(file);
+    }
+    return answer;
 }
