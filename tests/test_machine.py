@@ -11,10 +11,10 @@ z3 = pytest.importorskip("z3")
 pytest.importorskip("capstone")
 from commands import CC, TOP, needs, runs
 from machine import Refused, execution, values
-from machine.__main__ import lengths_of, sums
+from machine.__main__ import BUILDS, lengths_of, sums
 from machine.image import Image, linked
 from machine.instructions import EACH, TABLE
-from machine.statements import CALLS, shown
+from machine.statements import shown
 
 GENERATED = TOP / "generated"
 # Decoded bytes: all lengths up to the first number, all up to the second, and some above.
@@ -37,8 +37,7 @@ def forgets():
     values.forget()
 
 
-@pytest.mark.parametrize("call", CALLS)
-@pytest.mark.parametrize("build", ["v2", "v3"])
+@pytest.mark.parametrize("build, call", [(build, call) for build in BUILDS for call in BUILDS[build]])
 @pytest.mark.parametrize("is_short", [pytest.param(True, marks=pytest.mark.quick), False])
 def test_call(image, is_short, build, call):
     short = lengths_of(call, SHORT)
@@ -89,21 +88,44 @@ def test_change(tmp_path, row):
             list(shown(code, build, call, int(length)))
 
 
+# What no processor or not the model has, beside vpaddb %zmm1,%zmm2,%zmm0, which is 62f16d48fcc1.
+NO_INSTRUCTIONS = {
+    "62f16d49fcc1": "a mask", "62f16dc8fcc1": "zeros without a mask", "62f16d68fcc1": "vectors of 128 bytes",
+    "62f16d58fcc1": "a rounding", "62e16d48fcc1": "zmm16", "62f16d40fcc1": "zmm18", "62b16d48fcc1": "zmm17",
+    "62f96d48fcc1": "a bit that is zero", "62f16948fcc1": "a bit that is one", "62f16d58fc07": "one byte for all lanes",
+    "62f1f5486fc1": "a third operand of vmovdqa64", "62f3ed283ac101": "vinserti64x4 to ymm",
+    "62f27d487a07": "eax in memory", "62726d4827c1": "k8", "6662f16d48fcc1": "a prefix before",
+    "62f16d48fc": "an end too early",
+}
+
+
+@pytest.mark.parametrize("code", NO_INSTRUCTIONS)
+def test_no_instruction(tmp_path, code):
+    made = assembled(tmp_path, "at: .byte " + ",".join(f"{it:#x}" for it in bytes.fromhex(code)))
+    with pytest.raises(Refused):
+        made.instruction(made.symbols["at"])
+
+
 # A block of registers, flags and memory, which a program of instructions changes.
 BLOCK = {"vector 0": 32, "vector 1": 32, "vector 2": 32, "rax": 8, "rcx": 8, "rdx": 8, "flags": 8, "memory": 64}
+# What AVX-512 has above of each vector, and how it comes there and back.
+BLOCK |= {f"above {it}": 32 for it in range(3)}
+LOADS = "; ".join(f"vinserti64x4 $1,{192 + 32 * it}(%r11),%zmm{it},%zmm{it}" for it in range(3))
+STORES = "; ".join(f"vextracti64x4 $1,%zmm{it},{192 + 32 * it}(%r11)" for it in range(3))
 NAMES = [f"{it} {at}" for it, size in BLOCK.items() for at in range(size)]
 FLAGS = {"c": 0, "z": 6, "s": 7, "o": 11}
 HAS_FLAG = {flag: (lambda it, bit=bit: z3.Extract(bit, bit, it) == 1) for flag, bit in FLAGS.items()}
 PROGRAM = """
     .globl run_{0}
 run_{0}: mov %rdi,%r11
-    vmovdqu (%r11),%ymm0; vmovdqu 32(%r11),%ymm1; vmovdqu 64(%r11),%ymm2
+    vmovdqu (%r11),%ymm0; vmovdqu 32(%r11),%ymm1; vmovdqu 64(%r11),%ymm2; {2}
     mov 96(%r11),%rax; mov 104(%r11),%rcx; mov 112(%r11),%rdx; lea 128(%r11),%rdi; push 120(%r11); popfq
 begin_{0}: {1}
 end_{0}: pushfq; pop 120(%r11); mov %rax,96(%r11); mov %rcx,104(%r11); mov %rdx,112(%r11)
-    vmovdqu %ymm0,(%r11); vmovdqu %ymm1,32(%r11); vmovdqu %ymm2,64(%r11); vzeroupper
+    vmovdqu %ymm0,(%r11); vmovdqu %ymm1,32(%r11); vmovdqu %ymm2,64(%r11); {3}; vzeroupper
     ret
 """
+NARROW, WIDE = ["avx2"], ["avx512f", "avx512bw", "avx512dq", "avx512vl"]
 INSTRUCTIONS = [it.partition(": ")[::2] for it in rows("instructions.txt")]
 
 
@@ -112,20 +134,22 @@ def test_each_instruction_is_run():
     assert {*TABLE, *EACH} - {kind + it for kind in ("set", "cmov") for it in EACH} <= run
 
 
-def modelled(code, begin, end, known):
-    """What a program makes of a block by the model, byte by byte, and its flags. Bytes are known, or not."""
+def modelled(code, begin, end, is_wide, known):
+    """What a program makes of a block by the model, byte by byte, and its flags. Bytes are known, or not. What vectors
+    have above 32 bytes stands after the memory."""
     block = {it: [known.get(f"{it} {at}", byte) for at, byte in enumerate(values.bytes_of(values.unknown(it, size)))]
              for it, size in BLOCK.items()}
     machine, state = execution.Machine(code, 0, 64, None, ()), execution.State(begin)
     state.registers.update({it: values.joined(block[it]) for it in ("rax", "rcx", "rdx")}, rdi=execution.DESTINATION)
-    state.vectors[:3] = [block[f"vector {it}"] for it in range(3)]
+    state.vectors[:3] = [block[f"vector {it}"] + block[f"above {it}"] for it in range(3)]
     state.written.update(enumerate(block["memory"]))
     state.flags = {flag: (function, values.joined(block["flags"])) for flag, function in HAS_FLAG.items()}
     while state.at != end:
         machine.advances(state)
-    made = [*state.vectors[:3], *[values.bytes_of(state.registers[it]) for it in ("rax", "rcx", "rdx")]]
+    made = [*[it[:32] for it in state.vectors[:3]], *[values.bytes_of(state.registers[it]) for it in ("rax", "rcx", "rdx")]]
     flags = {flag: values.apply(*it) for flag, it in state.flags.items() if it}
-    return sum(made, []), [*state.written.values()], flags
+    above = sum([it[32:] for it in state.vectors[:3]], []) if is_wide else []
+    return sum(made, []), [*state.written.values()] + above, flags
 
 
 def same(program, made, known, done):
@@ -133,22 +157,25 @@ def same(program, made, known, done):
     there = lambda it: z3.simplify(z3.substitute(it.term, *[
         (values.X[at], known[name].term) for at, name in enumerate(it.of)]))
     registers, memory, flags = made
-    assert bytes(there(it).as_long() for it in [*registers, *memory]) == done[:120] + done[128:], program
+    assert bytes(there(it).as_long() for it in [*registers, *memory]) == done[:120] + done[128:128 + len(memory)], program
     word = int.from_bytes(done[120:128], "little")
     assert all(z3.is_true(there(it)) == bool(word >> FLAGS[flag] & 1) for flag, it in flags.items()), program
 
 
 @pytest.mark.parametrize("names, forms", INSTRUCTIONS)
 def test_instruction(tmp_path, names, forms):
-    if "avx2" not in Path("/proc/cpuinfo").read_text():
-        pytest.skip("the processor has no avx2")
+    is_wide = "zmm" in forms
+    for it in WIDE if is_wide else NARROW:
+        if not re.search(rf"\b{it}\b", Path("/proc/cpuinfo").read_text()):
+            pytest.skip(f"the processor has no {it}")
+    above = [LOADS, STORES] if is_wide else ["", ""]
     programs = [*dict.fromkeys(form.format(name) for form in forms.split(" | ") for name in names.split())]
-    code = assembled(tmp_path, "".join(map(PROGRAM.format, range(len(programs)), programs)))
+    code = assembled(tmp_path, "".join(PROGRAM.format(*it, *above) for it in enumerate(programs)))
     runs([CC, "-shared", "-nostdlib", "-o", tmp_path / "made.so", tmp_path / "made.o"])
     library = ctypes.CDLL(tmp_path / "made.so")
     random.seed(names)
     for at, program in enumerate(programs):
-        places = code.symbols[f"begin_{at}"], code.symbols[f"end_{at}"]
+        places = code.symbols[f"begin_{at}"], code.symbols[f"end_{at}"], is_wide
         made = None if re.search(r"\bj|call", program) else modelled(code, *places, {})
         for _ in range(10):
             block = bytearray(random.choice((0, 1, 127, 128, 255, random.randrange(256))) for _ in NAMES)

@@ -14,8 +14,10 @@ from .statements import CALLS, shown
 from .values import forget
 
 TOP = Path(__file__).resolve().parents[2]
+# The builds, each with its calls: for AVX-512 those that test and decode.
+BUILDS = {"v2": CALLS, "v3": CALLS, "v4": [it for it in CALLS if it.startswith(("check", "decode"))]}
 # What the code that is executed is made of.
-SOURCES = """generated/x86-64-v2.s generated/x86-64-v3.s generated/builds.S generated/elf.inc
+SOURCES = [f"generated/x86-64-{it}.s" for it in BUILDS] + """generated/builds.S generated/elf.inc
     crates/faster_hex_c/dispatch.c crates/faster_hex_c/assembly.h crates/faster_hex_c/faster_hex.h""".split()
 # What shows it, too: a change there wants a new record.
 SOURCES += sorted(f"tests/machine/{it.name}" for it in Path(__file__).parent.glob("*.py"))
@@ -33,7 +35,7 @@ def lengths_of(call, most):
 def record(images, most):
     lines = sums()
     for build, image in images.items():
-        for call in CALLS:
+        for call in BUILDS[build]:
             lengths, tests = lengths_of(call, most), 0
             for length in lengths:
                 tests = max(tests, *[it.tests for it in shown(image, build, call, length)])
@@ -47,7 +49,7 @@ def main(words):
     library = Path(os.environ.get("FASTER_HEX_LIB", TOP / "out")) / "libfaster_hex.a"
     with tempfile.TemporaryDirectory() as folder:
         made = linked(Path(folder) / "image", library)
-        images = {build: Image(made, int(build[1])) for build in ("v2", "v3")}
+        images = {build: Image(made, int(build[1])) for build in BUILDS}
     if words[0] == "record":
         return record(images, int(words[1]))
     for length in range(int(words[2]), int(words[-1]) + 1):

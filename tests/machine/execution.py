@@ -22,7 +22,8 @@ NAMED = [[f"r{at}{end}" for end in ("", "d", "w", "b")] for at in range(8, 16)]
 NAMED += [["r" + it, "e" + it, it, it.strip("x") + "l"] for it in ("ax", "cx", "dx", "bx", "sp", "bp", "si", "di")]
 KEPT = "rbx", "rbp", "r12", "r13", "r14", "r15"
 BEFORE = {it[0]: unknown(it[0], 8) for it in NAMED} | {"rsp": STACK}
-VECTORS = [bytes_of(unknown(f"vector {it}", 32)) for it in range(16)]
+VECTOR = 64
+VECTORS = [bytes_of(unknown(f"vector {it}", VECTOR)) for it in range(16)]
 REGISTERS = {name: (it[0], size) for it in NAMED for name, size in zip(it, (8, 4, 2, 1))}
 
 
@@ -32,6 +33,8 @@ class State:
     def __init__(self, at):
         self.at, self.flags = at, dict.fromkeys("czso")
         self.registers, self.vectors = {**BEFORE}, [[*it] for it in VECTORS]
+        # Of each mask register that was written its 64 bits.
+        self.masks = {}
         self.stack, self.written = dict(enumerate(bytes_of(RETURN))), {}
         # What is known of addresses and the room; digits that are valid; digits of which one is not; how many tests.
         self.facts, self.valid, self.refused, self.tests = (), frozenset(), (), 0
@@ -39,7 +42,7 @@ class State:
     def copy(self):
         other = copy.copy(self)
         other.registers, other.flags, other.vectors = {**self.registers}, {**self.flags}, [[*it] for it in self.vectors]
-        other.stack, other.written = {**self.stack}, {**self.written}
+        other.stack, other.written, other.masks = {**self.stack}, {**self.written}, {**self.masks}
         return other
 
 
@@ -251,7 +254,14 @@ class Step:
     def vector(self, at):
         """A vector register, if it is one."""
         name = self.register(self.operands[at].reg) if self.operands[at].type == X86_OP_REG else ""
-        return self.state.vectors[int(name[3:])] if name[:3] in ("xmm", "ymm") else None
+        return self.state.vectors[int(name[3:])] if name[:3] in ("xmm", "ymm", "zmm") else None
+
+    def mask(self, at):
+        """The name of a mask register."""
+        name = self.register(self.operands[at].reg) if self.operands[at].type == X86_OP_REG else ""
+        if name[:1] != "k":
+            raise Refused("no mask")
+        return name
 
     @property
     def width(self):
@@ -285,7 +295,8 @@ class Step:
             return bytes_of(constant(it.imm, count))
         if it.type == X86_OP_MEM:
             self.is_aligned(at, count)
-            return self.machine.load(self.state, self.address(at), count)
+            size = it.size if it.avx_bcast else count
+            return self.machine.load(self.state, self.address(at), size) * (count // size)
         whole = self.vector(at) or bytes_of(self.state.registers[REGISTERS[self.register(it.reg)][0]])
         return whole[:count]
 
@@ -295,7 +306,7 @@ class Step:
             self.is_aligned(0, len(values))
             self.machine.store(self.state, self.address(0), values)
         elif vector := self.vector(0):
-            vector[:] = values + ([ZERO] * (32 - len(values)) if self.is_vex else vector[len(values):])
+            vector[:] = values + ([ZERO] * (VECTOR - len(values)) if self.is_vex else vector[len(values):])
         else:
             name, size = REGISTERS[self.register(self.operands[0].reg)]
             if size < 4 and len(values) != size:
@@ -317,7 +328,8 @@ class Step:
 
     def is_aligned(self, at, count):
         """What movdqa and SSE ask of whole vectors. The stack begins 8 bytes beyond such a place."""
-        if count >= 16 and (self.name == "movdqa" or not self.is_vex and self.name not in ("movdqu", "movups")):
+        is_asked = self.name.startswith("movdqa") or not self.is_vex and self.name not in ("movdqu", "movups")
+        if count >= 16 and is_asked:
             base, distance = self.machine.place(self.address(at))
             # Of the stack's alignment no more is known than 16 bytes.
             is_known = base is None or base is STACK and count == 16

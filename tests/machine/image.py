@@ -4,7 +4,7 @@ import subprocess
 
 import capstone
 
-from . import Refused
+from . import Refused, evex
 
 PREFIXES = b"\x66\x67\xf2\xf3\xf0\x2e\x36\x3e\x26\x64\x65"
 # What the prefix 66 makes another thing of in Capstone than on some processors.
@@ -50,6 +50,11 @@ class Image:
 
     def decoded(self, code, at):
         """Capstone 4 knows no nop with two prefixes, and not vbroadcasti128 but vbroadcastf128, which does the same."""
+        if code and code[0] == evex.PREFIX:
+            try:
+                return evex.instruction(self.reader, code, at)
+            except Refused as why:
+                raise Refused(f"{why} at {at:#x}") from why
         skipped = len(code) - len(code.lstrip(b"\x66\x2e"))
         skipped = skipped if code[skipped:skipped + 2] == b"\x0f\x1f" else 0
         if code[:1] == b"\xc4" and code[1] & 31 == 2 and code[3] == 0x5a:
@@ -57,8 +62,8 @@ class Image:
         code, at = code[skipped:], at + skipped
         found = next(self.reader.disasm(code, at, 1), None)
         rest = code.lstrip(PREFIXES)
-        # Of two prefixes Capstone and processors take different ones. EVEX, 62, has masks and wider registers.
-        if found is None or len(code) - len(rest) > 1 or rest[0] == 0x62:
+        # Of two prefixes Capstone and processors take different ones. Before EVEX there may be none.
+        if found is None or len(code) - len(rest) > 1 or rest[0] == evex.PREFIX:
             raise Refused(f"no instruction at {at:#x}")
         if code[0] == 0x66 and found.mnemonic.split()[-1].startswith(NEVER_SHORT):
             raise Refused(f"a short branch or push at {at:#x}")

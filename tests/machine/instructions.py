@@ -5,13 +5,16 @@ from functools import partial, reduce
 from z3 import And, BitVecVal, BoolVal, Extract, If, LShR, Not, Or, SignExt, ULT, Xor
 
 from . import Refused
-from .values import apply, bytes_of, concat, constant, joined
+from .values import Value, apply, bytes_of, concat, constant, joined
 
 # Functions of terms.
 never = lambda *_: BoolVal(False)
 is_zero = lambda it: it == 0
 is_negative = lambda it: it < 0
 is_none = lambda *terms: And(*[it == 0 for it in terms])
+are_all = lambda *terms: And(*[it == 1 for it in terms])
+has_common = lambda a, b: If(a & b != 0, BitVecVal(1, 1), BitVecVal(0, 1))
+either = lambda a, b: a | b
 first_if = lambda holds, first, second: If(holds, first, second)
 sign = lambda it: Extract(7, 7, it)
 bits = lambda *it: concat(*it, BitVecVal(0, 64 - len(it)))
@@ -43,7 +46,10 @@ LANES = {
     "pcmpeqb": (1, lambda a, b: If(a == b, BitVecVal(255, 8), BitVecVal(0, 8))),
     "pcmpeqd": (4, lambda a, b: If(a == b, BitVecVal(-1, 32), BitVecVal(0, 32))),
 }
+# The same by names that say how many bytes a mask, or a lane in memory, would be for.
+LANES |= {it + size: LANES[it] for it in ("pand", "por") for size in "dq"}
 ZERO = constant(0, 1)
+NO_BIT = Value(BitVecVal(0, 1))
 lanes_of = lambda it, size: [it[at:at + size] for at in range(0, len(it), size)]
 signs_of = lambda values, size: [apply(sign, it[-1]) for it in lanes_of(values, size)]
 spread = lambda values: [it for value in values for it in bytes_of(value)]
@@ -143,7 +149,53 @@ def insert(size, step):
 
 def zero_upper(step):
     for it in step.state.vectors:
-        it[16:] = [ZERO] * 16
+        it[16:] = [ZERO] * (len(it) - 16)
+
+
+def narrow(step):
+    """The lower byte of each word."""
+    return step.bytes(1, step.size(1))[::2]
+
+
+def of_three(number, a, b, c):
+    """Each bit by those in three bytes: the number has it for all eight ways that these can be."""
+    result = BitVecVal(0, 8)
+    for way in range(8):
+        is_way = (a if way & 4 else ~a) & (b if way & 2 else ~b) & (c if way & 1 else ~c)
+        result = result | If(Extract(way, way, number) == 1, is_way, BitVecVal(0, 8))
+    return result
+
+
+def combine_three(step):
+    """The first vector is that which is written, as it was."""
+    number = constant(step.number(3), 1)
+    vectors = [step.bytes(at, step.width) for at in range(3)]
+    return [apply(of_three, number, *it) for it in zip(*vectors)]
+
+
+def choose_lanes(controls, first, step):
+    """Takes lanes of eight bytes out of two vectors. The operand of this place says which: the lowest four bits of each
+    of its lanes, in zmm, which must be known."""
+    lanes = lanes_of(step.bytes(first, step.width) + step.bytes(2, step.width), 8)
+    for it in lanes_of(step.bytes(controls, step.width), 8):
+        number = joined(it).number
+        if number is None:
+            raise Refused("which lanes it takes is not known")
+        yield from lanes[number % len(lanes)]
+
+
+def test_lanes(size, step):
+    """Bits of a mask: whether two lanes have a bit in common. Above those of all lanes there are zeros."""
+    both = zip(*[lanes_of(step.bytes(at, step.width), size) for at in (1, 2)])
+    bits = [apply(has_common, joined(a), joined(b)) for a, b in both]
+    step.state.masks[step.mask(0)] = bits + [NO_BIT] * (64 - len(bits))
+
+
+def test_masks(count, step):
+    """Zero: of the first bits of two masks none is set; carry: each is, in one of them."""
+    masks = [step.state.masks[step.mask(at)][:count] for at in (0, 1)]
+    bits = [apply(either, a, b) for a, b in zip(*masks)]
+    step.state.flags.update(z=(is_none, *bits), c=(are_all, *bits), s=(never,), o=(never,))
 
 
 def test_bits(size, step):
@@ -154,20 +206,23 @@ def test_bits(size, step):
 
 
 SIZED = (
-    ("pinsrb pinsrw pinsrd inserti128", insert, (1, 2, 4, 16)),
+    ("pinsrb pinsrw pinsrd inserti128 inserti64x4", insert, (1, 2, 4, 16, 32)),
     ("pextrb pextrw pextrd pextrq extracti128", extract, (1, 2, 4, 8, 16)),
-    ("pbroadcastb pbroadcastd pbroadcastq broadcastf128", broadcast, (1, 4, 8, 16)),
+    ("pbroadcastb pbroadcastw pbroadcastd pbroadcastq broadcastf128", broadcast, (1, 2, 4, 8, 16)),
     ("movd movq", move_low, (4, 8)), ("pshuflw pshufd permq", shuffle_lanes, (2, 4, 8)),
     ("pmovsxbd pmovsxbq", extend_signs, (4, 8)), ("pmovmskb movmskps movmskpd", signs_to_register, (1, 4, 8)),
 )
 HALVES = {"pshufb": shuffle_bytes, "packuswb": pack, "punpcklbw": partial(unpack, 1, 0),
           "punpckhbw": partial(unpack, 1, 8), "punpcklqdq": partial(unpack, 8, 0)}
 SHIFTED = {"psllw": (2, SHIFTS["shl"]), "psrlw": (2, LShR), "psrld": (4, LShR)}
-WRITTEN = {it: lambda step: step.bytes(1, step.size(0)) for it in ("mov", "movdqa", "movdqu", "movups")} | {
+MOVES = "mov", "movdqa", "movdqa64", "movdqu", "movdqu64", "movups"
+WRITTEN = {it: lambda step: step.bytes(1, step.size(0)) for it in MOVES} | {
     "movzx": lambda step: step.bytes(1, step.size(1)) + [ZERO] * (step.size(0) - step.size(1)),
     "pop": lambda step: bytes_of(step.pop()),
     "lea": lambda step: bytes_of(step.address(1))[:step.size(0)],
     "perm2i128": lambda step: choose_half(step, step.number(3)) + choose_half(step, step.number(3) >> 4),
+    "pmovwb": narrow, "pternlogq": combine_three,
+    "permi2q": partial(choose_lanes, 0, 1), "permt2q": partial(choose_lanes, 1, 0),
     "pmovzxbw": lambda step: [it for byte in step.bytes(1, step.width // 2) for it in (byte, ZERO)],
     **{name: partial(lanewise, *it) for name, it in LANES.items()},
     **{name: partial(shift_lanes, *it) for name, it in SHIFTED.items()},
@@ -178,6 +233,7 @@ TABLE = {name: lambda step, it=it: step.write(list(it(step))) for name, it in WR
     "cmp": partial(arithmetic, "sub", is_kept=False), "test": partial(arithmetic, "and", is_kept=False),
     "inc": partial(arithmetic, "add", counts=True), "dec": partial(arithmetic, "sub", counts=True),
     "ptest": partial(test_bits, 0), "testps": partial(test_bits, 4), "testpd": partial(test_bits, 8),
+    "ptestmd": partial(test_lanes, 4), "kortestw": partial(test_masks, 16),
     "nop": lambda step: None, "endbr64": lambda step: None, "push": lambda step: step.push(step.get(0)),
     "zeroupper": zero_upper,
     **{name: partial(arithmetic, name) for name in ARITHMETIC},
