@@ -1,0 +1,46 @@
+"""The library on processors that bochs emulates, without a system: which level dispatch.c finds, and the answers of the
+build that a call takes there. The build for AVX-512 is so tested on any machine."""
+import os
+import re
+from pathlib import Path
+
+import pytest
+
+from commands import CC, CRATE, TESTS_IN_C, needs, ran, runs
+
+# A model of bochs, the registers that a system saves there, the level, and the most digits: other tests run the builds
+# below the one for AVX-512.
+SAVES_AVX, SAVES_AVX512 = 0x7, 0xe7
+RUN = [("corei7_skylake_x", SAVES_AVX512, 4, 560), ("corei7_skylake_x", SAVES_AVX, 3, 64),
+       ("corei7_haswell_4770", SAVES_AVX, 3, 64), ("corei7_sandy_bridge_2600k", SAVES_AVX, 2, 64)]
+# Without a window, a sound or a port of the network.
+SETTINGS = """megs: 64
+cpu: model={model}, count=1, ips=200000000, reset_on_triple_fault=0
+romimage: file={folder}/rom, address=0xfff80000
+log: {folder}/log
+port_e9_hack: enabled=1
+display_library: term
+sound: driver=dummy
+speaker: enabled=0
+panic: action=fatal
+clock: sync=none
+"""
+OPTIONS = "-std=gnu11 -O2 -mno-avx -ffreestanding -fno-pic -mno-red-zone -fno-stack-protector -fcf-protection=none"
+
+
+@pytest.mark.parametrize("model, saved, level, most", RUN)
+def test_model(tmp_path, library, model, saved, level, most):
+    needs("bochs", "ld", "objcopy")
+    if not [*Path("/usr/lib").glob("*/bochs/plugins/libbx_term_gui.so")]:
+        pytest.skip("there is no bochs-term")
+    program, words = tmp_path / "program", [*OPTIONS.split(), f"-I{CRATE}", f"-DSAVED={saved}", f"-DMOST={most}"]
+    for source in "bare.S", "bare.c":
+        runs([CC, *words, "-c", "-o", tmp_path / f"{source}.o", TESTS_IN_C / source])
+    objects = [tmp_path / "bare.S.o", tmp_path / "bare.c.o", library / "builds.o"]
+    runs(["ld", "-T", TESTS_IN_C / "bare.ld", "-e", "bare", "-o", program, *objects])
+    runs(["objcopy", "-O", "binary", program, tmp_path / "rom"])
+    (tmp_path / "settings").write_text(SETTINGS.format(model=model, folder=tmp_path))
+    # Debian's bochs begins in its debugger, which goes on by the word c.
+    env = {**os.environ, "TERM": "vt100"}
+    said = ran(["bochs", "-q", "-f", tmp_path / "settings"], input="c\n", timeout=300, env=env).stdout
+    assert f"level {level}" in said and re.search(r"\d{3} passed, 0 failed", said), said[-2000:]
