@@ -146,7 +146,8 @@ def modelled(code, begin, end, is_wide, known):
     state.flags = {flag: (function, values.joined(block["flags"])) for flag, function in HAS_FLAG.items()}
     while state.at != end:
         machine.advances(state)
-    made = [*[it[:32] for it in state.vectors[:3]], *[values.bytes_of(state.registers[it]) for it in ("rax", "rcx", "rdx")]]
+    made = [it[:32] for it in state.vectors[:3]]
+    made += [values.bytes_of(state.registers[it]) for it in ("rax", "rcx", "rdx")]
     flags = {flag: values.apply(*it) for flag, it in state.flags.items() if it}
     above = sum([it[32:] for it in state.vectors[:3]], []) if is_wide else []
     return sum(made, []), [*state.written.values()] + above, flags
@@ -157,7 +158,8 @@ def same(program, made, known, done):
     there = lambda it: z3.simplify(z3.substitute(it.term, *[
         (values.X[at], known[name].term) for at, name in enumerate(it.of)]))
     registers, memory, flags = made
-    assert bytes(there(it).as_long() for it in [*registers, *memory]) == done[:120] + done[128:128 + len(memory)], program
+    made_there = done[:120] + done[128:128 + len(memory)]
+    assert bytes(there(it).as_long() for it in [*registers, *memory]) == made_there, program
     word = int.from_bytes(done[120:128], "little")
     assert all(z3.is_true(there(it)) == bool(word >> FLAGS[flag] & 1) for flag, it in flags.items()), program
 

@@ -7,12 +7,12 @@ from capstone.x86 import X86_OP_IMM, X86_OP_MEM, X86_OP_REG
 from . import Refused
 
 PREFIX = 0x62
-# A line: the name; the prefix of the opcode, its map, the bit W, which `-` leaves open, and the opcode, after a slash
-# with what else must stand in place of a register; the operands in their order; and how many bytes the one has that may
-# stand in memory, of so many of which each it may be a lane that is taken for all.
+# A line has, in this order: the name; the prefix and the map of the opcode; the bit W, where `-` is either; the opcode,
+# and after a slash the number that stands in place of r; the operands; the bytes that m has in memory; and, if m may be
+# one lane there that is taken for all lanes, the bytes of that lane.
 #
-# An operand: r and m are those of the byte after the opcode, of which m may stand in memory, v is that of the prefix, k
-# a mask in place of r, g a register of the processor in place of m, and i a number.
+# An operand is a letter. The byte after the opcode names the vectors r and m, of which m may stand in memory instead; the
+# prefix names the vector v. A k is a mask in place of r, a g a register of the processor in place of m, an i a number.
 LINES = """
 paddb       66 0F   - FC   rvm  whole
 paddusb     66 0F   - DC   rvm  whole
@@ -47,7 +47,7 @@ inserti64x4 66 0F3A 1 3A   rvmi 32
 PREFIXES, MAPS = ["", "66", "F3", "F2"], ["", "0F", "0F38", "0F3A"]
 VECTORS = {16: "xmm", 32: "ymm", 64: "zmm"}
 PROCESSORS = "eax ecx edx ebx esp ebp esi edi".split() + [f"r{at}d" for at in range(8, 16)]
-# What Capstone reads in place of prefix and opcode: a move between a vector and m.
+# What Capstone reads in place of prefix and opcode is vmovdqu from m, after the bits that extend registers.
 REGISTERS, MOVE = 0xe0, bytes([0x7e, 0x6f])
 
 
