@@ -76,7 +76,7 @@ ENDED = @echo "make $@ took $$(($$(date +%s) - $(BEGAN))) s; left out: $(1)"
 
 # What runs beside another takes what processors there are.
 .NOTPARALLEL:
-CURRENT = current $(PROGRAMS:%=current/%)
+CURRENT = check-generated $(PROGRAMS:%=current/%)
 .PHONY: all lib $(PROGRAMS) $(CURRENT) anew generate test test-c check deep dist install uninstall vendor help clean
 
 all: lib $(MADE_PROGRAMS)
@@ -84,8 +84,8 @@ lib: $(ARCHIVE) $(SHARED)
 $(PROGRAMS): %: $(if $(MADE_PROGRAMS),$(OUT)/%$(EXE))
 	$(if $(MADE_PROGRAMS),,$(error there is no assembly of $@ for $(TARGET) $(SYSTEM)))
 
-$(CURRENT): current%:
-	@UNPROVED=$(UNPROVED) scripts/current generated$*
+$(CURRENT): check-generated%:
+	@UNPROVED=$(UNPROVED) scripts/check-generated generated$*
 
 generate:
 	@scripts/generate $(QUIET)
@@ -95,12 +95,12 @@ LINES = $(foreach word,$(WORDS),'$(word) = $(subst ','\'',$($(word)))')
 $(BUILT): $(shell [ -d $(OUT) ] && [ "$$(cat $(BUILT) 2>&1)" = "$$(printf '%s\n' $(LINES))" ] || echo anew)
 	@mkdir -p $(OUT) && printf '%s\n' $(LINES) >$(MADE) && $(DONE)
 
-$(OUT)/builds.o: generated/builds.S $(wildcard generated/*.s) $(C)/assembly.h | current
+$(OUT)/builds.o: generated/builds.S $(wildcard generated/*.s) $(C)/assembly.h | check-generated
 $(PROGRAMS:%=$(OUT)/%.o): $(OUT)/%.o: generated/%/builds.S $(wildcard generated/*/*.s) | current/%
 $(OUT)/builds.o $(PROGRAMS:%=$(OUT)/%.o): $(wildcard generated/*.inc) $(BUILT)
 	$(COMPILE) $(CFLAGS) -Wno-unused-command-line-argument -c -o $(MADE) $(filter %.S,$^) && $(DONE)
 
-$(OUT)/dispatch.o: $(C)/dispatch.c $(wildcard $(C)/*.h) $(BUILT) | current
+$(OUT)/dispatch.o: $(C)/dispatch.c $(wildcard $(C)/*.h) $(BUILT) | check-generated
 	$(COMPILE) -ffunction-sections $(CFLAGS) -std=c11 -fPIC -fno-lto -fno-stack-protector -c -o $(MADE) $< && $(DONE)
 
 $(ARCHIVE): $(OBJECTS)
@@ -135,7 +135,7 @@ test-c: all $(firstword $(LOADED))
 	$(TRY) tests/c/library.c $(ARCHIVE) && $(RUNS) && $(RUNS) threads
 	$(if $(LOADED),$(TRY) tests/c/library.c $(LOADED) && $(RUNS))
 	$(TRY) examples/c/digits.c $(ARCHIVE) && $(RUNS)
-	$(if $(filter x86_64,$(TARGET)),$(TRY) tests/c/choice.c $(ARCHIVE) && $(RUNS))
+	$(if $(filter x86_64,$(TARGET)),$(TRY) tests/c/dispatch.c $(ARCHIVE) && $(RUNS))
 	$(if $(filter x86_64,$(TARGET)),$(TRY) tests/c/portable.c $(ARCHIVE) && $(RUNS))
 ifneq ($(MADE_PROGRAMS),)
 	printf hello | $(RUN) $(OUT)/fhex$(EXE) encode | $(RUN) $(OUT)/fhex$(EXE) decode | grep -qx hello

@@ -57,7 +57,7 @@ sum_of() {
         ! is_built "$1" || cat scripts/build.sh
         for it in $(below "$1"); do
             echo "$version $it: $(uses "$it")"
-            scripts/sources "$it"
+            scripts/checksum "$it"
         done
     } | cksum
 }

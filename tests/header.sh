@@ -72,7 +72,7 @@ proved() {
     crates=$(scripts/repository.py below "$2" | sort)
     told=$(sed -n 's/ logic=proved .*//p' "$1/PROVED" | sort -u)
     [ "$told" = "$crates" ] || { echo "$1/PROVED tells of" $told ", and not of" $crates && return 1; }
-    grep -qxF "sources $(scripts/sources $crates)" "$1/PROVED" ||
+    grep -qxF "sources $(scripts/checksum $crates)" "$1/PROVED" ||
         { echo "$1/PROVED is of other sources: \`make generate\` makes it anew" && return 1; }
     prover=$(sed -n 's/^prover //p' "$1/PROVED")
     grep -qF "\`$prover\`" README.md || { echo "README.md does not name the prover $prover" && return 1; }

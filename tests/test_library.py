@@ -43,13 +43,13 @@ def test_model(tmp_path, library, model):
     takes(tmp_path, model, program, PRINTED)
 
 
-def test_choice(tmp_path, library):
+def test_dispatch(tmp_path, library):
     compiled(CC, tmp_path / "dispatch.o", "-std=c11", "-c", CRATE / "dispatch.c")
-    passes([compiled(CC, tmp_path / "choice", "-std=gnu99", TESTS_IN_C / "choice.c", library / "libfaster_hex.a")])
+    passes([compiled(CC, tmp_path / "dispatch", "-std=gnu99", TESTS_IN_C / "dispatch.c", library / "libfaster_hex.a")])
 
 
 def test_two_copies_and_calls_that_are_not_made(tmp_path, library):
-    words = ["-Wl,--gc-sections", TESTS_IN_C / "copies.c", library / "libfaster_hex.a", "-ldl"]
-    program = compiled(CC, tmp_path / "copies", *BUILT, *words)
+    words = ["-Wl,--gc-sections", TESTS_IN_C / "loading.c", library / "libfaster_hex.a", "-ldl"]
+    program = compiled(CC, tmp_path / "loading", *BUILT, *words)
     passes([program, shared_of(tmp_path, library)[0]])
     assert "faster_hex_check" not in ran(["nm", program]).stdout

@@ -4,8 +4,8 @@ use Rattle.std.specs.Io.KnownBytes.{Consumes, IsAtEnd}
 use Rattle.hex_core.specs.declared.error.Error.TheVariants.{Overflow}
 use Rattle.hex_core.specs.Text.{lowercase}
 use Rattle.hex_codec.specs.declared.group.Group.{Group}
-use Rattle.hex_codec.specs.Grouped.{grouped}
-use Rattle.hex_io.specs.Sink.{SinkState, Stops, Takes}
+use Rattle.hex_codec.specs.GroupedWriting.{grouped}
+use Rattle.hex_io.specs.SinkState.{SinkState, Stops, Takes}
 use Rattle.hex_io.specs.declared.stream.StreamFault.{StreamFault}
 use Rattle.hex_io.specs.declared.stream.StreamFault.TheVariants.{Codec, Read, Write}
 

@@ -56,10 +56,10 @@ fn is_accepted(digits: &[u8]) -> bool
 /// Returns the index of the first of eight bytes that is not a digit, if decoding them names one.
 ///
 /// ```rust
-/// assert_eq!(rt; bad_place(b"deadbe3g"), Some(7));
-/// assert_eq!(rt; bad_place(b"deadbeef"), None);
+/// assert_eq!(rt; invalid_place(b"deadbe3g"), Some(7));
+/// assert_eq!(rt; invalid_place(b"deadbeef"), None);
 /// ```
-pub fn bad_place(text: &[u8]) -> Option<usize>
+pub fn invalid_place(text: &[u8]) -> Option<usize>
     ensures bad { IfSome result (λ i. (i < length text.now) × (value policy.None (slice_index text.now i) ≡ None)) }
     ensures eight { length text.now ≡ 8 → result ≡ first_invalid policy.None text.now }
 {

@@ -2,8 +2,8 @@
 
 ghost use Rattle.std.specs.Prelude.{◌≡◌, ◌++◌, ◌∷◌, []};
 ghost use Rattle.hex_core.specs.Text.{lowercase, text};
-ghost use Rattle.hex_codec.specs.Grouped.{grouped};
-ghost use Rattle.hex_io.specs.Sink.{Puts};
+ghost use Rattle.hex_codec.specs.GroupedWriting.{grouped};
+ghost use Rattle.hex_io.specs.SinkState.{Puts};
 
 use faster_hex::format::{put_all, put_digits};
 use faster_hex::{Group, Sink, WriteFault};

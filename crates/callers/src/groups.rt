@@ -4,9 +4,9 @@ ghost use Rattle.std.specs.Prelude.{◌≡◌, ◌↔◌, IsTrue, ◌<◌, ◌�
 ghost use Rattle.hex_core.specs.declared.digit.CheckCase.TheVariants as policy;
 ghost use Rattle.hex_core.specs.Calls.{Fills};
 ghost use Rattle.hex_core.specs.Text.{lowercase};
-ghost use Rattle.hex_codec.specs.Grouped.{grouped, piece_len, pieces, separator};
-ghost use Rattle.hex_codec.specs.GroupedText.{GroupSpells, group_refusal};
-ghost use Rattle.hex_io.specs.Sink.{Puts};
+ghost use Rattle.hex_codec.specs.GroupedWriting.{grouped, piece_len, pieces, separator};
+ghost use Rattle.hex_codec.specs.GroupedReading.{GroupSpells, group_refusal};
+ghost use Rattle.hex_io.specs.SinkState.{Puts};
 
 use faster_hex::format::{put_all, put_digits};
 use faster_hex::grouped::{self, GroupFault, read_into, write_into};

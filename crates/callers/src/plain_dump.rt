@@ -2,8 +2,8 @@
 
 ghost use Rattle.std.specs.Prelude.{◌≡◌, ◌++◌, ◌∷◌, ℕ, List, [], IfOk, length};
 ghost use Rattle.hex_core.specs.Laws.{AreBytes};
-ghost use Rattle.hex_codec.specs.Grouped.{piece_len, separator};
-ghost use Rattle.hex_io.specs.Sink.{Puts, Takes};
+ghost use Rattle.hex_codec.specs.GroupedWriting.{piece_len, separator};
+ghost use Rattle.hex_io.specs.SinkState.{Puts, Takes};
 ghost use Rattle.callers.specs.PlainDumps.{Dumps, line_end, plain_dump};
 
 use faster_hex::format::put_all;

@@ -3,7 +3,7 @@
 ghost use Rattle.std.specs.Prelude.{◌≡◌, ◌≤◌, ◌++◌, ◌∷◌, [], ℕ, List, IfNone, IfSome, MatchOption, Some, length};
 ghost use Rattle.hex_core.specs.Laws.{AreBytes};
 ghost use Rattle.hex_core.specs.Text.{lowercase, text, with_front};
-ghost use Rattle.hex_codec.specs.Grouped.{grouped};
+ghost use Rattle.hex_codec.specs.GroupedWriting.{grouped};
 
 use faster_hex::grouped::read_into;
 use faster_hex::{CheckCase, Group, hex_decode_array_with_case};

@@ -1,5 +1,7 @@
 -- Bytes in a JSON value: what writing makes, and what reading returns and refuses.
-use Rattle.std.specs.Prelude.{◌≡◌, ◌≢◌, ◌<◌, ◌≤◌, ◌^◌, ◌⊎◌, ℕ, ◌/◌, ◌%◌, ◌==◌, nat_lt, if◌then◌else◌, List, [], ◌++◌, length, take, drop, codes, Option, Some, None, option_map, Result, Ok, Err, IfOk, MatchResult, vec_items, ⊤}
+use Rattle.std.specs.Prelude.{◌≡◌, ◌≢◌, ◌<◌, ◌≤◌, ◌^◌, ◌⊎◌, ℕ, ◌/◌, ◌%◌, ◌==◌, nat_lt, if◌then◌else◌, List, [], ◌++◌}
+use Rattle.std.specs.Prelude.{length, take, drop, codes, Option, Some, None, option_map, Result, Ok, Err, IfOk}
+use Rattle.std.specs.Prelude.{MatchResult, vec_items, ⊤}
 use Rattle.std.specs.Option.{ForSome}
 use Rattle.std.specs.Str.{bytes_eq}
 use Rattle.std.specs.declared.vec.Vec.{Vec}
@@ -11,7 +13,7 @@ use Rattle.hex_core.specs.declared.digit.CheckCase.{CheckCase}
 use Rattle.hex_core.specs.declared.digit.CheckCase.TheVariants as policy
 use Rattle.hex_core.specs.declared.error.Error.TheVariants as codec
 use Rattle.hex_core.specs.Digit.{strict}
-use Rattle.hex_core.specs.Refusal.{array_refusal, first_bad_char}
+use Rattle.hex_core.specs.Refusal.{array_refusal, first_invalid_char}
 use Rattle.hex_core.specs.Text.{Spells, text}
 use Rattle.hex_codec.specs.Failure.{GrowthFailure}
 use Rattle.faster_hex.specs.declared.adapters.WireFormat.{WireFormat}
@@ -73,10 +75,10 @@ Within (Some max) n = n ≤ max
 
 -- what a read refuses of a payload: more bytes than the bound, else the first invalid byte
 abbrev pub refusal_of_payload : Option ℕ → CheckCase → List ℕ → Option AdapterError
-refusal_of_payload None c s = option_map Codec (first_bad_char c s)
+refusal_of_payload None c s = option_map Codec (first_invalid_char c s)
 refusal_of_payload (Some max) c s =
     if nat_lt max (length s / 2) then Some (OverBound max (length s / 2))
-    else option_map Codec (first_bad_char c s)
+    else option_map Codec (first_invalid_char c s)
 
 -- what a read refuses; a failed allocation is no refusal
 abbrev pub refusal_of : (List ℕ → Option AdapterError) → Result (List ℕ) AdapterError → Option AdapterError

@@ -11,7 +11,7 @@ use Rattle.hex_codec.specs.declared.group.Group.{Group}
 use Rattle.hex_codec.specs.declared.grouped.GroupFault.{GroupFault}
 use Rattle.hex_codec.specs.declared.grouped.GroupFault.TheVariants as fault
 use Rattle.hex_codec.specs.GroupCalls.{Reads, WritesGrouped}
-use Rattle.hex_codec.specs.Grouped.{MakesGroup}
+use Rattle.hex_codec.specs.GroupedWriting.{MakesGroup}
 use Rattle.faster_hex_c.specs.declared.Answer.{Answer}
 
 -- the policy that a number names

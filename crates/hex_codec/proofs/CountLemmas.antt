@@ -5,8 +5,8 @@ use Rattle.std.proofs.lemmas.Bool.Decides.{nat_tests}
 use Rattle.std.proofs.lemmas.Nat.{div-add-mod', div-mul-add, le-div, mod-mul-add, mod_below}
 use Rattle.std.proofs.Math.Nat.{div-le_self, div-mul-le_self, zero-div, zero-mod}
 use Rattle.hex_core.proofs.PositionLemmas.{least_is, least_none, least_told}
-use Rattle.hex_codec.specs.Grouped.{piece_count}
-use Rattle.hex_codec.specs.GroupedText.{byte_count, grouped_len, refusal_of_count}
+use Rattle.hex_codec.specs.GroupedWriting.{piece_count}
+use Rattle.hex_codec.specs.GroupedReading.{byte_count, grouped_len, refusal_of_count}
 
 -- ---- lengths
 

@@ -11,8 +11,8 @@ use Rattle.std.specs.List.{join_by, range_with_len}
 use Rattle.hex_core.specs.Text.{text}
 use Rattle.hex_core.proofs.TextLemmas.{length-text}
 use Rattle.hex_codec.specs.declared.group.Group.{Group}
-use Rattle.hex_codec.specs.Grouped.{grouped, piece_count, piece_len, pieces, separator}
-use Rattle.hex_codec.specs.GroupedText.{grouped_len}
+use Rattle.hex_codec.specs.GroupedWriting.{grouped, piece_count, piece_len, pieces, separator}
+use Rattle.hex_codec.specs.GroupedReading.{grouped_len}
 
 -- ---- pieces
 

@@ -1,6 +1,8 @@
 -- What a grouped text is made of.
-use Rattle.std.proofs.Common.{◌≡◌, ◌⊎◌, not, ◌==◌, if◌then◌else◌, true, false, Option, None, inl, inr, ℕ, zero, suc, ◌+◌, ◌*◌, ◌%◌, ◌<◌, ◌≤◌}
-use Rattle.std.proofs.Common.{Bool, refl, sym, ap, ◌∙◌, arith, List, ◌∷◌, ◌++◌, length, take, drop, All, Some, length-drop, take-append-drop}
+use Rattle.std.proofs.Common.{◌≡◌, ◌⊎◌, not, ◌==◌, if◌then◌else◌, true, false, Option, None, inl, inr, ℕ, zero, suc}
+use Rattle.std.proofs.Common.{◌+◌, ◌*◌, ◌%◌, ◌<◌, ◌≤◌}
+use Rattle.std.proofs.Common.{Bool, refl, sym, ap, ◌∙◌, arith, List, ◌∷◌, ◌++◌, length, take, drop, All, Some}
+use Rattle.std.proofs.Common.{length-drop, take-append-drop}
 use Rattle.std.specs.Prelude.{IsSome, is_none}
 use Rattle.std.proofs.lemmas.Bool.{cases_lt}
 use Rattle.std.proofs.lemmas.List.{drop_more}
@@ -13,14 +15,15 @@ use Rattle.hex_core.proofs.LawProofs.{decoding-inverts, encoding-inverts, valid-
 use Rattle.hex_core.proofs.PositionLemmas.{none_told}
 use Rattle.hex_core.proofs.SearchLemmas.{none_valid}
 use Rattle.hex_codec.specs.declared.group.Group.{Group}
-use Rattle.hex_codec.specs.Grouped.{grouped, piece_len, separator}
-use Rattle.hex_codec.specs.GroupLaws.{GroupSpellsOneList, GroupingInvertsStrictReading, ReadingInvertsGrouping, ReadsWhatGroupSpells, TextsAreDigits}
-use Rattle.hex_codec.specs.GroupedText.{GroupSpells, digits_in, is_wrong}
+use Rattle.hex_codec.specs.GroupedWriting.{grouped, piece_len, separator}
+use Rattle.hex_codec.specs.GroupLaws.{GroupSpellsOneList, GroupingInvertsStrictReading, ReadingInvertsGrouping}
+use Rattle.hex_codec.specs.GroupLaws.{ReadsWhatGroupSpells, TextsAreDigits}
+use Rattle.hex_codec.specs.GroupedReading.{GroupSpells, digits_in, is_invalid_in_text}
 use Rattle.hex_codec.proofs.GroupLemmas.{grouped-last, grouped-more, joined-pieces, pieces-next}
 use Rattle.hex_codec.proofs.ReadBack.{read-back, read-spells, spells-read}
 use Rattle.hex_codec.proofs.PartLemmas.{first-part, last-spelled}
 use Rattle.hex_codec.proofs.SpelledLemmas.{one_list}
-use Rattle.hex_codec.proofs.WrongLemmas.{same-byte, spells-clear}
+use Rattle.hex_codec.proofs.InvalidInText.{same-byte, spells-clear}
 
 -- ---- written, and read
 
@@ -53,7 +56,7 @@ made group upper bytes are =
     let none = spells-clear (strict upper) group _ bytes (written-read group upper bytes are).0 in
     All-from_get_or (IsDigitOrSeparator upper group) (grouped group upper bytes) 0 (λ k lt.
     not-wrong (k % (2 * piece_len group + 1) == 2 * piece_len group) group upper _ _ refl
-    (none_told (is_wrong (strict upper) group (grouped group upper bytes)) (length (grouped group upper bytes)) none k lt))
+    (none_told (is_invalid_in_text (strict upper) group (grouped group upper bytes)) (length (grouped group upper bytes)) none k lt))
 
 pub text-digits : TextsAreDigits
 text-digits upper bytes all =

@@ -7,4 +7,4 @@ mod ReadBack
 mod SpelledLemmas
 mod PartLemmas
 mod WriteLemmas
-mod WrongLemmas
+mod InvalidInText

@@ -8,8 +8,8 @@ use Rattle.hex_core.specs.declared.digit.CheckCase.{CheckCase}
 use Rattle.hex_core.specs.Text.{Spells}
 use Rattle.hex_core.proofs.JoinLemmas.{spells-joined, spells-parts}
 use Rattle.hex_codec.specs.declared.group.Group.{Group}
-use Rattle.hex_codec.specs.Grouped.{piece_len, separator}
-use Rattle.hex_codec.specs.GroupedText.{GroupSpells, digits_in, grouped_len, parts, separators_in}
+use Rattle.hex_codec.specs.GroupedWriting.{piece_len, separator}
+use Rattle.hex_codec.specs.GroupedReading.{GroupSpells, digits_in, grouped_len, parts, separators_in}
 use Rattle.hex_codec.proofs.GroupLemmas.{len-last, len-more, no_pieces, pieces-next}
 
 -- the first part of a text, and those behind it

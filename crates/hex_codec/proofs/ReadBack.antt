@@ -1,6 +1,8 @@
 -- A text that was written in groups is read back, and one that is read spells a list.
-use Rattle.std.proofs.Common.{◌≡◌, ◌⊎◌, inl, inr, Bool, ℕ, zero, suc, ◌+◌, ◌-◌, ◌*◌, ◌/◌, ◌<◌, ◌≤◌, refl, sym, ap, ◌∙◌, arith, Option, Some, None}
-use Rattle.std.proofs.Common.{List, ◌∷◌, ◌++◌, length, take, drop, get_or, slice_index, option_map, length-append, length-drop, take-append-drop}
+use Rattle.std.proofs.Common.{◌≡◌, ◌⊎◌, inl, inr, Bool, ℕ, zero, suc, ◌+◌, ◌-◌, ◌*◌, ◌/◌, ◌<◌, ◌≤◌, refl, sym, ap, ◌∙◌}
+use Rattle.std.proofs.Common.{arith, Option, Some, None}
+use Rattle.std.proofs.Common.{List, ◌∷◌, ◌++◌, length, take, drop, get_or, slice_index, option_map, length-append}
+use Rattle.std.proofs.Common.{length-drop, take-append-drop}
 use Rattle.std.proofs.Math.Seq.{drop-append_seam, take-append_seam}
 use Rattle.std.proofs.lemmas.Bool.{cases_lt}
 use Rattle.std.proofs.lemmas.Bool.Decides.{nat_tests}
@@ -13,12 +15,12 @@ use Rattle.hex_core.proofs.TextLemmas.{length-text, text-append}
 use Rattle.hex_codec.specs.declared.group.Group.{Group}
 use Rattle.hex_codec.specs.declared.grouped.GroupFault.{GroupFault}
 use Rattle.hex_codec.specs.declared.grouped.GroupFault.TheVariants.{InvalidByte}
-use Rattle.hex_codec.specs.Grouped.{grouped, piece_len, separator}
-use Rattle.hex_codec.specs.GroupedText.{GroupSpells, byte_count, first_wrong, group_refusal, grouped_len, refusal_of_count}
+use Rattle.hex_codec.specs.GroupedWriting.{grouped, piece_len, separator}
+use Rattle.hex_codec.specs.GroupedReading.{GroupSpells, byte_count, first_invalid_in_text, group_refusal, grouped_len, refusal_of_count}
 use Rattle.hex_codec.proofs.CountLemmas.{count-is, count-told}
 use Rattle.hex_codec.proofs.GroupLemmas.{grouped-last, grouped-more, len-last, len-more}
 use Rattle.hex_codec.proofs.PartLemmas.{spells-last, spells-more}
-use Rattle.hex_codec.proofs.WrongLemmas.{clear-last, clear-part, spells-clear}
+use Rattle.hex_codec.proofs.InvalidInText.{clear-last, clear-part, spells-clear}
 
 module _ (c : CheckCase) (group : Group) where
   abbrev every : ℕ
@@ -63,7 +65,7 @@ module _ (c : CheckCase) (group : Group) where
   has-count None f room h = cc
   has-count (Some n) f room h = (n, refl)
 
-  spelled : (fuel n : ℕ) (s : List ℕ) → n ≤ fuel → length s ≡ grouped_len every n → first_wrong c group s ≡ None
+  spelled : (fuel n : ℕ) (s : List ℕ) → n ≤ fuel → length s ≡ grouped_len every n → first_invalid_in_text c group s ≡ None
       → (every < n) ⊎ (n ≤ every) → (bytes : List ℕ) × (length bytes ≡ n) × GroupSpells c group s bytes
   spelled fuel n s fits long none (inr short) =
       let size : length s ≡ 2 * n = long ∙ len-last every n group.is_group.0 short in
@@ -86,7 +88,7 @@ module _ (c : CheckCase) (group : Group) where
   pub read-spells : (s : List ℕ) (room : ℕ) → group_refusal c group s room ≡ None
       → (bytes : List ℕ) × GroupSpells c group s bytes × (length bytes ≤ room)
   read-spells s room h =
-      let fault = option_map (λ i. InvalidByte i (slice_index s i)) (first_wrong c group s) in
+      let fault = option_map (λ i. InvalidByte i (slice_index s i)) (first_invalid_in_text c group s) in
       let (n, is) = has-count (byte_count every (length s)) fault room h in
       let none : refusal_of_count (Some n) fault room ≡ None = rw is at h in
       let (bytes, count, spells) = spelled n n s (omega arith) (sym (count-told every (length s) n is)) (grind (arith, nat_tests, none)) (cases_lt every n) in

@@ -10,7 +10,7 @@ use contract.Monad.{fact, fact_i}
 use denote.Triple.Walked.{needs}
 use seplogic.Ra.Ura.{Ura}
 use Rattle.hex_core.specs.Calls.{Decodes, DecodesFront}
-use Rattle.hex_core.specs.Refusal.{decode_refusal, first_bad_char}
+use Rattle.hex_core.specs.Refusal.{decode_refusal, first_invalid_char}
 use Rattle.hex_core.specs.Text.{Spells}
 use Rattle.hex_core.proofs.LawProofs.{valid-spelled}
 use Rattle.hex_codec.specs.Calls.{FrontIsSpelled, LentIsSpelled}
@@ -24,12 +24,12 @@ one_list c s xs ys first second =
     let low : get_or xs k 0 % 16 ≡ get_or ys k 0 % 16 = cc (x.low, y.low) in
     omega arith)
 
-pub none_bad : (c : CheckCase) (s bytes : List ℕ) → Spells c s bytes → first_bad_char c s ≡ None
-none_bad c s bytes spelled = rw (valid-spelled c s bytes spelled) refl
+pub none_invalid : (c : CheckCase) (s bytes : List ℕ) → Spells c s bytes → first_invalid_char c s ≡ None
+none_invalid c s bytes spelled = rw (valid-spelled c s bytes spelled) refl
 
 accepted : (c : CheckCase) (s bytes : List ℕ) (room : ℕ) → Spells c s bytes → length bytes ≤ room → decode_refusal c s room ≡ None
 accepted c s bytes room spelled fits =
-    let none = none_bad c s bytes spelled in let twice = spelled.twice in grind (arith, nat_tests)
+    let none = none_invalid c s bytes spelled in let twice = spelled.twice in grind (arith, nat_tests)
 
 pub front_spelled : (c : CheckCase) (s old new : List ℕ) (result : Result ℕ Error) → Decodes c s old new result → FrontIsSpelled c s old new result
 front_spelled c s old new (Ok n) answer = λ bytes spelled fits.

@@ -11,12 +11,12 @@ use Rattle.hex_core.specs.Search.{first_invalid}
 use Rattle.hex_core.specs.Text.{Spells, text}
 use Rattle.hex_core.proofs.TextLemmas.{length-text}
 use Rattle.hex_codec.specs.declared.group.Group.{Group}
-use Rattle.hex_codec.specs.Grouped.{grouped, piece_len, separator}
-use Rattle.hex_codec.specs.GroupedText.{GroupSpells, first_wrong, grouped_len}
+use Rattle.hex_codec.specs.GroupedWriting.{grouped, piece_len, separator}
+use Rattle.hex_codec.specs.GroupedReading.{GroupSpells, first_invalid_in_text, grouped_len}
 use Rattle.hex_codec.proofs.GroupLemmas.{grouped-last, grouped-more, len-last, len-more}
 use Rattle.hex_codec.proofs.ListLemmas.{put-behind}
 use Rattle.hex_codec.proofs.PartLemmas.{spells-last, spells-more}
-use Rattle.hex_codec.proofs.WrongLemmas.{Clear, clear-part, digit-wrong, last-wrong, part-clear, separator-wrong}
+use Rattle.hex_codec.proofs.InvalidInText.{Clear, clear-part, digit-invalid, last-invalid, part-clear, separator-wrong}
 
 -- ---- testing
 
@@ -30,7 +30,7 @@ module _ (c : CheckCase) (group : Group) where
   -- no byte before a place is wrong, and behind it is the text of this many bytes
   pub record Tests (s : List ℕ) (at left : ℕ) : Type 0 where
     pub long : length s ≡ at + grouped_len every left
-    pub rest : first_wrong c group s ≡ option_map (λ i. at + i) (first_wrong c group (drop at s))
+    pub rest : first_invalid_in_text c group s ≡ option_map (λ i. at + i) (first_invalid_in_text c group (drop at s))
 
   further : (a b : ℕ) (o : Option ℕ) → option_map (λ i. a + i) (option_map (λ i. b + i) o) ≡ option_map (λ i. a + b + i) o
   further a b None = refl
@@ -46,11 +46,11 @@ module _ (c : CheckCase) (group : Group) where
   mark-at : (s : List ℕ) (at : ℕ) → get_or (drop at s) n 0 ≡ get_or s (at + n) 0
   mark-at s at = get_or-drop at s n 0
 
-  pub tests-digit : (s : List ℕ) (at left i : ℕ) → Tests s at left → first_invalid c (take n (drop at s)) ≡ Some i → first_wrong c group s ≡ Some (at + i)
-  tests-digit s at left i so_far first = so_far.rest ∙ ap (option_map (λ i. at + i)) (digit-wrong c group (drop at s) i first)
+  pub tests-digit : (s : List ℕ) (at left i : ℕ) → Tests s at left → first_invalid c (take n (drop at s)) ≡ Some i → first_invalid_in_text c group s ≡ Some (at + i)
+  tests-digit s at left i so_far first = so_far.rest ∙ ap (option_map (λ i. at + i)) (digit-invalid c group (drop at s) i first)
 
   pub tests-mark : (s : List ℕ) (at left : ℕ) → Tests s at left → every < left → first_invalid c (take n (drop at s)) ≡ None
-      → (get_or s (at + n) 0 ≡ separator group → ⊥) → first_wrong c group s ≡ Some (at + n)
+      → (get_or s (at + n) 0 ≡ separator group → ⊥) → first_invalid_in_text c group s ≡ Some (at + n)
   tests-mark s at left so_far more valid differs =
       so_far.rest ∙ ap (option_map (λ i. at + i))
       (separator-wrong c group (drop at s) (reached s at left so_far.long more) valid (λ e. differs (sym (mark-at s at) ∙ e)))
@@ -71,9 +71,9 @@ module _ (c : CheckCase) (group : Group) where
   last-size s at left long short = omega (arith, long, len-last every left group.is_group.0 short, length-drop at s)
 
   pub tests-last : (s : List ℕ) (at left : ℕ) (o : Option ℕ) → Tests s at left → left ≤ every → first_invalid c (drop at s) ≡ o
-      → first_wrong c group s ≡ option_map (λ i. at + i) o
+      → first_invalid_in_text c group s ≡ option_map (λ i. at + i) o
   tests-last s at left o so_far short first =
-      so_far.rest ∙ ap (option_map (λ i. at + i)) (last-wrong c group (drop at s) o (omega (arith, last-size s at left so_far.long short, short)) first)
+      so_far.rest ∙ ap (option_map (λ i. at + i)) (last-invalid c group (drop at s) o (omega (arith, last-size s at left so_far.long short, short)) first)
 
   -- ---- reading
 
@@ -81,7 +81,7 @@ module _ (c : CheckCase) (group : Group) where
   pub record ReadsRest (s new : List ℕ) (at done : ℕ) : Type 0 where
     pub room : done ≤ length new
     pub long : length s ≡ at + grouped_len every (length new - done)
-    pub clear : first_wrong c group (drop at s) ≡ None
+    pub clear : first_invalid_in_text c group (drop at s) ≡ None
     pub spells : (bytes : List ℕ) → GroupSpells c group (drop at s) bytes → GroupSpells c group s (take done new ++ bytes)
 
   pub next-clear : (s new : List ℕ) (at done : ℕ) → ReadsRest s new at done → every < length new - done → Clear c group (drop at s)

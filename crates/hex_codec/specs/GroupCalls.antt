@@ -8,8 +8,8 @@ use Rattle.hex_core.specs.Refusal.{room_refusal}
 use Rattle.hex_core.specs.Text.{with_front}
 use Rattle.hex_codec.specs.declared.group.Group.{Group}
 use Rattle.hex_codec.specs.declared.grouped.GroupFault.{GroupFault}
-use Rattle.hex_codec.specs.Grouped.{grouped, piece_len}
-use Rattle.hex_codec.specs.GroupedText.{GroupSpells, group_refusal, grouped_len}
+use Rattle.hex_codec.specs.GroupedWriting.{grouped, piece_len}
+use Rattle.hex_codec.specs.GroupedReading.{GroupSpells, group_refusal, grouped_len}
 
 -- reading to the start of a destination: writes what the text spells
 abbrev pub Reads : CheckCase → Group → List ℕ → List ℕ → List ℕ → Result ℕ GroupFault → Type 0

@@ -6,8 +6,8 @@ use Rattle.hex_core.specs.Digit.{strict, value}
 use Rattle.hex_core.specs.Laws.{AreBytes}
 use Rattle.hex_core.specs.Text.{text}
 use Rattle.hex_codec.specs.declared.group.Group.{Group}
-use Rattle.hex_codec.specs.Grouped.{grouped, piece_len, pieces, separator}
-use Rattle.hex_codec.specs.GroupedText.{GroupSpells, group_refusal, grouped_len}
+use Rattle.hex_codec.specs.GroupedWriting.{grouped, piece_len, pieces, separator}
+use Rattle.hex_codec.specs.GroupedReading.{GroupSpells, group_refusal, grouped_len}
 
 -- what is written in groups is read as the same bytes, under the text's own case or either
 abbrev pub ReadingInvertsGrouping : Type 0

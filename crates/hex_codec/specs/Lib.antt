@@ -4,6 +4,6 @@ pub mod Failure
 pub mod GroupCalls
 pub mod GroupLaws
 pub mod GroupMessage
-pub mod Grouped
-pub mod GroupedText
-pub mod Groups
+pub mod GroupedWriting
+pub mod GroupedReading
+pub mod GroupRule

@@ -5,7 +5,7 @@ ghost use Rattle.std.specs.Borrow.{sem};
 ghost use Rattle.hex_core.specs.declared.digit.CheckCase.TheVariants as policy;
 ghost use Rattle.hex_core.specs.Calls.{Answers, Decodes, DecodesFront};
 ghost use Rattle.hex_core.specs.Loan.{LendsAnswer};
-ghost use Rattle.hex_core.specs.Refusal.{first_bad_char};
+ghost use Rattle.hex_core.specs.Refusal.{first_invalid_char};
 ghost use Rattle.hex_core.specs.Search.{first_invalid};
 ghost use Rattle.hex_core.specs.Text.{Spells};
 ghost use Rattle.hex_codec.specs.Calls.{ArrayIsSpelled, DecodesArray, DecodesVec, FrontIsSpelled, LentIsSpelled, VecIsSpelled};
@@ -255,7 +255,7 @@ const OWNED_OVER: usize = 1024;
 #[inline(always)]
 fn decode_discarding(src: &[u8], dst: &mut [u8], case: CheckCase) -> Result<(), Error>
     requires { length src.now ≡ 2 * length dst.old }
-    ensures { Answers (first_bad_char case src.now) (λ _. Spells case src.now dst.new) result }
+    ensures { Answers (first_invalid_char case src.now) (λ _. Spells case src.now dst.new) result }
 {
     let decoded = if dst.len() > OWNED_OVER {
         Backend::plain().decode_owned(src, dst, case)

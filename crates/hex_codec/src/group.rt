@@ -1,6 +1,6 @@
 //! How digits are grouped.
 
-ghost use Rattle.hex_codec.specs.Groups.{IsGroup};
+ghost use Rattle.hex_codec.specs.GroupRule.{IsGroup};
 
 use hex_core::{CheckCase, digit_value};
 
@@ -20,7 +20,7 @@ pub struct Group {
 
 impl Group {
     ghost use Rattle.std.specs.Prelude.{◌≡◌};
-    ghost use Rattle.hex_codec.specs.Grouped.{MakesGroup, piece_len, separator};
+    ghost use Rattle.hex_codec.specs.GroupedWriting.{MakesGroup, piece_len, separator};
 
     /// Returns pieces of `every` bytes with `sep` between them, or `None` if `every` is 0, or if
     /// `sep` is not ASCII or is a hex digit.

@@ -6,13 +6,13 @@ ghost use Rattle.std.specs.Prelude.{◌≡◌, ◌≤◌, ◌<◌, ◌^◌, Matc
 ghost use Rattle.std.specs.Borrow.{sem};
 ghost use Rattle.hex_core.specs.Calls.{Answers};
 ghost use Rattle.hex_core.specs.Loan.{LendsAnswer};
-ghost use Rattle.hex_codec.specs.Grouped.{piece_len};
-ghost use Rattle.hex_codec.specs.GroupedText.{byte_count, grouped_len, refusal_of_count};
+ghost use Rattle.hex_codec.specs.GroupedWriting.{piece_len};
+ghost use Rattle.hex_codec.specs.GroupedReading.{byte_count, grouped_len, refusal_of_count};
 ghost use Rattle.hex_codec.specs.GroupCalls.{FrontIsRead, Reads, ReadsFront, WritesGrouped};
 ghost use Rattle.hex_codec.specs.GroupMessage.{group_fault_text};
 
 pub use crate::group::Group;
-use crate::pieces::{first_wrong, read_pieces, write_pieces};
+use crate::pieces::{first_invalid_in_text, read_pieces, write_pieces};
 use hex_core::{Backend, CheckCase, Error};
 use std::{error, fmt};
 
@@ -165,7 +165,7 @@ pub fn read_by(
     ensures answer { Reads case group src.now dst.old dst.new result }
 {
     let count = required(src.len(), dst.len(), group)?;
-    if let Some(index) = first_wrong(plan, src, count, group, case) {
+    if let Some(index) = first_invalid_in_text(plan, src, count, group, case) {
         return Err(GroupFault::InvalidByte {
             index,
             byte: src[index],

@@ -4,8 +4,8 @@
 ghost use Rattle.std.specs.Prelude.{◌≡◌, ◌*◌, ◌%◌, None, length};
 ghost use Rattle.hex_core.specs.Search.{first_invalid};
 ghost use Rattle.hex_core.specs.Text.{Spells, text};
-ghost use Rattle.hex_codec.specs.Grouped.{grouped, piece_len};
-ghost use Rattle.hex_codec.specs.GroupedText.{GroupSpells, first_wrong, grouped_len};
+ghost use Rattle.hex_codec.specs.GroupedWriting.{grouped, piece_len};
+ghost use Rattle.hex_codec.specs.GroupedReading.{GroupSpells, first_invalid_in_text, grouped_len};
 
 use crate::group::Group;
 use hex_core::look_ups::{are_digits, write_bytes, write_digits};
@@ -62,7 +62,7 @@ fn write_piece(plan: Backend, bytes: &[u8], digits: &mut [u8], upper: bool)
 }
 
 /// Returns the first wrong index of a text that is as long as that of `count` bytes.
-pub fn first_wrong(
+pub fn first_invalid_in_text(
     plan: Backend,
     src: &[u8],
     count: usize,
@@ -70,7 +70,7 @@ pub fn first_wrong(
     case: CheckCase,
 ) -> Option<usize>
     requires { length src.now ≡ grouped_len (piece_len group) count }
-    ensures { result ≡ first_wrong case group src.now }
+    ensures { result ≡ first_invalid_in_text case group src.now }
 {
     let every = group.every();
     let mut at = 0;
@@ -95,7 +95,7 @@ pub fn first_wrong(
 /// Decodes a text without a wrong byte over all of `dst`.
 pub fn read_pieces(plan: Backend, src: &[u8], dst: &mut [u8], group: Group, case: CheckCase)
     requires long { length src.now ≡ grouped_len (piece_len group) (length dst.old) }
-    requires clear { first_wrong case group src.now ≡ None }
+    requires clear { first_invalid_in_text case group src.now ≡ None }
     ensures { GroupSpells case group src.now dst.new }
 {
     let every = group.every();
@@ -112,7 +112,14 @@ pub fn read_pieces(plan: Backend, src: &[u8], dst: &mut [u8], group: Group, case
 
 // Writes the grouped text of `src` over all of `dst`. The toolchain inlines it for x86-64 alone.
 #[inline(always)]
-fn write_by(plan: Backend, src: &[u8], dst: &mut [u8], every: usize, group: Group, upper: bool)
+fn write_by_piece_len(
+    plan: Backend,
+    src: &[u8],
+    dst: &mut [u8],
+    every: usize,
+    group: Group,
+    upper: bool,
+)
     requires every { every ≡ piece_len group }
     requires room { length dst.old ≡ grouped_len (piece_len group) (length src.now) }
     ensures { dst.new ≡ grouped group upper src.now }
@@ -136,8 +143,8 @@ pub fn write_pieces(plan: Backend, src: &[u8], dst: &mut [u8], group: Group, upp
     ensures { dst.new ≡ grouped group upper src.now }
 {
     match group.every() {
-        1 => write_by(plan, src, dst, 1, group, upper),
-        4 => write_by(plan, src, dst, 4, group, upper),
-        every => write_by(plan, src, dst, every, group, upper),
+        1 => write_by_piece_len(plan, src, dst, 1, group, upper),
+        4 => write_by_piece_len(plan, src, dst, 4, group, upper),
+        every => write_by_piece_len(plan, src, dst, every, group, upper),
     }
 }

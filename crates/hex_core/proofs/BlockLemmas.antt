@@ -1,5 +1,7 @@
 -- Blocks of a source, and what decoding them makes of a destination.
-use Rattle.std.proofs.Common.{◌≡◌, ℕ, suc, ◌+◌, ◌-◌, ◌*◌, ◌/◌, ◌%◌, ◌<◌, ◌≤◌, ◌↔◌, Bool, false, List, ◌++◌, length, length-append, length-drop, take, drop, min, get_or, inl, inr, refl, sym, ap, ap₂, subst, ◌∙◌, Option, Some, None, arith}
+use Rattle.std.proofs.Common.{◌≡◌, ℕ, suc, ◌+◌, ◌-◌, ◌*◌, ◌/◌, ◌%◌, ◌<◌, ◌≤◌, ◌↔◌, Bool, false, List, ◌++◌, length}
+use Rattle.std.proofs.Common.{length-append, length-drop, take, drop, min, get_or, inl, inr, refl, sym, ap, ap₂, subst}
+use Rattle.std.proofs.Common.{◌∙◌, Option, Some, None, arith}
 use Rattle.std.specs.Prelude.{IfSome, IsSome, IsTrue, slice_index}
 use Rattle.std.specs.Int.{div_ceil}
 use Rattle.std.proofs.Math.Nat.{div-lt_iff_lt-mul, le-div_iff_mul-le, lt-div-mul-add, lt_of_mul-lt-mul_right, mod-add-div, mul_comm}
@@ -8,7 +10,8 @@ use Rattle.std.proofs.lemmas.Bool.{cases_lt, iff_false}
 use Rattle.std.proofs.lemmas.Grind.{div_ceil_times}
 use Rattle.std.proofs.lemmas.List.{append_assoc, get_or-drop, get_or-take, length-take-le}
 use Rattle.std.proofs.lemmas.Slice.{drop-append-drop}
-use Rattle.std.proofs.lemmas.Simd.{get_or-chunk, get_or-put_chunk_above, get_or-put_chunk_at, get_or-put_chunk_below, length-chunk, length-put_chunk, put_chunk_is, take_more_put_chunk}
+use Rattle.std.proofs.lemmas.Simd.{get_or-chunk, get_or-put_chunk_above, get_or-put_chunk_at, get_or-put_chunk_below}
+use Rattle.std.proofs.lemmas.Simd.{length-chunk, length-put_chunk, put_chunk_is, take_more_put_chunk}
 use lib.Lanes.{chunk, put_chunk}
 use std.Logic.{↔_trans}
 use Rattle.hex_core.specs.declared.digit.CheckCase.{CheckCase}

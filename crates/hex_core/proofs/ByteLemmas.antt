@@ -1,5 +1,7 @@
 -- What the arithmetic of the lanes makes of a byte, computed at all of them.
-use Rattle.std.proofs.Common.{◌≡◌, ℕ, zero, suc, ◌+◌, ◌-◌, ◌/◌, ◌%◌, ◌^◌, ◌<◌, ◌↔◌, Bool, true, false, cond, List, [], ◌∷◌, map, length, get_or, Option, Some, None, is_some, bit_and, refl, sym, ap, ap₂, ◌∙◌, Fits, w8, eqb, leb, ltb, eqb-true, leb-true, ltb-true, lt-ltb, arith}
+use Rattle.std.proofs.Common.{◌≡◌, ℕ, zero, suc, ◌+◌, ◌-◌, ◌/◌, ◌%◌, ◌^◌, ◌<◌, ◌↔◌, Bool, true, false, cond, List, []}
+use Rattle.std.proofs.Common.{◌∷◌, map, length, get_or, Option, Some, None, is_some, bit_and, refl, sym, ap, ap₂, ◌∙◌}
+use Rattle.std.proofs.Common.{Fits, w8, eqb, leb, ltb, eqb-true, leb-true, ltb-true, lt-ltb, arith}
 use Rattle.std.specs.Prelude.{EachIndex, IfSome, IsSome, min}
 use Rattle.std.specs.Int.{bit_at}
 use Rattle.std.proofs.lemmas.Bool.{agree_below, agree_below_at}
@@ -131,14 +133,14 @@ small_entry : (row : List ℕ) (a : ℕ) → a < 16 → entry row a ≡ get_or r
 small_entry row a h = grind (arith, nat_tests)
 
 -- halves in turn, each looked up, are the text
-pub looked_up_text : (upper : Bool) (row v : List ℕ) → ((n : ℕ) → n < 16 → get_or row n 0 ≡ digit upper n) → Each1 (Fits w8) v
+pub shuffled_text : (upper : Bool) (row v : List ℕ) → ((n : ℕ) → n < 16 → get_or row n 0 ≡ digit upper n) → Each1 (Fits w8) v
     → map (entry row) (interleaved (map (λ b. b / 16) v) (map (λ b. bit_and b 15) v)) ≡ text upper v
-looked_up_text upper row [] digits fits = refl
-looked_up_text upper row (b ∷ v) digits fits =
+shuffled_text upper row [] digits fits = refl
+shuffled_text upper row (b ∷ v) digits fits =
     let byte : b < 256 = fits.0.fits in
     let read : (n : ℕ) → n < 16 → entry row n ≡ digit upper n = λ n small. small_entry row n small ∙ digits n small in
     ap₂ (λ a r. a ∷ r) (read (b / 16) (omega arith))
-    (ap₂ (λ a r. a ∷ r) (ap (entry row) (and_mask b 4) ∙ read (b % 16) (omega arith)) (looked_up_text upper row v digits fits.1))
+    (ap₂ (λ a r. a ∷ r) (ap (entry row) (and_mask b 4) ∙ read (b % 16) (omega arith)) (shuffled_text upper row v digits fits.1))
 
 -- ---- nibbles
 

@@ -1,5 +1,6 @@
 -- The hash map at each byte beside each neighbour.
-use Rattle.std.proofs.Common.{◌≡◌, ℕ, ◌-◌, ◌<◌, Bool, true, ltb, List, [], ◌∷◌, map, length, get_or, bit_xor, refl, sym, ap, ◌∙◌, ltb-true, lt-ltb, arith}
+use Rattle.std.proofs.Common.{◌≡◌, ℕ, ◌-◌, ◌<◌, Bool, true, ltb, List, [], ◌∷◌, map, length, get_or, bit_xor, refl, sym}
+use Rattle.std.proofs.Common.{ap, ◌∙◌, ltb-true, lt-ltb, arith}
 use Rattle.std.specs.Prelude.{EachIndex}
 use Rattle.std.proofs.lemmas.Bool.{agree_below, agree_below_at}
 use lib.Lanes.{zip2}

@@ -1,5 +1,7 @@
 -- What an operation makes of the lanes of a vector.
-use Rattle.std.proofs.Common.{◌≡◌, ℕ, zero, suc, ◌+◌, ◌-◌, ◌*◌, ◌/◌, ◌^◌, ◌%◌, ◌<◌, ◌≤◌, ◌↔◌, Bool, true, false, cond, leb, ltb, eqb, eqb-true, List, [], ◌∷◌, map, length, get_or, replicate, bit_and, bit_or, refl, ap, ap₂, sym, ◌∙◌, subst, Fits, w8, arith, ltb-true, ltb-false, lt-ltb}
+use Rattle.std.proofs.Common.{◌≡◌, ℕ, zero, suc, ◌+◌, ◌-◌, ◌*◌, ◌/◌, ◌^◌, ◌%◌, ◌<◌, ◌≤◌, ◌↔◌, Bool, true, false, cond}
+use Rattle.std.proofs.Common.{leb, ltb, eqb, eqb-true, List, [], ◌∷◌, map, length, get_or, replicate, bit_and, bit_or}
+use Rattle.std.proofs.Common.{refl, ap, ap₂, sym, ◌∙◌, subst, Fits, w8, arith, ltb-true, ltb-false, lt-ltb}
 use Rattle.std.specs.Prelude.{EachIndex, IsTrue, max, min}
 use Rattle.std.proofs.lemmas.Bool.{agree_below_at, leb-false, leb-true}
 use Rattle.std.proofs.lemmas.List.{get_or-map, length-map, length-replicate, map-id}

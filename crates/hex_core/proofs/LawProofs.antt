@@ -1,5 +1,7 @@
 -- The laws of digits, texts and what they spell.
-use Rattle.std.proofs.Common.{◌≡◌, ℕ, List, ◌+◌, ◌*◌, ◌/◌, ◌%◌, ◌<◌, ◌==◌, length, map, get_or, Bool, true, false, None, Some, is_none, unwrap_or, refl, sym, subst, ◌∙◌, ap, arith, zero-add, inl, inr, [], ◌∷◌, suc, Ordering}
+use Rattle.std.proofs.Common.{◌≡◌, ℕ, List, ◌+◌, ◌*◌, ◌/◌, ◌%◌, ◌<◌, ◌==◌, length, map, get_or, Bool, true, false, None}
+use Rattle.std.proofs.Common.{Some, is_none, unwrap_or, refl, sym, subst, ◌∙◌, ap, arith, zero-add, inl, inr, [], ◌∷◌}
+use Rattle.std.proofs.Common.{suc, Ordering}
 use Rattle.std.proofs.lemmas.Bool.{cases_lt}
 use Rattle.std.proofs.lemmas.Bool.Decides.{nat_tests}
 use Rattle.std.proofs.lemmas.Grind.{same_number_lists}
@@ -17,7 +19,9 @@ use Rattle.hex_core.specs.Digit.{value, digit, strict}
 use Rattle.hex_core.specs.Text.{Spells, text}
 use Rattle.hex_core.specs.Search.{first_invalid}
 use Rattle.hex_core.specs.Refusal.{source_refusal}
-use Rattle.hex_core.specs.Laws.{AcceptsWhatSpells, AreBytes, DecodingInvertsEncoding, EitherCaseIsLowercased, EncodingInvertsStrictDecoding, EncodingLowercases, SpellsBytes, StrictAcceptsTexts, TextsCompareAsLists}
+use Rattle.hex_core.specs.Laws.{AcceptsWhatSpells, AreBytes, DecodingInvertsEncoding, EitherCaseIsLowercased}
+use Rattle.hex_core.specs.Laws.{EncodingInvertsStrictDecoding, EncodingLowercases, SpellsBytes, StrictAcceptsTexts}
+use Rattle.hex_core.specs.Laws.{TextsCompareAsLists}
 use Rattle.hex_core.proofs.ByteLemmas.{value_small}
 use Rattle.hex_core.proofs.JoinLemmas.{invalid-joined}
 use Rattle.hex_core.proofs.PositionLemmas.{position_none}

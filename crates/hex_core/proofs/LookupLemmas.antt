@@ -1,5 +1,7 @@
 -- Looking lanes up in a row of sixteen.
-use Rattle.std.proofs.Common.{◌≡◌, ℕ, zero, suc, ◌+◌, ◌*◌, ◌/◌, ◌%◌, ◌<◌, Bool, true, false, ◌||◌, cond, T, eqb, eqb-true, leb, ltb, List, [], ◌∷◌, ◌++◌, map, length, get_or, bit_and, refl, ap, sym, ◌∙◌, subst, Fits, w8, arith}
+use Rattle.std.proofs.Common.{◌≡◌, ℕ, zero, suc, ◌+◌, ◌*◌, ◌/◌, ◌%◌, ◌<◌, Bool, true, false, ◌||◌, cond, T, eqb}
+use Rattle.std.proofs.Common.{eqb-true, leb, ltb, List, [], ◌∷◌, ◌++◌, map, length, get_or, bit_and, refl, ap, sym, ◌∙◌}
+use Rattle.std.proofs.Common.{subst, Fits, w8, arith}
 use Rattle.std.proofs.lemmas.Bool.{agree_below, agree_below_at}
 use Rattle.std.proofs.lemmas.List.{ext_get_or, get_or-map, get_or_append_left, length-map}
 use Rattle.std.specs.List.{range_with_len}
@@ -19,8 +21,8 @@ all_in_row [] f = tt
 all_in_row (x ∷ xs) f = (subst T (sym (agree_below_at (λ a. zeroes 16 w8 (slot a) || ltb (slot a) 16) always 256 x refl f.0.fits)) tt, all_in_row xs f.1)
 
 -- the positions are those that std's look-up takes, in a vector of b times sixteen lanes
-pub look_up_ok : (b n : ℕ) (v js : List ℕ) → (length v ≡ n) × Each1 (Fits w8) v → js ≡ map slot v → n ≡ b * 16 → SwzOk w8 16 n 0 js
-look_up_ok b n v js f is e =
+pub shuffle_ok : (b n : ℕ) (v js : List ℕ) → (length v ≡ n) × Each1 (Fits w8) v → js ≡ map slot v → n ≡ b * 16 → SwzOk w8 16 n 0 js
+shuffle_ok b n v js f is e =
     subst (SwzOk w8 16 n 0) (sym is) (SwzOk-from_Each1 w8 16 b n 0 (map slot v) e (omega (arith, length-map v slot, f.0)) (all_in_row v f.1))
 
 -- the row stands in each sixteen lanes of t
@@ -34,8 +36,8 @@ entry_of row t n i a j b false e is h whole rows =
     let at : 16 * ((0 + i) / 16) + j < n = omega arith in
     rows (16 * ((0 + i) / 16) + j) at ∙ ap (λ k. get_or row k 0) (omega arith)
 
-pub look_up_is : (b n : ℕ) (row t v js : List ℕ) → (length v ≡ n) × Each1 (Fits w8) v → js ≡ map slot v → n ≡ b * 16 → Repeats row t n → swz_l w8 16 t 0 js ≡ map (entry row) v
-look_up_is b n row t v js f is e rows =
+pub shuffle_is : (b n : ℕ) (row t v js : List ℕ) → (length v ≡ n) × Each1 (Fits w8) v → js ≡ map slot v → n ≡ b * 16 → Repeats row t n → swz_l w8 16 t 0 js ≡ map (entry row) v
+shuffle_is b n row t v js f is e rows =
     let long : length js ≡ n = ap length is ∙ length-map v slot ∙ f.0 in
     ext_get_or 0 _ _ (length-swz_l w8 16 t 0 js ∙ long ∙ sym (length-map v (entry row) ∙ f.0)) (λ i h.
     let lt : i < n = omega (arith, length-swz_l w8 16 t 0 js) in
@@ -59,10 +61,10 @@ repeats entries ks n long many all i h =
     get_or-map (λ k. get_or (entries ++ entries) k 0) ks i 0 0 (omega arith) ∙ ap (λ k. get_or (entries ++ entries) k 0) at ∙ get_or_append_left entries entries 0 (i % 16) (omega arith)
 
 -- so it is looked up as the row itself
-pub look_up_repeated : (b n : ℕ) (row ks v js : List ℕ) → (length v ≡ n) × Each1 (Fits w8) v → js ≡ map slot v → n ≡ b * 16 → length row ≡ 16 → length ks ≡ n
+pub shuffle_repeated : (b n : ℕ) (row ks v js : List ℕ) → (length v ≡ n) × Each1 (Fits w8) v → js ≡ map slot v → n ≡ b * 16 → length row ≡ 16 → length ks ≡ n
     → agree_below (λ i. eqb (get_or ks i 0) (i % 16)) always n ≡ true → swz_l w8 16 (pick_l 0 (row ++ row) ks) 0 js ≡ map (entry row) v
-look_up_repeated b n row ks v js f is e long many all = look_up_is b n row (pick_l 0 (row ++ row) ks) v js f is e (repeats row ks n long many all)
+shuffle_repeated b n row ks v js f is e long many all = shuffle_is b n row (pick_l 0 (row ++ row) ks) v js f is e (repeats row ks n long many all)
 
 -- fewer lanes that fill a vector, of which the front is kept
-pub look_up_front : (n : ℕ) (row v : List ℕ) → length v ≡ n → all_below n (range_with_len 0 n) ≡ true → map (entry row) (pick_l 0 (v ++ v) (range_with_len 0 n)) ≡ map (entry row) v
-look_up_front n row v long inside = ap (map (entry row)) (pick_l_left 0 v v n (range_with_len 0 n) long (subst T (sym inside) tt) ∙ pick_l_whole 0 v n long)
+pub shuffle_front : (n : ℕ) (row v : List ℕ) → length v ≡ n → all_below n (range_with_len 0 n) ≡ true → map (entry row) (pick_l 0 (v ++ v) (range_with_len 0 n)) ≡ map (entry row) v
+shuffle_front n row v long inside = ap (map (entry row)) (pick_l_left 0 v v n (range_with_len 0 n) long (subst T (sym inside) tt) ∙ pick_l_whole 0 v n long)

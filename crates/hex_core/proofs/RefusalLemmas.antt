@@ -5,7 +5,7 @@ use Rattle.hex_core.specs.declared.digit.CheckCase.{CheckCase}
 use Rattle.hex_core.specs.declared.error.Error.TheVariants.{InvalidChar}
 use Rattle.hex_core.specs.Digit.{value}
 use Rattle.hex_core.specs.Laws.{NamesFirstInvalid}
-use Rattle.hex_core.specs.Refusal.{first_bad_char}
+use Rattle.hex_core.specs.Refusal.{first_invalid_char}
 use Rattle.hex_core.specs.Search.{first_invalid}
 use Rattle.hex_core.proofs.SearchLemmas.{first_is_first}
 
@@ -17,5 +17,5 @@ bad_char_is_first c s (Some f) e i b h =
     (cc (e, h), cc h, cc (h, none), subst (λ i. i < length s) same first.0)
 bad_char_is_first c s None e i b h = absurd (cc h)
 
-pub bad_char_names_first : NamesFirstInvalid first_bad_char
-bad_char_names_first c s i b h = bad_char_is_first c s (first_invalid c s) refl i b h
+pub invalid_char_names_first : NamesFirstInvalid first_invalid_char
+invalid_char_names_first c s i b h = bad_char_is_first c s (first_invalid c s) refl i b h

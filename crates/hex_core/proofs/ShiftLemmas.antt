@@ -1,5 +1,6 @@
 -- A shift of words of four bytes by three bits, seen in the bytes.
-use Rattle.std.proofs.Common.{◌≡◌, ℕ, zero, suc, ◌+◌, ◌*◌, ◌/◌, ◌%◌, ◌^◌, ◌<◌, ◌≤◌, List, [], ◌∷◌, map, length, get_or, refl, sym, ap, ap₂, ◌∙◌, inl, inr, Fits, w8, w32, arith}
+use Rattle.std.proofs.Common.{◌≡◌, ℕ, zero, suc, ◌+◌, ◌*◌, ◌/◌, ◌%◌, ◌^◌, ◌<◌, ◌≤◌, List, [], ◌∷◌, map, length, get_or}
+use Rattle.std.proofs.Common.{refl, sym, ap, ap₂, ◌∙◌, inl, inr, Fits, w8, w32, arith}
 use Rattle.std.specs.Prelude.{EachIndex}
 use Rattle.std.proofs.Math.Nat.{div-div-eq-div-mul, pow-succ'}
 use Rattle.std.proofs.lemmas.Bool.{cases_lt}

@@ -1,5 +1,6 @@
 -- What the entries of the value tables say of a byte.
-use Rattle.std.proofs.Common.{refl, Bool, ◌≡◌, ◌≢◌, ℕ, List, ◌+◌, ◌*◌, ◌<◌, get_or, true, false, Option, Some, None, is_none, is_some, unwrap_or, ◌∙◌, arith}
+use Rattle.std.proofs.Common.{refl, Bool, ◌≡◌, ◌≢◌, ℕ, List, ◌+◌, ◌*◌, ◌<◌, get_or, true, false, Option, Some, None}
+use Rattle.std.proofs.Common.{is_none, is_some, unwrap_or, ◌∙◌, arith}
 use Rattle.std.specs.Prelude.{IsTrue, ◌&&◌, not, ◌==◌}
 use Rattle.std.proofs.lemmas.Bool.Decides.{nat_tests}
 use Rattle.std.proofs.lemmas.List.FromFn.{get_or-map-range_with_len}

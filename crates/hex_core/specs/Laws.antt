@@ -1,5 +1,6 @@
 -- Facts that the definitions alone imply.
-use Rattle.std.specs.Prelude.{◌≡◌, ◌<◌, ◌≤◌, ◌↔◌, ◌+◌, ◌*◌, ◌/◌, ◌%◌, ℕ, Bool, List, ◌++◌, length, take, drop, slice_index, slice_range, All, Option, None, Some, option_map}
+use Rattle.std.specs.Prelude.{◌≡◌, ◌<◌, ◌≤◌, ◌↔◌, ◌+◌, ◌*◌, ◌/◌, ◌%◌, ℕ, Bool, List, ◌++◌, length, take, drop}
+use Rattle.std.specs.Prelude.{slice_index, slice_range, All, Option, None, Some, option_map}
 use Rattle.std.specs.Option.{option_or}
 use Rattle.std.specs.Cmp.Lexicographic.{slice_cmp}
 use Rattle.std.specs.Ordering.{nat_cmp}

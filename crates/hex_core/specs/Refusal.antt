@@ -1,26 +1,27 @@
 -- What encoding and decoding refuse, each in its order.
-use Rattle.std.specs.Prelude.{◌≡◌, ◌<◌, ℕ, ◌*◌, ◌/◌, ◌%◌, ◌^◌, ◌==◌, nat_lt, nat_le, not, if◌then◌else◌, List, length, slice_index, Option, Some, None, option_map}
+use Rattle.std.specs.Prelude.{◌≡◌, ◌<◌, ℕ, ◌*◌, ◌/◌, ◌%◌, ◌^◌, ◌==◌, nat_lt, nat_le, not, if◌then◌else◌, List, length}
+use Rattle.std.specs.Prelude.{slice_index, Option, Some, None, option_map}
 use Rattle.hex_core.specs.declared.digit.CheckCase.{CheckCase}
 use Rattle.hex_core.specs.declared.error.Error.{Error}
 use Rattle.hex_core.specs.declared.error.Error.TheVariants.{InvalidChar, OutputTooSmall, LengthMismatch, OddLength, Overflow, OutOfMemory}
 use Rattle.hex_core.specs.Search.{first_invalid}
 
 -- the first invalid byte as an error, with its index and its byte
-abbrev pub first_bad_char : CheckCase → List ℕ → Option Error
-first_bad_char c s = option_map (λ f. InvalidChar f (slice_index s f)) (first_invalid c s)
+abbrev pub first_invalid_char : CheckCase → List ℕ → Option Error
+first_invalid_char c s = option_map (λ f. InvalidChar f (slice_index s f)) (first_invalid c s)
 
 -- what decoding into this room refuses: an odd length, else too little room, else the first invalid byte
 abbrev pub decode_refusal : CheckCase → List ℕ → ℕ → Option Error
 decode_refusal c s room =
     if length s % 2 == 1 then Some OddLength
     else if nat_lt room (length s / 2) then Some (OutputTooSmall (length s / 2))
-    else first_bad_char c s
+    else first_invalid_char c s
 
 -- what decoding refuses if there is room: an odd length, else the first invalid byte
 abbrev pub source_refusal : CheckCase → List ℕ → Option Error
 source_refusal c s =
     if length s % 2 == 1 then Some OddLength
-    else first_bad_char c s
+    else first_invalid_char c s
 
 -- what decoding into an array of n bytes refuses: an odd length, else another length than the array's,
 -- else the first invalid byte
@@ -28,7 +29,7 @@ abbrev pub array_refusal : CheckCase → List ℕ → ℕ → Option Error
 array_refusal c s n =
     if length s % 2 == 1 then Some OddLength
     else if not (length s / 2 == n) then Some (LengthMismatch n (length s / 2))
-    else first_bad_char c s
+    else first_invalid_char c s
 
 -- an error of decoding into new memory: a failed allocation, which needs an even and nonempty source, or
 -- the source's refusal

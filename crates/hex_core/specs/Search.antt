@@ -1,5 +1,6 @@
 -- The first invalid byte of a source, and the steps that find it.
-use Rattle.std.specs.Prelude.{ℕ, ◌+◌, ◌-◌, ◌*◌, ◌/◌, ◌%◌, ◌<◌, ◌≤◌, nat_lt, if◌then◌else◌, Option, Some, None, List, length, min, position, is_none, slice_index, IsSome}
+use Rattle.std.specs.Prelude.{ℕ, ◌+◌, ◌-◌, ◌*◌, ◌/◌, ◌%◌, ◌<◌, ◌≤◌, nat_lt, if◌then◌else◌, Option, Some, None, List}
+use Rattle.std.specs.Prelude.{length, min, position, is_none, slice_index, IsSome}
 use Rattle.std.specs.Int.{div_ceil}
 use Rattle.hex_core.specs.declared.digit.CheckCase.{CheckCase}
 use Rattle.hex_core.specs.Digit.{value}

@@ -13,11 +13,11 @@ ghost use Rattle.hex_core.specs.Text.{text};
 use crate::digit::CheckCase;
 use crate::lanes::{admitted_16, nibbles_hashed_32, nibbles_hashed_64};
 use crate::vector::{
-    averages, both_nibbles, has_no_sign, high_bits, masked, saturating_add, saturating_differences,
-    saturating_sub, sign_flipped, smaller, with_bits, wrapping_differences, wrapping_sub,
-    zero_bits,
+    and_splat, both_nibbles, has_no_sign, high_bits, min, or_splat, rounding_averages,
+    saturating_add, saturating_differences, saturating_sub, sign_flipped, wrapping_differences,
+    wrapping_sub, zero_bits,
 };
-use crate::widths::{Interleave, Lanes, LookUp, Shift};
+use crate::widths::{Lanes, Shift, Shuffle, Unpack};
 use std::simd::prelude::*;
 
 // Both tables are in the order of the policies. A look-up avoids a branch in the kernels.
@@ -46,7 +46,7 @@ fn first_letter(case: CheckCase) -> u8
 fn letters<const N: usize>(v: Simd<u8, N>, case: CheckCase) -> Simd<u8, N>
     ensures { result ≡ map (letter case) v.entry }
 {
-    wrapping_sub(with_bits(v, fold_of(case)), first_letter(case))
+    wrapping_sub(or_splat(v, fold_of(case)), first_letter(case))
 }
 
 /// How far each lane is past the digit 4, or past the first letter: below 6 exactly if it is valid.
@@ -57,7 +57,7 @@ pub fn reach<const N: usize>(v: Simd<u8, N>, case: CheckCase) -> Simd<u8, N>
     ensures low { AreLow result ↔ AllValid case v.entry 0 N }
 {
     let digits = saturating_sub(wrapping_sub(v, b'0'), 4);
-    smaller(digits, letters(v, case))
+    min(digits, letters(v, case))
 }
 
 /// A mask whose bit i is set if lane i is valid.
@@ -68,7 +68,7 @@ pub fn admitted<const N: usize>(v: Simd<u8, N>, case: CheckCase) -> u64
 {
     let digits = saturating_sub(wrapping_sub(v, b'0'), 9);
     let past = saturating_sub(letters(v, case), 5);
-    zero_bits(smaller(digits, past))
+    zero_bits(min(digits, past))
 }
 
 /// The value of each lane, or at least 16.
@@ -79,7 +79,7 @@ pub fn saturated<const N: usize>(v: Simd<u8, N>, case: CheckCase) -> Simd<u8, N>
     // Minus 58, the byte after `9`, the digits are the ten greatest bytes, 246 to 255. Minus 6,
     // saturating, they are 240 to 249, the only ten that wrap to 0 to 9.
     let digits = wrapping_sub(saturating_sub(wrapping_sub(v, b'9' + 1), 6), 240);
-    smaller(digits, saturating_add(letters(v, case), 10))
+    min(digits, saturating_add(letters(v, case), 10))
 }
 
 // Each row is for slots 0 to 15. An offset is stored as the number to subtract.
@@ -114,12 +114,12 @@ fn check_row(case: CheckCase) -> u8x16
 #[inline(always)]
 fn hashes<const N: usize>(v: Simd<u8, N>) -> Simd<u8, N>
 where
-    Lanes: LookUp<N> + Shift<N>,
+    Lanes: Shuffle<N> + Shift<N>,
     ensures { EachIndex v.entry (λ i. IsHash (slice_index v.entry i) (slice_index result i)) }
 {
-    averages(
+    rounding_averages(
         Lanes::shift(v),
-        Lanes::look_up(u8x16::from_array(HASH_ROW), v),
+        Lanes::shuffle(u8x16::from_array(HASH_ROW), v),
     )
 }
 
@@ -127,10 +127,10 @@ where
 #[inline(always)]
 pub fn hashed_values<const N: usize>(v: Simd<u8, N>) -> Simd<u8, N>
 where
-    Lanes: LookUp<N> + Shift<N>,
+    Lanes: Shuffle<N> + Shift<N>,
     ensures { (case : CheckCase) → AreValues case v.entry result }
 {
-    let offsets = Lanes::look_up(u8x16::from_array(VALUE_ROW), hashes(v));
+    let offsets = Lanes::shuffle(u8x16::from_array(VALUE_ROW), hashes(v));
     wrapping_differences(v, offsets)
 }
 
@@ -138,10 +138,10 @@ where
 #[inline(always)]
 pub fn hashed_checks<const N: usize>(v: Simd<u8, N>, case: CheckCase) -> Simd<u8, N>
 where
-    Lanes: LookUp<N> + Shift<N>,
+    Lanes: Shuffle<N> + Shift<N>,
     ensures { AreChecked case v.entry result }
 {
-    let offsets = Lanes::look_up(check_row(case), hashes(v));
+    let offsets = Lanes::shuffle(check_row(case), hashes(v));
     sign_flipped(saturating_differences(sign_flipped(v), offsets))
 }
 
@@ -151,8 +151,8 @@ where
 pub fn valid_nibbles<const N: usize>(v: Simd<u8, N>) -> Simd<u8, N>
     ensures { (case : CheckCase) → AreValues case v.entry result }
 {
-    let common = masked(v, 0x4f);
-    smaller(common, wrapping_sub(common, 55))
+    let common = and_splat(v, 0x4f);
+    min(common, wrapping_sub(common, 55))
 }
 
 // The sixteen digits, in order.
@@ -178,15 +178,15 @@ pub struct Interleaved;
 
 impl<const N: usize, const TWICE: usize> Encode<N, TWICE> for Interleaved
 where
-    Lanes: Interleave<N, TWICE> + LookUp<TWICE>,
+    Lanes: Unpack<N, TWICE> + Shuffle<TWICE>,
 {
     #[inline(always)]
     fn encoded(v: Simd<u8, N>, upper: bool) -> Simd<u8, TWICE>
         ensures { result ≡ text upper v.entry }
     {
-        Lanes::look_up(
+        Lanes::shuffle(
             digits(upper),
-            Lanes::interleave(high_bits(v), masked(v, 0x0f)),
+            Lanes::unpack(high_bits(v), and_splat(v, 0x0f)),
         )
     }
 }
@@ -199,7 +199,7 @@ impl Encode<32, 64> for Halved {
     fn encoded(v: u8x32, upper: bool) -> u8x64
         ensures { result ≡ text upper v }
     {
-        Lanes::look_up(digits(upper), both_nibbles(v))
+        Lanes::shuffle(digits(upper), both_nibbles(v))
     }
 }
 
@@ -210,7 +210,7 @@ pub trait Nibbles<const N: usize> {
 }
 
 /// The map's test of a block.
-pub trait Tests<const N: usize> {
+pub trait Validate<const N: usize> {
     fn is_valid(block: Simd<u8, N>, case: CheckCase) -> bool
         ensures { IsTrue result ↔ AllValid case block.entry 0 N };
 }
@@ -228,7 +228,7 @@ impl<const N: usize> Nibbles<N> for Saturating {
     }
 }
 
-impl Tests<16> for Saturating {
+impl Validate<16> for Saturating {
     #[inline(always)]
     fn is_valid(block: u8x16, case: CheckCase) -> bool
         ensures { IsTrue result ↔ AllValid case block 0 16 }
@@ -258,7 +258,7 @@ impl Nibbles<64> for Hashed {
     }
 }
 
-impl Tests<32> for Hashed {
+impl Validate<32> for Hashed {
     #[inline(always)]
     fn is_valid(block: u8x32, case: CheckCase) -> bool
         ensures { IsTrue result ↔ AllValid case block 0 32 }
@@ -267,7 +267,7 @@ impl Tests<32> for Hashed {
     }
 }
 
-impl Tests<64> for Hashed {
+impl Validate<64> for Hashed {
     #[inline(always)]
     fn is_valid(block: u8x64, case: CheckCase) -> bool
         ensures { IsTrue result ↔ AllValid case block 0 64 }

@@ -12,9 +12,9 @@ ghost use Rattle.hex_core.specs.Search.{AllValid, first_invalid};
 ghost use Rattle.hex_core.specs.Text.{Spells, text};
 
 use crate::digit::CheckCase;
-use crate::digit_lanes::{Encode, Nibbles, Tests, Valid, reach};
+use crate::digit_lanes::{Encode, Nibbles, Valid, Validate, reach};
 use crate::lane_probe::check_lanes;
-use crate::vector::{has_no_sign, is_low, larger, saturating_add};
+use crate::vector::{has_no_sign, is_low, max, saturating_add};
 use crate::widths::{Lanes, Pack, PackTwo};
 use std::simd::prelude::*;
 
@@ -32,7 +32,7 @@ fn reach_of(src: &[u8], at: usize, count: usize, case: CheckCase) -> u8x64
     let mut farthest = u8x64::splat(0);
     'turns: for i in 0..count {
         let block = u8x64::from_slice(&src[at + i * CHECK_BLOCK..]);
-        farthest = larger(farthest, reach(block, case));
+        farthest = max(farthest, reach(block, case));
     }
     farthest
 }
@@ -66,7 +66,7 @@ pub fn check_runs(src: &[u8], case: CheckCase, wide: bool) -> bool
     }
     let done = runs * (CHECK_RUN * CHECK_BLOCK);
     let front = reach_of(src, done, (last - done).div_ceil(CHECK_BLOCK), case);
-    let rest = larger(front, reach(u8x64::from_slice(&src[last..]), case));
+    let rest = max(front, reach(u8x64::from_slice(&src[last..]), case));
     are_low(rest, wide)
 }
 
@@ -82,9 +82,9 @@ pub fn check_eight(src: &[u8], case: CheckCase) -> bool
     let last = reach_of(src, len - 2 * CHECK_BLOCK, 2, case);
     // Of at most six blocks the last two reach the fourth.
     if len > 6 * CHECK_BLOCK {
-        front = larger(front, reach_of(src, len - 4 * CHECK_BLOCK, 2, case));
+        front = max(front, reach_of(src, len - 4 * CHECK_BLOCK, 2, case));
     }
-    is_low(larger(front, last))
+    is_low(max(front, last))
 }
 
 // The values of `N` valid digits from index `at`.
@@ -164,7 +164,7 @@ pub fn decode_or_nothing<M, const N: usize, const HALF: usize>(
     case: CheckCase,
 ) -> bool
 where
-    M: Tests<N> + Nibbles<N>,
+    M: Validate<N> + Nibbles<N>,
     Lanes: Pack<N, HALF>,
     requires sizes { Halves N HALF src.now dst.old }
     requires block { HasBlock N src.now }

@@ -5,7 +5,7 @@ ghost use Rattle.hex_core.specs.Search.{first_invalid};
 ghost use Rattle.hex_core.specs.inside.Blocks.{HasBlock};
 
 use crate::digit::CheckCase;
-use crate::digit_lanes::Tests;
+use crate::digit_lanes::Validate;
 use crate::scalar::check_by_table;
 use crate::search::{Probe, covered};
 use std::marker::PhantomData;
@@ -23,7 +23,7 @@ struct LaneProbe<'a, M, const N: usize> {
 
 impl<'a, M, const N: usize> Probe for LaneProbe<'a, M, N>
 where
-    M: Tests<N>,
+    M: Validate<N>,
 {
     ghost state = { λ p. record { source = p.src.now; policy = p.case; block = N; looks = p.looks; tests = p.tests } };
 
@@ -68,7 +68,7 @@ where
 #[inline(never)]
 pub fn check_lanes<M, const N: usize>(src: &[u8], case: CheckCase) -> bool
 where
-    M: Tests<N>,
+    M: Validate<N>,
     requires { HasBlock N src.now }
     ensures { IsTrue result ↔ (first_invalid case src.now ≡ None) }
 {

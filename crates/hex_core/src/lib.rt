@@ -24,13 +24,8 @@ pub mod look_ups {
     pub use crate::scalar::{are_digits, write_bytes, write_digits};
 }
 
-/// The plans, and probes that search under them.
-pub mod plan {
-    pub use crate::backend::{Backend, backends};
-    pub use crate::search::{Probe, covered, locate};
-    pub use crate::slice_probe::SliceProbe;
-}
-
+pub use crate::backend::{Backend, backends};
 pub use crate::digit::{CheckCase, digit_value};
 pub use crate::error::Error;
-pub use crate::plan::{Backend, Probe, SliceProbe, backends, covered, locate};
+pub use crate::search::{Probe, covered, locate};
+pub use crate::slice_probe::SliceProbe;

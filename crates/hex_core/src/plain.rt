@@ -68,9 +68,6 @@ fn check_short(src: &[u8], case: CheckCase) -> bool
     }
 }
 
-/// The most digits that [`decode_by_length`] decodes without a call.
-pub const MOST_INLINE: usize = 192;
-
 /// Decodes `src` over all of `dst`, or returns false and writes nothing, in a build whose vectors
 /// have `width` bytes. Up to 192 digits are decoded inline, so that a length known to the caller
 /// needs no choice at run time.
@@ -110,7 +107,7 @@ fn decode_short(src: &[u8], dst: &mut [u8], case: CheckCase) -> bool
 #[inline(never)]
 fn decode_apart(src: &[u8], dst: &mut [u8], case: CheckCase) -> bool
     requires twice { length src.now ≡ 2 * length dst.old }
-    requires more { MOST_INLINE < length src.now }
+    requires more { 192 < length src.now }
     ensures { DecodesWhole case src.now dst.old dst.new result }
 {
     match src.len() {
@@ -123,7 +120,7 @@ fn decode_apart(src: &[u8], dst: &mut [u8], case: CheckCase) -> bool
 #[inline(never)]
 fn decode_held(src: &[u8], dst: &mut [u8], case: CheckCase) -> bool
     requires twice { length src.now ≡ 2 * length dst.old }
-    requires more { MOST_INLINE < length src.now }
+    requires more { 192 < length src.now }
     ensures { DecodesWhole case src.now dst.old dst.new result }
 {
     match src.len() {

@@ -13,7 +13,7 @@ ghost use Rattle.hex_core.specs.inside.Blocks.{DecodesAt, EndsCover, Halves, Has
 use crate::digit::CheckCase;
 use crate::digit_lanes::{Encode, reach, saturated};
 use crate::kernel::{encode_at, pack_at};
-use crate::vector::{either, is_low, is_small, larger};
+use crate::vector::{is_low, is_small, max, or};
 use crate::widths::{Lanes, Pack, PackTwo};
 use std::simd::prelude::*;
 
@@ -26,7 +26,7 @@ pub fn check_two<const N: usize>(src: &[u8], case: CheckCase) -> bool
 {
     let front = reach(Simd::<u8, N>::from_slice(src), case);
     let back = reach(Simd::<u8, N>::from_slice(&src[src.len() - N..]), case);
-    is_low(larger(front, back))
+    is_low(max(front, back))
 }
 
 /// Returns whether `src`, `2 * N` to `4 * N` bytes, is valid.
@@ -39,13 +39,13 @@ pub fn check_four<const N: usize>(src: &[u8], case: CheckCase) -> bool
     let first = reach(Simd::<u8, N>::from_slice(src), case);
     let second = reach(Simd::<u8, N>::from_slice(&src[N..]), case);
     let last = reach(Simd::<u8, N>::from_slice(&src[src.len() - N..]), case);
-    let mut front = larger(first, second);
+    let mut front = max(first, second);
     // Of at most 3 * N bytes the last block reaches the second.
     if src.len() > 3 * N {
         let third = Simd::<u8, N>::from_slice(&src[src.len() - 2 * N..]);
-        front = larger(front, reach(third, case));
+        front = max(front, reach(third, case));
     }
-    is_low(larger(front, last))
+    is_low(max(front, last))
 }
 
 // `N` nibbles from index `at`.
@@ -104,7 +104,7 @@ where
 {
     let front = nibbles_at::<N>(src, 0, case);
     let back = nibbles_at::<N>(src, src.len() - N, case);
-    if !is_small(either(front, back)) {
+    if !is_small(or(front, back)) {
         return false;
     }
     let end = dst.len();
@@ -130,7 +130,7 @@ where
     let first = nibbles_at::<N>(src, 0, case);
     let second = nibbles_at::<N>(src, N, case);
     let last = nibbles_at::<N>(src, src.len() - N, case);
-    if !is_small(either(either(first, second), last)) {
+    if !is_small(or(or(first, second), last)) {
         return false;
     }
     let end = dst.len();
@@ -158,7 +158,7 @@ where
     let second = nibbles_at::<N>(src, N, case);
     let third = nibbles_at::<N>(src, len - 2 * N, case);
     let last = nibbles_at::<N>(src, len - N, case);
-    if !is_small(either(either(first, second), either(third, last))) {
+    if !is_small(or(or(first, second), or(third, last))) {
         return false;
     }
     let end = dst.len();
@@ -190,7 +190,7 @@ pub fn decode_six(src: &[u8], dst: &mut [u8], case: CheckCase) -> bool
     let end = dst.len();
     let fifth = nibbles_at::<64>(src, len - 128, case);
     let last = nibbles_at::<64>(src, len - 64, case);
-    if !is_small(either(fifth, last)) {
+    if !is_small(or(fifth, last)) {
         return false;
     }
     if !decode_part(src, dst, 0, case) {
@@ -213,7 +213,7 @@ pub fn decode_eight(src: &[u8], dst: &mut [u8], case: CheckCase) -> bool
     let sixth = nibbles_at::<64>(src, len - 192, case);
     let seventh = nibbles_at::<64>(src, len - 128, case);
     let last = nibbles_at::<64>(src, len - 64, case);
-    if !is_small(either(either(fifth, sixth), either(seventh, last))) {
+    if !is_small(or(or(fifth, sixth), or(seventh, last))) {
         return false;
     }
     if !decode_part(src, dst, 0, case) {

@@ -3,7 +3,7 @@
 ghost use Rattle.std.specs.Prelude.{◌≡◌, ◌≢◌, None, Some};
 ghost use Rattle.hex_core.specs.Probe.{fresh_probe};
 ghost use Rattle.hex_core.specs.declared.error.Error.TheVariants.{InvalidChar};
-ghost use Rattle.hex_core.specs.Refusal.{first_bad_char};
+ghost use Rattle.hex_core.specs.Refusal.{first_invalid_char};
 ghost use Rattle.hex_core.specs.Search.{first_invalid};
 
 use crate::backend::Backend;
@@ -125,18 +125,18 @@ impl Backend {
     #[inline(always)]
     pub fn first_error(self, src: &[u8], case: CheckCase) -> Error
         requires { first_invalid case src.now ≢ None }
-        ensures error { first_bad_char case src.now ≡ Some result }
+        ensures error { first_invalid_char case src.now ≡ Some result }
     {
-        let (index, byte) = self.first_bad(src, case);
+        let (index, byte) = self.first_invalid_byte(src, case);
         Error::InvalidChar { index, byte }
     }
 
     // The index and the byte, which fit registers, as an error would not.
     #[cold]
     #[inline(never)]
-    pub(crate) fn first_bad(self, src: &[u8], case: CheckCase) -> (usize, u8)
+    pub(crate) fn first_invalid_byte(self, src: &[u8], case: CheckCase) -> (usize, u8)
         requires { first_invalid case src.now ≢ None }
-        ensures { first_bad_char case src.now ≡ Some (InvalidChar result.0 result.1) }
+        ensures { first_invalid_char case src.now ≡ Some (InvalidChar result.0 result.1) }
     {
         let index = locate(&mut SliceProbe::new(self, src, case)).unwrap();
         (index, src[index])

@@ -6,7 +6,7 @@ ghost use Rattle.std.specs.Borrow.{sem};
 ghost use Rattle.hex_core.specs.declared.digit.CheckCase.{CheckCase};
 ghost use Rattle.hex_core.specs.Calls.{Answers, Decodes, DecodesFront, Encodes, EncodesFront};
 ghost use Rattle.hex_core.specs.Loan.{LendsAnswer};
-ghost use Rattle.hex_core.specs.Refusal.{decode_refusal, encode_refusal, first_bad_char};
+ghost use Rattle.hex_core.specs.Refusal.{decode_refusal, encode_refusal, first_invalid_char};
 ghost use Rattle.hex_core.specs.declared.error.Error.TheVariants.{InvalidChar};
 ghost use Rattle.hex_core.specs.Search.{first_invalid};
 ghost use Rattle.hex_core.specs.Text.{Spells};
@@ -14,7 +14,9 @@ ghost use Rattle.hex_core.specs.Text.{Spells};
 use crate::backend::Backend;
 use crate::digit::CheckCase;
 use crate::error::Error;
-use crate::plain::MOST_INLINE;
+
+// The most digits that `decode_into` decodes inline: as many as the plan `plain` decodes without a call.
+const MOST_INLINE: usize = 192;
 
 // The number of bytes that `src` decodes to, or its length's error for `room` bytes.
 #[inline(always)]
@@ -89,13 +91,13 @@ impl Backend {
         requires refused { length src.now ≤ MOST_INLINE → first_invalid case src.now ≢ None }
         ensures { MatchOption result
             ((first_invalid case src.now ≡ None) × Spells case src.now dst.new)
-            (λ bad. (first_bad_char case src.now ≡ Some (InvalidChar bad.0 bad.1))
+            (λ bad. (first_invalid_char case src.now ≡ Some (InvalidChar bad.0 bad.1))
             × (dst.new ≡ dst.old)) }
     {
         if src.len() > MOST_INLINE && self.decode(src, dst, case) {
             return None;
         }
-        Some(self.first_bad(src, case))
+        Some(self.first_invalid_byte(src, case))
     }
 
     /// Encodes all of `src` into the start of `dst`, in uppercase if `upper` is true, and returns

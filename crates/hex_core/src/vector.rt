@@ -38,7 +38,7 @@ pub fn saturating_add<const N: usize>(v: Simd<u8, N>, by: u8) -> Simd<u8, N>
 /// Sets these bits.
 #[tactic(auto, using(std::proofs::lemmas::Simd::zip2_splat))]
 #[inline(always)]
-pub fn with_bits<const N: usize>(v: Simd<u8, N>, bits: u8) -> Simd<u8, N>
+pub fn or_splat<const N: usize>(v: Simd<u8, N>, bits: u8) -> Simd<u8, N>
     ensures { result ≡ map (λ x. bit_or x bits) v.entry }
 {
     v | Simd::splat(bits)
@@ -47,7 +47,7 @@ pub fn with_bits<const N: usize>(v: Simd<u8, N>, bits: u8) -> Simd<u8, N>
 /// Clears the other bits.
 #[tactic(auto, using(std::proofs::lemmas::Simd::zip2_splat))]
 #[inline(always)]
-pub fn masked<const N: usize>(v: Simd<u8, N>, mask: u8) -> Simd<u8, N>
+pub fn and_splat<const N: usize>(v: Simd<u8, N>, mask: u8) -> Simd<u8, N>
     ensures { result ≡ map (λ x. bit_and x mask) v.entry }
 {
     v & Simd::splat(mask)
@@ -64,7 +64,7 @@ pub fn high_bits<const N: usize>(v: Simd<u8, N>) -> Simd<u8, N>
 
 /// The smaller lane of each pair.
 #[inline(always)]
-pub fn smaller<const N: usize>(a: Simd<u8, N>, b: Simd<u8, N>) -> Simd<u8, N>
+pub fn min<const N: usize>(a: Simd<u8, N>, b: Simd<u8, N>) -> Simd<u8, N>
     ensures { result ≡ zip2 min a.entry b.entry }
 {
     a.simd_min(b)
@@ -72,7 +72,7 @@ pub fn smaller<const N: usize>(a: Simd<u8, N>, b: Simd<u8, N>) -> Simd<u8, N>
 
 /// The larger lane of each pair, so that one test covers two vectors.
 #[inline(always)]
-pub fn larger<const N: usize>(a: Simd<u8, N>, b: Simd<u8, N>) -> Simd<u8, N>
+pub fn max<const N: usize>(a: Simd<u8, N>, b: Simd<u8, N>) -> Simd<u8, N>
     ensures lanes { result ≡ zip2 max a.entry b.entry }
     ensures low { AreLow result ↔ (AreLow a.entry × AreLow b.entry) }
 {
@@ -81,7 +81,7 @@ pub fn larger<const N: usize>(a: Simd<u8, N>, b: Simd<u8, N>) -> Simd<u8, N>
 
 /// The bits of both, so that one test covers two vectors.
 #[inline(always)]
-pub fn either<const N: usize>(a: Simd<u8, N>, b: Simd<u8, N>) -> Simd<u8, N>
+pub fn or<const N: usize>(a: Simd<u8, N>, b: Simd<u8, N>) -> Simd<u8, N>
     ensures lanes { result ≡ zip2 bit_or a.entry b.entry }
     ensures small { AreSmall result ↔ (AreSmall a.entry × AreSmall b.entry) }
 {
@@ -127,7 +127,7 @@ pub fn is_low<const N: usize>(v: Simd<u8, N>) -> bool
 pub fn is_small<const N: usize>(v: Simd<u8, N>) -> bool
     ensures { IsTrue result ↔ AreSmall v.entry }
 {
-    is_zero(masked(v, 0xf0))
+    is_zero(and_splat(v, 0xf0))
 }
 
 // Multiplying by it puts the byte of two nibbles into the high half of their word.
@@ -193,7 +193,7 @@ pub fn both_nibbles(v: u8x32) -> u8x64
         25, 26, 27, 28, 29, 30, 31,
     ]);
     high_bits(v).shuffle(
-        masked(v, 0x0f),
+        and_splat(v, 0x0f),
         [
             0, 32, 1, 33, 2, 34, 3, 35, 4, 36, 5, 37, 6, 38, 7, 39, 16, 48, 17, 49, 18, 50, 19, 51,
             20, 52, 21, 53, 22, 54, 23, 55, 8, 40, 9, 41, 10, 42, 11, 43, 12, 44, 13, 45, 14, 46,
@@ -230,7 +230,7 @@ pub fn wrapping_differences<const N: usize>(a: Simd<u8, N>, b: Simd<u8, N>) -> S
 
 /// Averages lane by lane, rounding up.
 #[inline(always)]
-pub fn averages<const N: usize>(a: Simd<u8, N>, b: Simd<u8, N>) -> Simd<u8, N>
+pub fn rounding_averages<const N: usize>(a: Simd<u8, N>, b: Simd<u8, N>) -> Simd<u8, N>
     ensures { result ≡ zip2 average a.entry b.entry }
 {
     let sums = a.cast::<u16>() + b.cast::<u16>() + Simd::splat(1);

@@ -10,7 +10,7 @@ ghost use Rattle.hex_core.specs.inside.Hash.{shifted};
 ghost use Rattle.hex_core.specs.inside.Tables.{entry};
 
 use crate::digit::CheckCase;
-use crate::vector::{eighths, masked, pack_both, pair_bytes};
+use crate::vector::{and_splat, eighths, pack_both, pair_bytes};
 use std::simd::prelude::*;
 
 /// Vector widths.
@@ -109,41 +109,41 @@ impl PackTwo<64, 32> for Lanes {
 }
 
 /// Interleaves two vectors, lane by lane.
-pub trait Interleave<const N: usize, const TWICE: usize> {
-    fn interleave(first: Simd<u8, N>, second: Simd<u8, N>) -> Simd<u8, TWICE>
+pub trait Unpack<const N: usize, const TWICE: usize> {
+    fn unpack(first: Simd<u8, N>, second: Simd<u8, N>) -> Simd<u8, TWICE>
         ensures { result ≡ interleaved first.entry second.entry };
 }
 
-impl Interleave<1, 2> for Lanes {
+impl Unpack<1, 2> for Lanes {
     #[inline(always)]
-    fn interleave(first: u8x1, second: u8x1) -> u8x2
+    fn unpack(first: u8x1, second: u8x1) -> u8x2
         ensures { result ≡ interleaved first second }
     {
         first.shuffle(second, [0, 1])
     }
 }
 
-impl Interleave<2, 4> for Lanes {
+impl Unpack<2, 4> for Lanes {
     #[inline(always)]
-    fn interleave(first: u8x2, second: u8x2) -> u8x4
+    fn unpack(first: u8x2, second: u8x2) -> u8x4
         ensures { result ≡ interleaved first second }
     {
         first.shuffle(second, [0, 2, 1, 3])
     }
 }
 
-impl Interleave<4, 8> for Lanes {
+impl Unpack<4, 8> for Lanes {
     #[inline(always)]
-    fn interleave(first: u8x4, second: u8x4) -> u8x8
+    fn unpack(first: u8x4, second: u8x4) -> u8x8
         ensures { result ≡ interleaved first second }
     {
         first.shuffle(second, [0, 4, 1, 5, 2, 6, 3, 7])
     }
 }
 
-impl Interleave<8, 16> for Lanes {
+impl Unpack<8, 16> for Lanes {
     #[inline(always)]
-    fn interleave(first: u8x8, second: u8x8) -> u8x16
+    fn unpack(first: u8x8, second: u8x8) -> u8x16
         ensures { result ≡ interleaved first second }
     {
         first.shuffle(
@@ -153,9 +153,9 @@ impl Interleave<8, 16> for Lanes {
     }
 }
 
-impl Interleave<16, 32> for Lanes {
+impl Unpack<16, 32> for Lanes {
     #[inline(always)]
-    fn interleave(first: u8x16, second: u8x16) -> u8x32
+    fn unpack(first: u8x16, second: u8x16) -> u8x32
         ensures { result ≡ interleaved first second }
     {
         first.shuffle(
@@ -168,9 +168,9 @@ impl Interleave<16, 32> for Lanes {
     }
 }
 
-impl Interleave<32, 64> for Lanes {
+impl Unpack<32, 64> for Lanes {
     #[inline(always)]
-    fn interleave(first: u8x32, second: u8x32) -> u8x64
+    fn unpack(first: u8x32, second: u8x32) -> u8x64
         ensures { result ≡ interleaved first second }
     {
         first.shuffle(
@@ -185,66 +185,66 @@ impl Interleave<32, 64> for Lanes {
 }
 
 /// Looks up each lane in a row of sixteen. Fewer lanes are repeated to fill a vector of sixteen.
-pub trait LookUp<const N: usize> {
-    fn look_up(row: u8x16, at: Simd<u8, N>) -> Simd<u8, N>
+pub trait Shuffle<const N: usize> {
+    fn shuffle(row: u8x16, at: Simd<u8, N>) -> Simd<u8, N>
         ensures { result ≡ map (entry row) at.entry };
 }
 
-impl LookUp<2> for Lanes {
+impl Shuffle<2> for Lanes {
     #[inline(always)]
-    fn look_up(row: u8x16, at: u8x2) -> u8x2
+    fn shuffle(row: u8x16, at: u8x2) -> u8x2
         ensures { result ≡ map (entry row) at }
     {
         let over = at.swizzle([0, 1, 0, 1, 0, 1, 0, 1, 0, 1, 0, 1, 0, 1, 0, 1]);
-        Lanes::look_up(row, over).extract::<0, 2>()
+        Lanes::shuffle(row, over).extract::<0, 2>()
     }
 }
 
-impl LookUp<4> for Lanes {
+impl Shuffle<4> for Lanes {
     #[inline(always)]
-    fn look_up(row: u8x16, at: u8x4) -> u8x4
+    fn shuffle(row: u8x16, at: u8x4) -> u8x4
         ensures { result ≡ map (entry row) at }
     {
         let over = at.swizzle([0, 1, 2, 3, 0, 1, 2, 3, 0, 1, 2, 3, 0, 1, 2, 3]);
-        Lanes::look_up(row, over).extract::<0, 4>()
+        Lanes::shuffle(row, over).extract::<0, 4>()
     }
 }
 
-impl LookUp<8> for Lanes {
+impl Shuffle<8> for Lanes {
     #[inline(always)]
-    fn look_up(row: u8x16, at: u8x8) -> u8x8
+    fn shuffle(row: u8x16, at: u8x8) -> u8x8
         ensures { result ≡ map (entry row) at }
     {
         let over = at.swizzle([0, 1, 2, 3, 4, 5, 6, 7, 0, 1, 2, 3, 4, 5, 6, 7]);
-        Lanes::look_up(row, over).extract::<0, 8>()
+        Lanes::shuffle(row, over).extract::<0, 8>()
     }
 }
 
-impl LookUp<16> for Lanes {
+impl Shuffle<16> for Lanes {
     #[inline(always)]
-    fn look_up(row: u8x16, at: u8x16) -> u8x16
+    fn shuffle(row: u8x16, at: u8x16) -> u8x16
         ensures { result ≡ map (entry row) at }
     {
-        row.swizzle_dyn_within::<16>(masked(at, 0x8f))
+        row.swizzle_dyn_within::<16>(and_splat(at, 0x8f))
     }
 }
 
-impl LookUp<32> for Lanes {
+impl Shuffle<32> for Lanes {
     #[inline(always)]
-    fn look_up(row: u8x16, at: u8x32) -> u8x32
+    fn shuffle(row: u8x16, at: u8x32) -> u8x32
         ensures { result ≡ map (entry row) at }
     {
         let rows = row.swizzle([
             0, 1, 2, 3, 4, 5, 6, 7, 8, 9, 10, 11, 12, 13, 14, 15, 0, 1, 2, 3, 4, 5, 6, 7, 8, 9, 10,
             11, 12, 13, 14, 15,
         ]);
-        rows.swizzle_dyn_within::<16>(masked(at, 0x8f))
+        rows.swizzle_dyn_within::<16>(and_splat(at, 0x8f))
     }
 }
 
-impl LookUp<64> for Lanes {
+impl Shuffle<64> for Lanes {
     #[inline(always)]
-    fn look_up(row: u8x16, at: u8x64) -> u8x64
+    fn shuffle(row: u8x16, at: u8x64) -> u8x64
         ensures { result ≡ map (entry row) at }
     {
         let rows = row.swizzle([
@@ -252,7 +252,7 @@ impl LookUp<64> for Lanes {
             11, 12, 13, 14, 15, 0, 1, 2, 3, 4, 5, 6, 7, 8, 9, 10, 11, 12, 13, 14, 15, 0, 1, 2, 3,
             4, 5, 6, 7, 8, 9, 10, 11, 12, 13, 14, 15,
         ]);
-        rows.swizzle_dyn_within::<16>(masked(at, 0x8f))
+        rows.swizzle_dyn_within::<16>(and_splat(at, 0x8f))
     }
 }
 

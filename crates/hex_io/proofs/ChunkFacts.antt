@@ -4,7 +4,7 @@ use Rattle.std.specs.Prelude.{Option, Result, Ok}
 use Rattle.std.proofs.Math.Seq.{take-append_seam}
 use Rattle.hex_core.specs.Calls.{Fills}
 use Rattle.hex_codec.specs.declared.group.Group.{Group}
-use Rattle.hex_codec.specs.Grouped.{grouped, piece_len}
+use Rattle.hex_codec.specs.GroupedWriting.{grouped, piece_len}
 use Rattle.hex_codec.proofs.CountLemmas.{len-most}
 use Rattle.hex_codec.proofs.GroupLemmas.{length-grouped}
 

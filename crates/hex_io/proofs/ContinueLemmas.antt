@@ -13,7 +13,7 @@ use Rattle.hex_core.specs.Calls.{Fills}
 use Rattle.hex_core.specs.declared.error.Error.{Error}
 use Rattle.hex_core.proofs.TextLemmas.{text-append}
 use Rattle.hex_codec.specs.declared.group.Group.{Group}
-use Rattle.hex_codec.specs.Grouped.{grouped, piece_len, separator}
+use Rattle.hex_codec.specs.GroupedWriting.{grouped, piece_len, separator}
 use Rattle.hex_codec.specs.GroupCalls.{WritesGrouped}
 use Rattle.hex_codec.proofs.CountLemmas.{len-most}
 use Rattle.hex_codec.proofs.GroupLemmas.{grouped-last, joined-pieces, no_pieces}

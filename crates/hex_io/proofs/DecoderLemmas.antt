@@ -24,9 +24,10 @@ use Rattle.hex_core.proofs.PositionLemmas.{none_joined, position-joined}
 use Rattle.hex_core.proofs.SearchLemmas.{has_value, lacks, none_valid}
 use Rattle.hex_codec.proofs.ListLemmas.{put-behind}
 use Rattle.hex_io.specs.Decoder.{PairsSpell, feed_refusal, pairs_more, refusal_by}
-use Rattle.hex_io.specs.Reading.{SpellsBut, digits_in, first_stray, is_solid, is_stray, plain, spaced, stray_of, unspaced}
+use Rattle.hex_io.specs.Reading.{SpellsBut, digits_in, first_invalid_read, is_solid, is_invalid_read, plain, spaced}
+use Rattle.hex_io.specs.Reading.{invalid_read_of, unspaced}
 use Rattle.hex_io.specs.declared.stream.decoder.Reading.{Reading}
-use Rattle.hex_io.specs.inside.{DecodesChunk, stray_behind}
+use Rattle.hex_io.specs.inside.{DecodesChunk, invalid_read_behind}
 
 -- ---- what has to be digits
 
@@ -49,14 +50,14 @@ none-kept p q (b ∷ s) = by_first (q b) (p b) refl refl (none-kept p q s)
     by_first true u kept is rest = let both = none_joined (λ b. q b && p b) (b ∷ []) s in let behind = none_joined p (b ∷ []) (filter q s) in rw (kept, is) (grind (arith, nat_tests, rest, both, behind))
     by_first false u left is rest = let both = none_joined (λ b. q b && p b) (b ∷ []) s in rw left (grind (arith, nat_tests, rest, both))
 
--- no byte is stray exactly where all digits are valid
-pub solid-valid : (c : CheckCase) (s : List ℕ) → (first_stray (spaced c) s ≡ None) ↔ (first_invalid c (unspaced s) ≡ None)
+-- no byte is invalid exactly where all digits are valid
+pub solid-valid : (c : CheckCase) (s : List ℕ) → (first_invalid_read (spaced c) s ≡ None) ↔ (first_invalid c (unspaced s) ≡ None)
 solid-valid c s = none-kept (lacks c) is_solid s
 
-pub none-stray : (c : CheckCase) (skips : Bool) (s : List ℕ) → let r : Reading = record { case = c; skips = skips } in
-    first_invalid c (digits_in r s) ≡ None → first_stray r s ≡ None
-none-stray c true s valid = (solid-valid c s).1 valid
-none-stray c false s valid = valid
+pub none-invalid : (c : CheckCase) (skips : Bool) (s : List ℕ) → let r : Reading = record { case = c; skips = skips } in
+    first_invalid c (digits_in r s) ≡ None → first_invalid_read r s ≡ None
+none-invalid c true s valid = (solid-valid c s).1 valid
+none-invalid c false s valid = valid
 
 -- digits are no white space
 digit-solid : (c : CheckCase) (b : ℕ) → lacks c b ≡ false → is_solid b ≡ true
@@ -70,8 +71,8 @@ digits-solid c (b ∷ s) none =
     let rest = digits-solid c s ((none_joined (lacks c) (b ∷ []) s).0 none).1 in
     rw (digit-solid c b (has_value c (b ∷ s) 0 none (omega arith)), rest) refl
 
--- so of valid digits all are counted, and none is stray
-pub valid-solid : (c : CheckCase) (s : List ℕ) → first_invalid c s ≡ None → (length s ≡ length (unspaced s)) × (first_stray (spaced c) s ≡ None)
+-- so of valid digits all are counted, and none is invalid
+pub valid-solid : (c : CheckCase) (s : List ℕ) → first_invalid c s ≡ None → (length s ≡ length (unspaced s)) × (first_invalid_read (spaced c) s ≡ None)
 valid-solid c s valid = let solid = digits-solid c s valid in (ap length (sym solid), (solid-valid c s).1 (rw solid valid))
 
 -- a source that loses nothing keeps all
@@ -126,8 +127,8 @@ pair-first c high byte [] bytes v some spelled rest = absurd (omega (arith, some
 pair-first c high byte (low ∷ tail) bytes v some spelled rest =
     but-joined c (high ∷ low ∷ []) tail (byte ∷ []) bytes [] v (record { valid = valid-spelled c _ _ spelled; pairs = _; parts = refl; spelled = spelled }) rest
 
--- a block with no stray byte is decoded
-pub solid-read : (c : CheckCase) (block digits : List ℕ) (w : Option ℕ) (old new : List ℕ) (result : Option (Option ℕ)) → first_stray (spaced c) block ≡ None
+-- a block with no invalid byte is decoded
+pub solid-read : (c : CheckCase) (block digits : List ℕ) (w : Option ℕ) (old new : List ℕ) (result : Option (Option ℕ)) → first_invalid_read (spaced c) block ≡ None
     → digits ≡ unspaced block → DecodesChunk (plain c) w digits old new result → IsSome result
 solid-read c block digits w old new (Some more) none is read = refl
 solid-read c block digits w old new None none is refused = absurd (refused.0 (rw is ((solid-valid c block).0 none)))
@@ -164,10 +165,10 @@ put-more old dst part xs ys n all is new fits =
 
 -- ---- what a feed refuses
 
--- the first stray byte behind a source that has none is that of both
-pub stray-behind-all : (r : Reading) (fed src : List ℕ) (had : ℕ) → first_stray r fed ≡ None → had ≡ length fed
-    → stray_behind r had src ≡ stray_of r (fed ++ src)
-stray-behind-all r fed src had none is = rw (is, position-joined (is_stray r) fed src, none) (by_first (first_stray r src))
+-- the first invalid byte behind a source that has none is that of both
+pub invalid-behind-all : (r : Reading) (fed src : List ℕ) (had : ℕ) → first_invalid_read r fed ≡ None → had ≡ length fed
+    → invalid_read_behind r had src ≡ invalid_read_of r (fed ++ src)
+invalid-behind-all r fed src had none is = rw (is, position-joined (is_invalid_read r) fed src, none) (by_first (first_invalid_read r src))
   where
     by_first : (o : Option ℕ) → option_map (λ i. InvalidChar (length fed + i) (slice_index src i)) o
         ≡ option_map (λ i. InvalidChar i (slice_index (fed ++ src) i)) (option_map (λ i. length fed + i) o)
@@ -181,12 +182,12 @@ pub byte-refused : (all more room : ℕ) (bad : Option Error) → all < 2 ^ 64 �
 byte-refused all more room bad few fits = grind (arith, nat_tests, few, fits)
 
 pub refused-byte : (r : Reading) (fed src : List ℕ) (room : ℕ) → length fed + length src < 2 ^ 64
-    → pairs_more (length (digits_in r fed)) (length (digits_in r src)) ≤ room → feed_refusal r fed src room ≡ stray_of r (fed ++ src)
+    → pairs_more (length (digits_in r fed)) (length (digits_in r src)) ≤ room → feed_refusal r fed src room ≡ invalid_read_of r (fed ++ src)
 refused-byte r fed src room few fits = byte-refused _ _ room _ few fits
 
--- valid digits have no stray byte among them
-pub none-refused : (r : Reading) (s : List ℕ) → first_invalid r.case (digits_in r s) ≡ None → stray_of r s ≡ None
-none-refused r s valid = rw (none-stray r.case r.skips s valid) refl
+-- valid digits have no invalid byte among them
+pub none-refused : (r : Reading) (s : List ℕ) → first_invalid r.case (digits_in r s) ≡ None → invalid_read_of r s ≡ None
+none-refused r s valid = rw (none-invalid r.case r.skips s valid) refl
 
 -- ---- all feeds are one
 

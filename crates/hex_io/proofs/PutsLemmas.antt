@@ -4,7 +4,7 @@ use Rattle.std.proofs.Common.{IsErr, IfOk, refl, ap, ◌∙◌, arith, append_as
 use Rattle.std.proofs.lemmas.List.{drop-drop, length-take-le}
 use Rattle.std.proofs.KnownBytes.{Appends-nil, Appends-trans}
 use Rattle.hex_io.specs.declared.sink.SinkFault.{SinkFault}
-use Rattle.hex_io.specs.Sink.{FillsBy, Puts, PutsPiece, SinkState, Stops, Takes, one_more, room}
+use Rattle.hex_io.specs.SinkState.{FillsBy, Puts, PutsPiece, SinkState, Stops, Takes, one_more, room}
 
 -- the free bytes after some are taken, and then some more
 FillsBy-then : (m n : ℕ) (a b c : SinkState) → FillsBy m a b → FillsBy n b c → FillsBy (m + n) a c

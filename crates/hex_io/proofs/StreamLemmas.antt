@@ -11,16 +11,16 @@ use Rattle.hex_core.specs.Refusal.{source_refusal}
 use Rattle.hex_core.specs.Search.{first_invalid}
 use Rattle.hex_core.specs.Text.{Spells}
 use Rattle.hex_io.specs.Decoder.{refusal_by}
-use Rattle.hex_io.specs.Reading.{SpellsBut, digits_in, first_stray, stray_of}
+use Rattle.hex_io.specs.Reading.{SpellsBut, digits_in, first_invalid_read, invalid_read_of}
 use Rattle.hex_io.proofs.DecoderLemmas.{byte-refused, many-refused, none-refused}
-use Rattle.hex_io.specs.Sink.{SinkState, Takes}
+use Rattle.hex_io.specs.SinkState.{SinkState, Takes}
 use Rattle.hex_io.specs.Stream.{DecodesSource, EndsDecoding, RefusedBy, WroteBefore}
 use Rattle.hex_io.specs.declared.stream.decoder.Reading.{Reading}
 use Rattle.hex_io.specs.declared.stream.StreamFault.{StreamFault}
 use Rattle.hex_io.specs.declared.stream.StreamFault.TheVariants.{Codec}
 
 -- the end of a stream
-pub ended-all : (r : Reading) (left : Option (List ℕ)) (s written : List ℕ) (waiting : Option ℕ) (old new : SinkState) (result : Result ℕ StreamFault) → IsAtEnd left → first_stray r s ≡ None
+pub ended-all : (r : Reading) (left : Option (List ℕ)) (s written : List ℕ) (waiting : Option ℕ) (old new : SinkState) (result : Result ℕ StreamFault) → IsAtEnd left → first_invalid_read r s ≡ None
     → SpellsBut r.case (digits_in r s) written (option_to_list waiting) → Takes old new written
     → MatchResult result (λ count. Spells r.case (digits_in r s) written × (count ≡ length written))
     (λ fault. (fault ≡ Codec OddLength) × (source_refusal r.case (digits_in r s) ≡ Some OddLength))
@@ -33,21 +33,21 @@ ended-all r left s written waiting old new (Err fault) end none but taken ends =
 pub by-reading : (r q : Reading) (before left : Option (List ℕ)) (old new : SinkState) (result : Result ℕ StreamFault) → r ≡ q → DecodesSource r before left old new result → DecodesSource q before left old new result
 by-reading r q before left old new result is read = subst (λ it. DecodesSource it before left old new result) is read
 
--- what a chunk that has room is refused for: that all are too many, or a stray byte
+-- what a chunk that has room is refused for: that all are too many, or a invalid byte
 pub refused-for : (P : Error → Type 0) (r : Reading) (fed src : List ℕ) (more room : ℕ) (e : Error) → more ≤ room
-    → refusal_by (length fed + length src) more room (stray_of r (fed ++ src)) ≡ Some e
-    → (2 ^ 64 ≤ length (fed ++ src) → P Overflow) → ((i b : ℕ) → stray_of r (fed ++ src) ≡ Some (InvalidChar i b) → P (InvalidChar i b)) → P e
+    → refusal_by (length fed + length src) more room (invalid_read_of r (fed ++ src)) ≡ Some e
+    → (2 ^ 64 ≤ length (fed ++ src) → P Overflow) → ((i b : ℕ) → invalid_read_of r (fed ++ src) ≡ Some (InvalidChar i b) → P (InvalidChar i b)) → P e
 refused-for P r fed src more room e fits refused all bad = elim (cases_lt (length fed + length src) (2 ^ 64)) [
-  | inl few ↦ let byte = sym (byte-refused _ more room _ few fits) ∙ refused in by_first (first_stray r (fed ++ src)) byte byte
-  | inr many ↦ let is : e ≡ Overflow = cc (many-refused _ more room (stray_of r (fed ++ src)) many, refused) in rw is (all (simp length-append many))
+  | inl few ↦ let byte = sym (byte-refused _ more room _ few fits) ∙ refused in by_first (first_invalid_read r (fed ++ src)) byte byte
+  | inr many ↦ let is : e ≡ Overflow = cc (many-refused _ more room (invalid_read_of r (fed ++ src)) many, refused) in rw is (all (simp length-append many))
 ]
   where
-    by_first : (o : Option ℕ) → option_map (λ i. InvalidChar i (slice_index (fed ++ src) i)) o ≡ Some e → stray_of r (fed ++ src) ≡ Some e → P e
+    by_first : (o : Option ℕ) → option_map (λ i. InvalidChar i (slice_index (fed ++ src) i)) o ≡ Some e → invalid_read_of r (fed ++ src) ≡ Some e → P e
     by_first (Some i) named byte = let is : e ≡ InvalidChar i (slice_index (fed ++ src) i) = cc named in rw is (bad i _ (rw is at byte))
     by_first None named byte = absurd (cc named)
 
 pub refused-feed : (r : Reading) (fed src : List ℕ) (more room : ℕ) (left : Option (List ℕ)) (old new : SinkState) (e : Error) → more ≤ room
-    → refusal_by (length fed + length src) more room (stray_of r (fed ++ src)) ≡ Some e → WroteBefore r (fed ++ src) old new → EndsDecoding r (fed ++ src) left old new (Err (Codec e))
+    → refusal_by (length fed + length src) more room (invalid_read_of r (fed ++ src)) ≡ Some e → WroteBefore r (fed ++ src) old new → EndsDecoding r (fed ++ src) left old new (Err (Codec e))
 refused-feed r fed src more room left old new e fits refused wrote =
     refused-for (λ e. EndsDecoding r (fed ++ src) left old new (Err (Codec e))) r fed src more room e fits refused (λ all. (wrote, all)) (λ i b byte. (wrote, byte))
 

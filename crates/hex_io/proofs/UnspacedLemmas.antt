@@ -9,7 +9,7 @@ use Rattle.hex_core.specs.Digit.{digit}
 use Rattle.hex_core.specs.Text.{text}
 use Rattle.hex_core.proofs.TextLemmas.{text-append}
 use Rattle.hex_codec.specs.declared.group.Group.{Group}
-use Rattle.hex_codec.specs.Grouped.{grouped, piece_len, separator}
+use Rattle.hex_codec.specs.GroupedWriting.{grouped, piece_len, separator}
 use Rattle.hex_codec.proofs.GroupLemmas.{grouped-last, grouped-more}
 use Rattle.hex_io.specs.Reading.{is_solid, unspaced}
 

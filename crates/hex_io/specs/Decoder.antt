@@ -1,11 +1,12 @@
 -- Decoding a source that comes in chunks.
-use Rattle.std.specs.Prelude.{◌≡◌, ℕ, ◌+◌, ◌-◌, ◌*◌, ◌/◌, ◌%◌, ◌^◌, ◌==◌, nat_le, nat_lt, if◌then◌else◌, List, ◌++◌, length, take, drop, Option, Some, None, Result, MatchResult}
+use Rattle.std.specs.Prelude.{◌≡◌, ℕ, ◌+◌, ◌-◌, ◌*◌, ◌/◌, ◌%◌, ◌^◌, ◌==◌, nat_le, nat_lt, if◌then◌else◌, List, ◌++◌}
+use Rattle.std.specs.Prelude.{length, take, drop, Option, Some, None, Result, MatchResult}
 use Rattle.std.specs.Option.{option_to_list}
 use Rattle.hex_core.specs.declared.error.Error.{Error}
 use Rattle.hex_core.specs.declared.error.Error.TheVariants.{OddLength, Overflow, OutputTooSmall}
 use Rattle.hex_core.specs.Calls.{Answers}
 use Rattle.hex_core.specs.Text.{Spells, with_front}
-use Rattle.hex_io.specs.Reading.{SpellsBut, digits_in, stray_of}
+use Rattle.hex_io.specs.Reading.{SpellsBut, digits_in, invalid_read_of}
 use Rattle.hex_io.specs.declared.stream.decoder.Decoder.{Decoder}
 use Rattle.hex_io.specs.declared.stream.decoder.Reading.{Reading}
 
@@ -29,16 +30,16 @@ abbrev pub pairs_more : ℕ → ℕ → ℕ
 pairs_more had n = (had + n) / 2 - had / 2
 
 -- what a feed refuses: more bytes in all than `usize` counts, else too little room for `more` bytes, else
--- `stray`, the first byte of all that was fed that should be a digit and is none
+-- `invalid`, the first byte of all that was fed that should be a digit and is none
 abbrev pub refusal_by : ℕ → ℕ → ℕ → Option Error → Option Error
-refusal_by all more room stray =
+refusal_by all more room invalid =
     if nat_le (2 ^ 64) all then Some Overflow
     else if nat_lt room more then Some (OutputTooSmall more)
-    else stray
+    else invalid
 
 abbrev pub feed_refusal : Reading → List ℕ → List ℕ → ℕ → Option Error
 feed_refusal r fed src room =
-    refusal_by (length fed + length src) (pairs_more (length (digits_in r fed)) (length (digits_in r src))) room (stray_of r (fed ++ src))
+    refusal_by (length fed + length src) (pairs_more (length (digits_in r fed)) (length (digits_in r src))) room (invalid_read_of r (fed ++ src))
 
 -- a feed. `Ok`: the number of bytes written to the start of the destination; with them the decoder wrote
 -- what all that it was fed spells. `Err`: the refusal

@@ -3,7 +3,7 @@ use Rattle.std.specs.Prelude.{ℕ, ◌-◌, ◌/◌, Bool, false, List, [], ◌+
 use Rattle.std.specs.List.{repeat}
 use Rattle.hex_core.specs.Text.{text}
 use Rattle.hex_codec.specs.declared.group.Group.{Group}
-use Rattle.hex_codec.specs.Grouped.{grouped}
+use Rattle.hex_codec.specs.GroupedWriting.{grouped}
 use Rattle.hex_io.specs.declared.format.Align.{Align}
 use Rattle.hex_io.specs.declared.format.Align.TheVariants.{Left, Right, Center}
 use Rattle.hex_io.specs.declared.format.Hex.{Hex}

@@ -2,8 +2,8 @@ pub mod Reading
 pub mod Decoder
 pub mod inside
 pub mod Frame
-pub mod Sink
-pub mod Sinks
+pub mod SinkState
+pub mod SliceAndWriterSinks
 pub mod SinkLaws
 pub mod Stream
 pub mod DecoderLaws

@@ -1,5 +1,6 @@
 -- How a source is read: as digits alone, or as digits with white space among them.
-use Rattle.std.specs.Prelude.{◌≡◌, ℕ, Bool, true, false, not, ◌&&◌, ◌||◌, if◌then◌else◌, List, ◌++◌, filter, position, slice_index, is_none, Option, None, option_map}
+use Rattle.std.specs.Prelude.{◌≡◌, ℕ, Bool, true, false, not, ◌&&◌, ◌||◌, if◌then◌else◌, List, ◌++◌, filter, position}
+use Rattle.std.specs.Prelude.{slice_index, is_none, Option, None, option_map}
 use Rattle.std.specs.Char.{is_ascii_whitespace}
 use Rattle.hex_core.specs.declared.digit.CheckCase.{CheckCase}
 use Rattle.hex_core.specs.declared.error.Error.{Error}
@@ -28,15 +29,15 @@ abbrev pub digits_in : Reading → List ℕ → List ℕ
 digits_in r s = if r.skips then unspaced s else s
 
 -- whether a byte should be a digit and is none, and the index of the first such byte of a source
-abbrev pub is_stray : Reading → ℕ → Bool
-is_stray r b = (not r.skips || is_solid b) && is_none (value r.case b)
+abbrev pub is_invalid_read : Reading → ℕ → Bool
+is_invalid_read r b = (not r.skips || is_solid b) && is_none (value r.case b)
 
-abbrev pub first_stray : Reading → List ℕ → Option ℕ
-first_stray r s = position (is_stray r) s
+abbrev pub first_invalid_read : Reading → List ℕ → Option ℕ
+first_invalid_read r s = position (is_invalid_read r) s
 
 -- the error of that byte
-abbrev pub stray_of : Reading → List ℕ → Option Error
-stray_of r s = option_map (λ i. InvalidChar i (slice_index s i)) (first_stray r s)
+abbrev pub invalid_read_of : Reading → List ℕ → Option Error
+invalid_read_of r s = option_map (λ i. InvalidChar i (slice_index s i)) (first_invalid_read r s)
 
 -- digits are valid and, except for those that wait at their end, spell a list
 pub record SpellsBut (c : CheckCase) (digits bytes waiting : List ℕ) : Type 0 where

@@ -2,7 +2,7 @@
 -- first: it says where the search for the earlier ones begins.
 use Rattle.std.specs.Prelude.{◌≡◌, List, ℕ, [], ◌++◌, Result, IsErr, drop, length, take}
 use Rattle.hex_io.specs.declared.sink.WriteFault.{WriteFault}
-use Rattle.hex_io.specs.Sink.{Puts, SinkState, Stops, Takes}
+use Rattle.hex_io.specs.SinkState.{Puts, SinkState, Stops, Takes}
 
 -- if nothing is put, nothing is taken
 abbrev pub TakesNothing : Type 0

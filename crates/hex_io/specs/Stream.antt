@@ -8,9 +8,9 @@ use Rattle.hex_core.specs.declared.error.Error.TheVariants.{OddLength, Overflow}
 use Rattle.hex_core.specs.Refusal.{source_refusal}
 use Rattle.hex_core.specs.Text.{Spells, text}
 use Rattle.hex_codec.specs.declared.group.Group.{Group}
-use Rattle.hex_codec.specs.Grouped.{grouped}
-use Rattle.hex_io.specs.Reading.{SpellsBut, digits_in, plain, spaced, stray_of}
-use Rattle.hex_io.specs.Sink.{SinkState, Stops, Takes}
+use Rattle.hex_codec.specs.GroupedWriting.{grouped}
+use Rattle.hex_io.specs.Reading.{SpellsBut, digits_in, plain, spaced, invalid_read_of}
+use Rattle.hex_io.specs.SinkState.{SinkState, Stops, Takes}
 use Rattle.hex_io.specs.declared.stream.StreamFault.{StreamFault}
 use Rattle.hex_io.specs.declared.stream.decoder.Reading.{Reading}
 use Rattle.hex_io.specs.declared.stream.StreamFault.TheVariants.{Codec, Read, Write}
@@ -19,8 +19,8 @@ use Rattle.hex_io.specs.declared.stream.StreamFault.TheVariants.{Codec, Read, Wr
 -- the first byte that should be a digit and is none
 abbrev pub RefusedBy : Reading → List ℕ → Option (List ℕ) → Error → Type 0
 RefusedBy r s left Overflow = 2 ^ 64 ≤ length s
-RefusedBy r s left OddLength = (source_refusal r.case (digits_in r s) ≡ Some OddLength) × (stray_of r s ≡ None) × IsAtEnd left
-RefusedBy r s left e = stray_of r s ≡ Some e
+RefusedBy r s left OddLength = (source_refusal r.case (digits_in r s) ≡ Some OddLength) × (invalid_read_of r s ≡ None) × IsAtEnd left
+RefusedBy r s left e = invalid_read_of r s ≡ Some e
 
 -- the sink did this with what digits spell, except for a last one that waits
 pub record Wrote (c : CheckCase) (digits : List ℕ) (Does : List ℕ → Type 0) : Type 0 where

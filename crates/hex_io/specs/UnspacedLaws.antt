@@ -3,7 +3,7 @@ use Rattle.std.specs.Prelude.{◌≡◌, true, Bool, ℕ, List, ◌++◌}
 use Rattle.std.specs.Char.{is_ascii_whitespace}
 use Rattle.hex_core.specs.Text.{text}
 use Rattle.hex_codec.specs.declared.group.Group.{Group}
-use Rattle.hex_codec.specs.Grouped.{grouped, separator}
+use Rattle.hex_codec.specs.GroupedWriting.{grouped, separator}
 use Rattle.hex_io.specs.Reading.{unspaced}
 
 -- a text has no white space

@@ -1,18 +1,19 @@
 -- What private functions do with one chunk of a stream. No public contract rests on it.
-use Rattle.std.specs.Prelude.{◌≡◌, ◌≢◌, ◌<◌, ◌≤◌, ℕ, ◌+◌, ◌%◌, List, ◌++◌, length, take, slice_index, Option, Some, None, option_map, MatchOption}
+use Rattle.std.specs.Prelude.{◌≡◌, ◌≢◌, ◌<◌, ◌≤◌, ℕ, ◌+◌, ◌%◌, List, ◌++◌, length, take, slice_index, Option, Some}
+use Rattle.std.specs.Prelude.{None, option_map, MatchOption}
 use Rattle.std.specs.Option.{option_to_list}
 use Rattle.hex_core.specs.declared.digit.CheckCase.{CheckCase}
 use Rattle.hex_core.specs.declared.error.Error.{Error}
 use Rattle.hex_core.specs.declared.error.Error.TheVariants.{InvalidChar}
 use Rattle.hex_core.specs.Text.{with_front}
 use Rattle.hex_codec.specs.declared.group.Group.{Group}
-use Rattle.hex_codec.specs.Grouped.{piece_len}
-use Rattle.hex_io.specs.Reading.{SpellsBut, digits_in, first_stray, unspaced}
+use Rattle.hex_codec.specs.GroupedWriting.{piece_len}
+use Rattle.hex_io.specs.Reading.{SpellsBut, digits_in, first_invalid_read, unspaced}
 use Rattle.hex_io.specs.declared.stream.decoder.Reading.{Reading}
 
 -- the error of the first byte of a chunk, after `had` bytes, that should be a digit and is none
-abbrev pub stray_behind : Reading → ℕ → List ℕ → Option Error
-stray_behind r had src = option_map (λ i. InvalidChar (had + i) (slice_index src i)) (first_stray r src)
+abbrev pub invalid_read_behind : Reading → ℕ → List ℕ → Option Error
+invalid_read_behind r had src = option_map (λ i. InvalidChar (had + i) (slice_index src i)) (first_invalid_read r src)
 
 -- digits are decoded: what they spell is written to the start of a destination, and an odd last digit
 -- waits
@@ -22,7 +23,7 @@ DecodesDigits c digits old new waiting = (bytes : List ℕ) × SpellsBut c digit
 -- a digit that waits and those of a chunk are; or the chunk has such a byte, and nothing is written
 abbrev pub DecodesChunk : Reading → Option ℕ → List ℕ → List ℕ → List ℕ → Option (Option ℕ) → Type 0
 DecodesChunk r waiting src old new result =
-    MatchOption result ((first_stray r src ≢ None) × (new ≡ old)) (DecodesDigits r.case (option_to_list waiting ++ digits_in r src) old new)
+    MatchOption result ((first_invalid_read r src ≢ None) × (new ≡ old)) (DecodesDigits r.case (option_to_list waiting ++ digits_in r src) old new)
 
 -- n bytes behind `total` others do not pass the end of a piece that those begin
 abbrev pub FitsPiece : Option Group → ℕ → ℕ → Type 0

@@ -3,9 +3,9 @@
 ghost use Rattle.std.specs.Prelude.{◌≡◌, ◌*◌, ◌%◌, ◌<◌, ◌≤◌, ◌∷◌, ◌++◌, [], IsTrue, if◌then◌else◌, length};
 ghost use Rattle.std.specs.Str.{IsAscii};
 ghost use Rattle.hex_core.specs.Text.{text};
-ghost use Rattle.hex_codec.specs.Grouped.{grouped, piece_len, separator};
+ghost use Rattle.hex_codec.specs.GroupedWriting.{grouped, piece_len, separator};
 ghost use Rattle.hex_io.specs.Frame.{digits_by};
-ghost use Rattle.hex_io.specs.Sink.{Puts};
+ghost use Rattle.hex_io.specs.SinkState.{Puts};
 
 use crate::sink::{Sink, WriteFault, put_all};
 use hex_codec::grouped::write_into;

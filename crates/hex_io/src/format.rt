@@ -5,7 +5,7 @@ ghost use Rattle.std.specs.Fmt.{WritesOnOk};
 ghost use Rattle.std.specs.Str.{IsAscii};
 ghost use Rattle.hex_core.specs.Text.{lowercase, text};
 ghost use Rattle.hex_io.specs.Frame.{digits_of, frame, hex_bytes, plain_flags, sign_and_prefix};
-ghost use Rattle.hex_io.specs.Sink.{Puts};
+ghost use Rattle.hex_io.specs.SinkState.{Puts};
 
 pub use crate::digits::put_digits;
 use crate::digits::{ENCODE_CHUNK, SHORT_SOURCE, encoded};

@@ -3,7 +3,7 @@
 ghost use Rattle.std.specs.Prelude.{◌≡◌, ◌*◌, ◌≤◌, encode_utf8, length};
 ghost use Rattle.std.specs.List.{repeat};
 ghost use Rattle.hex_io.specs.Frame.{left_padding, padding_of, sign_and_prefix};
-ghost use Rattle.hex_io.specs.Sink.{Puts};
+ghost use Rattle.hex_io.specs.SinkState.{Puts};
 
 use crate::format::{Align, HexFlags};
 use crate::sink::{Sink, WriteFault, put_all};

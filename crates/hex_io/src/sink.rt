@@ -3,7 +3,7 @@
 ghost use Rattle.std.specs.Prelude.{◌≡◌, ◌≤◌, None, Some, length};
 ghost use Rattle.std.specs.Option.{option_copied};
 ghost use Rattle.hex_io.specs.Message.{sink_fault_text, write_fault_text};
-ghost use Rattle.hex_io.specs.Sink.{Puts, PutsPiece, SinkState};
+ghost use Rattle.hex_io.specs.SinkState.{Puts, PutsPiece, SinkState};
 ghost use Rattle.hex_io.specs.declared.sink.WriteFault.TheVariants as fault;
 
 use std::io::{self, Write};
@@ -162,7 +162,7 @@ pub struct SliceSink<'a> {
 }
 
 impl<'a> SliceSink<'a> {
-    ghost use Rattle.hex_io.specs.Sinks.{fresh_state, slice_state, written_bytes};
+    ghost use Rattle.hex_io.specs.SliceAndWriterSinks.{fresh_state, slice_state, written_bytes};
 
     /// Returns a sink that has taken nothing, with all of `buf` free and no failure.
     pub fn new(buf: &'a mut [u8]) -> SliceSink<'a>
@@ -184,7 +184,7 @@ impl<'a> SliceSink<'a> {
 }
 
 impl Sink for SliceSink<'_> {
-    ghost use Rattle.hex_io.specs.Sinks.{TakesWhatFits, slice_state};
+    ghost use Rattle.hex_io.specs.SliceAndWriterSinks.{TakesWhatFits, slice_state};
 
     ghost state = { slice_state };
 
@@ -231,7 +231,7 @@ pub struct WriterSink<W: Write> {
 }
 
 impl<W: Write> WriterSink<W> {
-    ghost use Rattle.hex_io.specs.Sinks.{IsFreshOver, kept_error, writer_of};
+    ghost use Rattle.hex_io.specs.SliceAndWriterSinks.{IsFreshOver, kept_error, writer_of};
 
     /// Returns a sink over `writer`, with no error and no failures.
     pub fn new(writer: W) -> WriterSink<W>
@@ -261,7 +261,7 @@ impl<W: Write> WriterSink<W> {
 }
 
 impl<W: Write> Sink for WriterSink<W> {
-    ghost use Rattle.hex_io.specs.Sinks.{KeepsError, PutsIntoWriter, writer_state};
+    ghost use Rattle.hex_io.specs.SliceAndWriterSinks.{KeepsError, PutsIntoWriter, writer_state};
 
     ghost state = { writer_state W.contents };
 

@@ -8,7 +8,7 @@ ghost use Rattle.std.specs.IoError.{error_kind};
 ghost use Rattle.hex_core.specs.declared.error.Error.TheVariants.{OddLength};
 ghost use Rattle.hex_core.specs.Refusal.{source_refusal};
 ghost use Rattle.hex_core.specs.Text.{Spells};
-ghost use Rattle.hex_codec.specs.Grouped.{grouped, separator};
+ghost use Rattle.hex_codec.specs.GroupedWriting.{grouped, separator};
 ghost use Rattle.hex_io.specs.Decoder.{HasFed, reading_of};
 ghost use Rattle.hex_io.specs.Frame.{digits_by};
 ghost use Rattle.hex_io.specs.Message.{stream_fault_text};
@@ -112,7 +112,7 @@ pub fn decode_stream<R: Read, S: Sink>(
     ensures answer { DecodesStream case (R.remaining reader.old) (R.remaining reader.new)
         (S.state sink.old) (S.state sink.new) result }
 {
-    decode_by(reader, sink, Decoder::new(case))
+    decode_by_decoder(reader, sink, Decoder::new(case))
 }
 
 /// Like [`decode_stream`], but skips ASCII white space among the digits, as `xxd -p` and `openssl`
@@ -139,11 +139,11 @@ pub fn decode_spaced_stream<R: Read, S: Sink>(
     ensures answer { DecodesSpacedStream case (R.remaining reader.old) (R.remaining reader.new)
         (S.state sink.old) (S.state sink.new) result }
 {
-    decode_by(reader, sink, Decoder::spaced(case))
+    decode_by_decoder(reader, sink, Decoder::spaced(case))
 }
 
 // Decodes all that a reader gives by a decoder that has been fed nothing.
-fn decode_by<R: Read, S: Sink>(
+fn decode_by_decoder<R: Read, S: Sink>(
     reader: &mut R,
     sink: &mut S,
     mut decoder: Decoder,

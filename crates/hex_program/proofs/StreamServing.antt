@@ -11,10 +11,10 @@ use Rattle.hex_core.specs.declared.error.Error.TheVariants as error
 use Rattle.hex_core.specs.Text.{lowercase, text}
 use Rattle.hex_core.proofs.LawProofs.{valid-spelled}
 use Rattle.hex_codec.specs.declared.group.Group.{Group}
-use Rattle.hex_codec.specs.Grouped.{grouped, piece_len, pieces, separator}
+use Rattle.hex_codec.specs.GroupedWriting.{grouped, piece_len, pieces, separator}
 use Rattle.hex_codec.proofs.GroupLemmas.{no_pieces, pieces-next}
 use Rattle.hex_io.specs.Reading.{SpellsBut, spaced, unspaced}
-use Rattle.hex_io.specs.Sink.{SinkState, Stops, Takes}
+use Rattle.hex_io.specs.SinkState.{SinkState, Stops, Takes}
 use Rattle.hex_io.specs.SinkLaws.{StopsInARow, TakesInARow}
 use Rattle.hex_io.specs.Stream.{EndsDecoding, EndsEncoding, RefusedBy, Wrote, WroteBefore}
 use Rattle.hex_io.specs.declared.stream.StreamFault.{StreamFault}

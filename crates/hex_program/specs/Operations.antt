@@ -1,5 +1,6 @@
 -- The operations of `fhex`: their words, outputs, refusals and results.
-use Rattle.std.specs.Prelude.{◌≡◌, ◌<◌, ◌%◌, ℕ, Bool, if◌then◌else◌, List, [], ◌∷◌, ◌++◌, length, codes, Option, Some, None, Result, MatchResult}
+use Rattle.std.specs.Prelude.{◌≡◌, ◌<◌, ◌%◌, ℕ, Bool, if◌then◌else◌, List, [], ◌∷◌, ◌++◌, length, codes, Option, Some}
+use Rattle.std.specs.Prelude.{None, Result, MatchResult}
 use Rattle.std.specs.Str.{bytes_eq}
 use Rattle.std.specs.Io.BufRead.{strip_last}
 use Rattle.hex_core.specs.declared.digit.CheckCase.{CheckCase}
@@ -7,7 +8,7 @@ use Rattle.hex_core.specs.declared.digit.CheckCase.TheVariants as policy
 use Rattle.hex_core.specs.declared.error.Error.{Error}
 use Rattle.hex_core.specs.Text.{Spells, lowercase, text, uppercase}
 use Rattle.hex_core.specs.Refusal.{source_refusal}
-use Rattle.hex_io.specs.Sink.{SinkState, Stops, Takes}
+use Rattle.hex_io.specs.SinkState.{SinkState, Stops, Takes}
 use Rattle.hex_program.specs.declared.operation.Op.{Op}
 use Rattle.hex_program.specs.declared.operation.Op.TheVariants.{Encode, EncodeUpper, Decode, DecodeLower, DecodeUpper}
 use Rattle.hex_program.specs.declared.operation.RunFault.{RunFault}

@@ -6,7 +6,8 @@ use Rattle.hex_core.specs.declared.error.Error.{Error}
 use Rattle.hex_program.specs.Operations.{IsOutput, op_of_words, op_refusal}
 use Rattle.hex_program.specs.declared.operation.Op.{Op}
 use Rattle.hex_program.specs.declared.failure.Failure.{Failure}
-use Rattle.hex_program.specs.declared.failure.Failure.TheVariants.{Codec, Usage, StreamUsage, ReadFailed, WriteFailed, OutOfMemory, InputTooLong}
+use Rattle.hex_program.specs.declared.failure.Failure.TheVariants.{Codec, Usage, StreamUsage, ReadFailed, WriteFailed}
+use Rattle.hex_program.specs.declared.failure.Failure.TheVariants.{OutOfMemory, InputTooLong}
 
 -- the exit status of a failure
 abbrev pub status_of : Failure → ℕ

@@ -7,7 +7,7 @@ use Rattle.hex_core.specs.declared.digit.CheckCase.TheVariants as policy
 use Rattle.hex_core.specs.declared.error.Error.{Error}
 use Rattle.hex_core.specs.declared.error.Error.TheVariants.{Overflow}
 use Rattle.hex_core.specs.Text.{Spells, lowercase, text}
-use Rattle.hex_codec.specs.Grouped.{pieces}
+use Rattle.hex_codec.specs.GroupedWriting.{pieces}
 use Rattle.hex_io.specs.Reading.{spaced, unspaced}
 use Rattle.hex_io.specs.Stream.{RefusedBy, Wrote}
 use Rattle.hex_program.specs.declared.stream.StreamOp.{StreamOp}

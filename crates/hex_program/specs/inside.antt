@@ -6,7 +6,7 @@ use Rattle.hex_program.specs.declared.stream.StreamOp.{StreamOp}
 use Rattle.hex_program.specs.declared.operation.RunFault.{RunFault}
 use Rattle.hex_program.specs.declared.operation.RunFault.TheVariants as fault
 use Rattle.std.specs.Io.KnownBytes.{Appends, Consumes, IsAtEnd}
-use Rattle.hex_io.specs.Sink.{SinkState, Stops, Takes}
+use Rattle.hex_io.specs.SinkState.{SinkState, Stops, Takes}
 use Rattle.hex_io.specs.declared.stream.StreamFault.{StreamFault}
 use Rattle.hex_io.specs.declared.stream.StreamFault.TheVariants as stream_fault
 use Rattle.hex_program.specs.declared.failure.Failure.{Failure}

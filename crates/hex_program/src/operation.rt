@@ -2,7 +2,7 @@
 
 ghost use Rattle.std.specs.Prelude.{◌≡◌, ◌++◌, ◌∷◌, [], map};
 ghost use Rattle.hex_core.specs.Text.{text};
-ghost use Rattle.hex_io.specs.Sink.{Puts};
+ghost use Rattle.hex_io.specs.SinkState.{Puts};
 ghost use Rattle.hex_program.specs.Operations.{Runs, op_of_word, op_of_words, without_newline};
 
 use hex_codec::hex_decode_vec_with_case;

@@ -7,19 +7,19 @@
 //! the Rust crate, its rows are counted and their inputs added up.
 #![tactic(auto)]
 
-mod carried;
 pub mod choices;
 mod cursor;
 pub mod fakes;
 pub mod formula;
 pub mod notation;
 mod note;
+mod ported;
 pub mod refusing;
 mod words;
 
-use crate::carried::Carried;
 pub use crate::notation::Bytes;
 pub use crate::note::{Came, Note};
+use crate::ported::Ported;
 pub use crate::words::Words;
 use crate::words::first_word;
 use std::alloc::Global;
@@ -99,12 +99,12 @@ pub trait Calls {
     fn is_answered(&mut self, row: &mut Row) -> bool;
 }
 
-// How many rows were judged, how many of them are answered otherwise, and those of a carried test.
+// How many rows were judged, how many of them are answered otherwise, and those of a ported test.
 #[derive(Drop)]
 struct Counts {
     rows: u64,
     otherwise: u64,
-    carried: Carried,
+    ported: Ported,
 }
 
 // How many rows a line stands for, and the words of its call.
@@ -131,7 +131,7 @@ fn turn_missed<C: Calls>(
     for turn in 0..count {
         row.hold(call, answer, turn);
         counts
-            .carried
+            .ported
             .add(&row.call, &mut row.first, &mut row.second);
         let is_answered = calls.is_answered(row);
         counts.rows = counts.rows.saturating_add(1);
@@ -165,21 +165,21 @@ pub fn judge<C: Calls, R: BufRead + Drop, W: Write>(
     let mut counts = Counts {
         rows: 0,
         otherwise: 0,
-        carried: Carried::default(),
+        ported: Ported::default(),
     };
     for (number, line) in (1u64..).zip(input.lines(alloc)) {
         let line = line?;
         let line = line.as_str();
         if line.is_empty() {
-            counts.carried.end(output)?;
+            counts.ported.end(output)?;
         } else if line.starts_with('#') {
-            counts.carried.begin(line);
+            counts.ported.begin(line);
         } else if let Some(turn) = turn_missed(calls, &mut row, line, &mut counts) {
             writeln!(output, "line {number}, turn {turn}: {line}")?;
             row.put(output)?;
         }
     }
-    counts.carried.end(output)?;
+    counts.ported.end(output)?;
     writeln!(
         output,
         "{} rows, {} answered otherwise",

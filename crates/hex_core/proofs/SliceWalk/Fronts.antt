@@ -1,7 +1,10 @@
 -- The front of a slice of bytes is lent: the slice is lent as an array, and the array's first bytes as a slice.
-use Rattle.hex_core.proofs.SliceWalk.Kit.{◌≡◌, refl, ap, sym, ℕ, arith, List, [], ◌∷◌, length, MutBor, Ok, Ura, Lifetime, Val, ent, sep, Lft}
-use Rattle.hex_core.proofs.SliceWalk.Kit.{GName, Share, flft, Logic, sem, Item, mean, ‵, ◌⊛◌, ◌$◌, ◌∵◌, given, later, some, !, drop, move, qed, split3}
-use Rattle.hex_core.proofs.SliceWalk.Kit.{fsplit, fjoin, feq_i, use1, use2, await, pick, learn, done, BareSlice, u8, RattleType, MutSlice, Room}
+use Rattle.hex_core.proofs.SliceWalk.Kit.{◌≡◌, refl, ap, sym, ℕ, arith, List, [], ◌∷◌, length, MutBor, Ok, Ura}
+use Rattle.hex_core.proofs.SliceWalk.Kit.{Lifetime, Val, ent, sep, Lft}
+use Rattle.hex_core.proofs.SliceWalk.Kit.{GName, Share, flft, Logic, sem, Item, mean, ‵, ◌⊛◌, ◌$◌, ◌∵◌, given, later}
+use Rattle.hex_core.proofs.SliceWalk.Kit.{some, !, drop, move, qed, split3}
+use Rattle.hex_core.proofs.SliceWalk.Kit.{fsplit, fjoin, feq_i, use1, use2, await, pick, learn, done, BareSlice, u8}
+use Rattle.hex_core.proofs.SliceWalk.Kit.{RattleType, MutSlice, Room}
 use Rattle.hex_core.proofs.SliceWalk.Kit.{slice_val, ok_val}
 use Rattle.std.proofs.slice.Relends.{array_lent, lends_array}
 use Rattle.std.proofs.Common.{◌++◌, length-append}

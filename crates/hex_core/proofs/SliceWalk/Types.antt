@@ -1,5 +1,10 @@
 -- The types that the slice calls pass, with their laws.
-use Rattle.hex_core.proofs.SliceWalk.Kit.{refl, ap, subst, List, [], ◌∷◌, Ura, Body, Callee, Lifetime, Operand, Place, seq, call, Val, WT, has_ty, ent, sep, id⊢, Lft, Model, Env, Logic, Item, Post, lands, runs, mean, ‵, ◌⊛◌, raw, some, later, Seq, ◌$◌, move, split, use1, use2, await, pick, Opds, Running, tables, u8, usize, bool, Is, layout, RattleType, NamedLft, type_at, MutSlice, only, calls_at, Clauses, Ended, Lasts, at_exit, closing, lasts, Res, alive, Meets, triple_of, framed}
+use Rattle.hex_core.proofs.SliceWalk.Kit.{refl, ap, subst, List, [], ◌∷◌, Ura, Body, Callee, Lifetime, Operand, Place}
+use Rattle.hex_core.proofs.SliceWalk.Kit.{seq, call, Val, WT, has_ty, ent, sep, id⊢, Lft, Model, Env, Logic, Item, Post}
+use Rattle.hex_core.proofs.SliceWalk.Kit.{lands, runs, mean, ‵, ◌⊛◌, raw, some, later, Seq, ◌$◌, move, split, use1}
+use Rattle.hex_core.proofs.SliceWalk.Kit.{use2, await, pick, Opds, Running, tables, u8, usize, bool, Is, layout}
+use Rattle.hex_core.proofs.SliceWalk.Kit.{RattleType, NamedLft, type_at, MutSlice, only, calls_at, Clauses, Ended}
+use Rattle.hex_core.proofs.SliceWalk.Kit.{Lasts, at_exit, closing, lasts, Res, alive, Meets, triple_of, framed}
 use lib.Dec.{T}
 use denote.Param.Laws.{Laws, Told, of_field, field_told, param_laws}
 use denote.Param.Shared.{copy_shared, mut_slice_shared}

@@ -13,8 +13,8 @@ ghost use Rattle.std.specs.Prelude.{◌≡◌, ◌≢◌, ◌↔◌, ◌+◌, �
 ghost use Rattle.std.specs.Option.{ForSome, option_to_list};
 ghost use Rattle.hex_core.specs.Digit.{value};
 ghost use Rattle.hex_core.specs.Text.{Spells};
-ghost use Rattle.hex_io.specs.Reading.{digits_in, first_stray, plain, spaced, unspaced};
-ghost use Rattle.hex_io.specs.inside.{DecodesChunk, DecodesDigits, stray_behind};
+ghost use Rattle.hex_io.specs.Reading.{digits_in, first_invalid_read, plain, spaced, unspaced};
+ghost use Rattle.hex_io.specs.inside.{DecodesChunk, DecodesDigits, invalid_read_behind};
 
 use crate::stream::unspaced::copy_unspaced;
 use hex_core::{Backend, CheckCase, Error, digit_value};
@@ -184,7 +184,7 @@ impl Decoder {
     fn survey(&self, src: &[u8]) -> (usize, bool)
         ensures count { result.0 ≡ length (digits_in (reading_of self.now) src.now) }
         ensures clean { self.now.reading.skips ≡ true →
-            (IsTrue result.1 ↔ (first_stray (reading_of self.now) src.now ≡ None)) }
+            (IsTrue result.1 ↔ (first_invalid_read (reading_of self.now) src.now ≡ None)) }
     {
         if self.reading.skips {
             survey(src, self.reading.case)
@@ -210,7 +210,7 @@ impl Decoder {
     fn decode(&self, src: &[u8], dst: &mut [u8], count: usize, is_clean: bool) -> Option<Option<u8>>
         requires count { count ≡ length (digits_in (reading_of self.now) src.now) }
         requires clean { self.now.reading.skips ≡ true →
-            (IsTrue is_clean ↔ (first_stray (reading_of self.now) src.now ≡ None)) }
+            (IsTrue is_clean ↔ (first_invalid_read (reading_of self.now) src.now ≡ None)) }
         requires room { (length (waiting_in self.now) + count) / 2 ≤ length dst.old }
         ensures { DecodesChunk (reading_of self.now) self.now.waiting src.now dst.old dst.new result }
     {
@@ -225,8 +225,8 @@ impl Decoder {
     }
 
     // The index of the first byte of a chunk that should be a digit and is none.
-    fn first_stray(&self, src: &[u8]) -> Option<usize>
-        ensures { result ≡ first_stray (reading_of self.now) src.now }
+    fn first_invalid_read(&self, src: &[u8]) -> Option<usize>
+        ensures { result ≡ first_invalid_read (reading_of self.now) src.now }
     {
         let Reading { case, skips } = self.reading;
         if !skips {
@@ -239,11 +239,11 @@ impl Decoder {
     // That byte as an error, with its index in all bytes fed.
     #[cold]
     fn error_in(&self, src: &[u8]) -> Error
-        requires stray { first_stray (reading_of self.now) src.now ≢ None }
+        requires invalid { first_invalid_read (reading_of self.now) src.now ≢ None }
         requires counted { position_of self.now + length src.now < 2 ^ 64 }
-        ensures { stray_behind (reading_of self.now) (position_of self.now) src.now ≡ Some result }
+        ensures { invalid_read_behind (reading_of self.now) (position_of self.now) src.now ≡ Some result }
     {
-        let index = self.first_stray(src).unwrap();
+        let index = self.first_invalid_read(src).unwrap();
         Error::InvalidChar {
             index: self.position + index,
             byte: src[index],
@@ -254,7 +254,7 @@ impl Decoder {
 // How many bytes of a source are no white space, and whether all of these are digits.
 fn survey(src: &[u8], case: CheckCase) -> (usize, bool)
     ensures count { result.0 ≡ length (unspaced src.now) }
-    ensures clean { IsTrue result.1 ↔ (first_stray (spaced case) src.now ≡ None) }
+    ensures clean { IsTrue result.1 ↔ (first_invalid_read (spaced case) src.now ≡ None) }
 {
     if Backend::plain().check(src, case) {
         return (src.len(), true);
@@ -273,7 +273,7 @@ fn survey(src: &[u8], case: CheckCase) -> (usize, bool)
 fn survey_block(block: &[u8], case: CheckCase) -> (usize, bool)
     requires { length block.now ≤ SPACED_BLOCK }
     ensures count { result.0 ≡ length (unspaced block.now) }
-    ensures clean { IsTrue result.1 ↔ (first_stray (spaced case) block.now ≡ None) }
+    ensures clean { IsTrue result.1 ↔ (first_invalid_read (spaced case) block.now ≡ None) }
 {
     let mut digits = [0; SPACED_BLOCK];
     let count = copy_unspaced(block, &mut digits);
@@ -283,7 +283,7 @@ fn survey_block(block: &[u8], case: CheckCase) -> (usize, bool)
 // Decodes digits among which white space stands and nothing else, and returns the one that then waits.
 fn decode_spaced(mut waiting: Option<u8>, src: &[u8], dst: &mut [u8], case: CheckCase) -> Option<u8>
     requires tested { ForSome waiting (λ digit. IsSome (value case digit)) }
-    requires valid { first_stray (spaced case) src.now ≡ None }
+    requires valid { first_invalid_read (spaced case) src.now ≡ None }
     requires room { (length (option_to_list waiting) + length (unspaced src.now)) / 2 ≤ length dst.old }
     ensures { DecodesDigits case (option_to_list waiting ++ unspaced src.now) dst.old dst.new result }
 {
@@ -305,7 +305,7 @@ fn decode_block(
 ) -> (Option<u8>, usize)
     requires few { length block.now ≤ SPACED_BLOCK }
     requires tested { ForSome waiting (λ digit. IsSome (value case digit)) }
-    requires valid { first_stray (spaced case) block.now ≡ None }
+    requires valid { first_invalid_read (spaced case) block.now ≡ None }
     requires room { (length (option_to_list waiting) + length (unspaced block.now)) / 2 ≤ length dst.old }
     ensures decoded { DecodesDigits case (option_to_list waiting ++ unspaced block.now)
         dst.old dst.new result.0 }

@@ -4,8 +4,8 @@ use Rattle.std.specs.Borrow.{MutBor}
 use Rattle.hex_core.specs.Text.{lowercase, with_front}
 use Rattle.hex_io.specs.declared.sink.SliceSink.{SliceSink}
 use Rattle.hex_io.specs.Lists.{list_of}
-use Rattle.hex_io.specs.Sink.{Takes}
-use Rattle.hex_io.specs.Sinks.{fresh_state, slice_state}
+use Rattle.hex_io.specs.SinkState.{Takes}
+use Rattle.hex_io.specs.SliceAndWriterSinks.{fresh_state, slice_state}
 use Rattle.callers.specs.DigestLists.{entry_of}
 use Rattle.callers.proofs.digest_lists.write_checksum.Goals as goal
 

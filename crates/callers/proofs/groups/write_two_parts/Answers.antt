@@ -1,7 +1,7 @@
 -- The text of both parts is that of the first, a separator, and that of the second.
 use Rattle.std.proofs.Common.{rules, ◌≡◌, ◌∷◌, ◌++◌, [], append_assoc}
-use Rattle.hex_codec.specs.Grouped.{grouped, separator}
-use Rattle.hex_io.specs.Sink.{Stops}
+use Rattle.hex_codec.specs.GroupedWriting.{grouped, separator}
+use Rattle.hex_io.specs.SinkState.{Stops}
 use Rattle.hex_core.specs.Text.{lowercase}
 use Rattle.callers.proofs.groups.write_two_parts.Goals as goal
 use Rattle.callers.proofs.groups.write_two_parts.Goals.{After-put_digits}

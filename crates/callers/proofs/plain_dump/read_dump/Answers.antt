@@ -6,9 +6,9 @@ use Rattle.std.specs.Char.{is_ascii_whitespace}
 use Rattle.hex_core.specs.declared.digit.CheckCase.TheVariants as policy
 use Rattle.hex_core.specs.Laws.{SpellsOneList}
 use Rattle.hex_core.specs.Text.{Spells, lowercase, text}
-use Rattle.hex_codec.specs.Grouped.{grouped}
+use Rattle.hex_codec.specs.GroupedWriting.{grouped}
 use Rattle.hex_io.specs.Reading.{spaced, unspaced}
-use Rattle.hex_io.specs.Sink.{SinkState, Takes}
+use Rattle.hex_io.specs.SinkState.{SinkState, Takes}
 use Rattle.hex_io.specs.Stream.{DecodesSpacedStream, EndsDecoding}
 use Rattle.hex_io.specs.declared.stream.StreamFault.{StreamFault}
 use Rattle.callers.specs.PlainDumps.{line_end}

@@ -1,6 +1,6 @@
 -- The lines and the newline are the dump.
 use Rattle.hex_core.specs.Text.{lowercase}
-use Rattle.hex_codec.specs.Grouped.{grouped}
+use Rattle.hex_codec.specs.GroupedWriting.{grouped}
 use Rattle.hex_io.specs.Stream.{EndsEncoding}
 use Rattle.std.specs.Prelude.{Ok}
 use Rattle.callers.proofs.plain_dump.write_lines.Goals as goal

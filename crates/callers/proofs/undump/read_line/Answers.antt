@@ -2,8 +2,8 @@
 use Rattle.std.proofs.Common.{◌≡◌, length, arith}
 use Rattle.hex_core.specs.declared.digit.CheckCase.TheVariants as policy
 use Rattle.hex_core.specs.Text.{Spells, lowercase, text}
-use Rattle.hex_codec.specs.Grouped.{grouped}
-use Rattle.hex_codec.specs.GroupedText.{GroupSpells}
+use Rattle.hex_codec.specs.GroupedWriting.{grouped}
+use Rattle.hex_codec.specs.GroupedReading.{GroupSpells}
 use Rattle.callers.proofs.undump.read_line.Goals as goal
 
 pub returns-in-Ok-read_into-clause-written : goal.returns-in-Ok-read_into-clause-written

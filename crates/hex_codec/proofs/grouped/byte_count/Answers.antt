@@ -2,7 +2,7 @@
 use Rattle.std.proofs.Common.{◌≡◌, ap, sym, refl, ◌∙◌, ℕ, ◌+◌, ◌-◌, ◌*◌, ◌/◌, ◌%◌, ◌<◌, arith}
 use Rattle.std.proofs.Math.Nat.{div-eq_of_lt, div-le_self, mod-eq_of_lt}
 use Rattle.std.proofs.lemmas.Nat.{div-add-mod', mod-mul-add, mod_below}
-use Rattle.hex_codec.specs.GroupedText.{grouped_len}
+use Rattle.hex_codec.specs.GroupedReading.{grouped_len}
 use Rattle.hex_codec.proofs.CountLemmas.{Cut, count-is, count-none, cut, len-closed, len-cut}
 use Rattle.hex_codec.proofs.grouped.byte_count.Goals as goal
 use Rattle.hex_codec.proofs.grouped.byte_count.Goals.{then-last-eq0-via-then-last-eq0, then-last-eq0-via-else-last-eq0+then-last-eq1}

@@ -2,7 +2,7 @@
 use Rattle.std.proofs.Common.{◌≡◌, ℕ, ◌+◌, ◌-◌, ◌*◌, ◌≤◌, length, length-drop, drop, arith}
 use Rattle.std.proofs.lemmas.List.{take_rest}
 use Rattle.hex_codec.proofs.WriteLemmas.{last-size, next-clear, reads-last, reads-more}
-use Rattle.hex_codec.proofs.WrongLemmas.{clear-last}
+use Rattle.hex_codec.proofs.InvalidInText.{clear-last}
 use Rattle.hex_codec.proofs.pieces.read_pieces.Goals as goal
 
 taken : (at n : ℕ) → at + n - at ≡ n

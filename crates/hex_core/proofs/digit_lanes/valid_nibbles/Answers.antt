@@ -4,4 +4,4 @@ use Rattle.hex_core.proofs.digit_lanes.valid_nibbles.Goals as goal
 
 pub returns : goal.returns
 returns g c =
-    valid_values c.args.v c.smaller.result c.fits-v.1 (simp (c.smaller.ensures, c.wrapping_sub.ensures, c.masked-common.ensures, map-map, zip2-map))
+    valid_values c.args.v c.min.result c.fits-v.1 (simp (c.min.ensures, c.wrapping_sub.ensures, c.and_splat-common.ensures, map-map, zip2-map))

@@ -8,8 +8,8 @@ returns c =
     let case = c.args.case in let s = c.args.src.now in let at = length s - 128 in let from = length s - 256 in
     elim c.if-len.branch [
       | then-len w ↦
-          let more = both_valid case s 0 256 from (from + 128) at w.larger-front.ensures.low c.reach_of-front.ensures w.reach_of.ensures (omega arith) (omega arith) (omega arith) (omega (arith, w.if-len)) in
-          parts_tested case s at at (at + 128) c.is_low.ensures (rw w.front-is at c.larger.ensures.low) more c.reach_of-last.ensures (omega arith) (omega arith) (omega arith)
+          let more = both_valid case s 0 256 from (from + 128) at w.max-front.ensures.low c.reach_of-front.ensures w.reach_of.ensures (omega arith) (omega arith) (omega arith) (omega (arith, w.if-len)) in
+          parts_tested case s at at (at + 128) c.is_low.ensures (rw w.front-is at c.max.ensures.low) more c.reach_of-last.ensures (omega arith) (omega arith) (omega arith)
       | else-len w ↦
-          parts_tested case s 256 at (at + 128) c.is_low.ensures (rw w.front-is at c.larger.ensures.low) c.reach_of-front.ensures c.reach_of-last.ensures (omega arith) (omega (arith, w.if-len)) (omega arith)
+          parts_tested case s 256 at (at + 128) c.is_low.ensures (rw w.front-is at c.max.ensures.low) c.reach_of-front.ensures c.reach_of-last.ensures (omega arith) (omega (arith, w.if-len)) (omega arith)
     ]

@@ -15,4 +15,4 @@ returns c =
     let middle = done + c.div_ceil.result * 64 in
     let front = ↔_trans c.reach_of-front.ensures (behind_valid case s done middle (omega arith) (rw all at c.turns.invariant)) in
     let back = ↔_trans c.reach.ensures.low (valid_chunk case s last 64 (length s) (omega arith) (omega arith)) in
-    parts_tested case s middle last (length s) c.are_low-2.ensures c.larger-rest.ensures.low front back refl (omega arith) (omega arith)
+    parts_tested case s middle last (length s) c.are_low-2.ensures c.max-rest.ensures.low front back refl (omega arith) (omega arith)

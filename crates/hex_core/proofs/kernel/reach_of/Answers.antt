@@ -11,5 +11,5 @@ pub turns-preserved : goal.turns-preserved
 turns-preserved c =
     let start = c.args.at in let at = start + c.turns.i * 64 in
     let block = ↔_trans c.reach.ensures.low (valid_chunk c.args.case c.args.src.now at 64 (at + 64) refl (omega arith)) in
-    both_valid c.args.case c.args.src.now start at at (at + 64) (start + (c.turns.i + 1) * 64) c.larger-farthest.ensures.low c.turns.invariant block
+    both_valid c.args.case c.args.src.now start at at (at + 64) (start + (c.turns.i + 1) * 64) c.max-farthest.ensures.low c.turns.invariant block
     (omega arith) (omega arith) (omega arith) (omega arith)

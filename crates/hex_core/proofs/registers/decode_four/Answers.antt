@@ -6,7 +6,7 @@ use Rattle.hex_core.proofs.registers.decode_four.Goals as goal
 
 pub returns-then-not-is_small : goal.returns-then-not-is_small
 returns-then-not-is_small g c =
-    let test = pairs_tested c.is_small.ensures c.either-3.ensures.small c.either.ensures.small c.either-2.ensures.small
+    let test = pairs_tested c.is_small.ensures c.or-3.ensures.small c.or.ensures.small c.or-2.ensures.small
     c.nibbles_at-first.ensures c.nibbles_at-second.ensures c.nibbles_at-third.ensures c.nibbles_at-last.ensures (omega arith) (omega arith) (omega arith) in
     (iff_false test c.if-not-is_small.true, refl)
 
@@ -14,11 +14,11 @@ pub returns : goal.returns
 returns g c =
     let case = c.args.case in let s = c.args.src.now in let old = c.args.dst.now in let n = g.row.N in let w = g.row.HALF in let end = length old in
     let first = c.nibbles_at-first.ensures in let second = c.nibbles_at-second.ensures in let third = c.nibbles_at-third.ensures in let last = c.nibbles_at-last.ensures in
-    let test = pairs_tested c.is_small.ensures c.either-3.ensures.small c.either.ensures.small c.either-2.ensures.small first second third last (omega arith) (omega arith) (omega arith) in
-    let small = c.either-3.ensures.small.0 (c.is_small.ensures.0 c.if-not-is_small.false) in
+    let test = pairs_tested c.is_small.ensures c.or-3.ensures.small c.or.ensures.small c.or-2.ensures.small first second third last (omega arith) (omega arith) (omega arith) in
+    let small = c.or-3.ensures.small.0 (c.is_small.ensures.0 c.if-not-is_small.false) in
     let mid = c.pack_two.new.dst in
     let front : DecodesRange case s old mid 0 n =
-    pair_decodes (0 + w) w first second (c.either.ensures.small.0 small.0) c.pack_two.ensures (omega arith) (omega arith) (omega arith) (omega arith) (omega arith) (omega arith) (omega arith) in
+    pair_decodes (0 + w) w first second (c.or.ensures.small.0 small.0) c.pack_two.ensures (omega arith) (omega arith) (omega arith) (omega arith) (omega arith) (omega arith) (omega arith) in
     let back : DecodesRange case s mid c.pack_two-2.new.dst (end - n) end =
-    pair_decodes (end - n + w) w third last (c.either-2.ensures.small.0 small.1) c.pack_two-2.ensures (omega arith) (omega arith) (omega arith) (omega arith) (omega arith) (omega arith) (omega arith) in
+    pair_decodes (end - n + w) w third last (c.or-2.ensures.small.0 small.1) c.pack_two-2.ensures (omega arith) (omega arith) (omega arith) (omega arith) (omega arith) (omega arith) (omega arith) in
     (test.0 c.if-not-is_small.false, decodes_whole (decodes_over front back (omega arith) (omega arith) (omega arith)) (omega arith) (omega arith))

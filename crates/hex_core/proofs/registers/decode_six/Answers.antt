@@ -8,7 +8,7 @@ use Rattle.hex_core.proofs.registers.decode_six.Goals as goal
 pub returns-then-not-is_small : goal.returns-then-not-is_small
 returns-then-not-is_small c =
     let case = c.args.case in let s = c.args.src.now in let len = length s in
-    let test = ↔_trans c.is_small.ensures (pair_valid len c.either.ensures.small c.nibbles_at-fifth.ensures c.nibbles_at-last.ensures (omega arith) (omega arith) (omega arith)) in
+    let test = ↔_trans c.is_small.ensures (pair_valid len c.or.ensures.small c.nibbles_at-fifth.ensures c.nibbles_at-last.ensures (omega arith) (omega arith) (omega arith)) in
     (λ none. iff_false test c.if-not-is_small.true (valid_range case s (len - 128) len (omega arith) none), refl)
 
 pub returns-then-not-decode_part : goal.returns-then-not-decode_part
@@ -20,9 +20,9 @@ pub returns : goal.returns
 returns c =
     let case = c.args.case in let s = c.args.src.now in let old = c.args.dst.now in let len = length s in let end = length old in
     let fifth = c.nibbles_at-fifth.ensures in let last = c.nibbles_at-last.ensures in
-    let test = ↔_trans c.is_small.ensures (pair_valid len c.either.ensures.small fifth last (omega arith) (omega arith) (omega arith)) in
+    let test = ↔_trans c.is_small.ensures (pair_valid len c.or.ensures.small fifth last (omega arith) (omega arith) (omega arith)) in
     let whole = parts_tested case s (2 * 0 + 2 * 128) (len - 128) len (λ t. t, λ t. t) (λ t. t, λ t. t) c.decode_part.ensures.0 test refl (omega arith) (omega arith) in
-    let small = c.either.ensures.small.0 (c.is_small.ensures.0 c.if-not-is_small.false) in
+    let small = c.or.ensures.small.0 (c.is_small.ensures.0 c.if-not-is_small.false) in
     let part = c.decode_part.new.dst in
     let front : DecodesRange case s old part 0 (0 + 128) = OnTrue_at c.if-not-decode_part.false c.decode_part.ensures.1 in
     let back : DecodesRange case s part c.pack_two.new.dst (end - 64) end =

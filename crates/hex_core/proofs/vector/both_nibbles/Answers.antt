@@ -6,4 +6,4 @@ use Rattle.hex_core.proofs.vector.both_nibbles.Goals as goal
 pub returns : goal.returns
 returns c =
     let both = ap (λ l. interleaved (map (λ x. x / 16) l) (map (λ x. bit_and x 15) l)) (all_picked 32 c.args.v c.args.v c.fits-v.0) in
-    rw (c.high_bits.ensures, c.masked.ensures) both
+    rw (c.high_bits.ensures, c.and_splat.ensures) both

@@ -1,6 +1,6 @@
 -- The lines so far have been taken, and no put has failed.
 use Rattle.std.proofs.Common.{take}
-use Rattle.hex_io.specs.Sink.{Takes}
+use Rattle.hex_io.specs.SinkState.{Takes}
 use Rattle.hex_io.specs.Lists.{list_of}
 use Rattle.hex_io.proofs.digests.write_to.Given as goal
 

@@ -1,7 +1,7 @@
 -- A product is divided by its factor.
 use Rattle.std.proofs.Common.{◌≡◌, ◌+◌, ◌*◌, arith}
 use Rattle.std.proofs.lemmas.Nat.{mod-mul-add}
-use Rattle.hex_codec.specs.Grouped.{piece_len}
+use Rattle.hex_codec.specs.GroupedWriting.{piece_len}
 use Rattle.hex_io.proofs.digits.part_len.Goals as goal
 
 pub returns-clause-whole : goal.returns-clause-whole

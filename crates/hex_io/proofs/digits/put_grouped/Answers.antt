@@ -3,7 +3,7 @@ use Rattle.std.proofs.Common.{◌≡◌, Bool, ℕ, ◌+◌, ◌-◌, ◌%◌, �
 use Rattle.std.proofs.Common.{sym, ap, ◌∙◌, arith, append-nil, append_assoc, length-drop, take-append-drop}
 use Rattle.std.proofs.lemmas.List.{drop-drop, length-take-le, take_rest}
 use Rattle.hex_codec.specs.declared.group.Group.{Group}
-use Rattle.hex_codec.specs.Grouped.{grouped, piece_len, separator}
+use Rattle.hex_codec.specs.GroupedWriting.{grouped, piece_len, separator}
 use Rattle.hex_codec.proofs.GroupLemmas.{joined-pieces}
 use Rattle.hex_io.proofs.ChunkFacts.{filled-front}
 use Rattle.hex_io.proofs.PutsLemmas.{Puts-stop, Puts-then, Takes-then}

@@ -1,7 +1,7 @@
 -- What was put and the grouped text of the bytes that are left are the whole text, and no put has failed.
 use Rattle.std.proofs.Common.{◌≡◌, ◌-◌, ◌≤◌, List, ◌++◌, drop, length, ℕ}
-use Rattle.hex_codec.specs.Grouped.{grouped}
-use Rattle.hex_io.specs.Sink.{Takes}
+use Rattle.hex_codec.specs.GroupedWriting.{grouped}
+use Rattle.hex_io.specs.SinkState.{Takes}
 use Rattle.hex_io.proofs.digits.put_grouped.Given as goal
 
 abbrev pub invariant-parts : goal.invariant-parts

@@ -2,7 +2,7 @@
 use Rattle.std.proofs.Common.{◌<◌, ◌≡◌, ◌∷◌, [], append-nil, length, take, refl, Bool, true, false, ℕ, arith}
 use Rattle.std.specs.Prelude.{if◌then◌else◌}
 use Rattle.std.proofs.lemmas.List.{take_more_set}
-use Rattle.hex_codec.specs.Grouped.{grouped}
+use Rattle.hex_codec.specs.GroupedWriting.{grouped}
 use Rattle.hex_codec.proofs.GroupLemmas.{grouped-last}
 use Rattle.hex_io.proofs.ChunkFacts.{filled-front, leaves-room}
 use Rattle.hex_io.proofs.PutsLemmas.{Puts-stop, Puts-then}

@@ -2,7 +2,7 @@
 use Rattle.std.proofs.Common.{◌≡◌, ℕ, List, ◌++◌}
 use Rattle.std.specs.Slice.Iter.{chunks_rest, chunks_size}
 use Rattle.hex_core.specs.Text.{text}
-use Rattle.hex_io.specs.Sink.{Takes}
+use Rattle.hex_io.specs.SinkState.{Takes}
 use Rattle.hex_io.proofs.digits.put_text.Given as goal
 
 abbrev pub invariant-loop-chunk : goal.invariant-loop-chunk

@@ -1,5 +1,6 @@
 -- A decoder may have been fed as many pairs of zeros as it has counted, or white space, and then the digit that waits.
-use Rattle.std.proofs.Common.{◌≡◌, arith, ℕ, zero, suc, Bool, true, false, List, [], ◌++◌, ◌-◌, ◌/◌, ◌%◌, ◌<◌, ◌≤◌, replicate, length, length-append, Option, None, Some, refl}
+use Rattle.std.proofs.Common.{◌≡◌, arith, ℕ, zero, suc, Bool, true, false, List, [], ◌++◌, ◌-◌, ◌/◌, ◌%◌, ◌<◌, ◌≤◌}
+use Rattle.std.proofs.Common.{replicate, length, length-append, Option, None, Some, refl}
 use Rattle.std.specs.Prelude.{IsSome}
 use Rattle.std.specs.Option.{ForSome, option_to_list}
 use Rattle.std.proofs.lemmas.Bool.Decides.{nat_tests}

@@ -1,7 +1,7 @@
 -- The copies that make no block, and the blocks so far, have been taken, and no put has failed.
 use Rattle.std.proofs.Common.{◌+◌, ◌*◌, ◌%◌, encode_utf8}
 use Rattle.std.specs.List.{repeat}
-use Rattle.hex_io.specs.Sink.{Takes}
+use Rattle.hex_io.specs.SinkState.{Takes}
 use Rattle.hex_io.proofs.padding.put_copies.Given as goal
 
 abbrev pub invariant-full : goal.invariant-full

@@ -1,6 +1,6 @@
 -- The front of the piece up to here has been taken, and no put has failed.
 use Rattle.std.proofs.Common.{◌-◌, ◌≤◌, length, take}
-use Rattle.hex_io.specs.Sink.{Takes}
+use Rattle.hex_io.specs.SinkState.{Takes}
 use Rattle.hex_io.proofs.sink.put_all.Given as goal
 
 abbrev pub invariant-loop-at : goal.invariant-loop-at

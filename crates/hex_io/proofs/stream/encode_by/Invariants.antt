@@ -2,7 +2,7 @@
 use Rattle.std.proofs.Common.{◌≡◌, ◌-◌, ◌^◌, List, ℕ, length}
 use Rattle.std.specs.Io.KnownBytes.{Consumes}
 use Rattle.hex_io.specs.Frame.{digits_by}
-use Rattle.hex_io.specs.Sink.{Takes}
+use Rattle.hex_io.specs.SinkState.{Takes}
 use Rattle.hex_io.proofs.stream.encode_by.Given as goal
 
 abbrev pub decreases-reads : goal.decreases-reads

@@ -1,6 +1,6 @@
 -- A separator, and behind it a chunk's text.
 use Rattle.std.proofs.Common.{rules}
-use Rattle.hex_codec.specs.Grouped.{grouped}
+use Rattle.hex_codec.specs.GroupedWriting.{grouped}
 use Rattle.hex_io.proofs.ChunkFacts.{filled-front}
 use Rattle.hex_io.proofs.ContinueLemmas.{behind, chunk-fits, inside}
 use Rattle.hex_io.proofs.stream.separated.Goals as goal

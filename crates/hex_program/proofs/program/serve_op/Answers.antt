@@ -3,8 +3,8 @@ use Rattle.std.specs.Prelude.{◌≡◌, ℕ, List, Option, Result, Ok, Err}
 use Rattle.std.specs.Io.KnownBytes.{Keeps}
 use Rattle.std.proofs.Common.{arith, refl, ap, inl, inr, sym}
 use Rattle.std.proofs.KnownBytes.{Appends-kept}
-use Rattle.hex_io.specs.Sink.{SinkState}
-use Rattle.hex_io.specs.Sinks.{writer_state}
+use Rattle.hex_io.specs.SinkState.{SinkState}
+use Rattle.hex_io.specs.SliceAndWriterSinks.{writer_state}
 use Rattle.hex_program.specs.declared.operation.Op.{Op}
 use Rattle.hex_program.specs.declared.operation.RunFault.{RunFault}
 use Rattle.hex_program.specs.declared.operation.RunFault.TheVariants as fault

@@ -1,6 +1,6 @@
 -- Lines, none, or why there are none.
 use Rattle.std.proofs.Common.{rules, ◌≡◌, ◌<◌}
-use Rattle.hex_codec.specs.Grouped.{piece_len, separator}
+use Rattle.hex_codec.specs.GroupedWriting.{piece_len, separator}
 use Rattle.hex_program.proofs.StreamServing.{lines-ended, lines-failed}
 use Rattle.hex_program.proofs.stream.encode_lines.Goals as goal
 

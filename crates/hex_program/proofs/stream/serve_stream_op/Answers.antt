@@ -1,5 +1,5 @@
 -- A run that is flushed is an operation that is served.
-use Rattle.hex_io.specs.Sinks.{writer_state}
+use Rattle.hex_io.specs.SliceAndWriterSinks.{writer_state}
 use Rattle.hex_program.proofs.StreamServing.{serves}
 use Rattle.hex_program.proofs.stream.serve_stream_op.Goals as goal
 

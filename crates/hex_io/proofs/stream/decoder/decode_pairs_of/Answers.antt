@@ -1,4 +1,5 @@
-use Rattle.std.proofs.Common.{rules, arith, ap, sym, ◌≡◌, ◌++◌, ◌-◌, ◌/◌, ◌%◌, ℕ, List, [], false, length, refl, take, drop, take-append-drop, IsTrue}
+use Rattle.std.proofs.Common.{rules, arith, ap, sym, ◌≡◌, ◌++◌, ◌-◌, ◌/◌, ◌%◌, ℕ, List, [], false, length, refl, take}
+use Rattle.std.proofs.Common.{drop, take-append-drop, IsTrue}
 use Rattle.std.specs.Option.{option_to_list}
 use Rattle.std.proofs.lemmas.List.{length-take-le}
 use Rattle.hex_core.proofs.JoinLemmas.{valid-parts}

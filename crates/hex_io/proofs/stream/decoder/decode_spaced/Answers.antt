@@ -5,7 +5,7 @@ use Rattle.std.proofs.lemmas.List.{take_rest}
 use Rattle.std.proofs.lemmas.List.Elements.{filter-append}
 use Rattle.hex_core.proofs.JoinLemmas.{valid-parts}
 use Rattle.hex_core.proofs.PositionLemmas.{none_joined}
-use Rattle.hex_io.specs.Reading.{is_solid, is_stray, spaced, unspaced}
+use Rattle.hex_io.specs.Reading.{is_solid, is_invalid_read, spaced, unspaced}
 use Rattle.hex_io.proofs.DecoderLemmas.{but-joined, count-but, put-more, read-valid, spells-none, two-le}
 use Rattle.hex_io.proofs.stream.decoder.decode_spaced.Goals as goal
 
@@ -19,7 +19,7 @@ decode_block-next-requires-clause-tested c =
 
 pub decode_block-next-requires-clause-valid : goal.decode_block-next-requires-clause-valid
 decode_block-next-requires-clause-valid c =
-    ((none_joined (is_stray (spaced c.args.case)) c.in-Some.block.now (chunks_rest c.next.new.self)).0 (rw c.in-Some.ensures.steps.1.0 at c.loop-block.invariant.3)).0
+    ((none_joined (is_invalid_read (spaced c.args.case)) c.in-Some.block.now (chunks_rest c.next.new.self)).0 (rw c.in-Some.ensures.steps.1.0 at c.loop-block.invariant.3)).0
 
 pub decode_block-next-requires-clause-room : goal.decode_block-next-requires-clause-room
 decode_block-next-requires-clause-room c =
@@ -33,7 +33,7 @@ pub loop-block-preserved : goal.loop-block-preserved
 loop-block-preserved c =
     let case = c.args.case in let steps = c.in-Some.ensures.steps in let so_far = c.loop-block.invariant.4 in
     let block = c.in-Some.block.now in let rest = chunks_rest c.next.new.self in
-    let clean = (none_joined (is_stray (spaced case)) block rest).0 (rw steps.1.0 at c.loop-block.invariant.3) in
+    let clean = (none_joined (is_invalid_read (spaced case)) block rest).0 (rw steps.1.0 at c.loop-block.invariant.3) in
     let more = c.decode_block-next.ensures.decoded in
     let count = count-but case so_far.0 so_far.1 c.loop-block.waiting so_far.2 in
     let counted = count-but case _ more.0 c.decode_block-next.result.0 more.1 in

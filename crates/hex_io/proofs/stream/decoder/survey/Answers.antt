@@ -3,7 +3,7 @@ use Rattle.std.specs.Slice.Iter.{chunks_rest}
 use Rattle.std.proofs.Math.Bool.{and-eq-true_iff}
 use Rattle.std.proofs.lemmas.List.Elements.{filter-append}
 use Rattle.hex_core.proofs.PositionLemmas.{none_joined}
-use Rattle.hex_io.specs.Reading.{is_solid, is_stray, spaced, unspaced}
+use Rattle.hex_io.specs.Reading.{is_solid, is_invalid_read, spaced, unspaced}
 use Rattle.hex_io.proofs.DecoderLemmas.{digits-le, valid-solid}
 use Rattle.hex_io.proofs.stream.decoder.survey.Goals as goal
 
@@ -21,7 +21,7 @@ pub loop-block-preserved : goal.loop-block-preserved
 loop-block-preserved c =
     let steps = c.in-Some.ensures.steps in let so_far = c.loop-block.invariant.3 in let gone = so_far.0 in
     let block = c.in-Some.block.now in let rest = chunks_rest c.next.new.self in let told = c.survey_block-more.ensures in
-    let both = none_joined (is_stray (spaced c.args.case)) gone block in let parts = rw steps.1.0 at so_far.1 in
+    let both = none_joined (is_invalid_read (spaced c.args.case)) gone block in let parts = rw steps.1.0 at so_far.1 in
     let few = digits-le c.args.case true block in let left = ap length steps.1.0 ∙ length-append block rest in
     let both_are = and-eq-true_iff c.loop-block.clean c.survey_block-more.result.1 in
     let more = ap length (filter-append is_solid gone block) ∙ length-append (unspaced gone) (unspaced block) in (

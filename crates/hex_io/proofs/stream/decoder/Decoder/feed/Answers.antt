@@ -2,7 +2,8 @@ use Rattle.std.proofs.Common.{arith, ◌∙◌, ◌++◌, length, length-append,
 use Rattle.std.specs.Option.{option_to_list}
 use Rattle.hex_core.proofs.JoinLemmas.{valid-parts}
 use Rattle.hex_io.specs.Reading.{digits_in}
-use Rattle.hex_io.proofs.DecoderLemmas.{but-joined, count-but, digits-joined, digits-le, none-refused, none-stray, read-valid, refused-byte, stray-behind-all}
+use Rattle.hex_io.proofs.DecoderLemmas.{but-joined, count-but, digits-joined, digits-le, none-refused, none-invalid}
+use Rattle.hex_io.proofs.DecoderLemmas.{read-valid, refused-byte, invalid-behind-all}
 use Rattle.hex_io.proofs.stream.decoder.Decoder.feed.Goals as goal
 
 pub returns-in_default-decode-clause-feeds : goal.returns-in_default-decode-clause-feeds
@@ -10,7 +11,7 @@ returns-in_default-decode-clause-feeds c = λ fed written has.
     let d = c.args.self.now in let src = c.args.src.now in
     refused-byte d.reading fed src (length c.args.dst.now) (omega (arith, has.0, c.in-Some.ensures))
     (omega (arith, count-but d.reading.case (digits_in d.reading fed) written d.waiting has.1, c.survey-count.ensures.count, c.whole_pairs-required.ensures, c.if-dst-required.false))
-    ∙ sym (stray-behind-all d.reading fed src d.position (none-stray d.reading.case d.reading.skips fed has.1.valid) has.0) ∙ c.error_in.ensures
+    ∙ sym (invalid-behind-all d.reading fed src d.position (none-invalid d.reading.case d.reading.skips fed has.1.valid) has.0) ∙ c.error_in.ensures
 
 pub invariant_of-self : goal.invariant_of-self
 invariant_of-self c =

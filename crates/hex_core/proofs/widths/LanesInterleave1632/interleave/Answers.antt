@@ -1,5 +1,0 @@
-use Rattle.hex_core.proofs.PairLemmas.{in_turn}
-use Rattle.hex_core.proofs.widths.LanesInterleave1632.interleave.Goals as goal
-
-pub returns : goal.returns
-returns c = in_turn 16 c.args.first c.args.second c.fits-first.0 c.fits-second.0

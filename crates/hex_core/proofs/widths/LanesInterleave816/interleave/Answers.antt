@@ -1,5 +1,0 @@
-use Rattle.hex_core.proofs.PairLemmas.{in_turn}
-use Rattle.hex_core.proofs.widths.LanesInterleave816.interleave.Goals as goal
-
-pub returns : goal.returns
-returns c = in_turn 8 c.args.first c.args.second c.fits-first.0 c.fits-second.0

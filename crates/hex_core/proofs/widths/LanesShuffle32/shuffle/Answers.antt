@@ -1,0 +1,9 @@
+use Rattle.std.proofs.Common.{refl}
+use Rattle.hex_core.proofs.LookupLemmas.{shuffle_ok, shuffle_repeated, over}
+use Rattle.hex_core.proofs.widths.LanesShuffle32.shuffle.Goals as goal
+
+pub swizzle : goal.swizzle
+swizzle c = shuffle_ok 2 32 c.args.at c.and_splat.result c.fits-at c.and_splat.ensures refl
+
+pub returns : goal.returns
+returns c = shuffle_repeated 2 32 c.args.row (over 0 32) c.args.at c.and_splat.result c.fits-at c.and_splat.ensures refl c.fits-row.0 refl refl

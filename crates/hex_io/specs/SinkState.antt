@@ -1,0 +1,66 @@
+-- The state of a sink, and how puts change it.
+use Rattle.std.specs.Prelude.{◌≡◌, ℕ, zero, suc, ◌+◌, ◌-◌, ◌^◌, ◌<◌, ◌≤◌, min, List, [], ◌∷◌, ◌++◌, length, take, drop}
+use Rattle.std.specs.Prelude.{Option, Result, Ok, Err, MatchResult, option_map, unwrap_or}
+use Rattle.std.specs.Borrow.{GName}
+use Rattle.std.specs.Io.KnownBytes.{Appends}
+use Rattle.hex_io.specs.declared.sink.SinkFault.{SinkFault}
+
+-- a sink's state: the bytes taken, if its type models them; the number of failed puts; and for a sink over
+-- a borrowed buffer the bytes that are still free, and the borrow
+pub record SinkState : Type 0 where
+  pub taken : Option (List ℕ)
+  pub failures : ℕ
+  pub free : Option (List ℕ)
+  pub loan : Option GName
+
+-- the length of the longest piece that a sink is sure to take whole
+abbrev pub room : SinkState → ℕ
+room sink = length (unwrap_or sink.free [])
+
+-- the first n free bytes of the same buffer are free no more
+abbrev pub FillsBy : ℕ → SinkState → SinkState → Type 0
+FillsBy n old new = (new.free ≡ option_map (drop n) old.free) × (new.loan ≡ old.loan)
+
+-- a leading part of bs was taken
+pub record AppendsBeginning (old new : SinkState) (bs : List ℕ) : Type 0 where
+  pub front : List ℕ
+  pub rest : List ℕ
+  pub parts : front ++ rest ≡ bs
+  pub appended : Appends old.taken new.taken front
+  pub filled : FillsBy (length front) old new
+
+-- one failure more, as far as a `u64` counts
+abbrev pub one_more : ℕ → ℕ
+one_more n = min (n + 1) (2 ^ 64 - 1)
+
+-- the number of failures after a put: one more if it refuses, or takes none of a nonempty piece
+abbrev pub failures_after : ℕ → Result ℕ SinkFault → List ℕ → ℕ
+failures_after n (Ok zero) [] = n
+failures_after n (Ok zero) (b ∷ piece) = one_more n
+failures_after n (Ok (suc taken)) piece = n
+failures_after n (Err fault) piece = one_more n
+
+-- one put of a piece. `Ok`: this many of its first bytes were taken; `Err`: a leading part of it was. The
+-- failure is counted, and a nonempty piece that fits is taken whole
+abbrev pub PutsPiece : SinkState → SinkState → Result ℕ SinkFault → List ℕ → Type 0
+PutsPiece old new result piece = MatchResult result
+    (λ n. (n ≤ length piece) × Appends old.taken new.taken (take n piece) × FillsBy n old new)
+    (λ _. AppendsBeginning old new piece)
+    × (new.failures ≡ failures_after old.failures result piece)
+    × (0 < length piece → length piece ≤ room old → result ≡ Ok (length piece))
+
+-- some puts in a row took all of bs, and none failed
+pub record Takes (old new : SinkState) (bs : List ℕ) : Type 0 where
+  pub appended : Appends old.taken new.taken bs
+  pub unfailed : new.failures ≡ old.failures
+  pub filled : FillsBy (length bs) old new
+
+-- or they ended early: a leading part of bs was taken, one put failed, and not all of bs fits
+pub record Stops (old new : SinkState) (bs : List ℕ) : Type 0 where
+  pub begun : AppendsBeginning old new bs
+  pub failed : new.failures ≡ one_more old.failures
+  pub short : room old < length bs
+
+-- some puts in a row. `Ok`: they took all of bs; `Err`: they ended early
+abbrev pub Puts : {E : Type 0} → SinkState → SinkState → Result (Unit {0}) E → List ℕ → Type 0
+Puts old new result bs = MatchResult result (λ _. Takes old new bs) (λ _. Stops old new bs)

@@ -1,0 +1,113 @@
+/* Tries which build dispatch.c takes of each processor, on any machine: by words that `cpuid` and `xgetbv`
+ * could say, with bits numbered as in the manuals of processors.
+ * Link it with the archive, of which it takes the builds alone. Prints `N passed, M failed`.
+ * Usage: dispatch */
+#include <stdio.h>
+
+#include "dispatch.c"
+
+static int passed, failed;
+
+static void is_level(const char *what, unsigned bit, struct processor it, unsigned wanted) {
+    unsigned level = level_of(it);
+    if (level == wanted) {
+        passed++;
+    } else {
+        printf("failed: %s %u: level %u, and not %u\n", what, bit, level, wanted);
+        failed++;
+    }
+}
+
+/* A word of a processor, by its place, and the bits of it that the levels want. */
+struct wants {
+    const char *name;
+    size_t word;
+    unsigned level_2, level_3, level_4;
+};
+#define BIT(n) (1u << (n))
+#define WORD(name) #name, offsetof(struct processor, name)
+static const struct wants WANTS[] = {
+    /* SSE3, SSSE3, CMPXCHG16B, SSE4.1, SSE4.2, POPCNT; FMA, MOVBE, OSXSAVE, AVX, F16C */
+    { WORD(basic), BIT(0) | BIT(9) | BIT(13) | BIT(19) | BIT(20) | BIT(23),
+      BIT(12) | BIT(22) | BIT(27) | BIT(28) | BIT(29), 0 },
+    /* BMI, AVX2, BMI2; AVX512F, AVX512DQ, AVX512CD, AVX512BW, AVX512VL */
+    { WORD(wide), 0, BIT(3) | BIT(5) | BIT(8), BIT(16) | BIT(17) | BIT(28) | BIT(30) | BIT(31) },
+    { WORD(extended), BIT(0), BIT(5), 0 },          /* LAHF; LZCNT */
+    /* The registers of SSE, those of AVX; masks, the high halves of 16 vectors, 16 more vectors. */
+    { WORD(saved), 0, BIT(1) | BIT(2), BIT(5) | BIT(6) | BIT(7) },
+};
+enum { WORDS = sizeof WANTS / sizeof *WANTS };
+
+static unsigned *word_of(struct processor *it, const struct wants *wants) {
+    return (unsigned *)(void *)((char *)it + wants->word);
+}
+
+/* A processor that has what the levels up to this one want, and nothing else. */
+static struct processor exactly(unsigned level) {
+    struct processor it = { .highest = 7, .highest_extended = 0x80000001 };
+    for (int at = 0; at < WORDS; at++) {
+        const struct wants *wants = &WANTS[at];
+        *word_of(&it, wants) = wants->level_2 | (level >= 3 ? wants->level_3 : 0) | (level >= 4 ? wants->level_4 : 0);
+    }
+    return it;
+}
+
+static void by_bits(void) {
+    const struct processor all = { ~0u, ~0u, ~0u, ~0u, ~0u, ~0u }, none = { 0 };
+    is_level("all bits", 0, all, 4);
+    is_level("no bit", 0, none, 0);
+    is_level("exactly level", 2, exactly(2), 2);
+    is_level("exactly level", 3, exactly(3), 3);
+    is_level("exactly level", 4, exactly(4), 4);
+    for (int at = 0; at < WORDS; at++) {
+        for (unsigned bit = 0; bit < 32; bit++) {
+            const struct wants *wants = &WANTS[at];
+            struct processor it = all, narrow = exactly(4);
+            unsigned below_4 = wants->level_2 & BIT(bit) ? 0 : wants->level_3 & BIT(bit) ? 2 : 3;
+            unsigned wanted = below_4 == 3 && !(wants->level_4 & BIT(bit)) ? 4 : below_4;
+            *word_of(&it, wants) &= ~BIT(bit);
+            *word_of(&narrow, wants) &= ~BIT(bit);
+            is_level(wants->name, bit, it, wanted);
+            is_level(wants->name, bit, narrow, wanted);
+        }
+    }
+}
+
+/* Leaves above the highest say nothing, whatever their words are. */
+static void by_leaves(void) {
+    struct processor it = exactly(4);
+    for (it.highest = 0; it.highest < 9; it.highest++) {
+        is_level("highest leaf", it.highest, it, it.highest >= 7 ? 4 : it.highest >= 1 ? 2 : 0);
+    }
+    it = exactly(4);
+    it.highest_extended = 0x80000000;
+    is_level("highest leaf", it.highest_extended, it, 0);
+    it.highest_extended = 0; /* as on a processor without such leaves */
+    is_level("highest leaf", it.highest_extended, it, 0);
+}
+
+/* The processor has all levels, and the system saves the registers of some: bits 0 to 2 stand for those of the x87,
+ * SSE and AVX, 5 to 7 for those of AVX-512. */
+static void by_system(void) {
+    static const unsigned char SAVED[][2] = { { 0x00, 2 }, { 0x03, 2 }, { 0x07, 3 }, { 0x27, 3 }, { 0x67, 3 },
+                                              { 0xe3, 2 }, { 0xe7, 4 }, { 0xff, 4 } };
+    for (unsigned at = 0; at < sizeof SAVED / sizeof *SAVED; at++) {
+        struct processor it = exactly(4);
+        it.saved = SAVED[at][0];
+        is_level("saved registers", it.saved, it, SAVED[at][1]);
+    }
+}
+
+/* This machine's words choose what `raise_level` chose. */
+static void here(void) {
+    is_level("the constructor's level", level, processor(), level);
+}
+
+int main(void) {
+    by_bits();
+    by_leaves();
+    by_system();
+    here();
+    printf("%d passed, %d failed\n", passed, failed);
+    return failed != 0;
+}
