@@ -43,13 +43,19 @@ struct task {
     DECODING(build) \
     CALL(ENCODE, build##_encode, OF(build, encode)(src, len, dst, room, false).number) \
     GROUPED(build, 1) GROUPED(build, 16)
-// The Rust crate's calls, of a kernel or on slices, and the loops of loops.c.
-#define RUST_DECODING(side) \
-    CALL(CHECK, side##_check, rust_##side##_check(src, len, dst, room)) \
-    CALL(DECODE, side##_decode, rust_##side##_decode(src, len, dst, room))
-#define RUST(side) \
-    RUST_DECODING(side) \
-    CALL(ENCODE, side##_encode, rust_##side##_encode(src, len, dst, room))
+// Calls of one form: the Rust crate's, of a kernel or on slices, and those of a plan in a build.
+typedef size_t other(const uint8_t *src, size_t len, uint8_t *dst, size_t room);
+#define DONE_BY(name) ({ other name; name(src, len, dst, room); })
+#define OTHER_DECODING(side, name) \
+    CALL(CHECK, side##_check, DONE_BY(name##_check)) \
+    CALL(DECODE, side##_decode, DONE_BY(name##_decode))
+#define OTHER(side, name) \
+    OTHER_DECODING(side, name) \
+    CALL(ENCODE, side##_encode, DONE_BY(name##_encode))
+#define RUST_DECODING(side) OTHER_DECODING(side, rust_##side)
+#define RUST(side) OTHER(side, rust_##side)
+#define PLAN(side) OTHER(side, plan_##side)
+// The loops of loops.c.
 #define LOOPS(n) \
     CALL(WRITE, loop_write_##n, write_by_##n(src, len, dst)) \
     CALL(READ, loop_read_##n, read_by_##n(src, len, dst))
@@ -59,8 +65,12 @@ struct task {
 #else
 #define EACH_WIDEST
 #endif
+#ifdef PLANS
+#define EACH PLAN(v1_scalar) PLAN(v1_plain) PLAN(v2_avx2) PLAN(v2_plain) PLAN(v3_avx2) PLAN(v3_plain) PLAN(v3_plain_32)
+#else
 #define EACH \
     OURS(v2) OURS(v3) RUST(sse41) RUST(avx2) RUST(slices_v2) RUST(slices_v3) EACH_WIDEST LOOPS(1) LOOPS(16)
+#endif
 
 #define DECLARED_DECODING(build) \
     __typeof__(faster_hex_check) OF(build, check); \
@@ -73,12 +83,7 @@ struct task {
 DECLARED(v2)
 DECLARED(v3)
 DECLARED_DECODING(v4)
-typedef size_t other(const uint8_t *src, size_t len, uint8_t *dst, size_t room);
 typedef size_t grouping(const uint8_t *src, size_t len, uint8_t *dst);
-other rust_sse41_check, rust_sse41_encode, rust_sse41_decode, rust_avx2_check, rust_avx2_encode, rust_avx2_decode;
-other rust_slices_v2_check, rust_slices_v2_encode, rust_slices_v2_decode;
-other rust_slices_v3_check, rust_slices_v3_encode, rust_slices_v3_decode;
-other rust_avx512_check, rust_avx512_decode, rust_slices_v4_check, rust_slices_v4_decode;
 grouping write_by_1, write_by_16, read_by_1, read_by_16;
 
 // A loop for each call, so that the call is a direct one: how well a processor foresees an indirect one
