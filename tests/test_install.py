@@ -9,7 +9,7 @@ from commands import (ARM_CC, BY_SYSTEM, HELLO, INSTALLED, SHARED, TOP, VERSION,
 
 pytestmark = pytest.mark.quick
 # What `make install` takes: none of these tools builds anything.
-TOOLS = "sh make dirname sed cat cut rm mv ln mkdir rmdir find sort xargs grep install sha256sum env uname"
+TOOLS = "sh make date dirname sed cat cut rm mv ln mkdir rmdir find sort xargs grep install sha256sum env uname"
 # Where the programs of README.md stand.
 FILES = {"c": "digits.c", "rust": "src/main.rs"}
 # Prefixes where `make install` fails: each names nothing, or what the test makes. Whether `make uninstall` fails too.

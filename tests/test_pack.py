@@ -33,7 +33,7 @@ override_dh_auto_install:
 	dh_auto_install -- PREFIX=/usr
 """}
 # What builds, tests and installs a pack.
-TOOLS = f"""sh make {CC} {CXX} gcc clang musl-gcc {ARM_CC} qemu-aarch64 ar as ld cp ln rm mv mkdir install cat
+TOOLS = f"""sh make date {CC} {CXX} gcc clang musl-gcc {ARM_CC} qemu-aarch64 ar as ld cp ln rm mv mkdir install cat
     sed grep sort dirname ls rmdir find xargs sha256sum cut cmake pkg-config {CARGO} {RUSTC} env uname"""
 RUNNERS = {CC: "", "clang": "", "musl-gcc": "", ARM_CC: ON_ARM}
 # What CMake asks for, and whether it is refused.

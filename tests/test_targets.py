@@ -25,7 +25,7 @@ DIFFERENCES = [
     ("crates/faster_hex_c/dispatch.c", r"^CALL\(bool, check, .*\n", "", "faster_hex_check"),
 ]
 # What `make test` takes where neither Rattle nor pytest is.
-TOOLS = """sh make cc as ld ar mv mkdir rm cp cat grep sed sort find xargs sha256sum cut dirname uname nproc"""
+TOOLS = """sh make date cc as ld ar mv mkdir rm cp cat grep sed sort find xargs sha256sum cut dirname uname nproc"""
 # What compilers say that they build for, and whether the libraries are plain C, and whether there is fhex.
 SYSTEMS = dict.fromkeys(("x86_64-linux-gnu", "aarch64-alpine-linux-musl", "amd64-unknown-freebsd14.0"), (False, True))
 SYSTEMS |= {"x86_64-w64-mingw32": (False, True), "arm64-apple-darwin23": (False, False)}
