@@ -104,3 +104,15 @@ def test_theorem():
     for module, name, crate, function, path, mutation, table in found:
         assert (f"{crate}.specs.{module}", name) in used(f"{path}: {function}")[0]
         assert mutation in (TOP / table).read_text().partition("# Tests notice")[0].splitlines()
+
+
+def test_definitions():
+    """docs/definitions.md has each name that the files of theorem.md take from the library, and no other."""
+    reading = (TOP / "docs/theorem.md").read_text().partition("## What to read")[2]
+    files = re.findall(r"\(\.\./(crates/hex_core/specs/\w+\.antt)\)", reading)
+    lists = [re.findall(r"^use Rattle\.std\.[\w.]+\.\{(.*)\}$", (TOP / it).read_text(), re.M) for it in files]
+    taken = {name for found in lists for names in found for name in names.split(", ")}
+    page = (TOP / "docs/definitions.md").read_text()
+    tables = page.partition("## Names of the library")[2].partition("## Words of a contract")[0]
+    told = {name for row in re.findall(r"^(`.*?) \|", tables, re.M) for name in re.findall(r"`([^`]+)`", row)}
+    assert len(files) == 7 and told == taken
