@@ -50,7 +50,7 @@ place "$cmake/faster_hexConfig.cmake" fill bindings/cmake/faster_hexConfig.cmake
 place "$cmake/faster_hexConfigVersion.cmake" fill bindings/cmake/faster_hexConfigVersion.cmake.in \
     "set(PACKAGE_VERSION $VERSION)"
 place "$man/man3/faster_hex.3" install -m 644 docs/faster_hex.3
-for call in $(sed -n 's/^[^*].*[ *]\(faster_hex_[a-z_]*\)(.*/\1/p' crates/faster_hex_c/faster_hex.h); do
+for call in $(sed -n 's/^[a-z].*[ *]\(faster_hex_[a-z_]*\)(.*/\1/p' crates/faster_hex_c/faster_hex.h); do
     place "$man/man3/$call.3" ln -s faster_hex.3
 done
 place "$doc/LICENSE" install -m 644 LICENSE

@@ -13,7 +13,7 @@ OUT = TOP / "out"
 TESTS_IN_C = TOP / "tests/c"
 CRATE = TOP / "crates/faster_hex_c"
 # The calls that the builds have, and all names of the header.
-CALLS = re.findall(r"^[^*\n].* (faster_hex_[a-z_]*)\(", (CRATE / "faster_hex.h").read_text(), re.M)
+CALLS = re.findall(r"^[a-z].* (faster_hex_[a-z_]*)\(", (CRATE / "faster_hex.h").read_text(), re.M)
 NAMES = [*CALLS, "faster_hex_status_text", "faster_hex_version"]
 VERSION = re.search("^VERSION = (.*)", (TOP / "Makefile").read_text(), re.M)[1]
 SHARED = "libfaster_hex.so", "libfaster_hex.so.1", f"libfaster_hex.so.{VERSION}"

@@ -1,6 +1,16 @@
-/* faster_hex.h for C++17 and later: digits as std::string, bytes as std::vector. Both are also read from what has
- * data() and size(), such as std::span, std::vector and std::string_view, from arrays of unsigned char and std::byte,
- * and from a pointer and a length. A refusal is thrown. */
+/* The calls of faster_hex.h for C++17 and later. faster_hex.h describes how the library behaves.
+ *
+ * encode returns digits as std::string, and decode returns bytes as std::vector. Both accept any type with data() and
+ * size(), such as std::string, std::string_view, std::vector and std::span, arrays of unsigned char and std::byte,
+ * and a pointer with a length. An error is thrown as faster_hex::error. Example:
+ *
+ *     try {
+ *         std::vector<unsigned char> key = faster_hex::decode("01fF");     // 1, 255
+ *         std::string digits = faster_hex::encode(key);                    // "01ff"
+ *     } catch (const faster_hex::error &why) {
+ *         std::cerr << why.what() << " at index " << why.answer.number << "\n";
+ *     }
+ */
 #ifndef FASTER_HEX_HPP
 #define FASTER_HEX_HPP
 
@@ -18,14 +28,14 @@ namespace faster_hex {
 
 enum class letters : bool { lowercase, uppercase };
 
-/* Which letters are digits. */
+/* Which letters are accepted as digits. */
 enum class policy : uint8_t {
     either_case = FASTER_HEX_EITHER_CASE,
     lowercase = FASTER_HEX_LOWERCASE,
     uppercase = FASTER_HEX_UPPERCASE
 };
 
-/* A refusal: the status in words, and the answer of the call. */
+/* The error of a call: what() describes the status, and `answer` is the answer of the call for C. */
 class error : public std::invalid_argument {
 public:
     explicit error(const faster_hex_answer &told)
@@ -33,17 +43,21 @@ public:
     faster_hex_answer answer;
 };
 
+/* Returns how many bytes a call wrote. Throws its error if it reports one. */
 inline std::size_t written(const faster_hex_answer &told) {
     if (told.status != FASTER_HEX_DONE) throw error(told);
     return told.number;
 }
 
+/* Returns the digits of len bytes. */
 [[nodiscard]] inline std::string encode(const void *src, std::size_t len, letters by = letters::lowercase) {
     std::string digits(FASTER_HEX_ENCODED_LEN(len), '0');
     written(faster_hex_encode(src, len, &digits[0], digits.size(), by == letters::uppercase));
     return digits;
 }
 
+/* Returns the digits of the bytes of a vector, a string, an array and the like. A string literal or a char * does not
+ * compile, because it is not clear whether its final zero is meant. */
 template <class Bytes> [[nodiscard]] std::string encode(const Bytes &src, letters by = letters::lowercase) {
 #ifdef __cpp_char8_t
     constexpr bool is_u8 = std::is_convertible_v<const Bytes &, const char8_t *>;
@@ -61,12 +75,14 @@ template <class Bytes> [[nodiscard]] std::string encode(const Bytes &src, letter
     }
 }
 
-/* Decodes into the front of a place, and returns how many bytes. */
+/* Decodes len digits to the front of the `room` bytes at dst. Returns how many bytes it wrote. After an error nothing
+ * was written. */
 inline std::size_t decode(const void *digits, std::size_t len, void *dst, std::size_t room,
                           policy by = policy::either_case) {
     return written(faster_hex_decode_with_case(digits, len, dst, room, static_cast<uint8_t>(by)));
 }
 
+/* Returns the bytes that len digits stand for. */
 [[nodiscard]] inline std::vector<unsigned char> decode(const void *digits, std::size_t len,
                                                        policy by = policy::either_case) {
     std::vector<unsigned char> bytes(FASTER_HEX_DECODED_LEN(len));
@@ -74,7 +90,7 @@ inline std::size_t decode(const void *digits, std::size_t len, void *dst, std::s
     return bytes;
 }
 
-/* The digits of a string, which ends before its first zero if it is a char * or an array of char, or of other bytes. */
+/* Returns a view of digits. A char * or an array of char ends before its first zero. Everything else is taken whole. */
 template <class Digits> std::string_view digits_of(const Digits &src) {
     if constexpr (std::is_array_v<Digits> && std::is_convertible_v<const Digits &, const char *>) {
         const std::string_view whole(src, std::size(src));
@@ -87,19 +103,21 @@ template <class Digits> std::string_view digits_of(const Digits &src) {
     }
 }
 
+/* Decodes a string, a vector, an array and the like to the front of the `room` bytes at dst. */
 template <class Digits> std::size_t decode(const Digits &digits, void *dst, std::size_t room,
                                            policy by = policy::either_case) {
     const std::string_view text = digits_of(digits);
     return decode(text.data(), text.size(), dst, room, by);
 }
 
+/* Returns the bytes that the digits of a string, a vector, an array and the like stand for. */
 template <class Digits> [[nodiscard]] std::vector<unsigned char> decode(const Digits &digits,
                                                                         policy by = policy::either_case) {
     const std::string_view text = digits_of(digits);
     return decode(text.data(), text.size(), by);
 }
 
-/* A policy of C would be taken for a length. */
+/* Does not compile, because the number of a policy for C would be taken for a length. */
 template <class Digits> void decode(const Digits &digits, decltype(FASTER_HEX_EITHER_CASE) by) = delete;
 
 } // namespace faster_hex
