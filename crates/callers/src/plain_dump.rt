@@ -25,8 +25,9 @@ use std::io::Read;
 /// let mut buffer = [0; 88];
 /// let mut sink = faster_hex::SliceSink::new(&mut buffer);
 /// assert_eq!(rt; write_dump(&mut input, &mut sink), Ok(43));
-/// assert!(rt; sink.written().starts_with(b"54686520717569636b2062726f776e20"));
-/// assert!(rt; sink.written().ends_with(b"766572\n20746865206c617a7920646f67\n"));
+/// let dump = sink.written();
+/// assert!(rt; dump.starts_with(b"54686520717569636b2062726f776e20"));
+/// assert!(rt; dump.ends_with(b"766572\n20746865206c617a7920646f67\n"));
 /// ```
 pub fn write_dump<R: Read, S: Sink>(reader: &mut R, sink: &mut S) -> Result<usize, StreamFault>
     ensures { (lines : Group) → piece_len lines ≡ 30 → separator lines ≡ 10

@@ -219,7 +219,8 @@ pub fn encode_stream<R: Read, S: Sink>(
 /// let mut input: &[u8] = b"hello";
 /// let mut buffer = [0; 12];
 /// let mut sink = SliceSink::new(&mut buffer);
-/// assert_eq!(rt; encode_grouped_stream(&mut input, &mut sink, lines, false), Ok(5));
+/// let read = encode_grouped_stream(&mut input, &mut sink, lines, false);
+/// assert_eq!(rt; read, Ok(5));
 /// assert_eq!(rt; sink.written(), b"6865\n6c6c\n6f".as_slice());
 /// ```
 pub fn encode_grouped_stream<R: Read, S: Sink>(
