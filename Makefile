@@ -1,9 +1,9 @@
 # `make` builds out/libfaster_hex.a, out/libfaster_hex.so.1.0.0, out/fhex and out/fhex-stream from the assembly in
 # generated/, by a C compiler alone; `make lib`, `make fhex` and `make fhex-stream` one of them. TARGET=aarch64, or a
 # compiler for it, builds them for Linux on ARM in out/aarch64, one for Windows the archive, a DLL and both programs
-# in out/windows, and one for macOS the archive; any other, and TARGET=portable, the libraries in plain C. CC, CFLAGS, CPPFLAGS, LDFLAGS and
-# AR are taken, and other words than those of the last run build all anew. UNPROVED=yes builds sources or assembly
-# that were changed, and faster_hex_version then says so.
+# in out/windows, and one for macOS the archive; any other, and TARGET=portable, the libraries in plain C. CC, CFLAGS,
+# CPPFLAGS, LDFLAGS and AR are taken, and other words than those of the last run build all anew. UNPROVED=yes builds
+# sources or assembly that were changed, and faster_hex_version then says so.
 # `make generate` proves the sources and writes generated/ anew. `make test` runs the examples, a quick part of
 # `make check`, if there is pytest, and the gate; `make check` all that the gate can't, the bindings beside a
 # checkout RUST of the Rust crate faster-hex 1.0.0; `make deep` what a release takes beside it; `make test-c` the
@@ -76,15 +76,15 @@ ENDED = @echo "make $@ took $$(($$(date +%s) - $(BEGAN))) s; left out: $(1)"
 
 # What runs beside another takes what processors there are.
 .NOTPARALLEL:
-CURRENT = check-generated $(PROGRAMS:%=current/%)
-.PHONY: all lib $(PROGRAMS) $(CURRENT) anew generate test test-c check deep dist install uninstall vendor help clean
+CHECKED = check-generated $(PROGRAMS:%=check-generated/%)
+.PHONY: all lib $(PROGRAMS) $(CHECKED) anew generate test test-c check deep dist install uninstall vendor help clean
 
 all: lib $(MADE_PROGRAMS)
 lib: $(ARCHIVE) $(SHARED)
 $(PROGRAMS): %: $(if $(MADE_PROGRAMS),$(OUT)/%$(EXE))
 	$(if $(MADE_PROGRAMS),,$(error there is no assembly of $@ for $(TARGET) $(SYSTEM)))
 
-$(CURRENT): check-generated%:
+$(CHECKED): check-generated%:
 	@UNPROVED=$(UNPROVED) scripts/check-generated generated$*
 
 generate:
@@ -96,7 +96,7 @@ $(BUILT): $(shell [ -d $(OUT) ] && [ "$$(cat $(BUILT) 2>&1)" = "$$(printf '%s\n'
 	@mkdir -p $(OUT) && printf '%s\n' $(LINES) >$(MADE) && $(DONE)
 
 $(OUT)/builds.o: generated/builds.S $(wildcard generated/*.s) $(C)/assembly.h | check-generated
-$(PROGRAMS:%=$(OUT)/%.o): $(OUT)/%.o: generated/%/builds.S $(wildcard generated/*/*.s) | current/%
+$(PROGRAMS:%=$(OUT)/%.o): $(OUT)/%.o: generated/%/builds.S $(wildcard generated/*/*.s) | check-generated/%
 $(OUT)/builds.o $(PROGRAMS:%=$(OUT)/%.o): $(wildcard generated/*.inc) $(BUILT)
 	$(COMPILE) $(CFLAGS) -Wno-unused-command-line-argument -c -o $(MADE) $(filter %.S,$^) && $(DONE)
 
@@ -117,7 +117,7 @@ $(OUT)/libfaster_hex.so.1: $(SHARED)
 	cp $< $@
 
 ifneq ($(shell command -v rt),)
-test: $(CURRENT)
+test: $(CHECKED)
 	tests/header.sh
 	scripts/examples
 	$(QUICK)
@@ -158,7 +158,7 @@ deep: all
 # As the last commit has it, or where files have changed, these; the same bytes whoever packs it.
 TO = .
 PACK = $(TO)/faster_hex-$(VERSION).tar
-dist: $(CURRENT)
+dist: $(CHECKED)
 	@[ -e .git ] || { echo 'make dist takes a clone by git: this is a package already' >&2; exit 1; }
 	git -c tar.umask=0022 archive --prefix=faster_hex-$(VERSION)/ -o "$(PACK)" \
 		$$(git stash create | grep . || echo HEAD) && gzip -9nf "$(PACK)"
