@@ -1,7 +1,7 @@
 /* Calls the library on a processor without a system, where bare.S has brought it, beside plain C: all lengths up to
  * MOST digits under each policy, valid and with a byte changed. Prints by port e9, which bochs copies to its output,
  * the level of the processor and `N passed, M failed`, and ends bochs. */
-#include "dispatch.c"
+#include "../../crates/faster_hex_c/dispatch.c"
 
 enum { PLACES = 64, AROUND = 64, OLD = 0xa5 };
 

@@ -4,7 +4,7 @@
  * Usage: dispatch */
 #include <stdio.h>
 
-#include "dispatch.c"
+#include "../../crates/faster_hex_c/dispatch.c"
 
 static int passed, failed;
 
