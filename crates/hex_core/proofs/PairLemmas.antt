@@ -1,10 +1,9 @@
 -- Neighbouring lanes: words of two, packed nibbles, and two vectors taken in turn.
 use Rattle.std.proofs.Common.{◌≡◌, ℕ, zero, suc, ◌+◌, ◌*◌, ◌/◌, ◌%◌, ◌<◌, List, [], ◌∷◌, ◌++◌, map, length, length-drop}
 use Rattle.std.proofs.Common.{get_or, take, drop, drop-cons, refl, sym, ap, ap₂, ◌∙◌, arith}
-use Rattle.std.proofs.lemmas.List.{drop_all, drop_at, get_or_append_left, get_or-append_right, length-map}
+use Rattle.std.proofs.lemmas.List.{drop_all, drop_at, get_or_append_left, get_or-append_right}
 use Rattle.std.proofs.lemmas.List.{length-take-le, take-append-drop, take_all, take_at}
-use Rattle.std.proofs.lemmas.Simd.{map-map}
-use lib.Lanes.{Each1, chunk, number_l, digits_l, pick_l}
+use lib.Lanes.{chunk, number_l, digits_l, pick_l}
 use Rattle.hex_core.specs.inside.Arithmetic.{interleaved, packed, pair_byte}
 use Rattle.hex_core.specs.Lanes.{ArePacked, AreSmall}
 

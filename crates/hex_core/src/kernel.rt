@@ -5,7 +5,7 @@
 ghost use Rattle.std.specs.Prelude.{◌≡◌, ◌↔◌, ◌+◌, ◌*◌, ◌/◌, ◌<◌, ◌≤◌, IsTrue, None, length};
 ghost use Rattle.std.specs.Simd.Lanes.{chunk, put_chunk};
 ghost use Rattle.hex_core.specs.inside.Arithmetic.{AreLow, packed};
-ghost use Rattle.hex_core.specs.inside.Blocks.{DecodesRange, EndsCover, Halves, HasBlock, HasRoom, NibblesFrom};
+ghost use Rattle.hex_core.specs.inside.Blocks.{DecodesRange, Halves, HasBlock, HasRoom, NibblesFrom};
 ghost use Rattle.hex_core.specs.Calls.{DecodesWhole};
 ghost use Rattle.hex_core.specs.Lanes.{AreSmall};
 ghost use Rattle.hex_core.specs.Search.{AllValid, first_invalid};
@@ -70,21 +70,19 @@ pub fn check_runs(src: &[u8], case: CheckCase, wide: bool) -> bool
     are_low(rest, wide)
 }
 
-/// Returns whether `src`, 256 to 512 bytes, is valid. It has one branch for the length, where
-/// [`check_runs`] has one for each block.
+/// Returns whether `src`, 257 to 512 bytes, is valid. Tests them at once, with fewer branches than
+/// [`check_runs`].
 #[inline(always)]
 pub fn check_eight(src: &[u8], case: CheckCase) -> bool
-    requires covered { EndsCover 256 src.now }
+    requires least { 256 < length src.now }
+    requires most { length src.now ≤ 512 }
     ensures { IsTrue result ↔ (first_invalid case src.now ≡ None) }
 {
     let len = src.len();
-    let mut front = reach_of(src, 0, 4, case);
-    let last = reach_of(src, len - 2 * CHECK_BLOCK, 2, case);
-    // Of at most six blocks the last two reach the fourth.
-    if len > 6 * CHECK_BLOCK {
-        front = max(front, reach_of(src, len - 4 * CHECK_BLOCK, 2, case));
-    }
-    is_low(max(front, last))
+    // Between the first four blocks and the last one are at most three: `%` says it to the compiler.
+    let middle = (len - 257) / CHECK_BLOCK % 4;
+    let front = max(reach_of(src, 0, 4, case), reach_of(src, 256, middle, case));
+    is_low(max(front, reach_of(src, len - CHECK_BLOCK, 1, case)))
 }
 
 // The values of `N` valid digits from index `at`.

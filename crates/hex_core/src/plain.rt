@@ -24,10 +24,12 @@ pub fn check_by_length(src: &[u8], case: CheckCase, width: u8) -> bool
     match src.len() {
         0..16 => check_short(src, case),
         16..=32 => check_two::<16>(src, case),
+        // Each test of the length before it would cost it a twentieth.
+        257.. if width >= 64 => check_held(src, case),
         33..=64 => check_two::<32>(src, case),
+        65..=128 if width >= 64 => check_two::<64>(src, case),
         65..=128 => check_four::<32>(src, case),
         129..=256 => check_four::<64>(src, case),
-        _ if width >= 64 => check_held(src, case),
         _ => check_long(src, case),
     }
 }
@@ -116,8 +118,9 @@ fn decode_apart(src: &[u8], dst: &mut [u8], case: CheckCase) -> bool
     }
 }
 
-// The same in a build with vectors of 64 bytes: up to 512 digits are held in them.
-#[inline(never)]
+// The same in a build with vectors of 64 bytes: up to 512 digits are held in them. There only
+// `Backend::decode_or_find` calls it, which is apart itself.
+#[inline(always)]
 fn decode_held(src: &[u8], dst: &mut [u8], case: CheckCase) -> bool
     requires twice { length src.now ≡ 2 * length dst.old }
     requires more { 192 < length src.now }
