@@ -151,7 +151,7 @@ check: all
 deep: all
 	scripts/mutations
 	scripts/examples --prove
-	cd tests && /usr/bin/python3 -m machine record 128
+	cd tests && /usr/bin/python3 -m machine record
 	$(MAKE) check
 	$(call ENDED,what the summary says; the gate)
 

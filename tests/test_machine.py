@@ -11,7 +11,7 @@ z3 = pytest.importorskip("z3")
 pytest.importorskip("capstone")
 from commands import CC, TOP, needs, runs
 from machine import Refused, execution, values
-from machine.__main__ import BUILDS, lengths_of, sums
+from machine.__main__ import BUILDS, lengths_of, line, sums
 from machine.image import Image, linked
 from machine.instructions import EACH, TABLE
 from machine.statements import shown
@@ -49,8 +49,10 @@ def test_call(image, is_short, build, call):
 
 @pytest.mark.quick
 def test_record():
-    """What generated/SHOWN says was shown of these sources."""
-    assert (GENERATED / "SHOWN").read_text().startswith(sums())
+    """What generated/SHOWN says was shown: of these sources, of each build, each call and all lengths."""
+    is_one = {it: it == "first_invalid" or it.startswith("decode") for it in CALLS}
+    lines = [line(build, call, int(is_one[call])) for build in BUILDS for call in BUILDS[build]]
+    assert (GENERATED / "SHOWN").read_text() == sums() + "".join(lines)
 
 
 def changed(build, function, rule):
@@ -137,8 +139,9 @@ def test_each_instruction_is_run():
 def modelled(code, begin, end, is_wide, known):
     """What a program makes of a block by the model, byte by byte, and its flags. Bytes are known, or not. What vectors
     have above 32 bytes stands after the memory."""
-    block = {it: [known.get(f"{it} {at}", byte) for at, byte in enumerate(values.bytes_of(values.unknown(it, size)))]
-             for it, size in BLOCK.items()}
+    block = {it: values.bytes_of(values.unknown(it, size)) for it, size in BLOCK.items()}
+    if known:
+        block = {it: [values.constant(known[f"{it} {at}"], 1) for at in range(size)] for it, size in BLOCK.items()}
     machine, state = execution.Machine(code, 0, 64, None, ()), execution.State(begin)
     state.registers.update({it: values.joined(block[it]) for it in ("rax", "rcx", "rdx")}, rdi=execution.DESTINATION)
     state.vectors[:3] = [block[f"vector {it}"] + block[f"above {it}"] for it in range(3)]
@@ -153,15 +156,44 @@ def modelled(code, begin, end, is_wide, known):
     return sum(made, []), [*state.written.values()] + above, flags
 
 
+def told(it, known):
+    """What a value is once all bytes are known. Most are a byte as it was."""
+    if it.term.eq(values.X[0]):
+        return known[it.of[0]]
+    each = [(values.X[at], z3.BitVecVal(known[name], 8)) for at, name in enumerate(it.of)]
+    value = z3.simplify(z3.substitute(it.term, *each))
+    return z3.is_true(value) if z3.is_bool(value) else value.as_long()
+
+
 def same(program, made, known, done):
-    """Whether the model's bytes and flags, once all is known, are those that the processor made."""
-    there = lambda it: z3.simplify(z3.substitute(it.term, *[
-        (values.X[at], known[name].term) for at, name in enumerate(it.of)]))
+    """Whether the model's bytes and flags are those that the processor made."""
     registers, memory, flags = made
     made_there = done[:120] + done[128:128 + len(memory)]
-    assert bytes(there(it).as_long() for it in [*registers, *memory]) == made_there, program
+    assert bytes(told(it, known) for it in [*registers, *memory]) == made_there, program
     word = int.from_bytes(done[120:128], "little")
-    assert all(z3.is_true(there(it)) == bool(word >> FLAGS[flag] & 1) for flag, it in flags.items()), program
+    assert all(told(it, known) == bool(word >> FLAGS[flag] & 1) for flag, it in flags.items()), program
+
+
+def any_byte():
+    return random.choice((0, 1, 127, 128, 255, random.randrange(256)))
+
+
+def dense_blocks():
+    return [bytearray(any_byte() for _ in NAMES) for _ in range(10)]
+
+
+def sparse_blocks():
+    """For what asks whether all bytes are zero, or two alike: zeros, but in all vectors a byte at one place, or in
+    one vector alone, and two bytes anywhere. Each place has its turns."""
+    vectors = [at for at, it in enumerate(NAMES) if re.fullmatch("vector . 0", it)]
+    for place in range(BLOCK["vector 0"]):
+        for chosen in vectors, [random.choice(vectors)]:
+            block, byte = bytearray(len(NAMES)), any_byte() or 1
+            for at in random.sample(range(len(NAMES)), 2):
+                block[at] = any_byte()
+            for at in chosen:
+                block[at + place] = byte
+            yield block
 
 
 @pytest.mark.parametrize("names, forms", INSTRUCTIONS)
@@ -179,10 +211,9 @@ def test_instruction(tmp_path, names, forms):
     for at, program in enumerate(programs):
         places = code.symbols[f"begin_{at}"], code.symbols[f"end_{at}"], is_wide
         made = None if re.search(r"\bj|call", program) else modelled(code, *places, {})
-        for _ in range(10):
-            block = bytearray(random.choice((0, 1, 127, 128, 255, random.randrange(256))) for _ in NAMES)
-            block[120:128] = bytes([block[120] & 0xc1 | 2, block[121] & 8, 0, 0, 0, 0, 0, 0])
-            known = {name: values.constant(it, 1) for name, it in zip(NAMES, block)}
-            done = (ctypes.c_char * len(block)).from_buffer_copy(block)
+        # (what jumps is executed anew for each block)
+        for block in [*dense_blocks(), *(sparse_blocks() if made else ())]:
+            block[120:128] = bytes([random.randrange(256) & 0xc1 | 2, random.choice((0, 8)), 0, 0, 0, 0, 0, 0])
+            done, known = (ctypes.c_char * len(block)).from_buffer_copy(block), dict(zip(NAMES, block))
             library[f"run_{at}"](done)
             same(program, made or modelled(code, *places, known), known, done.raw)

@@ -1,9 +1,10 @@
 """In tests/, by the system's Python: `python3 -m machine v3 decode 32` says what is shown of a call in a build of the
 library that `make` built, for a source of so many bytes, `python3 -m machine v2 check 0 64` for each length from one to
-another. `python3 -m machine record 128` shows all calls for all lengths up to so many decoded bytes, which takes some
-twenty minutes, and writes generated/SHOWN."""
+another. `python3 -m machine record` builds the library, shows all calls for all lengths up to MOST decoded bytes, which
+takes some twenty minutes, and writes generated/SHOWN."""
 import hashlib
 import os
+import subprocess
 import sys
 import tempfile
 from pathlib import Path
@@ -16,6 +17,7 @@ from .values import forget
 TOP = Path(__file__).resolve().parents[2]
 # The builds, each with its calls: for AVX-512 those that test and decode.
 BUILDS = {"v2": CALLS, "v3": CALLS, "v4": [it for it in CALLS if it.startswith(("check", "decode"))]}
+MOST = 128
 # What the code that is executed is made of.
 SOURCES = [f"generated/x86-64-{it}.s" for it in BUILDS] + """generated/builds.S generated/elf.inc
     crates/faster_hex_c/dispatch.c crates/faster_hex_c/assembly.h crates/faster_hex_c/faster_hex.h""".split()
@@ -32,26 +34,35 @@ def lengths_of(call, most):
     return range({"encode": most, "first_invalid": most // 2}.get(call, 2 * most) + 1)
 
 
-def record(images, most):
+def line(build, call, tests):
+    """What the record says of a call."""
+    lengths = lengths_of(call, MOST)
+    return f"x86-64-{build} {call} of {lengths[0]} to {lengths[-1]} bytes, {tests} branches on valid digits\n"
+
+
+def record(images):
     lines = sums()
     for build, image in images.items():
         for call in BUILDS[build]:
-            lengths, tests = lengths_of(call, most), 0
-            for length in lengths:
-                tests = max(tests, *[it.tests for it in shown(image, build, call, length)])
+            tests = [it.tests for length in lengths_of(call, MOST) for it in shown(image, build, call, length)]
             forget()
-            lines += f"x86-64-{build} {call} of {lengths[0]} to {lengths[-1]} bytes, {tests} branches on valid digits\n"
+            lines += line(build, call, max(tests))
             print(lines.splitlines()[-1], flush=True)
     (TOP / "generated/SHOWN").write_text(lines)
 
 
 def main(words):
-    library = Path(os.environ.get("FASTER_HEX_LIB", TOP / "out")) / "libfaster_hex.a"
+    is_record = words[0] == "record"
+    if is_record:
+        # What is summed is what is shown.
+        subprocess.run(["make", "-s", "-C", TOP, "lib"], check=True)
+    there = TOP / "out" if is_record else Path(os.environ.get("FASTER_HEX_LIB", TOP / "out"))
+    library = there / "libfaster_hex.a"
     with tempfile.TemporaryDirectory() as folder:
         made = linked(Path(folder) / "image", library)
         images = {build: Image(made, int(build[1])) for build in BUILDS}
-    if words[0] == "record":
-        return record(images, int(words[1]))
+    if is_record:
+        return record(images)
     for length in range(int(words[2]), int(words[-1]) + 1):
         print(*shown(images[words[0]], *words[:2], length), sep="\n", flush=True)
 

@@ -14,7 +14,7 @@ from .instructions import TABLE, ZERO, condition
 from .values import MADE, X, Value, apply, bytes_of, constant, is_proved, joined, numbered, unknown
 
 SOURCE, DESTINATION, STACK = BASES = [Value(z3.BitVec(it, 64)) for it in ("source", "destination", "stack")]
-RED_ZONE, RETURN, NONE = 128, unknown("return", 8), constant(0, 8)
+RED_ZONE, FRAME, RETURN, NONE = 128, 4096, unknown("return", 8), constant(0, 8)
 below, above = lambda it: it - 8, lambda it: it + 8
 address_of = lambda base, index, scale, distance: base + index * scale + distance
 # The register that a name stands for, and how many bytes of it.
@@ -190,9 +190,9 @@ class Machine:
         return self.place(state.registers["rsp"])[1] - RED_ZONE
 
     def lowers(self, state):
-        """The stack pointer stays in the frame, and what is below the frame is lost: a signal may write there."""
+        """The stack pointer stays in a frame of a page, and what is below the frame is lost: a signal may write there."""
         base, at = self.place(state.registers["rsp"])
-        if base is not STACK or at > 8:
+        if base is not STACK or not -FRAME <= at <= 8:
             raise Refused("the stack pointer leaves the frame")
         state.stack = {it: value for it, value in state.stack.items() if it >= at - RED_ZONE}
 
@@ -340,6 +340,7 @@ class Step:
         if value.term.size() != 64:
             raise Refused("not eight bytes")
         end = self.state.registers["rsp"] = apply(below, self.state.registers["rsp"])
+        self.machine.lowers(self.state)
         self.machine.store(self.state, end, bytes_of(value))
 
     def pop(self):

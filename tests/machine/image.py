@@ -7,6 +7,7 @@ import capstone
 from . import Refused, evex
 
 PREFIXES = b"\x66\x67\xf2\xf3\xf0\x2e\x36\x3e\x26\x64\x65"
+VEX, LOCK = b"\xc4\xc5", 0xf0
 # What the prefix 66 makes another thing of in Capstone than on some processors.
 NEVER_SHORT = "j", "call", "ret", "push", "pop"
 
@@ -65,6 +66,9 @@ class Image:
         # Of two prefixes Capstone and processors take different ones. Before EVEX there may be none.
         if found is None or len(code) - len(rest) > 1 or rest[0] == evex.PREFIX:
             raise Refused(f"no instruction at {at:#x}")
+        # Processors refuse most of these, and Capstone does not.
+        if code[0] == LOCK or rest[0] in VEX and rest != code:
+            raise Refused(f"a prefix that is not known at {at:#x}")
         if code[0] == 0x66 and found.mnemonic.split()[-1].startswith(NEVER_SHORT):
             raise Refused(f"a short branch or push at {at:#x}")
         return found, at + found.size
