@@ -43,7 +43,7 @@ BUILT = "-std=gnu99 -O1 -g -pthread".split()
 # The builds for x86-64, each with a flag of the processors that run it.
 BUILDS = {"x86-64": "sse2", "x86-64-v2": "sse4_2", "x86-64-v3": "avx2", "x86-64-v4": "avx512bw"}
 # Models of processors of qemu, and the build that a call takes there.
-MODELS = {"qemu64": "x86_64", "Nehalem": "x86_64_v2", "Haswell": "x86_64_v3"}
+MODELS = {"qemu64": "x86_64", "qemu64,-sse3": "x86_64", "Nehalem": "x86_64_v2", "Haswell": "x86_64_v3"}
 MODELS |= dict.fromkeys(("Haswell,-avx2", "Haswell,-avx", "Haswell,-xsave"), "x86_64_v2")
 
 

@@ -56,12 +56,14 @@ def test_results_that_are_not_used(tmp_path, compiler):
 
 
 def test_names_and_state_of_the_archive(target):
-    """It shows the header's calls alone, asks for none, and has the choice of a build as its state."""
+    """It shows the header's calls alone, asks for none, has no other name that two programs could both have, and the
+    choice of a build as its state."""
     folder, *_, runner = target
     said = ran(["readelf", "-SsW", folder / "libfaster_hex.a"]).stdout
     found = re.findall(r"^ *\d+: \w+ +\w+ \w+ +(GLOBAL|WEAK) +(\w+) +(\w+) (\S+)$", said, re.M)
     assert {name for _, sight, place, name in found if place != "UND" and sight == "DEFAULT"} == {*NAMES}
     given = {name for *_, place, name in found if place != "UND"}
+    assert all(it.startswith("faster_hex_") for it in given)
     assert {name for *_, place, name in found if place == "UND"} <= given
     assert {*re.findall(r" \.text\.faster_hex_\d\S+ .* (\d+)$", said, re.M)} == {"64"}
     said = ran(["nm", "-S", folder / "libfaster_hex.a"]).stdout

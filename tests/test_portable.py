@@ -29,6 +29,7 @@ def test_in_c(tmp_path, compiler, words):
     runner, folder = TARGETS.get(compiler, ("", "portable"))
     needs(compiler, *runner.split()[:1])
     runs(make("lib", f"CC={compiler}", *["TARGET=portable"] * (compiler == CC)), out="", err="")
+    assert b"faster_hex_1_0_0" not in (OUT / folder / "libfaster_hex.a").read_bytes()
     tries(tmp_path, compiler, OUT / folder / "libfaster_hex.a", "-DFASTER_HEX_PORTABLE", runner, words)
 
 

@@ -6,8 +6,8 @@ from commands import CRATE, TESTS_IN_C, TOP, compiled, make, needs, ran, runs
 
 pytestmark = pytest.mark.quick
 OF_ADDRESS = {"none": "", "short-destination": "heap-buffer-overflow", "short-source": "heap-buffer-overflow"}
-OF_ADDRESS |= {"freed": "heap-use-after-free", "unwritten": ""}
-OF_MEMORY = {"none": "", "unwritten": "use-of-uninitialized-value", "freed": "use-of-uninitialized-value"}
+OF_ADDRESS |= {"short-invalid": "heap-buffer-overflow", "freed": "heap-use-after-free", "unwritten": ""}
+OF_MEMORY = {"none": "", **dict.fromkeys(("unwritten", "unwritten-invalid", "freed"), "use-of-uninitialized-value")}
 CASES = [(compiler, "address", *it) for compiler in ("gcc", "clang") for it in OF_ADDRESS.items()]
 CASES += [("clang", "memory", *it) for it in OF_MEMORY.items()]
 

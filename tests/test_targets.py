@@ -180,18 +180,19 @@ def test_tests_without_the_toolchain(copy, tmp_path):
 def test_vendor_refuses(tmp_path, place):
     """Where a crate or a line of crates.txt is the user's, and where the folder is none."""
     own, listed = tmp_path / "own/crates/hex_core/src/mine.rt", tmp_path / "listed/crates.txt"
-    for file, text in (own, ""), (listed, "hex_codec: mine\n"):
+    mark = tmp_path / "own/crates/hex_core/.gitignore"
+    for file, text in (own, ""), (mark, "out/\n"), (listed, "hex_codec: mine\n"):
         file.parent.mkdir(parents=True)
         file.write_text(text)
     done = ran(make("vendor", f"DIR={tmp_path / place}"))
     said = [it for it in done.stdout.splitlines() if not it.startswith("make")]
     assert done.returncode and len(said) == 1 and "vendor: " in said[0]
-    assert [*(tmp_path / "own").rglob("*.*")] == [own] and listed.read_text() == "hex_codec: mine\n"
+    assert {*(tmp_path / "own").rglob("*.*")} == {own, mark} and listed.read_text() == "hex_codec: mine\n"
 
 
 def has_parts(crate):
-    """Compares a copied crate's sources, specs and license with those here."""
-    for part in "src", "specs":
+    """Compares a copied crate's sources, specs, proofs and license with those here."""
+    for part in "src", "specs", "proofs":
         own = TOP / "crates" / crate.name / part
         files = {it.relative_to(own): it.read_bytes() for it in own.rglob("*") if it.is_file()}
         assert files == {it: (crate / part / it).read_bytes() for it in files}

@@ -1,5 +1,5 @@
 /* Makes one call with a fault, which a sanitizer must report, or none, and then ends with 0.
- * Usage: faults none|short-destination|short-source|freed|unwritten */
+ * Usage: faults none|short-destination|short-source|short-invalid|freed|unwritten|unwritten-invalid */
 #include <stdlib.h>
 #include <string.h>
 
@@ -13,6 +13,12 @@ static int made(const char *fault, char *bytes, char *digits) {
     if (is_short || strcmp(fault, "none") == 0) {
         struct faster_hex_answer told = faster_hex_decode(DIGITS, 48, bytes, 24);
         return told.status == FASTER_HEX_DONE && (is_short || bytes[3] == 0x33) ? 0 : 3;
+    }
+    /* The call says that the first byte is invalid, and yet has read the others. */
+    bool is_unwritten = strcmp(fault, "unwritten-invalid") == 0;
+    if (is_unwritten || strcmp(fault, "short-invalid") == 0) {
+        digits[0] = 'g';
+        return faster_hex_decode(digits, is_unwritten ? 4 : 48, bytes, 24).status == FASTER_HEX_INVALID_CHAR ? 0 : 3;
     }
     if (strcmp(fault, "unwritten") != 0) memset(digits, '0', 4);
     if (strcmp(fault, "freed") == 0) free(digits);

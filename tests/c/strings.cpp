@@ -1,7 +1,7 @@
 // Tries faster_hex.hpp, the texts of statuses and the version. Prints `N passed, M failed`.
 #include <array>
 #include <cstdio>
-#include <set>
+#include <map>
 #if __cplusplus >= 202002L
 #include <span>
 #endif
@@ -80,13 +80,20 @@ static void refusals() {
 }
 
 static void texts() {
-    std::set<std::string> found;
+    std::map<unsigned, std::string> named = {
+        {FASTER_HEX_DONE, "done"},
+        {FASTER_HEX_ODD_LENGTH, "hex input length must be even"},
+        {FASTER_HEX_OUTPUT_TOO_SMALL, "output is too small"},
+        {FASTER_HEX_INVALID_CHAR, "invalid hex byte"},
+        {FASTER_HEX_OVERFLOW, "encoded length overflow"},
+        {FASTER_HEX_UNKNOWN_POLICY, "unknown policy"},
+        {FASTER_HEX_NOT_A_GROUP, "not a group"},
+        {FASTER_HEX_BAD_LENGTH, "invalid length of grouped hex"},
+    };
     for (unsigned status = 0; status < 256; status++) {
-        found.insert(faster_hex_status_text(static_cast<uint8_t>(status)));
+        std::string text = named.count(status) ? named[status] : "unknown status";
+        count(faster_hex_status_text(static_cast<uint8_t>(status)) == text, text.c_str());
     }
-    count(found.size() == FASTER_HEX_BAD_LENGTH + 2, "a text for each status, and one for others");
-    count(faster_hex_status_text(255) == std::string("unknown status"), "the text for others");
-    count(faster_hex_status_text(FASTER_HEX_DONE) == std::string("done"), "the first text");
     count(faster_hex_version() == std::string(FASTER_HEX_VERSION), "the version");
 }
 

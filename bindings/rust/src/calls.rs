@@ -135,14 +135,14 @@ mod tests {
                 src[below(state, 300)] = below(state, 256) as u8;
             }
             let (src, room) = (&src[..len], below(state, 700));
-            let mut places = [[MaybeUninit::new(0); 700]; 2];
+            let mut places = [[MaybeUninit::new(0xa5); 700]; 2];
             let [ours, theirs] = &mut places;
             assert_eq!(check(src, case), portable::check(src, case));
             let told = encode(src, &mut ours[..room], upper);
             assert_eq!(told, portable::encode(src, &mut theirs[..room], upper));
             let told = decode(src, &mut ours[room..], case);
             assert_eq!(told, portable::decode(src, &mut theirs[room..], case));
-            // SAFETY: all were zeros at first.
+            // SAFETY: all were written at first.
             let bytes = places.map(|it| it.map(|byte| unsafe { byte.assume_init() }));
             assert_eq!(bytes[0], bytes[1]);
         }
