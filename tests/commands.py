@@ -169,6 +169,12 @@ def is_locked(shared):
     assert re.search(" GNU_STACK .* RW ", said) and " RWE " not in said
 
 
+def shows_names(shared):
+    """Has a shared library show the header's names alone, for programs that ask for this interface."""
+    said = ran(["readelf", "-W", "--dyn-syms", shared]).stdout
+    assert {*re.findall(r" (\w+)@@FASTER_HEX_1$", said, re.M)} == {*NAMES}
+
+
 def takes(made, model, program, out):
     """Has a program take the build for a model, of which qemu's log has the names."""
     needs("qemu-x86_64")

@@ -4,9 +4,10 @@ import re
 import pytest
 
 from commands import (ARM_CC, CALLS, CC, CRATE, CXX, NAMES, ON_ARM, PRINTED, SHARED, STRICT, TESTS_IN_C, TOP, compiled,
-                      is_locked, needs, passes, ran, runs)
+                      is_locked, needs, passes, ran, runs, shows_names)
 
 pytestmark = pytest.mark.quick
+BUILDS = [*TOP.glob("generated/x86-64*.s")]
 # The calls of the header, with what follows a source and its length.
 WORDS = {"check": "", "check_with_case": "0", "first_invalid": "0", "encode": "dst, 8, 0", "decode": "dst, 2"}
 WORDS |= {"decode_with_case": "dst, 2, 0", "encode_grouped": "dst, 11, 0, 1, 58", "decode_grouped": "dst, 2, 0, 1, 58"}
@@ -55,6 +56,14 @@ def test_results_that_are_not_used(tmp_path, compiler):
     assert {int(it) - 3 for it in found} == {*range(len(CALLS))} and len(found) == len(CALLS)
 
 
+def test_header_that_leaves_warnings_as_they_were(tmp_path):
+    """What it uses beyond C90 is not told of it, but of what follows it."""
+    needs("clang")
+    (tmp_path / "own.c").write_text("#include <faster_hex.h>\n_Bool own;\n")
+    words = ["clang", "-std=c90", "-Wc99-extensions", "-fsyntax-only", f"-I{CRATE}", tmp_path / "own.c"]
+    assert re.findall(r"^\S*?(\w+\.[ch]):\d+:\d+: warning", ran(words).stdout, re.M) == ["own.c"]
+
+
 def test_names_and_state_of_the_archive(target):
     """It shows the header's calls alone, asks for none, has no other name that two programs could both have, and the
     choice of a build as its state."""
@@ -83,9 +92,15 @@ def test_sections_of_the_archive(target):
 
 def test_names_of_the_shared_library(target):
     shared = target[0] / SHARED[2]
-    said = ran(["readelf", "-W", "--dyn-syms", shared]).stdout
-    assert {*re.findall(r" (\w+)@@FASTER_HEX_1$", said, re.M)} == {*NAMES}
+    shows_names(shared)
     is_locked(shared)
+
+
+def test_frames_of_the_builds(library):
+    """A debugger can walk out of each function, by all that generated/ says of its frame."""
+    said = ran(["readelf", "-sW", "-wf", library / "builds.o"]).stdout
+    moves = re.findall(r"^\thex_cfi\tdef_cfa_offset", "".join(it.read_text() for it in BUILDS), re.M)
+    assert said.count(" FDE ") == said.count(" FUNC ") and said.count("DW_CFA_def_cfa_offset: ") == len(moves) > 0
 
 
 @pytest.mark.parametrize("source, options", [("c", "-std=c99"), ("cpp", "-std=c++17 -Wold-style-cast")])

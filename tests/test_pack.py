@@ -6,7 +6,8 @@ import shutil
 import pytest
 
 from commands import (ARM_CC, BY_RUST, BY_SYSTEM, CARGO, CC, CXX, HELLO, INSTALLED, ON_ARM, PRINTED, RUSTC, SHARED, TOP,
-                      VERSION, WINDOWS_CC, by_cmake, has_files, make, needs, needs_clone, only, passes, ran, runs)
+                      VERSION, WINDOWS_CC, by_cmake, has_files, is_locked, make, needs, needs_clone, only, passes, ran,
+                      runs, shows_names)
 
 pytestmark = pytest.mark.quick
 NAME = f"faster_hex-{VERSION}"
@@ -80,6 +81,24 @@ def top(tmp_path_factory, pack, env):
     runs(make(f"CC={CC}", "install", f"PREFIX={top}/here", top=top), env=env)
     (top / "here").rename(top.parent / "there")
     return top
+
+
+@pytest.fixture(scope="module")
+def of_cmake(tmp_path_factory, top):
+    """What CMake installs, by a user's words that would spoil both libraries if they came last."""
+    needs("cmake")
+    there = tmp_path_factory.mktemp("of cmake")
+    options = ["C_FLAGS=-flto -fno-pic -fno-pie", "SHARED_LINKER_FLAGS=-Wl,-z,norelro,-z,lazy,-z,notext"]
+    return installs(top, there / "built", there / "installed", options)
+
+
+def installs(top, built, there, options):
+    """Installs what CMake builds of the pack."""
+    options = [f"-DCMAKE_{it}" for it in (*options, "INSTALL_LIBDIR=lib", f"INSTALL_PREFIX={there}")]
+    runs(["cmake", "-S", top, "-B", built, "-DFASTER_HEX_INSTALL=ON", *options])
+    runs(["cmake", "--build", built])
+    runs(["cmake", "--install", built])
+    return there
 
 
 @pytest.fixture
@@ -165,20 +184,33 @@ def test_cmake(tmp_path, top, env):
     by_cmake(twice.parent, tmp_path / "over", f"-DCMAKE_PREFIX_PATH={top.parent}/there", env=env)
 
 
-def test_what_cmake_installs(tmp_path, top, env):
-    """The library, below a library over it that is exported too, and for Windows."""
-    for name, *options in ("here",), ("windows", "SYSTEM_NAME=Windows", f"C_COMPILER={WINDOWS_CC}"):
-        built, there = tmp_path / name, tmp_path / f"{name} installed"
-        options += ["INSTALL_LIBDIR=lib", f"INSTALL_PREFIX={there}"]
-        words = ["cmake", "-S", top, "-B", built, "-DFASTER_HEX_INSTALL=ON", *(f"-DCMAKE_{it}" for it in options)]
-        if name == "windows" and not shutil.which(WINDOWS_CC):
-            continue
-        for line in words, ["cmake", "--build", built], ["cmake", "--install", built]:
-            runs(line)
-        own = ["bin/libfaster_hex.dll", "bin/fhex.exe"] if name == "windows" else [f"lib/{SHARED[1]}", "bin/fhex"]
-        own += ["lib/libfaster_hex.a", "include/faster_hex.hpp", "share/man/man1/fhex.1", "share/man/man3/faster_hex.3"]
-        assert not [it for it in own if not (there / it).exists()]
-    by_cmake(top / "examples/c", tmp_path / "over", f"-DCMAKE_PREFIX_PATH={tmp_path}/here installed", env=env)
+def has_all(there, *programs):
+    """What was installed: programs, libraries, headers and pages."""
+    files = "lib/libfaster_hex.a", "include/faster_hex.hpp", "share/man/man1/fhex.1", "share/man/man3/faster_hex.3"
+    assert not [it for it in (*programs, *files) if not (there / it).exists()]
+
+
+def test_what_cmake_installs(tmp_path, top, env, of_cmake):
+    """The libraries are as those of `make`: shared, locked and with the names of the version; the archive without
+    code for a linker to optimize, and for a shared library too."""
+    has_all(of_cmake, f"lib/{SHARED[1]}", "bin/fhex")
+    by_cmake(top / "examples/c", tmp_path / "over", f"-DCMAKE_PREFIX_PATH={of_cmake}", env=env)
+    is_locked(of_cmake / "lib" / SHARED[2])
+    shows_names(of_cmake / "lib" / SHARED[2])
+    archive = of_cmake / "lib/libfaster_hex.a"
+    assert ".gnu.lto_" not in ran(["readelf", "-SW", archive]).stdout
+    runs([CC, "-shared", "-o", tmp_path / "over.so", "-Wl,-z,text,--whole-archive", archive, "-Wl,--no-whole-archive"])
+
+
+def test_what_cmake_installs_for_windows(tmp_path, top):
+    needs("cmake", WINDOWS_CC)
+    options = "SYSTEM_NAME=Windows", f"C_COMPILER={WINDOWS_CC}"
+    there = installs(top, tmp_path / "built", tmp_path / "installed", options)
+    has_all(there, "bin/libfaster_hex.dll", "bin/fhex.exe")
+
+
+def test_library_over_ours_that_cmake_exports(tmp_path, top):
+    needs("cmake")
     (tmp_path / "CMakeLists.txt").write_text(OVER)
     words = ["cmake", "-S", tmp_path, "-B", tmp_path / "exported", "-DFASTER_HEX_INSTALL=ON", f"-DTOP={top}"]
     runs([*words, f"-DCMAKE_INSTALL_PREFIX={tmp_path}/both"])
@@ -187,12 +219,12 @@ def test_what_cmake_installs(tmp_path, top, env):
     assert "faster_hex::archive" in (tmp_path / "both/lib/over.cmake").read_text()
 
 
-@pytest.mark.parametrize("version", VERSIONS)
-def test_version_that_cmake_asks_for(tmp_path, top, version):
-    needs("cmake")
+@pytest.mark.parametrize("version, is_of_make", [*((it, True) for it in VERSIONS), ("1.0", False), ("0.9", False)])
+def test_version_that_cmake_asks_for(tmp_path, top, of_cmake, version, is_of_make):
+    there = top.parent / "there" if is_of_make else of_cmake
     find = f"find_package(faster_hex {version} REQUIRED CONFIG)"
     (tmp_path / "CMakeLists.txt").write_text(f"cmake_minimum_required(VERSION 3.16)\nproject(asks C)\n{find}")
-    words = ["cmake", "-S", tmp_path, "-B", tmp_path, f"-DCMAKE_PREFIX_PATH={top.parent}/there"]
+    words = ["cmake", "-S", tmp_path, "-B", tmp_path, f"-DCMAKE_PREFIX_PATH={there}"]
     runs(words, VERSIONS[version])
 
 

@@ -33,6 +33,14 @@ SYSTEMS |= dict.fromkeys(("x86_64-unknown-openbsd7.4", "x86_64-pc-solaris2.11", 
                          (True, False))
 WARNINGS = {f"warning: {folder}/ {what}" for folder in ("generated", "generated/fhex", "generated/fhex-stream")
             for what in ("is not made of these sources", "has a file that is not as PROVED says")}
+# What is built anew where a file is newer.
+SOURCES_OF = {"generated/*.[sS]": "builds.o", "generated/*.inc": "builds.o fhex.o", "generated/fhex/*.[sS]": "fhex.o"}
+SOURCES_OF |= {"crates/faster_hex_c/assembly.h": "builds.o dispatch.o", "crates/faster_hex_c/*.[ch]": "dispatch.o"}
+SOURCES_OF |= {"crates/faster_hex_c/*.map": SHARED[2], "crates/fhex/fhex.c": "fhex"}
+# The folder of what is built, by what a compiler says and a user's words.
+FOLDERS = {"x86_64-linux-gnu": "out", "amd64-portbld-freebsd14": "out", "arm64-apple-darwin23": "out/macos/aarch64"}
+FOLDERS |= {"arm64-linux-gnu": "out/aarch64", "x86_64-linux-gnu CFLAGS=-m32": "out/i386"}
+FOLDERS |= {"riscv64-linux-gnu": "out/riscv64", "aarch64-linux-gnu TARGET=portable": "out/portable"}
 PAGES = {"CALLING.md", "DIFFERENCES.md", "proving.md", "security.md"}
 
 
@@ -231,14 +239,29 @@ def test_copy_of_vendor_over_another(tmp_path):
 
 
 def test_what_is_built_anew_and_what_is_cleaned(copy):
-    how, built = {"env": BY_SYSTEM}, "-c -o"
+    how = {"env": BY_SYSTEM}
     generated = sorted(it.name for it in (copy / "generated").iterdir())
-    runs(make("lib", top=copy), **how)
-    assert built not in runs(make("-n", "lib", top=copy), **how)
-    for file in copy.glob("generated/*.[sSi]*"):
-        before = file.stat().st_mtime
-        os.utime(file, (before, time.time() + 9))
-        assert built in runs(make("-n", "lib", top=copy), **how), file
-        os.utime(file, (before, before))
+    runs(make(top=copy), **how)
+    assert " -o " not in runs(make("-n", top=copy), **how)
+    for pattern, names in SOURCES_OF.items():
+        files = [*copy.glob(pattern)]
+        assert files, pattern
+        for file in files:
+            before = file.stat().st_mtime
+            os.utime(file, (before, time.time() + 9))
+            said = runs(make("-n", top=copy), **how)
+            assert all(f" -o out/{it}.$" in said for it in names.split()), file
+            os.utime(file, (before, before))
     runs(make("clean", top=copy))
     assert not (copy / "out").exists() and generated == sorted(it.name for it in (copy / "generated").iterdir())
+
+
+@pytest.mark.parametrize("machine", FOLDERS)
+def test_processors_by_other_names(tmp_path, machine):
+    """A compiler says for what it makes code, and a word may change that."""
+    machine, *words = machine.split()
+    compiler = tmp_path / "cc"
+    compiler.write_text(f"#!/bin/sh\necho {machine}\n")
+    compiler.chmod(0o755)
+    said = runs(make("-n", "lib", f"CC={compiler}", *words))
+    assert {*re.findall(r" -c -o (\S+)/dispatch.o", said)} == {FOLDERS[" ".join([machine, *words])]}
