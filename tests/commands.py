@@ -1,5 +1,6 @@
 """What several tests share: paths, compilers, commands that must end as a test says, and programs over a library."""
 import os
+import random
 import re
 import shutil
 import signal
@@ -38,6 +39,8 @@ INSTALLED = """bin/fhex bin/fhex-stream share/man/man1/fhex.1 share/man/man1/fhe
 INSTALLED += [f"lib/{name}" for name in SHARED] + [f"share/man/man3/{name}.3" for name in NAMES]
 OF_RUST = *TOP.glob("bindings/rust/src/*.rs"), *TOP.glob("generated/*.*"), TOP / "generated/PROVED"
 INSTALLED += [f"share/faster_hex/rust/{it.relative_to(TOP)}" for it in OF_RUST]
+# What lengths are drawn from, in each run anew, unless it is given.
+SEED = os.environ.get("SEED") or f"{random.SystemRandom().randrange(10 ** 9)}"
 STRICT = ["-Wall", "-Wextra", "-Wpedantic", "-Wconversion", "-Werror", f"-I{CRATE}"]
 BUILT = "-std=gnu99 -O1 -g -pthread".split()
 # The builds for x86-64, each with a flag of the processors that run it.
@@ -98,6 +101,12 @@ def passes(words, **how):
     found = re.findall(r"^(?:test result: \w+\. )?(\d+) passed[,;] (\d+) failed", done.stdout, re.M)
     passed, failed = (sum(int(it[at]) for it in found) for at in (0, 1))
     assert passed and not failed and done.returncode == 0, f"{words}:\n{done.stdout}"
+
+
+def drawn_lengths():
+    """Some 200 lengths up to a million, short ones as often as long ones."""
+    chance = random.Random(SEED)
+    return sorted({int(2 ** chance.uniform(0, 20)) for _ in range(250)})
 
 
 def has_files(folder, files):
@@ -173,6 +182,12 @@ def shows_names(shared):
     """Has a shared library show the header's names alone, for programs that ask for this interface."""
     said = ran(["readelf", "-W", "--dyn-syms", shared]).stdout
     assert {*re.findall(r" (\w+)@@FASTER_HEX_1$", said, re.M)} == {*NAMES}
+
+
+def stands_alone(archive):
+    """Has an archive ask for nothing and no linker make its code, of which each call can be left out."""
+    said = ran(["readelf", "-SsW", archive]).stdout
+    assert ".text.faster_hex_decode" in said and not re.search("[.]gnu[.]lto_|__stack_chk", said)
 
 
 def takes(made, model, program, out):

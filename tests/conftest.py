@@ -5,7 +5,7 @@ from pathlib import Path
 import pytest
 
 pytest.register_assert_rewrite("commands")
-from commands import ARM_CC, CARGO, OUT, copied, make, needs, own_files, runs
+from commands import ARM_CC, CARGO, OUT, SEED, copied, make, needs, own_files, runs
 from packages import REGISTRY, over
 
 
@@ -17,6 +17,10 @@ def environment(tmp_path_factory):
         os.environ.pop(name, None)
     os.environ.update(LC_ALL="C.UTF-8", CARGO_TARGET_DIR=f"{made}/target", CARGO_NET_OFFLINE="true",
                       WINEPREFIX=f"{made}/wine", WINEDEBUG="-all")
+
+
+def pytest_terminal_summary(terminalreporter):
+    terminalreporter.write_line(f"lengths were drawn from SEED={SEED}")
 
 
 @pytest.fixture(scope="session")

@@ -7,7 +7,7 @@ import pytest
 
 from commands import (ARM_CC, BY_RUST, BY_SYSTEM, CARGO, CC, CXX, HELLO, INSTALLED, ON_ARM, PRINTED, RUSTC, SHARED, TOP,
                       VERSION, WINDOWS_CC, by_cmake, has_files, is_locked, make, needs, needs_clone, only, passes, ran,
-                      runs, shows_names)
+                      runs, shows_names, stands_alone)
 
 pytestmark = pytest.mark.quick
 NAME = f"faster_hex-{VERSION}"
@@ -85,11 +85,11 @@ def top(tmp_path_factory, pack, env):
 
 @pytest.fixture(scope="module")
 def of_cmake(tmp_path_factory, top):
-    """What CMake installs, by a user's words that would spoil both libraries if they came last."""
+    """What CMake installs, by flags that would spoil both libraries if they came last."""
     needs("cmake")
     there = tmp_path_factory.mktemp("of cmake")
-    options = ["C_FLAGS=-flto -fno-pic -fno-pie", "SHARED_LINKER_FLAGS=-Wl,-z,norelro,-z,lazy,-z,notext"]
-    return installs(top, there / "built", there / "installed", options)
+    flags = "-flto -fstack-protector-all -fno-pic -fno-pie -Wl,-z,norelro,-z,lazy,-z,notext"
+    return installs(top, there / "built", there / "installed", [f"C_FLAGS={flags}"])
 
 
 def installs(top, built, there, options):
@@ -191,14 +191,13 @@ def has_all(there, *programs):
 
 
 def test_what_cmake_installs(tmp_path, top, env, of_cmake):
-    """The libraries are as those of `make`: shared, locked and with the names of the version; the archive without
-    code for a linker to optimize, and for a shared library too."""
+    """The libraries are as those of `make`; the archive is for a shared library too."""
     has_all(of_cmake, f"lib/{SHARED[1]}", "bin/fhex")
     by_cmake(top / "examples/c", tmp_path / "over", f"-DCMAKE_PREFIX_PATH={of_cmake}", env=env)
     is_locked(of_cmake / "lib" / SHARED[2])
     shows_names(of_cmake / "lib" / SHARED[2])
     archive = of_cmake / "lib/libfaster_hex.a"
-    assert ".gnu.lto_" not in ran(["readelf", "-SW", archive]).stdout
+    stands_alone(archive)
     runs([CC, "-shared", "-o", tmp_path / "over.so", "-Wl,-z,text,--whole-archive", archive, "-Wl,--no-whole-archive"])
 
 

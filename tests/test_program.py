@@ -1,11 +1,12 @@
 """The built fhex: its statuses, outputs and messages, byte for byte, by several compilers."""
 import os
+import random
 import re
 import subprocess
 
 import pytest
 
-from commands import ARM_CC, CC, ON_ARM, TOP, needs, ran, runs
+from commands import ARM_CC, CC, ON_ARM, SEED, TOP, drawn_lengths, needs, ran, runs
 
 pytestmark = pytest.mark.quick
 USAGE = b"usage: fhex encode|encode-upper|decode|decode-lower|decode-upper|vectors\n"
@@ -88,3 +89,15 @@ def test_streams_that_fail(program):
     folder, full = os.open(TOP, os.O_RDONLY), os.open("/dev/full", os.O_WRONLY)
     assert ended(*program, "encode", stdin=folder) == (3, b"", b"read failed\n")
     assert ended(*program, "decode", input=b"00\n", stdout=full) == (3, None, b"write failed\n")
+
+
+def test_lengths_that_are_drawn(fhex):
+    chance = random.Random(SEED)
+    for length in drawn_lengths():
+        given, at = chance.randbytes(length), chance.randrange(2 * length)
+        text = given.hex().encode() + b"\n"
+        invalid = text[:at] + b"g" + text[at + 1:]
+        told = f"SEED={SEED}, {length} bytes"
+        assert ended(fhex, "encode", input=given) == (0, text, b""), told
+        assert ended(fhex, "decode", input=text) == (0, given, b""), told
+        assert ended(fhex, "decode", input=invalid) == (1, b"", INVALID % (0x67, at)), told

@@ -3,7 +3,7 @@ rows whose answers are made wrong, and no other. Below such a row it prints the 
 call that differs, what is wanted of it and what came."""
 import pytest
 
-from commands import OF_PROOFS, TOP, needs, ran
+from commands import OF_PROOFS, SEED, TOP, drawn_lengths, needs, ran
 
 CRATES = TOP / "crates"
 # Of each program some rows with a wrong answer.
@@ -81,6 +81,15 @@ TOLD = [
         "looks of locate of scalar: wanted 3, came 2",
     ),
 ]
+# Of each program rows for a length, twice it, and one more.
+OF_LENGTH = {
+    "test_rows": ["3 long [any|lower|upper] {0} = alike"],
+    "test_json": ["13 long module [0+1] {0} = alike"],
+    "test_program": [
+        r"serve many \xab {0} encode - = 0 many {2} ab \x0a",
+        "serve many 0 {1} decode - = 0 many {0} #00 -",
+    ],
+}
 
 
 @pytest.fixture(scope="module", params=PLANTED)
@@ -116,3 +125,10 @@ def test_a_wrong_answer_is_told(row, turn, words, call):
     ran(["rt", "run"], cwd=CRATES / "test_rows", input="")
     said = answered("test_rows", f"{row}\n").split("\n")
     assert said[:3] == [f"line 1, turn {turn}: {row}", f"  {words}", f"  {call}"]
+
+
+def test_lengths_that_are_drawn(program):
+    """A wrong answer at one length alone, which no row has, is some time found."""
+    rows = [row.format(it, 2 * it, 2 * it + 1) for it in drawn_lengths() for row in OF_LENGTH[program]]
+    said = answered(program, "\n".join(rows))
+    assert said.endswith(" rows, 0 answered otherwise\n"), f"SEED={SEED}: {said}"

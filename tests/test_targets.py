@@ -7,7 +7,8 @@ import time
 
 import pytest
 
-from commands import BY_SYSTEM, SHARED, TOP, VERSION, is_locked, make, needs_clone, only, ran, runs
+from commands import (BY_SYSTEM, SHARED, TOP, VERSION, is_locked, make, needs_clone, only, ran, runs,
+                      stands_alone)
 
 pytestmark = pytest.mark.quick
 # How often a build says each of the user's words.
@@ -107,8 +108,10 @@ def test_words_of_the_user(copy):
     said = ran(make("-n", *words, top=copy), env=BY_SYSTEM).stdout.partition("-o out/builds.o")
     said = "cc" + said[0].rpartition("cc")[2] + "".join(said[1:])
     assert {it: said.count(f" -D{it}_IS") for it in WORDS} == WORDS
-    runs(make("lib", "LDFLAGS=-Wl,-z,norelro,-z,lazy", top=copy), env=BY_SYSTEM)
+    words = "LDFLAGS=-Wl,-z,norelro,-z,lazy", "CFLAGS=-O2 -flto -fstack-protector-all"
+    runs(make("lib", *words, top=copy), env=BY_SYSTEM)
     is_locked(copy / "out" / SHARED[2])
+    stands_alone(copy / "out/libfaster_hex.a")
 
 
 @pytest.mark.parametrize("name, old, new, told", DIFFERENCES)
@@ -264,4 +267,4 @@ def test_processors_by_other_names(tmp_path, machine):
     compiler.write_text(f"#!/bin/sh\necho {machine}\n")
     compiler.chmod(0o755)
     said = runs(make("-n", "lib", f"CC={compiler}", *words))
-    assert {*re.findall(r" -c -o (\S+)/dispatch.o", said)} == {FOLDERS[" ".join([machine, *words])]}
+    assert {*re.findall(r" -o (\S+)/builds\.o", said)} == {FOLDERS[" ".join([machine, *words])]}
