@@ -1,15 +1,17 @@
 """The machine code of the calls, executed on unknown bytes by machine/ and compared with hex; changed copies of it,
 which must be refused; and what machine/ takes instructions to mean, beside the processor."""
 import ctypes
+import itertools
 import random
 import re
+import sys
 from pathlib import Path
 
 import pytest
 
 z3 = pytest.importorskip("z3")
 pytest.importorskip("capstone")
-from commands import CC, TOP, needs, runs
+from commands import CC, TOP, needs, ran, runs
 from machine import Refused, execution, values
 from machine.__main__ import BUILDS, lengths_of, line, sums
 from machine.image import Image, linked
@@ -53,6 +55,14 @@ def test_record():
     is_one = {it: it == "first_invalid" or it.startswith("decode") for it in CALLS}
     lines = [line(build, call, int(is_one[call])) for build in BUILDS for call in BUILDS[build]]
     assert (GENERATED / "SHOWN").read_text() == sums() + "".join(lines)
+
+
+def test_record_of_other_sources(copy):
+    """It builds first, so that it shows what it sums."""
+    with (copy / "generated/x86-64-v3.s").open("a") as file:
+        file.write("\n")
+    done = ran([sys.executable, "-m", "machine", "record"], cwd=copy / "tests")
+    assert done.returncode and "not as PROVED says" in done.stdout
 
 
 def changed(build, function, rule):
@@ -182,17 +192,16 @@ def dense_blocks():
     return [bytearray(any_byte() for _ in NAMES) for _ in range(10)]
 
 
-def sparse_blocks():
+def sparse_blocks(parts):
     """For what asks whether all bytes are zero, or two alike: zeros, but in all vectors a byte at one place, or in
     one vector alone, and two bytes anywhere. Each place has its turns."""
-    vectors = [at for at, it in enumerate(NAMES) if re.fullmatch("vector . 0", it)]
-    for place in range(BLOCK["vector 0"]):
-        for chosen in vectors, [random.choice(vectors)]:
+    for part, place in itertools.product(parts, range(32)):
+        for vectors in range(3), [random.randrange(3)]:
             block, byte = bytearray(len(NAMES)), any_byte() or 1
             for at in random.sample(range(len(NAMES)), 2):
                 block[at] = any_byte()
-            for at in chosen:
-                block[at + place] = byte
+            for it in vectors:
+                block[NAMES.index(f"{part} {it} {place}")] = byte
             yield block
 
 
@@ -212,7 +221,7 @@ def test_instruction(tmp_path, names, forms):
         places = code.symbols[f"begin_{at}"], code.symbols[f"end_{at}"], is_wide
         made = None if re.search(r"\bj|call", program) else modelled(code, *places, {})
         # (what jumps is executed anew for each block)
-        for block in [*dense_blocks(), *(sparse_blocks() if made else ())]:
+        for block in [*dense_blocks(), *(sparse_blocks(["vector", "above"][:1 + is_wide]) if made else ())]:
             block[120:128] = bytes([random.randrange(256) & 0xc1 | 2, random.choice((0, 8)), 0, 0, 0, 0, 0, 0])
             done, known = (ctypes.c_char * len(block)).from_buffer_copy(block), dict(zip(NAMES, block))
             library[f"run_{at}"](done)

@@ -89,7 +89,7 @@ def of_cmake(tmp_path_factory, top):
     needs("cmake")
     there = tmp_path_factory.mktemp("of cmake")
     flags = "-flto -fstack-protector-all -fno-pic -fno-pie -Wl,-z,norelro,-z,lazy,-z,notext"
-    return installs(top, there / "built", there / "installed", [f"C_FLAGS={flags}"])
+    return installs(top, there / "built", there / "installed", [f"C_FLAGS={flags}", "EXE_LINKER_FLAGS=-no-pie"])
 
 
 def installs(top, built, there, options):

@@ -193,7 +193,7 @@ def test_vendor_refuses(tmp_path, place):
     own, listed = tmp_path / "own/crates/hex_core/src/mine.rt", tmp_path / "listed/crates.txt"
     mark = tmp_path / "own/crates/hex_core/.gitignore"
     for file, text in (own, ""), (mark, "out/\n"), (listed, "hex_codec: mine\n"):
-        file.parent.mkdir(parents=True)
+        file.parent.mkdir(parents=True, exist_ok=True)
         file.write_text(text)
     done = ran(make("vendor", f"DIR={tmp_path / place}"))
     said = [it for it in done.stdout.splitlines() if not it.startswith("make")]
