@@ -1,7 +1,8 @@
 """In tests/, by the system's Python: `python3 -m machine v3 decode 32` says what is shown of a call in a build of the
 library that `make` built, for a source of so many bytes, `python3 -m machine v2 check 0 64` for each length from one to
 another. `python3 -m machine record` builds the library, shows all calls for all lengths up to MOST decoded bytes, which
-takes some twenty minutes, and writes generated/SHOWN."""
+takes some ten minutes on four processors, and writes generated/SHOWN."""
+import concurrent.futures
 import hashlib
 import os
 import subprocess
@@ -26,7 +27,8 @@ SOURCES += sorted(f"tests/machine/{it.name}" for it in Path(__file__).parent.glo
 
 
 def sums():
-    return "".join(f"sha256 {hashlib.sha256((TOP / it).read_bytes()).hexdigest()}  {it}\n" for it in SOURCES)
+    """How the record begins."""
+    return "Written by `python3 -m machine record`: do not edit.\n" + "".join(f"sha256 {hashlib.sha256((TOP / it).read_bytes()).hexdigest()}  {it}\n" for it in SOURCES)
 
 
 def lengths_of(call, most):
@@ -40,15 +42,20 @@ def line(build, call, tests):
     return f"x86-64-{build} {call} of {lengths[0]} to {lengths[-1]} bytes, {tests} branches on valid digits\n"
 
 
-def record(images):
-    lines = sums()
-    for build, image in images.items():
-        for call in BUILDS[build]:
-            tests = [it.tests for length in lengths_of(call, MOST) for it in shown(image, build, call, length)]
-            forget()
-            lines += line(build, call, max(tests))
-            print(lines.splitlines()[-1], flush=True)
-    (TOP / "generated/SHOWN").write_text(lines)
+def recorded(made, build, call):
+    """What the record says of a call, once all lengths are shown."""
+    image = Image(made, int(build[1]))
+    tests = [it.tests for length in lengths_of(call, MOST) for it in shown(image, build, call, length)]
+    forget()
+    return line(build, call, max(tests))
+
+
+def record(made):
+    """Shows each call by a process of its own, as many at a time as there are processors."""
+    with concurrent.futures.ProcessPoolExecutor() as pool:
+        tasks = [pool.submit(recorded, made, build, call) for build in BUILDS for call in BUILDS[build]]
+        lines = [it.result() for it in tasks]
+    (TOP / "generated/SHOWN").write_text(sums() + "".join(lines))
 
 
 def main(words):
@@ -60,11 +67,11 @@ def main(words):
     library = there / "libfaster_hex.a"
     with tempfile.TemporaryDirectory() as folder:
         made = linked(Path(folder) / "image", library)
-        images = {build: Image(made, int(build[1])) for build in BUILDS}
-    if is_record:
-        return record(images)
+        if is_record:
+            return record(made)
+        image = Image(made, {it: int(it[1]) for it in BUILDS}[words[0]])
     for length in range(int(words[2]), int(words[-1]) + 1):
-        print(*shown(images[words[0]], *words[:2], length), sep="\n", flush=True)
+        print(*shown(image, *words[:2], length), sep="\n", flush=True)
 
 
 if __name__ == "__main__":
