@@ -1,6 +1,9 @@
-"""The machine code of the library, executed on bytes that are not known, and compared with hex. __main__.py says how it
-is run, ../../docs/security.md what it shows."""
+"""Symbolic execution of the library's machine code: it runs on unknown bytes, and the results are compared with a
+definition of hex. __main__.py says how to run it, and ../../docs/security.md what it shows.
+
+To read it, begin with hexadecimal.py, which defines hex, and statements.py, which says what must hold of a call. Then
+execution.py has the rules for memory and branches, and instructions.py the effect of each instruction."""
 
 
 class Refused(Exception):
-    """Why a call is not shown to do what the definitions say."""
+    """Says why a call could not be shown to do what the definitions say."""

@@ -1,7 +1,9 @@
-"""In tests/, by the system's Python: `python3 -m machine v3 decode 32` says what is shown of a call in a build of the
-library that `make` built, for a source of so many bytes, `python3 -m machine v2 check 0 64` for each length from one to
-another. `python3 -m machine record` builds the library, shows all calls for all lengths up to MOST decoded bytes, which
-takes some ten minutes on four processors, and writes generated/SHOWN."""
+"""Checks calls in the machine code of the library that `make` built. Run it in tests/ by the system's Python:
+
+python3 -m machine v3 decode 32     checks one call of a build, for a source of 32 bytes
+python3 -m machine v2 check 0 64    checks it for every length from 0 to 64
+python3 -m machine record           builds the library, checks all calls for all lengths up to MOST decoded bytes, which
+                                    takes some ten minutes on four processors, and writes generated/SHOWN"""
 import concurrent.futures
 import hashlib
 import os
@@ -16,13 +18,13 @@ from .statements import CALLS, shown
 from .values import forget
 
 TOP = Path(__file__).resolve().parents[2]
-# The builds, each with its calls: for AVX-512 those that test and decode.
+# Each build with the calls that it has. The one for AVX-512 has those that check and decode.
 BUILDS = {"v2": CALLS, "v3": CALLS, "v4": [it for it in CALLS if it.startswith(("check", "decode"))]}
 MOST = 128
-# What the code that is executed is made of.
+# The sources of the machine code.
 SOURCES = [f"generated/x86-64-{it}.s" for it in BUILDS] + """generated/builds.S generated/elf.inc
     crates/faster_hex_c/dispatch.c crates/faster_hex_c/assembly.h crates/faster_hex_c/faster_hex.h""".split()
-# What shows it, too: a change there wants a new record.
+# The sources of this tool are among them, because a change of the tool needs a new record.
 SOURCES += sorted(f"tests/machine/{it.name}" for it in Path(__file__).parent.glob("*.py"))
 
 
@@ -32,7 +34,8 @@ def sums():
 
 
 def lengths_of(call, most):
-    """The lengths of a source of up to so many decoded bytes; fewer for the search, which each decoding does too."""
+    """The lengths of a source that stands for at most so many bytes. For the search they end earlier, because each call
+    that decodes contains the search."""
     return range({"encode": most, "first_invalid": most // 2}.get(call, 2 * most) + 1)
 
 

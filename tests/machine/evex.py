@@ -1,5 +1,6 @@
-"""The instructions of AVX-512, which begin with the prefix EVEX of four bytes: Debian's Capstone does not know all of
-them. Those with a mask, a rounding or a register above 15 are refused, as is what does not stand in the table."""
+"""Reads the instructions of AVX-512, which begin with a prefix of four bytes, EVEX. Debian's Capstone does not know all
+of them. An instruction that is not in the table is refused, and so is one with a mask, a rounding or a register above
+15."""
 from dataclasses import dataclass
 
 from capstone.x86 import X86_OP_IMM, X86_OP_MEM, X86_OP_REG
@@ -7,12 +8,13 @@ from capstone.x86 import X86_OP_IMM, X86_OP_MEM, X86_OP_REG
 from . import Refused
 
 PREFIX = 0x62
-# A line has, in this order: the name; the prefix and the map of the opcode; the bit W, where `-` is either; the opcode,
-# and after a slash the number that stands in place of r; the operands; the bytes that m has in memory; and, if m may be
-# one lane there that is taken for all lanes, the bytes of that lane.
+# The columns of a line are: the name; the prefix and the map of the opcode; the bit W, where `-` means either value;
+# the opcode, with a slash and a number if the field of r extends the opcode; the operands; how many bytes m has in
+# memory; and, if m may be one lane in memory that is repeated for all lanes, the bytes of that lane.
 #
-# An operand is a letter. The byte after the opcode names the vectors r and m, of which m may stand in memory instead; the
-# prefix names the vector v. A k is a mask in place of r, a g a register of the processor in place of m, an i a number.
+# An operand is a letter. The byte after the opcode names the vectors r and m, and m may be in memory instead. The
+# prefix names the vector v. The letter k is a mask register in place of r, g is a general register in place of m, and i
+# is a number.
 LINES = """
 paddb       66 0F   - FC   rvm  whole
 paddusb     66 0F   - DC   rvm  whole
@@ -47,7 +49,8 @@ inserti64x4 66 0F3A 1 3A   rvmi 32
 PREFIXES, MAPS = ["", "66", "F3", "F2"], ["", "0F", "0F38", "0F3A"]
 VECTORS = {16: "xmm", 32: "ymm", 64: "zmm"}
 PROCESSORS = "eax ecx edx ebx esp ebp esi edi".split() + [f"r{at}d" for at in range(8, 16)]
-# What Capstone reads in place of prefix and opcode is vmovdqu from m, after the bits that extend registers.
+# To have Capstone read the operand m, the prefix and the opcode are replaced by those of vmovdqu. The bits that extend
+# the numbers of registers are kept.
 REGISTERS, MOVE = 0xe0, bytes([0x7e, 0x6f])
 
 
@@ -61,7 +64,7 @@ class Form:
     lane: int
 
     def bytes_of_memory(self, width, is_lane):
-        """How many bytes m has in memory, in an instruction of vectors of so many bytes."""
+        """How many bytes m has in memory, if the vectors of the instruction have so many bytes."""
         if is_lane:
             return self.lane
         return {"whole": width, "half": width // 2}.get(self.size) or int(self.size)
@@ -69,7 +72,7 @@ class Form:
 
 @dataclass
 class Operand:
-    """As Capstone has it, but that a register goes by its name."""
+    """An operand with the fields that Capstone gives, except that a register is given by its name."""
     type: int
     size: int
     reg: str = ""
@@ -80,7 +83,7 @@ class Operand:
 
 @dataclass
 class Instruction:
-    """As Capstone has it."""
+    """An instruction with the fields that Capstone gives."""
     mnemonic: str
     op_str: str
     address: int
@@ -89,12 +92,12 @@ class Instruction:
     reader: object
 
     def reg_name(self, it):
-        """The name of a register, or of one that an address takes."""
+        """The name of a register: of an operand, or of one in an address, which has a number of Capstone."""
         return it if isinstance(it, str) else self.reader.reg_name(it)
 
 
 def forms():
-    """The lines by prefix, map, bit W and opcode."""
+    """The lines of the table, by prefix, map, bit W and opcode."""
     found = {}
     for line in LINES.strip().splitlines():
         name, prefix, map_, wide, opcode, operands, size, *lane = line.split()
@@ -110,7 +113,7 @@ FORMS = forms()
 
 
 def form_of(first, second, opcode, modrm):
-    """The line that fits."""
+    """The line of the table for an opcode."""
     lines = FORMS.get((second & 3, first & 7, second >> 7, opcode), [])
     fitting = [it for it in lines if it.extension in ("", str(modrm >> 3 & 7))]
     if not fitting:
@@ -119,8 +122,8 @@ def form_of(first, second, opcode, modrm):
 
 
 def memory(reader, first, place, size):
-    """The operand in memory, as Capstone reads it of the move, and how many bytes it is written in. A distance of one
-    byte counts in sizes of the operand."""
+    """The operand in memory, as Capstone reads it in a vmovdqu, and how many bytes of the instruction encode it. With
+    EVEX a distance of one byte counts in sizes of the operand."""
     modrm, has_sib, taken = place[0], place[0] & 7 == 4, 0
     begin, distance = place[:1 + has_sib], place[1 + has_sib:]
     if modrm >> 6 == 1:
@@ -144,7 +147,7 @@ class Code:
 
     @property
     def width(self):
-        """Of its vectors, in bytes."""
+        """The bytes of a vector."""
         return 16 << (self.third >> 5 & 3)
 
     @property
@@ -153,11 +156,11 @@ class Code:
 
     @property
     def has_lane(self):
-        """Whether m is a lane in memory, or else that there is a rounding."""
+        """Whether m is one lane in memory. If m is a register, the same bit means a rounding."""
         return bool(self.third & 0x10)
 
     def number(self, kind):
-        """Of a register. A bit that is not set in the prefix adds eight."""
+        """The number of a register. The bits in the prefix that extend it are inverted."""
         if kind == "v":
             return 15 - (self.second >> 3 & 15)
         if kind in "rk":
@@ -165,7 +168,7 @@ class Code:
         return (self.modrm & 7) + 8 * (not self.first & 0x20)
 
     def check(self, form):
-        """Refuses what the model has not, and what a processor refuses."""
+        """Refuses what is not modelled, and what a processor would refuse."""
         if self.first & 0x18 != 0x10 or not self.second & 4 or self.third & 0x8f != 8 or self.width > 64:
             raise Refused("a mask, or a register that is not known")
         if not self.is_memory and (self.has_lane or not self.first & 0x40):
@@ -179,7 +182,8 @@ class Code:
 
 
 def operand(kind, code, size, place, number):
-    """An operand of some kind; m has so many bytes, or stands at a place in memory."""
+    """The operand that a letter of the table stands for. `size` is the size of m, and `place` its address if it is in
+    memory."""
     if kind == "i":
         return Operand(X86_OP_IMM, 1, imm=number)
     if kind == "m" and code.is_memory:
@@ -193,7 +197,7 @@ def operand(kind, code, size, place, number):
 
 
 def instruction(reader, given, at):
-    """What some bytes begin with, which stand at an address, and the address after it."""
+    """The instruction that some bytes at an address begin with, and the address after it."""
     whole = given.ljust(15, b"\0")
     code = Code(*whole[1:6])
     form = form_of(code.first, code.second, code.opcode, code.modrm)

@@ -1,8 +1,8 @@
-"""Executes a call: all its paths, over a source of one length and unknown bytes.
+"""Symbolic execution of a call: every path is followed, for a source of one length whose bytes are unknown.
 
-The memory is the source, what the call writes of the destination, the frame and constants; any other access is an
-error. A branch on the bytes may only ask whether some digits of the source are all valid, which Z3 says of its
-condition. An address may depend on a byte only once some digit is known not to be valid."""
+A path may access the source, the part of the destination that the call writes, the stack frame, and constants. Any
+other access is refused. A branch may depend on the bytes only if its condition says whether some bytes of the source
+are all valid digits, which Z3 decides. An address may depend on a byte only after some byte is known to be no digit."""
 import copy
 import functools
 
@@ -15,28 +15,40 @@ from .values import MADE, X, Value, apply, bytes_of, constant, is_proved, joined
 
 SOURCE, DESTINATION, STACK = BASES = [Value(z3.BitVec(it, 64)) for it in ("source", "destination", "stack")]
 RED_ZONE, FRAME, RETURN, NONE = 128, 4096, unknown("return", 8), constant(0, 8)
-below, above = lambda it: it - 8, lambda it: it + 8
-address_of = lambda base, index, scale, distance: base + index * scale + distance
-# The register that a name stands for, and how many bytes of it.
+# The names of each register, for 8, 4, 2 and 1 of its bytes.
 NAMED = [[f"r{at}{end}" for end in ("", "d", "w", "b")] for at in range(8, 16)]
 NAMED += [["r" + it, "e" + it, it, it.strip("x") + "l"] for it in ("ax", "cx", "dx", "bx", "sp", "bp", "si", "di")]
 KEPT = "rbx", "rbp", "r12", "r13", "r14", "r15"
 BEFORE = {it[0]: unknown(it[0], 8) for it in NAMED} | {"rsp": STACK}
 VECTOR = 64
 VECTORS = [bytes_of(unknown(f"vector {it}", VECTOR)) for it in range(16)]
+# By each name, the register and how many of its bytes it means.
 REGISTERS = {name: (it[0], size) for it in NAMED for name, size in zip(it, (8, 4, 2, 1))}
 
 
+def below(address):
+    return address - 8
+
+
+def above(address):
+    return address + 8
+
+
+def address_of(base, index, scale, distance):
+    return base + index * scale + distance
+
+
 class State:
-    """Registers, flags and memory on a path, and what the path says."""
+    """Registers, flags and memory at a place of a path, and what is known because the path was taken."""
 
     def __init__(self, at):
         self.at, self.flags = at, dict.fromkeys("czso")
         self.registers, self.vectors = {**BEFORE}, [[*it] for it in VECTORS]
-        # Of each mask register that was written its 64 bits.
+        # The 64 bits of each mask register that was written.
         self.masks = {}
         self.stack, self.written = dict(enumerate(bytes_of(RETURN))), {}
-        # What is known of addresses and the room; digits that are valid; digits of which one is not; how many tests.
+        # Conditions on addresses and the room that hold; the bytes that are valid digits; sets of bytes of which at
+        # least one is no digit; and the number of branches on the bytes.
         self.facts, self.valid, self.refused, self.tests = (), frozenset(), (), 0
 
     def copy(self):
@@ -47,7 +59,7 @@ class State:
 
 
 def conjuncts(term, is_negated=False):
-    """What a condition says, one by one."""
+    """The conjuncts of a condition, or of its negation."""
     if z3.is_not(term):
         yield from conjuncts(term.arg(0), not is_negated)
     elif (z3.is_or if is_negated else z3.is_and)(term):
@@ -62,9 +74,15 @@ def digit_at(at, policy):
     return hexadecimal.is_digit(X[at], policy)
 
 
+def differs_from_digits(term, count, policy):
+    """A list of one condition: a term is not equivalent to `each of the first so many bytes is a valid digit`."""
+    return [term != z3.And(*[digit_at(at, policy) for at in range(count)])]
+
+
 def validity(term, policy):
-    """The bytes that a condition says to be valid digits, all of them and no more, and whether it says so if it holds
-    or if not. Z3 is asked about what it says of the same bytes."""
+    """Finds the set of bytes for which a condition is equivalent to `all of them are valid digits`, and returns it with
+    True. If the negation of the condition is equivalent to that, it returns the set with False. If neither is, it
+    returns no bytes with None. The conjuncts on the same bytes are given to Z3 together."""
     ways = [(list(conjuncts(term, not sign)), sign) for sign in (True, False)]
     for terms, sign in sorted(ways, key=lambda it: -len(it[0])):
         said = {}
@@ -72,8 +90,7 @@ def validity(term, policy):
             said.setdefault(places, []).append(it)
         for places, it in said.items():
             it, count = z3.simplify(z3.And(*it)), len(places)
-            differs = lambda: [it != z3.And(*[digit_at(at, policy) for at in range(count)])]
-            if not is_proved((it.get_id(), count, policy), differs):
+            if not is_proved((it.get_id(), count, policy), functools.partial(differs_from_digits, it, count, policy)):
                 break
         else:
             return {at for places in said for at in places}, sign
@@ -81,7 +98,7 @@ def validity(term, policy):
 
 
 class Machine:
-    """A call's execution. Under a policy the source holds digits; without one it holds bytes."""
+    """The execution of a call. If there is a policy, the source is digits. If there is none, it is bytes to encode."""
 
     def __init__(self, image, length, writes, policy, facts):
         self.image, self.writes, self.policy, self.facts = image, writes, policy, facts
@@ -90,7 +107,7 @@ class Machine:
         self.left = []
 
     def run(self, state):
-        """All states in which the call returns."""
+        """The states at the ends of all paths, where the call has returned."""
         ended, self.left = [], [state]
         while self.left:
             ended.append(self.left.pop())
@@ -99,7 +116,7 @@ class Machine:
         return ended
 
     def advances(self, state):
-        """Executes an instruction; false where the call has returned."""
+        """Executes an instruction. Returns False if the call has returned."""
         read, state.at = self.image.instruction(state.at)
         step, name = Step(self, state, read), read.mnemonic.split()[-1]
         try:
@@ -121,7 +138,8 @@ class Machine:
         return True
 
     def returns(self, state, to):
-        """Goes back to a caller, or ends the call."""
+        """Returns to a function that the call called, or ends the call. At the end it checks the registers that a call
+        must restore."""
         if to.number is not None:
             state.at = to.number
             return True
@@ -132,22 +150,29 @@ class Machine:
         return False
 
     def outcomes(self, state, asked):
-        """The states that a condition leads to, of which the first is this one, and whether it holds there."""
+        """The states after a condition was tested, each with whether it holds there. The first one is this state."""
         if z3.is_true(asked.term) or z3.is_false(asked.term):
             return [(state, z3.is_true(asked.term))]
         return self.of_bytes(state, asked) if asked.of else self.of_public(state, asked)
 
+    def is_never(self, state, asked):
+        """Whether a condition on public values cannot hold together with what is known of them."""
+        facts = *self.facts, *state.facts, asked
+        return is_proved(tuple([it.id for it in facts]), lambda: [it.term for it in facts])
+
     def of_public(self, state, asked):
-        facts, opposite = (*self.facts, *state.facts), apply(z3.Not, asked)
-        key = tuple(fact.id for fact in facts)
-        is_never = lambda it: is_proved((*key, it.id), lambda: [fact.term for fact in (*facts, it)])
-        if is_never(opposite) or is_never(asked):
-            return [(state, is_never(opposite))]
+        """For a condition on public values, which do not depend on the bytes: addresses, the room and the policy."""
+        opposite = apply(z3.Not, asked)
+        if self.is_never(state, opposite):
+            return [(state, True)]
+        if self.is_never(state, asked):
+            return [(state, False)]
         other = state.copy()
         state.facts, other.facts = (*state.facts, asked), (*state.facts, opposite)
         return [(state, True), (other, False)]
 
     def of_bytes(self, state, asked):
+        """For a condition on the bytes."""
         digits, sign = self.asked(asked)
         if digits <= state.valid:
             return [(state, sign)]
@@ -159,7 +184,8 @@ class Machine:
         return [(state, sign), (other, not sign)]
 
     def asked(self, asked):
-        """The digits that are all valid if a condition holds, or if it does not, and only then."""
+        """The bytes that are all valid digits exactly if a condition holds, with True, or exactly if it does not hold,
+        with False."""
         key = "asked", asked.id, self.policy
         if key not in MADE:
             MADE[key] = validity(asked.term, self.policy) if self.policy is not None else ((), None), asked
@@ -174,7 +200,8 @@ class Machine:
         return [holds for _, holds in self.outcomes(state.copy(), asked)] == [True]
 
     def place(self, address):
-        """The region of an address and how far from its beginning; without a region a constant's address."""
+        """The region that an address is in, as its first address, and the distance from there. For an address that is a
+        number, as that of a constant, it is None and the number."""
         if address.of:
             raise Refused("an address depends on the bytes")
         key = "place", address.id
@@ -186,17 +213,19 @@ class Machine:
         return MADE[key][0][0]
 
     def end_of(self, state):
-        """Where the frame ends, from where the stack began."""
+        """Where the frame ends, as a distance from the stack pointer at the beginning. It includes the red zone."""
         return self.place(state.registers["rsp"])[1] - RED_ZONE
 
     def lowers(self, state):
-        """The stack pointer stays in a frame of a page, and what is below the frame is lost: a signal may write there."""
+        """After a change of the stack pointer: it must be in a frame of at most a page. The bytes below the red zone are
+        forgotten, because a signal handler may write there."""
         base, at = self.place(state.registers["rsp"])
         if base is not STACK or not -FRAME <= at <= 8:
             raise Refused("the stack pointer leaves the frame")
         state.stack = {it: value for it, value in state.stack.items() if it >= at - RED_ZONE}
 
     def load(self, state, address, size):
+        """The bytes at an address that the call may read."""
         if address.of and state.refused and size == 1:
             return [self.looked_up(address)]
         base, at = self.place(address)
@@ -210,17 +239,21 @@ class Machine:
         return found
 
     def looked_up(self, address):
-        """What stands at an address that depends on one byte, in a table of constants."""
+        """The byte at an address that depends on one byte, in a table of constants: it is read for all 256 of them."""
         if address.id not in self.image.tables:
             places = [z3.simplify(z3.substitute(address.term, (X[0], z3.BitVecVal(it, 8)))) for it in range(256)]
             found = [self.image.bytes_at(it.as_long(), 1) if z3.is_bv_value(it) else None for it in places]
             if len(address.of) != 1 or None in found:
                 raise Refused("an address depends on the bytes")
-            choose = lambda rest, it: z3.If(X[0] == it, z3.BitVecVal(found[it][0], 8), rest)
-            self.image.tables[address.id] = z3.simplify(functools.reduce(choose, range(256), X[0])), address
+            term = X[0]
+            for it in range(256):
+                term = z3.If(X[0] == it, z3.BitVecVal(found[it][0], 8), term)
+            self.image.tables[address.id] = z3.simplify(term), address
         return Value(self.image.tables[address.id][0], address.of)
 
     def store(self, state, address, values):
+        """Stores bytes in the frame or in the destination. In the destination of a call that decodes, this is refused
+        until all digits are known to be valid."""
         base, at = self.place(address)
         low, high, memory = 0, self.writes if base is DESTINATION else 0, state.written
         if base is STACK:
@@ -233,7 +266,8 @@ class Machine:
 
 
 class Step:
-    """An instruction and the state that executes it. Operands go by their places."""
+    """An instruction and the state that executes it. An operand is named by its place among the operands, as Intel
+    orders them: the one that is written comes first."""
 
     def __init__(self, machine, state, instruction):
         self.machine, self.state, self.instruction = machine, state, instruction
@@ -252,7 +286,7 @@ class Step:
         return self.operands[at].imm
 
     def vector(self, at):
-        """A vector register, if it is one."""
+        """The bytes of an operand if it is a vector register, otherwise None."""
         name = self.register(self.operands[at].reg) if self.operands[at].type == X86_OP_REG else ""
         return self.state.vectors[int(name[3:])] if name[:3] in ("xmm", "ymm", "zmm") else None
 
@@ -268,8 +302,8 @@ class Step:
         return self.size(0 if self.vector(0) else 1)
 
     def condition(self, name):
-        """What a condition says of the flags. What hangs on the public alone is known, on this path and on another one,
-        which comes back to this instruction."""
+        """Whether a condition on the flags holds, as a Value. If it does not depend on the bytes, it is known: this
+        path takes one of the outcomes, and if there is another one, another path executes this instruction again."""
         said = condition(self.state.flags, name)
         if said.of:
             return said
@@ -280,6 +314,7 @@ class Step:
         return Value(z3.BoolVal(holds))
 
     def address(self, at):
+        """The address of an operand in memory."""
         it = self.operands[at].mem
         if it.segment:
             raise Refused("a segment")
@@ -301,7 +336,8 @@ class Step:
         return whole[:count]
 
     def write(self, values):
-        """Writes the first operand. What is above becomes zero in a vector, by AVX, and in four bytes of a register."""
+        """Writes the first operand. In a register the bytes above become zero if four bytes are written, in a vector if
+        the instruction is of AVX. Otherwise they are kept."""
         if self.operands[0].type == X86_OP_MEM:
             self.is_aligned(0, len(values))
             self.machine.store(self.state, self.address(0), values)
@@ -323,15 +359,17 @@ class Step:
         self.write(bytes_of(value))
 
     def sources(self):
-        """The two vectors that an instruction takes: AVX names them after the one that it writes."""
+        """The two vectors that an instruction combines. With AVX they come after the one that is written. With SSE the
+        first of them is written."""
         return self.bytes(self.is_vex, self.width), self.bytes(1 + self.is_vex, self.width)
 
     def is_aligned(self, at, count):
-        """What movdqa and SSE ask of whole vectors. The stack begins 8 bytes beyond such a place."""
+        """Refuses an address that is not known to be aligned, where the instruction requires this: SSE and movdqa do,
+        for whole vectors. At the beginning the stack pointer is 8 bytes above an aligned address."""
         is_asked = self.name.startswith("movdqa") or not self.is_vex and self.name not in ("movdqu", "movups")
         if count >= 16 and is_asked:
             base, distance = self.machine.place(self.address(at))
-            # Of the stack's alignment no more is known than 16 bytes.
+            # The stack is known to be aligned to 16 bytes, and to no more.
             is_known = base is None or base is STACK and count == 16
             if not is_known or (distance + 8 * (base is STACK)) % count:
                 raise Refused("not aligned")

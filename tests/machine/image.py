@@ -1,4 +1,4 @@
-"""The library as a linker lays it: its bytes, symbols and instructions."""
+"""The linked library: its bytes, symbols and instructions."""
 import re
 import subprocess
 
@@ -8,35 +8,37 @@ from . import Refused, evex
 
 PREFIXES = b"\x66\x67\xf2\xf3\xf0\x2e\x36\x3e\x26\x64\x65"
 VEX, LOCK = b"\xc4\xc5", 0xf0
-# What the prefix 66 makes another thing of in Capstone than on some processors.
+# Instructions for which Capstone and some processors read the prefix 66 differently.
 NEVER_SHORT = "j", "call", "ret", "push", "pop"
 
 
 def linked(made, *objects):
-    """The file of all that stands in these objects or archives."""
+    """Links all of these objects or archives, and returns the file."""
     subprocess.run(["ld", "-static", "-e", "0", "--whole-archive", "-o", made, *objects], check=True)
     return made
 
 
 class Image:
-    """A linked file. `level` is what the library's constructor found, by which the calls choose their build."""
+    """A linked file. `level` is the number that the library's constructor has stored, by which a call chooses its
+    build."""
 
     def __init__(self, path, level=None):
-        said = lambda *words: subprocess.run([*words, path], stdout=subprocess.PIPE, text=True, check=True).stdout
-        self.symbols = {name: int(at, 16) for at, _, name in map(str.split, said("nm").splitlines())}
+        symbols, sections = (subprocess.run([*words, path], stdout=subprocess.PIPE, text=True, check=True).stdout
+                             for words in (["nm"], ["readelf", "-SW"]))
+        self.symbols = {name: int(at, 16) for at, _, name in map(str.split, symbols.splitlines())}
         data, self.sections = path.read_bytes(), []
-        for *numbers, flags in re.findall(r"PROGBITS +(\w+) (\w+) (\w+) \w+ +(\w+)", said("readelf", "-SW")):
+        for *numbers, flags in re.findall(r"PROGBITS +(\w+) (\w+) (\w+) \w+ +(\w+)", sections):
             at, begin, size = (int(it, 16) for it in numbers)
             is_constant = "A" in flags and "W" not in flags
             self.sections += [(at, data[begin:begin + size], "X" in flags)] if is_constant else []
         self.level = {} if level is None else {self.symbols["level"]: bytes([level])}
         self.reader = capstone.Cs(capstone.CS_ARCH_X86, capstone.CS_MODE_64)
         self.reader.detail = True
-        # Instructions, and tables by the addresses that stand in them.
+        # The instructions that were read, by address, and the terms of table look-ups, by the number of their address.
         self.read, self.tables = {}, {}
 
     def bytes_at(self, at, size, is_code=False):
-        """What nobody changes, or the level; None elsewhere."""
+        """The bytes at an address if they are constant or the level, otherwise None."""
         for start, data, runs in self.sections:
             if start <= at and at + size <= start + len(data) and runs >= is_code:
                 return data[at - start:at - start + size]
@@ -50,7 +52,8 @@ class Image:
         return self.read[at]
 
     def decoded(self, code, at):
-        """Capstone 4 knows no nop with two prefixes, and not vbroadcasti128 but vbroadcastf128, which does the same."""
+        """Reads an instruction. Capstone 4 does not know a nop with two prefixes, so they are skipped. It does not know
+        vbroadcasti128 either, so it is given vbroadcastf128, which does the same."""
         if code and code[0] == evex.PREFIX:
             try:
                 return evex.instruction(self.reader, code, at)
@@ -63,7 +66,7 @@ class Image:
         code, at = code[skipped:], at + skipped
         found = next(self.reader.disasm(code, at, 1), None)
         rest = code.lstrip(PREFIXES)
-        # Of two prefixes Capstone and processors take different ones. Before EVEX there may be none.
+        # If there are two prefixes, Capstone and processors use different ones. Before EVEX there must be none.
         if found is None or len(code) - len(rest) > 1 or rest[0] == evex.PREFIX:
             raise Refused(f"no instruction at {at:#x}")
         # Processors refuse most of these, and Capstone does not.

@@ -1,4 +1,5 @@
-"""What is shown of the calls of faster_hex.h and of those for Rust, of one length."""
+"""What must hold of a call of faster_hex.h, or of a call for Rust, for a source of one length. The call is executed
+symbolically, and the state at the end of each path is compared with the definitions of hexadecimal.py."""
 import operator
 
 import z3
@@ -8,52 +9,62 @@ from .execution import DESTINATION, SOURCE, Machine, State, digit_at
 from .values import X, Value, apply, bytes_of, constant, is_proved, joined, unknown
 
 DONE, ODD_LENGTH, TOO_SMALL, INVALID, _, UNKNOWN_POLICY = range(6)
-OTHER = 3   # Any policy that is none.
+# Stands for every number that is no policy.
+OTHER = 3
+# The registers of the arguments, in their order.
 REGISTERS = "rdi", "rsi", "rdx", "rcx", "r8"
 CALLS = {
     "check": "source length", "check_with_case": "source length policy", "first_invalid": "source length policy",
     "encode": "source length destination room upper", "decode": "source length destination room",
     "decode_with_case": "source length destination room policy",
 }
-# What Rust calls beside, with its policy.
+# Calls that only Rust has, each with its policy.
 POLICIES = {"check_lower": 1, "check_upper": 2}
 CALLS |= dict.fromkeys(POLICIES, "source length")
 ROOM, POLICY = Value(z3.BitVec("room", 64)), Value(z3.BitVec("policy", 8))
-# A pointer to so many bytes may be null if they are none, and does not wrap.
-is_there = lambda pointer, length: z3.And(z3.Or(pointer != 0, length == 0), z3.ULE(pointer, ~length))
-is_other = lambda policy: z3.UGT(policy, hexadecimal.UPPERCASE)
+
+
+def is_valid_pointer(pointer, length):
+    """Whether a pointer to so many bytes may be passed: it is null only for no bytes, and the bytes do not go beyond
+    the last address."""
+    return z3.And(z3.Or(pointer != 0, length == 0), z3.ULE(pointer, ~length))
+
+
+def is_no_policy(policy):
+    return z3.UGT(policy, hexadecimal.UPPERCASE)
 
 
 class Shown:
-    """A call of one length, with any room, under a policy or in a case of letters: refused, or shown."""
+    """The check of a call for one length and any room, under one policy, or for one case of letters. To make it is to
+    check it: if something does not hold, Refused is raised."""
 
     def __init__(self, image, build, call, length, policy, is_upper):
         self.call, self.length, self.policy, self.is_upper = call, length, policy, is_upper
         self.is_encoding, self.has_room = call == "encode", "room" in CALLS[call]
         self.writes = 2 * length if self.is_encoding else length // 2 if call.startswith("decode") else 0
-        facts = apply(is_there, SOURCE, constant(length, 8)), apply(is_there, DESTINATION, ROOM)
-        self.machine = Machine(image, length, self.writes, None if self.is_encoding else policy % OTHER,
-                               (*facts, apply(is_other, POLICY)))
+        facts = (apply(is_valid_pointer, SOURCE, constant(length, 8)), apply(is_valid_pointer, DESTINATION, ROOM),
+                 apply(is_no_policy, POLICY))
+        self.machine = Machine(image, length, self.writes, None if self.is_encoding else policy % OTHER, facts)
         of_build = (it for it in image.symbols if it.endswith(f"x86_64_{build}_{call}"))
         state = State(image.symbols.get(f"faster_hex_{call}") or image.symbols[next(of_build)])
         state.registers.update(zip(REGISTERS, map(self.argument, CALLS[call].split())))
         self.ends = self.machine.run(state)
         for it in self.ends:
             self.check(it)
-        # Branches on the bytes where no digit is invalid.
+        # The most branches on the bytes, on a path where all digits are valid.
         self.tests = max(it.tests for it in self.ends if not it.refused)
         if self.tests > (call == "first_invalid" or call.startswith("decode")):
             raise Refused("branches on valid digits more often than it may")
 
     def argument(self, word):
-        """What stands in the register of an argument; above a byte anything."""
+        """The register of an argument. If the argument is one byte, the other bytes of the register are unknown."""
         policy = POLICY if self.policy == OTHER else constant(self.policy, 1)
         byte = {"upper": constant(int(self.is_upper), 1), "policy": policy}.get(word)
         known = {"source": SOURCE, "destination": DESTINATION, "room": ROOM, "length": constant(self.length, 8)}
         return joined([byte, unknown("above an argument", 7)]) if byte else known[word]
 
     def expected(self, state):
-        """The status, the number and the byte that the definitions give on a path."""
+        """The status, the number and the byte that the definitions give at the end of a path."""
         if self.policy == OTHER:
             return UNKNOWN_POLICY, 0, constant(0, 1)
         if self.call.startswith("decode") and self.length % 2:
@@ -65,12 +76,14 @@ class Shown:
             raise Refused("does not look at the room")
         if not state.refused:
             return DONE, self.writes, constant(0, 1)
-        # The first digit that is not known to be valid must be known to be invalid, where that is reported.
+        # The call may report a byte as the first invalid one only if the path knows two things: that all bytes before
+        # it are valid digits, and that it is not.
         at = next(at for at, it in self.machine.source.items() if it.of[0] not in state.valid)
         is_first = any(it - state.valid == {self.machine.source[at].of[0]} for it in state.refused)
         return INVALID, at if is_first else None, self.machine.source[at]
 
     def check(self, state):
+        """Compares the end of a path with the definitions."""
         status, number, byte = self.expected(state)
         if len(state.written) != (self.writes if status == DONE else 0):
             raise Refused("writes too much or too little")
@@ -82,7 +95,7 @@ class Shown:
             self.check_byte(at, it)
 
     def check_answer(self, state, status, number, byte):
-        """A record: the number in rax, the status and the byte in rdx."""
+        """Compares a struct: the number is in rax, the status and the byte are in rdx."""
         rdx = bytes_of(state.registers["rdx"])
         reported = state.registers["rax"].number, rdx[0].number
         if number is None or reported != (number, status) or not rdx[1].is_same(byte):
@@ -91,7 +104,7 @@ class Shown:
             raise Refused("does not look at all digits")
 
     def check_bool(self, state, status):
-        """True exactly if all digits are valid."""
+        """Checks that the result is true exactly if all digits are valid."""
         al = bytes_of(state.registers["rax"])[0]
         is_true, is_false = (apply(operator.eq, al, constant(it, 1)) for it in (1, 0))
         if not apply(z3.Not, is_true).is_same(is_false):
@@ -104,7 +117,7 @@ class Shown:
             raise Refused("answers wrongly")
 
     def check_byte(self, at, value):
-        """A byte of the list, or one of the two digits of a byte."""
+        """Checks a byte that was written: one that two digits stand for, or one of the two digits of a byte."""
         names = [self.machine.source[it].of[0] for it in ([at // 2] if self.is_encoding else (2 * at, 2 * at + 1))]
         if sorted(value.of) != sorted(names):
             raise Refused(f"what is written at {at} depends on {value.of}")
@@ -114,7 +127,8 @@ class Shown:
             raise Refused(f"what is written at {at} is wrong")
 
     def differs(self, term, places, digit):
-        """That a byte is not what the definitions give, where the digits are valid."""
+        """Conditions that hold together only if a byte is not what the definitions give although the digits are
+        valid."""
         given = [X[it] for it in places]
         if self.is_encoding:
             return [term != hexadecimal.digits_of(*given, self.is_upper)[digit]]
@@ -129,7 +143,8 @@ class Shown:
 
 
 def shown(image, build, call, length):
-    """A call of one length under each policy, and under any that is none, or in both cases of letters."""
+    """Checks a call for one length: under each policy and for all numbers that are none, or for both cases of
+    letters."""
     for policy in range(OTHER + 1) if "policy" in CALLS[call] else [POLICIES.get(call, 0)]:
         for is_upper in (False, True) if "upper" in CALLS[call] else (False,):
             yield Shown(image, build, call, length, policy, is_upper)

@@ -1,24 +1,26 @@
-"""What registers and memory hold: terms of Z3 over bytes that are not known.
+"""The values in registers and memory: terms of Z3 over unknown bytes.
 
-A term speaks of byte0, byte1, and so on, and the value beside it names these bytes. What a call does to its first
-digit and to its last is so one term, which is made, simplified and proved once. A value that names no byte is public:
-an address or the room may stand in it."""
+A term has the variables byte0, byte1, and so on. Its Value says which bytes of the source these are. So what a call
+does to its first digit and what it does to its last one are the same term, which is built, simplified and proved only
+once. A value without such bytes is public: it may depend on addresses or on the room, but not on the source."""
 import functools
 import re
 
 import z3
 
 X = [z3.BitVec(f"byte{at}", 8) for at in range(4096)]
-# A term of more bytes is taken to need all of them.
+# For a term with more bytes than this, it is not examined which of them it really needs.
 FEW = 32
-# Which bytes a term has is read off its text, which Z3 writes fast in this form.
+# The bytes of a term are found in its text, which Z3 prints fastest in this form.
 z3.z3core.Z3_set_ast_print_mode(z3.main_ctx().ref(), z3.Z3_PRINT_LOW_LEVEL)
-# What was made and proved. Terms that are kept here keep their numbers in Z3.
+# The terms that were built, and the answers of Z3. They are keyed by Z3's numbers of terms. A number stays valid while
+# its term is kept, so the operands are kept too.
 MADE, ANSWERS = {}, {}
 
 
 class Value:
-    """A term, its number in Z3, and the names of its bytes in their order; its parts, or what it is a part of."""
+    """A term with its number in Z3 and the names of its bytes, in the order of its variables. `parts` are its bytes if
+    they were taken, and `whole` is the value that it is a part of."""
     __slots__ = "term", "of", "id", "parts", "whole"
 
     def __init__(self, term, of=()):
@@ -26,21 +28,34 @@ class Value:
 
     @property
     def number(self):
-        """The number, if it is one."""
+        """The number that this is, or None if it is not known."""
         return self.term.as_long() if not self.of and z3.is_bv_value(self.term) else None
 
     def is_same(self, other):
         return (self.id, self.of) == (other.id, other.of)
 
 
-constant = functools.lru_cache(None)(lambda number, size: Value(z3.BitVecVal(number, 8 * size)))
-concat = lambda *terms: z3.Concat(*reversed(terms)) if len(terms) > 1 else terms[0]
-# By its place, what cuts a byte out of a term.
-BYTES = [lambda term, at=at: z3.Extract(8 * at + 7, 8 * at, term) for at in range(64)]
+@functools.lru_cache(None)
+def constant(number, size):
+    """A number of so many bytes."""
+    return Value(z3.BitVecVal(number, 8 * size))
+
+
+def concat(*terms):
+    """One term of several, the lowest first."""
+    return z3.Concat(*reversed(terms)) if len(terms) > 1 else terms[0]
+
+
+def extract_byte(at, term):
+    return z3.Extract(8 * at + 7, 8 * at, term)
+
+
+# A function for each place of a byte, since terms are kept by their function.
+BYTES = [functools.partial(extract_byte, at) for at in range(64)]
 
 
 def unknown(name, size=1):
-    """So many bytes that are not known, the lowest first."""
+    """A value of so many unknown bytes, the lowest first."""
     return Value(concat(*X[:size]), tuple(f"{name} {at}" for at in range(size)))
 
 
@@ -50,7 +65,7 @@ def renamed(term, changes):
 
 
 def numbered(term):
-    """The term with its bytes numbered from 0 on, and which they were."""
+    """The term with its variables numbered from 0 on, and the numbers that they had."""
     used = tuple(sorted({int(it) for it in re.findall(r"byte(\d+)", term.sexpr())}))
     return renamed(term, zip(used, range(len(used)))), used
 
@@ -63,20 +78,19 @@ def made(function, operands, places):
 
 
 def apply(function, *operands):
-    """The value of a function of terms."""
+    """Applies a function of terms to values. The result is kept by the function, so this must be one that stays."""
     order, places = {}, []
     for it in operands:
         places.append(tuple([order.setdefault(name, len(order)) for name in it.of]))
     key = function, tuple([it.id for it in operands]), tuple(places)
     if key not in MADE:
-        # The operands are kept, since their numbers are.
         MADE[key] = made(function, operands, places), operands
     found, names = MADE[key][0], list(order)
     return Value(found.term, tuple([names[at] for at in found.of])) if found.of else found
 
 
 def bytes_of(value):
-    """The bytes of a value, the lowest first, each of which knows what it is a part of."""
+    """The bytes of a value, the lowest first. Each of them knows the value that it is a part of."""
     if value.parts is None:
         size = value.term.size() // 8
         value.parts = [apply(it, value) for it in BYTES[:size]] if size > 1 else [value]
@@ -94,7 +108,8 @@ def joined(values):
 
 
 def is_proved(key, conditions):
-    """Whether what a function gives never holds together. A new solver is faster than one that is used again."""
+    """Whether the conditions that a function returns can never hold together. The answer is kept by the key. Each
+    question has a new solver, which is faster than to use one again."""
     if key not in ANSWERS:
         solver, terms = z3.SolverFor("QF_BV"), conditions()
         solver.add(*terms)
@@ -103,5 +118,5 @@ def is_proved(key, conditions):
 
 
 def forget():
-    """Frees what was made. No value may be kept."""
+    """Frees all terms that were kept. No value may be used after this."""
     MADE.clear(), ANSWERS.clear()
