@@ -1,22 +1,45 @@
-# `make` builds out/libfaster_hex.a, out/libfaster_hex.so.1.0.0, out/fhex and out/fhex-stream from the assembly in
-# generated/, by a C compiler alone; `make lib`, `make fhex` and `make fhex-stream` one of them. TARGET=aarch64, or a
-# compiler for it, builds them for Linux on ARM in out/aarch64, one for Windows the archive, a DLL and both programs
-# in out/windows, and one for macOS the archive; any other, and TARGET=portable, the libraries in plain C. CC, CFLAGS,
-# CPPFLAGS, LDFLAGS and AR are taken, and other words than those of the last run build all anew. UNPROVED=yes builds
-# sources or assembly that were changed, and faster_hex_version then says so.
-# `make generate` proves the sources and writes generated/ anew. `make test` runs the examples, a quick part of
-# `make check`, if there is pytest, and the gate; `make check` all that the gate can't, the bindings beside a
-# checkout RUST of the Rust crate faster-hex 1.0.0; `make deep` what a release takes beside it; `make test-c` the
-# tests in C alone, by the command RUN if there is one. `make dist` packs the repository.
-# `make install PREFIX=DIR` puts what is built into DIR, the libraries into LIBDIR, both below DESTDIR, and
-# `make uninstall` takes the same files away. `make vendor DIR=DIR` copies the library for Rattle into the
-# repository at DIR, with JSON=no the crates that have no JSON. `make -s` prints nothing where all goes well.
+# Builds the library and the programs from the assembly in generated/. This needs only GNU make and a C compiler.
+#
+# To build and install:
+#   make                     the library and the programs, into out/
+#   make lib                 only the library: libfaster_hex.a and libfaster_hex.so
+#   make fhex                only the program fhex, and make fhex-stream only that one
+#   make install PREFIX=DIR  copies what was built into DIR. LIBDIR=DIR is for the libraries. DESTDIR=DIR is put
+#                            before both
+#   make uninstall           removes the same files, and takes the same variables
+#   make vendor DIR=DIR      copies the library for Rattle into the repository at DIR, with JSON=no only the crates
+#                            without JSON
+#   make dist                packs the repository
+#   make clean               removes everything that was built
+#
+# To test and to change:
+#   make test-c              the tests in C, and no other tool. RUN=COMMAND runs them, for instance under an emulator
+#   make test                proves all crates, runs their tests, tries the mutations that matter most, and runs the
+#                            examples and a quick part of make check. Without the Rattle toolchain it runs the tests
+#                            in C and that part of make check
+#   make check               runs all tests in tests/ by pytest, and leaves out those whose tools are not installed. With
+#                            RUST=DIR, a checkout of the Rust crate faster-hex 1.0.0, it compares the bindings with it
+#   make deep                make check, all mutations, proofs of the examples and the check of the machine code: run
+#                            it before a release
+#   make generate            proves the sources and writes generated/ again, with the Rattle toolchain
+#
+# Variables of a build. If one of them other than AR differs from the last build, everything is built again:
+#   CC, CFLAGS, CPPFLAGS, LDFLAGS, AR
+#                            the usual meaning. A compiler for another system builds for that system: for Linux on
+#                            aarch64 into out/aarch64, for Windows into out/windows, and for macOS only the archive
+#   TARGET=aarch64           builds for Linux on aarch64 with the compiler aarch64-linux-gnu-gcc
+#   TARGET=portable          builds the libraries in plain C, which is not proved. A processor or a system without
+#                            assembly gets the same
+#   UNPROVED=yes             builds also if the sources or the assembly were changed after the proof.
+#                            faster_hex_version then ends with +unproved
+#
+# With make -s nothing is printed if all goes well.
 VERSION = 1.0.0
 JSON = yes
 $(if $(filter-out yes no,$(JSON) $(UNPROVED)),$(error JSON=$(JSON) or UNPROVED=$(UNPROVED) is neither yes nor no))
 C = crates/faster_hex_c
-# By which words all in out/ was built. Where they differ it is built anew; `make install` and `make test` take
-# them where none is given.
+# The variables of the last build. If one of them differs, everything in out/ is built again. `make install`,
+# `make test` and `make test-c` use these values if none is given.
 BUILT = out/built
 WORDS = CC CPPFLAGS CFLAGS LDFLAGS TARGET UNPROVED
 TAKEN := $(if $(filter-out install test test-c,$(or $(MAKECMDGOALS),all))$(findstring command,$(foreach \
@@ -30,7 +53,7 @@ MACHINE := $(shell $(CC) -dumpmachine 2>/dev/null)
 PARTS := $(subst -, ,$(or $(MACHINE),$(or $(TARGET),$(shell uname -m))-linux))
 PROCESSOR := $(patsubst arm64,aarch64,$(patsubst amd64,x86_64,$(firstword $(PARTS))))
 PROCESSOR := $(if $(filter -m32,$(CC) $(CPPFLAGS) $(CFLAGS)),i386,$(PROCESSOR))
-# Where the assembly was tried.
+# The systems for which the assembly was tried.
 TRIED := $(if $(filter android%,$(PARTS)),,$(filter linux freebsd% netbsd% darwin% mingw%,$(PARTS)))
 ifeq ($(TARGET),)
 TARGET := $(if $(TRIED)$(filter-out x86_64 aarch64,$(PROCESSOR)),$(PROCESSOR),portable)
@@ -42,7 +65,7 @@ SYSTEM := $(if $(findstring mingw,$(MACHINE)),windows)$(if $(findstring apple,$(
 OUT = out$(addprefix /,$(SYSTEM))$(addprefix /,$(filter-out x86_64,$(TARGET)))
 OBJECTS = $(OUT)/builds.o $(OUT)/dispatch.o
 ARCHIVE = $(OUT)/libfaster_hex.a
-# Each is crates/fhex/fhex.c over the assembly of its name in generated/.
+# Each program is crates/fhex/fhex.c, linked with the assembly of its name in generated/.
 PROGRAMS = fhex fhex-stream
 MADE_PROGRAMS = $(if $(filter x86_64 aarch64 x86_64windows,$(TARGET)$(SYSTEM)),$(PROGRAMS:%=$(OUT)/%$(EXE)))
 ifeq ($(SYSTEM),)
@@ -58,23 +81,23 @@ EXE = .exe
 endif
 COMPILE = $(CC) $(CPPFLAGS) $(if $(filter portable,$(TARGET)),-DFASTER_HEX_PORTABLE) \
 	$(if $(filter yes,$(UNPROVED)),-DFASTER_HEX_UNPROVED)
-# No file is there half made for another make.
+# A file gets its name only when it is complete, so another make never sees half a file.
 MADE = $@.$$$$
 DONE = mv $(MADE) $@
 QUIET = $(if $(findstring s,$(firstword -$(MAKEFLAGS))),>/dev/null)
-# Debian calls pytest so.
+# Debian calls pytest pytest-3.
 PYTEST = $(shell command -v pytest-3 || command -v pytest)
 QUICK = @$(if $(PYTEST),grep -l mark.quick tests/test_*.py | xargs -P $(JOBS) -n 1 $(PYTEST) -q -m quick,\
 	echo 'there is no pytest: the quick part of make check is left out' >&2)
-# How many tasks of the gate run at a time. Each has one job, since a second one reads all libraries
-# once more: a crate over serde_json took 118 seconds of processor by four jobs, and 81 by one.
+# How many tasks of the gate run at the same time. Each task has one job, because every further job reads all libraries
+# again: a crate that uses serde_json took 118 seconds of processor time with four jobs, and 81 with one.
 JOBS = $(shell n=$$(nproc); echo $$((n < 4 ? n : 4)))
 
-# What a target says at its end: how long it took, and what it left out.
+# The last line of a target says how long it took and what it left out.
 BEGAN := $(shell date +%s)
 ENDED = @echo "make $@ took $$(($$(date +%s) - $(BEGAN))) s; left out: $(1)"
 
-# What runs beside another takes what processors there are.
+# Targets run one after the other, because each of them uses all processors.
 .NOTPARALLEL:
 CHECKED = check-generated $(PROGRAMS:%=check-generated/%)
 .PHONY: all lib $(PROGRAMS) $(CHECKED) anew generate test test-c check deep dist install uninstall vendor help clean
@@ -109,7 +132,7 @@ $(ARCHIVE): $(OBJECTS)
 $(OUT)/libfaster_hex.so.$(VERSION) $(OUT)/libfaster_hex.dll: $(OBJECTS) $(C)/faster_hex.map $(C)/faster_hex.def
 	$(CC) $(CFLAGS) $(LDFLAGS) -shared -o $(MADE) $(OBJECTS) $(SHOWN) && $(DONE)
 
-# The name of an object of its own: that of a temporary one would stand in the program.
+# The object is built by a rule of its own, because the name of a temporary object would be stored in the program.
 $(PROGRAMS:%=$(OUT)/%$(EXE)): %$(EXE): crates/fhex/fhex.c %.o
 	$(COMPILE) $(CFLAGS) $(LDFLAGS) -std=gnu11 -Wno-unused-command-line-argument -o $(MADE) $^ && $(DONE)
 
@@ -147,7 +170,7 @@ check: all
 	$(or $(PYTEST),$(error make check takes pytest: apt-get install python3-pytest)) tests
 	$(call ENDED,what the summary says; the gate; mutations; examples)
 
-# Before a release. It stops at the first that fails.
+# For a release. It stops at the first part that fails.
 deep: all
 	scripts/mutations
 	scripts/examples --prove
@@ -155,7 +178,7 @@ deep: all
 	$(MAKE) check
 	$(call ENDED,what the summary says; the gate)
 
-# As the last commit has it, or where files have changed, these; the same bytes whoever packs it.
+# Packs the last commit, with changed files as they are now. The package has the same bytes on every machine.
 TO = .
 PACK = $(TO)/faster_hex-$(VERSION).tar
 dist: $(CHECKED)
@@ -173,7 +196,7 @@ vendor:
 	scripts/vendor $(if $(filter no,$(JSON)),--no-json) "$(DIR)"
 
 help:
-	@sed -n '/^[^#]/q; s/^# //p' Makefile
+	@sed -n '/^[^#]/q; s/^# \{0,1\}//p' Makefile
 	@echo && sed -n '/^You changed/,/^$$/p' tests/README.md
 
 clean:
