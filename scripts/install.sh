@@ -1,14 +1,16 @@
 #!/bin/sh
-# Puts what `make` built into PREFIX, by default /usr/local, the libraries into LIBDIR, by default PREFIX/lib, both
-# below DESTDIR. With --remove it takes the same files away, and the library's own folders, if nothing else is in
-# them. `make install` and `make uninstall` tell it VERSION, PROGRAMS, and in OUT the folder of what is built.
+# Installs what `make` built. Files go into PREFIX (by default /usr/local), and libraries into LIBDIR (by default
+# PREFIX/lib). DESTDIR is put before both. With --remove it removes the same files, and the library's own folders if
+# nothing else is in them. `make install` and `make uninstall` run it, and set VERSION, PROGRAMS, and OUT, which is the
+# folder where the files were built.
 set -eu
 umask 022
 cd "$(dirname "$0")/.."
 
-# absolute FOLDER: from the repository on, with no slash too many.
+# absolute FOLDER: prints its absolute path, without double slashes. A relative path counts from the repository.
 absolute() { case $1 in /*) echo "$1" ;; *) echo "$PWD/$1" ;; esac | sed 's|//*|/|g; s|\(.\)/$|\1|'; }
-# place FILE COMMAND..: takes away what stands there, and has the command make the file, whose name it gets.
+# place FILE COMMAND..: removes the file. Unless this is --remove, it then runs the command, with the file's name as its
+# last argument, to make the file.
 place() {
     to=${DESTDIR-}$1
     shift
@@ -18,14 +20,14 @@ place() {
         "$@" "$to"
     fi
 }
-# fill TEMPLATE LINES FILE: the template with lines before it.
+# fill TEMPLATE LINES FILE: writes the lines and then the template into the file.
 fill() { printf '%s\n' "$2" | cat - "$1" >"$3"; }
 
 word=${1-} PREFIX=${PREFIX-/usr/local}
 PREFIX=$(absolute "${PREFIX:?names no folder}")
 LIBDIR=$(absolute "${LIBDIR:-$PREFIX/lib}")
 man=$PREFIX/share/man doc=$PREFIX/share/doc/faster_hex own=$PREFIX/share/faster_hex cmake=$LIBDIR/cmake/faster_hex
-# How PREFIX is found: from LIBDIR on if that is below it, so that both may be moved together.
+# If LIBDIR is below PREFIX, the installed files name PREFIX relative to LIBDIR, so that both can be moved together.
 case $LIBDIR in
 "$PREFIX"/*) below=${LIBDIR#"$PREFIX"/} libdir="\${prefix}${LIBDIR#"$PREFIX"}" from= ;;
 *) below=${LIBDIR#/} libdir=$LIBDIR from=$PREFIX ;;
@@ -38,7 +40,7 @@ for program in $PROGRAMS; do
 done
 place "$PREFIX/include/faster_hex.h" install -m 644 crates/faster_hex_c/faster_hex.h
 place "$PREFIX/include/faster_hex.hpp" install -m 644 crates/faster_hex_c/faster_hex.hpp
-rm -f "${DESTDIR-}$LIBDIR"/libfaster_hex.so.1.* # those of earlier versions too
+rm -f "${DESTDIR-}$LIBDIR"/libfaster_hex.so.1.* # also those of earlier versions
 place "$LIBDIR/libfaster_hex.a" install -m 644 "$OUT/libfaster_hex.a"
 place "$LIBDIR/libfaster_hex.so.$VERSION" install -m 755 "$OUT/libfaster_hex.so.$VERSION"
 place "$LIBDIR/libfaster_hex.so.1" ln -s "libfaster_hex.so.$VERSION"

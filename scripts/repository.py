@@ -1,8 +1,9 @@
 #!/usr/bin/env python3
-"""repository: the crates of this repository, as crates.txt lists them, and copies of them.
+"""The crates of this repository, as crates.txt lists them, and functions that copy them.
 
-repository.py uses NAME     prints what crates.txt says that a crate uses
-repository.py below NAME..  prints these crates and the libraries of the repository below them, lowest first"""
+repository.py uses NAME     prints the crates that a crate uses by its line in crates.txt
+repository.py below NAME..  prints these crates and the crates of the repository that they depend on, each after those
+                            that it uses"""
 import re
 import shutil
 import sys
@@ -12,18 +13,18 @@ TOP = Path(__file__).resolve().parent.parent
 
 
 def lines_of(top=TOP):
-    """The lines of a crates.txt, by the names of their crates."""
+    """The lines of a crates.txt, by the names of the crates."""
     lines = (Path(top) / "crates.txt").read_text().splitlines()
     return {re.match(r"\w+", it)[0]: it for it in lines if re.match(r"\w+.*:", it)}
 
 
 def uses(name, top=TOP):
-    """The names of the crates that a crate uses, of this repository or not."""
+    """The names of the crates that a crate uses, whether they are of this repository or not."""
     return lines_of(top)[name].partition(":")[2].split()
 
 
 def below(names, top=TOP):
-    """These crates and the libraries of the repository that they use, the lowest first."""
+    """These crates and the crates of the repository that they depend on, each after those that it uses."""
     found, listed = [], lines_of(top)
     for name in names:
         used = [it for it in uses(name, top) if it in listed]
@@ -32,8 +33,8 @@ def below(names, top=TOP):
 
 
 def list_crates(names, to, top=TOP):
-    """Writes the lines of crates into the crates.txt of the repository at a folder: each in the place of one that
-    has its name, or last."""
+    """Writes the lines of crates into the crates.txt of the repository in a folder. A line replaces the one of the same
+    crate. If there is none, it is added at the end."""
     listed, lines = Path(to) / "crates.txt", {it: lines_of(top)[it] for it in names}
     listed.touch()
     new = [lines.pop(re.match(r"\w*", it)[0], it) for it in listed.read_text().splitlines()]
@@ -41,8 +42,8 @@ def list_crates(names, to, top=TOP):
 
 
 def copy(names, to, parts=None, top=TOP):
-    """Copies crates and their lines of crates.txt into the repository at a folder: these parts of each, or all
-    but out/."""
+    """Copies crates, and their lines of crates.txt, into the repository in a folder. If parts are named, only these are
+    copied, otherwise everything except out/."""
     list_crates(names, to, top)
     for name in names:
         of, mine = Path(top) / "crates" / name, Path(to) / "crates" / name
