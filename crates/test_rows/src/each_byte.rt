@@ -82,12 +82,17 @@ fn repeated(spelled: Result<u8, Error>, bytes: &[u8]) -> Answer<'_> {
     }
 }
 
+// The first two bytes.
+fn pair(bytes: &[u8]) -> [u8; 2] {
+    *bytes.first_chunk().unwrap_or(&[0; 2])
+}
+
 /// `each-pair POLICY SOURCE`: the values of the digits. The source repeats a pair of bytes, and is decoded
 /// as the pair is, into 34 bytes.
 pub fn each_pair_row(row: &mut Row, to: &mut Destination) -> bool {
     let case = row.call.take_policy();
     row.call.take_bytes(&mut row.given);
-    let pair = *row.given.as_slice().first_chunk().unwrap_or(&[0; 2]);
+    let pair = pair(row.given.as_slice());
     let spelled = spelled(pair, values(&mut row.answer, pair));
     row.wanted.clear();
     for _ in 0..row.given.len() / 2 {
