@@ -1,5 +1,5 @@
 -- What all of `fhex` does with its words and with what it reads, and how it ends.
-use Rattle.std.specs.Prelude.{◌≡◌, ◌≢◌, ◌⊎◌, ◌≤◌, List, ℕ, [], ◌∷◌, ◌++◌, length, codes, Option, Some, None}
+use Rattle.std.specs.Prelude.{◌≡◌, ◌≢◌, ◌⊎◌, ◌≤◌, List, ℕ, [], ◌∷◌, length, codes, Option, Some, None}
 use Rattle.std.specs.Io.KnownBytes.{Appends, Consumes, IsAtEnd, Keeps}
 use Rattle.hex_core.specs.Message.{error_text}
 use Rattle.hex_core.specs.declared.error.Error.{Error}
@@ -26,14 +26,6 @@ failure_text WriteFailed = codes "write failed"
 failure_text OutOfMemory = codes "out of memory"
 failure_text InputTooLong = codes "input too long"
 
--- its line
-abbrev pub failure_line : Failure → List ℕ
-failure_line failure = failure_text failure ++ 10 ∷ []
-
--- a leading part of bs was written
-abbrev pub WritesPart : Option (List ℕ) → Option (List ℕ) → List ℕ → Type 0
-WritesPart held held' bs = (front : List ℕ) × ((rest : List ℕ) × (front ++ rest ≡ bs) × Appends held held' front)
-
 -- the greatest length of an input, in bytes
 abbrev pub input_limit : ℕ
 input_limit = 16777216
@@ -58,31 +50,15 @@ pub record Refused (op : Op) (left left' held held' : Option (List ℕ)) : Type 
   pub is_refusal : op_refusal op input ≡ Some refusal
   pub kept : Keeps held held'
 
--- the input was read, and a leading part of the operation's output was written
-pub record Cut (op : Op) (left left' held held' : Option (List ℕ)) : Type 0 where
-  pub input : List ℕ
-  pub output : List ℕ
-  pub read : ReadsAll left left' input
-  pub is_output : IsOutput op input output
-  pub written : WritesPart held held' output
-
--- how the program of an operation ends: 0 if it is done, 1 if the input is refused, 3 for other faults, after which
--- nothing was written but for a leading part of the output
+-- how the program of an operation ends: 0 if it is done, 1 if the input is refused, 3 for other faults
 pub record ServesOp (op : Op) (left left' held held' : Option (List ℕ)) (status : ℕ) : Type 0 where
   pub done : status ≡ 0 → Served op left left' held held'
   pub refused : status ≡ 1 → Refused op left left' held held'
-  pub failed : status ≡ 3 → Keeps held held' ⊎ Cut op left left' held held'
   pub statuses : (status ≡ 0) ⊎ (status ≡ 1) ⊎ (status ≡ 3)
-
--- what stands on the second output: nothing if the status is 0, otherwise at most the line of one failure with
--- this status
-pub record Says (said said' : Option (List ℕ)) (status : ℕ) : Type 0 where
-  pub done : status ≡ 0 → Keeps said said'
-  pub failed : status ≢ 0 → (failure : Failure) × (status_of failure ≡ status) × WritesPart said said' (failure_line failure)
 
 -- the program, by its words: an operation; the stored vectors, for which nothing is read; or words that
 -- name neither, for which nothing is read and no output written
 pub record Serves (words : List (List ℕ)) (left left' held held' : Option (List ℕ)) (status : ℕ) : Type 0 where
   pub operation : (op : Op) → op_of_words words ≡ Some op → ServesOp op left left' held held' status
-  pub vectors : words ≡ codes "vectors" ∷ [] → (left' ≡ left) × ((status ≡ 0) ⊎ (status ≡ 1) ⊎ (status ≡ 3))
+  pub vectors : words ≡ codes "vectors" ∷ [] → left' ≡ left
   pub usage : (op_of_words words ≡ None) × (words ≢ codes "vectors" ∷ []) → (left' ≡ left) × (held' ≡ held) × (status ≡ 2)

@@ -10,7 +10,6 @@ use Rattle.hex_core.specs.Text.{Spells, lowercase, text}
 use Rattle.hex_codec.specs.GroupedWriting.{pieces}
 use Rattle.hex_io.specs.Reading.{spaced, unspaced}
 use Rattle.hex_io.specs.Stream.{RefusedBy, Wrote}
-use Rattle.hex_program.specs.Serving.{WritesPart}
 use Rattle.hex_program.specs.declared.stream.StreamOp.{StreamOp}
 use Rattle.hex_program.specs.declared.stream.StreamOp.TheVariants.{Encode, EncodeLines, Decode}
 
@@ -38,6 +37,10 @@ abbrev pub IsStreamOutput : StreamOp → List ℕ → List ℕ → Type 0
 IsStreamOutput Encode input output = output ≡ line input
 IsStreamOutput EncodeLines input output = output ≡ flat_map line (pieces 30 input)
 IsStreamOutput Decode input output = Spells policy.None (unspaced input) output
+
+-- a leading part of a list was written
+abbrev pub WritesPart : Option (List ℕ) → Option (List ℕ) → List ℕ → Type 0
+WritesPart held held' bs = (front : List ℕ) × ((rest : List ℕ) × (front ++ rest ≡ bs) × Appends held held' front)
 
 -- of what was read so far a leading part of the output was written: of the lines that it gives if it ends here, or
 -- of what the whole pairs of digits in a leading part of it spell

@@ -1,6 +1,6 @@
 //! Reads the whole input before an operation runs over it.
 
-ghost use Rattle.std.specs.Prelude.{◌≡◌, ◌≢◌, ◌<◌, length, IfOk, IfErr, IfSome};
+ghost use Rattle.std.specs.Prelude.{◌≡◌, ◌<◌, length, IfOk, IfErr, IfSome};
 ghost use Rattle.hex_program.specs.Serving.{ReadsAll, input_limit, status_of};
 
 use crate::failure::Failure;
@@ -34,7 +34,6 @@ pub fn read_input<A: Allocator + Drop, R: Read>(
     ensures too_long { IfErr result (λ f. f ≡ Failure.InputTooLong
         → IfSome (R.remaining input.old) (λ bytes. input_limit < length bytes)) }
     ensures err { IfErr result (λ f. status_of f ≡ 3) }
-    ensures unwritten { IfErr result (λ f. f ≢ Failure.WriteFailed) }
 {
     let mut chunk = [0u8; READ_CHUNK];
     let mut all = Vec::new(alloc);

@@ -2,7 +2,7 @@
 
 ghost use Rattle.std.specs.Prelude.{◌≡◌, ◌⊎◌, map};
 ghost use Rattle.std.specs.Io.KnownBytes.{Keeps};
-ghost use Rattle.hex_program.specs.Serving.{Says, Serves, ServesOp, WritesPart, failure_line, status_of};
+ghost use Rattle.hex_program.specs.Serving.{Serves, ServesOp, status_of};
 ghost use Rattle.hex_program.specs.inside.{EndsRun, status_after};
 
 use crate::failure::Failure;
@@ -31,35 +31,21 @@ fn finish<W: Write>(out: &mut W, ran: Result<(), RunFault>) -> Result<(), Failur
     }
 }
 
-// Writes a line and flushes it. An error ends the line.
-fn write_line<E: Write>(err: E, line: &[u8]) -> E
-    ensures { WritesPart (E.contents err) (E.contents result) line.now }
-{
-    let mut sink = WriterSink::new(err);
-    match put_all(&mut sink, line) {
-        Ok(()) => {
-            let mut err = sink.into_inner();
-            let _ = err.flush();
-            err
-        }
-        Err(_) => sink.into_inner(),
-    }
-}
-
 /// Writes the line of a failure to `err`, and returns the failure's status and `err`. An error of
-/// `err` ends the line, of which a leading part then stands there, and does not change the status.
-/// No error is retried.
+/// `err` ends the line and does not change the status. No error is retried.
 pub fn refuse<E: Write>(err: E, failure: Failure) -> (u8, E)
     ensures status { result.0 ≡ status_of failure }
-    ensures line { WritesPart (E.contents err) (E.contents result.1) (failure_line failure) }
-    ensures message { Says (E.contents err) (E.contents result.1) result.0 }
 {
     let mut line = ArrayString::<MESSAGE>::new();
-    match fmt::Write::write_fmt(&mut line, format_args!("{failure}\n")) {
-        Ok(()) => (failure.status(), write_line(err, line.as_bytes())),
-        // No line is longer.
-        Err(_) => (failure.status(), err),
+    // No message is longer, so all of it is written.
+    let _ = fmt::Write::write_fmt(&mut line, format_args!("{failure}\n"));
+    let mut sink = WriterSink::new(err);
+    let put = put_all(&mut sink, line.as_bytes());
+    let mut err = sink.into_inner();
+    if put.is_ok() {
+        let _ = err.flush();
     }
+    (failure.status(), err)
 }
 
 // Reads the input, runs an operation over it and flushes the output.
@@ -95,7 +81,6 @@ pub fn serve_vectors<A: Allocator, W: Write, E: Write>(
     err: E,
 ) -> (u8, W, E)
     ensures status { (result.0 ≡ 0) ⊎ (result.0 ≡ 1) ⊎ (result.0 ≡ 3) }
-    ensures message { Says (E.contents err) (E.contents result.2) result.0 }
 {
     let Ok(report) = run_vectors(alloc, table) else {
         let (status, err) = refuse(err, Failure::OutOfMemory);
@@ -123,7 +108,6 @@ pub fn serve_in<A: Allocator, R: Read, W: Write, E: Write>(
 ) -> (u8, W, E)
     ensures answer { Serves (map (λ w. w.now) words.now) (R.remaining input.old)
         (R.remaining input.new) (W.contents out) (W.contents result.1) result.0 }
-    ensures message { Says (E.contents err) (E.contents result.2) result.0 }
 {
     if let ["vectors"] = words {
         return serve_vectors(alloc, &VECTORS, out, err);
@@ -157,12 +141,9 @@ pub fn serve_in<A: Allocator, R: Read, W: Write, E: Write>(
 /// | 3 | a failure of the system | `read failed`, `write failed`, `out of memory` |
 /// | 3 | the input is longer than the limit | `input too long` |
 ///
-/// After status 3 `out` has nothing more, or a leading part of the operation's output.
-///
-/// No error of a reader or a writer is retried. An error of `err` does not change the status, and
-/// may leave a leading part of the line there. The contract covers the bytes read and written if
-/// the types of reader and writers model them. It does not tell which failure a line names, if
-/// several have the status.
+/// No error of a reader or a writer is retried. An error of `err` does not change the status. The
+/// contract covers the bytes read and written if the types of reader and writer model them, and not
+/// `err`.
 ///
 /// ```rust
 /// let mut input: &[u8] = b"hello";
@@ -180,7 +161,6 @@ pub fn serve<R: Read, W: Write, E: Write>(
 ) -> (u8, W, E)
     ensures answer { Serves (map (λ w. w.now) words.now) (R.remaining input.old)
         (R.remaining input.new) (W.contents out) (W.contents result.1) result.0 }
-    ensures message { Says (E.contents err) (E.contents result.2) result.0 }
 {
     serve_in(&alloc, words, input, out, err)
 }

@@ -1,7 +1,7 @@
 -- What the run of all that was read put, and how the program ended, is how the operation is served.
-use Rattle.std.specs.Prelude.{◌≡◌, ◌⊎◌, ℕ, List, [], Option, Result, Ok, Err}
+use Rattle.std.specs.Prelude.{◌≡◌, ℕ, List, Option, Result, Ok, Err}
 use Rattle.std.specs.Io.KnownBytes.{Keeps}
-use Rattle.std.proofs.Common.{arith, refl, ap, inl, inr, sym, append-nil}
+use Rattle.std.proofs.Common.{arith, refl, ap, inl, inr, sym}
 use Rattle.std.proofs.KnownBytes.{Appends-kept}
 use Rattle.hex_io.specs.SinkState.{SinkState}
 use Rattle.hex_io.specs.SliceAndWriterSinks.{writer_state}
@@ -10,17 +10,15 @@ use Rattle.hex_program.specs.declared.operation.RunFault.{RunFault}
 use Rattle.hex_program.specs.declared.operation.RunFault.TheVariants as fault
 use Rattle.hex_program.specs.declared.failure.Failure.{Failure}
 use Rattle.hex_program.specs.Operations.{Runs}
-use Rattle.hex_program.specs.Serving.{Cut, ReadsAll, ServesOp}
+use Rattle.hex_program.specs.Serving.{ReadsAll, ServesOp}
 use Rattle.hex_program.specs.inside.{EndsRun, status_after}
 use Rattle.hex_program.proofs.program.serve_op.Goals as goal
 
 -- a fault of the surroundings
-pub served_at_three : (op : Op) (left left' held held' : Option (List ℕ)) (status : ℕ) → status ≡ 3
-    → Keeps held held' ⊎ Cut op left left' held held' → ServesOp op left left' held held' status
-served_at_three op left left' held held' status three failed = record {
+pub served_at_three : (op : Op) (left left' held held' : Option (List ℕ)) (status : ℕ) → status ≡ 3 → ServesOp op left left' held held' status
+served_at_three op left left' held held' status three = record {
   done = λ is_zero. absurd (omega (arith, three, is_zero));
   refused = λ is_one. absurd (omega (arith, three, is_one));
-  failed = λ is_three. failed;
   statuses = inr (inr three);
 }
 
@@ -30,26 +28,15 @@ pub serves_run : (op : Op) (input : List ℕ) (left left' held' : Option (List �
 serves_run op input left left' held' old new (Ok done) (Ok well) all ran kept ends = record {
   done = λ is_zero. record { input = input; output = ran.0; read = all; is_output = ran.1; written = Appends-kept old.taken new.taken held' ran.0 ran.2.appended kept };
   refused = λ is_one. absurd (omega (arith, is_one));
-  failed = λ is_three. absurd (omega (arith, is_three));
   statuses = inl refl;
 }
-serves_run op input left left' held' old new (Ok done) (Err failure) all ran kept ends =
-    let written = (ran.0, ([], (append-nil, Appends-kept old.taken new.taken held' ran.0 ran.2.appended kept))) in
-    served_at_three op left left' old.taken held' _ (ap (λ f. status_after (Err f)) ends)
-        (inr (record { input = input; output = ran.0; read = all; is_output = ran.1; written = written }))
+serves_run op input left left' held' old new (Ok done) (Err failure) all ran kept ends = served_at_three op left left' old.taken held' _ (ap (λ f. status_after (Err f)) ends)
 serves_run op input left left' held' old new (Err (fault.Codec e)) ended all ran kept ends = rw ends (record {
   done = λ is_zero. absurd (omega (arith, is_zero));
   refused = λ is_one. record { input = input; refusal = e; read = all; is_refusal = ran.0; kept = rw ran.1 at kept };
-  failed = λ is_three. absurd (omega (arith, is_three));
   statuses = inr (inl refl);
 })
-serves_run op input left left' held' old new (Err (fault.Write why)) ended all ran kept ends =
-    let begun = ran.2.begun in
-    let written = (begun.front, (begun.rest, (begun.parts, Appends-kept old.taken new.taken held' begun.front begun.appended kept))) in
-    served_at_three op left left' old.taken held' _ (ap status_after ends)
-        (inr (record { input = input; output = ran.0; read = all; is_output = ran.1; written = written }))
-serves_run op input left left' held' old new (Err fault.OutOfMemory) ended all ran kept ends =
-    served_at_three op left left' old.taken held' _ (ap status_after ends) (inl (rw ran.1 at kept))
+serves_run op input left left' held' old new (Err why) ended all ran kept ends = served_at_three op left left' old.taken held' _ (ap status_after ends)
 
 pub returns : goal.returns
 returns g c =
