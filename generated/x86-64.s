@@ -1,3 +1,4 @@
+/* Written by scripts/generate: do not edit. */
 	hex_function	faster_hex_1_0_0_x86_64_core_scalar_check_by_table,.text
 	hex_cfi	startproc
 	testq	%rsi,%rsi
@@ -282,7 +283,7 @@
 	movq	%r15,%rdi
 	movq	%r14,%rsi
 	movl	%ebp,%edx
-	callq	faster_hex_1_0_0_x86_64_core_backend_Backend_first_bad
+	callq	faster_hex_1_0_0_x86_64_core_backend_Backend_first_invalid_byte
 	movq	$1,(%rbx)
 	movq	%rax,8(%rbx)
 	movb	%dl,16(%rbx)
@@ -291,7 +292,7 @@
 	jmp	3b
 	hex_end	faster_hex_1_0_0_x86_64_core_backend_Backend_decode_or_find
 	hex_cfi	endproc
-	hex_function	faster_hex_1_0_0_x86_64_core_backend_Backend_first_bad,.text.unlikely
+	hex_function	faster_hex_1_0_0_x86_64_core_backend_Backend_first_invalid_byte,.text.unlikely
 	hex_cfi	startproc
 	pushq	%r15
 	hex_cfi	def_cfa_offset 16
@@ -360,7 +361,7 @@
 	popq	%r15
 	hex_cfi	def_cfa_offset 8
 	retq
-	hex_end	faster_hex_1_0_0_x86_64_core_backend_Backend_first_bad
+	hex_end	faster_hex_1_0_0_x86_64_core_backend_Backend_first_invalid_byte
 	hex_cfi	endproc
 	hex_function	faster_hex_1_0_0_x86_64_core_backend_Backend_encode_named,.text
 	hex_cfi	startproc
@@ -369,8 +370,8 @@
 	hex_cfi	endproc
 	hex_function	faster_hex_1_0_0_x86_64_core_scalar_encode_by_table,.text
 	hex_cfi	startproc
-	leaq	.L100_static.8(%rip),%r8
-	leaq	.L100_static.9(%rip),%rax
+	leaq	.L100_static.9(%rip),%r8
+	leaq	.L100_static.10(%rip),%rax
 	testl	%ecx,%ecx
 	cmovneq	%r8,%rax
 	testq	%rsi,%rsi
@@ -404,7 +405,7 @@
 	retq
 	hex_end	faster_hex_1_0_0_x86_64_core_scalar_encode_by_table
 	hex_cfi	endproc
-	hex_function	faster_hex_1_0_0_x86_64_core_backend_Backend_find_invalid,.text
+	hex_function	faster_hex_1_0_0_x86_64_core_backend_Backend_first_invalid,.text
 	hex_cfi	startproc
 	pushq	%r15
 	hex_cfi	def_cfa_offset 16
@@ -485,7 +486,7 @@
 	hex_cfi	def_cfa_offset 48
 	movb	$1,%al
 	jmp	13b
-	hex_end	faster_hex_1_0_0_x86_64_core_backend_Backend_find_invalid
+	hex_end	faster_hex_1_0_0_x86_64_core_backend_Backend_first_invalid
 	hex_cfi	endproc
 	hex_function	faster_hex_1_0_0_x86_64_codec_pieces_read_long_piece,.text
 	hex_cfi	startproc
@@ -738,21 +739,21 @@
 	hex_cfi	offset %r15,-24
 	hex_cfi	offset %rbp,-16
 	movq	%rdx,%rax
-	movzbl	112(%rsp),%ebx
+	movzbl	112(%rsp),%r14d
 	testq	%r9,%r9
 	sete	%r10b
-	testb	%bl,%bl
+	testb	%r14b,%r14b
 	sets	%r11b
 	movl	$6,%edx
 	orb	%r10b,%r11b
 	jne	5f
-	cmpb	$48,%bl
+	cmpb	$48,%r14b
 	jae	6f
 2:
 	movl	$4,%edx
 	testq	%rsi,%rsi
 	js	5f
-	movq	%rax,24(%rsp)
+	movq	%rax,16(%rsp)
 	leaq	(%rsi,%rsi),%r11
 	movq	%rsi,%rax
 	orq	%r9,%rax
@@ -763,7 +764,7 @@
 	divq	%r9
 	jmp	13f
 6:
-	cmpb	$58,%bl
+	cmpb	$58,%r14b
 	jae	9f
 5:
 	xorl	%eax,%eax
@@ -785,11 +786,11 @@
 	retq
 9:
 	hex_cfi	def_cfa_offset 112
-	cmpb	$65,%bl
+	cmpb	$65,%r14b
 	jb	2b
-	cmpb	$71,%bl
+	cmpb	$71,%r14b
 	setb	%r10b
-	leal	-97(%rbx),%r11d
+	leal	-97(%r14),%r11d
 	cmpb	$6,%r11b
 	setb	%r11b
 	orb	%r10b,%r11b
@@ -818,10 +819,10 @@
 	cmpq	$1,%r9
 	je	20f
 	cmpq	$4,%r9
-	movq	24(%rsp),%rdx
+	movq	16(%rsp),%rdx
 	jne	23f
-	leaq	.L100_static.8(%rip),%rcx
-	leaq	.L100_static.9(%rip),%rax
+	leaq	.L100_static.9(%rip),%rcx
+	leaq	.L100_static.10(%rip),%rax
 	testb	$1,%r8b
 	cmovneq	%rcx,%rax
 	cmpq	$5,%rsi
@@ -843,19 +844,19 @@
 	movzwl	(%rax,%r9,2),%r9d
 	movw	%r9w,6(%rdx,%rcx)
 	addq	$4,%r8
-	movb	%bl,8(%rdx,%rcx)
+	movb	%r14b,8(%rdx,%rcx)
 	addq	$9,%rcx
 	addq	$-4,%rsi
 	cmpq	$4,%rsi
 	ja	19b
 	jmp	29f
 20:
-	leaq	.L100_static.8(%rip),%rcx
-	leaq	.L100_static.9(%rip),%rax
+	leaq	.L100_static.9(%rip),%rcx
+	leaq	.L100_static.10(%rip),%rax
 	testb	$1,%r8b
 	cmovneq	%rcx,%rax
 	cmpq	$2,%rsi
-	movq	24(%rsp),%rcx
+	movq	16(%rsp),%rcx
 	jb	32f
 	leaq	-1(%rsi),%rdx
 	cmpq	$2,%rsi
@@ -864,28 +865,31 @@
 	xorl	%r8d,%r8d
 	jmp	41f
 23:
-	leaq	.L100_static.8(%rip),%r14
-	leaq	.L100_static.9(%rip),%r10
+	leaq	.L100_static.9(%rip),%r15
+	leaq	.L100_static.10(%rip),%r10
 	movzbl	%r8b,%eax
 	cmpq	%rsi,%r9
 	jae	33f
-	leaq	(%r9,%r9),%rbp
+	leaq	(%r9,%r9),%r12
 	testb	$1,%r8b
 	movq	%r10,%rcx
-	cmovneq	%r14,%rcx
+	cmovneq	%r15,%rcx
 	cmpq	$8,%r9
 	jae	46f
 	cmpq	$1,%r9
 	jne	61f
-	leaq	1(%rbp),%rax
+	leaq	(%rdx,%r12),%rax
+	xorl	%ebp,%ebp
+	xorl	%ebx,%ebx
 27:
-	movzbl	(%rdi),%r9d
+	movzbl	(%rdi,%rbp),%r9d
 	movzwl	(%rcx,%r9,2),%r9d
-	movw	%r9w,(%rdx)
-	movb	%bl,(%rdx,%rbp)
-	incq	%rdi
+	movw	%r9w,(%rdx,%rbx)
+	incq	%rbp
+	movb	%r14b,(%rax,%rbx)
+	addq	%r12,%rbx
+	incq	%rbx
 	decq	%rsi
-	addq	%rax,%rdx
 	cmpq	$1,%rsi
 	ja	27b
 	jmp	51f
@@ -909,7 +913,7 @@
 	movl	%eax,4(%rsp)
 	movq	%r11,8(%rsp)
 	xorl	%ebx,%ebx
-	xorl	%r13d,%r13d
+	xorl	%ebp,%ebp
 	movq	%rsi,%rax
 	jmp	49f
 34:
@@ -948,12 +952,12 @@
 	movzbl	(%rdi,%r9),%r11d
 	movzwl	(%rax,%r11,2),%r11d
 	movw	%r11w,(%rcx,%r8)
-	movb	%bl,2(%rcx,%r8)
+	movb	%r14b,2(%rcx,%r8)
 	movzbl	1(%rdi,%r9),%r11d
 	addq	$2,%r9
 	movzwl	(%rax,%r11,2),%r11d
 	movw	%r11w,3(%rcx,%r8)
-	movb	%bl,5(%rcx,%r8)
+	movb	%r14b,5(%rcx,%r8)
 	addq	$6,%r8
 	cmpq	%r9,%rsi
 	jne	39b
@@ -963,7 +967,7 @@
 	movzbl	(%rdi,%rsi),%esi
 	movzwl	(%rax,%rsi,2),%esi
 	movw	%si,(%rcx,%r8)
-	movb	%bl,2(%rcx,%r8)
+	movb	%r14b,2(%rcx,%r8)
 	addq	$3,%r8
 42:
 	movzbl	(%rdi,%rdx),%edx
@@ -977,92 +981,99 @@
 46:
 	movq	%r11,8(%rsp)
 	movl	%r8d,36(%rsp)
-	leaq	1(%rbp),%rcx
-	movq	%rcx,16(%rsp)
-	notq	%rbp
+	leaq	1(%r12),%rcx
+	movq	%rcx,48(%rsp)
+	notq	%r12
 	xorl	%ebx,%ebx
 	movq	%rdx,%r14
-	xorl	%r13d,%r13d
+	xorl	%ebp,%ebp
 	movq	%rdi,40(%rsp)
 	movq	%rdi,%r15
 	movl	%eax,4(%rsp)
-	movq	%rsi,48(%rsp)
 47:
-	addq	%rbp,%rbx
+	movq	%rbp,24(%rsp)
+	addq	%r12,%rbx
 	movl	4(%rsp),%ecx
 	andl	$1,%ecx
 	movq	%r15,%rdi
+	movq	%rsi,%r13
 	movq	%r9,%rsi
 	movq	%r14,%rdx
+	movq	%rbx,%rbp
+	movq	%r12,%rbx
 	movq	%r9,%r12
 	callq	faster_hex_1_0_0_x86_64_core_backend_Backend_encode_named
 	movq	%r12,%r9
-	movq	48(%rsp),%rsi
+	movq	%rbx,%r12
+	movq	%rbp,%rbx
+	movq	24(%rsp),%rbp
+	movq	%r13,%rsi
 	movzbl	112(%rsp),%eax
-	movb	%al,(%r14,%r12,2)
-	addq	%r12,%r15
-	subq	%r12,%r13
-	leaq	(%rsi,%r13),%rax
-	addq	16(%rsp),%r14
-	cmpq	%rax,%r12
+	movb	%al,(%r14,%r9,2)
+	addq	%r9,%r15
+	subq	%r9,%rbp
+	movq	%r13,%rax
+	addq	%rbp,%rax
+	addq	48(%rsp),%r14
+	cmpq	%rax,%r9
 	jb	47b
-	negq	%r13
+	negq	%rbp
 	negq	%rbx
-	movq	24(%rsp),%rdx
+	movq	16(%rsp),%rdx
 	movq	40(%rsp),%rdi
 	movl	36(%rsp),%r8d
 49:
-	addq	%r13,%rdi
-	addq	%rbx,%rdx
 	cmpq	$7,%rax
 	ja	60f
 	movq	%rax,%rsi
 	movq	8(%rsp),%r11
-	leaq	.L100_static.9(%rip),%r10
-	leaq	.L100_static.8(%rip),%r14
+	leaq	.L100_static.10(%rip),%r10
+	leaq	.L100_static.9(%rip),%r15
 51:
 	testb	$1,%r8b
-	cmovneq	%r14,%r10
+	cmovneq	%r15,%r10
 	testq	%rsi,%rsi
 	je	59f
-	movzbl	(%rdi),%eax
+	movzbl	(%rdi,%rbp),%eax
 	movzwl	(%r10,%rax,2),%eax
-	movw	%ax,(%rdx)
+	movw	%ax,(%rdx,%rbx)
 	cmpq	$1,%rsi
 	je	59f
-	movzbl	1(%rdi),%eax
+	movzbl	1(%rdi,%rbp),%eax
 	movzwl	(%r10,%rax,2),%eax
-	movw	%ax,2(%rdx)
+	movw	%ax,2(%rdx,%rbx)
 	cmpq	$2,%rsi
 	je	59f
-	movzbl	2(%rdi),%eax
+	movzbl	2(%rdi,%rbp),%eax
 	movzwl	(%r10,%rax,2),%eax
-	movw	%ax,4(%rdx)
+	movw	%ax,4(%rdx,%rbx)
 	cmpq	$3,%rsi
 	je	59f
-	movzbl	3(%rdi),%eax
+	movzbl	3(%rdi,%rbp),%eax
 	movzwl	(%r10,%rax,2),%eax
-	movw	%ax,6(%rdx)
+	movw	%ax,6(%rdx,%rbx)
 	cmpq	$4,%rsi
 	je	59f
-	movzbl	4(%rdi),%eax
+	movzbl	4(%rdi,%rbp),%eax
 	movzwl	(%r10,%rax,2),%eax
-	movw	%ax,8(%rdx)
+	movw	%ax,8(%rdx,%rbx)
 	cmpq	$5,%rsi
 	je	59f
-	movzbl	5(%rdi),%eax
+	movzbl	5(%rdi,%rbp),%eax
 	movzwl	(%r10,%rax,2),%eax
-	movw	%ax,10(%rdx)
+	movw	%ax,10(%rdx,%rbx)
 	cmpq	$6,%rsi
 	je	59f
-	movzbl	6(%rdi),%eax
+	movzbl	6(%rdi,%rbp),%eax
 	movzwl	(%r10,%rax,2),%eax
-	movw	%ax,12(%rdx)
+	movw	%ax,12(%rdx,%rbx)
 59:
 	xorl	%edx,%edx
 	movq	%r11,%rax
 	jmp	45b
 60:
+	addq	%rbx,%rdx
+	addq	%rbp,%rdi
 	movl	4(%rsp),%ecx
 	andl	$1,%ecx
 	movq	%rax,%rsi
@@ -1076,29 +1087,29 @@
 	movl	%r9d,%r10d
 	andl	$6,%r10d
 	leaq	3(%rdx),%r11
-	leaq	1(%rbp),%rax
-	movq	%rax,16(%rsp)
+	leaq	1(%r12),%rax
+	movq	%rax,24(%rsp)
 	leaq	1(%rdi),%r15
-	xorl	%r13d,%r13d
+	xorl	%ebp,%ebp
 	xorl	%ebx,%ebx
 	jmp	63f
 62:
-	movq	%rax,%rbp
+	movq	%rax,%r12
 	addq	%rbx,%rax
-	addq	%r9,%r13
+	addq	%r9,%rbp
 	movzbl	112(%rsp),%r14d
 	movb	%r14b,(%rdx,%rax)
-	addq	%rbp,%rbx
+	addq	%r12,%rbx
 	incq	%rbx
 	movq	%rsi,%rax
-	subq	%r13,%rax
-	addq	16(%rsp),%r11
+	subq	%rbp,%rax
+	addq	24(%rsp),%r11
 	addq	%r9,%r15
 	cmpq	%rax,%r9
 	jae	49b
 63:
-	movq	%rbp,%rax
-	leaq	(%rdi,%r13),%rbp
+	movq	%r12,%rax
+	leaq	(%rdi,%rbp),%r13
 	xorl	%r14d,%r14d
 	.p2align	4
 64:
@@ -1113,10 +1124,10 @@
 	jne	64b
 	testb	$1,%r9b
 	je	62b
-	movzbl	(%rbp,%r10),%r14d
-	movzwl	(%rcx,%r14,2),%ebp
-	leaq	(%rdx,%rbx),%r14
-	movw	%bp,(%r14,%r10,2)
+	movzbl	(%r13,%r10),%r14d
+	movzwl	(%rcx,%r14,2),%r14d
+	leaq	(%rdx,%rbx),%r12
+	movw	%r14w,(%r12,%r10,2)
 	jmp	62b
 	hex_end	faster_hex_1_0_0_x86_64_encode_grouped
 	hex_cfi	endproc
@@ -1286,7 +1297,7 @@
 26:
 	movq	%r11,%rsi
 	movl	%r10d,%edx
-	callq	faster_hex_1_0_0_x86_64_core_backend_Backend_find_invalid
+	callq	faster_hex_1_0_0_x86_64_core_backend_Backend_first_invalid
 	movq	48(%rsp),%r8
 	movq	56(%rsp),%r11
 	movq	8(%rsp),%r10
@@ -1347,7 +1358,7 @@
 	leaq	(%rbx,%r13),%rdi
 	movq	%rax,%rsi
 	movq	8(%rsp),%rdx
-	callq	faster_hex_1_0_0_x86_64_core_backend_Backend_find_invalid
+	callq	faster_hex_1_0_0_x86_64_core_backend_Backend_first_invalid
 	movq	40(%rsp),%r9
 	movq	32(%rsp),%rsi
 	movq	%rdx,%rcx
@@ -1433,7 +1444,7 @@
 	movq	%r11,%rsi
 	movl	%r10d,%edx
 	movq	%r11,%r14
-	callq	faster_hex_1_0_0_x86_64_core_backend_Backend_find_invalid
+	callq	faster_hex_1_0_0_x86_64_core_backend_Backend_first_invalid
 	cmpb	$1,%al
 	je	75f
 	leaq	(%r12,%r14),%rbx
@@ -1741,7 +1752,7 @@
 	hex_cfi	offset %rbx,-16
 	movq	%rdi,%rbx
 	movzbl	%dl,%edx
-	callq	faster_hex_1_0_0_x86_64_core_backend_Backend_find_invalid
+	callq	faster_hex_1_0_0_x86_64_core_backend_Backend_first_invalid
 	testb	%al,%al
 	je	4f
 	movq	%rdx,%rax
@@ -1786,11 +1797,11 @@
 	.zero	48,255
 	.ascii	"\000\001\002\003\004\005\006\007\b\t\377\377\377\377\377\377\377\n\013\f\r\016\017"
 	.zero	185,255
-	hex_constant	.L100_static.8
-.L100_static.8:
-	.ascii	"000102030405060708090A0B0C0D0E0F101112131415161718191A1B1C1D1E1F202122232425262728292A2B2C2D2E2F303132333435363738393A3B3C3D3E3F404142434445464748494A4B4C4D4E4F505152535455565758595A5B5C5D5E5F606162636465666768696A6B6C6D6E6F707172737475767778797A7B7C7D7E7F808182838485868788898A8B8C8D8E8F909192939495969798999A9B9C9D9E9FA0A1A2A3A4A5A6A7A8A9AAABACADAEAFB0B1B2B3B4B5B6B7B8B9BABBBCBDBEBFC0C1C2C3C4C5C6C7C8C9CACBCCCDCECFD0D1D2D3D4D5D6D7D8D9DADBDCDDDEDFE0E1E2E3E4E5E6E7E8E9EAEBECEDEEEFF0F1F2F3F4F5F6F7F8F9FAFBFCFDFEFF"
 	hex_constant	.L100_static.9
 .L100_static.9:
+	.ascii	"000102030405060708090A0B0C0D0E0F101112131415161718191A1B1C1D1E1F202122232425262728292A2B2C2D2E2F303132333435363738393A3B3C3D3E3F404142434445464748494A4B4C4D4E4F505152535455565758595A5B5C5D5E5F606162636465666768696A6B6C6D6E6F707172737475767778797A7B7C7D7E7F808182838485868788898A8B8C8D8E8F909192939495969798999A9B9C9D9E9FA0A1A2A3A4A5A6A7A8A9AAABACADAEAFB0B1B2B3B4B5B6B7B8B9BABBBCBDBEBFC0C1C2C3C4C5C6C7C8C9CACBCCCDCECFD0D1D2D3D4D5D6D7D8D9DADBDCDDDEDFE0E1E2E3E4E5E6E7E8E9EAEBECEDEEEFF0F1F2F3F4F5F6F7F8F9FAFBFCFDFEFF"
+	hex_constant	.L100_static.10
+.L100_static.10:
 	.ascii	"000102030405060708090a0b0c0d0e0f101112131415161718191a1b1c1d1e1f202122232425262728292a2b2c2d2e2f303132333435363738393a3b3c3d3e3f404142434445464748494a4b4c4d4e4f505152535455565758595a5b5c5d5e5f606162636465666768696a6b6c6d6e6f707172737475767778797a7b7c7d7e7f808182838485868788898a8b8c8d8e8f909192939495969798999a9b9c9d9e9fa0a1a2a3a4a5a6a7a8a9aaabacadaeafb0b1b2b3b4b5b6b7b8b9babbbcbdbebfc0c1c2c3c4c5c6c7c8c9cacbcccdcecfd0d1d2d3d4d5d6d7d8d9dadbdcdddedfe0e1e2e3e4e5e6e7e8e9eaebecedeeeff0f1f2f3f4f5f6f7f8f9fafbfcfdfeff"
 	hex_addresses	.L100_switch.table.faster_hex_1_0_0_x86_64_decode_grouped.16
 	.p2align	3,0x0
