@@ -1,4 +1,4 @@
-"""What several tests share: paths, compilers, commands that must end as a test says, and programs over a library."""
+"""What several tests share: paths, compilers, functions that run commands, and programs that use a library."""
 import os
 import random
 import re
@@ -13,7 +13,7 @@ TOP = Path(__file__).resolve().parent.parent
 OUT = TOP / "out"
 TESTS_IN_C = TOP / "tests/c"
 CRATE = TOP / "crates/faster_hex_c"
-# The calls that the builds have, and all names of the header.
+# The calls that each build has, and all functions of the header.
 CALLS = re.findall(r"^[a-z].* (faster_hex_[a-z_]*)\(", (CRATE / "faster_hex.h").read_text(), re.M)
 NAMES = [*CALLS, "faster_hex_status_text", "faster_hex_version"]
 VERSION = re.search("^VERSION = (.*)", (TOP / "Makefile").read_text(), re.M)[1]
@@ -22,11 +22,11 @@ CC, CXX = os.environ.get("CC") or "cc", os.environ.get("CXX") or "c++"
 CARGO, RUSTC = os.environ.get("CARGO") or "cargo", os.environ.get("RUSTC") or "rustc"
 ARM_CC, ON_ARM = "aarch64-linux-gnu-gcc", "qemu-aarch64 -L /usr/aarch64-linux-gnu"
 WINDOWS_CC = "x86_64-w64-mingw32-gcc"
-# Without tools that the system did not bring, as the Rattle toolchain.
+# An environment with the tools of the system only, so without the Rattle toolchain.
 BY_SYSTEM = {"PATH": "/usr/bin:/bin"}
-# How many seconds a command of a test may take, and one that proves.
+# The most seconds that a command of a test may take, and one that proves.
 LIMIT, OF_PROOFS = 900, 14400
-# What the examples in Rust print, and those in C and C++.
+# The output of the examples in Rust, and of those in C and C++.
 HELLO = "68656c6c6f\n"
 BY_RUST = HELLO + "hello\ninvalid hex byte 0x46 at index 2\ndigits up to index 4\n"
 PRINTED = BY_RUST + "00:1B:21:AB\n4 bytes, the last 0xab\n"
@@ -39,19 +39,19 @@ INSTALLED = """bin/fhex bin/fhex-stream share/man/man1/fhex.1 share/man/man1/fhe
 INSTALLED += [f"lib/{name}" for name in SHARED] + [f"share/man/man3/{name}.3" for name in NAMES]
 OF_RUST = *TOP.glob("bindings/rust/src/*.rs"), *TOP.glob("generated/*.*"), TOP / "generated/PROVED"
 INSTALLED += [f"share/faster_hex/rust/{it.relative_to(TOP)}" for it in OF_RUST]
-# What lengths are drawn from, in each run anew, unless it is given.
+# The seed of random lengths. It is new in each run, unless SEED is given.
 SEED = os.environ.get("SEED") or f"{random.SystemRandom().randrange(10 ** 9)}"
 STRICT = ["-Wall", "-Wextra", "-Wpedantic", "-Wconversion", "-Werror", f"-I{CRATE}"]
 BUILT = "-std=gnu99 -O1 -g -pthread".split()
-# The builds for x86-64, each with a flag of the processors that run it.
+# The builds for x86-64, each with a flag of /proc/cpuinfo that its processors have.
 BUILDS = {"x86-64": "sse2", "x86-64-v2": "sse4_2", "x86-64-v3": "avx2", "x86-64-v4": "avx512bw"}
-# Models of processors of qemu, and the build that a call takes there.
+# Processor models of qemu, and the build that a call uses there.
 MODELS = {"qemu64": "x86_64", "qemu64,-sse3": "x86_64", "Nehalem": "x86_64_v2", "Haswell": "x86_64_v3"}
 MODELS |= dict.fromkeys(("Haswell,-avx2", "Haswell,-avx", "Haswell,-xsave"), "x86_64_v2")
 
 
 def needs(*tools):
-    """Leaves a test out where a command is not there."""
+    """Skips a test if a command is not installed."""
     if lacks := [it for it in tools if not shutil.which(it)]:
         pytest.skip(f"there is no {' and no '.join(lacks)}")
 
@@ -61,7 +61,7 @@ def make(*words, top=TOP):
 
 
 def only(folder, tools):
-    """An environment in which these tools alone are found, by their names."""
+    """An environment in which only these tools are found. `tools` maps a name to the command that it stands for."""
     folder.mkdir()
     for name in filter(lambda it: shutil.which(tools[it]), tools):
         (folder / name).symlink_to(shutil.which(tools[name]))
@@ -70,7 +70,8 @@ def only(folder, tools):
 
 
 def ran(words, timeout=LIMIT, **how):
-    """A command that has ended, with what it printed. After so many seconds it is ended, with all that it started."""
+    """Runs a command, and returns its status and output. After `timeout` seconds it is killed, with all that it
+    started."""
     pipes = {"stdout": subprocess.PIPE, "stderr": subprocess.STDOUT, "text": True, "errors": "replace"}
     given = how.pop("input", None)
     if given is not None:
@@ -87,7 +88,8 @@ def ran(words, timeout=LIMIT, **how):
 
 
 def runs(words, status=0, out=None, err=None, **how):
-    """What a command prints, which must end with this status and print this, where some is given."""
+    """Runs a command that must end with this status, and must print `out` and `err` if they are given. Returns its
+    output."""
     done = ran(words, **{"stderr": subprocess.PIPE, **how})
     said = f"{words} ended with {done.returncode}:\n{done.stdout}{done.stderr}"
     assert done.returncode == status, said
@@ -96,7 +98,7 @@ def runs(words, status=0, out=None, err=None, **how):
 
 
 def passes(words, **how):
-    """Runs tests that print `N passed, M failed`, or what `cargo test` does: some must pass, and none fail."""
+    """Runs tests that print `N passed, M failed` or the summary of `cargo test`. Some must pass, and none may fail."""
     done = ran(words, **how)
     found = re.findall(r"^(?:test result: \w+\. )?(\d+) passed[,;] (\d+) failed", done.stdout, re.M)
     passed, failed = (sum(int(it[at]) for it in found) for at in (0, 1))
@@ -104,24 +106,25 @@ def passes(words, **how):
 
 
 def drawn_lengths():
-    """Some 200 lengths up to a million, short ones as often as long ones."""
+    """Some 200 random lengths up to a million. Their logarithms are evenly distributed, so many of them are short."""
     chance = random.Random(SEED)
     return sorted({int(2 ** chance.uniform(0, 20)) for _ in range(250)})
 
 
 def has_files(folder, files):
-    """Compares the files below a folder with these names."""
+    """Checks that exactly these files are below a folder."""
     assert {str(it.relative_to(folder)) for it in folder.rglob("*") if not it.is_dir()} == {*files}
 
 
 def needs_clone():
-    """Leaves a test out in an unpacked package."""
+    """Skips a test in an unpacked package, which is no clone."""
     if not (TOP / ".git").exists():
         pytest.skip("this is no clone by git")
 
 
 def own_files():
-    """The names of what the repository has of its own, or of what an unpacked package has and no command made."""
+    """The names of the files that belong to the repository, without those that commands made. In an unpacked package
+    these are all files outside out/."""
     if not (TOP / ".git").exists():
         found = (it.relative_to(TOP) for it in TOP.rglob("*") if it.is_file())
         return [f"{it}" for it in found if not {"out", "__pycache__", ".pytest_cache"} & {*it.parts}]
@@ -130,7 +133,7 @@ def own_files():
 
 
 def copied(names, to):
-    """Copies these files of the repository to a folder."""
+    """Copies these files of the repository into a folder."""
     for name in names:
         (to / name).parent.mkdir(parents=True, exist_ok=True)
         shutil.copy(TOP / name, to / name)
@@ -138,29 +141,30 @@ def copied(names, to):
 
 
 def compiled(compiler, program, *words):
-    """Has a compiler build what includes the header, with nothing to say."""
+    """Builds a program that includes the header. The compiler must not warn."""
     needs(compiler)
     runs([compiler, *STRICT, "-o", program, *words])
     return program
 
 
 def tries(made, compiler, library, options="", tool="", words=""):
-    """Runs the checks of library.c over a library."""
+    """Builds library.c with a library and runs its checks."""
     needs(compiler, *tool.split()[:1])
     built = [*options.split(), *BUILT, TESTS_IN_C / "library.c", library]
     passes([*tool.split(), compiled(compiler, made / "library", *built), *words.split()])
 
 
 def shared_of(made, folder):
-    """A shared library by the name that the loader asks for, and the option by which it is found."""
+    """Links a shared library to the name that the loader looks for. Returns the link, and the option with which it is
+    found."""
     name = made / SHARED[1]
     name.symlink_to(folder / SHARED[2])
     return name, f"-Wl,-rpath,{made}"
 
 
 def alone(made, build):
-    """What links one build alone: a file that gives its calls the names of the header. Those that the build for
-    AVX-512 leaves out are of the one for AVX2."""
+    """An option for the linker that gives the calls of one build the names of the header, so that no other build is
+    linked. Calls that the build for AVX-512 does not have are those of the build for AVX2."""
     if not re.search(rf"\b{BUILDS[build]}\b", Path("/proc/cpuinfo").read_text()):
         pytest.skip(f"the processor has no {BUILDS[build]}")
     named = lambda it, build: it.replace("hex_", f"hex_{VERSION}_{build}_").replace(".", "_").replace("-", "_")
@@ -172,26 +176,27 @@ def alone(made, build):
 
 
 def is_locked(shared):
-    """Has nobody write a shared library once it is loaded, or run its stack."""
+    """Checks that a loaded shared library can't be written, and that its stack can't be executed."""
     said = ran(["readelf", "-ldW", shared]).stdout
     assert all(it in said for it in ("GNU_RELRO", "BIND_NOW", "[libfaster_hex.so.1]")) and "TEXTREL" not in said
     assert re.search(" GNU_STACK .* RW ", said) and " RWE " not in said
 
 
 def shows_names(shared):
-    """Has a shared library show the header's names alone, for programs that ask for this interface."""
+    """Checks that a shared library exports exactly the header's functions, with the version of the interface."""
     said = ran(["readelf", "-W", "--dyn-syms", shared]).stdout
     assert {*re.findall(r" (\w+)@@FASTER_HEX_1$", said, re.M)} == {*NAMES}
 
 
 def stands_alone(archive):
-    """Has an archive ask for nothing and no linker make its code, of which each call can be left out."""
+    """Checks that an archive has machine code, without code for link-time optimization or a stack protector, and that
+    each call has a section of its own, so that a linker can leave it out."""
     said = ran(["readelf", "-SsW", archive]).stdout
     assert ".text.faster_hex_decode" in said and not re.search("[.]gnu[.]lto_|__stack_chk", said)
 
 
 def takes(made, model, program, out):
-    """Has a program take the build for a model, of which qemu's log has the names."""
+    """Checks which build a program uses on a processor model, by the names in qemu's log."""
     needs("qemu-x86_64")
     runs(["qemu-x86_64", "-cpu", model, "-d", "in_asm", "-D", made / "log", program], out=out)
     names = r"^IN: faster_hex_[\d_]*_(x86_64(?:_v\d)?)_"
@@ -199,7 +204,7 @@ def takes(made, model, program, out):
 
 
 def by_cmake(source, built, *options, tool="", **how):
-    """Builds the programs of examples/c, or of a copy of it, by CMake, and runs them."""
+    """Builds the programs of examples/c, or of a copy of it, with CMake, and runs them."""
     needs("cmake")
     runs(["cmake", "-S", source, "-B", built, *options], **how)
     runs(["cmake", "--build", built], **how)

@@ -1,4 +1,4 @@
-"""Fixtures: what is built or copied for many tests. README.md says which test notices what."""
+"""Fixtures: what is built or copied for many tests. README.md says what each test checks."""
 import os
 from pathlib import Path
 
@@ -11,7 +11,8 @@ from packages import REGISTRY, over
 
 @pytest.fixture(scope="session", autouse=True)
 def environment(tmp_path_factory):
-    """What each command finds. `make` hands on its own options, and asks for processors that nobody lends here."""
+    """The environment of all commands. The variables in which `make` passes on its options are removed, because a
+    `make` in a test would wait for processors that the outer one does not lend."""
     made = tmp_path_factory.mktemp("made")
     for name in ("MAKEFLAGS", "MFLAGS", "MAKELEVEL"):
         os.environ.pop(name, None)
@@ -25,7 +26,7 @@ def pytest_terminal_summary(terminalreporter):
 
 @pytest.fixture(scope="session")
 def library():
-    """The folder of the library: the one that FASTER_HEX_LIB names, or that of `make lib`."""
+    """The folder with the library: the one that FASTER_HEX_LIB names, or the one of `make lib`."""
     if named := os.environ.get("FASTER_HEX_LIB"):
         return Path(named).absolute()
     runs(make("lib"))
@@ -34,7 +35,7 @@ def library():
 
 @pytest.fixture(scope="session")
 def arm():
-    """The folder of library and program for aarch64."""
+    """The folder with the library and the programs for aarch64."""
     needs(ARM_CC)
     runs(make("TARGET=aarch64", f"CC={ARM_CC}"))
     return OUT / "aarch64"
@@ -42,7 +43,7 @@ def arm():
 
 @pytest.fixture(scope="session")
 def fhex():
-    """The program: the one that FHEX names, or that of `make fhex`."""
+    """The program fhex: the one that FHEX names, or the one of `make fhex`."""
     if named := os.environ.get("FHEX"):
         return Path(named).absolute()
     runs(make("fhex"))
@@ -51,12 +52,13 @@ def fhex():
 
 @pytest.fixture
 def copy(tmp_path):
-    """A copy of what the repository has of its own, as it stands here."""
+    """A copy of the repository's own files, as they are now."""
     return copied(own_files(), tmp_path / "a copy")
 
 
 @pytest.fixture(scope="session")
 def cargo(tmp_path_factory):
-    """How cargo is called over a folder of crates, without a network. It refuses a folder that is not there."""
+    """The command for cargo, with a folder of crates in place of the network. Without that folder, an empty one is
+    used, since cargo refuses one that does not exist."""
     needs(CARGO)
     return over(REGISTRY if REGISTRY.is_dir() else tmp_path_factory.mktemp("crates"))

@@ -1,4 +1,4 @@
-"""Packages of the Rust crate, and crates that cargo takes from a folder in place of a registry."""
+"""Packages of the Rust crate, and the crates that cargo takes from a folder in place of a registry."""
 import functools
 import os
 import re
@@ -9,24 +9,24 @@ import pytest
 
 from commands import CARGO, TOP, copied, ran
 
-# The folder of crates that CRATES names, or that of Debian's packages, which have such names as librust-hex-dev.
+# The folder of crates that CRATES names, or the one of Debian's packages. Such a package is librust-hex-dev.
 REGISTRY = Path(os.environ.get("CRATES") or "/usr/share/cargo/registry").absolute()
-# What the feature serde wants.
+# The crates that the feature serde needs.
 OF_SERDE = ["serde", "serde_json", "bincode"]
 
 
-# The features that tests want of crates.
+# The features of crates that tests need.
 FEATURES = {"serde": ["derive"]}
 
 
 def over(registry):
-    """How cargo is called over a folder of crates, without a network."""
+    """The command for cargo, with a folder of crates in place of the network."""
     return [CARGO, "--config", 'source.crates-io.replace-with="here"', "--config", f'source.here.directory="{registry}"']
 
 
 @functools.cache
 def is_there(name, registry):
-    """Whether a folder of crates has one, and all that it needs."""
+    """Whether a folder of crates has a crate and everything that it needs."""
     if not any(registry.glob(f"{name}-[0-9]*")):
         return False
     with tempfile.TemporaryDirectory() as own:
@@ -37,18 +37,18 @@ def is_there(name, registry):
 
 
 def lacking(names, registry=REGISTRY):
-    """Those of these crates which are not there, or of which something that they need is not."""
+    """The crates among these that are not there, or that need something that is not there."""
     return [name for name in names if not is_there(name, registry)]
 
 
 def needs_crates(*names):
-    """Leaves a test out where a crate is not there."""
+    """Skips a test if a crate is not there."""
     if lacks := lacking(names):
         pytest.skip(f"there is no crate {' and no '.join(lacks)}")
 
 
 def without(manifest, names):
-    """Leaves out of a manifest the lines of these crates, and the features of their names."""
+    """Removes the lines of these crates from a manifest, and the features with their names."""
     lines = "|".join(rf'^{name} = .*\n|(, )?"{name}"' for name in names) or "^$."
     manifest.write_text(re.sub(lines, "", manifest.read_text(), flags=re.M))
 

@@ -1,4 +1,4 @@
-"""The examples of the Rust crate, by feature and target, and programs that cargo builds over it."""
+"""The examples of the Rust crate, for each feature and target, and programs that cargo builds with it."""
 import os
 import re
 from pathlib import Path
@@ -10,7 +10,7 @@ from commands import (ARM_CC, BY_RUST, CARGO, CC, HELLO, MODELS, ON_ARM, RUSTC, 
 from packages import OF_SERDE, files_of_package, lacking, needs_crates, packed, without
 
 EXAMPLE = TOP / "examples/rust"
-# Targets of which Rust's own library is seldom there, with a linker and what runs their programs.
+# Targets for which Rust's own library is often not installed, each with a linker and the command that runs programs.
 TARGETS = {"aarch64-unknown-linux-gnu": (ARM_CC, ON_ARM), "x86_64-pc-windows-gnu": (WINDOWS_CC, "wine")}
 TEST = "test -q --no-default-features --features".split()
 BOTH = """
@@ -22,9 +22,9 @@ BOTH = """
         println!("{text}\\n{}", later::Hex::new(&later::hex_decode_vec(text.as_bytes()).unwrap()));
     }"""
 
-# Versions of faster-hex that a program asks for, and whether this crate may take its place.
+# Versions of faster-hex that a program asks for, and whether this crate can replace it there.
 ASKED = {"1": True, "1.0": True, "1.0.1": False, "1.1": False}
-# A library that a program loads, and that hands on the crate; and calls of all builds in a program.
+# A shared library that exports the crate again, and a part of a program that makes calls of all builds through it.
 DYLIB = """[package]
 name = "between"
 edition = "2021"
@@ -51,7 +51,8 @@ static CALLED: fn() = || {
 
 @pytest.fixture(scope="module")
 def package(tmp_path_factory):
-    """For a crate under test cargo looks up all that it may take: this does without what is not there."""
+    """The package of the crate, without dependencies that are not installed: to test a crate, cargo looks up even its
+    optional ones."""
     package = packed(tmp_path_factory.mktemp("package"))
     without(package / "Cargo.toml", OF_SERDE if lacking(OF_SERDE[:2]) else [])
     return package
@@ -80,7 +81,7 @@ def test_doc_comments(cargo, package, features):
 
 @pytest.mark.parametrize("way", ["path", "git"])
 def test_program_by_cargo_alone(tmp_path, way):
-    """Without an assembler, by all of generated/ for the processor."""
+    """Cargo builds the program without an assembler, and uses all files of generated/ for the processor."""
     needs(CARGO)
     crate, own = packed(tmp_path / "crate"), tmp_path / "own"
     if way == "git":
@@ -109,7 +110,7 @@ def test_two_versions_and_the_archive_in_one_program(tmp_path, library, words):
 
 @pytest.mark.parametrize("words", [[], ["--release"]])
 def test_program_over_a_dylib(tmp_path, words):
-    """What is inlined into the program finds each build in the library between."""
+    """Calls that are inlined into the program find each build in the shared library that is between."""
     needs(CARGO)
     crate, between = packed(tmp_path / "crate"), tmp_path / "between"
     texts = {"src/lib.rs": "pub use faster_hex;\n", "Cargo.toml": DYLIB.format(crate)}
@@ -124,7 +125,7 @@ def test_program_over_a_dylib(tmp_path, words):
 
 @pytest.mark.parametrize("asked", ASKED)
 def test_versions_that_a_patch_replaces(tmp_path, asked):
-    """Beside later versions of faster-hex, from a folder in place of a registry."""
+    """The versions that `[patch]` replaces, if a folder in place of a registry has later versions of faster-hex."""
     needs(CARGO)
     crate, own = packed(tmp_path / "crate"), tmp_path / "own"
     without(crate / "Cargo.toml", OF_SERDE)

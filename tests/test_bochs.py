@@ -1,5 +1,5 @@
-"""The library on processors that bochs emulates, without a system: which level dispatch.c finds, and the answers of the
-build that a call takes there. The build for AVX-512 is so tested on any machine."""
+"""The library on processors that bochs emulates, without an operating system: the level that dispatch.c finds, and the
+answers of the build that a call uses there. So the build for AVX-512 is tested on any machine."""
 import os
 import re
 from pathlib import Path
@@ -8,12 +8,12 @@ import pytest
 
 from commands import CC, CRATE, TESTS_IN_C, needs, ran, runs
 
-# A model of bochs, the registers that a system saves there, the level, and the most digits: other tests run the builds
-# below the one for AVX-512.
+# A processor model of bochs, the registers that a system would save, the level, and the most digits. These are few
+# except for AVX-512, because other tests run the other builds.
 SAVES_AVX, SAVES_AVX512 = 0x7, 0xe7
 RUN = [("corei7_skylake_x", SAVES_AVX512, 4, 560), ("corei7_skylake_x", SAVES_AVX, 3, 64),
        ("corei7_haswell_4770", SAVES_AVX, 3, 64), ("corei7_sandy_bridge_2600k", SAVES_AVX, 2, 64)]
-# Without a window, a sound or a port of the network.
+# Without a window, sound or a network port.
 SETTINGS = """megs: 64
 cpu: model={model}, count=1, ips=200000000, reset_on_triple_fault=0
 romimage: file={folder}/rom, address=0xfff80000
@@ -40,7 +40,7 @@ def test_model(tmp_path, library, model, saved, level, most):
     runs(["ld", "-T", TESTS_IN_C / "bare.ld", "-e", "bare", "-o", program, *objects])
     runs(["objcopy", "-O", "binary", program, tmp_path / "rom"])
     (tmp_path / "settings").write_text(SETTINGS.format(model=model, folder=tmp_path))
-    # Debian's bochs begins in its debugger, which goes on by the word c.
+    # Debian's bochs starts in its debugger. The command c continues.
     env = {**os.environ, "TERM": "vt100"}
     said = ran(["bochs", "-q", "-f", tmp_path / "settings"], input="c\n", timeout=300, env=env).stdout
     assert f"level {level}" in said and re.search(r"\d{3} passed, 0 failed", said), said[-2000:]

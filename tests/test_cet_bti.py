@@ -1,5 +1,6 @@
-"""The marks by which processors let indirect branches come out nowhere else: what the library's objects say, what a
-linker says that wants them, and that no branch of a build is indirect."""
+"""Control-flow protection (CET on x86-64, BTI on aarch64). Functions must begin with the instruction at which an
+indirect branch may arrive, objects must say so in a note, a linker that requires the note must accept them, and no
+branch of a build may be indirect."""
 import re
 
 import pytest
@@ -7,7 +8,8 @@ import pytest
 from commands import ARM_CC, CC, CRATE, TOP, needs, ran, runs
 
 pytestmark = pytest.mark.quick
-# What the note says, the mark, a branch that is indirect, and the options by which compiler and linker want marks.
+# The text of the note, the instruction at the beginning, an indirect branch, and the options with which compiler and
+# linker require them.
 X86_64 = "IBT, SHSTK", "endbr64", r"\tjmpq?\t\*", "-fcf-protection=full -Wl,-z,cet-report=error"
 AARCH64 = "BTI", r"hint\t#34", r"\tbr\t", "-mbranch-protection=standard -Wl,-z,force-bti"
 TARGETS = {CC: X86_64, "clang": X86_64, ARM_CC: AARCH64}
@@ -16,7 +18,7 @@ TARGETS = {CC: X86_64, "clang": X86_64, ARM_CC: AARCH64}
 @pytest.mark.parametrize("form", ["", "-DFASTER_HEX_PORTABLE"])
 @pytest.mark.parametrize("compiler", TARGETS)
 def test_notes(tmp_path, compiler, form):
-    """Nothing of the system's is linked, since that has seldom marks."""
+    """No library of the system is linked, because few of them have the note."""
     needs(compiler, "readelf")
     note, _, _, options = TARGETS[compiler]
     words = f"-std=c11 -O2 -fPIC -nostdlib -shared {options} {form}".split()

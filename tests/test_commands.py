@@ -1,4 +1,5 @@
-"""What tests share: a command that does not end, tools that are elsewhere, and crates of which a part is missing."""
+"""Tests of commands.py and packages.py: a command that does not end, tools in other places, and a crate whose
+dependency is missing."""
 import time
 
 import pytest
@@ -10,7 +11,7 @@ pytestmark = pytest.mark.quick
 
 
 def test_command_that_does_not_end():
-    """It is ended with what it started, which holds its output."""
+    """It is killed together with what it started, which keeps its output open."""
     start = time.monotonic()
     with pytest.raises(pytest.fail.Exception, match="did not end within 1 s"):
         ran(["sh", "-c", "echo begun; sleep 60 & wait"], timeout=1)
@@ -18,7 +19,7 @@ def test_command_that_does_not_end():
 
 
 def test_where_rust_is(tmp_path, monkeypatch):
-    """It may be elsewhere than below HOME."""
+    """It may be in another place than HOME."""
     for name in "RUSTUP_HOME", "CARGO_HOME":
         monkeypatch.setenv(name, "/elsewhere")
     env = only(tmp_path / "tools", {"sh": "sh"})

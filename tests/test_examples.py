@@ -1,4 +1,4 @@
-"""The header under standards of C and C++, what the libraries show, and the examples over them."""
+"""The headers under all standards of C and C++, the symbols and sections of the libraries, and the examples."""
 import re
 
 import pytest
@@ -8,10 +8,10 @@ from commands import (ARM_CC, CALLS, CC, CRATE, CXX, NAMES, ON_ARM, PRINTED, SHA
 
 pytestmark = pytest.mark.quick
 BUILDS = [*TOP.glob("generated/x86-64*.s")]
-# The calls of the header, with what follows a source and its length.
+# The calls of the header, each with the arguments after a source and its length.
 WORDS = {"check": "", "check_with_case": "0", "first_invalid": "0", "encode": "dst, 8, 0", "decode": "dst, 2"}
 WORDS |= {"decode_with_case": "dst, 2, 0", "encode_grouped": "dst, 11, 0, 1, 58", "decode_grouped": "dst, 2, 0, 1, 58"}
-# What faster_hex.hpp refuses, and what the only error says of it, by gcc or by clang.
+# Calls that faster_hex.hpp does not let compile, each with a part of the only error, by gcc and by clang.
 LITERAL, BYTES, DELETED, NONE = "string literal", "must be bytes", "deleted", "no matching function"
 REFUSED = {
     'encode("hello")': LITERAL,
@@ -30,7 +30,7 @@ REFUSED = {
 
 @pytest.fixture(params=["x86_64", "aarch64"])
 def target(request):
-    """The folder of a library, the compilers of C and C++ for it, and what runs its programs."""
+    """The folder of a library, its compilers for C and C++, and the command that runs its programs."""
     if request.param == "aarch64":
         return request.getfixturevalue("arm"), ARM_CC, ARM_CC.replace("gcc", "g++"), ON_ARM
     return request.getfixturevalue("library"), CC, CXX, ""
@@ -45,7 +45,7 @@ def test_header(standard):
 
 @pytest.mark.parametrize("compiler", [CC, "clang", CXX])
 def test_results_that_are_not_used(tmp_path, compiler):
-    """The compiler warns of each."""
+    """The compiler warns of each of them."""
     needs(compiler)
     source = tmp_path / ("unused.cpp" if compiler == CXX else "unused.c")
     lines = [f"faster_hex_{name}(src, 4{', ' * (words != '')}{words});" for name, words in WORDS.items()]
@@ -57,7 +57,8 @@ def test_results_that_are_not_used(tmp_path, compiler):
 
 
 def test_header_that_leaves_warnings_as_they_were(tmp_path):
-    """What it uses beyond C90 is not told of it, but of what follows it."""
+    """The compiler does not warn of what the header uses beyond C90. It still warns of the same in the code after
+    it."""
     needs("clang")
     (tmp_path / "own.c").write_text("#include <faster_hex.h>\n_Bool own;\n")
     words = ["clang", "-std=c90", "-Wc99-extensions", "-fsyntax-only", f"-I{CRATE}", tmp_path / "own.c"]
@@ -65,8 +66,8 @@ def test_header_that_leaves_warnings_as_they_were(tmp_path):
 
 
 def test_names_and_state_of_the_archive(target):
-    """It shows the header's calls alone, asks for none, has no other name that two programs could both have, and the
-    choice of a build as its state."""
+    """It exports only the header's functions and needs no external symbols. It has no other name that another library
+    could have too. Its only state is the byte for the choice of a build."""
     folder, *_, runner = target
     said = ran(["readelf", "-SsW", folder / "libfaster_hex.a"]).stdout
     found = re.findall(r"^ *\d+: \w+ +\w+ \w+ +(GLOBAL|WEAK) +(\w+) +(\w+) (\S+)$", said, re.M)
@@ -76,13 +77,14 @@ def test_names_and_state_of_the_archive(target):
     assert {name for *_, place, name in found if place == "UND"} <= given
     assert {*re.findall(r" \.text\.faster_hex_\d\S+ .* (\d+)$", said, re.M)} == {"64"}
     said = ran(["nm", "-S", folder / "libfaster_hex.a"]).stdout
-    # (names as $d mark a place of ARM's code)
+    # Names such as $d mark places in code for ARM.
     found = re.findall(r"^\w+ 0*([1-9a-f]\w*) [BbCDd] ([^$\s]\S*)$", said, re.M)
     assert found == ([] if runner else [("1", "level")])
 
 
 def test_sections_of_the_archive(target):
-    """Only addresses, which a loader fills in, and the choice of a build can be written. No stack is run."""
+    """The only writable sections are for addresses, which a loader fills in, and for the choice of a build. Each object
+    says that it needs no executable stack."""
     said = ran(["readelf", "-SW", target[0] / "libfaster_hex.a"]).stdout
     found = re.findall(r"\] (\.\S+) +[A-Z_]+ +0{16} \w+ (\w+) \w+ +([A-Z]*) +\d+ +\d+ +\d+$", said, re.M)
     written = [name for name, size, flags in found if "W" in flags and int(size, 16)]
@@ -97,7 +99,7 @@ def test_names_of_the_shared_library(target):
 
 
 def test_frames_of_the_builds(library):
-    """A debugger can walk out of each function, by all that generated/ says of its frame."""
+    """A debugger can walk out of each function: the object has all that generated/ says of its frame."""
     said = ran(["readelf", "-sW", "-wf", library / "builds.o"]).stdout
     moves = re.findall(r"^\thex_cfi\tdef_cfa_offset", "".join(it.read_text() for it in BUILDS), re.M)
     assert said.count(" FDE ") == said.count(" FUNC ") and said.count("DW_CFA_def_cfa_offset: ") == len(moves) > 0
@@ -122,7 +124,7 @@ def test_header_of_cpp(tmp_path, library, compiler, standard):
 @pytest.mark.parametrize("call", REFUSED)
 @pytest.mark.parametrize("compiler, standard", [(CXX, "c++20"), ("clang++", "c++17")])
 def test_what_the_header_of_cpp_refuses(tmp_path, compiler, standard, call):
-    """A call that would read something else than it says is not compiled, and one error says why."""
+    """A call that would read something other than it seems to does not compile, and one error says why."""
     needs(compiler)
     text = f"""#include "faster_hex.hpp"
         std::string text;

@@ -1,13 +1,14 @@
-"""Examples, `fhex decode` and `fhex vectors`, with one growth after another refused. It takes some minutes."""
+"""Examples, `fhex decode` and `fhex vectors` with failing allocations: each allocation fails once. It takes some
+minutes. A growth is an allocation or a reallocation, and the runs count them from 1."""
 import re
 
 import pytest
 
 from commands import TOP, ran, runs
 
-# The examples that make the four calls that take memory, and what reports want of it.
+# The examples that make the four calls that allocate.
 FOUR = r"(faster_hex_lib::lib|(faster_hex_(option_)?modules|long)::(option_)?(with|no)pfx_[a-z]*)_example"
-# The same four calls of a module, of many bytes, after one that writes none where it can.
+# A test with the same four calls for many bytes. Where a module has options, a call that writes none comes before them.
 LONG = """
 #[test]
 fn {0}_example(rt: HostRuntime) -> Result<(), Fail> {{
@@ -27,7 +28,7 @@ WANT = "^ *(error|left): .*(OutOfMemory|AllocError|out of memory)"
 
 @pytest.fixture(scope="module")
 def examples(tmp_path_factory):
-    """The crate of the examples, and of long texts."""
+    """The crate of the examples, with tests of long texts added."""
     made = tmp_path_factory.mktemp("examples") / "made"
     runs([TOP / "scripts/examples", "--write", made])
     source = made / "crates/doc_examples/src"
@@ -41,17 +42,17 @@ def examples(tmp_path_factory):
 
 
 def is_refused(name, growth, passes, told):
-    """Whether an example wants memory: it passes, or says so, as its error or as what an assertion found. Those of
-    the library's root, of JSON modules and of long texts for each make the four calls that take memory, one growth
-    each: they fail exactly where one of the first four is refused, by the error of that call. So `null` is written
-    and read without one."""
+    """Whether an example failed for want of memory. If it did, its error or its assertion must say so, and otherwise it
+    must pass. The examples of FOUR make four calls with one growth each, so they must fail exactly if one of the first
+    four growths fails, with the error of that call. This also shows that `null` is written and read without a
+    growth."""
     refused = re.search(WANT, told, re.M)
     if name.endswith("::serve_example"):
         refused = refused or re.search("^ *left: 3$", told, re.M)
     if re.fullmatch(FOUR, name):
         refused = growth <= 4 and re.search(r"^ *error: Codec\(OutOfMemory\)$", told, re.M)
         passes = growth > 4 and passes
-    # The allocator that refuses growths has its own examples end otherwise.
+    # The examples of the refusing allocator itself may end in another way.
     assert passes or refused or name.startswith("test_kit_refusing"), f"{name}, growth {growth}: {told}"
     return bool(refused)
 
@@ -71,7 +72,7 @@ def test_examples(examples):
 
 
 def wants_memory(word, growth, given, answer, status=0):
-    """Whether fhex wants memory, where a growth is refused: it says so, or answers as with ample memory."""
+    """Whether fhex fails for want of memory if a growth fails. It must say so, or else give its usual answer."""
     tried = ["rt", "try", "--fail-alloc", f"{growth}", "--", word]
     done = ran(tried, cwd=TOP / "crates/fhex", input=given)
     wants = done.returncode == 3 and bool(re.search("^out of memory", done.stdout, re.M))
@@ -80,7 +81,8 @@ def wants_memory(word, growth, given, answer, status=0):
 
 
 def test_fhex_decode():
-    """It can do without some growths, as that for any input, but with three in a row none is left."""
+    """It can do without some growths. After three failures in a row that it survived, there are no more growths to
+    fail."""
     found = []
     while len(found) < 3 or any(found[-3:]):
         found.append(wants_memory("decode", len(found) + 1, "68656c6c6f\n", "hello"))
@@ -88,7 +90,7 @@ def test_fhex_decode():
 
 
 def test_fhex_vectors_and_a_wrong_word():
-    """So late `vectors` asks for its lines and a list alone, and can do without none of them. After six growths for
-    a word, one that names nothing asks for no buffer."""
+    """The growths 9 and 14 of `vectors` are for its lines and a list, and it needs each of them. A word that names
+    nothing is read with six growths, and there is no seventh for a buffer."""
     assert all(wants_memory("vectors", growth, "", "total ") for growth in (9, 14))
     assert not wants_memory("Encode", 7, "", "usage: fhex ", 2)

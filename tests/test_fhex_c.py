@@ -1,6 +1,6 @@
-"""What the proved part of fhex asks of the system, in crates/fhex/fhex.c, which no prover sees: words, streams,
-memory and the processor, with failures injected and under sanitizers; and the program beside the one that the
-toolchain links."""
+"""The C code of fhex, crates/fhex/fhex.c, which is not proved. It gives the proved part arguments, streams and memory,
+and checks the processor. It is tested with injected failures and under sanitizers, and fhex is compared with the
+program that the toolchain links."""
 import errno
 import os
 import random
@@ -16,7 +16,7 @@ DIGITS = BYTES.hex().encode() + b"\n"
 NO_MEMORY, NOT_READ, NOT_WRITTEN = ((3, b"", it) for it in (b"out of memory\n", b"read failed\n", b"write failed\n"))
 WRAPPED = "-Wl,--wrap=read,--wrap=write,--wrap=malloc,--wrap=realloc,--wrap=madvise"
 LARGE_PAGES = 14
-# A call that fails, its number among those of its name, why, and how `encode` then ends.
+# A system call that fails, which one of that name, the reason, and how `encode` then ends.
 FAILURES = [
     ("read", 1, errno.EINTR, NOT_READ),
     ("read", 2, errno.EIO, NOT_READ),
@@ -28,7 +28,7 @@ FAILURES = [
 
 @pytest.fixture(scope="session")
 def failing(tmp_path_factory):
-    """The program under sanitizers, which fails as asked."""
+    """The program with sanitizers and injected failures."""
     return built(tmp_path_factory.mktemp("failing"), CC, f"{SANITIZERS} {WRAPPED}", TESTS_IN_C / "failing.c")
 
 
@@ -45,7 +45,7 @@ def test_failed_call(failing, call, number, reason, how):
 @pytest.mark.parametrize("word", ["encode", "decode", "vectors", "Encode"])
 @pytest.mark.parametrize("call", ["malloc", "realloc"])
 def test_refused_memory(failing, call, word):
-    """Each allocation fails once: the program says so, or can do without."""
+    """Each allocation fails once. The program says so, or it can do without."""
     ample = ended(failing, word, input=DIGITS)
     found, at = [], 0
     while len(found) < 3 or NO_MEMORY in found[-3:]:
@@ -57,7 +57,8 @@ def test_refused_memory(failing, call, word):
 
 @pytest.mark.parametrize("reason", [None, errno.EINVAL])
 def test_large_pages(failing, tmp_path, reason):
-    """Only blocks from 4 MiB on ask for them: the input's, and that of a long output. A system may have none."""
+    """Large pages are requested only for blocks of at least 4 MiB: for the input and for a long output. A system may
+    have none."""
     if not Path("/sys/kernel/mm/transparent_hugepage").is_dir():
         pytest.skip("the system has no large pages")
     given, log = b"a1" * 2**22, tmp_path / "log"
@@ -69,7 +70,7 @@ def test_large_pages(failing, tmp_path, reason):
 
 
 def test_pieces(failing):
-    """Each read and each write moves at most seven bytes."""
+    """Each read and each write transfers at most seven bytes."""
     env = {**os.environ, "PIECE": "7"}
     assert ended(failing, "encode", input=BYTES, env=env) == (0, DIGITS, b"")
     assert ended(failing, "decode", input=DIGITS, env=env) == (0, BYTES, b"")
@@ -81,7 +82,7 @@ def test_words_of_each_length(failing):
 
 
 def test_long_second_words(fhex):
-    """Of each all bytes are read: they are UTF-8, or end with one that is not."""
+    """All bytes of each argument are read. They are UTF-8, or they end with a byte that is not."""
     for word in b"a", b"a" * 257, b"a" * 100_000, b"a" + b"\xc3\xa9" * 50_000:
         assert ended(fhex, "encode", word, input=BYTES) == (2, b"", USAGE)
     assert ended(fhex, "encode", b"a" * 100_000 + b"\xff", input=BYTES) == NOT_READ
@@ -109,7 +110,7 @@ def test_processor_that_lacks(fhex, lacks):
 
 
 def a_run(chance):
-    """Words and an input: half of the inputs are digits, and some of these have an error."""
+    """Random arguments and an input. Half of the inputs are digits, and some of these have an error."""
     words = [chance.choice(("encode", "encode-upper", "decode", "decode", "decode-lower", "decode-upper"))]
     if chance.random() < 0.05:
         words = chance.choice(([], ["vectors"], ["Encode"], words * 2, ["e" * chance.randrange(2000)]))
@@ -123,7 +124,7 @@ def a_run(chance):
 
 
 def test_alike(fhex):
-    """The program that the toolchain links, by its own `main` and C functions, answers alike."""
+    """The program that the toolchain links, with its own `main` and C functions, gives the same answers."""
     needs("rt")
     runs(["rt", "run", "--", "encode"], cwd=TOP / "crates/fhex", input="hello", timeout=OF_PROOFS)
     chance = random.Random(os.environ.get("SEED") or "1")

@@ -1,4 +1,5 @@
-"""Whether generated/ is what the sources give, which takes some minutes; its processors; what is inlined there."""
+"""Whether generated/ is what the sources give, which takes some minutes, whether each build uses only instructions of
+its processor, and whether functions are inlined."""
 import re
 
 import pytest
@@ -6,11 +7,11 @@ import pytest
 from commands import OF_PROOFS, TOP, runs
 
 GENERATED = TOP / "generated"
-# Words of each build's assembly: some that stand there, and some that don't.
+# A pattern that must be in each build's assembly, and one that must not.
 SPEAKS = {"x86-64": ("%rax", "pshufb|%ymm|%zmm"), "x86-64-v2": ("\tpshufb", "%ymm|%zmm")}
 SPEAKS |= {"x86-64-v3": ("\tvpshufb\t.*%ymm", "%zmm"), "x86-64-v4": ("\tvptestm.*%zmm", "_encode|_grouped")}
 SPEAKS |= {"aarch64": (r"\ttbl\t", "%")}
-# Functions that are called in some builds though they are marked to be inlined, and why.
+# Functions that are marked to be inlined but are called in some builds, and why.
 CALLED = {"codec_pieces_write_by": "it has the code for all lengths twice, and a call is small beside its loop"}
 CRATES = "hex_core", "hex_codec"
 
@@ -30,19 +31,19 @@ def test_made_of_these_sources(tmp_path, copy, is_copy):
 
 
 def marked():
-    """A pattern for each marked function, as generated/ names it."""
+    """For each function that is marked to be inlined, a pattern for its name in generated/."""
     for path in [path for it in CRATES for path in TOP.glob(f"crates/{it}/src/**/*.rt")]:
         crate, _, *place = path.with_suffix("").relative_to(TOP / "crates").parts
         found = re.findall(r"^( *)#\[inline\(always\)\]\n *(?:pub\S* )?fn (\w+)", path.read_text(), re.M)
         for margin, name in found:
-            # A method stands in the module of its type, which may be another one.
+            # The name of a method has the module of its type, which may be in another file.
             where = r"[a-z_]*[A-Z][A-Za-z\d]*" if margin else "_".join(it for it in place if it != "mod")
             yield f"{crate.removeprefix('hex_')}_{where}_{name}"
 
 
 @pytest.mark.parametrize("path", sorted(GENERATED.glob("*.s")), ids=lambda it: it.stem)
 def test_inlined(path):
-    """The toolchain drops the mark from a function that would grow very large, and says nothing."""
+    """The toolchain silently ignores the mark if a function would become very large. This test notices it."""
     build, names = r"\d+_\d+_\d+_(?:x86_64(?:_v\d)?|aarch64)", "|".join(marked())
     symbol = rf"^\thex_function\tfaster_hex_{build}_({names})_*,"
     assert {*re.findall(symbol, path.read_text(), re.M)} <= {*CALLED}

@@ -1,4 +1,4 @@
-"""What `make install` puts where, `make uninstall` takes away, and the lines of README.md. See test_pack.py too."""
+"""What `make install` installs and `make uninstall` removes, and the commands of README.md. See also test_pack.py."""
 import os
 import re
 
@@ -8,17 +8,18 @@ from commands import (ARM_CC, BY_SYSTEM, HELLO, INSTALLED, SHARED, TOP, VERSION,
                       needs, only, own_files, ran, runs)
 
 pytestmark = pytest.mark.quick
-# What `make install` takes: none of these tools builds anything.
+# The tools that `make install` may use. None of them builds anything.
 TOOLS = "sh make date dirname sed cat cut rm mv ln mkdir rmdir find sort xargs grep install sha256sum env uname"
-# Where the programs of README.md stand.
+# The files of the programs in README.md.
 FILES = {"c": "digits.c", "rust": "src/main.rs"}
-# Prefixes where `make install` fails: each names nothing, or what the test makes. Whether `make uninstall` fails too.
+# Prefixes with which `make install` fails: an empty one, and places that the test makes. The value says whether
+# `make uninstall` fails too.
 FAILING = {"": True, "file/there": False, "half": False, "taken": True}
 
 
 @pytest.fixture(scope="module")
 def top(tmp_path_factory):
-    """A copy of the repository, where all is built."""
+    """A copy of the repository in which everything is built."""
     top = copied(own_files(), tmp_path_factory.mktemp("top") / "a copy")
     runs(make(top=top), env=BY_SYSTEM)
     return top
@@ -49,7 +50,7 @@ def test_files_that_anybody_may_read(tmp_path, top, env, word):
 
 
 def test_files_of_others(tmp_path, top, env):
-    """They stay, in the library's own folders too, of which no other is left."""
+    """They stay, even in the library's own folders. All other folders of the library are removed."""
     there = ["PREFIX=/usr", f"DESTDIR={tmp_path}"]
     for keeps in False, True:
         runs(make("install", *there, top=top), env=env)
@@ -62,7 +63,7 @@ def test_files_of_others(tmp_path, top, env):
 
 
 def test_what_was_built_last(tmp_path, copy):
-    """For Windows nothing is installed, but a line names what installs there."""
+    """`make install` installs what was built last. For Windows it installs nothing, and a line says what does."""
     needs(ARM_CC, WINDOWS_CC)
     there = tmp_path / "there"
     runs(make("lib", f"CC={ARM_CC}", "CFLAGS=-O1", top=copy), env=BY_SYSTEM)
@@ -85,7 +86,7 @@ def test_upgrade(tmp_path, top, env):
 
 @pytest.mark.parametrize("prefix", FAILING)
 def test_failure(tmp_path, top, prefix):
-    """It ends with a status and one line."""
+    """It fails with one line."""
     (tmp_path / "taken/bin/fhex").mkdir(parents=True)
     (tmp_path / "half").mkdir()
     for name in "file", "half/lib":
@@ -99,8 +100,8 @@ def test_failure(tmp_path, top, prefix):
 
 
 def test_readme(tmp_path, top):
-    """Writes the programs and runs the lines of README.md up to those for Rattle, each part in a new shell and in a
-    folder beside the clone: each prints what its comment says."""
+    """Writes the programs and runs the commands of README.md, up to the section on Rattle. Each section runs in a
+    folder of its own beside the clone. Each command must print what its comment says."""
     needs("pkg-config", "cargo")
     (tmp_path / "bunkmedlar").symlink_to(top)
     text = (TOP / "README.md").read_text().partition("\n## Rattle\n")[0].replace("$HOME", f"{tmp_path}")
@@ -118,7 +119,7 @@ def test_readme(tmp_path, top):
 
 
 def test_prefix_that_is_relative(tmp_path, top, env):
-    """It counts from the repository on, and no slash stands twice."""
+    """A relative prefix counts from the repository, and installed files have no double slashes."""
     words, there = ["PREFIX=some//where/", f"DESTDIR={tmp_path}"], tmp_path / f"{top}/some/where"[1:]
     runs(make("install", *words, top=top), env=env)
     has_files(there, INSTALLED)

@@ -1,11 +1,11 @@
-"""The library and its builds by library.c, linked in several ways and run by several tools."""
+"""library.c with the library and with each build, linked in several ways and run by several tools."""
 import pytest
 
 from commands import (ARM_CC, BUILDS, BUILT, CC, CRATE, MODELS, ON_ARM, PRINTED, TESTS_IN_C, TOP, alone, compiled,
                       passes, ran, shared_of, takes, tries)
 
 SANITIZED = "-fsanitize=address,undefined -fno-sanitize-recover=all"
-# The compiler and the options that library.c is built by, what runs it, and its words.
+# The compiler and the options for library.c, the tool that runs it, and its arguments.
 RUNS = [
     (CC, "", "", ""), (CC, "", "", "threads"), (CC, "-Wl,--gc-sections", "", ""), (CC, "-static-pie", "", ""),
     (CC, SANITIZED, "", ""), (CC, SANITIZED, "", "threads"), (CC, "-fsanitize=thread", "", "threads"),

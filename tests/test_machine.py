@@ -1,5 +1,5 @@
-"""The machine code of the calls, executed on unknown bytes by machine/ and compared with hex; changed copies of it,
-which must be refused; and what machine/ takes instructions to mean, beside the processor."""
+"""Symbolic execution of the calls' machine code by machine/. Changed copies of the code must be refused. The effect
+that machine/ gives to each instruction is compared with the processor."""
 import ctypes
 import itertools
 import random
@@ -19,7 +19,8 @@ from machine.instructions import EACH, TABLE
 from machine.statements import shown
 
 GENERATED = TOP / "generated"
-# Decoded bytes: all lengths up to the first number, all up to the second, and some above.
+# Lengths in decoded bytes. The quick test has all lengths up to the first number. The other one has those up to the
+# second and some more.
 SHORT, ALL, SOME = 16, 64, (65, 79, 80, 81, 95, 96, 97, 111, 112, 113, 127, 128)
 
 
@@ -51,14 +52,14 @@ def test_call(image, is_short, build, call):
 
 @pytest.mark.quick
 def test_record():
-    """What generated/SHOWN says was shown: of these sources, of each build, each call and all lengths."""
+    """generated/SHOWN was written for these sources, and has a line for each call of each build with all lengths."""
     is_one = {it: it == "first_invalid" or it.startswith("decode") for it in CALLS}
     lines = [line(build, call, int(is_one[call])) for build in BUILDS for call in BUILDS[build]]
     assert (GENERATED / "SHOWN").read_text() == sums() + "".join(lines)
 
 
 def test_record_of_other_sources(copy):
-    """It builds first, so that it shows what it sums."""
+    """The record builds the library first, so it checks the code whose hashes it has."""
     with (copy / "generated/x86-64-v3.s").open("a") as file:
         file.write("\n")
     done = ran([sys.executable, "-m", "machine", "record"], cwd=copy / "tests")
@@ -66,7 +67,7 @@ def test_record_of_other_sources(copy):
 
 
 def changed(build, function, rule):
-    """The assembly of a build with a line of a function changed, or with each that fits."""
+    """The assembly of a build in which a line of a function is changed, or every line that fits."""
     number, pattern, instead = re.fullmatch(r"(\d+) (.*) => ?(.*)", rule).groups()
     text = (GENERATED / f"x86-64-{build}.s").read_text()
     begin, end = 0, len(text)
@@ -83,7 +84,7 @@ def changed(build, function, rule):
 
 
 def assembled(folder, text):
-    """An object, and an image of it alone."""
+    """Assembles a text, and returns the image of this object alone."""
     (folder / "made.S").write_text(text)
     runs([CC, "-c", f"-I{GENERATED}", "-o", folder / "made.o", folder / "made.S"])
     return Image(linked(folder / "image", folder / "made.o"))
@@ -100,7 +101,8 @@ def test_change(tmp_path, row):
             list(shown(code, build, call, int(length)))
 
 
-# What no processor or not the model has, beside vpaddb %zmm1,%zmm2,%zmm0, which is 62f16d48fcc1.
+# Codes that must be refused, because no processor has them or the model does not. Each is a change of 62f16d48fcc1,
+# which is vpaddb %zmm1,%zmm2,%zmm0, or of a similar instruction.
 NO_INSTRUCTIONS = {
     "62f16d49fcc1": "a mask", "62f16dc8fcc1": "zeros without a mask", "62f16d68fcc1": "vectors of 128 bytes",
     "62f16d58fcc1": "a rounding", "62e16d48fcc1": "zmm16", "62f16d40fcc1": "zmm18", "62b16d48fcc1": "zmm17",
@@ -118,9 +120,9 @@ def test_no_instruction(tmp_path, code):
         made.instruction(made.symbols["at"])
 
 
-# A block of registers, flags and memory, which a program of instructions changes.
+# A block has registers, flags and memory. A program loads it, runs some instructions, and stores it again.
 BLOCK = {"vector 0": 32, "vector 1": 32, "vector 2": 32, "rax": 8, "rcx": 8, "rdx": 8, "flags": 8, "memory": 64}
-# What AVX-512 has above of each vector, and how it comes there and back.
+# For AVX-512 the block also has the upper half of each vector, which is loaded and stored by these instructions.
 BLOCK |= {f"above {it}": 32 for it in range(3)}
 LOADS = "; ".join(f"vinserti64x4 $1,{192 + 32 * it}(%r11),%zmm{it},%zmm{it}" for it in range(3))
 STORES = "; ".join(f"vextracti64x4 $1,%zmm{it},{192 + 32 * it}(%r11)" for it in range(3))
@@ -147,8 +149,8 @@ def test_each_instruction_is_run():
 
 
 def modelled(code, begin, end, is_wide, known):
-    """What a program makes of a block by the model, byte by byte, and its flags. Bytes are known, or not. What vectors
-    have above 32 bytes stands after the memory."""
+    """Runs a program in the model, and returns the bytes of the block and the flags. The bytes of the block before may
+    be known or unknown. The upper halves of vectors come after the memory."""
     block = {it: values.bytes_of(values.unknown(it, size)) for it, size in BLOCK.items()}
     if known:
         block = {it: [values.constant(known[f"{it} {at}"], 1) for at in range(size)] for it, size in BLOCK.items()}
@@ -167,7 +169,7 @@ def modelled(code, begin, end, is_wide, known):
 
 
 def told(it, known):
-    """What a value is once all bytes are known. Most are a byte as it was."""
+    """The number or truth value of a Value for known bytes. Most values are one of the bytes itself."""
     if it.term.eq(values.X[0]):
         return known[it.of[0]]
     each = [(values.X[at], z3.BitVecVal(known[name], 8)) for at, name in enumerate(it.of)]
@@ -176,7 +178,7 @@ def told(it, known):
 
 
 def same(program, made, known, done):
-    """Whether the model's bytes and flags are those that the processor made."""
+    """Checks that the model's bytes and flags are those of the processor."""
     registers, memory, flags = made
     made_there = done[:120] + done[128:128 + len(memory)]
     assert bytes(told(it, known) for it in [*registers, *memory]) == made_there, program
@@ -193,8 +195,8 @@ def dense_blocks():
 
 
 def sparse_blocks(parts):
-    """For what asks whether all bytes are zero, or two alike: zeros, but in all vectors a byte at one place, or in
-    one vector alone, and two bytes anywhere. Each place has its turns."""
+    """Blocks for instructions that ask whether bytes are zero or equal. All bytes are zero, except two anywhere and one
+    in all vectors at the same place, or in one vector only. Each place has its turns."""
     for part, place in itertools.product(parts, range(32)):
         for vectors in range(3), [random.randrange(3)]:
             block, byte = bytearray(len(NAMES)), any_byte() or 1

@@ -1,7 +1,10 @@
-"""scripts/mutations over a small crate: wrong bodies are refused, also where one writes a text that another one
-looks for; a right one among them is named as missed, also where a function that it calls or one of the same name is
-wrong, and so is a wrong one that a weak contract lets through; what can't be compiled or applied is an error, and
-what is refused only since a name is gone, also where that is said over two lines."""
+"""scripts/mutations with a small crate.
+
+- Wrong bodies are refused, even if one mutation writes a text that another one replaces.
+- A right body among them is reported as missed, even if a function that it calls or one of the same name is wrong. A
+  wrong body that a weak contract allows is missed too.
+- A mutation that can't be compiled or applied is an error. So is one that is refused only because a name is missing,
+  even if the message has two lines."""
 import os
 import re
 import shutil
@@ -20,7 +23,7 @@ pub mod sizes;
 const LARGEST: u8 = 10;
 """
 FUNCTION = "\npub fn {}\n    ensures {{ {} }}\n{{\n    {}\n}}\n"
-# Its proof names a local of its body.
+# A function whose proof uses the name of a local variable.
 NAMING = """
 pub fn {0}(x: u8) -> u32
     ensures {{ result ≡ x + x + (x + x) }}
@@ -54,9 +57,9 @@ FUNCTIONS = [
     FUNCTION.format("six() -> u8", "result ≡ 6", "6"),
     *(NAMING.format(*names) for names in NAMED),
 ]
-# What is said of each mutation: its sentence, the text that stands there, another one, and how what is said begins.
-# They are tried in this order, and a list is halved where it can't be read: the first two stay in one check. Methods of
-# one name are not tried in one.
+# Each mutation: its sentence, the old text, the new text, and how its result begins. They are tried in this order. A
+# list that can't be read is halved, so the first two stay in one check. Methods with the same name are tried
+# separately.
 PROVED = "missed: tiny: {}: each goal of .* is still proved$"
 REFUSED = "refused: tiny: {}: (?!alone: )"
 LOST = "error: tiny: {}: it is refused only since names are gone"
@@ -79,7 +82,7 @@ IN_A_MODULE = [
 
 
 def table_of(heading, file, mutations):
-    """A part of a table of mutations."""
+    """A part of a table of mutations, with one heading."""
     parts = [f"{sentence}\n-{old}\n+{new}\n" for sentence, old, new, _ in mutations]
     return "".join([f"# {heading}\nfile src/{file}\n", *parts])
 
@@ -105,7 +108,7 @@ def top(tmp_path_factory):
 
 
 def tries(top, *words):
-    """What scripts/mutations comes to over a repository, with a folder of temporary files of its own."""
+    """The result of scripts/mutations for a repository. It has its own folder for temporary files."""
     room = top / "room"
     room.mkdir(exist_ok=True)
     places = {"MUTATIONS_TOP": str(top), "TMPDIR": str(room), "XDG_CACHE_HOME": str(top / "kept")}

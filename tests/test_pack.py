@@ -1,4 +1,4 @@
-"""What `make dist` packs, by tools of a clean folder alone, and programs over what is installed of it."""
+"""What `make dist` packs: it is built with only some tools, installed, and used by programs."""
 import os
 import re
 import shutil
@@ -11,7 +11,7 @@ from commands import (ARM_CC, BY_RUST, BY_SYSTEM, CARGO, CC, CXX, HELLO, INSTALL
 
 pytestmark = pytest.mark.quick
 NAME = f"faster_hex-{VERSION}"
-# A package of Debian, which `dh` builds.
+# A Debian package, which `dh` builds.
 DEBIAN = {"control": """Source: digits
 Maintainer: nobody <nobody@example.org>
 Build-Depends: debhelper-compat (= 13)
@@ -33,13 +33,13 @@ DEBIAN |= {"changelog": """digits (1.0.0) unstable; urgency=low
 override_dh_auto_install:
 	dh_auto_install -- PREFIX=/usr
 """}
-# What builds, tests and installs a pack.
+# The tools that may build, test and install a pack.
 TOOLS = f"""sh make date {CC} {CXX} gcc clang musl-gcc {ARM_CC} qemu-aarch64 ar as ld cp ln rm mv mkdir install cat
     sed grep sort dirname ls rmdir find xargs sha256sum cut cmake pkg-config {CARGO} {RUSTC} env uname"""
 RUNNERS = {CC: "", "clang": "", "musl-gcc": "", ARM_CC: ON_ARM}
-# What CMake asks for, and whether it is refused.
+# Versions that a CMake project asks for, and whether they are refused.
 VERSIONS = {"1": 0, "1.0": 0, "1.0.0 EXACT": 0, "1.0.1": 1, "1.1": 1, "2": 1, "0.9": 1}
-# A library over ours, which is exported.
+# A library that uses ours and is exported.
 OVER = """cmake_minimum_required(VERSION 3.14)
 project(over C)
 add_subdirectory(${TOP} faster_hex)
@@ -75,7 +75,7 @@ def env(tmp_path_factory):
 
 @pytest.fixture(scope="module")
 def top(tmp_path_factory, pack, env):
-    """A pack that is built, beside an installed copy, `there`, which was moved."""
+    """An unpacked pack that was built. Beside it is an installed copy, which was then moved to `there`."""
     top = unpacked(pack, tmp_path_factory.mktemp("top"))
     runs(make(f"CC={CC}", top=top), env=env)
     runs(make(f"CC={CC}", "install", f"PREFIX={top}/here", top=top), env=env)
@@ -85,7 +85,7 @@ def top(tmp_path_factory, pack, env):
 
 @pytest.fixture(scope="module")
 def of_cmake(tmp_path_factory, top):
-    """What CMake installs, by flags that would spoil both libraries if they came last."""
+    """What CMake installs, with flags of the user that would spoil both libraries if they came after ours."""
     needs("cmake")
     there = tmp_path_factory.mktemp("of cmake")
     flags = "-flto -fstack-protector-all -fno-pic -fno-pie -Wl,-z,norelro,-z,lazy,-z,notext"
@@ -93,7 +93,7 @@ def of_cmake(tmp_path_factory, top):
 
 
 def installs(top, built, there, options):
-    """Installs what CMake builds of the pack."""
+    """Builds the pack with CMake and installs it."""
     options = [f"-DCMAKE_{it}" for it in (*options, "INSTALL_LIBDIR=lib", f"INSTALL_PREFIX={there}")]
     runs(["cmake", "-S", top, "-B", built, "-DFASTER_HEX_INSTALL=ON", *options])
     runs(["cmake", "--build", built])
@@ -103,7 +103,7 @@ def installs(top, built, there, options):
 
 @pytest.fixture
 def flags(top, env):
-    """What pkg-config says of the installed copy, which is where it is now."""
+    """The flags of pkg-config for the installed copy, with the paths to where it was moved."""
     needs("pkg-config")
     words = ["pkg-config", "--define-prefix", "--cflags", "--libs", f"faster_hex = {VERSION}"]
     there = top.parent / "there"
@@ -128,7 +128,7 @@ def test_pages_name_what_is_there(tmp_path, pack):
 
 
 def test_pack_of_a_pack(tmp_path, pack):
-    """It is none, and a line says why."""
+    """A pack can't be packed again, and a line says why."""
     top = unpacked(pack, tmp_path)
     done = ran(make("dist", f"TO={tmp_path}", top=top))
     said = [it for it in done.stdout.splitlines() if not it.startswith("make: ")]
@@ -137,7 +137,7 @@ def test_pack_of_a_pack(tmp_path, pack):
 
 
 def test_files_of_the_pack(tmp_path, pack):
-    """They are those here. No name and no time stand before them."""
+    """They are the files here. The header of the pack has no name and no time."""
     top = unpacked(pack, tmp_path)
     found = {str(it.relative_to(top)): it.read_bytes() for it in top.rglob("*") if it.is_file()}
     assert {"README.md", "CHANGELOG.md", "LICENSE"} <= {*found}
@@ -174,7 +174,7 @@ def test_pages_of_man(top):
 
 
 def test_cmake(tmp_path, top, env):
-    """Over the sources, with the program, and over the installed copy, which is asked for twice."""
+    """Builds with the sources, with the programs too, and with the installed copy, which is looked for twice."""
     by_cmake(top / "examples/c", tmp_path / "built", f"-DFASTER_HEX={top}", env=env)
     for program in "fhex", "fhex-stream":
         runs(["cmake", "--build", tmp_path / "built", "--target", program], env=env)
@@ -185,13 +185,14 @@ def test_cmake(tmp_path, top, env):
 
 
 def has_all(there, *programs):
-    """What was installed: programs, libraries, headers and pages."""
+    """Checks that programs, the archive, a header and manual pages were installed."""
     files = "lib/libfaster_hex.a", "include/faster_hex.hpp", "share/man/man1/fhex.1", "share/man/man3/faster_hex.3"
     assert not [it for it in (*programs, *files) if not (there / it).exists()]
 
 
 def test_what_cmake_installs(tmp_path, top, env, of_cmake):
-    """The libraries are as those of `make`; the archive is for a shared library too."""
+    """The libraries have the properties of those that `make` builds. The archive can be linked into a shared library
+    too."""
     has_all(of_cmake, f"lib/{SHARED[1]}", "bin/fhex")
     by_cmake(top / "examples/c", tmp_path / "over", f"-DCMAKE_PREFIX_PATH={of_cmake}", env=env)
     is_locked(of_cmake / "lib" / SHARED[2])
@@ -228,7 +229,7 @@ def test_version_that_cmake_asks_for(tmp_path, top, of_cmake, version, is_of_mak
 
 
 def test_debian_package(tmp_path, pack):
-    """By the words for debhelper on the package's page: all files are in the package."""
+    """Built by the command for debhelper on the package's page, the package has all files."""
     needs("dh", "dpkg-deb")
     top = unpacked(pack, tmp_path)
     words = re.search(r"`(dh \$@ .*?)`", (top / "docs/release/README.md").read_text())[1]

@@ -1,5 +1,5 @@
-"""The portable calls, in C and in Rust: beside the builds on random calls, and by the tests of the builds, on this
-processor and by qemu on those that have no build."""
+"""The portable calls in C and in Rust. They are compared with the builds on random calls, and pass the tests of the
+builds, on this processor and under qemu on processors without a build."""
 import os
 
 import pytest
@@ -7,14 +7,14 @@ import pytest
 from commands import CC, CRATE, OUT, TESTS_IN_C, compiled, make, needs, passes, ran, runs, tries
 from packages import OF_SERDE, lacking, packed, without
 
-# A compiler, where its programs run, and the folder of the library.
+# A compiler, the command that runs its programs, and the folder of the library.
 TARGETS = {"riscv64-linux-gnu-gcc": ("qemu-riscv64 -L /usr/riscv64-linux-gnu", "riscv64")}
 TARGETS |= {"arm-linux-gnueabihf-gcc": ("qemu-arm -L /usr/arm-linux-gnueabihf", "arm")}
 TARGETS |= {"s390x-linux-gnu-gcc": ("qemu-s390x -L /usr/s390x-linux-gnu", "s390x")}
-# (where the system has libraries for i386 of its own, those of the processor are taken by this word alone)
+# LD_LIBRARY_PATH is needed if the system has its own libraries for i386: qemu would use these.
 I386 = "qemu-i386 -L /usr/i686-linux-gnu -E LD_LIBRARY_PATH=/usr/i686-linux-gnu/lib"
 TARGETS |= {"i686-linux-gnu-gcc": (I386, "i686")}
-# Where no file of C's own library is needed.
+# Targets without C's standard library, which the portable calls do not need.
 FREESTANDING = "wasm32", "powerpc64le-linux-gnu", "aarch64-windows-gnu", "aarch64-none-elf -mgeneral-regs-only"
 
 

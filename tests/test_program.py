@@ -1,4 +1,4 @@
-"""The built fhex: its statuses, outputs and messages, byte for byte, by several compilers."""
+"""The program fhex, built by several compilers: its statuses, outputs and messages, byte for byte."""
 import os
 import random
 import re
@@ -15,7 +15,7 @@ INVALID = b"invalid hex byte 0x%x at index %d\n"
 PLANS = "scalar", "sse41", "avx2", "avx512", "neon"
 VECTORS = [f"{plan} v{at:02} pass\n" for plan in PLANS for at in range(1, 17)]
 VECTORS += [f"plain v{at} pass\n" for at in range(17, 21)] + ["total 84 passed 84 failed 0\n"]
-# The words of fhex, its input, its status, its standard output and its standard error.
+# The arguments of fhex, its input, its status, its standard output and its standard error.
 RUNS = [
     (["encode"], b"hello", 0, b"68656c6c6f\n", b""),
     (["encode"], b"", 0, b"\n", b""),
@@ -31,14 +31,14 @@ RUNS = [
     (["decode-upper"], b"0A0b", 1, b"", INVALID % (0x62, 3)),
     (["decode"], b"abc", 1, b"", ODD),
     (["decode"], b"ab\n\n", 1, b"", ODD),
-    ([b"\xff"], b"hello", 3, b"", b"read failed\n"),  # no UTF-8
+    ([b"\xff"], b"hello", 3, b"", b"read failed\n"),  # not UTF-8
 ]
 NO_WORDS = [], [""], ["encode", "decode"], ["vectors", "vectors"], ["Encode"], ["--help"]
 RUNS += [(words, b"hello", 2, b"", USAGE) for words in NO_WORDS]
 
 
 SANITIZERS = "-g -O1 -fsanitize=address,undefined -fno-sanitize-recover=all"
-# What builds it, by which options, and what runs it; one is as `make` builds it.
+# The compiler, its options, and the tool that runs the program. The first is built by `make`.
 BUILDS = {
     "make": (CC, "", ""),
     "clang": ("clang", "-O2", ""),
@@ -51,7 +51,7 @@ BUILDS = {
 
 
 def built(folder, compiler, options, *more, name="fhex"):
-    """A program by a compiler."""
+    """Builds a program with a compiler."""
     needs(compiler)
     sources = TOP / "crates/fhex/fhex.c", TOP / f"generated/{name}/builds.S", *more
     runs([compiler, *options.split(), "-o", folder / name, *sources])
@@ -60,7 +60,7 @@ def built(folder, compiler, options, *more, name="fhex"):
 
 @pytest.fixture(scope="module", params=BUILDS)
 def program(request, fhex, tmp_path_factory):
-    """How each program is called."""
+    """The command that runs each program."""
     compiler, options, tool = BUILDS[request.param]
     needs(*tool.split()[:1])
     is_made = request.param == "make"
@@ -68,13 +68,13 @@ def program(request, fhex, tmp_path_factory):
 
 
 def ended(*words, **how):
-    """How a program ends, which it does within a minute."""
+    """Runs a program for at most a minute, and returns its status, output and messages."""
     done = ran(words, **{"stderr": subprocess.PIPE, "text": None, "errors": None, "timeout": 60, **how})
     return done.returncode, done.stdout, done.stderr
 
 
 def test_usage_in_man():
-    """At 80 columns no word of the line is broken."""
+    """With 80 columns no word of the usage line is broken."""
     needs("man")
     said = runs(["man", "-l", TOP / "docs/fhex.1"], env={**os.environ, "MANWIDTH": "80"})
     assert re.search(USAGE.decode().strip().replace(" ", r"\s+").replace("|", r"\|"), said), said

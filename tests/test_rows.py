@@ -1,12 +1,12 @@
-"""The gate sees wrong answers in files of rows: each program of rows answers its file as it stands, and prints the
-rows whose answers are made wrong, and no other. Below such a row it prints the words of its first wrong turn, and the
-call that differs, what is wanted of it and what came."""
+"""Programs that read rows notice wrong answers. Each program accepts its file as it is. If answers are made wrong, it
+prints exactly these rows. Below such a row it prints the arguments of the first turn that differs, the call, the answer
+that the row wants, and the answer of the call."""
 import pytest
 
 from commands import OF_PROOFS, SEED, TOP, drawn_lengths, needs, ran
 
 CRATES = TOP / "crates"
-# Of each program some rows with a wrong answer.
+# For each program, some rows with a wrong answer.
 TEXT = "\\xe5\\x89\\x8d\\xe7\\xbc\\x80:"
 SINKS = "[then-refuses|refuses-the-rest|then-takes-none]"
 PLANTED = {
@@ -48,7 +48,7 @@ PLANTED = {
 }
 
 
-# Rows of five kinds with a wrong answer, the turn that is told of each, its words, and what is said of its call.
+# Rows of five kinds with a wrong answer, the turn that is printed for each, its arguments, and the line about its call.
 TOLD = [
     (
         r"3 decode [any|lower|upper] 2 00[aB|ab|AC] = ok #00ab",
@@ -94,14 +94,14 @@ OF_LENGTH = {
 
 @pytest.fixture(scope="module", params=PLANTED)
 def program(request):
-    """The name of a program of rows, which is built."""
+    """The name of a program that reads rows, after it was built."""
     needs("rt")
     ran(["rt", "run"], cwd=CRATES / request.param, input="", timeout=OF_PROOFS)
     return request.param
 
 
 def answered(program, rows):
-    """What a program prints of these rows."""
+    """The output of a program for these rows."""
     return ran([CRATES / program / "out" / program], input=rows).stdout
 
 
@@ -128,7 +128,7 @@ def test_a_wrong_answer_is_told(row, turn, words, call):
 
 
 def test_lengths_that_are_drawn(program):
-    """A wrong answer at one length alone, which no row has, is some time found."""
+    """Rows of random lengths, so that a wrong answer at only one length, which no row has, is found in some run."""
     rows = [row.format(it, 2 * it, 2 * it + 1) for it in drawn_lengths() for row in OF_LENGTH[program]]
     said = answered(program, "\n".join(rows))
     assert said.endswith(" rows, 0 answered otherwise\n"), f"SEED={SEED}: {said}"

@@ -1,5 +1,5 @@
-"""What sanitizers report of calls that are not theirs to see, once the library is built by the same options: each
-fault of faults.c, and none where there is none; and that `make` builds so."""
+"""Sanitizers report wrong uses of the library if it is built with the same options: each fault of faults.c, and nothing
+if there is no fault. `make` builds the library so too."""
 import pytest
 
 from commands import CRATE, TESTS_IN_C, TOP, compiled, make, needs, ran, runs

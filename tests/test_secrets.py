@@ -1,5 +1,5 @@
-"""Whether calls on keys use the same addresses and branches whatever the bytes: valgrind traces instructions,
-loads and stores of tests/c/addresses.c and addresses.rs, which make each call between two stores to `mark`."""
+"""Whether calls on keys use the same addresses and branches for all bytes. valgrind traces the instructions, loads and
+stores of tests/c/addresses.c and addresses.rs. These make each call between two stores to `mark`."""
 import bisect
 import re
 
@@ -7,26 +7,26 @@ import pytest
 
 from commands import BUILT, CC, RUSTC, TESTS_IN_C, TOP, alone, compiled, needs, runs
 
-# Of as many digits, so that each program has the same stack.
+# The seeds have the same number of digits, so that the stack is the same in each run.
 SEEDS = "11", "22", "33", "44"
 TRACED = "valgrind --tool=lackey --trace-mem=yes".split()
 
 
 def symbols(program):
-    """The names of a program's functions and variables, by their addresses."""
+    """The addresses and names of a program's functions and variables."""
     said = runs(["nm", "-n", program])
     return [(int(at, 16), name) for at, name in re.findall(r"^([0-9a-f]+) . (\S+)$", said, re.M)]
 
 
 def traces(program, seed, log):
-    """The addresses that each call of the program uses, a line for each instruction, load and store."""
+    """The trace of each call of the program, with a line for each instruction, load and store."""
     runs([*TRACED, f"--log-file={log}", program, seed])
     mark = next(at for at, name in symbols(program) if name == "mark")
     return log.read_text().split(f" S {mark:08x},4\n")[1::2]
 
 
 def difference(program, one, other):
-    """The function in which two traces part, and its first other line."""
+    """The function in which two traces begin to differ, and the first lines that differ."""
     at, lines = "", zip(one.split("\n"), other.split("\n"))
     for line, instead in lines:
         at = line if line.startswith("I") else at
@@ -38,7 +38,8 @@ def difference(program, one, other):
 
 
 def differing(program, log):
-    """Each call and length that uses other addresses on other bytes, with the function where they part."""
+    """The calls and lengths whose addresses depend on the bytes, each with the function where the traces begin to
+    differ."""
     needs("valgrind")
     calls = re.findall(r"^faster_hex_(\w+)(\(\d\)) (\d+)$", runs([program]), re.M)
     first, *others = (traces(program, seed, log) for seed in SEEDS)
@@ -53,12 +54,12 @@ def differing(program, log):
 
 
 def found_in_c(made, *linked):
-    """What is found in addresses.c over what is linked."""
+    """Such calls in addresses.c, linked with a library or a build."""
     words = [*BUILT, "-static", TESTS_IN_C / "addresses.c", *linked]
     return differing(compiled(CC, made / "addresses", *words), made / "trace")
 
 
-# The build for x86-64 has tables.
+# The build for x86-64 is left out, because it uses lookup tables.
 @pytest.mark.parametrize("build", ["x86-64-v2", "x86-64-v3", "chosen"])
 def test_build(tmp_path, library, build):
     is_chosen = build == "chosen"

@@ -1,5 +1,5 @@
-"""Whether specs/inside/ has what no public contract uses, by the words of contracts, and whether what CALLING.md and
-theorem.md name is there."""
+"""Whether specs/inside/ has exactly the definitions that no public contract uses, and whether the definitions that
+CALLING.md, theorem.md and definitions.md name exist. Uses are found by the words of contracts."""
 import functools
 import re
 
@@ -9,10 +9,10 @@ from commands import TOP
 
 pytestmark = pytest.mark.quick
 WORD = r"[^\W\d][\w-]*"
-# A function with its clauses, or a ghost member, both with their indentation.
+# A function with its clauses, and a ghost member, each with its indentation.
 FUNCTION = re.compile(r"^( *)(pub )?(?:[a-z]\S* |.C. )*fn (\w+)(.*?)(?:^\1\{\}?$|\{\}?$|;$)", re.M | re.S)
 MEMBER = re.compile(r"^( +)(ghost) (?!use )(\w+)(.*)", re.M)
-# A line of the table of theorem.md: a definition, a function whose contract uses it, and a mutation.
+# A row of the table of theorem.md: a definition, a function whose contract uses it, and a mutation.
 LINE = re.compile(r"\[`(\w+)\.(\w+)`\]\(\.\./crates/(\w+)/specs/\S+ \| "
                   r"\[`(\w+)`\]\(\.\./(\S+)\) \| \[(.*)\]\(\.\./(crates/\w+/mutations)\) \|")
 
@@ -22,7 +22,7 @@ def words(text):
 
 
 def imported(text):
-    """The definitions that a file takes from other files, by their names in it."""
+    """The definitions that a file imports, by the names that they have in it."""
     lists = re.findall(r"use Rattle\.([\w.]+)\.\{([^}]*)\}", text)
     pairs = [(module, *it.split(" as ")) for module, names in lists for it in re.split(r",\s*", names)]
     for module, alias in re.findall(r"use Rattle\.([\w.]+) as (\w+)", text):
@@ -31,7 +31,8 @@ def imported(text):
 
 
 def contracts(crate):
-    """Of each public function, and of each ghost member of a public type, what it is in and its clauses."""
+    """For each public function, and each ghost member of a public type: its place, its clauses and the imports of its
+    file."""
     files = {it: it.read_text() for it in (crate / "src").rglob("*.rt")}
     opened = {"lib", *re.findall(r"^pub mod (\w+);", files[crate / "src/lib.rt"], re.M)}
     named = set()
@@ -52,7 +53,7 @@ def contracts(crate):
 
 @functools.cache
 def definitions_and_uses():
-    """All definitions; and those that the clauses of public contracts name, each with one of these contracts."""
+    """All definitions, and pairs of a definition that a public contract names and that contract."""
     texts = {}
     for path in TOP.glob("crates/*/specs/**/*.antt"):
         module = ".".join(path.relative_to(TOP / "crates").with_suffix("").parts)
@@ -64,7 +65,8 @@ def definitions_and_uses():
 
 
 def used(by=None):
-    """The definitions that public contracts use, or this one, each with a contract; and all definitions."""
+    """The definitions that public contracts use, directly or through others, each with a contract, and all definitions.
+    `by` limits this to one contract."""
     texts, uses = definitions_and_uses()
     todo = [it for it in uses if by in (None, it[1])]
     found = {}
@@ -78,7 +80,8 @@ def used(by=None):
 
 
 def named(page):
-    """The definitions that the tables of CALLING.md name, each in its crate: by default that of the head."""
+    """The definitions that the tables of CALLING.md name. Without a crate, a name belongs to the crate in the table's
+    head."""
     for table in page.split("\n\n"):
         if head := re.match(r"`(\w+)`.*\| (?:Promise|Meaning)\n", table):
             for crate, module, name in re.findall(r"`(?:(hex_\w+|faster_hex)\.)?([A-Z]\w*)\.(\w+)", table):
@@ -107,7 +110,8 @@ def test_theorem():
 
 
 def test_definitions():
-    """docs/definitions.md has each name that the files of theorem.md take from the library, and no other."""
+    """docs/definitions.md explains exactly the names that the files of theorem.md import from the toolchain's
+    library."""
     reading = (TOP / "docs/theorem.md").read_text().partition("## What to read")[2]
     files = re.findall(r"\(\.\./(crates/hex_core/specs/\w+\.antt)\)", reading)
     lists = [re.findall(r"^use Rattle\.std\.[\w.]+\.\{(.*)\}$", (TOP / it).read_text(), re.M) for it in files]

@@ -1,5 +1,5 @@
-"""The built fhex-stream beside a model of it: what it writes, also before a refusal, its statuses and messages; white
-space and invalid bytes at each place; real streams that are full, closed, slow or long."""
+"""The program fhex-stream, compared with a model: its output, also before an error, its statuses and messages. White
+space and invalid bytes are at every kind of place, and streams are full, closed, slow or long."""
 import errno
 import os
 import random
@@ -14,7 +14,7 @@ from test_program import BUILDS, ODD, SANITIZERS, built, ended
 USAGE = b"usage: fhex-stream encode|encode-lines|decode\n"
 INVALID = b"invalid hex byte 0x%02x at index %d\n"
 NOT_READ, NOT_WRITTEN = b"read failed\n", b"write failed\n"
-# The bytes that a read of `decode` takes, the bytes that are freed of white space at a time, and those looked at.
+# The bytes of one read of `decode`, of a block from which white space is removed, and of a vector.
 READ, BLOCK, LANES = 16384, 2048, 32
 SPACES = b" \t\n\r\f"
 DIGITS = b"0123456789abcdefABCDEF"
@@ -22,7 +22,7 @@ BORDERS = sorted({at + by for at in (0, LANES, 2 * LANES, BLOCK, READ, 2 * READ)
 LENGTHS = 0, 1, 2, 29, 30, 31, 59, 60, 61, 90, 8189, 8190, 8191, 8192, 8193, 16380, 100_000
 CHANCE = random.Random(os.environ.get("SEED") or "1")
 BYTES = CHANCE.randbytes(200_000)
-# The words, the input, the status, the standard output and the standard error.
+# The arguments, the input, the status, the standard output and the standard error.
 RUNS = [
     (["encode"], b"hello", 0, b"68656c6c6f\n", b""),
     (["encode"], b"", 0, b"\n", b""),
@@ -42,7 +42,7 @@ RUNS = [
     (["decode"], b"00\0", 1, b"", INVALID % (0, 2)),
     (["decode"], b"00\xa0", 1, b"", INVALID % (0xa0, 2)),
     (["decode"], b"00;00", 1, b"", INVALID % (0x3b, 2)),
-    ([b"\xff"], b"hello", 3, b"", NOT_READ),  # no UTF-8
+    ([b"\xff"], b"hello", 3, b"", NOT_READ),  # not UTF-8
 ]
 NO_WORDS = [], [""], ["encode", "decode"], ["vectors"], ["Encode"], ["encode-upper"], ["encode-lines "], ["--help"]
 RUNS += [(words, b"hello", 2, b"", USAGE) for words in NO_WORDS]
@@ -50,7 +50,7 @@ RUNS += [(words, b"hello", 2, b"", USAGE) for words in NO_WORDS]
 
 @pytest.fixture(scope="session")
 def stream():
-    """The program: the one that FHEX_STREAM names, or that of `make fhex-stream`."""
+    """The program: the one that FHEX_STREAM names, or the one of `make fhex-stream`."""
     if named := os.environ.get("FHEX_STREAM"):
         return Path(named).absolute()
     runs(make("fhex-stream"))
@@ -59,7 +59,7 @@ def stream():
 
 @pytest.fixture(scope="module", params=BUILDS)
 def program(request, stream, tmp_path_factory):
-    """How each program is called."""
+    """The command that runs each program."""
     compiler, options, tool = BUILDS[request.param]
     needs(*tool.split()[:1])
     made = lambda: built(tmp_path_factory.mktemp("built"), compiler, options, name="fhex-stream")
@@ -68,7 +68,7 @@ def program(request, stream, tmp_path_factory):
 
 @pytest.fixture(scope="session")
 def failing(tmp_path_factory):
-    """The program under sanitizers, whose reads and writes fail as asked."""
+    """The program with sanitizers and injected failures of reads, writes and allocations."""
     options = f"{SANITIZERS} " + " ".join(f"-Wl,--wrap={it}" for it in ("read", "write", "malloc", "realloc"))
     return built(tmp_path_factory.mktemp("failing"), CC, options, TESTS_IN_C / "failing.c", name="fhex-stream")
 
@@ -78,7 +78,7 @@ def lines_of(given):
 
 
 def model(word, given):
-    """The status, the whole output, how many of its bytes may be missing, and the message."""
+    """The status, the whole output, how many bytes may be missing at its end, and the message."""
     if word != "decode":
         return 0, given.hex().encode() + b"\n" if word == "encode" else lines_of(given), 0, b""
     bad = next((at for at, byte in enumerate(given) if byte not in DIGITS + SPACES), None)
@@ -90,14 +90,14 @@ def model(word, given):
 
 
 def answers(program, word, given, **how):
-    """Whether the program does what the model says."""
+    """Whether the program does what the model does."""
     status, output, missing, message = model(word, given)
     found, out, err = ended(program, word, input=given, **how)
     return (found, err) == (status, message) and output.startswith(out) and len(output) - len(out) <= missing
 
 
 def put(text, at, *more):
-    """A text with these bytes in place of as many."""
+    """A text in which these bytes replace as many others."""
     return text[:at] + bytes(more) + text[at + len(more):]
 
 
@@ -115,7 +115,8 @@ def test_encoded(stream, word, length):
 @pytest.mark.parametrize("length", LENGTHS)
 @pytest.mark.parametrize("every", [2, 60, 61, None])
 def test_decoded(stream, length, every):
-    """Digits of either case, in lines or on one, that end with and without a newline, whole and with one more."""
+    """Digits of either case, in lines or on one line, with and without a newline at the end, and with one digit or byte
+    too many."""
     text = (BYTES[:length // 2].hex() + BYTES[length // 2:length].hex().upper()).encode()
     lines = b"\r\n".join(text[at:at + every] for at in range(0, len(text), every)) if every else text
     assert all(answers(stream, "decode", lines + end) for end in (b"", b"\n", b"f", b"f\n", b"\ng"))
@@ -123,7 +124,8 @@ def test_decoded(stream, length, every):
 
 @pytest.mark.parametrize("space", SPACES)
 def test_white_space_at_each_place(stream, space):
-    """Of the first blocks and around each border: alone, twice, and with a digit or another space between."""
+    """In the first blocks and around each border: one space, two, with a digit between them, of all kinds, and a whole
+    vector."""
     text = BYTES[:READ].hex().encode()
     for at in {*range(2 * LANES + 2), *BORDERS}:
         for more in [space], [space, space], [space, 0x66, space], [space, *SPACES], [space] * (LANES + 1):
@@ -133,7 +135,7 @@ def test_white_space_at_each_place(stream, space):
 @pytest.mark.parametrize("byte", [b"g", b"\v", b"\0", b"\x1f", b"!", b"\xff"])
 @pytest.mark.parametrize("at", BORDERS)
 def test_invalid_byte(stream, at, byte):
-    """Among digits, in lines, at the end, and before another one."""
+    """Among digits, in lines, at the end, and before another invalid byte."""
     text = BYTES[:READ + 99].hex().encode()
     spaced = b"\n".join(text[at:at + 60] for at in range(0, len(text), 60))
     for given in put(text, at, *byte), put(spaced, at, *byte), text[:at] + byte, put(text, at, *byte, *b"zz"):
@@ -155,7 +157,8 @@ def test_random_inputs_and_cuttings(stream, failing, word):
 
 @pytest.mark.parametrize("word", ["encode", "encode-lines", "decode"])
 def test_failed_calls(failing, word):
-    """An interrupted read is tried again; another failure ends it, behind the beginning of the right output."""
+    """An interrupted read is repeated. Any other failure ends the program, after the beginning of the correct
+    output."""
     text = BYTES.hex().encode()
     given, output = (text, BYTES) if word == "decode" else (BYTES, model(word, BYTES)[1])
     for call, number, reason, how in [
@@ -174,7 +177,7 @@ def test_failed_calls(failing, word):
     ("encode", b"", 3), ("encode", b"a", 3), ("encode-lines", b"a", 3), ("encode-lines", b"", 0),
     ("decode", b"00\n", 3), ("decode", b"\n", 0), ("decode", b"0", 1)])
 def test_full_disk(stream, word, given, status):
-    """What has no output is not written."""
+    """If there is no output, nothing is written, so nothing fails."""
     with open("/dev/full", "wb") as full:
         found, _, err = ended(stream, word, input=given, stdout=full)
     assert (found, err) == (status, {0: b"", 1: ODD, 3: NOT_WRITTEN}[status])
@@ -185,7 +188,7 @@ def test_full_disk(stream, word, given, status):
     ("encode-lines", ">&-", 3, NOT_WRITTEN), ("decode", ">&-", 3, NOT_WRITTEN), ("Encode", "2>&-", 2, b""),
     ("encode-lines", "| exec true", 3, NOT_WRITTEN)])
 def test_streams_that_are_closed(stream, word, how, status, err):
-    """The status stays the same where the line of a failure cannot be written."""
+    """The status stays the same if the message can't be written."""
     said = f"{stream} {word} {how}; echo ${{PIPESTATUS[0]}} >&3" if how[0] == "|" else f"{stream} {word} {how}; echo $? >&3"
     given = "00" * 100_000
     done = subprocess.run(["bash", "-c", f"exec 3>&1; {{ {said}; }} >/dev/null"], input=given.encode(), capture_output=True)
@@ -193,7 +196,7 @@ def test_streams_that_are_closed(stream, word, how, status, err):
 
 
 def test_slow_pipe(stream):
-    """Each piece comes out before the next goes in."""
+    """The output of each piece of input is written before the next piece is read."""
     for word, pieces in ("decode", [(b"68 6", b"h"), (b"5\n6c", b"el"), (b"6C", b"l")]), ("encode", [(b"he", b"6865")]):
         with subprocess.Popen([stream, word], stdin=subprocess.PIPE, stdout=subprocess.PIPE, bufsize=0) as process:
             for given, out in pieces:
@@ -206,7 +209,7 @@ def test_slow_pipe(stream):
 
 @pytest.mark.parametrize("word", ["encode", "encode-lines"])
 def test_300_mb_in_64_mb(stream, word):
-    """There and back through pipes, where each program has 64 MB of address space."""
+    """A long input is encoded and decoded through pipes. Each program has 64 MB of address space."""
     some = f"head -c 300M /dev/zero | tr '\\0' '\\225'"
     said = f"set -o pipefail; {some} | (ulimit -v 65536; {stream} {word} | {stream} decode) | cmp - <({some})"
     runs(["bash", "-c", said], out="", err="")

@@ -1,6 +1,6 @@
-"""Our Rust crate in the place of faster-hex 1.0.0, of which RUST names a checkout: that crate's own
-tests and examples, without those of the features heapless-08 and defmt-03, which ours has not; and both beside
-one another on random inputs, as many as ROUNDS says, drawn from SEED."""
+"""Our Rust crate in place of faster-hex 1.0.0. RUST names a checkout of that crate. Its own tests and examples must
+pass with our crate, without those of the features heapless-08 and defmt-03, which our crate does not have. Both crates
+are also compared on random inputs: ROUNDS is their number, and SEED makes them repeatable."""
 import os
 import re
 import shutil
@@ -13,12 +13,13 @@ from packages import OF_SERDE, lacking, needs_crates, packed, without
 
 CHECKOUT = os.environ.get("RUST") and Path(os.environ["RUST"]).absolute()
 RANDOM = [os.environ.get("ROUNDS") or "20000", os.environ.get("SEED") or "1"]
-# What a test file has that needs a crate.
+# Crates, each with a text by which a test file that needs the crate is recognized.
 WANTS = {"proptest": "proptest", "hex": "hex::encode", "serde": '#![cfg(feature = "serde")]'}
 
 
 def files_of_tests():
-    """The test files of the checkout, by their paths. One may hold several, each below a line with its name."""
+    """The texts of the checkout's test files, by their paths. One file may have several, each below a line with its
+    name."""
     files = sorted((CHECKOUT / "tests").rglob("*.rs")) if CHECKOUT else ()
     whole = "".join(f"// = {it.name} =\n{it.read_text()}\n" for it in files)
     pieces = re.split(r"(?:^// =+ \S*\.rs =+\n)*^// =+ (\S*\.rs) =+\n", whole, flags=re.M)
@@ -30,7 +31,7 @@ FILES = files_of_tests()
 
 @pytest.fixture(scope="module")
 def swap(tmp_path_factory, cargo):
-    """A copy of tests/swap, in a package, without the crates that are not there."""
+    """A copy of tests/swap in a package, without the crates that are not installed."""
     if not CHECKOUT:
         pytest.skip("RUST names no checkout of faster-hex 1.0.0")
     assert (CHECKOUT / "src/decode.rs").is_file(), f"{CHECKOUT} is no checkout of faster-hex 1.0.0"

@@ -1,4 +1,5 @@
-"""What `make` says of bad words, how it builds in a copy, and the copies of `make vendor`."""
+"""`make` rejects bad variables, rebuilds what it must, and refuses unproved sources. tests/header.sh notices
+differences. `make vendor` copies crates."""
 import os
 import re
 import shutil
@@ -11,12 +12,12 @@ from commands import (BY_SYSTEM, SHARED, TOP, VERSION, is_locked, make, needs_cl
                       stands_alone)
 
 pytestmark = pytest.mark.quick
-# How often a build says each of the user's words.
+# How often the commands of a build contain each of the user's variables.
 WORDS = {"CC": 7, "CFLAGS": 7, "CPPFLAGS": 6, "LDFLAGS": 3, "AR": 1}
-# Words by which all is built anew, and how a build by them ends.
+# Variables with which everything is built again, and the status of such a build.
 OTHERS = {"CFLAGS=-O1 -g": 0, "CPPFLAGS=-DX='a  $$b'": 0, "LDFLAGS=-Wl,-O1": 0, "CC=gcc": 0, "UNPROVED=yes": 0}
 OTHERS |= {"CC=nonexistent": 2}
-# A file, what stands there, what comes in its place, and what tests/header.sh says of it.
+# A file, a pattern, the text that replaces it, and what tests/header.sh then prints.
 DIFFERENCES = [
     ("generated/PROVED", r"^sources \w", "sources z", "generated/PROVED is of other sources"),
     ("generated/fhex/PROVED", "^prover .*", "prover another", "does not name the prover another"),
@@ -25,9 +26,9 @@ DIFFERENCES = [
     ("generated/x86-64.s", r"\A", "\n", "x86-64.s: FAILED"),
     ("crates/faster_hex_c/dispatch.c", r"^CALL\(bool, check, .*\n", "", "faster_hex_check"),
 ]
-# What `make test` takes where neither Rattle nor pytest is.
+# The tools that `make test` needs without Rattle and pytest.
 TOOLS = """sh make date cc as ld ar mv mkdir rm cp cat grep sed sort find xargs sha256sum cut dirname uname nproc"""
-# What compilers say that they build for, and whether the libraries are plain C, and whether there is fhex.
+# Targets that a compiler may name. Whether the libraries are plain C there, and whether fhex is built.
 SYSTEMS = dict.fromkeys(("x86_64-linux-gnu", "aarch64-alpine-linux-musl", "amd64-unknown-freebsd14.0"), (False, True))
 SYSTEMS |= {"x86_64-w64-mingw32": (False, True), "arm64-apple-darwin23": (False, False)}
 SYSTEMS |= dict.fromkeys(("x86_64-unknown-openbsd7.4", "x86_64-pc-solaris2.11", "aarch64-none-linux-android21"),
@@ -63,7 +64,7 @@ def test_six_makes_at_once(copy):
 
 @pytest.mark.parametrize("word", OTHERS)
 def test_other_words(copy, word):
-    """They build anew each file, and so do none again. `make install` builds nothing."""
+    """With them every file is built again, and so it is without them afterwards. `make install` builds nothing."""
     how, out = {"env": BY_SYSTEM}, copy / "out"
     runs(make(top=copy), **how)
     before = {it: it.stat().st_mtime_ns for it in out.iterdir()}
@@ -77,7 +78,7 @@ def test_other_words(copy, word):
 
 
 def test_builds_in_two_folders(copy, tmp_path):
-    """Each file has the same bytes, also with what a debugger needs, if that names no folder."""
+    """Each file has the same bytes in both folders. With debug information this holds if it names no folder."""
     other = shutil.copytree(copy, tmp_path / "other")
     for flags in "-O2", "-O2 -g -ffile-prefix-map='{}'=.":
         for top in copy, other:
@@ -88,7 +89,8 @@ def test_builds_in_two_folders(copy, tmp_path):
 
 @pytest.mark.parametrize("name", ["generated/x86-64.s", "generated/fhex/x86-64-v2.s", "crates/hex_core/src/lib.rt"])
 def test_unproved(copy, name):
-    """A change of the assembly or of the sources is built only by UNPROVED=yes, which the library's version says."""
+    """A change of the assembly or of the sources is built only with UNPROVED=yes. The library's version then says
+    so."""
     with (copy / name).open("a") as file:
         file.write("\n")
     how, program = {"env": BY_SYSTEM}, copy / "version"
@@ -116,7 +118,7 @@ def test_words_of_the_user(copy):
 
 @pytest.mark.parametrize("name, old, new, told", DIFFERENCES)
 def test_header(copy, name, old, new, told):
-    """tests/header.sh tells each difference."""
+    """tests/header.sh prints each difference."""
     text = (copy / name).read_text()
     (copy / name).write_text(re.sub(old, new, text, 1, re.M))
     done = ran([copy / "tests/header.sh"])
@@ -125,7 +127,7 @@ def test_header(copy, name, old, new, told):
 
 @pytest.mark.parametrize("system", SYSTEMS)
 def test_systems(tmp_path, system):
-    """Elsewhere than README.md says the libraries are plain C, and there is no fhex."""
+    """On systems other than those in README.md the libraries are plain C, and there is no fhex."""
     compiler = tmp_path / "cc"
     compiler.write_text(f"#!/bin/sh\necho {system}\n")
     compiler.chmod(0o755)
@@ -135,7 +137,8 @@ def test_systems(tmp_path, system):
 
 
 def test_other_sources(copy):
-    """Those of the library stop library and programs, those of a program itself alone."""
+    """Changed sources of the library stop the build of the library and the programs. Those of a program stop only that
+    one."""
     for name, made in (("hex_core/src/lib.rt", {"lib": 2, "fhex": 2, "fhex-stream": 2}),
                        ("fhex_stream/src/main.rt", {"lib": 0, "fhex": 0, "fhex-stream": 2})):
         source = copy / "crates" / name
@@ -151,7 +154,7 @@ def test_other_sources(copy):
 
 
 def test_what_is_wrong_with_generated(copy, tmp_path):
-    """A file that was changed, and a missing tool, a line each."""
+    """A changed file and a missing tool each give one line."""
     tools = "make sh dirname mkdir mv sed cat cut find sort xargs cc as ld"
     tools = only(tmp_path / "tools", {it: it for it in tools.split()})
     with (copy / "generated/x86-64.s").open("a") as file:
@@ -163,7 +166,7 @@ def test_what_is_wrong_with_generated(copy, tmp_path):
 
 
 def test_clone_that_changes_line_ends(tmp_path):
-    """As Git for Windows makes it by default."""
+    """Git for Windows makes such a clone by default."""
     needs_clone()
     runs(["git", "clone", "-q", "-c", "core.autocrlf=true", TOP, tmp_path / "clone"])
     assert "w/crlf" not in ran(["git", "ls-files", "--eol"], cwd=tmp_path / "clone").stdout
@@ -171,7 +174,7 @@ def test_clone_that_changes_line_ends(tmp_path):
 
 
 def test_tests_without_the_toolchain(copy, tmp_path):
-    """With no pytest either, and with one, which stands here for it."""
+    """Without pytest, and with a script in place of pytest."""
     env = only(tmp_path / "tools", {it: it for it in TOOLS.split()})
     for has_pytest in False, True:
         done = ran(make("test", top=copy), env=env)
@@ -189,7 +192,7 @@ def test_tests_without_the_toolchain(copy, tmp_path):
 
 @pytest.mark.parametrize("place", ["own", "listed", "listed/crates.txt", "missing"])
 def test_vendor_refuses(tmp_path, place):
-    """Where a crate or a line of crates.txt is the user's, and where the folder is none."""
+    """It refuses if a crate or a line of crates.txt is the user's own, and if the folder does not exist."""
     own, listed = tmp_path / "own/crates/hex_core/src/mine.rt", tmp_path / "listed/crates.txt"
     mark = tmp_path / "own/crates/hex_core/.gitignore"
     for file, text in (own, ""), (mark, "out/\n"), (listed, "hex_codec: mine\n"):
@@ -202,7 +205,7 @@ def test_vendor_refuses(tmp_path, place):
 
 
 def has_parts(crate):
-    """Compares a copied crate's sources, specs, proofs and license with those here."""
+    """Checks that a copied crate has the sources, the specs, the proofs and the license that are here."""
     for part in "src", "specs", "proofs":
         own = TOP / "crates" / crate.name / part
         files = {it.relative_to(own): it.read_bytes() for it in own.rglob("*") if it.is_file()}
@@ -211,7 +214,7 @@ def has_parts(crate):
 
 
 def test_copies_of_vendor(tmp_path):
-    """With JSON, and then in its place without."""
+    """A copy with JSON, and then one without JSON in its place."""
     (tmp_path / "crates.txt").write_text("app: std")
     for json, last in ("yes", "faster_hex"), ("no", "hex_io"):
         runs(make("vendor", f"JSON={json}", f"DIR={tmp_path}"), out="", err="")
@@ -230,7 +233,7 @@ def test_copies_of_vendor(tmp_path):
 
 
 def test_copy_of_vendor_over_another(tmp_path):
-    """What `rt` keeps in it stays, and each line stays where it stands."""
+    """A second copy keeps what `rt` has in out/, and the order of the lines of crates.txt."""
     runs(make("vendor", f"DIR={tmp_path}"))
     kept, listed = tmp_path / "crates/hex_core/out/kept", tmp_path / "crates.txt"
     kept.parent.mkdir()
@@ -261,7 +264,7 @@ def test_what_is_built_anew_and_what_is_cleaned(copy):
 
 @pytest.mark.parametrize("machine", FOLDERS)
 def test_processors_by_other_names(tmp_path, machine):
-    """A compiler says for what it makes code, and a word may change that."""
+    """The target is the one that the compiler names, and an option may change it."""
     machine, *words = machine.split()
     compiler = tmp_path / "cc"
     compiler.write_text(f"#!/bin/sh\necho {machine}\n")

@@ -1,4 +1,5 @@
-"""The library for Windows, by mingw-w64 and wine, and what it shows when assembled for macOS and BSD."""
+"""The library for Windows, with mingw-w64 and wine, and the symbols of the library when it is assembled for macOS and
+BSD."""
 import re
 
 import pytest
@@ -6,17 +7,17 @@ import pytest
 from commands import (CALLS, CRATE, NAMES, OUT, RUSTC, TESTS_IN_C, TOP, WINDOWS_CC, by_cmake, make, needs, passes, ran,
                       runs)
 
-# What a call on Windows keeps.
+# The registers that a call on Windows must restore.
 KEPT = [*"%rbx %rbp %rsi %rdi %r12 %r13 %r14 %r15".split(), *(f"%xmm{it}" for it in range(6, 16))]
-# How the tests in C are built for it.
+# The command that builds the tests in C for Windows.
 BUILT = f"{WINDOWS_CC} -std=gnu99 -pthread -static -I{CRATE} -I{TESTS_IN_C}/windows -o".split()
-# Where the library is assembled and never run.
+# Targets for which the library is assembled and never run.
 OTHERS = "x86_64-apple-macos11 arm64-apple-macos11 aarch64-unknown-freebsd13 x86_64-unknown-netbsd9".split()
 
-# Processors, and the builds that a compiler for one takes.
+# Targets of other processors, and the builds that a compiler uses for them.
 TAKEN = {"x86_64-linux-gnu": ["X86_64"], "aarch64-linux-gnu": ["AARCH64"]}
 TAKEN |= dict.fromkeys(("x86_64-linux-gnux32", "aarch64_be-linux-gnu", "i686-linux-gnu", "riscv64-linux-gnu"), [])
-# Systems, by their names for clang and for rustc, and whether a compiler takes builds there.
+# Systems by their names for rustc, and whether a compiler uses the assembly there.
 SYSTEMS = dict.fromkeys(("unknown-linux-gnu", "unknown-linux-musl", "unknown-freebsd", "unknown-netbsd"), True)
 SYSTEMS |= dict.fromkeys(("unknown-openbsd", "unknown-illumos", "linux-android", "unknown-haiku", "apple-ios"), False)
 SYSTEMS |= {"apple-darwin": True, "pc-windows-gnu": True, "pc-windows-msvc": False}
@@ -24,14 +25,15 @@ SYSTEMS |= {"apple-darwin": True, "pc-windows-gnu": True, "pc-windows-msvc": Fal
 
 @pytest.fixture(scope="module")
 def windows():
-    """The folder of library and program for Windows."""
+    """The folder with the library and the programs for Windows."""
     needs(WINDOWS_CC)
     runs(make(f"CC={WINDOWS_CC}"))
     return OUT / "windows"
 
 
 def keeping(call):
-    """A call that fills the registers that it has to keep, and ends the program where it does not. For one thread."""
+    """A wrapper that fills the registers that a call must restore, makes the call, and ends the program if one has
+    changed. It works in one thread only."""
     every = lambda form: [form.format("movups" if "m" in it else "mov", it, 16 * at) for at, it in enumerate(KEPT)]
     before = [*every("{0} {1},own+{2}(%rip)"), "pop own+400(%rip)", *every("{0} want+{2}(%rip),{1}")]
     after = [*every("{0} {1},seen+{2}(%rip)"), "push own+400(%rip)", "lea want(%rip),%rsi", "lea seen(%rip),%rdi"]
@@ -45,7 +47,8 @@ def test_in_c(windows):
 
 
 def test_names_and_stack(windows):
-    """Windows may overwrite what stands below the stack, and wants each of its pages touched in turn."""
+    """Nothing is kept below the stack pointer, because Windows may overwrite it. The stack pointer moves by less than a
+    page, because Windows requires that pages of the stack are touched one after the other."""
     said = ran([WINDOWS_CC.replace("gcc", "objdump"), "-pd", windows / "libfaster_hex.dll"]).stdout
     assert {*re.findall(r"^\s+\[ *\d+\] (\w+)$", said, re.M)} == {*NAMES}
     assert "(%rsp)" in said and not re.findall(r"-0x\w+\(%rsp.*|sub +\$0x\w{4,},%rsp", said)
@@ -66,7 +69,7 @@ def test_registers(tmp_path, windows):
 
 
 def test_build_that_moves_the_stack(tmp_path, windows):
-    """That for x86-64-v2 alone does, which a newer processor does not take."""
+    """Only the build for x86-64-v2 moves the stack. A newer processor would not use it, so the choice is replaced."""
     needs("wine")
     text, taken = (CRATE / "dispatch.c").read_text(), "level_of(processor())"
     assert text.count(taken) == 1
@@ -97,7 +100,7 @@ def test_names_for(tmp_path, target):
 @pytest.mark.parametrize("program", ["fhex", "fhex-stream"])
 @pytest.mark.parametrize("target", OTHERS[2:])
 def test_program_for(tmp_path, target, program):
-    """It asks for what fhex.c has, and for three functions of C."""
+    """It needs the functions of fhex.c, and three functions of C."""
     needs("clang", "llvm-nm")
     runs(["clang", "-target", target, "-c", "-o", tmp_path / "fhex.o", TOP / f"generated/{program}/builds.S"])
     asked = {*re.findall(r" U (\w+)$", ran(["llvm-nm", tmp_path / "fhex.o"]).stdout, re.M)}
@@ -115,7 +118,7 @@ def test_builds_taken_for(target):
 @pytest.mark.parametrize("system", SYSTEMS)
 @pytest.mark.parametrize("processor", ["x86_64", "aarch64"])
 def test_systems_of_builds(processor, system):
-    """C and Rust take assembly exactly where the table of README.md has it; on Windows by mingw for x86-64 alone."""
+    """C and Rust use the assembly exactly on the systems that README.md lists. On Windows that is mingw for x86-64."""
     needs("clang", RUSTC)
     named, has = f"{processor}-{system}", SYSTEMS[system] and (processor, system) != ("aarch64", "pc-windows-gnu")
     target = {"apple-darwin": "apple-macos11", "apple-ios": "apple-ios14"}.get(system, system)
@@ -129,7 +132,7 @@ def test_systems_of_builds(processor, system):
 
 
 def is_portable(known):
-    """Whether bindings/rust takes its portable calls, by what is known of a target."""
+    """Whether bindings/rust uses its portable calls for a target with this configuration."""
     text = (TOP / "bindings/rust/src/lib.rs").read_text()
     asked = re.search(r"#\[cfg_attr\(\s*(any\(.*?\)),\s*path = \"portable.rs\"", text, re.S)[1]
     holds = lambda it: repr((f"{it[1]}={it[2]}" if it[2] else it[1]) in known)
@@ -139,7 +142,7 @@ def is_portable(known):
 
 @pytest.mark.parametrize("processor, files", [("arm64", "aarch64.s"), ("x86_64", "x86-64*.s")])
 def test_places_and_names_on_macos(tmp_path, processor, files):
-    """Calls are private and aligned; addresses alone can be written; constants are found by page and offset."""
+    """Calls are private and aligned. The only writable data are addresses. Constants are found by page and offset."""
     needs("clang", "llvm-nm", "llvm-objdump")
     text, built = "".join(it.read_text() for it in TOP.glob(f"generated/{files}")), tmp_path / "builds.o"
     runs(["clang", "-target", f"{processor}-apple-macos11", "-c", "-o", built, TOP / "generated/builds.S"])
