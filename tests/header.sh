@@ -1,17 +1,20 @@
 #!/bin/sh
-# Compares faster_hex.h with the exported functions: the fields of the answer, of the same types in the
-# same order, which no proof sees; of each function its name, its result and its parameters, where a Source
-# or a Destination is a pointer and a length; and the numbers of the statuses. Then its version, those of the crate for
-# Rust, of CMake and of the man pages, and that in the names of generated/ with VERSION of the Makefile; the functions
-# of dispatch.c with the header; and each PROVED in generated/ with the sources, the files and README.md. Prints what
-# differs; its status is then 1.
+# Checks facts that no proof covers. It prints each difference, and its status is then 1.
+#
+# - faster_hex.h and the functions that Rattle exports must agree: on the types and the order of the answer's fields,
+#   on the numbers of the statuses, and on the name, the result and the parameters of each function. A Source or a
+#   Destination is a pointer and a length.
+# - dispatch.c must define the functions of the header.
+# - The version must be the VERSION of the Makefile in the header, in the crate for Rust, in CMakeLists.txt, in the
+#   manual pages and in the names of generated/.
+# - Each PROVED in generated/ must fit the sources, its files, and the prover that README.md names.
 set -eu
 
 cd "$(dirname "$0")/../crates/faster_hex_c"
 made=$(mktemp -d)
 trap 'rm -rf "$made"' EXIT
 
-# The header without its comments, a declaration a line, and its types by their names in Rust.
+# The header without comments, one declaration on each line, with the names that Rust has for the types.
 sed '/^#/d; s/.*\\$//' faster_hex.h | tr '\n' ' ' | sed 's|/\*[^*]*\*\([^*/][^*]*\*\)*/||g' | tr ';{' '\n\n' | sed '
     s/FASTER_HEX_MUST_USE//
     s/const void \*[a-z]*, size_t [a-z]*/Source/g
@@ -39,7 +42,7 @@ sed '/^#/d; s/.*\\$//' faster_hex.h | tr '\n' ' ' | sed 's|/\*[^*]*\*\([^*/][^*]
     sed '/^#\[derive/d' src/lib.rt | grep -B1 '^pub struct [A-Z][a-z]*<' | grep -v '^--' | paste -d ' ' - -
 } >"$made/exported"
 
-# versions: each place that names the version, by its name.
+# versions: prints each place that names a version, with that version.
 versions() {
     sed -n 's/^#define FASTER_HEX_VERSION "\(.*\)"$/faster_hex.h \1/p' faster_hex.h
     echo "its-numbers $(sed -n 's/^#define FASTER_HEX_VERSION_[A-Z]* \([0-9]*\)$/\1/p' faster_hex.h |
@@ -50,7 +53,7 @@ versions() {
     sed -n 's/^\thex_export\tfaster_hex_\([0-9]*\)_\([0-9]*\)_\([0-9]*\)_\(.*\)/\4 \1.\2.\3/p' ../../generated/*.s
 }
 
-# The calls that dispatch.c makes, but for two that are written out there.
+# The functions that dispatch.c defines: most of them by a macro, and two without it.
 {
     sed -n 's/^CALL(\([a-z]*\), \([a-z_]*\),.*/faster_hex_\2/p' dispatch.c
     sed -n 's/^const char \*\(faster_hex_[a-z_]*\)(.*{$/\1/p' dispatch.c
@@ -66,8 +69,8 @@ versions | awk -v wanted="$wanted" '
     $2 != wanted { print $1 ": version " $2 ", and not " wanted " as in the Makefile"; wrong = 1 }
     END { exit wrong }' || status=1
 
-# proved FOLDER CRATE: whether its record tells the proofs of a crate and those below it, from these sources, by the
-# prover that README.md names, and whether the files are those that it tells.
+# proved FOLDER CRATE: checks the PROVED of a folder. It must list the proofs of the crate and of all crates below it,
+# from these sources and by the prover that README.md names, and the hashes of the folder's files.
 proved() {
     crates=$(scripts/repository.py below "$2" | sort)
     told=$(sed -n 's/ logic=proved .*//p' "$1/PROVED" | sort -u)

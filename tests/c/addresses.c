@@ -1,7 +1,7 @@
-/* Makes each call once for each length, on keys drawn from a seed, with a store to `mark` before and after
- * it. `tests/test_secrets.py` compares the addresses that a call uses on other keys. Without a seed it prints
- * a line for each call: its name, its case or policy, and the length of its source. With PLANTED, one call
- * looks digits up by the byte.
+/* Makes each call once for each length, on random keys that depend on a seed. There is a store to `mark` before
+ * and after each call, so that `tests/test_secrets.py` finds the call in a trace. It compares the addresses that a
+ * call uses on different keys. Without a seed the program prints a line for each call: its name, its case or
+ * policy, and the length of its source. If PLANTED is defined, one call uses a lookup table, which must be found.
  * Usage: addresses [SEED] */
 #include <stdint.h>
 #include <stdio.h>
@@ -23,7 +23,7 @@ static uint8_t draw(void) {
     return (uint8_t)(drawn >> 56);
 }
 
-/* Digits that the policy takes: under FASTER_HEX_EITHER_CASE of both cases. */
+/* Random digits that the policy accepts. Under FASTER_HEX_EITHER_CASE they have both cases. */
 static void draw_digits(uint8_t policy) {
     for (size_t at = 0; at < 2 * LONGEST; at++) {
         const bool is_upper = policy == FASTER_HEX_EITHER_CASE ? draw() & 1 : policy == FASTER_HEX_UPPERCASE;

@@ -1,6 +1,7 @@
-//! Makes the calls that return owned values, and checks under a policy, each between two stores to `mark`, on
-//! keys drawn from a seed. `tests/test_secrets.py` compares the addresses that a call uses on other keys.
-//! Without a seed it prints a line for each call: its name, a word, and the length of its source.
+//! Makes the calls that return owned values, and checks under a policy, on random keys that depend on a seed.
+//! There is a store to `mark` before and after each call, so that `tests/test_secrets.py` finds the call in a
+//! trace. It compares the addresses that a call uses on different keys. Without a seed the program prints a line
+//! for each call: its name, a number, and the length of its source.
 
 use faster_hex::{hex_check_with_case, hex_decode_array, hex_decode_vec, hex_string, CheckCase};
 use std::hint::black_box;
@@ -10,7 +11,7 @@ use std::sync::atomic::{AtomicU32, Ordering};
 #[no_mangle]
 static mark: AtomicU32 = AtomicU32::new(0);
 
-/// Makes a call between two stores, or prints its line.
+/// Makes a call between two stores to `mark`, or prints its line.
 fn trace<T>(prints: bool, name: &str, length: usize, call: impl FnOnce() -> T) {
     if prints {
         println!("faster_hex_{name}(0) {length}");

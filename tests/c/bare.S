@@ -1,6 +1,6 @@
-/* From the reset of an x86-64 processor to `bare` in bare.c, without a system. It stands in the last 64 KiB of a ROM of
- * 512 KiB below 4 GiB, which bare.ld lays: the program before it is copied to 1 MiB. SAVED is the word of registers
- * that a system would save, as `xsetbv` takes it. */
+/* Takes an x86-64 processor from its reset to `bare` in bare.c, without an operating system. This code is in the last
+ * 64 KiB of a ROM of 512 KiB that ends at 4 GiB, as bare.ld says. It copies the program, which comes before it, to
+ * 1 MiB. SAVED is the operand of `xsetbv`: the set of registers that a system would save. */
 #define SELECTOR_32 8
 #define SELECTOR_DATA 16
 #define SELECTOR_64 24
@@ -13,7 +13,7 @@
     .code16
 real:
     cli
-    /* With the segment of reset and 32 bits of address. */
+    /* With the code segment of the reset, and addresses of 32 bits. */
     .byte 0x66, 0x2e
     lgdt described - real
     movl %cr0, %eax
@@ -28,12 +28,12 @@ protected:
     movw %ax, %es
     movw %ax, %ss
     cld
-    /* The program, and what begins as zero. */
+    /* Copy the program, and the variables that begin as zero. */
     movl $program_rom, %esi
     movl $program, %edi
     movl $program_size, %ecx
     rep movsb
-    /* Tables of pages: four of 512 pages of 2 MiB, which are where they are in memory. */
+    /* Page tables: four with 512 pages of 2 MiB each. Each page has the same virtual and physical address. */
     movl $TABLES, %edi
     xorl %eax, %eax
     movl $0x6000 / 4, %ecx
@@ -53,14 +53,14 @@ protected:
     jnz 1b
     movl $TABLES, %eax
     movl %eax, %cr3
-    /* Long addresses, SSE and its exceptions, and xsetbv. */
+    /* Switch on physical address extension, SSE with its exceptions, and xsetbv. */
     movl $0x40620, %eax
     movl %eax, %cr4
     movl $0xc0000080, %ecx
     rdmsr
     orl $0x100, %eax
     wrmsr
-    /* Paging and caches; no emulation of SSE. */
+    /* Switch on paging and caches, and switch off the emulation of SSE. */
     movl %cr0, %eax
     andl $0x9ffffffb, %eax
     orl $0x80000002, %eax
@@ -86,7 +86,7 @@ described:
     .word . - described_segments - 1
     .long described_segments
 
-    /* Where a processor begins. */
+    /* A processor begins here after its reset. */
     .org 0xfff0
     .code16
     jmp real

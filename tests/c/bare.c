@@ -1,6 +1,7 @@
-/* Calls the library on a processor without a system, where bare.S has brought it, beside plain C: all lengths up to
- * MOST digits under each policy, valid and with a byte changed. Prints by port e9, which bochs copies to its output,
- * the level of the processor and `N passed, M failed`, and ends bochs. */
+/* Calls the library on a processor without an operating system, after bare.S, and compares the answers with plain C:
+ * for all lengths up to MOST digits, under each policy, with valid digits and with one byte changed. It prints the
+ * level of the processor and `N passed, M failed` through port e9, which bochs copies to its output. Then it ends
+ * bochs. */
 #include "../../crates/faster_hex_c/dispatch.c"
 
 enum { PLACES = 64, AROUND = 64, OLD = 0xa5 };
@@ -27,7 +28,7 @@ static void end(void) {
     }
 }
 
-/* A number with no pattern, the same ones in each run. */
+/* The next pseudo-random number. The numbers are the same in each run. */
 static unsigned next(void) {
     static size_t state = 1;
     state = state * 6364136223846793005 + 1442695040888963407;
@@ -47,21 +48,21 @@ static uint8_t digit_of(unsigned value, uint8_t policy) {
     return (uint8_t)(value < 10 ? '0' + value : value - 10 + (is_upper ? 'A' : 'a'));
 }
 
-/* Where the first byte is that is no digit, or the length. */
+/* The index of the first byte that is no digit, or the length if there is none. */
 static size_t valid(const uint8_t *src, size_t len, uint8_t policy) {
     size_t at = 0;
     while (at < len && value_of(src[at], policy) >= 0) at++;
     return at;
 }
 
-/* Whether an answer fits, where the first invalid byte is at this place. */
+/* Whether an answer is right, if the first invalid byte has this index. */
 static bool fits(struct faster_hex_answer it, const uint8_t *src, size_t len, size_t at) {
     if (len % 2) return it.status == FASTER_HEX_ODD_LENGTH;
     if (at < len) return it.status == FASTER_HEX_INVALID_CHAR && it.number == at && it.byte == src[at];
     return it.status == FASTER_HEX_DONE && it.number == len / 2;
 }
 
-/* Whether the room has so many decoded bytes, and elsewhere what it had. */
+/* Whether the room has so many decoded bytes, and is unchanged after them and before them. */
 static bool holds(const uint8_t *src, size_t bytes, uint8_t policy) {
     for (size_t at = 0; at < sizeof room; at++) {
         size_t digit = 2 * (at - AROUND);
@@ -96,7 +97,7 @@ static void try(const uint8_t *src, size_t len, uint8_t policy) {
     }
 }
 
-/* Valid digits, and then one byte changed: among the last ones, anywhere, and to any byte. */
+/* Tries valid digits, and then digits with one byte changed: one of the last bytes, any byte, and to any value. */
 static void try_length(size_t len, uint8_t policy) {
     static const uint8_t others[] = "/:@G`g\xff\x00\x7f\xb0 \n";
     for (int way = 0; way < 4 && (way == 0 || len > 0); way++) {

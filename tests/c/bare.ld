@@ -1,9 +1,10 @@
-/* A ROM of 512 KiB below 4 GiB: a program, which runs at 1 MiB, and in the last 64 KiB what bare.S has. */
+/* A ROM of 512 KiB that ends at 4 GiB. It has a program, which runs at 1 MiB, and in its last 64 KiB the code of
+ * bare.S. */
 SECTIONS {
     .program 0x100000 : AT(0xfff80000) {
         program = .;
         *(.text .text.* .rodata .rodata.* .data .data.*)
-        /* What begins as zero takes zeros from the ROM. */
+        /* Variables that begin as zero get zeros from the ROM. */
         *(.bss .bss.* COMMON)
         program_end = .;
     }

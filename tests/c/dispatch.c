@@ -1,6 +1,6 @@
-/* Tries which build dispatch.c takes of each processor, on any machine: by words that `cpuid` and `xgetbv`
- * could say, with bits numbered as in the manuals of processors.
- * Link it with the archive, of which it takes the builds alone. Prints `N passed, M failed`.
+/* Tests which build dispatch.c chooses for each processor, on any machine. It gives dispatch.c register values that
+ * `cpuid` and `xgetbv` could return. Bits are numbered as in the manuals of processors. Link it with the archive, of
+ * which it uses only the builds. Prints `N passed, M failed`.
  * Usage: dispatch */
 #include <stdio.h>
 
@@ -18,7 +18,7 @@ static void is_level(const char *what, unsigned bit, struct processor it, unsign
     }
 }
 
-/* A word of a processor, by its place, and the bits of it that the levels want. */
+/* A value that a processor reports: its place in the struct, and the bits of it that each level needs. */
 struct wants {
     const char *name;
     size_t word;
@@ -33,7 +33,7 @@ static const struct wants WANTS[] = {
     /* BMI, AVX2, BMI2; AVX512F, AVX512DQ, AVX512CD, AVX512BW, AVX512VL */
     { WORD(wide), 0, BIT(3) | BIT(5) | BIT(8), BIT(16) | BIT(17) | BIT(28) | BIT(30) | BIT(31) },
     { WORD(extended), BIT(0), BIT(5), 0 },          /* LAHF; LZCNT */
-    /* The registers of SSE, those of AVX; masks, the high halves of 16 vectors, 16 more vectors. */
+    /* The registers of SSE and those of AVX; masks, the upper halves of 16 vectors, and 16 more vectors. */
     { WORD(saved), 0, BIT(1) | BIT(2), BIT(5) | BIT(6) | BIT(7) },
 };
 enum { WORDS = sizeof WANTS / sizeof *WANTS };
@@ -42,7 +42,7 @@ static unsigned *word_of(struct processor *it, const struct wants *wants) {
     return (unsigned *)(void *)((char *)it + wants->word);
 }
 
-/* A processor that has what the levels up to this one want, and nothing else. */
+/* A processor that has exactly what the levels up to this one need. */
 static struct processor exactly(unsigned level) {
     struct processor it = { .highest = 7, .highest_extended = 0x80000001 };
     for (int at = 0; at < WORDS; at++) {
@@ -73,7 +73,7 @@ static void by_bits(void) {
     }
 }
 
-/* Leaves above the highest say nothing, whatever their words are. */
+/* Leaves of cpuid above the highest one must be ignored, whatever their values are. */
 static void by_leaves(void) {
     struct processor it = exactly(4);
     for (it.highest = 0; it.highest < 9; it.highest++) {
@@ -86,8 +86,8 @@ static void by_leaves(void) {
     is_level("highest leaf", it.highest_extended, it, 0);
 }
 
-/* The processor has all levels, and the system saves the registers of some: bits 0 to 2 stand for those of the x87,
- * SSE and AVX, 5 to 7 for those of AVX-512. */
+/* The processor supports all levels, but the system saves only some registers. Bits 0 to 2 are for the registers of the
+ * x87, SSE and AVX, and bits 5 to 7 for those of AVX-512. */
 static void by_system(void) {
     static const unsigned char SAVED[][2] = { { 0x00, 2 }, { 0x03, 2 }, { 0x07, 3 }, { 0x27, 3 }, { 0x67, 3 },
                                               { 0xe3, 2 }, { 0xe7, 4 }, { 0xff, 4 } };
@@ -98,7 +98,7 @@ static void by_system(void) {
     }
 }
 
-/* This machine's words choose what `raise_level` chose. */
+/* The values of this machine must choose the level that `raise_level` has chosen. */
 static void here(void) {
     is_level("the constructor's level", level, processor(), level);
 }

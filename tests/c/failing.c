@@ -1,6 +1,7 @@
-/* For `ld --wrap`, below fhex.c: of the calls of a name, the one that FAILS='NAME NUMBER REASON' names
- * fails for this reason, or moves nothing if it is 0; reading and writing move at most PIECE bytes; and the file
- * ADVISED gets a line for each call of madvise, of a length, an advice and an answer. */
+/* Injects failures into fhex.c, by `ld --wrap`. With FAILS='NAME NUMBER REASON' in the environment, the call of this
+ * name and number fails with the errno REASON. If REASON is 0, it transfers nothing. With PIECE, a read or a write
+ * transfers at most PIECE bytes. With ADVISED, that file gets a line for each call of madvise: the length, the advice
+ * and the result. */
 #include <errno.h>
 #include <stdbool.h>
 #include <stdio.h>

@@ -1,4 +1,4 @@
-/* Makes one call with a fault, which a sanitizer must report, or none, and then ends with 0.
+/* Makes one call with wrong arguments, which a sanitizer must report, or with right ones. Then it ends with status 0.
  * Usage: faults none|short-destination|short-source|short-invalid|freed|unwritten|unwritten-invalid */
 #include <stdlib.h>
 #include <string.h>
@@ -7,14 +7,14 @@
 
 static const char DIGITS[] = "00112233445566778899aabbccddeeff0011223344556677";
 
-/* As many bytes on the heap as a call takes for that, or fewer. */
+/* Makes the call. Both pieces of memory are on the heap, and may be shorter than the call says or already freed. */
 static int made(const char *fault, char *bytes, char *digits) {
     bool is_short = strcmp(fault, "short-destination") == 0;
     if (is_short || strcmp(fault, "none") == 0) {
         struct faster_hex_answer told = faster_hex_decode(DIGITS, 48, bytes, 24);
         return told.status == FASTER_HEX_DONE && (is_short || bytes[3] == 0x33) ? 0 : 3;
     }
-    /* The call says that the first byte is invalid, and yet has read the others. */
+    /* The call reports the first byte as invalid, but it has read the other bytes too. */
     bool is_unwritten = strcmp(fault, "unwritten-invalid") == 0;
     if (is_unwritten || strcmp(fault, "short-invalid") == 0) {
         digits[0] = 'g';

@@ -1,8 +1,7 @@
-/* Tries the calls of faster_hex.h beside models of a few lines: between guarded pages at all lengths
- * from 0 to 300 and some long ones, with NULL, with sources too long for any text, with numbers above
- * 2^32, with source and destination that touch, at all alignments, and in threads.
- * `tests/test_library.py` builds and runs it. Prints a line for each thing that failed, and
- * `N passed, M failed` at the end.
+/* Compares the calls of faster_hex.h with models of a few lines: between guarded pages at all lengths from 0 to
+ * 300 and at some greater lengths, with NULL, with sources that are too long for any text, with numbers above 2^32,
+ * with adjacent source and destination, at all alignments, and in threads. `tests/test_library.py` builds and runs
+ * it. Prints a line for each failure, and `N passed, M failed` at the end.
  * Usage: library [threads] */
 #include <pthread.h>
 #include <stdio.h>
@@ -16,7 +15,7 @@
 
 enum { LONGEST = 300, OLD = 0xa5, THREADS = 8, TURNS = 200 };
 
-/* The header's macros are constants, with sums in them and around them. */
+/* The header's macros give constants, also for sums, and can be used in sums. */
 #define IS(expression) __extension__ _Static_assert(expression, #expression)
 IS(FASTER_HEX_ENCODED_LEN(0) == 0);
 IS(7 % FASTER_HEX_ENCODED_LEN(1 + 1) == 3);
@@ -78,7 +77,7 @@ static bool is_group(size_t every, uint8_t sep) {
     return every != 0 && sep < 0x80 && value(FASTER_HEX_EITHER_CASE, sep) < 0;
 }
 
-/* The models have no overflow: the tests' lengths are short. */
+/* The models do not consider overflow, because the lengths of these tests are small. */
 static struct faster_hex_answer model_encode(const struct job *it, size_t every) {
     const char *digits = it->upper ? "0123456789ABCDEF" : "0123456789abcdef";
     size_t required = 2 * it->len + (it->len == 0 ? 0 : (it->len - 1) / every), at = 0;
@@ -91,7 +90,7 @@ static struct faster_hex_answer model_encode(const struct job *it, size_t every)
     return told(required, FASTER_HEX_DONE, 0);
 }
 
-/* Whether a place of a text of pieces of 2 * every digits is that of a separator. */
+/* Whether a separator is at this index of a text in groups of 2 * every digits. */
 static bool separates(size_t at, size_t every) {
     return at % (2 * every + 1) == 2 * every;
 }
@@ -122,7 +121,7 @@ static struct faster_hex_answer model_decode(const struct job *it, uint8_t polic
 }
 
 static struct faster_hex_answer model(const struct job *it) {
-    const size_t whole = 1 << 20; /* longer than any text here, so without a separator */
+    const size_t whole = 1 << 20; /* longer than any text here, so there is no separator */
     switch (it->call) {
     case CHECK: return told(model_search(it, FASTER_HEX_EITHER_CASE, whole).status == FASTER_HEX_DONE, 0, 0);
     case CHECK_WITH_CASE:
@@ -142,15 +141,15 @@ static struct faster_hex_answer model(const struct job *it) {
     return model_decode(it, it->policy, it->every, FASTER_HEX_BAD_LENGTH);
 }
 
-/* Some memory, of which a copy is kept. */
+/* Some memory, with room for two copies of it. */
 struct memory {
     uint8_t *start;
     size_t size;
     uint8_t *kept;
 };
 
-/* Whether the call answers what its model does, and leaves the memory that has its destination, and
- * maybe its source, as the model leaves it. */
+/* Whether the call gives the answer of its model, and leaves the memory around its destination as the model
+ * does. The source may be in this memory too. */
 static bool agrees(const struct job *it, struct memory around) {
     uint8_t *before = around.kept, *after = around.kept + around.size;
     memcpy(before, around.start, around.size);
@@ -176,8 +175,8 @@ static void count(bool holds) {
     else failed++;
 }
 
-/* A text that a call reads: bytes, or digits, in groups where the call reads groups, with a byte in
- * four that is none, or one of the wrong case. The texts of a length differ by `turn`. */
+/* Writes a text for a call to read: bytes, digits, or digits in groups. In one of four texts, one byte is no digit
+ * or a letter of the wrong case. `turn` makes different texts of the same length. */
 static void fill(const struct job *it, uint8_t *text, unsigned turn) {
     static const char *const letters[] = { "0123456789aBcDeF", "0123456789abcdef", "0123456789ABCDEF" };
     for (size_t i = 0; i < it->len; i++) {
@@ -190,14 +189,15 @@ static void fill(const struct job *it, uint8_t *text, unsigned turn) {
     if (it->len > 0 && turn % 4 == 3) text[(turn * 7919u) % it->len] = wrong;
 }
 
-/* How long a destination a call takes. */
+/* The length of the destination that a call needs. */
 static size_t takes(const struct job *it) {
     if (it->call == ENCODE) return FASTER_HEX_ENCODED_LEN(it->len);
     if (it->call == ENCODE_GROUPED && it->every != 0) return FASTER_HEX_GROUPED_LEN(it->len, it->every);
     return FASTER_HEX_DECODED_LEN(it->len);
 }
 
-/* The parameters of a turn: every policy, destinations of the right length and of others, groups and what is none. */
+/* The parameters of a turn. Turns have every policy, valid and invalid groups, and destinations of the right length, of
+ * a greater one and of a smaller one. */
 static struct job job_of(enum call call, size_t len, unsigned turn) {
     static const size_t pieces[] = { 1, 2, 3, 4, 16, 17, LONGEST, 0 };
     static const char separators[] = { ':', '-', ' ', '\n', ':', 'a', '.' };
@@ -210,7 +210,7 @@ static struct job job_of(enum call call, size_t len, unsigned turn) {
     return it;
 }
 
-/* Whether the call agrees over these places, once its source is filled. */
+/* Fills the source, and returns whether the call agrees with its model for this source and destination. */
 static bool tries(struct job it, uint8_t *src, uint8_t *dst, unsigned turn, struct memory around) {
     it.src = src;
     it.dst = dst;
@@ -218,7 +218,7 @@ static bool tries(struct job it, uint8_t *src, uint8_t *dst, unsigned turn, stru
     return agrees(&it, around);
 }
 
-/* Pages for so many bytes, between two that nobody may touch. */
+/* Pages for so many bytes, between two pages that can't be read or written. */
 static struct memory guarded(size_t bytes) {
     size_t page = (size_t)sysconf(_SC_PAGESIZE), size = (bytes + page - 1) / page * page;
     uint8_t *all = mmap(NULL, size + 2 * page, PROT_NONE, MAP_PRIVATE | MAP_ANONYMOUS, -1, 0);
@@ -231,8 +231,8 @@ static struct memory guarded(size_t bytes) {
     return memory;
 }
 
-/* Makes a call that its model refuses once more, where no byte of its destination can be written: one
- * that stores, even if it puts back what stood there, ends the program. */
+/* Repeats a call that must report an error, with a destination that can't be written. If the call stores anything,
+ * even if it restores it afterwards, the program ends. */
 static void refuses_unwritten(const struct job *it, struct memory to) {
     if (model(it).status == FASTER_HEX_DONE) return;
     mprotect(to.start, to.size, PROT_READ);
@@ -240,8 +240,8 @@ static void refuses_unwritten(const struct job *it, struct memory to) {
     mprotect(to.start, to.size, PROT_READ | PROT_WRITE);
 }
 
-/* Source and destination each at the front or at the end of guarded pages; the source's can't be
- * written while the call runs, nor the destination's where it refuses. */
+/* Source and destination are at the front or at the end of guarded pages. The source can't be written while the
+ * call runs. The destination can't be written if the call must report an error. */
 static void at_length(size_t len, unsigned turns, struct memory from, struct memory to) {
     bool holds = true;
     for (unsigned at = 0; at < CALLS * turns; at++) {
@@ -259,7 +259,7 @@ static void at_length(size_t len, unsigned turns, struct memory from, struct mem
     count(holds);
 }
 
-/* The longer one is that of whole texts in groups of 1, 2, 3, 4, 17 and 300 bytes. */
+/* The greater length is that of complete texts in groups of 1, 2, 3, 4, 17 and 300 bytes. */
 static void at_long_lengths(void) {
     struct memory from = guarded(70004), to = guarded(3 * 70004 + 7);
     at_length(4097, 12, from, to);
@@ -268,7 +268,7 @@ static void at_long_lengths(void) {
     free(to.kept);
 }
 
-/* NULL where a length is 0: as the source, as the destination, as both. */
+/* NULL with the length 0, as the source, as the destination, and as both. */
 static void with_null(struct memory to) {
     for (unsigned call = 0; call < CALLS; call++) {
         bool holds = true;
@@ -291,7 +291,8 @@ static bool is_told(struct faster_hex_answer answer, size_t number, uint8_t stat
     return answer.number == number && answer.status == status && answer.byte == 0;
 }
 
-/* Sources whose digits no size_t counts, and the longest of all others. None of them is read. */
+/* Sources for which the number of digits does not fit in size_t, and the longest one for which it does. None of them
+ * is read. */
 static void too_long(struct memory to) {
     const size_t lengths[] = { SIZE_MAX / 2 + 1, SIZE_MAX / 2 + 2, SIZE_MAX - 1, SIZE_MAX };
     for (unsigned i = 0; i < 16; i++) {
@@ -318,7 +319,7 @@ static bool wants(struct faster_hex_answer answer, size_t required) {
     return is_told(answer, required, FASTER_HEX_OUTPUT_TOO_SMALL);
 }
 
-/* Rooms and groups whose lower bits say something else. */
+/* Rooms and groups above 2^32, whose lower 32 bits are another number. */
 static void wide_rooms(size_t wide, uint8_t *dst) {
     const char *src = "00ff0A1b";
     count(has_room(faster_hex_decode(src, 8, dst, wide), 4));
@@ -329,7 +330,7 @@ static void wide_rooms(size_t wide, uint8_t *dst) {
     count(has_room(faster_hex_decode_grouped(src, 8, dst, wide, 0, wide, ':'), 4));
 }
 
-/* A source of so many zeros, which stand nowhere: its first byte is no digit. A build may look at all of them. */
+/* A source of so many zero bytes, which use no memory. Its first byte is no digit. A build may read all of it. */
 static void wide_source(size_t len) {
     void *src = mmap(NULL, len, PROT_READ, MAP_PRIVATE | MAP_ANONYMOUS, -1, 0);
     count(src != MAP_FAILED && !faster_hex_check(src, len) && !faster_hex_check_with_case(src, len, 0));
@@ -337,9 +338,9 @@ static void wide_source(size_t len) {
     munmap(src, len);
 }
 
-/* Lengths whose lower bits say something else. */
+/* Lengths above 2^32, whose lower 32 bits are another number. */
 static void wide_lengths(size_t wide) {
-    const char *src = ""; /* which is not read */
+    const char *src = ""; /* is not read */
     count(wants(faster_hex_decode(src, wide, NULL, 0), wide / 2));
     count(wants(faster_hex_decode_with_case(src, wide, NULL, 0, 0), wide / 2));
     count(wants(faster_hex_encode(src, wide, NULL, 0, true), 2 * wide));
@@ -357,7 +358,7 @@ static void above_32_bits(uint8_t *dst) {
 }
 #endif
 
-/* All numbers above 2 name no policy. */
+/* No number above 2 is a policy. */
 static void other_policies(void) {
     for (unsigned policy = 3; policy < 256; policy++) {
         uint8_t byte = 0xa5, number = (uint8_t)policy;
@@ -370,7 +371,7 @@ static void other_policies(void) {
 }
 
 #if defined FASTER_HEX_X86_64 || defined FASTER_HEX_AARCH64
-/* Of a wider policy a build takes the low eight bits alone, whatever a caller leaves above them. */
+/* A build must use only the lowest eight bits of a policy, whatever a caller has in the register above them. */
 static void wide_policies(void) {
     typedef struct faster_hex_answer passes(const void *, size_t, unsigned);
     passes *volatile first_invalid = (passes *)(void (*)(void))faster_hex_first_invalid;
@@ -381,7 +382,7 @@ static void wide_policies(void) {
 }
 #endif
 
-/* Source and destination that touch, in either order, in one piece of memory. */
+/* Source and destination are adjacent in one piece of memory, in either order. */
 static void touching(struct memory both) {
     for (unsigned call = ENCODE; call < CALLS; call++) {
         bool holds = true;
@@ -395,7 +396,7 @@ static void touching(struct memory both) {
     }
 }
 
-/* Each place of source and destination beside a multiple of 64. */
+/* Each alignment of source and destination to 64 bytes. */
 static void aligned(struct memory from, struct memory to) {
     for (unsigned source = 0; source < 64; source++) {
         bool holds = true;
@@ -408,7 +409,7 @@ static void aligned(struct memory from, struct memory to) {
     }
 }
 
-/* A thread's destination, and whether all went well; the sources are those of all threads. */
+/* A thread's destination, and whether all of its calls were right. The sources are shared by all threads. */
 struct worker {
     struct memory to;
     bool holds;
@@ -430,7 +431,7 @@ static void *works(void *given) {
     return NULL;
 }
 
-/* Threads that begin at once, read one source and write into memory that lies side by side. */
+/* Threads that start at the same time, read the same sources and write into adjacent memory. */
 static void in_threads(void) {
     static uint8_t room[THREADS][2 * LONGEST + LONGEST + 8];
     struct worker workers[THREADS];

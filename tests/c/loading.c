@@ -1,5 +1,5 @@
-/* Calls the library before and after its own constructor, and beside a second copy of it, which is loaded as
- * the program runs. `tests/test_library.py` builds and runs it over the archive.
+/* Calls the library before and after its own constructor has run, and calls a second copy of it, which is loaded while
+ * the program runs. `tests/test_library.py` builds it with the archive and runs it.
  * Usage: loading SHARED_LIBRARY */
 #include <dlfcn.h>
 #include <stdio.h>

@@ -1,5 +1,5 @@
-/* Makes random calls of the library and of portable.h, and compares answers and destinations, byte for byte.
- * Prints a line for each that differ, and `N passed, M failed` at the end.
+/* Makes random calls of the library and the same calls of portable.h, and compares answers and destinations, byte
+ * for byte. Prints a line for each difference, and `N passed, M failed` at the end.
  * Usage: portable [CALLS [SEED]], where the seed is not 0 */
 #include <stdio.h>
 #include <stdlib.h>
@@ -19,7 +19,7 @@ struct job {
 
 static uint64_t state;
 
-/* A random number below another. */
+/* A random number below the bound. */
 static size_t below(size_t bound) {
     state ^= state << 13;
     state ^= state >> 7;
@@ -44,7 +44,7 @@ static answer run(const struct job *it, bool by_library, uint8_t *dst) {
     }
 }
 
-/* A text that the call reads, in groups for a call 6, or bytes; in half of them with any byte somewhere. */
+/* Writes digits for the call to read, in groups for call 6. In half of the texts a random byte is put somewhere. */
 static void fill(struct job *it) {
     static const char *const letters[] = { "0123456789aBcDeF", "0123456789abcdef", "0123456789ABCDEF" };
     size_t span = it->call == 6 && it->every > 0 ? span_of(it->every) : WHOLE;
@@ -55,7 +55,7 @@ static void fill(struct job *it) {
     if (it->len > 0 && below(2)) it->src[below(it->len)] = (uint8_t)below(256);
 }
 
-/* Texts and rooms of each length, most of which fit; policies, groups and separators, of which some are none. */
+/* Random texts and rooms of all lengths, most of which fit, with valid and invalid policies, groups and separators. */
 static void choose(struct job *it) {
     static const uint8_t separators[] = ":- \n,.a";
     it->call = (unsigned)below(CALLS);

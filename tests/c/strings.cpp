@@ -1,4 +1,4 @@
-// Tries faster_hex.hpp, the texts of statuses and the version. Prints `N passed, M failed`.
+// Tests faster_hex.hpp, the texts of statuses and the version. Prints `N passed, M failed`.
 #include <array>
 #include <cstdio>
 #include <map>
@@ -50,7 +50,7 @@ static void values() {
 #endif
 }
 
-/* Both directions, from an array, a std::array and a vector. */
+/* Encodes and decodes an array, a std::array and a vector. */
 template <class Byte> static void elements(const char *what) {
     const Byte bytes[] = {Byte{'0'}, Byte{'1'}, Byte{'f'}, Byte{'F'}};
     const std::array<Byte, 4> array{{bytes[0], bytes[1], bytes[2], bytes[3]}};

@@ -1,4 +1,4 @@
-/* As much of this header as library.c takes, for Windows. */
+/* The part of this header that library.c needs, for Windows. */
 #include <windows.h>
 enum { PROT_NONE, PROT_READ, PROT_WRITE, MAP_PRIVATE = 0, MAP_ANONYMOUS = 0 };
 #define MAP_FAILED NULL

@@ -1,8 +1,8 @@
-//! Calls the bindings and the Rust crate on the same random inputs, and compares answers, texts of errors,
-//! whole destinations, capacities, and how much memory was asked for how often; and strings of all lengths
-//! up to 4,200. The table in `calls` has every public name of both. `tests/test_swap.py` builds and runs it.
-//! Prints the first input of each kind of call on which the two differ, and `N passed, M failed` at the end,
-//! of the kinds.
+//! Calls the bindings and the Rust crate on the same random inputs, and on strings of all lengths up to 4,200. It
+//! compares answers, texts of errors, whole destinations, capacities, and the number and size of allocations. The
+//! table in `calls` has every public name of both. `tests/test_swap.py` builds and runs it. For each kind of call
+//! it prints the first input on which the two differ. The last line is `N passed, M failed`, which counts kinds of
+//! calls.
 //! Usage: beside ROUNDS SEED
 
 mod given;
