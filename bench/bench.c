@@ -1,15 +1,15 @@
-// Times the calls of generated/ beside others', all in turn in one run, and prints the least time of each in
-// nanoseconds: a line of the call, the number of decoded bytes and the time, with tabs between them. First it
-// checks the answers. bench/run builds it.
+// Times the calls of generated/ and other calls, alternately in one run. For each call and each size it prints a line
+// with the call, the number of decoded bytes and the least time in nanoseconds, with tabs between them. Before that
+// it checks the answers. bench/run builds it.
 #include <faster_hex.h>
 #include <stdio.h>
 #include <stdlib.h>
 #include <string.h>
 #include <time.h>
 
-// The rounds of a size are spread over the whole run, since a shared machine has slow seconds.
+// The rounds of a size are spread over the whole run, because a shared machine is slow for some seconds at a time.
 #define PASSES 20
-// How far below the last one a pass begins: twenty go round a page.
+// Each pass uses another place of the stack, so many bytes below the last one. Twenty passes cover a page.
 #define PLACE 208
 #define PAGE 4096
 #define ROUNDS 12
@@ -20,7 +20,7 @@
 
 enum kind { CHECK, ENCODE, DECODE, WRITE, READ, KINDS };
 
-// The numbers of decoded bytes of grouped calls, and of the others, which main fills in.
+// The sizes, in decoded bytes, of grouped calls, and those of the other calls, which main fills in.
 static const size_t few[] = {6, 64, LARGEST, 0};
 static size_t swept[MOST_SIZES + 1];
 
@@ -31,7 +31,7 @@ struct task {
     size_t room;
 };
 
-// A build's calls: plain ones, and in groups of 1 and 16 bytes.
+// The calls of a build: those without groups, and those with groups of 1 and 16 bytes.
 #define OF(build, call) faster_hex_1_0_0_x86_64_##build##_##call
 #define GROUPED(build, n) \
     CALL(WRITE, build##_write_##n, OF(build, encode_grouped)(src, len, dst, room, false, n, ':').number) \
@@ -43,7 +43,8 @@ struct task {
     DECODING(build) \
     CALL(ENCODE, build##_encode, OF(build, encode)(src, len, dst, room, false).number) \
     GROUPED(build, 1) GROUPED(build, 16)
-// Calls of one form: the Rust crate's, of a kernel or on slices, and those of a plan in a build.
+// Other calls, which all have the same type: those of the Rust crate, to a kernel or to a public function, and those of
+// a plan in a build.
 typedef size_t other(const uint8_t *src, size_t len, uint8_t *dst, size_t room);
 #define DONE_BY(name) ({ other name; name(src, len, dst, room); })
 #define OTHER_DECODING(side, name) \
@@ -59,7 +60,7 @@ typedef size_t other(const uint8_t *src, size_t len, uint8_t *dst, size_t room);
 #define LOOPS(n) \
     CALL(WRITE, loop_write_##n, write_by_##n(src, len, dst)) \
     CALL(READ, loop_read_##n, read_by_##n(src, len, dst))
-// The build for AVX-512 has no other calls, and the Rust crate no other code for it.
+// The build for AVX-512 has only these calls, and the Rust crate has code for AVX-512 only for these.
 #ifdef WIDEST
 #define EACH_WIDEST DECODING(v4) RUST_DECODING(avx512) RUST_DECODING(slices_v4)
 #else
@@ -86,8 +87,8 @@ DECLARED_DECODING(v4)
 typedef size_t grouping(const uint8_t *src, size_t len, uint8_t *dst);
 grouping write_by_1, write_by_16, read_by_1, read_by_16;
 
-// A loop for each call, so that the call is a direct one: how well a processor foresees an indirect one
-// depends on what else the machine does.
+// Each call has its own loop, so that it is a direct call. How well a processor predicts an indirect call depends on
+// what else the machine does.
 #define CALL(kind, name, made) \
     static __attribute__((noinline)) size_t name##_loop(const struct task *task, long turns) { \
         const uint8_t *src = task->src; \
@@ -115,7 +116,7 @@ static const struct call calls[] = {EACH};
 static double least[CALLS][MOST_SIZES];
 static volatile size_t sink;
 
-// The same bytes, and their text in lowercase and in both cases.
+// The bytes, and their text in lowercase and in mixed case.
 static uint8_t bytes[LARGEST], lower[2 * LARGEST], mixed[2 * LARGEST];
 static uint8_t out[3 * LARGEST + PAGE] __attribute__((aligned(64)));
 
@@ -123,7 +124,7 @@ static const size_t *sizes_of(enum kind kind) {
     return kind == WRITE || kind == READ ? few : swept;
 }
 
-// A number with no pattern, the same ones in each run.
+// The next pseudo-random number. The numbers are the same in each run.
 static uint32_t next(void) {
     static uint64_t state = 1;
     state = state * 6364136223846793005 + 1442695040888963407;
@@ -141,7 +142,7 @@ static void fill(void) {
     }
 }
 
-// Puts colons between pieces of so many bytes of a text, and returns its new length.
+// Puts colons between groups of so many bytes of a text, and returns its new length.
 static size_t group(uint8_t *to, const uint8_t *text, size_t size, size_t every) {
     size_t at = 0;
     for (size_t i = 0; i < size; i++) {
@@ -154,12 +155,12 @@ static size_t group(uint8_t *to, const uint8_t *text, size_t size, size_t every)
     return at;
 }
 
-// How many bytes a piece has: the number after the name of a grouped call.
+// The bytes of a group, which are the number at the end of the name of a grouped call.
 static size_t every_of(const struct call *call) {
     return strtoul(strrchr(call->name, '_') + 1, NULL, 10);
 }
 
-// The text in both cases in pieces. Those of fewer bytes are its fronts.
+// The text in mixed case, in groups. The texts of fewer bytes are the beginnings of it.
 static struct task grouped(size_t every, size_t size) {
     static uint8_t texts[17][3 * LARGEST];
     if (!texts[every][0]) {
@@ -177,7 +178,7 @@ static struct task task_of(const struct call *call, size_t size) {
     }
 }
 
-// Whether a call answers as it should, and writes that alone.
+// Whether a call gives the right answer and writes nothing else.
 static bool is_right(const struct call *call, size_t size) {
     static uint8_t wanted[3 * LARGEST];
     struct task task = task_of(call, size);
@@ -191,7 +192,7 @@ static bool is_right(const struct call *call, size_t size) {
     }
 }
 
-// The nanoseconds of some calls in a row.
+// The nanoseconds that some calls take one after the other.
 static double spent(const struct call *call, const struct task *task, long turns) {
     struct timespec start, end;
     clock_gettime(CLOCK_MONOTONIC, &start);
@@ -200,10 +201,10 @@ static double spent(const struct call *call, const struct task *task, long turns
     return (end.tv_sec - start.tv_sec) * 1e9 + (end.tv_nsec - start.tv_nsec);
 }
 
-// Times the calls of one kind in turn, so that each meets the same machine. A call's turns are long
-// enough for the clock not to count, and run once before they are timed: a processor may first have
-// to wake its wide vectors. After these some are slower for a while, which else would always meet
-// the same calls, so each round has another order.
+// Times the calls of one kind alternately, so that all of them meet the same state of the machine. A turn of a call is
+// so long that the time of reading the clock does not matter. It runs once before it is timed, because a processor may
+// first have to power up its wide vectors. After wide vectors a processor may be slower for a while. Each round has
+// another order, so that this does not always affect the same calls.
 static void measure(enum kind kind, size_t at_size, size_t place) {
     struct task tasks[CALLS];
     size_t order[CALLS], count = 0;
@@ -233,10 +234,10 @@ static void measure(enum kind kind, size_t at_size, size_t place) {
     }
 }
 
-// The same from another place of the stack on, so many bytes below. A call with a buffer there took up to
-// a seventh longer from some places, and one place held for a whole run. A likely cause is that a load
-// waits for a store whose address has the same low twelve bits. So the output too begins so far on in
-// a page, at a multiple of 64: else it and each source would have these bits in common.
+// Measures with the stack so many bytes lower. A call with a buffer on the stack took up to a seventh longer for some
+// places of the stack, and without this function the place would be the same for a whole run. A likely cause is that a
+// load waits for a store whose address has the same lowest twelve bits. So the output too is moved within a page, by a
+// multiple of 64: otherwise it would have these bits in common with each source.
 static void measure_below(size_t below, enum kind kind, size_t at_size) {
     volatile char room[below];
     room[0] = 0;
@@ -253,8 +254,8 @@ static void check(const struct call *call) {
     }
 }
 
-// Every length to 64, since short calls have ways of their own, every second to 160, every fourth to
-// 320, and eight more.
+// The sizes are every length up to 64, since short sources have code paths of their own, every second length up to 160,
+// every fourth up to 320, and eight more.
 static void set_swept_sizes(void) {
     static const size_t more[] = {384, 512, 1024, 2048, 4096, 8192, 16384, LARGEST};
     size_t count = 0;

@@ -1,5 +1,5 @@
-// The loops that a user would have written for grouped digits: one that writes, by two look-ups a byte and a
-// separator between two pieces, and for reading one that tests all and one that stores.
+// The loops that a user might write for grouped digits. The writing loop looks up two digits for each byte, and puts a
+// separator between groups. For reading there are two loops: one checks everything, and the next one stores the bytes.
 #include <stdbool.h>
 #include <stddef.h>
 #include <stdint.h>
@@ -8,7 +8,7 @@
 
 static const uint8_t digits[] = "0123456789abcdef";
 
-// The value of each digit, and 255 for any other byte.
+// The value of each digit, and 255 for every other byte.
 static uint8_t values[256];
 
 static __attribute__((constructor)) void fill(void) {
@@ -21,7 +21,7 @@ static __attribute__((constructor)) void fill(void) {
     }
 }
 
-// How many bytes a piece from here on has.
+// The number of bytes of the group that begins here. The last group may be shorter.
 static inline size_t least(size_t every, size_t left) {
     return every < left ? every : left;
 }
@@ -70,7 +70,7 @@ INLINE size_t read_by(const uint8_t *src, size_t len, uint8_t *dst, size_t every
     return to - dst;
 }
 
-// The same where the number of bytes of a piece is a constant.
+// The same loops with a constant number of bytes in a group.
 #define BY(n) \
     size_t write_by_##n(const uint8_t *src, size_t len, uint8_t *dst) { return write_by(src, len, dst, n); } \
     size_t read_by_##n(const uint8_t *src, size_t len, uint8_t *dst) { return read_by(src, len, dst, n); }

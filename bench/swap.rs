@@ -1,11 +1,12 @@
-//! Times the public calls of `bindings/rust`, here the crate `ours`, beside those of the Rust crate: `theirs`, and
-//! `narrow`, which is the same where AVX2 is the widest. A program calls them so that swaps one for the other, which
-//! cargo builds for a release. It opens each result: a copy out of a `Result` may take longer than the call itself.
-//! Prints a line for each crate, call and number of decoded bytes, `ours hex_check<TAB>bytes<TAB>ns`.
+//! Times the public calls of `bindings/rust`, which is the crate `ours` here, and those of the Rust crate: `theirs` is
+//! that crate, and `narrow` is the same without AVX-512. The calls are made as in a program that replaces one crate by
+//! the other and that cargo builds for a release. Each result is unwrapped, because the copy out of a `Result` may take
+//! longer than the call itself. It prints a line for each crate, call and number of decoded bytes:
+//! `ours hex_check<TAB>bytes<TAB>ns`.
 //!
-//! A time is the least of so many rounds, from 20 places of the source and the destination, and from four of
-//! the loop round the call: a short call may take a third longer where a jump crosses 32 bytes. A round has
-//! all calls, in another order each time, since a shared machine has slow seconds.
+//! A time is the least of many rounds, with 20 places of the source and the destination, and four places of the loop
+//! around the call: a short call may take a third longer if a jump crosses a multiple of 32 bytes. A round has all
+//! calls, in another order each time, because a shared machine is slow for some seconds at a time.
 
 use std::arch::asm;
 use std::fmt::Write;
@@ -17,25 +18,25 @@ const ROUNDS: usize = 800;
 const ROUND_NS: f64 = 10_000.0;
 const PLACES: usize = 20;
 const LOOPS: usize = 4;
-/// From a place to the next, in bytes.
+/// The distance from one place to the next, in bytes.
 const STEP: usize = 64;
 const SPAN: usize = PLACES * STEP;
 
-/// What a call reads and writes. `lower` and `mixed` are digits.
+/// The data that a call reads and writes. `lower` and `mixed` are digits.
 struct Task<'a> {
     bytes: &'a [u8],
     lower: &'a [u8],
     mixed: &'a [u8],
     room: &'a mut [u8],
-    /// Text from `start` on is written anew.
+    /// A call appends its text here. What is behind `start` is removed before.
     text: &'a mut String,
     start: usize,
 }
 
-/// Makes a call so many times.
+/// Makes a call a number of times.
 type Loop = fn(&mut Task, usize);
 
-/// The loops round calls on `N` decoded bytes, `NOPS` bytes after a multiple of 64.
+/// The loops around calls on `N` decoded bytes. A loop begins `NOPS` bytes after a multiple of 64.
 macro_rules! loops {
     ($($shown:literal $name:ident($task:ident) $call:expr;)*) => {
         $(
@@ -48,7 +49,7 @@ macro_rules! loops {
             }
         )*
 
-        /// The loops round each call, by its name.
+        /// The loop around each call, by the call's name.
         pub fn calls<const N: usize>() -> Vec<(&'static str, [Loop; LOOPS])> {
             vec![$(($shown, [$name::<0, N>, $name::<16, N>, $name::<32, N>, $name::<48, N>])),*]
         }
@@ -103,7 +104,7 @@ macro_rules! crates {
 
 crates!(ours theirs narrow);
 
-/// A call of a crate on so many decoded bytes, and the least time that it took.
+/// A call of a crate on a number of decoded bytes, and the least time that it took.
 struct Cell {
     krate: &'static str,
     call: &'static str,
@@ -127,7 +128,8 @@ impl Cell {
         start.elapsed().as_nanos() as f64
     }
 
-    /// Times the call in a round. What it has just run wakes wide vectors, and fills the round.
+    /// Times the call in one round. Before that it runs the call, to power up wide vectors and to find how many calls
+    /// fill the round.
     fn time(&mut self, task: &mut Task, round: usize) {
         while self.spent(task, round) < ROUND_NS {
             self.turns *= 2;
@@ -136,7 +138,7 @@ impl Cell {
     }
 }
 
-/// Puts a list in another order, by numbers that are the same in each run.
+/// Shuffles a list by pseudo-random numbers, which are the same in each run.
 fn shuffle(list: &mut [usize], state: &mut u64) {
     for left in (1..list.len()).rev() {
         *state = state.wrapping_mul(6_364_136_223_846_793_005).wrapping_add(1_442_695_040_888_963_407);
