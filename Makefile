@@ -13,11 +13,12 @@
 #   make clean               removes everything that was built
 #
 # To test and to change:
-#   make test-c              the tests in C, and no other tool. RUN=COMMAND runs them, for instance under an emulator
+#   make test-c              runs the tests in C, which need only a C compiler. RUN=COMMAND runs them by a command, for
+#                            instance under an emulator
 #   make test                proves all crates, runs their tests, tries the mutations that matter most, and runs the
 #                            examples and a quick part of make check. Without the Rattle toolchain it runs the tests
 #                            in C and that part of make check
-#   make check               runs all tests in tests/ by pytest, and leaves out those whose tools are not installed. With
+#   make check               runs all tests in tests/ by pytest, and skips those whose tools are not installed. With
 #                            RUST=DIR, a checkout of the Rust crate faster-hex 1.0.0, it compares the bindings with it
 #   make deep                make check, all mutations, proofs of the examples and the check of the machine code: run
 #                            it before a release

@@ -222,7 +222,7 @@ def test_instruction(tmp_path, names, forms):
     for at, program in enumerate(programs):
         places = code.symbols[f"begin_{at}"], code.symbols[f"end_{at}"], is_wide
         made = None if re.search(r"\bj|call", program) else modelled(code, *places, {})
-        # (what jumps is executed anew for each block)
+        # A program with jumps is executed again for each block, because its path depends on the block.
         for block in [*dense_blocks(), *(sparse_blocks(["vector", "above"][:1 + is_wide]) if made else ())]:
             block[120:128] = bytes([random.randrange(256) & 0xc1 | 2, random.choice((0, 8)), 0, 0, 0, 0, 0, 0])
             done, known = (ctypes.c_char * len(block)).from_buffer_copy(block), dict(zip(NAMES, block))

@@ -81,7 +81,7 @@ TOLD = [
         "looks of locate of scalar: wanted 3, came 2",
     ),
 ]
-# Of each program rows for a length, twice it, and one more.
+# For each program, rows that depend on a length, on twice the length, and on one more than that.
 OF_LENGTH = {
     "test_rows": ["3 long [any|lower|upper] {0} = alike"],
     "test_json": ["13 long module [0+1] {0} = alike"],

@@ -35,11 +35,11 @@ SYSTEMS |= dict.fromkeys(("x86_64-unknown-openbsd7.4", "x86_64-pc-solaris2.11", 
                          (True, False))
 WARNINGS = {f"warning: {folder}/ {what}" for folder in ("generated", "generated/fhex", "generated/fhex-stream")
             for what in ("is not made of these sources", "has a file that is not as PROVED says")}
-# What is built anew where a file is newer.
+# The files that are built again if one of these files is newer.
 SOURCES_OF = {"generated/*.[sS]": "builds.o", "generated/*.inc": "builds.o fhex.o", "generated/fhex/*.[sS]": "fhex.o"}
 SOURCES_OF |= {"crates/faster_hex_c/assembly.h": "builds.o dispatch.o", "crates/faster_hex_c/*.[ch]": "dispatch.o"}
 SOURCES_OF |= {"crates/faster_hex_c/*.map": SHARED[2], "crates/fhex/fhex.c": "fhex"}
-# The folder of what is built, by what a compiler says and a user's words.
+# The folder into which `make` builds, for a target that a compiler names and the user's variables.
 FOLDERS = {"x86_64-linux-gnu": "out", "amd64-portbld-freebsd14": "out", "arm64-apple-darwin23": "out/macos/aarch64"}
 FOLDERS |= {"arm64-linux-gnu": "out/aarch64", "x86_64-linux-gnu CFLAGS=-m32": "out/i386"}
 FOLDERS |= {"riscv64-linux-gnu": "out/riscv64", "aarch64-linux-gnu TARGET=portable": "out/portable"}
