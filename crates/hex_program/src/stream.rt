@@ -35,7 +35,8 @@ impl StreamOp {
     /// Returns the operation that a word names, or `None` for any other word.
     ///
     /// ```rust
-    /// assert_eq!(rt; StreamOp::from_word("encode-lines"), Some(StreamOp::EncodeLines));
+    /// let lines = StreamOp::from_word("encode-lines");
+    /// assert_eq!(rt; lines, Some(StreamOp::EncodeLines));
     /// assert_eq!(rt; StreamOp::from_word("vectors"), None);
     /// ```
     pub fn from_word(word: &str) -> Option<StreamOp>
