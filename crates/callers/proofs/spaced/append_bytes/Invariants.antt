@@ -23,4 +23,4 @@ pub record ReadSoFar (decoder : Decoder) (old new : List ℕ) (total : ℕ) (bef
 abbrev pub invariant-reads : goal.invariant-reads
 invariant-reads g l = (reading_of l.decoder ≡ spaced policy.None)
     × ReadSoFar l.decoder (vec_items l.initial.bytes) (vec_items l.bytes) l.total (g.R.Read.remaining l.initial.reader)
-        (g.R.Read.remaining l.reader)
+    (g.R.Read.remaining l.reader)
