@@ -50,7 +50,6 @@ def test_call(image, is_short, build, call):
         assert list(shown(code, build, call, length))
 
 
-@pytest.mark.quick
 def test_record():
     """generated/SHOWN was written for these sources, and has a line for each call of each build with all lengths."""
     is_one = {it: it == "first_invalid" or it.startswith("decode") for it in CALLS}

@@ -38,11 +38,11 @@
  * for `len` and `room` below 2^63. The machine code is compiled from this source, and the proof does not cover it.
  * What supports the machine code is this:
  *
- * - Checked for all bytes: the machine code for x86-64-v2, x86-64-v3 and x86-64-v4 was executed symbolically, that
- *   is, with unknown bytes as the source. This was done for every length up to 128 bytes of data, and up to 64
- *   digits for faster_hex_first_invalid. It covers all calls except the grouped ones. (Those for which x86-64-v4
- *   has no code of its own use that for x86-64-v3.) The results are right, and nothing else is read or written, also
- *   if an empty source or destination is NULL.
+ * - Checked for all bytes: a tool of the repository executes the machine code for x86-64-v2, x86-64-v3 and x86-64-v4
+ *   symbolically, that is, with unknown bytes as the source. The file generated/SHOWN says for which calls, lengths
+ *   and files this was done. There the results are right, and nothing else is read or written, also if an empty
+ *   source or destination is NULL. The grouped calls are not covered. (Those for which x86-64-v4 has no code of its
+ *   own use that for x86-64-v3.)
  * - Keys: in the same check, encoding, and decoding or checking valid digits, use no address and no branch that
  *   depends on the bytes, except for one branch on whether all of them are digits. A test by valgrind shows the
  *   same for keys of up to 320 bytes, for x86-64-v2 and x86-64-v3.
