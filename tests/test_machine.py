@@ -16,7 +16,7 @@ from machine import Refused, execution, values
 from machine.__main__ import BUILDS, lengths_of, line, sums
 from machine.image import Image, linked
 from machine.instructions import EACH, TABLE
-from machine.statements import shown
+from machine.statements import CALLS, shown
 
 GENERATED = TOP / "generated"
 # Lengths in decoded bytes. The quick test has all lengths up to the first number. The other one has those up to the
