@@ -6,6 +6,7 @@ ghost use Rattle.std.specs.Prelude.{◌≡◌, ◌↔◌, ◌*◌, ◌<◌, ◌�
 ghost use Rattle.hex_core.specs.Calls.{DecodesWhole};
 ghost use Rattle.hex_core.specs.Search.{first_invalid};
 ghost use Rattle.hex_core.specs.Text.{text};
+ghost use Rattle.hex_core.specs.inside.Blocks.{EndsCover};
 
 use crate::digit::CheckCase;
 use crate::digit_lanes::{Halved, Interleaved};
@@ -27,11 +28,20 @@ pub fn check_by_length(src: &[u8], case: CheckCase, width: u8) -> bool
         // Each test of the length before it would cost it a twentieth.
         257.. if width >= 64 => check_held(src, case),
         33..=64 => check_two::<32>(src, case),
-        65..=128 if width >= 64 => check_two::<64>(src, case),
+        65..=128 if width >= 64 => check_wide(src, case),
         65..=128 => check_four::<32>(src, case),
         129..=256 => check_four::<64>(src, case),
         _ => check_long(src, case),
     }
+}
+
+// The same for 65 to 128 bytes in a build with vectors of 64 bytes. LLVM decides whether to inline
+// it: marked, it would make `Backend::check` too long for the toolchain to inline.
+fn check_wide(src: &[u8], case: CheckCase) -> bool
+    requires { EndsCover 64 src.now }
+    ensures { IsTrue result ↔ (first_invalid case src.now ≡ None) }
+{
+    check_two::<64>(src, case)
 }
 
 // The same for more than 256 bytes, apart: its loops are too long to be inlined in each caller.
@@ -118,9 +128,8 @@ fn decode_apart(src: &[u8], dst: &mut [u8], case: CheckCase) -> bool
     }
 }
 
-// The same in a build with vectors of 64 bytes: up to 512 digits are held in them. There only
-// `Backend::decode_or_find` calls it, which is apart itself.
-#[inline(always)]
+// The same in a build with vectors of 64 bytes: up to 512 digits are held in them.
+#[inline(never)]
 fn decode_held(src: &[u8], dst: &mut [u8], case: CheckCase) -> bool
     requires twice { length src.now ≡ 2 * length dst.old }
     requires more { 192 < length src.now }
