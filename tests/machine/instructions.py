@@ -334,6 +334,12 @@ def insert(size, step):
     return values[:at] + step.bytes(-2, size) + values[at + size:]
 
 
+def blend(step):
+    """pblendd: each lane of four bytes of the second vector whose bit in a number is set, the others of the first."""
+    first, second = (lanes_of(step.bytes(at, step.width), 4) for at in (1, 2))
+    return [it for at, both in enumerate(zip(first, second)) for it in both[step.number(3) >> at & 1]]
+
+
 def combine_three(step):
     """pternlogq: the vector that is written is also the first that is read."""
     number = constant(step.number(3), 1)
@@ -455,7 +461,7 @@ MOVES = "mov", "movdqa", "movdqa64", "movdqu", "movdqu64", "movups"
 WRITTEN = {
     **{name: move for name in MOVES},
     "movzx": extend_zero, "pop": pop, "lea": load_address, "perm2i128": choose_halves,
-    "pmovwb": narrow, "pmovzxbw": extend_zeros, "pternlogq": combine_three,
+    "pmovwb": narrow, "pmovzxbw": extend_zeros, "pternlogq": combine_three, "pblendd": blend,
     "permi2q": partial(choose_lanes, 0, 1), "permt2q": partial(choose_lanes, 1, 0),
     **{name: partial(lanewise, size, function) for name, (size, function) in LANES.items()},
     **{name: partial(shift_lanes, size, function) for name, (size, function) in LANE_SHIFTS.items()},
