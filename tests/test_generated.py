@@ -12,7 +12,7 @@ SPEAKS = {"x86-64": ("%rax", "pshufb|%ymm|%zmm"), "x86-64-v2": ("\tpshufb", "%ym
 SPEAKS |= {"x86-64-v3": ("\tvpshufb\t.*%ymm", "%zmm"), "x86-64-v4": ("\tvptestm.*%zmm", "_encode|_grouped")}
 SPEAKS |= {"aarch64": (r"\ttbl\t", "%")}
 # Functions that are marked to be inlined but are called in some builds, and why.
-CALLED = {"codec_pieces_write_by": "it has the code for all lengths twice, and a call is small beside its loop"}
+CALLED = {"codec_pieces_write_by_piece_len": "it has the code for all lengths twice, and a call is small beside its loop"}
 CRATES = "hex_core", "hex_codec"
 
 
