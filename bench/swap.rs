@@ -1,8 +1,8 @@
-//! Times the public calls of `bindings/rust`, which is the crate `ours` here, and those of the Rust crate: `theirs` is
-//! that crate, and `narrow` is the same without AVX-512. The calls are made as in a program that replaces one crate by
-//! the other and that cargo builds for a release. Each result is unwrapped, because the copy out of a `Result` may take
-//! longer than the call itself. It prints a line for each crate, call and number of decoded bytes:
-//! `ours hex_check<TAB>bytes<TAB>ns`.
+//! Times the public calls of `bindings/rust`, which is the crate `ours` here, and those of the Rust crate, which is
+//! `theirs`. The calls are made as in a program that replaces one crate by the other and that cargo builds for a release.
+//! Each result is unwrapped, because the copy out of a `Result` may take longer than the call itself. Its argument names
+//! the widest vectors that both crates are built for. It prints a line for each crate, call and number of decoded bytes:
+//! `avx512 ours hex_check<TAB>bytes<TAB>ns`.
 //!
 //! A time is the least of many rounds, with 20 places of the source and the destination, and four places of the loop
 //! around the call: a short call may take a third longer if a jump crosses a multiple of 32 bytes. A round has all
@@ -102,7 +102,7 @@ macro_rules! crates {
     };
 }
 
-crates!(ours theirs narrow);
+crates!(ours theirs);
 
 /// A call of a crate on a number of decoded bytes, and the least time that it took.
 struct Cell {
@@ -147,6 +147,7 @@ fn shuffle(list: &mut [usize], state: &mut u64) {
 }
 
 fn main() {
+    let widest = std::env::args().nth(1).expect("avx512 or avx2");
     let mut cells = cells();
     let bytes: Vec<u8> = (0..LARGEST + SPAN).map(|at| (at * 151 + at / 256 * 7) as u8).collect();
     let lower: Vec<u8> = bytes.iter().flat_map(|it| format!("{it:02x}").into_bytes()).collect();
@@ -174,6 +175,6 @@ fn main() {
         }
     }
     for Cell { krate, call, size, least, .. } in cells {
-        println!("{krate} {call}\t{size}\t{least:.2}");
+        println!("{widest} {krate} {call}\t{size}\t{least:.2}");
     }
 }
