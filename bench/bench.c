@@ -56,6 +56,7 @@ typedef size_t other(const uint8_t *src, size_t len, uint8_t *dst, size_t room);
 #define RUST_DECODING(side) OTHER_DECODING(side, rust_##side)
 #define RUST(side) OTHER(side, rust_##side)
 #define PLAN(side) OTHER(side, plan_##side)
+#define PLAN_DECODING(side) OTHER_DECODING(side, plan_##side)
 // The loops of loops.c.
 #define LOOPS(n) \
     CALL(WRITE, loop_write_##n, write_by_##n(src, len, dst)) \
@@ -63,11 +64,14 @@ typedef size_t other(const uint8_t *src, size_t len, uint8_t *dst, size_t room);
 // The build for AVX-512 has only these calls, and the Rust crate has code for AVX-512 only for these.
 #ifdef WIDEST
 #define EACH_WIDEST DECODING(v4) RUST_DECODING(avx512) RUST_DECODING(slices_v4)
+#define PLANS_WIDEST PLAN_DECODING(v4_plain_32) PLAN_DECODING(v4_plain_64)
 #else
 #define EACH_WIDEST
+#define PLANS_WIDEST
 #endif
 #ifdef PLANS
-#define EACH PLAN(v1_scalar) PLAN(v1_plain) PLAN(v2_avx2) PLAN(v2_plain) PLAN(v3_avx2) PLAN(v3_plain) PLAN(v3_plain_32)
+#define EACH \
+    PLAN(v1_scalar) PLAN(v1_plain) PLAN(v2_avx2) PLAN(v2_plain) PLAN(v3_avx2) PLAN(v3_plain) PLAN(v3_plain_32) PLANS_WIDEST
 #else
 #define EACH \
     OURS(v2) OURS(v3) RUST(sse41) RUST(avx2) RUST(slices_v2) RUST(slices_v3) EACH_WIDEST LOOPS(1) LOOPS(16)
