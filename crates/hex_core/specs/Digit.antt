@@ -1,9 +1,9 @@
--- One hex digit: its value under a policy, and the digit of a number.
+-- The value of a hex digit under a policy, and the hex digit of a number.
 use Rattle.std.specs.Prelude.{ℕ, ◌+◌, ◌-◌, nat_le, nat_lt, Bool, true, false, ◌&&◌, if◌then◌else◌, Option, Some, None}
 use Rattle.hex_core.specs.declared.digit.CheckCase.{CheckCase}
 use Rattle.hex_core.specs.declared.digit.CheckCase.TheVariants as policy
 
--- whether b lies in an interval, both ends included
+-- whether b is at least `low` and at most `high`
 abbrev pub between : ℕ → ℕ → ℕ → Bool
 between low high b = nat_le low b && nat_le b high
 
@@ -19,7 +19,7 @@ reads_upper policy.None = true
 reads_upper policy.Lower = false
 reads_upper policy.Upper = true
 
--- the value of a byte in one of three intervals; no other byte has one
+-- the value of the byte b as a hex digit, or `None` if the policy does not accept b
 abbrev pub value : CheckCase → ℕ → Option ℕ
 value c b =
     if between 48 57 b then Some (b - 48)  -- `0` to `9`
@@ -27,11 +27,11 @@ value c b =
     else if reads_upper c && between 65 70 b then Some (b - 65 + 10)  -- `A` to `F`
     else None
 
--- the digit of a number below 16: `0` to `9`, then `a` to `f`, or `A` to `F` in uppercase
+-- the hex digit of a number below 16, whose letters are uppercase if `upper` is true and lowercase otherwise
 abbrev pub digit : Bool → ℕ → ℕ
 digit upper n = if nat_lt n 10 then 48 + n else if upper then 55 + n else 87 + n
 
--- the policy that accepts exactly the digits that are written in this case
+-- the policy that accepts the letters of one case only: uppercase for `true`, lowercase for `false`
 abbrev pub strict : Bool → CheckCase
 strict true = policy.Upper
 strict false = policy.Lower

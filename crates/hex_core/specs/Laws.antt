@@ -1,4 +1,4 @@
--- Facts that the definitions alone imply.
+-- Facts that follow from the definitions alone.
 use Rattle.std.specs.Prelude.{◌≡◌, ◌<◌, ◌≤◌, ◌↔◌, ◌+◌, ◌*◌, ◌/◌, ◌%◌, ℕ, Bool, List, ◌++◌, length, take, drop}
 use Rattle.std.specs.Prelude.{slice_index, slice_range, All, Option, None, Some, option_map}
 use Rattle.std.specs.Option.{option_or}
@@ -15,7 +15,7 @@ use Rattle.hex_core.specs.Search.{AllValid, first_invalid}
 use Rattle.hex_core.specs.Text.{Spells, lowercase, text, with_front}
 use Rattle.hex_core.specs.Refusal.{source_refusal}
 
--- every number of the list is a byte
+-- every number of the list is below 256
 abbrev pub AreBytes : List ℕ → Type 0
 AreBytes bytes = All (λ b. b < 256) bytes
 
@@ -26,44 +26,46 @@ SpellsOneList = (c : CheckCase) (s bytes others : List ℕ)
     → Spells c s others
     → bytes ≡ others
 
--- what a text spells is a list of bytes
+-- the list that a text spells is a list of bytes
 abbrev pub SpellsBytes : Type 0
 SpellsBytes = (c : CheckCase) (s bytes : List ℕ) → Spells c s bytes → AreBytes bytes
 
--- a source is accepted exactly if it spells some list
+-- a source has an even length and no invalid byte exactly if it spells some list
 abbrev pub AcceptsWhatSpells : Type 0
 AcceptsWhatSpells = (c : CheckCase) (s : List ℕ)
     → (source_refusal c s ≡ None) ↔ ((bytes : List ℕ) × Spells c s bytes)
 
--- decoding inverts encoding, under the strict policy of the text's own case and under either case
+-- the text of a list spells that list, under the policy of the text's own case and under the policy of both
+-- cases
 abbrev pub DecodingInvertsEncoding : Type 0
 DecodingInvertsEncoding = (upper : Bool) (bytes : List ℕ)
     → AreBytes bytes
     → Spells (strict upper) (text upper bytes) bytes × Spells policy.None (text upper bytes) bytes
 
--- encoding inverts strict decoding
+-- the text of the list that a source spells under a policy of one case is the source
 abbrev pub EncodingInvertsStrictDecoding : Type 0
 EncodingInvertsStrictDecoding = (upper : Bool) (s bytes : List ℕ)
     → Spells (strict upper) s bytes
     → text upper bytes ≡ s
 
--- strict decoding accepts exactly the texts of encoding in that case
+-- a policy of one case accepts exactly the texts that encoding in this case gives
 abbrev pub StrictAcceptsTexts : Type 0
 StrictAcceptsTexts = (upper : Bool) (s : List ℕ)
     → (source_refusal (strict upper) s ≡ None) ↔ ((bytes : List ℕ) × AreBytes bytes × (text upper bytes ≡ s))
 
--- a source spells under either case what its lowercased form spells under lowercase
+-- a source spells under the policy of both cases what its lowercased form spells under the policy of
+-- lowercase
 abbrev pub EitherCaseIsLowercased : Type 0
 EitherCaseIsLowercased = (s bytes : List ℕ)
     → Spells policy.None s bytes ↔ Spells policy.Lower (str_to_ascii_lowercase s) bytes
 
--- encoding what was decoded under either case gives the source's lowercased form
+-- the lowercase text of the list that a source spells under the policy of both cases is the lowercased source
 abbrev pub EncodingLowercases : Type 0
 EncodingLowercases = (s bytes : List ℕ)
     → Spells policy.None s bytes
     → text lowercase bytes ≡ str_to_ascii_lowercase s
 
--- the text of a joined list is the two texts joined
+-- the text of two lists joined is their two texts joined
 abbrev pub JoinedTexts : Type 0
 JoinedTexts = (upper : Bool) (front back : List ℕ)
     → text upper (front ++ back) ≡ text upper front ++ text upper back
@@ -72,37 +74,37 @@ JoinedTexts = (upper : Bool) (front back : List ℕ)
 abbrev pub TextsAreTwiceAsLong : Type 0
 TextsAreTwiceAsLong = (upper : Bool) (bytes : List ℕ) → length (text upper bytes) ≡ 2 * length bytes
 
--- the text of a list of bytes is ASCII, and so it is UTF-8
+-- the text of a list of bytes is ASCII, so it is also UTF-8
 abbrev pub TextsAreAscii : Type 0
 TextsAreAscii = (upper : Bool) (bytes : List ℕ)
     → AreBytes bytes
     → IsAscii (text upper bytes) × IsUtf8 (text upper bytes)
 
--- an index is that of the first invalid byte exactly if it is in the source, its byte has no value, and
+-- f is the index of the first invalid byte exactly if it lies in the source, the byte there has no value, and
 -- all bytes before it have one
 abbrev pub FirstInvalidIsFirst : Type 0
 FirstInvalidIsFirst = (c : CheckCase) (s : List ℕ) (f : ℕ)
     → (first_invalid c s ≡ Some f) ↔ ((f < length s) × (value c (slice_index s f) ≡ None) × AllValid c s 0 f)
 
--- no byte is invalid exactly if all have a value
+-- a source has no invalid byte exactly if all its bytes have a value
 abbrev pub NoneIsInvalidWhereAllAreValid : Type 0
 NoneIsInvalidWhereAllAreValid = (c : CheckCase) (s : List ℕ)
     → (first_invalid c s ≡ None) ↔ AllValid c s 0 (length s)
 
--- a part has no invalid byte exactly if all bytes in its range are valid
+-- a part of a source has no invalid byte exactly if all bytes in its range have a value
 abbrev pub PartsAreValidWhereTheirRangesAre : Type 0
 PartsAreValidWhereTheirRangesAre = (c : CheckCase) (s : List ℕ) (start end : ℕ)
     → end ≤ length s
     → (first_invalid c (slice_range s start end) ≡ None) ↔ AllValid c s start end
 
--- an `InvalidChar` has the index of the first invalid byte of the source, which is in it, and that
--- byte, which has no value
+-- if the error is an `InvalidChar`, its index is that of the first invalid byte, which lies in the source,
+-- and its byte is the one there, which has no value
 abbrev pub NamesFirstInvalid : (CheckCase → List ℕ → Option Error) → Type 0
 NamesFirstInvalid refusal = (c : CheckCase) (s : List ℕ) (i b : ℕ)
     → refusal c s ≡ Some (InvalidChar i b)
     → (first_invalid c s ≡ Some i) × (b ≡ slice_index s i) × (value c b ≡ None) × (i < length s)
 
--- `with_front` begins with its list
+-- a buffer whose start was replaced by a list begins with that list
 abbrev pub FrontsAreKept : Type 0
 FrontsAreKept = (old bytes : List ℕ) → take (length bytes) (with_front old bytes) ≡ bytes
 
@@ -113,31 +115,31 @@ JoinedSourcesSpellJoined = (c : CheckCase) (front back xs ys : List ℕ)
     → Spells c back ys
     → Spells c (front ++ back) (xs ++ ys)
 
--- the parts of a source that is cut after a whole pair spell the parts of its list
+-- if a source is cut after a whole pair of digits, its two parts spell the two parts of its list
 abbrev pub PartsSpellParts : Type 0
 PartsSpellParts = (c : CheckCase) (front back bytes : List ℕ)
     → length front % 2 ≡ 0
     → Spells c (front ++ back) bytes
     → Spells c front (take (length front / 2) bytes) × Spells c back (drop (length front / 2) bytes)
 
--- the first invalid byte of a joined source is that of the first part, or else that of the second, whose
--- index counts from the end of the first
+-- the first invalid byte of two sources joined is that of the first source, or, if that has none, that of the
+-- second one, whose index is then greater by the length of the first
 abbrev pub FirstInvalidOfJoined : Type 0
 FirstInvalidOfJoined = (c : CheckCase) (front back : List ℕ)
     → first_invalid c (front ++ back) ≡ option_or (first_invalid c front) (option_map (λ i. length front + i) (first_invalid c back))
 
--- `with_front` of a list as long as the old bytes is that list
+-- a buffer whose start was replaced by a list of the buffer's length is that list
 abbrev pub WholeFrontsAreAll : Type 0
 WholeFrontsAreAll = (old bytes : List ℕ) → length bytes ≡ length old → with_front old bytes ≡ bytes
 
--- a refused `decode_owned` leaves the bytes after its blocks unchanged
+-- if `decode_owned` returns false, the bytes after the blocks that it has written are unchanged
 abbrev pub BytesBehindBlocksStay : Type 0
 BytesBehindBlocksStay = (block : ℕ) (c : CheckCase) (s old new : List ℕ) (i : ℕ)
     → StoresBlocks block c s old new
     → digits_before block c s / 2 ≤ i
     → slice_index new i ≡ slice_index old i
 
--- texts in one case are ordered as their lists are
+-- two texts of one case are in the same order as their lists
 abbrev pub TextsCompareAsLists : Type 0
 TextsCompareAsLists = (upper : Bool) (bytes others : List ℕ)
     → AreBytes bytes

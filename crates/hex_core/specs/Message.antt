@@ -1,4 +1,4 @@
--- What an error prints.
+-- The text that an error prints.
 use Rattle.std.specs.Prelude.{ℕ, List, ◌++◌, codes}
 use Rattle.std.specs.Fmt.{decimal}
 use Rattle.hex_core.specs.declared.error.Error.{Error}

@@ -1,4 +1,4 @@
--- Definitions that private functions and proofs use. No public contract rests on them.
+-- Definitions that only private functions and proofs use. No public contract depends on them.
 pub mod Arithmetic
 pub mod Blocks
 pub mod Hash

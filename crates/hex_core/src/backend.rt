@@ -1,4 +1,4 @@
-//! Plans by name: each call's body is chosen by the plan and by the length of the source.
+//! The plans. The plan and the length of the source decide which implementation a call uses.
 
 ghost use Rattle.std.specs.Prelude.{◌≡◌, ◌↔◌, ◌*◌, ◌≤◌, IsTrue, None, codes, length, map};
 ghost use Rattle.hex_core.specs.Calls.{DecodesOwned, DecodesWhole};
@@ -15,7 +15,7 @@ use crate::plain::{check_by_length, decode_by_length, encode_by_length};
 use crate::registers::{decode_four, decode_two};
 use crate::scalar::{check_by_table, decode_by_table, encode_by_table};
 
-/// The name of a plan, by which its bodies are chosen.
+/// The name of a plan, which selects the implementations.
 #[derive(Clone, Copy)]
 pub enum Kind {
     Scalar,
@@ -23,18 +23,20 @@ pub enum Kind {
     Avx2,
     Avx512,
     Neon,
-    /// With the bytes in a vector of the build that takes it.
+    /// With the number of bytes in a vector of the build that uses this plan.
     Plain(u8),
 }
 
-/// A plan: one implementation of check, encode and decode.
+/// A plan is one implementation of the functions that check, encode and decode.
 ///
-/// All plans return the same results and write the same bytes, except where
-/// [`Backend::decode_owned`] returns false.
+/// All plans return the same results and write the same bytes. The only exception is
+/// [`Backend::decode_owned`]. If it returns false, the plan decides which bytes were written.
 #[derive(Clone, Copy)]
 pub struct Backend(Kind);
 
-/// Returns five plans, on every machine: scalar, sse41, avx2, avx512, neon, in this order.
+/// Returns five plans in this order: `scalar`, `sse41`, `avx2`, `avx512`, `neon`. Each of them
+/// works on every machine, because the plans are written with portable vectors. So the name of a
+/// plan does not say which instructions run.
 ///
 /// ```rust
 /// let [scalar, ..] = backends();
@@ -53,8 +55,9 @@ pub fn backends() -> [Backend; 5]
 }
 
 impl Backend {
-    /// Returns the plan of the calls without a plan, which [`backends`] does not list. It chooses
-    /// its blocks for each length, as measured. Its name is `plain`.
+    /// Returns the plan that functions without a plan parameter use, such as `hex_decode`. Its name
+    /// is `plain`, and [`backends`] does not list it. It has an implementation for each range of
+    /// lengths, which was chosen by measurement.
     ///
     /// ```rust
     /// assert!(rt; Backend::plain().check(b"00aBc", CheckCase::None));
@@ -66,9 +69,11 @@ impl Backend {
         Backend::plain_for(16)
     }
 
-    /// Returns [`Backend::plain`] for a build whose vectors have `width` bytes. It takes other steps
-    /// from 32 on to encode more than 64 bytes, and from 64 on to check and decode 129 to 256:
-    /// faster in such a build, slower in others.
+    /// Returns [`Backend::plain`] for a build whose vectors have `width` bytes. The width changes
+    /// only the speed. From 32 on, the plan encodes more than 64 bytes in another way. From 64 on,
+    /// it also decodes more than 256 digits in another way, and checks 65 to 128 bytes and more
+    /// than 256 bytes in another way. Each of these ways is faster in such a build, and slower in
+    /// other builds.
     ///
     /// ```rust
     /// let mut bytes = [0; 256];
@@ -82,7 +87,7 @@ impl Backend {
         Backend(Kind::Plain(width))
     }
 
-    /// Returns the plan's name: `scalar`, `sse41`, `avx2`, `avx512`, `neon` or `plain`.
+    /// Returns the name of the plan: `scalar`, `sse41`, `avx2`, `avx512`, `neon` or `plain`.
     ///
     /// ```rust
     /// let [_, _, avx2, ..] = backends();
@@ -101,7 +106,8 @@ impl Backend {
         }
     }
 
-    /// Returns whether every byte of `src` is valid under `case`, whatever its length.
+    /// Returns whether every byte of `src` is valid under `case`. Any length is accepted, odd or
+    /// even, and an empty `src` is valid.
     ///
     /// ```rust
     /// assert!(rt; Backend::plain().check(b"00aBc", CheckCase::None));
@@ -120,7 +126,8 @@ impl Backend {
         }
     }
 
-    /// Writes the digits of `src` over all of `dst`, in uppercase if `upper` is true.
+    /// Encodes all of `src` over all of `dst`. The letters are uppercase if `upper` is true, and
+    /// lowercase otherwise.
     ///
     /// Requires `dst` to be exactly twice as long as `src`, in bytes.
     ///
@@ -140,7 +147,8 @@ impl Backend {
         }
     }
 
-    // The same for the other plans, apart, as `decode_named`.
+    // Does the same for all plans except `plain`. It is a function of its own for the reason given
+    // at `decode_named`.
     #[inline(never)]
     fn encode_named(self, src: &[u8], dst: &mut [u8], upper: bool)
         requires { length dst.old ≡ 2 * length src.now }
@@ -179,7 +187,8 @@ impl Backend {
         }
     }
 
-    // The same for the other plans, apart: with their bodies in it, `decode` would not be inlined.
+    // Does the same for all plans except `plain`. It is a function of its own, because `decode`
+    // would not be inlined if it contained the implementations of these plans.
     #[inline(never)]
     fn decode_named(self, src: &[u8], dst: &mut [u8], case: CheckCase) -> bool
         requires { length src.now ≡ 2 * length dst.old }
@@ -195,12 +204,15 @@ impl Backend {
         }
     }
 
-    /// Like [`Backend::decode`], for a buffer that is discarded if it returns false.
+    /// Decodes `src` over all of `dst`, and returns whether every byte of `src` is valid under
+    /// `case`. If it returns false, `dst` may be partly written, so use it only for a buffer that
+    /// you then discard.
     ///
-    /// Then `avx2` and `neon` have written exactly the bytes of the whole blocks of 64 digits
-    /// before the one with the first invalid byte, or of all whole blocks if that byte comes after
-    /// them; `avx512` and `plain` those of blocks of 128 digits; `scalar` and `sse41` nothing. The
-    /// bytes after them are unchanged.
+    /// The plans `avx2` and `neon` read `src` in blocks of 64 digits, and `avx512` and `plain` read
+    /// it in blocks of 128. What is left after the last whole block is read as one shorter block.
+    /// If the result is false, these plans have written the bytes of all blocks before the block
+    /// with the first invalid byte. The other bytes of `dst` are unchanged. The plans `scalar` and
+    /// `sse41` have then written nothing.
     ///
     /// Requires `src` to be exactly twice as long as `dst`, in bytes.
     ///
@@ -222,7 +234,8 @@ impl Backend {
     {
         match self.0 {
             Kind::Scalar | Kind::Sse41 => self.decode(src, dst, case),
-            // Each arm names the plan, so that the compiler knows it in the loop over blocks.
+            // Each arm names its plan, so that the compiler knows the plan in the loop over the
+            // blocks.
             Kind::Avx2 => Backend(Kind::Avx2).decode_each_block::<32>(src, dst, case),
             Kind::Neon => Backend(Kind::Neon).decode_each_block::<32>(src, dst, case),
             Kind::Avx512 => Backend(Kind::Avx512).decode_each_block::<64>(src, dst, case),
@@ -230,7 +243,8 @@ impl Backend {
         }
     }
 
-    // Decodes `size` bytes at index `at`, or returns false and writes nothing.
+    // Decodes `2 * size` digits into the `size` bytes of `dst` from index `at` on. Returns false
+    // and writes nothing if one of these digits is invalid.
     #[tactic(auto, using(crate::proofs::OwnedLemmas::part_decodes))]
     #[inline(always)]
     fn decode_at(self, src: &[u8], dst: &mut [u8], at: usize, size: usize, case: CheckCase) -> bool
@@ -241,8 +255,8 @@ impl Backend {
         self.decode(&src[2 * at..2 * end], &mut dst[at..end], case)
     }
 
-    // Decodes `src` over all of `dst`, or returns false after writing the whole blocks of `SIZE`
-    // bytes before the first invalid byte.
+    // Decodes `src` over all of `dst` in blocks that decode to `SIZE` bytes. It returns false at
+    // the first block with an invalid byte, and the bytes of the blocks before it are then written.
     #[inline(always)]
     fn decode_each_block<const SIZE: usize>(
         self,

@@ -4,10 +4,11 @@ ghost use Rattle.std.specs.Prelude.{◌≡◌};
 ghost use Rattle.hex_core.specs.declared.digit.CheckCase.TheVariants as policy;
 ghost use Rattle.hex_core.specs.Digit.{value};
 
-/// A policy: the letter cases that checking and decoding accept.
+/// A policy says which letter cases checking and decoding accept.
 ///
-/// Every policy accepts `0` to `9`, and none a prefix, space, separator or byte above 0x7f. A byte
-/// is *valid* if the policy accepts it. The default, `None`, accepts both cases, also mixed.
+/// Every policy accepts `0` to `9`. No policy accepts a prefix, a space, a separator or a byte
+/// above 0x7f. A byte is *valid* if the policy accepts it. The default policy is `None`. It accepts
+/// both cases, even mixed in one source.
 ///
 /// ```rust
 /// assert_eq!(rt; digit_value(b'b', CheckCase::Lower), Some(11));
@@ -26,7 +27,7 @@ pub enum CheckCase {
 impl Default for CheckCase {
     ghost is_default = { λ case. case ≡ policy.None };
 
-    /// Returns the policy that accepts both cases, `None`.
+    /// Returns `CheckCase::None`, the policy that accepts both cases.
     fn default() -> CheckCase {
         CheckCase::None
     }

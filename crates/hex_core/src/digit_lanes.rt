@@ -1,4 +1,5 @@
-//! Digits in a vector, lane by lane: which are valid, their values, and the digits of bytes.
+//! Maps on vectors, which do the same in each lane. They say which bytes are valid digits, and they
+//! replace digits by their values and bytes by their digits.
 
 ghost use Rattle.std.specs.Prelude.{◌≡◌, ◌↔◌, ℕ, ◌≤◌, ◌<◌, EachIndex, IsTrue, is_some, map, slice_index};
 ghost use Rattle.hex_core.specs.declared.digit.CheckCase.{CheckCase};
@@ -20,12 +21,12 @@ use crate::vector::{
 use crate::widths::{Lanes, Shift, Shuffle, Unpack};
 use std::simd::prelude::*;
 
-// Both tables are in the order of the policies. A look-up avoids a branch in the kernels.
+// Both tables are indexed by the policy. A look-up saves the kernels a branch.
 static FOLDS: [u8; 3] = [0x20, 0, 0];
 
 static FIRST_LETTERS: [u8; 3] = [b'a', b'a', b'A'];
 
-// The bit that makes a letter lowercase, if the policy accepts both cases.
+// Returns the bit that makes a letter lowercase if the policy accepts both cases, and otherwise 0.
 #[inline(always)]
 fn fold_of(case: CheckCase) -> u8
     ensures { result ≡ fold_of case }
@@ -33,7 +34,8 @@ fn fold_of(case: CheckCase) -> u8
     FOLDS[case as u8 as usize]
 }
 
-// The first letter that the policy accepts, folded.
+// Returns the first letter that the policy accepts. If it accepts both cases, that is `a`, because
+// all letters are then made lowercase before they are compared.
 #[inline(always)]
 fn first_letter(case: CheckCase) -> u8
     ensures { result ≡ first_letter case }
@@ -41,7 +43,8 @@ fn first_letter(case: CheckCase) -> u8
     FIRST_LETTERS[case as u8 as usize]
 }
 
-// Each lane minus the first letter that the policy accepts, once folded.
+// Returns how far each lane is past the first letter that the policy accepts, modulo 256. If the
+// policy accepts both cases, the lane is made lowercase first.
 #[inline(always)]
 fn letters<const N: usize>(v: Simd<u8, N>, case: CheckCase) -> Simd<u8, N>
     ensures { result ≡ map (letter case) v.entry }
@@ -49,8 +52,9 @@ fn letters<const N: usize>(v: Simd<u8, N>, case: CheckCase) -> Simd<u8, N>
     wrapping_sub(or_splat(v, fold_of(case)), first_letter(case))
 }
 
-/// How far each lane is past the digit 4, or past the first letter: below 6 exactly if it is valid.
-/// With one bound for both, a test of many blocks compares only once, at its end.
+/// Returns how far each lane is past the digit 4 or past the first letter, whichever is less. The
+/// result is below 6 exactly if the lane is valid. Digits and letters have the same limit, so a
+/// test of many blocks compares only once, at its end.
 #[inline(always)]
 pub fn reach<const N: usize>(v: Simd<u8, N>, case: CheckCase) -> Simd<u8, N>
     ensures lanes { result ≡ map (reach case) v.entry }
@@ -60,7 +64,7 @@ pub fn reach<const N: usize>(v: Simd<u8, N>, case: CheckCase) -> Simd<u8, N>
     min(digits, letters(v, case))
 }
 
-/// A mask whose bit i is set if lane i is valid.
+/// Returns a mask whose bit i is set exactly if lane i is valid.
 #[inline(always)]
 pub fn admitted<const N: usize>(v: Simd<u8, N>, case: CheckCase) -> u64
     requires { N ≤ 64 }
@@ -71,25 +75,28 @@ pub fn admitted<const N: usize>(v: Simd<u8, N>, case: CheckCase) -> u64
     zero_bits(min(digits, past))
 }
 
-/// The value of each lane, or at least 16.
+/// Returns the value of each valid lane, and a number of at least 16 for each invalid lane.
 #[inline(always)]
 pub fn saturated<const N: usize>(v: Simd<u8, N>, case: CheckCase) -> Simd<u8, N>
     ensures { AreNibbles case v.entry result }
 {
-    // Minus 58, the byte after `9`, the digits are the ten greatest bytes, 246 to 255. Minus 6,
-    // saturating, they are 240 to 249, the only ten that wrap to 0 to 9.
+    // Subtracting 58, the byte after `9`, makes the digits the ten greatest bytes, 246 to 255.
+    // Subtracting 6, but not below 0, makes them 240 to 249, and no byte is greater. So subtracting
+    // 240 makes the digits 0 to 9, and makes every other byte at least 16.
     let digits = wrapping_sub(saturating_sub(wrapping_sub(v, b'9' + 1), 6), 240);
     min(digits, saturating_add(letters(v, case), 10))
 }
 
-// Each row is for slots 0 to 15. An offset is stored as the number to subtract.
+// A row is a table of 16 entries. `HASH_ROW` is indexed by the low four bits of a byte. The other
+// rows are indexed by the low four bits of its hash, and have the numbers to subtract from the
+// byte.
 const HASH_ROW: [u8; 16] = [1, 1, 1, 1, 1, 1, 1, 11, 11, 11, 15, 15, 15, 15, 15, 15];
 
 const VALUE_ROW: [u8; 16] = [
     128, 128, 128, 128, 48, 55, 128, 87, 128, 48, 128, 128, 128, 128, 128, 128,
 ];
 
-// One row for each policy, in the order of the policies.
+// There is one row for each policy, in the order of `CheckCase`.
 static CHECK_ROWS: [[u8; 16]; 3] = [
     [
         128, 128, 128, 128, 48, 65, 128, 97, 128, 55, 128, 128, 128, 128, 128, 128,
@@ -109,8 +116,9 @@ fn check_row(case: CheckCase) -> u8x16
     u8x16::from_array(CHECK_ROWS[case as u8 as usize])
 }
 
-// The slot of each lane in both rows. A neighbour changes only bits above the low four, which a
-// look-up ignores.
+// Returns the hash of each lane. Its low four bits are the index in the other rows. Other lanes
+// change only higher bits. A look-up ignores these for a byte below 128, and no other byte is
+// valid.
 #[inline(always)]
 fn hashes<const N: usize>(v: Simd<u8, N>) -> Simd<u8, N>
 where
@@ -123,7 +131,8 @@ where
     )
 }
 
-/// The value of each valid lane, which is the same under each policy that accepts it.
+/// Returns the value of each valid lane. The result for an invalid lane is unspecified. No policy
+/// is needed, because a byte has the same value under each policy that accepts it.
 #[inline(always)]
 pub fn hashed_values<const N: usize>(v: Simd<u8, N>) -> Simd<u8, N>
 where
@@ -134,7 +143,8 @@ where
     wrapping_differences(v, offsets)
 }
 
-/// A check of each lane, below 128 exactly if the lane is valid, whatever its neighbours are.
+/// Returns a number for each lane, which is below 128 exactly if the lane is valid. Other lanes do
+/// not matter.
 #[inline(always)]
 pub fn hashed_checks<const N: usize>(v: Simd<u8, N>, case: CheckCase) -> Simd<u8, N>
 where
@@ -145,8 +155,9 @@ where
     sign_flipped(saturating_differences(sign_flipped(v), offsets))
 }
 
-/// The same as [`hashed_values`], without a hash: with the bits cleared that tell cases apart, a
-/// digit is its value, and a letter its value plus 55.
+/// Returns the same values as [`hashed_values`], but without a hash. It clears the bits in which
+/// digits differ from their values, and in which lowercase letters differ from uppercase ones. Then
+/// a digit is its value, and a letter is its value plus 55.
 #[inline(always)]
 pub fn valid_nibbles<const N: usize>(v: Simd<u8, N>) -> Simd<u8, N>
     ensures { (case : CheckCase) → AreValues case v.entry result }
@@ -155,25 +166,25 @@ pub fn valid_nibbles<const N: usize>(v: Simd<u8, N>) -> Simd<u8, N>
     min(common, wrapping_sub(common, 55))
 }
 
-// The sixteen digits, in order.
+// Returns the sixteen digits, in the order of their values.
 #[inline(always)]
 fn digits(upper: bool) -> u8x16
     ensures { (n : ℕ) → n < 16 → slice_index result n ≡ digit upper n }
 {
-    // From a slice the compiler makes one load, from an array sixteen.
+    // The compiler loads a slice at once, but an array byte by byte.
     u8x16::from_slice(match upper {
         true => b"0123456789ABCDEF",
         false => b"0123456789abcdef",
     })
 }
 
-/// A way to write the digits of the lanes.
+/// A way to encode the bytes in the lanes of a vector.
 pub trait Encode<const N: usize, const TWICE: usize> {
     fn encoded(v: Simd<u8, N>, upper: bool) -> Simd<u8, TWICE>
         ensures { result ≡ text upper v.entry };
 }
 
-/// By interleaving the nibbles, for any number of lanes.
+/// Encodes by interleaving the high and the low nibbles, for any number of lanes.
 pub struct Interleaved;
 
 impl<const N: usize, const TWICE: usize> Encode<N, TWICE> for Interleaved
@@ -191,7 +202,8 @@ where
     }
 }
 
-/// By interleaving within the halves of 32 lanes, which is faster only with vectors of 32 bytes.
+/// Encodes 32 lanes by interleaving within the halves of a vector. This is faster only in builds
+/// whose vectors have at least 32 bytes.
 pub struct Halved;
 
 impl Encode<32, 64> for Halved {
@@ -203,19 +215,20 @@ impl Encode<32, 64> for Halved {
     }
 }
 
-/// A map from bytes to nibbles, lane by lane: the value of each valid lane.
+/// A map that replaces the digit in each lane by its value. The result for an invalid lane is
+/// unspecified.
 pub trait Nibbles<const N: usize> {
     fn nibbles(v: Simd<u8, N>, case: CheckCase) -> Simd<u8, N>
         ensures { AreValues case v.entry result };
 }
 
-/// The map's test of a block.
+/// The test of a map, which says whether every byte of a block is valid.
 pub trait Validate<const N: usize> {
     fn is_valid(block: Simd<u8, N>, case: CheckCase) -> bool
         ensures { IsTrue result ↔ AllValid case block.entry 0 N };
 }
 
-/// By saturating sums and differences, for any number of lanes.
+/// The map that uses saturating sums and differences. It takes any number of lanes.
 pub struct Saturating;
 
 impl<const N: usize> Nibbles<N> for Saturating {
@@ -237,7 +250,8 @@ impl Validate<16> for Saturating {
     }
 }
 
-/// By a hash, which finds in rows of sixteen what to subtract from a byte.
+/// The map that uses a hash. The hash of a byte selects an entry of a row of 16, which says what to
+/// subtract from the byte.
 pub struct Hashed;
 
 impl Nibbles<32> for Hashed {
@@ -276,7 +290,8 @@ impl Validate<64> for Hashed {
     }
 }
 
-/// By the bits that digits and letters share, for digits known to be valid: it has no test.
+/// The map for digits that are known to be valid. It uses the bits that digits and letters share,
+/// and has no test.
 pub struct Valid;
 
 impl<const N: usize> Nibbles<N> for Valid {

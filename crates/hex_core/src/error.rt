@@ -1,18 +1,20 @@
-//! The error of encoding and decoding.
+//! The error of functions that encode and decode.
 
 ghost use Rattle.std.specs.Prelude.{Some};
 ghost use Rattle.hex_core.specs.Message.{error_text};
 
 use std::{error, fmt};
 
-/// An error from checked hexadecimal encoding or decoding.
+/// An error of a function that encodes or decodes.
 ///
-/// If a slice call fails, its whole destination is unchanged; if an append fails, its string's text
-/// is. Each call documents the errors that it returns, and the order of its tests.
+/// If a function that writes to a slice fails, the whole slice is unchanged. If a function that
+/// appends to a string fails, the text of the string is unchanged. Each function documents which
+/// errors it returns, and in which order it tests for them.
 ///
-/// [`Display`](fmt::Display) prints exactly these texts, and ignores width and fill:
+/// [`Display`](fmt::Display) prints exactly the texts of this table, with the values of the error's
+/// fields. It ignores width and fill.
 ///
-/// | Case | Text |
+/// | Variant | Text |
 /// |---|---|
 /// | `InvalidChar` | `invalid hex byte 0x67 at index 5` |
 /// | `OutputTooSmall` | `output requires at least 4 bytes` |
@@ -28,7 +30,8 @@ use std::{error, fmt};
 /// ```
 #[derive(Clone, Copy, Debug, PartialEq, Eq, Hash)]
 pub enum Error {
-    /// A byte that is not a hex digit, or whose case the policy does not accept.
+    /// A byte of the source is not a hex digit, or it is a letter of a case that the policy does
+    /// not accept.
     InvalidChar {
         /// The index of the first such byte in the source, in bytes.
         index: usize,
@@ -37,14 +40,14 @@ pub enum Error {
     },
     /// The destination cannot hold the whole output.
     OutputTooSmall {
-        /// The whole output's length, in bytes.
+        /// The length of the whole output, in bytes.
         required: usize,
     },
-    /// The source does not decode to exactly the array's length.
+    /// The source does not decode to as many bytes as the array has.
     LengthMismatch {
-        /// The array's length, in bytes.
+        /// The length of the array, in bytes.
         expected: usize,
-        /// How many bytes the source would decode to.
+        /// The number of bytes that the source would decode to.
         actual: usize,
     },
     /// The source has an odd number of bytes.

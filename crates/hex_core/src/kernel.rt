@@ -1,6 +1,7 @@
-//! Checks, decodes and encodes block by block. If the length is not a multiple of a block, the last
-//! block overlaps the one before. The check here takes blocks of 64 bytes. Decoding and encoding
-//! take any number of lanes and any map.
+//! Functions that check, decode and encode long sources block by block. If the length is not a
+//! multiple of the block, the last block overlaps the block before it. The check takes blocks of 64
+//! bytes. Most functions for decoding and encoding are generic in the number of lanes and in the
+//! map.
 
 ghost use Rattle.std.specs.Prelude.{◌≡◌, ◌↔◌, ◌+◌, ◌*◌, ◌/◌, ◌<◌, ◌≤◌, IsTrue, None, length};
 ghost use Rattle.std.specs.Simd.Lanes.{chunk, put_chunk};
@@ -18,12 +19,14 @@ use crate::vector::{has_no_sign, is_low, max, saturating_add};
 use crate::widths::{Lanes, Pack, PackTwo};
 use std::simd::prelude::*;
 
-// Bytes in a block, and blocks in one test: with more blocks, an invalid byte is found later.
+// The number of bytes in a block of the check.
 const CHECK_BLOCK: usize = 64;
 
+// The number of blocks in one test. With more blocks in a test, an invalid byte is found later.
 const CHECK_RUN: usize = 8;
 
-// Every lane is below 6 exactly if every byte of `count` blocks from `at` on is valid.
+// Returns lanes that are all below 6 exactly if every byte of the `count` blocks from index `at` on
+// is valid.
 #[inline(always)]
 fn reach_of(src: &[u8], at: usize, count: usize, case: CheckCase) -> u8x64
     requires inside { at + count * 64 ≤ length src.now }
@@ -37,7 +40,8 @@ fn reach_of(src: &[u8], at: usize, count: usize, case: CheckCase) -> u8x64
     farthest
 }
 
-// Whether every lane is below 6: 6 becomes 128. Narrow vectors are tested faster by their signs.
+// Returns whether every lane is below 6. Vectors of fewer than 64 bytes are tested faster by their
+// sign bits. The sum saturates, so it sets the sign bits of exactly the lanes from 6 on.
 #[inline(always)]
 fn are_low(v: u8x64, wide: bool) -> bool
     ensures { IsTrue result ↔ AreLow v }
@@ -49,8 +53,10 @@ fn are_low(v: u8x64, wide: bool) -> bool
     }
 }
 
-/// Returns whether `src`, a block or more, is valid. Tests run after run, and then the remaining
-/// whole blocks and the last block at once. If `wide` is true, it is for vectors of 64 bytes.
+/// Returns whether every byte of `src` is valid under `case`. `src` has at least one block. The
+/// function tests one run of eight blocks after the other, and stops at the first run with an
+/// invalid byte. It then tests the remaining whole blocks and the last block together. `wide` is
+/// true in a build with vectors of 64 bytes.
 #[inline(always)]
 pub fn check_runs(src: &[u8], case: CheckCase, wide: bool) -> bool
     requires { 64 ≤ length src.now }
@@ -70,8 +76,8 @@ pub fn check_runs(src: &[u8], case: CheckCase, wide: bool) -> bool
     are_low(rest, wide)
 }
 
-/// Returns whether `src`, 257 to 512 bytes, is valid. Tests them at once, with fewer branches than
-/// [`check_runs`].
+/// Returns whether every byte of `src` is valid under `case`. `src` has 257 to 512 bytes. One test
+/// covers all of them, so this function has fewer branches than [`check_runs`].
 #[inline(always)]
 pub fn check_eight(src: &[u8], case: CheckCase) -> bool
     requires least { 256 < length src.now }
@@ -79,13 +85,14 @@ pub fn check_eight(src: &[u8], case: CheckCase) -> bool
     ensures { IsTrue result ↔ (first_invalid case src.now ≡ None) }
 {
     let len = src.len();
-    // Between the first four blocks and the last one are at most three: `%` says it to the compiler.
+    // At most three blocks lie between the first four and the last one. `% 4` does not change the
+    // number, but tells the compiler this limit.
     let middle = (len - 257) / CHECK_BLOCK % 4;
     let front = max(reach_of(src, 0, 4, case), reach_of(src, 256, middle, case));
     is_low(max(front, reach_of(src, len - CHECK_BLOCK, 1, case)))
 }
 
-// The values of `N` valid digits from index `at`.
+// Returns the values of the `N` digits from index `at` on, which must be valid.
 #[inline(always)]
 fn values_at<M, const N: usize>(src: &[u8], at: usize, case: CheckCase) -> Simd<u8, N>
 where
@@ -98,7 +105,7 @@ where
     M::nibbles(Simd::<u8, N>::from_slice(&src[at..]), case)
 }
 
-/// Writes the bytes of nibbles at index `at`.
+/// Packs pairs of nibbles into bytes, and writes the bytes to `dst` from index `at` on.
 #[inline(always)]
 pub fn pack_at<const N: usize, const HALF: usize>(nibbles: Simd<u8, N>, dst: &mut [u8], at: usize)
 where
@@ -110,7 +117,8 @@ where
     Lanes::pack(nibbles).copy_to_slice(&mut dst[at..]);
 }
 
-// Decodes `N` valid digits into `dst` from index `at`.
+// Decodes `N` valid digits from index `2 * at` of `src` on. Writes the bytes to `dst` from index
+// `at` on.
 #[inline(always)]
 fn write_at<M, const N: usize, const HALF: usize>(
     src: &[u8],
@@ -129,7 +137,8 @@ where
     pack_at(values_at::<M, N>(src, 2 * at, case), dst, at);
 }
 
-/// Decodes a block or more of valid digits over all of `dst`.
+/// Decodes all of `src` over all of `dst`. `src` has at least one block, and all of its bytes are
+/// valid digits.
 #[inline(always)]
 pub fn write_blocks<M, const N: usize, const HALF: usize>(
     src: &[u8],
@@ -153,8 +162,8 @@ where
     }
 }
 
-/// Decodes a block or more over all of `dst`, or returns false and writes nothing: it checks
-/// everything before the first store.
+/// Decodes all of `src`, which has at least one block, over all of `dst`. Returns false and writes
+/// nothing if a byte is invalid, because all bytes are checked before the first store.
 #[inline(always)]
 pub fn decode_or_nothing<M, const N: usize, const HALF: usize>(
     src: &[u8],
@@ -175,7 +184,8 @@ where
     valid
 }
 
-// Decodes 128 valid digits into `dst` from index `at`.
+// Decodes 128 valid digits from index `2 * at` of `src` on. Writes the bytes to `dst` from index
+// `at` on.
 #[inline(always)]
 fn write_pair(src: &[u8], dst: &mut [u8], at: usize, case: CheckCase)
     requires room { HasRoom at 64 src.now dst.old }
@@ -187,7 +197,8 @@ fn write_pair(src: &[u8], dst: &mut [u8], at: usize, case: CheckCase)
     Lanes::pack_two(front, back, dst, at, case);
 }
 
-// Decodes valid digits into the front of `dst`, 256 in each turn, and returns the number of bytes.
+// Decodes valid digits into the start of `dst`, 256 digits in each turn of the loop. Returns the
+// number of bytes written. Fewer than 256 digits are left.
 #[inline(always)]
 fn write_quads(src: &[u8], dst: &mut [u8], case: CheckCase) -> usize
     requires twice { length src.now ≡ 2 * length dst.old }
@@ -203,7 +214,8 @@ fn write_quads(src: &[u8], dst: &mut [u8], case: CheckCase) -> usize
     turns * 128
 }
 
-// Decodes 128 valid digits or more over all of `dst`, 256 in each turn if `wide` is true.
+// Decodes at least 128 valid digits over all of `dst`. If `wide` is true, a turn of the loop
+// decodes 256 digits as long as there are so many, and otherwise 128.
 #[inline(always)]
 fn write_pairs(src: &[u8], dst: &mut [u8], case: CheckCase, wide: bool)
     requires twice { length src.now ≡ 2 * length dst.old }
@@ -223,8 +235,9 @@ fn write_pairs(src: &[u8], dst: &mut [u8], case: CheckCase, wide: bool)
     }
 }
 
-/// Decodes 128 digits or more, if `wide` is true for vectors of 64 bytes. Tests all of them before
-/// the first store.
+/// Decodes all of `src`, which has at least 128 digits, over all of `dst`. Returns false and writes
+/// nothing if a byte is invalid, because all bytes are tested before the first store. `wide` is
+/// true in a build with vectors of 64 bytes.
 #[inline(always)]
 pub fn decode_long(src: &[u8], dst: &mut [u8], case: CheckCase, wide: bool) -> bool
     requires least { 128 ≤ length src.now }
@@ -238,7 +251,8 @@ pub fn decode_long(src: &[u8], dst: &mut [u8], case: CheckCase, wide: bool) -> b
     valid
 }
 
-/// Encodes `N` bytes from index `at`.
+/// Encodes the `N` bytes from index `at` of `src` on. Writes the digits to `dst` from index `2 *
+/// at` on.
 #[inline(always)]
 pub fn encode_at<E, const N: usize, const TWICE: usize>(
     src: &[u8],
@@ -257,7 +271,7 @@ where
     text.copy_to_slice(&mut dst[2 * at..]);
 }
 
-/// Encodes a block or more over all of `dst`.
+/// Encodes all of `src`, which has at least one block, over all of `dst`.
 #[inline(always)]
 pub fn encode_blocks<E, const N: usize, const TWICE: usize>(src: &[u8], dst: &mut [u8], upper: bool)
 where

@@ -1,4 +1,4 @@
-//! Checks by lanes: a probe whose test of a block takes all its bytes at once.
+//! Checks by vectors. They use a probe that tests all bytes of a block at once.
 
 ghost use Rattle.std.specs.Prelude.{◌≡◌, ◌↔◌, ◌+◌, ◌<◌, IsTrue, None};
 ghost use Rattle.hex_core.specs.Search.{first_invalid};
@@ -11,7 +11,8 @@ use crate::search::{Probe, covered};
 use std::marker::PhantomData;
 use std::simd::prelude::*;
 
-// A probe over a slice, whose test of a whole block of `N` bytes is one of a map.
+// A probe over a slice. It tests a whole block of `N` bytes by the map `M`, and any other range by
+// a table.
 #[derive(Drop)]
 struct LaneProbe<'a, M, const N: usize> {
     src: &'a [u8],
@@ -64,7 +65,8 @@ where
     }
 }
 
-/// Returns whether every byte of a block or more is valid under `case`.
+/// Returns whether every byte of `src` is valid under `case`. `src` has at least one block of `N`
+/// bytes.
 #[inline(never)]
 pub fn check_lanes<M, const N: usize>(src: &[u8], case: CheckCase) -> bool
 where

@@ -1,4 +1,5 @@
-//! Blocks of 16, 32 and 64 bytes, one byte per lane, and of 8 for encoding.
+//! Functions on blocks of bytes, which do the same with each byte. Tests, values and packing take
+//! blocks of 16, 32 or 64 bytes, and encoding takes 8, 16 or 32.
 
 ghost use Rattle.std.specs.Prelude.{◌≡◌};
 ghost use Rattle.hex_core.specs.Lanes.{Admits, AreChecked, AreNibbles, ArePacked, AreSmall, AreValues};
@@ -22,7 +23,7 @@ pub fn admitted_16(bytes: &[u8; 16], case: CheckCase) -> u16
     admitted(u8x16::from_array(*bytes), case) as u16
 }
 
-/// The same as [`admitted_16`], for 32 bytes.
+/// Returns the mask of [`admitted_16`] for 32 bytes.
 ///
 /// ```rust
 /// let mut bytes = [b'F'; 32];
@@ -37,7 +38,7 @@ pub fn admitted_32(bytes: &[u8; 32], case: CheckCase) -> u32
     admitted(u8x32::from_array(*bytes), case) as u32
 }
 
-/// The same as [`admitted_16`], for 64 bytes.
+/// Returns the mask of [`admitted_16`] for 64 bytes.
 ///
 /// ```rust
 /// let mut bytes = [b'g'; 64];
@@ -52,7 +53,8 @@ pub fn admitted_64(bytes: &[u8; 64], case: CheckCase) -> u64
     admitted(u8x64::from_array(*bytes), case)
 }
 
-/// Returns the value of each byte under `case`, or at least 16 if it is invalid.
+/// Returns the value of each byte under `case`. For an invalid byte it returns a number of at least
+/// 16.
 ///
 /// ```rust
 /// let nibbles = nibbles_saturating_16(b"0123456789abcdef", CheckCase::None);
@@ -65,8 +67,9 @@ pub fn nibbles_saturating_16(bytes: &[u8; 16], case: CheckCase) -> [u8; 16]
     saturated(u8x16::from_array(*bytes), case).to_array()
 }
 
-/// Returns a nibble and a check for each byte: the check is below 128 exactly if the byte is valid
-/// under `case`, and then the nibble is its value. Other nibbles are unspecified.
+/// Returns two numbers for each byte, in two arrays. The second one is below 128 exactly if the
+/// byte is valid under `case`. The first one is then the value of the byte. For an invalid byte the
+/// first one is unspecified.
 ///
 /// ```rust
 /// let mut bytes = [b'7'; 32];
@@ -87,7 +90,7 @@ pub fn nibbles_hashed_32(bytes: &[u8; 32], case: CheckCase) -> ([u8; 32], [u8; 3
     )
 }
 
-/// The same as [`nibbles_hashed_32`], for 64 bytes.
+/// Returns the numbers of [`nibbles_hashed_32`] for 64 bytes.
 ///
 /// ```rust
 /// let mut bytes = [b'7'; 64];
@@ -108,7 +111,8 @@ pub fn nibbles_hashed_64(bytes: &[u8; 64], case: CheckCase) -> ([u8; 64], [u8; 6
     )
 }
 
-/// Returns the byte of each pair of nibbles, the first nibble as the high half.
+/// Returns one byte for each pair of nibbles. The first nibble of a pair is the high half of the
+/// byte.
 ///
 /// Requires every nibble to be below 16.
 ///
@@ -125,7 +129,7 @@ pub fn pack_16(nibbles: &[u8; 16]) -> [u8; 8]
     Lanes::pack(u8x16::from_array(*nibbles)).to_array()
 }
 
-/// The same as [`pack_16`], for 32 nibbles.
+/// Returns the bytes of [`pack_16`] for 32 nibbles, with the same requirement.
 ///
 /// ```rust
 /// let (nibbles, _) = nibbles_hashed_32(&[b'7'; 32], CheckCase::None);
@@ -141,7 +145,7 @@ pub fn pack_32(nibbles: &[u8; 32]) -> [u8; 16]
     Lanes::pack(u8x32::from_array(*nibbles)).to_array()
 }
 
-/// The same as [`pack_16`], for 64 nibbles.
+/// Returns the bytes of [`pack_16`] for 64 nibbles, with the same requirement.
 ///
 /// ```rust
 /// let (nibbles, _) = nibbles_hashed_64(&[b'7'; 64], CheckCase::None);
@@ -157,7 +161,8 @@ pub fn pack_64(nibbles: &[u8; 64]) -> [u8; 32]
     Lanes::pack(u8x64::from_array(*nibbles)).to_array()
 }
 
-/// Returns the digits of 8 bytes, in uppercase if `upper` is true.
+/// Returns the digits of 8 bytes, two for each byte with the high one first. The letters are
+/// uppercase if `upper` is true, and lowercase otherwise.
 ///
 /// ```rust
 /// let text = encode_8(&[0x01, 0x23, 0x45, 0x67, 0x89, 0xab, 0xcd, 0xef], false);
@@ -170,7 +175,7 @@ pub fn encode_8(bytes: &[u8; 8], upper: bool) -> [u8; 16]
     Interleaved::encoded(u8x8::from_array(*bytes), upper).to_array()
 }
 
-/// Returns the digits of 16 bytes, in uppercase if `upper` is true.
+/// Returns the digits of 16 bytes, in the order and letter case of [`encode_8`].
 ///
 /// ```rust
 /// let text = encode_16(&[0xab; 16], true);
@@ -183,7 +188,7 @@ pub fn encode_16(bytes: &[u8; 16], upper: bool) -> [u8; 32]
     Interleaved::encoded(u8x16::from_array(*bytes), upper).to_array()
 }
 
-/// The same as [`encode_16`], for 32 bytes.
+/// Returns the digits of 32 bytes, in the order and letter case of [`encode_8`].
 ///
 /// ```rust
 /// assert_eq!(rt; encode_32(&[0x77; 32], false), [b'7'; 64]);

@@ -1,4 +1,6 @@
-//! Hex digits, errors and the plans that encode and decode: the base of `faster_hex`.
+//! This crate is the base of `faster_hex`. It has the values of hex digits, the error type, the
+//! search for the first invalid byte, and the plans. A plan is one implementation of the functions
+//! that check, decode and encode.
 #![tactic(auto)]
 
 mod backend;
@@ -19,7 +21,8 @@ mod tables;
 mod vector;
 mod widths;
 
-/// Look-ups for short pieces, inlined because a call would take longer.
+/// Functions that look digits up in tables. They are meant for pieces of a few bytes. They are
+/// inlined, because a function call would take longer than the look-ups.
 pub mod look_ups {
     pub use crate::scalar::{are_digits, write_bytes, write_digits};
 }

@@ -1,6 +1,7 @@
-//! The plan of the calls without a plan: a short source is held in registers, a longer one takes
-//! blocks of 64 digits. The blocks for each length were chosen by measurement; bench/README.md has
-//! the gains. No table is indexed by a byte of the source, which may be secret.
+//! The plan `plain`, which functions without a plan parameter use. It holds a short source in
+//! registers, and reads a longer one in blocks. Measurements decided which implementation is used
+//! for which lengths, and bench/README.md has the gains. No table in memory is indexed by a byte of
+//! the source, because the source may be secret.
 
 ghost use Rattle.std.specs.Prelude.{◌≡◌, ◌↔◌, ◌*◌, ◌<◌, ◌≤◌, IsTrue, None, length};
 ghost use Rattle.hex_core.specs.Calls.{DecodesWhole};
@@ -16,8 +17,8 @@ use crate::registers::{
     decode_two, encode_four, encode_two,
 };
 
-/// Returns whether every byte of `src` is valid under `case`, in a build whose vectors have `width`
-/// bytes.
+/// Returns whether every byte of `src` is valid under `case`. `width` is the number of bytes in a
+/// vector of the build. It changes only the speed.
 #[inline(always)]
 pub fn check_by_length(src: &[u8], case: CheckCase, width: u8) -> bool
     ensures { IsTrue result ↔ (first_invalid case src.now ≡ None) }
@@ -25,7 +26,8 @@ pub fn check_by_length(src: &[u8], case: CheckCase, width: u8) -> bool
     match src.len() {
         0..16 => check_short(src, case),
         16..=32 => check_two::<16>(src, case),
-        // Each test of the length before it would cost it a twentieth.
+        // This arm comes early, because each test of the length before it would make it a twentieth
+        // slower.
         257.. if width >= 64 => check_held(src, case),
         33..=64 => check_two::<32>(src, case),
         65..=128 if width >= 64 => check_wide(src, case),
@@ -35,8 +37,9 @@ pub fn check_by_length(src: &[u8], case: CheckCase, width: u8) -> bool
     }
 }
 
-// The same for 65 to 128 bytes in a build with vectors of 64 bytes. LLVM decides whether to inline
-// it: marked, it would make `Backend::check` too long for the toolchain to inline.
+// Does the same for 65 to 128 bytes in a build with vectors of 64 bytes. LLVM decides whether to
+// inline it. If it were marked as inline, `Backend::check` would be too long for the toolchain to
+// inline.
 fn check_wide(src: &[u8], case: CheckCase) -> bool
     requires { EndsCover 64 src.now }
     ensures { IsTrue result ↔ (first_invalid case src.now ≡ None) }
@@ -44,7 +47,8 @@ fn check_wide(src: &[u8], case: CheckCase) -> bool
     check_two::<64>(src, case)
 }
 
-// The same for more than 256 bytes, apart: its loops are too long to be inlined in each caller.
+// Does the same for more than 256 bytes. It is not inlined, because its loops are too long to be
+// copied into each caller.
 #[inline(never)]
 fn check_long(src: &[u8], case: CheckCase) -> bool
     requires { 256 < length src.now }
@@ -53,7 +57,7 @@ fn check_long(src: &[u8], case: CheckCase) -> bool
     check_runs(src, case, false)
 }
 
-// The same in a build with vectors of 64 bytes.
+// Does the same for more than 256 bytes in a build with vectors of 64 bytes.
 #[inline(never)]
 fn check_held(src: &[u8], case: CheckCase) -> bool
     requires { 256 < length src.now }
@@ -65,7 +69,7 @@ fn check_held(src: &[u8], case: CheckCase) -> bool
     }
 }
 
-// The same for fewer than 16 bytes.
+// Does the same for fewer than 16 bytes.
 #[inline(always)]
 fn check_short(src: &[u8], case: CheckCase) -> bool
     requires { length src.now < 16 }
@@ -80,9 +84,10 @@ fn check_short(src: &[u8], case: CheckCase) -> bool
     }
 }
 
-/// Decodes `src` over all of `dst`, or returns false and writes nothing, in a build whose vectors
-/// have `width` bytes. Up to 192 digits are decoded inline, so that a length known to the caller
-/// needs no choice at run time.
+/// Decodes all of `src` over all of `dst` and returns true. If a byte is invalid, it returns false
+/// and writes nothing. `width` is the number of bytes in a vector of the build, and changes only
+/// the speed. Up to 192 digits are decoded inline, so that a length which the caller's compiler
+/// knows is not tested at run time.
 #[inline(always)]
 pub fn decode_by_length(src: &[u8], dst: &mut [u8], case: CheckCase, width: u8) -> bool
     requires { length src.now ≡ 2 * length dst.old }
@@ -99,7 +104,7 @@ pub fn decode_by_length(src: &[u8], dst: &mut [u8], case: CheckCase, width: u8) 
     }
 }
 
-// The same for fewer than 16 digits.
+// Does the same for fewer than 16 digits.
 #[inline(always)]
 fn decode_short(src: &[u8], dst: &mut [u8], case: CheckCase) -> bool
     requires twice { length src.now ≡ 2 * length dst.old }
@@ -114,8 +119,8 @@ fn decode_short(src: &[u8], dst: &mut [u8], case: CheckCase) -> bool
     }
 }
 
-// The same for more than 192 digits, apart: with its blocks in it, `decode_by_length` would not be
-// inlined.
+// Does the same for more than 192 digits. It is a function of its own, because `decode_by_length`
+// would not be inlined if it contained these implementations.
 #[inline(never)]
 fn decode_apart(src: &[u8], dst: &mut [u8], case: CheckCase) -> bool
     requires twice { length src.now ≡ 2 * length dst.old }
@@ -128,7 +133,8 @@ fn decode_apart(src: &[u8], dst: &mut [u8], case: CheckCase) -> bool
     }
 }
 
-// The same in a build with vectors of 64 bytes: up to 512 digits are held in them.
+// Does the same for more than 192 digits in a build with vectors of 64 bytes. Up to 512 digits are
+// held in registers.
 #[inline(never)]
 fn decode_held(src: &[u8], dst: &mut [u8], case: CheckCase) -> bool
     requires twice { length src.now ≡ 2 * length dst.old }
@@ -143,7 +149,8 @@ fn decode_held(src: &[u8], dst: &mut [u8], case: CheckCase) -> bool
     }
 }
 
-/// Encodes `src` over all of `dst`, in a build whose vectors have `width` bytes.
+/// Encodes all of `src` over all of `dst`, in uppercase if `upper` is true. `width` is the number
+/// of bytes in a vector of the build, and changes only the speed.
 #[inline(always)]
 pub fn encode_by_length(src: &[u8], dst: &mut [u8], upper: bool, width: u8)
     requires { length dst.old ≡ 2 * length src.now }
@@ -164,7 +171,7 @@ pub fn encode_by_length(src: &[u8], dst: &mut [u8], upper: bool, width: u8)
     }
 }
 
-// The same for fewer than 8 bytes.
+// Does the same for fewer than 8 bytes.
 #[inline(always)]
 fn encode_short(src: &[u8], dst: &mut [u8], upper: bool)
     requires twice { length dst.old ≡ 2 * length src.now }

@@ -1,8 +1,12 @@
-//! Bodies that hold a short source in registers, as two blocks to four.
+//! Functions that hold a short source in registers, as two to four blocks. For decoding, a longer
+//! source is held in two parts.
 //!
-//! A vector has `N` lanes, and `HALF` is half of that: `N` digits decode to `HALF` bytes. The last
-//! block ends with the source and may overlap the one before: the overlap is read twice, or written
-//! twice with equal bytes.
+//! A vector has `N` lanes. `HALF` is half of `N`, because `N` digits decode to `HALF` bytes. The
+//! last block ends with the source and may overlap the block before it. The bytes in the overlap
+//! are then read twice, or written twice with the same values.
+//!
+//! A function that decodes tests all digits before it stores the first byte. If a digit is invalid,
+//! it returns false, and `dst` is unchanged.
 
 ghost use Rattle.std.specs.Prelude.{◌≡◌, ◌↔◌, ◌+◌, ◌-◌, ◌*◌, ◌<◌, ◌≤◌, IsTrue, None, length};
 ghost use Rattle.hex_core.specs.Calls.{DecodesWhole};
@@ -17,7 +21,7 @@ use crate::vector::{is_low, is_small, max, or};
 use crate::widths::{Lanes, Pack, PackTwo};
 use std::simd::prelude::*;
 
-/// Returns whether `src`, `N` to `2 * N` bytes, is valid.
+/// Returns whether every byte of `src` is valid under `case`. `src` has `N` to `2 * N` bytes.
 #[inline(always)]
 pub fn check_two<const N: usize>(src: &[u8], case: CheckCase) -> bool
     requires lanes { N ≤ 64 }
@@ -29,7 +33,7 @@ pub fn check_two<const N: usize>(src: &[u8], case: CheckCase) -> bool
     is_low(max(front, back))
 }
 
-/// Returns whether `src`, `2 * N` to `4 * N` bytes, is valid.
+/// Returns whether every byte of `src` is valid under `case`. `src` has `2 * N` to `4 * N` bytes.
 #[inline(always)]
 pub fn check_four<const N: usize>(src: &[u8], case: CheckCase) -> bool
     requires lanes { N ≤ 64 }
@@ -40,7 +44,7 @@ pub fn check_four<const N: usize>(src: &[u8], case: CheckCase) -> bool
     let second = reach(Simd::<u8, N>::from_slice(&src[N..]), case);
     let last = reach(Simd::<u8, N>::from_slice(&src[src.len() - N..]), case);
     let mut front = max(first, second);
-    // Of at most 3 * N bytes the last block reaches the second.
+    // If there are at most 3 * N bytes, the last block reaches the second one.
     if src.len() > 3 * N {
         let third = Simd::<u8, N>::from_slice(&src[src.len() - 2 * N..]);
         front = max(front, reach(third, case));
@@ -48,7 +52,8 @@ pub fn check_four<const N: usize>(src: &[u8], case: CheckCase) -> bool
     is_low(max(front, last))
 }
 
-// `N` nibbles from index `at`.
+// Returns the values of the `N` bytes from index `at` on, and a number of at least 16 for each
+// invalid byte.
 #[inline(always)]
 fn nibbles_at<const N: usize>(src: &[u8], at: usize, case: CheckCase) -> Simd<u8, N>
     requires { at + N ≤ length src.now }
@@ -57,7 +62,8 @@ fn nibbles_at<const N: usize>(src: &[u8], at: usize, case: CheckCase) -> Simd<u8
     saturated(Simd::<u8, N>::from_slice(&src[at..]), case)
 }
 
-/// Decodes `N` to `2 * N` digits, both ends as one vector. Tests all before the first store.
+/// Decodes `N` to `2 * N` digits over all of `dst`. It puts the first and the last `N` digits into
+/// one vector.
 #[inline(always)]
 pub fn decode_ends<const N: usize, const TWICE: usize, const HALF: usize>(
     src: &[u8],
@@ -72,7 +78,7 @@ where
     requires covered { EndsCover N src.now }
     ensures { DecodesWhole case src.now dst.old dst.new result }
 {
-    // The compiler keeps both arrays in registers.
+    // The compiler keeps `both` and `packed` in registers.
     let mut both = [0; TWICE];
     let lanes = &mut both[..];
     Simd::<u8, N>::from_slice(src).copy_to_slice(lanes);
@@ -89,7 +95,7 @@ where
     true
 }
 
-/// Decodes `N` to `2 * N` digits. Tests all of them before the first store.
+/// Decodes `N` to `2 * N` digits over all of `dst`.
 #[inline(always)]
 pub fn decode_two<const N: usize, const HALF: usize>(
     src: &[u8],
@@ -113,7 +119,7 @@ where
     true
 }
 
-/// Decodes `2 * N` to `3 * N` digits. Tests all of them before the first store.
+/// Decodes `2 * N` to `3 * N` digits over all of `dst`.
 #[inline(always)]
 pub fn decode_three<const N: usize, const HALF: usize>(
     src: &[u8],
@@ -140,7 +146,7 @@ where
     true
 }
 
-/// Decodes `2 * N` to `4 * N` digits. Tests all of them before the first store.
+/// Decodes `2 * N` to `4 * N` digits over all of `dst`.
 #[inline(always)]
 pub fn decode_four<const N: usize, const HALF: usize>(
     src: &[u8],
@@ -167,7 +173,8 @@ where
     true
 }
 
-// Decodes 256 digits to index `at`.
+// Decodes the 256 digits from index `2 * at` of `src` on into the 128 bytes of `dst` from index
+// `at` on.
 #[inline(always)]
 fn decode_part(src: &[u8], dst: &mut [u8], at: usize, case: CheckCase) -> bool
     requires room { HasRoom at 128 src.now dst.old }
@@ -177,8 +184,8 @@ fn decode_part(src: &[u8], dst: &mut [u8], at: usize, case: CheckCase) -> bool
     decode_four::<64, 32>(&src[2 * at..2 * end], &mut dst[at..end], case)
 }
 
-/// Decodes 256 to 384 digits: holds the last 128 while [`decode_four`] decodes the first 256. Tests
-/// all of them before the first store.
+/// Decodes 256 to 384 digits over all of `dst`. It tests the last 128 digits and holds their values
+/// in registers, while [`decode_four`] decodes the first 256.
 #[inline(always)]
 pub fn decode_six(src: &[u8], dst: &mut [u8], case: CheckCase) -> bool
     requires twice { length src.now ≡ 2 * length dst.old }
@@ -200,7 +207,8 @@ pub fn decode_six(src: &[u8], dst: &mut [u8], case: CheckCase) -> bool
     true
 }
 
-/// Decodes 256 to 512 digits likewise, and holds the last 256.
+/// Decodes 256 to 512 digits over all of `dst`. It works like [`decode_six`], but holds the values
+/// of the last 256 digits.
 #[inline(always)]
 pub fn decode_eight(src: &[u8], dst: &mut [u8], case: CheckCase) -> bool
     requires twice { length src.now ≡ 2 * length dst.old }
@@ -224,7 +232,7 @@ pub fn decode_eight(src: &[u8], dst: &mut [u8], case: CheckCase) -> bool
     true
 }
 
-/// Encodes `N` to `2 * N` bytes.
+/// Encodes `N` to `2 * N` bytes over all of `dst`.
 #[inline(always)]
 pub fn encode_two<E, const N: usize, const TWICE: usize>(src: &[u8], dst: &mut [u8], upper: bool)
 where
@@ -238,7 +246,7 @@ where
     encode_at::<E, N, TWICE>(src, dst, src.len() - N, upper);
 }
 
-/// Encodes `2 * N` to `4 * N` bytes.
+/// Encodes `2 * N` to `4 * N` bytes over all of `dst`.
 #[inline(always)]
 pub fn encode_four<E, const N: usize, const TWICE: usize>(src: &[u8], dst: &mut [u8], upper: bool)
 where
@@ -251,7 +259,7 @@ where
     let len = src.len();
     encode_at::<E, N, TWICE>(src, dst, 0, upper);
     encode_at::<E, N, TWICE>(src, dst, N, upper);
-    // Of at most 3 * N bytes the last block reaches the second.
+    // If there are at most 3 * N bytes, the last block reaches the second one.
     if len > 3 * N {
         encode_at::<E, N, TWICE>(src, dst, len - 2 * N, upper);
     }

@@ -1,4 +1,4 @@
-//! A look-up per digit.
+//! Functions that look up each byte in a table.
 
 ghost use Rattle.std.specs.Prelude.{◌≡◌, ◌≢◌, ◌+◌, ◌*◌, ◌/◌, ◌%◌, ◌<◌, ◌↔◌, IsTrue, MatchOption, None, length};
 ghost use Rattle.std.specs.Int.{bytes_high_first};
@@ -9,8 +9,8 @@ ghost use Rattle.hex_core.specs.Text.{Spells, text};
 use crate::digit::CheckCase;
 use crate::tables::{NIL, digit_pairs_of, values_of};
 
-/// Returns whether every byte of `src` is valid under `case`. Looks up all of them: a branch for
-/// each byte costs more.
+/// Returns whether every byte of `src` is valid under `case`. It looks up all bytes, because a
+/// branch for each byte would cost more than it saves.
 #[inline(never)]
 pub fn check_by_table(src: &[u8], case: CheckCase) -> bool
     ensures { IsTrue result ↔ (first_invalid case src.now ≡ None) }
@@ -23,7 +23,7 @@ pub fn check_by_table(src: &[u8], case: CheckCase) -> bool
     valid
 }
 
-// The byte of two nibbles.
+// Returns the byte of two nibbles.
 fn packed(high: u8, low: u8) -> u8
     requires high { high < 16 }
     requires low { low < 16 }
@@ -32,7 +32,10 @@ fn packed(high: u8, low: u8) -> u8
     16 * high + low
 }
 
-/// Decodes a valid source over all of `dst`.
+/// Decodes all of `src` over all of `dst`.
+///
+/// Requires `src` to be exactly twice as long as `dst`, in bytes, and every byte of `src` to be
+/// valid under `case`.
 ///
 /// ```rust
 /// use hex_core::look_ups::write_bytes;
@@ -53,8 +56,8 @@ pub fn write_bytes(src: &[u8], dst: &mut [u8], case: CheckCase)
     }
 }
 
-// Decodes fewer than 16 digits to one number, whose lowest byte is the last; or none if a digit is
-// invalid.
+// Decodes fewer than 16 digits to one number, whose lowest byte is the last one. Returns `None` if
+// a digit is invalid.
 #[inline(always)]
 fn word_of(src: &[u8], case: CheckCase) -> Option<u64>
     requires few { length src.now < 16 }
@@ -75,8 +78,9 @@ fn word_of(src: &[u8], case: CheckCase) -> Option<u64>
     Some(word)
 }
 
-/// Returns whether all of `src`, fewer than 16 bytes and an even number, are digits that `case`
-/// accepts.
+/// Returns whether every byte of `src` is valid under `case`.
+///
+/// Requires `src` to have an even number of bytes, and fewer than 16.
 ///
 /// ```rust
 /// use hex_core::look_ups::are_digits;
@@ -93,7 +97,8 @@ pub fn are_digits(src: &[u8], case: CheckCase) -> bool
     word_of(src, case).is_some()
 }
 
-// Writes the last bytes of a number over all of `dst`. Copying so few bytes would be a call.
+// Writes the lowest bytes of a number over all of `dst`, with the lowest one last. It is a loop,
+// because a copy of so few bytes would be a function call.
 #[inline(always)]
 fn write_word(word: u64, dst: &mut [u8])
     requires { length dst.old < 8 }
@@ -107,7 +112,8 @@ fn write_word(word: u64, dst: &mut [u8])
     }
 }
 
-// Decodes fewer than 16 digits in one pass, and stores the bytes only if all pairs are valid.
+// Decodes fewer than 16 digits. It reads them in one pass, and stores the bytes only if all digits
+// are valid.
 #[inline(always)]
 fn decode_as_word(src: &[u8], dst: &mut [u8], case: CheckCase) -> bool
     requires twice { length src.now ≡ 2 * length dst.old }
@@ -121,7 +127,8 @@ fn decode_as_word(src: &[u8], dst: &mut [u8], case: CheckCase) -> bool
     true
 }
 
-/// Decodes `src` over all of `dst`, or returns false and writes nothing.
+/// Decodes all of `src` over all of `dst` and returns true. If a byte is invalid, it returns false
+/// and writes nothing.
 #[inline(always)]
 pub fn decode_by_table(src: &[u8], dst: &mut [u8], case: CheckCase) -> bool
     requires { length src.now ≡ 2 * length dst.old }
@@ -137,7 +144,7 @@ pub fn decode_by_table(src: &[u8], dst: &mut [u8], case: CheckCase) -> bool
     valid
 }
 
-/// [`write_digits`] as a call, for the plans.
+/// The same as [`write_digits`], but not inlined. The plans use this function.
 #[inline(never)]
 pub fn encode_by_table(src: &[u8], dst: &mut [u8], upper: bool)
     requires { length dst.old ≡ 2 * length src.now }
@@ -146,7 +153,10 @@ pub fn encode_by_table(src: &[u8], dst: &mut [u8], upper: bool)
     write_digits(src, dst, upper);
 }
 
-/// Encodes `src` over all of `dst`.
+/// Encodes all of `src` over all of `dst`. The letters are uppercase if `upper` is true, and
+/// lowercase otherwise.
+///
+/// Requires `dst` to be exactly twice as long as `src`, in bytes.
 ///
 /// ```rust
 /// use hex_core::look_ups::write_digits;

@@ -1,4 +1,5 @@
-//! Probes, and the search for the first invalid byte through their counted calls.
+//! Probes, and the search for the first invalid byte of a probe. A probe counts how it is read, so
+//! the contract of the search can say how many steps it takes.
 
 ghost use Rattle.std.specs.Prelude.{◌≡◌, None, ◌+◌, ◌*◌, ◌/◌, ◌^◌, ◌<◌, ◌≤◌, ◌↔◌, IsTrue, length, slice_index};
 ghost use Rattle.hex_core.specs.Probe.{Adds, ProbeState, ValidIn, covering_in, invalid_in, steps_in};
@@ -7,12 +8,14 @@ ghost use Rattle.hex_core.specs.inside.Looks.{looks_from};
 use crate::digit::CheckCase;
 use crate::tables::has_value;
 
-/// Bytes in each test that `locate` makes.
+/// The number of bytes in each test that `locate` makes.
 pub const SEARCH_BLOCK: usize = 64;
 
-/// A probe: a source seen only through `look` and `test`, which are counted, and a policy.
+/// A probe is a source with a policy. Its bytes can be read only by `look`, which returns one byte,
+/// and by `test`, which says whether a range of bytes is valid.
 ///
-/// Source, policy and block never change, and each of the two calls adds only to its own count.
+/// The probe counts the calls of both. Each of them adds one to its own count and changes nothing
+/// else. The source, the policy and the block, which is the width of the widest test, never change.
 ///
 /// ```rust
 /// let [scalar, ..] = backends();
@@ -22,42 +25,44 @@ pub const SEARCH_BLOCK: usize = 64;
 /// assert_eq!(rt; (probe.looks(), probe.tests()), (1, 1));
 /// ```
 pub trait Probe {
-    // The probe's source, policy and block, and its counts of looks and of tests.
+    // The source, the policy and the block of the probe, and its numbers of looks and of tests.
     ghost state: { Self → ProbeState };
 
-    /// Returns the source's length, in bytes.
+    /// Returns the length of the source, in bytes.
     fn len(&self) -> usize
         ensures value { result ≡ length (state self.now).source };
 
-    /// Returns the policy under which a byte is valid.
+    /// Returns the policy that decides which bytes are valid.
     fn case(&self) -> CheckCase
         ensures value { result ≡ (state self.now).policy };
 
-    /// Returns the block: the width of the widest test, in bytes.
+    /// Returns the block, which is the width of the widest test, in bytes.
     fn block(&self) -> usize
         ensures value { result ≡ (state self.now).block };
 
-    /// Returns the number of looks made.
+    /// Returns the number of looks made so far.
     fn looks(&self) -> usize
         ensures value { result ≡ (state self.now).looks };
 
-    /// Returns the number of tests made.
+    /// Returns the number of tests made so far.
     fn tests(&self) -> usize
         ensures value { result ≡ (state self.now).tests };
 
-    /// Returns byte `i` of the source and adds one look.
+    /// Returns the byte at index `i` of the source, and adds one to the number of looks.
     ///
-    /// Requires the index `i` to be inside the source, and the count of looks below `usize::MAX`.
+    /// Requires `i` to be below the length of the source, and the number of looks to be below
+    /// `usize::MAX`.
     fn look(&mut self, i: usize) -> u8
         requires inside { i < length (state self.old).source }
         requires countable { (state self.old).looks < usize.MAX }
         ensures byte { result ≡ slice_index (state self.old).source i }
         ensures counted { Adds 1 0 (state self.old) (state self.new) };
 
-    /// Returns whether each byte of `start..start + width` is valid, and adds one test.
+    /// Returns whether every byte in the range `start..start + width` is valid, and adds one to the
+    /// number of tests.
     ///
-    /// Requires the range, in bytes, to be inside the source, `width` to be at most the block, and
-    /// the count of tests below `usize::MAX`.
+    /// Requires the range to lie inside the source, `width` to be at most the block, and the number
+    /// of tests to be below `usize::MAX`.
     fn test(&mut self, start: usize, width: usize) -> bool
         requires inside { start + width ≤ length (state self.old).source }
         requires narrow { width ≤ (state self.old).block }
@@ -66,8 +71,8 @@ pub trait Probe {
         ensures counted { Adds 0 1 (state self.old) (state self.new) };
 }
 
-// Tests the whole blocks in order. Returns the start of the first block that fails, or the end of
-// the last one: the looks begin there.
+// Tests the whole blocks in order, until one fails. Returns the start of that block, or the end of
+// the last whole block if none fails. The search looks at single bytes from this index on.
 #[inline(always)]
 fn test_blocks<P: Probe>(p: &mut P) -> usize
     requires long { 64 < length (P.state p.old).source }
@@ -86,8 +91,8 @@ fn test_blocks<P: Probe>(p: &mut P) -> usize
     SEARCH_BLOCK * whole
 }
 
-// Looks at each byte from `start` up to the first invalid one. Makes at most 64 looks, since the
-// first invalid byte, or the end, is within a block of `start`.
+// Looks at each byte from `start` on, up to the first invalid one, and returns its index. It makes
+// at most 64 looks, because one of the next 64 bytes is invalid, or the source ends within them.
 #[inline(always)]
 fn look_from<P: Probe>(p: &mut P, start: usize) -> Option<usize>
     requires valid { ValidIn (P.state p.old) 0 start }
@@ -105,16 +110,16 @@ fn look_from<P: Probe>(p: &mut P, start: usize) -> Option<usize>
     None
 }
 
-/// Returns the index, in bytes, of the first byte that is invalid under the policy, or `None` if
-/// all are valid.
+/// Returns the index of the first byte that is invalid under the policy, or `None` if all bytes are
+/// valid.
 ///
-/// If the source has at most 64 bytes, looks at each byte from index 0. Else tests whole blocks of
-/// 64 bytes in order until one fails, and then looks at each byte from that block on, or from the
-/// end of the whole blocks if all passed. So it makes at most `len / 64` tests and at most 64
-/// looks.
+/// If the source has at most 64 bytes, it looks at each byte from index 0 on. Otherwise it tests
+/// whole blocks of 64 bytes in order until one fails. It then looks at each byte from the start of
+/// that block on. If all whole blocks passed, it looks at each byte after them. The looks end at
+/// the first invalid byte. So there are at most `len / 64` tests and at most 64 looks.
 ///
-/// Requires the block to be 64. The count of tests plus the length, and the count of looks plus 64,
-/// must each fit `usize`.
+/// Requires the block to be 64. The number of tests plus the length of the source must fit `usize`,
+/// and so must the number of looks plus 64.
 ///
 /// ```rust
 /// let [scalar, ..] = backends();
@@ -134,7 +139,7 @@ pub fn locate<P: Probe>(p: &mut P) -> Option<usize>
         ≤ (P.state p.old).tests + length (P.state p.old).source / 64 }
     ensures few_looks { (P.state p.new).looks ≤ (P.state p.old).looks + 64 }
 {
-    // One block is short enough to look at.
+    // A source of at most one block is short enough to look at each byte.
     let start = if p.len() > SEARCH_BLOCK {
         test_blocks(p)
     } else {
@@ -143,14 +148,16 @@ pub fn locate<P: Probe>(p: &mut P) -> Option<usize>
     look_from(p, start)
 }
 
-/// Returns whether each byte of the source is valid under the policy, by tests alone.
+/// Returns whether every byte of the source is valid under the policy. It makes only tests, and no
+/// look.
 ///
-/// Tests the blocks that cover the source in order, until one fails. So the number of tests is that
-/// of the blocks up to the first invalid byte's, or, if all are valid, the length divided by the
-/// block, rounded up. It makes no look.
+/// It tests one block after the other until one fails. If the length is not a multiple of the
+/// block, a last block ends with the source and overlaps the block before it. If all bytes are
+/// valid, the number of tests is the length divided by the block, rounded up. Otherwise the last
+/// test is the first one whose block contains the first invalid byte.
 ///
-/// Requires the block to be at least 1 and at most the length; the count of tests plus the length
-/// must fit `usize`.
+/// Requires the block to be at least 1 and at most the length of the source. The number of tests
+/// plus the length must fit `usize`.
 ///
 /// ```rust
 /// let [scalar, ..] = backends();

@@ -1,4 +1,4 @@
-//! A probe over a slice, and the search for its first invalid byte under a plan.
+//! A probe over a slice, and the search for the first invalid byte of a slice by a plan.
 
 ghost use Rattle.std.specs.Prelude.{◌≡◌, ◌≢◌, None, Some};
 ghost use Rattle.hex_core.specs.Probe.{fresh_probe};
@@ -11,7 +11,7 @@ use crate::digit::CheckCase;
 use crate::error::Error;
 use crate::search::{Probe, SEARCH_BLOCK, locate};
 
-/// A probe over a slice, whose tests are a plan's checks.
+/// A probe whose source is a slice. Its test of a range is the [`Backend::check`] of a plan.
 ///
 /// Its block is 64 bytes.
 ///
@@ -30,7 +30,8 @@ pub struct SliceProbe<'a> {
 }
 
 impl<'a> SliceProbe<'a> {
-    /// Returns a probe over `src` under `case`, with both counts 0.
+    /// Returns a probe with the source `src` and the policy `case`, which tests by `backend`. Its
+    /// numbers of looks and of tests are 0.
     ///
     /// ```rust
     /// let [scalar, ..] = backends();
@@ -88,11 +89,12 @@ impl<'a> Probe for SliceProbe<'a> {
 }
 
 impl Backend {
-    /// Returns the index of the first byte of `src` that is invalid under `case`, in bytes, or
-    /// `None` if all are valid, whatever the length.
+    /// Returns the index of the first byte of `src` that is invalid under `case`, or `None` if all
+    /// bytes are valid. Any length is accepted, odd or even.
     ///
-    /// It checks all of `src` before it searches by [`locate`]. So under [`Backend::plain`] valid
-    /// digits, which may be secret, are looked up in no table.
+    /// It first checks all of `src`. Only if the check fails, it searches by [`locate`], which
+    /// looks bytes up in a table. So if all bytes are valid, [`Backend::plain`] uses none of them
+    /// as an index of a table. This matters if they are secret.
     ///
     /// ```rust
     /// let plain = Backend::plain();
@@ -109,10 +111,11 @@ impl Backend {
         locate(&mut SliceProbe::new(self, src, case))
     }
 
-    /// Returns the first byte of `src` that is invalid under `case`, as an [`Error::InvalidChar`]
-    /// with its index in bytes.
+    /// Returns an [`Error::InvalidChar`] with the first byte of `src` that is invalid under `case`,
+    /// and with its index.
     ///
-    /// Requires one to exist, as after a check or a decoding that returned false.
+    /// Requires that `src` has an invalid byte. A caller knows this after a check or a decoding
+    /// that returned false.
     ///
     /// ```rust
     /// let error = Backend::plain().first_error(b"00fg", CheckCase::None);
@@ -131,7 +134,8 @@ impl Backend {
         Error::InvalidChar { index, byte }
     }
 
-    // The index and the byte, which fit registers, as an error would not.
+    // Returns the index of the first invalid byte, and the byte. Unlike an `Error`, this pair is
+    // returned in registers.
     #[cold]
     #[inline(never)]
     pub(crate) fn first_invalid_byte(self, src: &[u8], case: CheckCase) -> (usize, u8)

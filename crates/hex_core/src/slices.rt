@@ -1,5 +1,5 @@
-//! The slice calls under a plan, for any length: they write to the start of a destination, and can
-//! return the written part.
+//! Decoding and encoding of slices of any length, by a plan. Each function writes to the start of a
+//! destination. `decode_slice` and `encode_slice` also return the written part of it.
 
 ghost use Rattle.std.specs.Prelude.{◌≡◌, ◌≢◌, ◌*◌, ◌<◌, ◌≤◌, ℕ, None, Some, length, MatchOption, MatchResult};
 ghost use Rattle.std.specs.Borrow.{sem};
@@ -15,10 +15,12 @@ use crate::backend::Backend;
 use crate::digit::CheckCase;
 use crate::error::Error;
 
-// The most digits that `decode_into` decodes inline: as many as the plan `plain` decodes without a call.
+// `decode_into` decodes at most this many digits inline. The plan `plain` has the same limit, and
+// decodes longer sources by a function call.
 const MOST_INLINE: usize = 192;
 
-// The number of bytes that `src` decodes to, or its length's error for `room` bytes.
+// Returns the number of bytes that `src` decodes to. Returns an error if the length of `src` is
+// odd, or if that number exceeds `room`.
 #[inline(always)]
 fn decoded_len(src: &[u8], room: usize) -> Result<usize, Error>
     ensures { MatchResult result
@@ -35,12 +37,13 @@ fn decoded_len(src: &[u8], room: usize) -> Result<usize, Error>
     Ok(required)
 }
 
-// The number of digits of `src`, or the error of encoding it into `room` bytes.
+// Returns the number of digits that encode `src`. Returns an error if that number exceeds `usize`
+// or `room`.
 #[inline(always)]
 fn encoded_len(src: &[u8], room: usize) -> Result<usize, Error>
     ensures { Answers (encode_refusal src.now room) (λ n. n ≡ 2 * length src.now) result }
 {
-    // Multiplies only what is known to fit `usize`.
+    // If this test passes, the product fits `usize`, so it needs no checked multiplication.
     if src.len() <= room / 2 {
         return Ok(2 * src.len());
     }
@@ -51,17 +54,17 @@ fn encoded_len(src: &[u8], room: usize) -> Result<usize, Error>
 }
 
 impl Backend {
-    /// Decodes all of `src` into the start of `dst` and returns the number of bytes written,
-    /// `src.len() / 2`. The bytes after them are unchanged.
+    /// Decodes all of `src` into the start of `dst`. Returns the number of bytes written, which is
+    /// `src.len() / 2`. The bytes of `dst` after them are unchanged.
     ///
     /// # Errors
     ///
-    /// In this order; each leaves all of `dst` unchanged:
+    /// The conditions are tested in this order. Each error leaves all of `dst` unchanged.
     ///
-    /// 1. [`Error::OddLength`] if `src` has an odd number of bytes;
-    /// 2. [`Error::OutputTooSmall`] if `dst` has fewer than `src.len() / 2` bytes;
-    /// 3. [`Error::InvalidChar`] with the first byte of `src` that `case` does not accept, and its
-    ///    index in bytes.
+    /// 1. [`Error::OddLength`] if `src` has an odd number of bytes.
+    /// 2. [`Error::OutputTooSmall`] if `dst` has fewer than `src.len() / 2` bytes.
+    /// 3. [`Error::InvalidChar`] if `case` does not accept a byte of `src`. The error has the first
+    ///    such byte and its index.
     ///
     /// ```rust
     /// let mut buffer = [0xa5; 3];
@@ -83,8 +86,9 @@ impl Backend {
         }
     }
 
-    // Decodes more digits than `MOST_INLINE`, or finds the first invalid byte of any source. Apart,
-    // so that `decode_into` saves one register for it, and not five.
+    // Decodes a source of more than `MOST_INLINE` digits, or finds the first invalid byte of a
+    // source of any length. It is a function of its own, because `decode_into` then saves one
+    // register for the call, and not five.
     #[inline(never)]
     fn decode_or_find(self, src: &[u8], dst: &mut [u8], case: CheckCase) -> Option<(usize, u8)>
         requires twice { length src.now ≡ 2 * length dst.old }
@@ -100,14 +104,15 @@ impl Backend {
         Some(self.first_invalid_byte(src, case))
     }
 
-    /// Encodes all of `src` into the start of `dst`, in uppercase if `upper` is true, and returns
-    /// the number of bytes written, `2 * src.len()`. The bytes after them are unchanged.
+    /// Encodes all of `src` into the start of `dst`, in uppercase if `upper` is true. Returns the
+    /// number of bytes written, which is `2 * src.len()`. The bytes of `dst` after them are
+    /// unchanged.
     ///
     /// # Errors
     ///
-    /// In this order; each leaves all of `dst` unchanged:
+    /// The conditions are tested in this order. Each error leaves all of `dst` unchanged.
     ///
-    /// 1. [`Error::Overflow`] if `2 * src.len()` exceeds `usize`;
+    /// 1. [`Error::Overflow`] if `2 * src.len()` exceeds `usize`.
     /// 2. [`Error::OutputTooSmall`] if `dst` has fewer than `2 * src.len()` bytes.
     ///
     /// ```rust
@@ -125,12 +130,14 @@ impl Backend {
         Ok(written)
     }
 
-    /// Decodes all of `src` into the start of `dst` and returns the written part of `dst`,
-    /// `src.len() / 2` bytes, which borrows only `dst`. The bytes after it are unchanged.
+    /// Decodes all of `src` into the start of `dst`. Returns the written part of `dst`, which has
+    /// `src.len() / 2` bytes. The result borrows only `dst`, and the bytes of `dst` after it are
+    /// unchanged.
     ///
     /// # Errors
     ///
-    /// Those of [`Backend::decode_into`], in its order; each leaves all of `dst` unchanged.
+    /// The errors are those of [`Backend::decode_into`], in the same order. Each leaves all of
+    /// `dst` unchanged.
     ///
     /// ```rust
     /// let [_, _, avx2, ..] = backends();
@@ -155,13 +162,14 @@ impl Backend {
         }
     }
 
-    /// Encodes all of `src` into the start of `dst`, in uppercase if `upper` is true, and returns
-    /// the written part of `dst`, `2 * src.len()` bytes, which borrows only `dst`. The bytes after
-    /// it are unchanged.
+    /// Encodes all of `src` into the start of `dst`, in uppercase if `upper` is true. Returns the
+    /// written part of `dst`, which has `2 * src.len()` bytes. The result borrows only `dst`, and
+    /// the bytes of `dst` after it are unchanged.
     ///
     /// # Errors
     ///
-    /// Those of [`Backend::encode_into`], in its order; each leaves all of `dst` unchanged.
+    /// The errors are those of [`Backend::encode_into`], in the same order. Each leaves all of
+    /// `dst` unchanged.
     ///
     /// ```rust
     /// let [_, _, avx2, ..] = backends();

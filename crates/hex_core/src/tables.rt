@@ -1,4 +1,4 @@
-//! Tables: the value of each byte under a policy, and the two digits of each byte.
+//! Tables with the value of each byte under a policy, and with the two digits of each byte.
 
 ghost use Rattle.std.specs.Prelude.{◌≡◌, is_some};
 ghost use Rattle.hex_core.specs.Digit.{value};
@@ -82,7 +82,8 @@ static DIGITS_UPPER: [u8; 512] = *b"\
     E0E1E2E3E4E5E6E7E8E9EAEBECEDEEEFF0F1F2F3F4F5F6F7F8F9FAFBFCFDFEFF\
 ";
 
-/// Returns the table of all values under `case`, with [`NIL`] for invalid bytes.
+/// Returns the table of values under `case`. It is indexed by the byte, and has [`NIL`] for each
+/// invalid byte.
 #[inline(always)]
 pub fn values_of(case: CheckCase) -> &'static [u8; 256]
     ensures { result.now ≡ value_table case }
@@ -94,7 +95,7 @@ pub fn values_of(case: CheckCase) -> &'static [u8; 256]
     }
 }
 
-/// Returns whether `byte` is valid under `case`, by one look-up.
+/// Returns whether `byte` is valid under `case`. It looks the byte up once.
 #[tactic(auto, using(crate::proofs::TableLemmas::entry_tells))]
 #[inline(always)]
 pub fn has_value(byte: u8, case: CheckCase) -> bool
@@ -103,7 +104,8 @@ pub fn has_value(byte: u8, case: CheckCase) -> bool
     values_of(case)[byte as usize] != NIL
 }
 
-/// Returns the table of every byte's two digits, the high one first, byte after byte.
+/// Returns the table of digits, in uppercase if `upper` is true. The digits of byte `b` are at the
+/// indices `2 * b` and `2 * b + 1`, with the high one first.
 pub fn digit_pairs_of(upper: bool) -> &'static [u8; 512]
     ensures { result.now ≡ digits_table upper }
 {

@@ -1,4 +1,5 @@
-//! Operations on vectors: each function does one on all lanes, whatever their number.
+//! Operations on vectors. Each function does the same in all lanes, and most of them take any
+//! number of lanes.
 
 ghost use Rattle.std.specs.Prelude.{◌≡◌, ◌↔◌, ◌-◌, ◌/◌, ◌^◌, ◌≤◌, ◌<◌, ◌==◌, ◌*◌, ◌%◌, ◌++◌, IsTrue, max, min, map, bit_and, bit_or, bit_xor};
 ghost use Rattle.std.specs.Simd.Lanes.{Each1, mask_l, zip2};
@@ -9,7 +10,7 @@ ghost use Rattle.hex_core.specs.Lanes.{AreSmall};
 use crate::digit::CheckCase;
 use std::simd::prelude::*;
 
-/// Subtracts `by`, modulo 256.
+/// Subtracts `by` from each lane, modulo 256.
 #[tactic(auto, using(std::proofs::lemmas::Simd::zip2_splat))]
 #[inline(always)]
 pub fn wrapping_sub<const N: usize>(v: Simd<u8, N>, by: u8) -> Simd<u8, N>
@@ -18,7 +19,7 @@ pub fn wrapping_sub<const N: usize>(v: Simd<u8, N>, by: u8) -> Simd<u8, N>
     v - Simd::splat(by)
 }
 
-/// Subtracts `by`, down to 0.
+/// Subtracts `by` from each lane, but not below 0.
 #[inline(always)]
 pub fn saturating_sub<const N: usize>(v: Simd<u8, N>, by: u8) -> Simd<u8, N>
     ensures { result ≡ map (λ x. x - by) v.entry }
@@ -26,8 +27,8 @@ pub fn saturating_sub<const N: usize>(v: Simd<u8, N>, by: u8) -> Simd<u8, N>
     v.saturating_sub(Simd::splat(by))
 }
 
-/// Adds `by`, up to 255. The compiler makes one instruction of this form, and three of a vector's
-/// own saturating sum.
+/// Adds `by` to each lane, but not above 255. The compiler makes one instruction of this form, but
+/// three of the saturating sum that a vector has.
 #[inline(always)]
 pub fn saturating_add<const N: usize>(v: Simd<u8, N>, by: u8) -> Simd<u8, N>
     ensures { result ≡ map (λ x. saturating_add x by) v.entry }
@@ -35,7 +36,7 @@ pub fn saturating_add<const N: usize>(v: Simd<u8, N>, by: u8) -> Simd<u8, N>
     v.simd_min(Simd::splat(255 - by)) + Simd::splat(by)
 }
 
-/// Sets these bits.
+/// Sets these bits in each lane.
 #[tactic(auto, using(std::proofs::lemmas::Simd::zip2_splat))]
 #[inline(always)]
 pub fn or_splat<const N: usize>(v: Simd<u8, N>, bits: u8) -> Simd<u8, N>
@@ -44,7 +45,7 @@ pub fn or_splat<const N: usize>(v: Simd<u8, N>, bits: u8) -> Simd<u8, N>
     v | Simd::splat(bits)
 }
 
-/// Clears the other bits.
+/// Clears all bits of each lane except those of `mask`.
 #[tactic(auto, using(std::proofs::lemmas::Simd::zip2_splat))]
 #[inline(always)]
 pub fn and_splat<const N: usize>(v: Simd<u8, N>, mask: u8) -> Simd<u8, N>
@@ -53,7 +54,7 @@ pub fn and_splat<const N: usize>(v: Simd<u8, N>, mask: u8) -> Simd<u8, N>
     v & Simd::splat(mask)
 }
 
-/// The high four bits of each lane, as a number.
+/// Returns the high four bits of each lane, as a number below 16.
 #[tactic(auto, using(std::proofs::lemmas::Simd::zip2_splat))]
 #[inline(always)]
 pub fn high_bits<const N: usize>(v: Simd<u8, N>) -> Simd<u8, N>
@@ -62,7 +63,7 @@ pub fn high_bits<const N: usize>(v: Simd<u8, N>) -> Simd<u8, N>
     v >> Simd::splat(4)
 }
 
-/// The smaller lane of each pair.
+/// Returns the smaller of the two lanes at each index.
 #[inline(always)]
 pub fn min<const N: usize>(a: Simd<u8, N>, b: Simd<u8, N>) -> Simd<u8, N>
     ensures { result ≡ zip2 min a.entry b.entry }
@@ -70,7 +71,8 @@ pub fn min<const N: usize>(a: Simd<u8, N>, b: Simd<u8, N>) -> Simd<u8, N>
     a.simd_min(b)
 }
 
-/// The larger lane of each pair, so that one test covers two vectors.
+/// Returns the larger of the two lanes at each index. All of them are below 6 exactly if those of
+/// both vectors are, so one test covers two vectors.
 #[inline(always)]
 pub fn max<const N: usize>(a: Simd<u8, N>, b: Simd<u8, N>) -> Simd<u8, N>
     ensures lanes { result ≡ zip2 max a.entry b.entry }
@@ -79,7 +81,8 @@ pub fn max<const N: usize>(a: Simd<u8, N>, b: Simd<u8, N>) -> Simd<u8, N>
     a.simd_max(b)
 }
 
-/// The bits of both, so that one test covers two vectors.
+/// Returns the bits that either of the two lanes at each index has. All results are below 16
+/// exactly if the lanes of both vectors are, so one test covers two vectors.
 #[inline(always)]
 pub fn or<const N: usize>(a: Simd<u8, N>, b: Simd<u8, N>) -> Simd<u8, N>
     ensures lanes { result ≡ zip2 bit_or a.entry b.entry }
@@ -88,7 +91,7 @@ pub fn or<const N: usize>(a: Simd<u8, N>, b: Simd<u8, N>) -> Simd<u8, N>
     a | b
 }
 
-/// A mask whose bit i is set if lane i is 0.
+/// Returns a mask whose bit i is set exactly if lane i is 0.
 #[inline(always)]
 pub fn zero_bits<const N: usize>(v: Simd<u8, N>) -> u64
     requires { N ≤ 64 }
@@ -97,7 +100,8 @@ pub fn zero_bits<const N: usize>(v: Simd<u8, N>) -> u64
     v.simd_eq(Simd::splat(0)).to_bitmask()
 }
 
-/// Whether every lane is 0. The compiler makes one test of this form, for any number of registers.
+/// Returns whether every lane is 0. The compiler makes one test of this form, even if the vector
+/// takes several registers.
 #[inline(always)]
 pub fn is_zero<const N: usize>(v: Simd<u8, N>) -> bool
     ensures { IsTrue result ↔ AreZero v.entry }
@@ -105,7 +109,8 @@ pub fn is_zero<const N: usize>(v: Simd<u8, N>) -> bool
     v.reduce_or() == 0
 }
 
-/// Whether every lane is below 128, by its sign bit. One instruction reads the signs of a register.
+/// Returns whether every lane is below 128, which means that no lane has its sign bit. One
+/// instruction reads the sign bits of a register.
 #[inline(always)]
 pub fn has_no_sign<const N: usize>(v: Simd<u8, N>) -> bool
     requires { N ≤ 64 }
@@ -114,7 +119,7 @@ pub fn has_no_sign<const N: usize>(v: Simd<u8, N>) -> bool
     v.simd_ge(Simd::splat(0x80)).to_bitmask() == 0
 }
 
-/// Whether every lane is below 6.
+/// Returns whether every lane is below 6.
 #[inline(always)]
 pub fn is_low<const N: usize>(v: Simd<u8, N>) -> bool
     ensures { IsTrue result ↔ AreLow v.entry }
@@ -122,7 +127,7 @@ pub fn is_low<const N: usize>(v: Simd<u8, N>) -> bool
     is_zero(saturating_sub(v, 5))
 }
 
-/// Whether every lane is below 16.
+/// Returns whether every lane is below 16.
 #[inline(always)]
 pub fn is_small<const N: usize>(v: Simd<u8, N>) -> bool
     ensures { IsTrue result ↔ AreSmall v.entry }
@@ -130,11 +135,14 @@ pub fn is_small<const N: usize>(v: Simd<u8, N>) -> bool
     is_zero(and_splat(v, 0xf0))
 }
 
-// Multiplying by it puts the byte of two nibbles into the high half of their word.
+// If a word has two nibbles as its bytes, its product with this number has the byte of both as its
+// high half.
 const FACTOR: u16 = 4097;
 
-// The same number for each policy, and another one behind them: the compiler multiplies by what it
-// reads here, but by a number that it knows it shifts and adds, which takes longer in long decoding.
+// Each policy has the same factor. It is read from a table so that the compiler multiplies by it.
+// If the compiler knew the number, it would shift and add instead, which takes longer in the
+// decoding of long sources. The last entry, which no policy has, keeps the compiler from knowing
+// that all entries are the same.
 static FACTORS: [u16; 4] = [FACTOR, FACTOR, FACTOR, 0];
 
 #[inline(always)]
@@ -144,7 +152,7 @@ fn factor(case: CheckCase) -> u16
     FACTORS[case as u8 as usize]
 }
 
-/// The byte of each word of two nibbles, whose low byte is the high nibble.
+/// Returns the byte of each word of two nibbles. The low byte of the word is the high nibble.
 #[inline(always)]
 pub fn pair_bytes<const N: usize>(v: Simd<u16, N>) -> Simd<u8, N>
     ensures { result ≡ map pair_byte v.entry }
@@ -152,7 +160,8 @@ pub fn pair_bytes<const N: usize>(v: Simd<u16, N>) -> Simd<u8, N>
     ((v * Simd::splat(FACTOR)) >> Simd::splat(8)).cast::<u8>()
 }
 
-/// Each word of two nibbles times 4097, modulo 65536: its high byte is the byte of both.
+/// Multiplies each word of two nibbles by 4097, modulo 65536. The high byte of the product is the
+/// byte of both nibbles.
 #[tactic(auto, using(std::proofs::lemmas::Simd::zip2_splat))]
 #[inline(always)]
 pub fn products<const N: usize>(v: Simd<u16, N>, case: CheckCase) -> Simd<u16, N>
@@ -161,8 +170,9 @@ pub fn products<const N: usize>(v: Simd<u16, N>, case: CheckCase) -> Simd<u16, N
     v * Simd::splat(factor(case))
 }
 
-/// The bytes of two vectors of nibbles, one behind the other. Taken from both products at once they
-/// cost AVX-512 three moves of lanes, and four from one after the other.
+/// Returns the bytes of the nibbles of `front`, and then those of `back`. One shuffle takes the
+/// bytes from both products, which costs AVX-512 three moves of lanes. Packing one vector after the
+/// other would cost four.
 #[inline(always)]
 pub fn pack_both(front: u8x64, back: u8x64, case: CheckCase) -> u8x64
     requires front { AreSmall front }
@@ -182,8 +192,10 @@ pub fn pack_both(front: u8x64, back: u8x64, case: CheckCase) -> u8x64
     )
 }
 
-/// Both nibbles of each lane, the high one first. AVX2 interleaves within both halves of a vector:
-/// with the middle quarters swapped before, each half has the lanes that go to one vector.
+/// Returns both nibbles of each lane, the high one first. AVX2 interleaves only within the halves
+/// of a vector. So the middle quarters are swapped first. The low quarters of both halves then have
+/// the lanes that go to the first half of the result, and the high quarters have those that go to
+/// the second half.
 #[inline(always)]
 pub fn both_nibbles(v: u8x32) -> u8x64
     ensures { result ≡ interleaved (map (λ x. x / 16) v) (map (λ x. bit_and x 15) v) }
@@ -202,7 +214,8 @@ pub fn both_nibbles(v: u8x32) -> u8x64
     )
 }
 
-/// Flips the sign bit of each lane, so that signed bytes sort like unsigned ones.
+/// Flips the sign bit of each lane. Signed bytes become unsigned bytes in the same order, and the
+/// other way round.
 #[tactic(auto, using(std::proofs::lemmas::Simd::zip2_splat))]
 #[inline(always)]
 pub fn sign_flipped<const N: usize>(v: Simd<u8, N>) -> Simd<u8, N>
@@ -211,7 +224,7 @@ pub fn sign_flipped<const N: usize>(v: Simd<u8, N>) -> Simd<u8, N>
     v ^ Simd::splat(0x80)
 }
 
-/// Subtracts lane by lane, down to 0.
+/// Subtracts each lane of `b` from that of `a`, but not below 0.
 #[tactic(auto, using(crate::proofs::LaneLemmas::differences))]
 #[inline(always)]
 pub fn saturating_differences<const N: usize>(a: Simd<u8, N>, b: Simd<u8, N>) -> Simd<u8, N>
@@ -220,7 +233,7 @@ pub fn saturating_differences<const N: usize>(a: Simd<u8, N>, b: Simd<u8, N>) ->
     a.saturating_sub(b)
 }
 
-/// Subtracts lane by lane, modulo 256.
+/// Subtracts each lane of `b` from that of `a`, modulo 256.
 #[inline(always)]
 pub fn wrapping_differences<const N: usize>(a: Simd<u8, N>, b: Simd<u8, N>) -> Simd<u8, N>
     ensures { result ≡ zip2 wrapping_sub a.entry b.entry }
@@ -228,7 +241,7 @@ pub fn wrapping_differences<const N: usize>(a: Simd<u8, N>, b: Simd<u8, N>) -> S
     a - b
 }
 
-/// Averages lane by lane, rounding up.
+/// Returns the average of the two lanes at each index, rounded up.
 #[inline(always)]
 pub fn rounding_averages<const N: usize>(a: Simd<u8, N>, b: Simd<u8, N>) -> Simd<u8, N>
     ensures { result ≡ zip2 average a.entry b.entry }

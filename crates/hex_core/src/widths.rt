@@ -1,6 +1,6 @@
-//! Operations on vectors that cannot be generic in the number of lanes: the positions of a shuffle
-//! are literals, and a vector of words is made of bytes by a function of its own width. Each trait
-//! here is implemented for the widths that are used.
+//! Operations on vectors that cannot be generic in the number of lanes. The reason is that the
+//! indices of a shuffle are literals, and that each width has its own function to make a vector of
+//! words from bytes. Each trait here is implemented for the widths that are used.
 
 ghost use Rattle.std.specs.Prelude.{◌≡◌, ◌≤◌, ◌+◌, ◌*◌, EachIndex, length, map, slice_index};
 ghost use Rattle.std.specs.Simd.Lanes.{put_chunk};
@@ -13,10 +13,10 @@ use crate::digit::CheckCase;
 use crate::vector::{and_splat, eighths, pack_both, pair_bytes};
 use std::simd::prelude::*;
 
-/// Vector widths.
+/// The type that implements the traits of this module.
 pub struct Lanes;
 
-/// Makes one byte of each pair of nibbles, the first as its high half.
+/// Makes one byte of each pair of nibbles. The first nibble is the high half of the byte.
 pub trait Pack<const N: usize, const HALF: usize> {
     fn pack(v: Simd<u8, N>) -> Simd<u8, HALF>
         requires { AreSmall v }
@@ -73,7 +73,8 @@ impl Pack<64, 32> for Lanes {
     }
 }
 
-/// Writes the bytes of two vectors of nibbles, one behind the other, from index `at` on.
+/// Packs the nibbles of `front` and then those of `back`, and writes the bytes to `dst` from index
+/// `at` on.
 pub trait PackTwo<const N: usize, const HALF: usize> {
     fn pack_two(front: Simd<u8, N>, back: Simd<u8, N>, dst: &mut [u8], at: usize, case: CheckCase)
         requires front { AreSmall front }
@@ -108,7 +109,8 @@ impl PackTwo<64, 32> for Lanes {
     }
 }
 
-/// Interleaves two vectors, lane by lane.
+/// Interleaves two vectors. The result has the first lane of each, then the second lane of each,
+/// and so on.
 pub trait Unpack<const N: usize, const TWICE: usize> {
     fn unpack(first: Simd<u8, N>, second: Simd<u8, N>) -> Simd<u8, TWICE>
         ensures { result ≡ interleaved first.entry second.entry };
@@ -184,7 +186,8 @@ impl Unpack<32, 64> for Lanes {
     }
 }
 
-/// Looks up each lane in a row of sixteen. Fewer lanes are repeated to fill a vector of sixteen.
+/// Replaces each lane by the entry of `row` at its low four bits, or by 0 if the lane is 128 or
+/// more. A vector of fewer than 16 lanes is repeated until it has 16.
 pub trait Shuffle<const N: usize> {
     fn shuffle(row: u8x16, at: Simd<u8, N>) -> Simd<u8, N>
         ensures { result ≡ map (entry row) at.entry };
@@ -256,8 +259,8 @@ impl Shuffle<64> for Lanes {
     }
 }
 
-/// Shifts each four lanes right as one word, by three bits: the low bits of a neighbour come in
-/// above a lane's own.
+/// Shifts every four lanes right by three bits, as one word. The low three bits of the next lane of
+/// the word come in at the top of a lane.
 pub trait Shift<const N: usize> {
     fn shift(v: Simd<u8, N>) -> Simd<u8, N>
         ensures { EachIndex v.entry (λ i. slice_index result i ≡ shifted v.entry i) };

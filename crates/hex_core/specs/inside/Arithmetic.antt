@@ -1,4 +1,4 @@
--- The arithmetic of the lanes, on one byte, one pair or one list.
+-- The arithmetic of vectors, on one byte, on a pair of bytes or on a list.
 use Rattle.std.specs.Prelude.{◌≡◌, ℕ, ◌+◌, ◌-◌, ◌*◌, ◌/◌, ◌%◌, ◌<◌, min, bit_and, bit_or, List, [], ◌∷◌, EachIndex, slice_index}
 use Rattle.hex_core.specs.declared.digit.CheckCase.{CheckCase}
 use Rattle.hex_core.specs.declared.digit.CheckCase.TheVariants as policy
@@ -11,54 +11,55 @@ AreZero lanes = EachIndex lanes (λ i. slice_index lanes i ≡ 0)
 abbrev pub AreLow : List ℕ → Type 0
 AreLow lanes = EachIndex lanes (λ i. slice_index lanes i < 6)
 
--- no lane has its sign bit
+-- each lane is below 128, so no lane has its sign bit
 abbrev pub AreUnsigned : List ℕ → Type 0
 AreUnsigned lanes = EachIndex lanes (λ i. slice_index lanes i < 128)
 
--- a difference of bytes, modulo 256
+-- the difference of two bytes, modulo 256
 abbrev pub wrapping_sub : ℕ → ℕ → ℕ
 wrapping_sub a b = (a + (256 - b)) % 256
 
--- a sum of bytes that stays at 255
+-- the sum of two bytes, but at most 255
 abbrev pub saturating_add : ℕ → ℕ → ℕ
 saturating_add a b = min (a + b) 255
 
--- the bit that makes a letter lowercase, if both cases are accepted
+-- the bit that makes a letter lowercase if the policy accepts both cases, otherwise 0
 abbrev pub fold_of : CheckCase → ℕ
 fold_of policy.None = 0x20
 fold_of policy.Lower = 0
 fold_of policy.Upper = 0
 
--- the first letter that is accepted, once folded
+-- the first letter that the policy accepts, after the letters were made lowercase if it accepts both cases
 abbrev pub first_letter : CheckCase → ℕ
 first_letter policy.None = 97
 first_letter policy.Lower = 97
 first_letter policy.Upper = 65
 
--- how far a byte is past the first letter that is accepted, once folded
+-- how far a byte is past the first letter that the policy accepts, modulo 256
 abbrev pub letter : CheckCase → ℕ → ℕ
 letter c b = wrapping_sub (bit_or b (fold_of c)) (first_letter c)
 
--- how far a byte is past the digit 4, or past the first of six letters: below 6 exactly if it has a value
+-- how far a byte is past the digit 4 or past the first letter, whichever is less; it is below 6 exactly if
+-- the byte has a value
 abbrev pub reach : CheckCase → ℕ → ℕ
 reach c b = min (wrapping_sub b 48 - 4) (letter c b)
 
--- the value of a byte that has one, which is the same under every policy that accepts it
+-- the value of a byte that has one. It is the same under each policy that accepts the byte
 abbrev pub valid_nibble : ℕ → ℕ
 valid_nibble b = min (bit_and b 0x4f) (wrapping_sub (bit_and b 0x4f) 55)
 
--- the byte of a word of two nibbles: 4097 is 2 ^ 12 + 1, so bits 8 to 15 become 16 times the first nibble
--- plus the second
+-- the byte of a word of two nibbles. 4097 is 2 ^ 12 + 1, so bits 8 to 15 of the product are 16 times the low
+-- byte plus the high byte of the word
 abbrev pub pair_byte : ℕ → ℕ
 pair_byte w = w * 4097 % 65536 / 256
 
--- the bytes of nibbles, pair by pair, the high one first
+-- the bytes of a list of nibbles, one for each pair, whose first nibble is the high half
 abbrev pub packed : List ℕ → List ℕ
 packed [] = []
 packed (a ∷ []) = []
 packed (a ∷ b ∷ rest) = (16 * a + b) ∷ packed rest
 
--- two lists taken in turn
+-- two lists taken in turn, beginning with the first
 abbrev pub interleaved : List ℕ → List ℕ → List ℕ
 interleaved [] ys = []
 interleaved (x ∷ xs) [] = []
