@@ -1,5 +1,6 @@
-//! The functions that C and Rust link: thin wrappers with the library's guarantees. `faster_hex.h`
-//! declares them and says what the caller must ensure: nothing here can check a pointer.
+//! The functions that C and Rust link. They are thin wrappers around the functions of the library,
+//! and they have the same guarantees. `faster_hex.h` declares them and says what a caller must
+//! ensure about pointers, because nothing here can check a pointer.
 #![tactic(auto)]
 
 mod for_rust;
@@ -16,7 +17,7 @@ use hex_codec::grouped::{read_by, write_by};
 use hex_codec::{Group, GroupFault};
 use hex_core::{Backend, CheckCase, Error, backends};
 
-// The statuses, by their names in `faster_hex.h`.
+// The status codes, with the names that they have in `faster_hex.h`.
 const DONE: u8 = 0;
 
 const ODD_LENGTH: u8 = 1;
@@ -33,33 +34,34 @@ const NOT_A_GROUP: u8 = 6;
 
 const BAD_LENGTH: u8 = 7;
 
-/// Bytes to read. C passes a pointer and a length. A slice as a parameter would be passed alike,
-/// but each call would first replace a null pointer. Null has length 0, so it is never read.
+/// The bytes to read. C passes a pointer and a length. They are in a struct because a slice as a
+/// parameter, which C would pass in the same way, would make each function replace a null pointer
+/// first. A null pointer has length 0, so it is never read.
 #[repr(C)]
 #[derive(Clone, Copy)]
 pub struct Source<'a>(pub &'a [u8]);
 
-/// Bytes to write to, passed likewise.
+/// The bytes to write to. C passes a pointer and a length, as for [`Source`].
 #[repr(C)]
 #[derive(Drop)]
 pub struct Destination<'a>(pub &'a mut [u8]);
 
-/// The result of a call.
+/// The result of a function that is called from C or Rust.
 #[repr(C)]
 #[derive(Clone, Copy, Debug, PartialEq, Eq)]
 pub struct Answer {
-    /// With status 0 the number of bytes written, with status 2 the number of bytes needed, with
-    /// status 3 the index of the first invalid byte, else 0.
+    /// The number of bytes written if the status is 0, the number of bytes needed if it is 2, the
+    /// index of the first invalid byte if it is 3, and otherwise 0.
     pub number: usize,
-    /// 0 for success, 1 for an odd length, 2 for too little room, 3 for an invalid byte, 4 for a
-    /// length that exceeds `usize`, 5 for an unknown policy, 6 for numbers that make no group, and
-    /// 7 for a length that no grouped text has.
+    /// 0 means success, 1 an odd length, 2 too little room, 3 an invalid byte, 4 a length that
+    /// exceeds `usize`, 5 an unknown policy, 6 numbers that make no group, and 7 a length that no
+    /// grouped text has.
     pub status: u8,
-    /// With status 3 the first invalid byte, else 0.
+    /// The first invalid byte if the status is 3, and otherwise 0.
     pub byte: u8,
 }
 
-// The policy with this number.
+// Returns the policy that this number names, if there is one.
 fn policy(number: u8) -> Option<CheckCase>
     ensures { result ≡ policy_of number }
 {
@@ -78,7 +80,7 @@ const NO_POLICY: Answer = Answer {
     byte: 0,
 };
 
-// The answer for a result.
+// Returns the answer for a result.
 fn answer_of(outcome: Result<usize, Error>) -> Answer
     ensures { result ≡ answer_of outcome }
 {
@@ -87,7 +89,7 @@ fn answer_of(outcome: Result<usize, Error>) -> Answer
         Err(Error::OddLength) => (0, ODD_LENGTH, 0),
         Err(Error::OutputTooSmall { required }) => (required, OUTPUT_TOO_SMALL, 0),
         Err(Error::InvalidChar { index, byte }) => (index, INVALID_CHAR, byte),
-        // The only other error of these calls is `Overflow`.
+        // The only other error of the functions called here is `Overflow`.
         Err(_) => (0, OVERFLOW, 0),
     };
     Answer {
@@ -104,7 +106,7 @@ const NO_GROUP: Answer = Answer {
     byte: 0,
 };
 
-// The answer for a result of decoding grouped text.
+// Returns the answer for a result of decoding grouped text.
 fn group_answer_of(outcome: Result<usize, GroupFault>) -> Answer
     ensures { result ≡ group_answer_of outcome }
 {
@@ -121,15 +123,15 @@ fn group_answer_of(outcome: Result<usize, GroupFault>) -> Answer
     }
 }
 
-// The build's number. `scripts/build.sh` writes each build's own in place of the call of this
-// function, which promises nothing: so all calls are proved for every number.
+// Returns the number of the build. `scripts/build.sh` replaces the call of this function by the
+// number of each build. The function has no contract, so its callers are proved for every number.
 #[inline(never)]
 fn level() -> u8 {
     2
 }
 
-// The plan of all calls. Few programs call the build without byte shuffles, so it takes the plan with
-// the least code.
+// Returns the plan that all functions use. Few programs run the build for processors without byte
+// shuffles. So that build takes `scalar`, the plan with the least code.
 #[inline(always)]
 fn plan() -> Backend {
     let [scalar, ..] = backends();
@@ -141,7 +143,7 @@ fn plan() -> Backend {
     }
 }
 
-/// Returns whether every byte is a digit, of either case.
+/// Returns whether every byte of `src` is a hex digit. Letters may have either case.
 #[unsafe(no_mangle)]
 pub extern "C" fn faster_hex_check(src: Source) -> bool
     ensures { IsTrue result ↔ (first_invalid policy.None src.entry.0.now ≡ None) }
@@ -149,7 +151,8 @@ pub extern "C" fn faster_hex_check(src: Source) -> bool
     plan().check(src.0, CheckCase::None)
 }
 
-/// The same under a policy: 0 accepts either case, 1 lowercase, 2 uppercase, any other nothing.
+/// Returns whether every byte of `src` is a hex digit that the policy accepts. The policy 0 accepts
+/// both cases, 1 accepts lowercase, 2 accepts uppercase, and any other number accepts no source.
 #[unsafe(no_mangle)]
 pub extern "C" fn faster_hex_check_with_case(src: Source, case: u8) -> bool
     ensures { ChecksBy case src.entry.0.now result }
@@ -160,7 +163,9 @@ pub extern "C" fn faster_hex_check_with_case(src: Source, case: u8) -> bool
     }
 }
 
-/// Finds the first invalid byte under a policy: 0 accepts either case, 1 lowercase, 2 uppercase.
+/// Finds the first byte of `src` that the policy does not accept. The policy 0 accepts both cases,
+/// 1 accepts lowercase, and 2 accepts uppercase. The status is 5 for any other policy, else 3 if a
+/// byte is invalid, else 0.
 #[unsafe(no_mangle)]
 pub extern "C" fn faster_hex_first_invalid(src: Source, case: u8) -> Answer
     ensures { FindsInvalid case src.entry.0.now result }
@@ -177,7 +182,8 @@ pub extern "C" fn faster_hex_first_invalid(src: Source, case: u8) -> Answer
     }
 }
 
-/// Writes the digits of `src` into the start of `dst`.
+/// Encodes `src` into the start of `dst`, in uppercase if `upper` is true. The errors are status 4
+/// and then 2, in the order in which they are tested. An error leaves all of `dst` unchanged.
 #[unsafe(no_mangle)]
 pub extern "C" fn faster_hex_encode(src: Source, dst: Destination, upper: bool) -> Answer
     ensures { EncodesTo upper src.entry.0.now dst.entry.0.now dst.exit.0.now result }
@@ -185,7 +191,8 @@ pub extern "C" fn faster_hex_encode(src: Source, dst: Destination, upper: bool) 
     answer_of(plan().encode_into(src.0, dst.0, upper))
 }
 
-/// Decodes digits of either case into the start of `dst`.
+/// Decodes `src` into the start of `dst`. Letters may have either case. The errors are status 1, 2
+/// and then 3, in the order in which they are tested. An error leaves all of `dst` unchanged.
 #[unsafe(no_mangle)]
 pub extern "C" fn faster_hex_decode(src: Source, dst: Destination) -> Answer
     ensures { DecodesTo policy.None src.entry.0.now dst.entry.0.now dst.exit.0.now result }
@@ -193,7 +200,10 @@ pub extern "C" fn faster_hex_decode(src: Source, dst: Destination) -> Answer
     answer_of(plan().decode_into(src.0, dst.0, CheckCase::None))
 }
 
-/// The same under a policy: 0 accepts either case, 1 lowercase, 2 uppercase.
+/// Decodes `src` into the start of `dst`, if the policy accepts its digits. The policy 0 accepts
+/// both cases, 1 accepts lowercase, and 2 accepts uppercase. Any other policy is an error with
+/// status 5, which is tested first. The other errors are those of [`faster_hex_decode`], in the
+/// same order. An error leaves all of `dst` unchanged.
 #[unsafe(no_mangle)]
 pub extern "C" fn faster_hex_decode_with_case(src: Source, dst: Destination, case: u8) -> Answer
     ensures { DecodesBy case src.entry.0.now dst.entry.0.now dst.exit.0.now result }
@@ -204,8 +214,10 @@ pub extern "C" fn faster_hex_decode_with_case(src: Source, dst: Destination, cas
     }
 }
 
-/// Writes the digits of `src` in groups of `every` bytes, with `sep` between two, into the start of
-/// `dst`.
+/// Encodes `src` into the start of `dst` in groups of `every` bytes, with `sep` between two groups.
+/// The letters are uppercase if `upper` is true. It is an error with status 6 if `every` is 0, or
+/// if `sep` is not ASCII or is a hex digit. This is tested first, then the errors with status 4 and
+/// 2. An error leaves all of `dst` unchanged.
 #[unsafe(no_mangle)]
 pub extern "C" fn faster_hex_encode_grouped(
     src: Source,
@@ -222,8 +234,9 @@ pub extern "C" fn faster_hex_encode_grouped(
     }
 }
 
-/// Decodes a text of such groups into the start of `dst`, under a policy: 0 accepts either case, 1
-/// lowercase, 2 uppercase.
+/// Decodes a text of such groups into the start of `dst`, if the policy accepts its digits. The
+/// policies are those of [`faster_hex_decode_with_case`]. The errors are status 5, 6, 7, 2 and then
+/// 3, in the order in which they are tested. An error leaves all of `dst` unchanged.
 #[unsafe(no_mangle)]
 pub extern "C" fn faster_hex_decode_grouped(
     src: Source,

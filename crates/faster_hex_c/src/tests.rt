@@ -1,4 +1,5 @@
-//! Each status once, and that a refusal leaves the destination unchanged.
+//! These tests cause each status once, and check that the destination is unchanged unless the
+//! status is 0.
 
 use crate::for_rust::{faster_hex_check_lower, faster_hex_check_upper};
 use crate::{
@@ -7,7 +8,7 @@ use crate::{
     faster_hex_encode_grouped, faster_hex_first_invalid,
 };
 
-// A number, a status and a byte.
+// The expected number, status and byte.
 type Wanted = (usize, u8, u8);
 
 fn is(told: Answer, wanted: Wanted) -> bool {
@@ -16,7 +17,8 @@ fn is(told: Answer, wanted: Wanted) -> bool {
 
 const OLD: [u8; 4] = [0xa5; 4];
 
-// Whether a call returns this, and a destination of this many bytes of 0xa5 ends so.
+// Returns whether decoding gives this answer, and leaves `ends` in a buffer of bytes 0xa5. The
+// destination is the first `room` bytes of the buffer.
 fn decodes(src: &[u8], room: usize, case: u8, wanted: Wanted, ends: &[u8; 4]) -> bool {
     let mut buffer = OLD;
     let told = faster_hex_decode_with_case(
@@ -27,7 +29,7 @@ fn decodes(src: &[u8], room: usize, case: u8, wanted: Wanted, ends: &[u8; 4]) ->
     is(told, wanted) && buffer == *ends
 }
 
-// The same for the call without a policy.
+// Does the same for the function without a policy.
 fn decodes_plainly(src: &[u8], wanted: Wanted, ends: &[u8; 4]) -> bool {
     let mut buffer = OLD;
     is(
@@ -50,7 +52,7 @@ fn statuses_of_decoding(rt: HostRuntime) {
     assert!(rt; holds);
 }
 
-// Whether a call returns this, and a destination of 0xa5 ends so.
+// Returns whether encoding gives this answer, and leaves `ends` in a buffer of bytes 0xa5.
 fn encodes(src: &[u8], upper: bool, wanted: Wanted, ends: &[u8; 4]) -> bool {
     let mut buffer = OLD;
     is(
@@ -84,14 +86,16 @@ fn statuses_of_encoding_and_of_a_search(rt: HostRuntime) {
     assert!(rt; holds);
 }
 
-// Whether a destination of 0xa5 ends so after bytes are written into it in groups.
+// Returns whether encoding in groups gives this answer, and leaves `ends` in a buffer of bytes
+// 0xa5.
 fn groups(src: &[u8], every: usize, sep: u8, wanted: Wanted, ends: &[u8; 6]) -> bool {
     let mut buffer = [0xa5; 6];
     let told = faster_hex_encode_grouped(Source(src), Destination(&mut buffer), true, every, sep);
     is(told, wanted) && buffer == *ends
 }
 
-// Whether decoding groups of one byte returns this, and a destination ends so.
+// Returns whether decoding groups of one byte gives this answer, and leaves `ends` in a buffer of
+// bytes 0xa5.
 fn reads(src: &[u8], room: usize, case: u8, sep: u8, wanted: Wanted, ends: &[u8; 4]) -> bool {
     let mut buffer = OLD;
     let told = faster_hex_decode_grouped(

@@ -1,4 +1,4 @@
--- What reading and writing a grouped text returns, and what it writes.
+-- What the functions that decode and encode grouped texts return, and what they write.
 use Rattle.std.specs.Prelude.{◌≡◌, ◌≤◌, ℕ, Bool, List, length, Result, Ok}
 use Rattle.std.specs.Borrow.{MutBor}
 use Rattle.hex_core.specs.declared.digit.CheckCase.{CheckCase}
@@ -11,20 +11,22 @@ use Rattle.hex_codec.specs.declared.grouped.GroupFault.{GroupFault}
 use Rattle.hex_codec.specs.GroupedWriting.{grouped, piece_len}
 use Rattle.hex_codec.specs.GroupedReading.{GroupSpells, group_refusal, grouped_len}
 
--- reading to the start of a destination: writes what the text spells
+-- decoding to the start of a destination: the bytes that the grouped text spells are written
 abbrev pub Reads : CheckCase → Group → List ℕ → List ℕ → List ℕ → Result ℕ GroupFault → Type 0
 Reads c group s old new result = Fills (group_refusal c group s (length old)) (GroupSpells c group s) old new result
 
--- if the text spells a list, reading it writes that list to a destination with room for it
+-- if the text spells a list that fits a destination, decoding writes that list to the start of the
+-- destination
 abbrev pub FrontIsRead : CheckCase → Group → List ℕ → List ℕ → List ℕ → Result ℕ GroupFault → Type 0
 FrontIsRead c group s old new result = (bytes : List ℕ) → GroupSpells c group s bytes → length bytes ≤ length old
     → (result ≡ Ok (length bytes)) × (new ≡ with_front old bytes)
 
--- reading that returns the written part of a destination with this much room: what the text spells
+-- decoding that returns the written part of a destination of `room` bytes: that part is what the grouped text
+-- spells
 abbrev pub ReadsFront : CheckCase → Group → List ℕ → ℕ → Result (MutBor (List ℕ)) GroupFault → Type 0
 ReadsFront c group s room = Answers (group_refusal c group s room) (λ front. GroupSpells c group s front.now)
 
--- grouped writing to the start of a destination: writes the grouped text
+-- encoding to the start of a destination: the grouped text of the list is written
 abbrev pub WritesGrouped : Group → Bool → List ℕ → List ℕ → List ℕ → Result ℕ Error → Type 0
 WritesGrouped group upper bytes old new result =
     Fills (room_refusal (grouped_len (piece_len group) (length bytes)) (length old)) (λ digits. digits ≡ grouped group upper bytes) old new result

@@ -1,4 +1,4 @@
--- Facts on grouped texts that the definitions imply.
+-- Facts on grouped texts that follow from the definitions alone.
 use Rattle.std.specs.Prelude.{◌≡◌, ◌<◌, ◌≤◌, ◌%◌, ◌↔◌, ◌⊎◌, ℕ, Bool, List, ◌∷◌, ◌++◌, length, take, drop, All, IsSome, None}
 use Rattle.hex_core.specs.declared.digit.CheckCase.{CheckCase}
 use Rattle.hex_core.specs.declared.digit.CheckCase.TheVariants as policy
@@ -9,19 +9,20 @@ use Rattle.hex_codec.specs.declared.group.Group.{Group}
 use Rattle.hex_codec.specs.GroupedWriting.{grouped, piece_len, pieces, separator}
 use Rattle.hex_codec.specs.GroupedReading.{GroupSpells, group_refusal, grouped_len}
 
--- what is written in groups is read as the same bytes, under the text's own case or either
+-- the grouped text of a list spells that list, under the policy of the text's own case and under the policy
+-- of both cases
 abbrev pub ReadingInvertsGrouping : Type 0
 ReadingInvertsGrouping = (group : Group) (upper : Bool) (bytes : List ℕ)
     → AreBytes bytes
     → GroupSpells (strict upper) group (grouped group upper bytes) bytes × GroupSpells policy.None group (grouped group upper bytes) bytes
 
--- and what is read under a strict policy is written in groups as the text that was read
+-- the grouped text of the list that a text spells under a policy of one case is that text
 abbrev pub GroupingInvertsStrictReading : Type 0
 GroupingInvertsStrictReading = (group : Group) (upper : Bool) (s bytes : List ℕ)
     → GroupSpells (strict upper) group s bytes
     → grouped group upper bytes ≡ s
 
--- a grouped text is read exactly if it spells some list that fits
+-- a text is accepted exactly if it spells some list, as a grouped text, that fits the room
 abbrev pub ReadsWhatGroupSpells : Type 0
 ReadsWhatGroupSpells = (c : CheckCase) (group : Group) (s : List ℕ) (room : ℕ)
     → (group_refusal c group s room ≡ None) ↔ ((bytes : List ℕ) × GroupSpells c group s bytes × (length bytes ≤ room))
@@ -33,7 +34,7 @@ GroupSpellsOneList = (c : CheckCase) (group : Group) (s bytes others : List ℕ)
     → GroupSpells c group s others
     → bytes ≡ others
 
--- the length of a grouped text, by the number of its bytes
+-- the length of the grouped text of a list follows from the length of the list
 abbrev pub GroupedTextsAreLong : Type 0
 GroupedTextsAreLong = (group : Group) (upper : Bool) (bytes : List ℕ)
     → length (grouped group upper bytes) ≡ grouped_len (piece_len group) (length bytes)
@@ -44,7 +45,7 @@ GroupedTextsAreDigitsAndSeparators = (group : Group) (upper : Bool) (bytes : Lis
     → AreBytes bytes
     → All (λ b. IsSome (value (strict upper) b) ⊎ (b ≡ separator group)) (grouped group upper bytes)
 
--- and each byte of a text without groups is a digit of its case
+-- each byte of a text without groups is a digit of its case
 abbrev pub TextsAreDigits : Type 0
 TextsAreDigits = (upper : Bool) (bytes : List ℕ)
     → AreBytes bytes
@@ -57,7 +58,8 @@ FirstPieceIsTheFront = (every : ℕ) (bytes : List ℕ)
     → 0 < length bytes
     → pieces every bytes ≡ take every bytes ∷ pieces every (drop every bytes)
 
--- the grouped text of whole pieces and more bytes is their two texts, joined by the separator
+-- if a list is cut after a whole piece, its grouped text is the grouped texts of both parts, joined by the
+-- separator
 abbrev pub WholePiecesJoin : Type 0
 WholePiecesJoin = (group : Group) (upper : Bool) (front back : List ℕ)
     → length front % piece_len group ≡ 0

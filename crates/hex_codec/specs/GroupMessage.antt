@@ -1,4 +1,4 @@
--- What an error of grouped digits prints.
+-- The text that an error of decoding grouped digits prints.
 use Rattle.std.specs.Prelude.{ℕ, List, ◌++◌, codes}
 use Rattle.std.specs.Fmt.{decimal}
 use Rattle.hex_core.specs.declared.error.Error.TheVariants as codec

@@ -1,4 +1,4 @@
-//! The digits of a chunk, in a buffer on the stack.
+//! Encodes a chunk of bytes in a buffer on the stack.
 
 ghost use Rattle.std.specs.Prelude.{◌≡◌, ◌*◌, ◌≤◌, length};
 ghost use Rattle.hex_core.specs.Text.{text};
@@ -6,14 +6,16 @@ ghost use Rattle.hex_core.specs.Text.{text};
 use hex_core::Backend;
 use std::str;
 
-/// A borrowed string does not expose its spare capacity, so its text grows by chunks of this many
-/// bytes, encoded on the stack and copied once.
+/// The number of bytes in a chunk. A borrowed string does not expose its spare capacity, so digits
+/// cannot be written there directly. They are written to a buffer on the stack, one chunk after the
+/// other, and copied once.
 pub const CHUNK: usize = 256;
 
-/// The digits of a whole chunk.
+/// The number of digits of a whole chunk.
 pub const CHUNK_DIGITS: usize = 512;
 
-/// Writes the digits of at most [`CHUNK`] bytes into the start of `buffer`, and returns them.
+/// Encodes `chunk`, which has at most [`CHUNK`] bytes, into the start of `buffer`. Returns the
+/// digits.
 pub fn chunk_text<'a>(buffer: &'a mut [u8; CHUNK_DIGITS], chunk: &[u8], upper: bool) -> &'a str
     requires { 2 * length chunk.now ≤ CHUNK_DIGITS }
     ensures text { result.now ≡ text upper chunk.now }

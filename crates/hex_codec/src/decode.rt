@@ -1,4 +1,4 @@
-//! Decoding hex digits.
+//! Functions that check and decode hex digits.
 
 ghost use Rattle.std.specs.Prelude.{◌≡◌, ◌*◌, ◌↔◌, IsTrue, None, length};
 ghost use Rattle.std.specs.Borrow.{sem};
@@ -13,10 +13,11 @@ ghost use Rattle.hex_codec.specs.Calls.{ArrayIsSpelled, DecodesArray, DecodesVec
 use hex_core::{Backend, CheckCase, Error};
 use std::alloc::Allocator;
 
-/// Returns whether every byte of `src` is a hex digit, of either letter case.
+/// Returns whether every byte of `src` is a hex digit. Letters may have either case.
 ///
-/// Tests only bytes: an odd number of them passes, and so does an empty `src`. Calls that decode
-/// make this test themselves.
+/// The length does not matter. The result is also true if `src` has an odd number of digits or is
+/// empty. You need not call this function before you decode, because the functions that decode make
+/// the same test.
 ///
 /// ```rust
 /// assert!(rt; hex_check(b"00aBcD"));
@@ -32,7 +33,7 @@ pub fn hex_check(src: &[u8]) -> bool
 
 /// Returns whether every byte of `src` is a hex digit that `case` accepts.
 ///
-/// Lengths: see [`hex_check`].
+/// The length of `src` does not matter, as in [`hex_check`].
 ///
 /// ```rust
 /// assert!(rt; hex_check_with_case(b"ab01", CheckCase::Lower));
@@ -45,20 +46,23 @@ pub fn hex_check_with_case(src: &[u8], case: CheckCase) -> bool
     Backend::plain().check(src, case)
 }
 
-/// Decodes all of `src` into the start of `dst`, accepting letters of either case, and returns the
-/// written part of `dst`.
+/// Decodes all of `src` into the start of `dst`. Letters may have either case. Returns the written
+/// part of `dst`.
 ///
-/// `src` must be an even number of hex digits, without prefix, space or separator; two digits make
-/// a byte, the high one first. The result is `src.len() / 2` bytes long and borrows only `dst`; the
-/// bytes after it are unchanged. An empty `src` returns an empty slice and changes nothing.
+/// `src` must be an even number of hex digits, without prefix, space or separator. Two digits make
+/// a byte, and the first is its high half. The result has `src.len() / 2` bytes and borrows only
+/// `dst`. The bytes of `dst` after it are unchanged. If `src` is empty, the result is empty and
+/// nothing changes.
 ///
 /// # Errors
 ///
-/// In this order; each leaves all of `dst` unchanged, even if the invalid byte comes late:
+/// The conditions are tested in this order. Each error leaves all of `dst` unchanged, even if the
+/// invalid byte is the last one.
 ///
-/// 1. [`Error::OddLength`] if `src` has an odd number of bytes;
-/// 2. [`Error::OutputTooSmall`] if `dst` has fewer than `src.len() / 2` bytes;
-/// 3. [`Error::InvalidChar`] with the first byte that is not a hex digit, and its index in bytes.
+/// 1. [`Error::OddLength`] if `src` has an odd number of bytes.
+/// 2. [`Error::OutputTooSmall`] if `dst` has fewer than `src.len() / 2` bytes.
+/// 3. [`Error::InvalidChar`] if a byte is not a hex digit. The error has the first such byte and
+///    its index.
 ///
 /// ```rust
 /// let mut buffer = [0xa5; 5];
@@ -76,15 +80,15 @@ pub fn hex_decode<'a>(src: &[u8], dst: &'a mut [u8]) -> Result<&'a mut [u8], Err
     Backend::plain().decode_slice(src, dst, case)
 }
 
-/// Decodes all of `src` into the start of `dst`, accepting the letters of `case`, and returns the
-/// written part of `dst`.
+/// Decodes all of `src` into the start of `dst`, if `case` accepts its digits. Returns the written
+/// part of `dst`.
 ///
-/// Lengths, the borrow and the order of the errors are those of [`hex_decode`].
+/// The lengths and the borrow are those of [`hex_decode`].
 ///
 /// # Errors
 ///
-/// Those of [`hex_decode`]. [`Error::InvalidChar`] has the first byte that `case` does not accept,
-/// whatever follows it.
+/// The errors are those of [`hex_decode`], in the same order. [`Error::InvalidChar`] has the first
+/// byte that `case` does not accept, even if a byte that is no hex digit follows.
 ///
 /// ```rust
 /// let mut buffer = [0; 2];
@@ -105,15 +109,17 @@ pub fn hex_decode_with_case<'a>(
     Backend::plain().decode_slice(src, dst, case)
 }
 
-/// Decodes all of `src` into the start of `dst`, under a letter-case policy, and returns the number
-/// of bytes written, `src.len() / 2`.
+/// Decodes all of `src` into the start of `dst`, if `case` accepts its digits. Returns the number
+/// of bytes written, which is `src.len() / 2`.
 ///
-/// This is [`hex_decode_with_case`] without the borrow: use it to prove what the buffer holds
-/// afterwards. The bytes after the written ones are unchanged.
+/// This function does the same as [`hex_decode_with_case`], but returns no borrow. Use it if a
+/// proof must say what the whole buffer holds afterwards. The bytes of `dst` after the written ones
+/// are unchanged.
 ///
 /// # Errors
 ///
-/// Those of [`hex_decode_with_case`], in its order; each leaves all of `dst` unchanged.
+/// The errors are those of [`hex_decode_with_case`], in the same order. Each leaves all of `dst`
+/// unchanged.
 ///
 /// ```rust
 /// let mut buffer = [0xa5; 4];
@@ -129,18 +135,19 @@ pub fn hex_decode_into(src: &[u8], dst: &mut [u8], case: CheckCase) -> Result<us
     Backend::plain().decode_into(src, dst, case)
 }
 
-/// Decodes exactly `N` bytes into an array, accepting letters of either case. Allocates nothing.
+/// Decodes `src` into an array of exactly `N` bytes. Letters may have either case. It allocates
+/// nothing.
 ///
-/// `src` must have `2 * N` digits: a shorter or longer source gives the same error. An empty `src`
-/// is accepted only if `N == 0`.
+/// `src` must have exactly `2 * N` digits. An empty `src` is accepted only if `N` is 0.
 ///
 /// # Errors
 ///
-/// In this order:
+/// The conditions are tested in this order.
 ///
-/// 1. [`Error::OddLength`] if `src` has an odd number of bytes;
-/// 2. [`Error::LengthMismatch`] if `src.len() / 2` is not `N`, with both numbers;
-/// 3. [`Error::InvalidChar`] with the first byte that is not a hex digit, and its index in bytes.
+/// 1. [`Error::OddLength`] if `src` has an odd number of bytes.
+/// 2. [`Error::LengthMismatch`] if `src.len() / 2` is not `N`. The error has both numbers.
+/// 3. [`Error::InvalidChar`] if a byte is not a hex digit. The error has the first such byte and
+///    its index.
 ///
 /// ```rust
 /// assert_eq!(rt; hex_decode_array::<4>(b"0001aBff")?, [0, 1, 0xab, 0xff]);
@@ -154,12 +161,13 @@ pub fn hex_decode_array<const N: usize>(src: &[u8]) -> Result<[u8; N], Error>
     hex_decode_array_with_case(src, CheckCase::None)
 }
 
-/// Decodes exactly `N` bytes into an array, accepting the letters of `case`. Allocates nothing.
+/// Decodes `src` into an array of exactly `N` bytes, if `case` accepts its digits. It allocates
+/// nothing.
 ///
 /// # Errors
 ///
-/// Those of [`hex_decode_array`], in its order. A letter that `case` does not accept is an
-/// [`Error::InvalidChar`].
+/// The errors are those of [`hex_decode_array`], in the same order. A letter that `case` does not
+/// accept is an [`Error::InvalidChar`].
 ///
 /// ```rust
 /// let bytes = hex_decode_array_with_case::<2>(b"AB01", CheckCase::Upper)?;
@@ -191,18 +199,19 @@ pub fn hex_decode_array_with_case<const N: usize>(
     }
 }
 
-/// Decodes all of `src` into a new vector, accepting letters of either case.
+/// Decodes all of `src` into a new vector. Letters may have either case.
 ///
-/// Allocates once, `src.len() / 2` bytes, after its length is tested and before any byte is. An
-/// empty `src` allocates nothing.
+/// It allocates `src.len() / 2` bytes, once. This happens after the length is tested and before any
+/// byte is tested. If `src` is empty, it allocates nothing.
 ///
 /// # Errors
 ///
-/// In this order:
+/// The conditions are tested in this order.
 ///
-/// 1. [`Error::OddLength`] if `src` has an odd number of bytes, even without memory;
-/// 2. [`Error::OutOfMemory`] if the allocation fails;
-/// 3. [`Error::InvalidChar`] with the first byte that is not a hex digit, and its index in bytes.
+/// 1. [`Error::OddLength`] if `src` has an odd number of bytes, even if no memory is left.
+/// 2. [`Error::OutOfMemory`] if the allocation fails.
+/// 3. [`Error::InvalidChar`] if a byte is not a hex digit. The error has the first such byte and
+///    its index.
 ///
 /// ```rust
 /// let bytes = hex_decode_vec(rt.alloc(), b"00aBff")?;
@@ -215,14 +224,14 @@ pub fn hex_decode_vec<A: Allocator + Drop>(alloc: A, src: &[u8]) -> Result<Vec<u
     hex_decode_vec_with_case(alloc, src, CheckCase::None)
 }
 
-/// Decodes all of `src` into a new vector, accepting the letters of `case`.
+/// Decodes all of `src` into a new vector, if `case` accepts its digits.
 ///
-/// Allocates like [`hex_decode_vec`], with the same order of errors.
+/// It allocates like [`hex_decode_vec`].
 ///
 /// # Errors
 ///
-/// Those of [`hex_decode_vec`], in its order. A letter that `case` does not accept is an
-/// [`Error::InvalidChar`].
+/// The errors are those of [`hex_decode_vec`], in the same order. A letter that `case` does not
+/// accept is an [`Error::InvalidChar`].
 ///
 /// ```rust
 /// assert!(rt; hex_decode_vec_with_case(rt.alloc(), b"AB", CheckCase::Lower).is_err());
@@ -248,10 +257,12 @@ pub fn hex_decode_vec_with_case<A: Allocator + Drop>(
     Ok(bytes)
 }
 
-// A longer buffer that is discarded on failure is decoded block by block, in one pass.
+// A buffer of more bytes is decoded block by block, so that the source is read only once. If a byte
+// is invalid, the buffer is then partly written. This does no harm, because the caller discards it.
 const OWNED_OVER: usize = 1024;
 
-// Decodes over all of a buffer that is discarded on failure.
+// Decodes `src` over all of `dst`. On an error `dst` may be partly written, and the caller discards
+// it.
 #[inline(always)]
 fn decode_discarding(src: &[u8], dst: &mut [u8], case: CheckCase) -> Result<(), Error>
     requires { length src.now ≡ 2 * length dst.old }

@@ -1,5 +1,5 @@
-//! Encodes bytes as hex digits into the start of a slice. Re-exports the calls that make or extend
-//! a string.
+//! Functions that encode bytes as hex digits into the start of a slice. The functions that make or
+//! extend a string are re-exported here.
 
 ghost use Rattle.std.specs.Prelude.{length};
 ghost use Rattle.std.specs.Borrow.{sem};
@@ -12,17 +12,18 @@ pub use crate::strings::{
 };
 use hex_core::{Backend, Error};
 
-/// Encodes all of `src` as lowercase digits into the start of `dst`, and returns the written part.
+/// Encodes all of `src` as lowercase digits into the start of `dst`. Returns the written part of
+/// `dst`.
 ///
-/// Each byte gives two ASCII digits, the high one first, in source order, without prefix or
-/// separator; leading zero bytes are kept. The result is `2 * src.len()` bytes long and borrows
-/// only `dst`; the bytes after it are unchanged.
+/// Each byte of `src` gives two ASCII digits, of which the first is its high half. There is no
+/// prefix and no separator, and leading zero bytes are encoded too. The result has `2 * src.len()`
+/// bytes and borrows only `dst`. The bytes of `dst` after it are unchanged.
 ///
 /// # Errors
 ///
-/// In this order; each leaves all of `dst` unchanged:
+/// The conditions are tested in this order. Each error leaves all of `dst` unchanged.
 ///
-/// 1. [`Error::Overflow`] if `2 * src.len()` exceeds `usize`;
+/// 1. [`Error::Overflow`] if `2 * src.len()` exceeds `usize`.
 /// 2. [`Error::OutputTooSmall`] if `dst` has fewer than `2 * src.len()` bytes.
 ///
 /// ```rust
@@ -39,13 +40,14 @@ pub fn hex_encode<'a>(src: &[u8], dst: &'a mut [u8]) -> Result<&'a mut [u8], Err
     Backend::plain().encode_slice(src, dst, upper)
 }
 
-/// Encodes all of `src` as uppercase digits into the start of `dst`, and returns the written part.
+/// Encodes all of `src` as uppercase digits into the start of `dst`. Returns the written part of
+/// `dst`.
 ///
-/// Otherwise like [`hex_encode`].
+/// In all other respects it is the same as [`hex_encode`].
 ///
 /// # Errors
 ///
-/// Those of [`hex_encode`], in the same order.
+/// The errors are those of [`hex_encode`], in the same order.
 ///
 /// ```rust
 /// let mut buffer = [0; 6];
@@ -61,15 +63,15 @@ pub fn hex_encode_upper<'a>(src: &[u8], dst: &'a mut [u8]) -> Result<&'a mut [u8
     Backend::plain().encode_slice(src, dst, upper)
 }
 
-/// Encodes all of `src` into the start of `dst`, in uppercase if `upper` is true, and returns the
-/// number of bytes written, `2 * src.len()`.
+/// Encodes all of `src` into the start of `dst`, in uppercase if `upper` is true. Returns the
+/// number of bytes written, which is `2 * src.len()`.
 ///
-/// This is [`hex_encode`] without the borrow: use it to prove what the buffer holds afterwards. The
-/// bytes after the written ones are unchanged.
+/// This function does the same as [`hex_encode`], but returns no borrow. Use it if a proof must say
+/// what the whole buffer holds afterwards. The bytes of `dst` after the written ones are unchanged.
 ///
 /// # Errors
 ///
-/// Those of [`hex_encode`], in its order; each leaves all of `dst` unchanged.
+/// The errors are those of [`hex_encode`], in the same order. Each leaves all of `dst` unchanged.
 ///
 /// ```rust
 /// let mut buffer = [b'-'; 5];

@@ -1,11 +1,11 @@
-//! How digits are grouped.
+//! The way in which digits are grouped.
 
 ghost use Rattle.hex_codec.specs.GroupRule.{IsGroup};
 
 use hex_core::{CheckCase, digit_value};
 
-/// How digits are grouped: in pieces of `every` bytes, the last possibly shorter, with one
-/// separator between two pieces.
+/// A group says how digits are separated. A text is cut into pieces of `every` bytes, and the last
+/// piece may be shorter. There is one separator between two pieces.
 ///
 /// ```rust
 /// let group = Group::new(2, b':').ok_or("no group")?;
@@ -22,8 +22,8 @@ impl Group {
     ghost use Rattle.std.specs.Prelude.{◌≡◌};
     ghost use Rattle.hex_codec.specs.GroupedWriting.{MakesGroup, piece_len, separator};
 
-    /// Returns pieces of `every` bytes with `sep` between them, or `None` if `every` is 0, or if
-    /// `sep` is not ASCII or is a hex digit.
+    /// Returns the group with pieces of `every` bytes and the separator `sep`. Returns `None` if
+    /// `every` is 0, or if `sep` is not ASCII or is a hex digit.
     ///
     /// ```rust
     /// assert!(rt; Group::new(2, b'-').is_some());
@@ -39,7 +39,7 @@ impl Group {
         Some(Group { every, sep })
     }
 
-    /// Returns the number of bytes in each piece but the last.
+    /// Returns the number of bytes in each piece except the last, which may be shorter.
     ///
     /// ```rust
     /// let group = Group::new(4, b' ').ok_or("no group")?;
@@ -51,7 +51,7 @@ impl Group {
         self.every
     }
 
-    /// Returns the separator, an ASCII byte other than a digit.
+    /// Returns the separator, which is an ASCII byte and not a hex digit.
     ///
     /// ```rust
     /// let group = Group::new(4, b' ').ok_or("no group")?;

@@ -1,6 +1,7 @@
-//! Grouped digits: decodes and encodes pieces with a separator between two.
+//! Functions that decode and encode grouped digits, which are pieces of digits with a separator
+//! between two pieces.
 //!
-//! Tests the whole text before the first store.
+//! The functions that decode test the whole text before they store the first byte.
 
 ghost use Rattle.std.specs.Prelude.{◌≡◌, ◌≤◌, ◌<◌, ◌^◌, MatchOption, None, Some, length};
 ghost use Rattle.std.specs.Borrow.{sem};
@@ -16,7 +17,7 @@ use crate::pieces::{first_invalid_in_text, read_pieces, write_pieces};
 use hex_core::{Backend, CheckCase, Error};
 use std::{error, fmt};
 
-/// An error of decoding grouped text.
+/// An error of a function that decodes grouped text.
 ///
 /// ```rust
 /// let group = Group::new(2, b':').ok_or("no group")?;
@@ -33,18 +34,19 @@ use std::{error, fmt};
 /// ```
 #[derive(Clone, Copy, Debug, PartialEq, Eq)]
 pub enum GroupFault {
-    /// No bytes have a grouped text of this length.
+    /// No number of bytes has a grouped text of this length.
     BadLength,
     /// The destination cannot hold the decoded bytes.
     OutputTooSmall {
         /// The number of decoded bytes.
         required: usize,
     },
-    /// A byte is wrong at its index: not an accepted digit, or not the separator.
+    /// A byte is wrong at its index. Either it should be a digit and the policy does not accept it,
+    /// or it should be the separator and is another byte.
     InvalidByte {
-        /// Its index in the text, in bytes.
+        /// The index of the first such byte in the text, in bytes.
         index: usize,
-        /// The byte.
+        /// That byte.
         byte: u8,
     },
 }
@@ -65,7 +67,7 @@ impl fmt::Display for GroupFault {
 
 impl error::Error for GroupFault {}
 
-// How many bytes have a grouped text of this length.
+// Returns the number of bytes that have a grouped text of `len` bytes, if there is one.
 #[inline(always)]
 fn byte_count(len: usize, every: usize) -> Option<usize>
     requires { 0 < every }
@@ -82,7 +84,8 @@ fn byte_count(len: usize, every: usize) -> Option<usize>
     Some(len / part * every + last / 2)
 }
 
-// The number of bytes for a text of this length, or the length's error.
+// Returns the number of bytes that a text of `len` bytes decodes to. Returns an error if no grouped
+// text has this length, or if that number exceeds `room`.
 fn required(len: usize, room: usize, group: Group) -> Result<usize, GroupFault>
     ensures { Answers (refusal_of_count (byte_count (piece_len group) len) None room)
         (λ n. byte_count (piece_len group) len ≡ Some n) result }
@@ -96,23 +99,26 @@ fn required(len: usize, room: usize, group: Group) -> Result<usize, GroupFault>
     Ok(required)
 }
 
-/// Decodes all of a grouped text into the start of `dst`, under a letter-case policy, and returns
-/// the number of bytes written.
+/// Decodes all of a grouped text into the start of `dst`, if `case` accepts its digits. Returns the
+/// number of bytes written.
 ///
-/// The text has pieces of [`Group::every`] bytes, the last possibly shorter, with one
-/// [`Group::sep`] between two: for `n` bytes, `2 * n` digits and one separator fewer than pieces.
-/// The bytes after the written ones are unchanged. An empty `src` returns 0 and changes nothing.
+/// The text has pieces of [`Group::every`] bytes, and the last piece may be shorter. There is one
+/// [`Group::sep`] between two pieces. So the text of `n` bytes has `2 * n` digits, and one
+/// separator fewer than pieces. The bytes of `dst` after the written ones are unchanged. If `src`
+/// is empty, the result is 0 and nothing changes.
 ///
-/// This is [`read`] without the borrow: use it to prove what the buffer holds afterwards.
+/// This function does the same as [`read`], but returns no borrow. Use it if a proof must say what
+/// the whole buffer holds afterwards.
 ///
 /// # Errors
 ///
-/// In this order; each leaves all of `dst` unchanged:
+/// The conditions are tested in this order. Each error leaves all of `dst` unchanged.
 ///
-/// 1. [`GroupFault::BadLength`] if no number of bytes has a grouped text of `src.len()` bytes;
-/// 2. [`GroupFault::OutputTooSmall`] if `dst` has fewer bytes than that number;
-/// 3. [`GroupFault::InvalidByte`] with the first byte of `src` that is wrong at its index, not a
-///    digit that `case` accepts or not the separator, and that index in bytes.
+/// 1. [`GroupFault::BadLength`] if no number of bytes has a grouped text of `src.len()` bytes.
+/// 2. [`GroupFault::OutputTooSmall`] if `dst` has fewer bytes than that number.
+/// 3. [`GroupFault::InvalidByte`] if a byte of `src` is wrong at its index, because `case` does not
+///    accept it as a digit or because it is not the separator. The error has the first such byte
+///    and its index.
 ///
 /// ```rust
 /// let group = Group::new(2, b':').ok_or("no group")?;
@@ -133,7 +139,7 @@ pub fn read_into(
     read_front(src, dst, group, case)
 }
 
-// Reads like `read_into`, which promises more.
+// Does the same as `read_into`, with only the clause that `read` needs.
 fn read_front(
     src: &[u8],
     dst: &mut [u8],
@@ -145,7 +151,7 @@ fn read_front(
     read_by(Backend::plain(), src, dst, group, case)
 }
 
-/// [`read_into`] under a plan, which changes the speed alone.
+/// Does the same as [`read_into`] by the given plan. The plan changes only the speed.
 ///
 /// ```rust
 /// let group = Group::new(2, b':').ok_or("no group")?;
@@ -175,14 +181,15 @@ pub fn read_by(
     Ok(count)
 }
 
-/// Decodes all of a grouped text into the start of `dst`, under a letter-case policy, and returns
-/// the written part of `dst`, which borrows only `dst`.
+/// Decodes all of a grouped text into the start of `dst`, if `case` accepts its digits. Returns the
+/// written part of `dst`.
 ///
-/// The text and its length are as for [`read_into`]. The bytes after the result are unchanged.
+/// The text and its length are those of [`read_into`]. The result borrows only `dst`, and the bytes
+/// of `dst` after it are unchanged.
 ///
 /// # Errors
 ///
-/// Those of [`read_into`], in its order; each leaves all of `dst` unchanged.
+/// The errors are those of [`read_into`], in the same order. Each leaves all of `dst` unchanged.
 ///
 /// ```rust
 /// let group = Group::new(2, b':').ok_or("no group")?;
@@ -206,7 +213,7 @@ pub fn read<'a>(
     }
 }
 
-// The length of the grouped text of `len` bytes, unless it exceeds `usize`.
+// Returns the length of the grouped text of `len` bytes, or `None` if it exceeds `usize`.
 #[inline(always)]
 fn grouped_len(len: usize, every: usize) -> Option<usize>
     requires { 0 < every }
@@ -217,16 +224,16 @@ fn grouped_len(len: usize, every: usize) -> Option<usize>
     digits.checked_add(len.div_ceil(every).saturating_sub(1))
 }
 
-/// Writes the grouped text of `src` into the start of `dst`, and returns its length: two digits for
-/// each byte, and one separator fewer than pieces. The bytes after it are unchanged. An empty `src`
-/// returns 0 and changes nothing.
+/// Encodes `src` in groups into the start of `dst`. Returns the number of bytes written, which is
+/// two digits for each byte of `src`, and one separator fewer than pieces. The bytes of `dst` after
+/// them are unchanged. If `src` is empty, the result is 0 and nothing changes.
 ///
 /// # Errors
 ///
-/// In this order; each leaves all of `dst` unchanged:
+/// The conditions are tested in this order. Each error leaves all of `dst` unchanged.
 ///
-/// 1. [`Error::Overflow`] if that length exceeds `usize`;
-/// 2. [`Error::OutputTooSmall`] if `dst` has fewer bytes.
+/// 1. [`Error::Overflow`] if that length exceeds `usize`.
+/// 2. [`Error::OutputTooSmall`] if `dst` has fewer bytes than that length.
 ///
 /// ```rust
 /// let group = Group::new(2, b':').ok_or("no group")?;
@@ -240,7 +247,7 @@ pub fn write_into(src: &[u8], dst: &mut [u8], group: Group, upper: bool) -> Resu
     write_by(Backend::plain(), src, dst, group, upper)
 }
 
-/// [`write_into`] under a plan, which changes the speed alone.
+/// Does the same as [`write_into`] by the given plan. The plan changes only the speed.
 ///
 /// ```rust
 /// let group = Group::new(2, b':').ok_or("no group")?;

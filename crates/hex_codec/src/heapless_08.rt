@@ -1,6 +1,7 @@
-//! Hex texts of a fixed capacity, stored in the value itself, without allocation.
+//! Hex texts of a fixed capacity. They are stored in the value itself, so nothing is allocated.
 //!
-//! The name is that of the Rust crate's module; the text type is that of `arrayvec`.
+//! The module has the name of the module in the Rust crate. The type of the texts is that of the
+//! crate `arrayvec`.
 
 ghost use Rattle.hex_core.specs.Text.{lowercase, uppercase};
 ghost use Rattle.hex_codec.specs.Calls.{EncodesWithin};
@@ -9,17 +10,19 @@ use crate::chunks::{CHUNK, CHUNK_DIGITS, chunk_text};
 use arrayvec::ArrayString;
 use hex_core::Error;
 
-/// Encodes all of `src` as a text of lowercase digits, `2 * src.len()` bytes long, with a capacity
-/// of `N` bytes.
+/// Encodes all of `src` as a text of lowercase digits. The text has `2 * src.len()` bytes and a
+/// capacity of `N` bytes.
 ///
-/// An empty `src` gives an empty text, even if `N` is 0. Unused capacity stays free.
+/// If `src` is empty, the text is empty, even if `N` is 0. You can use the rest of the capacity
+/// afterwards.
 ///
 /// # Errors
 ///
-/// In this order:
+/// The conditions are tested in this order.
 ///
-/// 1. [`Error::Overflow`] if `2 * src.len()` exceeds `usize`;
-/// 2. [`Error::OutputTooSmall`] with `2 * src.len()` if that exceeds `N`.
+/// 1. [`Error::Overflow`] if `2 * src.len()` exceeds `usize`.
+/// 2. [`Error::OutputTooSmall`] if `2 * src.len()` exceeds `N`. The error has the number
+///    `2 * src.len()`.
 ///
 /// ```rust
 /// let text = heapless_08::hex_string::<4>(&[0xab, 1])?;
@@ -33,12 +36,12 @@ pub fn hex_string<const N: usize>(src: &[u8]) -> Result<ArrayString<N>, Error>
     string_of(src, false)
 }
 
-/// Encodes all of `src` as a text of uppercase digits, `2 * src.len()` bytes long, with capacity
-/// `N`.
+/// Encodes all of `src` as a text of uppercase digits. The text has `2 * src.len()` bytes and a
+/// capacity of `N` bytes.
 ///
 /// # Errors
 ///
-/// Those of [`hex_string`], in the same order.
+/// The errors are those of [`hex_string`], in the same order.
 ///
 /// ```rust
 /// let text = heapless_08::hex_string_upper::<4>(&[0xab, 1])?;
@@ -50,7 +53,7 @@ pub fn hex_string_upper<const N: usize>(src: &[u8]) -> Result<ArrayString<N>, Er
     string_of(src, true)
 }
 
-// The text of `src`.
+// Returns the text of `src`.
 fn string_of<const N: usize>(src: &[u8], upper: bool) -> Result<ArrayString<N>, Error>
     ensures { EncodesWithin (λ string. string.bytes) upper src.now N result }
 {

@@ -1,4 +1,5 @@
-//! Encodes and decodes hex digits: slices, arrays, vectors, strings and texts of a fixed capacity.
+//! This crate encodes and decodes hex digits. It works on slices, arrays, vectors, strings and
+//! texts of a fixed capacity.
 #![tactic(auto)]
 
 mod chunks;

@@ -1,5 +1,5 @@
-//! Passes over the pieces of a grouped text, under a plan: to test all of it, to decode it, and to
-//! encode it. The last piece, which no separator follows, comes after each loop.
+//! Loops over the pieces of a grouped text, which test it, decode it or encode it by a plan. No
+//! separator follows the last piece, so it is treated after each loop.
 
 ghost use Rattle.std.specs.Prelude.{◌≡◌, ◌*◌, ◌%◌, None, length};
 ghost use Rattle.hex_core.specs.Search.{first_invalid};
@@ -11,10 +11,10 @@ use crate::group::Group;
 use hex_core::look_ups::{are_digits, write_bytes, write_digits};
 use hex_core::{Backend, CheckCase};
 
-// From so many bytes on, a call takes no longer than inlined look-ups.
+// For pieces of at least this many bytes, the call of a plan takes no longer than inlined look-ups.
 const CALL_FROM: usize = 8;
 
-// The first invalid digit of a piece.
+// Returns the index of the first invalid digit of a piece.
 #[inline(always)]
 fn first_invalid(plan: Backend, digits: &[u8], case: CheckCase) -> Option<usize>
     requires { length digits.now % 2 ≡ 0 }
@@ -26,7 +26,7 @@ fn first_invalid(plan: Backend, digits: &[u8], case: CheckCase) -> Option<usize>
     plan.first_invalid(digits, case)
 }
 
-// Decodes the valid digits of a piece.
+// Decodes the digits of a piece, which are valid.
 #[inline(always)]
 fn read_piece(plan: Backend, digits: &[u8], bytes: &mut [u8], case: CheckCase)
     requires twice { length digits.now ≡ 2 * length bytes.old }
@@ -39,7 +39,8 @@ fn read_piece(plan: Backend, digits: &[u8], bytes: &mut [u8], case: CheckCase)
     read_long_piece(plan, digits, bytes, case);
 }
 
-// The same for a longer piece, apart: inlined, decoding has a body for each length.
+// Does the same for a piece of at least `CALL_FROM` bytes. It is not inlined, because decoding has
+// an implementation for each range of lengths.
 #[inline(never)]
 fn read_long_piece(plan: Backend, digits: &[u8], bytes: &mut [u8], case: CheckCase)
     requires twice { length digits.now ≡ 2 * length bytes.old }
@@ -49,7 +50,7 @@ fn read_long_piece(plan: Backend, digits: &[u8], bytes: &mut [u8], case: CheckCa
     plan.decode_into(digits, bytes, case).unwrap();
 }
 
-// Writes the digits of a piece.
+// Encodes a piece.
 #[inline(always)]
 fn write_piece(plan: Backend, bytes: &[u8], digits: &mut [u8], upper: bool)
     requires { length digits.old ≡ 2 * length bytes.now }
@@ -61,7 +62,8 @@ fn write_piece(plan: Backend, bytes: &[u8], digits: &mut [u8], upper: bool)
     plan.encode(bytes, digits, upper);
 }
 
-/// Returns the first wrong index of a text that is as long as that of `count` bytes.
+/// Returns the index of the first wrong byte of a text, if there is one. `src` has the length of
+/// the grouped text of `count` bytes.
 pub fn first_invalid_in_text(
     plan: Backend,
     src: &[u8],
@@ -92,7 +94,7 @@ pub fn first_invalid_in_text(
     }
 }
 
-/// Decodes a text without a wrong byte over all of `dst`.
+/// Decodes a text that has no wrong byte over all of `dst`.
 pub fn read_pieces(plan: Backend, src: &[u8], dst: &mut [u8], group: Group, case: CheckCase)
     requires long { length src.now ≡ grouped_len (piece_len group) (length dst.old) }
     requires clear { first_invalid_in_text case group src.now ≡ None }
@@ -110,7 +112,7 @@ pub fn read_pieces(plan: Backend, src: &[u8], dst: &mut [u8], group: Group, case
     read_piece(plan, &src[at..], &mut dst[done..], case);
 }
 
-// Writes the grouped text of `src` over all of `dst`. The toolchain inlines it for x86-64 alone.
+// Encodes `src` in groups over all of `dst`. The toolchain inlines this function only for x86-64.
 #[inline(always)]
 fn write_by_piece_len(
     plan: Backend,
@@ -136,8 +138,8 @@ fn write_by_piece_len(
     write_piece(plan, &src[at..], &mut dst[done..], upper);
 }
 
-/// Writes the grouped text of `src` over all of `dst`. A piece of a length known at compile time
-/// needs no loop.
+/// Encodes `src` in groups over all of `dst`. Pieces of 1 and of 4 bytes have code of their own, in
+/// which their length is a constant, so that such a piece is encoded without a loop.
 pub fn write_pieces(plan: Backend, src: &[u8], dst: &mut [u8], group: Group, upper: bool)
     requires { length dst.old ≡ grouped_len (piece_len group) (length src.now) }
     ensures { dst.new ≡ grouped group upper src.now }

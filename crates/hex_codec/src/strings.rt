@@ -1,4 +1,4 @@
-//! Strings of hex digits: makes new ones, and appends digits to existing ones.
+//! Functions that make new strings of hex digits, and that append digits to existing strings.
 
 ghost use Rattle.std.specs.Prelude.{◌≡◌, ◌+◌, ◌*◌, ◌<◌, ◌≤◌, ◌++◌, length, drop, IsUtf8, string_bytes, string_len, string_capacity};
 ghost use Rattle.std.specs.Borrow.{sem};
@@ -14,16 +14,16 @@ use hex_core::{Backend, Error};
 use std::alloc::Allocator;
 use std::str;
 
-/// Encodes all of `src` as a new string of lowercase digits, `2 * src.len()` bytes long.
+/// Encodes all of `src` as a new string of lowercase digits. The string has `2 * src.len()` bytes.
 ///
-/// Allocates at most once, exactly that length, and nothing if `src` is empty.
+/// It allocates exactly this length, once. If `src` is empty, it allocates nothing.
 ///
 /// # Errors
 ///
-/// In this order:
+/// The conditions are tested in this order.
 ///
-/// 1. [`Error::Overflow`] if `2 * src.len()` exceeds `usize`;
-/// 2. [`Error::OutOfMemory`] if the allocation fails, so never if `src` is empty.
+/// 1. [`Error::Overflow`] if `2 * src.len()` exceeds `usize`.
+/// 2. [`Error::OutOfMemory`] if the allocation fails. This cannot happen if `src` is empty.
 ///
 /// ```rust
 /// let text = hex_string(rt.alloc(), &[0, 0xab, 0xff])?;
@@ -35,13 +35,13 @@ pub fn hex_string<A: Allocator + Drop>(alloc: A, src: &[u8]) -> Result<String<A>
     string_of(alloc, src, false)
 }
 
-/// Encodes all of `src` as a new string of uppercase digits, `2 * src.len()` bytes long.
+/// Encodes all of `src` as a new string of uppercase digits. The string has `2 * src.len()` bytes.
 ///
-/// Allocates like [`hex_string`].
+/// It allocates like [`hex_string`].
 ///
 /// # Errors
 ///
-/// Those of [`hex_string`], in the same order.
+/// The errors are those of [`hex_string`], in the same order.
 ///
 /// ```rust
 /// let text = hex_string_upper(rt.alloc(), &[0, 0xab, 0xff])?;
@@ -53,15 +53,16 @@ pub fn hex_string_upper<A: Allocator + Drop>(alloc: A, src: &[u8]) -> Result<Str
     string_of(alloc, src, true)
 }
 
-/// Appends the digits of all of `src` to `dst`, in uppercase if `upper` is true: `2 * src.len()`
-/// bytes after its text.
+/// Appends the digits of all of `src` to the text of `dst`, in uppercase if `upper` is true. These
+/// are `2 * src.len()` bytes.
 ///
-/// This is [`hex_append`] without the borrow: use it to prove what the string holds afterwards. It
-/// allocates like [`hex_append`].
+/// This function does the same as [`hex_append`], but returns no borrow. Use it if a proof must say
+/// what the whole string holds afterwards. It allocates like [`hex_append`].
 ///
 /// # Errors
 ///
-/// Those of [`hex_append`], in the same order; each leaves the text of `dst` unchanged.
+/// The errors are those of [`hex_append`], in the same order. Each leaves the text of `dst`
+/// unchanged.
 ///
 /// ```rust
 /// let mut text = String::from_str(rt.alloc(), "id: ")?;
@@ -90,18 +91,18 @@ pub fn hex_append_into<A: Allocator>(
     Ok(())
 }
 
-/// Appends the lowercase digits of all of `src` to `dst`, and returns only the `2 * src.len()` new
-/// bytes.
+/// Appends the lowercase digits of all of `src` to the text of `dst`. Returns only the new part of
+/// the text, which has `2 * src.len()` bytes.
 ///
-/// Allocates nothing if the spare capacity of `dst` suffices, and else once, exactly what is
-/// missing. To append many times to one string, reserve its capacity first.
+/// If the spare capacity of `dst` suffices, it allocates nothing. Otherwise it allocates once, and
+/// exactly what is missing. If you append many times to one string, reserve its capacity first.
 ///
 /// # Errors
 ///
-/// In this order; each leaves the text of `dst` unchanged:
+/// The conditions are tested in this order. Each error leaves the text of `dst` unchanged.
 ///
-/// 1. [`Error::Overflow`] if `dst.len() + 2 * src.len()` exceeds `usize`;
-/// 2. [`Error::OutOfMemory`] if the allocation fails, so never if `src` is empty.
+/// 1. [`Error::Overflow`] if `dst.len() + 2 * src.len()` exceeds `usize`.
+/// 2. [`Error::OutOfMemory`] if the allocation fails. This cannot happen if `src` is empty.
 ///
 /// ```rust
 /// let mut text = String::from_str(rt.alloc(), "hash: ")?;
@@ -116,14 +117,15 @@ pub fn hex_append<'a, A: Allocator>(src: &[u8], dst: &'a mut String<A>) -> Resul
     append_in(dst, src, false)
 }
 
-/// Appends the uppercase digits of all of `src` to `dst`, and returns only the `2 * src.len()` new
-/// bytes.
+/// Appends the uppercase digits of all of `src` to the text of `dst`. Returns only the new part of
+/// the text, which has `2 * src.len()` bytes.
 ///
-/// The existing text keeps its letters. Allocates like [`hex_append`].
+/// The letters of the existing text are unchanged. It allocates like [`hex_append`].
 ///
 /// # Errors
 ///
-/// Those of [`hex_append`], in the same order; each leaves the text of `dst` unchanged.
+/// The errors are those of [`hex_append`], in the same order. Each leaves the text of `dst`
+/// unchanged.
 ///
 /// ```rust
 /// let mut text = String::from_str(rt.alloc(), "hash: ")?;
@@ -140,22 +142,25 @@ pub fn hex_append_upper<'a, A: Allocator>(
     append_in(dst, src, true)
 }
 
-// A new string of the digits of `src`.
+// Returns a new string with the digits of `src`.
 fn string_of<A: Allocator + Drop>(alloc: A, src: &[u8], upper: bool) -> Result<String<A>, Error>
     ensures { EncodesBehind string_bytes 0 upper src.now result }
 {
     prefixed_string(alloc, b"", src, upper)
 }
 
-/// Returns a new string: a prefix of ASCII bytes and the digits of `src`.
+/// Returns a new string, which is a prefix followed by the digits of `src`. The letters are
+/// uppercase if `upper` is true. The string has `prefix.len() + 2 * src.len()` bytes.
 ///
-/// Allocates at most once, exactly that length, and nothing if it is 0.
+/// Requires every byte of `prefix` to be ASCII.
+///
+/// It allocates exactly the length of the string, once. If the length is 0, it allocates nothing.
 ///
 /// # Errors
 ///
-/// In this order:
+/// The conditions are tested in this order.
 ///
-/// 1. [`Error::Overflow`] if `prefix.len() + 2 * src.len()` exceeds `usize`;
+/// 1. [`Error::Overflow`] if `prefix.len() + 2 * src.len()` exceeds `usize`.
 /// 2. [`Error::OutOfMemory`] if the allocation fails.
 ///
 /// ```rust
@@ -197,8 +202,8 @@ fn write_prefixed(bytes: &mut [u8], prefix: &[u8], src: &[u8], upper: bool)
     Backend::plain().encode(src, digits, upper);
 }
 
-// Appends the digits of `src` and returns only them. `dst` comes first: only for the first
-// parameter does a proof learn the final value of what it borrows.
+// Appends the digits of `src` and returns only them. `dst` is the first parameter, because a proof
+// learns the final value of what is borrowed only for the first parameter.
 fn append_in<'a, A: Allocator>(
     dst: &'a mut String<A>,
     src: &[u8],
@@ -208,13 +213,14 @@ fn append_in<'a, A: Allocator>(
         (λ new. AppendsDigits upper src.now result dst.old new)) }
     ensures answer { AnswersSuffix (λ suffix. suffix.now) upper src.now dst.old result }
 {
-    // The clause of `as_bytes` ties this length to the bytes; that of `len` does not.
+    // The contract of `as_bytes` says that this length is that of the bytes. The contract of `len`
+    // does not.
     let start = dst.as_bytes().len();
     hex_append_into(src, dst, upper)?;
     Ok(text_from(dst, start))
 }
 
-// The text from byte `start`.
+// Returns the text from byte `start` on.
 fn text_from<A: Allocator>(string: &String<A>, start: usize) -> &str
     requires within { start ≤ string_len string.now }
     requires text { IsUtf8 (drop start (string_bytes string.now)) }
@@ -223,7 +229,7 @@ fn text_from<A: Allocator>(string: &String<A>, start: usize) -> &str
     unsafe { str::from_utf8_unchecked(&string.as_bytes()[start..]) }
 }
 
-// Appends the digits of `src`, for which `dst` has the capacity.
+// Appends the digits of `src`. The capacity of `dst` suffices for them, so the text is not moved.
 fn append_reserved<A: Allocator>(dst: &mut String<A>, src: &[u8], upper: bool)
     requires { string_len dst.old + 2 * length src.now ≤ string_capacity dst.old }
     ensures text { string_bytes dst.new ≡ string_bytes dst.old ++ text upper src.now }

@@ -251,8 +251,8 @@ pub fn decode_long(src: &[u8], dst: &mut [u8], case: CheckCase, wide: bool) -> b
     valid
 }
 
-/// Encodes the `N` bytes from index `at` of `src` on. Writes the digits to `dst` from index `2 *
-/// at` on.
+/// Encodes the `N` bytes from index `at` of `src` on. Writes the digits to `dst` from index
+/// `2 * at` on.
 #[inline(always)]
 pub fn encode_at<E, const N: usize, const TWICE: usize>(
     src: &[u8],
