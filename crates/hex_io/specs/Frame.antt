@@ -13,11 +13,12 @@ use Rattle.hex_io.specs.declared.format.HexFlags.{HexFlags}
 abbrev pub hex_bytes : Hex → List ℕ
 hex_bytes hex = hex.bytes.now
 
--- no sign, no prefix, lowercase, no group, and no width: the fill would be spaces, before the text
+-- the default: no sign, no prefix, no width, no group, lowercase digits, and spaces before the text as
+-- padding
 abbrev pub plain_flags : HexFlags
 plain_flags = record { plus = false; prefix = false; zero = false; width = None; fill = 32; align = Right; upper = false; group = None }
 
--- `+` and then `0x`, each if asked
+-- the sign and the prefix: `+` and then `0x`, each only if the flags ask for it
 abbrev pub sign_and_prefix : HexFlags → List ℕ
 sign_and_prefix flags = (if flags.plus then codes "+" else []) ++ (if flags.prefix then codes "0x" else [])
 
@@ -26,30 +27,32 @@ abbrev pub digits_by : Option Group → Bool → List ℕ → List ℕ
 digits_by None upper bytes = text upper bytes
 digits_by (Some group) upper bytes = grouped group upper bytes
 
--- the digits, without sign and prefix
+-- the digits of a list as the flags ask for them, without sign and prefix
 abbrev pub digits_of : HexFlags → List ℕ → List ℕ
 digits_of flags bytes = digits_by flags.group flags.upper bytes
 
--- how many characters a text of this length is shorter than the width, if there is one
+-- how many characters a text of `len` characters is shorter than the width, or 0 if there is no width
 abbrev pub missing : Option ℕ → ℕ → ℕ
 missing None len = 0
 missing (Some width) len = width - len
 
--- the number of padding characters; each character of sign, prefix and digits is one byte
+-- the number of padding characters. Sign, prefix and digits have one byte for each character
 abbrev pub padding_of : HexFlags → List ℕ → ℕ
 padding_of flags bytes = missing flags.width (length (sign_and_prefix flags ++ digits_of flags bytes))
 
--- how many of the fill characters come before the sign; with `Center` an odd one comes after the digits
+-- how many of the fill characters come before the text. With `Center` there is one more after it if the
+-- number is odd
 abbrev pub left_padding : Align → ℕ → ℕ
 left_padding Left padding = 0
 left_padding Right padding = padding
 left_padding Center padding = padding / 2
 
--- this many fill characters, in UTF-8
+-- `count` fill characters, in UTF-8
 abbrev pub fills : HexFlags → ℕ → List ℕ
 fills flags count = repeat count (encode_utf8 flags.fill)
 
--- the padded text: zeros between prefix and digits, or fill characters on both sides
+-- the padded text: with `zero`, zeros between prefix and digits, otherwise fill characters before and after
+-- the text
 abbrev pub frame : HexFlags → List ℕ → List ℕ
 frame flags bytes =
     let padding = padding_of flags bytes in

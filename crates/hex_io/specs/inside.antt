@@ -1,4 +1,4 @@
--- What private functions do with one chunk of a stream. No public contract rests on it.
+-- What private functions do with one chunk of a stream. No public contract depends on these definitions.
 use Rattle.std.specs.Prelude.{◌≡◌, ◌≢◌, ◌<◌, ◌≤◌, ℕ, ◌+◌, ◌%◌, List, ◌++◌, length, take, slice_index, Option, Some}
 use Rattle.std.specs.Prelude.{None, option_map, MatchOption}
 use Rattle.std.specs.Option.{option_to_list}
@@ -11,29 +11,32 @@ use Rattle.hex_codec.specs.GroupedWriting.{piece_len}
 use Rattle.hex_io.specs.Reading.{SpellsBut, digits_in, first_invalid_read, unspaced}
 use Rattle.hex_io.specs.declared.stream.decoder.Reading.{Reading}
 
--- the error of the first byte of a chunk, after `had` bytes, that should be a digit and is none
+-- the error of the first byte of a chunk that should be a digit and is not, if `had` bytes come before the
+-- chunk
 abbrev pub invalid_read_behind : Reading → ℕ → List ℕ → Option Error
 invalid_read_behind r had src = option_map (λ i. InvalidChar (had + i) (slice_index src i)) (first_invalid_read r src)
 
--- digits are decoded: what they spell is written to the start of a destination, and an odd last digit
--- waits
+-- digits were decoded: what they spell was written to the start of a destination, and if their number is odd,
+-- the last one waits
 abbrev pub DecodesDigits : CheckCase → List ℕ → List ℕ → List ℕ → Option ℕ → Type 0
 DecodesDigits c digits old new waiting = (bytes : List ℕ) × SpellsBut c digits bytes (option_to_list waiting) × (new ≡ with_front old bytes)
 
--- a digit that waits and those of a chunk are; or the chunk has such a byte, and nothing is written
+-- a digit that waits and those of a chunk were decoded. If a byte of the chunk should be a digit and is not,
+-- nothing was written
 abbrev pub DecodesChunk : Reading → Option ℕ → List ℕ → List ℕ → List ℕ → Option (Option ℕ) → Type 0
 DecodesChunk r waiting src old new result =
     MatchOption result ((first_invalid_read r src ≢ None) × (new ≡ old)) (DecodesDigits r.case (option_to_list waiting ++ digits_in r src) old new)
 
--- n bytes behind `total` others do not pass the end of a piece that those begin
+-- if `total` bytes end inside a piece, n more bytes do not pass the end of that piece
 abbrev pub FitsPiece : Option Group → ℕ → ℕ → Type 0
 FitsPiece None total n = 0 ≤ n
 FitsPiece (Some group) total n = 0 < total % piece_len group → total % piece_len group + n ≤ piece_len group
 
--- behind the text of any list of this length, this is what is missing of the text of it and these bytes
+-- `more` is what the text of any `total` bytes lacks to be the text of these and of `bytes`
 abbrev pub Continues : (List ℕ → List ℕ) → ℕ → List ℕ → List ℕ → Type 0
 Continues shown total bytes more = (done : List ℕ) → length done ≡ total → shown done ++ more ≡ shown (done ++ bytes)
 
--- the first `at` bytes of a source were copied to the start of a block, where they are `count` without white space
+-- the first `at` bytes of a source were copied to the start of a block, where they are `count` bytes without
+-- white space
 abbrev pub HasCopied : List ℕ → ℕ → List ℕ → ℕ → Type 0
 HasCopied s at block count = (count ≤ at) × (take count block ≡ unspaced (take at s))

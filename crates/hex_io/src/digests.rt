@@ -1,4 +1,5 @@
-//! Digest lists: one line per entry, with the digits of its digest, its mark and its name.
+//! Digest lists. A list has one line for each entry, with the digits of its digest, its mark and
+//! its name.
 
 ghost use Rattle.std.specs.Prelude.{◌≡◌, ◌≢◌, ◌≤◌, ◌*◌, ◌++◌, ◌∷◌, [], None, Some, length, take};
 ghost use Rattle.hex_core.specs.Calls.{Answers};
@@ -21,17 +22,19 @@ use std::{error, fmt};
 pub struct Entry<'a, const N: usize> {
     /// The digest.
     pub digest: [u8; N],
-    /// Whether the mark, the byte before the name, is `*` (read as binary) or a space.
+    /// Whether the mark, which is the byte before the name, is `*`. It means that the file was read
+    /// as binary. Otherwise the mark is a space.
     pub binary: bool,
-    /// The file's name. [`read`] returns, and [`write_to`] accepts, only names of one byte or more
-    /// without a newline. No other byte is special: a trailing CR stays in the name.
+    /// The name of the file. [`read`] returns only names of at least one byte without a newline,
+    /// and [`write_to`] accepts only such names. No other byte is special, so a CR at the end of a
+    /// line stays in the name.
     pub name: &'a [u8],
 }
 
-/// The first of these faults that a line has.
+/// What is wrong with a line. If a line has several of these faults, this is the first of them.
 #[derive(Clone, Copy, Debug, PartialEq, Eq)]
 pub enum LineFault {
-    /// The line is too short for the digits, a space, a mark and a name: it has fewer than
+    /// The line is too short for the digits, a space, a mark and a name, because it has fewer than
     /// `2 * N + 3` bytes before its newline.
     ShortLine,
     /// A byte among the digits is not a digit that the policy accepts.
@@ -41,7 +44,7 @@ pub enum LineFault {
         /// That byte.
         byte: u8,
     },
-    /// The byte after the digits is not a space, or the next is neither a space nor `*`.
+    /// The byte after the digits is not a space, or the byte after that is neither a space nor `*`.
     BadMark,
 }
 
@@ -118,7 +121,7 @@ pub enum ListWriteFault {
         /// The index of the first entry with such a name.
         entry: usize,
     },
-    /// A put failed.
+    /// The sink failed.
     Write(WriteFault),
 }
 
@@ -143,22 +146,25 @@ impl From<WriteFault> for ListWriteFault {
     }
 }
 
-/// Returns the entries of a list, in the order of its lines, allocated by the global allocator.
+/// Returns the entries of a list, in the order of its lines. They are allocated by the global
+/// allocator.
 ///
-/// Each line is `2 * N` digits, a space, then a space or `*`, a name and a newline, which the last
-/// line may lack. `case` selects the letters accepted. An empty source has no entries. The names
-/// are slices of `src`.
+/// A line has `2 * N` digits that `case` accepts, a space, then a space or `*`, and then a name. It
+/// ends with a newline, which the last line may lack. An empty source has no entries. The names of
+/// the entries are slices of `src`.
 ///
-/// So a list of `sha256sum` is read, except for names that it escapes: its line of a name with a
-/// backslash, a newline or a CR begins with a backslash, which is no digit.
+/// So this function reads a list that `sha256sum` has printed, except for names that `sha256sum`
+/// escapes. If a name has a backslash, a newline or a CR, its line begins with a backslash. This is
+/// not a digit, so the line is malformed here.
 ///
 /// # Errors
 ///
-/// Lines are read in order, and the first error ends the call:
+/// The lines are read in order. The first error ends the call.
 ///
-/// - [`ListFault::Line`] for a malformed line, with its number and its first fault;
-/// - [`ListFault::OutOfMemory`] if an allocation fails. An entry is allocated only after its line
-///   was read without a fault.
+/// - [`ListFault::Line`] if a line is malformed. The error has the number of the line and its first
+///   fault.
+/// - [`ListFault::OutOfMemory`] if an allocation fails. The entry of a line is allocated only after
+///   the line was read without a fault.
 ///
 /// ```rust
 /// let list = b"ab01  a.txt\nCD02 *b\n";
@@ -183,11 +189,11 @@ pub fn read<'a, const N: usize>(
     read_in(alloc, src, case)
 }
 
-/// Like [`read`], but allocates with any allocator.
+/// Does the same as [`read`], but allocates with any allocator.
 ///
 /// # Errors
 ///
-/// Those of [`read`], at the same events.
+/// The errors are those of [`read`], in the same cases.
 ///
 /// ```rust
 /// let entries = read_in::<_, 0>(rt.alloc(), b"  x", CheckCase::None)?;
@@ -220,11 +226,12 @@ pub fn read_in<'a, A: Allocator + Drop, const N: usize>(
     Ok(entries)
 }
 
-// Reads one line, without its newline.
+// Reads one line, which is given without its newline.
 fn read_line<'a, const N: usize>(line: &'a [u8], case: CheckCase) -> Result<Entry<'a, N>, LineFault>
     ensures { Answers (line_fault case N line.entry.now) (λ e. LineIs case line.entry.now e) result }
 {
-    // Multiplies only after the line is known to be that long.
+    // This test does not multiply by `N`, because the product may exceed `usize`. Once the line is
+    // known to be so long, the product fits.
     if line.len().saturating_sub(1) / 2 <= N {
         return Err(LineFault::ShortLine);
     }
@@ -242,7 +249,7 @@ fn read_line<'a, const N: usize>(line: &'a [u8], case: CheckCase) -> Result<Entr
     }
 }
 
-// The first invalid byte among a line's digits, one of which is invalid.
+// Returns the fault of the first invalid byte among the digits of a line, one of which is invalid.
 #[cold]
 fn invalid_digit<const N: usize>(line: &[u8], case: CheckCase) -> LineFault
     requires long { 2 * N ≤ length line.now }
@@ -258,19 +265,19 @@ fn invalid_digit<const N: usize>(line: &[u8], case: CheckCase) -> LineFault
     }
 }
 
-/// Puts the list of `entries` into `sink`: for each, the digits of its digest, a space, its mark,
-/// its name and a newline. The digits are uppercase if `upper` is true.
+/// Puts the list of `entries` into `sink`. The line of an entry has the digits of its digest, a
+/// space, its mark, its name and a newline. The digits are uppercase if `upper` is true.
 ///
-/// On `Ok` the sink has taken exactly the list more, and counted no failure. Allocates nothing. The
-/// number and size of the puts are unspecified. [`read`] returns the same entries, under the policy
-/// of its case or either.
+/// On `Ok` the sink has taken exactly the bytes of the list, and has counted no failure. Nothing is
+/// allocated. The number and the lengths of the puts are unspecified. If [`read`] then reads the
+/// list by a policy that accepts the case of its digits, it returns the same entries.
 ///
 /// # Errors
 ///
-/// - [`ListWriteFault::BadName`] exactly if some name is empty or has a newline, with the first
-///   such entry; nothing is put then;
+/// - [`ListWriteFault::BadName`] exactly if a name is empty or has a newline. The error has the
+///   index of the first such entry, and nothing was put.
 /// - [`ListWriteFault::Write`] if a put failed, which ends the call. The sink has then taken a
-///   leading part of the list, and counted one more failure.
+///   first part of the list, and has counted one more failure.
 ///
 /// ```rust
 /// let mut buffer = [0; 8];
@@ -314,14 +321,14 @@ pub fn write_to<S: Sink, const N: usize>(
     Ok(())
 }
 
-// Whether a name cannot end a line of a list.
+// Returns whether a name cannot end a line of a list.
 fn is_bad(name: &[u8]) -> bool
     ensures { result ≡ is_bad_name name.now }
 {
     name.is_empty() || name.contains(&b'\n')
 }
 
-// The first entry with a bad name.
+// Returns the index of the first entry with a bad name, if there is one.
 fn bad_name<const N: usize>(entries: &[Entry<'_, N>]) -> Option<usize>
     ensures { result ≡ first_bad_name entries.now }
 {
@@ -333,14 +340,14 @@ fn bad_name<const N: usize>(entries: &[Entry<'_, N>]) -> Option<usize>
     None
 }
 
-// The mark of an entry.
+// Returns the mark of an entry.
 fn mark_of(binary: bool) -> u8
     ensures { result ≡ mark binary }
 {
     if binary { b'*' } else { b' ' }
 }
 
-// Puts an entry's line, with its newline.
+// Puts the line of an entry, with its newline.
 fn put_line<S: Sink, const N: usize>(
     sink: &mut S,
     entry: &Entry<'_, N>,

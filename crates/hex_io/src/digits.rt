@@ -1,4 +1,4 @@
-//! Puts of digits: the text of some bytes, with separators between pieces if grouped.
+//! Puts digits into sinks, with separators between pieces if there is a group.
 
 ghost use Rattle.std.specs.Prelude.{◌≡◌, ◌*◌, ◌%◌, ◌<◌, ◌≤◌, ◌∷◌, ◌++◌, [], IsTrue, if◌then◌else◌, length};
 ghost use Rattle.std.specs.Str.{IsAscii};
@@ -11,14 +11,15 @@ use crate::sink::{Sink, WriteFault, put_all};
 use hex_codec::grouped::write_into;
 use hex_codec::{Group, hex_encode, hex_encode_upper};
 
-/// Source bytes that are encoded at a time.
+/// The number of source bytes that are encoded at once.
 pub const ENCODE_CHUNK: usize = 512;
 
-/// The longest source, in bytes, for smaller buffers: a digest or a line of a dump does not pay for
-/// the large one.
+/// The length of the longest source, in bytes, for which a smaller buffer is used. Clearing the
+/// large buffer would cost too much for a digest or for a line of a dump.
 pub const SHORT_SOURCE: usize = 128;
 
-/// Writes the text of `bytes` into the start of `buffer`, which has room, and returns it.
+/// Writes the digits of `bytes` into the start of `buffer`, and returns them. `buffer` must have
+/// room for them.
 pub fn encoded<'b>(bytes: &[u8], upper: bool, buffer: &'b mut [u8]) -> &'b [u8]
     requires { 2 * length bytes.now ≤ length buffer.old }
     ensures text { result.now ≡ text upper bytes.now }
@@ -31,14 +32,15 @@ pub fn encoded<'b>(bytes: &[u8], upper: bool, buffer: &'b mut [u8]) -> &'b [u8]
     }
 }
 
-/// Puts the digits of `bytes` alone into `sink`, in groups if there is a group.
+/// Puts the digits of `bytes` into `sink`, without sign, prefix and padding. They are in groups if
+/// there is a group, and uppercase if `upper` is true.
 ///
-/// On `Ok` the sink has taken exactly these digits more, and counted no failure. Allocates nothing.
-/// The number and size of the puts are unspecified.
+/// On `Ok` the sink has taken exactly these digits, and has counted no failure. Nothing is
+/// allocated. The number and the lengths of the puts are unspecified.
 ///
 /// # Errors
 ///
-/// Those of [`Hex::write_to`](crate::format::Hex::write_to).
+/// The errors are those of [`Hex::write_to`](crate::format::Hex::write_to).
 ///
 /// ```rust
 /// use hex_codec::Group;
@@ -64,7 +66,7 @@ pub fn put_digits<S: Sink>(
     }
 }
 
-// Puts the text of `bytes`, a chunk at a time.
+// Puts the digits of `bytes`, one chunk after the other.
 fn put_text<S: Sink>(sink: &mut S, bytes: &[u8], upper: bool) -> Result<(), WriteFault>
     ensures { Puts (S.state sink.old) (S.state sink.new) result (text upper bytes.now) }
 {
@@ -79,8 +81,8 @@ fn put_text<S: Sink>(sink: &mut S, bytes: &[u8], upper: bool) -> Result<(), Writ
     Ok(())
 }
 
-// Puts the grouped text of `bytes`: a part at a time of as many whole pieces as fit a chunk, or of
-// one longer piece.
+// Puts the grouped text of `bytes`, one part after the other. A part is as many whole pieces as fit
+// a chunk, or one piece that is longer than a chunk.
 fn put_grouped<S: Sink>(
     sink: &mut S,
     bytes: &[u8],
@@ -104,7 +106,7 @@ fn put_grouped<S: Sink>(
     put_part(sink, &bytes[at..], upper, group, false, &mut buffer)
 }
 
-// The bytes in a part.
+// Returns the number of bytes in each part except the last.
 fn part_len(group: Group) -> usize
     ensures whole { result % piece_len group ≡ 0 }
     ensures some { 0 < result }
@@ -114,7 +116,7 @@ fn part_len(group: Group) -> usize
     (ENCODE_CHUNK / every).max(1) * every
 }
 
-// Puts the grouped text of a part, and then a separator if more parts follow.
+// Puts the grouped text of a part. If more parts follow, it is followed by a separator.
 fn put_part<S: Sink>(
     sink: &mut S,
     bytes: &[u8],

@@ -21,21 +21,24 @@ pub enum Align {
     Left,
     /// The text is right-aligned, with the fill before it.
     Right,
-    /// The text is centered; an odd fill character goes after it.
+    /// The text is centered. If the number of fill characters is odd, one more goes after the text
+    /// than before it.
     Center,
 }
 
-/// How [`Hex::write_to`] writes a view.
+/// The format in which [`Hex::write_to`] writes a view.
 ///
-/// The default is the plain text: no sign, no prefix, no width, lowercase digits. If a width is
-/// set, spaces fill it before the text.
+/// The default has no sign, no prefix, no width and no group, and the digits are lowercase. If a
+/// width is set, spaces before the text fill it up.
 #[derive(Clone, Copy, Debug, PartialEq, Eq)]
 pub struct HexFlags {
-    /// Begin with `+`.
+    /// Whether the text begins with `+`.
     pub plus: bool,
-    /// Write `0x` after the sign, also in uppercase and for no bytes.
+    /// Whether `0x` comes after the sign. It is lowercase even if the digits are uppercase, and it
+    /// is written even if there are no bytes.
     pub prefix: bool,
-    /// Fill up to the width with `0` between prefix and digits; ignores `fill` and `align`.
+    /// Whether zeros between the prefix and the digits fill up the width. `fill` and `align` are
+    /// then ignored.
     pub zero: bool,
     /// The minimum length of the text, in characters.
     pub width: Option<usize>,
@@ -43,9 +46,9 @@ pub struct HexFlags {
     pub fill: char,
     /// Where the fill characters go.
     pub align: Align,
-    /// Write `A` to `F` instead of `a` to `f`.
+    /// Whether the letters are `A` to `F` instead of `a` to `f`.
     pub upper: bool,
-    /// Put a separator between pieces of the digits; padding is not grouped.
+    /// The group, if the digits have separators between pieces. Padding is not grouped.
     pub group: Option<Group>,
 }
 
@@ -66,7 +69,7 @@ impl Default for HexFlags {
     }
 }
 
-/// Borrowed bytes that print as their hex digits, two per byte, in order.
+/// A view of borrowed bytes. It prints them in order as hex digits, two for each byte.
 ///
 /// ```rust
 /// let text = format!(in rt.alloc(); "{}", Hex::new(&[0, 0xab, 0xcd]))?;
@@ -78,25 +81,26 @@ pub struct Hex<'a> {
 }
 
 impl<'a> Hex<'a> {
-    /// Returns a view of `bytes`, without copying.
+    /// Returns a view of `bytes`, which are not copied.
     pub fn new(bytes: &'a [u8]) -> Hex<'a>
         ensures bytes { hex_bytes result ≡ bytes.entry.now }
     {
         Hex { bytes }
     }
 
-    /// Puts the view's text into `sink`: sign, prefix and digits, padded as `flags` say.
+    /// Puts the text of the view into `sink`. The text is the sign, the prefix and the digits,
+    /// padded as `flags` say. It is padded up to `flags.width` characters. If it is not shorter
+    /// than that, it has no padding.
     ///
-    /// On `Ok` the sink has taken exactly this text more, and counted no failure; an empty text is
-    /// always `Ok`. Padding fills up to `flags.width` characters; a text that long has none.
-    /// Allocates nothing. The number and size of the puts are unspecified.
+    /// On `Ok` the sink has taken exactly this text, and has counted no failure. An empty text is
+    /// always `Ok`. Nothing is allocated. The number and the lengths of the puts are unspecified.
     ///
     /// # Errors
     ///
-    /// The first failed put ends the call. The sink has then taken a leading part of the text,
-    /// which may end inside a fill character, and counted one more failure.
+    /// The first failed put ends the call. The sink has then taken a first part of the text, which
+    /// may end inside a fill character, and has counted one more failure.
     ///
-    /// - [`WriteFault::Sink`] if the sink refused a piece;
+    /// - [`WriteFault::Sink`] if the sink refused a piece.
     /// - [`WriteFault::TookNothing`] if it took no byte of a nonempty piece.
     ///
     /// ```rust
@@ -120,7 +124,7 @@ impl<'a> Hex<'a> {
     }
 }
 
-// Puts the text of some bytes, padded as `flags` say: the parts of the frame, one after another.
+// Puts the text of some bytes, padded as `flags` say, one part after the other.
 fn put_framed<S: Sink>(bytes: &[u8], sink: &mut S, flags: &HexFlags) -> Result<(), WriteFault>
     ensures { Puts (S.state sink.old) (S.state sink.new) result (frame flags.now bytes.now) }
 {
@@ -163,7 +167,7 @@ fn write_ascii<W: fmt::Write>(f: &mut fmt::Formatter<W>, bytes: &[u8]) -> fmt::R
     f.write_str(unsafe { str::from_utf8_unchecked(bytes) })
 }
 
-// The sign and the prefix that `flags` ask for.
+// Returns the sign and the prefix that `flags` ask for.
 fn sign_and_prefix(flags: &HexFlags) -> &'static [u8]
     ensures { result.now ≡ sign_and_prefix flags.now }
 {

@@ -1,5 +1,5 @@
-//! Laws of digits in chunks, of sinks and of digest lists, each as the contract of a function that
-//! does nothing. A proof that needs one calls it.
+//! Laws of digits in chunks, of sinks and of digest lists. A law is a function that does nothing,
+//! and its contract states a fact. A proof that needs the fact calls the function.
 
 ghost use Rattle.hex_io.specs.Decoder.{DecodersWereFed, WritesAsOneCall};
 ghost use Rattle.hex_io.specs.DecoderLaws.{EndsRefuseStreams, FeedsAreCounted, RoomyFeedsRefuseStreams, WritesAtMostHalf};
@@ -12,46 +12,49 @@ use hex_core::laws::{
     encoding_inverts_strict_decoding,
 };
 
-/// A decoder has written what one call writes for the whole pairs of all it was fed, whatever the
-/// chunks were.
+/// A decoder has written the bytes that one call writes for the whole pairs of all it was fed. The
+/// lengths of the chunks do not matter.
 pub fn any_cutting_is_decoded_as_one_call()
     ensures same { WritesAsOneCall }
 {}
 
-/// Every decoder has been fed some digits and has written their bytes, so the contract of a feed
-/// also covers a decoder that is passed in.
+/// Every decoder has been fed some source, and has written what its digits spell. So the contract
+/// of `feed` also says something about a decoder that a function receives as a parameter.
 pub fn every_decoder_has_been_fed()
     ensures fed { DecodersWereFed }
 {
     decoding_inverts_encoding();
 }
 
-/// What a decoder refuses, a stream of all that it was fed is refused for, if it was fed into a
-/// buffer of half the length. So a loop over a decoder promises what
-/// [`decode_stream`](crate::stream::decode_stream) does.
+/// If a decoder returns an error, and its destination had at least half the length of the chunk,
+/// then a stream of all that it was fed has the same error. The end of a decoder and of a stream
+/// have the same error too. So a loop over a decoder can promise what
+/// [`decode_stream`](crate::stream::decode_stream) promises.
 pub fn a_decoder_with_room_refuses_as_a_stream()
     ensures feed { RoomyFeedsRefuseStreams }
     ensures finish { EndsRefuseStreams }
 {}
 
-/// A decoder has written at most half as many bytes as it was fed, and a `usize` counts these: so a
-/// loop over a decoder ends, and its sums do not overflow.
+/// A decoder has written at most half as many bytes as it was fed, and the number of bytes fed fits
+/// `usize`. So a loop over a decoder ends, and its sums do not overflow.
 pub fn a_decoder_writes_half_of_what_it_is_fed()
     ensures half { WritesAtMostHalf }
     ensures counted { FeedsAreCounted }
 {}
 
-/// White space is left out of each part of a source alone, and of a text in groups that it separates
-/// the text without groups is left. So [`decode_spaced_stream`](crate::stream::decode_spaced_stream)
-/// reads back what was written in lines.
+/// The text of a list has no white space. If the separator of a grouped text is white space, the
+/// text without its white space is the text without groups. Two sources joined, without white
+/// space, are the two sources without white space, joined. So
+/// [`decode_spaced_stream`](crate::stream::decode_spaced_stream) reads back what was written in
+/// lines.
 pub fn a_grouped_text_unspaced_is_the_text()
     ensures text { TextsAreSolid }
     ensures grouped { UnspacedGroupsAreTexts }
     ensures joined { UnspacedPartsJoin }
 {}
 
-/// Consecutive puts are one put of the joined bytes, also if the last one failed; no put at all is
-/// a put of nothing.
+/// Puts in a row have the effect of one put of the joined bytes, even if the last one failed. If
+/// there is no put, the sink has taken an empty list.
 pub fn puts_in_a_row_are_one()
     ensures taken { TakesInARow }
     ensures stopped { StopsInARow }
@@ -61,30 +64,31 @@ pub fn puts_in_a_row_are_one()
     ensures none { TakesNothing }
 {}
 
-/// A put of the first bytes of a text and then of the rest is a put of the text, also if one
-/// failed: for a text that begins with constant bytes.
+/// A put of the first bytes of a text, and then a put of the rest, have the effect of one put of
+/// the text, even if one of them failed. This is for a text that begins with constant bytes.
 pub fn a_text_is_put_from_its_front()
     ensures front { FrontsFail }
     ensures rest { RestsFollow }
 {}
 
-/// A written list is read as the same entries, under the digits' own case or either.
+/// A list that was written is read as the same entries. This holds for the policy that accepts only
+/// the case of the digits, and for the policy that accepts both cases.
 pub fn reading_inverts_writing()
     ensures inverts { ReadingInvertsWriting }
 {
     decoding_inverts_encoding();
 }
 
-/// A source with a faulty line is no list of any entries, so reading a list fails only if memory
-/// runs out.
+/// A source with a faulty line is not the list of any entries. So reading the list of some entries
+/// fails only if memory runs out.
 pub fn a_faulty_source_is_no_list()
     ensures none { FaultyListsNothing }
 {
     a_source_is_accepted_where_it_spells_a_list();
 }
 
-/// A source lists at most one list of entries: two have the same length, and entry by entry the
-/// same digest, mark and name, which `entry_parts` are.
+/// A source is the list of at most one list of entries. Two such lists have the same length. At
+/// each index they have the same digest, mark and name, which are the `entry_parts`.
 pub fn a_source_lists_one_list()
     ensures one { ListsOneList }
     ensures parts { ListsSameParts }
@@ -92,15 +96,15 @@ pub fn a_source_lists_one_list()
     a_text_spells_one_list();
 }
 
-/// Entries read under a strict policy are written in its case as the source, with a newline after
-/// the last line if it had none.
+/// Entries that were read by a policy of one case are written in this case as the source. If the
+/// last line had no newline, one is added.
 pub fn writing_inverts_strict_reading()
     ensures inverts { WritingInvertsStrictReading }
 {
     encoding_inverts_strict_decoding();
 }
 
-/// Writing refuses no name that reading returned.
+/// Writing accepts every name that reading returns.
 pub fn what_was_read_can_be_written()
     ensures written { ReadNamesAreGood }
 {}

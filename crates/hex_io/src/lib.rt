@@ -1,5 +1,6 @@
-//! Sinks; a view of bytes that prints as padded hex digits; encoding and decoding from readers into
-//! sinks; and digest lists, as programs print and check them.
+//! This crate has sinks, a view of bytes that prints them as padded hex digits, functions that
+//! encode and decode from a reader into a sink, and digest lists as programs such as `sha256sum`
+//! print and check them.
 #![tactic(auto)]
 
 pub mod digests;

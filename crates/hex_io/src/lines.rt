@@ -1,4 +1,4 @@
-//! The end of a line.
+//! Finds the end of a line.
 
 ghost use Rattle.std.specs.Prelude.{◌≡◌, ◌==◌, ◌+◌, ◌≤◌, length, map};
 ghost use Rattle.std.specs.List.{position_or_len};
@@ -6,10 +6,10 @@ ghost use Rattle.std.specs.Simd.Lanes.{chunk, mask_l};
 
 use std::simd::prelude::*;
 
-// Bytes tested at a time.
+// The number of bytes that are tested at once.
 const LINE_BLOCK: usize = 32;
 
-/// Returns the index of the first newline of a source, or its length.
+/// Returns the index of the first newline of `src`, or the length of `src` if it has none.
 pub fn line_end(src: &[u8]) -> usize
     ensures end { result ≡ position_or_len (λ b. b == 10) src.now }
     ensures inside { result ≤ length src.now }
@@ -29,7 +29,7 @@ pub fn line_end(src: &[u8]) -> usize
         .unwrap_or(rest.len())
 }
 
-// A mask whose bit i is set if lane i is a newline.
+// Returns a mask whose bit i is set exactly if lane i is a newline.
 #[inline(always)]
 fn newline_bits(block: u8x32) -> u64
     ensures { result ≡ mask_l (map (λ b. b == 10) block) }
@@ -37,7 +37,8 @@ fn newline_bits(block: u8x32) -> u64
     block.simd_eq(Simd::splat(b'\n')).to_bitmask()
 }
 
-// The number of bytes of the block at `at` before its first newline: all if it has none.
+// Returns the number of bytes before the first newline of the block at index `at`. If the block has
+// no newline, this is the length of the block.
 #[inline(always)]
 fn before_newline(src: &[u8], at: usize) -> usize
     requires { at + LINE_BLOCK ≤ length src.now }

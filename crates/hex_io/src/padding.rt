@@ -1,4 +1,4 @@
-//! Padding: how much of it a text has, and copies of a character.
+//! The number of padding characters of a text, and copies of a character.
 
 ghost use Rattle.std.specs.Prelude.{◌≡◌, ◌*◌, ◌≤◌, encode_utf8, length};
 ghost use Rattle.std.specs.List.{repeat};
@@ -8,13 +8,15 @@ ghost use Rattle.hex_io.specs.SinkState.{Puts};
 use crate::format::{Align, HexFlags};
 use crate::sink::{Sink, WriteFault, put_all};
 
-// Copies that are put at a time: an unbuffered writer would write each of them by itself.
+// The number of copies that are put at once. If each copy were put alone, a writer without a buffer
+// would write each one alone.
 const COPIES: usize = 64;
 
 const LONGEST_CHARACTER: usize = 4;
 
-/// The number of padding characters for the digits of `bytes` after a sign and prefix. Subtracts
-/// from the width, since a sum of lengths may exceed `usize`.
+/// Returns the number of padding characters for the text of `bytes`. `front` is its sign and
+/// prefix. The lengths are subtracted from the width one after the other, because their sum may
+/// exceed `usize`.
 pub fn padding_len(flags: &HexFlags, front: &[u8], bytes: &[u8]) -> usize
     requires { front.now ≡ sign_and_prefix flags.now }
     ensures { result ≡ padding_of flags.now bytes.now }
@@ -33,7 +35,7 @@ pub fn padding_len(flags: &HexFlags, front: &[u8], bytes: &[u8]) -> usize
         .saturating_sub(separators)
 }
 
-/// The number of padding characters before the text.
+/// Returns how many of the padding characters come before the text.
 pub fn before_text(align: Align, padding: usize) -> usize
     ensures { result ≡ left_padding align padding }
 {
@@ -44,7 +46,7 @@ pub fn before_text(align: Align, padding: usize) -> usize
     }
 }
 
-/// Puts `count` copies of a character.
+/// Puts `count` copies of the character `fill` into `sink`.
 pub fn put_copies<S: Sink>(sink: &mut S, fill: char, count: usize) -> Result<(), WriteFault>
     ensures { Puts (S.state sink.old) (S.state sink.new) result (repeat count (encode_utf8 fill)) }
 {
@@ -63,7 +65,7 @@ pub fn put_copies<S: Sink>(sink: &mut S, fill: char, count: usize) -> Result<(),
     Ok(())
 }
 
-// Writes a few copies of a character into the start of the buffer, and returns them.
+// Writes at most `COPIES` copies of a character into the start of the buffer, and returns them.
 fn copies_in<'b>(buffer: &'b mut [u8], fill: char, count: usize) -> &'b [u8]
     requires few { count ≤ COPIES }
     requires room { COPIES * LONGEST_CHARACTER ≤ length buffer.old }

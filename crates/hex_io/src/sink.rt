@@ -1,4 +1,4 @@
-//! Sinks, which take bytes piece by piece, and two of them: over a slice and over a writer.
+//! Sinks, which take bytes piece by piece. There is one over a slice and one over a writer.
 
 ghost use Rattle.std.specs.Prelude.{◌≡◌, ◌≤◌, None, Some, length};
 ghost use Rattle.std.specs.Option.{option_copied};
@@ -27,35 +27,38 @@ impl fmt::Display for SinkFault {
 
 impl error::Error for SinkFault {}
 
-/// A sink: takes bytes piece by piece, and counts the puts that failed.
+/// A sink takes bytes piece by piece, and counts the puts that failed.
 ///
-/// A put failed if it returned `Err`, or took none of a nonempty piece.
+/// A put is a call of `put`. It failed if it returned `Err`, or if it took no byte of a nonempty
+/// piece.
 ///
-/// What a call promises about the bytes taken holds if the sink's type models them, like
-/// [`SliceSink`], and [`WriterSink`] over a writer that does.
+/// A contract can say which bytes a sink has taken only if the type of the sink models them.
+/// [`SliceSink`] does, and [`WriterSink`] does if its writer does.
 pub trait Sink {
-    // The sink's state: bytes taken, failed puts, and the free bytes of a borrowed buffer, with the
-    // borrow. Any other sink has `None` for the last two.
+    // The state of the sink. It has the bytes taken and the number of failed puts. A sink over a
+    // borrowed buffer also has the free bytes of the buffer and the borrow. Any other sink has
+    // `None` for these two.
     ghost state: { Self → SinkState };
 
-    /// Returns the number of failed puts, or `u64::MAX` if they are more.
+    /// Returns the number of failed puts, or `u64::MAX` if there were more.
     fn failures(&self) -> u64
         ensures count { result ≡ (state self.now).failures };
 
-    /// Offers a piece and returns how many of its first bytes were taken.
+    /// Offers a piece to the sink. Returns how many of its first bytes were taken.
     ///
-    /// Counts one more failure exactly if this returns an error, or takes none of a nonempty piece,
-    /// up to `u64::MAX`. A sink over a borrowed buffer takes all of a nonempty piece if it fits.
+    /// The number of failures rises by one exactly if this returns an error, or takes no byte of a
+    /// nonempty piece. It stays at `u64::MAX` once it is there. A sink over a borrowed buffer takes
+    /// a nonempty piece whole if it fits.
     ///
     /// # Errors
     ///
-    /// [`SinkFault`] if the sink refuses; it may have taken a leading part of the piece.
+    /// [`SinkFault`] if the sink refuses the piece. It may have taken a first part of the piece.
     fn put(&mut self, piece: &[u8]) -> Result<usize, SinkFault>
         ensures puts { PutsPiece (state self.old) (state self.new) result piece.now };
 }
 
-/// Why a text was not written in full. A leading part may have been taken, and nothing was put
-/// after the fault.
+/// Why a text was not written in full. The sink may have taken a first part of it. Nothing was put
+/// after the failure.
 ///
 /// ```rust
 /// let fault = WriteFault::TookNothing;
@@ -92,15 +95,15 @@ impl From<SinkFault> for WriteFault {
 
 /// Puts a piece into `sink`, and then what is left of it, until all of it is taken.
 ///
-/// On `Ok` the sink has taken exactly the piece more, and counted no failure. An empty piece is not
-/// put at all, and is always `Ok`.
+/// On `Ok` the sink has taken exactly the bytes of the piece, and has counted no failure. An empty
+/// piece is not put at all, and is always `Ok`.
 ///
 /// # Errors
 ///
-/// The first failed put ends the call; the sink has then taken a leading part of the piece, and
+/// The first failed put ends the call. The sink has then taken a first part of the piece, and has
 /// counted one more failure.
 ///
-/// - [`WriteFault::Sink`] if the sink refused;
+/// - [`WriteFault::Sink`] if the sink refused.
 /// - [`WriteFault::TookNothing`] if it took no byte.
 ///
 /// ```rust
@@ -124,7 +127,7 @@ pub fn put_all<S: Sink>(sink: &mut S, piece: &[u8]) -> Result<(), WriteFault>
     Ok(())
 }
 
-/// A sink over a slice: fills it from the start, and refuses once it is full.
+/// A sink over a slice. It fills the slice from the start, and refuses once the slice is full.
 ///
 /// ```rust
 /// let mut buffer = [0; 3];
@@ -164,7 +167,7 @@ pub struct SliceSink<'a> {
 impl<'a> SliceSink<'a> {
     ghost use Rattle.hex_io.specs.SliceAndWriterSinks.{fresh_state, slice_state, written_bytes};
 
-    /// Returns a sink that has taken nothing, with all of `buf` free and no failure.
+    /// Returns a sink that has taken nothing. All of `buf` is free, and no put has failed.
     pub fn new(buf: &'a mut [u8]) -> SliceSink<'a>
         ensures fresh { slice_state result ≡ fresh_state buf.entry }
     {
@@ -196,10 +199,11 @@ impl Sink for SliceSink<'_> {
     ///
     /// # Errors
     ///
-    /// [`SinkFault`] exactly if `piece` is nonempty and the slice is full; nothing is taken then.
+    /// [`SinkFault`] exactly if `piece` is nonempty and the slice is full. Nothing is taken in this
+    /// case.
     fn put(&mut self, piece: &[u8]) -> Result<usize, SinkFault>
         ensures puts { PutsPiece (slice_state self.old) (slice_state self.new) result piece.now }
-        // Takes all that fits. A refusal takes nothing.
+        // A put takes all that fits, and a refused put takes nothing.
         ensures fits { TakesWhatFits self.old self.new result piece.now }
     {
         let free = self.buf.len() - self.used;
@@ -214,7 +218,7 @@ impl Sink for SliceSink<'_> {
     }
 }
 
-/// A sink over a writer: each put is one `write`, and no error is retried.
+/// A sink over a writer. Each put is one `write`, and no `write` is tried again.
 ///
 /// ```rust
 /// let mut sink = WriterSink::new(Vec::with_capacity(rt.alloc(), 4)?);
@@ -233,7 +237,7 @@ pub struct WriterSink<W: Write> {
 impl<W: Write> WriterSink<W> {
     ghost use Rattle.hex_io.specs.SliceAndWriterSinks.{IsFreshOver, kept_error, writer_of};
 
-    /// Returns a sink over `writer`, with no error and no failures.
+    /// Returns a sink over `writer` that has no error and no failures.
     pub fn new(writer: W) -> WriterSink<W>
         ensures fresh { IsFreshOver W.contents writer result }
     {
@@ -244,15 +248,15 @@ impl<W: Write> WriterSink<W> {
         }
     }
 
-    /// Returns the writer's last error, if any. A `write` that took none of a nonempty piece is a
-    /// failure without an error.
+    /// Returns the last error of the writer, if there was one. If a `write` took no byte of a
+    /// nonempty piece, this is a failure without an error.
     pub fn last_error(&self) -> Option<&io::Error>
         ensures error { option_copied result ≡ kept_error self.now }
     {
         self.last_error.as_ref()
     }
 
-    /// Returns the writer, with what it took; writes and flushes nothing.
+    /// Returns the writer. Nothing is written or flushed.
     pub fn into_inner(self) -> W
         ensures writer { result ≡ writer_of self }
     {
@@ -273,10 +277,11 @@ impl<W: Write> Sink for WriterSink<W> {
     ///
     /// # Errors
     ///
-    /// [`SinkFault`] if the writer returned an error, which is kept; nothing is taken then.
+    /// [`SinkFault`] if the writer returned an error, which the sink keeps. Nothing is taken in
+    /// this case.
     fn put(&mut self, piece: &[u8]) -> Result<usize, SinkFault>
         ensures puts { PutsIntoWriter W.contents self.old self.new result piece.now }
-        // A refusal takes nothing and keeps an error: no clause can name which.
+        // A refused put takes nothing and keeps an error. No clause can say which error that is.
         ensures error { KeepsError W.contents self.old self.new result }
     {
         match self.writer.write(piece) {

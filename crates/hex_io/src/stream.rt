@@ -1,5 +1,5 @@
-//! For digits that exceed memory: a decoder that is fed chunks of any length, and calls that decode
-//! or encode all that a reader gives into a sink, in constant memory.
+//! Streams of digits, which may be longer than memory. A decoder is fed chunks of any length. The
+//! functions decode or encode all that a reader gives into a sink, in constant memory.
 
 ghost use Rattle.std.specs.Prelude.{◌≡◌, ◌<◌, ◌≤◌, ◌↔◌, ◌∷◌, ◌++◌, ℕ, [], IsErrAnd, IsTrue, List, MatchResult, Some, if◌then◌else◌, length};
 ghost use Rattle.std.specs.Io.{ReadsAtMost};
@@ -29,7 +29,7 @@ use hex_core::{CheckCase, Error};
 use std::io::{self, ErrorKind, Read};
 use std::{error, fmt};
 
-// Bytes in a chunk, which has twice as many digits.
+// The number of bytes in a chunk. A chunk of digits is twice as long.
 const STREAM_CHUNK: usize = 8_192;
 
 /// An error of decoding or encoding a stream.
@@ -40,11 +40,11 @@ const STREAM_CHUNK: usize = 8_192;
 /// ```
 #[derive(Clone, Copy, Debug, PartialEq, Eq)]
 pub enum StreamFault {
-    /// A read failed, and was not just interrupted.
+    /// A read failed, for another reason than an interrupt.
     Read,
-    /// The digits are refused, or the number of bytes exceeds `usize`.
+    /// A byte is invalid, the number of digits is odd, or the number of bytes exceeds `usize`.
     Codec(Error),
-    /// A put failed.
+    /// The sink failed.
     Write(WriteFault),
 }
 
@@ -78,22 +78,22 @@ impl From<WriteFault> for StreamFault {
     }
 }
 
-/// Decodes all that a reader gives into a sink, and returns the number of decoded bytes.
+/// Decodes all that a reader gives into a sink. Returns the number of decoded bytes.
 ///
-/// Allocates nothing: two buffers on the stack serve a stream of any length. Retries interrupted
-/// reads.
+/// Nothing is allocated, because two buffers on the stack suffice for a stream of any length. A
+/// read that was interrupted is tried again.
 ///
 /// # Errors
 ///
-/// Each comes after the bytes of earlier chunks were put:
+/// If an error comes, the bytes of earlier chunks were already put.
 ///
-/// - [`StreamFault::Read`] if a read failed;
-/// - [`StreamFault::Codec`] with [`Error::InvalidChar`], which has the first byte that is not a hex
-///   digit, and its index in the stream: then the bytes of the whole pairs of the chunks before
-///   were put, and nothing of its own chunk;
-/// - [`StreamFault::Codec`] with [`Error::OddLength`] if all are digits and the last one has no
-///   partner: then the bytes of all whole pairs were put;
-/// - [`StreamFault::Codec`] with [`Error::Overflow`] if the number of digits exceeds `usize`;
+/// - [`StreamFault::Read`] if a read failed.
+/// - [`StreamFault::Codec`] with [`Error::InvalidChar`] if `case` does not accept a byte as a
+///   digit. The error has the first such byte and its index in the stream. The bytes of the whole
+///   pairs in the chunks before were put, and nothing of the chunk with that byte.
+/// - [`StreamFault::Codec`] with [`Error::OddLength`] if all bytes are digits and their number is
+///   odd. The bytes of all whole pairs were put.
+/// - [`StreamFault::Codec`] with [`Error::Overflow`] if the number of digits exceeds `usize`.
 /// - [`StreamFault::Write`] if a put failed.
 ///
 /// ```rust
@@ -115,13 +115,13 @@ pub fn decode_stream<R: Read, S: Sink>(
     decode_by_decoder(reader, sink, Decoder::new(case))
 }
 
-/// Like [`decode_stream`], but skips ASCII white space among the digits, as `xxd -p` and `openssl`
-/// print it.
+/// Does the same as [`decode_stream`], but skips ASCII white space among the digits. So it reads
+/// what `xxd -p` and `openssl` print.
 ///
 /// # Errors
 ///
-/// Those of [`decode_stream`], at the same events. [`Error::InvalidChar`] has the first byte that
-/// is neither white space nor a hex digit, and its index in the whole stream.
+/// The errors are those of [`decode_stream`], in the same cases. [`Error::InvalidChar`] has the
+/// first byte that is neither white space nor an accepted digit, and its index in the whole stream.
 ///
 /// ```rust
 /// let mut input: &[u8] = b"6865 6C6\nc6f\n";
@@ -172,17 +172,17 @@ fn decode_by_decoder<R: Read, S: Sink>(
     }
 }
 
-/// Writes the digits of all that a reader gives into a sink, and returns the number of bytes read.
+/// Encodes all that a reader gives into a sink. Returns the number of bytes read.
 ///
-/// Allocates nothing: two buffers on the stack serve a stream of any length. Retries interrupted
-/// reads.
+/// Nothing is allocated, because two buffers on the stack suffice for a stream of any length. A
+/// read that was interrupted is tried again.
 ///
 /// # Errors
 ///
-/// Each comes after the digits of earlier chunks were put:
+/// If an error comes, the digits of earlier chunks were already put.
 ///
-/// - [`StreamFault::Read`] if a read failed;
-/// - [`StreamFault::Codec`] with [`Error::Overflow`] if the number of bytes exceeds `usize`;
+/// - [`StreamFault::Read`] if a read failed.
+/// - [`StreamFault::Codec`] with [`Error::Overflow`] if the number of bytes exceeds `usize`.
 /// - [`StreamFault::Write`] if a put failed.
 ///
 /// ```rust
@@ -203,14 +203,15 @@ pub fn encode_stream<R: Read, S: Sink>(
     encode_by(reader, sink, upper, None)
 }
 
-/// Like [`encode_stream`], but writes the digits in groups, as
-/// [`put_digits`](crate::format::put_digits) does those of all the bytes at once: however the reader
-/// cuts them, a separator stands between two pieces, and none before the first or behind the last.
+/// Does the same as [`encode_stream`], but writes the digits in groups. The text is that of
+/// [`put_digits`](crate::format::put_digits) for all the bytes at once, however the reader cuts
+/// them. There is a separator between two pieces, and none before the first piece or after the last
+/// one.
 ///
 /// # Errors
 ///
-/// Those of [`encode_stream`], at the same events. The sink has taken the grouped text of what was
-/// read before, or a leading part of it if a put failed.
+/// The errors are those of [`encode_stream`], in the same cases. The sink has taken the grouped
+/// text of what was read before. If a put failed, it has taken a first part of that text.
 ///
 /// ```rust
 /// use hex_codec::Group;
@@ -235,7 +236,7 @@ pub fn encode_grouped_stream<R: Read, S: Sink>(
     encode_by(reader, sink, upper, Some(group))
 }
 
-// Writes the digits of all that a reader gives into a sink, in groups if there is a group.
+// Encodes all that a reader gives into a sink, in groups if there is a group.
 fn encode_by<R: Read, S: Sink>(
     reader: &mut R,
     sink: &mut S,
@@ -266,8 +267,9 @@ fn encode_by<R: Read, S: Sink>(
     }
 }
 
-// How many bytes to ask for behind `total` others: to the end of a piece that those begin, else whole
-// pieces, so that what is read stands in one piece or begins one.
+// Returns how many bytes to ask for after `total` others. If those end inside a piece, it is at
+// most the rest of that piece, and otherwise it is whole pieces, or a chunk of a longer piece. So
+// the bytes that are read lie in one piece or begin one.
 fn next_len(group: Option<Group>, total: usize) -> usize
     ensures some { 0 < result }
     ensures short { result ≤ STREAM_CHUNK }
@@ -283,9 +285,9 @@ fn next_len(group: Option<Group>, total: usize) -> usize
     STREAM_CHUNK - STREAM_CHUNK % group.every().min(STREAM_CHUNK)
 }
 
-// Writes what the digits of `bytes` add to those of `total` bytes before them into the start of
-// `buffer`, and returns it: their own digits, in groups if there is a group, and a separator before
-// them where they begin a piece that is not the first.
+// Writes to `buffer` what the digits of `bytes` add to those of `total` bytes before them, and
+// returns it. These are their own digits, in groups if there is a group. If the bytes begin a piece
+// that is not the first, a separator comes before their digits.
 fn added_digits<'b>(
     bytes: &[u8],
     upper: bool,
@@ -307,8 +309,8 @@ fn added_digits<'b>(
     }
 }
 
-// Writes the grouped text of `bytes` into `buffer`, behind a separator if they follow a piece, and
-// returns both.
+// Writes the grouped text of `bytes` to `buffer` and returns it. If the bytes follow a piece, the
+// result begins with a separator.
 fn separated<'b>(
     bytes: &[u8],
     upper: bool,
@@ -325,7 +327,8 @@ fn separated<'b>(
     &buffer[usize::from(!follows)..1 + end]
 }
 
-// The result at the end of a stream: the number of decoded bytes, or the error of odd length.
+// Returns the result at the end of a stream, which is the number of decoded bytes or the error of
+// an odd length.
 fn ended(decoder: Decoder, total: usize) -> Result<usize, StreamFault>
     ensures { (fed written : List ℕ) → HasFed decoder fed written → total ≡ length written → MatchResult result
         (λ count. Spells (reading_of decoder).case (digits_in (reading_of decoder) fed) written × (count ≡ length written))
@@ -338,7 +341,7 @@ fn ended(decoder: Decoder, total: usize) -> Result<usize, StreamFault>
     }
 }
 
-// One read, retried if interrupted.
+// Reads once. If the read is interrupted, it is tried again.
 fn read_again<R: Read>(reader: &mut R, buf: &mut [u8]) -> io::Result<usize>
     ensures bound { ReadsAtMost result buf.new }
     ensures bytes { ReadConsumes (R.remaining reader.old) (R.remaining reader.new) result buf.new }
@@ -352,7 +355,7 @@ fn read_again<R: Read>(reader: &mut R, buf: &mut [u8]) -> io::Result<usize>
     Err(io::Error::from(ErrorKind::Interrupted))
 }
 
-// Whether a read returned nothing because it was interrupted.
+// Returns whether a read failed because it was interrupted.
 fn was_interrupted(answer: &io::Result<usize>) -> bool
     ensures { IsTrue result ↔ IsErrAnd answer.now (λ e. error_kind e ≡ ErrorKind.Interrupted) }
 {

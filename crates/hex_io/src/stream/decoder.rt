@@ -1,6 +1,7 @@
-//! Decodes digits that come in chunks of any length, as from a file or a socket.
+//! Decodes digits that come in chunks of any length, for instance from a file or a socket.
 //!
-//! Encoding by chunks needs no state: the text of a joined list is the texts joined.
+//! Encoding in chunks needs no state, because the text of two lists joined is their two texts
+//! joined.
 //!
 //! ```rust
 //! let mut text = [0; 6];
@@ -19,22 +20,25 @@ ghost use Rattle.hex_io.specs.inside.{DecodesChunk, DecodesDigits, invalid_read_
 use crate::stream::unspaced::copy_unspaced;
 use hex_core::{Backend, CheckCase, Error, digit_value};
 
-// Bytes that are freed of white space at a time.
+// The number of bytes from which white space is removed at once.
 const SPACED_BLOCK: usize = 2_048;
 
-// How a source is read: under which policy, and whether white space among its digits is skipped.
+// How a source is read, which means by which policy, and whether white space among its digits is
+// skipped.
 #[derive(Clone, Copy, Debug, PartialEq, Eq)]
 struct Reading {
     case: CheckCase,
     skips: bool,
 }
 
-/// Decodes digits that are fed to it in chunks, each of which may end within a pair.
+/// A decoder decodes digits that are fed to it in chunks. A chunk may end inside a pair of digits.
 ///
-/// It keeps its policy, the number of bytes fed, and the digit that waits for its partner. Its
-/// outputs, joined, are the bytes of all digits fed, except for a digit that waits, whatever the
-/// chunks were. An error is about the digits so far: a chunk `0g1` gives the `g`, while one call
-/// gives the odd length. Allocates nothing.
+/// It keeps its policy, the number of bytes fed, and a digit that waits for the second digit of its
+/// pair. Its outputs, joined, are the bytes of all digits fed, except for a digit that waits. The
+/// lengths of the chunks do not matter. Nothing is allocated.
+///
+/// An error is about the digits that were fed so far. For example, a chunk `0g1` gives the invalid
+/// byte `g`, but one call for these three bytes gives the odd length.
 ///
 /// ```rust
 /// let mut decoder = Decoder::new(CheckCase::None);
@@ -52,14 +56,14 @@ pub struct Decoder {
     // The digit that waits was tested when it came.
     ghost tested: { ForSome waiting (λ digit. IsSome (value reading.case digit)) },
     ghost counted: { length (option_to_list waiting) ≤ position },
-    // Of digits alone one waits exactly if an odd number came so far.
+    // Without white space, a digit waits exactly if an odd number of bytes was fed.
     ghost paired: { reading.skips ≡ false → position % 2 ≡ length (option_to_list waiting) },
 }
 
 impl Decoder {
     ghost use Rattle.hex_io.specs.Decoder.{Feeds, Finished, HasFed, position_of, reading_of, waiting_in};
 
-    /// Returns a decoder that has been fed nothing and accepts the letters of `case`.
+    /// Returns a decoder that has been fed nothing and accepts the digits of `case`.
     pub fn new(case: CheckCase) -> Decoder
         ensures reading { reading_of result ≡ plain case }
         ensures fresh { HasFed result [] [] }
@@ -71,9 +75,9 @@ impl Decoder {
         }
     }
 
-    /// Returns a decoder like [`new`](Decoder::new) that skips ASCII white space, also between the
-    /// two digits of a pair: it reads what `xxd -p` and `openssl` print, and lines that a mail
-    /// program wrapped.
+    /// Returns a decoder like [`new`](Decoder::new) that skips ASCII white space, even between the
+    /// two digits of a pair. It reads what `xxd -p` and `openssl` print, and lines that a mail
+    /// program has wrapped.
     ///
     /// White space is a space, tab, newline, form feed or carriage return.
     ///
@@ -94,7 +98,8 @@ impl Decoder {
         decoder
     }
 
-    /// Returns the number of bytes fed, which is the index of the next one.
+    /// Returns the number of bytes fed, which is the index of the next one. Skipped bytes count
+    /// too.
     ///
     /// ```rust
     /// let mut decoder = Decoder::new(CheckCase::None);
@@ -107,17 +112,20 @@ impl Decoder {
         self.position
     }
 
-    /// Takes more digits, decodes all pairs that are now whole into the start of `dst`, and returns
-    /// the number of bytes written. The bytes after them are unchanged.
+    /// Takes the next chunk, and decodes all pairs that are now whole into the start of `dst`.
+    /// Returns the number of bytes written. The bytes of `dst` after them are unchanged.
     ///
     /// # Errors
     ///
-    /// In this order; each leaves `dst` and the decoder unchanged, so that it may be fed again:
+    /// The conditions are tested in this order. Each error leaves `dst` and the decoder unchanged,
+    /// so you can feed it again.
     ///
-    /// 1. [`Error::Overflow`] if the number of all bytes fed exceeds `usize`;
-    /// 2. [`Error::OutputTooSmall`] with the number of bytes that this feed writes;
-    /// 3. [`Error::InvalidChar`] with the first byte that is not a hex digit, nor skipped, and its
-    ///    index in all bytes fed, even if it would wait for a partner.
+    /// 1. [`Error::Overflow`] if the number of all bytes fed exceeds `usize`.
+    /// 2. [`Error::OutputTooSmall`] if `dst` has fewer bytes than this call writes. The error has
+    ///    that number.
+    /// 3. [`Error::InvalidChar`] if a byte is neither an accepted digit nor skipped. The error has
+    ///    the first such byte and its index in all bytes fed. The last byte is tested too, even if
+    ///    a digit there would wait.
     ///
     /// ```rust
     /// let mut decoder = Decoder::new(CheckCase::None);
@@ -158,11 +166,11 @@ impl Decoder {
         Ok(required)
     }
 
-    /// Ends the decoding: all digits fed must be whole pairs.
+    /// Ends the decoding. All digits fed must be whole pairs.
     ///
     /// # Errors
     ///
-    /// [`Error::OddLength`] if a digit waits for its partner: it is the last one fed.
+    /// [`Error::OddLength`] if the last digit fed waits for the second digit of its pair.
     ///
     /// ```rust
     /// let mut decoder = Decoder::new(CheckCase::None);
@@ -178,8 +186,9 @@ impl Decoder {
         Ok(())
     }
 
-    // How many digits a chunk has, if each byte is one that should be; and whether each is, where
-    // white space is skipped: else decoding finds out.
+    // Returns how many digits a chunk has if all its bytes are valid. If white space is skipped, it
+    // also returns whether they are. Otherwise that value is not used, because decoding tests the
+    // bytes.
     #[inline(always)]
     fn survey(&self, src: &[u8]) -> (usize, bool)
         ensures count { result.0 ≡ length (digits_in (reading_of self.now) src.now) }
@@ -193,7 +202,7 @@ impl Decoder {
         }
     }
 
-    // Pairs that so many more digits complete.
+    // Returns how many pairs are completed by so many more digits.
     fn whole_pairs(&self, digits: usize) -> usize
         ensures { result ≡ (length (waiting_in self.now) + digits) / 2 }
     {
@@ -204,8 +213,9 @@ impl Decoder {
         }
     }
 
-    // Decodes the pairs that a surveyed chunk completes, and returns the digit that then waits; or
-    // nothing, if a byte should be a digit and is none. Without white space it is taken as it is.
+    // Decodes the pairs that a chunk completes, whose `count` and `is_clean` come from `survey`.
+    // Returns the digit that then waits, if there is one. Returns `None` if a byte should be a
+    // digit and is not. A chunk without white space is decoded without a copy.
     #[inline(always)]
     fn decode(&self, src: &[u8], dst: &mut [u8], count: usize, is_clean: bool) -> Option<Option<u8>>
         requires count { count ≡ length (digits_in (reading_of self.now) src.now) }
@@ -224,7 +234,7 @@ impl Decoder {
         Some(decode_spaced(self.waiting, src, dst, case))
     }
 
-    // The index of the first byte of a chunk that should be a digit and is none.
+    // Returns the index of the first byte of a chunk that should be a digit and is not.
     fn first_invalid_read(&self, src: &[u8]) -> Option<usize>
         ensures { result ≡ first_invalid_read (reading_of self.now) src.now }
     {
@@ -236,7 +246,7 @@ impl Decoder {
             && digit_value(*byte, case).is_none())
     }
 
-    // That byte as an error, with its index in all bytes fed.
+    // Returns that byte as an error, with its index in all bytes fed.
     #[cold]
     fn error_in(&self, src: &[u8]) -> Error
         requires invalid { first_invalid_read (reading_of self.now) src.now ≢ None }
@@ -251,7 +261,7 @@ impl Decoder {
     }
 }
 
-// How many bytes of a source are no white space, and whether all of these are digits.
+// Returns how many bytes of a source are not white space, and whether all of these are digits.
 fn survey(src: &[u8], case: CheckCase) -> (usize, bool)
     ensures count { result.0 ≡ length (unspaced src.now) }
     ensures clean { IsTrue result.1 ↔ (first_invalid_read (spaced case) src.now ≡ None) }
@@ -269,7 +279,7 @@ fn survey(src: &[u8], case: CheckCase) -> (usize, bool)
     (count, clean)
 }
 
-// The same of a block.
+// Does the same for a block.
 fn survey_block(block: &[u8], case: CheckCase) -> (usize, bool)
     requires { length block.now ≤ SPACED_BLOCK }
     ensures count { result.0 ≡ length (unspaced block.now) }
@@ -280,7 +290,8 @@ fn survey_block(block: &[u8], case: CheckCase) -> (usize, bool)
     (count, Backend::plain().check(&digits[..count], case))
 }
 
-// Decodes digits among which white space stands and nothing else, and returns the one that then waits.
+// Decodes a source that has only digits and white space. Returns the digit that then waits, if
+// there is one.
 fn decode_spaced(mut waiting: Option<u8>, src: &[u8], dst: &mut [u8], case: CheckCase) -> Option<u8>
     requires tested { ForSome waiting (λ digit. IsSome (value case digit)) }
     requires valid { first_invalid_read (spaced case) src.now ≡ None }
@@ -296,7 +307,7 @@ fn decode_spaced(mut waiting: Option<u8>, src: &[u8], dst: &mut [u8], case: Chec
     waiting
 }
 
-// The same of a block, and how many bytes it gives.
+// Does the same for a block, and also returns the number of bytes written.
 fn decode_block(
     waiting: Option<u8>,
     block: &[u8],
@@ -318,7 +329,8 @@ fn decode_block(
     (next, (had + count) / 2)
 }
 
-// Decodes the pairs that more digits complete, and returns the digit that then waits.
+// Decodes the pairs that more digits complete. Returns the digit that then waits, if there is one.
+// Returns `None` if a byte is not a digit.
 #[inline(always)]
 fn decode_pairs(
     waiting: Option<u8>,
@@ -342,7 +354,8 @@ fn decode_pairs(
     Some(waiting)
 }
 
-// Decodes the whole pairs of digits, and returns the digit after them.
+// Decodes the whole pairs of a source. Returns the digit after them, if there is one. Returns
+// `None` if a byte is not a digit.
 #[inline(always)]
 fn decode_pairs_of(src: &[u8], dst: &mut [u8], case: CheckCase) -> Option<Option<u8>>
     requires { length src.now / 2 ≤ length dst.old }
@@ -353,7 +366,7 @@ fn decode_pairs_of(src: &[u8], dst: &mut [u8], case: CheckCase) -> Option<Option
     if !is_valid(waiting, case) {
         return None;
     }
-    // A chunk of one digit has no pair of its own, and needs no call.
+    // A chunk of one digit has no whole pair, so it needs no call.
     if end == 0 {
         return Some(waiting);
     }
@@ -363,7 +376,7 @@ fn decode_pairs_of(src: &[u8], dst: &mut [u8], case: CheckCase) -> Option<Option
     Some(waiting)
 }
 
-// The digit after the whole pairs of a source, if it has one.
+// Returns the digit after the whole pairs of a source, if it has one.
 #[inline(always)]
 fn digit_after(src: &[u8], end: usize) -> Option<u8>
     requires { length src.now ≤ end + 1 }
@@ -376,7 +389,7 @@ fn digit_after(src: &[u8], end: usize) -> Option<u8>
     }
 }
 
-// Whether a digit that is to wait, if there is one, is valid.
+// Returns whether a digit that is to wait is valid. If there is none, the result is true.
 #[inline(always)]
 fn is_valid(waiting: Option<u8>, case: CheckCase) -> bool
     ensures { IsTrue result ↔ ForSome waiting (λ digit. IsSome (value case digit)) }
@@ -387,7 +400,8 @@ fn is_valid(waiting: Option<u8>, case: CheckCase) -> bool
     }
 }
 
-// The byte of two digits, of which the first is valid.
+// Returns the byte of two digits, of which the first is valid. Returns `None` if the second one is
+// invalid.
 #[inline(always)]
 fn pair_byte(high: u8, low: u8, case: CheckCase) -> Option<u8>
     requires { IsSome (value case high) }

@@ -1,4 +1,4 @@
-//! Copies of bytes without their white space.
+//! Copies bytes without their white space.
 
 ghost use Rattle.std.specs.Prelude.{◌≡◌, ◌+◌, ◌*◌, ◌≤◌, length, map, nat_le, take};
 ghost use Rattle.std.specs.Simd.Lanes.{chunk, mask_l, put_chunk};
@@ -7,17 +7,19 @@ ghost use Rattle.hex_io.specs.inside.{HasCopied};
 
 use std::simd::prelude::*;
 
-// Bytes looked at, and bytes copied, at a time.
+// The number of bytes that are tested at once, and of those that are copied at once.
 const LANES: usize = 32;
 
-/// Copies the bytes that are no white space to the start of a block, and returns their number.
+/// Copies the bytes of `src` that are not white space to the start of `block`. Returns their
+/// number.
 pub fn copy_unspaced<const N: usize>(src: &[u8], block: &mut [u8; N]) -> usize
     requires { length src.now ≤ N }
     ensures copied { take result block.new ≡ unspaced src.now }
     ensures room { result ≤ N }
 {
     let mut count = 0;
-    // A run is copied with some bytes behind it, which are there behind each whole block but the last.
+    // A run is copied with some bytes after it. There are such bytes after each whole block except
+    // the last one.
     let blocks = (src.len() / LANES).saturating_sub(1);
     'turns: for i in 0..blocks {
         count = copy_runs(src, LANES * i, block, count);
@@ -25,8 +27,9 @@ pub fn copy_unspaced<const N: usize>(src: &[u8], block: &mut [u8; N]) -> usize
     copy_each(src, LANES * blocks, block, count)
 }
 
-// The same for `LANES` bytes from `start` on, behind the `had` bytes that the block has. A run ends
-// before each byte that may be white space, which is copied only if it is none.
+// Does the same for the `LANES` bytes from index `start` on, which it copies after the `had` bytes
+// in the block. A run ends before each byte that may be white space. That byte is copied only if it
+// is not white space.
 #[inline(always)]
 fn copy_runs(src: &[u8], start: usize, block: &mut [u8], had: usize) -> usize
     requires near { start + 2 * LANES ≤ length src.now }
@@ -50,7 +53,7 @@ fn copy_runs(src: &[u8], start: usize, block: &mut [u8], had: usize) -> usize
     count + (end - at)
 }
 
-// A mask whose bit i is set if lane i is at most a space, as all white space is.
+// Returns a mask whose bit i is set exactly if lane i is at most a space. All white space is.
 #[inline(always)]
 fn low_bits(block: u8x32) -> u64
     ensures { result ≡ mask_l (map (λ b. nat_le b 32) block) }
@@ -58,7 +61,7 @@ fn low_bits(block: u8x32) -> u64
     block.simd_le(Simd::splat(b' ')).to_bitmask()
 }
 
-// Copies a whole vector, of which a run may be a part: what comes next is written over the rest.
+// Copies a whole vector, even if a run is only its first part. The next copy overwrites the rest.
 #[inline(always)]
 fn copy_lanes(src: &[u8], at: usize, block: &mut [u8], count: usize)
     requires src { at + LANES ≤ length src.now }
@@ -68,7 +71,7 @@ fn copy_lanes(src: &[u8], at: usize, block: &mut [u8], count: usize)
     u8x32::from_slice(&src[at..]).copy_to_slice(&mut block[count..]);
 }
 
-// The same for the bytes from `at` on, one by one.
+// Does the same for the bytes from index `at` on, one after the other.
 fn copy_each(src: &[u8], at: usize, block: &mut [u8], had: usize) -> usize
     requires at { at ≤ length src.now }
     requires room { length src.now ≤ length block.old }
