@@ -1,4 +1,4 @@
--- The checksum of what digits spell: the FNV-1a hash, of 64 bits.
+-- The checksum of the bytes that digits spell, which is the FNV-1a hash of 64 bits.
 use Rattle.std.specs.Prelude.{◌≡◌, ℕ, ◌*◌, ◌%◌, ◌^◌, bit_xor, fold, List, Option, None, Result, Ok, Err}
 use Rattle.std.specs.Io.KnownBytes.{Consumes, IsAtEnd}
 use Rattle.hex_core.specs.declared.digit.CheckCase.TheVariants as policy
@@ -8,7 +8,7 @@ use Rattle.hex_io.specs.Stream.{RefusedBy}
 use Rattle.hex_io.specs.declared.stream.StreamFault.{StreamFault}
 use Rattle.hex_io.specs.declared.stream.StreamFault.TheVariants.{Codec, Read, Write}
 
--- the checksum of some bytes and the next, by that of those before
+-- the checksum of some bytes and one more, by the checksum of those before it
 abbrev pub next_sum : ℕ → ℕ → ℕ
 next_sum sum byte = (bit_xor sum byte * 1099511628211) % 2 ^ 64
 
@@ -16,7 +16,8 @@ next_sum sum byte = (bit_xor sum byte * 1099511628211) % 2 ^ 64
 abbrev pub checksum : List ℕ → ℕ
 checksum bytes = fold next_sum 14695981039346656037 bytes
 
--- the checksum of what the digits of a whole reader spell, or why there is none
+-- the result for a reader: the checksum of the bytes that all its digits spell, or the error of its digits or
+-- of a read
 abbrev pub Sums : Option (List ℕ) → Option (List ℕ) → Result ℕ StreamFault → Type 0
 Sums before left (Ok sum) = (s : List ℕ) × (bytes : List ℕ) × Consumes before left s × IsAtEnd left × Spells policy.None (unspaced s) bytes × (sum ≡ checksum bytes)
 Sums before left (Err (Codec e)) = (s : List ℕ) × Consumes before left s × RefusedBy (spaced policy.None) s left e

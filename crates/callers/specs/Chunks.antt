@@ -9,14 +9,15 @@ use Rattle.hex_io.specs.Decoder.{PairsSpell, feed_refusal, position_of, reading_
 use Rattle.hex_io.specs.Reading.{plain}
 use Rattle.hex_io.specs.declared.stream.decoder.Decoder.{Decoder}
 
--- what two parts are refused for: the first part, else the second, else a digit without a partner
+-- the error of decoding two parts: that of the first part, else that of the second part, else an odd number
+-- of digits
 abbrev pub parts_refusal : List ℕ → List ℕ → ℕ → ℕ → Option Error
 parts_refusal first second front back = option_or (feed_refusal (plain policy.None) [] first front)
     (option_or (feed_refusal (plain policy.None) first second back) (if length (first ++ second) % 2 == 1 then Some OddLength else None))
 
--- a decoder was fed as many bytes as it counts, and wrote what the whole pairs of their digits spell.
--- `Ok`: with the bytes that are now at the start of the destination, so it did for all bytes; `Err`: the
--- refusal, and nothing changes
+-- a decoder that was fed anything is fed more. It had written what the whole pairs of its digits spell. After
+-- `Ok` this holds again, with the bytes that are now at the start of the destination. An error changes
+-- nothing
 abbrev pub DecodesMore : Decoder → Decoder → List ℕ → List ℕ → List ℕ → Result ℕ Error → Type 0
 DecodesMore decoder decoder' more old new result = let r = reading_of decoder in
     (fed : List ℕ) × (written : List ℕ) × (position_of decoder ≡ length fed) × PairsSpell r fed written × MatchResult result

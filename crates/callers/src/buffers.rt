@@ -1,4 +1,4 @@
-//! Callers that check slices of digits, and decode them into buffers and arrays, each proved.
+//! Functions that check slices of digits, and decode them into buffers and arrays. Each is proved.
 
 ghost use Rattle.std.specs.Prelude.{◌≡◌, ◌<◌, ◌↔◌, ◌++◌, ℕ, List, None, Some, IfSome, IsTrue, MatchResult, length, slice_get, slice_index, take};
 ghost use Rattle.std.specs.Bool.{OnFalse, OnTrue};
@@ -20,7 +20,7 @@ use hex_core::laws::{
     the_first_invalid_byte_is_the_first, what_lies_behind_the_blocks_stays,
 };
 
-/// Returns whether a text decodes to bytes, in either case.
+/// Returns whether a text decodes to bytes. Letters may have either case.
 ///
 /// ```rust
 /// assert!(rt; is_hex(b"00aBcD"));
@@ -46,14 +46,14 @@ pub fn is_canonical(digits: &[u8]) -> bool
     is_accepted(digits)
 }
 
-// Whether lowercase digits are accepted.
+// Returns whether a text decodes to bytes, with lowercase letters only.
 fn is_accepted(digits: &[u8]) -> bool
     ensures { IsTrue result ↔ (source_refusal policy.Lower digits.now ≡ None) }
 {
     digits.len() % 2 == 0 && hex_check_with_case(digits, CheckCase::Lower)
 }
 
-/// Returns the index of the first of eight bytes that is not a digit, if decoding them names one.
+/// Returns the index of the first invalid byte of eight digits, if decoding them returns it.
 ///
 /// ```rust
 /// assert_eq!(rt; invalid_place(b"deadbe3g"), Some(7));
@@ -70,7 +70,8 @@ pub fn invalid_place(text: &[u8]) -> Option<usize>
     }
 }
 
-/// Decodes a record into the start of a buffer, and returns its first byte, its tag.
+/// Decodes a record into the start of a buffer. Returns its first byte, which is its tag, or `None`
+/// if the record is empty.
 ///
 /// ```rust
 /// let mut buffer = [0; 4];
@@ -86,7 +87,8 @@ pub fn record_tag(src: &[u8], buffer: &mut [u8]) -> Result<Option<u8>, Error>
     Ok(buffer[..written].first().copied())
 }
 
-/// Decodes the header of a record of 40 digits: four bytes from its first eight digits.
+/// Decodes a record of 40 digits. Returns its header, which is the four bytes of the first eight
+/// digits.
 ///
 /// ```rust
 /// let header = read_header(b"7f454c46020101000000000000000000fe003e00");
@@ -103,7 +105,8 @@ pub fn read_header(digits: &[u8]) -> Result<[u8; 4], Error>
     Ok(header)
 }
 
-/// Decodes a key of four bytes and a value of eight from two texts: joined, they spell both joined.
+/// Decodes a key of four bytes and a value of eight bytes from two texts. The two texts joined
+/// spell the two joined.
 ///
 /// ```rust
 /// let pair = read_pair(b"6B657931", b"0001020304050607");
@@ -120,8 +123,8 @@ pub fn read_pair(key: &[u8], value: &[u8]) -> Result<([u8; 4], [u8; 8]), Error>
     Ok((key, value))
 }
 
-/// Decodes a page under a plan. On failure, some of its blocks may be written, but its last byte is
-/// unchanged, under every plan.
+/// Decodes a page by a plan. If it fails, some blocks of the page may be written. The last byte is
+/// unchanged, whatever the plan is.
 ///
 /// ```rust
 /// let mut page = [7; 64];

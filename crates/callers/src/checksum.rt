@@ -1,4 +1,5 @@
-//! A hasher as a sink, and the checksum of what a reader's digits spell, each proved.
+//! A hasher that is a sink, and the checksum of the bytes that the digits of a reader spell. Each
+//! function is proved.
 
 ghost use Rattle.std.specs.Prelude.{◌≡◌, ◌++◌, ◌∷◌, ℕ, List, None, Ok, Some, [], length};
 ghost use Rattle.callers.specs.Checksums.{Sums, checksum};
@@ -10,7 +11,8 @@ use std::marker::Model;
 use std::mem;
 use std::snapshot::Snapshot;
 
-// The last of some bytes, and those before it. A snapshot has no memory: contracts alone see its value.
+// A list of bytes, as its last byte and a snapshot of the bytes before it. A snapshot takes no
+// memory. Only contracts see its value.
 #[derive(Drop)]
 #[cycle(log)]
 struct Log {
@@ -32,7 +34,7 @@ impl Model for Log {
     ghost size_decreases = { λ log smaller. Prim.grind (arith, length-append) };
 }
 
-// Returns a snapshot of no bytes.
+// Returns a snapshot of an empty list.
 fn nothing() -> Snapshot<Log>
     ensures { result.value ≡ [] }
 {
@@ -42,7 +44,7 @@ fn nothing() -> Snapshot<Log>
     })
 }
 
-// Returns a snapshot of some bytes and one more.
+// Returns a snapshot of a list with one more byte.
 fn and_then(before: Snapshot<Log>, last: u8) -> Snapshot<Log>
     ensures { result.value ≡ before.value ++ last ∷ [] }
 {
@@ -52,7 +54,8 @@ fn and_then(before: Snapshot<Log>, last: u8) -> Snapshot<Log>
     })
 }
 
-/// A hasher by FNV-1a. Contracts see it as the bytes that it took, of which it keeps none.
+/// A hasher that computes the checksum FNV-1a. Contracts see it as the list of the bytes that it
+/// has taken. It does not store these bytes.
 #[derive(Drop)]
 pub struct Hasher {
     sum: u64,
@@ -68,7 +71,7 @@ impl Model for Hasher {
 }
 
 impl Hasher {
-    /// Returns a hasher that took nothing.
+    /// Returns a hasher that has taken nothing.
     pub fn new() -> Hasher
         ensures { result ≡ [] }
     {
@@ -78,7 +81,7 @@ impl Hasher {
         }
     }
 
-    /// Returns the checksum of what it took.
+    /// Returns the checksum of the bytes that it has taken.
     pub fn sum(&self) -> u64
         ensures { result ≡ checksum self.now }
     {
@@ -113,11 +116,13 @@ impl Sink for Hasher {
     }
 }
 
-/// Returns the checksum of the bytes that a reader's digits spell, with white space among them.
+/// Returns the checksum of the bytes that the digits of a reader spell. White space among the
+/// digits is skipped.
 ///
 /// # Errors
 ///
-/// Those of [`decode_spaced_stream`], but for [`StreamFault::Write`]: the hasher takes everything.
+/// The errors are those of [`decode_spaced_stream`], except for [`StreamFault::Write`], because the
+/// hasher takes every piece.
 ///
 /// ```rust
 /// let mut input: &[u8] = b"66 6f\n6F62 6172\n";

@@ -1,4 +1,4 @@
-//! Callers that decode digits in chunks, each proved.
+//! Functions that decode digits in chunks. Each is proved.
 
 ghost use Rattle.std.specs.Prelude.{◌≡◌, ◌++◌, ℕ, List, Some, MatchResult, length};
 ghost use Rattle.hex_core.specs.declared.digit.CheckCase.TheVariants as policy;
@@ -9,13 +9,13 @@ use faster_hex::stream::Decoder;
 use faster_hex::{CheckCase, Error};
 use hex_io::laws::{any_cutting_is_decoded_as_one_call, every_decoder_has_been_fed};
 
-/// Decodes digits in two parts, of which the first may end within a pair, each into the start of
-/// its own buffer, and returns the number of bytes in each.
+/// Decodes digits that come in two parts, each into the start of its own buffer. The first part may
+/// end inside a pair of digits. Returns the number of bytes in each buffer.
 ///
 /// # Errors
 ///
-/// The first part's error, then the second's, whose index counts from the start of the first part,
-/// and then [`Error::OddLength`] if the last digit has no partner.
+/// It returns the error of the first part, else that of the second part, else [`Error::OddLength`]
+/// if the number of digits is odd. An index counts from the start of the first part.
 ///
 /// ```rust
 /// let (mut front, mut back) = ([0xa5; 2], [0xa5; 3]);
@@ -42,11 +42,11 @@ pub fn decode_parts(
     Ok((one, two))
 }
 
-/// Decodes more digits with the caller's decoder into the start of a buffer, and returns the number
-/// of bytes written. An error leaves buffer and decoder unchanged.
+/// Decodes more digits by a decoder that the caller has, into the start of a buffer. Returns the
+/// number of bytes written. An error leaves the buffer and the decoder unchanged.
 ///
-/// Whatever the decoder was fed before, in whatever chunks, it has written the bytes of the whole
-/// pairs of all its digits.
+/// Whatever chunks the decoder was fed, it has written the bytes of the whole pairs of all its
+/// digits.
 ///
 /// ```rust
 /// use faster_hex::stream::Decoder;

@@ -1,4 +1,4 @@
-//! A digest as its own type, with a single text, proved.
+//! A digest as a type of its own, which has exactly one text. Each function is proved.
 
 ghost use Rattle.std.specs.Prelude.{◌≡◌, MatchResult, Ok, Some, IfOk, length};
 ghost use Rattle.std.specs.Cmp.Lexicographic.{slice_cmp};
@@ -16,7 +16,7 @@ use hex_core::laws::{
 use std::cmp::Ordering;
 use std::fmt;
 
-/// A digest of 32 bytes, written only as 64 lowercase digits.
+/// A digest of 32 bytes. Its only text is 64 lowercase digits.
 ///
 /// ```rust
 /// let digits = "2cf24dba5fb0a30e26e83b2ac5b9e29e1b161e5c1fa7425e73043362938b9824";
@@ -27,18 +27,21 @@ use std::fmt;
 /// ```
 #[derive(Clone, Copy, Debug, PartialEq, Eq)]
 pub struct Digest {
-    /// The bytes, in the order of their digits.
+    /// The bytes of the digest, in the order of their digits.
     pub bytes: [u8; 32],
 }
 
 impl Digest {
-    /// Returns the digest whose text this is.
+    /// Returns the digest that has this text.
     ///
     /// # Errors
     ///
-    /// In this order: [`Error::OddLength`] for an odd number of bytes, [`Error::LengthMismatch`]
-    /// for any even number but 64, and [`Error::InvalidChar`] for the first byte that is not a
-    /// lowercase digit.
+    /// The conditions are tested in this order.
+    ///
+    /// 1. [`Error::OddLength`] if the number of bytes is odd.
+    /// 2. [`Error::LengthMismatch`] if it is even and not 64.
+    /// 3. [`Error::InvalidChar`] if a byte is not a lowercase digit. The error has the first such
+    ///    byte and its index.
     pub fn parse(digits: &[u8]) -> Result<Digest, Error>
         ensures answer { MatchResult result
             (λ digest. Spells policy.Lower digits.now digest.bytes)
@@ -52,7 +55,8 @@ impl Digest {
         Ok(Digest { bytes })
     }
 
-    /// Writes the digest's 64 digits over a line, which [`Digest::parse`] reads as the digest.
+    /// Writes the 64 digits of the digest over `line`. [`Digest::parse`] reads them as the same
+    /// digest.
     ///
     /// ```rust
     /// let mut line = [0; 64];
@@ -68,7 +72,7 @@ impl Digest {
         hex_encode_into(&self.bytes, line, false).unwrap();
     }
 
-    /// Returns the digest that its own text is read as: itself.
+    /// Writes the digest and reads it back. Returns what was read, which is the same digest.
     ///
     /// ```rust
     /// let digest = Digest { bytes: [0xab; 32] };
@@ -82,8 +86,8 @@ impl Digest {
         Digest::parse(&line).unwrap()
     }
 
-    /// Compares two digests like their texts, without writing them: a table of bytes and a file of
-    /// digits have the same order.
+    /// Compares two digests as their texts compare, without writing the texts. So a table of bytes
+    /// and a file of digits have the same order.
     ///
     /// ```rust
     /// use std::cmp::Ordering;

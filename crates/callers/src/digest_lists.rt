@@ -1,4 +1,4 @@
-//! Callers that write and read the checksum file of one file, each proved.
+//! Functions that write and read the checksum file of one file. Each is proved.
 
 ghost use Rattle.std.specs.Prelude.{◌≡◌, IfOk, None, vec_items};
 ghost use Rattle.hex_core.specs.declared.digit.CheckCase.TheVariants as policy;
@@ -17,13 +17,14 @@ use hex_io::laws::{
 };
 use std::alloc::Global;
 
-/// Writes the line of one file into the start of a buffer, like `sha256sum`, and returns its
-/// length. It is the list of only that file.
+/// Writes the line of one file into the start of a buffer, as `sha256sum` prints it. Returns its
+/// length. This line is the list of this file alone.
 ///
 /// # Errors
 ///
-/// [`ListWriteFault::BadName`] if the name is empty or has a newline, and nothing is written then;
-/// [`ListWriteFault::Write`] if the line does not fit.
+/// - [`ListWriteFault::BadName`] if the name is empty or has a newline. Nothing is written in this
+///   case.
+/// - [`ListWriteFault::Write`] if the line does not fit the buffer.
 ///
 /// ```rust
 /// use callers::digest::Digest;
@@ -52,9 +53,10 @@ pub fn write_checksum(
     Ok(sink.written().len())
 }
 
-/// Reads a checksum file, and returns the digest of its first line, or `None` if it has none.
+/// Reads a checksum file. Returns the digest of its first line, or `None` if it has no line.
 ///
-/// If the file lists entries, the digest is that of the first, and only lack of memory is an error.
+/// If the file is the list of some entries, the result is the digest of the first one, and the only
+/// possible error is a failed allocation.
 ///
 /// ```rust
 /// let digest = "2cf24dba5fb0a30e26e83b2ac5b9e29e1b161e5c1fa7425e73043362938b9824";
@@ -76,8 +78,8 @@ pub fn read_checksum(alloc: Global, file: &[u8]) -> Result<Option<Digest>, ListF
     }
 }
 
-/// Reads a lowercase list exactly as it is written: its entries are written as this list, with a
-/// newline after the last line, and no name is refused then.
+/// Reads a list with lowercase digits. If its entries are written again, the result is this list,
+/// with a newline after the last line. Writing accepts all of its names.
 pub fn read_canonical<'a>(alloc: Global, list: &'a [u8]) -> Result<Vec<Entry<'a, 32>>, ListFault>
     ensures read { ReadsList policy.Lower 32 list.entry.now result }
     ensures written { IfOk result (λ entries. list_of lowercase (vec_items entries) ≡ with_last_newline list.entry.now) }

@@ -1,4 +1,5 @@
-//! A caller that writes a line of a dump, as `xxd -g` prints it without its text column, proved.
+//! Writes a line of a dump, as `xxd -g` prints it without its column of text. The function is
+//! proved.
 
 ghost use Rattle.std.specs.Prelude.{◌≡◌, ◌++◌, ◌∷◌, []};
 ghost use Rattle.hex_core.specs.Text.{lowercase, text};
@@ -9,8 +10,8 @@ use faster_hex::format::{put_all, put_digits};
 use faster_hex::{Group, Sink, WriteFault};
 use hex_io::laws::puts_in_a_row_are_one;
 
-/// Writes a line into any sink: its offset's eight digits, a colon, a space, its bytes in groups, and a
-/// newline.
+/// Puts a line of a dump into any sink. The line has the eight digits of its offset, a colon, a
+/// space, its bytes in groups, and a newline.
 ///
 /// ```rust
 /// let mut line = [0; 20];

@@ -1,4 +1,4 @@
-//! Callers that decode and encode grouped digits, each proved.
+//! Functions that decode and encode grouped digits. Each is proved.
 
 ghost use Rattle.std.specs.Prelude.{◌≡◌, ◌↔◌, IsTrue, ◌<◌, ◌≤◌, ◌%◌, ◌++◌, ◌∷◌, [], ℕ, List, Some, length};
 ghost use Rattle.hex_core.specs.declared.digit.CheckCase.TheVariants as policy;
@@ -19,8 +19,8 @@ use hex_codec::laws::{
 use hex_core::laws::a_new_front_is_the_front;
 use hex_io::laws::puts_in_a_row_are_one;
 
-/// Decodes a hardware address of six bytes in groups, like `00:00:5E:00:53:AF` in groups of one
-/// byte. Returns the six bytes of the text, if it has six.
+/// Decodes a hardware address of six bytes in groups. For example, `00:00:5E:00:53:AF` is in groups
+/// of one byte. Returns the six bytes, or `None` if the text is not the grouped text of six bytes.
 ///
 /// ```rust
 /// let address = read_address(b"00:00:5E:00:53:AF", Group::new(1, b':').unwrap());
@@ -39,7 +39,7 @@ pub fn read_address(text: &[u8], group: Group) -> Option<[u8; 6]>
     }
 }
 
-/// Returns whether a text is such an address, of at most six bytes.
+/// Returns whether a text is a grouped text of at most six bytes.
 ///
 /// ```rust
 /// assert!(rt; is_address(b"0000.5E00", Group::new(2, b'.').unwrap()));
@@ -55,7 +55,7 @@ pub fn is_address(text: &[u8], group: Group) -> bool
     }
 }
 
-/// Returns the length of such a text.
+/// Returns the length of the grouped text of six bytes.
 ///
 /// ```rust
 /// assert_eq!(rt; address_len(Group::new(2, b'.').unwrap()), 14);
@@ -67,7 +67,7 @@ pub fn address_len(group: Group) -> usize
     11 + 6_usize.div_ceil(group.every())
 }
 
-/// Writes such an address with a colon between two bytes.
+/// Writes the text of a hardware address over `line`, with a colon between two bytes.
 ///
 /// ```rust
 /// let mut line = [0; 17];
@@ -82,8 +82,8 @@ pub fn write_mac(address: &[u8; 6], line: &mut [u8; 17])
     write_into(address, line, colons, false).unwrap();
 }
 
-/// Decodes a line into the start of a buffer, only if it is the lowercase text of its bytes, and
-/// returns their number.
+/// Decodes a grouped line into the start of a buffer. Returns the number of bytes. Only the
+/// lowercase text of these bytes is accepted, so no two lines give the same bytes.
 ///
 /// ```rust
 /// let mut buffer = [0; 4];
@@ -99,7 +99,8 @@ pub fn read_canonical(line: &[u8], group: Group, buffer: &mut [u8]) -> Result<us
     read_into(line, buffer, group, CheckCase::Lower)
 }
 
-/// Writes the grouped text of two parts, of which the first is whole pieces, into any sink.
+/// Puts the grouped text of two parts into any sink. The first part must be whole pieces, and
+/// neither part may be empty.
 pub fn write_two_parts<S: Sink>(
     front: &[u8],
     back: &[u8],
@@ -117,7 +118,8 @@ pub fn write_two_parts<S: Sink>(
     put_digits(sink, back, false, Some(group))
 }
 
-/// Splits off the first piece of some bytes, which has a line of its own.
+/// Returns the first piece of some bytes, and the rest. The pieces of the bytes are the first piece
+/// and those of the rest.
 ///
 /// ```rust
 /// let group = Group::new(2, b' ').unwrap();

@@ -1,4 +1,4 @@
-//! Callers of the JSON modules, as a user writes them, each proved.
+//! Functions that use the JSON modules. Each is proved.
 
 ghost use Rattle.std.specs.Prelude.{◌≡◌, ◌≤◌, ℕ, List, None, Some, Ok, IfOk, IsFalse, IsTrue, codes, length, option_map, MatchResult, vec_items};
 ghost use Rattle.serde_json.specs.Data.{Data, string};
@@ -21,8 +21,9 @@ use faster_hex::{
 use serde_json::Value;
 use std::alloc::Global;
 
-/// Returns the identifier of a record: four bytes after `0x` in its field `id`, or `None` if it has
-/// none. Allocates nothing. The field is never read as another identifier.
+/// Returns the identifier of a record, which is four bytes after `0x` in its field `id`, or `None`
+/// if it has no such field. Allocates nothing. If the field holds an identifier, the result is that
+/// identifier.
 ///
 /// ```rust
 /// use serde_json::Value;
@@ -44,8 +45,8 @@ pub fn record_id(fields: &Value) -> Result<Option<[u8; 4]>, AdapterError>
     }
 }
 
-/// Writes an identifier as the value of such a field, which is read as the same. Fails only if
-/// memory runs out.
+/// Returns the value of such a field for an identifier. The value is read as the same identifier.
+/// It fails only if memory runs out.
 ///
 /// ```rust
 /// let id = write_id(rt.alloc(), &[0xab, 1, 0, 0xff])?;
@@ -61,8 +62,8 @@ pub fn write_id(alloc: Global, id: &[u8; 4]) -> Result<Value, AdapterError>
     array::serialize(alloc, id)
 }
 
-/// Reads a signature of at most 64 bytes: what an unbounded read returns, if it is as short. Then only
-/// memory can be lacking.
+/// Reads a signature of at most 64 bytes. If an unbounded read would return so few bytes, the
+/// result is the same, and the only possible error is a failed allocation.
 pub fn read_signature(alloc: Global, value: &Value) -> Result<Vec<u8>, AdapterError>
     ensures answer { AnswersRead wire.nopfx_ignorecase (Some 64) value.now result }
     ensures read { IfOk result (λ bytes. Reads wire.nopfx_ignorecase None (view value.now) (vec_items bytes)
@@ -74,7 +75,8 @@ pub fn read_signature(alloc: Global, value: &Value) -> Result<Vec<u8>, AdapterEr
     nopfx_ignorecase::deserialize_bounded::<64>(alloc, value)
 }
 
-/// Writes a note that may be missing as a value, and reads it back: it is the same, or memory ran out.
+/// Writes an optional note as a value, and reads it back. The result is the same note, or an error
+/// if memory runs out.
 ///
 /// ```rust
 /// let note = Some(Vec::from_slice(rt.alloc(), b"hi")?);
@@ -92,8 +94,8 @@ pub fn reread_note(alloc: Global, note: &Option<Vec<u8>>) -> Result<Option<Vec<u
     option_nopfx_uppercase::deserialize(alloc, &value)
 }
 
-/// Writes the identifier of a parent that may be missing as a value, and reads it back: it is the same,
-/// or memory ran out.
+/// Writes the optional identifier of a parent as a value, and reads it back. The result is the
+/// same, or an error if memory runs out.
 ///
 /// ```rust
 /// let parent = Some(*b"hello, 16 bytes!");
@@ -116,8 +118,8 @@ pub fn reread_parent(
     option_nopfx_lowercase::array::deserialize(&value)
 }
 
-/// Returns whether a value of an `option_` module is that of `None`. A list's never is, even an
-/// empty one's.
+/// Returns whether a value that a module `option_` has written is that of `None`. The value of a
+/// list never is, even if the list is empty.
 pub fn is_none_written(value: &Value, bytes: &[u8]) -> bool
     ensures none { WritesOption wire.nopfx_ignorecase None (view value.now) → IsTrue result }
     ensures list { WritesOption wire.nopfx_ignorecase (Some bytes.now) (view value.now) → IsFalse result }
@@ -126,7 +128,8 @@ pub fn is_none_written(value: &Value, bytes: &[u8]) -> bool
     value.is_null()
 }
 
-/// Reads a key of eight bytes, whose value is the one written for it: lowercase, without prefix.
+/// Reads a key of eight bytes. Its value must be the one that is written for it, with lowercase
+/// digits and without prefix.
 pub fn read_key(value: &Value) -> Result<[u8; 8], AdapterError>
     ensures { MatchResult result
         (λ key. view value.now ≡ string (wire_text wire.nopfx_lowercase key))

@@ -1,4 +1,5 @@
-//! Callers of `faster_hex` as a user writes them, each proved.
+//! Examples of code that uses `faster_hex`, written as a user would write them. Each function is
+//! proved.
 #![tactic(auto)]
 
 pub mod buffers;

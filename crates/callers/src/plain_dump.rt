@@ -1,4 +1,4 @@
-//! Callers that write a plain dump, as `xxd -p` prints it, and read it back, each proved.
+//! Functions that write a plain dump, as `xxd -p` prints it, and that read it back. Each is proved.
 
 ghost use Rattle.std.specs.Prelude.{◌≡◌, ◌++◌, ◌∷◌, ℕ, List, [], IfOk, length};
 ghost use Rattle.hex_core.specs.Laws.{AreBytes};
@@ -13,12 +13,12 @@ use hex_core::laws::{a_text_spells_one_list, decoding_inverts_encoding};
 use hex_io::laws::{a_grouped_text_unspaced_is_the_text, puts_in_a_row_are_one};
 use std::io::Read;
 
-/// Writes all that a reader gives in lines of 30 bytes, each with a newline, and none for no byte.
-/// Returns how many bytes these are.
+/// Puts the digits of all that a reader gives into a sink, in lines of 30 bytes. Each line ends
+/// with a newline. If there is no byte, there is no line. Returns the number of bytes.
 ///
 /// # Errors
 ///
-/// Those of [`encode_grouped_stream`]. The last line then lacks its newline.
+/// The errors are those of [`encode_grouped_stream`]. The last line then has no newline.
 ///
 /// ```rust
 /// let mut input: &[u8] = b"The quick brown fox jumps over the lazy dog";
@@ -36,7 +36,7 @@ pub fn write_dump<R: Read, S: Sink>(reader: &mut R, sink: &mut S) -> Result<usiz
     write_lines(reader, sink, Group::new(30, b'\n').unwrap())
 }
 
-// Writes lines, and a newline behind the last.
+// Puts the lines, and a newline after the last one.
 fn write_lines<R: Read, S: Sink>(
     reader: &mut R,
     sink: &mut S,
@@ -50,7 +50,7 @@ fn write_lines<R: Read, S: Sink>(
     Ok(count)
 }
 
-// Puts the newline behind the last line of so many bytes.
+// Puts the newline after the last line of a dump of `count` bytes.
 fn end_line<S: Sink>(sink: &mut S, count: usize) -> Result<(), WriteFault>
     ensures { Puts (S.state sink.old) (S.state sink.new) result (line_end count) }
 {
@@ -61,7 +61,7 @@ fn end_line<S: Sink>(sink: &mut S, count: usize) -> Result<(), WriteFault>
     put_all(sink, b"\n")
 }
 
-/// Reads the plain dump of some bytes: puts just these, and returns their number.
+/// Reads a plain dump, and puts the bytes whose dump it is into a sink. Returns their number.
 ///
 /// ```rust
 /// let mut buffer = [0; 4];

@@ -1,4 +1,4 @@
-//! A caller's own probe, and searches, each proved.
+//! A probe that a user has written, and searches. Each function is proved.
 
 ghost use Rattle.std.specs.Prelude.{◌≡◌, ◌++◌};
 ghost use Rattle.hex_core.specs.Search.{first_invalid, steps};
@@ -8,7 +8,7 @@ use hex_core::laws::{
     the_first_invalid_byte_is_the_first, the_first_invalid_byte_of_a_joined_source,
 };
 
-// A sector of a disk, which counts how often it is read.
+// A sector of a disk, which counts how it is read.
 #[derive(Drop)]
 struct Sector {
     bytes: [u8; 512],
@@ -52,10 +52,10 @@ impl Probe for Sector {
     }
 }
 
-/// What a search found, and its steps.
+/// What a search has found, and its steps.
 #[derive(Clone, Copy, Debug, PartialEq, Eq)]
 pub struct Found {
-    /// The index of the first invalid byte.
+    /// The index of the first invalid byte, or `None` if all bytes are valid.
     pub place: Option<usize>,
     /// The number of blocks tested.
     pub tests: usize,
@@ -91,7 +91,8 @@ pub fn find_in_sector(bytes: [u8; 512], case: CheckCase) -> Found
     }
 }
 
-/// Returns the index of the first invalid byte in two parts of one source, as in a ring buffer.
+/// Returns the index of the first invalid byte of a source that lies in two parts, as in a ring
+/// buffer.
 ///
 /// ```rust
 /// assert_eq!(rt; find_in_two_parts(b"00f", b"f0g", CheckCase::None), Some(5));

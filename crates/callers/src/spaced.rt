@@ -1,4 +1,4 @@
-//! A caller that decodes digits with white space among them, a chunk at a time, proved.
+//! Decodes digits with white space among them, one chunk after the other. The function is proved.
 
 ghost use Rattle.std.specs.Prelude.{◌≡◌, ◌≢◌, ◌++◌, ℕ, Err, IfOk, List, length, vec_items};
 ghost use Rattle.std.specs.Io.KnownBytes.{Consumes, IsAtEnd};
@@ -13,16 +13,16 @@ use hex_io::laws::{
 };
 use std::io::Read;
 
-/// Reads hex digits with white space among them to the end of a reader, appends the bytes that
-/// they spell to `bytes`, and returns how many these are.
+/// Reads all digits that a reader gives, and skips white space among them. Appends the bytes that
+/// they spell to `bytes`. Returns the number of these bytes.
 ///
 /// # Errors
 ///
-/// Each may leave bytes of earlier reads at the end of `bytes`:
+/// After an error, bytes of earlier reads may be left at the end of `bytes`.
 ///
-/// - [`StreamFault::Read`] if a read failed;
-/// - [`StreamFault::Codec`] with [`Error::OutOfMemory`] if memory runs out, and else with what the
-///   digits are refused for.
+/// - [`StreamFault::Read`] if a read failed.
+/// - [`StreamFault::Codec`] with [`Error::OutOfMemory`] if memory runs out, and otherwise with the
+///   error of the digits.
 ///
 /// ```rust
 /// let mut input: &[u8] = b"6865 6C6\nc6f\n";

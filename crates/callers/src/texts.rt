@@ -1,4 +1,4 @@
-//! Callers that keep digits as text, each proved.
+//! Functions that keep digits as text. Each is proved.
 
 ghost use Rattle.std.specs.Prelude.{◌≡◌, ◌+◌, ◌*◌, ◌≤◌, ◌++◌, MatchResult, codes, length, string_bytes, string_len, string_capacity};
 ghost use Rattle.std.specs.Str.{str_to_ascii_lowercase};
@@ -19,8 +19,8 @@ use hex_io::laws::a_text_is_put_from_its_front;
 use std::alloc::{AllocError, Allocator, Global};
 use std::str;
 
-/// Appends the digits of two parts to a text that has capacity for both, which can't fail: they are
-/// those of the joined parts.
+/// Appends the digits of two parts to a text. They are the digits of both parts joined. The
+/// capacity of the text suffices, so the function cannot fail.
 pub fn append_both<A: Allocator>(line: &mut String<A>, first: &[u8], second: &[u8])
     requires { string_len line.old + 2 * length first.now + 2 * length second.now
         ≤ string_capacity line.old }
@@ -31,8 +31,8 @@ pub fn append_both<A: Allocator>(line: &mut String<A>, first: &[u8], second: &[u
     hex_append_into(second, line, false).unwrap();
 }
 
-/// Appends the 32 digits of an identifier to a text, through a buffer on the stack. Fails only if
-/// memory runs out, and leaves the text unchanged then.
+/// Appends the 32 digits of an identifier to a text, through a buffer on the stack. It fails only
+/// if memory runs out, and then leaves the text unchanged.
 ///
 /// ```rust
 /// let mut line = String::new(rt.alloc());
@@ -54,7 +54,7 @@ pub fn append_identifier<A: Allocator>(
     line.push_str(str::from_utf8(digits).unwrap())
 }
 
-/// Returns digits of either case as new lowercase text, through their bytes.
+/// Decodes digits of either case, and returns the bytes as new lowercase digits.
 ///
 /// ```rust
 /// assert_eq!(rt; lowercased(rt.alloc(), b"00aBcD")?.as_str(), "00abcd");

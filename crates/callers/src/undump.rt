@@ -1,4 +1,4 @@
-//! A caller that reads a line of a dump, proved.
+//! Reads a line of a dump. The function is proved.
 
 ghost use Rattle.std.specs.Prelude.{◌≡◌, ◌≤◌, ◌++◌, ◌∷◌, [], ℕ, List, IfNone, IfSome, MatchOption, Some, length};
 ghost use Rattle.hex_core.specs.Laws.{AreBytes};
@@ -12,9 +12,10 @@ use hex_core::laws::{
     a_text_is_ascii_and_twice_as_long, decoding_inverts_encoding, encoding_inverts_strict_decoding,
 };
 
-/// Reads a line that [`write_line`](crate::dump::write_line) writes, without its newline: its bytes
-/// into the start of a buffer that is long enough. Returns its offset and their number, or `None` if
-/// the line is no such line of so few bytes, with the buffer unchanged.
+/// Reads a line that [`write_line`](crate::dump::write_line) has written, which is given without
+/// its newline. Decodes its bytes into the start of a buffer. Returns its offset and the number of
+/// its bytes. Returns `None` and leaves the buffer unchanged if it is not such a line, or if its
+/// bytes do not fit the buffer.
 ///
 /// ```rust
 /// let mut bytes = [0; 4];

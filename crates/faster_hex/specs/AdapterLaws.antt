@@ -1,4 +1,4 @@
--- Facts on the adapters that the definitions imply.
+-- Facts on the JSON formats that follow from the definitions alone.
 use Rattle.std.specs.Prelude.{◌≡◌, ◌≢◌, ◌≤◌, ◌↔◌, ℕ, List, length, Option, Some, None, MatchOption, ⊤}
 use Rattle.serde_json.specs.Data.{Data, string}
 use Rattle.hex_core.specs.Digit.{strict}
@@ -7,22 +7,23 @@ use Rattle.faster_hex.specs.declared.adapters.WireFormat.{WireFormat}
 use Rattle.faster_hex.specs.declared.adapters.AdapterError.TheVariants.{OverBound}
 use Rattle.faster_hex.specs.Adapters.{ReadFailure, Reads, ReadsItsOwn, ReadsOption, Writes, WritesOption, array_read_refusal, wire_text}
 
--- a bounded read accepts exactly what an unbounded one accepts with at most that many bytes
+-- a bounded read accepts exactly what an unbounded read accepts and what has at most that many bytes
 abbrev pub BoundedReadsWhatFits : Type 0
 BoundedReadsWhatFits = (p : WireFormat) (max : ℕ) (d : Data) (bytes : List ℕ)
     → Reads p (Some max) d bytes ↔ (Reads p None d bytes × (length bytes ≤ max))
 
--- a read without a bound has no `OverBound`, and neither has one into an array
+-- a read without a bound never returns `OverBound`
 abbrev pub UnboundedHasNoBound : Type 0
 UnboundedHasNoBound = (p : WireFormat) (d : Data) (max actual : ℕ)
     → ReadFailure p None d (OverBound max actual)
     → ⊥
 
+-- a read into an array never returns `OverBound`
 abbrev pub ArrayHasNoBound : Type 0
 ArrayHasNoBound = (p : WireFormat) (n : ℕ) (d : Data) (max actual : ℕ)
     → array_read_refusal p n d ≢ Some (OverBound max actual)
 
--- a format that reads what it writes reads the same bytes
+-- if a format accepts what it writes, the value that it writes for a list is read as that list
 abbrev pub ReadingInvertsWriting : Type 0
 ReadingInvertsWriting = (p : WireFormat) (bytes : List ℕ) (d : Data)
     → ReadsItsOwn p
@@ -30,7 +31,8 @@ ReadingInvertsWriting = (p : WireFormat) (bytes : List ℕ) (d : Data)
     → Writes p bytes d
     → Reads p None d bytes
 
--- the same for an `Option`
+-- if a format accepts what it writes, the value that it writes for an optional list is read as that optional
+-- list
 abbrev pub OptionReadingInvertsWriting : Type 0
 OptionReadingInvertsWriting = (p : WireFormat) (bytes : Option (List ℕ)) (d : Data)
     → ReadsItsOwn p
@@ -38,7 +40,7 @@ OptionReadingInvertsWriting = (p : WireFormat) (bytes : Option (List ℕ)) (d : 
     → WritesOption p bytes d
     → ReadsOption p None d bytes
 
--- no value is written both for `None` and for a list, also for the empty one
+-- no value is written both for `None` and for a list, not even for the empty list
 abbrev pub WritesNoneApart : Type 0
 WritesNoneApart = (p : WireFormat) (d : Data) (bytes : List ℕ)
     → WritesOption p None d
@@ -52,8 +54,8 @@ ReadsNoneApart = (p : WireFormat) (max : Option ℕ) (d : Data) (bytes : List �
     → ReadsOption p max d (Some bytes)
     → ⊥
 
--- a format that accepts only the letters that it writes reads as a list only the value that it writes for
--- that list
+-- if a format accepts only the letters that it writes, a value that is read as a list is the value that it
+-- writes for it
 abbrev pub WritingInvertsStrictReading : Type 0
 WritingInvertsStrictReading = (p : WireFormat) (d : Data) (bytes : List ℕ)
     → p.case ≡ strict p.upper

@@ -1,11 +1,11 @@
--- What an error of the adapters prints.
+-- The text that an error of the JSON modules prints.
 use Rattle.std.specs.Prelude.{ℕ, List, ◌++◌, codes}
 use Rattle.std.specs.Fmt.{decimal}
 use Rattle.hex_core.specs.Message.{error_text}
 use Rattle.faster_hex.specs.declared.adapters.AdapterError.{AdapterError}
 use Rattle.faster_hex.specs.declared.adapters.AdapterError.TheVariants.{NotText, InvalidPrefix, InvalidLength, OverBound, Codec}
 
--- the text of an error, byte for byte; that of the codec's error is its own
+-- the text of an error. For an error of the codec it is the text of that error
 abbrev pub adapter_error_text : AdapterError → List ℕ
 adapter_error_text NotText = codes "expected a string"
 adapter_error_text InvalidPrefix = codes "invalid prefix"

@@ -1,4 +1,5 @@
--- The six formats: whether `0x` comes before the digits, which letters are written, and which accepted.
+-- The six formats. Each says whether `0x` comes before the digits, whether letters are written in uppercase,
+-- and which letters are accepted.
 use Rattle.std.specs.Prelude.{true, false}
 use Rattle.hex_core.specs.declared.digit.CheckCase.TheVariants.{None, Lower, Upper}
 use Rattle.faster_hex.specs.declared.adapters.WireFormat.{WireFormat}

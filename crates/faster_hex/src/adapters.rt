@@ -1,7 +1,7 @@
-//! What the JSON modules share: their error, a format, and the functions that all twelve modules
-//! call.
+//! What the JSON modules share: their error, the type of a format, and the functions that all
+//! twelve modules call.
 //!
-//! Use these functions for a format or an allocator of your own, else the modules.
+//! Use these functions if you need your own format or allocator. Otherwise use the modules.
 
 ghost use Rattle.std.specs.Prelude.{◌≡◌, ◌<◌, ◌^◌, ◌/◌, ℕ, List, IsOk, None, Some, Ok, Err, length, option_map, string_bytes, MatchResult};
 ghost use Rattle.serde_json.specs.View.{view};
@@ -30,7 +30,7 @@ use std::{error, fmt};
 pub enum AdapterError {
     /// The value is not a string.
     NotText,
-    /// The string does not begin with `0x`, as the format requires.
+    /// The string does not begin with `0x`, which the format requires.
     InvalidPrefix,
     /// An odd number of bytes follows the prefix.
     InvalidLength,
@@ -38,11 +38,11 @@ pub enum AdapterError {
     OverBound {
         /// The maximum number of bytes of the read.
         max: usize,
-        /// How many bytes the digits would decode to.
+        /// The number of bytes that the digits would decode to.
         actual: usize,
     },
-    /// An invalid digit, a failed allocation or a wrong length. An index counts from the first
-    /// digit, without the prefix.
+    /// A digit is invalid, an allocation failed, or a length is wrong. An index counts from the
+    /// first digit, after the prefix.
     Codec(Error),
 }
 
@@ -72,7 +72,7 @@ impl From<Error> for AdapterError {
     }
 }
 
-/// A format of bytes as a JSON string. Each of the six modules has one, and reads what it writes.
+/// A format of bytes as a JSON string. Each of the six modules has one. It accepts what it writes.
 ///
 /// ```rust
 /// let format = WireFormat {
@@ -84,11 +84,11 @@ impl From<Error> for AdapterError {
 /// ```
 #[derive(Clone, Copy, Debug, PartialEq, Eq)]
 pub struct WireFormat {
-    /// Whether `0x` precedes the digits.
+    /// Whether `0x` comes before the digits.
     pub prefixed: bool,
-    /// Whether digits are written in uppercase.
+    /// Whether the letters are written in uppercase.
     pub upper: bool,
-    /// The letters accepted.
+    /// The policy that says which letters are accepted.
     pub case: CheckCase,
 }
 
@@ -135,7 +135,7 @@ impl WireFormat {
         case: CheckCase::Upper,
     };
 
-    /// Returns what precedes the digits: `0x`, or nothing.
+    /// Returns the bytes before the digits, which are `0x` or nothing.
     ///
     /// ```rust
     /// let prefix = WireFormat::WITHPFX_LOWERCASE.prefix();
@@ -148,7 +148,8 @@ impl WireFormat {
     }
 }
 
-// The payload of a value, an even number of bytes.
+// Returns the payload of a value, which is its string after the prefix. The payload has an even
+// number of bytes.
 fn payload_of(format: WireFormat, value: &Value) -> Result<&[u8], AdapterError>
     ensures { MatchResult result
         (λ payload. payload_in format (view value.now) ≡ Ok payload.now)
@@ -166,7 +167,8 @@ fn payload_of(format: WireFormat, value: &Value) -> Result<&[u8], AdapterError>
     Ok(payload)
 }
 
-// The payload of a value, of at most so many bytes if a bound is given.
+// Returns the payload of a value. If a bound is given, the payload has digits of at most `max`
+// bytes.
 fn bounded_payload(
     format: WireFormat,
     max: Option<usize>,
@@ -186,23 +188,24 @@ fn bounded_payload(
     }
 }
 
-/// Decodes the payload of a JSON string: the digits after the format's prefix, two per byte.
-/// Returns at most `max` bytes, if that is given. The string is not copied.
+/// Decodes the payload of a JSON string, which is the digits after the prefix of the format.
+/// Returns its bytes, of which there are at most `max` if `max` is given. The string is not copied.
 ///
-/// An empty payload is no bytes, whatever the bound, and allocates nothing. Any other allocates
-/// once, exactly the bytes.
+/// If the payload is empty, the result is empty and nothing is allocated. Otherwise exactly the
+/// bytes of the result are allocated, once.
 ///
 /// # Errors
 ///
-/// In this order:
+/// The conditions are tested in this order.
 ///
-/// 1. `NotText` if the value is not a string;
-/// 2. `InvalidPrefix` if the string does not begin with the format's prefix;
-/// 3. `InvalidLength` if an odd number of bytes follows the prefix;
-/// 4. `OverBound` if more than `2 * max` bytes follow it, with `max` and half their number;
-/// 5. `Codec(OutOfMemory)` if the allocation fails;
-/// 6. `Codec(InvalidChar)` with the first byte that the format does not accept, and its index,
-///    counted in bytes from the first digit.
+/// 1. `NotText` if the value is not a string.
+/// 2. `InvalidPrefix` if the string does not begin with the prefix of the format.
+/// 3. `InvalidLength` if an odd number of bytes follows the prefix.
+/// 4. `OverBound` if more than `2 * max` bytes follow the prefix. The error has `max` and half the
+///    number of these bytes.
+/// 5. `Codec(OutOfMemory)` if the allocation fails.
+/// 6. `Codec(InvalidChar)` if the format does not accept a byte as a digit. The error has the first
+///    such byte and its index, which counts from the first digit.
 ///
 /// ```rust
 /// use serde_json::Value;
@@ -224,16 +227,16 @@ pub fn read<A: Allocator + Drop>(
     hex_decode_vec_with_case(alloc, payload, format.case).map_err(AdapterError::Codec)
 }
 
-/// Decodes the payload of a JSON string to exactly `N` bytes. Allocates nothing.
+/// Decodes the payload of a JSON string into an array of exactly `N` bytes. Allocates nothing.
 ///
 /// # Errors
 ///
-/// In this order:
+/// The conditions are tested in this order.
 ///
-/// 1. `NotText`, `InvalidPrefix` and `InvalidLength` as for [`read`];
-/// 2. `Codec(LengthMismatch)` if other than `2 * N` bytes follow the prefix, with `N` and half
-///    their number;
-/// 3. `Codec(InvalidChar)` as for [`read`].
+/// 1. `NotText`, `InvalidPrefix` and `InvalidLength` as in [`read`].
+/// 2. `Codec(LengthMismatch)` if the number of bytes after the prefix is not `2 * N`. The error has
+///    `N` and half that number.
+/// 3. `Codec(InvalidChar)` as in [`read`].
 ///
 /// ```rust
 /// use serde_json::Value;
@@ -252,11 +255,11 @@ pub fn read_array<const N: usize>(
     hex_decode_array_with_case(payload_of(format, value)?, format.case).map_err(AdapterError::Codec)
 }
 
-/// Reads `null` as `None`, and any other value like [`read`].
+/// Reads `null` as `None`, and any other value as [`read`] does.
 ///
 /// # Errors
 ///
-/// Those of [`read`], in its order, and none for `null`.
+/// The errors are those of [`read`], in the same order. `null` has no error.
 ///
 /// ```rust
 /// use serde_json::Value;
@@ -279,11 +282,11 @@ pub fn read_option<A: Allocator + Drop>(
     Ok(Some(read(alloc, format, max, value)?))
 }
 
-/// Reads `null` as `None`, and any other value like [`read_array`].
+/// Reads `null` as `None`, and any other value as [`read_array`] does.
 ///
 /// # Errors
 ///
-/// Those of [`read_array`], in its order, and none for `null`.
+/// The errors are those of [`read_array`], in the same order. `null` has no error.
 ///
 /// ```rust
 /// use serde_json::Value;
@@ -304,15 +307,15 @@ pub fn read_option_array<const N: usize>(
     Ok(Some(read_array(format, value)?))
 }
 
-/// Returns the text that a format writes for some bytes: its prefix, and two digits per byte.
+/// Returns the text that a format writes for `src`. It is the prefix, and two digits for each byte.
 ///
-/// Allocates at most once, exactly the length of the text, and nothing if that is 0.
+/// It allocates exactly the length of the text, once. If the length is 0, it allocates nothing.
 ///
 /// # Errors
 ///
-/// In this order:
+/// The conditions are tested in this order.
 ///
-/// 1. `Codec(Overflow)` if the length of the text exceeds `usize`;
+/// 1. `Codec(Overflow)` if the length of the text exceeds `usize`.
 /// 2. `Codec(OutOfMemory)` if the allocation fails.
 ///
 /// ```rust
@@ -333,11 +336,11 @@ pub fn text_of<A: Allocator + Drop>(
     prefixed_string(alloc, format.prefix(), src, format.upper).map_err(AdapterError::Codec)
 }
 
-/// Returns bytes as the JSON string that a format writes.
+/// Returns the JSON string that a format writes for `src`.
 ///
 /// # Errors
 ///
-/// Those of [`text_of`], which makes the text.
+/// The errors are those of [`text_of`], which makes the text.
 ///
 /// ```rust
 /// let value = write(rt.alloc(), WireFormat::WITHPFX_UPPERCASE, &[0xab, 1])?;
@@ -352,11 +355,11 @@ pub fn write(alloc: Global, format: WireFormat, src: &[u8]) -> Result<Value, Ada
     Ok(Value::String(text_of(alloc, format, src)?))
 }
 
-/// Returns `None` as `null`, without allocating, and bytes like [`write`].
+/// Returns `null` for `None`, without an allocation. For bytes it returns the result of [`write`].
 ///
 /// # Errors
 ///
-/// Those of [`write`], and none for `None`.
+/// The errors are those of [`write`]. `None` has no error.
 ///
 /// ```rust
 /// let value = write_option(rt.alloc(), WireFormat::WITHPFX_UPPERCASE, None)?;

@@ -1,7 +1,8 @@
-//! Hexadecimal encoding and decoding of bytes: a port of the Rust crate `faster-hex` 1.0.0.
+//! Hexadecimal encoding and decoding of bytes, as a port of the Rust crate `faster-hex` 1.0.0.
 //!
-//! The modules of this table read and write bytes in a JSON value. Each has one for `Option` too,
-//! with `option_` before its name:
+//! The modules of this table read and write bytes as the string of a JSON value. For each of them
+//! there is a module for `Option`, whose name begins with `option_`. All of them accept what they
+//! write.
 //!
 //! | Module | Prefix | Writes | Reads |
 //! |---|---|---|---|

@@ -1,6 +1,7 @@
 //! Six modules, each of which reads and writes bytes as JSON strings in one format. The example of
-//! [`nopfx_lowercase`] has the calls of all. Their errors, in the order of the tests; only the
-//! modules named `withpfx_..` have `InvalidPrefix`:
+//! [`nopfx_lowercase`] calls all functions of a module. This table has their errors, in the order
+//! in which they are tested. Only the modules whose names begin with `withpfx_` have
+//! `InvalidPrefix`.
 //!
 //! Call | Errors
 //! ---|---
@@ -17,20 +18,21 @@ use crate::adapters::{AdapterError, WireFormat, read, read_array, write};
 use serde_json::Value;
 use std::alloc::Global;
 
-/// `0x`, then digits: writes lowercase, accepts both cases. The root of the crate has these calls
-/// too.
+/// The strings are `0x` and digits, as in `"0xab01"`. Lowercase digits are written, and both cases
+/// are accepted. The root of the crate has the same functions.
 pub mod withpfx_ignorecase {
     use super::*;
 
-    /// Returns a JSON string of `0x` and two lowercase digits per byte; `"0x"` for no bytes.
+    /// Returns a JSON string of `0x` and two lowercase digits for each byte. For no bytes it is
+    /// `"0x"`.
     ///
-    /// Allocates once, exactly the length of the text.
+    /// It allocates exactly the length of the text, once.
     ///
     /// # Errors
     ///
-    /// In this order:
+    /// The conditions are tested in this order.
     ///
-    /// 1. `Codec(Overflow)` if the length of the text, `2 + 2 * src.len()`, exceeds `usize`;
+    /// 1. `Codec(Overflow)` if the length of the text, `2 + 2 * src.len()`, exceeds `usize`.
     /// 2. `Codec(OutOfMemory)` if the allocation fails.
     ///
     /// ```rust
@@ -44,21 +46,23 @@ pub mod withpfx_ignorecase {
         write(alloc, WireFormat::WITHPFX_IGNORECASE, src)
     }
 
-    /// Decodes a JSON string of `0x` and digits of either case, two per byte, without copying it.
+    /// Decodes a JSON string of `0x` and digits of either case, two for each byte. The string is
+    /// not copied.
     ///
-    /// `"0x"` is no bytes and allocates nothing. Any other string allocates once, exactly the
-    /// bytes, after its length is tested and before its digits are.
+    /// For `"0x"` the result is empty and nothing is allocated. For any other string exactly the
+    /// bytes of the result are allocated, once. This happens after the length is tested and before
+    /// any digit is tested.
     ///
     /// # Errors
     ///
-    /// In this order:
+    /// The conditions are tested in this order.
     ///
-    /// 1. `NotText` if the value is not a string;
-    /// 2. `InvalidPrefix` if the string does not begin with `0x` (`0X` is refused);
-    /// 3. `InvalidLength` if an odd number of bytes follows the prefix;
-    /// 4. `Codec(OutOfMemory)` if the allocation fails;
-    /// 5. `Codec(InvalidChar)` with the first byte that is not a digit, and its index from the
-    ///    first digit, in bytes.
+    /// 1. `NotText` if the value is not a string.
+    /// 2. `InvalidPrefix` if the string does not begin with `0x`. `0X` is not accepted.
+    /// 3. `InvalidLength` if an odd number of bytes follows the prefix.
+    /// 4. `Codec(OutOfMemory)` if the allocation fails.
+    /// 5. `Codec(InvalidChar)` if a byte is not a digit. The error has the first such byte and its
+    ///    index, which counts from the first digit.
     ///
     /// ```rust
     /// use serde_json::Value;
@@ -74,14 +78,15 @@ pub mod withpfx_ignorecase {
         read(alloc, WireFormat::WITHPFX_IGNORECASE, None, value)
     }
 
-    /// Like [`deserialize`], but at most `MAX` bytes. The bound limits the bytes returned, not the
-    /// string. A bound of 0 accepts `"0x"`.
+    /// Does the same as [`deserialize`], but accepts at most `MAX` bytes. The bound limits the
+    /// bytes of the result, and not the string. A bound of 0 accepts `"0x"`.
     ///
     /// # Errors
     ///
-    /// Those of [`deserialize`], in its order; and after `InvalidLength`, before anything is
-    /// allocated and any digit tested, `OverBound` if more than `2 * MAX` bytes follow the prefix,
-    /// with `MAX` and half their number.
+    /// The errors are those of [`deserialize`], in the same order, with one more after
+    /// `InvalidLength`. It is `OverBound` if more than `2 * MAX` bytes follow the prefix, and it
+    /// has `MAX` and half their number. It comes before anything is allocated and before any digit
+    /// is tested.
     ///
     /// ```rust
     /// use serde_json::Value;
@@ -101,23 +106,23 @@ pub mod withpfx_ignorecase {
         read(alloc, WireFormat::WITHPFX_IGNORECASE, Some(MAX), value)
     }
 
-    /// The same text, as an array.
+    /// The same format for arrays.
     pub mod array {
         pub use super::serialize;
         use super::*;
 
-        /// Decodes exactly `N` bytes from a JSON string. Allocates nothing. Accepts `"0x"` only if
-        /// `N` is 0.
+        /// Decodes a JSON string into an array of exactly `N` bytes. Allocates nothing. It accepts
+        /// `"0x"` only if `N` is 0.
         ///
         /// # Errors
         ///
-        /// In this order:
+        /// The conditions are tested in this order.
         ///
-        /// 1. `NotText`, `InvalidPrefix` and `InvalidLength` as for
-        ///    [`deserialize`](super::deserialize);
-        /// 2. `Codec(LengthMismatch)` if other than `2 * N` bytes follow the prefix, with `N` and
-        ///    half their number;
-        /// 3. `Codec(InvalidChar)` as for [`deserialize`](super::deserialize).
+        /// 1. `NotText`, `InvalidPrefix` and `InvalidLength` as in
+        ///    [`deserialize`](super::deserialize).
+        /// 2. `Codec(LengthMismatch)` if the number of bytes after the prefix is not `2 * N`. The
+        ///    error has `N` and half that number.
+        /// 3. `Codec(InvalidChar)` as in [`deserialize`](super::deserialize).
         ///
         /// ```rust
         /// use serde_json::Value;
@@ -134,12 +139,13 @@ pub mod withpfx_ignorecase {
     }
 }
 
-/// No prefix, as in `"ab01"`: writes lowercase, accepts both letter cases.
+/// The strings are digits without a prefix, as in `"ab01"`. Lowercase digits are written, and both
+/// cases are accepted.
 pub mod nopfx_ignorecase {
     use super::*;
 
-    /// Writes two lowercase digits for each byte, like [`crate::serialize`] but without a prefix.
-    /// The empty text allocates nothing.
+    /// Writes two lowercase digits for each byte, as [`crate::serialize`] does, but without a
+    /// prefix. The empty text allocates nothing.
     pub fn serialize(alloc: Global, src: &[u8]) -> Result<Value, AdapterError>
         ensures answer { AnswersWrite wire.nopfx_ignorecase src.now result }
         ensures read { IsReadBack wire.nopfx_ignorecase src.now result }
@@ -147,7 +153,7 @@ pub mod nopfx_ignorecase {
         write(alloc, WireFormat::NOPFX_IGNORECASE, src)
     }
 
-    /// Like [`crate::deserialize`], without a prefix.
+    /// Does the same as [`crate::deserialize`], but without a prefix.
     pub fn deserialize(alloc: Global, value: &Value) -> Result<Vec<u8>, AdapterError>
         ensures answer { AnswersRead wire.nopfx_ignorecase None value.now result }
         ensures read { VecIsRead wire.nopfx_ignorecase None value.now result }
@@ -155,7 +161,7 @@ pub mod nopfx_ignorecase {
         read(alloc, WireFormat::NOPFX_IGNORECASE, None, value)
     }
 
-    /// Like [`crate::deserialize_bounded`], without a prefix.
+    /// Does the same as [`crate::deserialize_bounded`], but without a prefix.
     pub fn deserialize_bounded<const MAX: usize>(
         alloc: Global,
         value: &Value,
@@ -166,12 +172,12 @@ pub mod nopfx_ignorecase {
         read(alloc, WireFormat::NOPFX_IGNORECASE, Some(MAX), value)
     }
 
-    /// The same text, as an array.
+    /// The same format for arrays.
     pub mod array {
         pub use super::serialize;
         use super::*;
 
-        /// Like [`crate::array::deserialize`], without a prefix.
+        /// Does the same as [`crate::array::deserialize`], but without a prefix.
         pub fn deserialize<const N: usize>(value: &Value) -> Result<[u8; N], AdapterError>
             ensures answer { AnswersArrayRead wire.nopfx_ignorecase N value.now result }
             ensures read { ArrayIsRead wire.nopfx_ignorecase N value.now result }
@@ -181,12 +187,12 @@ pub mod nopfx_ignorecase {
     }
 }
 
-/// `0x`, then digits, as in `"0xab01"`: writes and accepts only lowercase. An uppercase letter is
-/// an `InvalidChar`.
+/// The strings are `0x` and digits, as in `"0xab01"`. Only lowercase is written and accepted. An
+/// uppercase letter is an `InvalidChar`.
 pub mod withpfx_lowercase {
     use super::*;
 
-    /// Writes `0x` and two lowercase digits for each byte, like [`crate::serialize`].
+    /// Writes `0x` and two lowercase digits for each byte, as [`crate::serialize`] does.
     pub fn serialize(alloc: Global, src: &[u8]) -> Result<Value, AdapterError>
         ensures answer { AnswersWrite wire.withpfx_lowercase src.now result }
         ensures read { IsReadBack wire.withpfx_lowercase src.now result }
@@ -194,7 +200,7 @@ pub mod withpfx_lowercase {
         write(alloc, WireFormat::WITHPFX_LOWERCASE, src)
     }
 
-    /// Like [`crate::deserialize`], in this letter case only.
+    /// Does the same as [`crate::deserialize`], but accepts only this letter case.
     pub fn deserialize(alloc: Global, value: &Value) -> Result<Vec<u8>, AdapterError>
         ensures answer { AnswersRead wire.withpfx_lowercase None value.now result }
         ensures read { VecIsRead wire.withpfx_lowercase None value.now result }
@@ -202,7 +208,7 @@ pub mod withpfx_lowercase {
         read(alloc, WireFormat::WITHPFX_LOWERCASE, None, value)
     }
 
-    /// Like [`crate::deserialize_bounded`], in this letter case only.
+    /// Does the same as [`crate::deserialize_bounded`], but accepts only this letter case.
     pub fn deserialize_bounded<const MAX: usize>(
         alloc: Global,
         value: &Value,
@@ -213,12 +219,12 @@ pub mod withpfx_lowercase {
         read(alloc, WireFormat::WITHPFX_LOWERCASE, Some(MAX), value)
     }
 
-    /// The same text, as an array.
+    /// The same format for arrays.
     pub mod array {
         pub use super::serialize;
         use super::*;
 
-        /// Like [`crate::array::deserialize`], in this letter case only.
+        /// Does the same as [`crate::array::deserialize`], but accepts only this letter case.
         pub fn deserialize<const N: usize>(value: &Value) -> Result<[u8; N], AdapterError>
             ensures answer { AnswersArrayRead wire.withpfx_lowercase N value.now result }
             ensures read { ArrayIsRead wire.withpfx_lowercase N value.now result }
@@ -228,8 +234,8 @@ pub mod withpfx_lowercase {
     }
 }
 
-/// No prefix, as in `"ab01"`: writes and accepts only lowercase. An uppercase letter is an
-/// `InvalidChar`.
+/// The strings are digits without a prefix, as in `"ab01"`. Only lowercase is written and accepted.
+/// An uppercase letter is an `InvalidChar`.
 ///
 /// ```rust
 /// let value = nopfx_lowercase::serialize(rt.alloc(), &[0xab, 1])?;
@@ -245,8 +251,8 @@ pub mod withpfx_lowercase {
 pub mod nopfx_lowercase {
     use super::*;
 
-    /// Writes two lowercase digits for each byte, like [`crate::serialize`] but without a prefix.
-    /// The empty text allocates nothing.
+    /// Writes two lowercase digits for each byte, as [`crate::serialize`] does, but without a
+    /// prefix. The empty text allocates nothing.
     pub fn serialize(alloc: Global, src: &[u8]) -> Result<Value, AdapterError>
         ensures answer { AnswersWrite wire.nopfx_lowercase src.now result }
         ensures read { IsReadBack wire.nopfx_lowercase src.now result }
@@ -254,7 +260,7 @@ pub mod nopfx_lowercase {
         write(alloc, WireFormat::NOPFX_LOWERCASE, src)
     }
 
-    /// Like [`crate::deserialize`], without a prefix.
+    /// Does the same as [`crate::deserialize`], but without a prefix.
     pub fn deserialize(alloc: Global, value: &Value) -> Result<Vec<u8>, AdapterError>
         ensures answer { AnswersRead wire.nopfx_lowercase None value.now result }
         ensures read { VecIsRead wire.nopfx_lowercase None value.now result }
@@ -262,7 +268,7 @@ pub mod nopfx_lowercase {
         read(alloc, WireFormat::NOPFX_LOWERCASE, None, value)
     }
 
-    /// Like [`crate::deserialize_bounded`], without a prefix.
+    /// Does the same as [`crate::deserialize_bounded`], but without a prefix.
     pub fn deserialize_bounded<const MAX: usize>(
         alloc: Global,
         value: &Value,
@@ -273,12 +279,12 @@ pub mod nopfx_lowercase {
         read(alloc, WireFormat::NOPFX_LOWERCASE, Some(MAX), value)
     }
 
-    /// The same text, as an array.
+    /// The same format for arrays.
     pub mod array {
         pub use super::serialize;
         use super::*;
 
-        /// Like [`crate::array::deserialize`], without a prefix.
+        /// Does the same as [`crate::array::deserialize`], but without a prefix.
         pub fn deserialize<const N: usize>(value: &Value) -> Result<[u8; N], AdapterError>
             ensures answer { AnswersArrayRead wire.nopfx_lowercase N value.now result }
             ensures read { ArrayIsRead wire.nopfx_lowercase N value.now result }
@@ -288,12 +294,13 @@ pub mod nopfx_lowercase {
     }
 }
 
-/// `0x`, then digits, as in `"0xAB01"`: writes and accepts only uppercase. A lowercase letter is an
-/// `InvalidChar`.
+/// The strings are `0x` and digits, as in `"0xAB01"`. Only uppercase is written and accepted. A
+/// lowercase letter is an `InvalidChar`.
 pub mod withpfx_uppercase {
     use super::*;
 
-    /// Writes `0x` and two uppercase digits for each byte, like [`crate::serialize`].
+    /// Writes `0x` and two uppercase digits for each byte, as [`crate::serialize`] does in
+    /// lowercase.
     pub fn serialize(alloc: Global, src: &[u8]) -> Result<Value, AdapterError>
         ensures answer { AnswersWrite wire.withpfx_uppercase src.now result }
         ensures read { IsReadBack wire.withpfx_uppercase src.now result }
@@ -301,7 +308,7 @@ pub mod withpfx_uppercase {
         write(alloc, WireFormat::WITHPFX_UPPERCASE, src)
     }
 
-    /// Like [`crate::deserialize`], in this letter case only.
+    /// Does the same as [`crate::deserialize`], but accepts only this letter case.
     pub fn deserialize(alloc: Global, value: &Value) -> Result<Vec<u8>, AdapterError>
         ensures answer { AnswersRead wire.withpfx_uppercase None value.now result }
         ensures read { VecIsRead wire.withpfx_uppercase None value.now result }
@@ -309,7 +316,7 @@ pub mod withpfx_uppercase {
         read(alloc, WireFormat::WITHPFX_UPPERCASE, None, value)
     }
 
-    /// Like [`crate::deserialize_bounded`], in this letter case only.
+    /// Does the same as [`crate::deserialize_bounded`], but accepts only this letter case.
     pub fn deserialize_bounded<const MAX: usize>(
         alloc: Global,
         value: &Value,
@@ -320,12 +327,12 @@ pub mod withpfx_uppercase {
         read(alloc, WireFormat::WITHPFX_UPPERCASE, Some(MAX), value)
     }
 
-    /// The same text, as an array.
+    /// The same format for arrays.
     pub mod array {
         pub use super::serialize;
         use super::*;
 
-        /// Like [`crate::array::deserialize`], in this letter case only.
+        /// Does the same as [`crate::array::deserialize`], but accepts only this letter case.
         pub fn deserialize<const N: usize>(value: &Value) -> Result<[u8; N], AdapterError>
             ensures answer { AnswersArrayRead wire.withpfx_uppercase N value.now result }
             ensures read { ArrayIsRead wire.withpfx_uppercase N value.now result }
@@ -335,13 +342,13 @@ pub mod withpfx_uppercase {
     }
 }
 
-/// No prefix, as in `"AB01"`: writes and accepts only uppercase. A lowercase letter is an
-/// `InvalidChar`.
+/// The strings are digits without a prefix, as in `"AB01"`. Only uppercase is written and accepted.
+/// A lowercase letter is an `InvalidChar`.
 pub mod nopfx_uppercase {
     use super::*;
 
-    /// Writes two uppercase digits for each byte, like [`crate::serialize`] but without a prefix.
-    /// The empty text allocates nothing.
+    /// Writes two uppercase digits for each byte, as [`crate::serialize`] does in lowercase, but
+    /// without a prefix. The empty text allocates nothing.
     pub fn serialize(alloc: Global, src: &[u8]) -> Result<Value, AdapterError>
         ensures answer { AnswersWrite wire.nopfx_uppercase src.now result }
         ensures read { IsReadBack wire.nopfx_uppercase src.now result }
@@ -349,7 +356,7 @@ pub mod nopfx_uppercase {
         write(alloc, WireFormat::NOPFX_UPPERCASE, src)
     }
 
-    /// Like [`crate::deserialize`], without a prefix.
+    /// Does the same as [`crate::deserialize`], but without a prefix.
     pub fn deserialize(alloc: Global, value: &Value) -> Result<Vec<u8>, AdapterError>
         ensures answer { AnswersRead wire.nopfx_uppercase None value.now result }
         ensures read { VecIsRead wire.nopfx_uppercase None value.now result }
@@ -357,7 +364,7 @@ pub mod nopfx_uppercase {
         read(alloc, WireFormat::NOPFX_UPPERCASE, None, value)
     }
 
-    /// Like [`crate::deserialize_bounded`], without a prefix.
+    /// Does the same as [`crate::deserialize_bounded`], but without a prefix.
     pub fn deserialize_bounded<const MAX: usize>(
         alloc: Global,
         value: &Value,
@@ -368,12 +375,12 @@ pub mod nopfx_uppercase {
         read(alloc, WireFormat::NOPFX_UPPERCASE, Some(MAX), value)
     }
 
-    /// The same text, as an array.
+    /// The same format for arrays.
     pub mod array {
         pub use super::serialize;
         use super::*;
 
-        /// Like [`crate::array::deserialize`], without a prefix.
+        /// Does the same as [`crate::array::deserialize`], but without a prefix.
         pub fn deserialize<const N: usize>(value: &Value) -> Result<[u8; N], AdapterError>
             ensures answer { AnswersArrayRead wire.nopfx_uppercase N value.now result }
             ensures read { ArrayIsRead wire.nopfx_uppercase N value.now result }

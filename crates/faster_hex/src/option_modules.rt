@@ -1,6 +1,7 @@
-//! Six modules, each of which reads and writes `Option`s in the format of one module of bytes, with
-//! `null` for `None`. `null` has no error. Any other value has the errors of that module, in its
-//! order. The example of [`option_nopfx_lowercase`] has the calls of all.
+//! Six modules for optional bytes. Each of them reads and writes `Some` in the format of one module
+//! of bytes, and `None` as `null`. `null` has no error. Any other value has the errors of that
+//! module, in the same order. The example of [`option_nopfx_lowercase`] calls all functions of a
+//! module.
 
 ghost use Rattle.std.specs.Prelude.{None, Some, option_map};
 ghost use Rattle.faster_hex.specs.Adapters.{AnswersOptionArrayRead, AnswersOptionRead, AnswersOptionWrite, OptionArrayIsRead, OptionIsReadBack, OptionVecIsRead};
@@ -10,12 +11,13 @@ use crate::adapters::{AdapterError, WireFormat, read_option, read_option_array, 
 use serde_json::Value;
 use std::alloc::Global;
 
-/// `Some` in the format of [`withpfx_ignorecase`](crate::withpfx_ignorecase), and `None` as `null`.
+/// Reads and writes `Some` in the format of [`withpfx_ignorecase`](crate::withpfx_ignorecase), and
+/// `None` as `null`.
 pub mod option_withpfx_ignorecase {
     use super::*;
 
-    /// Writes `None` as `null`, without allocating and without error, and `Some` like
-    /// [`withpfx_ignorecase::serialize`](crate::withpfx_ignorecase::serialize).
+    /// Writes `Some` as [`withpfx_ignorecase::serialize`](crate::withpfx_ignorecase::serialize)
+    /// does, and `None` as `null`. `None` allocates nothing and has no error.
     pub fn serialize(alloc: Global, src: Option<&[u8]>) -> Result<Value, AdapterError>
         ensures answer { AnswersOptionWrite wire.withpfx_ignorecase (option_map (λ s. s.now) src.entry) result }
         ensures read { OptionIsReadBack wire.withpfx_ignorecase (option_map (λ s. s.now) src.entry) result }
@@ -23,8 +25,8 @@ pub mod option_withpfx_ignorecase {
         write_option(alloc, WireFormat::WITHPFX_IGNORECASE, src)
     }
 
-    /// Reads `null` as `None`, and any other value like
-    /// [`withpfx_ignorecase::deserialize`](crate::withpfx_ignorecase::deserialize).
+    /// Reads `null` as `None`, and any other value as
+    /// [`withpfx_ignorecase::deserialize`](crate::withpfx_ignorecase::deserialize) does.
     pub fn deserialize(alloc: Global, value: &Value) -> Result<Option<Vec<u8>>, AdapterError>
         ensures answer { AnswersOptionRead wire.withpfx_ignorecase None value.now result }
         ensures read { OptionVecIsRead wire.withpfx_ignorecase None value.now result }
@@ -32,7 +34,7 @@ pub mod option_withpfx_ignorecase {
         read_option(alloc, WireFormat::WITHPFX_IGNORECASE, None, value)
     }
 
-    /// Like [`deserialize`], but at most `MAX` bytes.
+    /// Does the same as [`deserialize`], but accepts at most `MAX` bytes.
     pub fn deserialize_bounded<const MAX: usize>(
         alloc: Global,
         value: &Value,
@@ -43,13 +45,14 @@ pub mod option_withpfx_ignorecase {
         read_option(alloc, WireFormat::WITHPFX_IGNORECASE, Some(MAX), value)
     }
 
-    /// The same text or `null`, as an array or `None`.
+    /// The same format for optional arrays.
     pub mod array {
         pub use super::serialize;
         use super::*;
 
-        /// Reads `null` as `None`, and any other value like
-        /// [`withpfx_ignorecase::array::deserialize`](crate::withpfx_ignorecase::array::deserialize).
+        /// Reads `null` as `None`, and any other value as
+        /// [`withpfx_ignorecase::array::deserialize`](crate::withpfx_ignorecase::array::deserialize)
+        /// does.
         pub fn deserialize<const N: usize>(value: &Value) -> Result<Option<[u8; N]>, AdapterError>
             ensures answer { AnswersOptionArrayRead wire.withpfx_ignorecase N value.now result }
             ensures read { OptionArrayIsRead wire.withpfx_ignorecase N value.now result }
@@ -59,12 +62,13 @@ pub mod option_withpfx_ignorecase {
     }
 }
 
-/// `Some` in the format of [`nopfx_ignorecase`](crate::nopfx_ignorecase), and `None` as `null`.
+/// Reads and writes `Some` in the format of [`nopfx_ignorecase`](crate::nopfx_ignorecase), and
+/// `None` as `null`.
 pub mod option_nopfx_ignorecase {
     use super::*;
 
-    /// Writes `None` as `null`, without allocating and without error, and `Some` like
-    /// [`nopfx_ignorecase::serialize`](crate::nopfx_ignorecase::serialize).
+    /// Writes `Some` as [`nopfx_ignorecase::serialize`](crate::nopfx_ignorecase::serialize) does,
+    /// and `None` as `null`. `None` allocates nothing and has no error.
     pub fn serialize(alloc: Global, src: Option<&[u8]>) -> Result<Value, AdapterError>
         ensures answer { AnswersOptionWrite wire.nopfx_ignorecase (option_map (λ s. s.now) src.entry) result }
         ensures read { OptionIsReadBack wire.nopfx_ignorecase (option_map (λ s. s.now) src.entry) result }
@@ -72,8 +76,8 @@ pub mod option_nopfx_ignorecase {
         write_option(alloc, WireFormat::NOPFX_IGNORECASE, src)
     }
 
-    /// Reads `null` as `None`, and any other value like
-    /// [`nopfx_ignorecase::deserialize`](crate::nopfx_ignorecase::deserialize).
+    /// Reads `null` as `None`, and any other value as
+    /// [`nopfx_ignorecase::deserialize`](crate::nopfx_ignorecase::deserialize) does.
     pub fn deserialize(alloc: Global, value: &Value) -> Result<Option<Vec<u8>>, AdapterError>
         ensures answer { AnswersOptionRead wire.nopfx_ignorecase None value.now result }
         ensures read { OptionVecIsRead wire.nopfx_ignorecase None value.now result }
@@ -81,7 +85,7 @@ pub mod option_nopfx_ignorecase {
         read_option(alloc, WireFormat::NOPFX_IGNORECASE, None, value)
     }
 
-    /// Like [`deserialize`], but at most `MAX` bytes.
+    /// Does the same as [`deserialize`], but accepts at most `MAX` bytes.
     pub fn deserialize_bounded<const MAX: usize>(
         alloc: Global,
         value: &Value,
@@ -92,13 +96,14 @@ pub mod option_nopfx_ignorecase {
         read_option(alloc, WireFormat::NOPFX_IGNORECASE, Some(MAX), value)
     }
 
-    /// The same text or `null`, as an array or `None`.
+    /// The same format for optional arrays.
     pub mod array {
         pub use super::serialize;
         use super::*;
 
-        /// Reads `null` as `None`, and any other value like
-        /// [`nopfx_ignorecase::array::deserialize`](crate::nopfx_ignorecase::array::deserialize).
+        /// Reads `null` as `None`, and any other value as
+        /// [`nopfx_ignorecase::array::deserialize`](crate::nopfx_ignorecase::array::deserialize)
+        /// does.
         pub fn deserialize<const N: usize>(value: &Value) -> Result<Option<[u8; N]>, AdapterError>
             ensures answer { AnswersOptionArrayRead wire.nopfx_ignorecase N value.now result }
             ensures read { OptionArrayIsRead wire.nopfx_ignorecase N value.now result }
@@ -108,12 +113,13 @@ pub mod option_nopfx_ignorecase {
     }
 }
 
-/// `Some` in the format of [`withpfx_lowercase`](crate::withpfx_lowercase), and `None` as `null`.
+/// Reads and writes `Some` in the format of [`withpfx_lowercase`](crate::withpfx_lowercase), and
+/// `None` as `null`.
 pub mod option_withpfx_lowercase {
     use super::*;
 
-    /// Writes `None` as `null`, without allocating and without error, and `Some` like
-    /// [`withpfx_lowercase::serialize`](crate::withpfx_lowercase::serialize).
+    /// Writes `Some` as [`withpfx_lowercase::serialize`](crate::withpfx_lowercase::serialize) does,
+    /// and `None` as `null`. `None` allocates nothing and has no error.
     pub fn serialize(alloc: Global, src: Option<&[u8]>) -> Result<Value, AdapterError>
         ensures answer { AnswersOptionWrite wire.withpfx_lowercase (option_map (λ s. s.now) src.entry) result }
         ensures read { OptionIsReadBack wire.withpfx_lowercase (option_map (λ s. s.now) src.entry) result }
@@ -121,8 +127,8 @@ pub mod option_withpfx_lowercase {
         write_option(alloc, WireFormat::WITHPFX_LOWERCASE, src)
     }
 
-    /// Reads `null` as `None`, and any other value like
-    /// [`withpfx_lowercase::deserialize`](crate::withpfx_lowercase::deserialize).
+    /// Reads `null` as `None`, and any other value as
+    /// [`withpfx_lowercase::deserialize`](crate::withpfx_lowercase::deserialize) does.
     pub fn deserialize(alloc: Global, value: &Value) -> Result<Option<Vec<u8>>, AdapterError>
         ensures answer { AnswersOptionRead wire.withpfx_lowercase None value.now result }
         ensures read { OptionVecIsRead wire.withpfx_lowercase None value.now result }
@@ -130,7 +136,7 @@ pub mod option_withpfx_lowercase {
         read_option(alloc, WireFormat::WITHPFX_LOWERCASE, None, value)
     }
 
-    /// Like [`deserialize`], but at most `MAX` bytes.
+    /// Does the same as [`deserialize`], but accepts at most `MAX` bytes.
     pub fn deserialize_bounded<const MAX: usize>(
         alloc: Global,
         value: &Value,
@@ -141,13 +147,14 @@ pub mod option_withpfx_lowercase {
         read_option(alloc, WireFormat::WITHPFX_LOWERCASE, Some(MAX), value)
     }
 
-    /// The same text or `null`, as an array or `None`.
+    /// The same format for optional arrays.
     pub mod array {
         pub use super::serialize;
         use super::*;
 
-        /// Reads `null` as `None`, and any other value like
-        /// [`withpfx_lowercase::array::deserialize`](crate::withpfx_lowercase::array::deserialize).
+        /// Reads `null` as `None`, and any other value as
+        /// [`withpfx_lowercase::array::deserialize`](crate::withpfx_lowercase::array::deserialize)
+        /// does.
         pub fn deserialize<const N: usize>(value: &Value) -> Result<Option<[u8; N]>, AdapterError>
             ensures answer { AnswersOptionArrayRead wire.withpfx_lowercase N value.now result }
             ensures read { OptionArrayIsRead wire.withpfx_lowercase N value.now result }
@@ -157,7 +164,8 @@ pub mod option_withpfx_lowercase {
     }
 }
 
-/// `Some` in the format of [`nopfx_lowercase`](crate::nopfx_lowercase), and `None` as `null`.
+/// Reads and writes `Some` in the format of [`nopfx_lowercase`](crate::nopfx_lowercase), and `None`
+/// as `null`.
 ///
 /// ```rust
 /// let value = option_nopfx_lowercase::serialize(rt.alloc(), Some(&[0xab, 1]))?;
@@ -176,8 +184,8 @@ pub mod option_withpfx_lowercase {
 pub mod option_nopfx_lowercase {
     use super::*;
 
-    /// Writes `None` as `null`, without allocating and without error, and `Some` like
-    /// [`nopfx_lowercase::serialize`](crate::nopfx_lowercase::serialize).
+    /// Writes `Some` as [`nopfx_lowercase::serialize`](crate::nopfx_lowercase::serialize) does, and
+    /// `None` as `null`. `None` allocates nothing and has no error.
     pub fn serialize(alloc: Global, src: Option<&[u8]>) -> Result<Value, AdapterError>
         ensures answer { AnswersOptionWrite wire.nopfx_lowercase (option_map (λ s. s.now) src.entry) result }
         ensures read { OptionIsReadBack wire.nopfx_lowercase (option_map (λ s. s.now) src.entry) result }
@@ -185,8 +193,8 @@ pub mod option_nopfx_lowercase {
         write_option(alloc, WireFormat::NOPFX_LOWERCASE, src)
     }
 
-    /// Reads `null` as `None`, and any other value like
-    /// [`nopfx_lowercase::deserialize`](crate::nopfx_lowercase::deserialize).
+    /// Reads `null` as `None`, and any other value as
+    /// [`nopfx_lowercase::deserialize`](crate::nopfx_lowercase::deserialize) does.
     pub fn deserialize(alloc: Global, value: &Value) -> Result<Option<Vec<u8>>, AdapterError>
         ensures answer { AnswersOptionRead wire.nopfx_lowercase None value.now result }
         ensures read { OptionVecIsRead wire.nopfx_lowercase None value.now result }
@@ -194,7 +202,7 @@ pub mod option_nopfx_lowercase {
         read_option(alloc, WireFormat::NOPFX_LOWERCASE, None, value)
     }
 
-    /// Like [`deserialize`], but at most `MAX` bytes.
+    /// Does the same as [`deserialize`], but accepts at most `MAX` bytes.
     pub fn deserialize_bounded<const MAX: usize>(
         alloc: Global,
         value: &Value,
@@ -205,13 +213,14 @@ pub mod option_nopfx_lowercase {
         read_option(alloc, WireFormat::NOPFX_LOWERCASE, Some(MAX), value)
     }
 
-    /// The same text or `null`, as an array or `None`.
+    /// The same format for optional arrays.
     pub mod array {
         pub use super::serialize;
         use super::*;
 
-        /// Reads `null` as `None`, and any other value like
-        /// [`nopfx_lowercase::array::deserialize`](crate::nopfx_lowercase::array::deserialize).
+        /// Reads `null` as `None`, and any other value as
+        /// [`nopfx_lowercase::array::deserialize`](crate::nopfx_lowercase::array::deserialize)
+        /// does.
         pub fn deserialize<const N: usize>(value: &Value) -> Result<Option<[u8; N]>, AdapterError>
             ensures answer { AnswersOptionArrayRead wire.nopfx_lowercase N value.now result }
             ensures read { OptionArrayIsRead wire.nopfx_lowercase N value.now result }
@@ -221,12 +230,13 @@ pub mod option_nopfx_lowercase {
     }
 }
 
-/// `Some` in the format of [`withpfx_uppercase`](crate::withpfx_uppercase), and `None` as `null`.
+/// Reads and writes `Some` in the format of [`withpfx_uppercase`](crate::withpfx_uppercase), and
+/// `None` as `null`.
 pub mod option_withpfx_uppercase {
     use super::*;
 
-    /// Writes `None` as `null`, without allocating and without error, and `Some` like
-    /// [`withpfx_uppercase::serialize`](crate::withpfx_uppercase::serialize).
+    /// Writes `Some` as [`withpfx_uppercase::serialize`](crate::withpfx_uppercase::serialize) does,
+    /// and `None` as `null`. `None` allocates nothing and has no error.
     pub fn serialize(alloc: Global, src: Option<&[u8]>) -> Result<Value, AdapterError>
         ensures answer { AnswersOptionWrite wire.withpfx_uppercase (option_map (λ s. s.now) src.entry) result }
         ensures read { OptionIsReadBack wire.withpfx_uppercase (option_map (λ s. s.now) src.entry) result }
@@ -234,8 +244,8 @@ pub mod option_withpfx_uppercase {
         write_option(alloc, WireFormat::WITHPFX_UPPERCASE, src)
     }
 
-    /// Reads `null` as `None`, and any other value like
-    /// [`withpfx_uppercase::deserialize`](crate::withpfx_uppercase::deserialize).
+    /// Reads `null` as `None`, and any other value as
+    /// [`withpfx_uppercase::deserialize`](crate::withpfx_uppercase::deserialize) does.
     pub fn deserialize(alloc: Global, value: &Value) -> Result<Option<Vec<u8>>, AdapterError>
         ensures answer { AnswersOptionRead wire.withpfx_uppercase None value.now result }
         ensures read { OptionVecIsRead wire.withpfx_uppercase None value.now result }
@@ -243,7 +253,7 @@ pub mod option_withpfx_uppercase {
         read_option(alloc, WireFormat::WITHPFX_UPPERCASE, None, value)
     }
 
-    /// Like [`deserialize`], but at most `MAX` bytes.
+    /// Does the same as [`deserialize`], but accepts at most `MAX` bytes.
     pub fn deserialize_bounded<const MAX: usize>(
         alloc: Global,
         value: &Value,
@@ -254,13 +264,14 @@ pub mod option_withpfx_uppercase {
         read_option(alloc, WireFormat::WITHPFX_UPPERCASE, Some(MAX), value)
     }
 
-    /// The same text or `null`, as an array or `None`.
+    /// The same format for optional arrays.
     pub mod array {
         pub use super::serialize;
         use super::*;
 
-        /// Reads `null` as `None`, and any other value like
-        /// [`withpfx_uppercase::array::deserialize`](crate::withpfx_uppercase::array::deserialize).
+        /// Reads `null` as `None`, and any other value as
+        /// [`withpfx_uppercase::array::deserialize`](crate::withpfx_uppercase::array::deserialize)
+        /// does.
         pub fn deserialize<const N: usize>(value: &Value) -> Result<Option<[u8; N]>, AdapterError>
             ensures answer { AnswersOptionArrayRead wire.withpfx_uppercase N value.now result }
             ensures read { OptionArrayIsRead wire.withpfx_uppercase N value.now result }
@@ -270,12 +281,13 @@ pub mod option_withpfx_uppercase {
     }
 }
 
-/// `Some` in the format of [`nopfx_uppercase`](crate::nopfx_uppercase), and `None` as `null`.
+/// Reads and writes `Some` in the format of [`nopfx_uppercase`](crate::nopfx_uppercase), and `None`
+/// as `null`.
 pub mod option_nopfx_uppercase {
     use super::*;
 
-    /// Writes `None` as `null`, without allocating and without error, and `Some` like
-    /// [`nopfx_uppercase::serialize`](crate::nopfx_uppercase::serialize).
+    /// Writes `Some` as [`nopfx_uppercase::serialize`](crate::nopfx_uppercase::serialize) does, and
+    /// `None` as `null`. `None` allocates nothing and has no error.
     pub fn serialize(alloc: Global, src: Option<&[u8]>) -> Result<Value, AdapterError>
         ensures answer { AnswersOptionWrite wire.nopfx_uppercase (option_map (λ s. s.now) src.entry) result }
         ensures read { OptionIsReadBack wire.nopfx_uppercase (option_map (λ s. s.now) src.entry) result }
@@ -283,8 +295,8 @@ pub mod option_nopfx_uppercase {
         write_option(alloc, WireFormat::NOPFX_UPPERCASE, src)
     }
 
-    /// Reads `null` as `None`, and any other value like
-    /// [`nopfx_uppercase::deserialize`](crate::nopfx_uppercase::deserialize).
+    /// Reads `null` as `None`, and any other value as
+    /// [`nopfx_uppercase::deserialize`](crate::nopfx_uppercase::deserialize) does.
     pub fn deserialize(alloc: Global, value: &Value) -> Result<Option<Vec<u8>>, AdapterError>
         ensures answer { AnswersOptionRead wire.nopfx_uppercase None value.now result }
         ensures read { OptionVecIsRead wire.nopfx_uppercase None value.now result }
@@ -292,7 +304,7 @@ pub mod option_nopfx_uppercase {
         read_option(alloc, WireFormat::NOPFX_UPPERCASE, None, value)
     }
 
-    /// Like [`deserialize`], but at most `MAX` bytes.
+    /// Does the same as [`deserialize`], but accepts at most `MAX` bytes.
     pub fn deserialize_bounded<const MAX: usize>(
         alloc: Global,
         value: &Value,
@@ -303,13 +315,14 @@ pub mod option_nopfx_uppercase {
         read_option(alloc, WireFormat::NOPFX_UPPERCASE, Some(MAX), value)
     }
 
-    /// The same text or `null`, as an array or `None`.
+    /// The same format for optional arrays.
     pub mod array {
         pub use super::serialize;
         use super::*;
 
-        /// Reads `null` as `None`, and any other value like
-        /// [`nopfx_uppercase::array::deserialize`](crate::nopfx_uppercase::array::deserialize).
+        /// Reads `null` as `None`, and any other value as
+        /// [`nopfx_uppercase::array::deserialize`](crate::nopfx_uppercase::array::deserialize)
+        /// does.
         pub fn deserialize<const N: usize>(value: &Value) -> Result<Option<[u8; N]>, AdapterError>
             ensures answer { AnswersOptionArrayRead wire.nopfx_uppercase N value.now result }
             ensures read { OptionArrayIsRead wire.nopfx_uppercase N value.now result }

@@ -1,4 +1,4 @@
-//! `fhex`: encodes standard input as hex digits, or decodes it.
+//! `fhex` encodes standard input as hex digits, or decodes it.
 #![tactic(auto)]
 
 use hex_program::{Failure, Unretried, refuse, serve};
@@ -9,7 +9,7 @@ use std::process::ExitCode;
 // The size of the output buffer, in bytes.
 const OUTPUT_BUFFER: usize = 65_536;
 
-// The program's arguments, without its name.
+// Returns the arguments of the program, without its name.
 fn words(rt: &HostRuntime) -> Result<Vec<String>, Failure> {
     let arguments = match env::args(rt) {
         Ok(arguments) => arguments,
@@ -20,7 +20,7 @@ fn words(rt: &HostRuntime) -> Result<Vec<String>, Failure> {
     words.map_err(|_| Failure::OutOfMemory)
 }
 
-// Standard output with a buffer, or with an empty one if there is no memory for it.
+// Returns standard output with a buffer. If there is no memory for the buffer, its size is 0.
 fn output(rt: &HostRuntime) -> BufWriter<Unretried<Stdout>> {
     let buffered = |size: usize| {
         let inner = Unretried { inner: rt.stdout() };
@@ -32,7 +32,7 @@ fn output(rt: &HostRuntime) -> BufWriter<Unretried<Stdout>> {
     }
 }
 
-// The exit status for the program's arguments and the standard streams.
+// Runs the program with its arguments and the standard streams. Returns the exit status.
 fn run(rt: &HostRuntime) -> Result<u8, Failure> {
     let words = words(rt)?;
     let mut texts = Vec::new(rt.alloc());
@@ -48,7 +48,7 @@ fn run(rt: &HostRuntime) -> Result<u8, Failure> {
         output(rt),
         rt.stderr(),
     );
-    // Dropping the buffer would retry what a failed write left.
+    // Dropping the buffer would write again what a failed write has left.
     let _ = out.into_parts();
     Ok(status)
 }

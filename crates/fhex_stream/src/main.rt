@@ -1,4 +1,5 @@
-//! `fhex-stream`: encodes standard input of any length as hex digits or lines of them, or decodes it.
+//! `fhex-stream` encodes standard input of any length as hex digits, in one line or in lines of 60,
+//! or decodes it.
 #![tactic(auto)]
 
 use hex_program::{Failure, refuse, serve_stream};
@@ -6,7 +7,7 @@ use std::env;
 use std::io::ErrorKind;
 use std::process::ExitCode;
 
-// The program's arguments, without its name.
+// Returns the arguments of the program, without its name.
 fn words(rt: &HostRuntime) -> Result<Vec<String>, Failure> {
     let arguments = match env::args(rt) {
         Ok(arguments) => arguments,
@@ -17,7 +18,7 @@ fn words(rt: &HostRuntime) -> Result<Vec<String>, Failure> {
     words.map_err(|_| Failure::OutOfMemory)
 }
 
-// The exit status for the program's arguments and the standard streams.
+// Runs the program with its arguments and the standard streams. Returns the exit status.
 fn run(rt: &HostRuntime) -> Result<u8, Failure> {
     let words = words(rt)?;
     let mut texts = Vec::new(rt.alloc());

@@ -1,4 +1,4 @@
-//! The failures of `fhex` and `fhex-stream`: the exit status and the line of each.
+//! The failures of `fhex` and `fhex-stream`, with the exit status and the message of each.
 
 ghost use Rattle.std.specs.Prelude.{◌≡◌, Some};
 ghost use Rattle.hex_program.specs.Serving.{failure_text, status_of};
@@ -6,12 +6,13 @@ ghost use Rattle.hex_program.specs.Serving.{failure_text, status_of};
 use hex_core::Error;
 use std::fmt;
 
-/// Why `fhex` or `fhex-stream` failed. Its `Display` is the line written to standard error.
+/// Why `fhex` or `fhex-stream` failed. Its `Display` is the line that is written to standard error,
+/// without the newline.
 #[derive(Clone, Copy, Debug, PartialEq, Eq)]
 pub enum Failure {
-    /// The operation refuses the input.
+    /// The input is not valid for the operation.
     Codec(Error),
-    /// The arguments of `fhex` do not name one operation or the vectors.
+    /// The arguments of `fhex` name neither one operation nor the stored vectors.
     Usage,
     /// The arguments of `fhex-stream` do not name one operation.
     StreamUsage,
@@ -26,7 +27,8 @@ pub enum Failure {
 }
 
 impl Failure {
-    // The exit status: 1 for refused input, 2 for wrong arguments, 3 for a failure of the system.
+    // Returns the exit status. It is 1 for invalid input, 2 for wrong arguments, and 3 for a
+    // failure of the system or for an input that is too long.
     pub(crate) fn status(self) -> u8
         ensures { result ≡ status_of self }
     {

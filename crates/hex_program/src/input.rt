@@ -10,15 +10,19 @@ use std::io::Read;
 /// The maximum length of the input, in bytes.
 pub const INPUT_LIMIT: usize = 16_777_216;
 
-/// Bytes that one read asks for.
+/// The number of bytes that one read asks for.
 pub const READ_CHUNK: usize = 65_536;
 
-/// Reads all of an input of at most [`INPUT_LIMIT`] bytes. No error is retried.
+/// Reads all of an input of at most [`INPUT_LIMIT`] bytes. A read that fails is not tried again,
+/// not even after an interrupt.
 ///
 /// # Errors
 ///
-/// [`Failure::ReadFailed`], [`Failure::OutOfMemory`], or [`Failure::InputTooLong`] if the input
-/// exceeds the limit.
+/// The first of these that happens:
+///
+/// - [`Failure::ReadFailed`] if a read failed.
+/// - [`Failure::OutOfMemory`] if an allocation failed.
+/// - [`Failure::InputTooLong`] if the input has more than [`INPUT_LIMIT`] bytes.
 ///
 /// ```rust
 /// let mut input: &[u8] = b"hello";
@@ -37,7 +41,8 @@ pub fn read_input<A: Allocator + Drop, R: Read>(
 {
     let mut chunk = [0u8; READ_CHUNK];
     let mut all = Vec::new(alloc);
-    // Capacity for any input, so that none of it is moved. If this fails, the vector grows.
+    // This capacity suffices for any input, so the bytes need not be moved. If the reservation
+    // fails, the vector grows as needed.
     let _ = all.reserve_exact(INPUT_LIMIT + READ_CHUNK);
     'reads: while all.len() <= INPUT_LIMIT {
         match input.read(&mut chunk) {

@@ -1,5 +1,5 @@
-//! The programs `fhex` and `fhex-stream` as a library: the operations of the first over any sink, and
-//! each whole program over given arguments, an input and two outputs.
+//! This crate has the programs `fhex` and `fhex-stream` as functions. The operations of `fhex`
+//! write to any sink. Each whole program takes its arguments, an input and two outputs.
 #![tactic(auto)]
 
 pub mod failure;

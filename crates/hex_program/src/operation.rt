@@ -1,4 +1,4 @@
-//! The operations of `fhex`, and running one over an input and a sink.
+//! The operations of `fhex`, which run over an input and put their output into a sink.
 
 ghost use Rattle.std.specs.Prelude.{◌≡◌, ◌++◌, ◌∷◌, [], map};
 ghost use Rattle.hex_core.specs.Text.{text};
@@ -14,15 +14,15 @@ use std::alloc::{Allocator, Global};
 /// What `fhex` does with its input.
 #[derive(Clone, Copy, Debug, PartialEq, Eq)]
 pub enum Op {
-    /// Writes the lowercase digits and a newline.
+    /// Writes the lowercase digits of the input and a newline.
     Encode,
-    /// Writes the uppercase digits and a newline.
+    /// Writes the uppercase digits of the input and a newline.
     EncodeUpper,
-    /// Decodes lowercase and uppercase digits.
+    /// Decodes digits of either case.
     Decode,
-    /// Decodes, but does not accept `A` to `F`.
+    /// Decodes digits whose letters are lowercase.
     DecodeLower,
-    /// Decodes, but does not accept `a` to `f`.
+    /// Decodes digits whose letters are uppercase.
     DecodeUpper,
 }
 
@@ -46,7 +46,8 @@ impl Op {
         }
     }
 
-    // Returns the operation that the program's arguments name: there must be just one.
+    // Returns the operation that the arguments of the program name. There must be exactly one
+    // argument.
     pub(crate) fn from_words(words: &[&str]) -> Option<Op>
         ensures { result ≡ op_of_words (map (λ w. w.now) words.now) }
     {
@@ -60,11 +61,11 @@ impl Op {
 /// Why a run did not put all of its output.
 #[derive(Clone, Copy, Debug, PartialEq, Eq)]
 pub enum RunFault {
-    /// The operation refuses the input; nothing was put.
+    /// The input is not valid for the operation. Nothing was put.
     Codec(Error),
-    /// A put failed; a leading part of the output was taken.
+    /// A put failed. The sink has taken a first part of the output.
     Write(WriteFault),
-    /// The allocation failed; nothing was put.
+    /// The allocation failed. Nothing was put.
     OutOfMemory,
 }
 
@@ -78,7 +79,7 @@ fn digits_in(input: &[u8]) -> &[u8]
     }
 }
 
-// Puts the digits of some bytes, and a newline. Allocates nothing.
+// Puts the digits of some bytes and a newline. Allocates nothing.
 fn put_text_line<S: Sink>(sink: &mut S, upper: bool, bytes: &[u8]) -> Result<(), WriteFault>
     ensures { Puts (S.state sink.old) (S.state sink.new) result (text upper bytes.now ++ 10 ∷ []) }
 {
@@ -91,7 +92,7 @@ fn put_text_line<S: Sink>(sink: &mut S, upper: bool, bytes: &[u8]) -> Result<(),
     put_all(sink, b"\n")
 }
 
-/// [`run`] with any allocator, so that a test can make it fail.
+/// Does the same as [`run`] with any allocator, so that a test can make an allocation fail.
 pub fn run_in<A: Allocator + Drop, S: Sink>(
     alloc: A,
     op: Op,
@@ -107,7 +108,7 @@ pub fn run_in<A: Allocator + Drop, S: Sink>(
         Op::DecodeLower => CheckCase::Lower,
         Op::DecodeUpper => CheckCase::Upper,
     };
-    // Everything is decoded before the first put.
+    // All digits are decoded before the first put, so that invalid input puts nothing.
     match hex_decode_vec_with_case(alloc, digits_in(input), case) {
         Ok(bytes) => put_all(sink, bytes.as_slice()).map_err(RunFault::Write),
         Err(Error::OutOfMemory) => Err(RunFault::OutOfMemory),
@@ -117,21 +118,21 @@ pub fn run_in<A: Allocator + Drop, S: Sink>(
 
 /// Runs an operation over all of `input`, and puts its output into `sink`.
 ///
-/// Encoding puts the text, two digits per byte, and one newline; it allocates nothing. Decoding
-/// drops one final newline of the input, if it has one, and decodes all the rest, two digits per
-/// byte, before it puts the first byte.
+/// Encoding puts two digits for each byte of the input, and one newline. It allocates nothing.
+/// Decoding leaves out one newline at the end of the input, if there is one. It decodes all the
+/// rest before it puts the first byte.
 ///
-/// On `Ok` the sink has taken exactly the output more, and counted no failure.
+/// On `Ok` the sink has taken exactly the output, and has counted no failure.
 ///
 /// # Errors
 ///
-/// - [`RunFault::Codec`] if decoding refuses the input, and nothing was put: an odd length is
-///   [`Error::OddLength`], else the first byte that is not a digit under the operation's policy is
-///   [`Error::InvalidChar`];
-/// - [`RunFault::OutOfMemory`] if decoding fails to allocate; nothing was put. The number of digits
-///   is then even, and not 0;
-/// - [`RunFault::Write`] if a put failed, which ends the run. The sink has then taken a leading
-///   part of the output, and counted one more failure.
+/// - [`RunFault::Codec`] if the input is not valid. Nothing was put. The error is
+///   [`Error::OddLength`] if the number of digits is odd. Otherwise it is [`Error::InvalidChar`]
+///   with the first byte that the operation does not accept as a digit.
+/// - [`RunFault::OutOfMemory`] if decoding cannot allocate its output. Nothing was put. The number
+///   of digits is then even and not 0.
+/// - [`RunFault::Write`] if a put failed, which ends the run. The sink has then taken a first part
+///   of the output, and has counted one more failure.
 ///
 /// ```rust
 /// let mut buffer = [0; 16];

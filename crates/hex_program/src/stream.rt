@@ -1,5 +1,5 @@
-//! All of `fhex-stream` over given arguments, an input of any length and two outputs. It allocates
-//! nothing.
+//! The program `fhex-stream` over given arguments, an input of any length and two outputs. It
+//! allocates nothing.
 
 ghost use Rattle.std.specs.Prelude.{◌≡◌, map};
 ghost use Rattle.std.specs.Io.KnownBytes.{Keeps};
@@ -16,18 +16,19 @@ use hex_io::stream::{StreamFault, decode_spaced_stream, encode_grouped_stream, e
 use hex_io::{Sink, WriterSink, put_all};
 use std::io::{Read, Write};
 
-// Bytes in a line of `encode-lines`, which has twice as many digits: as those of `xxd -p`.
+// The number of bytes in a line of `encode-lines`. A line has twice as many digits, as with
+// `xxd -p`.
 const LINE: usize = 30;
 
 /// What `fhex-stream` does with its input.
 #[derive(Clone, Copy, Debug, PartialEq, Eq)]
 pub enum StreamOp {
-    /// Writes the lowercase digits of all bytes, and a newline.
+    /// Writes the lowercase digits of all bytes on one line, which ends with a newline.
     Encode,
-    /// Writes the same digits in lines of 60, each with a newline. Of an empty input it writes
-    /// nothing.
+    /// Writes the lowercase digits in lines of 60, each of which ends with a newline. For an empty
+    /// input it writes nothing.
     EncodeLines,
-    /// Decodes digits of either case, and skips white space wherever it stands.
+    /// Decodes digits of either case, and skips all white space.
     Decode,
 }
 
@@ -50,7 +51,8 @@ impl StreamOp {
         }
     }
 
-    // Returns the operation that the program's arguments name: there must be just one.
+    // Returns the operation that the arguments of the program name. There must be exactly one
+    // argument.
     fn from_words(words: &[&str]) -> Option<StreamOp>
         ensures { result ≡ stream_op_of_words (map (λ w. w.now) words.now) }
     {
@@ -61,7 +63,7 @@ impl StreamOp {
     }
 }
 
-// Puts the newline behind the digits.
+// Puts the newline after the digits.
 fn end_line<S: Sink>(sink: &mut S) -> Result<(), StreamFault>
     ensures { EndsLine (S.state sink.old) (S.state sink.new) result }
 {
@@ -105,7 +107,7 @@ fn decode<R: Read, S: Sink>(input: &mut R, sink: &mut S) -> Result<(), StreamFau
     }
 }
 
-// Runs an operation from a reader into a sink.
+// Runs an operation from a reader to a sink.
 fn run_stream<R: Read, S: Sink>(
     op: StreamOp,
     input: &mut R,
@@ -120,7 +122,7 @@ fn run_stream<R: Read, S: Sink>(
     }
 }
 
-// Ends a run: flushes what was put, also before a refusal, but not after a failed put.
+// Ends a run. It flushes what was put, even if the input was invalid, but not after a failed put.
 fn finish_stream<W: Write>(out: &mut W, ran: Result<(), StreamFault>) -> Result<(), Failure>
     ensures ended { EndsStreamRun ran result }
     ensures kept { Keeps (W.contents out.old) (W.contents out.new) }
@@ -153,22 +155,24 @@ fn serve_stream_op<R: Read, W: Write>(
     (ended, out)
 }
 
-/// Runs `fhex-stream` over what it is given, and returns the exit status and the two writers.
+/// Runs `fhex-stream` over the given arguments, input and outputs. Returns the exit status and the
+/// two writers.
 ///
-/// `words` are the program's arguments, without its name, and are tested first. If there is one and
-/// it names a [`StreamOp`], reads `input` to its end, writes the output meanwhile, and flushes it.
-/// However it ends, a leading part of the right output went to `out`.
+/// `words` are the arguments of the program, without its name. They are tested first. If there is
+/// exactly one and it names a [`StreamOp`], the function reads `input` to its end, writes the
+/// output as it reads, and flushes it at the end. However it ends, what it has written to `out` is
+/// the first part of the right output, or all of it.
 ///
 /// | Status | When | Written to `err`, as one line |
 /// |---|---|---|
-/// | 0 | done: the whole output went to `out` | nothing |
-/// | 1 | the input is refused; what was read before the last read was decoded | the [`Error`](hex_core::Error)'s text |
-/// | 2 | no word, several, or another one; nothing was read, nothing went to `out` | the usage |
+/// | 0 | the whole output was written to `out` | nothing |
+/// | 1 | the input is not valid; what came before the last read was decoded | the text of the [`Error`](hex_core::Error) |
+/// | 2 | `words` is not one word that names an operation; nothing was read or written to `out` | the usage |
 /// | 3 | a failure of the system | `read failed`, `write failed` |
 ///
-/// An interrupted read is tried again, and no other error. An error of `err` does not change the
-/// status. The contract covers the bytes read and written if the types of reader and writer model
-/// them, and not `err`.
+/// An interrupted read is tried again. After any other error nothing is. An error of `err` does not
+/// change the status. The contract says which bytes were read and written if the types of reader
+/// and writer model them. It says nothing of `err`.
 ///
 /// ```rust
 /// let mut input: &[u8] = b"68 65\n6C6C6f\n";

@@ -1,4 +1,4 @@
-//! A writer that no write of a buffer before it retries.
+//! A writer whose writes are not tried again by a buffer in front of it.
 
 ghost use Rattle.std.specs.Prelude.{◌≢◌, IfErr};
 ghost use Rattle.std.specs.Io.{WritesAtMost};
@@ -8,8 +8,8 @@ ghost use Rattle.std.specs.IoError.{error_kind};
 use std::io;
 use std::io::{ErrorKind, Write};
 
-/// A writer that turns an interrupted write into another error. `BufWriter` retries an interrupted
-/// write of its buffer, but not a direct one.
+/// A writer that turns an interrupted write into another error. `BufWriter` tries an interrupted
+/// write of its buffer again, but not a direct write. With this writer it tries neither again.
 #[derive(Drop)]
 pub struct Unretried<W> {
     /// The inner writer.

@@ -1,4 +1,4 @@
-//! The stored vectors, which `fhex vectors` runs.
+//! The stored test vectors, which `fhex vectors` runs.
 
 use Call::{Decode, Encode, ReadGrouped, ReadList, WriteGrouped, WriteList};
 use hex_codec::{Group, GroupFault, grouped};
@@ -9,30 +9,31 @@ use hex_io::digests::{Entry, ListFault, read_in, write_to};
 use hex_io::{Hex, HexFlags, SliceSink};
 use std::alloc::{AllocError, Allocator};
 
-// Every byte of a destination before a call.
+// Each byte of a destination before the call.
 const FILL: u8 = 0xa5;
 
-/// The call of a stored vector: the first two under each plan, the others without one.
+/// The call of a stored vector. `Encode` and `Decode` run by each plan, and the others run once.
 #[derive(Clone, Copy, PartialEq, Eq)]
 pub enum Call {
-    /// `encode_slice`, and whether in uppercase.
+    /// [`Backend::encode_slice`], in uppercase if the value is true.
     Encode(bool),
-    /// `decode_slice`, and which digits it accepts.
+    /// [`Backend::decode_slice`], by this policy.
     Decode(CheckCase),
-    /// [`Hex::write_to`] into a [`SliceSink`], with a colon between two bytes and the next two.
+    /// [`Hex::write_to`] into a [`SliceSink`], in groups of two bytes with a colon between them.
     WriteGrouped,
-    /// [`grouped::read`] of such a text. An invalid byte is an invalid digit in the result.
+    /// [`grouped::read`] of such a text. The result has an invalid byte as an invalid digit.
     ReadGrouped,
     /// [`digests::write_to`](hex_io::digests::write_to) of one entry into a [`SliceSink`], in
-    /// uppercase. The source has the entry: a digest of two bytes, the mark, and the name.
+    /// uppercase. The source has the entry, which is a digest of two bytes, the mark and the name.
     WriteList,
-    /// [`digests::read`](hex_io::digests::read) of lowercase digits. The result has the number of
-    /// entries, which is 1, and the destination, which the call has not, the entry.
+    /// [`digests::read`](hex_io::digests::read) of lowercase digits. The expected result is the
+    /// number of entries, which is 1. This call has no destination, so the bytes of the destination
+    /// are the expected entry.
     ReadList,
 }
 
 impl Call {
-    // Whether it runs once, without a plan.
+    // Returns whether the call runs only once, without a plan.
     fn is_plain(self) -> bool {
         matches!(
             self,
@@ -41,23 +42,23 @@ impl Call {
     }
 }
 
-/// A stored vector: a call, its result, and the bytes it leaves in its destination, which was
-/// filled with 0xa5.
+/// A stored vector has a call, the expected result, and the expected bytes of the destination after
+/// the call. Before the call each byte of the destination is 0xa5.
 #[derive(Clone, Copy)]
 pub struct Vector<'a> {
-    /// Its name in its line.
+    /// The name in the line that reports the vector.
     pub name: &'a str,
-    /// What to do with the source.
+    /// The call.
     pub call: Call,
     /// The source.
     pub source: &'a [u8],
-    /// The number of bytes written, or the error.
+    /// The expected number of bytes written, or the expected error.
     pub answer: Result<usize, Error>,
-    /// All of the destination after the call. A vector with more than 128 bytes fails.
+    /// All bytes of the destination after the call. A vector with more than 128 of them fails.
     pub left: &'a [u8],
 }
 
-// One vector per line: name, call, source, result, and destination.
+// There is one vector in each line: name, call, source, result and destination.
 macro_rules! vectors {
     ($($name:literal $call:expr, $source:expr, $answer:expr, $left:expr;)*) => {
         [$(Vector { name: $name, call: $call, source: $source, answer: $answer, left: $left }),*]
@@ -96,7 +97,7 @@ pub static VECTORS: [Vector<'static>; 20] = vectors! {
     "v20" WriteList, b"\xab\x01*b", Ok(8), b"AB01 *b\n";
 };
 
-// Reads an entry of a list as the table has it: a digest of two bytes, the mark and the name.
+// Returns an entry from its bytes in the table: a digest of two bytes, the mark and the name.
 fn entry_of(bytes: &[u8]) -> Option<Entry<'_, 2>> {
     match bytes {
         [high, low, mark, name @ ..] => Some(Entry {
@@ -108,7 +109,7 @@ fn entry_of(bytes: &[u8]) -> Option<Entry<'_, 2>> {
     }
 }
 
-// Whether a list is read as a vector states. A failed allocation is no result.
+// Returns whether a list is read as a vector expects. A failed allocation is an error.
 fn reads_list<A: Allocator>(alloc: &A, vector: &Vector<'_>) -> Result<bool, AllocError> {
     let Some(entry) = entry_of(vector.left) else {
         return Ok(false);
@@ -123,7 +124,7 @@ fn reads_list<A: Allocator>(alloc: &A, vector: &Vector<'_>) -> Result<bool, Allo
     }
 }
 
-// Whether a sink over a destination takes what a vector states.
+// Returns whether a sink over the destination takes what a vector expects.
 fn writes(vector: &Vector<'_>, destination: &mut [u8]) -> bool {
     let mut sink = SliceSink::new(destination);
     let is_written = match (vector.call, entry_of(vector.source)) {
@@ -141,7 +142,7 @@ fn writes(vector: &Vector<'_>, destination: &mut [u8]) -> bool {
     is_written && vector.answer == Ok(written.len()) && vector.left.starts_with(written)
 }
 
-// Reads grouped text. Its faults are reported as those of digits.
+// Reads grouped text. Its errors are replaced by those of reading digits.
 fn read_grouped<'a>(source: &[u8], destination: &'a mut [u8]) -> Result<&'a mut [u8], Error> {
     let Some(group) = Group::new(2, b':') else {
         return Err(Error::Overflow);
@@ -154,7 +155,7 @@ fn read_grouped<'a>(source: &[u8], destination: &'a mut [u8]) -> Result<&'a mut 
     }
 }
 
-// Whether a call that has a destination returns what a vector states.
+// Returns whether a call with a destination returns what a vector expects.
 fn answers(plan: Backend, vector: &Vector<'_>, destination: &mut [u8]) -> bool {
     let source = vector.source;
     let answer = match vector.call {
@@ -169,7 +170,7 @@ fn answers(plan: Backend, vector: &Vector<'_>, destination: &mut [u8]) -> bool {
     }
 }
 
-// Whether a call returns and leaves what a vector states. A failed allocation is no result.
+// Returns whether a call returns and writes what a vector expects. A failed allocation is an error.
 fn passes<A: Allocator>(alloc: &A, plan: Backend, vector: &Vector<'_>) -> Result<bool, AllocError> {
     if vector.call == Call::ReadList {
         return reads_list(alloc, vector);
@@ -181,7 +182,7 @@ fn passes<A: Allocator>(alloc: &A, plan: Backend, vector: &Vector<'_>) -> Result
     Ok(answers(plan, vector, destination) && buffer.starts_with(vector.left))
 }
 
-/// The lines of a run so far, how many vectors it ran, and how many of them failed.
+/// The lines of a run so far, the number of vectors that ran, and the number of those that failed.
 #[derive(Drop)]
 pub(crate) struct Report<A: Allocator> {
     pub(crate) lines: String<A>,
@@ -198,7 +199,8 @@ impl<A: Allocator> Report<A> {
     }
 }
 
-// Runs the vectors that run under a plan, or under none, and adds their lines.
+// Runs the vectors for a plan, or those that run only once if the plan is `plain`, and adds their
+// lines.
 fn run_under<A: Allocator>(
     report: &mut Report<&A>,
     alloc: &A,
@@ -214,8 +216,9 @@ fn run_under<A: Allocator>(
     Ok(())
 }
 
-/// Runs each vector of `table` under each plan, and then those without a plan. Returns a line for
-/// each, like `scalar v01 pass`, or `fail` instead of `pass`, and one with the totals.
+/// Runs the vectors of `table` by each plan, and then those that run only once. Returns a line for
+/// each, such as `scalar v01 pass`, with `fail` instead of `pass` if the vector failed, and a last
+/// line with the totals.
 pub(crate) fn run_vectors<'a, A: Allocator>(
     alloc: &'a A,
     table: &[Vector<'_>],
