@@ -43,7 +43,7 @@ abbrev pub ArrayIsSpelled : CheckCase → List ℕ → ℕ → Result (List ℕ)
 ArrayIsSpelled c s n result = (bytes : List ℕ) → Spells c s bytes → length bytes ≡ n → result ≡ Ok bytes
 
 -- if the source spells a list that fits a destination, decoding writes that list to the start of the
--- destination
+-- destination and returns its length
 abbrev pub FrontIsSpelled : CheckCase → List ℕ → List ℕ → List ℕ → Result ℕ Error → Type 0
 FrontIsSpelled c s old new result = (bytes : List ℕ) → Spells c s bytes → length bytes ≤ length old
     → (result ≡ Ok (length bytes)) × (new ≡ with_front old bytes)

@@ -11,22 +11,24 @@ use Rattle.hex_codec.specs.declared.grouped.GroupFault.{GroupFault}
 use Rattle.hex_codec.specs.GroupedWriting.{grouped, piece_len}
 use Rattle.hex_codec.specs.GroupedReading.{GroupSpells, group_refusal, grouped_len}
 
--- decoding to the start of a destination: the bytes that the grouped text spells are written
+-- decoding to the start of a destination: the errors are those of `group_refusal`, and the bytes written are
+-- those that the grouped text spells
 abbrev pub Reads : CheckCase → Group → List ℕ → List ℕ → List ℕ → Result ℕ GroupFault → Type 0
 Reads c group s old new result = Fills (group_refusal c group s (length old)) (GroupSpells c group s) old new result
 
 -- if the text spells a list that fits a destination, decoding writes that list to the start of the
--- destination
+-- destination and returns its length
 abbrev pub FrontIsRead : CheckCase → Group → List ℕ → List ℕ → List ℕ → Result ℕ GroupFault → Type 0
 FrontIsRead c group s old new result = (bytes : List ℕ) → GroupSpells c group s bytes → length bytes ≤ length old
     → (result ≡ Ok (length bytes)) × (new ≡ with_front old bytes)
 
--- decoding that returns the written part of a destination of `room` bytes: that part is what the grouped text
--- spells
+-- decoding that returns the written part of a destination of `room` bytes: the errors are those of
+-- `group_refusal`, and that part is what the grouped text spells
 abbrev pub ReadsFront : CheckCase → Group → List ℕ → ℕ → Result (MutBor (List ℕ)) GroupFault → Type 0
 ReadsFront c group s room = Answers (group_refusal c group s room) (λ front. GroupSpells c group s front.now)
 
--- encoding to the start of a destination: the grouped text of the list is written
+-- encoding to the start of a destination: the errors are those of `room_refusal` for the length of the
+-- grouped text, and the bytes written are that text
 abbrev pub WritesGrouped : Group → Bool → List ℕ → List ℕ → List ℕ → Result ℕ Error → Type 0
 WritesGrouped group upper bytes old new result =
     Fills (room_refusal (grouped_len (piece_len group) (length bytes)) (length old)) (λ digits. digits ≡ grouped group upper bytes) old new result

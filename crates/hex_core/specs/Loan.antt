@@ -9,6 +9,6 @@ behind old (Ok front) = drop (length front.now) old
 behind old (Err e) = []
 
 -- after an `Ok`, the destination ends as the returned part as it was last written, followed by the old bytes
--- after it; after an `Err`, it ends unchanged
+-- after it. After an `Err`, it ends unchanged
 abbrev pub LendsAnswer : {E : Type 0} → MutBor (List ℕ) → Result (MutBor (List ℕ)) E → Fml
 LendsAnswer s r = LendsIfOk (Array u8 0) (Array u8 0) s r (λ front. front ++ behind s.now r) s.now

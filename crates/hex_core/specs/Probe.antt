@@ -32,7 +32,7 @@ ValidIn p start end = AllValid p.policy p.source start end
 abbrev pub invalid_in : ProbeState → Option ℕ
 invalid_in p = first_invalid p.policy p.source
 
--- the steps in which `locate` finds it
+-- the steps in which `locate` finds it, or finds that there is none
 abbrev pub steps_in : ProbeState → Steps
 steps_in p = steps p.policy p.source
 

@@ -205,8 +205,8 @@ impl Backend {
     }
 
     /// Decodes `src` over all of `dst`, and returns whether every byte of `src` is valid under
-    /// `case`. If it returns false, `dst` may be partly written, so use it only for a buffer that
-    /// you then discard.
+    /// `case`. If the result is false, `dst` may be partly written, so use this function only for a
+    /// buffer that you then discard.
     ///
     /// The plans `avx2` and `neon` read `src` in blocks of 64 digits, and `avx512` and `plain` read
     /// it in blocks of 128. What is left after the last whole block is read as one shorter block.

@@ -23,7 +23,7 @@ pub fn admitted_16(bytes: &[u8; 16], case: CheckCase) -> u16
     admitted(u8x16::from_array(*bytes), case) as u16
 }
 
-/// Returns the mask of [`admitted_16`] for 32 bytes.
+/// Does the same as [`admitted_16`] for 32 bytes.
 ///
 /// ```rust
 /// let mut bytes = [b'F'; 32];
@@ -38,7 +38,7 @@ pub fn admitted_32(bytes: &[u8; 32], case: CheckCase) -> u32
     admitted(u8x32::from_array(*bytes), case) as u32
 }
 
-/// Returns the mask of [`admitted_16`] for 64 bytes.
+/// Does the same as [`admitted_16`] for 64 bytes.
 ///
 /// ```rust
 /// let mut bytes = [b'g'; 64];
@@ -90,7 +90,7 @@ pub fn nibbles_hashed_32(bytes: &[u8; 32], case: CheckCase) -> ([u8; 32], [u8; 3
     )
 }
 
-/// Returns the numbers of [`nibbles_hashed_32`] for 64 bytes.
+/// Does the same as [`nibbles_hashed_32`] for 64 bytes.
 ///
 /// ```rust
 /// let mut bytes = [b'7'; 64];
@@ -129,7 +129,7 @@ pub fn pack_16(nibbles: &[u8; 16]) -> [u8; 8]
     Lanes::pack(u8x16::from_array(*nibbles)).to_array()
 }
 
-/// Returns the bytes of [`pack_16`] for 32 nibbles, with the same requirement.
+/// Does the same as [`pack_16`] for 32 nibbles, which must be below 16 too.
 ///
 /// ```rust
 /// let (nibbles, _) = nibbles_hashed_32(&[b'7'; 32], CheckCase::None);
@@ -145,7 +145,7 @@ pub fn pack_32(nibbles: &[u8; 32]) -> [u8; 16]
     Lanes::pack(u8x32::from_array(*nibbles)).to_array()
 }
 
-/// Returns the bytes of [`pack_16`] for 64 nibbles, with the same requirement.
+/// Does the same as [`pack_16`] for 64 nibbles, which must be below 16 too.
 ///
 /// ```rust
 /// let (nibbles, _) = nibbles_hashed_64(&[b'7'; 64], CheckCase::None);
@@ -175,7 +175,7 @@ pub fn encode_8(bytes: &[u8; 8], upper: bool) -> [u8; 16]
     Interleaved::encoded(u8x8::from_array(*bytes), upper).to_array()
 }
 
-/// Returns the digits of 16 bytes, in the order and letter case of [`encode_8`].
+/// Does the same as [`encode_8`] for 16 bytes.
 ///
 /// ```rust
 /// let text = encode_16(&[0xab; 16], true);
@@ -188,7 +188,7 @@ pub fn encode_16(bytes: &[u8; 16], upper: bool) -> [u8; 32]
     Interleaved::encoded(u8x16::from_array(*bytes), upper).to_array()
 }
 
-/// Returns the digits of 32 bytes, in the order and letter case of [`encode_8`].
+/// Does the same as [`encode_8`] for 32 bytes.
 ///
 /// ```rust
 /// assert_eq!(rt; encode_32(&[0x77; 32], false), [b'7'; 64]);

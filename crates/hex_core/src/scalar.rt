@@ -144,7 +144,7 @@ pub fn decode_by_table(src: &[u8], dst: &mut [u8], case: CheckCase) -> bool
     valid
 }
 
-/// The same as [`write_digits`], but not inlined. The plans use this function.
+/// Does the same as [`write_digits`], but is not inlined. The plans use this function.
 #[inline(never)]
 pub fn encode_by_table(src: &[u8], dst: &mut [u8], upper: bool)
     requires { length dst.old ≡ 2 * length src.now }

@@ -39,7 +39,7 @@ first_letter policy.Upper = 65
 abbrev pub letter : CheckCase → ℕ → ℕ
 letter c b = wrapping_sub (bit_or b (fold_of c)) (first_letter c)
 
--- how far a byte is past the digit 4 or past the first letter, whichever is less; it is below 6 exactly if
+-- how far a byte is past the digit 4 or past the first letter, whichever is less. This is below 6 exactly if
 -- the byte has a value
 abbrev pub reach : CheckCase → ℕ → ℕ
 reach c b = min (wrapping_sub b 48 - 4) (letter c b)
