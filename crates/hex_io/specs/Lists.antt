@@ -23,7 +23,7 @@ line_of upper e = text upper e.digest ++ (32 ∷ mark e.binary ∷ e.name.now)
 abbrev pub list_of : {N : ℕ} → Bool → List (Entry N) → List ℕ
 list_of upper entries = flat_map (λ e. line_of upper e ++ (10 ∷ [])) entries
 
--- the lines without the last one if that is empty
+-- the lines, without the last one if that is empty
 abbrev pub without_empty_end : List (List ℕ) → List (List ℕ)
 without_empty_end ([] ∷ []) = []
 without_empty_end (line ∷ lines) = line ∷ without_empty_end lines

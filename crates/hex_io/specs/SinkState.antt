@@ -18,11 +18,11 @@ pub record SinkState : Type 0 where
 abbrev pub room : SinkState → ℕ
 room sink = length (unwrap_or sink.free [])
 
--- n bytes of the free part of the same buffer are no longer free
+-- the first n free bytes of the same buffer are no longer free
 abbrev pub FillsBy : ℕ → SinkState → SinkState → Type 0
 FillsBy n old new = (new.free ≡ option_map (drop n) old.free) × (new.loan ≡ old.loan)
 
--- the sink took the first part of bs, which may be empty or all of it
+-- the sink took a first part of bs, which may be empty or all of it
 pub record AppendsBeginning (old new : SinkState) (bs : List ℕ) : Type 0 where
   pub front : List ℕ
   pub rest : List ℕ
@@ -56,7 +56,7 @@ pub record Takes (old new : SinkState) (bs : List ℕ) : Type 0 where
   pub unfailed : new.failures ≡ old.failures
   pub filled : FillsBy (length bs) old new
 
--- puts ended early: they took the first part of bs, one of them failed, and not all of bs fits
+-- puts ended early: they took a first part of bs, one of them failed, and not all of bs fits
 pub record Stops (old new : SinkState) (bs : List ℕ) : Type 0 where
   pub begun : AppendsBeginning old new bs
   pub failed : new.failures ≡ one_more old.failures

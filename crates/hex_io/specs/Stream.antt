@@ -50,7 +50,7 @@ EndsDecoding r s left old new (Err (Codec e)) = WroteBefore r s old new × Refus
 -- a put failed: the sink took a first part of the bytes of the whole pairs
 EndsDecoding r s left old new (Err (Write _)) = Wrote r.case (digits_in r s) (Stops old new)
 
--- some bytes were read, and they were decoded as `Reading` r says
+-- some bytes were read, and they were decoded as the reading r says
 abbrev pub DecodesSource : Reading → Option (List ℕ) → Option (List ℕ) → SinkState → SinkState → Result ℕ StreamFault → Type 0
 DecodesSource r before left old new result = (s : List ℕ) × Consumes before left s × EndsDecoding r s left old new result
 

@@ -31,7 +31,8 @@ pub struct Entry<'a, const N: usize> {
     pub name: &'a [u8],
 }
 
-/// What is wrong with a line. If a line has several of these faults, this is the first of them.
+/// What is wrong with a line. If a line has several of these faults, this is the first of them in
+/// the order given here.
 #[derive(Clone, Copy, Debug, PartialEq, Eq)]
 pub enum LineFault {
     /// The line is too short for the digits, a space, a mark and a name, because it has fewer than

@@ -28,8 +28,8 @@ pub enum Align {
 
 /// The format in which [`Hex::write_to`] writes a view.
 ///
-/// The default has no sign, no prefix, no width and no group, and the digits are lowercase. If a
-/// width is set, spaces before the text fill it up.
+/// The default has no sign, no prefix, no width and no group, and the digits are lowercase. If you
+/// set only a width, spaces before the text fill it up.
 #[derive(Clone, Copy, Debug, PartialEq, Eq)]
 pub struct HexFlags {
     /// Whether the text begins with `+`.

@@ -26,17 +26,18 @@ pub fn every_decoder_has_been_fed()
     decoding_inverts_encoding();
 }
 
-/// If a decoder returns an error, and its destination had at least half the length of the chunk,
-/// then a stream of all that it was fed has the same error. The end of a decoder and of a stream
-/// have the same error too. So a loop over a decoder can promise what
+/// If a feed returns an error, and its destination has at least half the length of the chunk, then
+/// a stream of all that the decoder was fed has the same error. If the end of a decoding has an
+/// error, the end of that stream has it too. So a loop over a decoder can promise what
 /// [`decode_stream`](crate::stream::decode_stream) promises.
 pub fn a_decoder_with_room_refuses_as_a_stream()
     ensures feed { RoomyFeedsRefuseStreams }
     ensures finish { EndsRefuseStreams }
 {}
 
-/// A decoder has written at most half as many bytes as it was fed, and the number of bytes fed fits
-/// `usize`. So a loop over a decoder ends, and its sums do not overflow.
+/// A decoder has written at most half as many bytes as it was fed. If a feed returns no error, the
+/// number of all bytes fed fits `usize`. So a loop over a decoder ends, and its sums do not
+/// overflow.
 pub fn a_decoder_writes_half_of_what_it_is_fed()
     ensures half { WritesAtMostHalf }
     ensures counted { FeedsAreCounted }
