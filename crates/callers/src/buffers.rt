@@ -53,7 +53,8 @@ fn is_accepted(digits: &[u8]) -> bool
     digits.len() % 2 == 0 && hex_check_with_case(digits, CheckCase::Lower)
 }
 
-/// Returns the index of the first invalid byte of eight digits, if decoding them returns it.
+/// Decodes eight digits. Returns the index of the first invalid byte, or `None` if all are valid.
+/// For a text of another length it also returns `None`.
 ///
 /// ```rust
 /// assert_eq!(rt; invalid_place(b"deadbe3g"), Some(7));

@@ -18,8 +18,9 @@ pub fn a_bound_refuses_what_is_longer_alone()
     ensures array { ArrayHasNoBound }
 {}
 
-/// A value that a format writes is read as the same bytes, or as `None`. This holds if the format
-/// accepts both letter cases or the case that it writes, as the formats of all modules do.
+/// The value that a format writes for bytes or for `None` is read as the same bytes or as `None`.
+/// This holds if the format accepts both letter cases or the case that it writes, as the formats of
+/// all modules do.
 pub fn reading_inverts_writing()
     ensures bytes { ReadingInvertsWriting }
     ensures option { OptionReadingInvertsWriting }

@@ -260,7 +260,8 @@ pub mod nopfx_lowercase {
         write(alloc, WireFormat::NOPFX_LOWERCASE, src)
     }
 
-    /// Does the same as [`crate::deserialize`], but without a prefix.
+    /// Does the same as [`crate::deserialize`], but without a prefix, and accepts only this letter
+    /// case.
     pub fn deserialize(alloc: Global, value: &Value) -> Result<Vec<u8>, AdapterError>
         ensures answer { AnswersRead wire.nopfx_lowercase None value.now result }
         ensures read { VecIsRead wire.nopfx_lowercase None value.now result }
@@ -268,7 +269,8 @@ pub mod nopfx_lowercase {
         read(alloc, WireFormat::NOPFX_LOWERCASE, None, value)
     }
 
-    /// Does the same as [`crate::deserialize_bounded`], but without a prefix.
+    /// Does the same as [`crate::deserialize_bounded`], but without a prefix, and accepts only this
+    /// letter case.
     pub fn deserialize_bounded<const MAX: usize>(
         alloc: Global,
         value: &Value,
@@ -284,7 +286,8 @@ pub mod nopfx_lowercase {
         pub use super::serialize;
         use super::*;
 
-        /// Does the same as [`crate::array::deserialize`], but without a prefix.
+        /// Does the same as [`crate::array::deserialize`], but without a prefix, and accepts only
+        /// this letter case.
         pub fn deserialize<const N: usize>(value: &Value) -> Result<[u8; N], AdapterError>
             ensures answer { AnswersArrayRead wire.nopfx_lowercase N value.now result }
             ensures read { ArrayIsRead wire.nopfx_lowercase N value.now result }
@@ -356,7 +359,8 @@ pub mod nopfx_uppercase {
         write(alloc, WireFormat::NOPFX_UPPERCASE, src)
     }
 
-    /// Does the same as [`crate::deserialize`], but without a prefix.
+    /// Does the same as [`crate::deserialize`], but without a prefix, and accepts only this letter
+    /// case.
     pub fn deserialize(alloc: Global, value: &Value) -> Result<Vec<u8>, AdapterError>
         ensures answer { AnswersRead wire.nopfx_uppercase None value.now result }
         ensures read { VecIsRead wire.nopfx_uppercase None value.now result }
@@ -364,7 +368,8 @@ pub mod nopfx_uppercase {
         read(alloc, WireFormat::NOPFX_UPPERCASE, None, value)
     }
 
-    /// Does the same as [`crate::deserialize_bounded`], but without a prefix.
+    /// Does the same as [`crate::deserialize_bounded`], but without a prefix, and accepts only this
+    /// letter case.
     pub fn deserialize_bounded<const MAX: usize>(
         alloc: Global,
         value: &Value,
@@ -380,7 +385,8 @@ pub mod nopfx_uppercase {
         pub use super::serialize;
         use super::*;
 
-        /// Does the same as [`crate::array::deserialize`], but without a prefix.
+        /// Does the same as [`crate::array::deserialize`], but without a prefix, and accepts only
+        /// this letter case.
         pub fn deserialize<const N: usize>(value: &Value) -> Result<[u8; N], AdapterError>
             ensures answer { AnswersArrayRead wire.nopfx_uppercase N value.now result }
             ensures read { ArrayIsRead wire.nopfx_uppercase N value.now result }
