@@ -5,10 +5,11 @@ use Rattle.std.specs.List.{flat_map}
 use Rattle.hex_core.specs.declared.digit.CheckCase.{CheckCase}
 use Rattle.hex_core.specs.Digit.{value, digit}
 
--- the letter case in which digits are written
+-- lowercase, as a value that says in which letter case digits are written
 abbrev pub lowercase : Bool
 lowercase = false
 
+-- uppercase, as such a value
 abbrev pub uppercase : Bool
 uppercase = true
 
