@@ -80,9 +80,10 @@ pub fn admitted<const N: usize>(v: Simd<u8, N>, case: CheckCase) -> u64
 pub fn saturated<const N: usize>(v: Simd<u8, N>, case: CheckCase) -> Simd<u8, N>
     ensures { AreNibbles case v.entry result }
 {
-    // Subtracting 58, the byte after `9`, makes the digits the ten greatest bytes, 246 to 255.
-    // Subtracting 6, but not below 0, makes them 240 to 249, and no byte is greater. So subtracting
-    // 240 makes the digits 0 to 9, and makes every other byte at least 16.
+    // Subtracting 58, the byte after `9`, modulo 256 makes the digits the ten greatest bytes, 246
+    // to 255. Subtracting 6, but not below 0, makes them 240 to 249, and no byte is then greater.
+    // So subtracting 240 modulo 256 makes the digits 0 to 9, and makes every other byte at least
+    // 16.
     let digits = wrapping_sub(saturating_sub(wrapping_sub(v, b'9' + 1), 6), 240);
     min(digits, saturating_add(letters(v, case), 10))
 }
