@@ -1,8 +1,12 @@
 /* Converts bytes to hex digits and back.
  *
- * `make install` installs this header, libfaster_hex.so and libfaster_hex.a. To compile and link a program:
+ * `make install` installs this header, libfaster_hex.so and libfaster_hex.a. To compile a program and link it with the
+ * shared library, or with the archive:
  *
  *     cc prog.c $(pkg-config --cflags --libs faster_hex)
+ *     cc prog.c $(pkg-config --cflags faster_hex) $(pkg-config --variable=archive faster_hex)
+ *
+ * C++17 can include faster_hex.hpp. It has encode and decode for types of C++, and throws errors as exceptions.
  *
  * Example, which decodes a key of 16 bytes from `len` digits at `text`:
  *
@@ -34,23 +38,27 @@
  * - The library needs no external symbols, not even libc. You may link the archive into a shared library.
  * - Compilers that can do so warn if a result is not used.
  *
- * The proof is about the source of each call that checks or converts: it covers what the call returns and writes,
- * for `len` and `room` below 2^63. The machine code is compiled from this source, and the proof does not cover it.
- * What supports the machine code is this:
+ * What is known of the code:
  *
- * - Checked for all bytes: a tool of the repository executes the machine code for x86-64-v2, x86-64-v3 and x86-64-v4
- *   symbolically, that is, with unknown bytes as the source. The file generated/SHOWN says for which calls, lengths
- *   and files this was done. There the results are right, and nothing else is read or written, also if an empty
- *   source or destination is NULL. The grouped calls are not covered. (Those for which x86-64-v4 has no code of its
- *   own use that for x86-64-v3.)
- * - Keys: in the same check, encoding, and decoding or checking valid digits, use no address and no branch that
- *   depends on the bytes, except for one branch on whether all of them are digits. A test by valgrind shows the
- *   same for keys of up to 320 bytes, for x86-64-v2 and x86-64-v3.
- * - Not constant time: the baseline build for x86-64 looks bytes up in tables. It runs on processors without
- *   x86-64-v2, and for calls that are made before the library's constructor has run. A search for an invalid byte
- *   uses a table too. The grouped calls and the other processors were not examined for this.
- * - Only tested: longer sources, the grouped calls, the other builds, FASTER_HEX_OVERFLOW for 2^63 bytes and more,
- *   and that calls allocate nothing, change no state and may run in threads.
+ * - Proved: what each call that checks, searches or converts returns and writes, for `len` and `room` below 2^63. The
+ *   proof is about the source. The machine code is compiled from this source, and the proof does not cover it.
+ * - Checked for all bytes: a tool of the repository executes the machine code symbolically, that is, with unknown
+ *   bytes as the source. It covers the builds for x86-64-v2, x86-64-v3 and x86-64-v4, and the calls without groups:
+ *   faster_hex_encode for up to 128 bytes, faster_hex_first_invalid for up to 64 digits, and the calls that check and
+ *   decode for up to 256 digits. For these, the results are right. The code reads only the source and writes only the
+ *   destination, apart from its stack, its constants and its byte of state. This also holds if an empty source or
+ *   destination is NULL. The file generated/SHOWN has the record.
+ * - Keys: the same tool checks which addresses and branches depend on the bytes of the source. When a call encodes, no
+ *   address and no branch depends on them. When a call checks, searches or decodes valid digits, only a branch on
+ *   whether all digits are valid depends on them, and it goes the same way for all valid digits. A test also runs the
+ *   builds for x86-64-v2 and x86-64-v3 under valgrind, with random keys of each length up to 320 bytes.
+ * - Not constant time: the baseline build for x86-64, which looks bytes up in tables. It runs on processors without
+ *   x86-64-v2, and for calls that are made before the library's constructor has run. In every build a call that must
+ *   find the index of an invalid byte uses a table too. The grouped calls, and processors other than x86-64, were not
+ *   examined for this.
+ * - Only tested: the machine code for longer sources, for the grouped calls and in the other builds. Tests alone also
+ *   show FASTER_HEX_OVERFLOW for 2^63 bytes and more, and that calls allocate nothing, change no state and may run in
+ *   threads.
  *
  * docs/security.md of the repository says more.
  */
@@ -160,9 +168,9 @@ FASTER_HEX_MUST_USE
 struct faster_hex_answer faster_hex_decode_with_case(const void *src, size_t len,
                                                      void *dst, size_t room, uint8_t policy);
 
-/* Writes the digits of `every` bytes, then `sep`, then the digits of the next `every` bytes, and so on. With every 1
- * and ':' that gives 00:1b:21, with every 2 and ' ' it gives 0001 1b21. The last group may be shorter, and no
- * separator follows it.
+/* Writes the digits of `every` bytes, then `sep`, then the digits of the next `every` bytes, and so on. The last group
+ * may be shorter, and no separator follows it. For example, the bytes 0, 1, 0x1b and 0x21 give 00:01:1b:21 if `every`
+ * is 1 and `sep` is ':'. They give 0001 1b21 if `every` is 2 and `sep` is ' '.
  * Errors, in the order tested: FASTER_HEX_NOT_A_GROUP, FASTER_HEX_OVERFLOW, FASTER_HEX_OUTPUT_TOO_SMALL. */
 FASTER_HEX_MUST_USE
 struct faster_hex_answer faster_hex_encode_grouped(const void *src, size_t len, void *dst, size_t room,
@@ -179,9 +187,9 @@ struct faster_hex_answer faster_hex_decode_grouped(const void *src, size_t len, 
  * not free it. */
 const char *faster_hex_status_text(uint8_t status);
 
-/* Returns the version of the library that is loaded, as FASTER_HEX_VERSION is that of the header. It ends with
- * "+unproved" if the library was built by `make UNPROVED=yes`, which does not check that the code was made from the
- * proved sources. Returns a static string; do not free it. */
+/* Returns the version of the library that is loaded. FASTER_HEX_VERSION is the version of the header, and the two can
+ * differ. The returned version ends with "+unproved" if the library was built by `make UNPROVED=yes`, which does not
+ * check that the code was made from the proved sources. Returns a static string; do not free it. */
 const char *faster_hex_version(void);
 
 #ifdef __clang__
