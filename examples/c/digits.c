@@ -1,12 +1,13 @@
-/* Writes its argument's digits, and reads them back; then tests digits, and writes and reads groups.
- * `tests/test_examples.py` builds and runs it. */
+/* Prints the digits of its argument and decodes them again. Then it checks some digits, and writes and reads digits in
+ * groups. ../README.md says how to build it. `tests/test_examples.py` builds and runs it. */
 #include <stddef.h>
 #include <stdio.h>
 #include <string.h>
 
 #include "faster_hex.h"
 
-/* The answer is what the library was compiled for: two words, as two registers hold them. */
+/* struct faster_hex_answer must have the layout for which the library was compiled: two machine words, which a call
+ * returns in two registers. If it has another layout, one of these lines does not compile. */
 #define ASSERT(name, holds) typedef char name[(holds) ? 1 : -1]
 ASSERT(number_is_first, offsetof(struct faster_hex_answer, number) == 0);
 ASSERT(status_is_behind, offsetof(struct faster_hex_answer, status) == sizeof(size_t));

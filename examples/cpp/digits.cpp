@@ -1,4 +1,5 @@
-// The example in C, by faster_hex.hpp. `tests/test_examples.py` builds and runs it.
+// The same example as ../c/digits.c, in C++ with faster_hex.hpp. ../README.md says how to build it.
+// `tests/test_examples.py` builds and runs it.
 #include <cstdio>
 #include <string>
 
