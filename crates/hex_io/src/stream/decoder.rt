@@ -239,10 +239,7 @@ impl Decoder {
         ensures { result ≡ first_invalid_read (reading_of self.now) src.now }
     {
         let Reading { case, skips } = self.reading;
-        if !skips {
-            return Backend::plain().first_invalid(src, case);
-        }
-        src.iter().position(|byte| !byte.is_ascii_whitespace()
+        src.iter().position(|byte| (!skips || !byte.is_ascii_whitespace())
             && digit_value(*byte, case).is_none())
     }
 
