@@ -22,21 +22,12 @@ use Rattle.hex_io.specs.declared.stream.StreamFault.TheVariants as fault
 use Rattle.hex_program.specs.declared.failure.Failure.{Failure}
 use Rattle.hex_program.specs.declared.stream.StreamOp.{StreamOp}
 use Rattle.hex_program.specs.declared.stream.StreamOp.TheVariants.{Encode, EncodeLines, Decode}
-use Rattle.hex_program.specs.Streaming.{Begins, Refuses, ServesStreamOp, WritesPart, line}
-use Rattle.hex_program.specs.inside.{EndsLine, EndsStream, EndsStreamRun, RunsStream, status_after}
+use Rattle.hex_program.specs.Serving.{WritesPart}
+use Rattle.hex_program.specs.Streaming.{Begins, EndsStreamOp, Refuses, ServesStreamOp, line}
+use Rattle.hex_program.specs.inside.{EndsLine, EndsStream, EndsStreamRun, RunsStream}
+use Rattle.hex_program.proofs.Parts.{part-all, part-kept, part-of}
 
--- ---- leading parts
-
-part-all : (old new : SinkState) (bs more all : List ℕ) → bs ++ more ≡ all → Takes old new bs → WritesPart old.taken new.taken all
-part-all old new bs more all is took = (bs, (more, is, took.appended))
-
-part-of : (old new : SinkState) (bs more all : List ℕ) → bs ++ more ≡ all → Stops old new bs → WritesPart old.taken new.taken all
-part-of old new bs more all is stopped =
-    let begun = stopped.begun in
-    (begun.front, (begun.rest ++ more, sym (append_assoc begun.front begun.rest more) ∙ ap (λ l. l ++ more) begun.parts ∙ is, begun.appended))
-
-part-kept : (a b c : Option (List ℕ)) (bs : List ℕ) → WritesPart a b bs → Keeps b c → WritesPart a c bs
-part-kept a b c bs part kept = (part.0, (part.1.0, part.1.1, Appends-kept a b c part.0 part.1.2 kept))
+-- ---- what was written, and then kept
 
 wrote-by : (c : CheckCase) (digits : List ℕ) (P Q : List ℕ → Type 0) → ((bs : List ℕ) → P bs → Q bs) → Wrote c digits P → Wrote c digits Q
 wrote-by c digits P Q by_put wrote = record { bytes = wrote.bytes; waiting = wrote.waiting; spelled = wrote.spelled; put = by_put wrote.bytes wrote.put }
@@ -184,37 +175,18 @@ decode-failed s left old new (fault.Codec (error.LengthMismatch m n)) h = refuse
 -- ---- serving
 
 pub serves : (op : StreamOp) (left left' held' : Option (List ℕ)) (old new : SinkState) (ran : Result (Unit {0}) StreamFault) (ended : Result (Unit {0}) Failure)
-    → RunsStream op left left' old.taken new.taken ran → Keeps new.taken held' → EndsStreamRun ran ended → ServesStreamOp op left left' old.taken held' (status_after ended)
-serves op left left' held' old new ran ended run kept ends = by_end ran run.3 ends
+    → RunsStream op left left' old.taken new.taken ran → Keeps new.taken held' → EndsStreamRun ran ended → ServesStreamOp op left left' old.taken held' ended
+serves op left left' held' old new ran ended run kept ends = record {
+  input = run.0;
+  read = run.1;
+  begun = begins-kept op run.0 old.taken new.taken held' run.2 kept;
+  end = by_end ran ended run.3 ends;
+}
   where
-    at_three : (status : ℕ) → status ≡ 3 → ServesStreamOp op left left' old.taken held' status
-    at_three status three = record {
-      input = run.0;
-      read = run.1;
-      begun = begins-kept op run.0 old.taken new.taken held' run.2 kept;
-      done = λ is_zero. absurd (omega (arith, three, is_zero));
-      refused = λ is_one. absurd (omega (arith, three, is_one));
-      statuses = inr (inr three);
-    }
-
-    by_end : (ran : Result (Unit {0}) StreamFault) → EndsStream op run.0 left' old.taken new.taken ran → EndsStreamRun ran ended → ServesStreamOp op left left' old.taken held' (status_after ended)
-    by_end (Ok done) h (inl is) = at_three _ (ap status_after is)
-    by_end (Ok done) h (inr is) = rw is (record {
-      input = run.0;
-      read = run.1;
-      begun = begins-kept op run.0 old.taken new.taken held' run.2 kept;
-      done = λ is_zero. (h.0, (h.1.0, h.1.1, Appends-kept old.taken new.taken held' h.1.0 h.1.2 kept));
-      refused = λ is_one. absurd (omega (arith, is_one));
-      statuses = inl refl;
-    })
-    by_end (Err why) h (inl is) = at_three _ (ap status_after is)
-    by_end (Err fault.Read) h (inr is) = at_three _ (ap status_after is)
-    by_end (Err (fault.Write why)) h (inr is) = at_three _ (ap status_after is)
-    by_end (Err (fault.Codec e)) h (inr is) = rw is (record {
-      input = run.0;
-      read = run.1;
-      begun = begins-kept op run.0 old.taken new.taken held' run.2 kept;
-      done = λ is_zero. absurd (omega (arith, is_zero));
-      refused = λ is_one. (e, refuses-kept op run.0 left' old.taken new.taken held' e h kept);
-      statuses = inr (inl refl);
-    })
+    by_end : (ran : Result (Unit {0}) StreamFault) (ended : Result (Unit {0}) Failure) → EndsStream op run.0 left' old.taken new.taken ran → EndsStreamRun ran ended → EndsStreamOp op run.0 left' old.taken held' ended
+    by_end (Ok done) ended h (inl is) = rw is (inr refl)
+    by_end (Ok done) ended h (inr is) = rw is (h.0, (h.1.0, h.1.1, Appends-kept old.taken new.taken held' h.1.0 h.1.2 kept))
+    by_end (Err why) ended h (inl is) = rw is (inr refl)
+    by_end (Err fault.Read) ended h (inr is) = rw is (inl refl)
+    by_end (Err (fault.Write why)) ended h (inr is) = rw is (inr refl)
+    by_end (Err (fault.Codec e)) ended h (inr is) = rw is (refuses-kept op run.0 left' old.taken new.taken held' e h kept)

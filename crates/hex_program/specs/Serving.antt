@@ -1,5 +1,6 @@
 -- What all of `fhex` does with its words and with what it reads, and how it ends.
-use Rattle.std.specs.Prelude.{◌≡◌, ◌≢◌, ◌⊎◌, ◌≤◌, List, ℕ, [], ◌∷◌, length, codes, Option, Some, None}
+use Rattle.std.specs.Prelude.{◌≡◌, ◌≢◌, ◌⊎◌, ◌<◌, ◌≤◌, ⊤, List, ℕ, [], ◌∷◌, ◌++◌, length, codes, Option, Some, None, IfSome}
+use Rattle.std.specs.Prelude.{Result, Ok, Err}
 use Rattle.std.specs.Io.KnownBytes.{Appends, Consumes, IsAtEnd, Keeps}
 use Rattle.hex_core.specs.Message.{error_text}
 use Rattle.hex_core.specs.declared.error.Error.{Error}
@@ -26,6 +27,20 @@ failure_text WriteFailed = codes "write failed"
 failure_text OutOfMemory = codes "out of memory"
 failure_text InputTooLong = codes "input too long"
 
+-- the exit status of a program that ended well or with a failure
+abbrev pub status_after : Result (Unit {0}) Failure → ℕ
+status_after (Ok done) = 0
+status_after (Err failure) = status_of failure
+
+-- a leading part of bs was written
+abbrev pub WritesPart : Option (List ℕ) → Option (List ℕ) → List ℕ → Type 0
+WritesPart held held' bs = (front : List ℕ) × ((rest : List ℕ) × (front ++ rest ≡ bs) × Appends held held' front)
+
+-- what such a program wrote to its second output: nothing, or a leading part of the failure's line
+abbrev pub Says : Option (List ℕ) → Option (List ℕ) → Result (Unit {0}) Failure → Type 0
+Says said said' (Ok done) = Keeps said said'
+Says said said' (Err failure) = WritesPart said said' (failure_text failure ++ 10 ∷ [])
+
 -- the greatest length of an input, in bytes
 abbrev pub input_limit : ℕ
 input_limit = 16777216
@@ -34,31 +49,49 @@ input_limit = 16777216
 abbrev pub ReadsAll : Option (List ℕ) → Option (List ℕ) → List ℕ → Type 0
 ReadsAll left left' input = Consumes left left' input × IsAtEnd left' × (length input ≤ input_limit)
 
--- the input was read, and exactly the operation's output was written
-pub record Served (op : Op) (left left' held held' : Option (List ℕ)) : Type 0 where
+-- what an operation that failed before it wrote says of what it was to read
+abbrev pub FailsBefore : Option (List ℕ) → Failure → Type 0
+FailsBefore left ReadFailed = ⊤
+FailsBefore left OutOfMemory = ⊤
+FailsBefore left InputTooLong = IfSome left (λ bytes. input_limit < length bytes)
+FailsBefore left failure = ⊥
+
+-- the input was read, and this is so of the operation's output
+pub record Served (op : Op) (left left' : Option (List ℕ)) (Wrote : List ℕ → Type 0) : Type 0 where
   pub input : List ℕ
   pub output : List ℕ
   pub read : ReadsAll left left' input
   pub is_output : IsOutput op input output
-  pub written : Appends held held' output
+  pub wrote : Wrote output
 
 -- the input was read and is refused, and nothing was written
-pub record Refused (op : Op) (left left' held held' : Option (List ℕ)) : Type 0 where
+pub record Refused (op : Op) (left left' held held' : Option (List ℕ)) (refusal : Error) : Type 0 where
   pub input : List ℕ
-  pub refusal : Error
   pub read : ReadsAll left left' input
   pub is_refusal : op_refusal op input ≡ Some refusal
   pub kept : Keeps held held'
 
--- how the program of an operation ends: 0 if it is done, 1 if the input is refused, 3 for other faults
-pub record ServesOp (op : Op) (left left' held held' : Option (List ℕ)) (status : ℕ) : Type 0 where
-  pub done : status ≡ 0 → Served op left left' held held'
-  pub refused : status ≡ 1 → Refused op left left' held held'
-  pub statuses : (status ≡ 0) ⊎ (status ≡ 1) ⊎ (status ≡ 3)
+-- how an operation ends: exactly its output was written; the input is refused; a leading part of the output was
+-- written; or nothing was
+abbrev pub EndsOp : Op → Option (List ℕ) → Option (List ℕ) → Option (List ℕ) → Option (List ℕ) → Result (Unit {0}) Failure → Type 0
+EndsOp op left left' held held' (Ok done) = Served op left left' (Appends held held')
+EndsOp op left left' held held' (Err (Codec refusal)) = Refused op left left' held held' refusal
+EndsOp op left left' held held' (Err WriteFailed) = Served op left left' (WritesPart held held')
+EndsOp op left left' held held' (Err failure) = FailsBefore left failure × Keeps held held'
 
--- the program, by its words: an operation; the stored vectors, for which nothing is read; or words that
--- name neither, for which nothing is read and no output written
-pub record Serves (words : List (List ℕ)) (left left' held held' : Option (List ℕ)) (status : ℕ) : Type 0 where
-  pub operation : (op : Op) → op_of_words words ≡ Some op → ServesOp op left left' held held' status
-  pub vectors : words ≡ codes "vectors" ∷ [] → left' ≡ left
-  pub usage : (op_of_words words ≡ None) × (words ≢ codes "vectors" ∷ []) → (left' ≡ left) × (held' ≡ held) × (status ≡ 2)
+-- the status of the stored vectors: 1 says that one of them failed, which is no failure of the program
+abbrev pub VectorsStatus : ℕ → Result (Unit {0}) Failure → Type 0
+VectorsStatus status (Ok done) = (status ≡ 0) ⊎ (status ≡ 1)
+VectorsStatus status (Err failure) = (status ≡ 3) × ((failure ≡ OutOfMemory) ⊎ (failure ≡ WriteFailed))
+
+abbrev pub ServesVectors : Option (List ℕ) → Option (List ℕ) → ℕ → Type 0
+ServesVectors said said' status = (ended : Result (Unit {0}) Failure) × Says said said' ended × VectorsStatus status ended
+
+-- the program, by its words: an operation; the stored vectors, for which nothing is read; or words that name neither,
+-- for which nothing is read and no output written
+pub record Serves (words : List (List ℕ)) (left left' held held' said said' : Option (List ℕ)) (status : ℕ) : Type 0 where
+  pub ended : Result (Unit {0}) Failure
+  pub message : Says said said' ended
+  pub operation : (op : Op) → op_of_words words ≡ Some op → (status ≡ status_after ended) × EndsOp op left left' held held' ended
+  pub vectors : words ≡ codes "vectors" ∷ [] → (left' ≡ left) × VectorsStatus status ended
+  pub usage : (op_of_words words ≡ None) × (words ≢ codes "vectors" ∷ []) → (ended ≡ Err Usage) × (left' ≡ left) × (held' ≡ held) × (status ≡ 2)

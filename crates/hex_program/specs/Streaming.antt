@@ -1,5 +1,5 @@
 -- What all of `fhex-stream` does with its words and with what it reads, and how it ends.
-use Rattle.std.specs.Prelude.{◌≡◌, ◌⊎◌, ◌≤◌, ◌^◌, ℕ, if◌then◌else◌, List, [], ◌∷◌, ◌++◌, length, codes, Option, Some, None}
+use Rattle.std.specs.Prelude.{◌≡◌, ◌⊎◌, ◌≤◌, ◌^◌, ℕ, if◌then◌else◌, List, [], ◌∷◌, ◌++◌, length, codes, Option, Some, None, Result, Ok, Err}
 use Rattle.std.specs.Str.{bytes_eq}
 use Rattle.std.specs.List.{flat_map}
 use Rattle.std.specs.Io.KnownBytes.{Appends, Consumes, IsAtEnd}
@@ -10,6 +10,9 @@ use Rattle.hex_core.specs.Text.{Spells, lowercase, text}
 use Rattle.hex_codec.specs.GroupedWriting.{pieces}
 use Rattle.hex_io.specs.Reading.{spaced, unspaced}
 use Rattle.hex_io.specs.Stream.{RefusedBy, Wrote}
+use Rattle.hex_program.specs.Serving.{Says, WritesPart, status_after}
+use Rattle.hex_program.specs.declared.failure.Failure.{Failure}
+use Rattle.hex_program.specs.declared.failure.Failure.TheVariants.{Codec, StreamUsage, ReadFailed, WriteFailed}
 use Rattle.hex_program.specs.declared.stream.StreamOp.{StreamOp}
 use Rattle.hex_program.specs.declared.stream.StreamOp.TheVariants.{Encode, EncodeLines, Decode}
 
@@ -38,10 +41,6 @@ IsStreamOutput Encode input output = output ≡ line input
 IsStreamOutput EncodeLines input output = output ≡ flat_map line (pieces 30 input)
 IsStreamOutput Decode input output = Spells policy.None (unspaced input) output
 
--- a leading part of a list was written
-abbrev pub WritesPart : Option (List ℕ) → Option (List ℕ) → List ℕ → Type 0
-WritesPart held held' bs = (front : List ℕ) × ((rest : List ℕ) × (front ++ rest ≡ bs) × Appends held held' front)
-
 -- of what was read so far a leading part of the output was written: of the lines that it gives if it ends here, or
 -- of what the whole pairs of digits in a leading part of it spell
 abbrev pub Begins : StreamOp → List ℕ → Option (List ℕ) → Option (List ℕ) → Type 0
@@ -63,17 +62,24 @@ abbrev pub Refuses : StreamOp → List ℕ → Option (List ℕ) → Option (Lis
 Refuses Decode input left' held held' refusal = RefusesStream input left' held held' refusal
 Refuses op input left' held held' refusal = (refusal ≡ Overflow) × (2 ^ 64 ≤ length input)
 
--- how an operation ends: some input was read, and whatever the status, a leading part of the right output was
--- written. 0: all was read, and exactly its output was written; 1: what was read is refused; 3: other faults
-pub record ServesStreamOp (op : StreamOp) (left left' held held' : Option (List ℕ)) (status : ℕ) : Type 0 where
+-- how an operation ends: all was read, and exactly its output was written; what was read is refused; or a read or a
+-- write failed
+abbrev pub EndsStreamOp : StreamOp → List ℕ → Option (List ℕ) → Option (List ℕ) → Option (List ℕ) → Result (Unit {0}) Failure → Type 0
+EndsStreamOp op input left' held held' (Ok done) = IsAtEnd left' × ((output : List ℕ) × IsStreamOutput op input output × Appends held held' output)
+EndsStreamOp op input left' held held' (Err (Codec refusal)) = Refuses op input left' held held' refusal
+EndsStreamOp op input left' held held' (Err failure) = (failure ≡ ReadFailed) ⊎ (failure ≡ WriteFailed)
+
+-- some input was read, and however the operation ends, a leading part of the right output was written
+pub record ServesStreamOp (op : StreamOp) (left left' held held' : Option (List ℕ)) (ended : Result (Unit {0}) Failure) : Type 0 where
   pub input : List ℕ
   pub read : Consumes left left' input
   pub begun : Begins op input held held'
-  pub done : status ≡ 0 → IsAtEnd left' × ((output : List ℕ) × IsStreamOutput op input output × Appends held held' output)
-  pub refused : status ≡ 1 → (refusal : Error) × Refuses op input left' held held' refusal
-  pub statuses : (status ≡ 0) ⊎ (status ≡ 1) ⊎ (status ≡ 3)
+  pub end : EndsStreamOp op input left' held held' ended
 
 -- the program, by its words: an operation, or words that name none, for which nothing is read or written
-pub record ServesStream (words : List (List ℕ)) (left left' held held' : Option (List ℕ)) (status : ℕ) : Type 0 where
-  pub operation : (op : StreamOp) → stream_op_of_words words ≡ Some op → ServesStreamOp op left left' held held' status
-  pub usage : stream_op_of_words words ≡ None → (left' ≡ left) × (held' ≡ held) × (status ≡ 2)
+pub record ServesStream (words : List (List ℕ)) (left left' held held' said said' : Option (List ℕ)) (status : ℕ) : Type 0 where
+  pub ended : Result (Unit {0}) Failure
+  pub is_status : status ≡ status_after ended
+  pub message : Says said said' ended
+  pub operation : (op : StreamOp) → stream_op_of_words words ≡ Some op → ServesStreamOp op left left' held held' ended
+  pub usage : stream_op_of_words words ≡ None → (ended ≡ Err StreamUsage) × (left' ≡ left) × (held' ≡ held)

@@ -1,6 +1,5 @@
 -- Definitions that only private functions use. No public contract depends on them.
 use Rattle.std.specs.Prelude.{◌≡◌, ◌⊎◌, ◌≤◌, ℕ, List, [], ◌∷◌, length, Option, Result, Ok, Err, IfErr}
-use Rattle.hex_program.specs.Serving.{status_of}
 use Rattle.hex_program.specs.Streaming.{Begins, IsStreamOutput, Refuses}
 use Rattle.hex_program.specs.declared.stream.StreamOp.{StreamOp}
 use Rattle.hex_program.specs.declared.operation.RunFault.{RunFault}
@@ -19,11 +18,6 @@ EndsRun (Ok done) ended = IfErr ended (λ failure. failure ≡ WriteFailed)
 EndsRun (Err (fault.Codec e)) ended = ended ≡ Err (Codec e)
 EndsRun (Err (fault.Write why)) ended = ended ≡ Err WriteFailed
 EndsRun (Err fault.OutOfMemory) ended = ended ≡ Err OutOfMemory
-
--- the exit status of a program that ended in this way
-abbrev pub status_after : Result (Unit {0}) Failure → ℕ
-status_after (Ok done) = 0
-status_after (Err failure) = status_of failure
 
 -- the failure that a fault of a stream becomes
 abbrev pub failure_of : StreamFault → Failure

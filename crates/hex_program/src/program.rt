@@ -1,9 +1,9 @@
 //! All of `fhex` over given arguments, an input and two outputs.
 
-ghost use Rattle.std.specs.Prelude.{◌≡◌, ◌⊎◌, map};
+ghost use Rattle.std.specs.Prelude.{◌≡◌, map, Err};
 ghost use Rattle.std.specs.Io.KnownBytes.{Keeps};
-ghost use Rattle.hex_program.specs.Serving.{Serves, ServesOp, status_of};
-ghost use Rattle.hex_program.specs.inside.{EndsRun, status_after};
+ghost use Rattle.hex_program.specs.Serving.{EndsOp, Says, Serves, ServesVectors, status_after, status_of};
+ghost use Rattle.hex_program.specs.inside.{EndsRun};
 
 use crate::failure::Failure;
 use crate::input::read_input;
@@ -32,13 +32,17 @@ fn finish<W: Write>(out: &mut W, ran: Result<(), RunFault>) -> Result<(), Failur
 }
 
 /// Writes the line of a failure to `err`, and returns the failure's status and `err`. An error of
-/// `err` ends the line and does not change the status. No error is retried.
+/// `err` ends the line, of which a leading part then stands there, and does not change the status.
+/// No error is retried.
 pub fn refuse<E: Write>(err: E, failure: Failure) -> (u8, E)
     ensures status { result.0 ≡ status_of failure }
+    ensures message { Says (E.contents err) (E.contents result.1) (Err failure) }
 {
     let mut line = ArrayString::<MESSAGE>::new();
-    // No message is longer, so all of it is written.
-    let _ = fmt::Write::write_fmt(&mut line, format_args!("{failure}\n"));
+    // No line is longer.
+    let Ok(()) = fmt::Write::write_fmt(&mut line, format_args!("{failure}\n")) else {
+        return (failure.status(), err);
+    };
     let mut sink = WriterSink::new(err);
     let put = put_all(&mut sink, line.as_bytes());
     let mut err = sink.into_inner();
@@ -48,6 +52,17 @@ pub fn refuse<E: Write>(err: E, failure: Failure) -> (u8, E)
     (failure.status(), err)
 }
 
+// Ends a program: writes the line of its failure, if it has one, and returns its status and `err`.
+pub(crate) fn end<E: Write>(err: E, ended: Result<(), Failure>) -> (u8, E)
+    ensures status { result.0 ≡ status_after ended }
+    ensures message { Says (E.contents err) (E.contents result.1) ended }
+{
+    match ended {
+        Ok(()) => (0, err),
+        Err(failure) => refuse(err, failure),
+    }
+}
+
 // Reads the input, runs an operation over it and flushes the output.
 fn serve_op<A: Allocator, R: Read, W: Write>(
     alloc: &A,
@@ -55,8 +70,8 @@ fn serve_op<A: Allocator, R: Read, W: Write>(
     input: &mut R,
     out: W,
 ) -> (Result<(), Failure>, W)
-    ensures { ServesOp op (R.remaining input.old) (R.remaining input.new)
-        (W.contents out) (W.contents result.1) (status_after result.0) }
+    ensures { EndsOp op (R.remaining input.old) (R.remaining input.new)
+        (W.contents out) (W.contents result.1) result.0 }
 {
     let source = match read_input(alloc, input) {
         Ok(source) => source,
@@ -80,7 +95,7 @@ pub fn serve_vectors<A: Allocator, W: Write, E: Write>(
     out: W,
     err: E,
 ) -> (u8, W, E)
-    ensures status { (result.0 ≡ 0) ⊎ (result.0 ≡ 1) ⊎ (result.0 ≡ 3) }
+    ensures answer { ServesVectors (E.contents err) (E.contents result.2) result.0 }
 {
     let Ok(report) = run_vectors(alloc, table) else {
         let (status, err) = refuse(err, Failure::OutOfMemory);
@@ -107,7 +122,8 @@ pub fn serve_in<A: Allocator, R: Read, W: Write, E: Write>(
     err: E,
 ) -> (u8, W, E)
     ensures answer { Serves (map (λ w. w.now) words.now) (R.remaining input.old)
-        (R.remaining input.new) (W.contents out) (W.contents result.1) result.0 }
+        (R.remaining input.new) (W.contents out) (W.contents result.1)
+        (E.contents err) (E.contents result.2) result.0 }
 {
     if let ["vectors"] = words {
         return serve_vectors(alloc, &VECTORS, out, err);
@@ -116,13 +132,8 @@ pub fn serve_in<A: Allocator, R: Read, W: Write, E: Write>(
         Some(op) => serve_op(alloc, op, input, out),
         None => (Err(Failure::Usage), out),
     };
-    match ended {
-        Ok(()) => (0, out, err),
-        Err(failure) => {
-            let (status, err) = refuse(err, failure);
-            (status, out, err)
-        }
-    }
+    let (status, err) = end(err, ended);
+    (status, out, err)
 }
 
 /// Runs `fhex` over what it is given, and returns the exit status and the two writers.
@@ -141,9 +152,12 @@ pub fn serve_in<A: Allocator, R: Read, W: Write, E: Write>(
 /// | 3 | a failure of the system | `read failed`, `write failed`, `out of memory` |
 /// | 3 | the input is longer than the limit | `input too long` |
 ///
-/// No error of a reader or a writer is retried. An error of `err` does not change the status. The
-/// contract covers the bytes read and written if the types of reader and writer model them, and not
-/// `err`.
+/// After `write failed` a leading part of the output may have gone to `out`, and after the other
+/// failures nothing.
+///
+/// No error of a reader or a writer is retried. An error of `err` ends the line, and does not
+/// change the status. The contract covers the bytes read and written if the types of reader and
+/// writers model them.
 ///
 /// ```rust
 /// let mut input: &[u8] = b"hello";
@@ -160,7 +174,8 @@ pub fn serve<R: Read, W: Write, E: Write>(
     err: E,
 ) -> (u8, W, E)
     ensures answer { Serves (map (λ w. w.now) words.now) (R.remaining input.old)
-        (R.remaining input.new) (W.contents out) (W.contents result.1) result.0 }
+        (R.remaining input.new) (W.contents out) (W.contents result.1)
+        (E.contents err) (E.contents result.2) result.0 }
 {
     serve_in(&alloc, words, input, out, err)
 }

@@ -4,11 +4,11 @@
 ghost use Rattle.std.specs.Prelude.{◌≡◌, map};
 ghost use Rattle.std.specs.Io.KnownBytes.{Keeps};
 ghost use Rattle.hex_program.specs.Streaming.{ServesStream, ServesStreamOp, stream_op_of_word, stream_op_of_words};
-ghost use Rattle.hex_program.specs.inside.{EndsLine, EndsStreamRun, RunsStream, status_after};
+ghost use Rattle.hex_program.specs.inside.{EndsLine, EndsStreamRun, RunsStream};
 ghost use Rattle.hex_program.specs.declared.stream.StreamOp.TheVariants.{Encode, EncodeLines, Decode};
 
 use crate::failure::Failure;
-use crate::program::refuse;
+use crate::program::end;
 use hex_codec::Group;
 use hex_core::CheckCase;
 use hex_io::laws::puts_in_a_row_are_one;
@@ -146,7 +146,7 @@ fn serve_stream_op<R: Read, W: Write>(
     out: W,
 ) -> (Result<(), Failure>, W)
     ensures { ServesStreamOp op (R.remaining input.old) (R.remaining input.new)
-        (W.contents out) (W.contents result.1) (status_after result.0) }
+        (W.contents out) (W.contents result.1) result.0 }
 {
     let mut sink = WriterSink::new(out);
     let ran = run_stream(op, input, &mut sink);
@@ -170,9 +170,9 @@ fn serve_stream_op<R: Read, W: Write>(
 /// | 2 | `words` is not one word that names an operation; nothing was read or written to `out` | the usage |
 /// | 3 | a failure of the system | `read failed`, `write failed` |
 ///
-/// An interrupted read is tried again. After any other error nothing is. An error of `err` does not
-/// change the status. The contract says which bytes were read and written if the types of reader
-/// and writer model them. It says nothing of `err`.
+/// An interrupted read is tried again. After any other error nothing is. An error of `err` ends the
+/// line, and does not change the status. The contract says which bytes were read and written if the
+/// types of reader and writers model them.
 ///
 /// ```rust
 /// let mut input: &[u8] = b"68 65\n6C6C6f\n";
@@ -188,17 +188,13 @@ pub fn serve_stream<R: Read, W: Write, E: Write>(
     err: E,
 ) -> (u8, W, E)
     ensures answer { ServesStream (map (λ w. w.now) words.now) (R.remaining input.old)
-        (R.remaining input.new) (W.contents out) (W.contents result.1) result.0 }
+        (R.remaining input.new) (W.contents out) (W.contents result.1)
+        (E.contents err) (E.contents result.2) result.0 }
 {
     let (ended, out) = match StreamOp::from_words(words) {
         Some(op) => serve_stream_op(op, input, out),
         None => (Err(Failure::StreamUsage), out),
     };
-    match ended {
-        Ok(()) => (0, out, err),
-        Err(failure) => {
-            let (status, err) = refuse(err, failure);
-            (status, out, err)
-        }
-    }
+    let (status, err) = end(err, ended);
+    (status, out, err)
 }
