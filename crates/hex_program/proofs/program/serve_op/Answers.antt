@@ -2,16 +2,15 @@
 use Rattle.std.specs.Prelude.{ℕ, List, [], Option, Result, Ok, Err}
 use Rattle.std.specs.Io.KnownBytes.{Keeps}
 use Rattle.std.proofs.Common.{sym, append-nil}
-use Rattle.std.proofs.KnownBytes.{Appends-kept, Keeps-refl}
+use Rattle.std.proofs.KnownBytes.{Appends-kept}
 use Rattle.hex_io.specs.SinkState.{SinkState}
 use Rattle.hex_io.specs.SliceAndWriterSinks.{writer_state}
 use Rattle.hex_program.specs.declared.operation.Op.{Op}
 use Rattle.hex_program.specs.declared.operation.RunFault.{RunFault}
 use Rattle.hex_program.specs.declared.operation.RunFault.TheVariants as fault
 use Rattle.hex_program.specs.declared.failure.Failure.{Failure}
-use Rattle.hex_program.specs.declared.failure.Failure.TheVariants.{Codec, Usage, StreamUsage, ReadFailed, WriteFailed, OutOfMemory, InputTooLong}
 use Rattle.hex_program.specs.Operations.{Runs}
-use Rattle.hex_program.specs.Serving.{EndsOp, FailsBefore, ReadsAll}
+use Rattle.hex_program.specs.Serving.{EndsOp, ReadsAll}
 use Rattle.hex_program.specs.inside.{EndsRun}
 use Rattle.hex_program.proofs.Parts.{part-all, part-kept, part-of}
 use Rattle.hex_program.proofs.program.serve_op.Goals as goal
