@@ -12,62 +12,82 @@ use Rattle.callers.proofs.spaced.append_bytes.Goals as goal
 
 pub returns-in_err-finish-clause-refusal : goal.returns-in_err-finish-clause-refusal
 returns-in_err-finish-clause-refusal g c = λ e is others.
-    let it = c.reads.invariant.1 in let left = g.R.Read.remaining c.read.new.self in
-    let none = rw c.if-count-eq0.true at c.in-Ok.ensures.bytes.0 in
-    let end = c.in-Ok.ensures.bytes.1 c.if-count-eq0.true (search rules) in
-    let refused = c.a_decoder_with_room_refuses_as_a_stream.ensures.finish c.reads.decoder it.0 it.1 left _ it.2 c.in_err-finish.ensures.answer end in
-    let told = err_from_is_err_and c.from_residual.result c.from_residual.ensures.1 in
-    (it.0, rw append-nil at (Consumes-trans _ _ _ it.0 [] it.5 none), subst (RefusedBy (spaced policy.None) it.0 left) (cc (told.1, told.2, is)) (rw c.reads.invariant.0 at refused))
+    let (reading, so_far) = c.reads.invariant in
+    let (s, written, fed, _, _, consumed) = so_far in
+    let (piece, ends) = c.in-Ok.ensures.bytes in
+    let left = g.R.Read.remaining c.read.new.self in
+    let none = rw c.if-count-eq0.true at piece in
+    let end = ends c.if-count-eq0.true (search rules) in
+    let refused = c.a_decoder_with_room_refuses_as_a_stream.ensures.finish c.reads.decoder s written left _ fed c.in_err-finish.ensures.answer end in
+    let (_, failed, same) = err_from_is_err_and c.from_residual.result c.from_residual.ensures.1 in
+    (s, rw append-nil at (Consumes-trans _ _ _ s [] consumed none), subst (RefusedBy (spaced policy.None) s left) (cc (failed, same, is)) (rw reading at refused))
 
 pub returns-then-count-eq0-clause-appended : goal.returns-then-count-eq0-clause-appended
 returns-then-count-eq0-clause-appended g c =
-    let it = c.reads.invariant.1 in
-    let none = rw c.if-count-eq0.true at c.in-Ok.ensures.bytes.0 in
-    let end = c.in-Ok.ensures.bytes.1 c.if-count-eq0.true (search rules) in
-    let spelled = rw c.reads.invariant.0 at (c.in_ok-finish.ensures.answer it.0 it.1 it.2).1 in
-    (it.0, it.1, rw append-nil at (Consumes-trans _ _ _ it.0 [] it.5 none), end, spelled, it.3, it.4)
+    let (reading, so_far) = c.reads.invariant in
+    let (s, written, fed, kept, counted, consumed) = so_far in
+    let (piece, ends) = c.in-Ok.ensures.bytes in
+    let none = rw c.if-count-eq0.true at piece in
+    let end = ends c.if-count-eq0.true (search rules) in
+    let (_, spells) = c.in_ok-finish.ensures.answer s written fed in
+    let spelled = rw reading at spells in
+    (s, written, rw append-nil at (Consumes-trans _ _ _ s [] consumed none), end, spelled, kept, counted)
 
 pub returns-in_err-written-clause-refusal : goal.returns-in_err-written-clause-refusal
 returns-in_err-written-clause-refusal g c = λ e is others.
-    let it = c.reads.invariant.1 in let left = g.R.Read.remaining c.read.new.self in
+    let (reading, so_far) = c.reads.invariant in
+    let (s, written, fed, _, _, consumed) = so_far in
+    let (read, _) = c.in-Ok.ensures.bytes in
+    let left = g.R.Read.remaining c.read.new.self in
     let piece = take c.in-Ok.count c.read.new.buf in
     let size = length-take-le c.in-Ok.count c.read.new.buf c.in-Ok.ensures.bound.0 in
-    let refused = c.a_decoder_with_room_refuses_as_a_stream.ensures.feed _ it.0 piece (length c.reads.decoded) left _ (omega (arith, size, c.in-Ok.ensures.bound.0))
-    (c.in_err-written.ensures.feeds it.0 it.1 it.2) in
-    let told = err_from_is_err_and c.from_residual-in_err-written.result c.from_residual-in_err-written.ensures.1 in (
-      it.0 ++ piece,
-      Consumes-trans _ _ _ _ _ it.5 c.in-Ok.ensures.bytes.0,
-      subst (RefusedBy (spaced policy.None) (it.0 ++ piece) left) (cc (told.1, told.2, is)) (rw c.reads.invariant.0 at refused),
+    let refused = c.a_decoder_with_room_refuses_as_a_stream.ensures.feed _ s piece (length c.reads.decoded) left _ (omega (arith, size, c.in-Ok.ensures.bound.0))
+    (c.in_err-written.ensures.feeds s written fed) in
+    let (_, failed, same) = err_from_is_err_and c.from_residual-in_err-written.result c.from_residual-in_err-written.ensures.1 in (
+      s ++ piece,
+      Consumes-trans _ _ _ _ _ consumed read,
+      subst (RefusedBy (spaced policy.None) (s ++ piece) left) (cc (failed, same, is)) (rw reading at refused),
     )
 
 pub overflow_add-total : goal.overflow_add-total
 overflow_add-total g c =
-    let it = c.reads.invariant.1 in let piece = take c.in-Ok.count c.read.new.buf in
-    let fed = c.in_ok-written.ensures.feeds it.0 it.1 it.2 in
-    let counted = c.a_decoder_writes_half_of_what_it_is_fed.ensures.counted _ it.0 piece _ fed.0 in
-    let half = c.a_decoder_writes_half_of_what_it_is_fed.ensures.half c.feed.new.self _ _ fed.1.3 in
-    omega (arith, counted, half, length-append it.1 fed.1.0, it.4, fed.1.1)
+    let (_, so_far) = c.reads.invariant in
+    let (s, written, fed, _, counted, _) = so_far in
+    let piece = take c.in-Ok.count c.read.new.buf in
+    let (fits, more) = c.in_ok-written.ensures.feeds s written fed in
+    let (bytes, count, _, fed_more) = more in
+    let limit = c.a_decoder_writes_half_of_what_it_is_fed.ensures.counted _ s piece _ fits in
+    let half = c.a_decoder_writes_half_of_what_it_is_fed.ensures.half c.feed.new.self _ _ fed_more in
+    omega (arith, limit, half, length-append written bytes, counted, count)
 
 pub reads-smaller : goal.reads-smaller
 reads-smaller g c =
-    let it = c.reads.invariant.1 in let piece = take c.in-Ok.count c.read.new.buf in
+    let (_, so_far) = c.reads.invariant in
+    let (s, written, fed, _, _, _) = so_far in
+    let piece = take c.in-Ok.count c.read.new.buf in
     let size = length-take-le c.in-Ok.count c.read.new.buf c.in-Ok.ensures.bound.0 in
-    let fed = c.in_ok-written.ensures.feeds it.0 it.1 it.2 in
-    let counted = c.a_decoder_writes_half_of_what_it_is_fed.ensures.counted _ it.0 piece _ fed.0 in
-    omega (arith, size, counted, it.2.0, fed.1.3.0, length-append it.0 piece)
+    let (fits, more) = c.in_ok-written.ensures.feeds s written fed in
+    let (_, _, _, fed_more) = more in
+    let (position, _) = fed in
+    let (position_more, _) = fed_more in
+    let limit = c.a_decoder_writes_half_of_what_it_is_fed.ensures.counted _ s piece _ fits in
+    omega (arith, size, limit, position, position_more, length-append s piece)
 
 pub reads-preserved : goal.reads-preserved
 reads-preserved g c =
-    let it = c.reads.invariant.1 in
-    let fed = (c.in_ok-written.ensures.feeds it.0 it.1 it.2).1 in
-    let longer = rw (c.if-is_err.ensures.negation, fed.2, fed.1, take-append_seam, it.3) at c.extend_from_slice.ensures.items in (
-      c.in_ok-written.ensures.reading ∙ c.reads.invariant.0,
+    let (reading, so_far) = c.reads.invariant in
+    let (s, written, fed, kept, counted, consumed) = so_far in
+    let (read, _) = c.in-Ok.ensures.bytes in
+    let (_, more) = c.in_ok-written.ensures.feeds s written fed in
+    let (bytes, count, front, fed_more) = more in
+    let longer = rw (c.if-is_err.ensures.negation, front, count, take-append_seam, kept) at c.extend_from_slice.ensures.items in (
+      c.in_ok-written.ensures.reading ∙ reading,
       (
-        it.0 ++ take c.in-Ok.count c.read.new.buf,
-        it.1 ++ fed.0,
-        fed.3,
-        longer ∙ append_assoc (vec_items c.args.bytes.now) it.1 fed.0,
-        omega (arith, it.4, fed.1, length-append it.1 fed.0),
-        Consumes-trans _ _ _ _ _ it.5 c.in-Ok.ensures.bytes.0,
+        s ++ take c.in-Ok.count c.read.new.buf,
+        written ++ bytes,
+        fed_more,
+        longer ∙ append_assoc (vec_items c.args.bytes.now) written bytes,
+        omega (arith, counted, count, length-append written bytes),
+        Consumes-trans _ _ _ _ _ consumed read,
       ),
     )
