@@ -148,15 +148,15 @@ pub(crate) fn append<'a>(src: &[u8], dst: &'a mut String, upper: bool) -> &'a mu
 #[cfg(all(test, feature = "alloc"))]
 mod tests {
     use super::*;
-    use alloc::{vec, vec::Vec};
+    use alloc::{format, vec, vec::Vec};
 
     #[test]
     fn appending_returns_the_new_part_of_each_length() {
         for len in 0..300 {
             let (bytes, digits): (Vec<u8>, _) = (vec![0xab; len], "ab".repeat(len));
             let mut text = String::from("id: ");
-            assert_eq!(hex_append(&bytes, &mut text), digits);
-            assert_eq!(hex_append_upper(&bytes, &mut text), digits.to_uppercase());
+            assert_eq!(*hex_append(&bytes, &mut text), *digits);
+            assert_eq!(*hex_append_upper(&bytes, &mut text), *digits.to_uppercase());
             assert_eq!(text, format!("id: {digits}{}", digits.to_uppercase()));
         }
     }
