@@ -98,9 +98,12 @@ static void by_system(void) {
     }
 }
 
-/* The values of this machine must choose the level that `raise_level` has chosen. */
+/* The values of this machine must choose the level that the constructor has chosen. Whether that is a level for AVX2 or
+ * AVX-512 must be what the compiler's own library says. */
 static void here(void) {
+    bool has_avx2 = __builtin_cpu_supports("avx2"), has_avx512 = __builtin_cpu_supports("avx512bw");
     is_level("the constructor's level", level, processor(), level);
+    is_level("the compiler's level", level, processor(), has_avx512 ? 4 : has_avx2 ? 3 : level < 3 ? level : 0);
 }
 
 int main(void) {

@@ -78,7 +78,10 @@ fn level_of(it: &Processor) -> u8 {
 
 #[cfg(test)]
 mod tests {
+    extern crate std;
+
     use super::*;
+    use std::is_x86_feature_detected as has_feature;
 
     const ALL: Processor = Processor {
         highest: 7,
@@ -117,6 +120,14 @@ mod tests {
             }
         }
         assert_eq!((level_of(&ALL), level_of(&least)), (4, 4));
+    }
+
+    #[test]
+    fn this_processor_has_the_level_of_its_features() {
+        let has_3 = has_feature!("avx2") && has_feature!("bmi1") && has_feature!("bmi2") && has_feature!("fma");
+        let has_4 = has_feature!("avx512f") && has_feature!("avx512bw") && has_feature!("avx512vl");
+        assert_eq!(find() >= 3, has_3);
+        assert_eq!(find() == 4, has_3 && has_4);
     }
 
     #[test]
