@@ -48,6 +48,23 @@ def test_call(image, is_short, build, call):
     code = Image(image, int(build[1]))
     for length in short if is_short else others:
         assert list(shown(code, build, call, length))
+    assert builds_of(code, call) == [build]
+
+
+def builds_of(code, call):
+    """The builds whose code for a call was executed."""
+    found = {re.search(rf"_x86_64_(v\d)_{call}$", it): at for it, at in code.symbols.items()}
+    return [it[1] for it, at in found.items() if it and at in code.read]
+
+
+@pytest.mark.quick
+@pytest.mark.parametrize("call", [it for it in CALLS if it not in BUILDS["v4"]])
+def test_call_that_the_widest_build_lacks(image, call):
+    """With AVX-512 it takes the build for x86-64-v3."""
+    code = Image(image, 4)
+    for length in lengths_of(call, SHORT):
+        assert list(shown(code, "v3", call, length))
+    assert builds_of(code, call) == ["v3"]
 
 
 def test_record():
