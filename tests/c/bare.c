@@ -1,12 +1,14 @@
 /* Calls the library on a processor without an operating system, after bare.S, and compares the answers with plain C:
- * for all lengths up to MOST digits, under each policy, with valid digits and with one byte changed. It prints the
- * level of the processor and `N passed, M failed` through port e9, which bochs copies to its output. Then it ends
- * bochs. */
+ * for all lengths up to MOST digits and for some greater ones, under each policy, with valid digits and with one byte
+ * changed. It prints the level of the processor and `N passed, M failed` through port e9, which bochs copies to its
+ * output. Then it ends bochs. */
 #include "../../crates/faster_hex_c/dispatch.c"
 
-enum { PLACES = 64, AROUND = 64, OLD = 0xa5 };
+enum { PLACES = 64, AROUND = 64, OLD = 0xa5, LONGEST = 1280 };
 
-static uint8_t source[PLACES + MOST], room[AROUND + MOST / 2 + AROUND];
+/* With these, the loops for long sources take no turn, one or several, with each kind of rest. */
+static const size_t long_lengths[] = { 574, 575, 576, 577, 640, 642, 704, 766, 768, 896, 1088, 1089, 1214, LONGEST };
+static uint8_t source[PLACES + LONGEST], room[AROUND + LONGEST / 2 + AROUND];
 static size_t passed, failed;
 
 static void put(char byte) {
@@ -115,8 +117,9 @@ void bare(void) {
     print("level ");
     print_number(level);
     print("\n");
-    for (size_t len = 0; len <= MOST; len++) {
-        for (uint8_t policy = 0; policy < 3; policy++) try_length(len, policy);
+    for (uint8_t policy = 0; policy < 3; policy++) {
+        for (size_t len = 0; len <= MOST; len++) try_length(len, policy);
+        for (size_t at = 0; at < sizeof long_lengths / sizeof *long_lengths; at++) try_length(long_lengths[at], policy);
     }
     print_number(passed);
     print(" passed, ");

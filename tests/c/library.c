@@ -263,6 +263,8 @@ static void at_length(size_t len, unsigned turns, struct memory from, struct mem
 static void at_long_lengths(void) {
     struct memory from = guarded(70004), to = guarded(3 * 70004 + 7);
     at_length(4097, 12, from, to);
+    /* Some builds decode 256 digits in each turn of a loop, and then 128 that are left. */
+    at_length(4736, 12, from, to);
     at_length(70004, 12, from, to);
     free(from.kept);
     free(to.kept);
