@@ -10,6 +10,8 @@ GENERATED = TOP / "generated"
 # A pattern that must be in each build's assembly, and one that must not.
 SPEAKS = {"x86-64": ("%rax", "pshufb|%ymm|%zmm"), "x86-64-v2": ("\tpshufb", "%ymm|%zmm")}
 SPEAKS |= {"x86-64-v3": ("\tvpshufb\t.*%ymm", "%zmm"), "x86-64-v4": ("\tvptestm.*%zmm", "_encode|_grouped")}
+# The calls that the build for AVX-512 has.
+OF_V4 = ["check", "check_lower", "check_upper", "check_with_case", "decode", "decode_with_case"]
 SPEAKS |= {"aarch64": (r"\ttbl\t", "%")}
 # Functions that are marked to be inlined but are called in some builds, and why.
 CALLED = {"codec_pieces_write_by_piece_len": "it has the code for all lengths twice, and a call is small beside its loop"}
@@ -20,6 +22,11 @@ CRATES = "hex_core", "hex_codec"
 def test_processor(build):
     text, (some, none) = (GENERATED / f"{build}.s").read_text(), SPEAKS[build]
     assert re.search(some, text) and not re.search(none, text)
+
+
+def test_calls_of_the_build_for_avx512():
+    exported = re.findall(r"^\thex_export\t\w+_x86_64_v4_(\w+)$", (GENERATED / "x86-64-v4.s").read_text(), re.M)
+    assert sorted(exported) == OF_V4
 
 
 @pytest.mark.parametrize("is_copy", [False, True])

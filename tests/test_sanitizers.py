@@ -22,7 +22,7 @@ def test_fault(tmp_path, compiler, sanitizer, fault, report):
     elif fault == "none":
         assert done.returncode == 0, done.stdout
     else:
-        assert "Sanitizer" not in done.stdout
+        assert done.returncode in (0, 3) and "Sanitizer" not in done.stdout
 
 
 @pytest.mark.parametrize("compiler", ["gcc", "clang"])
