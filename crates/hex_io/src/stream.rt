@@ -80,8 +80,8 @@ impl From<WriteFault> for StreamFault {
 
 /// Decodes all that a reader gives into a sink. Returns the number of decoded bytes.
 ///
-/// Nothing is allocated, because two buffers on the stack suffice for a stream of any length. A
-/// read that was interrupted is tried again.
+/// It reads chunks of up to 16,384 bytes. Nothing is allocated, because buffers of 24 KiB on the
+/// stack suffice for a stream of any length. A read that was interrupted is tried again.
 ///
 /// # Errors
 ///
@@ -93,7 +93,7 @@ impl From<WriteFault> for StreamFault {
 ///   pairs in the chunks before were put, and nothing of the chunk with that byte.
 /// - [`StreamFault::Codec`] with [`Error::OddLength`] if all bytes are digits and their number is
 ///   odd. The bytes of all whole pairs were put.
-/// - [`StreamFault::Codec`] with [`Error::Overflow`] if the number of digits exceeds `usize`.
+/// - [`StreamFault::Codec`] with [`Error::Overflow`] if the number of bytes read exceeds `usize`.
 /// - [`StreamFault::Write`] if a put failed.
 ///
 /// ```rust
@@ -174,8 +174,8 @@ fn decode_by_decoder<R: Read, S: Sink>(
 
 /// Encodes all that a reader gives into a sink. Returns the number of bytes read.
 ///
-/// Nothing is allocated, because two buffers on the stack suffice for a stream of any length. A
-/// read that was interrupted is tried again.
+/// It reads chunks of up to 8,192 bytes. Nothing is allocated, because buffers of 32 KiB on the
+/// stack suffice for a stream of any length. A read that was interrupted is tried again.
 ///
 /// # Errors
 ///

@@ -113,7 +113,8 @@ impl Decoder {
     }
 
     /// Takes the next chunk, and decodes all pairs that are now whole into the start of `dst`.
-    /// Returns the number of bytes written. The bytes of `dst` after them are unchanged.
+    /// Returns the number of bytes written. The bytes of `dst` after them are unchanged. The chunk is
+    /// tested in blocks. Only if a byte is invalid, its index is searched byte by byte.
     ///
     /// # Errors
     ///
