@@ -67,6 +67,7 @@ def test_call_that_the_widest_build_lacks(image, call):
     assert builds_of(code, call) == ["v3"]
 
 
+@pytest.mark.quick
 def test_record():
     """generated/SHOWN was written for these sources, and has a line for each call of each build with all lengths."""
     is_one = {it: it == "first_invalid" or it.startswith("decode") for it in CALLS}
