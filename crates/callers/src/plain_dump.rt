@@ -1,9 +1,10 @@
 //! Functions that write a plain dump, as `xxd -p` prints it, and that read it back. Each is proved.
 
-ghost use Rattle.std.specs.Prelude.{◌≡◌, ◌++◌, ◌∷◌, ℕ, List, [], IfOk, length};
+ghost use Rattle.std.specs.Prelude.{◌≡◌, ◌++◌, ◌∷◌, ℕ, List, [], IfOk, Some, length};
 ghost use Rattle.hex_core.specs.Laws.{AreBytes};
 ghost use Rattle.hex_codec.specs.GroupedWriting.{piece_len, separator};
 ghost use Rattle.hex_io.specs.SinkState.{Puts, Takes};
+ghost use Rattle.hex_io.specs.Stream.{DecodesSpacedStream};
 ghost use Rattle.callers.specs.PlainDumps.{Dumps, line_end, plain_dump};
 
 use faster_hex::format::put_all;
@@ -63,6 +64,10 @@ fn end_line<S: Sink>(sink: &mut S, count: usize) -> Result<(), WriteFault>
 
 /// Reads a plain dump, and puts the bytes whose dump it is into a sink. Returns their number.
 ///
+/// # Errors
+///
+/// The errors are those of [`decode_spaced_stream`], in the same cases.
+///
 /// ```rust
 /// let mut buffer = [0; 4];
 /// let mut sink = faster_hex::SliceSink::new(&mut buffer);
@@ -70,7 +75,9 @@ fn end_line<S: Sink>(sink: &mut S, count: usize) -> Result<(), WriteFault>
 /// assert_eq!(rt; sink.written(), b"Rust".as_slice());
 /// ```
 pub fn read_dump<S: Sink>(dump: &[u8], sink: &mut S) -> Result<usize, StreamFault>
-    ensures { (lines : Group) (bytes : List ℕ) → AreBytes bytes → separator lines ≡ 10 → dump.now ≡ plain_dump lines bytes
+    ensures read { (rest : List ℕ) × DecodesSpacedStream CheckCase.Lower (Some dump.now) (Some rest)
+        (S.state sink.old) (S.state sink.new) result }
+    ensures back { (lines : Group) (bytes : List ℕ) → AreBytes bytes → separator lines ≡ 10 → dump.now ≡ plain_dump lines bytes
         → IfOk result (λ count. (count ≡ length bytes) × Takes (S.state sink.old) (S.state sink.new) bytes) }
 {
     a_grouped_text_unspaced_is_the_text();

@@ -27,8 +27,11 @@ put-back (Ok count) dump bytes rest old new one spelled read =
     let same : ended.0 ≡ bytes = one policy.Lower (unspaced dump) ended.0 bytes (rw whole ended.1) spelled in
     (rw (← same) ended.2, rw (← same) ended.3)
 
-pub returns : goal.returns
-returns g c = λ lines bytes are newline is.
+pub returns-clause-read : goal.returns-clause-read
+returns-clause-read g c = (c.decode_spaced_stream.new.reader.now, c.decode_spaced_stream.ensures.answer)
+
+pub returns-clause-back : goal.returns-clause-back
+returns-clause-back g c = λ lines bytes are newline is.
     let law = c.a_grouped_text_unspaced_is_the_text.ensures in
     let clean : unspaced c.args.dump.now ≡ text lowercase bytes =
     ap unspaced is ∙ law.joined (grouped lines lowercase bytes) (line_end (length bytes))
