@@ -48,10 +48,11 @@
  *   decode for up to 256 digits. For these, the results are right. The code reads only the source and writes only the
  *   destination, apart from its stack, its constants and its byte of state. This also holds if an empty source or
  *   destination is NULL. The file generated/SHOWN has the record.
- * - Keys: the same tool checks which addresses and branches depend on the bytes of the source. When a call encodes, no
- *   address and no branch depends on them. When a call checks, searches or decodes valid digits, only a branch on
- *   whether all digits are valid depends on them, and it goes the same way for all valid digits. A test also runs the
- *   builds for x86-64-v2 and x86-64-v3 under valgrind, with random keys of each length up to 320 bytes.
+ * - Keys: the same tool checks which addresses and branches depend on the bytes of the source. When a call encodes or
+ *   checks, no address and no branch depends on them. When a call decodes or searches valid digits, only a branch on
+ *   whether all digits are valid depends on them. This branch goes the same way for all valid digits. A check of more
+ *   than 256 digits, which the tool does not cover, may have such branches too. A test also runs the builds for
+ *   x86-64-v2 and x86-64-v3 under valgrind, with random keys of each length up to 320 bytes.
  * - Not constant time: the baseline build for x86-64, which looks bytes up in tables. It runs on processors without
  *   x86-64-v2, and for calls that are made before the library's constructor has run. In every build a call that must
  *   find the index of an invalid byte uses a table too. The grouped calls, and processors other than x86-64, were not
