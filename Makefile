@@ -145,7 +145,7 @@ test: $(CHECKED)
 	tests/header.sh
 	scripts/examples
 	$(QUICK)
-	RT_JOBS=$(JOBS) rt ci
+	RT_JOBS=$(JOBS) scripts/rt-ci
 	MUTATIONS_JOBS=$(JOBS) MUTATIONS_AFTER=$(BEGAN) scripts/mutations --gate
 else
 test: test-c

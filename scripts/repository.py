@@ -4,12 +4,18 @@
 repository.py uses NAME     prints the crates that a crate uses by its line in crates.txt
 repository.py below NAME..  prints these crates and the crates of the repository that they depend on, each after those
                             that it uses"""
+import functools
+import os
 import re
 import shutil
+import subprocess
 import sys
 from pathlib import Path
 
 TOP = Path(__file__).resolve().parent.parent
+CACHE = Path(os.environ.get("XDG_CACHE_HOME") or Path.home() / ".cache") / "faster_hex"
+# Where scripts/rt-ci keeps proved libraries: the folder NAME.rlib of each, and a file NAME.of with its identity.
+KEPT = CACHE / "libraries"
 
 
 def lines_of(top=TOP):
@@ -30,6 +36,35 @@ def below(names, top=TOP):
         used = [it for it in uses(name, top) if it in listed]
         found += [it for it in (*below(used, top), name) if it not in found]
     return found
+
+
+def said(*words):
+    return subprocess.run(words, stdout=subprocess.PIPE, text=True, check=True).stdout.strip()
+
+
+def identity(name):
+    """A text that is the same exactly if the toolchain, the sources of a crate and those of the crates below are."""
+    return said("rt", "version") + said(TOP / "scripts/checksum", *below([name]))
+
+
+def is_kept(name):
+    of = KEPT / f"{name}.of"
+    return of.is_file() and of.read_text() == identity(name)
+
+
+@functools.cache
+def words_over_kept(name):
+    """The words for `rattle check` by which it checks a library over the kept libraries. If one of them is not kept, or
+    was proved from other sources, there are none."""
+    own = below([name])[:-1]
+    if " staticlib:" in lines_of()[name] or not all(map(is_kept, own)):
+        return []
+    kit = Path(said("rt", "doc")).parent
+    words = ["--crate-name", name, "src/lib.rt", "--links", f"{name}=", "--incremental", "out/incremental"]
+    for it in "std", *uses(name):
+        words += ["--extern", f"{it}={KEPT if it in own else kit / 'rlibs'}/{it}.rlib"]
+    words += ["-L", f"dependency={KEPT}", "-L", f"dependency={kit}/rlibs", "--logic-built", kit / "logic_built"]
+    return [*words, "--antt-project", kit / "rattle/logic/antt-project.json"]
 
 
 def list_crates(names, to, top=TOP):

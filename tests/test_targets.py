@@ -187,7 +187,7 @@ def test_tests_without_the_toolchain(copy, tmp_path):
         (tmp_path / "tools/pytest").chmod(0o755)
     (tmp_path / "tools/rt").chmod(0o755)
     said = [*runs(make("-n", "test", top=copy), env=env).splitlines()]
-    assert " -m quick" in said[-3] and "rt ci" in said[-2] and "mutations --gate" in said[-1]
+    assert " -m quick" in said[-3] and "scripts/rt-ci" in said[-2] and "mutations --gate" in said[-1]
 
 
 @pytest.mark.parametrize("place", ["own", "listed", "listed/crates.txt", "missing"])
