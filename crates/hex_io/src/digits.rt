@@ -9,7 +9,7 @@ ghost use Rattle.hex_io.specs.SinkState.{Puts};
 
 use crate::sink::{Sink, WriteFault, put_all};
 use hex_codec::grouped::write_into;
-use hex_codec::{Group, hex_encode, hex_encode_upper};
+use hex_codec::{Group, hex_encode_into};
 
 /// The number of source bytes that are encoded at once.
 pub const ENCODE_CHUNK: usize = 512;
@@ -25,11 +25,9 @@ pub fn encoded<'b>(bytes: &[u8], upper: bool, buffer: &'b mut [u8]) -> &'b [u8]
     ensures text { result.now ≡ text upper bytes.now }
     ensures ascii { IsAscii result.now }
 {
-    if upper {
-        hex_encode_upper(bytes, buffer).unwrap()
-    } else {
-        hex_encode(bytes, buffer).unwrap()
-    }
+    // Not by `hex_encode`, since no rlib carries a proof that reads its contract: each program would check it again.
+    let len = hex_encode_into(bytes, buffer, upper).unwrap();
+    &buffer[..len]
 }
 
 /// Puts the digits of `bytes` into `sink`, without sign, prefix and padding. They are in groups if

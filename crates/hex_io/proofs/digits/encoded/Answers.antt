@@ -1,15 +1,11 @@
 -- A text is ASCII.
-use Rattle.std.proofs.Common.{rules, ◌≡◌}
-use Rattle.hex_core.specs.Text.{lowercase, text, uppercase}
+use Rattle.hex_core.specs.Text.{text}
 use Rattle.hex_core.proofs.AsciiLemmas.{IsAscii-text}
+use Rattle.hex_io.proofs.ChunkFacts.{filled-front}
 use Rattle.hex_io.proofs.digits.encoded.Goals as goal
 
-pub returns-then-upper-clause-ascii : goal.returns-then-upper-clause-ascii
-returns-then-upper-clause-ascii c =
-    let shown : c.unwrap.result.now ≡ text uppercase c.args.bytes.now = search rules in
-    rw shown (IsAscii-text uppercase c.args.bytes.now (λ i. (c.type_inv.bytes i).fits))
-
-pub returns-else-upper-clause-ascii : goal.returns-else-upper-clause-ascii
-returns-else-upper-clause-ascii c =
-    let shown : c.unwrap-else-upper.result.now ≡ text lowercase c.args.bytes.now = search rules in
-    rw shown (IsAscii-text lowercase c.args.bytes.now (λ i. (c.type_inv.bytes i).fits))
+pub returns-clause-ascii : goal.returns-clause-ascii
+returns-clause-ascii c =
+    let bytes = c.args.bytes.now in let front = text c.args.upper bytes in
+    let shown = filled-front _ front c.args.buffer.now c.hex_encode_into.new.dst c.hex_encode_into.result c.unwrap-len.result c.unwrap-len.ensures c.hex_encode_into.ensures.answer in
+    rw shown.1 (IsAscii-text c.args.upper bytes (λ i. (c.type_inv.bytes i).fits))
