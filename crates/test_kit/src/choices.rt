@@ -4,52 +4,66 @@
 //! again. `[any|lower|upper/64]` is each for 64 turns. What stands between bars may be a word, a part of
 //! one, or several.
 
-use crate::notation;
 use arrayvec::ArrayVec;
 
 /// One side of a row as a turn reads it.
 pub type Side = ArrayVec<u8, 4_000>;
-
-// What stands before the first such byte, and what after it.
-fn split_once(text: &[u8], byte: u8) -> Option<(&[u8], &[u8])> {
-    let place = text.iter().position(|it| *it == byte)?;
-    Some((text.get(..place)?, text.get(place.checked_add(1)?..)?))
-}
 
 /// Returns whether a side leaves anything to choose.
 pub fn are_in(side: &[u8]) -> bool {
     side.contains(&b'|')
 }
 
-// The choice for a turn of what brackets hold.
-fn chosen(inside: &[u8], turn: usize) -> Option<&[u8]> {
-    let (mut rest, turns) = split_once(inside, b'/').unwrap_or((inside, b"1".as_slice()));
-    let turn = turn.checked_div(notation::number(turns, 0)?)?;
-    let bars = rest.iter().filter(|byte| **byte == b'|').count();
-    for _ in 0..turn.checked_rem(bars.checked_add(1)?)? {
-        rest = split_once(rest, b'|')?.1;
+// Which choice a turn reads, where the first one begins at a place. Brackets without a choice stand for a number.
+fn chosen(side: &[u8], first: usize, turn: usize) -> Option<usize> {
+    let (mut bars, mut turns, mut has_turns): (usize, usize, bool) = (0, 0, false);
+    for i in first..side.len() {
+        let byte = side[i];
+        if byte == b']' {
+            let turn = turn.checked_div(if has_turns { turns } else { 1 });
+            let choice = turn.unwrap_or(0).checked_rem(bars.wrapping_add(1));
+            return if bars == 0 { None } else { choice };
+        }
+        if has_turns {
+            let digit = usize::from(byte.wrapping_sub(b'0'));
+            turns = turns.wrapping_mul(10).wrapping_add(digit);
+        }
+        has_turns = has_turns || byte == b'/';
+        bars = bars.wrapping_add(usize::from(byte == b'|'));
     }
-    Some(split_once(rest, b'|').map_or(rest, |(first, _)| first))
+    None
 }
 
-/// Writes a side into `written` as a turn reads it. Returns `None` where it can't be read.
-pub fn write(side: &[u8], turn: usize, written: &mut Side) -> Option<()> {
-    let mut rest = side;
-    for _ in 0..side.len() {
-        let Some((before, behind)) = split_once(rest, b'[') else {
-            break;
-        };
-        let (inside, behind) = split_once(behind, b']')?;
-        written.try_extend_from_slice(before).ok()?;
-        if are_in(inside) {
-            written.try_extend_from_slice(chosen(inside, turn)?).ok()?;
+/// Writes a side into `written` as a turn reads it. Returns whether it has room.
+pub fn write(side: &[u8], turn: usize, written: &mut Side) -> bool {
+    let (mut from, mut is_choice): (usize, bool) = (0, false);
+    // The choice that is read, and the one that stands from `from` on. Outside brackets both are the first.
+    let (mut read, mut here): (usize, usize) = (0, 0);
+    for i in 0..side.len() {
+        let byte = side[i];
+        let choice = if byte == b'[' {
+            chosen(side, i.wrapping_add(1), turn)
         } else {
-            // Brackets without a choice stand for a number.
-            written.try_push(b'[').ok()?;
-            written.try_extend_from_slice(inside).ok()?;
-            written.try_push(b']').ok()?;
+            None
+        };
+        if choice.is_none() && !(is_choice && b"|/]".contains(&byte)) {
+            continue;
         }
-        rest = behind;
+        let part = side.get(from..i).unwrap_or_default();
+        if here == read && written.try_extend_from_slice(part).is_err() {
+            return false;
+        }
+        from = i.wrapping_add(1);
+        if byte == b'|' {
+            here = here.wrapping_add(1);
+        } else if byte == b'/' {
+            here = usize::MAX;
+        } else {
+            is_choice = choice.is_some();
+            read = choice.unwrap_or(0);
+            here = 0;
+        }
     }
-    written.try_extend_from_slice(rest).ok()
+    let rest = side.get(from..).unwrap_or_default();
+    written.try_extend_from_slice(rest).is_ok()
 }

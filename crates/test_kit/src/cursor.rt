@@ -1,130 +1,134 @@
-//! The place in a word up to which it is read, and the numbers and bytes that stand there.
+//! The bytes of a word and the numbers that they write, which are read one after another.
 
-/// The text of a word that is still to be read, and the turn it is read for.
-#[derive(Drop)]
-pub struct Cursor<'a> {
-    rest: &'a [u8],
-    turn: usize,
+use crate::words::Words;
+
+// The value of a hex digit, or 16 where it is none.
+fn value(byte: u8) -> usize {
+    let digit = byte.wrapping_sub(b'0');
+    let letter = (byte | 0x20).wrapping_sub(b'a');
+    if digit < 10 {
+        usize::from(digit)
+    } else if letter < 6 {
+        10 + usize::from(letter)
+    } else {
+        16
+    }
 }
 
-impl<'a> Cursor<'a> {
-    /// Returns a cursor at the start of a word.
-    pub fn new(word: &'a [u8], turn: usize) -> Cursor<'a> {
-        Cursor { rest: word, turn }
+impl Words {
+    /// The next byte, which is not read: a space at the end of a word.
+    pub fn peek(&self) -> u8 {
+        match self.text.get(self.at) {
+            Some(byte) => *byte,
+            None => b' ',
+        }
     }
 
-    /// Whether the word is read to its end.
-    pub fn is_read(&self) -> bool {
-        self.rest.is_empty()
-    }
-
-    /// The next byte, which is not read.
-    pub fn peek(&self) -> Option<u8> {
-        self.rest.first().copied()
-    }
-
-    fn skip(&mut self) {
-        self.rest = self.rest.get(1..).unwrap_or_default();
+    /// Notes a word as misread, unless this is right.
+    pub fn check(&mut self, is_right: bool) {
+        if !is_right {
+            self.is_misread = true;
+        }
     }
 
     /// Whether this byte is the next one; it is then read.
-    pub fn takes(&mut self, byte: u8) -> bool {
-        let is_next = self.peek() == Some(byte);
+    pub fn eats(&mut self, byte: u8) -> bool {
+        let is_next = self.peek() == byte;
         if is_next {
-            self.skip();
+            self.at = self.at.saturating_add(1);
         }
         is_next
     }
 
-    // The value of the next byte, where that is a digit to this base, at most 16; it is then read.
-    fn digit(&mut self, base: usize) -> Option<usize> {
-        let value = char::from(self.peek()?).to_digit(16)? as usize;
-        if value >= base {
-            return None;
-        }
-        self.skip();
-        Some(value)
+    /// Reads a byte that is to be this one.
+    pub fn needs(&mut self, byte: u8) {
+        let is_next = self.eats(byte);
+        self.check(is_next);
     }
 
-    // The digits of a number to this base.
-    fn digits(&mut self, base: usize) -> Option<usize> {
-        let mut number = self.digit(base)?;
+    // The digits of a number to this base, at most 16.
+    fn digits(&mut self, base: usize) -> usize {
+        let start = self.at;
+        let mut number: usize = 0;
         for _ in 0..20 {
-            let Some(value) = self.digit(base) else {
+            let value = value(self.peek());
+            if value >= base {
                 break;
-            };
-            number = number.checked_mul(base)?.checked_add(value)?;
+            }
+            number = number.saturating_mul(base).saturating_add(value);
+            self.at = self.at.saturating_add(1);
         }
-        Some(number)
+        self.check(self.at > start);
+        number
     }
 
     // What is added in this turn.
-    fn added(&mut self, base: usize) -> Option<usize> {
-        let step = self.digits(base)?;
+    fn added(&mut self, base: usize) -> usize {
+        let step = self.digits(base);
         let mut turn = self.turn;
-        if self.takes(b'/') {
-            turn = turn.checked_div(self.digits(10)?)?;
+        if self.eats(b'/') {
+            turn = turn.checked_div(self.digits(10)).unwrap_or(0);
         }
-        let added = step.checked_mul(turn)?;
-        if self.takes(b'%') {
-            added.checked_rem(self.digits(10)?)
+        let added = step.wrapping_mul(turn);
+        if self.eats(b'%') {
+            added.checked_rem(self.digits(10)).unwrap_or(0)
         } else {
-            Some(added)
+            added
         }
     }
 
     // What brackets hold, for this turn, once the first is read.
-    fn turned(&mut self, base: usize) -> Option<usize> {
-        let start = self.digits(base)?;
-        let is_falling = self.takes(b'-');
-        if !is_falling && !self.takes(b'+') {
-            return None;
+    fn turned(&mut self, base: usize) -> usize {
+        let start = self.digits(base);
+        let is_falling = self.eats(b'-');
+        if !is_falling {
+            self.needs(b'+');
         }
-        let added = self.added(base)?;
-        let more = if self.takes(b'+') {
-            self.added(base)?
+        let added = self.added(base);
+        let more = if self.eats(b'+') { self.added(base) } else { 0 };
+        self.needs(b']');
+        self.check(!is_falling || added <= start);
+        let turned = if is_falling {
+            start.wrapping_sub(added)
         } else {
-            0
+            start.wrapping_add(added)
         };
-        if !self.takes(b']') {
-            return None;
-        }
-        if is_falling {
-            start.checked_sub(added)?.checked_add(more)
-        } else {
-            start.checked_add(added)?.checked_add(more)
-        }
+        turned.wrapping_add(more)
     }
 
     /// The next number, which is then read.
-    pub fn number(&mut self) -> Option<usize> {
-        if self.takes(b'[') {
+    pub fn number(&mut self) -> usize {
+        if self.eats(b'[') {
             self.turned(10)
         } else {
             self.digits(10)
         }
     }
 
-    // The two digits of a byte.
-    fn pair(&mut self) -> Option<u8> {
-        let high = self.digit(16)?;
-        let low = self.digit(16)?;
-        Some((high.wrapping_mul(16).wrapping_add(low) % 256) as u8)
+    // The value of the next byte, which is a hex digit.
+    fn digit(&mut self) -> usize {
+        let value = value(self.peek());
+        self.check(value < 16);
+        self.at = self.at.saturating_add(1);
+        value
     }
 
     /// The next byte of a part, which is written as digits where `is_hex` is true; it is then read.
-    pub fn byte(&mut self, is_hex: bool) -> Option<u8> {
-        if self.takes(b'[') {
-            return u8::try_from(self.turned(16)?).ok();
-        }
-        if is_hex {
-            return self.pair();
-        }
-        if self.takes(b'\\') {
-            return if self.takes(b'x') { self.pair() } else { None };
-        }
-        let byte = self.peek();
-        self.skip();
-        byte
+    pub fn byte(&mut self, is_hex: bool) -> u8 {
+        let value = if self.eats(b'[') {
+            self.turned(16)
+        } else if is_hex || self.eats(b'\\') {
+            if !is_hex {
+                self.needs(b'x');
+            }
+            self.digit().wrapping_mul(16).wrapping_add(self.digit())
+        } else {
+            let byte = self.peek();
+            self.check(byte != b' ');
+            self.at = self.at.saturating_add(1);
+            usize::from(byte)
+        };
+        self.check(value < 256);
+        (value % 256) as u8
     }
 }

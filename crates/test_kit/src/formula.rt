@@ -7,7 +7,7 @@
 //! and `m` in uppercase at each third place and else in lowercase: `(73i+i/7)x^200` are those of 100
 //! bytes.
 
-use crate::cursor::Cursor;
+use crate::words::Words;
 
 /// A list by a formula, without an end.
 #[derive(Clone, Copy)]
@@ -21,48 +21,53 @@ pub struct Formula {
     form: u8,
 }
 
+// Reads a number, or 1 where none stands before `i`.
+fn factor(word: &mut Words) -> usize {
+    if word.peek() == b'i' {
+        1
+    } else {
+        word.number()
+    }
+}
+
 impl Formula {
-    /// Reads a formula, once its first parenthesis is read. Returns `None` where it is none.
-    pub fn read(word: &mut Cursor<'_>) -> Option<Formula> {
-        let number = word.number();
-        let (start, factor) = if word.takes(b':') {
-            (number?, word.number())
-        } else {
-            (0, number)
-        };
+    /// Reads a formula, once its first parenthesis is read.
+    pub fn read(word: &mut Words) -> Formula {
         let mut formula = Formula {
-            start,
-            factor: factor.unwrap_or(1),
+            start: 0,
+            factor: factor(word),
             divisor: 0,
             added: 0,
             form: 0,
         };
-        formula.read_sum(word)?;
-        for form in [b'x', b'X', b'm'] {
-            if word.takes(form) {
-                formula.form = form;
-                break;
-            }
+        if word.eats(b':') {
+            formula.start = formula.factor;
+            formula.factor = factor(word);
         }
-        Some(formula)
+        formula.read_sum(word);
+        let form = word.peek();
+        if b"xXm".contains(&form) {
+            word.needs(form);
+            formula.form = form;
+        }
+        formula
     }
 
     // Reads what stands after the factor.
-    fn read_sum(&mut self, word: &mut Cursor<'_>) -> Option<()> {
-        if !word.takes(b'i') {
-            return None;
-        }
+    fn read_sum(&mut self, word: &mut Words) {
+        word.needs(b'i');
         for _ in 0..2 {
-            if !word.takes(b'+') {
+            if !word.eats(b'+') {
                 break;
             }
-            if word.takes(b'i') {
-                self.divisor = word.takes(b'/').then(|| word.number())??;
+            if word.eats(b'i') {
+                word.needs(b'/');
+                self.divisor = word.number();
             } else {
-                self.added = word.number()?;
+                self.added = word.number();
             }
         }
-        word.takes(b')').then_some(())
+        word.needs(b')');
     }
 
     // The byte at a place of the list.

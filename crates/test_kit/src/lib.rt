@@ -15,21 +15,24 @@ pub mod notation;
 mod note;
 mod ported;
 pub mod refusing;
+mod text;
 mod words;
 
 pub use crate::notation::Bytes;
 pub use crate::note::{Came, Note};
 use crate::ported::Ported;
+use crate::text::{Text, put_number, put_text};
 pub use crate::words::Words;
-use crate::words::first_word;
 use std::alloc::Global;
 use std::fmt::Display;
 use std::io::{self, BufRead, Write};
 
 /// Whether a value prints this text, which no flag changes.
 pub fn prints<T: Display>(alloc: Global, value: &T, want: &[u8]) -> bool {
-    matches!(format!(in alloc; "{value}"), Ok(text) if text.as_str().as_bytes() == want)
-        && matches!(format!(in alloc; "{value:*>+#90.3}"), Ok(text) if text.as_str().as_bytes() == want)
+    match format!(in alloc; "{value}{value:*>+#90.3}") {
+        Ok(twice) => twice.as_str().as_bytes().strip_prefix(want) == Some(want),
+        Err(_) => false,
+    }
 }
 
 /// A row: its words, what they are read into, and where its call takes memory from.
@@ -79,16 +82,17 @@ impl Row {
         self.answer.hold(answer.as_bytes(), turn);
     }
 
-    // Prints the words as the turn reads them, and the call that was noted.
-    fn put<W: Write>(&mut self, output: &mut W) -> io::Result<()> {
-        output.write_all(b"  ")?;
-        self.call.put(&mut self.first, output)?;
-        output.write_all(b" = ")?;
-        self.answer.put(&mut self.first, output)?;
-        if self.note.text().is_empty() {
-            return writeln!(output);
+    // Puts the words as the turn reads them, and the call that was noted, behind a text.
+    fn put(&mut self, text: &mut Text) {
+        put_text(text, "  ");
+        self.call.put(&mut self.first, text);
+        put_text(text, " = ");
+        self.answer.put(&mut self.first, text);
+        if !self.note.text().is_empty() {
+            put_text(text, "\n  ");
+            put_text(text, self.note.text());
         }
-        writeln!(output, "\n  {}", self.note.text())
+        put_text(text, "\n");
     }
 }
 
@@ -99,52 +103,98 @@ pub trait Calls {
     fn is_answered(&mut self, row: &mut Row) -> bool;
 }
 
-// How many rows were judged, how many of them are answered otherwise, and those of a ported test.
+// The row that is judged, the number of its line, how many rows were judged and how many of them are answered otherwise,
+// those of a ported test, and what is to be printed.
 #[derive(Drop)]
-struct Counts {
-    rows: u64,
-    otherwise: u64,
+struct Judged {
+    row: Row,
+    line: usize,
+    rows: usize,
+    otherwise: usize,
     ported: Ported,
+    text: Text,
 }
 
-// How many rows a line stands for, and the words of its call.
-fn turns(call: &[u8]) -> (usize, &[u8]) {
-    let word = first_word(call);
-    let behind = call.get(word.len().saturating_add(1)..);
-    match notation::number(word, 0) {
-        Some(count) => (count, behind.unwrap_or_default()),
-        None => (1, call),
-    }
-}
-
-// Judges the rows of a line, and returns the first turn that is answered otherwise.
-fn turn_missed<C: Calls>(
-    calls: &mut C,
-    row: &mut Row,
-    line: &str,
-    counts: &mut Counts,
-) -> Option<usize> {
-    let mut missed = None;
-    row.note = Note::new();
-    let (call, answer) = line.split_once(" = ").unwrap_or((line, ""));
-    let (count, call) = turns(call.as_bytes());
-    for turn in 0..count {
-        row.hold(call, answer, turn);
-        counts
-            .ported
-            .add(&row.call, &mut row.first, &mut row.second);
-        let is_answered = calls.is_answered(row);
-        counts.rows = counts.rows.saturating_add(1);
-        if !is_answered || !row.is_read() {
-            counts.otherwise = counts.otherwise.saturating_add(1);
-            missed = missed.or(Some(turn));
-            row.note.close();
+impl Judged {
+    // Nothing was judged yet.
+    fn new(alloc: Global) -> Judged {
+        Judged {
+            row: Row::new(alloc),
+            line: 0,
+            rows: 0,
+            otherwise: 0,
+            ported: Ported::new(),
+            text: Text::new(),
         }
     }
-    if let Some(turn) = missed {
-        row.hold(call, answer, turn);
+
+    // Judges a turn, whose words the row holds. Returns whether it is answered.
+    fn is_answered<C: Calls>(&mut self, calls: &mut C) -> bool {
+        self.ported.add(&mut self.row);
+        self.rows = self.rows.saturating_add(1);
+        let is_answered = calls.is_answered(&mut self.row) && self.row.is_read();
+        if !is_answered {
+            self.otherwise = self.otherwise.saturating_add(1);
+            self.row.note.close();
+        }
+        is_answered
     }
-    missed
+
+    // Judges the rows of a line, and puts the first one that is answered otherwise behind the text.
+    fn judge_rows<C: Calls>(&mut self, calls: &mut C, line: &str) {
+        let (call, answer) = line.split_once(" = ").unwrap_or((line, ""));
+        let mut call = call.as_bytes();
+        self.row.note = Note::new();
+        self.row.hold(call, answer, 0);
+        let count = self.row.call.take_count();
+        call = call.get(self.row.call.at..).unwrap_or_default();
+        let mut missed = usize::MAX;
+        for turn in 0..count {
+            self.row.hold(call, answer, turn);
+            if !self.is_answered(calls) {
+                missed = missed.min(turn);
+            }
+        }
+        if missed < count {
+            self.row.hold(call, answer, missed);
+            self.put_missed(line, missed);
+        }
+    }
+
+    // Puts a line and the turn of it that is answered otherwise behind the text.
+    fn put_missed(&mut self, line: &str, turn: usize) {
+        put_text(&mut self.text, "line ");
+        put_number(&mut self.text, self.line);
+        put_text(&mut self.text, ", turn ");
+        put_number(&mut self.text, turn);
+        put_text(&mut self.text, ": ");
+        put_text(&mut self.text, line);
+        put_text(&mut self.text, "\n");
+        self.row.put(&mut self.text);
+    }
+
+    // Judges a line.
+    fn judge_line<C: Calls>(&mut self, calls: &mut C, line: &str) {
+        self.line = self.line.saturating_add(1);
+        self.text.clear();
+        if line.is_empty() {
+            self.ported.end(&mut self.text);
+        } else if line.starts_with('#') {
+            self.ported.begin(line.as_bytes());
+        } else {
+            self.judge_rows(calls, line);
+        }
+    }
+
+    // Ends the rows.
+    fn end(&mut self) {
+        self.text.clear();
+        self.ported.end(&mut self.text);
+        put_number(&mut self.text, self.rows);
+        put_text(&mut self.text, " rows, ");
+        put_number(&mut self.text, self.otherwise);
+        put_text(&mut self.text, " answered otherwise\n");
+    }
 }
 
 /// Judges each row of `input`, writes those that are answered otherwise or can't be read to
@@ -161,28 +211,11 @@ pub fn judge<C: Calls, R: BufRead + Drop, W: Write>(
     input: R,
     output: &mut W,
 ) -> io::Result<()> {
-    let mut row = Row::new(alloc);
-    let mut counts = Counts {
-        rows: 0,
-        otherwise: 0,
-        ported: Ported::default(),
-    };
-    for (number, line) in (1u64..).zip(input.lines(alloc)) {
-        let line = line?;
-        let line = line.as_str();
-        if line.is_empty() {
-            counts.ported.end(output)?;
-        } else if line.starts_with('#') {
-            counts.ported.begin(line);
-        } else if let Some(turn) = turn_missed(calls, &mut row, line, &mut counts) {
-            writeln!(output, "line {number}, turn {turn}: {line}")?;
-            row.put(output)?;
-        }
+    let mut judged = Judged::new(alloc);
+    for line in input.lines(alloc) {
+        judged.judge_line(calls, line?.as_str());
+        output.write_all(judged.text.as_str().as_bytes())?;
     }
-    counts.ported.end(output)?;
-    writeln!(
-        output,
-        "{} rows, {} answered otherwise",
-        counts.rows, counts.otherwise
-    )
+    judged.end();
+    output.write_all(judged.text.as_str().as_bytes())
 }

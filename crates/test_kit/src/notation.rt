@@ -13,8 +13,8 @@
 //! `[30+2%64]`. Another addend may follow: `[2+2+1/3]` are the lengths of texts in groups of 3 bytes. A
 //! number is decimal, and where a byte stands start and step are hexadecimal.
 
-use crate::cursor::Cursor;
 use crate::formula::Formula;
+use crate::words::Words;
 use arrayvec::ArrayVec;
 
 /// How many bytes a word can write.
@@ -24,167 +24,126 @@ pub const ROOM: usize = 140_000;
 pub type Bytes = ArrayVec<u8, ROOM>;
 
 // Whether a part goes on.
-fn is_inside(word: &Cursor<'_>) -> bool {
-    !matches!(
-        word.peek(),
-        None | Some(b',' | b'*' | b'^' | b'~' | b'&' | b'%')
-    )
+fn is_inside(word: &Words) -> bool {
+    !matches!(word.peek(), b' ' | b',' | b'*' | b'^' | b'~' | b'&' | b'%')
 }
 
 // Writes the bytes of a part once.
-fn write_once(word: &mut Cursor<'_>, bytes: &mut Bytes) -> Option<()> {
-    let is_hex = word.takes(b'#');
-    if is_hex && !is_inside(word) {
-        return None;
-    }
+fn write_once(word: &mut Words, bytes: &mut Bytes) {
+    let is_hex = word.eats(b'#');
+    word.check(!is_hex || is_inside(word));
     for _ in 0..ROOM {
         if !is_inside(word) {
             break;
         }
-        bytes.try_push(word.byte(is_hex)?).ok()?;
+        let is_written = bytes.try_push(word.byte(is_hex)).is_ok();
+        word.check(is_written);
     }
-    Some(())
 }
 
 // Writes the bytes of a formula, as many as it says, once its first parenthesis is read.
-fn write_formula(word: &mut Cursor<'_>, bytes: &mut Bytes) -> Option<()> {
-    let formula = Formula::read(word)?;
-    if !word.takes(b'^') {
-        return None;
+fn write_formula(word: &mut Words, bytes: &mut Bytes) {
+    let formula = Formula::read(word);
+    word.needs(b'^');
+    for place in 0..word.number() {
+        if bytes.try_push(formula.at(place)).is_err() {
+            word.check(false);
+            break;
+        }
     }
-    for place in 0..word.number()? {
-        bytes.try_push(formula.at(place)).ok()?;
-    }
-    Some(())
 }
 
-// Puts a byte after the digits of each `every` bytes after `from`, but for the last ones.
-fn separate(bytes: &mut Bytes, from: usize, every: usize, separator: u8) -> Option<()> {
-    let digits = every.saturating_mul(2);
-    let piece = digits.saturating_add(1);
-    let len = bytes.len().checked_sub(from)?;
-    let count = len.saturating_sub(1).checked_div(digits)?;
-    let end = bytes.len().checked_add(count)?;
-    repeat(bytes, 1, end)?;
-    // From the end, so that no digit is overwritten before it has moved.
-    for place in (from..end).rev() {
-        let offset = place.checked_sub(from)?;
-        let before = place.checked_sub(offset.checked_div(piece)?)?;
-        let digit = *bytes.get(before)?;
-        *bytes.get_mut(place)? = if offset.checked_rem(piece)? == digits {
-            separator
-        } else {
-            digit
+// Goes on with the last `once` bytes again and again, or leaves some of them out, up to `end`. Returns whether it can.
+fn repeat(bytes: &mut Bytes, once: usize, end: usize) -> bool {
+    bytes.truncate(end);
+    for i in bytes.len()..end {
+        let byte = match bytes.get(i.wrapping_sub(once)) {
+            Some(byte) => *byte,
+            None => return false,
         };
+        if bytes.try_push(byte).is_err() {
+            return false;
+        }
     }
-    Some(())
+    true
+}
+
+// Puts a byte after the digits of each `every` bytes after `from`, but for the last ones. Returns whether it can.
+fn separate(bytes: &mut Bytes, from: usize, every: usize, separator: u8) -> bool {
+    let digits = every.saturating_mul(2);
+    let mut place = from.saturating_add(digits);
+    for _ in 0..ROOM {
+        if place >= bytes.len() {
+            break;
+        }
+        if bytes.try_insert(place, separator).is_err() {
+            return false;
+        }
+        place = place.saturating_add(digits).saturating_add(1);
+    }
+    every > 0
 }
 
 // Changes the part after `from` as the next byte says. Returns whether that is one that does.
-fn is_changed(word: &mut Cursor<'_>, bytes: &mut Bytes, from: usize) -> Option<bool> {
-    let once = bytes.len().checked_sub(from)?;
-    if word.takes(b'*') {
-        let whole = word.number()?.checked_mul(once)?;
-        repeat(bytes, once, whole.checked_add(from)?)?;
-    } else if word.takes(b'^') {
-        repeat(bytes, once, word.number()?.checked_add(from)?)?;
-    } else if word.takes(b'~') {
-        let every = word.number()?;
-        separate(bytes, from, every, word.byte(false)?)?;
+fn is_changed(word: &mut Words, bytes: &mut Bytes, from: usize) -> bool {
+    let once = bytes.len().saturating_sub(from);
+    let is_right = if word.eats(b'*') {
+        let whole = word.number().saturating_mul(once);
+        repeat(bytes, once, whole.saturating_add(from))
+    } else if word.eats(b'^') {
+        repeat(bytes, once, word.number().saturating_add(from))
+    } else if word.eats(b'~') {
+        let every = word.number();
+        separate(bytes, from, every, word.byte(false))
     } else {
-        return Some(false);
-    }
-    Some(true)
+        return false;
+    };
+    word.check(is_right);
+    true
 }
 
 // Writes a part, as often as it says.
-fn write_part(word: &mut Cursor<'_>, bytes: &mut Bytes) -> Option<()> {
+fn write_part(word: &mut Words, bytes: &mut Bytes) {
     let from = bytes.len();
-    if word.takes(b'(') {
-        write_formula(word, bytes)?;
+    if word.eats(b'(') {
+        write_formula(word, bytes);
     } else {
-        write_once(word, bytes)?;
+        write_once(word, bytes);
     }
     for _ in 0..ROOM {
-        if !is_changed(word, bytes, from)? {
+        if !is_changed(word, bytes, from) {
             break;
         }
     }
-    Some(())
 }
 
 // Puts one byte at a place.
-fn put(word: &mut Cursor<'_>, bytes: &mut Bytes) -> Option<()> {
-    let place = word.number()?;
-    if !word.takes(b':') {
-        return None;
+fn put(word: &mut Words, bytes: &mut Bytes) {
+    let place = word.number();
+    word.needs(b':');
+    let byte = word.byte(false);
+    match bytes.get_mut(place) {
+        Some(put) => *put = byte,
+        None => word.check(false),
     }
-    *bytes.get_mut(place)? = word.byte(false)?;
-    Some(())
 }
 
-// Writes all parts.
-fn write_parts(word: &mut Cursor<'_>, bytes: &mut Bytes) -> Option<()> {
+/// Puts the bytes that a word writes behind those that there are.
+pub fn write(word: &mut Words, bytes: &mut Bytes) {
+    word.check(word.peek() != b' ');
     for _ in 0..ROOM {
-        write_part(word, bytes)?;
-        if !word.takes(b',') {
+        write_part(word, bytes);
+        if !word.eats(b',') {
             break;
         }
     }
-    Some(())
-}
-
-// Puts each byte that is to stand at a place, and leaves out what is not to be kept.
-fn write_changes(word: &mut Cursor<'_>, bytes: &mut Bytes) -> Option<()> {
     for _ in 0..ROOM {
-        if !word.takes(b'&') {
+        if !word.eats(b'&') {
             break;
         }
-        put(word, bytes)?;
+        put(word, bytes);
     }
-    if word.takes(b'%') {
-        bytes.truncate(word.number()?);
+    if word.eats(b'%') {
+        bytes.truncate(word.number());
     }
-    word.is_read().then_some(())
-}
-
-// Goes on with the last `once` bytes again and again, or leaves some of them out, up to `end`.
-fn repeat(bytes: &mut Bytes, once: usize, end: usize) -> Option<()> {
-    bytes.truncate(end);
-    for i in bytes.len()..end {
-        let byte = *bytes.get(i.checked_sub(once)?)?;
-        bytes.try_push(byte).ok()?;
-    }
-    Some(())
-}
-
-/// Returns the number that a word writes for a turn, or `None` where it writes none.
-pub fn number(word: &[u8], turn: usize) -> Option<usize> {
-    let mut word = Cursor::new(word, turn);
-    let number = word.number()?;
-    word.is_read().then_some(number)
-}
-
-/// Returns the byte that a word writes for a turn, as itself, its digits or in brackets, or `None`
-/// where it is no such word.
-pub fn byte(word: &[u8], turn: usize) -> Option<u8> {
-    let mut word = Cursor::new(word, turn);
-    let is_hex = word.takes(b'#');
-    let byte = word.byte(is_hex)?;
-    word.is_read().then_some(byte)
-}
-
-/// Puts the bytes that a word writes for a turn into `bytes`, in place of those that it held.
-/// Returns `None` where it writes none.
-pub fn write(word: &[u8], turn: usize, bytes: &mut Bytes) -> Option<()> {
-    bytes.clear();
-    if word.is_empty() {
-        return None;
-    }
-    if word == b"-".as_slice() {
-        return Some(());
-    }
-    let mut word = Cursor::new(word, turn);
-    write_parts(&mut word, bytes)?;
-    write_changes(&mut word, bytes)
 }

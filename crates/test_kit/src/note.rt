@@ -1,16 +1,13 @@
 //! What a call of a row gave where another answer is wanted.
 
-use arrayvec::ArrayString;
+use crate::text::{Text, put_bytes, put_number, put_text};
 use hex_core::Error;
-use std::fmt::{self, Write as _};
+use std::fmt::Write as _;
 
 // How many bytes of an answer are shown, from a few before the first that differs.
 const SHOWN: usize = 40;
 
 const BEFORE: usize = 8;
-
-/// What is printed of a value.
-pub type Text = ArrayString<1_000>;
 
 /// What a call gives, or what is wanted of it.
 #[derive(Clone, Copy)]
@@ -43,49 +40,35 @@ impl<'a> Came<'a> {
             None => Came::Nothing,
         }
     }
-}
 
-// Writes what came, of bytes those from a place.
-fn put(text: &mut Text, came: Came<'_>, from: usize) -> fmt::Result {
-    match came {
-        Came::Bytes(bytes) => put_bytes(text, bytes, from, SHOWN),
-        Came::Count(count) => write!(text, "{count}"),
-        Came::Is(true) => text.write_str("yes"),
-        Came::Is(false) => text.write_str("no"),
-        Came::Nothing => text.write_str("none"),
-        Came::Refused(e) => write!(text, "{e}"),
-    }
-}
-
-/// Writes some bytes from a place, at most so many, and how many there are where these are not all: as they are where
-/// all can be seen, and else their digits.
-pub fn put_bytes(text: &mut Text, bytes: &[u8], from: usize, shown: usize) -> fmt::Result {
-    let rest = bytes.get(from..).unwrap_or_default();
-    let part = rest.get(..shown).unwrap_or(rest);
-    if from > 0 {
-        text.write_str("..")?;
-    }
-    if !part.is_empty() && part.iter().all(u8::is_ascii_graphic) {
-        text.write_str(str::from_utf8(part).unwrap_or_default())?;
-    } else {
-        text.write_str("#")?;
-        for byte in part {
-            write!(text, "{byte:02x}")?;
+    // The bytes, or none where it is something else.
+    fn bytes(self) -> &'a [u8] {
+        match self {
+            Came::Bytes(bytes) => bytes,
+            _ => &[],
         }
     }
-    if bytes.len() > shown {
-        write!(text, ".. ({} bytes)", bytes.len())?;
+}
+
+// Puts what came, of bytes those from a place.
+fn put(text: &mut Text, came: Came<'_>, from: usize) {
+    match came {
+        Came::Bytes(bytes) => put_bytes(text, bytes, from, SHOWN),
+        Came::Count(count) => put_number(text, count),
+        Came::Is(true) => put_text(text, "yes"),
+        Came::Is(false) => put_text(text, "no"),
+        Came::Nothing => put_text(text, "none"),
+        Came::Refused(e) => {
+            let _ = write!(text, "{e}").is_ok();
+        }
     }
-    Ok(())
 }
 
 // The place from which two answers are shown.
-fn start(came: Came<'_>, want: Came<'_>) -> usize {
-    if let (Came::Bytes(came), Came::Bytes(want)) = (came, want) {
-        for i in 0..came.len() {
-            if came.get(i) != want.get(i) {
-                return i.saturating_sub(BEFORE);
-            }
+fn start(came: &[u8], want: &[u8]) -> usize {
+    for i in 0..came.len() {
+        if i >= want.len() || came[i] != want[i] {
+            return i.saturating_sub(BEFORE);
         }
     }
     0
@@ -125,18 +108,22 @@ impl Note {
     /// Notes what the call gave and what is wanted of it, if it is the first of its turn. Returns false.
     pub fn differs(&mut self, came: Came<'_>, want: Came<'_>) -> bool {
         if self.text.is_empty() && !self.is_closed {
-            let _ = self.put_all(came, want).is_ok();
+            let from = start(came.bytes(), want.bytes());
+            self.put_call();
+            put(&mut self.text, want, from);
+            put_text(&mut self.text, ", came ");
+            put(&mut self.text, came, from);
         }
         false
     }
 
-    fn put_all(&mut self, came: Came<'_>, want: Came<'_>) -> fmt::Result {
-        let from = start(came, want);
-        let by = if self.plan.is_empty() { "" } else { " of " };
-        write!(self.text, "{}{by}{}: wanted ", self.call, self.plan)?;
-        put(&mut self.text, want, from)?;
-        self.text.write_str(", came ")?;
-        put(&mut self.text, came, from)
+    fn put_call(&mut self) {
+        put_text(&mut self.text, self.call);
+        if !self.plan.is_empty() {
+            put_text(&mut self.text, " of ");
+            put_text(&mut self.text, self.plan);
+        }
+        put_text(&mut self.text, ": wanted ");
     }
 
     /// Has no call be noted any more.

@@ -3,99 +3,95 @@
 //! digits in base ten and bytes as they are. Its hash is the FNV-1a hash, of 64 bits, of the hex
 //! digits of its words, with a space between two.
 
-use crate::notation::{self, Bytes};
-use crate::words::{Words, first_word};
-use arrayvec::ArrayString;
-use std::fmt::Write as _;
-use std::io::{self, Write};
-
-const DIGITS: &[u8; 16] = b"0123456789abcdef";
+use crate::Row;
+use crate::choices::Side;
+use crate::notation::Bytes;
+use crate::text::{Text, digits, put_digits, put_number, put_text};
+use crate::words::Words;
 
 /// The rows below a comment that names a test: how many turns they have, and the sum of their inputs.
-#[derive(Drop, Default)]
+#[derive(Drop)]
 pub struct Ported {
     // Empty where the comment names none.
-    name: ArrayString<100>,
-    turns: u64,
+    name: Side,
+    turns: usize,
     sum: u64,
 }
 
 impl Ported {
+    /// Returns the rows below a comment that names none.
+    pub fn new() -> Ported {
+        Ported {
+            name: Side::new(),
+            turns: 0,
+            sum: 0,
+        }
+    }
+
     /// Begins with the rows below a line of a comment, if it names a test.
-    pub fn begin(&mut self, comment: &str) {
-        let rest = comment.strip_prefix("# The Rust crate's `");
-        if let Some((name, _)) = rest.unwrap_or_default().split_once('`') {
-            self.name = ArrayString::try_from(name).unwrap_or_default();
+    pub fn begin(&mut self, comment: &[u8]) {
+        let before = b"# The Rust crate's `".as_slice();
+        let rest = comment.strip_prefix(before).unwrap_or_default();
+        for i in 0..rest.len() {
+            if rest[i] == b'`' {
+                self.name.clear();
+                let _ = self.name.try_extend_from_slice(&rest[..i]).is_ok();
+                break;
+            }
         }
     }
 
-    /// Ends the rows, and writes the name of their test, how many turns they have and their sum.
-    pub fn end<W: Write>(&mut self, output: &mut W) -> io::Result<()> {
+    /// Ends the rows, and puts the name of their test, how many turns they have and their sum behind a text.
+    pub fn end(&mut self, text: &mut Text) {
         if !self.name.is_empty() {
-            writeln!(output, "{} {} {:016x}", self.name, self.turns, self.sum)?;
+            put_text(
+                text,
+                str::from_utf8(self.name.as_slice()).unwrap_or_default(),
+            );
+            put_text(text, " ");
+            put_number(text, self.turns);
+            put_text(text, " ");
+            put_digits(text, &self.sum.to_be_bytes());
+            put_text(text, "\n");
         }
-        *self = Ported::default();
-        Ok(())
+        *self = Ported::new();
     }
 
-    /// Adds the input of a turn, if its row has a test. The bytes are overwritten.
-    pub fn add(&mut self, call: &Words, bytes: &mut Bytes, line: &mut Bytes) {
+    /// Adds the input of a turn, if its row has a test. Some of the row's bytes are overwritten.
+    pub fn add(&mut self, row: &mut Row) {
         if !self.name.is_empty() {
-            let (words, turn) = call.written();
-            let hash = hash(words, turn, bytes, line).unwrap_or(0);
             self.turns = self.turns.saturating_add(1);
-            self.sum = self.sum.wrapping_add(hash);
+            self.sum = self.sum.wrapping_add(hash(&mut row.call, &mut row.first));
+            row.call.go_back();
         }
     }
 }
 
-// The FNV-1a hash, of 64 bits.
-fn fnv(bytes: &[u8]) -> u64 {
-    let mut hash: u64 = 0xcbf2_9ce4_8422_2325;
-    for byte in bytes {
-        hash = (hash ^ u64::from(*byte)).wrapping_mul(0x0100_0000_01b3);
+// The FNV-1a hash, of 64 bits, of what was hashed before and a byte.
+fn fnv(hash: u64, byte: u8) -> u64 {
+    (hash ^ u64::from(byte)).wrapping_mul(0x0100_0000_01b3)
+}
+
+// The same of the digits of some bytes.
+fn fnv_digits(before: u64, bytes: &[u8]) -> u64 {
+    let mut hash = before;
+    for i in 0..bytes.len() {
+        let [high, low] = digits(bytes[i]);
+        hash = fnv(fnv(hash, high), low);
     }
     hash
 }
 
-// The hash of an input. The bytes are overwritten.
-fn hash(words: &[u8], turn: usize, bytes: &mut Bytes, line: &mut Bytes) -> Option<u64> {
-    let mut rest = words;
-    line.clear();
-    for _ in 0..words.len() {
-        let word = first_word(rest);
-        put_word(word, turn, bytes, line)?;
-        let Some(behind) = rest.get(word.len().saturating_add(1)..) else {
+// The hash of an input, whose words are taken. The bytes are overwritten.
+fn hash(words: &mut Words, bytes: &mut Bytes) -> u64 {
+    words.take_meaning(bytes);
+    let mut hash = fnv_digits(0xcbf2_9ce4_8422_2325, bytes.as_slice());
+    for _ in 0..4_000 {
+        if words.are_taken() {
             break;
-        };
-        line.try_push(b' ').ok()?;
-        rest = behind;
+        }
+        words.take_meaning(bytes);
+        hash = fnv_digits(fnv(hash, b' '), bytes.as_slice());
     }
-    Some(fnv(line.as_slice()))
-}
-
-// Puts the digits of a word after a line: of a number in brackets, of the bytes that it writes, or of the
-// word itself where it writes none.
-fn put_word(word: &[u8], turn: usize, bytes: &mut Bytes, line: &mut Bytes) -> Option<()> {
-    let number = notation::number(word, turn);
-    if let (Some(b'['), Some(number)) = (word.first(), number) {
-        let mut text: ArrayString<20> = ArrayString::new();
-        write!(text, "{number}").ok()?;
-        return put_digits(text.as_str().as_bytes(), line);
-    }
-    match notation::write(word, turn, bytes) {
-        Some(()) => put_digits(bytes.as_slice(), line),
-        None => put_digits(word, line),
-    }
-}
-
-fn put_digits(bytes: &[u8], line: &mut Bytes) -> Option<()> {
-    for byte in bytes {
-        let digits = [
-            DIGITS[usize::from(byte / 16)],
-            DIGITS[usize::from(byte % 16)],
-        ];
-        line.try_extend_from_slice(&digits).ok()?;
-    }
-    Some(())
+    hash
 }

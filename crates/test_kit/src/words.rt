@@ -2,63 +2,67 @@
 
 use crate::choices::{self, Side};
 use crate::notation::{self, Bytes};
-use crate::note::{Text, put_bytes};
+use crate::text::{Text, put_bytes, put_text};
 use hex_core::{CheckCase, Error};
-use std::io::{self, Write};
 
 // How many bytes of a word are shown.
 const SHOWN: usize = 200;
 
-const POLICIES: [(&str, CheckCase); 3] = [
-    ("any", CheckCase::None),
-    ("lower", CheckCase::Lower),
-    ("upper", CheckCase::Upper),
-];
-
-// The refusals that have no number.
-const REFUSALS: [(&str, Error); 3] = [
-    ("odd-length", Error::OddLength),
-    ("overflow", Error::Overflow),
-    ("no-memory", Error::OutOfMemory),
-];
-
-/// Returns the first word of a text, which a space ends.
-pub fn first_word(text: &[u8]) -> &[u8] {
-    let end = text.iter().position(|byte| *byte == b' ');
-    text.get(..end.unwrap_or(text.len())).unwrap_or_default()
+// Returns the first word of a text, which a space ends.
+fn first_word(text: &[u8]) -> &[u8] {
+    for i in 0..text.len() {
+        if text[i] == b' ' {
+            return &text[..i];
+        }
+    }
+    text
 }
 
 // Returns what stands beside a word in a table.
 fn beside<T: Copy>(word: &[u8], table: &[(&str, T)]) -> Option<T> {
-    for (name, value) in table {
-        if name.as_bytes() == word {
-            return Some(*value);
+    for i in 0..table.len() {
+        if table[i].0.as_bytes() == word {
+            return Some(table[i].1);
         }
     }
     None
 }
 
-// Prints a word as a turn reads it: a number in brackets as its digits, and bytes that are not written as they are as
-// hex digits.
-fn put_word<W: Write>(
-    word: &[u8],
-    turn: usize,
-    bytes: &mut Bytes,
-    output: &mut W,
-) -> io::Result<()> {
-    let number = notation::number(word, turn);
-    if let (Some(b'['), Some(number)) = (word.first(), number) {
-        return write!(output, "{number}");
+// Returns the number of a word among names, between which stand spaces, or how many bytes they have where it is none.
+fn place(word: &[u8], names: &[u8]) -> usize {
+    let mut rest = names;
+    for number in 0..names.len() {
+        let name = first_word(rest);
+        if name == word && !name.is_empty() {
+            return number;
+        }
+        rest = rest.get(name.len().saturating_add(1)..).unwrap_or_default();
     }
-    let is_written = word
-        .iter()
-        .any(|byte| matches!(byte, b'[' | b'*' | b'^' | b'(' | b'&'));
-    if !is_written || notation::write(word, turn, bytes).is_none() {
-        return output.write_all(word);
+    names.len()
+}
+
+// Has `bytes` hold the digits of a number.
+fn put_decimal(number: usize, bytes: &mut Bytes) {
+    let mut left = number;
+    bytes.clear();
+    for _ in 0..20 {
+        let digit = (left % 10) as u8;
+        let _ = bytes.try_insert(0, b'0'.wrapping_add(digit)).is_ok();
+        left /= 10;
+        if left == 0 {
+            break;
+        }
     }
-    let mut text = Text::new();
-    let _ = put_bytes(&mut text, bytes.as_slice(), 0, SHOWN).is_ok();
-    output.write_all(text.as_str().as_bytes())
+}
+
+// Whether a word is printed as what it stands for, and not as it is written.
+fn is_expanded(word: &[u8]) -> bool {
+    for i in 0..word.len() {
+        if b"[*^(&".contains(&word[i]) {
+            return true;
+        }
+    }
+    false
 }
 
 /// One side of a row: its words, with one space between two, as one turn reads them.
@@ -66,10 +70,10 @@ fn put_word<W: Write>(
 /// A word that can't be read as what a call takes it for is noted, so that the row is reported.
 #[derive(Drop)]
 pub struct Words {
-    text: Side,
-    at: usize,
-    turn: usize,
-    is_misread: bool,
+    pub(crate) text: Side,
+    pub(crate) at: usize,
+    pub(crate) turn: usize,
+    pub(crate) is_misread: bool,
 }
 
 impl Words {
@@ -89,10 +93,13 @@ impl Words {
         self.at = 0;
         self.turn = turn;
         let is_held = if choices::are_in(side) {
-            choices::write(side, turn, &mut self.text).is_some()
+            choices::write(side, turn, &mut self.text)
         } else {
             self.text.try_extend_from_slice(side).is_ok()
         };
+        if !is_held {
+            self.text.clear();
+        }
         self.is_misread = !is_held;
     }
 
@@ -126,15 +133,23 @@ impl Words {
     /// Takes the next word, which is to be this one, or else was misread.
     pub fn wants(&mut self, word: &[u8]) {
         let is_next = self.next() == word;
-        self.is_misread = self.is_misread || !is_next;
+        self.check(is_next);
     }
 
     /// Takes the next word, which is to be one of a table's. Returns what stands beside it there, or
     /// `None` where it was misread.
     pub fn one_of<T: Copy>(&mut self, table: &[(&str, T)]) -> Option<T> {
         let value = beside(self.next(), table);
-        self.is_misread = self.is_misread || value.is_none();
+        self.check(value.is_some());
         value
+    }
+
+    /// Takes the next word, which is to be one of these names, between which stand spaces. Returns its number among them,
+    /// or a larger one where it was misread.
+    pub fn number_in(&mut self, names: &[u8]) -> usize {
+        let number = place(self.next(), names);
+        self.check(number < names.len());
+        number
     }
 
     /// Takes the next word, which is to be one of these two. Returns whether it was the first.
@@ -146,37 +161,57 @@ impl Words {
         is_yes
     }
 
-    /// Takes the next word as a number, or 0 where it was misread.
-    pub fn take_number(&mut self) -> usize {
-        let turn = self.turn;
-        let number = notation::number(self.next(), turn);
-        self.is_misread = self.is_misread || number.is_none();
-        number.unwrap_or(0)
+    // Goes to the next word, where this one is read to its end.
+    fn end_word(&mut self) {
+        self.check(self.peek() == b' ');
+        self.at = self.at.saturating_add(1);
     }
 
-    /// Takes the next word as how many growths there are, or 0 where it was misread.
+    /// Takes the next word as a number.
+    pub fn take_number(&mut self) -> usize {
+        let number = self.number();
+        self.end_word();
+        number
+    }
+
+    /// Takes the number before a call, which says how many rows a line stands for. Returns 1 where there is none.
+    pub(crate) fn take_count(&mut self) -> usize {
+        if self.peek().is_ascii_digit() {
+            self.take_number()
+        } else {
+            1
+        }
+    }
+
+    /// Takes the next word as how many growths there are.
     pub fn take_growths(&mut self) -> u64 {
         self.take_number() as u64
     }
 
-    /// Takes the next word as one byte, or 0 where it was misread.
+    /// Takes the next word as one byte.
     pub fn take_byte(&mut self) -> u8 {
-        let turn = self.turn;
-        let byte = notation::byte(self.next(), turn);
-        self.is_misread = self.is_misread || byte.is_none();
-        byte.unwrap_or(0)
+        let is_hex = self.eats(b'#');
+        let byte = self.byte(is_hex);
+        self.end_word();
+        byte
     }
 
     /// Takes the next word as bytes, which `bytes` then holds where it was not misread.
     pub fn take_bytes(&mut self, bytes: &mut Bytes) {
-        let turn = self.turn;
-        let written = notation::write(self.next(), turn, bytes);
-        self.is_misread = self.is_misread || written.is_none();
+        bytes.clear();
+        if !self.takes(b"-") {
+            notation::write(self, bytes);
+            self.end_word();
+        }
     }
 
     /// Takes the next word as a policy: `any`, `lower` or `upper`.
     pub fn take_policy(&mut self) -> CheckCase {
-        self.one_of(&POLICIES).unwrap_or(CheckCase::None)
+        match self.number_in(b"any lower upper") {
+            1 => CheckCase::Lower,
+            2 => CheckCase::Upper,
+            _ => CheckCase::None,
+        }
     }
 
     /// Takes the next words as a refusal: `odd-length`, `overflow`, `no-memory`, `too-small 4`,
@@ -197,7 +232,11 @@ impl Words {
                 actual: self.take_number(),
             }
         } else {
-            self.one_of(&REFUSALS).unwrap_or(Error::OddLength)
+            match self.number_in(b"odd-length overflow no-memory") {
+                1 => Error::Overflow,
+                2 => Error::OutOfMemory,
+                _ => Error::OddLength,
+            }
         }
     }
 
@@ -208,28 +247,57 @@ impl Words {
         rest
     }
 
-    /// Returns the words as they are written in this turn, and the turn.
-    pub fn written(&self) -> (&[u8], usize) {
-        (self.text.as_slice(), self.turn)
+    /// Takes the next word, and has `bytes` hold what it stands for: the digits of a number in brackets, the bytes that
+    /// it writes, or itself where it writes none.
+    pub fn take_meaning(&mut self, bytes: &mut Bytes) {
+        let start = self.at;
+        self.is_misread = false;
+        if self.peek() == b'[' {
+            let number = self.take_number();
+            put_decimal(number, bytes);
+        } else {
+            self.misread();
+        }
+        if self.is_misread {
+            self.at = start;
+            self.is_misread = false;
+            self.take_bytes(bytes);
+        }
+        if self.is_misread {
+            self.at = start;
+            bytes.clear();
+            let is_put = bytes.try_extend_from_slice(self.next()).is_ok();
+            self.is_misread = !is_put;
+        }
     }
 
-    /// Prints the words as their turn reads them. The bytes are overwritten.
-    pub fn put<W: Write>(&self, bytes: &mut Bytes, output: &mut W) -> io::Result<()> {
-        let mut rest = self.text.as_slice();
+    /// Returns whether all words are taken.
+    pub fn are_taken(&self) -> bool {
+        self.at >= self.text.len()
+    }
+
+    /// Prints the words as their turn reads them: a number in brackets as its digits, and bytes that are not written as
+    /// they are as hex digits. The bytes are overwritten.
+    pub fn put(&mut self, bytes: &mut Bytes, text: &mut Text) {
         for _ in 0..self.text.len() {
-            let word = first_word(rest);
-            put_word(word, self.turn, bytes, output)?;
-            let Some(behind) = rest.get(word.len().saturating_add(1)..) else {
+            if self.are_taken() {
                 break;
-            };
-            output.write_all(b" ")?;
-            rest = behind;
+            }
+            if self.at > 0 {
+                put_text(text, " ");
+            }
+            let word = first_word(self.text.get(self.at..).unwrap_or_default());
+            if is_expanded(word) {
+                self.take_meaning(bytes);
+                put_bytes(text, bytes.as_slice(), 0, SHOWN);
+            } else {
+                put_text(text, str::from_utf8(self.next()).unwrap_or_default());
+            }
         }
-        Ok(())
     }
 
     /// Returns whether no word is left, and none was misread.
     pub fn are_read(&self) -> bool {
-        self.at >= self.text.len() && !self.is_misread
+        self.are_taken() && !self.is_misread
     }
 }

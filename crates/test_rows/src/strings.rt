@@ -9,7 +9,7 @@ use hex_core::CheckCase;
 use hex_io::Hex;
 use std::alloc::Global;
 use test_kit::refusing::Refusing;
-use test_kit::{Came, Note, Row};
+use test_kit::{Came, Note, Row, prints};
 
 // A string that is appended to.
 type Text<'r> = String<&'r Refusing<Global>>;
@@ -217,14 +217,7 @@ fn are_long(note: &mut Note, alloc: Global, case: CheckCase, bytes: &[u8], text:
         && is_read(note, &refusing, to, false, Ok(bytes))
         && appended.is_left(note, alloc, from, true, Ok(text))
         && appended.is_left(note, alloc, from, false, Ok(text))
-        && (from.is_upper() || is_shown(alloc, bytes, text))
-}
-
-// Whether this text is printed of these bytes, with the flag `#` too.
-fn is_shown(alloc: Global, bytes: &[u8], text: &[u8]) -> bool {
-    let hex = Hex::new(bytes);
-    matches!(format!(in alloc; "{hex}"), Ok(shown) if shown.as_str().as_bytes() == text)
-        && matches!(format!(in alloc; "{hex:#}"), Ok(shown) if shown.as_str().as_bytes() == text)
+        && (from.is_upper() || prints(alloc, &Hex::new(bytes), text))
 }
 
 /// `appends CAPACITY TEXT CASE BYTES CASE BYTES CASE BYTES`: the suffix that each of three answers, and

@@ -94,7 +94,11 @@ pub fn owned_row(row: &mut Row, to: &mut Destination) -> bool {
     let case = row.call.take_policy();
     let src = source(&mut row.call, &mut row.given, to.from);
     let is_refused = row.answer.is_either(b"at", b"ok");
-    let place = is_refused.then(|| row.answer.take_number());
+    let place = if is_refused {
+        Some(row.answer.take_number())
+    } else {
+        None
+    };
     row.answer.take_bytes(&mut row.wanted);
     Read::new(src, case, place).all_leave(&mut row.note, row.wanted.as_slice(), to)
 }
