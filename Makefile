@@ -3,7 +3,8 @@
 # To build and install:
 #   make                     the library and the programs, into out/
 #   make lib                 only the library: libfaster_hex.a and libfaster_hex.so
-#   make fhex                only the program fhex, and make fhex-stream only that one
+#   make fhex                only the program fhex
+#   make fhex-stream         only the program fhex-stream
 #   make install PREFIX=DIR  copies what was built into DIR. LIBDIR=DIR is for the libraries. DESTDIR=DIR is put
 #                            before both
 #   make uninstall           removes the same files, and takes the same variables
