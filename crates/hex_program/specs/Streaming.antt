@@ -1,11 +1,11 @@
 -- What all of `fhex-stream` does with its words and with what it reads, and how it ends.
-use Rattle.std.specs.Prelude.{◌≡◌, ◌⊎◌, ◌≤◌, ◌^◌, ℕ, if◌then◌else◌, List, [], ◌∷◌, ◌++◌, length, codes, Option, Some, None, Result, Ok, Err}
+use Rattle.std.specs.Prelude.{◌≡◌, ◌≤◌, ◌^◌, ⊤, ℕ, if◌then◌else◌, List, [], ◌∷◌, ◌++◌, length, codes, Option, Some, None, Result, Ok, Err}
 use Rattle.std.specs.Str.{bytes_eq}
-use Rattle.std.specs.List.{flat_map}
+use Rattle.std.specs.List.{flat_map, join_by}
 use Rattle.std.specs.Io.KnownBytes.{Appends, Consumes, IsAtEnd}
 use Rattle.hex_core.specs.declared.digit.CheckCase.TheVariants as policy
 use Rattle.hex_core.specs.declared.error.Error.{Error}
-use Rattle.hex_core.specs.declared.error.Error.TheVariants.{Overflow}
+use Rattle.hex_core.specs.declared.error.Error.TheVariants.{OddLength, Overflow}
 use Rattle.hex_core.specs.Text.{Spells, lowercase, text}
 use Rattle.hex_codec.specs.GroupedWriting.{pieces}
 use Rattle.hex_io.specs.Reading.{spaced, unspaced}
@@ -48,8 +48,14 @@ Begins Encode input held held' = WritesPart held held' (line input)
 Begins EncodeLines input held held' = WritesPart held held' (flat_map line (pieces 30 input))
 Begins Decode input held held' = (front : List ℕ) × ((rest : List ℕ) × (input ≡ front ++ rest) × Wrote policy.None (unspaced front) (WritesPart held held'))
 
--- a decoding refuses what was read: the index in a refusal counts all bytes of it. All but those of the last read,
--- which are at most 16384, were decoded and written
+-- the output of all that was read was written, but for its last newline or a last digit that waits for a partner
+abbrev pub WritesRead : StreamOp → List ℕ → Option (List ℕ) → Option (List ℕ) → Type 0
+WritesRead Encode input held held' = Appends held held' (text lowercase input)
+WritesRead EncodeLines input held held' = Appends held held' (join_by (text lowercase) (10 ∷ []) (pieces 30 input))
+WritesRead Decode input held held' = Wrote policy.None (unspaced input) (Appends held held')
+
+-- a decoding refuses what was read, but not for an odd digit: the index in a refusal counts all bytes of it. All but
+-- those of the last read, which are at most 16384, were decoded and written
 pub record RefusesStream (input : List ℕ) (left' held held' : Option (List ℕ)) (refusal : Error) : Type 0 where
   pub is_refusal : RefusedBy (spaced policy.None) input left' refusal
   pub front : List ℕ
@@ -58,16 +64,20 @@ pub record RefusesStream (input : List ℕ) (left' held held' : Option (List ℕ
   pub short : length rest ≤ 16384
   pub wrote : Wrote policy.None (unspaced front) (Appends held held')
 
+-- what was read is refused: for an odd digit, or too many bytes to encode, nothing of it was left out
 abbrev pub Refuses : StreamOp → List ℕ → Option (List ℕ) → Option (List ℕ) → Option (List ℕ) → Error → Type 0
+Refuses Decode input left' held held' OddLength = RefusedBy (spaced policy.None) input left' OddLength × WritesRead Decode input held held'
 Refuses Decode input left' held held' refusal = RefusesStream input left' held held' refusal
-Refuses op input left' held held' refusal = (refusal ≡ Overflow) × (2 ^ 64 ≤ length input)
+Refuses op input left' held held' refusal = (refusal ≡ Overflow) × (2 ^ 64 ≤ length input) × WritesRead op input held held'
 
--- how an operation ends: all was read, and exactly its output was written; what was read is refused; or a read or a
--- write failed
+-- how an operation ends: all was read, and exactly its output was written; what was read is refused; a read failed, and
+-- nothing of what was read was left out; or a write failed
 abbrev pub EndsStreamOp : StreamOp → List ℕ → Option (List ℕ) → Option (List ℕ) → Option (List ℕ) → Result (Unit {0}) Failure → Type 0
 EndsStreamOp op input left' held held' (Ok done) = IsAtEnd left' × ((output : List ℕ) × IsStreamOutput op input output × Appends held held' output)
 EndsStreamOp op input left' held held' (Err (Codec refusal)) = Refuses op input left' held held' refusal
-EndsStreamOp op input left' held held' (Err failure) = (failure ≡ ReadFailed) ⊎ (failure ≡ WriteFailed)
+EndsStreamOp op input left' held held' (Err ReadFailed) = WritesRead op input held held'
+EndsStreamOp op input left' held held' (Err WriteFailed) = ⊤
+EndsStreamOp op input left' held held' (Err failure) = ⊥
 
 -- some input was read, and however the operation ends, a leading part of the right output was written
 pub record ServesStreamOp (op : StreamOp) (left left' held held' : Option (List ℕ)) (ended : Result (Unit {0}) Failure) : Type 0 where

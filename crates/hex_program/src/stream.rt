@@ -161,12 +161,14 @@ fn serve_stream_op<R: Read, W: Write>(
 /// `words` are the arguments of the program, without its name. They are tested first. If there is
 /// exactly one and it names a [`StreamOp`], the function reads `input` to its end, writes the
 /// output as it reads, and flushes it at the end. However it ends, what it has written to `out` is
-/// the first part of the right output, or all of it.
+/// the first part of the right output, or all of it. After a failed read, nothing of what was read
+/// is left out, except for the last newline or a digit that waits for its partner.
 ///
 /// | Status | When | Written to `err`, as one line |
 /// |---|---|---|
 /// | 0 | the whole output was written to `out` | nothing |
-/// | 1 | the input is not valid; what came before the last read was decoded | the text of the [`Error`](hex_core::Error) |
+/// | 1 | a byte is invalid; what came before the last read was decoded | the text of the [`Error`](hex_core::Error) |
+/// | 1 | the number of digits is odd; all whole pairs were decoded | the same |
 /// | 2 | `words` is not one word that names an operation; nothing was read or written to `out` | the usage |
 /// | 3 | a failure of the system | `read failed`, `write failed` |
 ///

@@ -10,11 +10,11 @@ returns-in-Ok g c =
     let long : piece_len lines ≡ 30 = search rules in let newline : separator lines ≡ 10 = search rules in
     let some : 0 < c.in-Ok.field-0 = search rules in
     let ends = lines-ended lines long newline law.taken law.stopped read.0 (g.R.Read.remaining c.encode_grouped_stream.new.reader) (st c.args.sink.now) (st c.encode_grouped_stream.new.sink) (st c.end_line.new.sink) c.in-Ok.field-0 c.end_line.result some read.2 c.end_line.ensures in
-    (read.0, read.1, ends.0, ends.1)
+    record { input = read.0; read = read.1; begun = ends.0; end = ends.1 }
 
 pub returns-in-Err : goal.returns-in-Err
 returns-in-Err g c =
     let st = g.S.Sink.state in let read = c.in-Err.ensures.answer in let lines = c.unwrap-lines.result in
     let long : piece_len lines ≡ 30 = search rules in let newline : separator lines ≡ 10 = search rules in
     let ends = lines-failed lines long newline read.0 (g.R.Read.remaining c.encode_grouped_stream.new.reader) (st c.args.sink.now) (st c.encode_grouped_stream.new.sink) c.in-Err.fault read.2 in
-    (read.0, read.1, ends.0, ends.1)
+    record { input = read.0; read = read.1; begun = ends.0; end = ends.1 }
