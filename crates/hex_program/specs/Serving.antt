@@ -49,12 +49,16 @@ input_limit = 16777216
 abbrev pub ReadsAll : Option (List ℕ) → Option (List ℕ) → List ℕ → Type 0
 ReadsAll left left' input = Consumes left left' input × IsAtEnd left' × (length input ≤ input_limit)
 
--- what an operation that failed before it wrote says of what it was to read
+-- why an operation may fail before it writes
 abbrev pub FailsBefore : Option (List ℕ) → Failure → Type 0
 FailsBefore left ReadFailed = ⊤
 FailsBefore left OutOfMemory = ⊤
 FailsBefore left InputTooLong = IfSome left (λ bytes. input_limit < length bytes)
 FailsBefore left failure = ⊥
+
+-- a leading part of the input was read
+abbrev pub ReadsSome : Option (List ℕ) → Option (List ℕ) → Type 0
+ReadsSome left left' = (input : List ℕ) × Consumes left left' input
 
 -- the input was read, and this is so of the operation's output
 pub record Served (op : Op) (left left' : Option (List ℕ)) (Wrote : List ℕ → Type 0) : Type 0 where
@@ -72,12 +76,12 @@ pub record Refused (op : Op) (left left' held held' : Option (List ℕ)) (refusa
   pub kept : Keeps held held'
 
 -- how an operation ends: exactly its output was written; the input is refused; a leading part of the output was
--- written; or nothing was
+-- written; or some input was read, and nothing was written
 abbrev pub EndsOp : Op → Option (List ℕ) → Option (List ℕ) → Option (List ℕ) → Option (List ℕ) → Result (Unit {0}) Failure → Type 0
 EndsOp op left left' held held' (Ok done) = Served op left left' (Appends held held')
 EndsOp op left left' held held' (Err (Codec refusal)) = Refused op left left' held held' refusal
 EndsOp op left left' held held' (Err WriteFailed) = Served op left left' (WritesPart held held')
-EndsOp op left left' held held' (Err failure) = FailsBefore left failure × Keeps held held'
+EndsOp op left left' held held' (Err failure) = ReadsSome left left' × FailsBefore left failure × Keeps held held'
 
 -- the status of the stored vectors: 1 says that one of them failed, which is no failure of the program
 abbrev pub VectorsStatus : ℕ → Result (Unit {0}) Failure → Type 0

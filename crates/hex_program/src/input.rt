@@ -1,7 +1,7 @@
 //! Reads the whole input before an operation runs over it.
 
 ghost use Rattle.std.specs.Prelude.{IfOk, IfErr};
-ghost use Rattle.hex_program.specs.Serving.{FailsBefore, ReadsAll};
+ghost use Rattle.hex_program.specs.Serving.{FailsBefore, ReadsAll, ReadsSome};
 
 use crate::failure::Failure;
 use std::alloc::Allocator;
@@ -35,7 +35,7 @@ pub fn read_input<A: Allocator + Drop, R: Read>(
     input: &mut R,
 ) -> Result<Vec<u8, A>, Failure>
     ensures ok { IfOk result (λ v. ReadsAll (R.remaining input.old) (R.remaining input.new) v.items) }
-    ensures err { IfErr result (λ f. FailsBefore (R.remaining input.old) f) }
+    ensures err { IfErr result (λ f. ReadsSome (R.remaining input.old) (R.remaining input.new) × FailsBefore (R.remaining input.old) f) }
 {
     let mut chunk = [0u8; READ_CHUNK];
     let mut all = Vec::new(alloc);

@@ -28,7 +28,7 @@ ends_run op input left left' held' old new (Err (fault.Write why)) ended all ran
     rw ends (record { input = input; output = ran.0; read = all; is_output = ran.1; wrote = part-kept old.taken new.taken held' ran.0 part kept })
 ends_run op input left left' held' old new (Err (fault.Codec e)) ended all ran kept ends =
     rw ends (record { input = input; read = all; is_refusal = ran.0; kept = rw ran.1 at kept })
-ends_run op input left left' held' old new (Err fault.OutOfMemory) ended all ran kept ends = rw ends (tt, rw ran.1 at kept)
+ends_run op input left left' held' old new (Err fault.OutOfMemory) ended all ran kept ends = rw ends ((input, all.0), tt, rw ran.1 at kept)
 
 pub returns : goal.returns
 returns g c =
