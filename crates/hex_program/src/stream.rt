@@ -161,7 +161,7 @@ fn serve_stream_op<R: Read, W: Write>(
 /// `words` are the arguments of the program, without its name. They are tested first. If there is
 /// exactly one and it names a [`StreamOp`], the function reads `input` to its end, writes the
 /// output as it reads, and flushes it at the end. However it ends, what it has written to `out` is
-/// the first part of the right output, or all of it. After a failed read, nothing of what was read
+/// the first part of the right output, or all of it. After `read failed`, nothing of what was read
 /// is left out, except for the last newline or a digit that waits for its partner.
 ///
 /// | Status | When | Written to `err`, as one line |
