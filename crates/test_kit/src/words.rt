@@ -8,6 +8,19 @@ use hex_core::{CheckCase, Error};
 // How many bytes of a word are shown.
 const SHOWN: usize = 200;
 
+const POLICIES: [(&str, CheckCase); 3] = [
+    ("any", CheckCase::None),
+    ("lower", CheckCase::Lower),
+    ("upper", CheckCase::Upper),
+];
+
+// The refusals that have no number.
+const REFUSALS: [(&str, Error); 3] = [
+    ("odd-length", Error::OddLength),
+    ("overflow", Error::Overflow),
+    ("no-memory", Error::OutOfMemory),
+];
+
 // Returns the first word of a text, which a space ends.
 fn first_word(text: &[u8]) -> &[u8] {
     for i in 0..text.len() {
@@ -26,19 +39,6 @@ fn beside<T: Copy>(word: &[u8], table: &[(&str, T)]) -> Option<T> {
         }
     }
     None
-}
-
-// Returns the number of a word among names, between which stand spaces, or how many bytes they have where it is none.
-fn place(word: &[u8], names: &[u8]) -> usize {
-    let mut rest = names;
-    for number in 0..names.len() {
-        let name = first_word(rest);
-        if name == word && !name.is_empty() {
-            return number;
-        }
-        rest = rest.get(name.len().saturating_add(1)..).unwrap_or_default();
-    }
-    names.len()
 }
 
 // Has `bytes` hold the digits of a number.
@@ -144,14 +144,6 @@ impl Words {
         value
     }
 
-    /// Takes the next word, which is to be one of these names, between which stand spaces. Returns its number among them,
-    /// or a larger one where it was misread.
-    pub fn number_in(&mut self, names: &[u8]) -> usize {
-        let number = place(self.next(), names);
-        self.check(number < names.len());
-        number
-    }
-
     /// Takes the next word, which is to be one of these two. Returns whether it was the first.
     pub fn is_either(&mut self, yes: &[u8], no: &[u8]) -> bool {
         let is_yes = self.takes(yes);
@@ -207,11 +199,7 @@ impl Words {
 
     /// Takes the next word as a policy: `any`, `lower` or `upper`.
     pub fn take_policy(&mut self) -> CheckCase {
-        match self.number_in(b"any lower upper") {
-            1 => CheckCase::Lower,
-            2 => CheckCase::Upper,
-            _ => CheckCase::None,
-        }
+        self.one_of(&POLICIES).unwrap_or(CheckCase::None)
     }
 
     /// Takes the next words as a refusal: `odd-length`, `overflow`, `no-memory`, `too-small 4`,
@@ -232,11 +220,7 @@ impl Words {
                 actual: self.take_number(),
             }
         } else {
-            match self.number_in(b"odd-length overflow no-memory") {
-                1 => Error::Overflow,
-                2 => Error::OutOfMemory,
-                _ => Error::OddLength,
-            }
+            self.one_of(&REFUSALS).unwrap_or(Error::OddLength)
         }
     }
 

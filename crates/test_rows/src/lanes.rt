@@ -114,23 +114,38 @@ fn are_written(bytes: &[u8], upper: bool, want: &[u8]) -> bool {
     }
 }
 
-/// A row of `POLICY BYTES`: 0 is `admit`, whether each byte is admitted, as `y` or `n`; 1 is `saturate`, the nibbles of 16
-/// bytes; 2 is `hash`, the checks of hashed bytes, and 3 is `nibbles`, their nibbles; 4 is `pack`, the bytes of these
-/// nibbles; and 5 is `write`, the digits.
-pub fn row(call: usize, row: &mut Row) -> bool {
+/// A call of `POLICY BYTES`.
+#[derive(Clone, Copy)]
+pub enum Call {
+    /// Whether each byte is admitted, as `y` or `n`.
+    Admit,
+    /// The nibbles of 16 bytes.
+    Saturate,
+    /// The checks of hashed bytes.
+    Hash,
+    /// Their nibbles.
+    Nibbles,
+    /// The bytes of these nibbles.
+    Pack,
+    /// The digits.
+    Write,
+}
+
+/// A row of such a call.
+pub fn row(call: Call, row: &mut Row) -> bool {
     let case = row.call.take_policy();
     row.call.take_bytes(&mut row.given);
     row.answer.take_bytes(&mut row.wanted);
     let (bytes, want) = (row.given.as_slice(), row.wanted.as_slice());
     match call {
-        0 => are_admitted(bytes, case, want),
-        1 => {
+        Call::Admit => are_admitted(bytes, case, want),
+        Call::Saturate => {
             let nibbles = nibbles_saturating_16(block!(bytes, 16), case);
             bytes.len() == 16 && nibbles.as_slice() == want
         }
-        2 => are_hashed(bytes, case, true, want),
-        3 => are_hashed(bytes, case, false, want),
-        4 => are_packed(bytes, want),
-        _ => are_written(bytes, case == CheckCase::Upper, want),
+        Call::Hash => are_hashed(bytes, case, true, want),
+        Call::Nibbles => are_hashed(bytes, case, false, want),
+        Call::Pack => are_packed(bytes, want),
+        Call::Write => are_written(bytes, case == CheckCase::Upper, want),
     }
 }

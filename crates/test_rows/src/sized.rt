@@ -42,9 +42,22 @@ fn writes<const N: usize>(note: &mut Note, given: Given<'_>, want: Answer<'_>) -
     }
 }
 
+/// A call of so many bytes.
+#[derive(Clone, Copy)]
+pub enum Call {
+    /// `array POLICY LENGTH DIGITS`.
+    Array,
+    /// `fixed CASE CAPACITY BYTES`.
+    Fixed,
+    /// `list LENGTH POLICY GRANTED LIST`.
+    List,
+    /// `relist LENGTH CASE ROOM LIST`.
+    Relist,
+}
+
 // Whether a call of so many bytes is answered so, where the words before its last one were read.
 fn is_sized<const N: usize>(
-    call: usize,
+    call: Call,
     case: CheckCase,
     number: usize,
     row: &mut Row,
@@ -56,10 +69,10 @@ fn is_sized<const N: usize>(
     let given = Given::new(case, number, src);
     let (words, bytes) = (&mut row.answer, &mut row.wanted);
     match call {
-        0 => reads::<N>(&mut row.note, given, answer(words, bytes)),
-        1 => writes::<N>(&mut row.note, given, answer(words, bytes)),
-        2 => lists::is_read::<N>(given, row.alloc, words, bytes),
-        _ => { lists::is_written::<N>(given, row.alloc, Taken::read(words, bytes), to) }
+        Call::Array => reads::<N>(&mut row.note, given, answer(words, bytes)),
+        Call::Fixed => writes::<N>(&mut row.note, given, answer(words, bytes)),
+        Call::List => lists::is_read::<N>(given, row.alloc, words, bytes),
+        Call::Relist => { lists::is_written::<N>(given, row.alloc, Taken::read(words, bytes), to) }
     }
 }
 
@@ -73,10 +86,9 @@ macro_rules! by_length {
     };
 }
 
-/// A row of a call of so many bytes: 0 is `array POLICY LENGTH DIGITS`, 1 is `fixed CASE CAPACITY BYTES`, 2 is
-/// `list LENGTH POLICY GRANTED LIST`, and 3 is `relist LENGTH CASE ROOM LIST`.
-pub fn row(call: usize, row: &mut Row, to: &mut Destination) -> bool {
-    let is_list = call > 1;
+/// A row of such a call.
+pub fn row(call: Call, row: &mut Row, to: &mut Destination) -> bool {
+    let is_list = matches!(call, Call::List | Call::Relist);
     let before = if is_list { row.call.take_number() } else { 0 };
     let case = row.call.take_policy();
     let number = row.call.take_number();

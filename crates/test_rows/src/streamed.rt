@@ -26,8 +26,21 @@ fn answer(words: &mut Words) -> Result<usize, StreamFault> {
     }
 }
 
-// What a row does with a stream, by its number among these.
-const STREAMS: &[u8] = b"decode spaced encode grouped";
+// What a row does with a stream.
+#[derive(Clone, Copy)]
+enum Stream {
+    Decode,
+    DecodeSpaced,
+    Encode,
+    EncodeGrouped,
+}
+
+const STREAMS: [(&str, Stream); 4] = [
+    ("decode", Stream::Decode),
+    ("spaced", Stream::DecodeSpaced),
+    ("encode", Stream::Encode),
+    ("grouped", Stream::EncodeGrouped),
+];
 
 // Whether no more reads were made than of 8,192 bytes each, or of all that a read gives. In groups a read
 // that gives less may end within a piece, and one more goes to the end of it.
@@ -45,7 +58,9 @@ fn is_read_by(reader: &Giver<'_>, pieces: Option<Group>) -> bool {
 /// answer, and how many bytes the sink has taken, which repeat those that stand after it. No more reads
 /// are made than a stream needs.
 pub fn stream_row(row: &mut Row) -> bool {
-    let stream = row.call.number_in(STREAMS);
+    let Some(stream) = row.call.one_of(&STREAMS) else {
+        return false;
+    };
     let case = row.call.take_policy();
     row.call.take_bytes(&mut row.given);
     let mut reader = Giver::new(Pattern {
@@ -58,10 +73,9 @@ pub fn stream_row(row: &mut Row) -> bool {
     let fails = row.call.is_either(b"fails", b"ends");
     reader.failure = fails.then_some(ErrorKind::WouldBlock);
     let (room, failures) = (row.call.take_number(), row.call.take_growths());
-    let pieces = if stream == 3 {
-        group(&mut row.call)
-    } else {
-        None
+    let pieces = match stream {
+        Stream::EncodeGrouped => group(&mut row.call),
+        _ => None,
     };
     let want = answer(&mut row.answer);
     let taken = row.answer.take_number();
@@ -74,9 +88,9 @@ pub fn stream_row(row: &mut Row) -> bool {
     let mut sink = Taking::new(Mode::ThenRefuses, text, room, failures);
     let is_upper = case == CheckCase::Upper;
     let got = match stream {
-        0 => decode_stream(&mut reader, &mut sink, case),
-        1 => decode_spaced_stream(&mut reader, &mut sink, case),
-        _ => match pieces {
+        Stream::Decode => decode_stream(&mut reader, &mut sink, case),
+        Stream::DecodeSpaced => decode_spaced_stream(&mut reader, &mut sink, case),
+        Stream::Encode | Stream::EncodeGrouped => match pieces {
             None => encode_stream(&mut reader, &mut sink, is_upper),
             Some(group) => encode_grouped_stream(&mut reader, &mut sink, group, is_upper),
         },

@@ -66,25 +66,22 @@ pub fn pad_row(row: &mut Row, to: &mut Destination) -> bool {
     put.fills(&flags, room, want, to) && put.is_taken(&flags, Mode::OneByte, room, want)
 }
 
-// The ways in which sinks take, by their numbers among these: a slice has none.
-const SINKS: &[u8] = b"slice one-byte then-refuses refuses-the-rest then-takes-none refuses-long";
-
-// Reads a sink.
-fn sink(words: &mut Words) -> Option<Mode> {
-    match words.number_in(SINKS) {
-        1 => Some(Mode::OneByte),
-        2 => Some(Mode::ThenRefuses),
-        3 => Some(Mode::RefusesTheRest),
-        4 => Some(Mode::ThenTakesNone),
-        5 => Some(Mode::RefusesLong),
-        _ => None,
-    }
-}
+// The sinks by their words: a slice, or one that takes in this way.
+const SINKS: [(&str, Option<Mode>); 6] = [
+    ("slice", None),
+    ("one-byte", Some(Mode::OneByte)),
+    ("then-refuses", Some(Mode::ThenRefuses)),
+    ("refuses-the-rest", Some(Mode::RefusesTheRest)),
+    ("then-takes-none", Some(Mode::ThenTakesNone)),
+    ("refuses-long", Some(Mode::RefusesLong)),
+];
 
 /// `pad-into SINK ROOM FLAGS BYTES`: what the sink has taken, which is as much as fits
 /// where it is stopped, and else the whole text. One that refuses the rest is also tried taking none.
 pub fn pad_into_row(row: &mut Row, to: &mut Destination) -> bool {
-    let sink = sink(&mut row.call);
+    let Some(sink) = row.call.one_of(&SINKS) else {
+        return false;
+    };
     let room = row.call.take_number();
     let flags = flags(&mut row.call, &mut row.given);
     row.call.take_bytes(&mut row.given);
