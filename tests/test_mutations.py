@@ -8,10 +8,11 @@
 import os
 import re
 import shutil
+import sys
 
 import pytest
 
-from commands import OF_PROOFS, TOP, needs, ran
+from commands import OF_PROOFS, TOP, needs, ran, runs
 
 HEAD = """//! Functions with bodies to be put out.
 #![tactic(auto)]
@@ -154,3 +155,19 @@ def test_a_table_is_read_whole(top, tmp_path):
         table.write("takes nothing away\n+    6\n")
     done = tries(tmp_path)
     assert done.stdout == "mutations: crates/tiny/mutations: 'takes nothing away' is not read\n"
+
+
+# Prints whether hex_codec would be checked over the kept libraries, and the identity of the library below it.
+KEPT = "import repository as it; print(bool(it.words_over_kept('hex_codec'))); print(it.identity('hex_core'), end='')"
+
+
+def test_a_kept_library_of_other_sources_is_not_used(tmp_path):
+    needs("rt")
+    kept, env = tmp_path / "faster_hex/libraries", {**os.environ, "XDG_CACHE_HOME": str(tmp_path)}
+    used = lambda: runs([sys.executable, "-c", KEPT], cwd=TOP / "scripts", env=env).split("\n", 1)
+    kept.mkdir(parents=True)
+    before, identity = used()
+    (kept / "hex_core.of").write_text(identity)
+    same = used()[0]
+    (kept / "hex_core.of").write_text(f"{identity}0")
+    assert (before, same, used()[0]) == ("False", "True", "False")
