@@ -1,5 +1,5 @@
 -- Sources that come in chunks.
-use Rattle.std.proofs.Common.{◌≡◌, ◌≢◌, ℕ, ◌+◌, ◌*◌, ◌/◌, ◌^◌, ◌<◌, ◌≤◌, Bool, true, false, List, [], ◌∷◌, ◌++◌, length, length-append}
+use Rattle.std.proofs.Common.{◌≡◌, ℕ, ◌+◌, ◌*◌, ◌/◌, ◌^◌, ◌<◌, ◌≤◌, Bool, true, false, List, [], ◌∷◌, ◌++◌, length, length-append}
 use Rattle.std.proofs.Common.{take, drop, length-drop, ◌-◌, slice_index, Option, Some, None}
 use Rattle.std.proofs.Common.{refl, sym, ◌∙◌, ap, append_assoc, arith, not}
 use Rattle.std.specs.Prelude.{◌↔◌, ◌&&◌, filter, option_map, position, IsSome}
@@ -71,19 +71,6 @@ digits-solid c (b ∷ s) none =
     let rest = digits-solid c s ((none_joined (lacks c) (b ∷ []) s).0 none).1 in
     rw (digit-solid c b (has_value c (b ∷ s) 0 none (omega arith)), rest) refl
 
--- so of valid digits all are counted, and none is invalid
-pub valid-solid : (c : CheckCase) (s : List ℕ) → first_invalid c s ≡ None → (length s ≡ length (unspaced s)) × (first_invalid_read (spaced c) s ≡ None)
-valid-solid c s valid = let solid = digits-solid c s valid in (ap length (sym solid), (solid-valid c s).1 (rw solid valid))
-
--- a source that loses nothing keeps all
-pub all-solid : (s : List ℕ) → length (unspaced s) ≡ length s → unspaced s ≡ s
-all-solid [] is = refl
-all-solid (b ∷ s) is = by_first (is_solid b) refl (all-solid s)
-  where
-    by_first : (t : Bool) → is_solid b ≡ t → (length (unspaced s) ≡ length s → unspaced s ≡ s) → unspaced (b ∷ s) ≡ b ∷ s
-    by_first true kept rest = let fewer : length (unspaced s) ≡ length s = omega (arith, rw kept at is) in rw (kept, rest fewer) refl
-    by_first false left rest = absurd (omega (arith, digits-le policy.None true s, rw left at is))
-
 -- ---- single digits
 
 -- a digit that waits has a value where it is valid, and the other way round
@@ -133,18 +120,12 @@ pub solid-read : (c : CheckCase) (block digits : List ℕ) (w : Option ℕ) (old
 solid-read c block digits w old new (Some more) none is read = refl
 solid-read c block digits w old new None none is refused = absurd (refused.0 (rw is ((solid-valid c block).0 none)))
 
--- a chunk that loses nothing is read as digits alone
-pub whole-read : (c : CheckCase) (skips : Bool) (w : Option ℕ) (src old new : List ℕ) (result : Option (Option ℕ)) → let r : Reading = record { case = c; skips = skips } in
-    length (digits_in r src) ≡ length src → DecodesChunk (plain c) w src old new result → DecodesChunk r w src old new result
-whole-read c false w src old new result is read = read
-whole-read c true w src old new (Some next) is read = let same = all-solid src is in rw same read
-whole-read c true w src old new None is refused =
-    let same = all-solid src is in (λ none. let valid = (solid-valid c src).0 none in refused.0 (rw same at valid), refused.1)
-
--- one that loses something is read with white space skipped
-pub loses-spaces : (c : CheckCase) (skips : Bool) (s : List ℕ) → length (digits_in (record { case = c; skips = skips }) s) ≢ length s → skips ≡ true
-loses-spaces c true s loses = refl
-loses-spaces c false s loses = absurd (loses refl)
+-- a chunk is read as its digits alone
+pub digits-read : (c : CheckCase) (skips : Bool) (w : Option ℕ) (src digits old new : List ℕ) (result : Option (Option ℕ)) → let r : Reading = record { case = c; skips = skips } in
+    digits ≡ digits_in r src → DecodesChunk (plain c) w digits old new result → DecodesChunk r w src old new result
+digits-read c false w src digits old new result is read = rw is at read
+digits-read c true w src digits old new (Some next) is read = rw is at read
+digits-read c true w src digits old new None is refused = (λ none. refused.0 (rw is ((solid-valid c src).0 none)), refused.1)
 
 -- two of three parts are no longer than the whole
 pub two-le : (a b c d e : List ℕ) → a ++ (b ++ c) ≡ d ++ e → length a + length b ≤ length d + length e

@@ -1,6 +1,6 @@
 -- What private functions do with one chunk of a stream. No public contract depends on these definitions.
 use Rattle.std.specs.Prelude.{◌≡◌, ◌≢◌, ◌<◌, ◌≤◌, ℕ, ◌+◌, ◌%◌, List, ◌++◌, length, take, slice_index, Option, Some}
-use Rattle.std.specs.Prelude.{None, option_map, MatchOption}
+use Rattle.std.specs.Prelude.{None, option_map, MatchOption, true}
 use Rattle.std.specs.Option.{option_to_list}
 use Rattle.hex_core.specs.declared.digit.CheckCase.{CheckCase}
 use Rattle.hex_core.specs.declared.error.Error.{Error}
@@ -26,6 +26,11 @@ DecodesDigits c digits old new waiting = (bytes : List ℕ) × SpellsBut c digit
 abbrev pub DecodesChunk : Reading → Option ℕ → List ℕ → List ℕ → List ℕ → Option (Option ℕ) → Type 0
 DecodesChunk r waiting src old new result =
     MatchOption result ((first_invalid_read r src ≢ None) × (new ≡ old)) (DecodesDigits r.case (option_to_list waiting ++ digits_in r src) old new)
+
+-- the digits of a chunk, if they are given. Otherwise white space among them is skipped
+abbrev pub Holds : Reading → List ℕ → Option (List ℕ) → Type 0
+Holds r src (Some digits) = digits ≡ digits_in r src
+Holds r src None = r.skips ≡ true
 
 -- if `total` bytes end inside a piece, n more bytes do not pass the end of that piece
 abbrev pub FitsPiece : Option Group → ℕ → ℕ → Type 0

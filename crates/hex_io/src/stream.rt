@@ -80,7 +80,7 @@ impl From<WriteFault> for StreamFault {
 
 /// Decodes all that a reader gives into a sink. Returns the number of decoded bytes.
 ///
-/// It reads chunks of up to 16,384 bytes. Nothing is allocated, because buffers of 24 KiB on the
+/// It reads chunks of up to 16,384 bytes. Nothing is allocated, because buffers of 40 KiB on the
 /// stack suffice for a stream of any length. A read that was interrupted is tried again.
 ///
 /// # Errors
@@ -153,6 +153,7 @@ fn decode_by_decoder<R: Read, S: Sink>(
         (S.state sink.old) (S.state sink.new) result }
 {
     let mut chunk = [0; 2 * STREAM_CHUNK];
+    let mut digits = [0; 2 * STREAM_CHUNK];
     let mut bytes = [0; STREAM_CHUNK];
     let mut total = 0;
     'reads: loop {
@@ -161,7 +162,7 @@ fn decode_by_decoder<R: Read, S: Sink>(
             Ok(count) => count,
             Err(_) => return Err(StreamFault::Read),
         };
-        let written = match decoder.feed(&chunk[..count], &mut bytes) {
+        let written = match decoder.feed_through(&chunk[..count], &mut digits, &mut bytes) {
             Ok(written) => written,
             Err(refusal) => return Err(StreamFault::Codec(refusal)),
         };

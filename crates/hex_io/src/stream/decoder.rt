@@ -10,12 +10,12 @@
 //! assert_eq!(rt; text.as_slice(), b"00abcd".as_slice());
 //! ```
 
-ghost use Rattle.std.specs.Prelude.{◌≡◌, ◌≢◌, ◌↔◌, ◌+◌, ◌-◌, ◌/◌, ◌%◌, ◌^◌, ◌<◌, ◌≤◌, ◌++◌, ◌∷◌, [], None, Some, drop, false, true, length, IfOk, IsSome, IsTrue, MatchOption, OnErr};
+ghost use Rattle.std.specs.Prelude.{◌≡◌, ◌≢◌, ◌↔◌, ◌+◌, ◌-◌, ◌/◌, ◌%◌, ◌^◌, ◌<◌, ◌≤◌, ◌++◌, ◌∷◌, [], None, Some, drop, false, true, length, IfOk, IsSome, IsTrue, MatchOption, OnErr, option_map};
 ghost use Rattle.std.specs.Option.{ForSome, option_to_list};
 ghost use Rattle.hex_core.specs.Digit.{value};
 ghost use Rattle.hex_core.specs.Text.{Spells};
 ghost use Rattle.hex_io.specs.Reading.{digits_in, first_invalid_read, plain, spaced, unspaced};
-ghost use Rattle.hex_io.specs.inside.{DecodesChunk, DecodesDigits, invalid_read_behind};
+ghost use Rattle.hex_io.specs.inside.{DecodesChunk, DecodesDigits, Holds, invalid_read_behind};
 
 use crate::stream::unspaced::copy_unspaced;
 use hex_core::{Backend, CheckCase, Error, digit_value};
@@ -148,23 +148,36 @@ impl Decoder {
         ensures reading { reading_of self.new ≡ reading_of self.old }
         ensures unchanged { OnErr result ((self.new ≡ self.old) × (dst.new ≡ dst.old)) }
     {
-        let Some(position) = self.position.checked_add(src.len()) else {
-            return Err(Error::Overflow);
-        };
-        let (count, is_clean) = self.survey(src);
-        let required = self.whole_pairs(count);
-        if dst.len() < required {
-            return Err(Error::OutputTooSmall { required });
+        if self.has_digits_alone(src) {
+            return self.feed_digits(src, Some(src), dst);
         }
-        let Some(waiting) = self.decode(src, dst, count, is_clean) else {
-            return Err(self.error_in(src));
-        };
-        *self = Decoder {
-            reading: self.reading,
-            position,
-            waiting,
-        };
-        Ok(required)
+        if src.len() > SPACED_BLOCK {
+            return self.feed_digits(src, None, dst);
+        }
+        let mut block = [0; SPACED_BLOCK];
+        let count = copy_unspaced(src, &mut block);
+        self.feed_digits(src, Some(&block[..count]), dst)
+    }
+
+    /// Does the same as [`feed`](Decoder::feed), but copies the digits of a chunk with white space
+    /// to a buffer of the caller. A stream needs only one, which is cleared only once.
+    pub(crate) fn feed_through(
+        &mut self,
+        src: &[u8],
+        buffer: &mut [u8],
+        dst: &mut [u8],
+    ) -> Result<usize, Error>
+        requires copied { length src.now ≤ length buffer.old }
+        ensures feeds { Feeds self.old self.new src.now dst.old dst.new result }
+        ensures bound { IfOk result (λ n. n ≤ length dst.new) }
+        ensures reading { reading_of self.new ≡ reading_of self.old }
+        ensures unchanged { OnErr result ((self.new ≡ self.old) × (dst.new ≡ dst.old)) }
+    {
+        if self.has_digits_alone(src) {
+            return self.feed_digits(src, Some(src), dst);
+        }
+        let count = copy_unspaced(src, buffer);
+        self.feed_digits(src, Some(&buffer[..count]), dst)
     }
 
     /// Ends the decoding. All digits fed must be whole pairs.
@@ -187,19 +200,61 @@ impl Decoder {
         Ok(())
     }
 
-    // Returns how many digits a chunk has if all its bytes are valid. If white space is skipped, it
-    // also returns whether they are. Otherwise that value is not used, because decoding tests the
-    // bytes.
+    // Does the same as `feed` for a chunk whose digits are given. If they are not, its white space is
+    // skipped, and it is copied in blocks. It is then copied twice, because all of it must be tested
+    // before the first byte is written.
+    fn feed_digits(
+        &mut self,
+        src: &[u8],
+        digits: Option<&[u8]>,
+        dst: &mut [u8],
+    ) -> Result<usize, Error>
+        requires digits { Holds (reading_of self.old) src.now (option_map (λ s. s.now) digits) }
+        ensures feeds { Feeds self.old self.new src.now dst.old dst.new result }
+        ensures bound { IfOk result (λ n. n ≤ length dst.new) }
+        ensures reading { reading_of self.new ≡ reading_of self.old }
+        ensures unchanged { OnErr result ((self.new ≡ self.old) × (dst.new ≡ dst.old)) }
+    {
+        let Some(position) = self.position.checked_add(src.len()) else {
+            return Err(Error::Overflow);
+        };
+        let (count, is_clean) = self.survey(src, digits);
+        let required = self.whole_pairs(count);
+        if dst.len() < required {
+            return Err(Error::OutputTooSmall { required });
+        }
+        let Some(waiting) = self.decode(src, digits, dst, is_clean) else {
+            return Err(self.error_in(src));
+        };
+        *self = Decoder {
+            reading: self.reading,
+            position,
+            waiting,
+        };
+        Ok(required)
+    }
+
+    // Returns whether all bytes of a chunk should be digits. If white space is skipped, this is false
+    // also for a chunk with an invalid byte.
+    fn has_digits_alone(&self, src: &[u8]) -> bool
+        ensures alone { IsTrue result → digits_in (reading_of self.now) src.now ≡ src.now }
+        ensures spaced { result ≡ false → self.now.reading.skips ≡ true }
+    {
+        !self.reading.skips || Backend::plain().check(src, self.reading.case)
+    }
+
+    // Returns how many digits a chunk has if all its bytes are valid. If its digits are not given, it
+    // also returns whether they are. Otherwise that value is not used, because decoding tests them.
     #[inline(always)]
-    fn survey(&self, src: &[u8]) -> (usize, bool)
+    fn survey(&self, src: &[u8], digits: Option<&[u8]>) -> (usize, bool)
+        requires digits { Holds (reading_of self.now) src.now (option_map (λ s. s.now) digits) }
         ensures count { result.0 ≡ length (digits_in (reading_of self.now) src.now) }
-        ensures clean { self.now.reading.skips ≡ true →
+        ensures clean { digits.entry ≡ None →
             (IsTrue result.1 ↔ (first_invalid_read (reading_of self.now) src.now ≡ None)) }
     {
-        if self.reading.skips {
-            survey(src, self.reading.case)
-        } else {
-            (src.len(), true)
+        match digits {
+            Some(digits) => (digits.len(), true),
+            None => survey(src, self.reading.case),
         }
     }
 
@@ -214,25 +269,29 @@ impl Decoder {
         }
     }
 
-    // Decodes the pairs that a chunk completes, whose `count` and `is_clean` come from `survey`.
-    // Returns the digit that then waits, if there is one. Returns `None` if a byte should be a
-    // digit and is not. A chunk without white space is decoded without a copy.
+    // Decodes the pairs that a chunk completes. Returns the digit that then waits, if there is one.
+    // Returns `None` if a byte should be a digit and is not. If the digits are not given, `is_clean`
+    // comes from `survey`.
     #[inline(always)]
-    fn decode(&self, src: &[u8], dst: &mut [u8], count: usize, is_clean: bool) -> Option<Option<u8>>
-        requires count { count ≡ length (digits_in (reading_of self.now) src.now) }
-        requires clean { self.now.reading.skips ≡ true →
+    fn decode(
+        &self,
+        src: &[u8],
+        digits: Option<&[u8]>,
+        dst: &mut [u8],
+        is_clean: bool,
+    ) -> Option<Option<u8>>
+        requires digits { Holds (reading_of self.now) src.now (option_map (λ s. s.now) digits) }
+        requires clean { digits ≡ None →
             (IsTrue is_clean ↔ (first_invalid_read (reading_of self.now) src.now ≡ None)) }
-        requires room { (length (waiting_in self.now) + count) / 2 ≤ length dst.old }
+        requires room { (length (waiting_in self.now) + length (digits_in (reading_of self.now) src.now)) / 2 ≤ length dst.old }
         ensures { DecodesChunk (reading_of self.now) self.now.waiting src.now dst.old dst.new result }
     {
         let case = self.reading.case;
-        if count == src.len() {
-            return decode_pairs(self.waiting, src, dst, case);
+        match digits {
+            Some(digits) => decode_pairs(self.waiting, digits, dst, case),
+            None if is_clean => Some(decode_spaced(self.waiting, src, dst, case)),
+            None => None,
         }
-        if !is_clean {
-            return None;
-        }
-        Some(decode_spaced(self.waiting, src, dst, case))
     }
 
     // Returns the index of the first byte of a chunk that should be a digit and is not.
@@ -264,9 +323,6 @@ fn survey(src: &[u8], case: CheckCase) -> (usize, bool)
     ensures count { result.0 ≡ length (unspaced src.now) }
     ensures clean { IsTrue result.1 ↔ (first_invalid_read (spaced case) src.now ≡ None) }
 {
-    if Backend::plain().check(src, case) {
-        return (src.len(), true);
-    }
     let mut count = src.len();
     let mut clean = true;
     for block in src.chunks(SPACED_BLOCK) {

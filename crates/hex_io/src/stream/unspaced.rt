@@ -12,10 +12,10 @@ const LANES: usize = 32;
 
 /// Copies the bytes of `src` that are not white space to the start of `block`. Returns their
 /// number.
-pub fn copy_unspaced<const N: usize>(src: &[u8], block: &mut [u8; N]) -> usize
-    requires { length src.now ≤ N }
+pub fn copy_unspaced(src: &[u8], block: &mut [u8]) -> usize
+    requires { length src.now ≤ length block.old }
     ensures copied { take result block.new ≡ unspaced src.now }
-    ensures room { result ≤ N }
+    ensures room { result ≤ length block.new }
 {
     let mut count = 0;
     // A run is copied with some bytes after it. There are such bytes after each whole block except

@@ -25,30 +25,30 @@ returns-in-Ok-eq0 g c =
           c.ended.result end (none-invalid r.case r.skips so_far.0 has.1.valid) has.1 so_far.1.4 (c.ended.ensures so_far.0 so_far.1.0 has so_far.1.2),
     )
 
-pub returns-in-Err-feed : goal.returns-in-Err-feed
-returns-in-Err-feed g c =
+pub returns-in-Err-feed_through : goal.returns-in-Err-feed_through
+returns-in-Err-feed_through g c =
     let so_far = c.reads.invariant.1 in let has = so_far.1.1 in let r = reading_of c.reads.decoder in
     let piece = take c.in-Ok.count c.read_again.new.buf in
     let size = length-take-le c.in-Ok.count c.read_again.new.buf c.in-Ok.ensures.bound.0 in
     let left = g.R.Read.remaining c.read_again.new.reader in let old = g.S.Sink.state c.args.sink.now in let new = g.S.Sink.state c.reads.sink in
     let fits : pairs_more (length (digits_in r so_far.0)) (length (digits_in r piece)) ≤ length c.reads.bytes = omega (arith, size, c.in-Ok.ensures.bound.0, digits-le r.case r.skips piece) in
-    let result = Err (Codec c.in-Err-feed.refusal) in
+    let result = Err (Codec c.in-Err-feed_through.refusal) in
     by-reading _ _ _ left old new result c.reads.invariant.0 (
       so_far.0 ++ piece,
       Consumes-trans _ _ _ _ _ so_far.1.3 c.in-Ok.ensures.bytes.0,
-      refused-feed r so_far.0 piece _ _ left old new _ fits (c.in-Err-feed.ensures.feeds so_far.0 so_far.1.0 has)
+      refused-feed r so_far.0 piece _ _ left old new _ fits (c.in-Err-feed_through.ensures.feeds so_far.0 so_far.1.0 has)
           (record { fed = so_far.0; chunk = piece; parts = refl; short = omega (arith, size, c.in-Ok.ensures.bound.0); wrote = record { bytes = so_far.1.0; waiting = _; spelled = has.1; put = so_far.1.4 } }),
     )
 
 pub returns-in-Err-put_all : goal.returns-in-Err-put_all
 returns-in-Err-put_all g c =
     let so_far = c.reads.invariant.1 in
-    let fed = (c.in-Ok-feed.ensures.feeds so_far.0 so_far.1.0 so_far.1.1).1 in
+    let fed = (c.in-Ok-feed_through.ensures.feeds so_far.0 so_far.1.0 so_far.1.1).1 in
     let put = rw (fed.2, fed.1, take-append_seam) at c.in-Err-put_all.ensures.puts in
-    rw (← c.reads.invariant.0, ← c.in-Ok-feed.ensures.reading) (
+    rw (← c.reads.invariant.0, ← c.in-Ok-feed_through.ensures.reading) (
       so_far.0 ++ take c.in-Ok.count c.read_again.new.buf,
       Consumes-trans _ _ _ _ _ so_far.1.3 c.in-Ok.ensures.bytes.0,
-      record { bytes = so_far.1.0 ++ fed.0; waiting = c.feed.new.self.waiting; spelled = fed.3.1; put = Stops-then _ _ _ _ _ so_far.1.4 put },
+      record { bytes = so_far.1.0 ++ fed.0; waiting = c.feed_through.new.self.waiting; spelled = fed.3.1; put = Stops-then _ _ _ _ _ so_far.1.4 put },
     )
 
 pub reads-smaller : goal.reads-smaller
@@ -56,16 +56,16 @@ reads-smaller g c =
     let so_far = c.reads.invariant.1 in
     let piece = take c.in-Ok.count c.read_again.new.buf in
     let size = length-take-le c.in-Ok.count c.read_again.new.buf c.in-Ok.ensures.bound.0 in
-    let fed = c.in-Ok-feed.ensures.feeds so_far.0 so_far.1.0 so_far.1.1 in
+    let fed = c.in-Ok-feed_through.ensures.feeds so_far.0 so_far.1.0 so_far.1.1 in
     let few : length so_far.0 + length piece < 2 ^ 64 = grind (arith, nat_tests, fed.0) in
     omega (arith, size, so_far.1.1.0, fed.1.3.0, length-append so_far.0 piece, few)
 
 pub reads-preserved : goal.reads-preserved
 reads-preserved g c =
     let so_far = c.reads.invariant.1 in
-    let fed = (c.in-Ok-feed.ensures.feeds so_far.0 so_far.1.0 so_far.1.1).1 in
+    let fed = (c.in-Ok-feed_through.ensures.feeds so_far.0 so_far.1.0 so_far.1.1).1 in
     let put = rw (fed.2, fed.1, take-append_seam) at c.in_default.ensures.puts in (
-      c.in-Ok-feed.ensures.reading ∙ c.reads.invariant.0,
+      c.in-Ok-feed_through.ensures.reading ∙ c.reads.invariant.0,
       (
         so_far.0 ++ take c.in-Ok.count c.read_again.new.buf,
         (
@@ -80,9 +80,9 @@ reads-preserved g c =
 
 pub overflow_add-total : goal.overflow_add-total
 overflow_add-total g c =
-    let so_far = c.reads.invariant.1 in let r = reading_of c.feed.new.self in
+    let so_far = c.reads.invariant.1 in let r = reading_of c.feed_through.new.self in
     let piece = take c.in-Ok.count c.read_again.new.buf in
-    let fed = c.in-Ok-feed.ensures.feeds so_far.0 so_far.1.0 so_far.1.1 in
+    let fed = c.in-Ok-feed_through.ensures.feeds so_far.0 so_far.1.0 so_far.1.1 in
     let few : length so_far.0 + length piece < 2 ^ 64 = grind (arith, nat_tests, fed.0) in
-    let count = count-but r.case (digits_in r (so_far.0 ++ piece)) (so_far.1.0 ++ fed.1.0) c.feed.new.self.waiting fed.1.3.1 in
+    let count = count-but r.case (digits_in r (so_far.0 ++ piece)) (so_far.1.0 ++ fed.1.0) c.feed_through.new.self.waiting fed.1.3.1 in
     omega (arith, few, count, digits-le r.case r.skips (so_far.0 ++ piece), length-append so_far.0 piece, length-append so_far.1.0 fed.1.0, so_far.1.2, fed.1.1)

@@ -1,10 +1,10 @@
-use Rattle.std.proofs.Common.{rules, arith, ap, refl, ◌∙◌, ◌++◌, [], true, length, length-append, append_assoc}
+use Rattle.std.proofs.Common.{rules, arith, ap, ◌∙◌, ◌++◌, [], true, length, length-append, append_assoc}
 use Rattle.std.specs.Slice.Iter.{chunks_rest}
 use Rattle.std.proofs.Math.Bool.{and-eq-true_iff}
 use Rattle.std.proofs.lemmas.List.Elements.{filter-append}
 use Rattle.hex_core.proofs.PositionLemmas.{none_joined}
 use Rattle.hex_io.specs.Reading.{is_solid, is_invalid_read, spaced, unspaced}
-use Rattle.hex_io.proofs.DecoderLemmas.{digits-le, valid-solid}
+use Rattle.hex_io.proofs.DecoderLemmas.{digits-le}
 use Rattle.hex_io.proofs.stream.decoder.survey.Goals as goal
 
 pub loop-block-init : goal.loop-block-init
@@ -35,11 +35,3 @@ loop-block-preserved c =
         (λ yes. both.1 (so_far.3.0 (both_are.0 yes).0, told.clean.0 (both_are.0 yes).1), λ none. both_are.1 (so_far.3.1 (both.0 none).0, told.clean.1 (both.0 none).1)),
       ),
     )
-
-pub returns-then-check-clause-count : goal.returns-then-check-clause-count
-returns-then-check-clause-count c =
-    (valid-solid c.args.case c.args.src.now (c.check.ensures.valid.0 c.if-check.true)).0
-
-pub returns-then-check-clause-clean : goal.returns-then-check-clause-clean
-returns-then-check-clause-clean c =
-    (λ _. (valid-solid c.args.case c.args.src.now (c.check.ensures.valid.0 c.if-check.true)).1, λ _. refl)

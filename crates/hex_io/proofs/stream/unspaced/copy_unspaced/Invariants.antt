@@ -4,4 +4,4 @@ use Rattle.hex_io.specs.inside.{HasCopied}
 use Rattle.hex_io.proofs.stream.unspaced.copy_unspaced.Given as goal
 
 abbrev pub invariant-turns : goal.invariant-turns
-invariant-turns g l = (length l.block ≡ g.row.N) × HasCopied l.src (32 * l.i) l.block l.count
+invariant-turns l = (length l.block ≡ length l.initial.block) × HasCopied l.src (32 * l.i) l.block l.count
