@@ -27,10 +27,10 @@ abbrev pub DecodesChunk : Reading → Option ℕ → List ℕ → List ℕ → L
 DecodesChunk r waiting src old new result =
     MatchOption result ((first_invalid_read r src ≢ None) × (new ≡ old)) (DecodesDigits r.case (option_to_list waiting ++ digits_in r src) old new)
 
--- the digits of a chunk, if they are given. Otherwise white space among them is skipped
-abbrev pub Holds : Reading → List ℕ → Option (List ℕ) → Type 0
-Holds r src (Some digits) = digits ≡ digits_in r src
-Holds r src None = r.skips ≡ true
+-- the bytes of a chunk that should be digits, if they are given. Otherwise white space among them is skipped
+abbrev pub AreDigitsOf : Reading → List ℕ → Option (List ℕ) → Type 0
+AreDigitsOf r src (Some digits) = digits ≡ digits_in r src
+AreDigitsOf r src None = r.skips ≡ true
 
 -- if `total` bytes end inside a piece, n more bytes do not pass the end of that piece
 abbrev pub FitsPiece : Option Group → ℕ → ℕ → Type 0

@@ -15,12 +15,12 @@ ghost use Rattle.std.specs.Option.{ForSome, option_to_list};
 ghost use Rattle.hex_core.specs.Digit.{value};
 ghost use Rattle.hex_core.specs.Text.{Spells};
 ghost use Rattle.hex_io.specs.Reading.{digits_in, first_invalid_read, plain, spaced, unspaced};
-ghost use Rattle.hex_io.specs.inside.{DecodesChunk, DecodesDigits, Holds, invalid_read_behind};
+ghost use Rattle.hex_io.specs.inside.{AreDigitsOf, DecodesChunk, DecodesDigits, invalid_read_behind};
 
 use crate::stream::unspaced::copy_unspaced;
 use hex_core::{Backend, CheckCase, Error, digit_value};
 
-// The number of bytes from which white space is removed at once.
+// The number of bytes from which white space is removed at once, if a caller gives no buffer.
 const SPACED_BLOCK: usize = 2_048;
 
 // How a source is read, which means by which policy, and whether white space among its digits is
@@ -149,18 +149,18 @@ impl Decoder {
         ensures unchanged { OnErr result ((self.new ≡ self.old) × (dst.new ≡ dst.old)) }
     {
         if self.has_digits_alone(src) {
-            return self.feed_digits(src, Some(src), dst);
+            return self.feed_as(src, Some(src), dst);
         }
         if src.len() > SPACED_BLOCK {
-            return self.feed_digits(src, None, dst);
+            return self.feed_as(src, None, dst);
         }
         let mut block = [0; SPACED_BLOCK];
         let count = copy_unspaced(src, &mut block);
-        self.feed_digits(src, Some(&block[..count]), dst)
+        self.feed_as(src, Some(&block[..count]), dst)
     }
 
-    /// Does the same as [`feed`](Decoder::feed), but copies the digits of a chunk with white space
-    /// to a buffer of the caller. A stream needs only one, which is cleared only once.
+    /// Does the same as [`feed`](Decoder::feed), but with a buffer of the caller for the digits of a
+    /// chunk with white space. So a stream clears its buffer only once, and copies no chunk twice.
     pub(crate) fn feed_through(
         &mut self,
         src: &[u8],
@@ -171,13 +171,12 @@ impl Decoder {
         ensures feeds { Feeds self.old self.new src.now dst.old dst.new result }
         ensures bound { IfOk result (λ n. n ≤ length dst.new) }
         ensures reading { reading_of self.new ≡ reading_of self.old }
-        ensures unchanged { OnErr result ((self.new ≡ self.old) × (dst.new ≡ dst.old)) }
     {
         if self.has_digits_alone(src) {
-            return self.feed_digits(src, Some(src), dst);
+            return self.feed_as(src, Some(src), dst);
         }
         let count = copy_unspaced(src, buffer);
-        self.feed_digits(src, Some(&buffer[..count]), dst)
+        self.feed_as(src, Some(&buffer[..count]), dst)
     }
 
     /// Ends the decoding. All digits fed must be whole pairs.
@@ -200,16 +199,11 @@ impl Decoder {
         Ok(())
     }
 
-    // Does the same as `feed` for a chunk whose digits are given. If they are not, its white space is
-    // skipped, and it is copied in blocks. It is then copied twice, because all of it must be tested
-    // before the first byte is written.
-    fn feed_digits(
-        &mut self,
-        src: &[u8],
-        digits: Option<&[u8]>,
-        dst: &mut [u8],
-    ) -> Result<usize, Error>
-        requires digits { Holds (reading_of self.old) src.now (option_map (λ s. s.now) digits) }
+    // Does the same as `feed` for a chunk whose digits are given. If they are not, the chunk is copied
+    // in blocks without its white space. Each block is copied twice, because all of them must be
+    // tested before the first byte is written.
+    fn feed_as(&mut self, src: &[u8], digits: Option<&[u8]>, dst: &mut [u8]) -> Result<usize, Error>
+        requires digits { AreDigitsOf (reading_of self.old) src.now (option_map (λ s. s.now) digits) }
         ensures feeds { Feeds self.old self.new src.now dst.old dst.new result }
         ensures bound { IfOk result (λ n. n ≤ length dst.new) }
         ensures reading { reading_of self.new ≡ reading_of self.old }
@@ -245,17 +239,23 @@ impl Decoder {
 
     // Returns how many digits a chunk has if all its bytes are valid. If its digits are not given, it
     // also returns whether they are. Otherwise that value is not used, because decoding tests them.
-    #[inline(always)]
     fn survey(&self, src: &[u8], digits: Option<&[u8]>) -> (usize, bool)
-        requires digits { Holds (reading_of self.now) src.now (option_map (λ s. s.now) digits) }
+        requires digits { AreDigitsOf (reading_of self.now) src.now (option_map (λ s. s.now) digits) }
         ensures count { result.0 ≡ length (digits_in (reading_of self.now) src.now) }
         ensures clean { digits.entry ≡ None →
             (IsTrue result.1 ↔ (first_invalid_read (reading_of self.now) src.now ≡ None)) }
     {
-        match digits {
-            Some(digits) => (digits.len(), true),
-            None => survey(src, self.reading.case),
+        if let Some(digits) = digits {
+            return (digits.len(), true);
         }
+        let mut count = src.len();
+        let mut clean = true;
+        for block in src.chunks(SPACED_BLOCK) {
+            let (more, is_clean) = survey_block(block, self.reading.case);
+            count -= block.len() - more;
+            clean &= is_clean;
+        }
+        (count, clean)
     }
 
     // Returns how many pairs are completed by so many more digits.
@@ -280,7 +280,7 @@ impl Decoder {
         dst: &mut [u8],
         is_clean: bool,
     ) -> Option<Option<u8>>
-        requires digits { Holds (reading_of self.now) src.now (option_map (λ s. s.now) digits) }
+        requires digits { AreDigitsOf (reading_of self.now) src.now (option_map (λ s. s.now) digits) }
         requires clean { digits ≡ None →
             (IsTrue is_clean ↔ (first_invalid_read (reading_of self.now) src.now ≡ None)) }
         requires room { (length (waiting_in self.now) + length (digits_in (reading_of self.now) src.now)) / 2 ≤ length dst.old }
@@ -318,22 +318,7 @@ impl Decoder {
     }
 }
 
-// Returns how many bytes of a source are not white space, and whether all of these are digits.
-fn survey(src: &[u8], case: CheckCase) -> (usize, bool)
-    ensures count { result.0 ≡ length (unspaced src.now) }
-    ensures clean { IsTrue result.1 ↔ (first_invalid_read (spaced case) src.now ≡ None) }
-{
-    let mut count = src.len();
-    let mut clean = true;
-    for block in src.chunks(SPACED_BLOCK) {
-        let (more, is_clean) = survey_block(block, case);
-        count -= block.len() - more;
-        clean &= is_clean;
-    }
-    (count, clean)
-}
-
-// Does the same for a block.
+// Returns how many bytes of a block are not white space, and whether all of these are digits.
 fn survey_block(block: &[u8], case: CheckCase) -> (usize, bool)
     requires { length block.now ≤ SPACED_BLOCK }
     ensures count { result.0 ≡ length (unspaced block.now) }

@@ -4,7 +4,7 @@ use Rattle.hex_core.proofs.JoinLemmas.{valid-parts}
 use Rattle.hex_io.specs.Reading.{digits_in}
 use Rattle.hex_io.proofs.DecoderLemmas.{but-joined, count-but, digits-joined, digits-le, none-refused, none-invalid}
 use Rattle.hex_io.proofs.DecoderLemmas.{read-valid, refused-byte, invalid-behind-all}
-use Rattle.hex_io.proofs.stream.decoder.Decoder.feed_digits.Goals as goal
+use Rattle.hex_io.proofs.stream.decoder.Decoder.feed_as.Goals as goal
 
 pub returns-in_default-decode-clause-feeds : goal.returns-in_default-decode-clause-feeds
 returns-in_default-decode-clause-feeds c = λ fed written has.
