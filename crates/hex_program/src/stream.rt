@@ -5,7 +5,6 @@ ghost use Rattle.std.specs.Prelude.{◌≡◌, map};
 ghost use Rattle.std.specs.Io.KnownBytes.{Keeps};
 ghost use Rattle.hex_program.specs.Streaming.{ServesStream, ServesStreamOp, stream_op_of_word, stream_op_of_words};
 ghost use Rattle.hex_program.specs.inside.{EndsLine, EndsStreamRun, RunsStream};
-ghost use Rattle.hex_program.specs.declared.stream.StreamOp.TheVariants.{Encode, EncodeLines, Decode};
 
 use crate::failure::Failure;
 use crate::program::end;
@@ -67,44 +66,8 @@ impl StreamOp {
 fn end_line<S: Sink>(sink: &mut S) -> Result<(), StreamFault>
     ensures { EndsLine (S.state sink.old) (S.state sink.new) result }
 {
-    match put_all(sink, b"\n") {
-        Ok(()) => Ok(()),
-        Err(fault) => Err(StreamFault::Write(fault)),
-    }
-}
-
-// Encodes an input as one line.
-fn encode<R: Read, S: Sink>(input: &mut R, sink: &mut S) -> Result<(), StreamFault>
-    ensures { RunsStream Encode (R.remaining input.old) (R.remaining input.new) (S.state sink.old).taken (S.state sink.new).taken result }
-{
-    puts_in_a_row_are_one();
-    match encode_stream(input, sink, false) {
-        Ok(_) => end_line(sink),
-        Err(fault) => Err(fault),
-    }
-}
-
-// Encodes an input as lines.
-fn encode_lines<R: Read, S: Sink>(input: &mut R, sink: &mut S) -> Result<(), StreamFault>
-    ensures { RunsStream EncodeLines (R.remaining input.old) (R.remaining input.new) (S.state sink.old).taken (S.state sink.new).taken result }
-{
-    puts_in_a_row_are_one();
-    let lines = Group::new(LINE, b'\n').unwrap();
-    match encode_grouped_stream(input, sink, lines, false) {
-        Ok(0) => Ok(()),
-        Ok(_) => end_line(sink),
-        Err(fault) => Err(fault),
-    }
-}
-
-// Decodes an input.
-fn decode<R: Read, S: Sink>(input: &mut R, sink: &mut S) -> Result<(), StreamFault>
-    ensures { RunsStream Decode (R.remaining input.old) (R.remaining input.new) (S.state sink.old).taken (S.state sink.new).taken result }
-{
-    match decode_spaced_stream(input, sink, CheckCase::None) {
-        Ok(_) => Ok(()),
-        Err(fault) => Err(fault),
-    }
+    put_all(sink, b"\n")?;
+    Ok(())
 }
 
 // Runs an operation from a reader to a sink.
@@ -115,10 +78,24 @@ fn run_stream<R: Read, S: Sink>(
 ) -> Result<(), StreamFault>
     ensures { RunsStream op (R.remaining input.old) (R.remaining input.new) (S.state sink.old).taken (S.state sink.new).taken result }
 {
+    puts_in_a_row_are_one();
     match op {
-        StreamOp::Encode => encode(input, sink),
-        StreamOp::EncodeLines => encode_lines(input, sink),
-        StreamOp::Decode => decode(input, sink),
+        StreamOp::Encode => match encode_stream(input, sink, false) {
+            Ok(_) => end_line(sink),
+            Err(fault) => Err(fault),
+        },
+        StreamOp::EncodeLines => {
+            let lines = Group::new(LINE, b'\n').unwrap();
+            match encode_grouped_stream(input, sink, lines, false) {
+                Ok(0) => Ok(()),
+                Ok(_) => end_line(sink),
+                Err(fault) => Err(fault),
+            }
+        }
+        StreamOp::Decode => match decode_spaced_stream(input, sink, CheckCase::None) {
+            Ok(_) => Ok(()),
+            Err(fault) => Err(fault),
+        },
     }
 }
 
