@@ -1,6 +1,6 @@
 //! The plans. The plan and the length of the source decide which implementation a call uses.
 
-ghost use Rattle.std.specs.Prelude.{◌≡◌, ◌↔◌, ◌*◌, ◌≤◌, IsTrue, None, codes, length, map};
+ghost use Rattle.std.specs.Prelude.{◌≡◌, ◌↔◌, ◌*◌, ◌<◌, ◌≤◌, IsTrue, None, codes, length, map};
 ghost use Rattle.hex_core.specs.Calls.{DecodesOwned, DecodesWhole};
 ghost use Rattle.hex_core.specs.Plans.{name_of, owned_block, plan_names};
 ghost use Rattle.hex_core.specs.Search.{first_invalid};
@@ -11,7 +11,7 @@ use crate::digit::CheckCase;
 use crate::digit_lanes::{Hashed, Interleaved, Saturating};
 use crate::kernel::{decode_or_nothing, encode_blocks};
 use crate::lane_probe::check_lanes;
-use crate::plain::{check_by_length, decode_by_length, encode_by_length};
+use crate::plain::{check_by_length, decode_by_length, decode_many, encode_by_length};
 use crate::registers::{decode_four, decode_two};
 use crate::scalar::{check_by_table, decode_by_table, encode_by_table};
 
@@ -183,6 +183,20 @@ impl Backend {
     {
         match self.0 {
             Kind::Plain(width) => decode_by_length(src, dst, case, width),
+            _ => self.decode_named(src, dst, case),
+        }
+    }
+
+    // Does the same as `decode` for more than 192 digits. Its code is inline if the plan is `plain`,
+    // so a caller that is not inlined itself saves a call.
+    #[inline(always)]
+    pub(crate) fn decode_many(self, src: &[u8], dst: &mut [u8], case: CheckCase) -> bool
+        requires twice { length src.now ≡ 2 * length dst.old }
+        requires more { 192 < length src.now }
+        ensures { DecodesWhole case src.now dst.old dst.new result }
+    {
+        match self.0 {
+            Kind::Plain(width) => decode_many(src, dst, case, width),
             _ => self.decode_named(src, dst, case),
         }
     }

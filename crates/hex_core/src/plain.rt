@@ -23,17 +23,28 @@ use crate::registers::{
 pub fn check_by_length(src: &[u8], case: CheckCase, width: u8) -> bool
     ensures { IsTrue result ↔ (first_invalid case src.now ≡ None) }
 {
+    // Sources of more than 256 bytes are tested for first, because each test of the length before
+    // that would make their check a twentieth slower.
+    match src.len() {
+        0..=256 => check_few(src, case, width),
+        _ if width >= 64 => check_held(src, case),
+        _ => check_long(src, case),
+    }
+}
+
+// Does the same for at most 256 bytes.
+#[inline(always)]
+fn check_few(src: &[u8], case: CheckCase, width: u8) -> bool
+    requires { length src.now ≤ 256 }
+    ensures { IsTrue result ↔ (first_invalid case src.now ≡ None) }
+{
     match src.len() {
         0..16 => check_short(src, case),
         16..=32 => check_two::<16>(src, case),
-        // This arm comes early, because each test of the length before it would make it a twentieth
-        // slower.
-        257.. if width >= 64 => check_held(src, case),
         33..=64 => check_two::<32>(src, case),
         65..=128 if width >= 64 => check_wide(src, case),
         65..=128 => check_four::<32>(src, case),
-        129..=256 => check_four::<64>(src, case),
-        _ => check_long(src, case),
+        _ => check_four::<64>(src, case),
     }
 }
 
@@ -127,25 +138,32 @@ fn decode_apart(src: &[u8], dst: &mut [u8], case: CheckCase) -> bool
     requires more { 192 < length src.now }
     ensures { DecodesWhole case src.now dst.old dst.new result }
 {
-    match src.len() {
-        0..=256 => decode_four::<64, 32>(src, dst, case),
-        _ => decode_long(src, dst, case, false),
-    }
+    decode_many(src, dst, case, 32)
 }
 
-// Does the same for more than 192 digits in a build with vectors of 64 bytes. Up to 512 digits are
-// held in registers.
+// Does the same for more than 192 digits in a build with vectors of 64 bytes.
 #[inline(never)]
 fn decode_held(src: &[u8], dst: &mut [u8], case: CheckCase) -> bool
     requires twice { length src.now ≡ 2 * length dst.old }
     requires more { 192 < length src.now }
     ensures { DecodesWhole case src.now dst.old dst.new result }
 {
+    decode_many(src, dst, case, 64)
+}
+
+/// Does the same as [`decode_by_length`] for more than 192 digits, but inline. In a build with
+/// vectors of 64 bytes, up to 512 digits are held in registers.
+#[inline(always)]
+pub fn decode_many(src: &[u8], dst: &mut [u8], case: CheckCase, width: u8) -> bool
+    requires twice { length src.now ≡ 2 * length dst.old }
+    requires more { 192 < length src.now }
+    ensures { DecodesWhole case src.now dst.old dst.new result }
+{
     match src.len() {
         ..=256 => decode_four::<64, 32>(src, dst, case),
-        257..=384 => decode_six(src, dst, case),
-        385..=512 => decode_eight(src, dst, case),
-        _ => decode_long(src, dst, case, true),
+        257..=384 if width >= 64 => decode_six(src, dst, case),
+        385..=512 if width >= 64 => decode_eight(src, dst, case),
+        _ => decode_long(src, dst, case, width >= 64),
     }
 }
 

@@ -82,26 +82,28 @@ impl Backend {
         }
         match self.decode_or_find(src, &mut dst[..required], case) {
             None => Ok(required),
-            Some((index, byte)) => Err(Error::InvalidChar { index, byte }),
+            Some(index) => Err(Error::InvalidChar {
+                index,
+                byte: src[index],
+            }),
         }
     }
 
     // Decodes a source of more than `MOST_INLINE` digits, or finds the first invalid byte of a
-    // source of any length. It is a function of its own, because `decode_into` then saves one
-    // register for the call, and not five.
+    // source of any length. It is a function of its own, because `decode_into` then saves fewer
+    // registers for the call. An index is returned in registers.
     #[inline(never)]
-    fn decode_or_find(self, src: &[u8], dst: &mut [u8], case: CheckCase) -> Option<(usize, u8)>
+    fn decode_or_find(self, src: &[u8], dst: &mut [u8], case: CheckCase) -> Option<usize>
         requires twice { length src.now ≡ 2 * length dst.old }
         requires refused { length src.now ≤ MOST_INLINE → first_invalid case src.now ≢ None }
-        ensures { MatchOption result
-            ((first_invalid case src.now ≡ None) × Spells case src.now dst.new)
-            (λ bad. (first_invalid_char case src.now ≡ Some (InvalidChar bad.0 bad.1))
-            × (dst.new ≡ dst.old)) }
+        ensures found { result ≡ first_invalid case src.now }
+        ensures decoded { MatchOption result (Spells case src.now dst.new) (λ _. dst.new ≡ dst.old) }
     {
-        if src.len() > MOST_INLINE && self.decode(src, dst, case) {
+        if src.len() > MOST_INLINE && self.decode_many(src, dst, case) {
             return None;
         }
-        Some(self.first_invalid_byte(src, case))
+        let (index, _) = self.first_invalid_byte(src, case);
+        Some(index)
     }
 
     /// Encodes all of `src` into the start of `dst`, in uppercase if `upper` is true. Returns the
