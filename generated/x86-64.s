@@ -237,59 +237,48 @@
 	hex_cfi	startproc
 	pushq	%rbp
 	hex_cfi	def_cfa_offset 16
-	pushq	%r15
-	hex_cfi	def_cfa_offset 24
 	pushq	%r14
-	hex_cfi	def_cfa_offset 32
+	hex_cfi	def_cfa_offset 24
 	pushq	%rbx
-	hex_cfi	def_cfa_offset 40
-	pushq	%rax
-	hex_cfi	def_cfa_offset 48
-	hex_cfi	offset %rbx,-40
-	hex_cfi	offset %r14,-32
-	hex_cfi	offset %r15,-24
+	hex_cfi	def_cfa_offset 32
+	hex_cfi	offset %rbx,-32
+	hex_cfi	offset %r14,-24
 	hex_cfi	offset %rbp,-16
-	movq	%rdx,%r14
-	movq	%rsi,%r15
-	movq	%rdi,%rbx
-	movzbl	%r9b,%ebp
-	cmpq	$193,%rdx
+	movq	%rsi,%rbx
+	movq	%rdi,%r14
+	movzbl	%r8b,%ebp
+	cmpq	$193,%rsi
 	jb	4f
-	movq	%r15,%rdi
-	movq	%r14,%rsi
-	movq	%rcx,%rdx
-	movq	%r8,%rcx
+	movq	%r14,%rdi
+	movq	%rbx,%rsi
 	movl	%ebp,%r8d
 	callq	faster_hex_1_0_0_x86_64_core_backend_Backend_decode_named
 	testb	%al,%al
 	je	4f
-	xorps	%xmm0,%xmm0
-	movups	%xmm0,(%rbx)
-	movq	$0,16(%rbx)
-3:
-	addq	$8,%rsp
-	hex_cfi	def_cfa_offset 40
+	xorl	%edx,%edx
+	xorl	%eax,%eax
 	popq	%rbx
-	hex_cfi	def_cfa_offset 32
-	popq	%r14
 	hex_cfi	def_cfa_offset 24
-	popq	%r15
+	popq	%r14
 	hex_cfi	def_cfa_offset 16
 	popq	%rbp
 	hex_cfi	def_cfa_offset 8
 	retq
 4:
-	hex_cfi	def_cfa_offset 48
-	movq	%r15,%rdi
-	movq	%r14,%rsi
+	hex_cfi	def_cfa_offset 32
+	movq	%r14,%rdi
+	movq	%rbx,%rsi
 	movl	%ebp,%edx
 	callq	faster_hex_1_0_0_x86_64_core_backend_Backend_first_invalid_byte
-	movq	$1,(%rbx)
-	movq	%rax,8(%rbx)
-	movb	%dl,16(%rbx)
-	movl	$0,17(%rbx)
-	movl	$0,20(%rbx)
-	jmp	3b
+	movq	%rax,%rdx
+	movb	$1,%al
+	popq	%rbx
+	hex_cfi	def_cfa_offset 24
+	popq	%r14
+	hex_cfi	def_cfa_offset 16
+	popq	%rbp
+	hex_cfi	def_cfa_offset 8
+	retq
 	hex_end	faster_hex_1_0_0_x86_64_core_backend_Backend_decode_or_find
 	hex_cfi	endproc
 	hex_function	faster_hex_1_0_0_x86_64_core_backend_Backend_first_invalid_byte,.text.unlikely
@@ -340,8 +329,8 @@
 	movq	(%rax,%r12,8),%rax
 	.p2align	4
 8:
-	movzbl	(%r14,%r15),%edx
-	cmpb	$-1,(%rax,%rdx)
+	movzbl	(%r14,%r15),%ecx
+	cmpb	$-1,(%rax,%rcx)
 	je	11f
 	incq	%r15
 	cmpq	%r15,%rbx
@@ -500,46 +489,38 @@
 	hex_cfi	def_cfa_offset 40
 	pushq	%rbx
 	hex_cfi	def_cfa_offset 48
-	subq	$32,%rsp
-	hex_cfi	def_cfa_offset 80
 	hex_cfi	offset %rbx,-48
 	hex_cfi	offset %r12,-40
 	hex_cfi	offset %r14,-32
 	hex_cfi	offset %r15,-24
 	hex_cfi	offset %rbp,-16
-	movq	%rsi,%r14
-	testb	$1,%r14b
+	testb	$1,%sil
 	jne	5f
-	movq	%r14,%r12
-	shrq	%r12
-	cmpq	%r12,%rcx
+	movq	%rsi,%rbx
+	shrq	%rbx
+	cmpq	%rbx,%rcx
 	jb	5f
-	movq	%rdx,%rbx
-	movq	%rdi,%r15
 	movzbl	%r8b,%ebp
-	cmpq	$193,%r14
-	jae	4f
-	movq	%r15,%rdi
-	movq	%r14,%rsi
-	movq	%rbx,%rdx
-	movq	%r12,%rcx
+	cmpq	$192,%rsi
+	ja	4f
+	movq	%rdi,%r14
+	movq	%rsi,%r15
+	movq	%rdx,%r12
+	movq	%rbx,%rcx
 	movl	%ebp,%r8d
 	callq	faster_hex_1_0_0_x86_64_core_backend_Backend_decode_named
+	movq	%r14,%rdi
+	movq	%r15,%rsi
+	movq	%r12,%rdx
 	testb	%al,%al
 	jne	6f
 4:
-	leaq	8(%rsp),%rdi
-	movq	%r15,%rsi
-	movq	%r14,%rdx
 	movq	%rbx,%rcx
-	movq	%r12,%r8
-	movl	%ebp,%r9d
+	movl	%ebp,%r8d
 	callq	faster_hex_1_0_0_x86_64_core_backend_Backend_decode_or_find
-	cmpb	$0,8(%rsp)
+	testb	%al,%al
 	jne	5f
 6:
-	addq	$32,%rsp
-	hex_cfi	def_cfa_offset 48
 	popq	%rbx
 	hex_cfi	def_cfa_offset 40
 	popq	%r12
@@ -552,7 +533,7 @@
 	hex_cfi	def_cfa_offset 8
 	retq
 5:
-	hex_cfi	def_cfa_offset 80
+	hex_cfi	def_cfa_offset 48
 	ud2
 	hex_end	faster_hex_1_0_0_x86_64_codec_pieces_read_long_piece
 	hex_cfi	endproc
@@ -596,18 +577,12 @@
 	hex_cfi	startproc
 	endbr64
 	testb	$1,%sil
-	jne	1f
+	jne	5f
 	movq	%rsi,%rax
 	shrq	%rax
+	movl	$2,%r8d
 	cmpq	%rax,%rcx
-	jae	3f
-	movl	$2,%edx
-	retq
-1:
-	movl	$1,%edx
-	xorl	%eax,%eax
-	retq
-3:
+	jb	6f
 	pushq	%r15
 	hex_cfi	def_cfa_offset 16
 	pushq	%r14
@@ -616,14 +591,14 @@
 	hex_cfi	def_cfa_offset 32
 	pushq	%rbx
 	hex_cfi	def_cfa_offset 40
-	subq	$24,%rsp
-	hex_cfi	def_cfa_offset 64
+	pushq	%rax
+	hex_cfi	def_cfa_offset 48
 	hex_cfi	offset %rbx,-40
 	hex_cfi	offset %r12,-32
 	hex_cfi	offset %r14,-24
 	hex_cfi	offset %r15,-16
 	cmpq	$192,%rsi
-	ja	6f
+	ja	7f
 	movq	%rdi,%rbx
 	movq	%rsi,%r14
 	movq	%rdx,%r15
@@ -631,39 +606,48 @@
 	xorl	%r8d,%r8d
 	movq	%rax,%r12
 	callq	faster_hex_1_0_0_x86_64_core_backend_Backend_decode_named
-	movq	%rbx,%rdi
 	movq	%r14,%rsi
 	movq	%r15,%rdx
+	movq	%rbx,%rdi
 	movl	%eax,%ecx
 	movq	%r12,%rax
 	testb	%cl,%cl
-	je	6f
-	xorl	%edx,%edx
-	jmp	11f
-6:
-	movq	%rsp,%rcx
-	movq	%rdi,%r8
-	movq	%rcx,%rdi
-	movq	%rsi,%r9
-	movq	%r8,%rsi
-	movq	%rdx,%rcx
-	movq	%r9,%rdx
-	movq	%rax,%rbx
-	movq	%rax,%r8
-	xorl	%r9d,%r9d
-	callq	faster_hex_1_0_0_x86_64_core_backend_Backend_decode_or_find
-	cmpb	$0,(%rsp)
-	je	7f
-	movq	8(%rsp),%rax
-	movzbl	16(%rsp),%edx
-	shll	$8,%edx
-	orq	$3,%rdx
-	jmp	11f
+	jne	10f
 7:
-	xorl	%edx,%edx
-	movq	%rbx,%rax
+	movq	%rdi,%rbx
+	movq	%rax,%r14
+	movq	%rax,%rcx
+	xorl	%r8d,%r8d
+	callq	faster_hex_1_0_0_x86_64_core_backend_Backend_decode_or_find
+	testb	%al,%al
+	je	9f
+	movzbl	(%rbx,%rdx),%r8d
+	shll	$8,%r8d
+	orq	$3,%r8
+	movq	%rdx,%rax
+	jmp	11f
+5:
+	hex_cfi	def_cfa_offset 8
+	hex_cfi	restore %rbx
+	hex_cfi	restore %r12
+	hex_cfi	restore %r14
+	hex_cfi	restore %r15
+	movl	$1,%r8d
+	xorl	%eax,%eax
+6:
+	movq	%r8,%rdx
+	retq
+9:
+	hex_cfi	def_cfa_offset 48
+	hex_cfi	offset %rbx,-40
+	hex_cfi	offset %r12,-32
+	hex_cfi	offset %r14,-24
+	hex_cfi	offset %r15,-16
+	movq	%r14,%rax
+10:
+	xorl	%r8d,%r8d
 11:
-	addq	$24,%rsp
+	addq	$8,%rsp
 	hex_cfi	def_cfa_offset 40
 	popq	%rbx
 	hex_cfi	def_cfa_offset 32
@@ -677,6 +661,7 @@
 	hex_cfi	restore %r12
 	hex_cfi	restore %r14
 	hex_cfi	restore %r15
+	movq	%r8,%rdx
 	retq
 	hex_end	faster_hex_1_0_0_x86_64_decode
 	hex_cfi	endproc
@@ -1647,98 +1632,99 @@
 	cmpb	$2,%r8b
 	ja	1f
 	testb	$1,%sil
-	jne	3f
-	movq	%rsi,%rax
-	shrq	%rax
-	cmpq	%rax,%rcx
-	jae	5f
-	movl	$2,%edx
-	retq
-1:
-	movl	$5,%edx
-	xorl	%eax,%eax
-	retq
-3:
-	movl	$1,%edx
-	xorl	%eax,%eax
-	retq
-5:
-	pushq	%r15
+	jne	5f
+	pushq	%rbp
 	hex_cfi	def_cfa_offset 16
-	pushq	%r14
+	pushq	%r15
 	hex_cfi	def_cfa_offset 24
-	pushq	%r13
+	pushq	%r14
 	hex_cfi	def_cfa_offset 32
 	pushq	%r12
 	hex_cfi	def_cfa_offset 40
 	pushq	%rbx
 	hex_cfi	def_cfa_offset 48
-	subq	$32,%rsp
-	hex_cfi	def_cfa_offset 80
 	hex_cfi	offset %rbx,-48
 	hex_cfi	offset %r12,-40
-	hex_cfi	offset %r13,-32
-	hex_cfi	offset %r14,-24
-	hex_cfi	offset %r15,-16
-	movzbl	%r8b,%ebx
+	hex_cfi	offset %r14,-32
+	hex_cfi	offset %r15,-24
+	hex_cfi	offset %rbp,-16
+	movq	%rdx,%rbx
+	movq	%rsi,%rax
+	shrq	%rax
+	movl	$2,%edx
+	cmpq	%rax,%rcx
+	jb	13f
+	movzbl	%r8b,%ebp
 	cmpq	$192,%rsi
-	ja	8f
+	ja	10f
 	movq	%rdi,%r14
 	movq	%rsi,%r15
-	movq	%rdx,%r12
+	movq	%rbx,%rdx
 	movq	%rax,%rcx
-	movl	%ebx,%r8d
-	movq	%rax,%r13
+	movl	%ebp,%r8d
+	movq	%rax,%r12
 	callq	faster_hex_1_0_0_x86_64_core_backend_Backend_decode_named
-	movq	%r14,%rdi
 	movq	%r15,%rsi
-	movq	%r12,%rdx
+	movq	%r14,%rdi
 	movl	%eax,%ecx
-	movq	%r13,%rax
+	movq	%r12,%rax
 	testb	%cl,%cl
-	je	8f
+	je	10f
 	xorl	%edx,%edx
 	jmp	13f
-8:
-	leaq	8(%rsp),%rcx
-	movq	%rdi,%r8
-	movq	%rcx,%rdi
-	movq	%rsi,%r9
-	movq	%r8,%rsi
-	movq	%rdx,%rcx
-	movq	%r9,%rdx
-	movq	%rax,%r14
-	movq	%rax,%r8
-	movl	%ebx,%r9d
+1:
+	hex_cfi	def_cfa_offset 8
+	hex_cfi	restore %rbx
+	hex_cfi	restore %rbp
+	hex_cfi	restore %r12
+	hex_cfi	restore %r14
+	hex_cfi	restore %r15
+	movl	$5,%edx
+	xorl	%eax,%eax
+	retq
+5:
+	movl	$1,%edx
+	xorl	%eax,%eax
+	retq
+10:
+	hex_cfi	def_cfa_offset 48
+	hex_cfi	offset %rbx,-48
+	hex_cfi	offset %rbp,-16
+	hex_cfi	offset %r12,-40
+	hex_cfi	offset %r14,-32
+	hex_cfi	offset %r15,-24
+	movq	%rdi,%r14
+	movq	%rbx,%rdx
+	movq	%rax,%rbx
+	movq	%rax,%rcx
+	movl	%ebp,%r8d
 	callq	faster_hex_1_0_0_x86_64_core_backend_Backend_decode_or_find
-	cmpb	$0,8(%rsp)
-	je	9f
-	movq	16(%rsp),%rax
-	movzbl	24(%rsp),%edx
+	testb	%al,%al
+	je	11f
+	movq	%rdx,%rax
+	movzbl	(%r14,%rdx),%edx
 	shll	$8,%edx
 	orq	$3,%rdx
 	jmp	13f
-9:
+11:
 	xorl	%edx,%edx
-	movq	%r14,%rax
+	movq	%rbx,%rax
 13:
-	addq	$32,%rsp
-	hex_cfi	def_cfa_offset 48
 	popq	%rbx
 	hex_cfi	def_cfa_offset 40
 	popq	%r12
 	hex_cfi	def_cfa_offset 32
-	popq	%r13
-	hex_cfi	def_cfa_offset 24
 	popq	%r14
-	hex_cfi	def_cfa_offset 16
+	hex_cfi	def_cfa_offset 24
 	popq	%r15
+	hex_cfi	def_cfa_offset 16
+	popq	%rbp
 	hex_cfi	def_cfa_offset 8
 	hex_cfi	restore %rbx
 	hex_cfi	restore %r12
-	hex_cfi	restore %r13
 	hex_cfi	restore %r14
 	hex_cfi	restore %r15
+	hex_cfi	restore %rbp
 	retq
 	hex_end	faster_hex_1_0_0_x86_64_decode_with_case
 	hex_cfi	endproc

@@ -3,7 +3,7 @@
 python3 -m machine v3 decode 32     checks one call of a build, for a source of 32 bytes
 python3 -m machine v2 check 0 64    checks it for every length from 0 to 64
 python3 -m machine record           builds the library, checks all calls for all lengths up to MOST decoded bytes, which
-                                    takes some ten minutes on four processors, and writes generated/SHOWN"""
+                                    takes about half an hour on four processors, and writes generated/SHOWN"""
 import concurrent.futures
 import hashlib
 import os
