@@ -6,8 +6,7 @@ ghost use Rattle.std.specs.Borrow.{sem};
 ghost use Rattle.hex_core.specs.declared.digit.CheckCase.{CheckCase};
 ghost use Rattle.hex_core.specs.Calls.{Answers, Decodes, DecodesFront, Encodes, EncodesFront};
 ghost use Rattle.hex_core.specs.Loan.{LendsAnswer};
-ghost use Rattle.hex_core.specs.Refusal.{decode_refusal, encode_refusal, first_invalid_char};
-ghost use Rattle.hex_core.specs.declared.error.Error.TheVariants.{InvalidChar};
+ghost use Rattle.hex_core.specs.Refusal.{decode_refusal, encode_refusal};
 ghost use Rattle.hex_core.specs.Search.{first_invalid};
 ghost use Rattle.hex_core.specs.Text.{Spells};
 
