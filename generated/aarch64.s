@@ -2204,12 +2204,12 @@
 	b.hs	68f
 63:
 	cbz	x12,66f
-	mov	x18,x16
-	mov	x6,x12
+	mov	x18,x12
+	mov	x6,x16
 	mov	x7,x17
 65:
 	movi	v1.16b,#15
-	subs	x6,x6,#1
+	subs	x18,x18,#1
 	ldp	q3,q2,[x7],#32
 	ushr	v4.16b,v2.16b,#4
 	and	v2.16b,v2.16b,v1.16b
@@ -2223,8 +2223,8 @@
 	tbl	v2.16b,{ v0.16b },v2.16b
 	tbl	v4.16b,{ v0.16b },v4.16b
 	tbl	v1.16b,{ v0.16b },v1.16b
-	stp	q2,q3,[x18,#32]
-	stp	q1,q4,[x18],#64
+	stp	q2,q3,[x6,#32]
+	stp	q1,q4,[x6],#64
 	b.ne	65b
 66:
 	cbz	x13,62b

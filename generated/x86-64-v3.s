@@ -1612,8 +1612,8 @@
 	vpunpcklbw	%ymm1,%ymm2,%ymm1
 	vpshufb	%ymm1,%ymm0,%ymm1
 	vpshufb	%ymm4,%ymm0,%ymm2
-	vmovdqu	%ymm2,-32(%rdx,%r9,2)
 	vmovdqu	%ymm1,-64(%rdx,%r9,2)
+	vmovdqu	%ymm2,-32(%rdx,%r9,2)
 	vpermq	$216,(%rdi,%r9),%ymm1
 	vpsrlw	$4,%ymm1,%ymm2
 	vpand	%ymm3,%ymm2,%ymm2
@@ -1622,8 +1622,8 @@
 	vpunpcklbw	%ymm1,%ymm2,%ymm1
 	vpshufb	%ymm1,%ymm0,%ymm1
 	vpshufb	%ymm3,%ymm0,%ymm2
-	vmovdqu	%ymm2,32(%rdx,%r9,2)
 	vmovdqu	%ymm1,(%rdx,%r9,2)
+	vmovdqu	%ymm2,32(%rdx,%r9,2)
 	addq	$2,%rcx
 	addq	$64,%r9
 	.p2align	5,,10
@@ -1721,8 +1721,8 @@
 	vpunpcklbw	%ymm1,%ymm2,%ymm1
 	vpshufb	%ymm1,%ymm0,%ymm1
 	vpshufb	%ymm4,%ymm0,%ymm2
-	vmovdqu	%ymm2,-32(%r13,%r12,2)
 	vmovdqu	%ymm1,-64(%r13,%r12,2)
+	vmovdqu	%ymm2,-32(%r13,%r12,2)
 	vpermq	$216,(%rbp,%r12),%ymm1
 	vpsrlw	$4,%ymm1,%ymm2
 	vpand	%ymm3,%ymm2,%ymm2
@@ -1731,8 +1731,8 @@
 	vpunpcklbw	%ymm1,%ymm2,%ymm1
 	vpshufb	%ymm1,%ymm0,%ymm1
 	vpshufb	%ymm3,%ymm0,%ymm2
-	vmovdqu	%ymm2,32(%r13,%r12,2)
 	vmovdqu	%ymm1,(%r13,%r12,2)
+	vmovdqu	%ymm2,32(%r13,%r12,2)
 	addq	$2,%r9
 	addq	$64,%r12
 	.p2align	5,,10
@@ -1746,6 +1746,7 @@
 	movq	%r12,%rax
 	movq	%r9,%r12
 	shlq	$5,%r12
+	shlq	$6,%r9
 	vpermq	$216,(%rax,%r12),%ymm1
 	movq	%rax,%r12
 	leaq	(%rdx,%rbx),%rax
@@ -1757,9 +1758,8 @@
 	vpunpcklbw	%ymm1,%ymm2,%ymm1
 	vpshufb	%ymm1,%ymm0,%ymm1
 	vpshufb	%ymm3,%ymm0,%ymm2
-	shlq	$6,%r9
-	vmovdqu	%ymm2,32(%rax,%r9)
 	vmovdqu	%ymm1,(%rax,%r9)
+	vmovdqu	%ymm2,32(%rax,%r9)
 43:
 	.p2align	5,,10
 	testb	$31,%cl
@@ -1864,6 +1864,7 @@
 91:
 	movq	%rcx,%rsi
 	shlq	$5,%rsi
+	shlq	$6,%rcx
 	vpermq	$216,(%rdi,%rsi),%ymm1
 	vpsrlw	$4,%ymm1,%ymm2
 	vpbroadcastd	.L100v3_CPI3_6(%rip),%ymm3
@@ -1873,9 +1874,8 @@
 	vpunpcklbw	%ymm1,%ymm2,%ymm1
 	vpshufb	%ymm1,%ymm0,%ymm1
 	vpshufb	%ymm3,%ymm0,%ymm0
-	shlq	$6,%rcx
-	vmovdqu	%ymm0,32(%rdx,%rcx)
 	vmovdqu	%ymm1,(%rdx,%rcx)
+	vmovdqu	%ymm0,32(%rdx,%rcx)
 92:
 	.p2align	5,,10
 	testb	$31,%al
@@ -4421,8 +4421,8 @@
 	vpunpcklbw	%ymm1,%ymm2,%ymm1
 	vpshufb	%ymm1,%ymm0,%ymm1
 	vpshufb	%ymm4,%ymm0,%ymm2
-	vmovdqu	%ymm2,-32(%r9,%r10,2)
 	vmovdqu	%ymm1,-64(%r9,%r10,2)
+	vmovdqu	%ymm2,-32(%r9,%r10,2)
 	vpermq	$216,(%rdi,%r10),%ymm1
 	vpsrlw	$4,%ymm1,%ymm2
 	vpand	%ymm3,%ymm2,%ymm2
@@ -4431,8 +4431,8 @@
 	vpunpcklbw	%ymm1,%ymm2,%ymm1
 	vpshufb	%ymm1,%ymm0,%ymm1
 	vpshufb	%ymm3,%ymm0,%ymm2
-	vmovdqu	%ymm2,32(%r9,%r10,2)
 	vmovdqu	%ymm1,(%r9,%r10,2)
+	vmovdqu	%ymm2,32(%r9,%r10,2)
 	addq	$2,%rcx
 	addq	$64,%r10
 	.p2align	5,,10
@@ -4513,6 +4513,7 @@
 38:
 	movq	%rcx,%rsi
 	shlq	$5,%rsi
+	shlq	$6,%rcx
 	vpermq	$216,(%rdi,%rsi),%ymm1
 	vpsrlw	$4,%ymm1,%ymm2
 	vpbroadcastd	.L100v3_CPI10_8(%rip),%ymm3
@@ -4522,9 +4523,8 @@
 	vpunpcklbw	%ymm1,%ymm2,%ymm1
 	vpshufb	%ymm1,%ymm0,%ymm1
 	vpshufb	%ymm3,%ymm0,%ymm2
-	shlq	$6,%rcx
-	vmovdqu	%ymm2,32(%r9,%rcx)
 	vmovdqu	%ymm1,(%r9,%rcx)
+	vmovdqu	%ymm2,32(%r9,%rcx)
 39:
 	.p2align	5,,10
 	testb	$31,%dl

@@ -1,9 +1,9 @@
 //! Maps on vectors, which do the same in each lane. They say which bytes are valid digits, and they
 //! replace digits by their values and bytes by their digits.
 
-ghost use Rattle.std.specs.Prelude.{◌≡◌, ◌↔◌, ℕ, ◌≤◌, ◌<◌, EachIndex, IsTrue, is_some, map, slice_index};
+ghost use Rattle.std.specs.Prelude.{◌≡◌, ◌↔◌, ℕ, ◌+◌, ◌≤◌, ◌<◌, EachIndex, IsTrue, is_some, length, map, slice_index};
 ghost use Rattle.hex_core.specs.declared.digit.CheckCase.{CheckCase};
-ghost use Rattle.std.specs.Simd.Lanes.{mask_l};
+ghost use Rattle.std.specs.Simd.Lanes.{mask_l, put_chunk};
 ghost use Rattle.hex_core.specs.inside.Arithmetic.{AreLow, first_letter, fold_of, letter, reach};
 ghost use Rattle.hex_core.specs.Digit.{digit, value};
 ghost use Rattle.hex_core.specs.Search.{AllValid};
@@ -183,6 +183,12 @@ fn digits(upper: bool) -> u8x16
 pub trait Encode<const N: usize, const TWICE: usize> {
     fn encoded(v: Simd<u8, N>, upper: bool) -> Simd<u8, TWICE>
         ensures { result ≡ text upper v.entry };
+
+    /// Encodes the bytes in the lanes of `v`, and writes the digits to `dst` from index `at` on. It
+    /// is for loops that encode a long source.
+    fn write(v: Simd<u8, N>, dst: &mut [u8], at: usize, upper: bool)
+        requires { at + TWICE ≤ length dst.old }
+        ensures { dst.new ≡ put_chunk at dst.old (text upper v.entry) };
 }
 
 /// Encodes by interleaving the high and the low nibbles, for any number of lanes.
@@ -201,6 +207,14 @@ where
             Lanes::unpack(high_bits(v), and_splat(v, 0x0f)),
         )
     }
+
+    #[inline(always)]
+    fn write(v: Simd<u8, N>, dst: &mut [u8], at: usize, upper: bool)
+        requires { at + TWICE ≤ length dst.old }
+        ensures { dst.new ≡ put_chunk at dst.old (text upper v.entry) }
+    {
+        Interleaved::encoded(v, upper).copy_to_slice(&mut dst[at..]);
+    }
 }
 
 /// Encodes 32 lanes by interleaving within the halves of a vector. This is faster only in builds
@@ -213,6 +227,20 @@ impl Encode<32, 64> for Halved {
         ensures { result ≡ text upper v }
     {
         Lanes::shuffle(digits(upper), both_nibbles(v))
+    }
+
+    // The first half is stored first. The compiler would store the second half of a vector first.
+    // Then a text that does not fit the first cache and does not begin at a multiple of 64 would
+    // take a quarter longer.
+    #[inline(always)]
+    fn write(v: u8x32, dst: &mut [u8], at: usize, upper: bool)
+        requires { at + 64 ≤ length dst.old }
+        ensures { dst.new ≡ put_chunk at dst.old (text upper v) }
+    {
+        let text = Halved::encoded(v, upper).to_array();
+        let digits = &text[..];
+        u8x32::from_slice(digits).copy_to_slice(&mut dst[at..]);
+        u8x32::from_slice(&digits[32..]).copy_to_slice(&mut dst[at + 32..]);
     }
 }
 

@@ -282,7 +282,8 @@ where
     ensures { dst.new ≡ text upper src.now }
 {
     'turns: for i in 0..src.len() / N {
-        encode_at::<E, N, TWICE>(src, dst, i * N, upper);
+        let at = i * N;
+        E::write(Simd::<u8, N>::from_slice(&src[at..]), dst, 2 * at, upper);
     }
     if src.len() % N != 0 {
         encode_at::<E, N, TWICE>(src, dst, src.len() - N, upper);
