@@ -70,7 +70,7 @@ versions | awk -v wanted="$wanted" '
     END { exit wrong }' || status=1
 
 # proved FOLDER CRATE: checks the PROVED of a folder. It must list the proofs of the crate and of all crates below it,
-# from these sources and by the prover that README.md names, and the hashes of the folder's files.
+# from these sources and by a prover with the logic that README.md names, and the hashes of the folder's files.
 proved() {
     crates=$(scripts/repository.py below "$2" | sort)
     told=$(sed -n 's/ logic=proved .*//p' "$1/PROVED" | sort -u)
@@ -78,7 +78,7 @@ proved() {
     grep -qxF "sources $(scripts/checksum $crates)" "$1/PROVED" ||
         { echo "$1/PROVED is of other sources: \`make generate\` makes it anew" && return 1; }
     prover=$(sed -n 's/^prover //p' "$1/PROVED")
-    grep -qF "\`$prover\`" README.md || { echo "README.md does not name the prover $prover" && return 1; }
+    grep -qF "\`logic ${prover#* logic }\`" README.md || { echo "README.md does not name the prover $prover" && return 1; }
     sed -n 's/^sha256 //p' "$1/PROVED" >"$made/sums"
     [ ! -s "$made/sums" ] || (cd "$1" && sha256sum -c --quiet "$made/sums")
 }
