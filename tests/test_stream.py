@@ -9,6 +9,7 @@ from pathlib import Path
 import pytest
 
 from commands import CC, OUT, TESTS_IN_C, make, needs, runs
+from test_fhex_c import WRAPPED
 from test_program import BUILDS, ODD, SANITIZERS, built, ended
 
 USAGE = b"usage: fhex-stream encode|encode-lines|decode\n"
@@ -69,8 +70,7 @@ def program(request, stream, tmp_path_factory):
 @pytest.fixture(scope="session")
 def failing(tmp_path_factory):
     """The program with sanitizers and injected failures of reads, writes and allocations."""
-    options = f"{SANITIZERS} " + " ".join(f"-Wl,--wrap={it}" for it in ("read", "write", "malloc", "realloc"))
-    return built(tmp_path_factory.mktemp("failing"), CC, options, TESTS_IN_C / "failing.c", name="fhex-stream")
+    return built(tmp_path_factory.mktemp("failing"), CC, f"{SANITIZERS} {WRAPPED}", TESTS_IN_C / "failing.c", name="fhex-stream")
 
 
 def lines_of(given):
