@@ -237,48 +237,54 @@
 	hex_cfi	startproc
 	pushq	%rbp
 	hex_cfi	def_cfa_offset 16
-	pushq	%r14
+	pushq	%r15
 	hex_cfi	def_cfa_offset 24
-	pushq	%rbx
+	pushq	%r14
 	hex_cfi	def_cfa_offset 32
-	hex_cfi	offset %rbx,-32
-	hex_cfi	offset %r14,-24
+	pushq	%rbx
+	hex_cfi	def_cfa_offset 40
+	pushq	%rax
+	hex_cfi	def_cfa_offset 48
+	hex_cfi	offset %rbx,-40
+	hex_cfi	offset %r14,-32
+	hex_cfi	offset %r15,-24
 	hex_cfi	offset %rbp,-16
-	movq	%rsi,%rbx
-	movq	%rdi,%r14
+	movq	%rsi,%r14
+	movq	%rdi,%r15
 	movzbl	%r8b,%ebp
 	cmpq	$193,%rsi
-	jb	4f
-	movq	%r14,%rdi
-	movq	%rbx,%rsi
+	jb	3f
+	movq	%rcx,%rbx
+	movq	%r15,%rdi
+	movq	%r14,%rsi
 	movl	%ebp,%r8d
 	callq	faster_hex_1_0_0_x86_64_core_backend_Backend_decode_named
 	testb	%al,%al
-	je	4f
+	je	3f
 	xorl	%edx,%edx
-	xorl	%eax,%eax
+4:
+	movq	%rbx,%rax
+	addq	$8,%rsp
+	hex_cfi	def_cfa_offset 40
 	popq	%rbx
-	hex_cfi	def_cfa_offset 24
+	hex_cfi	def_cfa_offset 32
 	popq	%r14
+	hex_cfi	def_cfa_offset 24
+	popq	%r15
 	hex_cfi	def_cfa_offset 16
 	popq	%rbp
 	hex_cfi	def_cfa_offset 8
 	retq
-4:
-	hex_cfi	def_cfa_offset 32
-	movq	%r14,%rdi
-	movq	%rbx,%rsi
+3:
+	hex_cfi	def_cfa_offset 48
+	movq	%r15,%rdi
+	movq	%r14,%rsi
 	movl	%ebp,%edx
 	callq	faster_hex_1_0_0_x86_64_core_backend_Backend_first_invalid_byte
-	movq	%rax,%rdx
-	movb	$1,%al
-	popq	%rbx
-	hex_cfi	def_cfa_offset 24
-	popq	%r14
-	hex_cfi	def_cfa_offset 16
-	popq	%rbp
-	hex_cfi	def_cfa_offset 8
-	retq
+	movq	%rax,%rbx
+	movzbl	%dl,%edx
+	orl	$256,%edx
+	jmp	4b
 	hex_end	faster_hex_1_0_0_x86_64_core_backend_Backend_decode_or_find
 	hex_cfi	endproc
 	hex_function	faster_hex_1_0_0_x86_64_core_backend_Backend_first_invalid_byte,.text.unlikely
@@ -329,8 +335,8 @@
 	movq	(%rax,%r12,8),%rax
 	.p2align	4
 8:
-	movzbl	(%r14,%r15),%ecx
-	cmpb	$-1,(%rax,%rcx)
+	movzbl	(%r14,%r15),%edx
+	cmpb	$-1,(%rax,%rdx)
 	je	11f
 	incq	%r15
 	cmpq	%r15,%rbx
@@ -518,7 +524,7 @@
 	movq	%rbx,%rcx
 	movl	%ebp,%r8d
 	callq	faster_hex_1_0_0_x86_64_core_backend_Backend_decode_or_find
-	testb	%al,%al
+	testw	%dx,%dx
 	jne	5f
 6:
 	popq	%rbx
@@ -577,12 +583,12 @@
 	hex_cfi	startproc
 	endbr64
 	testb	$1,%sil
-	jne	5f
+	jne	1f
 	movq	%rsi,%rax
 	shrq	%rax
 	movl	$2,%r8d
 	cmpq	%rax,%rcx
-	jb	6f
+	jb	2f
 	pushq	%r15
 	hex_cfi	def_cfa_offset 16
 	pushq	%r14
@@ -606,27 +612,16 @@
 	xorl	%r8d,%r8d
 	movq	%rax,%r12
 	callq	faster_hex_1_0_0_x86_64_core_backend_Backend_decode_named
+	movq	%rbx,%rdi
 	movq	%r14,%rsi
 	movq	%r15,%rdx
-	movq	%rbx,%rdi
 	movl	%eax,%ecx
 	movq	%r12,%rax
 	testb	%cl,%cl
-	jne	10f
-7:
-	movq	%rdi,%rbx
-	movq	%rax,%r14
-	movq	%rax,%rcx
+	je	7f
 	xorl	%r8d,%r8d
-	callq	faster_hex_1_0_0_x86_64_core_backend_Backend_decode_or_find
-	testb	%al,%al
-	je	9f
-	movzbl	(%rbx,%rdx),%r8d
-	shll	$8,%r8d
-	orq	$3,%r8
-	movq	%rdx,%rax
-	jmp	11f
-5:
+	jmp	8f
+1:
 	hex_cfi	def_cfa_offset 8
 	hex_cfi	restore %rbx
 	hex_cfi	restore %r12
@@ -634,19 +629,26 @@
 	hex_cfi	restore %r15
 	movl	$1,%r8d
 	xorl	%eax,%eax
-6:
+2:
 	movq	%r8,%rdx
 	retq
-9:
+7:
 	hex_cfi	def_cfa_offset 48
 	hex_cfi	offset %rbx,-40
 	hex_cfi	offset %r12,-32
 	hex_cfi	offset %r14,-24
 	hex_cfi	offset %r15,-16
-	movq	%r14,%rax
-10:
+	movq	%rax,%rcx
 	xorl	%r8d,%r8d
-11:
+	callq	faster_hex_1_0_0_x86_64_core_backend_Backend_decode_or_find
+	xorl	%ecx,%ecx
+	testw	%dx,%dx
+	setne	%cl
+	shll	$8,%edx
+	movzwl	%dx,%edx
+	leaq	(%rcx,%rcx,2),%r8
+	orq	%rdx,%r8
+8:
 	addq	$8,%rsp
 	hex_cfi	def_cfa_offset 40
 	popq	%rbx
@@ -1633,52 +1635,13 @@
 	ja	1f
 	testb	$1,%sil
 	jne	5f
-	pushq	%rbp
-	hex_cfi	def_cfa_offset 16
-	pushq	%r15
-	hex_cfi	def_cfa_offset 24
-	pushq	%r14
-	hex_cfi	def_cfa_offset 32
-	pushq	%r12
-	hex_cfi	def_cfa_offset 40
-	pushq	%rbx
-	hex_cfi	def_cfa_offset 48
-	hex_cfi	offset %rbx,-48
-	hex_cfi	offset %r12,-40
-	hex_cfi	offset %r14,-32
-	hex_cfi	offset %r15,-24
-	hex_cfi	offset %rbp,-16
-	movq	%rdx,%rbx
 	movq	%rsi,%rax
 	shrq	%rax
-	movl	$2,%edx
 	cmpq	%rax,%rcx
-	jb	13f
-	movzbl	%r8b,%ebp
-	cmpq	$192,%rsi
-	ja	10f
-	movq	%rdi,%r14
-	movq	%rsi,%r15
-	movq	%rbx,%rdx
-	movq	%rax,%rcx
-	movl	%ebp,%r8d
-	movq	%rax,%r12
-	callq	faster_hex_1_0_0_x86_64_core_backend_Backend_decode_named
-	movq	%r15,%rsi
-	movq	%r14,%rdi
-	movl	%eax,%ecx
-	movq	%r12,%rax
-	testb	%cl,%cl
-	je	10f
-	xorl	%edx,%edx
-	jmp	13f
+	jae	8f
+	movl	$2,%edx
+	retq
 1:
-	hex_cfi	def_cfa_offset 8
-	hex_cfi	restore %rbx
-	hex_cfi	restore %rbp
-	hex_cfi	restore %r12
-	hex_cfi	restore %r14
-	hex_cfi	restore %r15
 	movl	$5,%edx
 	xorl	%eax,%eax
 	retq
@@ -1686,45 +1649,68 @@
 	movl	$1,%edx
 	xorl	%eax,%eax
 	retq
-10:
+8:
+	pushq	%r15
+	hex_cfi	def_cfa_offset 16
+	pushq	%r14
+	hex_cfi	def_cfa_offset 24
+	pushq	%r13
+	hex_cfi	def_cfa_offset 32
+	pushq	%r12
+	hex_cfi	def_cfa_offset 40
+	pushq	%rbx
 	hex_cfi	def_cfa_offset 48
 	hex_cfi	offset %rbx,-48
-	hex_cfi	offset %rbp,-16
 	hex_cfi	offset %r12,-40
-	hex_cfi	offset %r14,-32
-	hex_cfi	offset %r15,-24
+	hex_cfi	offset %r13,-32
+	hex_cfi	offset %r14,-24
+	hex_cfi	offset %r15,-16
+	movzbl	%r8b,%ebx
+	cmpq	$192,%rsi
+	ja	11f
 	movq	%rdi,%r14
-	movq	%rbx,%rdx
-	movq	%rax,%rbx
+	movq	%rsi,%r15
+	movq	%rdx,%r12
 	movq	%rax,%rcx
-	movl	%ebp,%r8d
-	callq	faster_hex_1_0_0_x86_64_core_backend_Backend_decode_or_find
-	testb	%al,%al
+	movl	%ebx,%r8d
+	movq	%rax,%r13
+	callq	faster_hex_1_0_0_x86_64_core_backend_Backend_decode_named
+	movq	%r14,%rdi
+	movq	%r15,%rsi
+	movq	%r12,%rdx
+	movl	%eax,%ecx
+	movq	%r13,%rax
+	testb	%cl,%cl
 	je	11f
-	movq	%rdx,%rax
-	movzbl	(%r14,%rdx),%edx
-	shll	$8,%edx
-	orq	$3,%rdx
-	jmp	13f
-11:
 	xorl	%edx,%edx
-	movq	%rbx,%rax
-13:
+	jmp	12f
+11:
+	movq	%rax,%rcx
+	movl	%ebx,%r8d
+	callq	faster_hex_1_0_0_x86_64_core_backend_Backend_decode_or_find
+	xorl	%ecx,%ecx
+	testw	%dx,%dx
+	setne	%cl
+	shll	$8,%edx
+	movzwl	%dx,%esi
+	leaq	(%rcx,%rcx,2),%rdx
+	orq	%rsi,%rdx
+12:
 	popq	%rbx
 	hex_cfi	def_cfa_offset 40
 	popq	%r12
 	hex_cfi	def_cfa_offset 32
-	popq	%r14
+	popq	%r13
 	hex_cfi	def_cfa_offset 24
-	popq	%r15
+	popq	%r14
 	hex_cfi	def_cfa_offset 16
-	popq	%rbp
+	popq	%r15
 	hex_cfi	def_cfa_offset 8
 	hex_cfi	restore %rbx
 	hex_cfi	restore %r12
+	hex_cfi	restore %r13
 	hex_cfi	restore %r14
 	hex_cfi	restore %r15
-	hex_cfi	restore %rbp
 	retq
 	hex_end	faster_hex_1_0_0_x86_64_decode_with_case
 	hex_cfi	endproc

@@ -1,10 +1,10 @@
 """Whether generated/ is what the sources give, which takes some minutes, whether each build uses only instructions of
-its processor, and whether functions are inlined."""
+its processor, whether functions are inlined, and where jumps are."""
 import re
 
 import pytest
 
-from commands import OF_PROOFS, TOP, runs
+from commands import CC, OF_PROOFS, TOP, needs, ran, runs
 
 GENERATED = TOP / "generated"
 # A pattern that must be in each build's assembly, and one that must not.
@@ -16,6 +16,8 @@ SPEAKS |= {"aarch64": (r"\ttbl\t", "%")}
 # Functions that are marked to be inlined but are called in some builds, and why.
 CALLED = {"codec_pieces_write_by_piece_len": "it has the code for all lengths twice, and a call is small beside its loop"}
 CRATES = "hex_core", "hex_codec"
+# Instructions that are one step for a processor together with the conditional jump after them.
+TESTS = re.compile("(cmp|test|add|sub|inc|dec|and)[bwlq]?$")
 
 
 @pytest.mark.parametrize("build", SPEAKS)
@@ -54,3 +56,28 @@ def test_inlined(path):
     build, names = r"\d+_\d+_\d+_(?:x86_64(?:_v\d)?|aarch64)", "|".join(marked())
     symbol = rf"^\thex_function\tfaster_hex_{build}_({names})_*,"
     assert {*re.findall(symbol, path.read_text(), re.M)} <= {*CALLED}
+
+
+def steps(code):
+    """The jumps, calls and returns of an object, each with the places where it begins and ends. A conditional jump
+    begins with the test before it."""
+    lines = re.findall(r"^ *([\da-f]+):\t((?:[\da-f]{2} )+) *\t(\w+)", ran(["objdump", "-dw", code]).stdout, re.M)
+    for before, (place, found, name) in zip([("0", "", ""), *lines], lines):
+        begin = int(place, 16)
+        if name[0] == "j" and name != "jmp" and TESTS.match(before[2]):
+            yield name, int(before[0], 16), begin + len(found.split())
+        elif re.match("j|call|ret", name):
+            yield name, begin, begin + len(found.split())
+
+
+@pytest.mark.quick
+@pytest.mark.parametrize("build", [it for it in SPEAKS if re.search(r"v\d", it)])
+def test_no_jump_crosses_a_multiple_of_32(tmp_path, build):
+    """Many processors since Skylake are slow at a jump, a call or a return that crosses such a place, or ends there."""
+    needs(CC, "objdump")
+    if "x86_64" not in runs([CC, "-dumpmachine"]):
+        pytest.skip("the compiler does not assemble x86-64")
+    made, text = tmp_path / "made.o", f'#include "elf.inc"\n#include "{build}.s"\n'
+    runs([CC, "-c", "-x", "assembler-with-cpp", "-o", made, "-"], input=text, cwd=GENERATED)
+    found = [*steps(made)]
+    assert found and not [it for it in found if it[1] // 32 != it[2] // 32]

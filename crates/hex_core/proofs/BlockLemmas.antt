@@ -1,17 +1,15 @@
 -- Blocks of a source, and what decoding them makes of a destination.
-use Rattle.std.proofs.Common.{◌≡◌, ℕ, suc, ◌+◌, ◌-◌, ◌*◌, ◌/◌, ◌%◌, ◌<◌, ◌≤◌, ◌↔◌, Bool, false, List, ◌++◌, length}
-use Rattle.std.proofs.Common.{length-append, length-drop, take, drop, min, get_or, inl, inr, refl, sym, ap, ap₂, subst}
+use Rattle.std.proofs.Common.{◌≡◌, ℕ, zero, suc, [], ◌∷◌, ◌+◌, ◌-◌, ◌*◌, ◌/◌, ◌%◌, ◌<◌, ◌≤◌, ◌↔◌, Bool, false, List, ◌++◌, length}
+use Rattle.std.proofs.Common.{length-drop, take, drop, min, get_or, inl, inr, refl, sym, ap, ap₂, subst}
 use Rattle.std.proofs.Common.{◌∙◌, Option, Some, None, arith}
 use Rattle.std.specs.Prelude.{IfSome, IsSome, IsTrue, slice_index}
 use Rattle.std.specs.Int.{div_ceil}
 use Rattle.std.proofs.Math.Nat.{div-lt_iff_lt-mul, le-div_iff_mul-le, lt-div-mul-add, lt_of_mul-lt-mul_right, mod-add-div, mul_comm}
-use Rattle.std.proofs.Math.Seq.{drop-drop}
 use Rattle.std.proofs.lemmas.Bool.{cases_lt, iff_false}
 use Rattle.std.proofs.lemmas.Grind.{div_ceil_times}
-use Rattle.std.proofs.lemmas.List.{append_assoc, get_or-drop, get_or-take, length-take-le}
-use Rattle.std.proofs.lemmas.Slice.{drop-append-drop}
+use Rattle.std.proofs.lemmas.List.{get_or-drop, get_or-take, length-take-le}
 use Rattle.std.proofs.lemmas.Simd.{get_or-chunk, get_or-put_chunk_above, get_or-put_chunk_at, get_or-put_chunk_below}
-use Rattle.std.proofs.lemmas.Simd.{length-chunk, length-put_chunk, put_chunk_is, take_more_put_chunk}
+use Rattle.std.proofs.lemmas.Simd.{length-chunk, length-put_chunk}
 use lib.Lanes.{chunk, put_chunk}
 use std.Logic.{↔_trans}
 use Rattle.hex_core.specs.declared.digit.CheckCase.{CheckCase}
@@ -223,19 +221,16 @@ ends_nibbles {c} {s} {v} old r at n is room are long inside =
 
 -- ---- a block that is decoded
 
--- two blocks that are written one behind the other, at once or in turn
-pub put_two : (at w : ℕ) (old f b : List ℕ) → length f ≡ w → at + w + length b ≤ length old → put_chunk at old (f ++ b) ≡ put_chunk (at + w) (put_chunk at old f) b
-put_two at w old f b long room =
-    let front = take at old in let mid = put_chunk at old f in let end = at + w + length b in
-    let all : length (f ++ b) ≡ w + length b = length-append f b ∙ ap (λ n. n + length b) long in
-    let same : length mid ≡ length old = length-put_chunk at old f in
-    let mid_is : mid ≡ front ++ f ++ drop (at + w) old =
-    put_chunk_is at old f (omega arith) ∙ ap (λ r. front ++ (f ++ r)) (drop-drop (length f) at old ∙ ap (λ n. drop (at + n) old) long) ∙ sym (append_assoc front f (drop (at + w) old)) in
-    let ends : length (front ++ f) ≡ at + w = length-append front f ∙ ap₂ (λ m n. m + n) (length-take-le at old (omega arith)) long in
-    let behind : drop (length b) (drop (at + w) mid) ≡ drop (length (f ++ b)) (drop at old) =
-    drop-drop (length b) (at + w) mid ∙ ap (drop end) mid_is ∙ drop-append-drop (at + w) old (front ++ f) end (omega arith) ends ∙ ap (λ n. drop n old) (omega (arith, all)) ∙ sym (drop-drop (length (f ++ b)) at old) in
-    put_chunk_is at old (f ++ b) (omega (arith, all)) ∙ ap (λ l. front ++ l) (append_assoc f b _) ∙ sym (append_assoc front f _) ∙ ap₂ (λ l r. l ++ (b ++ r)) (sym (take_more_put_chunk at old f (at + w) (omega arith) (omega arith))) (sym behind)
-    ∙ sym (put_chunk_is (at + w) mid b (omega arith))
+-- two blocks that are written one behind the other, at once or in turn, of which the first has n bytes
+pub put_two : (at : ℕ) (old f b : List ℕ) (n : ℕ) → length f ≡ n → put_chunk at old (f ++ b) ≡ put_chunk (at + n) (put_chunk at old f) b
+put_two at [] f b n e = refl
+put_two zero (x ∷ xs) [] b n e = rw (← e) refl
+put_two zero (x ∷ xs) (y ∷ f) b n e =
+    let next : 0 + suc (length f) ≡ suc (0 + length f) = omega arith in
+    rw (← e, next) (ap (λ l. y ∷ l) (put_two 0 xs f b (length f) refl))
+put_two (suc at) (x ∷ xs) f b n e =
+    let next : suc at + length f ≡ suc (at + length f) = omega arith in
+    rw (← e, next) (ap (λ l. x ∷ l) (put_two at xs f b (length f) refl))
 
 pub block_decodes : {c : CheckCase} {s old new v : List ℕ} {at from end n : ℕ} (w : ℕ) → NibblesFrom c s from n v → AreSmall v → new ≡ put_chunk at old (packed v)
     → n ≡ 2 * w → from ≡ 2 * at → end ≡ at + w → end ≤ length old → DecodesRange c s old new at end

@@ -1,12 +1,13 @@
 //! Decoding and encoding of slices of any length, by a plan. Each function writes to the start of a
 //! destination. `decode_slice` and `encode_slice` also return the written part of it.
 
-ghost use Rattle.std.specs.Prelude.{◌≡◌, ◌≢◌, ◌*◌, ◌<◌, ◌≤◌, ℕ, None, Some, length, MatchOption, MatchResult};
+ghost use Rattle.std.specs.Prelude.{◌≡◌, ◌≢◌, ◌*◌, ◌%◌, ◌<◌, ◌≤◌, ℕ, None, Some, length, MatchOption, MatchResult};
 ghost use Rattle.std.specs.Borrow.{sem};
 ghost use Rattle.hex_core.specs.declared.digit.CheckCase.{CheckCase};
 ghost use Rattle.hex_core.specs.Calls.{Answers, Decodes, DecodesFront, Encodes, EncodesFront};
 ghost use Rattle.hex_core.specs.Loan.{LendsAnswer};
-ghost use Rattle.hex_core.specs.Refusal.{decode_refusal, encode_refusal};
+ghost use Rattle.hex_core.specs.declared.error.Error.TheVariants.{InvalidChar};
+ghost use Rattle.hex_core.specs.Refusal.{decode_refusal, encode_refusal, first_invalid_char};
 ghost use Rattle.hex_core.specs.Search.{first_invalid};
 ghost use Rattle.hex_core.specs.Text.{Spells};
 
@@ -17,6 +18,9 @@ use crate::error::Error;
 // `decode_into` decodes at most this many digits inline. The plan `plain` has the same limit, and
 // decodes longer sources by a function call.
 const MOST_INLINE: usize = 192;
+
+// What `decode_or_find` adds to an invalid byte, so that the sum is not 0.
+const INVALID: u16 = 256;
 
 // Returns the number of bytes that `src` decodes to. Returns an error if the length of `src` is
 // odd, or if that number exceeds `room`.
@@ -80,29 +84,35 @@ impl Backend {
             return Ok(required);
         }
         match self.decode_or_find(src, &mut dst[..required], case) {
-            None => Ok(required),
-            Some(index) => Err(Error::InvalidChar {
+            (written, 0) => Ok(written),
+            (index, marked) => Err(Error::InvalidChar {
                 index,
-                byte: src[index],
+                byte: (marked % INVALID) as u8,
             }),
         }
     }
 
     // Decodes a source of more than `MOST_INLINE` digits, or finds the first invalid byte of a
-    // source of any length. It is a function of its own, because `decode_into` then saves fewer
-    // registers for the call. An index is returned in registers.
+    // source of any length. Returns the index of that byte, and the byte plus `INVALID`. If all
+    // bytes are valid, it returns the number of bytes written, and 0.
+    //
+    // It is a function of its own, and its result fits two registers. So `decode_into` has no value
+    // to keep across the call, and saves no register for it, which would slow short sources down.
     #[inline(never)]
-    fn decode_or_find(self, src: &[u8], dst: &mut [u8], case: CheckCase) -> Option<usize>
+    fn decode_or_find(self, src: &[u8], dst: &mut [u8], case: CheckCase) -> (usize, u16)
         requires twice { length src.now ≡ 2 * length dst.old }
         requires refused { length src.now ≤ MOST_INLINE → first_invalid case src.now ≢ None }
-        ensures found { result ≡ first_invalid case src.now }
-        ensures decoded { MatchOption result (Spells case src.now dst.new) (λ _. dst.new ≡ dst.old) }
+        ensures answer { MatchOption (first_invalid_char case src.now)
+            (result ≡ (length dst.old, 0))
+            (λ e. (e ≡ InvalidChar result.0 (result.1 % INVALID)) × (result.1 ≢ 0)) }
+        ensures decoded { MatchOption (first_invalid case src.now)
+            (Spells case src.now dst.new) (λ _. dst.new ≡ dst.old) }
     {
         if src.len() > MOST_INLINE && self.decode_many(src, dst, case) {
-            return None;
+            return (dst.len(), 0);
         }
-        let (index, _) = self.first_invalid_byte(src, case);
-        Some(index)
+        let (index, byte) = self.first_invalid_byte(src, case);
+        (index, INVALID + byte as u16)
     }
 
     /// Encodes all of `src` into the start of `dst`, in uppercase if `upper` is true. Returns the

@@ -8,9 +8,7 @@ use Rattle.hex_core.proofs.digit_lanes.HalvedEncode3264.write.Goals as goal
 
 pub returns : goal.returns
 returns c =
-    let t = c.encoded.result in let front = chunk 0 32 t in let back = chunk 32 32 t in
+    let t = c.encoded.result in let front = chunk 0 32 t in
     let long : length t ≡ 64 = ap length c.encoded.ensures ∙ length-text c.args.upper c.args.v ∙ omega (arith, c.fits-v.0) in
-    let rest : back ≡ drop 32 t = take_all 32 (drop 32 t) (omega (arith, length-drop 32 t, long)) in
-    let both : front ++ back ≡ t = ap (λ r. front ++ r) rest ∙ take-append-drop 32 t in
-    sym (put_two c.args.at 32 c.args.dst.now front back (length-chunk 0 32 t (omega (arith, long))) (omega (arith, c.requires, long, length-chunk 32 32 t (omega (arith, long)))))
-    ∙ ap (λ l. put_chunk c.args.at c.args.dst.now l) (both ∙ c.encoded.ensures)
+    let both : front ++ chunk 32 32 t ≡ t = ap (λ r. front ++ r) (take_all 32 (drop 32 t) (omega (arith, length-drop 32 t, long))) ∙ take-append-drop 32 t in
+    sym (put_two c.args.at c.args.dst.now front _ 32 (length-chunk 0 32 t (omega (arith, long)))) ∙ ap (λ l. put_chunk c.args.at c.args.dst.now l) (both ∙ c.encoded.ensures)

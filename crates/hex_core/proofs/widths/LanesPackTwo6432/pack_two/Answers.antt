@@ -8,4 +8,4 @@ use Rattle.hex_core.proofs.widths.LanesPackTwo6432.pack_two.Goals as goal
 pub returns : goal.returns
 returns c =
     let f = packed c.args.front in let b = packed c.args.back in
-    ap (λ l. put_chunk c.args.at c.args.dst.now l) c.pack_both.ensures ∙ (put_two c.args.at 32 c.args.dst.now f b (length-packed c.args.front ∙ omega (arith, c.fits-front.0)) (omega (arith, length-packed c.args.back, c.fits-back.0, c.requires.room)))
+    ap (λ l. put_chunk c.args.at c.args.dst.now l) c.pack_both.ensures ∙ put_two c.args.at c.args.dst.now f b 32 (length-packed c.args.front ∙ omega (arith, c.fits-front.0))
