@@ -73,8 +73,8 @@ def steps(code):
 @pytest.mark.quick
 @pytest.mark.parametrize("build", [it for it in SPEAKS if re.search(r"v\d", it)])
 def test_no_jump_crosses_a_multiple_of_32(tmp_path, build):
-    """No jump, call or return crosses such a place or ends there. Intel's processors from Skylake to Comet Lake are slow
-    there."""
+    """No jump, call or return crosses a multiple of 32 bytes or ends there. Intel's processors from Skylake to Comet
+    Lake are slow at one that does."""
     needs(CC, "objdump")
     if "x86_64" not in runs([CC, "-dumpmachine"]):
         pytest.skip("the compiler does not assemble x86-64")

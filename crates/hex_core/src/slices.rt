@@ -19,7 +19,8 @@ use crate::error::Error;
 // decodes longer sources by a function call.
 const MOST_INLINE: usize = 192;
 
-// What `decode_or_find` adds to an invalid byte, so that the sum is not 0.
+// `decode_or_find` adds this to an invalid byte. The sum is never 0, and its remainder by 256 is
+// the byte.
 const INVALID: u16 = 256;
 
 // Returns the number of bytes that `src` decodes to. Returns an error if the length of `src` is
