@@ -78,7 +78,8 @@ proved() {
     grep -qxF "sources $(scripts/checksum $crates)" "$1/PROVED" ||
         { echo "$1/PROVED is of other sources: \`make generate\` makes it anew" && return 1; }
     prover=$(sed -n 's/^prover //p' "$1/PROVED")
-    grep -qF "\`logic ${prover#* logic }\`" README.md || { echo "README.md does not name the prover $prover" && return 1; }
+    grep -qF "\`logic ${prover#* logic }\`" README.md ||
+        { echo "README.md does not name the prover $prover" && return 1; }
     sed -n 's/^sha256 //p' "$1/PROVED" >"$made/sums"
     [ ! -s "$made/sums" ] || (cd "$1" && sha256sum -c --quiet "$made/sums")
 }

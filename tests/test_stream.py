@@ -70,7 +70,8 @@ def program(request, stream, tmp_path_factory):
 @pytest.fixture(scope="session")
 def failing(tmp_path_factory):
     """The program with sanitizers and injected failures of reads, writes and allocations."""
-    return built(tmp_path_factory.mktemp("failing"), CC, f"{SANITIZERS} {WRAPPED}", TESTS_IN_C / "failing.c", name="fhex-stream")
+    options = f"{SANITIZERS} {WRAPPED}"
+    return built(tmp_path_factory.mktemp("failing"), CC, options, TESTS_IN_C / "failing.c", name="fhex-stream")
 
 
 def lines_of(given):
