@@ -42,24 +42,22 @@
  *
  * - Proved: what each call that checks, searches or converts returns and writes, for `len` and `room` below 2^63. The
  *   proof is about the source. The machine code is compiled from this source, and the proof does not cover it.
- * - Checked for all bytes: a tool of the repository executes the machine code symbolically, that is, with unknown
- *   bytes as the source. It covers the builds for x86-64-v2, x86-64-v3 and x86-64-v4, and the calls without groups:
- *   faster_hex_encode for up to 128 bytes, faster_hex_first_invalid for up to 64 digits, and the calls that check and
- *   decode for up to 256 digits. For these, the results are right. The code reads only the source and writes only the
+ * - Checked for all bytes and every length: a tool of the repository executes the machine code symbolically, that is,
+ *   with a source whose length and bytes are unknown. It covers the builds for x86-64-v2, x86-64-v3 and x86-64-v4, and
+ *   the calls without groups. For these, the results are right. The code reads only the source and writes only the
  *   destination, apart from its stack, its constants and its byte of state. This also holds if an empty source or
- *   destination is NULL. The file generated/SHOWN has the record.
- * - Keys: the same tool checks which addresses and branches depend on the bytes of the source. When a call encodes or
- *   checks, no address and no branch depends on them. When a call decodes or searches valid digits, only a branch on
- *   whether all digits are valid depends on them. This branch goes the same way for all valid digits. A check of more
- *   than 256 digits, which the tool does not cover, may have such branches too. A test also runs the builds for
- *   x86-64-v2 and x86-64-v3 under valgrind, with random keys of each length up to 320 bytes.
+ *   destination is NULL. For the calls with groups the same is checked for sources of up to 32 bytes. The file
+ *   generated/SHOWN has the record.
+ * - Keys: the same tool checks which addresses and branches depend on the bytes of the source. When a call without
+ *   groups encodes, none does. When it checks, decodes or searches valid digits, only branches on whether some of them
+ *   are all valid depend on them. These branches go the same way for all valid digits. A check of up to 256 digits has
+ *   none of them.
  * - Not constant time: the baseline build for x86-64, which looks bytes up in tables. It runs on processors without
  *   x86-64-v2, and for calls that are made before the library's constructor has run. In every build a call that must
  *   find the index of an invalid byte uses a table too. The grouped calls, and processors other than x86-64, were not
  *   examined for this.
- * - Only tested: the machine code for longer sources, for the grouped calls and in the other builds. Tests alone also
- *   show FASTER_HEX_OVERFLOW for 2^63 bytes and more, and that calls allocate nothing, change no state and may run in
- *   threads.
+ * - Only tested: the machine code of the other builds, and of the calls with groups for longer sources. Tests alone
+ *   also show that calls allocate nothing, change no state and may run in threads.
  *
  * docs/security.md of the repository says more.
  */

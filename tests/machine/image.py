@@ -2,14 +2,7 @@
 import re
 import subprocess
 
-import capstone
-
-from . import Refused, evex
-
-PREFIXES = b"\x66\x67\xf2\xf3\xf0\x2e\x36\x3e\x26\x64\x65"
-VEX, LOCK = b"\xc4\xc5", 0xf0
-# Instructions for which Capstone and some processors read the prefix 66 differently.
-NEVER_SHORT = "j", "call", "ret", "push", "pop"
+from . import Refused, code
 
 
 def linked(made, *objects):
@@ -18,60 +11,77 @@ def linked(made, *objects):
     return made
 
 
+SECTION = re.compile(r"\] (\S+) +PROGBITS +(\w+) (\w+) (\w+) \w+ +(\w+)")
+SYMBOL = re.compile(r" *\d+: (\w+) +(\w+) (\w+) +\w+ +\w+ +(\w+) (\S+)")
+# An address that the loader writes, and what it is before the program is moved.
+RELATIVE = re.compile(r"^(\w+) +\w+ R_X86_64_RELATIVE +(\w+)", re.M)
+
+
 class Image:
     """A linked file. `level` is the number that the library's constructor has stored, by which a call chooses its
     build."""
 
     def __init__(self, path, level=None):
-        symbols, sections = (subprocess.run([*words, path], stdout=subprocess.PIPE, text=True, check=True).stdout
-                             for words in (["nm"], ["readelf", "-SW"]))
-        self.symbols = {name: int(at, 16) for at, _, name in map(str.split, symbols.splitlines())}
+        symbols, sections, relative = (code.output("readelf", it, path) for it in ("-sW", "-SW", "-rW"))
+        # The addresses of each name, the name and size of each function by its address, and where the level stands.
+        self.symbols, self.functions, levels, file = {}, {}, [], ""
+        for it in filter(None, map(SYMBOL.match, symbols.splitlines())):
+            at, size, (kind, section, name) = int(it[1], 16), int(it[2], 0), it.groups()[2:]
+            file = name if kind == "FILE" else file
+            if kind != "FILE" and section != "UND":
+                self.symbols.setdefault(name, []).append(at)
+                self.functions |= {at: (name, size)} if kind == "FUNC" and size else {}
+                levels += [at] if (name, file) == ("level", "dispatch.c") else []
+        self.level = {} if level is None else {it: bytes([level]) for it in levels}
+        moved = {int(at, 16): int(to, 16).to_bytes(8, "little") for at, to in RELATIVE.findall(relative)}
         data, self.sections = path.read_bytes(), []
-        for *numbers, flags in re.findall(r"PROGBITS +(\w+) (\w+) (\w+) \w+ +(\w+)", sections):
+        for name, *numbers, flags in SECTION.findall(sections):
             at, begin, size = (int(it, 16) for it in numbers)
-            is_constant = "A" in flags and "W" not in flags
-            self.sections += [(at, data[begin:begin + size], "X" in flags)] if is_constant else []
-        self.level = {} if level is None else {self.symbols["level"]: bytes([level])}
-        self.reader = capstone.Cs(capstone.CS_ARCH_X86, capstone.CS_MODE_64)
-        self.reader.detail = True
-        # The instructions that were read, by address, and the terms of table look-ups, by the number of their address.
-        self.read, self.tables = {}, {}
+            # The loader writes the addresses of .data.rel.ro before the program runs, and nothing writes there later.
+            if "A" in flags and ("W" not in flags or name.startswith(".data.rel.ro")):
+                it = data[begin:begin + size]
+                for place in moved.keys() & {*range(at, at + size)}:
+                    it = it[:place - at] + moved[place] + it[place - at + 8:]
+                self.sections.append((at, it))
+        # The text of each instruction, those that were read, and the terms of table look-ups, by their addresses.
+        self.texts, self.read, self.tables = code.instructions(path), {}, {}
+        # The addresses that were executed, and by the head of each loop that was found that of its last jump back.
+        self.executed, self.loops = set(), {}
 
-    def bytes_at(self, at, size, is_code=False):
+    def own(self, build, call):
+        """The addresses of a build's own functions for a call. A program may have that of the C library and another."""
+        name = re.compile(rf"\w+_x86_64_{build}_{call}(_of_c)?(_unproved)?")
+        return {at for it, places in self.symbols.items() if name.fullmatch(it) for at in places}
+
+    def calls(self, build, call):
+        """The addresses at which a build's call is to be checked: that of the call for C, which takes its build by the
+        level, and then those of the build's own functions that this has not executed."""
+        own = self.own(build, call)
+        called = self.symbols.get(f"faster_hex_{call}", []) if self.level else []
+        yield from called
+        if called and not self.executed & own:
+            raise Refused(f"faster_hex_{call} does not take the build {build}")
+        for at in sorted(own):
+            if at not in self.executed:
+                yield at
+
+    def bytes_at(self, at, size):
         """The bytes at an address if they are constant or the level, otherwise None."""
-        for start, data, runs in self.sections:
-            if start <= at and at + size <= start + len(data) and runs >= is_code:
+        for start, data in self.sections:
+            if start <= at and at + size <= start + len(data):
                 return data[at - start:at - start + size]
-        return self.level.get(at) if size == 1 and not is_code else None
+        return self.level.get(at) if size == 1 else None
 
     def instruction(self, at):
-        """The instruction at an address, and the address after it."""
+        """The instruction at an address."""
         if at not in self.read:
-            code = next((it for size in range(15, 0, -1) if (it := self.bytes_at(at, size, True))), b"")
-            self.read[at] = self.decoded(code, at)
+            if at not in self.texts:
+                raise Refused(f"no instruction at {at:#x}")
+            self.read[at] = code.instruction(at, *self.texts[at])
         return self.read[at]
 
-    def decoded(self, code, at):
-        """Reads an instruction. Capstone 4 does not know a nop with two prefixes, so they are skipped. It does not know
-        vbroadcasti128 either, so it is given vbroadcastf128, which does the same."""
-        if code and code[0] == evex.PREFIX:
-            try:
-                return evex.instruction(self.reader, code, at)
-            except Refused as why:
-                raise Refused(f"{why} at {at:#x}") from why
-        skipped = len(code) - len(code.lstrip(b"\x66\x2e"))
-        skipped = skipped if code[skipped:skipped + 2] == b"\x0f\x1f" else 0
-        if code[:1] == b"\xc4" and code[1] & 31 == 2 and code[3] == 0x5a:
-            code = code[:3] + b"\x1a" + code[4:]
-        code, at = code[skipped:], at + skipped
-        found = next(self.reader.disasm(code, at, 1), None)
-        rest = code.lstrip(PREFIXES)
-        # If there are two prefixes, Capstone and processors use different ones. Before EVEX there must be none.
-        if found is None or len(code) - len(rest) > 1 or rest[0] == evex.PREFIX:
-            raise Refused(f"no instruction at {at:#x}")
-        # Processors refuse most of these, and Capstone does not.
-        if code[0] == LOCK or rest[0] in VEX and rest != code:
-            raise Refused(f"a prefix that is not known at {at:#x}")
-        if code[0] == 0x66 and found.mnemonic.split()[-1].startswith(NEVER_SHORT):
-            raise Refused(f"a short branch or push at {at:#x}")
-        return found, at + found.size
+    def instructions(self, begin, size):
+        """The addresses in a function of those instructions that some path should execute. The others fill the space
+        between two functions or stand where nothing comes."""
+        return {at for at in range(begin, begin + size) if at in self.texts and
+                not code.NOP.fullmatch(self.texts[at][1]) and self.texts[at][1] not in ("int3", "ud2")}

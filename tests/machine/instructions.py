@@ -3,9 +3,10 @@ that performs the instruction on a Step of execution.py. An instruction that is 
 runs each of them on the processor too, and compares the results.
 
 Operands are bit vectors of Z3. There, `<`, `>` and `>>` take the highest bit for a sign, while ULT and LShR do not."""
+import operator
 from functools import partial
 
-from z3 import And, BitVecVal, BoolVal, Extract, If, LShR, Not, Or, SignExt, ULT, Xor
+from z3 import And, BitVecVal, BoolVal, Extract, If, LShR, Not, Or, UDiv, ULT, URem, Xor, ZeroExt
 
 from . import Refused
 from .values import Value, apply, bytes_of, concat, constant, joined
@@ -16,80 +17,14 @@ NO_BIT = Value(BitVecVal(0, 1))
 
 # Functions from terms to terms. They stand here by name, since values.py makes and keeps a term by its function.
 
-def add(a, b):
-    return a + b
-
-
-def subtract(a, b):
-    return a - b
-
-
-def multiply(a, b):
-    return a * b
-
-
-def bits_and(a, b):
-    return a & b
-
-
 def bits_and_not(a, b):
     """The bits of the second that are not in the first."""
     return ~a & b
 
 
-def bits_or(a, b):
-    return a | b
-
-
-def bits_xor(a, b):
-    return a ^ b
-
-
-def shift_left(a, count):
-    return a << count
-
-
-def shift_right_signed(a, count):
-    return a >> count
-
-
-def add_bytes_saturated(a, b):
-    return If(ULT(a + b, a), BitVecVal(255, 8), a + b)
-
-
-def subtract_bytes_saturated(a, b):
-    return If(ULT(a, b), BitVecVal(0, 8), a - b)
-
-
-def minimum(a, b):
-    return If(ULT(a, b), a, b)
-
-
-def maximum(a, b):
-    return If(ULT(a, b), b, a)
-
-
-def equal_bytes(a, b):
-    """All bits set if the bytes are equal, otherwise none."""
-    return If(a == b, BitVecVal(-1, 8), BitVecVal(0, 8))
-
-
-def equal_doublewords(a, b):
-    """All bits set if the lanes of four bytes are equal, otherwise none."""
-    return If(a == b, BitVecVal(-1, 32), BitVecVal(0, 32))
-
-
 def have_common_bit(a, b):
     """The bit 1 if some bit is set in both, otherwise 0."""
     return If(a & b != 0, BitVecVal(1, 1), BitVecVal(0, 1))
-
-
-def extend_sign_to_4(byte):
-    return SignExt(24, byte)
-
-
-def extend_sign_to_8(byte):
-    return SignExt(56, byte)
 
 
 def sign_bit(byte):
@@ -124,10 +59,6 @@ def ternary_logic(number, a, b, c):
     return result
 
 
-def select(holds, first, second):
-    return If(holds, first, second)
-
-
 # Functions that give a flag. In the state of a path a flag is such a function with its operands.
 
 def never(*_):
@@ -158,15 +89,29 @@ def overflow_of_sum(a, b):
     return (~(a ^ b) & (a ^ (a + b))) < 0
 
 
+def add_with_carry(a, b, carry):
+    return a + b + If(carry, BitVecVal(1, a.size()), BitVecVal(0, a.size()))
+
+
+def carry_with_carry(a, b, carry):
+    """The carry of a sum of three: that of the sum of two with one more bit."""
+    return Extract(a.size(), a.size(), add_with_carry(ZeroExt(1, a), ZeroExt(1, b), carry)) == 1
+
+
+def overflow_with_carry(a, b, carry):
+    return (~(a ^ b) & (a ^ add_with_carry(a, b, carry))) < 0
+
+
+def is_division(high, divisor):
+    """Whether a division does not trap: if the upper half of what is divided is zero, the quotient has room."""
+    return And(high == 0, divisor != 0)
+
+
 def overflow_of_difference(a, b):
     return ((a ^ b) & (a ^ (a - b))) < 0
 
 
 # Functions of flags.
-
-def is_set(flag):
-    return flag
-
 
 def is_less_or_equal(zero, sign, overflow):
     return Or(zero, Xor(sign, overflow))
@@ -174,28 +119,29 @@ def is_less_or_equal(zero, sign, overflow):
 
 # The result, the carry flag and the overflow flag of two operands.
 ARITHMETIC = {
-    "add": (add, carry_of_sum, overflow_of_sum), "sub": (subtract, ULT, overflow_of_difference),
-    "and": (bits_and, never, never), "andn": (bits_and_not, never, never),
-    "or": (bits_or, never, never), "xor": (bits_xor, never, never),
+    "add": (operator.add, carry_of_sum, overflow_of_sum), "sub": (operator.sub, ULT, overflow_of_difference),
+    "and": (operator.and_, never, never), "andn": (bits_and_not, never, never),
+    "or": (operator.or_, never, never), "xor": (operator.xor, never, never),
 }
-SHIFTS = {"shl": shift_left, "shr": LShR, "sar": shift_right_signed}
+SHIFTS = {"shl": operator.lshift, "shr": LShR, "sar": operator.rshift}
 # Each condition as a function of flags: c for carry, z for zero, s for sign, o for overflow.
-CONDITIONS = {"b": (is_set, "c"), "e": (is_set, "z"), "be": (Or, "cz"), "s": (is_set, "s"), "l": (Xor, "so"),
+CONDITIONS = {"b": (And, "c"), "e": (And, "z"), "be": (Or, "cz"), "s": (And, "s"), "l": (Xor, "so"),
               "le": (is_less_or_equal, "zso")}
 OPPOSITES = {"ae": "b", "ne": "e", "a": "be", "ns": "s", "ge": "l", "g": "le"}
 EACH = *CONDITIONS, *OPPOSITES
 # Instructions that combine two vectors lane by lane: the bytes of a lane, and the function.
 LANES = {
-    "paddb": (1, add), "psubb": (1, subtract), "paddw": (2, add), "pmullw": (2, multiply),
-    "paddusb": (1, add_bytes_saturated), "psubusb": (1, subtract_bytes_saturated),
-    "pminub": (1, minimum), "pmaxub": (1, maximum),
-    "por": (1, bits_or), "pand": (1, bits_and), "pxor": (1, bits_xor), "xorps": (1, bits_xor),
-    "pcmpeqb": (1, equal_bytes), "pcmpeqd": (4, equal_doublewords),
+    "paddb": (1, operator.add), "psubb": (1, operator.sub), "paddw": (2, operator.add), "pmullw": (2, operator.mul),
+    "paddusb": (1, lambda a, b: If(ULT(a + b, a), BitVecVal(255, 8), a + b)),
+    "psubusb": (1, lambda a, b: If(ULT(a, b), BitVecVal(0, 8), a - b)),
+    "pminub": (1, lambda a, b: If(ULT(a, b), a, b)), "pmaxub": (1, lambda a, b: If(ULT(a, b), b, a)),
+    "pcmpeqb": (1, lambda a, b: If(a == b, BitVecVal(255, 8), BitVecVal(0, 8))),
+    "por": (1, operator.or_), "pand": (1, operator.and_), "pxor": (1, operator.xor), "xorps": (1, operator.xor),
 }
 # AVX-512 has a name for each size of a lane that a mask would be for. Without a mask they do the same.
 LANES |= {"pandd": LANES["pand"], "pandq": LANES["pand"], "pord": LANES["por"], "porq": LANES["por"]}
 # Instructions that shift each lane of a vector: the bytes of a lane, and the function.
-LANE_SHIFTS = {"psllw": (2, shift_left), "psrlw": (2, LShR), "psrld": (4, LShR)}
+LANE_SHIFTS = {"psllw": (2, operator.lshift), "psrlw": (2, LShR)}
 
 
 # Lists of bytes. Each byte is a Value, and the lowest byte comes first.
@@ -203,11 +149,6 @@ LANE_SHIFTS = {"psllw": (2, shift_left), "psrlw": (2, LShR), "psrld": (4, LShR)}
 def lanes_of(values, size):
     """The lanes of so many bytes."""
     return [values[at:at + size] for at in range(0, len(values), size)]
-
-
-def signs_of(values, size):
-    """The highest bit of each lane of so many bytes."""
-    return [apply(sign_bit, it[-1]) for it in lanes_of(values, size)]
 
 
 def spread(values):
@@ -236,23 +177,8 @@ def load_address(step):
     return bytes_of(step.address(1))[:step.size(0)]
 
 
-def pop(step):
-    return bytes_of(step.pop())
-
-
 def broadcast(size, step):
     return step.bytes(1, size) * (step.width // size)
-
-
-def extend_signs(size, step):
-    """Extends each byte to a lane of so many bytes."""
-    extend = {4: extend_sign_to_4, 8: extend_sign_to_8}[size]
-    return spread([apply(extend, it) for it in step.bytes(1, step.width // size)])
-
-
-def extend_zeros(step):
-    """pmovzxbw: extends each byte to two bytes."""
-    return [it for byte in step.bytes(1, step.width // 2) for it in (byte, ZERO)]
 
 
 def narrow(step):
@@ -260,9 +186,9 @@ def narrow(step):
     return step.bytes(1, step.size(1))[::2]
 
 
-def signs_to_register(size, step):
-    """Puts the signs of lanes of so many bytes into a register."""
-    return bytes_of(apply(number_of_bits, *signs_of(step.bytes(1, step.size(1)), size)))[:4]
+def signs_to_register(step):
+    """pmovmskb: puts the highest bit of each byte into a register."""
+    return bytes_of(apply(number_of_bits, *[apply(sign_bit, it) for it in step.bytes(1, step.size(1))]))[:4]
 
 
 def lanewise(size, function, step):
@@ -365,24 +291,61 @@ def write_result(function, step):
     step.write(list(function(step)))
 
 
-def do_nothing(step):
-    pass
-
-
-def push(step):
-    step.push(step.get(0))
-
-
-def arithmetic(name, step, is_kept=True, counts=False):
-    """Sets the flags. `cmp` and `test` do not keep the result. `inc` and `dec` count by one and leave the carry."""
+def arithmetic(name, step, is_kept=True, counts=False, negates=False):
+    """Sets the flags. `cmp` and `test` do not keep the result. `inc` and `dec` count by one and leave the carry. `neg`
+    subtracts from zero."""
     result, carry, overflow = ARITHMETIC[name]
     first = 1 if name == "andn" else 0
-    a, b = step.get(first), constant(1, step.size(0)) if counts else step.get(first + 1)
+    a = constant(0, step.size(0)) if negates else step.get(first)
+    b = constant(1, step.size(0)) if counts else step.get(0 if negates else first + 1)
     value, flags = apply(result, a, b), step.state.flags
     flags.update(z=(is_zero, value), s=(is_negative, value), o=(overflow, a, b))
     flags["c"] = flags["c"] if counts else (carry, a, b)
     if is_kept:
         step.set(value)
+
+
+def add_carry(step):
+    """adc"""
+    a, b, carry, flags = step.get(0), step.get(1), apply(*step.state.flags["c"]), step.state.flags
+    value = apply(add_with_carry, a, b, carry)
+    flags.update(z=(is_zero, value), s=(is_negative, value))
+    flags.update(c=(carry_with_carry, a, b, carry), o=(overflow_with_carry, a, b, carry))
+    step.set(value)
+
+
+def multiply_two(step):
+    """imul with two operands. Its flags are not modelled."""
+    value = apply(operator.mul, step.get(0), step.get(1))
+    step.state.flags.update(dict.fromkeys("czso"))
+    step.set(value)
+
+
+def divide(step):
+    """div: a number in rdx and rax, or in edx and eax, is divided by an operand. All of them must be public."""
+    size = step.size(0)
+    low, high = (joined(bytes_of(step.state.registers[it])[:size]) for it in ("rax", "rdx"))
+    divisor = step.get(0)
+    allowed = apply(is_division, high, divisor)
+    if low.of or allowed.of or not step.machine.is_shown(step.state, allowed.term):
+        raise Refused("a division that may trap")
+    quotient, rest = apply(UDiv, low, divisor), apply(URem, low, divisor)
+    # Z3 is slow with divisions by what is not known.
+    if step.machine.is_shown(step.state, apply(ULT, low, divisor).term):
+        quotient, rest = constant(0, size), low
+    step.write_register("rax" if size == 8 else "eax", bytes_of(quotient))
+    step.write_register("rdx" if size == 8 else "edx", bytes_of(rest))
+    step.state.flags.update(dict.fromkeys("czso"))
+
+
+def keep_low_bits(step):
+    """bzhi: keeps as many of the lowest bits as a byte says, whose value must be known."""
+    count, value, bits = step.bytes(2, 1)[0].number, step.get(1), 8 * step.size(0)
+    if count < bits:
+        value = apply(operator.and_, value, constant(2**count - 1, bits // 8))
+    is_over = partial(BoolVal, count >= bits)
+    step.state.flags.update(z=(is_zero, value), s=(is_negative, value), c=(is_over,), o=(never,))
+    step.set(value)
 
 
 def shift(function, step):
@@ -407,13 +370,13 @@ def condition(flags, name):
 def set_if(name, step):
     """setCC: the byte 1 if the condition holds, otherwise 0."""
     holds = step.condition(name)
-    step.set(apply(select, holds, constant(1, 1), ZERO))
+    step.set(apply(If, holds, constant(1, 1), ZERO))
 
 
 def move_if(name, step):
     """cmovCC: the second operand if the condition holds, otherwise the first."""
     holds = step.condition(name)
-    step.set(apply(select, holds, step.get(1), step.get(0)))
+    step.set(apply(If, holds, step.get(1), step.get(0)))
 
 
 def zero_upper(step):
@@ -426,24 +389,21 @@ def test_lanes(size, step):
     first, second = step.bytes(1, step.width), step.bytes(2, step.width)
     both = zip(lanes_of(first, size), lanes_of(second, size))
     bits = [apply(have_common_bit, joined(a), joined(b)) for a, b in both]
-    step.state.masks[step.mask(0)] = bits + [NO_BIT] * (64 - len(bits))
+    step.state.masks[step.operands[0].register] = bits + [NO_BIT] * (64 - len(bits))
 
 
 def test_masks(count, step):
     """kortest: zero if the first bits of two masks have none set, carry if each bit is set in one of them."""
-    first, second = (step.state.masks[step.mask(at)][:count] for at in (0, 1))
-    bits = [apply(bits_or, a, b) for a, b in zip(first, second)]
+    first, second = (step.state.masks[step.operands[at].register][:count] for at in (0, 1))
+    bits = [apply(operator.or_, a, b) for a, b in zip(first, second)]
     step.state.flags.update(z=(are_all_zero, *bits), c=(are_all_one, *bits), s=(never,), o=(never,))
 
 
-def test_bits(size, step):
-    """Zero if the first `and` the second is 0, carry if `not` the first `and` the second is 0. ptest compares all bits,
-    with the size 0. testps and testpd compare the signs of lanes of so many bytes."""
-    first, second = step.bytes(0, step.width), step.bytes(1, step.width)
-    if size:
-        first, second = signs_of(first, size), signs_of(second, size)
-    common = [apply(bits_and, a, b) for a, b in zip(first, second)]
-    only_second = [apply(bits_and_not, a, b) for a, b in zip(first, second)]
+def test_bits(step):
+    """ptest: zero if the first `and` the second is 0, carry if `not` the first `and` the second is 0."""
+    both = list(zip(step.bytes(0, step.width), step.bytes(1, step.width)))
+    common = [apply(operator.and_, a, b) for a, b in both]
+    only_second = [apply(bits_and_not, a, b) for a, b in both]
     step.state.flags.update(z=(are_all_zero, *common), c=(are_all_zero, *only_second), s=(never,), o=(never,))
 
 
@@ -451,17 +411,16 @@ def test_bits(size, step):
 SIZED = (
     ("pinsrb pinsrw pinsrd inserti128 inserti64x4", insert, (1, 2, 4, 16, 32)),
     ("pextrb pextrw pextrd pextrq extracti128", extract, (1, 2, 4, 8, 16)),
-    ("pbroadcastb pbroadcastw pbroadcastd pbroadcastq broadcastf128", broadcast, (1, 2, 4, 8, 16)),
+    ("pbroadcastb pbroadcastw pbroadcastd pbroadcastq broadcasti128", broadcast, (1, 2, 4, 8, 16)),
     ("movd movq", move_low, (4, 8)), ("pshuflw pshufd permq", shuffle_lanes, (2, 4, 8)),
-    ("pmovsxbd pmovsxbq", extend_signs, (4, 8)), ("pmovmskb movmskps movmskpd", signs_to_register, (1, 4, 8)),
 )
 HALVES = {"pshufb": shuffle_bytes, "packuswb": pack, "punpcklbw": partial(unpack, 1, 0),
           "punpckhbw": partial(unpack, 1, 8), "punpcklqdq": partial(unpack, 8, 0)}
-MOVES = "mov", "movdqa", "movdqa64", "movdqu", "movdqu64", "movups"
+MOVES = "mov", "movabs", "movdqa", "movdqa64", "movdqu", "movdqu64", "movups"
 WRITTEN = {
     **{name: move for name in MOVES},
-    "movzx": extend_zero, "pop": pop, "lea": load_address, "perm2i128": choose_halves,
-    "pmovwb": narrow, "pmovzxbw": extend_zeros, "pternlogq": combine_three, "pblendd": blend,
+    "movzx": extend_zero, "pop": lambda step: bytes_of(step.pop()), "lea": load_address, "perm2i128": choose_halves,
+    "pmovwb": narrow, "pmovmskb": signs_to_register, "pternlogq": combine_three, "pblendd": blend,
     "permi2q": partial(choose_lanes, 0, 1), "permt2q": partial(choose_lanes, 1, 0),
     **{name: partial(lanewise, size, function) for name, (size, function) in LANES.items()},
     **{name: partial(shift_lanes, size, function) for name, (size, function) in LANE_SHIFTS.items()},
@@ -470,12 +429,14 @@ WRITTEN = {
 }
 TABLE = {
     **{name: partial(write_result, function) for name, function in WRITTEN.items()},
-    "nop": do_nothing, "endbr64": do_nothing, "push": push, "zeroupper": zero_upper,
+    "nop": lambda step: None, "endbr64": lambda step: None, "push": lambda step: step.push(step.get(0)),
+    "zeroupper": zero_upper,
     **{name: partial(arithmetic, name) for name in ARITHMETIC},
     "cmp": partial(arithmetic, "sub", is_kept=False), "test": partial(arithmetic, "and", is_kept=False),
     "inc": partial(arithmetic, "add", counts=True), "dec": partial(arithmetic, "sub", counts=True),
+    "adc": add_carry, "neg": partial(arithmetic, "sub", negates=True), "imul": multiply_two, "div": divide,
+    "bzhi": keep_low_bits,
     **{name: partial(shift, function) for name, function in SHIFTS.items()},
     **{"set" + it: partial(set_if, it) for it in EACH}, **{"cmov" + it: partial(move_if, it) for it in EACH},
-    "ptest": partial(test_bits, 0), "testps": partial(test_bits, 4), "testpd": partial(test_bits, 8),
-    "ptestmd": partial(test_lanes, 4), "kortestw": partial(test_masks, 16),
+    "ptest": test_bits, "ptestmd": partial(test_lanes, 4), "kortestw": partial(test_masks, 16),
 }

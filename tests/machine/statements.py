@@ -1,18 +1,20 @@
-"""What must hold of a call of faster_hex.h, or of a call for Rust, for a source of one length. The call is executed
+"""What must hold of a call of faster_hex.h, or of a call for Rust, for a source of any length. The call is executed
 symbolically, and the state at the end of each path is compared with the definitions of hexadecimal.py."""
 import operator
 
 import z3
 
 from . import Refused, hexadecimal
-from .execution import DESTINATION, SOURCE, Machine, State, digit_at
+from .execution import Machine, valid_at
+from .loops import IS_LONG
+from .state import DESTINATION, LENGTH, POLICY, ROOM, SEPARATOR, SOURCE, State, difference
 from .values import X, Value, apply, bytes_of, constant, is_proved, joined, unknown
 
-DONE, ODD_LENGTH, TOO_SMALL, INVALID, _, UNKNOWN_POLICY = range(6)
+DONE, ODD_LENGTH, TOO_SMALL, INVALID, OVERFLOW, UNKNOWN_POLICY = range(6)
 # Stands for every number that is no policy.
 OTHER = 3
-# The registers of the arguments, in their order.
-REGISTERS = "rdi", "rsi", "rdx", "rcx", "r8"
+# The registers of the first arguments, in their order.
+REGISTERS = "rdi", "rsi", "rdx", "rcx", "r8", "r9"
 CALLS = {
     "check": "source length", "check_with_case": "source length policy", "first_invalid": "source length policy",
     "encode": "source length destination room upper", "decode": "source length destination room",
@@ -21,7 +23,13 @@ CALLS = {
 # Calls that only Rust has, each with its policy.
 POLICIES = {"check_lower": 1, "check_upper": 2}
 CALLS |= dict.fromkeys(POLICIES, "source length")
-ROOM, POLICY = Value(z3.BitVec("room", 64)), Value(z3.BitVec("policy", 8))
+ZERO = constant(0, 8)
+
+
+IS_ODD = Value(LENGTH.term & 1 == 1)
+# Twice the length is no number of 64 bits.
+IS_HUGE = Value(LENGTH.term < 0)
+IS_NO_POLICY = Value(z3.UGT(POLICY.term, hexadecimal.UPPERCASE))
 
 
 def is_valid_pointer(pointer, length):
@@ -30,78 +38,112 @@ def is_valid_pointer(pointer, length):
     return z3.And(z3.Or(pointer != 0, length == 0), z3.ULE(pointer, ~length))
 
 
-def is_no_policy(policy):
-    return z3.UGT(policy, hexadecimal.UPPERCASE)
-
-
 class Shown:
-    """The check of a call for one length and any room, under one policy, or for one case of letters. To make it is to
-    check it: if something does not hold, Refused is raised."""
+    """The check of a call for any length and any room, under one policy, or for one case of letters. To make it is to
+    check it: if something does not hold, Refused is raised. With `most`, only lengths up to that are checked."""
 
-    def __init__(self, image, build, call, length, policy, is_upper):
-        self.call, self.length, self.policy, self.is_upper = call, length, policy, is_upper
-        self.is_encoding, self.has_room = call == "encode", "room" in CALLS[call]
-        self.writes = 2 * length if self.is_encoding else length // 2 if call.startswith("decode") else 0
-        facts = (apply(is_valid_pointer, SOURCE, constant(length, 8)), apply(is_valid_pointer, DESTINATION, ROOM),
-                 apply(is_no_policy, POLICY))
-        self.machine = Machine(image, length, self.writes, None if self.is_encoding else policy % OTHER, facts)
-        of_build = (it for it in image.symbols if it.endswith(f"x86_64_{build}_{call}"))
-        state = State(image.symbols.get(f"faster_hex_{call}") or image.symbols[next(of_build)])
-        state.registers.update(zip(REGISTERS, map(self.argument, CALLS[call].split())))
+    def __init__(self, image, at, call, policy, is_upper, most=None):
+        self.set(call, policy, is_upper, LENGTH)
+        half = z3.LShR(LENGTH.term, 1) if self.has_room else z3.BitVecVal(0, 64)
+        self.writes = Value(z3.simplify(2 * LENGTH.term if self.is_encoding else half))
+        facts = [apply(is_valid_pointer, SOURCE, LENGTH), apply(is_valid_pointer, DESTINATION, ROOM), IS_NO_POLICY]
+        facts += [apply(z3.ULE, LENGTH, constant(most, 8))] if most is not None else []
+        self.run(image, at, lambda name: policy % OTHER, facts)
+        self.tests, self.long_tests = self.count(False), self.count(True)
+
+    def set(self, call, policy, is_upper, length):
+        self.call, self.policy, self.is_upper, self.length = call, policy, is_upper, length
+        self.is_encoding, self.has_room = call.startswith("encode"), "room" in CALLS[call]
+
+    def run(self, image, at, kind_of, facts):
+        """Executes the call, and checks the state at the end of each path."""
+        self.is_small = apply(z3.ULT, ROOM, self.writes)
+        kind_of = None if self.is_encoding else kind_of
+        self.machine = Machine(image, self.length, self.writes.term, kind_of, facts, self.check_byte)
+        self.machine.cases = self.cases()
+        state, words = State(at), CALLS[self.call].split()
+        state.registers.update(zip(REGISTERS, map(self.argument, words)))
+        for word in words[len(REGISTERS):]:
+            state.stack.update(enumerate(bytes_of(self.argument(word)), self.machine.above))
+            self.machine.above += 8
         self.ends = self.machine.run(state)
         for it in self.ends:
             self.check(it)
-        # The most branches on the bytes, on a path where all digits are valid.
-        self.tests = max(it.tests for it in self.ends if not it.refused)
-        if self.tests > (call == "first_invalid" or call.startswith("decode")):
+
+    def count(self, is_of_long):
+        """The most branches on bytes on a path where all digits are valid, for short sources or for long ones. Those in
+        turns of loops, which only long sources have, do not count."""
+        ends = [it for it in self.ends if not it.refused and (is_of_long or not self.machine.holds(it, Value(IS_LONG)))]
+        most = max([it.tests for it in ends], default=0)
+        if not is_of_long and most > (self.call == "first_invalid" or self.call.startswith("decode")):
             raise Refused("branches on valid digits more often than it may")
+        return most
 
     def argument(self, word):
         """The register of an argument. If the argument is one byte, the other bytes of the register are unknown."""
         policy = POLICY if self.policy == OTHER else constant(self.policy, 1)
-        byte = {"upper": constant(int(self.is_upper), 1), "policy": policy}.get(word)
-        known = {"source": SOURCE, "destination": DESTINATION, "room": ROOM, "length": constant(self.length, 8)}
+        byte = {"upper": constant(int(self.is_upper), 1), "policy": policy, "separator": SEPARATOR}.get(word)
+        known = {"source": SOURCE, "destination": DESTINATION, "room": ROOM, "length": self.length}
         return joined([byte, unknown("above an argument", 7)]) if byte else known[word]
 
-    def expected(self, state):
-        """The status, the number and the byte that the definitions give at the end of a path."""
-        if self.policy == OTHER:
-            return UNKNOWN_POLICY, 0, constant(0, 1)
-        if self.call.startswith("decode") and self.length % 2:
-            return ODD_LENGTH, 0, constant(0, 1)
-        is_small = apply(z3.ULT, ROOM, constant(self.writes, 8))
-        if self.has_room and self.machine.holds(state, is_small):
-            return TOO_SMALL, self.writes, constant(0, 1)
-        if self.has_room and not self.machine.holds(state, apply(z3.Not, is_small)):
-            raise Refused("does not look at the room")
-        if not state.refused:
-            return DONE, self.writes, constant(0, 1)
-        # The call may report a byte as the first invalid one only if the path knows two things: that all bytes before
-        # it are valid digits, and that it is not.
-        at = next(at for at, it in self.machine.source.items() if it.of[0] not in state.valid)
-        is_first = any(it - state.valid == {self.machine.source[at].of[0]} for it in state.refused)
-        return INVALID, at if is_first else None, self.machine.source[at]
+    def cases(self):
+        """The conditions that the definitions distinguish."""
+        return [IS_HUGE if self.is_encoding else IS_ODD, self.is_small] if self.has_room else []
 
     def check(self, state):
-        """Compares the end of a path with the definitions."""
-        status, number, byte = self.expected(state)
-        if len(state.written) != (self.writes if status == DONE else 0):
+        """Compares the end of a path with the definitions, for each case that these distinguish."""
+        states = [(state.copy(), [])]
+        for case in self.machine.cases:
+            states = [(it, [*known, holds]) for one, known in states for it, holds in self.machine.outcomes(one, case)]
+        for it, known in states:
+            self.check_case(it, *self.expected(it, *known))
+
+    def expected(self, state, is_no_length=False, is_small=False):
+        """The status and the number that the definitions give. If a digit is invalid, check_invalid has the number."""
+        if self.policy == OTHER:
+            return UNKNOWN_POLICY, ZERO
+        if is_no_length:
+            return OVERFLOW if self.is_encoding else ODD_LENGTH, ZERO
+        if is_small:
+            return TOO_SMALL, self.writes
+        return INVALID if state.refused else DONE, self.writes
+
+    def check_case(self, state, status, number):
+        is_done = status == DONE and self.has_room
+        if not (self.machine.covers(state, state.written, self.writes.term) if is_done else state.written == ()):
             raise Refused("writes too much or too little")
         if self.has_room or self.call == "first_invalid":
-            self.check_answer(state, status, number, byte)
+            self.check_answer(state, status, number)
         else:
             self.check_bool(state, status)
-        for at, it in state.written.items():
-            self.check_byte(at, it)
 
-    def check_answer(self, state, status, number, byte):
+    def is_equal(self, state, value, term):
+        return not value.of and self.machine.is_shown(state, value.term == term)
+
+    def is_valid(self, state, others=()):
+        return self.machine.covers(state, (*state.valid, *others), self.length.term)
+
+    def check_answer(self, state, status, number):
         """Compares a struct: the number is in rax, the status and the byte are in rdx."""
-        rdx = bytes_of(state.registers["rdx"])
-        reported = state.registers["rax"].number, rdx[0].number
-        if number is None or reported != (number, status) or not rdx[1].is_same(byte):
-            raise Refused("answers wrongly")
-        if status == DONE and state.valid != self.machine.names and not self.is_encoding:
+        rax, rdx = state.registers["rax"], bytes_of(state.registers["rdx"])
+        if not self.is_equal(state, rdx[0], z3.BitVecVal(status, 8)):
+            raise Refused("answers another status")
+        if status == INVALID:
+            self.check_invalid(state, rax, rdx[1])
+        elif not self.is_equal(state, rdx[1], z3.BitVecVal(0, 8)) or not self.is_equal(state, rax, number.term):
+            raise Refused("answers another number or byte")
+        elif status == DONE and not self.is_encoding and not self.is_valid(state):
             raise Refused("does not look at all digits")
+
+    def check_invalid(self, state, index, byte):
+        """A call may report a byte as the first invalid one only if the path knows two things: that all bytes before it
+        are valid digits, and that it is not."""
+        if index.of or not self.machine.covers(state, state.valid, index.term) \
+                or not self.machine.is_one_invalid(state, index.term):
+            raise Refused("reports another byte as the first invalid one")
+        if not byte.of or not byte.term.eq(X[0]) or byte.of[0][0] not in self.machine.terms \
+                or not self.machine.is_shown(state, self.machine.index(byte.of[0]) == index.term):
+            raise Refused("reports the first invalid byte as another one")
 
     def check_bool(self, state, status):
         """Checks that the result is true exactly if all digits are valid."""
@@ -109,42 +151,53 @@ class Shown:
         is_true, is_false = (apply(operator.eq, al, constant(it, 1)) for it in (1, 0))
         if not apply(z3.Not, is_true).is_same(is_false):
             raise Refused("answers neither true nor false")
-        if status == DONE and state.valid != self.machine.names:
+        if status == DONE and not self.is_valid(state):
             digits, sign = self.machine.asked(is_true)
-            if not sign or digits | state.valid != self.machine.names:
+            if not sign or not self.is_valid(state, self.machine.spans(digits)):
                 raise Refused("does not answer whether all digits are valid")
         elif not self.machine.holds(state, is_true if status == DONE else is_false):
             raise Refused("answers wrongly")
 
-    def check_byte(self, at, value):
-        """Checks a byte that was written: one that two digits stand for, or one of the two digits of a byte."""
-        names = [self.machine.source[it].of[0] for it in ([at // 2] if self.is_encoding else (2 * at, 2 * at + 1))]
-        if sorted(value.of) != sorted(names):
-            raise Refused(f"what is written at {at} depends on {value.of}")
-        places = [value.of.index(it) for it in names]
-        key = "written", value.id, *places, self.is_encoding, self.policy, self.is_upper, at % 2
-        if not is_proved(key, lambda: self.differs(value.term, places, at % 2)):
-            raise Refused(f"what is written at {at} is wrong")
+    def check_byte(self, state, at, value):
+        """Checks a byte that is written: one that two digits stand for, or one of the two digits of a byte."""
+        if len(value.of) != (1 if self.is_encoding else 2) or any(it[0] not in self.machine.terms for it in value.of):
+            raise Refused(f"what is written depends on {value.of}")
+        sides = [self.side(state, at, self.machine.index(it)) for it in value.of]
+        key = "written", value.id, *sides, self.is_encoding, self.policy, self.is_upper
+        if not is_proved(key, lambda: self.differs(value.term, sides)):
+            raise Refused("what is written is wrong")
 
-    def differs(self, term, places, digit):
+    def side(self, state, at, index):
+        """Which of the two digits of a byte is concerned, 0 or 1, for an index in the destination and one in the
+        source."""
+        term = at - 2 * index if self.is_encoding else index - 2 * at
+        number = difference(term, ZERO.term)
+        for it in range(2):
+            if number == it or number is None and self.machine.is_shown(state, term == it):
+                return it
+        raise Refused("what is written depends on other bytes")
+
+    def differs(self, term, sides):
         """Conditions that hold together only if a byte is not what the definitions give although the digits are
         valid."""
-        given = [X[it] for it in places]
         if self.is_encoding:
-            return [term != hexadecimal.digits_of(*given, self.is_upper)[digit]]
-        return [*[digit_at(it, self.policy) for it in places], term != hexadecimal.byte_of(*given)]
-
-    def __str__(self):
-        way = f", policy {self.policy if self.policy != OTHER else 'unknown'}" * ("policy" in CALLS[self.call])
-        way += f", {'upper' if self.is_upper else 'lower'} case" * self.is_encoding
-        refused = len([it for it in self.ends if it.refused])
-        return f"{self.call} of {self.length} bytes{way}: shown; {len(self.ends)} paths, {refused} of them with an " \
-               f"invalid digit, the others with {self.tests} branches on the bytes"
+            return [term != hexadecimal.digits_of(X[0], self.is_upper)[sides[0]]]
+        if sorted(sides) != [0, 1]:
+            raise Refused("what is written depends on one digit")
+        digits = [valid_at(it, self.policy) for it in range(2)]
+        return [*digits, term != hexadecimal.byte_of(*[X[sides.index(it)] for it in range(2)])]
 
 
-def shown(image, build, call, length):
-    """Checks a call for one length: under each policy and for all numbers that are none, or for both cases of
+def ways_of(call):
+    """The policies and the cases of letters for which a call is shown."""
+    policies = range(OTHER + 1) if "policy" in CALLS[call] else [POLICIES.get(call, 0)]
+    cases = (False, True) if "upper" in CALLS[call] else (False,)
+    return [(policy, is_upper) for policy in policies for is_upper in cases]
+
+
+def shown(image, build, call, most=None):
+    """Checks a call for every length: under each policy and for all numbers that are none, or for both cases of
     letters."""
-    for policy in range(OTHER + 1) if "policy" in CALLS[call] else [POLICIES.get(call, 0)]:
-        for is_upper in (False, True) if "upper" in CALLS[call] else (False,):
-            yield Shown(image, build, call, length, policy, is_upper)
+    for at in image.calls(build, call):
+        for policy, is_upper in ways_of(call):
+            yield Shown(image, at, call, policy, is_upper, most)

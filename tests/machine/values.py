@@ -46,12 +46,8 @@ def concat(*terms):
     return z3.Concat(*reversed(terms)) if len(terms) > 1 else terms[0]
 
 
-def extract_byte(at, term):
-    return z3.Extract(8 * at + 7, 8 * at, term)
-
-
 # A function for each place of a byte, since terms are kept by their function.
-BYTES = [functools.partial(extract_byte, at) for at in range(64)]
+BYTES = [lambda term, at=at: z3.Extract(8 * at + 7, 8 * at, term) for at in range(64)]
 
 
 def unknown(name, size=1):

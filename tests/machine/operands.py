@@ -1,0 +1,131 @@
+"""An instruction that is executed: how it reads and writes its operands."""
+import operator
+
+import z3
+
+from . import Refused
+from .instructions import ZERO, condition
+from .state import NONE, REGISTERS, STACK, VECTOR
+from .values import Value, apply, bytes_of, constant, joined
+
+
+EIGHT = constant(8, 8)
+
+
+def address_of(base, index, scale, distance):
+    return base + index * scale + distance
+
+
+class Step:
+    """An instruction and the state that executes it. An operand is named by its place among the operands, as Intel
+    orders them: the one that is written comes first."""
+
+    def __init__(self, machine, state, instruction):
+        self.machine, self.state, self.instruction = machine, state, instruction
+        self.operands, self.is_vex = instruction.operands, instruction.name[0] == "v"
+        self.name = instruction.name[self.is_vex:]
+
+    def size(self, at):
+        return self.operands[at].size
+
+    def number(self, at):
+        if self.operands[at].number is None:
+            raise Refused("not a number")
+        return self.operands[at].number
+
+    def vector(self, at):
+        """The bytes of an operand if it is a vector register, otherwise None."""
+        name = self.operands[at].register or ""
+        return self.state.vectors[int(name[3:])] if name[:3] in ("xmm", "ymm", "zmm") else None
+
+    @property
+    def width(self):
+        return self.size(0 if self.vector(0) else 1)
+
+    def condition(self, name):
+        """Whether a condition on the flags holds, as a Value. If it does not depend on the bytes, it is known: this
+        path takes one of the outcomes, and if there is another one, another path executes this instruction again."""
+        said = condition(self.state.flags, name)
+        if said.of:
+            return said
+        (_, holds), *others = self.machine.outcomes(self.state, said)
+        for it, _ in others:
+            it.at = self.instruction.at
+        self.machine.left += [it for it, _ in others]
+        return Value(z3.BoolVal(holds))
+
+    def address(self, at):
+        """The address of an operand in memory."""
+        base, index, scale, distance = self.operands[at].address
+        if base == "rip":
+            return constant(self.instruction.end + distance, 8)
+        base, index = (self.state.registers[it] if it else NONE for it in (base, index))
+        return apply(address_of, base, index, constant(scale, 8), constant(distance, 8))
+
+    def bytes(self, at, count):
+        """The first bytes of an operand."""
+        it = self.operands[at]
+        if it.number is not None:
+            return bytes_of(constant(it.number, count))
+        if it.address:
+            self.is_aligned(at, count)
+            size = it.size if it.is_repeated else count
+            return self.machine.load(self.state, self.address(at), size) * (count // size)
+        whole = self.vector(at) or bytes_of(self.state.registers[REGISTERS[it.register][0]])
+        return whole[:count]
+
+    def write(self, values):
+        """Writes the first operand. In a register the bytes above become zero if four bytes are written, in a vector if
+        the instruction is of AVX. Otherwise they are kept."""
+        if self.operands[0].address:
+            self.is_aligned(0, len(values))
+            self.machine.store(self.state, self.address(0), values)
+        elif vector := self.vector(0):
+            vector[:] = values + ([ZERO] * (VECTOR - len(values)) if self.is_vex else vector[len(values):])
+        else:
+            self.write_register(self.operands[0].register, values)
+
+    def write_register(self, register, values):
+        name, size = REGISTERS[register]
+        if size < 4 and len(values) != size:
+            raise Refused("not what the register holds")
+        above = bytes_of(self.state.registers[name])[size:] if size < 4 else [ZERO] * (8 - len(values))
+        self.state.registers[name] = joined(values + above)
+        if name == "rsp":
+            self.machine.lowers(self.state)
+
+    def get(self, at):
+        return joined(self.bytes(at, self.size(at if self.operands[at].number is None else 0)))
+
+    def set(self, value):
+        self.write(bytes_of(value))
+
+    def sources(self):
+        """The two vectors that an instruction combines. With AVX they come after the one that is written. With SSE the
+        first of them is written."""
+        return self.bytes(self.is_vex, self.width), self.bytes(1 + self.is_vex, self.width)
+
+    def is_aligned(self, at, count):
+        """Refuses an address that is not known to be aligned, where the instruction requires this: SSE and movdqa do,
+        for whole vectors. At the beginning the stack pointer is 8 bytes above an aligned address."""
+        is_asked = self.name.startswith("movdqa") or not self.is_vex and self.name not in ("movdqu", "movups")
+        if count >= 16 and is_asked:
+            base, distance = self.machine.place(self.address(at))
+            # The stack is known to be aligned to 16 bytes, and to no more.
+            is_known = base is None or base is STACK and count == 16
+            if not is_known or (distance + 8 * (base is STACK)) % count:
+                raise Refused("not aligned")
+
+    def push(self, value):
+        if value.term.size() != 64:
+            raise Refused("not eight bytes")
+        end = self.state.registers["rsp"] = apply(operator.sub, self.state.registers["rsp"], EIGHT)
+        self.machine.lowers(self.state)
+        self.machine.store(self.state, end, bytes_of(value))
+
+    def pop(self):
+        end = self.state.registers["rsp"]
+        value = joined(self.machine.load(self.state, end, 8))
+        self.state.registers["rsp"] = apply(operator.add, end, EIGHT)
+        self.machine.lowers(self.state)
+        return value
