@@ -19,11 +19,11 @@ OTHERS = {"CFLAGS=-O1 -g": 0, "CPPFLAGS=-DX='a  $$b'": 0, "LDFLAGS=-Wl,-O1": 0, 
 OTHERS |= {"CC=nonexistent": 2}
 # A file, a pattern, the text that replaces it, and what tests/header.sh then prints.
 DIFFERENCES = [
-    ("generated/PROVED", r"^sources \w", "sources z", "generated/PROVED is of other sources"),
+    ("generated/PROVED", r"^sources \w", "sources z", "generated/ is not made of these sources"),
     ("generated/fhex/PROVED", "^prover .*", "prover another", "does not name the prover another"),
     ("generated/rattle/PROVED", r"^callers .*\n", "", "generated/rattle/PROVED tells of"),
-    ("crates/callers/src/lib.rt", r"\Z", "\n", "generated/rattle/PROVED is of other sources"),
-    ("generated/x86-64.s", r"\A", "\n", "x86-64.s: FAILED"),
+    ("crates/callers/src/lib.rt", r"\Z", "\n", "generated/rattle/ is not made of these sources"),
+    ("generated/x86-64.s", r"\A", "\n", "generated/ has a file that is not as PROVED says"),
     ("crates/faster_hex_c/dispatch.c", r"^CALL\(bool, check, .*\n", "", "faster_hex_check"),
 ]
 # The tools that `make test` needs without Rattle and pytest.
