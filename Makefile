@@ -1,39 +1,44 @@
-# Builds the library and the programs from the assembly in generated/. This needs only GNU make and a C compiler.
+# Builds the library and the programs from the assembly in generated/. This needs only GNU make and
+# a C compiler.
 #
 # To build and install:
 #   make                     the library and the programs, into out/
 #   make lib                 only the library: libfaster_hex.a and libfaster_hex.so
 #   make fhex                only the program fhex
 #   make fhex-stream         only the program fhex-stream
-#   make install PREFIX=DIR  copies what was built into DIR. LIBDIR=DIR is for the libraries. DESTDIR=DIR is put
-#                            before both
+#   make install PREFIX=DIR  copies what was built into DIR. LIBDIR=DIR is for the libraries.
+#                            DESTDIR=DIR is put before both
 #   make uninstall           removes the same files, and takes the same variables
-#   make vendor DIR=DIR      copies the library for Rattle into the repository at DIR, with JSON=no only the crates
-#                            without JSON
+#   make vendor DIR=DIR      copies the library for Rattle into the repository at DIR, with JSON=no
+#                            only the crates without JSON
 #   make dist                packs the repository
 #   make clean               removes everything that was built
 #
 # To test and to change:
-#   make test-c              runs the tests in C, which need only a C compiler. RUN=COMMAND runs them by a command, for
-#                            instance under an emulator
-#   make test                proves all crates, runs their tests, tries the mutations that matter most, and runs the
-#                            examples and a quick part of make check. Without the Rattle toolchain it runs the tests
-#                            in C and that part of make check
-#   make check               runs all tests in tests/ by pytest, and skips those whose tools are not installed. With
-#                            RUST=DIR, a checkout of the Rust crate faster-hex 1.0.0, it compares the bindings with it
-#   make deep                make check, all mutations, proofs of the examples and the check of the machine code: run
-#                            it before a release
-#   make generate            proves the sources and writes generated/ again, with the Rattle toolchain
+#   make test-c              runs the tests in C, which need only a C compiler. RUN=COMMAND runs
+#                            them by a command, for instance under an emulator
+#   make test                proves all crates, runs their tests, tries the mutations that matter
+#                            most, and runs the examples and a quick part of make check. Without the
+#                            Rattle toolchain it runs the tests in C and that part of make check
+#   make check               runs all tests in tests/ by pytest, and skips those whose tools are not
+#                            installed. With RUST=DIR, a checkout of the Rust crate faster-hex
+#                            1.0.0, it compares the bindings with it
+#   make deep                make check, all mutations, proofs of the examples and the check of the
+#                            machine code: run it before a release
+#   make generate            proves the sources and writes generated/ again, with the Rattle
+#                            toolchain
 #
-# Variables of a build. If one of them other than AR differs from the last build, everything is built again:
+# Variables of a build. If one of them other than AR differs from the last build, everything is
+# built again:
 #   CC, CFLAGS, CPPFLAGS, LDFLAGS, AR
-#                            the usual meaning. A compiler for another system builds for that system: for Linux on
-#                            aarch64 into out/aarch64, for Windows into out/windows, and for macOS only the archive
+#                            the usual meaning. A compiler for another system builds for that
+#                            system: for Linux on aarch64 into out/aarch64, for Windows into
+#                            out/windows, and for macOS only the archive
 #   TARGET=aarch64           builds for Linux on aarch64 with the compiler aarch64-linux-gnu-gcc
-#   TARGET=portable          builds the libraries in plain C, which is not proved. A processor or a system without
-#                            assembly gets the same
-#   UNPROVED=yes             builds also if the sources or the assembly were changed after the proof.
-#                            faster_hex_version then ends with +unproved
+#   TARGET=portable          builds the libraries in plain C, which is not proved. A processor or a
+#                            system without assembly gets the same
+#   UNPROVED=yes             builds also if the sources or the assembly were changed after the
+#                            proof. faster_hex_version then ends with +unproved
 #
 # With make -s nothing is printed if all goes well.
 VERSION = 1.0.0
@@ -199,7 +204,7 @@ vendor:
 
 help:
 	@sed -n '/^[^#]/q; s/^# \{0,1\}//p' Makefile
-	@echo && sed -n '/^You changed/,/^$$/p' tests/README.md
+	@echo && awk -f scripts/help.awk tests/README.md
 
 clean:
 	rm -rf out crates/*/out

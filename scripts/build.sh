@@ -11,6 +11,7 @@
 # The script calls `rattle` and not `rt`, which has no command for this. It builds a library as its statements, so that
 # the crate above does not load its proofs. They are in out/statements, because `rt` overwrites out/rlib.
 set -eu
+case ${1-} in -h | --help) sed '1d; /^#/!q; s/^# \{0,1\}//' "$0" && exit ;; esac
 export LC_ALL=C
 
 target=$1

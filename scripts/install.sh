@@ -3,7 +3,9 @@
 # PREFIX/lib). DESTDIR is put before both. With --remove it removes the same files, and the library's own folders if
 # nothing else is in them. `make install` and `make uninstall` run it, and set VERSION, PROGRAMS, and OUT, which is the
 # folder where the files were built.
+# Usage: scripts/install.sh [--remove]
 set -eu
+case ${1-} in -h | --help) sed '1d; /^#/!q; s/^# \{0,1\}//' "$0" && exit ;; esac
 umask 022
 cd "$(dirname "$0")/.."
 

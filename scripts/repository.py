@@ -23,6 +23,13 @@ KEPT = CACHE / "libraries"
 MOST = 4
 
 
+def help(text):
+    """If the first argument asks for help, prints a script's text, and ends the script."""
+    if sys.argv[1:2] in (["-h"], ["--help"]):
+        print(text)
+        sys.exit()
+
+
 def lines_of(top=TOP):
     """The lines of a crates.txt, by the names of the crates."""
     lines = (Path(top) / "crates.txt").read_text().splitlines()
@@ -135,6 +142,7 @@ def copy(names, to, parts=None, top=TOP):
 
 
 def main():
+    help(__doc__)
     words = {"uses": lambda names: uses(*names), "below": below}
     if len(sys.argv) < 3 or sys.argv[1] not in words:
         sys.exit(__doc__)

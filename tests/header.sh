@@ -1,5 +1,6 @@
 #!/bin/sh
 # Checks facts that no proof covers. It prints each difference, and its status is then 1.
+# Usage: tests/header.sh
 #
 # - faster_hex.h and the functions that Rattle exports must agree: on the types and the order of the answer's fields,
 #   on the numbers of the statuses, and on the name, the result and the parameters of each function. A Source or a
@@ -9,6 +10,7 @@
 #   manual pages and in the names of generated/.
 # - Each PROVED in generated/ must fit the sources, its files, and the prover that README.md names.
 set -eu
+case ${1-} in -h | --help) sed '1d; /^#/!q; s/^# \{0,1\}//' "$0" && exit ;; esac
 
 cd "$(dirname "$0")/../crates/faster_hex_c"
 made=$(mktemp -d)
