@@ -171,7 +171,7 @@ def alone(made, build):
     exported = re.findall(r"^\thex_export\t(\w+)", (TOP / f"generated/{build}.s").read_text(), re.M)
     own, names = {it: named(it, build) for it in CALLS}, made / f"names-{build}"
     taken = {it: name if name in exported else named(it, "x86-64-v3") for it, name in own.items()}
-    names.write_text("\n".join(f"-Wl,--defsym={it}={name}" for it, name in taken.items()))
+    names.write_text("\n".join(f"-Wl,--defsym={it}={name}_of_c" for it, name in taken.items()))
     return f"@{names}"
 
 

@@ -8,11 +8,16 @@
 #include "assembly.h"
 #include "faster_hex.h"
 
-/* A build's call has the version in its name, so that no other version in the program has it. */
-#define JOIN(major, minor, patch, build, call) faster_hex_##major##_##minor##_##patch##_##build##_##call
-#define EXPAND(major, minor, patch, build, call) JOIN(major, minor, patch, build, call)
+/* The name of a build's call. It has the version, so that no other version in the program has the same name. Its end
+ * comes from builds.S, which says why. */
+#ifdef FASTER_HEX_UNPROVED
+#define JOIN(major, minor, patch, name) faster_hex_##major##_##minor##_##patch##_##name##_of_c_unproved
+#else
+#define JOIN(major, minor, patch, name) faster_hex_##major##_##minor##_##patch##_##name##_of_c
+#endif
+#define EXPAND(major, minor, patch, name) JOIN(major, minor, patch, name)
 #define OF(build, call) \
-    EXPAND(FASTER_HEX_VERSION_MAJOR, FASTER_HEX_VERSION_MINOR, FASTER_HEX_VERSION_PATCH, build, call)
+    EXPAND(FASTER_HEX_VERSION_MAJOR, FASTER_HEX_VERSION_MINOR, FASTER_HEX_VERSION_PATCH, build##_##call)
 /* Builds keep System V's convention on Windows too, where a DLL shows what faster_hex.def names. */
 #if defined __ELF__ || defined __MACH__
 #define BUILD __attribute__((visibility("hidden")))
