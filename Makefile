@@ -195,7 +195,7 @@ dist: $(CHECKED)
 
 install: $(if $(SYSTEM),,all)
 install uninstall:
-	$(if $(SYSTEM),$(error for $(SYSTEM) CMake installs, by -DFASTER_HEX_INSTALL=ON))
+	$(if $(SYSTEM),$(error for $(SYSTEM) CMake installs))
 	@VERSION=$(VERSION) OUT=$(OUT) PROGRAMS='$(if $(MADE_PROGRAMS),$(PROGRAMS))' \
 		scripts/install.sh $(if $(filter uninstall,$@),--remove)
 

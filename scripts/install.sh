@@ -58,7 +58,8 @@ for call in $(sed -n 's/^[a-z].*[ *]\(faster_hex_[a-z_]*\)(.*/\1/p' crates/faste
     place "$man/man3/$call.3" ln -s faster_hex.3
 done
 place "$doc/LICENSE" install -m 644 LICENSE
-for file in Cargo.toml LICENSE bindings/rust/README.md bindings/rust/src/*.rs generated/*.* generated/PROVED; do
+for file in Cargo.toml LICENSE bindings/rust/README.md bindings/rust/src/*.rs generated/*.s generated/*.inc \
+    generated/PROVED; do
     place "$own/rust/$file" install -m 644 "$file"
 done
 [ -z "$word" ] || find "${DESTDIR-}$doc" "${DESTDIR-}$own" "${DESTDIR-}$cmake" -depth -exec rmdir {} \; 2>/dev/null || :

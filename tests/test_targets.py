@@ -43,7 +43,7 @@ SOURCES_OF |= {"crates/faster_hex_c/*.map": SHARED[2], "crates/fhex/fhex.c": "fh
 FOLDERS = {"x86_64-linux-gnu": "out", "amd64-portbld-freebsd14": "out", "arm64-apple-darwin23": "out/macos/aarch64"}
 FOLDERS |= {"arm64-linux-gnu": "out/aarch64", "x86_64-linux-gnu CFLAGS=-m32": "out/i386"}
 FOLDERS |= {"riscv64-linux-gnu": "out/riscv64", "aarch64-linux-gnu TARGET=portable": "out/portable"}
-PAGES = {"CALLING.md", "DIFFERENCES.md", "proving.md", "security.md"}
+PAGES = {"CALLING.md", "CHANGELOG.md", "DIFFERENCES.md", "proving.md", "security.md"}
 
 
 def test_words_that_are_not_taken():
@@ -213,6 +213,12 @@ def has_parts(crate):
     assert (crate / "LICENSE").read_bytes() == (TOP / "LICENSE").read_bytes()
 
 
+def anchors(text):
+    """The names by which links reach the headings of a page."""
+    heads = re.findall(r"^#+ (.*)", text, re.M)
+    return {re.sub(r"[^\w -]", "", it).strip().lower().replace(" ", "-") for it in heads}
+
+
 def test_copies_of_vendor(tmp_path):
     """A copy with JSON, and then one without JSON in its place."""
     (tmp_path / "crates.txt").write_text("app: std")
@@ -222,7 +228,11 @@ def test_copies_of_vendor(tmp_path):
         assert listed[0] == "app: std" and len({*listed}) == len(listed)
         found = {it.name: it.read_text() for it in tmp_path.glob(f"crates/{last}/*.md")}
         assert {*found} == PAGES
-        assert {*re.findall(r"\]\(([^)]*\.md)\)", "".join(found.values()))} <= PAGES
+        for name, text in found.items():
+            for path, part in re.findall(r"\]\((?!\w+://)([^)#]*)#?([^)]*)\)", text):
+                assert {path or name} <= PAGES and (not part or part in anchors(found[path or name])), (name, path, part)
+        told = (tmp_path / "crates" / last / "VERSION").read_text()
+        assert re.fullmatch(rf"Bunkmedlar {VERSION}(, commit [0-9a-f]+(-dirty)?)?\n", told), told
         ignored = [it.read_text() for it in tmp_path.glob("crates/*/.gitignore")]
         assert ignored and all("\nout/\n" in it for it in ignored)
         for crate in {"hex_core", "hex_codec", "hex_io", last}:
@@ -230,6 +240,8 @@ def test_copies_of_vendor(tmp_path):
         (tmp_path / "crates/hex_core/of_the_user").touch()
     assert not (tmp_path / "crates/faster_hex").exists() and (tmp_path / "crates/hex_core/of_the_user").exists()
     assert "--no-json" in ran(make("-n", "vendor", "JSON=no")).stdout
+    done = ran(make("vendor"))
+    assert done.returncode == 2 and "DIR=FOLDER" in done.stdout and done.stdout.count("\n") <= 2
 
 
 def test_copy_of_vendor_over_another(tmp_path):
