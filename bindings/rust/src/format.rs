@@ -3,7 +3,7 @@
 use core::fmt::{self, Alignment, Write};
 use core::mem::MaybeUninit;
 
-use crate::library;
+use crate::encode::encode_into;
 
 /// The most bytes that are encoded at a time.
 const CHUNK: usize = 512;
@@ -113,7 +113,7 @@ fn front_of(f: &fmt::Formatter<'_>) -> &'static str {
 #[inline]
 fn write_chunk(bytes: &[u8], f: &mut fmt::Formatter<'_>, upper: bool) -> fmt::Result {
     let mut room = [MaybeUninit::uninit(); 2 * CHUNK];
-    f.write_str(library::encode(bytes, &mut room, upper).map_err(|_| fmt::Error)?)
+    f.write_str(encode_into(bytes, &mut room, upper).map_err(|_| fmt::Error)?)
 }
 
 fn write_copies(f: &mut fmt::Formatter<'_>, fill: char, mut count: usize) -> fmt::Result {
