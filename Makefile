@@ -56,18 +56,20 @@ ifeq ($(TARGET)$(origin CC),aarch64default)
 CC = aarch64-linux-gnu-gcc
 endif
 CFLAGS ?= -O2
-MACHINE := $(shell $(CC) -dumpmachine 2>/dev/null)
-PARTS := $(subst -, ,$(or $(MACHINE),$(or $(TARGET),$(shell uname -m))-linux))
-PROCESSOR := $(patsubst arm64,aarch64,$(patsubst amd64,x86_64,$(firstword $(PARTS))))
-PROCESSOR := $(if $(filter -m32,$(CC) $(CPPFLAGS) $(CFLAGS)),i386,$(PROCESSOR))
-# The systems for which the assembly was tried.
-TRIED := $(if $(filter android%,$(PARTS)),,$(filter linux freebsd% netbsd% darwin% mingw%,$(PARTS)))
+# assembly.h alone decides where there is assembly. The compiler says what follows from it, and for which system it makes
+# code. Without a compiler, as for `make install`, the target is that of the last build.
+ASKED := $(shell $(CC) $(CPPFLAGS) $(CFLAGS) -dM -E $(C)/assembly.h 2>/dev/null | sed -n '\
+	s/^.define FASTER_HEX_X86_64 .*/x86_64/p; s/^.define FASTER_HEX_AARCH64 .*/aarch64/p; \
+	s/^.define __APPLE__ .*/macos/p; s/^.define __MINGW32__ .*/windows/p; s/^.define __STDC__ .*/asked/p')
+ASSEMBLED := $(filter x86_64 aarch64,$(or $(ASKED),$(TARGET),$(subst amd64,x86_64,$(subst arm64,aarch64,$(shell uname -m)))))
+# Another processor gives the folder of its libraries its name.
+OTHER := $(filter-out x86_64 amd64 aarch64 arm64,$(firstword $(subst -, ,$(shell $(CC) $(CFLAGS) -dumpmachine 2>/dev/null))))
 ifeq ($(TARGET),)
-TARGET := $(if $(TRIED)$(filter-out x86_64 aarch64,$(PROCESSOR)),$(PROCESSOR),portable)
-else ifeq ($(filter $(PROCESSOR) portable,$(TARGET)),)
-$(error TARGET=$(TARGET), but $(CC) makes code for $(PROCESSOR))
+TARGET := $(or $(ASSEMBLED),$(OTHER),portable)
+else ifeq ($(filter $(ASSEMBLED) $(OTHER) portable,$(TARGET)),)
+$(error TARGET=$(TARGET), but $(CC) makes code for $(or $(ASSEMBLED),$(OTHER),a system without assembly))
 endif
-SYSTEM := $(if $(findstring mingw,$(MACHINE)),windows)$(if $(findstring apple,$(MACHINE)),macos)
+SYSTEM := $(filter windows macos,$(ASKED))
 
 OUT = out$(addprefix /,$(SYSTEM))$(addprefix /,$(filter-out x86_64,$(TARGET)))
 OBJECTS = $(OUT)/builds.o $(OUT)/dispatch.o
