@@ -2,7 +2,7 @@
  * for x86-64, and FASTER_HEX_AARCH64 for the one for aarch64. If neither is defined, the calls are those of
  * portable.h. Whoever defines FASTER_HEX_PORTABLE gets these on any processor.
  *
- * * C, assembly, CMake and the Makefile ask this file. bindings/rust/src/lib.rs says the same once more for Rust.
+ * C, assembly, CMake and the Makefile ask this file. bindings/rust/src/lib.rs says the same once more for Rust.
  * The systems are those of README.md: Linux, FreeBSD, NetBSD, macOS, and Windows by mingw. */
 #if !defined FASTER_HEX_PORTABLE && !defined __ILP32__ &&                                                  \
     ((defined __linux__ && !defined __ANDROID__) || defined __FreeBSD__ || defined __NetBSD__ ||           \

@@ -1,10 +1,10 @@
 /* The calls of faster_hex.h. Each runs a build in generated/, which was compiled from proved code. This file itself
  * is not proved.
  *
- * * For x86-64 there are four builds. A call uses the widest one that has the call and that the processor and the
+ * For x86-64 there are four builds. A call uses the widest one that has the call and that the processor and the
  * system can run. For aarch64 there is one build. Where assembly.h finds none, the calls are those of portable.h.
  *
- * * A constructor writes the level of the processor once. A call that is made before that, for example by another
+ * A constructor writes the level of the processor once. A call that is made before that, for example by another
  * constructor, uses the first build, which runs on each of these processors. The calls choose by branches and not
  * by pointers, so that a linker can leave out the calls that a program does not make. */
 #include "assembly.h"
