@@ -44,12 +44,19 @@ def shuffles_wide(text):
     return bool(re.search(r"\tvpermq|\tpunpck[lh]qdq|\tzip[12]\tv\d+\.2d", body_of(text, "encode")))
 
 
+# The functions by which each build checks long sources. That for vectors of 64 bytes is another one.
+LONG_CHECKS = dict.fromkeys(("x86-64-v2", "x86-64-v3", "aarch64"), {"core_plain_check_long"})
+LONG_CHECKS |= {"x86-64": set(), "x86-64-v4": {"core_plain_check_held"}}
+
+
 @pytest.mark.quick
-@pytest.mark.parametrize("build", [it for it in SPEAKS if it != "x86-64-v4"])
+@pytest.mark.parametrize("build", SPEAKS)
 def test_width_of_blocks(build):
     """Each build was told its own level, and `plan` of faster_hex_c gives that level the width of its vectors. With another
     one all results are right, and the calls are slower."""
-    assert shuffles_wide((GENERATED / f"{build}.s").read_text()) == (build == "x86-64-v3")
+    text = (GENERATED / f"{build}.s").read_text()
+    assert build == "x86-64-v4" or shuffles_wide(text) == (build == "x86-64-v3")
+    assert {*re.findall(r"^\thex_function\t\w+?_(core_plain_check_\w+),", text, re.M)} == LONG_CHECKS[build]
 
 
 @pytest.mark.parametrize("is_copy", [False, True])
