@@ -1,11 +1,11 @@
-"""Two copies of one version in one program, of which one was patched: the archive, and our crate in a library that Rust
-made for C. Each runs its own code, in each order of linking."""
+"""Two copies of one version in one program, of which one was patched. Each runs its own code, in each order of linking:
+the archive and our crate, in a library that Rust made for C, and two crates, if the patched one has other names."""
 import hashlib
 import re
 
 import pytest
 
-from commands import BY_SYSTEM, CC, RUSTC, make, needs, runs
+from commands import BY_SYSTEM, CC, RUSTC, TOP, make, needs, runs
 
 pytestmark = pytest.mark.quick
 OF_RUST = """
@@ -21,6 +21,13 @@ OF_C = """
 #include <stdio.h>
 bool check_of_rust(const void *src, size_t len);
 int main(void) { printf("%d %d\\n", faster_hex_check("00", 2), check_of_rust("00", 2)); }
+"""
+
+
+OF_BOTH = """
+fn main() {
+    println!("{} {}", plain::hex_check(b"00"), fixed::hex_check(b"00"));
+}
 """
 
 
@@ -48,11 +55,15 @@ def of_rust(top, made):
     return made / "libover.a"
 
 
-@pytest.mark.parametrize("which", ["archive", "archive, and its record", "crate"])
-def test_each_runs_its_own_code(tmp_path, copy, library, which):
+def needs_x86_64():
     needs(CC, RUSTC)
     if "x86_64" not in runs([CC, "-dumpmachine"]):
         pytest.skip("the compiler does not make code for x86-64")
+
+
+@pytest.mark.parametrize("which", ["archive", "archive, and its record", "crate"])
+def test_each_runs_its_own_code(tmp_path, copy, library, which):
+    needs_x86_64()
     plain, archive = of_rust(copy, tmp_path / "plain"), library / "libfaster_hex.a"
     patched(copy, "record" in which)
     if which == "crate":
@@ -65,3 +76,19 @@ def test_each_runs_its_own_code(tmp_path, copy, library, which):
         words = [CC, "-I", copy / "crates/faster_hex_c", tmp_path / "both.c", *order, *"-lpthread -ldl -lm -lgcc_s".split()]
         runs([*words, "-o", tmp_path / "both"])
         runs([tmp_path / "both"], out=wanted)
+
+
+@pytest.mark.parametrize("order", [["plain", "fixed"], ["fixed", "plain"]])
+def test_two_crates(tmp_path, copy, order):
+    """The commands on the package's page give a patched crate names of its own."""
+    needs_x86_64()
+    for words in re.findall("`(sed -i .*?)`", (TOP / "docs/release/README.md").read_text()):
+        runs(["sh", "-c", words], cwd=copy)
+    patched(copy, False)
+    tops, own = {"plain": TOP, "fixed": copy}, [RUSTC, "--edition", "2021", "--out-dir", tmp_path]
+    for name in order:
+        runs([*own, "--crate-type", "rlib", "--crate-name", name, tops[name] / "bindings/rust/src/lib.rs"])
+    (tmp_path / "both.rs").write_text(OF_BOTH)
+    libraries = [word for name in order for word in ("--extern", f"{name}={tmp_path}/lib{name}.rlib")]
+    runs([*own, *libraries, tmp_path / "both.rs"])
+    runs([tmp_path / "both"], out="true false\n")
