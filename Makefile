@@ -1,39 +1,44 @@
-# Builds the library and the programs from the assembly in generated/. This needs only GNU make and a C compiler.
+# Builds the library and the programs from the assembly in generated/. This needs only GNU make and
+# a C compiler.
 #
 # To build and install:
 #   make                     the library and the programs, into out/
 #   make lib                 only the library: libfaster_hex.a and libfaster_hex.so
 #   make fhex                only the program fhex
 #   make fhex-stream         only the program fhex-stream
-#   make install PREFIX=DIR  copies what was built into DIR. LIBDIR=DIR is for the libraries. DESTDIR=DIR is put
-#                            before both
+#   make install PREFIX=DIR  copies what was built into DIR. LIBDIR=DIR is for the libraries.
+#                            DESTDIR=DIR is put before both
 #   make uninstall           removes the same files, and takes the same variables
-#   make vendor DIR=DIR      copies the library for Rattle into the repository at DIR, with JSON=no only the crates
-#                            without JSON
+#   make vendor DIR=DIR      copies the library for Rattle into the repository at DIR, with JSON=no
+#                            only the crates without JSON
 #   make dist                packs the repository
 #   make clean               removes everything that was built
 #
 # To test and to change:
-#   make test-c              runs the tests in C, which need only a C compiler. RUN=COMMAND runs them by a command, for
-#                            instance under an emulator
-#   make test                proves all crates, runs their tests, tries the mutations that matter most, and runs the
-#                            examples and a quick part of make check. Without the Rattle toolchain it runs the tests
-#                            in C and that part of make check
-#   make check               runs all tests in tests/ by pytest, and skips those whose tools are not installed. With
-#                            RUST=DIR, a checkout of the Rust crate faster-hex 1.0.0, it compares the bindings with it
-#   make deep                make check, all mutations, proofs of the examples and the check of the machine code: run
-#                            it before a release
-#   make generate            proves the sources and writes generated/ again, with the Rattle toolchain
+#   make test-c              runs the tests in C, which need only a C compiler. RUN=COMMAND runs
+#                            them by a command, for instance under an emulator
+#   make test                proves all crates, runs their tests, tries the mutations that matter
+#                            most, and runs the examples and a quick part of make check. Without the
+#                            Rattle toolchain it runs the tests in C and that part of make check
+#   make check               runs all tests in tests/ by pytest, and skips those whose tools are not
+#                            installed. With RUST=DIR, a checkout of the Rust crate faster-hex
+#                            1.0.0, it compares the bindings with it
+#   make deep                make check, all mutations, proofs of the examples and the check of the
+#                            machine code: run it before a release
+#   make generate            proves the sources and writes generated/ again, with the Rattle
+#                            toolchain
 #
-# Variables of a build. If one of them other than AR differs from the last build, everything is built again:
+# Variables of a build. If one of them other than AR differs from the last build, everything is
+# built again:
 #   CC, CFLAGS, CPPFLAGS, LDFLAGS, AR
-#                            the usual meaning. A compiler for another system builds for that system: for Linux on
-#                            aarch64 into out/aarch64, for Windows into out/windows, and for macOS only the archive
+#                            the usual meaning. A compiler for another system builds for that
+#                            system: for Linux on aarch64 into out/aarch64, for Windows into
+#                            out/windows, and for macOS only the archive
 #   TARGET=aarch64           builds for Linux on aarch64 with the compiler aarch64-linux-gnu-gcc
-#   TARGET=portable          builds the libraries in plain C, which is not proved. A processor or a system without
-#                            assembly gets the same
-#   UNPROVED=yes             builds also if the sources or the assembly were changed after the proof.
-#                            faster_hex_version then ends with +unproved
+#   TARGET=portable          builds the libraries in plain C, which is not proved. A processor or a
+#                            system without assembly gets the same
+#   UNPROVED=yes             builds also if the sources or the assembly were changed after the
+#                            proof. faster_hex_version then ends with +unproved
 #
 # With make -s nothing is printed if all goes well.
 VERSION = 1.0.0
@@ -51,18 +56,20 @@ ifeq ($(TARGET)$(origin CC),aarch64default)
 CC = aarch64-linux-gnu-gcc
 endif
 CFLAGS ?= -O2
-MACHINE := $(shell $(CC) -dumpmachine 2>/dev/null)
-PARTS := $(subst -, ,$(or $(MACHINE),$(or $(TARGET),$(shell uname -m))-linux))
-PROCESSOR := $(patsubst arm64,aarch64,$(patsubst amd64,x86_64,$(firstword $(PARTS))))
-PROCESSOR := $(if $(filter -m32,$(CC) $(CPPFLAGS) $(CFLAGS)),i386,$(PROCESSOR))
-# The systems for which the assembly was tried.
-TRIED := $(if $(filter android%,$(PARTS)),,$(filter linux freebsd% netbsd% darwin% mingw%,$(PARTS)))
+# assembly.h alone decides where there is assembly. The compiler says what follows from it, and for which system it makes
+# code. Without a compiler, as for `make install`, the target is that of the last build.
+ASKED := $(shell $(CC) $(CPPFLAGS) $(CFLAGS) -dM -E $(C)/assembly.h 2>/dev/null | sed -n '\
+	s/^.define FASTER_HEX_X86_64 .*/x86_64/p; s/^.define FASTER_HEX_AARCH64 .*/aarch64/p; \
+	s/^.define __APPLE__ .*/macos/p; s/^.define __MINGW32__ .*/windows/p; s/^.define __STDC__ .*/asked/p')
+ASSEMBLED := $(filter x86_64 aarch64,$(or $(ASKED),$(TARGET),$(subst amd64,x86_64,$(subst arm64,aarch64,$(shell uname -m)))))
+# Another processor gives the folder of its libraries its name.
+OTHER := $(filter-out x86_64 amd64 aarch64 arm64,$(firstword $(subst -, ,$(shell $(CC) $(CFLAGS) -dumpmachine 2>/dev/null))))
 ifeq ($(TARGET),)
-TARGET := $(if $(TRIED)$(filter-out x86_64 aarch64,$(PROCESSOR)),$(PROCESSOR),portable)
-else ifeq ($(filter $(PROCESSOR) portable,$(TARGET)),)
-$(error TARGET=$(TARGET), but $(CC) makes code for $(PROCESSOR))
+TARGET := $(or $(ASSEMBLED),$(OTHER),portable)
+else ifeq ($(filter $(ASSEMBLED) $(OTHER) portable,$(TARGET)),)
+$(error TARGET=$(TARGET), but $(CC) makes code for $(or $(ASSEMBLED),$(OTHER),a system without assembly))
 endif
-SYSTEM := $(if $(findstring mingw,$(MACHINE)),windows)$(if $(findstring apple,$(MACHINE)),macos)
+SYSTEM := $(filter windows macos,$(ASKED))
 
 OUT = out$(addprefix /,$(SYSTEM))$(addprefix /,$(filter-out x86_64,$(TARGET)))
 OBJECTS = $(OUT)/builds.o $(OUT)/dispatch.o
@@ -190,7 +197,7 @@ dist: $(CHECKED)
 
 install: $(if $(SYSTEM),,all)
 install uninstall:
-	$(if $(SYSTEM),$(error for $(SYSTEM) CMake installs, by -DFASTER_HEX_INSTALL=ON))
+	$(if $(SYSTEM),$(error for $(SYSTEM) CMake installs))
 	@VERSION=$(VERSION) OUT=$(OUT) PROGRAMS='$(if $(MADE_PROGRAMS),$(PROGRAMS))' \
 		scripts/install.sh $(if $(filter uninstall,$@),--remove)
 
@@ -199,7 +206,7 @@ vendor:
 
 help:
 	@sed -n '/^[^#]/q; s/^# \{0,1\}//p' Makefile
-	@echo && sed -n '/^You changed/,/^$$/p' tests/README.md
+	@echo && awk -f scripts/help.awk tests/README.md
 
 clean:
 	rm -rf out crates/*/out

@@ -27,6 +27,17 @@
 #include "coff.inc"
 #endif
 
+/* The calls of the C library have other names than those of our Rust crate, and other ones again if they were not
+ * proved. A program may have a copy of each, and one of them may have been patched. Then each copy runs its own code. */
+	.purgem hex_export
+.macro hex_export name
+#ifdef FASTER_HEX_UNPROVED
+	hex_entry \name,\name\()_of_c_unproved
+#else
+	hex_entry \name,\name\()_of_c
+#endif
+.endm
+
 #ifdef FASTER_HEX_X86_64
 #include "x86-64.s"
 #include "x86-64-v2.s"

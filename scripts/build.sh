@@ -1,15 +1,17 @@
 #!/bin/sh
-# Proves a crate and those below it, lowest first, and builds of it, a static library or a program, the assembly
-# crates/NAME/out/assembly/BUILD.s of each build, as clang writes it: `scripts/generate` makes of it what is
-# committed. Of another library it builds nothing. What the last run proved is not proved again where its files,
-# and those of the crates below, are the same. What is said of each crate goes to build.log beside what is made, of
-# which the end is printed where something fails.
+# Proves a crate and those below it, lowest first. Of a static library or a program it builds the assembly of each build,
+# crates/NAME/out/assembly/BUILD.s, as clang writes it. `scripts/generate` makes of it what is committed. Of another
+# library it builds nothing.
+#
+# A crate that the last run proved is not proved again if all that its proof reads is the same. If a file of it changes
+# during the proof, the script fails, because then nobody knows which text was proved. The messages about a crate go into
+# build.log beside what was made. If something fails, the end of that file is printed.
 # Usage: scripts/build.sh NAME
 #
-# It calls `rattle` and not `rt`, which has no word for this: a library is built as its statements, so
-# that the crate above does not load its proofs. They stand in out/statements, since `rt` writes over
-# what it finds in out/rlib.
+# The script calls `rattle` and not `rt`, which has no command for this. It builds a library as its statements, so that
+# the crate above does not load its proofs. They are in out/statements, because `rt` overwrites out/rlib.
 set -eu
+case ${1-} in -h | --help) sed '1d; /^#/!q; s/^# \{0,1\}//' "$0" && exit ;; esac
 export LC_ALL=C
 
 target=$1
@@ -27,9 +29,10 @@ kind=statements
 ! grep -q "^$target staticlib:" crates.txt || kind=library
 [ ! -f "crates/$target/src/main.rt" ] || kind=program
 
-# The builds: a name, the architecture and its processor, and the number that `level` of faster_hex_c returns
-# there, by which all calls take their plan. A program is built for each architecture once. `rattle` takes no
-# processor with AVX-512: level 4 is proved for the processor of level 3, and clang alone is given its own.
+# The builds of a library or a program: a name, the architecture and its processor, and the number that `level` of
+# faster_hex_c returns there. By this number all calls of the library choose their plan. A program has one build for each
+# architecture. `rattle` knows no processor with AVX-512, so level 4 is proved for the processor of level 3, and only clang
+# is told of the other one.
 builds() {
     [ $kind = program ] || echo x86-64 x86_64 x86-64 1
     echo x86-64-v2 x86_64 x86-64-v2 2
@@ -38,37 +41,47 @@ builds() {
     echo aarch64 aarch64 generic 2
 }
 
-# What crates.txt says that a crate uses, and the crates of this repository below it and itself.
+# uses CRATE: the crates that it uses by its line in crates.txt.
 uses() {
     scripts/repository.py uses "$1"
 }
+# below CRATE: the crates of this repository that it depends on, and itself.
 below() {
     scripts/repository.py below "$1"
 }
 
-# is_built NAME: whether its assembly is built, and not what it states alone.
+# is_built CRATE: whether its assembly is built, and not only its statements.
 is_built() {
     [ "$1" = "$target" ] && [ $kind != statements ]
 }
 
-# sum_of NAME: a sum of the toolchain, of a crate and those below it, and for the target of this file.
+# sum_of CRATE: a hash of the toolchain and of all that its proof and its build read.
 sum_of() {
     {
-        ! is_built "$1" || cat scripts/build.sh
-        for it in $(below "$1"); do
-            echo "$version $it: $(uses "$it")"
-            scripts/checksum "$it"
-        done
-    } | cksum
+        ! is_built "$1" || cat scripts/build.sh scripts/clang-edited scripts/$kind.awk
+        echo "$version"
+        scripts/checksum $(below "$1")
+    } | sha256sum
 }
 
-# jobs_of NAME: one for each 500 lines, since each reads all libraries anew; at most four.
+# changed_since FILE CRATE: the files that its proof reads and that were changed after this file was written, also if they
+# were changed back.
+changed_since() {
+    set -- "$1" $(below "$2")
+    since=../$1
+    shift
+    (cd crates && find "$@" ../crates.txt ../HANDLES ! -regex '[^/]*/out/.*' -cnewer "$since" \
+        \( -name '*.rt' -o -name '*.antt' -o -name crates.txt -o -name HANDLES \))
+}
+
+# jobs_of CRATE: the number of jobs of its proof, one for each 500 lines and at most four. Each job reads all libraries
+# anew, so that more would take longer.
 jobs_of() {
     find "crates/$1/src" -name '*.rt' -exec cat {} + | awk -v most="$(nproc)" '
         END { jobs = 1 + int(NR / 500); if (most > 4) most = 4; print jobs < most ? jobs : most }'
 }
 
-# prove NAME ROOT WORD..: has `rattle` prove a crate, and build what the words ask for.
+# prove CRATE ROOT WORD..: has `rattle` prove a crate from its file ROOT, and build what the words ask for.
 prove() {
     name=$1
     root=$2
@@ -87,67 +100,22 @@ prove() {
         --links "$name=" --jobs "$jobs")
 }
 
-# edits: what awk edits in LLVM's text. A library has its level in place of the call of `level`, so that the
-# other plans vanish, and clang marks where an indirect branch may come out. Where it moves no instruction, on
-# x86-64, a debugger can walk out of each function. At level 4 the calls that do more than test and decode become
-# private, and vanish: there clang makes slower code of them. Of a program so does the toolchain's `main`; the
-# proved one, which it calls, is exported.
-edits() {
-    if [ $kind = library ]; then
-        cat <<'END'
-{ edits += gsub(/call i8 @"faster_hex_c::level"\(\)/, "add i8 0, " level) }
-level == 4 { sub(/"target-cpu"="x86-64-v3"/, "\"target-cpu\"=\"x86-64-v4\"") }
-level == 4 && /^define .*@faster_hex_(encode|decode_grouped|first_invalid)/ { sub(/^define /, "define internal ") }
-/^target triple = "x86_64/ { unwinds = 1 }
-/^attributes / && unwinds { sub(/ nounwind /, " nounwind uwtable ") }
-END {
-    mark = unwinds ? "cf-protection-branch" : "branch-target-enforcement"
-    print "!llvm.module.flags = !{!9999}\n!9999 = !{i32 8, !\"" mark "\", i32 1}"
-}
-END
-    else
-        cat <<'END'
-/^define .*@main\(/ { sub(/^define /, "define internal ") }
-/^define internal .*@"[a-z_]+::main\+start"\(/ { edits += sub(/ internal /, " ") }
-END
-    fi
-    echo '{ print }'
-    echo 'END { if (edits != 1) { print "build.sh: " edits + 0 " edits, and not one" >"/dev/stderr"; exit 1 } }'
-}
-
-# make_tools FOLDER ARCHITECTURE LEVEL: makes a toolchain there whose clang leaves as FOLDER/made.s what it
-# compiles once it is edited, and fails where there is not exactly one place for that. `rattle` clears the
-# environment.
+# make_tools FOLDER ARCHITECTURE LEVEL: makes a toolchain in this folder. Its clang is scripts/clang-edited, which leaves
+# the assembly as FOLDER/made.s. `rattle` clears the environment, so the arguments are in a program of two lines.
 make_tools() {
     rm -rf "$1/bin" "$1/lib"
     mkdir "$1/bin"
     ln -s "$kit"/toolchain/bin/* "$1/bin"
     ln -s "$kit/toolchain/lib" "$1/lib"
     rm "$1/bin/clang"
-    edits >"$1/edit.awk"
-    # A jump table would want a mark at each of its places.
-    tables=
-    [ $kind = program ] || tables='-mllvm -min-jump-table-entries=99'
     cat >"$1/bin/clang" <<END
-#!/bin/sh -eu
-compile() { "$kit/toolchain/bin/clang" "\$@" -Wno-unused-command-line-argument $tables; }
-case " \$* " in *" module.bc "*)
-    compile --target=$2-unknown-linux-gnu -S -emit-llvm -Xclang -disable-llvm-passes \\
-        -o whole.ll -x ir module.bc
-    awk -v level=$3 -f "$1/edit.awk" whole.ll >module.bc
-    # Only once the plan is inlined, the other plans vanish from functions that are not.
-    if [ $3 = 1 ]; then
-        compile "\$@" -S -emit-llvm -o once.ll
-        mv once.ll module.bc
-    fi
-esac
-compile "\$@"
-case " \$* " in *" -c "*) compile "\$@" -S -o "$1/made.s" -fno-addrsig -fno-verbose-asm ;; esac
+#!/bin/sh
+exec "$top/scripts/clang-edited" "$kit/toolchain/bin/clang" "$top/scripts/$kind.awk" "$2" "$3" "$1/made.s" "\$@"
 END
     chmod +x "$1/bin/clang"
 }
 
-# build_all NAME: the assembly of each build, each proved by itself.
+# build_all CRATE: proves and builds the assembly of each build. Each has a proof of its own.
 build_all() {
     what='src/lib.rt --crate-type staticlib'
     [ $kind = library ] || what=src/main.rt
@@ -159,7 +127,7 @@ build_all() {
     done
 }
 
-# build CRATE: its assembly, or its statements.
+# build CRATE: proves it, and builds its assembly or its statements.
 build() {
     if is_built "$1"; then
         build_all "$1"
@@ -182,13 +150,19 @@ for crate in $(below "$target"); do
     if [ -z "$anew" ] && [ "$sum" = "$(cat "$out/made-of" 2>/dev/null)" ]; then
         continue
     fi
-    # Statements fit only those that they were built over.
+    # The statements of a crate fit only the very ones that they were built over, so all crates above are built anew too.
     anew=1
     rm -rf "$out"
     mkdir -p "$out"
+    : >"$out/begun"
     log=$out/build.log
     build "$crate" >"$log" 2>&1
     log=/dev/null
+    changed=$(changed_since "$out/begun" "$crate")
+    if [ -n "$changed" ] || [ "$sum" != "$(sum_of "$crate")" ]; then
+        echo "build.sh: $crate was changed while it was proved, so the proof counts for nothing: run it again" $changed >&2
+        exit 1
+    fi
     echo "$sum" >"$out/made-of"
     echo "[$number/$all] $crate proved"
 done

@@ -3,7 +3,9 @@
 # PREFIX/lib). DESTDIR is put before both. With --remove it removes the same files, and the library's own folders if
 # nothing else is in them. `make install` and `make uninstall` run it, and set VERSION, PROGRAMS, and OUT, which is the
 # folder where the files were built.
+# Usage: scripts/install.sh [--remove]
 set -eu
+case ${1-} in -h | --help) sed '1d; /^#/!q; s/^# \{0,1\}//' "$0" && exit ;; esac
 umask 022
 cd "$(dirname "$0")/.."
 
@@ -56,7 +58,8 @@ for call in $(sed -n 's/^[a-z].*[ *]\(faster_hex_[a-z_]*\)(.*/\1/p' crates/faste
     place "$man/man3/$call.3" ln -s faster_hex.3
 done
 place "$doc/LICENSE" install -m 644 LICENSE
-for file in Cargo.toml LICENSE bindings/rust/README.md bindings/rust/src/*.rs generated/*.* generated/PROVED; do
+for file in Cargo.toml LICENSE bindings/rust/README.md bindings/rust/src/*.rs generated/*.s generated/*.inc \
+    generated/PROVED; do
     place "$own/rust/$file" install -m 644 "$file"
 done
 [ -z "$word" ] || find "${DESTDIR-}$doc" "${DESTDIR-}$own" "${DESTDIR-}$cmake" -depth -exec rmdir {} \; 2>/dev/null || :

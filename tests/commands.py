@@ -37,7 +37,7 @@ INSTALLED = """bin/fhex bin/fhex-stream share/man/man1/fhex.1 share/man/man1/fhe
     share/faster_hex/rust/LICENSE share/faster_hex/rust/bindings/rust/README.md share/man/man3/faster_hex.3
     share/doc/faster_hex/LICENSE""".split()
 INSTALLED += [f"lib/{name}" for name in SHARED] + [f"share/man/man3/{name}.3" for name in NAMES]
-OF_RUST = *TOP.glob("bindings/rust/src/*.rs"), *TOP.glob("generated/*.*"), TOP / "generated/PROVED"
+OF_RUST = *TOP.glob("bindings/rust/src/*.rs"), *TOP.glob("generated/*.[si]*"), TOP / "generated/PROVED"
 INSTALLED += [f"share/faster_hex/rust/{it.relative_to(TOP)}" for it in OF_RUST]
 # The seed of random lengths. It is new in each run, unless SEED is given.
 SEED = os.environ.get("SEED") or f"{random.SystemRandom().randrange(10 ** 9)}"
@@ -171,7 +171,7 @@ def alone(made, build):
     exported = re.findall(r"^\thex_export\t(\w+)", (TOP / f"generated/{build}.s").read_text(), re.M)
     own, names = {it: named(it, build) for it in CALLS}, made / f"names-{build}"
     taken = {it: name if name in exported else named(it, "x86-64-v3") for it, name in own.items()}
-    names.write_text("\n".join(f"-Wl,--defsym={it}={name}" for it, name in taken.items()))
+    names.write_text("\n".join(f"-Wl,--defsym={it}={name}_of_c" for it, name in taken.items()))
     return f"@{names}"
 
 

@@ -1,5 +1,6 @@
 #!/bin/sh
 # Checks facts that no proof covers. It prints each difference, and its status is then 1.
+# Usage: tests/header.sh
 #
 # - faster_hex.h and the functions that Rattle exports must agree: on the types and the order of the answer's fields,
 #   on the numbers of the statuses, and on the name, the result and the parameters of each function. A Source or a
@@ -9,6 +10,7 @@
 #   manual pages and in the names of generated/.
 # - Each PROVED in generated/ must fit the sources, its files, and the prover that README.md names.
 set -eu
+case ${1-} in -h | --help) sed '1d; /^#/!q; s/^# \{0,1\}//' "$0" && exit ;; esac
 
 cd "$(dirname "$0")/../crates/faster_hex_c"
 made=$(mktemp -d)
@@ -69,19 +71,16 @@ versions | awk -v wanted="$wanted" '
     $2 != wanted { print $1 ": version " $2 ", and not " wanted " as in the Makefile"; wrong = 1 }
     END { exit wrong }' || status=1
 
-# proved FOLDER CRATE: checks the PROVED of a folder. It must list the proofs of the crate and of all crates below it,
-# from these sources and by a prover with the logic that README.md names, and the hashes of the folder's files.
+# proved FOLDER CRATE: checks the PROVED of a folder. It must list the proofs of the crate and of all crates below it, by
+# a prover with the logic that README.md names. scripts/check-generated compares it with the sources and the files.
 proved() {
     crates=$(scripts/repository.py below "$2" | sort)
     told=$(sed -n 's/ logic=proved .*//p' "$1/PROVED" | sort -u)
     [ "$told" = "$crates" ] || { echo "$1/PROVED tells of" $told ", and not of" $crates && return 1; }
-    grep -qxF "sources $(scripts/checksum $crates)" "$1/PROVED" ||
-        { echo "$1/PROVED is of other sources: \`make generate\` makes it anew" && return 1; }
     prover=$(sed -n 's/^prover //p' "$1/PROVED")
     grep -qF "\`logic ${prover#* logic }\`" README.md ||
         { echo "README.md does not name the prover $prover" && return 1; }
-    sed -n 's/^sha256 //p' "$1/PROVED" >"$made/sums"
-    [ ! -s "$made/sums" ] || (cd "$1" && sha256sum -c --quiet "$made/sums")
+    UNPROVED= scripts/check-generated "$1" 2>&1
 }
 cd ../..
 proved generated faster_hex_c || status=1

@@ -73,6 +73,18 @@ def program_over(folder, source, *dependencies):
     return folder
 
 
+@pytest.mark.quick
+@pytest.mark.parametrize("flags", ["", "--cfg faster_hex_portable"])
+def test_units(tmp_path, flags):
+    """The tests in the crate itself, and its front page, by the assembly and by the plain calls. No registry is needed."""
+    needs(CARGO)
+    crate = packed(tmp_path)
+    without(crate / "Cargo.toml", OF_SERDE)
+    env = {**os.environ, "ROUNDS": "2000", "RUSTFLAGS": flags, "RUSTDOCFLAGS": flags}
+    passes([CARGO, *TEST, "std", "--lib"], cwd=crate, env=env)
+    passes([CARGO, *TEST, "std", "--doc", "src/lib.rs"], cwd=crate, env=env)
+
+
 @pytest.mark.parametrize("features", ["", "alloc", "std", "serde"])
 def test_doc_comments(cargo, package, features):
     needs_crates(*{"serde": OF_SERDE[:2]}.get(features, []))

@@ -8,7 +8,7 @@ from commands import CC, OF_PROOFS, TOP, needs, ran, runs
 
 GENERATED = TOP / "generated"
 # A pattern that must be in each build's assembly, and one that must not.
-SPEAKS = {"x86-64": ("%rax", "pshufb|%ymm|%zmm"), "x86-64-v2": ("\tpshufb", "%ymm|%zmm")}
+SPEAKS = {"x86-64": ("%rax", "pshufb|%xmm|%ymm|%zmm"), "x86-64-v2": ("\tpshufb", "%ymm|%zmm")}
 SPEAKS |= {"x86-64-v3": ("\tvpshufb\t.*%ymm", "%zmm"), "x86-64-v4": ("\tvptestm.*%zmm", "_encode|_grouped")}
 # The calls that the build for AVX-512 has.
 OF_V4 = ["check", "check_lower", "check_upper", "check_with_case", "decode", "decode_with_case"]
@@ -20,15 +20,43 @@ CRATES = "hex_core", "hex_codec"
 TESTS = re.compile("(cmp|test|add|sub|inc|dec|and)[bwlq]?$")
 
 
+@pytest.mark.quick
 @pytest.mark.parametrize("build", SPEAKS)
 def test_processor(build):
     text, (some, none) = (GENERATED / f"{build}.s").read_text(), SPEAKS[build]
     assert re.search(some, text) and not re.search(none, text)
 
 
+@pytest.mark.quick
 def test_calls_of_the_build_for_avx512():
     exported = re.findall(r"^\thex_export\t\w+_x86_64_v4_(\w+)$", (GENERATED / "x86-64-v4.s").read_text(), re.M)
     assert sorted(exported) == OF_V4
+
+
+def body_of(text, call):
+    """The instructions of the function that others call by this name."""
+    return re.search(rf"^\thex_export\t\w+(?:64|v\d)_{call}\n(.*?)^\thex_end", text, re.M | re.S)[1]
+
+
+def shuffles_wide(text):
+    """Whether the build encodes blocks of 32 bytes. Only then it exchanges the middle quarters of the digits of 16 bytes
+    with each other, in one instruction or in several."""
+    return bool(re.search(r"\tvpermq|\tpunpck[lh]qdq|\tzip[12]\tv\d+\.2d", body_of(text, "encode")))
+
+
+# The functions by which each build checks long sources. That for vectors of 64 bytes is another one.
+LONG_CHECKS = dict.fromkeys(("x86-64-v2", "x86-64-v3", "aarch64"), {"core_plain_check_long"})
+LONG_CHECKS |= {"x86-64": set(), "x86-64-v4": {"core_plain_check_held"}}
+
+
+@pytest.mark.quick
+@pytest.mark.parametrize("build", SPEAKS)
+def test_width_of_blocks(build):
+    """Each build was told its own level, and `plan` of faster_hex_c gives that level the width of its vectors. With another
+    one all results are right, and the calls are slower."""
+    text = (GENERATED / f"{build}.s").read_text()
+    assert build == "x86-64-v4" or shuffles_wide(text) == (build == "x86-64-v3")
+    assert {*re.findall(r"^\thex_function\t\w+?_(core_plain_check_\w+),", text, re.M)} == LONG_CHECKS[build]
 
 
 @pytest.mark.parametrize("is_copy", [False, True])

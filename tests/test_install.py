@@ -4,7 +4,7 @@ import re
 
 import pytest
 
-from commands import (ARM_CC, BY_SYSTEM, HELLO, INSTALLED, SHARED, TOP, VERSION, WINDOWS_CC, copied, has_files, make,
+from commands import (ARM_CC, BY_SYSTEM, HELLO, INSTALLED, PRINTED, SHARED, TOP, VERSION, WINDOWS_CC, copied, has_files, make,
                       needs, only, own_files, ran, runs)
 
 pytestmark = pytest.mark.quick
@@ -47,6 +47,28 @@ def test_files_that_anybody_may_read(tmp_path, top, env, word):
         runs([there / "bin" / program, "encode"], out=HELLO, input="hello")
     runs(make("uninstall", f"PREFIX={there}", *word, top=top), out="", err="", env=env)
     assert not files_below(there)
+
+
+def test_pages_that_stand_alone(tmp_path, top, env):
+    """No link of an installed page leads to a file that is not installed."""
+    runs(make("install", f"PREFIX={tmp_path}", top=top), env=env)
+    pages = [*tmp_path.rglob("*.md")]
+    for page in pages:
+        links = re.findall(r"\]\((?!\w+://)([^)#]+)[^)]*\)", page.read_text())
+        assert not [it for it in links if not (page.parent / it).resolve().exists()], page
+    assert pages
+
+
+def test_library_of_copied_files(tmp_path):
+    """The sentence on the package's page names all files of the C library, and the command that builds it."""
+    text = (TOP / "docs/release/README.md").read_text()
+    told = re.search(r"^- Without installing: copy (.*?) with their folders .* These are (\d+) files .* Then `(cc .*?)`", text, re.M)
+    files = [it.relative_to(TOP) for pattern in re.findall("`(.*?)`", told[1]) for it in TOP.glob(pattern)]
+    assert len(files) == int(told[2])
+    copied(files, tmp_path)
+    (tmp_path / "prog.c").write_text((TOP / "examples/c/digits.c").read_text())
+    runs(told[3].split(), cwd=tmp_path)
+    runs([tmp_path / "a.out"], out=PRINTED)
 
 
 def test_files_of_others(tmp_path, top, env):

@@ -165,9 +165,8 @@ def test_a_kept_library_of_other_sources_is_not_used(tmp_path):
     needs("rt")
     kept, env = tmp_path / "faster_hex/libraries", {**os.environ, "XDG_CACHE_HOME": str(tmp_path)}
     used = lambda: runs([sys.executable, "-c", KEPT], cwd=TOP / "scripts", env=env).split("\n", 1)
-    kept.mkdir(parents=True)
     before, identity = used()
-    (kept / "hex_core.of").write_text(identity)
-    same = used()[0]
-    (kept / "hex_core.of").write_text(f"{identity}0")
-    assert (before, same, used()[0]) == ("False", "True", "False")
+    (kept / f"hex_core-{identity}0").mkdir(parents=True)
+    other = used()[0]
+    (kept / f"hex_core-{identity}").mkdir()
+    assert (before, other, used()[0]) == ("False", "False", "True")

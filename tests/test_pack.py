@@ -28,11 +28,13 @@ DEBIAN |= {"changelog": """digits (1.0.0) unstable; urgency=low
  -- nobody <nobody@example.org>  Sun, 29 Nov 2026 00:00:00 +0000
 """, "rules": """#!/usr/bin/make -f
 %:
-	{}
-
-override_dh_auto_install:
-	dh_auto_install -- PREFIX=/usr
+	dh $@{}
 """}
+# How a package is built: the words of the package's page, and what must be added to them.
+WAYS = {"make": (" --buildsystem=makefile", "\n\noverride_dh_auto_install:\n\tdh_auto_install -- PREFIX=/usr")}
+WAYS |= {"cmake": (" --buildsystem=cmake", "")}
+# What CMake adds: a file for each way to build.
+OF_CMAKE = r"/cmake/faster_hex/faster_hexConfig-\w+\.cmake"
 # The tools that may build, test and install a pack.
 TOOLS = f"""sh make date {CC} {CXX} gcc clang musl-gcc {ARM_CC} qemu-aarch64 ar as ld cp ln rm mv mkdir install cat
     sed grep sort dirname ls rmdir find xargs sha256sum cut cmake pkg-config {CARGO} {RUSTC} env uname"""
@@ -193,7 +195,10 @@ def has_all(there, *programs):
 def test_what_cmake_installs(tmp_path, top, env, of_cmake):
     """The libraries have the properties of those that `make` builds. The archive can be linked into a shared library
     too."""
-    has_all(of_cmake, f"lib/{SHARED[1]}", "bin/fhex")
+    has_files(of_cmake, [*INSTALLED, *(str(it.relative_to(of_cmake)) for it in of_cmake.glob("lib/cmake/*/*-*.cmake"))])
+    for name in "pkgconfig/faster_hex.pc", "../share/man/man3/faster_hex_encode.3":
+        by_make = (top.parent / "there/lib" / name).read_text().replace(f"{top}/here", f"{of_cmake}")
+        assert (of_cmake / "lib" / name).read_text() == by_make
     by_cmake(top / "examples/c", tmp_path / "over", f"-DCMAKE_PREFIX_PATH={of_cmake}", env=env)
     is_locked(of_cmake / "lib" / SHARED[2])
     shows_names(of_cmake / "lib" / SHARED[2])
@@ -228,18 +233,20 @@ def test_version_that_cmake_asks_for(tmp_path, top, of_cmake, version, is_of_mak
     runs(words, VERSIONS[version])
 
 
-def test_debian_package(tmp_path, pack):
-    """Built by the command for debhelper on the package's page, the package has all files."""
-    needs("dh", "dpkg-deb")
+@pytest.mark.parametrize("way", WAYS)
+def test_debian_package(tmp_path, pack, way):
+    """Built by debhelper in either way, the package has all files."""
+    needs("dh", "dpkg-deb", way)
     top = unpacked(pack, tmp_path)
-    words = re.search(r"`(dh \$@ .*?)`", (top / "docs/release/README.md").read_text())[1]
+    assert f"`dh $@{WAYS[way][0]}`" in (top / "docs/release/README.md").read_text()
     (top / "debian").mkdir()
     for name, text in DEBIAN.items():
-        (top / "debian" / name).write_text(text.format(words))
+        (top / "debian" / name).write_text(text.format("".join(WAYS[way])))
     (top / "debian/rules").chmod(0o755)
     runs(["debian/rules", "binary"], cwd=top, env={**BY_SYSTEM, "HOME": f"{tmp_path}", "DEB_BUILD_OPTIONS": "nocheck"})
     found = {re.sub(r"\.gz$", "", str(it.relative_to(top / "debian/digits/usr")))
              for it in (top / "debian/digits/usr").rglob("*") if not it.is_dir()}
+    found = {re.sub("^lib/[^/]*-linux-gnu[^/]*/", "lib/", it) for it in found if not re.search(OF_CMAKE, it)}
     assert found - {"share/doc/digits/changelog"} == {*INSTALLED}
 
 

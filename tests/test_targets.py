@@ -8,7 +8,7 @@ import time
 
 import pytest
 
-from commands import (BY_SYSTEM, SHARED, TOP, VERSION, is_locked, make, needs_clone, only, ran, runs,
+from commands import (BY_SYSTEM, SHARED, TOP, VERSION, is_locked, make, needs, needs_clone, only, ran, runs,
                       stands_alone)
 
 pytestmark = pytest.mark.quick
@@ -19,31 +19,31 @@ OTHERS = {"CFLAGS=-O1 -g": 0, "CPPFLAGS=-DX='a  $$b'": 0, "LDFLAGS=-Wl,-O1": 0, 
 OTHERS |= {"CC=nonexistent": 2}
 # A file, a pattern, the text that replaces it, and what tests/header.sh then prints.
 DIFFERENCES = [
-    ("generated/PROVED", r"^sources \w", "sources z", "generated/PROVED is of other sources"),
+    ("generated/PROVED", r"^sources \w", "sources z", "generated/ is not made of these sources"),
     ("generated/fhex/PROVED", "^prover .*", "prover another", "does not name the prover another"),
     ("generated/rattle/PROVED", r"^callers .*\n", "", "generated/rattle/PROVED tells of"),
-    ("crates/callers/src/lib.rt", r"\Z", "\n", "generated/rattle/PROVED is of other sources"),
-    ("generated/x86-64.s", r"\A", "\n", "x86-64.s: FAILED"),
+    ("crates/callers/src/lib.rt", r"\Z", "\n", "generated/rattle/ is not made of these sources"),
+    ("generated/x86-64.s", r"\A", "\n", "generated/ has a file that is not as PROVED says"),
     ("crates/faster_hex_c/dispatch.c", r"^CALL\(bool, check, .*\n", "", "faster_hex_check"),
 ]
 # The tools that `make test` needs without Rattle and pytest.
 TOOLS = """sh make date cc as ld ar mv mkdir rm cp cat grep sed sort find xargs sha256sum cut dirname uname nproc"""
-# Targets that a compiler may name. Whether the libraries are plain C there, and whether fhex is built.
-SYSTEMS = dict.fromkeys(("x86_64-linux-gnu", "aarch64-alpine-linux-musl", "amd64-unknown-freebsd14.0"), (False, True))
-SYSTEMS |= {"x86_64-w64-mingw32": (False, True), "arm64-apple-darwin23": (False, False)}
-SYSTEMS |= dict.fromkeys(("x86_64-unknown-openbsd7.4", "x86_64-pc-solaris2.11", "aarch64-none-linux-android21"),
-                         (True, False))
+# Targets of clang. The folder into which `make` builds, and whether it builds fhex.
+SYSTEMS = {"x86_64-linux-gnu": ("out", True), "amd64-portbld-freebsd14": ("out", True)}
+SYSTEMS |= dict.fromkeys(("aarch64-alpine-linux-musl", "arm64-linux-gnu"), ("out/aarch64", True))
+SYSTEMS |= {"x86_64-w64-mingw32": ("out/windows", True), "arm64-apple-macos11": ("out/macos/aarch64", False)}
+SYSTEMS |= {"x86_64-linux-gnu CFLAGS=-m32": ("out/i386", False), "riscv64-linux-gnu": ("out/riscv64", False)}
+SYSTEMS |= dict.fromkeys(("x86_64-unknown-openbsd7.4", "x86_64-pc-solaris2.11", "aarch64-none-linux-android21",
+                          "x86_64-linux-gnux32"), ("out/portable", False))
+SYSTEMS["arm64-apple-ios14"] = "out/macos/portable", False
+SYSTEMS["x86_64-linux-gnu TARGET=portable"] = "out/portable", False
 WARNINGS = {f"warning: {folder}/ {what}" for folder in ("generated", "generated/fhex", "generated/fhex-stream")
             for what in ("is not made of these sources", "has a file that is not as PROVED says")}
 # The files that are built again if one of these files is newer.
 SOURCES_OF = {"generated/*.[sS]": "builds.o", "generated/*.inc": "builds.o fhex.o", "generated/fhex/*.[sS]": "fhex.o"}
 SOURCES_OF |= {"crates/faster_hex_c/assembly.h": "builds.o dispatch.o", "crates/faster_hex_c/*.[ch]": "dispatch.o"}
 SOURCES_OF |= {"crates/faster_hex_c/*.map": SHARED[2], "crates/fhex/fhex.c": "fhex"}
-# The folder into which `make` builds, for a target that a compiler names and the user's variables.
-FOLDERS = {"x86_64-linux-gnu": "out", "amd64-portbld-freebsd14": "out", "arm64-apple-darwin23": "out/macos/aarch64"}
-FOLDERS |= {"arm64-linux-gnu": "out/aarch64", "x86_64-linux-gnu CFLAGS=-m32": "out/i386"}
-FOLDERS |= {"riscv64-linux-gnu": "out/riscv64", "aarch64-linux-gnu TARGET=portable": "out/portable"}
-PAGES = {"CALLING.md", "DIFFERENCES.md", "proving.md", "security.md"}
+PAGES = {"CALLING.md", "CHANGELOG.md", "DIFFERENCES.md", "proving.md", "security.md"}
 
 
 def test_words_that_are_not_taken():
@@ -126,14 +126,19 @@ def test_header(copy, name, old, new, told):
 
 
 @pytest.mark.parametrize("system", SYSTEMS)
-def test_systems(tmp_path, system):
-    """On systems other than those in README.md the libraries are plain C, and there is no fhex."""
-    compiler = tmp_path / "cc"
-    compiler.write_text(f"#!/bin/sh\necho {system}\n")
-    compiler.chmod(0o755)
-    said = ran(make("-n", f"CC={compiler}")).stdout
-    assert "libfaster_hex.a" in said
-    assert (" -DFASTER_HEX_PORTABLE" in said, "/fhex" in said) == SYSTEMS[system]
+def test_systems(system):
+    """`make` builds with assembly exactly where assembly.h has some, also with options that change the processor. On other
+    systems and processors the libraries are plain C, and there is no fhex."""
+    needs("clang")
+    target, *words = system.split()
+    compiler, (folder, has_programs) = f"clang -target {target}", SYSTEMS[system]
+    said = runs(make("-n", f"CC={compiler}", *words))
+    assert {*re.findall(r" -o (\S+)/builds\.o", said)} == {folder} and ("/fhex" in said) == has_programs
+    options = [it.partition("=")[2] for it in words if it.startswith("CFLAGS")]
+    options += ["-DFASTER_HEX_PORTABLE"] * (" -DFASTER_HEX_PORTABLE" in said)
+    told = runs([*compiler.split(), *options, "-dM", "-E", TOP / "crates/faster_hex_c/assembly.h"])
+    assert ("#define FASTER_HEX_X86_64" in told or "#define FASTER_HEX_AARCH64" in told) == (
+        folder.rpartition("/")[2] in ("out", "aarch64", "windows"))
 
 
 def test_other_sources(copy):
@@ -213,6 +218,12 @@ def has_parts(crate):
     assert (crate / "LICENSE").read_bytes() == (TOP / "LICENSE").read_bytes()
 
 
+def anchors(text):
+    """The names by which links reach the headings of a page."""
+    heads = re.findall(r"^#+ (.*)", text, re.M)
+    return {re.sub(r"[^\w -]", "", it).strip().lower().replace(" ", "-") for it in heads}
+
+
 def test_copies_of_vendor(tmp_path):
     """A copy with JSON, and then one without JSON in its place."""
     (tmp_path / "crates.txt").write_text("app: std")
@@ -222,7 +233,11 @@ def test_copies_of_vendor(tmp_path):
         assert listed[0] == "app: std" and len({*listed}) == len(listed)
         found = {it.name: it.read_text() for it in tmp_path.glob(f"crates/{last}/*.md")}
         assert {*found} == PAGES
-        assert {*re.findall(r"\]\(([^)]*\.md)\)", "".join(found.values()))} <= PAGES
+        for name, text in found.items():
+            for path, part in re.findall(r"\]\((?!\w+://)([^)#]*)#?([^)]*)\)", text):
+                assert {path or name} <= PAGES and (not part or part in anchors(found[path or name])), (name, path, part)
+        told = (tmp_path / "crates" / last / "VERSION").read_text()
+        assert re.fullmatch(rf"Bunkmedlar {VERSION}(, commit [0-9a-f]+(-dirty)?)?\n", told), told
         ignored = [it.read_text() for it in tmp_path.glob("crates/*/.gitignore")]
         assert ignored and all("\nout/\n" in it for it in ignored)
         for crate in {"hex_core", "hex_codec", "hex_io", last}:
@@ -230,6 +245,8 @@ def test_copies_of_vendor(tmp_path):
         (tmp_path / "crates/hex_core/of_the_user").touch()
     assert not (tmp_path / "crates/faster_hex").exists() and (tmp_path / "crates/hex_core/of_the_user").exists()
     assert "--no-json" in ran(make("-n", "vendor", "JSON=no")).stdout
+    done = ran(make("vendor"))
+    assert done.returncode == 2 and "DIR=FOLDER" in done.stdout and done.stdout.count("\n") <= 2
 
 
 def test_copy_of_vendor_over_another(tmp_path):
@@ -260,14 +277,3 @@ def test_what_is_built_anew_and_what_is_cleaned(copy):
             os.utime(file, (before, before))
     runs(make("clean", top=copy))
     assert not (copy / "out").exists() and generated == sorted(it.name for it in (copy / "generated").iterdir())
-
-
-@pytest.mark.parametrize("machine", FOLDERS)
-def test_processors_by_other_names(tmp_path, machine):
-    """The target is the one that the compiler names, and an option may change it."""
-    machine, *words = machine.split()
-    compiler = tmp_path / "cc"
-    compiler.write_text(f"#!/bin/sh\necho {machine}\n")
-    compiler.chmod(0o755)
-    said = runs(make("-n", "lib", f"CC={compiler}", *words))
-    assert {*re.findall(r" -o (\S+)/builds\.o", said)} == {FOLDERS[" ".join([machine, *words])]}

@@ -1,7 +1,9 @@
-/* Which builds in generated/ there are for the processor and system: those of FASTER_HEX_X86_64, the one of
- * FASTER_HEX_AARCH64, or none, and then the calls are those of portable.h. Who defines FASTER_HEX_PORTABLE gets
- * these anywhere. For C and for assembly. The systems are those of README.md: Linux, FreeBSD, NetBSD, macOS, and
- * Windows by mingw. */
+/* Decides whether there is assembly for the processor and the system. FASTER_HEX_X86_64 stands for the four builds
+ * for x86-64, and FASTER_HEX_AARCH64 for the one for aarch64. If neither is defined, the calls are those of
+ * portable.h. Whoever defines FASTER_HEX_PORTABLE gets these on any processor.
+ *
+ * C, assembly, CMake and the Makefile ask this file. bindings/rust/src/lib.rs says the same once more for Rust.
+ * The systems are those of README.md: Linux, FreeBSD, NetBSD, macOS, and Windows by mingw. */
 #if !defined FASTER_HEX_PORTABLE && !defined __ILP32__ &&                                                  \
     ((defined __linux__ && !defined __ANDROID__) || defined __FreeBSD__ || defined __NetBSD__ ||           \
      defined __ENVIRONMENT_MAC_OS_X_VERSION_MIN_REQUIRED__ || (defined __MINGW32__ && defined __x86_64__))

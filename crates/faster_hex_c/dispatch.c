@@ -1,19 +1,27 @@
-/* The calls of faster_hex.h over the builds in generated/, which are compiled from proved code. For x86-64
- * there are four, and each call takes the widest that has it and that the processor and the system run; for
- * aarch64 there is one. Where assembly.h has none, the calls are those of portable.h. No proof sees this file.
+/* The calls of faster_hex.h. Each runs a build in generated/, which was compiled from proved code. This file itself
+ * is not proved.
  *
- * The level is written once, by a constructor. A call before that, as from another constructor, takes the
- * first build, which runs on any of these processors. Branches in place of pointers let a linker drop the
- * calls that a program does not make. */
+ * For x86-64 there are four builds. A call uses the widest one that has the call and that the processor and the
+ * system can run. For aarch64 there is one build. Where assembly.h finds none, the calls are those of portable.h.
+ *
+ * A constructor writes the level of the processor once. A call that is made before that, for example by another
+ * constructor, uses the first build, which runs on each of these processors. The calls choose by branches and not
+ * by pointers, so that a linker can leave out the calls that a program does not make. */
 #include "assembly.h"
 #include "faster_hex.h"
 
-/* A build's call has the version in its name, so that no other version in the program has it. */
-#define JOIN(major, minor, patch, build, call) faster_hex_##major##_##minor##_##patch##_##build##_##call
-#define EXPAND(major, minor, patch, build, call) JOIN(major, minor, patch, build, call)
+/* The name of a build's call. It has the version, so that no other version in the program has the same name. Its end
+ * comes from builds.S, which says why. */
+#ifdef FASTER_HEX_UNPROVED
+#define JOIN(major, minor, patch, name) faster_hex_##major##_##minor##_##patch##_##name##_of_c_unproved
+#else
+#define JOIN(major, minor, patch, name) faster_hex_##major##_##minor##_##patch##_##name##_of_c
+#endif
+#define EXPAND(major, minor, patch, name) JOIN(major, minor, patch, name)
 #define OF(build, call) \
-    EXPAND(FASTER_HEX_VERSION_MAJOR, FASTER_HEX_VERSION_MINOR, FASTER_HEX_VERSION_PATCH, build, call)
-/* Builds keep System V's convention on Windows too, where a DLL shows what faster_hex.def names. */
+    EXPAND(FASTER_HEX_VERSION_MAJOR, FASTER_HEX_VERSION_MINOR, FASTER_HEX_VERSION_PATCH, build##_##call)
+/* A build is called by the convention of System V, on Windows too. Its calls are hidden. A DLL needs no mark for
+ * this, because it exports only what faster_hex.def names. */
 #if defined __ELF__ || defined __MACH__
 #define BUILD __attribute__((visibility("hidden")))
 #else
@@ -24,21 +32,21 @@
 #include <cpuid.h>
 #include <stdatomic.h>
 
-/* What `cpuid` and `xgetbv` say. The words of a leaf above the highest one mean nothing. */
+/* The words that `cpuid` and `xgetbv` return. Those of a leaf above the highest one have no meaning. */
 struct processor {
     unsigned highest;          /* leaf 0, eax */
     unsigned basic;            /* leaf 1, ecx */
     unsigned wide;             /* leaf 7, ebx */
     unsigned highest_extended; /* leaf 0x80000000, eax */
     unsigned extended;         /* leaf 0x80000001, ecx */
-    unsigned saved;            /* the registers that the system saves, if it says so */
+    unsigned saved;            /* the registers that the system saves, or 0 if it does not tell */
 };
 
 static bool has(unsigned word, unsigned bits) {
     return (word & bits) == bits;
 }
 
-/* The level of x86-64 that a processor and its system have: 4, 3, 2, or 0 for the first. */
+/* The level of x86-64 that a processor and its system have: 4, 3 or 2. For the first level it is 0. */
 static unsigned char level_of(struct processor it) {
     unsigned basic = it.highest >= 1 ? it.basic : 0, wide = it.highest >= 7 ? it.wide : 0;
     unsigned extended = it.highest_extended >= 0x80000001 ? it.extended : 0;
@@ -69,8 +77,9 @@ __attribute__((constructor)) static void raise_level(void) {
     level = level_of(processor());
 }
 
-/* Level 3 is asked for first, so that a processor without AVX-512 takes no step for it; calls whose widest build is
- * that one ask once. */
+/* Defines `chosen_CALL`, which makes a call by the build for the processor. The branch for level 3 is the first
+ * one, so that processors without AVX-512 do not pay for the branch for level 4. A call that this level has no
+ * build of takes that of level 3, and needs no second branch. */
 #define CHOSEN(answer, call, parameters, arguments, widest)                               \
     BUILD answer OF(x86_64, call) parameters;                                             \
     BUILD answer OF(x86_64_v2, call) parameters;                                          \
@@ -100,7 +109,8 @@ __attribute__((constructor)) static void raise_level(void) {
 
 typedef struct faster_hex_answer answer;
 
-/* Sanitizers see nothing of assembly. This code reports what a call read, where it did, and what it wrote. */
+/* Sanitizers do not see what assembly reads and writes. This code tells them which bytes a call has read and
+ * written. */
 #ifdef __has_feature
 #define SANITIZES(what) __has_feature(what)
 #else
@@ -134,7 +144,7 @@ static bool seen_bool(bool it, const void *src, size_t len, void *dst) {
 #define seen_bool(it, src, len, dst) it
 #endif
 
-/* Each call with the level of the widest build that has it. */
+/* Defines a call of faster_hex.h. `widest` is the level of the widest build that has it. */
 #define CALL(answer, call, parameters, arguments, dst, widest)          \
     CHOSEN(answer, call, parameters, arguments, widest)                 \
     answer faster_hex_##call parameters {                               \
@@ -164,7 +174,7 @@ const char *faster_hex_version(void) {
 #endif
 }
 
-/* Texts of one length, since pointers to them would be written when a program is loaded. */
+/* The texts stand in one array, because pointers to them would have to be written when a program is loaded. */
 const char *faster_hex_status_text(uint8_t status) {
     static const char texts[][32] = {
         "done", "hex input length must be even", "output is too small", "invalid hex byte",

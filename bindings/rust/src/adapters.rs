@@ -1,4 +1,4 @@
-//! Bytes as texts in the data of the crate `serde`: what the twelve modules share, and the modules.
+//! The twelve modules for `serde`, which write bytes as texts, and what they share.
 
 use alloc::{borrow::Cow, string::String, vec::Vec};
 use core::{fmt, str};
@@ -9,10 +9,10 @@ use serde::ser::{self, Serialize, Serializer};
 use crate::encode::{append, encode};
 use crate::{hex_decode_array_with_case, hex_decode_vec_with_case, CheckCase, Error};
 
-/// Up to which length a text takes no memory: `0x` and the digits of 65 bytes.
+/// The length up to which a text is written without an allocation: that of `0x` and the digits of 65 bytes.
 const SHORT: usize = 132;
 
-/// How bytes stand in a text: what is before the digits, and which letters are digits.
+/// The form of a text: what precedes the digits, and which letters are digits.
 #[derive(Clone, Copy)]
 struct WireFormat {
     prefix: &'static str,
@@ -39,7 +39,7 @@ impl WireFormat {
         serializer.serialize_str(str::from_utf8(&room[..len]).map_err(ser::Error::custom)?)
     }
 
-    /// What comes after the prefix, an even number of bytes.
+    /// Returns what follows the prefix, if this is an even number of bytes.
     fn digits<E: de::Error>(self, text: &str) -> Result<&[u8], E> {
         let digits = text
             .strip_prefix(self.prefix)
@@ -70,7 +70,7 @@ impl WireFormat {
     }
 }
 
-/// Bytes that are written by a format where a serializer asks for a value.
+/// Bytes that are written in a format. A serializer takes this as a value.
 struct Written<'a>(WireFormat, &'a [u8]);
 
 impl Serialize for Written<'_> {
@@ -79,8 +79,8 @@ impl Serialize for Written<'_> {
     }
 }
 
-/// A text that is read as a `String` is, and borrowed where the source lends it. It is decoded after the
-/// deserializer is done, so that the latter adds no place to a refusal.
+/// A text that is read as a `String` is. If the source lends it, it is borrowed. It is decoded after the
+/// deserializer has ended, so that the deserializer does not add its own place to the error.
 struct Text<'de>(Cow<'de, str>);
 
 impl<'de> Deserialize<'de> for Text<'de> {
@@ -134,8 +134,8 @@ fn no_text<E: de::Error>(bytes: &[u8]) -> E {
     E::invalid_value(Unexpected::Bytes(bytes), &TextVisitor)
 }
 
-/// Two modules a line: their names, the prefix, the case, what `[0x12, 0xab]` is written as, and what
-/// documentation says of the format.
+/// Makes two modules from each line. It has their names, the prefix, the case, the text of `[0x12, 0xab]`,
+/// and the documentation of the format.
 macro_rules! modules {
     ($($name:ident $option:ident $prefix:literal $case:ident $shown:literal $about:literal;)*) => { $(
         #[doc = $about]

@@ -1,5 +1,6 @@
-//! The calls of `faster_hex.h`, and those for Rust alone, by the build that fits the processor. The proved code
-//! itself is the assembly in `generated/`, whose names carry the version, so that two can stand in one program.
+//! The assembly in `generated/`, and its calls by the build for the processor. The names in it have the
+//! version, so that a program may have two versions. The C library has names of its own for the same
+//! assembly.
 
 use core::arch::global_asm;
 #[cfg(target_arch = "x86_64")]
@@ -14,7 +15,7 @@ use super::Answer;
 #[path = "level.rs"]
 mod level;
 
-/// The assembly, after the macros of a format of object files.
+/// Assembles the macros of a format of object files, and then the builds for the processor.
 macro_rules! assemble {
     ($macros:literal) => {
         #[cfg(target_arch = "aarch64")]
@@ -38,8 +39,9 @@ assemble!("macho.inc");
 #[cfg(not(any(windows, target_vendor = "apple")))]
 assemble!("elf.inc");
 
-// Only the library that holds the assembly finds its names, which are hidden. So a call, which is inlined into crates
-// that may be linked with a `dylib` of this one, takes the address of its build from a static.
+// The names in the assembly are hidden, so only the library that has the assembly finds them. But a call is
+// inlined into other crates, which may be linked with a `dylib` of this one. So it reads the address of its
+// build from a static.
 macro_rules! calls {
     ($($call:ident($($word:ident: $kind:ty),*) -> $answer:ty, $widest:literal;)*) => { $(
         #[cfg(target_arch = "aarch64")]
@@ -67,7 +69,7 @@ macro_rules! calls {
                 fn widest($($word: $kind),*) -> $answer;
             }
             type Build = unsafe extern "sysv64" fn($($kind),*) -> $answer;
-            // A `Build`: the one for the processor, once a call has asked for its level.
+            // The address of a `Build`. The first call replaces it by that of the build for the processor.
             static BUILD: AtomicPtr<()> = AtomicPtr::new(first as *const () as *mut ());
 
             #[cold]
@@ -88,7 +90,7 @@ macro_rules! calls {
     )* };
 }
 
-// Each with the widest build that has it.
+// Each call has the widest build that has it.
 calls! {
     check(src: *const u8, len: usize) -> bool, "v4";
     check_lower(src: *const u8, len: usize) -> bool, "v4";

@@ -1,4 +1,5 @@
-//! The calls by a build. Where there is none, `portable.rs` stands in the place of this file.
+//! The calls on slices, by the build for the processor. For a target without builds `portable.rs` is compiled
+//! in place of this file.
 
 use core::mem::MaybeUninit;
 
@@ -36,8 +37,8 @@ fn result_of(answer: Answer) -> Result<usize, Error> {
     }
 }
 
-/// The error of a refusal. The calls here get no status about policies or groups. Apart and cold, so that a
-/// call that succeeds passes one test.
+/// The error of a refusal. No call here gets a status about policies or groups. This is a function of its
+/// own, so that a call that succeeds makes only one test.
 #[cold]
 fn error_of(answer: Answer) -> Error {
     match answer.status {
@@ -53,7 +54,7 @@ fn error_of(answer: Answer) -> Error {
     }
 }
 
-/// Whether every byte is a digit by the policy.
+/// Returns whether every byte is a digit under the policy.
 #[inline]
 pub fn check(src: &[u8], case: CheckCase) -> bool {
     let call = match case {
@@ -61,7 +62,7 @@ pub fn check(src: &[u8], case: CheckCase) -> bool {
         CheckCase::Lower => builds::check_lower,
         CheckCase::Upper => builds::check_upper,
     };
-    // SAFETY: the pointer is good for reading the slice's length, and each call only reads there.
+    // SAFETY: a call reads only the slice.
     unsafe { call(src.as_ptr(), src.len()) }
 }
 
@@ -69,8 +70,8 @@ pub fn check(src: &[u8], case: CheckCase) -> bool {
 #[inline]
 pub fn encode(src: &[u8], dst: &mut [MaybeUninit<u8>], upper: bool) -> Result<usize, Error> {
     let (from, len, to, room) = (src.as_ptr(), src.len(), dst.as_mut_ptr().cast(), dst.len());
-    // SAFETY: both pointers are good for their slices' lengths, and a slice that is lent to be
-    // written overlaps no other.
+    // SAFETY: a call reads only the one slice and writes only to the other. A slice that can be written
+    // overlaps no other.
     result_of(unsafe { builds::encode(from, len, to, room, upper) })
 }
 
@@ -91,7 +92,7 @@ pub fn decode(src: &[u8], dst: &mut [MaybeUninit<u8>], case: CheckCase) -> Resul
 mod tests {
     use super::*;
 
-    /// A slice is too short for some of these.
+    /// No slice is long enough for some of these.
     #[test]
     fn each_status_has_its_error() {
         let (number, byte) = (7, b'g');
@@ -117,7 +118,7 @@ mod tests {
         (*state >> 20) as usize % bound
     }
 
-    /// By 20,000 random calls, or as many as ROUNDS says.
+    /// Makes 20,000 random calls, or as many as ROUNDS says.
     #[test]
     fn portable_calls_answer_as_builds_do() {
         let rounds = std::env::var("ROUNDS").map_or(20_000, |it| it.parse().unwrap());
@@ -142,7 +143,7 @@ mod tests {
             assert_eq!(told, portable::encode(src, &mut theirs[..room], upper));
             let told = decode(src, &mut ours[room..], case);
             assert_eq!(told, portable::decode(src, &mut theirs[room..], case));
-            // SAFETY: all were written at first.
+            // SAFETY: all bytes were written at first.
             let bytes = places.map(|it| it.map(|byte| unsafe { byte.assume_init() }));
             assert_eq!(bytes[0], bytes[1]);
         }

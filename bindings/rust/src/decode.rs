@@ -2,8 +2,23 @@
 
 #[cfg(feature = "alloc")]
 use alloc::vec::Vec;
+use core::mem::MaybeUninit;
+use core::slice;
 
-use crate::{library, Error};
+use crate::encode::room;
+use crate::{calls, Error};
+
+/// Writes the bytes that `src` spells to the front of `dst`, which need not be initialized, and returns them.
+#[inline]
+fn decode_into<'a>(
+    src: &[u8],
+    dst: &'a mut [MaybeUninit<u8>],
+    case: CheckCase,
+) -> Result<&'a mut [u8], Error> {
+    let written = calls::decode(src, dst, case)?;
+    // SAFETY: the call has written as many bytes as it returns.
+    Ok(unsafe { slice::from_raw_parts_mut(dst.as_mut_ptr().cast(), written) })
+}
 
 /// A policy: which letters are digits. `0` to `9` always are.
 ///
@@ -46,7 +61,7 @@ pub fn hex_check(src: &[u8]) -> bool {
 /// ```
 #[inline]
 pub fn hex_check_with_case(src: &[u8], check_case: CheckCase) -> bool {
-    library::check(src, check_case)
+    calls::check(src, check_case)
 }
 
 /// Decodes digits of either case into the front of `dst`, and returns the bytes there. The rest of `dst` is
@@ -91,8 +106,8 @@ pub fn hex_decode_with_case<'a>(
     dst: &'a mut [u8],
     check_case: CheckCase,
 ) -> Result<&'a mut [u8], Error> {
-    // SAFETY: decoded bytes alone are written there.
-    library::decode(src, unsafe { library::room(dst) }, check_case)
+    // SAFETY: the call writes only decoded bytes there.
+    decode_into(src, unsafe { room(dst) }, check_case)
 }
 
 /// Decodes digits of either case to an array of exactly `N` bytes. This needs no buffer and no allocator.
@@ -132,7 +147,31 @@ pub fn hex_decode_array_with_case<const N: usize>(
     src: &[u8],
     check_case: CheckCase,
 ) -> Result<[u8; N], Error> {
-    library::decode_array(src, check_case)
+    let error = if src.len() == 2 * N {
+        let mut bytes = [MaybeUninit::uninit(); N];
+        match calls::decode(src, &mut bytes, check_case) {
+            // SAFETY: a call that succeeds has written one byte for two digits, so it has written all `N`.
+            Ok(_) => return Ok(unsafe { bytes.as_ptr().cast::<[u8; N]>().read() }),
+            Err(error) => error,
+        }
+    } else if src.len() % 2 == 1 {
+        Error::OddLength
+    } else {
+        Error::LengthMismatch {
+            expected: N,
+            actual: src.len() / 2,
+        }
+    };
+    refused(error)
+}
+
+// This is a call, so that rustc keeps the result of the function above whole in memory. Otherwise it copies
+// an array in the parts that an error has. Some of these loads read what two stores wrote, which is slow: 11
+// ns in place of 7.
+#[cold]
+#[inline(never)]
+fn refused<const N: usize>(error: Error) -> Result<[u8; N], Error> {
+    Err(error)
 }
 
 /// Decodes digits of either case to a new vector, whose capacity is its length. Requires the feature `alloc`.
@@ -173,7 +212,7 @@ pub fn hex_decode_vec_with_case(src: &[u8], check_case: CheckCase) -> Result<Vec
         return Err(Error::OddLength);
     }
     let mut bytes = Vec::with_capacity(src.len() / 2);
-    let written = library::decode(src, bytes.spare_capacity_mut(), check_case)?.len();
+    let written = decode_into(src, bytes.spare_capacity_mut(), check_case)?.len();
     // SAFETY: so many bytes were written.
     unsafe { bytes.set_len(written) };
     Ok(bytes)

@@ -2,15 +2,41 @@
 
 #[cfg(feature = "alloc")]
 use alloc::{string::String, vec::Vec};
-use core::str;
+use core::mem::MaybeUninit;
+use core::{slice, str};
 
-use crate::{library, Error};
+use crate::{calls, Error};
 
-/// Writes the digits of `src` to the front of `dst` and returns them, for the calls of this crate.
+/// A buffer as the destination of a call of [`calls`].
+///
+/// # Safety
+///
+/// The caller writes only initialized bytes there.
+#[inline]
+pub(crate) unsafe fn room(dst: &mut [u8]) -> &mut [MaybeUninit<u8>] {
+    slice::from_raw_parts_mut(dst.as_mut_ptr().cast(), dst.len())
+}
+
+/// Writes the digits of `src` to the front of `dst`, and returns them.
 #[inline]
 pub(crate) fn encode<'a>(src: &[u8], dst: &'a mut [u8], upper: bool) -> Result<&'a mut str, Error> {
-    // SAFETY: digits alone are written there.
-    library::encode(src, unsafe { library::room(dst) }, upper)
+    // SAFETY: the call writes only digits there.
+    encode_into(src, unsafe { room(dst) }, upper)
+}
+
+/// Like [`encode`], for a buffer that need not be initialized.
+#[inline]
+pub(crate) fn encode_into<'a>(
+    src: &[u8],
+    dst: &'a mut [MaybeUninit<u8>],
+    upper: bool,
+) -> Result<&'a mut str, Error> {
+    let written = calls::encode(src, dst, upper)?;
+    // SAFETY: the call has written as many bytes as it returns, and all of them are ASCII.
+    unsafe {
+        let digits = slice::from_raw_parts_mut(dst.as_mut_ptr().cast(), written);
+        Ok(str::from_utf8_unchecked_mut(digits))
+    }
 }
 
 /// Writes the lowercase digits of `src` into the front of `dst`, two for each byte, and returns them. The rest
@@ -115,32 +141,32 @@ pub fn hex_append_upper<'a>(src: &[u8], dst: &'a mut String) -> &'a mut str {
     append(src, dst, true)
 }
 
-// As a call it would return a string by memory, from where it is slow to load: 20 ns for 12.
+// This is always inlined, because a function returns a string in memory. To load it from there right after it
+// was stored is slow: 20 ns in place of 12.
 #[cfg(feature = "alloc")]
 #[inline(always)]
 fn new_string(src: &[u8], upper: bool) -> String {
     let len = src.len().checked_mul(2).expect(OVERFLOW);
     let mut bytes = Vec::with_capacity(len);
-    // No error is printed, since code for that would keep the call from being inlined.
-    assert!(library::encode(src, bytes.spare_capacity_mut(), upper).is_ok());
-    // SAFETY: so many digits were written, which are ASCII.
+    // The error is not printed, because the code for that would keep this from being inlined.
+    assert!(calls::encode(src, bytes.spare_capacity_mut(), upper).is_ok());
+    // SAFETY: the call has written `len` digits, which are ASCII.
     unsafe {
         bytes.set_len(len);
         String::from_utf8_unchecked(bytes)
     }
 }
 
-/// Appends the digits of `src` to `dst` and returns them, for the calls of this crate.
+/// Appends the digits of `src` to `dst`, and returns them.
 #[cfg(feature = "alloc")]
 pub(crate) fn append<'a>(src: &[u8], dst: &'a mut String, upper: bool) -> &'a mut str {
     let start = dst.len();
     dst.reserve(src.len().checked_mul(2).expect(OVERFLOW));
-    // SAFETY: the text grows by the digits that were written after it, which are ASCII.
+    // SAFETY: the text grows by the digits that the call has written behind it, which are ASCII.
     unsafe {
         let bytes = dst.as_mut_vec();
-        let digits = library::encode(src, bytes.spare_capacity_mut(), upper).expect(OVERFLOW);
-        let end = start + digits.len();
-        bytes.set_len(end);
+        let written = calls::encode(src, bytes.spare_capacity_mut(), upper).expect(OVERFLOW);
+        bytes.set_len(start + written);
         str::from_utf8_unchecked_mut(&mut bytes[start..])
     }
 }

@@ -3,12 +3,12 @@
 use core::fmt::{self, Alignment, Write};
 use core::mem::MaybeUninit;
 
-use crate::library;
+use crate::encode::encode_into;
 
-/// How many bytes are encoded at a time.
+/// The most bytes that are encoded at a time.
 const CHUNK: usize = 512;
 
-/// Copies of the usual fills, which are written together.
+/// Copies of the usual fills. To write many characters at once is faster than one at a time.
 const SPACES: &str = "                                ";
 const ZEROS: &str = "00000000000000000000000000000000";
 
@@ -44,31 +44,26 @@ impl<'a> Hex<'a> {
     }
 
     /// Writes the text by the formatter's flags.
+    #[inline]
     fn show(&self, f: &mut fmt::Formatter<'_>, upper: bool) -> fmt::Result {
-        let front = match (f.sign_plus(), f.alternate()) {
-            (true, true) => "+0x",
-            (true, false) => "+",
-            (false, true) => "0x",
-            (false, false) => "",
-        };
-        if let Some(width) = f.width() {
-            return self.show_padded(f, upper, front, width);
+        if f.width().is_some() {
+            return self.show_padded(f, upper);
         }
-        if !front.is_empty() {
-            f.write_str(front)?;
+        if f.sign_plus() || f.alternate() {
+            f.write_str(front_of(f))?;
         }
         self.write_digits(f, upper)
     }
 
-    fn show_padded(
-        &self,
-        f: &mut fmt::Formatter<'_>,
-        upper: bool,
-        front: &str,
-        width: usize,
-    ) -> fmt::Result {
-        // Counted down, since the length of the digits may be no `usize`.
-        let missing = width
+    // This is a function of its own, because a text without a width takes longer with this code beside it.
+    #[cold]
+    #[inline(never)]
+    fn show_padded(&self, f: &mut fmt::Formatter<'_>, upper: bool) -> fmt::Result {
+        let front = front_of(f);
+        // The number of digits may exceed `usize`, so the number of bytes is subtracted twice.
+        let missing = f
+            .width()
+            .unwrap_or(0)
             .saturating_sub(front.len())
             .saturating_sub(self.bytes.len())
             .saturating_sub(self.bytes.len());
@@ -89,14 +84,36 @@ impl<'a> Hex<'a> {
         write_copies(f, fill, behind)
     }
 
+    #[inline]
     fn write_digits(&self, f: &mut fmt::Formatter<'_>, upper: bool) -> fmt::Result {
-        let mut room = [MaybeUninit::uninit(); 2 * CHUNK];
-        for chunk in self.bytes.chunks(CHUNK) {
-            let digits = library::encode(chunk, &mut room, upper).map_err(|_| fmt::Error)?;
-            f.write_str(digits)?;
+        if self.bytes.len() <= CHUNK {
+            return write_chunk(self.bytes, f, upper);
         }
-        Ok(())
+        self.write_chunks(f, upper)
     }
+
+    // The loop keeps values that a short text does not need. A short text took up to a tenth longer with it.
+    #[inline(never)]
+    fn write_chunks(&self, f: &mut fmt::Formatter<'_>, upper: bool) -> fmt::Result {
+        let mut chunks = self.bytes.chunks(CHUNK);
+        chunks.try_for_each(|chunk| write_chunk(chunk, f, upper))
+    }
+}
+
+/// What stands before the digits.
+fn front_of(f: &fmt::Formatter<'_>) -> &'static str {
+    match (f.sign_plus(), f.alternate()) {
+        (true, true) => "+0x",
+        (true, false) => "+",
+        (false, true) => "0x",
+        (false, false) => "",
+    }
+}
+
+#[inline]
+fn write_chunk(bytes: &[u8], f: &mut fmt::Formatter<'_>, upper: bool) -> fmt::Result {
+    let mut room = [MaybeUninit::uninit(); 2 * CHUNK];
+    f.write_str(encode_into(bytes, &mut room, upper).map_err(|_| fmt::Error)?)
 }
 
 fn write_copies(f: &mut fmt::Formatter<'_>, fill: char, mut count: usize) -> fmt::Result {
@@ -114,18 +131,21 @@ fn write_copies(f: &mut fmt::Formatter<'_>, fill: char, mut count: usize) -> fmt
 }
 
 impl fmt::Display for Hex<'_> {
+    #[inline]
     fn fmt(&self, f: &mut fmt::Formatter<'_>) -> fmt::Result {
         self.show(f, false)
     }
 }
 
 impl fmt::LowerHex for Hex<'_> {
+    #[inline]
     fn fmt(&self, f: &mut fmt::Formatter<'_>) -> fmt::Result {
         self.show(f, false)
     }
 }
 
 impl fmt::UpperHex for Hex<'_> {
+    #[inline]
     fn fmt(&self, f: &mut fmt::Formatter<'_>) -> fmt::Result {
         self.show(f, true)
     }

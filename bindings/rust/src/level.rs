@@ -1,12 +1,12 @@
-//! The level of x86-64 whose build calls take, which no proof sees.
+//! The level of x86-64, by which a call chooses its build. This is not proved.
 
 use core::arch::x86_64::{__cpuid, __cpuid_count, _xgetbv};
 use core::sync::atomic::{AtomicU8, Ordering::Relaxed};
 
-/// 1 to 4, or 0 until a call has asked the processor.
+/// The level, from 1 to 4. It is 0 until the first call has asked the processor.
 static LEVEL: AtomicU8 = AtomicU8::new(0);
 
-/// The level.
+/// Returns the highest level of the processor for which there is a build.
 pub fn find() -> u8 {
     if LEVEL.load(Relaxed) == 0 {
         LEVEL.store(level_of(&Processor::read()), Relaxed);
@@ -14,7 +14,7 @@ pub fn find() -> u8 {
     LEVEL.load(Relaxed)
 }
 
-/// What `cpuid` and `xgetbv` say.
+/// The words that `cpuid` and `xgetbv` return.
 #[derive(Clone, Copy)]
 struct Processor {
     /// The highest leaf, `ecx` of leaf 1 and `ebx` of leaf 7.
@@ -24,7 +24,7 @@ struct Processor {
     /// The highest leaf from 0x8000_0000 on, and `ecx` of 0x8000_0001.
     highest_extended: u32,
     extended: u32,
-    /// Which registers the system saves.
+    /// The registers that the system saves.
     saved: u32,
 }
 
@@ -55,8 +55,8 @@ fn has(word: u32, bits: &[u32]) -> bool {
     bits.iter().all(|bit| word >> bit & 1 == 1)
 }
 
-/// The highest level that has a build and all of whose bits are set. A leaf above the highest one says
-/// something else, and so counts as 0.
+/// The highest level that has a build, and all of whose bits are set. A leaf above the highest one has no
+/// meaning, so it counts as 0.
 fn level_of(it: &Processor) -> u8 {
     let leaf = |is_there: bool, word: u32| if is_there { word } else { 0 };
     let basic = leaf(it.highest >= 1, it.basic);

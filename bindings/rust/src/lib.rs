@@ -1,5 +1,10 @@
-//! Turns bytes into hex digits and back: the calls of the Rust crate `faster-hex` 1.0.0, with its names and
-//! signatures. The code that tests, encodes and decodes is proved; the Rust around it is not.
+//! Turns bytes into hex digits and back, by the calls of the Rust crate `faster-hex` 1.0.0, with its names and
+//! signatures.
+//!
+//! On x86-64 and aarch64 under Linux, FreeBSD, NetBSD and macOS, and on x86-64 under Windows with the GNU
+//! toolchain, assembly tests, encodes and decodes. It was compiled from sources that are proved for every
+//! input. The Rust code around it is tested, and not proved. On all other targets, as riscv64 and wasm32, the
+//! calls are plain Rust, which is tested, and **not proved**.
 //!
 //! ```
 //! use faster_hex::{hex_decode, hex_encode};
@@ -60,8 +65,8 @@
 //!
 //! # Modules for `serde`
 //!
-//! A module's name follows `with` at a field: `#[serde(with = "faster_hex::nopfx_lowercase")]`. The bytes become
-//! a string in every data format, also in binary ones.
+//! A module's name follows `with` at a field: `#[serde(with = "faster_hex::nopfx_lowercase")]`. The bytes
+//! become a string in every data format, also in binary ones.
 //!
 //! | Module | Prefix | Writes | Reads |
 //! |---|---|---|---|
@@ -81,13 +86,17 @@
 //!
 //! # Platforms
 //!
-//! The README beside it names them. On x86-64 the first call asks the processor which of four builds runs:
-//! for x86-64, x86-64-v2, x86-64-v3, which uses AVX2, or x86-64-v4, which checks and decodes with AVX-512. On
-//! aarch64 there is one, with NEON. Which build runs changes the speed alone. Elsewhere, as on riscv64, wasm32, bare metal and under Miri, the calls are plain,
-//! safe Rust: that is not proved, but tested beside the builds. Rust 1.81 or later. Several versions of the
-//! crate, and the library for C, may stand in one program.
+//! | Target | What a call runs |
+//! |---|---|
+//! | x86-64, Linux, FreeBSD, NetBSD, macOS, Windows (GNU) | one of four builds: for x86-64, x86-64-v2, x86-64-v3 with AVX2, and x86-64-v4, which checks and decodes with AVX-512 |
+//! | aarch64, Linux, FreeBSD, NetBSD, macOS | one build, with NEON |
+//! | all others, also bare metal and Miri | plain, safe Rust, which is not proved. A test compares it with the builds |
 //!
-//! It also says how this crate takes the place of `faster-hex`, and what that crate has and this one not.
+//! On x86-64 the first call asks the processor which build it can run. The builds differ only in speed. The
+//! crate needs Rust 1.81 or later. A program may have several versions of it, and the library for C too.
+//!
+//! The README of the crate says how to use it in place of `faster-hex`, and what `faster-hex` has that this
+//! crate lacks.
 #![no_std]
 #![warn(missing_docs)]
 
@@ -98,7 +107,7 @@ extern crate std;
 
 #[cfg(feature = "serde")]
 mod adapters;
-// Miri and these targets run no assembly of ours.
+// The targets without assembly. This must say the same as crates/faster_hex_c/assembly.h, which decides for C.
 #[cfg_attr(
     any(
         miri,
@@ -123,7 +132,6 @@ mod decode;
 mod encode;
 mod error;
 mod format;
-mod library;
 
 #[cfg(feature = "serde")]
 pub use crate::adapters::withpfx_ignorecase::{array, deserialize, deserialize_bounded, serialize};

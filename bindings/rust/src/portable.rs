@@ -1,5 +1,5 @@
-//! The calls in plain Rust, a byte at a time, where there is no build. They are not proved: a test compares them
-//! with the builds.
+//! The calls in plain Rust, for targets without builds. They work on one byte at a time. They are not proved,
+//! but a test compares them with the builds.
 
 use core::mem::MaybeUninit;
 
@@ -18,7 +18,7 @@ fn first_invalid(src: &[u8], case: CheckCase) -> Option<usize> {
     src.iter().position(|&byte| value_of(byte, case).is_none())
 }
 
-/// Whether every byte is a digit by the policy.
+/// Returns whether every byte is a digit under the policy.
 pub fn check(src: &[u8], case: CheckCase) -> bool {
     first_invalid(src, case).is_none()
 }

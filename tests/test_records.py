@@ -1,0 +1,124 @@
+"""A record vouches only for what was proved: PROVED in generated/, and the libraries that scripts/rt-ci keeps. Programs
+of a few lines stand for `rt` and `rattle`, because a proof would take long."""
+import os
+import shutil
+
+import pytest
+
+from commands import ran, runs
+
+pytestmark = pytest.mark.quick
+CORE = "crates/hex_core/src/lib.rt"
+# What a file is changed to while a proof runs: another text, or one that is changed back.
+CHANGES = {"changed": "echo >>{0}", "changed and changed back": "cp {0} it && echo >>{0} && cat it >{0} && rm it"}
+# The commands of `rt` that scripts use. `rt ci` proves hex_core, takes the library of hex_codec from an earlier run, and
+# runs what CHANGE says meanwhile.
+RT = """#!/bin/sh -eu
+case $1 in
+version) echo toolchain one ;;
+doc) echo /nowhere/doc ;;
+ci)
+    for name in hex_core hex_codec; do
+        mkdir -p crates/$name/out/rlib/$name.rlib
+        cp crates/$name/src/lib.rt crates/$name/out/rlib/$name.rlib/format
+    done
+    eval "${CHANGE-}"
+    echo 'rt: hex_core proved'
+    echo 'rt: hex_codec is kept: an earlier run on this machine proved the same files over the same libraries' ;;
+esac
+"""
+# `rattle build` makes what it is told to, and runs what CHANGE says meanwhile.
+RATTLE = """#!/bin/sh -eu
+for word; do [ "${before-}" != -o ] || echo made >$word; before=$word; done
+(cd ../.. && eval "${CHANGE-}")
+echo logic=proved functions=1
+"""
+
+
+@pytest.fixture
+def env(tmp_path):
+    (tmp_path / "bin").mkdir()
+    for name, text in ("rt", RT), ("rattle", RATTLE):
+        (tmp_path / "bin" / name).write_text(text)
+        (tmp_path / "bin" / name).chmod(0o755)
+    return {**os.environ, "PATH": f"{tmp_path}/bin:{os.environ['PATH']}", "XDG_CACHE_HOME": f"{tmp_path}/cache"}
+
+
+def kept(tmp_path):
+    return sorted(tmp_path.glob("cache/faster_hex/libraries/*"))
+
+
+def test_assembly_that_proved_does_not_name(copy):
+    """PROVED must name each file of its folder. A changed file whose line is removed is refused."""
+    file, record = copy / "generated/x86-64.s", copy / "generated/PROVED"
+    file.write_text(file.read_text() + "\n")
+    record.write_text("".join(it for it in record.read_text().splitlines(True) if "x86-64.s" not in it))
+    done = ran([copy / "scripts/check-generated", "generated"])
+    assert done.returncode == 1 and "has the file x86-64.s" in done.stdout and done.stdout.count("\n") == 1
+    assert ran([copy / "tests/header.sh"]).returncode == 1
+
+
+OF_PROOFS = {CORE: "\n", "crates/hex_core/src/out/tables.rt": "//! Tables.\n", "HANDLES": "x", "crates.txt": ""}
+
+
+@pytest.mark.parametrize("name", OF_PROOFS)
+def test_hash_of_the_sources(copy, name):
+    """It depends on all that a proof reads: a module with the name `out`, HANDLES, and the crate's line of crates.txt. It
+    does not depend on lines of other crates, and on what commands made."""
+    found = lambda: runs([copy / "scripts/checksum", "hex_core", "hex_codec"])
+    before, path = found(), copy / name
+    path.parent.mkdir(exist_ok=True)
+    for own in "", "src":
+        (copy / "crates/hex_core/out" / own).mkdir(parents=True)
+        (copy / "crates/hex_core/out" / own / "made.rt").touch()
+    with (copy / "crates.txt").open("a") as file:
+        file.write("another: hex_core\n")
+    assert found() == before
+    text = path.read_text() if path.exists() else ""
+    path.write_text(text + OF_PROOFS[name] if OF_PROOFS[name] else text.replace("hex_codec: ", "hex_codec: serde_json "))
+    assert found() != before
+
+
+@pytest.mark.parametrize("change", CHANGES)
+def test_library_that_was_changed_during_the_run(tmp_path, copy, env, change):
+    """scripts/rt-ci keeps no library of a text that may not be the one that was proved."""
+    runs([copy / "scripts/rt-ci"], env={**env, "CHANGE": CHANGES[change].format(CORE)})
+    assert not kept(tmp_path)
+    runs([copy / "scripts/rt-ci"], env=env)
+    assert [it.name.partition("-")[0] for it in kept(tmp_path)] == ["hex_codec", "hex_core"]
+
+
+def test_libraries_beside_each_other(tmp_path, copy, env):
+    """A library of other sources stands beside the earlier one, which a crate in another clone, or an earlier commit,
+    still takes. Of a crate the last four stay."""
+    other = shutil.copytree(copy, tmp_path / "other")
+    for top in copy, other:
+        runs([top / "scripts/rt-ci"], env=env)
+    first = kept(tmp_path)
+    assert len(first) == 2
+    for count in range(1, 6):
+        with (other / "crates/hex_codec/src/lib.rt").open("a") as file:
+            file.write("\n")
+        runs([other / "scripts/rt-ci"], env=env)
+        # Who uses a library keeps it. Here this is a crate of the first clone.
+        used = "import repository as it; print(bool(it.words_over_kept('hex_io')))"
+        assert runs(["python3", "-c", used], cwd=copy / "scripts", env=env) == "True\n"
+        assert {*first} < {*kept(tmp_path)} and len(kept(tmp_path)) == 1 + min(1 + count, 4)
+
+
+@pytest.mark.parametrize("change", CHANGES)
+def test_proof_of_a_crate_that_was_changed_meanwhile(copy, env, change):
+    """scripts/build.sh fails. The next run proves the crate again."""
+    words, own = [copy / "scripts/build.sh", "hex_core"], copy / "crates/hex_core/out/statements"
+    done = ran(words, env={**env, "CHANGE": CHANGES[change].format(CORE)})
+    assert done.returncode == 1 and "changed while it was proved" in done.stdout and not (own / "made-of").exists()
+    for said in "[1/1] hex_core proved\n", "":
+        runs(words, out=said, env=env)
+
+
+@pytest.mark.parametrize("change", CHANGES)
+def test_assembly_of_sources_that_were_changed_meanwhile(tmp_path, copy, env, change):
+    """scripts/generate writes no record."""
+    (copy / "scripts/build.sh").write_text(f"#!/bin/sh\n{CHANGES[change].format(CORE)}\n")
+    done = ran([copy / "scripts/generate", tmp_path / "anew"], env=env)
+    assert done.returncode == 1 and "was changed meanwhile" in done.stdout and not (tmp_path / "anew").exists()
