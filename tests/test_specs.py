@@ -1,5 +1,5 @@
 """Whether specs/inside/ has exactly the definitions that no public contract uses, and whether the definitions that
-CALLING.md, theorem.md and definitions.md name exist. Uses are found by the words of contracts."""
+CALLING.md, design.md, theorem.md and definitions.md name exist. Uses are found by the words of contracts."""
 import functools
 import re
 
@@ -80,10 +80,10 @@ def used(by=None):
 
 
 def named(page):
-    """The definitions that the tables of CALLING.md name. Without a crate, a name belongs to the crate in the table's
+    """The definitions that the tables of a page name. Without a crate, a name belongs to the crate in the table's
     head."""
     for table in page.split("\n\n"):
-        if head := re.match(r"`(\w+)`.*\| (?:Promise|Meaning)\n", table):
+        if head := re.match(r".*\| (?:Promise|Definitions) in `(\w+)`\n", table):
             for crate, module, name in re.findall(r"`(?:(hex_\w+|faster_hex)\.)?([A-Z]\w*)\.(\w+)", table):
                 yield f"{crate or head[1]}.specs.{module}", name
 
@@ -96,8 +96,9 @@ def test_inside():
 
 
 def test_calling():
-    listed = {*named((TOP / "crates/faster_hex/CALLING.md").read_text())}
-    assert listed and listed <= {*used()[1]}
+    for page in "crates/faster_hex/CALLING.md", "docs/design.md":
+        listed = {*named((TOP / page).read_text())}
+        assert listed and listed <= {*used()[1]}, page
 
 
 def test_theorem():
