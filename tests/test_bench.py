@@ -17,7 +17,7 @@ BY_HAND = "Call | Decoded bytes | Special path"
 
 def outputs():
     """An output that has a time for each call of each table. A call of ours takes 1 ns, and every other one takes 4."""
-    time = lambda name: 4 if re.search("theirs|rust|avx512_|avx2_|sse41|slices|loop| by (?!Bunk)", name) else 1
+    time = lambda name: 4 if re.search("theirs|rust|avx512_|avx2_|sse41|slices|loop| by (?!Bunk|fhex)", name) else 1
     sizes = {*range(1, 9), 16, 32, 64, 128, 192, 256, 384, 4096, 65536}
     calls = [f"{build}_{call}" for build in ("v2", "v3", "sse41", "avx2", "slices_v2", "slices_v3")
              for call in ("check", "encode", "decode")]
@@ -28,6 +28,7 @@ def outputs():
              "hex_append", "hex_check_with_case", "{:>}")
     calls += [f"{widest} {side} {it}" for widest in ("avx512", "avx2") for side in ("ours", "theirs") for it in names]
     calls += [f"{call} by {it}" for call in ("encode", "decode") for it in LIBRARIES]
+    calls += [f"{it} by {command}" for it in ("encode of bytes", "decode of one line") for command in ("fhex-stream", "xxd")]
     lines = [f"{call}\t{size}\t{time(call):.2f}" for call in calls for size in {6, *sizes}]
     return "\n".join(["# Run on a machine.", "code of the library\t0\t5000000", *lines, ""])
 

@@ -1,11 +1,12 @@
-"""Whether specs/inside/ has exactly the definitions that no public contract uses, and whether the definitions that
-CALLING.md, design.md, theorem.md and definitions.md name exist. Uses are found by the words of contracts."""
+"""Whether the links of all pages lead somewhere, whether specs/inside/ has exactly the definitions that no public
+contract uses, and whether the definitions that CALLING.md, design.md, theorem.md and definitions.md name exist. Uses
+are found by the words of contracts."""
 import functools
 import re
 
 import pytest
 
-from commands import TOP
+from commands import TOP, own_files
 
 pytestmark = pytest.mark.quick
 WORD = r"[^\W\d][\w-]*"
@@ -93,6 +94,20 @@ def test_inside():
     inside = {it for it in defined if "inside" in it[0].split(".")}
     assert inside and not {it: found[it] for it in inside & {*found}}
     assert {*defined} - {*found} <= inside
+
+
+def headings(page):
+    """The names by which links reach the headings of a page."""
+    heads = re.findall(r"^#+ (.*)", re.sub(r"^```.*?^```$", "", page.read_text(), flags=re.M | re.S), re.M)
+    return {re.sub(r"[^\w -]", "", it).lower().replace(" ", "-") for it in heads}
+
+
+def test_links():
+    for page in (TOP / it for it in own_files() if it.endswith(".md")):
+        links = re.findall(r"\[[^]]*\]\((?!\w+://)([^)#]*)#?([^)]*)\)", page.read_text())
+        assert not [it for it in links if not (page.parent / it[0]).exists()], page
+        parts = [(page.parent / path if path else page, part) for path, part in links if part]
+        assert not [it for it in parts if it[1] not in headings(it[0])], page
 
 
 def test_calling():
