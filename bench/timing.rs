@@ -102,7 +102,8 @@ impl Data {
         let lower: Vec<u8> = bytes.iter().flat_map(|it| format!("{it:02x}").into_bytes()).collect();
         let both = |(at, it): (usize, &u8)| if at % 3 == 0 { it.to_ascii_uppercase() } else { *it };
         let mixed = lower.iter().enumerate().map(both).collect();
-        Data { bytes, lower, mixed, room: vec![0; 2 * LARGEST + SPAN + 1], text: String::with_capacity(2 * LARGEST + SPAN) }
+        let text = String::with_capacity(2 * LARGEST + SPAN);
+        Data { bytes, lower, mixed, room: vec![0; 2 * LARGEST + SPAN + 1], text }
     }
 
     /// Does something with the data of one size at one place.

@@ -28,7 +28,8 @@ def outputs():
              "hex_append", "hex_check_with_case", "{:>}")
     calls += [f"{widest} {side} {it}" for widest in ("avx512", "avx2") for side in ("ours", "theirs") for it in names]
     calls += [f"{call} by {it}" for call in ("encode", "decode") for it in LIBRARIES]
-    calls += [f"{it} by {command}" for it in ("encode of bytes", "decode of one line") for command in ("fhex-stream", "xxd")]
+    calls += [f"{it} by {command}" for it in ("encode of bytes", "decode of one line")
+              for command in ("fhex-stream", "xxd")]
     lines = [f"{call}\t{size}\t{time(call):.2f}" for call in calls for size in {6, *sizes}]
     return "\n".join(["# Run on a machine.", "code of the library\t0\t5000000", *lines, ""])
 
