@@ -60,6 +60,17 @@ def test_report(tmp_path):
 
 
 @pytest.mark.quick
+def test_commands_of_the_page():
+    """The page's commands are there, and take the options that it gives them."""
+    block = re.search("^## Method\n\n```text\n(.*?)^```$", (TOP / "bench/README.md").read_text(), re.M | re.S)[1]
+    commands = {line.split()[0]: {*re.findall(r"--\w+", line)} for line in block.splitlines()}
+    assert {"bench/run", "bench/stream", "bench/report"} == {*commands}
+    for name, options in commands.items():
+        assert os.access(TOP / name, os.X_OK)
+        assert options <= {*re.findall(r"add_argument\(\"(--\w+)", (TOP / name).read_text())}
+
+
+@pytest.mark.quick
 @pytest.mark.parametrize("words", [[], ["--others", "--plans"], ["--rest"]])
 def test_words_that_run_does_not_take(words):
     done = ran([TOP / "bench/run", *words])
