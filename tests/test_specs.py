@@ -1,11 +1,12 @@
-"""Whether specs/inside/ has exactly the definitions that no public contract uses, and whether the definitions that
-CALLING.md, theorem.md and definitions.md name exist. Uses are found by the words of contracts."""
+"""Whether the links of all pages lead somewhere, whether specs/inside/ has exactly the definitions that no public
+contract uses, and whether the definitions that CALLING.md, design.md, theorem.md and definitions.md name exist. Uses
+are found by the words of contracts."""
 import functools
 import re
 
 import pytest
 
-from commands import TOP
+from commands import TOP, own_files
 
 pytestmark = pytest.mark.quick
 WORD = r"[^\W\d][\w-]*"
@@ -80,10 +81,10 @@ def used(by=None):
 
 
 def named(page):
-    """The definitions that the tables of CALLING.md name. Without a crate, a name belongs to the crate in the table's
+    """The definitions that the tables of a page name. Without a crate, a name belongs to the crate in the table's
     head."""
     for table in page.split("\n\n"):
-        if head := re.match(r"`(\w+)`.*\| (?:Promise|Meaning)\n", table):
+        if head := re.match(r".*\| (?:Promise|Definitions) in `(\w+)`\n", table):
             for crate, module, name in re.findall(r"`(?:(hex_\w+|faster_hex)\.)?([A-Z]\w*)\.(\w+)", table):
                 yield f"{crate or head[1]}.specs.{module}", name
 
@@ -95,9 +96,24 @@ def test_inside():
     assert {*defined} - {*found} <= inside
 
 
+def headings(page):
+    """The names by which links reach the headings of a page."""
+    heads = re.findall(r"^#+ (.*)", re.sub(r"^```.*?^```$", "", page.read_text(), flags=re.M | re.S), re.M)
+    return {re.sub(r"[^\w -]", "", it).lower().replace(" ", "-") for it in heads}
+
+
+def test_links():
+    for page in (TOP / it for it in own_files() if it.endswith(".md")):
+        links = re.findall(r"\[[^]]*\]\((?!\w+://)([^)#]*)#?([^)]*)\)", page.read_text())
+        assert not [it for it in links if not (page.parent / it[0]).exists()], page
+        parts = [(page.parent / path if path else page, part) for path, part in links if part]
+        assert not [it for it in parts if it[1] not in headings(it[0])], page
+
+
 def test_calling():
-    listed = {*named((TOP / "crates/faster_hex/CALLING.md").read_text())}
-    assert listed and listed <= {*used()[1]}
+    for page in "crates/faster_hex/CALLING.md", "docs/design.md":
+        listed = {*named((TOP / page).read_text())}
+        assert listed and listed <= {*used()[1]}, page
 
 
 def test_theorem():

@@ -44,6 +44,7 @@ SOURCES_OF = {"generated/*.[sS]": "builds.o", "generated/*.inc": "builds.o fhex.
 SOURCES_OF |= {"crates/faster_hex_c/assembly.h": "builds.o dispatch.o", "crates/faster_hex_c/*.[ch]": "dispatch.o"}
 SOURCES_OF |= {"crates/faster_hex_c/*.map": SHARED[2], "crates/fhex/fhex.c": "fhex"}
 PAGES = {"CALLING.md", "CHANGELOG.md", "DIFFERENCES.md", "proving.md", "security.md"}
+CALLERS = {"src/digest.rt", "src/checksum.rt", "specs/Checksums.antt"}
 
 
 def test_words_that_are_not_taken():
@@ -231,11 +232,13 @@ def test_copies_of_vendor(tmp_path):
         runs(make("vendor", f"JSON={json}", f"DIR={tmp_path}"), out="", err="")
         listed = (tmp_path / "crates.txt").read_text().splitlines()
         assert listed[0] == "app: std" and len({*listed}) == len(listed)
+        callers = {it.name: it.read_text() for it in tmp_path.glob(f"crates/{last}/*.*t")}
+        assert callers == {f"{it.rpartition('/')[2]}.txt": (TOP / "crates/callers" / it).read_text() for it in CALLERS}
         found = {it.name: it.read_text() for it in tmp_path.glob(f"crates/{last}/*.md")}
         assert {*found} == PAGES
         for name, text in found.items():
             for path, part in re.findall(r"\]\((?!\w+://)([^)#]*)#?([^)]*)\)", text):
-                assert {path or name} <= PAGES and (not part or part in anchors(found[path or name])), (name, path, part)
+                assert {path or name} <= PAGES | {*callers} and (not part or part in anchors(found[path or name])), (name, path, part)
         told = (tmp_path / "crates" / last / "VERSION").read_text()
         assert re.fullmatch(rf"Bunkmedlar {VERSION}(, commit [0-9a-f]+(-dirty)?)?\n", told), told
         ignored = [it.read_text() for it in tmp_path.glob("crates/*/.gitignore")]

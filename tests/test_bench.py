@@ -1,0 +1,97 @@
+"""bench/report writes each table and chart of the pages, and bench/run times our calls beside other libraries. No test
+looks at a time."""
+import os
+import re
+import shutil
+
+import pytest
+
+from commands import RUSTC, TOP, needs, ran, runs
+from packages import REGISTRY
+
+PAGES = "README.md", "bench/README.md"
+LIBRARIES = "Bunkmedlar", "faster-hex 1.0.0", "hex 0.4.3", "OpenSSL 3.0"
+# The table without a marker, which no command makes.
+BY_HAND = "Call | Decoded bytes | Special path"
+
+
+def outputs():
+    """An output that has a time for each call of each table. A call of ours takes 1 ns, and every other one takes 4."""
+    time = lambda name: 4 if re.search("theirs|rust|avx512_|avx2_|sse41|slices|loop| by (?!Bunk|fhex)", name) else 1
+    sizes = {*range(1, 9), 16, 32, 64, 128, 192, 256, 384, 4096, 65536}
+    calls = [f"{build}_{call}" for build in ("v2", "v3", "sse41", "avx2", "slices_v2", "slices_v3")
+             for call in ("check", "encode", "decode")]
+    calls += [f"{build}_{call}_{n}" for build in ("v2", "v3", "loop") for call in ("write", "read") for n in (1, 16)]
+    calls += [f"{build}_{plan}_{call}" for build in ("v1", "v2", "v3", "v4") for call in ("check", "encode", "decode")
+              for plan in ("scalar", "avx2", "plain", "plain_32", "plain_64")]
+    names = ("hex_string", "hex_decode_vec", "{}", "hex_decode_array", "hex_encode", "hex_decode", "hex_check",
+             "hex_append", "hex_check_with_case", "{:>}")
+    calls += [f"{widest} {side} {it}" for widest in ("avx512", "avx2") for side in ("ours", "theirs") for it in names]
+    calls += [f"{call} by {it}" for call in ("encode", "decode") for it in LIBRARIES]
+    calls += [f"{it} by {command}" for it in ("encode of bytes", "decode of one line")
+              for command in ("fhex-stream", "xxd")]
+    lines = [f"{call}\t{size}\t{time(call):.2f}" for call in calls for size in {6, *sizes}]
+    return "\n".join(["# Run on a machine.", "code of the library\t0\t5000000", *lines, ""])
+
+
+@pytest.mark.quick
+def test_report(tmp_path):
+    """It replaces all tables of the pages but one, and nothing else. A second time it writes the same."""
+    for page in (*PAGES, "bench/report"):
+        (tmp_path / page).parent.mkdir(exist_ok=True)
+        shutil.copy(TOP / page, tmp_path / page)
+    (tmp_path / "times").write_text(outputs())
+    pages = [tmp_path / it for it in PAGES]
+    before = "".join(it.read_text() for it in pages)
+    runs([tmp_path / "bench/report", "--write", tmp_path / "times"], out="")
+    written = [it.read_text() for it in pages]
+    runs([tmp_path / "bench/report", "--write", tmp_path / "times"], out="")
+    assert written == [it.read_text() for it in pages]
+    text = "".join(written)
+    marked = re.findall(r"^<!-- (.*) -->\n(.*)\n", text, re.M)
+    named = {*re.findall("^(.*):$", runs([TOP / "bench/report", tmp_path / "times"]), re.M)}
+    assert named == {name for name, _ in marked} and len(marked) == len(named)
+    # Where a call is faster by the same factor everywhere, no other figure is left.
+    for name, first in marked:
+        made = re.search(rf"^<!-- {name} -->\n((?:.* \| .*\n|---.*\n)+|```text\n(?:.*\n)*?```\n)", text, re.M)[1]
+        assert made not in before, f"{name} begins with {first} and was not written"
+    unmarked = lambda text: re.sub(r"(?<= -->\n)(?:(?:.* \| .*\n|---.*\n)+|```text\n(?:.*\n)*?```\n)", "", text)
+    assert unmarked(text) == unmarked(before) and BY_HAND in unmarked(text)
+
+
+@pytest.mark.quick
+def test_commands_of_the_page():
+    """The page's commands are there, and take the options that it gives them."""
+    block = re.search("^## Method\n\n```text\n(.*?)^```$", (TOP / "bench/README.md").read_text(), re.M | re.S)[1]
+    assert {line.split()[0] for line in block.splitlines()} == {"bench/run", "bench/stream", "bench/report"}
+    for line in block.splitlines():
+        command = TOP / line.split()[0]
+        assert os.access(command, os.X_OK)
+        assert {*re.findall(r"--\w+", line)} <= {*re.findall(r'add_argument\("(--\w+)', command.read_text())}, line
+
+
+@pytest.mark.quick
+@pytest.mark.parametrize("words", [[], ["--others", "--plans"], ["--rest"]])
+def test_words_that_run_does_not_take(words):
+    done = ran([TOP / "bench/run", *words])
+    assert done.returncode == 2 and "run --others [--rust DIR]" in done.stdout
+
+
+def test_others(tmp_path):
+    """The answers of all libraries are checked, and then all are timed. A crate that is not there is left out, and a
+    line says so."""
+    needs(RUSTC)
+    if "avx2" not in open("/proc/cpuinfo").read():
+        pytest.skip("this processor has no AVX2")
+    crates = [*REGISTRY.glob("hex-[0-9]*")]
+    for it in crates:
+        (tmp_path / it.name).symlink_to(it)
+    env = {**os.environ, "CRATES": f"{tmp_path}", "BENCH_BUILD": f"{tmp_path}/build"}
+    said = runs([TOP / "bench/run", "--others"], env=env)
+    assert "# librust-data-encoding-dev is not installed, so data-encoding is left out\n" in said
+    timed = {*re.findall(r"^(?:encode|decode) by (\S+).*\t(\d+)\t[\d.]+$", said, re.M)}
+    wanted = {"Bunkmedlar", *(["hex"] * len(crates))}
+    wanted |= {name for name, package in {"libsodium": "libsodium-dev", "OpenSSL": "libssl-dev"}.items()
+               if f"# {package} is not installed, so it is left out\n" not in said}
+    assert timed == {(name, size) for name in wanted for size in ("32", "4096", "65536")}
+    assert re.search(r"^code of the library\t0\t\d+$", said, re.M)
