@@ -9,7 +9,7 @@ use Rattle.hex_core.specs.declared.error.Error.TheVariants.{OddLength, Overflow}
 use Rattle.hex_core.specs.Text.{Spells, lowercase, text}
 use Rattle.hex_codec.specs.GroupedWriting.{pieces}
 use Rattle.hex_io.specs.Reading.{spaced, unspaced}
-use Rattle.hex_io.specs.Stream.{RefusedBy, Wrote}
+use Rattle.hex_io.specs.Stream.{RefusedBy, Wrote, longest_chunk}
 use Rattle.hex_program.specs.Serving.{Says, WritesPart, Outputs, failure_text, status_after}
 use Rattle.hex_program.specs.declared.failure.Failure.{Failure}
 use Rattle.hex_program.specs.declared.failure.Failure.TheVariants.{Codec, StreamUsage, ReadFailed, WriteFailed}
@@ -61,7 +61,7 @@ pub record RefusesStream (input : List ℕ) (left' held held' : Option (List ℕ
   pub front : List ℕ
   pub rest : List ℕ
   pub parts : input ≡ front ++ rest
-  pub short : length rest ≤ 16384
+  pub short : length rest ≤ longest_chunk
   pub wrote : Wrote policy.None (unspaced front) (Appends held held')
 
 -- what was read is refused: for an odd digit, or too many bytes to encode, nothing of it was left out
