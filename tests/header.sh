@@ -6,8 +6,8 @@
 #   on the numbers of the statuses, and on the name, the result and the parameters of each function. A Source or a
 #   Destination is a pointer and a length.
 # - dispatch.c must define the functions of the header.
-# - The version must be the VERSION of the Makefile in the header, in the crate for Rust, in CMakeLists.txt, in the
-#   manual pages and in the names of generated/.
+# - The version must be the VERSION of the Makefile in the header, in the crate for Rust, in CMakeLists.txt, in
+#   fhex-stream, in the manual pages and in the names of generated/.
 # - Each PROVED in generated/ must fit the sources, its files, and the prover that README.md names.
 set -eu
 case ${1-} in -h | --help) sed '1d; /^#/!q; s/^# \{0,1\}//' "$0" && exit ;; esac
@@ -51,6 +51,7 @@ versions() {
         tr '\n' . | sed 's/\.$//')"
     sed -n 's/^version = "\(.*\)+bunkmedlar"$/bindings \1/p' ../../Cargo.toml
     sed -n 's/^project(.* VERSION \([0-9.]*\) .*/CMakeLists.txt \1/p' ../../CMakeLists.txt
+    sed -n 's/^const VERSION: &str = "\(fhex-stream\) \(.*\)";$/\1 \2/p' ../hex_program/src/stream.rt
     sed -n 's/^\.TH \([A-Z_]*\) .* "Bunkmedlar \([0-9.]*\)" .*/\1 \2/p' ../../docs/*.[13]
     sed -n 's/^\thex_export\tfaster_hex_\([0-9]*\)_\([0-9]*\)_\([0-9]*\)_\(.*\)/\4 \1.\2.\3/p' ../../generated/*.s
 }

@@ -33,7 +33,7 @@ RUNS = [
     (["decode"], b"ab\n\n", 1, b"", ODD),
     ([b"\xff"], b"hello", 3, b"", b"read failed\n"),  # not UTF-8
 ]
-NO_WORDS = [], [""], ["encode", "decode"], ["vectors", "vectors"], ["Encode"], ["--help"]
+NO_WORDS = [], [""], ["encode", "decode"], ["vectors", "vectors"], ["Encode"], ["--help"], ["--version"]
 RUNS += [(words, b"hello", 2, b"", USAGE) for words in NO_WORDS]
 
 

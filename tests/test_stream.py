@@ -8,11 +8,12 @@ from pathlib import Path
 
 import pytest
 
-from commands import CC, OUT, TESTS_IN_C, make, needs, runs
+from commands import CC, OUT, TESTS_IN_C, TOP, VERSION, make, needs, runs
 from test_fhex_c import WRAPPED
 from test_program import BUILDS, ODD, SANITIZERS, built, ended
 
 USAGE = b"usage: fhex-stream encode|encode-lines|decode\n"
+THIS_VERSION = b"fhex-stream %s\n" % VERSION.encode()
 INVALID = b"invalid hex byte 0x%02x at index %d\n"
 NOT_READ, NOT_WRITTEN = b"read failed\n", b"write failed\n"
 # The bytes of one read of `decode`, of a block from which white space is removed, and of a vector.
@@ -45,7 +46,9 @@ RUNS = [
     (["decode"], b"00;00", 1, b"", INVALID % (0x3b, 2)),
     ([b"\xff"], b"hello", 3, b"", NOT_READ),  # not UTF-8
 ]
-NO_WORDS = [], [""], ["encode", "decode"], ["vectors"], ["Encode"], ["encode-upper"], ["encode-lines "], ["--help"]
+RUNS += [(["--help"], b"hello", 0, USAGE, b""), (["--version"], b"hello", 0, THIS_VERSION, b"")]
+NO_WORDS = [[], [""], ["encode", "decode"], ["vectors"], ["Encode"], ["encode-upper"], ["encode-lines "], ["-h"]]
+NO_WORDS += [["--help", "encode"], ["encode", "--help"], ["--help", "--version"], ["--version", "--version"]]
 RUNS += [(words, b"hello", 2, b"", USAGE) for words in NO_WORDS]
 
 
@@ -105,6 +108,14 @@ def put(text, at, *more):
 @pytest.mark.parametrize("words, given, status, out, err", RUNS, ids=[f"{it[0]} {it[1]}" for it in RUNS])
 def test_run(program, words, given, status, out, err):
     assert ended(*program, *words, input=given) == (status, out, err)
+
+
+def test_manual(stream):
+    """The manual has the lines that `--help` and `--version` print."""
+    manual = (TOP / "docs/fhex-stream.1").read_text().replace("\\", "")
+    for word in "--help", "--version":
+        status, line, _ = ended(stream, word)
+        assert status == 0 and line.decode().strip() in manual
 
 
 @pytest.mark.parametrize("length", LENGTHS)
@@ -176,7 +187,7 @@ def test_failed_calls(failing, word):
 
 @pytest.mark.parametrize("word, given, status", [
     ("encode", b"", 3), ("encode", b"a", 3), ("encode-lines", b"a", 3), ("encode-lines", b"", 0),
-    ("decode", b"00\n", 3), ("decode", b"\n", 0), ("decode", b"0", 1)])
+    ("decode", b"00\n", 3), ("decode", b"\n", 0), ("decode", b"0", 1), ("--help", b"", 3), ("--version", b"", 3)])
 def test_full_disk(stream, word, given, status):
     """If there is no output, nothing is written, so nothing fails."""
     with open("/dev/full", "wb") as full:

@@ -1,6 +1,7 @@
-/* The programs fhex and fhex-stream: `main`, and all that the proved part of each, generated/fhex/ or
- * generated/fhex-stream/, asks of the system.
- * No proof sees this file: the proved part assumes of each function what the comment on it says. */
+/* `main` of the programs fhex and fhex-stream, and the functions by which their proved parts call the system. The
+ * proved part of fhex is in generated/fhex/, and that of fhex-stream in generated/fhex-stream/.
+ *
+ * This file is not proved. The proofs assume of each function what its comment says. */
 #include <errno.h>
 #include <signal.h>
 #include <stdbool.h>
@@ -11,7 +12,7 @@
 #include <string.h>
 #include <unistd.h>
 
-/* The proved part keeps System V's convention on Windows too, where C has another. */
+/* The proved part has System V's calling convention on all systems. Windows has another one. */
 #ifdef _WIN32
 #include <fcntl.h>
 #include <io.h>
@@ -21,7 +22,7 @@
 #define PROVED __attribute__((visibility("hidden")))
 #endif
 
-/* The proved part. It returns the exit status, 0 to 3. */
+/* Runs the proved part. Returns the exit status, which is 0 to 3. */
 PROVED int fhex_main_start(void);
 
 static size_t count;
@@ -38,15 +39,16 @@ int main(int argc, char **argv) {
 #ifdef _WIN32
     for (int file = 0; file < 3; file++) _setmode(file, _O_BINARY);
 #else
-    signal(SIGPIPE, SIG_IGN); /* a write to a closed pipe fails, and does not end the process */
+    /* A write to a closed pipe must fail, so that the program can report it. By default it ends the process. */
+    signal(SIGPIPE, SIG_IGN);
 #endif
     count = (size_t)argc;
     words = argv;
     return fhex_main_start();
 }
 
-/* Fills `to` with word `at` of the command line, as far as there is room, and returns its length
- * without the zero after it; or -2 if it is longer than `room`, or -1 if there is no such word. */
+/* Copies the word with the index `at` of the command line to `to`, without the zero at its end. Returns its length.
+ * If there is no such word, it returns -1. If the word is longer than `room`, it copies `room` bytes and returns -2. */
 PROVED ptrdiff_t fhex_arg(size_t at, char *to, size_t room) {
     if (at >= count) return -1;
     size_t length = strlen(words[at]);
@@ -54,22 +56,24 @@ PROVED ptrdiff_t fhex_arg(size_t at, char *to, size_t room) {
     return length <= room ? (ptrdiff_t)length : -2;
 }
 
-/* Reads once. Returns how many of `length` bytes came, 0 at the end, or -1 with a reason. */
+/* Reads once, at most `length` bytes. Returns the number of bytes that were read, which is 0 at the end of the file.
+ * After a failure it returns -1, and `fhex_errno` has the reason. */
 PROVED ptrdiff_t fhex_read(int file, void *to, size_t length) {
     return read(file, to, length);
 }
 
-/* Writes once. Returns how many of `length` bytes were taken, or -1 with a reason. */
+/* Writes once, at most `length` bytes. Returns the number of bytes that were written. After a failure it returns -1,
+ * and `fhex_errno` has the reason. */
 PROVED ptrdiff_t fhex_write(int file, const void *from, size_t length) {
     return write(file, from, length);
 }
 
-/* The reason. Two have a meaning for the proved part: 4 is EINTR, 12 is ENOMEM. */
+/* Returns the reason of the last failure. The proved part distinguishes only two: 4 is EINTR, and 12 is ENOMEM. */
 PROVED int fhex_errno(void) { return errno; }
 
 PROVED void fhex_set_errno(int reason) { errno = reason; }
 
-/* Whether there is memory, and where it begins, or else some address. */
+/* An allocated block. If the allocation failed, `is_there` is false, and `at` is some address that is not null. */
 struct block {
     bool is_there;
     void *at;
@@ -80,9 +84,10 @@ static struct block block_at(void *at) {
     return (struct block){ at != NULL, at != NULL ? at : &nowhere };
 }
 
-/* Asks the system for large pages below a block from 4 MiB on, and returns it. To fill a page at its first use
- * takes longer than to decode what stands in it, and a large page is filled at once. All pages that the block
- * touches are named, so that its mapping stays one, which can grow. If the system refuses, nothing changes. */
+/* Asks the system for large pages if a block has at least 4 MiB, and returns the block. The system clears each page
+ * when it is first used. With small pages this takes longer than to decode the bytes, and with large ones it takes
+ * less. The request names all pages of the block, so that the system keeps one mapping for it. Only one mapping can
+ * grow, and otherwise `realloc` would copy the bytes. If the system refuses, nothing changes. */
 static void *in_large_pages(void *at, size_t size) {
 #ifdef MADV_HUGEPAGE
     if (at != NULL && size >= (size_t)4 << 20) {
@@ -95,13 +100,13 @@ static void *in_large_pages(void *at, size_t size) {
     return at;
 }
 
-/* A block of `size` bytes, less than 2^63, at a multiple of `align`, which divides 16. */
+/* Allocates a block of `size` bytes, which is less than 2^63. Its address is a multiple of `align`, a divisor of 16. */
 PROVED struct block fhex_alloc(size_t size, size_t align) {
     return block_at(in_large_pages(malloc(size > 0 ? size : align), size));
 }
 
-/* A block of `size` bytes in place of that at `at`, of which it has the first `kept` bytes. If
- * there is no memory, that one stays as it was. */
+/* Replaces the block at `at` by one of `size` bytes, which keeps the first `kept` bytes. If there is no memory, the old
+ * block stays as it was. */
 PROVED struct block fhex_realloc(void *at, size_t kept, size_t size, size_t align) {
     (void)kept;
     return block_at(in_large_pages(realloc(at, size > 0 ? size : align), size));
@@ -110,7 +115,7 @@ PROVED struct block fhex_realloc(void *at, size_t kept, size_t size, size_t alig
 PROVED void fhex_dealloc(void *at) { free(at); }
 
 #ifdef _WIN32
-/* The proved part calls these as C has them, but by its own convention. */
+/* These do the same as in C, but have the proved part's calling convention. */
 PROVED void *fhex_memcpy(void *to, const void *from, size_t n) { return memcpy(to, from, n); }
 PROVED void *fhex_memmove(void *to, const void *from, size_t n) { return memmove(to, from, n); }
 PROVED void *fhex_memset(void *to, int byte, size_t n) { return memset(to, byte, n); }

@@ -2,37 +2,18 @@
 //! or decodes it.
 #![tactic(auto)]
 
-use hex_program::{Failure, refuse, serve_stream};
-use std::env;
-use std::io::ErrorKind;
+use hex_program::{refuse, serve_stream, with_words};
 use std::process::ExitCode;
 
-// Returns the arguments of the program, without its name.
-fn words(rt: &HostRuntime) -> Result<Vec<String>, Failure> {
-    let arguments = match env::args(rt) {
-        Ok(arguments) => arguments,
-        Err(e) if e.kind() == ErrorKind::OutOfMemory => return Err(Failure::OutOfMemory),
-        Err(_) => return Err(Failure::ReadFailed),
-    };
-    let words = arguments.skip(1).collect(rt.alloc());
-    words.map_err(|_| Failure::OutOfMemory)
-}
-
-// Runs the program with its arguments and the standard streams. Returns the exit status.
-fn run(rt: &HostRuntime) -> Result<u8, Failure> {
-    let words = words(rt)?;
-    let mut texts = Vec::new(rt.alloc());
-    for word in words.as_slice() {
-        let pushed = texts.push(word.as_str());
-        pushed.map_err(|_| Failure::OutOfMemory)?;
-    }
+// Runs the program over the standard streams. Returns the exit status.
+fn run(rt: &HostRuntime, words: &[&str]) -> u8 {
     let mut input = rt.stdin();
-    let (status, _, _) = serve_stream(texts.as_slice(), &mut input, rt.stdout(), rt.stderr());
-    Ok(status)
+    let (status, _, _) = serve_stream(words, &mut input, rt.stdout(), rt.stderr());
+    status
 }
 
 fn main(rt: HostRuntime) -> ExitCode {
-    match run(&rt) {
+    match with_words(&rt, |words| run(&rt, words)) {
         Ok(status) => ExitCode::from(status),
         Err(failure) => ExitCode::from(refuse(rt.stderr(), failure).0),
     }

@@ -29,12 +29,17 @@ pub record Wrote (c : CheckCase) (digits : List ℕ) (Does : List ℕ → Type 0
   pub spelled : SpellsBut c digits bytes (option_to_list waiting)
   pub put : Does bytes
 
--- the sink took what the digits before the last chunk spell. A chunk is at most as long as a read
+-- the most bytes that a decoding asks for in one read. Its chunks are the bytes of one read each
+abbrev pub longest_chunk : ℕ
+longest_chunk = 16384
+
+-- the sink took what the digits before the last chunk spell. How a reader cuts its bytes is no part of its contract, so
+-- of the chunk only its greatest length is stated
 pub record WroteBefore (r : Reading) (s : List ℕ) (old new : SinkState) : Type 0 where
   pub fed : List ℕ
   pub chunk : List ℕ
   pub parts : s ≡ fed ++ chunk
-  pub short : length chunk ≤ 16384
+  pub short : length chunk ≤ longest_chunk
   pub wrote : Wrote r.case (digits_in r fed) (Takes old new)
 
 -- the result of decoding the bytes s that were read
@@ -45,7 +50,7 @@ EndsDecoding r s left old new (Ok count) = (bytes : List ℕ) × Spells r.case (
 EndsDecoding r s left old new (Err Read) = Wrote r.case (digits_in r s) (Takes old new)
 -- the last digit has no partner: the sink took the bytes of the whole pairs
 EndsDecoding r s left old new (Err (Codec OddLength)) = Wrote r.case (digits_in r s) (Takes old new) × RefusedBy r s left OddLength
--- any other error of the source: the sink took the bytes of the chunks before
+-- any other error of the source: the sink took the bytes of the whole pairs before the last chunk
 EndsDecoding r s left old new (Err (Codec e)) = WroteBefore r s old new × RefusedBy r s left e
 -- a put failed: the sink took a first part of the bytes of the whole pairs
 EndsDecoding r s left old new (Err (Write _)) = Wrote r.case (digits_in r s) (Stops old new)

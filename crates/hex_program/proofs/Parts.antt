@@ -3,9 +3,9 @@ use Rattle.std.specs.Prelude.{◌≡◌, List, ℕ, ◌++◌, [], Option, Result
 use Rattle.std.specs.Io.KnownBytes.{Keeps}
 use Rattle.std.proofs.Common.{◌∙◌, ap, sym, append-nil, append_assoc}
 use Rattle.std.proofs.KnownBytes.{Appends-kept}
-use Rattle.hex_io.specs.declared.sink.WriteFault.{WriteFault}
-use Rattle.hex_io.specs.SinkState.{Puts, SinkState, Stops, Takes}
-use Rattle.hex_program.specs.Serving.{WritesPart}
+use Rattle.hex_io.specs.SinkState.{SinkState, Stops, Takes}
+use Rattle.hex_program.specs.declared.failure.Failure.{Failure}
+use Rattle.hex_program.specs.Serving.{WritesPart, Outputs}
 
 pub part-all : (old new : SinkState) (bs more all : List ℕ) → bs ++ more ≡ all → Takes old new bs → WritesPart old.taken new.taken all
 part-all old new bs more all is took = (bs, (more, is, took.appended))
@@ -18,7 +18,7 @@ part-of old new bs more all is stopped =
 pub part-kept : (a b c : Option (List ℕ)) (bs : List ℕ) → WritesPart a b bs → Keeps b c → WritesPart a c bs
 part-kept a b c bs part kept = (part.0, (part.1.0, part.1.1, Appends-kept a b c part.0 part.1.2 kept))
 
--- puts in a row, whether they took all or ended early
-pub puts-part : (old new : SinkState) (result : Result (Unit {0}) WriteFault) (bs : List ℕ) → Puts old new result bs → WritesPart old.taken new.taken bs
-puts-part old new (Ok done) bs took = part-all old new bs [] bs (append-nil bs) took
-puts-part old new (Err why) bs stopped = part-of old new bs [] bs (append-nil bs) stopped
+-- a text that was written, all of it or a leading part
+pub written-part : (text : List ℕ) (held held' : Option (List ℕ)) (ended : Result (Unit {0}) Failure) → Outputs text held held' ended → WritesPart held held' text
+written-part text held held' (Ok done) wrote = (text, ([], append-nil text, wrote))
+written-part text held held' (Err failure) wrote = wrote.1

@@ -41,6 +41,11 @@ abbrev pub Says : Option (List ℕ) → Option (List ℕ) → Result (Unit {0}) 
 Says said said' (Ok done) = Keeps said said'
 Says said said' (Err failure) = WritesPart said said' (failure_text failure ++ 10 ∷ [])
 
+-- a text was written: all of it, or a leading part of it, and then a write or the flush failed
+abbrev pub Outputs : List ℕ → Option (List ℕ) → Option (List ℕ) → Result (Unit {0}) Failure → Type 0
+Outputs text held held' (Ok done) = Appends held held' text
+Outputs text held held' (Err failure) = (failure ≡ WriteFailed) × WritesPart held held' text
+
 -- the greatest length of an input, in bytes
 abbrev pub input_limit : ℕ
 input_limit = 16777216

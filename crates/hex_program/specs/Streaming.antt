@@ -1,5 +1,5 @@
 -- What all of `fhex-stream` does with its words and with what it reads, and how it ends.
-use Rattle.std.specs.Prelude.{◌≡◌, ◌≤◌, ◌^◌, ⊤, ℕ, if◌then◌else◌, List, [], ◌∷◌, ◌++◌, length, codes, Option, Some, None, Result, Ok, Err}
+use Rattle.std.specs.Prelude.{◌≡◌, ◌≢◌, ◌≤◌, ◌^◌, ⊤, ℕ, if◌then◌else◌, List, [], ◌∷◌, ◌++◌, length, codes, Option, Some, None, Result, Ok, Err}
 use Rattle.std.specs.Str.{bytes_eq}
 use Rattle.std.specs.List.{flat_map, join_by}
 use Rattle.std.specs.Io.KnownBytes.{Appends, Consumes, IsAtEnd}
@@ -9,8 +9,8 @@ use Rattle.hex_core.specs.declared.error.Error.TheVariants.{OddLength, Overflow}
 use Rattle.hex_core.specs.Text.{Spells, lowercase, text}
 use Rattle.hex_codec.specs.GroupedWriting.{pieces}
 use Rattle.hex_io.specs.Reading.{spaced, unspaced}
-use Rattle.hex_io.specs.Stream.{RefusedBy, Wrote}
-use Rattle.hex_program.specs.Serving.{Says, WritesPart, status_after}
+use Rattle.hex_io.specs.Stream.{RefusedBy, Wrote, longest_chunk}
+use Rattle.hex_program.specs.Serving.{Says, WritesPart, Outputs, failure_text, status_after}
 use Rattle.hex_program.specs.declared.failure.Failure.{Failure}
 use Rattle.hex_program.specs.declared.failure.Failure.TheVariants.{Codec, StreamUsage, ReadFailed, WriteFailed}
 use Rattle.hex_program.specs.declared.stream.StreamOp.{StreamOp}
@@ -54,14 +54,14 @@ WritesRead Encode input held held' = Appends held held' (text lowercase input)
 WritesRead EncodeLines input held held' = Appends held held' (join_by (text lowercase) (10 ∷ []) (pieces 30 input))
 WritesRead Decode input held held' = Wrote policy.None (unspaced input) (Appends held held')
 
--- a decoding refuses what was read, but not for an odd digit: the index in a refusal counts all bytes of it. All but
--- those of the last read, which are at most 16384, were decoded and written
+-- a decoding refuses what was read, but not for an odd digit: the index in a refusal counts all bytes of it. All of it
+-- was decoded and written, except for at most the last 16384 bytes
 pub record RefusesStream (input : List ℕ) (left' held held' : Option (List ℕ)) (refusal : Error) : Type 0 where
   pub is_refusal : RefusedBy (spaced policy.None) input left' refusal
   pub front : List ℕ
   pub rest : List ℕ
   pub parts : input ≡ front ++ rest
-  pub short : length rest ≤ 16384
+  pub short : length rest ≤ longest_chunk
   pub wrote : Wrote policy.None (unspaced front) (Appends held held')
 
 -- what was read is refused: for an odd digit, or too many bytes to encode, nothing of it was left out
@@ -86,10 +86,21 @@ pub record ServesStreamOp (op : StreamOp) (left left' held held' : Option (List 
   pub begun : Begins op input held held'
   pub end : EndsStreamOp op input left' held held' ended
 
--- the program, by its words: an operation, or words that name none, for which nothing is read or written
+-- what `--version` prints
+abbrev pub version_text : List ℕ
+version_text = codes "fhex-stream 1.0.0"
+
+-- what the words ask for: an operation; the usage or the version on standard output, for which nothing is read; or neither,
+-- for which nothing is read and no output written
+pub record AnswersWords (words : List (List ℕ)) (left left' held held' : Option (List ℕ)) (ended : Result (Unit {0}) Failure) : Type 0 where
+  pub operation : (op : StreamOp) → stream_op_of_words words ≡ Some op → ServesStreamOp op left left' held held' ended
+  pub help : words ≡ codes "--help" ∷ [] → (left' ≡ left) × Outputs (failure_text StreamUsage ++ 10 ∷ []) held held' ended
+  pub version : words ≡ codes "--version" ∷ [] → (left' ≡ left) × Outputs (version_text ++ 10 ∷ []) held held' ended
+  pub usage : (stream_op_of_words words ≡ None) × (words ≢ codes "--help" ∷ []) × (words ≢ codes "--version" ∷ []) → (ended ≡ Err StreamUsage) × (left' ≡ left) × (held' ≡ held)
+
+-- the program: it does what its words ask for, and ends with the status and the message of how that ended
 pub record ServesStream (words : List (List ℕ)) (left left' held held' said said' : Option (List ℕ)) (status : ℕ) : Type 0 where
   pub ended : Result (Unit {0}) Failure
   pub is_status : status ≡ status_after ended
   pub message : Says said said' ended
-  pub operation : (op : StreamOp) → stream_op_of_words words ≡ Some op → ServesStreamOp op left left' held held' ended
-  pub usage : stream_op_of_words words ≡ None → (ended ≡ Err StreamUsage) × (left' ≡ left) × (held' ≡ held)
+  pub answer : AnswersWords words left left' held held' ended

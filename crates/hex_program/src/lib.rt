@@ -2,6 +2,7 @@
 //! write to any sink. Each whole program takes its arguments, an input and two outputs.
 #![tactic(auto)]
 
+pub mod arguments;
 pub mod failure;
 pub mod input;
 pub mod operation;
@@ -10,6 +11,7 @@ pub mod stream;
 pub mod unretried;
 pub mod vectors;
 
+pub use crate::arguments::with_words;
 pub use crate::failure::Failure;
 pub use crate::input::{INPUT_LIMIT, read_input};
 pub use crate::operation::{Op, RunFault, run};

@@ -1,8 +1,8 @@
-//! All of `fhex` over given arguments, an input and two outputs.
+//! The program `fhex` over given arguments, an input and two outputs.
 
-ghost use Rattle.std.specs.Prelude.{◌≡◌, map, Err};
+ghost use Rattle.std.specs.Prelude.{◌≡◌, ◌++◌, ◌∷◌, [], map, Err, IfSome};
 ghost use Rattle.std.specs.Io.KnownBytes.{Keeps};
-ghost use Rattle.hex_program.specs.Serving.{EndsOp, Says, Serves, ServesVectors, status_after, status_of};
+ghost use Rattle.hex_program.specs.Serving.{EndsOp, Says, Serves, ServesVectors, Outputs, status_after, status_of};
 ghost use Rattle.hex_program.specs.inside.{EndsRun};
 
 use crate::failure::Failure;
@@ -12,13 +12,14 @@ use crate::vectors::{VECTORS, Vector, run_vectors};
 use arrayvec::ArrayString;
 use hex_io::{WriterSink, put_all};
 use std::alloc::{Allocator, Global};
-use std::fmt;
+use std::fmt::{self, Display};
 use std::io::{Read, Write};
 
-// The longest message, in bytes, with its newline.
-const MESSAGE: usize = 128;
+// The length of the longest line, in bytes, with its newline.
+const LINE: usize = 128;
 
-// Ends a run: flushes its output, or returns its fault as a failure.
+// Ends a run. If it had no fault, its output is flushed. Otherwise the result is the fault as a
+// failure.
 fn finish<W: Write>(out: &mut W, ran: Result<(), RunFault>) -> Result<(), Failure>
     ensures ended { EndsRun ran result }
     ensures kept { Keeps (W.contents out.old) (W.contents out.new) }
@@ -31,28 +32,42 @@ fn finish<W: Write>(out: &mut W, ran: Result<(), RunFault>) -> Result<(), Failur
     }
 }
 
-/// Writes the line of a failure to `err`, and returns the failure's status and `err`. An error of
-/// `err` ends the line, of which a leading part then stands there, and does not change the status.
-/// No error is retried.
+// Writes a text and flushes it. Nothing is tried again.
+fn write_text<W: Write>(out: W, text: &[u8]) -> (Result<(), Failure>, W)
+    ensures { Outputs text.now (W.contents out) (W.contents result.1) result.0 }
+{
+    let mut sink = WriterSink::new(out);
+    let put = put_all(&mut sink, text).map_err(RunFault::Write);
+    let mut out = sink.into_inner();
+    let ended = finish(&mut out, put);
+    (ended, out)
+}
+
+// Writes a line, with its newline, and flushes it. The writer gets the line in one piece, so that
+// lines of several processes do not mix.
+pub(crate) fn print_line<W: Write, M: Display>(out: W, line: &M) -> (Result<(), Failure>, W)
+    ensures { IfSome (M.output line.now) (λ line. Outputs (line ++ 10 ∷ []) (W.contents out) (W.contents result.1) result.0) }
+{
+    let mut text = ArrayString::<LINE>::new();
+    // No line is longer.
+    let Ok(()) = fmt::Write::write_fmt(&mut text, format_args!("{line}\n")) else {
+        return (Err(Failure::WriteFailed), out);
+    };
+    write_text(out, text.as_bytes())
+}
+
+/// Writes the line of a failure to `err`. Returns the exit status of the failure and `err`. An error
+/// of `err` ends the line early, and does not change the status. Nothing is tried again.
 pub fn refuse<E: Write>(err: E, failure: Failure) -> (u8, E)
     ensures status { result.0 ≡ status_of failure }
     ensures message { Says (E.contents err) (E.contents result.1) (Err failure) }
 {
-    let mut line = ArrayString::<MESSAGE>::new();
-    // No line is longer.
-    let Ok(()) = fmt::Write::write_fmt(&mut line, format_args!("{failure}\n")) else {
-        return (failure.status(), err);
-    };
-    let mut sink = WriterSink::new(err);
-    let put = put_all(&mut sink, line.as_bytes());
-    let mut err = sink.into_inner();
-    if put.is_ok() {
-        let _ = err.flush();
-    }
+    let (_, err) = print_line(err, &failure);
     (failure.status(), err)
 }
 
-// Ends a program: writes the line of its failure, if it has one, and returns its status and `err`.
+// Ends a program. If it failed, the line of the failure is written. Returns the exit status and
+// `err`.
 pub(crate) fn end<E: Write>(err: E, ended: Result<(), Failure>) -> (u8, E)
     ensures status { result.0 ≡ status_after ended }
     ensures message { Says (E.contents err) (E.contents result.1) ended }
@@ -84,11 +99,11 @@ fn serve_op<A: Allocator, R: Read, W: Write>(
     (ended, out)
 }
 
-/// Writes the lines of [`run_vectors`] over `table` to `out`, flushes it and returns the exit
-/// status: 0 if no vector failed, else 1.
+/// Runs the vectors of `table` by [`run_vectors`], writes its lines to `out` and flushes it. Returns
+/// the exit status and the two writers. The status is 0 if no vector failed, and 1 if one did.
 ///
-/// A failed write or flush is status 3, with `write failed` on `err`; a failed allocation is status
-/// 3, with `out of memory`.
+/// If a write or the flush fails, the status is 3, and `write failed` is written to `err`. If an
+/// allocation fails, it is 3 too, and `out of memory` is written.
 pub fn serve_vectors<A: Allocator, W: Write, E: Write>(
     alloc: &A,
     table: &[Vector<'_>],
@@ -113,7 +128,7 @@ pub fn serve_vectors<A: Allocator, W: Write, E: Write>(
     }
 }
 
-/// [`serve`] with any allocator, so that a test can make it fail.
+/// Does the same as [`serve`] with any allocator, so that a test can make an allocation fail.
 pub fn serve_in<A: Allocator, R: Read, W: Write, E: Write>(
     alloc: &A,
     words: &[&str],
@@ -136,28 +151,30 @@ pub fn serve_in<A: Allocator, R: Read, W: Write, E: Write>(
     (status, out, err)
 }
 
-/// Runs `fhex` over what it is given, and returns the exit status and the two writers.
+/// Runs `fhex` over the given arguments, input and outputs. Returns the exit status and the two
+/// writers.
 ///
-/// `words` are the program's arguments, without its name, and are tested first. One that names an
-/// [`Op`]: reads all of `input`, at most [`INPUT_LIMIT`](crate::INPUT_LIMIT) bytes, writes the
-/// operation's output to `out`, and flushes it. The word `vectors`: does not read `input`, writes
-/// the stored vectors' lines to `out`, and flushes it.
+/// `words` are the arguments of the program, without its name. They are tested first. If there is
+/// exactly one and it names an [`Op`], the function reads all of `input`, which may have at most
+/// [`INPUT_LIMIT`](crate::INPUT_LIMIT) bytes. It then writes the output of the operation to `out`,
+/// and flushes it. If the only word is `vectors`, it does not read `input`. It writes the lines of
+/// the stored vectors to `out`, and flushes it.
 ///
 /// | Status | When | Written to `err`, as one line |
 /// |---|---|---|
-/// | 0 | done | nothing |
-/// | 1 | the input is refused; nothing went to `out` | the [`Error`](hex_core::Error)'s text |
+/// | 0 | the whole output was written to `out` | nothing |
+/// | 1 | the input is refused; nothing was written to `out` | the text of the [`Error`](hex_core::Error) |
 /// | 1 | a stored vector failed | nothing |
-/// | 2 | no word, several, or another one; nothing was read, nothing went to `out` | the usage |
+/// | 2 | `words` is not one of these words; nothing was read or written to `out` | the usage |
 /// | 3 | a failure of the system | `read failed`, `write failed`, `out of memory` |
 /// | 3 | the input is longer than the limit | `input too long` |
 ///
-/// After `write failed` a leading part of the output may have gone to `out`, and after the other
-/// failures nothing.
+/// After `write failed`, a leading part of the output may have been written to `out`. After any
+/// other failure nothing was written there.
 ///
-/// No error of a reader or a writer is retried. An error of `err` ends the line, and does not
-/// change the status. The contract covers the bytes read and written if the types of reader and
-/// writers model them.
+/// Nothing is tried again after an error of the reader or of a writer. An error of `err` ends the
+/// line, and does not change the status. The contract says which bytes were read and written if the
+/// types of reader and writers model them.
 ///
 /// ```rust
 /// let mut input: &[u8] = b"hello";

@@ -3,11 +3,11 @@
 
 ghost use Rattle.std.specs.Prelude.{◌≡◌, map};
 ghost use Rattle.std.specs.Io.KnownBytes.{Keeps};
-ghost use Rattle.hex_program.specs.Streaming.{ServesStream, ServesStreamOp, stream_op_of_word, stream_op_of_words};
+ghost use Rattle.hex_program.specs.Streaming.{AnswersWords, ServesStream, ServesStreamOp, stream_op_of_word, stream_op_of_words};
 ghost use Rattle.hex_program.specs.inside.{EndsLine, EndsStreamRun, RunsStream};
 
 use crate::failure::Failure;
-use crate::program::end;
+use crate::program::{end, print_line};
 use hex_codec::Group;
 use hex_core::CheckCase;
 use hex_io::laws::puts_in_a_row_are_one;
@@ -18,6 +18,9 @@ use std::io::{Read, Write};
 // The number of bytes in a line of `encode-lines`. A line has twice as many digits, as with
 // `xxd -p`.
 const LINE: usize = 30;
+
+// What `--version` prints.
+const VERSION: &str = "fhex-stream 1.0.0";
 
 /// What `fhex-stream` does with its input.
 #[derive(Clone, Copy, Debug, PartialEq, Eq)]
@@ -132,6 +135,27 @@ fn serve_stream_op<R: Read, W: Write>(
     (ended, out)
 }
 
+// Does what the arguments of the program ask for, or fails if they ask for nothing.
+fn answer_words<R: Read, W: Write>(
+    words: &[&str],
+    input: &mut R,
+    out: W,
+) -> (Result<(), Failure>, W)
+    ensures { AnswersWords (map (λ w. w.now) words.now) (R.remaining input.old)
+        (R.remaining input.new) (W.contents out) (W.contents result.1) result.0 }
+{
+    if let ["--help"] = words {
+        return print_line(out, &Failure::StreamUsage);
+    }
+    if let ["--version"] = words {
+        return print_line(out, &VERSION);
+    }
+    match StreamOp::from_words(words) {
+        Some(op) => serve_stream_op(op, input, out),
+        None => (Err(Failure::StreamUsage), out),
+    }
+}
+
 /// Runs `fhex-stream` over the given arguments, input and outputs. Returns the exit status and the
 /// two writers.
 ///
@@ -141,12 +165,15 @@ fn serve_stream_op<R: Read, W: Write>(
 /// the first part of the right output, or all of it. After `read failed`, nothing of what was read
 /// is left out, except for the last newline or a digit that waits for its partner.
 ///
+/// If the only word is `--help` or `--version`, the function reads nothing. It writes one line to
+/// `out`, which is the usage or the name and the version of the program.
+///
 /// | Status | When | Written to `err`, as one line |
 /// |---|---|---|
 /// | 0 | the whole output was written to `out` | nothing |
-/// | 1 | a byte is invalid; what came before the last read was decoded | the text of the [`Error`](hex_core::Error) |
+/// | 1 | a byte is invalid; all that was read was decoded, except for at most the last 16,384 bytes | the text of the [`Error`](hex_core::Error) |
 /// | 1 | the number of digits is odd; all whole pairs were decoded | the same |
-/// | 2 | `words` is not one word that names an operation; nothing was read or written to `out` | the usage |
+/// | 2 | `words` is not one of these words; nothing was read or written to `out` | the usage |
 /// | 3 | a failure of the system | `read failed`, `write failed` |
 ///
 /// An interrupted read is tried again. After any other error nothing is. An error of `err` ends the
@@ -170,10 +197,7 @@ pub fn serve_stream<R: Read, W: Write, E: Write>(
         (R.remaining input.new) (W.contents out) (W.contents result.1)
         (E.contents err) (E.contents result.2) result.0 }
 {
-    let (ended, out) = match StreamOp::from_words(words) {
-        Some(op) => serve_stream_op(op, input, out),
-        None => (Err(Failure::StreamUsage), out),
-    };
+    let (ended, out) = answer_words(words, input, out);
     let (status, err) = end(err, ended);
     (status, out, err)
 }
