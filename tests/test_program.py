@@ -96,8 +96,10 @@ def test_lengths_that_are_drawn(fhex):
     for length in drawn_lengths():
         given, at = chance.randbytes(length), chance.randrange(2 * length)
         text = given.hex().encode() + b"\n"
+        upper = text.upper()
         invalid = text[:at] + b"g" + text[at + 1:]
         told = f"SEED={SEED}, {length} bytes"
-        assert ended(fhex, "encode", input=given) == (0, text, b""), told
-        assert ended(fhex, "decode", input=text) == (0, given, b""), told
+        for word, before, after in [("encode", given, text), ("encode-upper", given, upper), ("decode", text, given),
+                                    ("decode-lower", text, given), ("decode-upper", upper, given)]:
+            assert ended(fhex, word, input=before) == (0, after, b""), f"{told}, {word}"
         assert ended(fhex, "decode", input=invalid) == (1, b"", INVALID % (0x67, at)), told

@@ -1,6 +1,8 @@
 """Programs that read rows notice wrong answers. Each program accepts its file as it is. If answers are made wrong, it
 prints exactly these rows. Below such a row it prints the arguments of the first turn that differs, the call, the answer
 that the row wants, and the answer of the call."""
+import re
+
 import pytest
 
 from commands import OF_PROOFS, SEED, TOP, drawn_lengths, needs, ran
@@ -81,15 +83,49 @@ TOLD = [
         "looks of locate of scalar: wanted 3, came 2",
     ),
 ]
-# For each program, rows that depend on a length, on twice the length, and on one more than that.
+# For each program, rows that depend on a length `n` and on its number of lines of 30 bytes.
 OF_LENGTH = {
-    "test_rows": ["3 long [any|lower|upper] {0} = alike"],
-    "test_json": ["13 long module [0+1] {0} = alike"],
+    "test_rows": [
+        "3 long [any|lower|upper] {n} = alike",
+        "put {n} = written",
+        "3 stream decode [any|lower|upper] [0aFf|0aff|0AFF] {n2} 1000 0 ends {n} 0 = ok {n} {n} #0aff",
+        r"stream spaced any 0\x0a0 {n3} 1000 0 ends {n} 0 = ok {n} {n} \x00",
+        "2 stream encode [lower|upper] #ab {n} 1000 0 ends {n2} 0 = ok {n} {n2} [ab|AB]",
+        r"stream grouped lower #ab {n} 1000 0 ends {in_lines} 0 30 \x0a = ok {n} {in_lines} ab*30,\x0a",
+    ],
+    "test_json": ["13 long module [0+1] {n} = alike", "12 long [by|option-by] format [0+1/2] {n} = alike"],
     "test_program": [
-        r"serve many \xab {0} encode - = 0 many {2} ab \x0a",
-        "serve many 0 {1} decode - = 0 many {0} #00 -",
+        r"2 serve many \xab {n} [encode|encode-upper] - = 0 many {n2_1} [ab|AB] \x0a",
+        "3 serve many 0 {n2} [decode|decode-lower|decode-upper] - = 0 many {n} #00 -",
+        r"stream every 1000 many \xab {n} encode - = 0 many {n2_1} ab \x0a",
+        r"stream every 30 many \xab {n} encode-lines - = 0 many {in_lines_1} ab*30,\x0a \x0a",
+        "stream every 1000 many 0 {n2} decode - = 0 many {n} #00 -",
     ],
 }
+# The same for lengths of which a row can write so many bytes.
+OF_SHORT_LENGTH = {
+    "test_rows": [
+        r"list 2 lower 1 ab01\x20\x20,n*{n} = 1 ok #ab01 text n*{n}",
+        r"list 1 lower 99 ab\x20\x20n\x0a*{n} = {growths} ok many {n} #ab text n",
+        r"pad - - \x20 - #ab*{short} = ab*{short}",
+        r"pad - - \x20 3 : #ab*{short} = ab*{short}~3:",
+        r"relist 1 lower {r} ab\x20\x20,n*{short} = ok ab\x20\x20,n*{short},\x0a",
+    ],
+}
+SHORT, SHORTEST = 20_000, 3_000
+
+
+def rows_of(program, n):
+    """The rows of a program for a length. The memory for the entries of a list grows to 4, and then doubles."""
+    short = n % SHORTEST + 1
+    of = {"n": n, "n2": 2 * n, "n2_1": 2 * n + 1, "n3": 3 * n, "in_lines": 2 * n + (n - 1) // 30,
+          "in_lines_1": 2 * n + (n - 1) // 30 + 1, "growths": max(n - 1, 3).bit_length() - 1, "short": short, "r": short + 5}
+    rows = OF_LENGTH[program] + (OF_SHORT_LENGTH.get(program, []) if n <= SHORT else [])
+    return [row.format(**of) for row in rows]
+
+
+# The lines of the page on the language of rows, each with the rows that it stands for.
+EXPANDED = re.findall(r"^`(\d+ .*?)` \| (`.*`)$", (TOP / "docs/rows.md").read_text(), re.M)
 
 
 @pytest.fixture(scope="module", params=PLANTED)
@@ -129,6 +165,18 @@ def test_a_wrong_answer_is_told(row, turn, words, call):
 
 def test_lengths_that_are_drawn(program):
     """Rows of random lengths, so that a wrong answer at only one length, which no row has, is found in some run."""
-    rows = [row.format(it, 2 * it, 2 * it + 1) for it in drawn_lengths() for row in OF_LENGTH[program]]
+    rows = [row for it in drawn_lengths() for row in rows_of(program, it)]
     said = answered(program, "\n".join(rows))
     assert said.endswith(" rows, 0 answered otherwise\n"), f"SEED={SEED}: {said}"
+
+
+def test_rows_of_the_page():
+    """A line and the rows that the page expands it to are the same calls, and all are answered."""
+    needs("rt")
+    ran(["rt", "run"], cwd=CRATES / "test_rows", input="", timeout=OF_PROOFS)
+    assert len(EXPANDED) == 3
+    for line, cell in EXPANDED:
+        rows = re.findall("`(.*?)`", cell.replace(r"\|", "|"))
+        said = [answered("test_rows", f"# The Rust crate's `page`.\n{it}\n\n")
+                for it in (line.replace(r"\|", "|"), "\n".join(rows))]
+        assert said[0] == said[1] and f"page {len(rows)} " in said[0] and " rows, 0 " in said[0], said

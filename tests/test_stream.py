@@ -185,6 +185,22 @@ def test_failed_calls(failing, word):
         assert (out != b"") == (status == 0 or number > 1)
 
 
+@pytest.mark.parametrize("word", ["encode", "encode-lines", "decode"])
+def test_reads_and_writes(failing, tmp_path, word):
+    """Each read asks for a whole chunk, which in lines has only whole lines. The last read may ask for the rest of a
+    line. At most one write follows a read."""
+    given, chunk = (BYTES.hex().encode(), READ) if word == "decode" else (BYTES, READ // 2)
+    chunk -= chunk % 30 if word == "encode-lines" else 0
+    source, log = tmp_path / "source", tmp_path / "log"
+    source.write_bytes(given)
+    with source.open("rb") as file:
+        assert ended(failing, word, stdin=file, env={**os.environ, "CALLED": log}) == (0, model(word, given)[1], b"")
+    calls = [line.split() for line in log.read_text().splitlines()]
+    reads = [int(asked) for call, asked, _ in calls if call == "read"]
+    assert {*reads[:-1]} == {chunk} and len(reads) <= len(given) // chunk + 2
+    assert not any(one[0] == other[0] == "write" for one, other in zip(calls, calls[1:]))
+
+
 @pytest.mark.parametrize("word, given, status", [
     ("encode", b"", 3), ("encode", b"a", 3), ("encode-lines", b"a", 3), ("encode-lines", b"", 0),
     ("decode", b"00\n", 3), ("decode", b"\n", 0), ("decode", b"0", 1), ("--help", b"", 3), ("--version", b"", 3)])

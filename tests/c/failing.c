@@ -1,7 +1,8 @@
 /* Injects failures into fhex.c, by `ld --wrap`. With FAILS='NAME NUMBER REASON' in the environment, the call of this
  * name and number fails with the errno REASON. If REASON is 0, it transfers nothing. With PIECE, a read or a write
  * transfers at most PIECE bytes. With ADVISED, that file gets a line for each call of madvise: the length, the advice
- * and the result. */
+ * and the result. With CALLED, that file gets a line for each read and each write: its name, the length and the
+ * result. */
 #include <errno.h>
 #include <stdbool.h>
 #include <stdio.h>
@@ -32,14 +33,24 @@ static size_t piece_of(size_t length) {
     return length < most ? length : most;
 }
 
+static ssize_t called(const char *call, size_t length, ssize_t answer) {
+    const char *name = getenv("CALLED");
+    FILE *file = name ? fopen(name, "a") : NULL;
+    if (file) {
+        fprintf(file, "%s %zu %zd\n", call, length, answer);
+        fclose(file);
+    }
+    return answer;
+}
+
 ssize_t __wrap_read(int file, void *to, size_t length) {
     if (fails("read")) return errno ? -1 : 0;
-    return __real_read(file, to, piece_of(length));
+    return called("read", length, __real_read(file, to, piece_of(length)));
 }
 
 ssize_t __wrap_write(int file, const void *from, size_t length) {
     if (fails("write")) return errno ? -1 : 0;
-    return __real_write(file, from, piece_of(length));
+    return called("write", length, __real_write(file, from, piece_of(length)));
 }
 
 void *__wrap_malloc(size_t size) {

@@ -1,19 +1,20 @@
-/* Compares the calls of faster_hex.h with models of a few lines: between guarded pages at all lengths from 0 to
- * 300 and at some greater lengths, with NULL, with sources that are too long for any text, with numbers above 2^32,
+/* Compares the calls of faster_hex.h with models of a few lines: between guarded pages at random lengths in random
+ * groups, at all lengths from 0 to 300 and at some greater lengths, with NULL, with sources that are too long for any text, with numbers above 2^32,
  * with adjacent source and destination, at all alignments, and in threads. `tests/test_library.py` builds and runs
  * it. Prints a line for each failure, and `N passed, M failed` at the end.
- * Usage: library [threads] */
+ * Usage: library [threads]. The environment variable SEED is the seed for random numbers. */
 #include <pthread.h>
 #include <stdio.h>
 #include <stdlib.h>
 #include <string.h>
 #include <sys/mman.h>
+#include <time.h>
 #include <unistd.h>
 
 #include "assembly.h"
 #include "faster_hex.h"
 
-enum { LONGEST = 300, OLD = 0xa5, THREADS = 8, TURNS = 200 };
+enum { LONGEST = 300, OLD = 0xa5, THREADS = 8, TURNS = 200, DRAWN = 16000, LONGEST_DRAWN = 2000, WIDEST_DRAWN = 64 };
 
 /* The header's macros give constants, also for sums, and can be used in sums. */
 #define IS(expression) __extension__ _Static_assert(expression, #expression)
@@ -44,6 +45,8 @@ struct job {
     size_t every;
     uint8_t sep;
 };
+
+static unsigned long seed;
 
 static struct faster_hex_answer told(size_t number, uint8_t status, uint8_t byte) {
     return (struct faster_hex_answer){ number, status, byte };
@@ -161,9 +164,10 @@ static bool agrees(const struct job *it, struct memory around) {
                 answer.byte == wanted.byte && memcmp(around.start, after, around.size) == 0;
     memcpy(around.start, before, around.size);
     if (!same) {
-        printf("failed: %s of %lu bytes into %lu: status %u, number %lu, and not %u, %lu\n", NAMES[it->call],
-               (unsigned long)it->len, (unsigned long)it->room, answer.status, (unsigned long)answer.number,
-               wanted.status, (unsigned long)wanted.number);
+        printf("failed: %s of %lu bytes into %lu in groups of %lu: status %u, number %lu, and not %u, %lu\n",
+               NAMES[it->call], (unsigned long)it->len, (unsigned long)it->room, (unsigned long)it->every,
+               answer.status, (unsigned long)answer.number, wanted.status, (unsigned long)wanted.number);
+        fflush(stdout);
     }
     return same;
 }
@@ -196,18 +200,23 @@ static size_t takes(const struct job *it) {
     return FASTER_HEX_DECODED_LEN(it->len);
 }
 
-/* The parameters of a turn. Turns have every policy, valid and invalid groups, and destinations of the right length, of
- * a greater one and of a smaller one. */
-static struct job job_of(enum call call, size_t len, unsigned turn) {
-    static const size_t pieces[] = { 1, 2, 3, 4, 16, 17, LONGEST, 0 };
+/* The parameters of a turn, in groups of this many bytes. Turns have every policy, valid and invalid separators, and
+ * destinations of the right length, of a greater one and of a smaller one. */
+static struct job job_in_groups(enum call call, size_t len, unsigned turn, size_t every) {
     static const char separators[] = { ':', '-', ' ', '\n', ':', 'a', '.' };
     struct job it = { call, NULL, len, NULL, 0, turn % 2 == 1, (uint8_t)(turn % 7 == 6 ? 3 : turn % 3), 0, 0 };
-    it.every = pieces[turn % 8];
+    it.every = every;
     it.sep = turn % 29 == 28 ? 0x80 : (uint8_t)separators[turn % 7];
     it.room = takes(&it);
     if (turn % 5 == 3) it.room += 7;
     if (turn % 5 == 4 && it.room > 0) it.room--;
     return it;
+}
+
+/* The same, in valid and invalid groups. */
+static struct job job_of(enum call call, size_t len, unsigned turn) {
+    static const size_t pieces[] = { 1, 2, 3, 4, 16, 17, LONGEST, 0 };
+    return job_in_groups(call, len, turn, pieces[turn % 8]);
 }
 
 /* Fills the source, and returns whether the call agrees with its model for this source and destination. */
@@ -242,21 +251,45 @@ static void refuses_unwritten(const struct job *it, struct memory to) {
 
 /* Source and destination are at the front or at the end of guarded pages. The source can't be written while the
  * call runs. The destination can't be written if the call must report an error. */
+static bool is_guarded(struct job it, unsigned turn, struct memory from, struct memory to) {
+    uint8_t *src = turn & 1 ? from.start + from.size - it.len : from.start;
+    it.src = src;
+    it.dst = turn & 2 ? to.start + to.size - it.room : to.start;
+    fill(&it, src, turn);
+    mprotect(from.start, from.size, PROT_READ);
+    bool holds = agrees(&it, to);
+    refuses_unwritten(&it, to);
+    mprotect(from.start, from.size, PROT_READ | PROT_WRITE);
+    return holds;
+}
+
 static void at_length(size_t len, unsigned turns, struct memory from, struct memory to) {
     bool holds = true;
     for (unsigned at = 0; at < CALLS * turns; at++) {
         unsigned turn = at % turns;
-        struct job it = job_of((enum call)(at / turns), len, turn);
-        uint8_t *src = turn & 1 ? from.start + from.size - len : from.start;
-        it.src = src;
-        it.dst = turn & 2 ? to.start + to.size - it.room : to.start;
-        fill(&it, src, turn);
-        mprotect(from.start, from.size, PROT_READ);
-        holds = agrees(&it, to) && holds;
-        refuses_unwritten(&it, to);
-        mprotect(from.start, from.size, PROT_READ | PROT_WRITE);
+        holds = is_guarded(job_of((enum call)(at / turns), len, turn), turn, from, to) && holds;
     }
     count(holds);
+}
+
+static unsigned drawn(void) {
+    static uint64_t state;
+    if (state == 0) state = seed;
+    state = state * 6364136223846793005u + 1442695040888963407u;
+    return (unsigned)(state >> 33);
+}
+
+/* Random lengths and groups come first, because no list of lengths and groups has each pair of them. */
+static void at_drawn_lengths(void) {
+    struct memory from = guarded(LONGEST_DRAWN), to = guarded(3 * LONGEST_DRAWN + 7);
+    bool holds = true;
+    for (unsigned turn = 0; turn < DRAWN; turn++) {
+        size_t len = drawn() % (LONGEST_DRAWN >> drawn() % 8), every = 1 + drawn() % WIDEST_DRAWN;
+        holds = is_guarded(job_in_groups((enum call)(turn % CALLS), len, drawn() % 4096, every), turn, from, to) && holds;
+    }
+    count(holds);
+    free(from.kept);
+    free(to.kept);
 }
 
 /* The greater length is that of complete texts in groups of 1, 2, 3, 4, 17 and 300 bytes. */
@@ -457,10 +490,16 @@ static void in_threads(void) {
 }
 
 int main(int words, char **word) {
+    const char *given = getenv("SEED");
+    seed = given && *given ? strtoul(given, NULL, 10) : (unsigned long)time(NULL);
     if (words > 1 && strcmp(word[1], "threads") == 0) {
         in_threads();
     } else {
         struct memory from = guarded(LONGEST), to = guarded(3 * LONGEST);
+        /* A call that writes where it must not ends the program, so the seed is printed before. */
+        printf("lengths and groups are drawn from SEED=%lu\n", seed);
+        fflush(stdout);
+        at_drawn_lengths();
         for (size_t len = 0; len <= LONGEST; len++) at_length(len, 60, from, to);
         at_long_lengths();
         with_null(to);

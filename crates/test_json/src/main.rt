@@ -1,5 +1,5 @@
 //! Rows of calls of the JSON adapters and their answers: reads them from standard input, and prints
-//! those that are answered otherwise and how many there are. `test_kit` says how a row is written.
+//! those that are answered otherwise and how many there are. `docs/rows.md` says how a row is written.
 #![tactic(auto)]
 
 mod growths;

@@ -34,17 +34,25 @@ pub fn is_written(row: &mut Row, is_array: bool) -> bool {
     is_json(alloc, got, row.wanted.as_slice())
 }
 
-/// Whether `long PLACE COUNT` is answered `alike`: so many bytes are written, and read as they were.
+/// Returns whether `long PLACE COUNT` is answered `alike`. So many bytes are written, also as an array, and are read
+/// again as they were, also within a bound.
 pub fn is_alike(row: &mut Row) -> bool {
     let (place, alloc) = (Place::read(&mut row.call), row.alloc);
     let count = row.call.take_number();
     let Ok(bytes) = Vec::from_elem(alloc, 0xab, count) else {
         return false;
     };
-    let Some(Ok(value)) = write(place, alloc, Some(bytes.as_slice())) else {
+    let src = Some(bytes.as_slice());
+    let Some(Ok(value)) = write(place, alloc, src) else {
         return false;
     };
-    let want = Ok(Some(bytes.as_slice()));
+    let want = Ok(src);
+    let is_array = match write_array(place, alloc, src) {
+        Some(Ok(array)) => is_exact(&array) && reads(place, alloc, &array, want),
+        Some(Err(_)) => false,
+        None => true,
+    };
     let is_within = reads_within::<{ usize::MAX }>(place, alloc, &value, want);
-    row.answer.takes(b"alike") && is_exact(&value) && is_within && reads(place, alloc, &value, want)
+    row.answer.wants(b"alike");
+    is_array && is_within && is_exact(&value) && reads(place, alloc, &value, want)
 }

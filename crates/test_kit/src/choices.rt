@@ -1,20 +1,17 @@
-//! How a row that stands for several writes what differs between them.
-//!
-//! `[any|lower|upper]` is `any` in the first turn, `lower` and `upper` in the next two, and then `any`
-//! again. `[any|lower|upper/64]` is each for 64 turns. What stands between bars may be a word, a part of
-//! one, or several.
+//! How a row with several turns writes what differs between them by a choice. `docs/rows.md` describes the language.
 
 use arrayvec::ArrayVec;
 
 /// One side of a row as a turn reads it.
 pub type Side = ArrayVec<u8, 4_000>;
 
-/// Returns whether a side leaves anything to choose.
+/// Returns whether a side has a choice.
 pub fn are_in(side: &[u8]) -> bool {
     side.contains(&b'|')
 }
 
-// Which choice a turn reads, where the first one begins at a place. Brackets without a choice stand for a number.
+// Returns the number of the choice that a turn takes. The first one begins at the place `first`. Brackets without a bar
+// stand for a number, and there is no choice.
 fn chosen(side: &[u8], first: usize, turn: usize) -> Option<usize> {
     let (mut bars, mut turns, mut has_turns): (usize, usize, bool) = (0, 0, false);
     for i in first..side.len() {
@@ -34,10 +31,11 @@ fn chosen(side: &[u8], first: usize, turn: usize) -> Option<usize> {
     None
 }
 
-/// Writes a side into `written` as a turn reads it. Returns whether it has room.
+/// Appends a side to `written`, with the choices that a turn takes. Returns whether there was room for it.
 pub fn write(side: &[u8], turn: usize, written: &mut Side) -> bool {
     let (mut from, mut is_choice): (usize, bool) = (0, false);
-    // The choice that is read, and the one that stands from `from` on. Outside brackets both are the first.
+    // `read` is the choice that the turn takes, and `here` is the one that begins at `from`. Outside brackets both
+    // are 0, so that the text there is written.
     let (mut read, mut here): (usize, usize) = (0, 0);
     for i in 0..side.len() {
         let byte = side[i];

@@ -1,15 +1,16 @@
-//! A reader and a writer for tests, which fail where a test says.
+//! A reader and a writer for tests. A test says where they fail.
 
 use std::io::{self, ErrorKind, Read, Write};
 
-/// The words of an error that is none of the system's.
+/// The message of an error that does not come from the system.
 pub const WORDS: &str = "no more is taken";
 
-/// What a call of a writer answers: how many bytes it takes at most, or, below 0, the code of the system's
-/// error that it ends with; -1 stands for an error of [`WORDS`], which is reported as a time-out.
+/// The answer of a call of a writer. It is the most bytes that the call takes. If it is negative, the call ends
+/// with the system's error of this code, without the sign. -1 is an error with the message [`WORDS`], whose kind
+/// is a time-out.
 pub type Told = i32;
 
-// The code of an interrupted call.
+// The system's code of an interrupted call.
 const INTERRUPTED: i32 = 4;
 
 fn error(code: i32) -> io::Error {
@@ -20,20 +21,19 @@ fn error(code: i32) -> io::Error {
     }
 }
 
-/// The bytes that a reader gives or a writer is to take: so many, a unit again and again, and an end at
-/// the last.
+/// The bytes that a reader gives, or that a writer must take. They are a unit that is repeated, and then an end.
 #[derive(Clone, Copy)]
 pub struct Pattern<'a> {
-    /// How many.
+    /// The number of all bytes.
     pub count: usize,
-    /// The unit.
+    /// The unit that is repeated.
     pub unit: &'a [u8],
-    /// The end.
+    /// The last bytes.
     pub end: &'a [u8],
 }
 
 impl<'a> Pattern<'a> {
-    /// Returns these bytes and no more.
+    /// Returns these bytes, without a unit before them.
     pub fn once(end: &'a [u8]) -> Pattern<'a> {
         Pattern {
             count: end.len(),
@@ -42,7 +42,7 @@ impl<'a> Pattern<'a> {
         }
     }
 
-    /// Returns the byte at a place, where there is one.
+    /// Returns the byte at a place, if there is one.
     pub fn at(self, place: usize) -> Option<u8> {
         let start = self.count.saturating_sub(self.end.len());
         let turned = place.checked_rem(self.unit.len()).unwrap_or(0);
@@ -53,16 +53,16 @@ impl<'a> Pattern<'a> {
     }
 }
 
-/// Gives some bytes, and then a failure where a test says: once, so that who reads again meets the end.
+/// A reader that gives some bytes. After them it may fail once. Whoever then reads again meets the end.
 #[derive(Drop)]
 pub struct Giver<'a> {
-    /// How many bytes a read gives at most.
+    /// The most bytes that a read gives.
     pub every: usize,
-    /// How often each read is interrupted before it is made.
+    /// How often each read is interrupted before it gives bytes.
     pub halts: usize,
-    /// The failure.
+    /// The failure after the last byte.
     pub failure: Option<ErrorKind>,
-    /// How many reads were made.
+    /// How many reads were made. Interrupted ones do not count.
     pub reads: usize,
     /// How many of them were made after the last byte.
     pub ended: usize,
@@ -72,7 +72,7 @@ pub struct Giver<'a> {
 }
 
 impl<'a> Giver<'a> {
-    /// Returns one that gives these bytes, as many a read as fit.
+    /// Returns a reader that gives these bytes, and in each read as many as fit.
     pub fn new(bytes: Pattern<'a>) -> Giver<'a> {
         Giver {
             every: usize::MAX,
@@ -86,13 +86,14 @@ impl<'a> Giver<'a> {
         }
     }
 
-    /// Whether no more reads were made than of so many bytes each, a shorter one, and one at the end.
+    /// Returns whether no more reads were made than are needed: reads of `chunk` bytes, a shorter one, and one at the
+    /// end.
     pub fn is_read_by(&self, chunk: usize) -> bool {
         let chunks = self.place.checked_div(chunk.min(self.every));
         self.reads <= chunks.unwrap_or(0).saturating_add(2)
     }
 
-    /// Returns how many bytes it has not given.
+    /// Returns how many bytes were not given yet.
     pub fn left(&self) -> usize {
         self.bytes.count.saturating_sub(self.place)
     }
@@ -121,19 +122,19 @@ impl Read for Giver<'_> {
     }
 }
 
-/// Answers its first writes as a test says. Each one after them takes one byte, but for one that
-/// fails. It compares what it takes with what is wanted.
+/// A writer that compares what it takes with what it must take. A test says how it answers the first writes. Each later
+/// write takes one byte, except for one that fails.
 #[derive(Drop)]
 pub struct Taker<'a> {
-    /// What the next writes answer.
+    /// The answers of the next writes.
     pub script: &'a [Told],
-    /// How many bytes it takes after them before the write that fails.
+    /// How many writes after them take a byte before one fails.
     pub room: usize,
-    /// What a flush answers.
+    /// The answer of each flush.
     pub flush: Result<(), i32>,
     /// How often it was flushed.
     pub flushes: usize,
-    /// How many bytes its writes were given.
+    /// How many bytes all writes were given.
     pub given: usize,
     wanted: Pattern<'a>,
     taken: usize,
@@ -141,7 +142,7 @@ pub struct Taker<'a> {
 }
 
 impl<'a> Taker<'a> {
-    /// Returns one that takes one byte a write and never fails.
+    /// Returns a writer of which each write takes one byte, and none fails.
     pub fn new(wanted: Pattern<'a>) -> Taker<'a> {
         Taker {
             script: &[],
@@ -155,18 +156,18 @@ impl<'a> Taker<'a> {
         }
     }
 
-    /// Whether it has taken exactly the bytes that are wanted.
+    /// Returns whether it has taken exactly the bytes that it must take.
     pub fn is_filled(&self) -> bool {
         !self.is_other && self.taken == self.wanted.count
     }
 
-    /// Whether each write was given all that was still wanted, and took one byte of it.
+    /// Returns whether each write was given all bytes that were not taken yet.
     pub fn is_given_whole(&self) -> bool {
         let count = self.wanted.count;
         self.given == count.saturating_mul(count.saturating_add(1)) / 2
     }
 
-    // What the next write answers.
+    // Returns the answer of the next write.
     fn told(&mut self) -> Told {
         if let Some((told, script)) = self.script.split_first() {
             self.script = script;
@@ -186,8 +187,8 @@ impl Write for Taker<'_> {
             return Err(error(told.wrapping_neg()));
         };
         let count = count.min(buf.len());
-        for byte in &buf[..count] {
-            self.is_other = self.is_other || self.wanted.at(self.taken) != Some(*byte);
+        for i in 0..count {
+            self.is_other = self.is_other || self.wanted.at(self.taken) != Some(buf[i]);
             self.taken = self.taken.saturating_add(1);
         }
         Ok(count)

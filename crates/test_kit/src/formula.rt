@@ -1,27 +1,20 @@
-//! How a word of a row writes a list by a formula.
-//!
-//! `(73i+i/7)^100` are 100 bytes, the one at place `i` being `73 * i + i / 7` modulo 256. The quotient
-//! may be left out, and the factor where it is 1; `+5` after them adds a number, and `(8:73i+i/7)`
-//! begins at place 8.
-//! Behind the parenthesis `x` stands for the digits of these bytes in lowercase, `X` in uppercase,
-//! and `m` in uppercase at each third place and else in lowercase: `(73i+i/7)x^200` are those of 100
-//! bytes.
+//! How a word of a row writes bytes by a formula, such as `(73i+i/7)x^200`. `docs/rows.md` describes the language.
 
 use crate::words::Words;
 
-/// A list by a formula, without an end.
+/// The bytes of a formula, without an end.
 #[derive(Clone, Copy)]
 pub struct Formula {
     start: usize,
     factor: usize,
-    // 0 where there is no quotient.
+    // It is 0 if there is no quotient.
     divisor: usize,
     added: usize,
-    // The letter after the parenthesis, or 0 where there is none.
+    // The letter after the parenthesis, or 0 if there is none.
     form: u8,
 }
 
-// Reads a number, or 1 where none stands before `i`.
+// Reads the number before `i`, which is 1 if it is left out.
 fn factor(word: &mut Words) -> usize {
     if word.peek() == b'i' {
         1
@@ -31,7 +24,7 @@ fn factor(word: &mut Words) -> usize {
 }
 
 impl Formula {
-    /// Reads a formula, once its first parenthesis is read.
+    /// Reads a formula after its first parenthesis.
     pub fn read(word: &mut Words) -> Formula {
         let mut formula = Formula {
             start: 0,
@@ -53,7 +46,7 @@ impl Formula {
         formula
     }
 
-    // Reads what stands after the factor.
+    // Reads what follows the factor.
     fn read_sum(&mut self, word: &mut Words) {
         word.needs(b'i');
         for _ in 0..2 {
@@ -70,7 +63,7 @@ impl Formula {
         word.needs(b')');
     }
 
-    // The byte at a place of the list.
+    // Returns the byte at a place of the formula.
     fn byte(self, place: usize) -> u8 {
         let i = self.start.wrapping_add(place);
         let quotient = i.checked_div(self.divisor).unwrap_or(0);
@@ -78,7 +71,7 @@ impl Formula {
         (product.wrapping_add(quotient).wrapping_add(self.added) % 256) as u8
     }
 
-    /// The byte at a place of what is written: of the list, or of its digits.
+    /// Returns the byte at a place of what is written. This is the formula, or its digits.
     pub fn at(self, place: usize) -> u8 {
         if self.form == 0 {
             return self.byte(place);

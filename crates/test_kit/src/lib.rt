@@ -1,14 +1,11 @@
-//! Reads rows of calls and their answers, and says which are answered otherwise. Beside it an allocator
-//! that refuses memory, in [`refusing`], and a reader and a writer that fail, in [`fakes`].
+//! Reads rows of calls and their answers, and prints those that are answered otherwise. `docs/rows.md`
+//! describes their language.
 //!
-//! A row is a line: the words of a call, ` = ` and the words of its answer. A number before the call
-//! says how many rows the line stands for, as [`notation`] and [`choices`] have it. A line that
-//! begins with `#` says what the rows below it show, up to one that is empty. Where it names a test of
-//! the Rust crate, its rows are counted and their inputs added up.
+//! The crate also has an allocator that refuses memory, in [`refusing`], and a reader and a writer that
+//! fail, in [`fakes`].
 #![tactic(auto)]
 
 pub mod choices;
-mod cursor;
 pub mod fakes;
 pub mod formula;
 pub mod notation;
@@ -27,7 +24,7 @@ use std::alloc::Global;
 use std::fmt::Display;
 use std::io::{self, BufRead, Write};
 
-/// Whether a value prints this text, which no flag changes.
+/// Returns whether a value prints this text, and prints the same with flags.
 pub fn prints<T: Display>(alloc: Global, value: &T, want: &[u8]) -> bool {
     match format!(in alloc; "{value}{value:*>+#90.3}") {
         Ok(twice) => twice.as_str().as_bytes().strip_prefix(want) == Some(want),
@@ -35,29 +32,29 @@ pub fn prints<T: Display>(alloc: Global, value: &T, want: &[u8]) -> bool {
     }
 }
 
-/// A row: its words, what they are read into, and where its call takes memory from.
+/// A row: its words, the buffers that they are read into, and the allocator of its call.
 #[derive(Drop)]
 pub struct Row {
     /// The words of the call.
     pub call: Words,
     /// The words of the answer.
     pub answer: Words,
-    /// The bytes that the call is given.
+    /// The bytes that the call gets.
     pub given: Bytes,
-    /// The bytes that are wanted of it.
+    /// The bytes that it must give.
     pub wanted: Bytes,
-    /// Other bytes of the call.
+    /// More bytes that it gets.
     pub first: Bytes,
-    /// More of them.
+    /// And more of them.
     pub second: Bytes,
-    /// What a call of it gave that is not wanted.
+    /// The first call of the turn that gave something else than it must.
     pub note: Note,
-    /// Where the call takes memory from.
+    /// The allocator of the call.
     pub alloc: Global,
 }
 
 impl Row {
-    // A row without words.
+    // Returns a row without words.
     fn new(alloc: Global) -> Row {
         Row {
             call: Words::new(),
@@ -71,18 +68,18 @@ impl Row {
         }
     }
 
-    // Whether no word is left on either side, and none was misread.
+    // Returns whether all words of both sides were taken, and none was misread.
     fn is_read(&self) -> bool {
         self.call.are_read() && self.answer.are_read()
     }
 
-    // Holds the words of a turn.
+    // Replaces the words by those of a turn.
     fn hold(&mut self, call: &[u8], answer: &str, turn: usize) {
         self.call.hold(call, turn);
         self.answer.hold(answer.as_bytes(), turn);
     }
 
-    // Puts the words as the turn reads them, and the call that was noted, behind a text.
+    // Appends the words of the turn to a text, and the call that was noted.
     fn put(&mut self, text: &mut Text) {
         put_text(text, "  ");
         self.call.put(&mut self.first, text);
@@ -98,25 +95,28 @@ impl Row {
 
 /// The calls that rows may name.
 pub trait Calls {
-    /// Returns whether the call of a row is answered so. A row of which a word is then left, or was
-    /// misread, is not.
+    /// Makes the call of a row, and returns whether its answer is that of the row. A word may also be left, or may
+    /// have been misread. The row is then reported too, so this function need not see it.
     fn is_answered(&mut self, row: &mut Row) -> bool;
 }
 
-// The row that is judged, the number of its line, how many rows were judged and how many of them are answered otherwise,
-// those of a ported test, and what is to be printed.
+// What was judged up to now.
 #[derive(Drop)]
 struct Judged {
     row: Row,
+    // The number of the row's line.
     line: usize,
     rows: usize,
+    // The number of rows that are answered otherwise.
     otherwise: usize,
+    // The rows of the last test of the Rust crate that a comment names.
     ported: Ported,
+    // What is to be printed.
     text: Text,
 }
 
 impl Judged {
-    // Nothing was judged yet.
+    // Returns the state before the first line.
     fn new(alloc: Global) -> Judged {
         Judged {
             row: Row::new(alloc),
@@ -128,7 +128,7 @@ impl Judged {
         }
     }
 
-    // Judges a turn, whose words the row holds. Returns whether it is answered.
+    // Judges the turn whose words the row has. Returns whether it is answered as the row says.
     fn is_answered<C: Calls>(&mut self, calls: &mut C) -> bool {
         self.ported.add(&mut self.row);
         self.rows = self.rows.saturating_add(1);
@@ -140,7 +140,7 @@ impl Judged {
         is_answered
     }
 
-    // Judges the rows of a line, and puts the first one that is answered otherwise behind the text.
+    // Judges all turns of a line. Appends the first one that is answered otherwise to the text.
     fn judge_rows<C: Calls>(&mut self, calls: &mut C, line: &str) {
         let (call, answer) = line.split_once(" = ").unwrap_or((line, ""));
         let mut call = call.as_bytes();
@@ -161,7 +161,7 @@ impl Judged {
         }
     }
 
-    // Puts a line and the turn of it that is answered otherwise behind the text.
+    // Appends a line to the text, and its turn that is answered otherwise.
     fn put_missed(&mut self, line: &str, turn: usize) {
         put_text(&mut self.text, "line ");
         put_number(&mut self.text, self.line);
@@ -173,7 +173,7 @@ impl Judged {
         self.row.put(&mut self.text);
     }
 
-    // Judges a line.
+    // Judges a line, which may be a comment.
     fn judge_line<C: Calls>(&mut self, calls: &mut C, line: &str) {
         self.line = self.line.saturating_add(1);
         self.text.clear();
@@ -186,7 +186,7 @@ impl Judged {
         }
     }
 
-    // Ends the rows.
+    // Prints the sums of all rows.
     fn end(&mut self) {
         self.text.clear();
         self.ported.end(&mut self.text);
@@ -197,14 +197,15 @@ impl Judged {
     }
 }
 
-/// Judges each row of `input`, writes those that are answered otherwise or can't be read to
-/// `output`, each with the number of its line, its first such turn, the words as this turn reads them, and the call
-/// that differs where the row noted it; and then how many there are. Behind
-/// the rows of each test of the Rust crate it writes its name, how many turns they have and their sum.
+/// Judges each row of `input`, and writes to `output` the lines that are answered otherwise or can't be read.
+///
+/// It writes the number of the line, the first turn that differs, the words of this turn, and the call that differs
+/// if the row noted it. After the rows of a test of the Rust crate it writes the test's name, the number of turns and
+/// the sum of their inputs. The last line has the numbers of all rows and of those that are answered otherwise.
 ///
 /// # Errors
 ///
-/// Those of the reader and of the writer, and want of memory for a line.
+/// The errors are those of the reader and of the writer, and `OutOfMemory` if there is no memory for a line.
 pub fn judge<C: Calls, R: BufRead + Drop, W: Write>(
     calls: &mut C,
     alloc: Global,

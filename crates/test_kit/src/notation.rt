@@ -1,29 +1,16 @@
-//! How a word of a row writes bytes and numbers.
-//!
-//! Bytes are parts one after another, with a comma between two: `0*129,g`. A part is its own
-//! letters, and `\xhh` any byte; `#00abff` are the bytes of these digits. Behind a part `*3` repeats
-//! it, `^100` repeats it up to 100 bytes, and `~4:` puts a `:` between the digits of each 4 bytes and the
-//! next. Several of these follow one another, as in `00ab^100~4:`. Behind the last part `&3:g` puts a `g` at place 3,
-//! and at the end of the word `%7` keeps the first seven bytes. A lone `-` is no byte at all.
-//! [`formula`](crate::formula) has the parts in parentheses, as `(73i+i/7)^100`.
-//!
-//! A row that stands for several has a turn for each, counted from 0. `[30+1]` is the byte 0x30 in
-//! the first turn and 0x31 in the next; where a number stands, `[30+2]` is 30, 32 and so on, and
-//! `[30-2]` is 30, 28. What is added stays for 64 turns in `[30+2/64]`, and is taken modulo 64 in
-//! `[30+2%64]`. Another addend may follow: `[2+2+1/3]` are the lengths of texts in groups of 3 bytes. A
-//! number is decimal, and where a byte stands start and step are hexadecimal.
+//! How a word of a row writes bytes. `docs/rows.md` describes the language.
 
 use crate::formula::Formula;
 use crate::words::Words;
 use arrayvec::ArrayVec;
 
-/// How many bytes a word can write.
+/// The most bytes that a word can write.
 pub const ROOM: usize = 140_000;
 
-/// The bytes that a word wrote.
+/// The bytes of a word.
 pub type Bytes = ArrayVec<u8, ROOM>;
 
-// Whether a part goes on.
+// Returns whether a part goes on.
 fn is_inside(word: &Words) -> bool {
     !matches!(word.peek(), b' ' | b',' | b'*' | b'^' | b'~' | b'&' | b'%')
 }
@@ -41,7 +28,7 @@ fn write_once(word: &mut Words, bytes: &mut Bytes) {
     }
 }
 
-// Writes the bytes of a formula, as many as it says, once its first parenthesis is read.
+// Writes the bytes of a formula after its first parenthesis.
 fn write_formula(word: &mut Words, bytes: &mut Bytes) {
     let formula = Formula::read(word);
     word.needs(b'^');
@@ -53,7 +40,8 @@ fn write_formula(word: &mut Words, bytes: &mut Bytes) {
     }
 }
 
-// Goes on with the last `once` bytes again and again, or leaves some of them out, up to `end`. Returns whether it can.
+// Repeats the last `once` bytes up to the length `end`, or cuts some of them off. Returns whether there was room, and
+// something to repeat.
 fn repeat(bytes: &mut Bytes, once: usize, end: usize) -> bool {
     bytes.truncate(end);
     for i in bytes.len()..end {
@@ -68,7 +56,8 @@ fn repeat(bytes: &mut Bytes, once: usize, end: usize) -> bool {
     true
 }
 
-// Puts a byte after the digits of each `every` bytes after `from`, but for the last ones. Returns whether it can.
+// Inserts a separator after the digits of each `every` bytes that follow `from`, except at the end. Returns whether there
+// was room, and `every` is not 0.
 fn separate(bytes: &mut Bytes, from: usize, every: usize, separator: u8) -> bool {
     let digits = every.saturating_mul(2);
     let mut place = from.saturating_add(digits);
@@ -84,7 +73,7 @@ fn separate(bytes: &mut Bytes, from: usize, every: usize, separator: u8) -> bool
     every > 0
 }
 
-// Changes the part after `from` as the next byte says. Returns whether that is one that does.
+// Makes the next change of the part that begins at `from`. Returns whether there was one.
 fn is_changed(word: &mut Words, bytes: &mut Bytes, from: usize) -> bool {
     let once = bytes.len().saturating_sub(from);
     let is_right = if word.eats(b'*') {
@@ -102,7 +91,7 @@ fn is_changed(word: &mut Words, bytes: &mut Bytes, from: usize) -> bool {
     true
 }
 
-// Writes a part, as often as it says.
+// Writes a part with all its changes.
 fn write_part(word: &mut Words, bytes: &mut Bytes) {
     let from = bytes.len();
     if word.eats(b'(') {
@@ -117,7 +106,7 @@ fn write_part(word: &mut Words, bytes: &mut Bytes) {
     }
 }
 
-// Puts one byte at a place.
+// Replaces one byte.
 fn put(word: &mut Words, bytes: &mut Bytes) {
     let place = word.number();
     word.needs(b':');
@@ -128,7 +117,7 @@ fn put(word: &mut Words, bytes: &mut Bytes) {
     }
 }
 
-/// Puts the bytes that a word writes behind those that there are.
+/// Appends the bytes of a word.
 pub fn write(word: &mut Words, bytes: &mut Bytes) {
     word.check(word.peek() != b' ');
     for _ in 0..ROOM {

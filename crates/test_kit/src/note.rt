@@ -1,31 +1,32 @@
-//! What a call of a row gave where another answer is wanted.
+//! The call of a row that gave another answer than the row says.
 
 use crate::text::{Text, put_bytes, put_number, put_text};
 use hex_core::Error;
 use std::fmt::Write as _;
 
-// How many bytes of an answer are shown, from a few before the first that differs.
+// The most bytes of an answer that are shown.
 const SHOWN: usize = 40;
 
+// How many of them come before the first that differs.
 const BEFORE: usize = 8;
 
-/// What a call gives, or what is wanted of it.
+/// What a call gives, or what it must give.
 #[derive(Clone, Copy)]
 pub enum Came<'a> {
     /// These bytes.
     Bytes(&'a [u8]),
-    /// So many of something.
+    /// A number of something.
     Count(usize),
     /// Yes or no.
     Is(bool),
-    /// None.
+    /// Nothing, such as no place.
     Nothing,
-    /// A refusal.
+    /// An error.
     Refused(Error),
 }
 
 impl<'a> Came<'a> {
-    /// Returns bytes, or the refusal.
+    /// Returns an answer of bytes or an error.
     pub fn answer(answer: Result<&'a [u8], Error>) -> Came<'a> {
         match answer {
             Ok(bytes) => Came::Bytes(bytes),
@@ -33,7 +34,7 @@ impl<'a> Came<'a> {
         }
     }
 
-    /// Returns a place, or none.
+    /// Returns an answer of a place or nothing.
     pub fn place(place: Option<usize>) -> Came<'a> {
         match place {
             Some(place) => Came::Count(place),
@@ -41,7 +42,7 @@ impl<'a> Came<'a> {
         }
     }
 
-    // The bytes, or none where it is something else.
+    // Returns the bytes. Anything else has none.
     fn bytes(self) -> &'a [u8] {
         match self {
             Came::Bytes(bytes) => bytes,
@@ -50,7 +51,7 @@ impl<'a> Came<'a> {
     }
 }
 
-// Puts what came, of bytes those from a place.
+// Appends what came. Of bytes it appends only those from a place on.
 fn put(text: &mut Text, came: Came<'_>, from: usize) {
     match came {
         Came::Bytes(bytes) => put_bytes(text, bytes, from, SHOWN),
@@ -64,7 +65,7 @@ fn put(text: &mut Text, came: Came<'_>, from: usize) {
     }
 }
 
-// The place from which two answers are shown.
+// Returns the place from which two answers are shown.
 fn start(came: &[u8], want: &[u8]) -> usize {
     for i in 0..came.len() {
         if i >= want.len() || came[i] != want[i] {
@@ -74,7 +75,7 @@ fn start(came: &[u8], want: &[u8]) -> usize {
     0
 }
 
-/// The call of a turn that is made, and of the first one that is answered otherwise a text.
+/// The call that a turn makes, and a text about the first call that is answered otherwise.
 #[derive(Drop)]
 pub struct Note {
     plan: &'static str,
@@ -84,7 +85,7 @@ pub struct Note {
 }
 
 impl Note {
-    /// Returns one of no call.
+    /// Returns a note without a call.
     pub fn new() -> Note {
         Note {
             plan: "",
@@ -94,7 +95,7 @@ impl Note {
         }
     }
 
-    /// Has the next calls be those of a plan, or of none.
+    /// Names the plan of the next calls. The name of none is empty.
     pub fn by(&mut self, plan: &'static str) {
         self.plan = plan;
     }
@@ -105,7 +106,7 @@ impl Note {
         self
     }
 
-    /// Notes what the call gave and what is wanted of it, if it is the first of its turn. Returns false.
+    /// Notes what the call gave and what it must give, unless another call was noted before. Returns false.
     pub fn differs(&mut self, came: Came<'_>, want: Came<'_>) -> bool {
         if self.text.is_empty() && !self.is_closed {
             let from = start(came.bytes(), want.bytes());
@@ -126,12 +127,12 @@ impl Note {
         put_text(&mut self.text, ": wanted ");
     }
 
-    /// Has no call be noted any more.
+    /// Ends the notes. No later call is noted.
     pub fn close(&mut self) {
         self.is_closed = true;
     }
 
-    /// Returns the text, which is empty where no call was noted.
+    /// Returns the text, which is empty if no call was noted.
     pub fn text(&self) -> &str {
         self.text.as_str()
     }

@@ -1,7 +1,8 @@
-//! What the rows of a test of the Rust crate try, as a sum: modulo 2^64 that of their inputs' hashes,
-//! in whatever order the rows stand. An input is the words of a call, in which a number stands as its
-//! digits in base ten and bytes as they are. Its hash is the FNV-1a hash, of 64 bits, of the hex
-//! digits of its words, with a space between two.
+//! A sum over the inputs of the rows that repeat a test of the Rust crate. It changes if an input is lost.
+//!
+//! The sum is that of the hashes of all inputs, modulo 2^64. So it does not depend on the order of the rows,
+//! or on how they are written. An input is the words of a call, with numbers in decimal and bytes as they
+//! are. Its hash is the 64-bit FNV-1a hash of the hex digits of its words, with a space between two words.
 
 use crate::Row;
 use crate::choices::Side;
@@ -9,17 +10,17 @@ use crate::notation::Bytes;
 use crate::text::{Text, digits, put_digits, put_number, put_text};
 use crate::words::Words;
 
-/// The rows below a comment that names a test: how many turns they have, and the sum of their inputs.
+/// The rows below a comment that names a test: the number of their turns and the sum of their inputs.
 #[derive(Drop)]
 pub struct Ported {
-    // Empty where the comment names none.
+    // It is empty if the comment names none.
     name: Side,
     turns: usize,
     sum: u64,
 }
 
 impl Ported {
-    /// Returns the rows below a comment that names none.
+    /// Returns the state below a comment that names no test.
     pub fn new() -> Ported {
         Ported {
             name: Side::new(),
@@ -28,7 +29,7 @@ impl Ported {
         }
     }
 
-    /// Begins with the rows below a line of a comment, if it names a test.
+    /// Begins the rows below a line of a comment, if it names a test.
     pub fn begin(&mut self, comment: &[u8]) {
         let before = b"# The Rust crate's `".as_slice();
         let rest = comment.strip_prefix(before).unwrap_or_default();
@@ -41,7 +42,7 @@ impl Ported {
         }
     }
 
-    /// Ends the rows, and puts the name of their test, how many turns they have and their sum behind a text.
+    /// Ends the rows. Appends the name of their test, the number of turns and the sum to a text.
     pub fn end(&mut self, text: &mut Text) {
         if !self.name.is_empty() {
             put_text(
@@ -57,7 +58,7 @@ impl Ported {
         *self = Ported::new();
     }
 
-    /// Adds the input of a turn, if its row has a test. Some of the row's bytes are overwritten.
+    /// Adds the input of a turn, if its row belongs to a test. `row.first` is overwritten.
     pub fn add(&mut self, row: &mut Row) {
         if !self.name.is_empty() {
             self.turns = self.turns.saturating_add(1);
@@ -67,12 +68,12 @@ impl Ported {
     }
 }
 
-// The FNV-1a hash, of 64 bits, of what was hashed before and a byte.
+// Returns the 64-bit FNV-1a hash of what was hashed before and one more byte.
 fn fnv(hash: u64, byte: u8) -> u64 {
     (hash ^ u64::from(byte)).wrapping_mul(0x0100_0000_01b3)
 }
 
-// The same of the digits of some bytes.
+// The same for the hex digits of bytes.
 fn fnv_digits(before: u64, bytes: &[u8]) -> u64 {
     let mut hash = before;
     for i in 0..bytes.len() {
@@ -82,7 +83,7 @@ fn fnv_digits(before: u64, bytes: &[u8]) -> u64 {
     hash
 }
 
-// The hash of an input, whose words are taken. The bytes are overwritten.
+// Takes all words of an input, and returns its hash. `bytes` is overwritten.
 fn hash(words: &mut Words, bytes: &mut Bytes) -> u64 {
     words.take_meaning(bytes);
     let mut hash = fnv_digits(0xcbf2_9ce4_8422_2325, bytes.as_slice());

@@ -1,18 +1,17 @@
-//! An allocator for tests: it grants as many allocations as a test allows, and refuses each later
-//! one.
+//! An allocator for tests. It grants as many allocations as a test allows, and refuses later ones.
 //!
-//! A test lends it to what is tested, as `&alloc`. One handle then serves each collection of the
-//! test, and can be asked afterwards how many allocations were made.
+//! A test lends it to what is tested, as `&alloc`. One allocator then serves all collections of the
+//! test, and the test can ask it afterwards how many allocations were made.
 
 use std::alloc::{AllocError, Allocator};
 use std::cell::Cell;
 
-/// Passes the first `left` allocations on to `inner` and refuses each later one, or, made by
-/// [`once`](Refusing::once), the next one alone.
+/// Passes the first `left` allocations on to `inner`, and refuses all later ones. An allocator of
+/// [`once`](Refusing::once) refuses only the next one.
 ///
-/// Each block that a collection takes counts as one allocation: its first one, each larger one that
-/// it grows into, and each smaller one that it shrinks into. To give a block back counts as none,
-/// and is never refused.
+/// Each block that a collection takes counts as one allocation. This is its first block, each larger
+/// block that it grows into, and each smaller block that it shrinks into. To give a block back does
+/// not count, and is never refused.
 ///
 /// ```rust
 /// let alloc = Refusing::new(rt.alloc(), 1);
@@ -37,18 +36,18 @@ pub struct Refusing<B: Allocator> {
     counts: Counts,
 }
 
-// One struct and not fields of `Refusing`, so that one borrow reaches all counts.
+// They are not fields of `Refusing`, so that one borrow reaches all of them.
 #[derive(Drop)]
 struct Counts {
     left: Cell<u64>,
     asked: Cell<u64>,
     held: Cell<u64>,
-    // How many it grants after one that it refuses.
+    // How many allocations it grants after one that it refuses.
     behind: u64,
 }
 
 impl<B: Allocator> Refusing<B> {
-    /// An allocator that grants `left` allocations, whose memory `inner` gives.
+    /// Returns an allocator that grants `left` allocations. Their memory comes from `inner`.
     pub fn new(inner: B, left: u64) -> Refusing<B> {
         Refusing {
             inner,
@@ -61,31 +60,30 @@ impl<B: Allocator> Refusing<B> {
         }
     }
 
-    /// An allocator that grants `left` allocations, refuses one, and grants those after it.
+    /// Returns an allocator that grants `left` allocations, refuses the next one, and grants all later ones.
     pub fn once(inner: B, left: u64) -> Refusing<B> {
         let mut refusing = Refusing::new(inner, left);
         refusing.counts.behind = u64::MAX;
         refusing
     }
 
-    /// From now on grants `left` allocations and refuses the rest.
+    /// From now on grants `left` allocations, and refuses later ones.
     pub fn set_left(&self, left: u64) {
         self.counts.left.set(left);
     }
 
-    /// How many allocations it was asked for since it was made, those that it refused among them.
+    /// Returns how many allocations were asked for in all. The refused ones count too.
     pub fn asked(&self) -> u64 {
         self.counts.asked.get()
     }
 
-    /// Returns whether it was asked for so many allocations, and each block that it granted was given
-    /// back.
+    /// Returns whether so many allocations were asked for, and all blocks were given back.
     pub fn is_settled(&self, asked: u64) -> bool {
         self.asked() == asked && self.counts.held.get() == 0
     }
 }
 
-// Counts one allocation that is asked for, and returns whether it is granted.
+// Counts an allocation, and returns whether it is granted.
 fn grants(counts: &Counts) -> bool {
     // No clause knows what a cell holds, so a plain `+` could not be shown to fit.
     counts.asked.set(counts.asked.get().saturating_add(1));
@@ -105,8 +103,8 @@ fn releases(counts: &Counts) {
     counts.held.set(counts.held.get().saturating_sub(1));
 }
 
-// `grow` and `shrink` are the trait's own, which call `allocate`: those of `inner` would grow a
-// block with no count.
+// `grow` and `shrink` are those of the trait, which call `allocate`. Those of `inner` would grow a
+// block that is not counted.
 unsafe impl<B: Allocator> Allocator for Refusing<B> {
     ghost dealloc_token = { λ heap ty ptr. B.dealloc_token heap.inner ty ptr };
 

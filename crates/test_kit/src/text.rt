@@ -1,9 +1,9 @@
-//! What is printed of rows, of which as much is kept as has room.
+//! The text that is printed about rows. What has no room in it is left out.
 
 use arrayvec::ArrayString;
 use std::fmt::Write as _;
 
-/// What is printed.
+/// The text.
 pub type Text = ArrayString<20_000>;
 
 const DIGITS: &[u8; 16] = b"0123456789abcdef";
@@ -16,24 +16,24 @@ pub fn digits(byte: u8) -> [u8; 2] {
     ]
 }
 
-/// Puts some words behind a text.
+/// Appends words to a text.
 pub fn put_text(text: &mut Text, words: &str) {
     let _ = text.try_push_str(words).is_ok();
 }
 
-/// Puts a number behind it.
+/// Appends a number.
 pub fn put_number(text: &mut Text, number: usize) {
     let _ = write!(text, "{number}").is_ok();
 }
 
-/// Puts the digits of some bytes behind it.
+/// Appends the hex digits of bytes.
 pub fn put_digits(text: &mut Text, bytes: &[u8]) {
     for i in 0..bytes.len() {
         put_text(text, str::from_utf8(&digits(bytes[i])).unwrap_or_default());
     }
 }
 
-// Whether all bytes can be seen.
+// Returns whether all bytes are visible characters.
 fn are_seen(bytes: &[u8]) -> bool {
     for i in 0..bytes.len() {
         if !bytes[i].is_ascii_graphic() {
@@ -43,8 +43,8 @@ fn are_seen(bytes: &[u8]) -> bool {
     !bytes.is_empty()
 }
 
-/// Puts some bytes from a place behind it, at most so many, and how many there are where these are not all: as they are
-/// where all can be seen, and else their digits.
+/// Appends at most `shown` bytes, from the place `from` on. They are appended as they are if all of them are visible
+/// characters, and otherwise as hex digits. If there are more bytes than `shown`, their number follows.
 pub fn put_bytes(text: &mut Text, bytes: &[u8], from: usize, shown: usize) {
     let rest = bytes.get(from..).unwrap_or_default();
     let part = rest.get(..shown).unwrap_or(rest);

@@ -1,11 +1,11 @@
-//! The words of a row, read one after another.
+//! The words of a row, which are read one after another. `docs/rows.md` describes their language.
 
 use crate::choices::{self, Side};
 use crate::notation::{self, Bytes};
 use crate::text::{Text, put_bytes, put_text};
 use hex_core::{CheckCase, Error};
 
-// How many bytes of a word are shown.
+// The most bytes of a word that are shown.
 const SHOWN: usize = 200;
 
 const POLICIES: [(&str, CheckCase); 3] = [
@@ -14,14 +14,14 @@ const POLICIES: [(&str, CheckCase); 3] = [
     ("upper", CheckCase::Upper),
 ];
 
-// The refusals that have no number.
+// The errors without a number.
 const REFUSALS: [(&str, Error); 3] = [
     ("odd-length", Error::OddLength),
     ("overflow", Error::Overflow),
     ("no-memory", Error::OutOfMemory),
 ];
 
-// Returns the first word of a text, which a space ends.
+// Returns the first word of a text. A space ends it.
 fn first_word(text: &[u8]) -> &[u8] {
     for i in 0..text.len() {
         if text[i] == b' ' {
@@ -31,7 +31,7 @@ fn first_word(text: &[u8]) -> &[u8] {
     text
 }
 
-// Returns what stands beside a word in a table.
+// Returns the value for a word in a table.
 fn beside<T: Copy>(word: &[u8], table: &[(&str, T)]) -> Option<T> {
     for i in 0..table.len() {
         if table[i].0.as_bytes() == word {
@@ -41,7 +41,20 @@ fn beside<T: Copy>(word: &[u8], table: &[(&str, T)]) -> Option<T> {
     None
 }
 
-// Has `bytes` hold the digits of a number.
+// Returns the value of a hex digit, or 16 for any other byte.
+fn digit_value(byte: u8) -> usize {
+    let digit = byte.wrapping_sub(b'0');
+    let letter = (byte | 0x20).wrapping_sub(b'a');
+    if digit < 10 {
+        usize::from(digit)
+    } else if letter < 6 {
+        10 + usize::from(letter)
+    } else {
+        16
+    }
+}
+
+// Writes a number in decimal into `bytes`.
 fn put_decimal(number: usize, bytes: &mut Bytes) {
     let mut left = number;
     bytes.clear();
@@ -55,7 +68,7 @@ fn put_decimal(number: usize, bytes: &mut Bytes) {
     }
 }
 
-// Whether a word is printed as what it stands for, and not as it is written.
+// Returns whether a word is printed as what it stands for, and not as it is written.
 fn is_expanded(word: &[u8]) -> bool {
     for i in 0..word.len() {
         if b"[*^(&".contains(&word[i]) {
@@ -65,15 +78,17 @@ fn is_expanded(word: &[u8]) -> bool {
     false
 }
 
-/// One side of a row: its words, with one space between two, as one turn reads them.
+/// One side of a row in one of its turns. There is one space between two words.
 ///
-/// A word that can't be read as what a call takes it for is noted, so that the row is reported.
+/// A word may not be what its call takes it for. It is then noted as misread, and reading goes on,
+/// because the row is reported at its end anyway.
 #[derive(Drop)]
 pub struct Words {
-    pub(crate) text: Side,
+    text: Side,
+    // The place of the next byte.
     pub(crate) at: usize,
-    pub(crate) turn: usize,
-    pub(crate) is_misread: bool,
+    turn: usize,
+    is_misread: bool,
 }
 
 impl Words {
@@ -87,7 +102,7 @@ impl Words {
         }
     }
 
-    /// Holds the words of a side in place of its own, as they are read in `turn`.
+    /// Replaces the words by those of another side, as `turn` reads them.
     pub fn hold(&mut self, side: &[u8], turn: usize) {
         self.text.clear();
         self.at = 0;
@@ -108,14 +123,155 @@ impl Words {
         self.at = 0;
     }
 
-    /// Takes the next word. Returns an empty one where none is left.
+    /// Notes that a word was misread.
+    pub fn misread(&mut self) {
+        self.is_misread = true;
+    }
+
+    /// Notes that a word was misread, unless this is right.
+    pub fn check(&mut self, is_right: bool) {
+        if !is_right {
+            self.is_misread = true;
+        }
+    }
+
+    /// Returns whether all words were taken.
+    pub fn are_taken(&self) -> bool {
+        self.at >= self.text.len()
+    }
+
+    /// Returns whether all words were taken, and none was misread.
+    pub fn are_read(&self) -> bool {
+        self.are_taken() && !self.is_misread
+    }
+
+    // Goes on by so many bytes.
+    fn skip(&mut self, count: usize) {
+        self.at = self.at.saturating_add(count);
+    }
+
+    // Returns the words that are left.
+    fn rest(&self) -> &[u8] {
+        self.text.get(self.at..).unwrap_or_default()
+    }
+
+    /// Returns the next byte without taking it. At the end of a word it is a space.
+    pub fn peek(&self) -> u8 {
+        match self.text.get(self.at) {
+            Some(byte) => *byte,
+            None => b' ',
+        }
+    }
+
+    /// Takes the next byte if it is this one. Returns whether it was.
+    pub fn eats(&mut self, byte: u8) -> bool {
+        let is_next = self.peek() == byte;
+        if is_next {
+            self.skip(1);
+        }
+        is_next
+    }
+
+    /// Takes the next byte, which must be this one.
+    pub fn needs(&mut self, byte: u8) {
+        let is_next = self.eats(byte);
+        self.check(is_next);
+    }
+
+    // Takes a number of at most 20 digits in this base.
+    fn digits(&mut self, base: usize) -> usize {
+        let start = self.at;
+        let mut number: usize = 0;
+        for _ in 0..20 {
+            let value = digit_value(self.peek());
+            if value >= base {
+                break;
+            }
+            number = number.saturating_mul(base).saturating_add(value);
+            self.skip(1);
+        }
+        self.check(self.at > start);
+        number
+    }
+
+    // Takes a step, and returns what it adds in this turn.
+    fn added(&mut self, base: usize) -> usize {
+        let step = self.digits(base);
+        let mut turn = self.turn;
+        if self.eats(b'/') {
+            turn = turn.checked_div(self.digits(10)).unwrap_or(0);
+        }
+        let added = step.wrapping_mul(turn);
+        if self.eats(b'%') {
+            added.checked_rem(self.digits(10)).unwrap_or(0)
+        } else {
+            added
+        }
+    }
+
+    // Takes what is between brackets, without the first one. Returns its value in this turn.
+    fn turned(&mut self, base: usize) -> usize {
+        let start = self.digits(base);
+        let is_falling = self.eats(b'-');
+        if !is_falling {
+            self.needs(b'+');
+        }
+        let added = self.added(base);
+        let more = if self.eats(b'+') { self.added(base) } else { 0 };
+        self.needs(b']');
+        self.check(!is_falling || added <= start);
+        let turned = if is_falling {
+            start.wrapping_sub(added)
+        } else {
+            start.wrapping_add(added)
+        };
+        turned.wrapping_add(more)
+    }
+
+    /// Takes a number, after which the word may go on.
+    pub fn number(&mut self) -> usize {
+        if self.eats(b'[') {
+            self.turned(10)
+        } else {
+            self.digits(10)
+        }
+    }
+
+    // Takes a hex digit, and returns its value.
+    fn digit(&mut self) -> usize {
+        let value = digit_value(self.peek());
+        self.check(value < 16);
+        self.skip(1);
+        value
+    }
+
+    /// Takes one byte of a part, after which the part may go on. If `is_hex` is true, it is written as two digits.
+    pub fn byte(&mut self, is_hex: bool) -> u8 {
+        let value = if self.eats(b'[') {
+            self.turned(16)
+        } else if is_hex || self.eats(b'\\') {
+            if !is_hex {
+                self.needs(b'x');
+            }
+            self.digit().wrapping_mul(16).wrapping_add(self.digit())
+        } else {
+            let byte = self.peek();
+            self.check(byte != b' ');
+            self.skip(1);
+            usize::from(byte)
+        };
+        self.check(value < 256);
+        (value % 256) as u8
+    }
+
+    /// Takes the next word. Returns an empty one if none is left.
     pub fn next(&mut self) -> &[u8] {
         let word = first_word(self.text.get(self.at..).unwrap_or_default());
         self.at = self.at.saturating_add(word.len()).saturating_add(1);
         word
     }
 
-    /// Takes the next word, where it is this one. Returns whether it was.
+    /// Takes the next word if it is this one. Returns whether it was.
     pub fn takes(&mut self, word: &[u8]) -> bool {
         let at = self.at;
         let is_next = self.next() == word;
@@ -125,26 +281,30 @@ impl Words {
         is_next
     }
 
-    /// Has the words count as misread, whatever is left of them.
-    pub fn misread(&mut self) {
-        self.is_misread = true;
-    }
-
-    /// Takes the next word, which is to be this one, or else was misread.
+    /// Takes the next word, which must be this one.
     pub fn wants(&mut self, word: &[u8]) {
         let is_next = self.next() == word;
         self.check(is_next);
     }
 
-    /// Takes the next word, which is to be one of a table's. Returns what stands beside it there, or
-    /// `None` where it was misread.
-    pub fn one_of<T: Copy>(&mut self, table: &[(&str, T)]) -> Option<T> {
+    /// Takes the next word if it is one of a table. Returns its value in the table.
+    pub fn find<T: Copy>(&mut self, table: &[(&str, T)]) -> Option<T> {
+        let at = self.at;
         let value = beside(self.next(), table);
+        if value.is_none() {
+            self.at = at;
+        }
+        value
+    }
+
+    /// Takes the next word, which must be one of a table. Returns its value in the table, or `None` if it was misread.
+    pub fn one_of<T: Copy>(&mut self, table: &[(&str, T)]) -> Option<T> {
+        let value = self.find(table);
         self.check(value.is_some());
         value
     }
 
-    /// Takes the next word, which is to be one of these two. Returns whether it was the first.
+    /// Takes the next word, which must be one of these two. Returns whether it was the first.
     pub fn is_either(&mut self, yes: &[u8], no: &[u8]) -> bool {
         let is_yes = self.takes(yes);
         if !is_yes {
@@ -153,10 +313,9 @@ impl Words {
         is_yes
     }
 
-    // Goes to the next word, where this one is read to its end.
+    // Goes to the next word. This one must have been read to its end.
     fn end_word(&mut self) {
-        self.check(self.peek() == b' ');
-        self.at = self.at.saturating_add(1);
+        self.needs(b' ');
     }
 
     /// Takes the next word as a number.
@@ -166,7 +325,7 @@ impl Words {
         number
     }
 
-    /// Takes the number before a call, which says how many rows a line stands for. Returns 1 where there is none.
+    /// Takes the number before a call, if there is one. It is the number of turns of its line, which is otherwise 1.
     pub(crate) fn take_count(&mut self) -> usize {
         if self.peek().is_ascii_digit() {
             self.take_number()
@@ -175,7 +334,7 @@ impl Words {
         }
     }
 
-    /// Takes the next word as how many growths there are.
+    /// Takes the next word as a number of growths.
     pub fn take_growths(&mut self) -> u64 {
         self.take_number() as u64
     }
@@ -188,7 +347,8 @@ impl Words {
         byte
     }
 
-    /// Takes the next word as bytes, which `bytes` then holds where it was not misread.
+    /// Takes the next word as bytes, and writes them into `bytes`. They are the right ones only if the word was not
+    /// misread.
     pub fn take_bytes(&mut self, bytes: &mut Bytes) {
         bytes.clear();
         if !self.takes(b"-") {
@@ -202,8 +362,8 @@ impl Words {
         self.one_of(&POLICIES).unwrap_or(CheckCase::None)
     }
 
-    /// Takes the next words as a refusal: `odd-length`, `overflow`, `no-memory`, `too-small 4`,
-    /// `mismatch 32 1` or `invalid 5 67`.
+    /// Takes the next words as an error: `odd-length`, `overflow`, `no-memory`, `too-small 4`, `mismatch 32 1` or
+    /// `invalid 5 67`.
     pub fn take_refusal(&mut self) -> Error {
         if self.takes(b"invalid") {
             Error::InvalidChar {
@@ -231,8 +391,8 @@ impl Words {
         rest
     }
 
-    /// Takes the next word, and has `bytes` hold what it stands for: the digits of a number in brackets, the bytes that
-    /// it writes, or itself where it writes none.
+    /// Takes the next word, and writes into `bytes` what it stands for. This is a number in brackets, in decimal, or
+    /// the bytes that the word writes. A word that is neither stands for itself.
     pub fn take_meaning(&mut self, bytes: &mut Bytes) {
         let start = self.at;
         self.is_misread = false;
@@ -255,13 +415,8 @@ impl Words {
         }
     }
 
-    /// Returns whether all words are taken.
-    pub fn are_taken(&self) -> bool {
-        self.at >= self.text.len()
-    }
-
-    /// Prints the words as their turn reads them: a number in brackets as its digits, and bytes that are not written as
-    /// they are as hex digits. The bytes are overwritten.
+    /// Prints the words. A number in brackets is printed in decimal, and bytes that are not written as they are as hex
+    /// digits. `bytes` is overwritten.
     pub fn put(&mut self, bytes: &mut Bytes, text: &mut Text) {
         for _ in 0..self.text.len() {
             if self.are_taken() {
@@ -270,18 +425,12 @@ impl Words {
             if self.at > 0 {
                 put_text(text, " ");
             }
-            let word = first_word(self.text.get(self.at..).unwrap_or_default());
-            if is_expanded(word) {
+            if is_expanded(first_word(self.rest())) {
                 self.take_meaning(bytes);
                 put_bytes(text, bytes.as_slice(), 0, SHOWN);
             } else {
                 put_text(text, str::from_utf8(self.next()).unwrap_or_default());
             }
         }
-    }
-
-    /// Returns whether no word is left, and none was misread.
-    pub fn are_read(&self) -> bool {
-        self.are_taken() && !self.is_misread
     }
 }

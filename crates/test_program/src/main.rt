@@ -1,5 +1,5 @@
 //! Rows of runs of the program and how they end: reads them from standard input, and prints those
-//! that end otherwise and how many there are. `test_kit` says how a row is written.
+//! that end otherwise and how many there are. `docs/rows.md` says how a row is written.
 #![tactic(auto)]
 
 mod runs;
@@ -7,8 +7,9 @@ mod served;
 mod setup;
 mod vectors;
 
+use hex_program::Failure;
 use std::io::{self, BufReader};
-use test_kit::{Bytes, Calls, Row, judge};
+use test_kit::{Bytes, Calls, Row, judge, prints};
 
 // What a row calls.
 #[derive(Clone, Copy)]
@@ -18,15 +19,24 @@ enum Call {
     Run,
     Vector,
     Stored,
+    Print,
 }
 
-const CALLS: [(&str, Call); 5] = [
+const CALLS: [(&str, Call); 6] = [
     ("serve", Call::Serve),
     ("stream", Call::Stream),
     ("run", Call::Run),
     ("vector", Call::Vector),
     ("stored", Call::Stored),
+    ("print", Call::Print),
 ];
+
+// Returns whether `print ERROR` is answered by the text of the failure with this error, which is the same with any
+// flags.
+fn is_printed(row: &mut Row) -> bool {
+    let failure = Failure::Codec(row.call.take_refusal());
+    prints(row.alloc, &failure, row.answer.take_rest())
+}
 
 // What a row reads the end of an output into.
 #[derive(Drop)]
@@ -42,6 +52,7 @@ impl Calls for Program {
             Some(Call::Run) => runs::is_answered(row),
             Some(Call::Vector) => vectors::is_answered(row, false),
             Some(Call::Stored) => vectors::is_answered(row, true),
+            Some(Call::Print) => is_printed(row),
             None => false,
         }
     }

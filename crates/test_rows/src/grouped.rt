@@ -9,24 +9,29 @@ use test_kit::{Bytes, Row, Words};
 // What reading a grouped text answers.
 type Reading<'a> = Result<&'a [u8], GroupFault>;
 
-// Reads an answer: `ok` and the bytes, or `bad-length`, `too-small 3` or `invalid 4 -`, and `kept`.
+/// Takes a fault: `bad-length`, `too-small 3` or `invalid 4 -`.
+pub fn take_group_fault(words: &mut Words) -> GroupFault {
+    if words.takes(b"invalid") {
+        GroupFault::InvalidByte {
+            index: words.take_number(),
+            byte: words.take_byte(),
+        }
+    } else if words.is_either(b"too-small", b"bad-length") {
+        GroupFault::OutputTooSmall {
+            required: words.take_number(),
+        }
+    } else {
+        GroupFault::BadLength
+    }
+}
+
+// Takes an answer: `ok` and the bytes, or a fault and `kept`.
 fn reading<'a>(answer: &mut Words, bytes: &'a mut Bytes) -> Reading<'a> {
     if answer.takes(b"ok") {
         answer.take_bytes(bytes);
         return Ok(bytes.as_slice());
     }
-    let fault = if answer.takes(b"invalid") {
-        GroupFault::InvalidByte {
-            index: answer.take_number(),
-            byte: answer.take_byte(),
-        }
-    } else if answer.is_either(b"too-small", b"bad-length") {
-        GroupFault::OutputTooSmall {
-            required: answer.take_number(),
-        }
-    } else {
-        GroupFault::BadLength
-    };
+    let fault = take_group_fault(answer);
     answer.wants(b"kept");
     Err(fault)
 }

@@ -26,8 +26,9 @@ fn are_admitted(bytes: &[u8], case: CheckCase, letters: &[u8]) -> bool {
         64 => admitted_64(block!(bytes, 64), case),
         _ => return false,
     };
-    for letter in letters {
-        if *letter != if mask & 1 == 1 { b'y' } else { b'n' } {
+    for i in 0..letters.len() {
+        let letter = if mask & 1 == 1 { b'y' } else { b'n' };
+        if letters[i] != letter {
             return false;
         }
         mask >>= 1;

@@ -11,25 +11,29 @@ use std::alloc::{Allocator, Global};
 use test_kit::refusing::Refusing;
 use test_kit::{Bytes, Words};
 
-// Reads why a list is refused: `no-memory`, or `line 2` and what is wrong with it, as `short`, `mark`
-// or `invalid 2 g`.
-fn list_fault(answer: &mut Words) -> ListFault {
-    if answer.takes(b"no-memory") {
-        return ListFault::OutOfMemory;
-    }
-    answer.wants(b"line");
-    let line = answer.take_number();
-    let why = if answer.takes(b"invalid") {
+/// Takes the fault of a line: `short`, `mark` or `invalid 2 g`.
+pub fn take_line_fault(words: &mut Words) -> LineFault {
+    if words.takes(b"invalid") {
         LineFault::InvalidByte {
-            index: answer.take_number(),
-            byte: answer.take_byte(),
+            index: words.take_number(),
+            byte: words.take_byte(),
         }
-    } else if answer.is_either(b"mark", b"short") {
+    } else if words.is_either(b"mark", b"short") {
         LineFault::BadMark
     } else {
         LineFault::ShortLine
-    };
-    ListFault::Line { line, why }
+    }
+}
+
+/// Takes the fault of a list: `no-memory`, or `line 2` and the fault of this line.
+pub fn take_list_fault(words: &mut Words) -> ListFault {
+    if words.is_either(b"no-memory", b"line") {
+        return ListFault::OutOfMemory;
+    }
+    ListFault::Line {
+        line: words.take_number(),
+        why: take_line_fault(words),
+    }
 }
 
 // Whether the next words are the digest, the mark and the name of an entry.
@@ -41,6 +45,18 @@ fn is_entry<const N: usize>(entry: &Entry<'_, N>, answer: &mut Words, bytes: &mu
     let is_binary = answer.is_either(b"*", b"text");
     answer.take_bytes(bytes);
     is_digest && is_binary == entry.binary && bytes.as_slice() == entry.name
+}
+
+// Returns whether all entries are the same.
+fn are_same<const N: usize>(entries: &[Entry<'_, N>]) -> bool
+    requires { N < 10000 }
+{
+    for i in 1..entries.len() {
+        if entries[i] != entries[0] {
+            return false;
+        }
+    }
+    true
 }
 
 // Whether a list was read so: `ok` and the entries, or the fault. The answer is read from its first
@@ -56,10 +72,16 @@ fn is_list<A: Allocator + Drop, const N: usize>(
     answer.take_growths();
     let entries = match got {
         Ok(entries) => entries,
-        Err(fault) => return list_fault(answer) == fault,
+        Err(fault) => return take_list_fault(answer) == fault,
     };
     let mut is_right = answer.takes(b"ok");
-    for i in 0..entries.len() {
+    // Many entries are written as their number and the first one, if all are the same.
+    let mut shown = entries.len();
+    if answer.takes(b"many") {
+        is_right = is_right && answer.take_number() == shown && are_same(entries.as_slice());
+        shown = shown.min(1);
+    }
+    for i in 0..shown {
         is_right = is_right && is_entry(&entries[i], answer, bytes);
     }
     is_right
@@ -105,7 +127,8 @@ pub fn is_written<const N: usize>(
     let put = Put::List(list.as_slice());
     let mut flags = HexFlags::default();
     flags.upper = given.is_upper();
-    for mode in MODES {
+    for i in 0..MODES.len() {
+        let mode = MODES[i];
         let is_tried = mode != Mode::RefusesLong && !(want.is_stopped && mode == Mode::OneByte);
         if is_tried && !put.is_taken(&flags, mode, want.text.len(), want) {
             return false;

@@ -1,5 +1,5 @@
 //! Rows of calls and their answers: reads them from standard input, and prints those that are
-//! answered otherwise and how many there are. `test_kit` says how a row is written.
+//! answered otherwise and how many there are. `docs/rows.md` says how a row is written.
 #![tactic(auto)]
 
 mod each_byte;
@@ -101,12 +101,12 @@ impl Calls for Destination {
             return false;
         };
         match call {
-            Call::Decode => slices::decode_row(row, self),
-            Call::Encode => slices::encode_row(row, self),
+            Call::Decode => slices::convert_row(row, self, false),
+            Call::Encode => slices::convert_row(row, self, true),
             Call::Sized(call) => sized::row(call, row, self),
             Call::Check => slices::check_row(row, self),
-            Call::Find => search::find_row(row, self),
-            Call::Cover => search::cover_row(row, self),
+            Call::Find => search::search_row(row, self, false),
+            Call::Cover => search::search_row(row, self, true),
             Call::Owned => wholes::owned_row(row, self),
             Call::Vector => strings::vector_row(row, self),
             Call::String => strings::string_row(row, self),

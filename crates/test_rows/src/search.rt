@@ -28,27 +28,10 @@ fn is_found(note: &mut Note, plan: Backend, src: &[u8], case: CheckCase, found: 
     let (place, tests, looks) = found;
     let mut probe = SliceProbe::new(plan, src, case);
     note.by(plan.name());
-    is_place(note.of("locate"), locate(&mut probe), place)
-        && is_place(note.of("tests of locate"), Some(probe.tests()), Some(tests))
-        && is_place(note.of("looks of locate"), Some(probe.looks()), Some(looks))
-        && is_place(
-            note.of("first_invalid"),
-            plan.first_invalid(src, case),
-            place,
-        )
-}
-
-/// `find POLICY DIGITS`.
-pub fn find_row(row: &mut Row, to: &mut Destination) -> bool {
-    let case = row.call.take_policy();
-    let src = source(&mut row.call, &mut row.given, to.from);
-    let found = take_found(&mut row.answer);
-    for number in 0..PLANS {
-        if !is_found(&mut row.note, plan(number), src, case, found) {
-            return false;
-        }
-    }
-    true
+    is_place(note, "locate", locate(&mut probe), place)
+        && is_place(note, "tests of locate", Some(probe.tests()), Some(tests))
+        && is_place(note, "looks of locate", Some(probe.looks()), Some(looks))
+        && is_place(note, "first_invalid", plan.first_invalid(src, case), place)
 }
 
 // Whether a plan covers a source, or finds that it can't.
@@ -61,13 +44,18 @@ fn is_covered(plan: Backend, src: &[u8], case: CheckCase, found: Found) -> bool 
         && (probe.tests(), probe.looks()) == (tests, looks)
 }
 
-/// `cover POLICY DIGITS`.
-pub fn cover_row(row: &mut Row, to: &mut Destination) -> bool {
+/// `find POLICY DIGITS`, or `cover POLICY DIGITS` if `is_cover` is true.
+pub fn search_row(row: &mut Row, to: &mut Destination, is_cover: bool) -> bool {
     let case = row.call.take_policy();
     let src = source(&mut row.call, &mut row.given, to.from);
     let found = take_found(&mut row.answer);
     for number in 0..PLANS {
-        if !is_covered(plan(number), src, case, found) {
+        let is_right = if is_cover {
+            is_covered(plan(number), src, case, found)
+        } else {
+            is_found(&mut row.note, plan(number), src, case, found)
+        };
+        if !is_right {
             return false;
         }
     }
@@ -76,8 +64,8 @@ pub fn cover_row(row: &mut Row, to: &mut Destination) -> bool {
 
 /// `plans`: the name of each plan, in their order.
 pub fn plans_row(row: &mut Row) -> bool {
-    for plan in backends() {
-        row.answer.wants(plan.name().as_bytes());
+    for number in 0..backends().len() {
+        row.answer.wants(plan(number).name().as_bytes());
     }
     true
 }

@@ -14,13 +14,14 @@ fn reads<const N: usize>(note: &mut Note, given: Given<'_>, want: Answer<'_>) ->
     requires { N < 10000 }
 {
     let got = hex_decode_array_with_case::<N>(given.src, given.case);
-    let is_read = is_answer(note.of("hex_decode_array_with_case"), got, want);
+    let is_read = is_answer(note, "hex_decode_array_with_case", got, want);
     if !given.is_plain() {
         return is_read;
     }
     is_read
         && is_answer(
-            note.of("hex_decode_array"),
+            note,
+            "hex_decode_array",
             hex_decode_array::<N>(given.src),
             want,
         )
@@ -55,20 +56,22 @@ pub enum Call {
     Relist,
 }
 
-// Whether a call of so many bytes is answered so, where the words before its last one were read.
-fn is_sized<const N: usize>(
+// A call, and what its words before the last one say.
+#[derive(Clone, Copy)]
+struct Asked {
     call: Call,
     case: CheckCase,
     number: usize,
-    row: &mut Row,
-    to: &mut Destination,
-) -> bool
+}
+
+// Returns whether a call with `N` bytes is answered, after the words before its last one were read.
+fn is_sized<const N: usize>(asked: Asked, row: &mut Row, to: &mut Destination) -> bool
     requires { N < 10000 }
 {
     let src = source(&mut row.call, &mut row.given, to.from);
-    let given = Given::new(case, number, src);
+    let given = Given::new(asked.case, asked.number, src);
     let (words, bytes) = (&mut row.answer, &mut row.wanted);
-    match call {
+    match asked.call {
         Call::Array => reads::<N>(&mut row.note, given, answer(words, bytes)),
         Call::Fixed => writes::<N>(&mut row.note, given, answer(words, bytes)),
         Call::List => lists::is_read::<N>(given, row.alloc, words, bytes),
@@ -93,6 +96,7 @@ pub fn row(call: Call, row: &mut Row, to: &mut Destination) -> bool {
     let case = row.call.take_policy();
     let number = row.call.take_number();
     let length = if is_list { before } else { number };
+    let asked = Asked { call, case, number };
     by_length!(length => 0 1 2 3 4 7 8 15 16 17 31 32 33 63 64 65 127 128 129 256 513 1025 4096:
-        (call, case, number, row, to))
+        (asked, row, to))
 }

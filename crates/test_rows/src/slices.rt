@@ -22,9 +22,9 @@ fn plan_decodes(
     let Given { case, number, src } = given;
     note.by(plan.name());
     let got = plan.decode_slice(src, to.lend(number), case);
-    let is_lent = is_answer(note.of("decode_slice"), got, want) && to.has(note, want);
+    let is_lent = is_answer(note, "decode_slice", got, want) && to.has(note, want);
     let got = plan.decode_into(src, to.lend(number), case);
-    is_lent && is_count(note.of("decode_into"), got, want) && to.has(note, want)
+    is_lent && is_count(note, "decode_into", got, want) && to.has(note, want)
 }
 
 /// Returns whether the calls that name no plan do so.
@@ -32,14 +32,14 @@ pub fn decodes(note: &mut Note, given: Given<'_>, to: &mut Destination, want: An
     let Given { case, number, src } = given;
     note.by("");
     let got = hex_decode_with_case(src, to.lend(number), case);
-    let is_lent = is_answer(note.of("hex_decode_with_case"), got, want) && to.has(note, want);
+    let is_lent = is_answer(note, "hex_decode_with_case", got, want) && to.has(note, want);
     let got = hex_decode_into(src, to.lend(number), case);
-    let is_decoded = is_count(note.of("hex_decode_into"), got, want) && to.has(note, want);
+    let is_decoded = is_count(note, "hex_decode_into", got, want) && to.has(note, want);
     if !given.is_plain() {
         return is_lent && is_decoded;
     }
     let got = hex_decode(src, to.lend(number));
-    is_lent && is_decoded && is_answer(note.of("hex_decode"), got, want) && to.has(note, want)
+    is_lent && is_decoded && is_answer(note, "hex_decode", got, want) && to.has(note, want)
 }
 
 // Whether both calls of a plan encode so, and write nothing but the answer.
@@ -53,9 +53,9 @@ fn plan_encodes(
     let (room, src, upper) = (given.number, given.src, given.is_upper());
     note.by(plan.name());
     let got = plan.encode_slice(src, to.lend(room), upper);
-    let is_lent = is_answer(note.of("encode_slice"), got, want) && to.has(note, want);
+    let is_lent = is_answer(note, "encode_slice", got, want) && to.has(note, want);
     let got = plan.encode_into(src, to.lend(room), upper);
-    is_lent && is_count(note.of("encode_into"), got, want) && to.has(note, want)
+    is_lent && is_count(note, "encode_into", got, want) && to.has(note, want)
 }
 
 /// Returns whether both calls that name no plan do so.
@@ -67,33 +67,31 @@ pub fn encodes(note: &mut Note, given: Given<'_>, to: &mut Destination, want: An
     } else {
         hex_encode(src, to.lend(room))
     };
-    let is_lent = is_answer(note.of("hex_encode"), got, want) && to.has(note, want);
+    let is_lent = is_answer(note, "hex_encode", got, want) && to.has(note, want);
     let got = hex_encode_into(src, to.lend(room), upper);
-    is_lent && is_count(note.of("hex_encode_into"), got, want) && to.has(note, want)
+    is_lent && is_count(note, "hex_encode_into", got, want) && to.has(note, want)
 }
 
-/// `decode POLICY ROOM DIGITS`.
-pub fn decode_row(row: &mut Row, to: &mut Destination) -> bool {
+/// `decode POLICY ROOM DIGITS`, or `encode CASE ROOM BYTES` if `is_encode` is true.
+pub fn convert_row(row: &mut Row, to: &mut Destination, is_encode: bool) -> bool {
     let given = Given::read(&mut row.call, &mut row.given, to.from);
     let want = answer(&mut row.answer, &mut row.wanted);
+    let note = &mut row.note;
     for number in 0..PLANS {
-        if !plan_decodes(&mut row.note, plan(number), given, to, want) {
+        let is_right = if is_encode {
+            plan_encodes(note, plan(number), given, to, want)
+        } else {
+            plan_decodes(note, plan(number), given, to, want)
+        };
+        if !is_right {
             return false;
         }
     }
-    decodes(&mut row.note, given, to, want)
-}
-
-/// `encode CASE ROOM BYTES`.
-pub fn encode_row(row: &mut Row, to: &mut Destination) -> bool {
-    let given = Given::read(&mut row.call, &mut row.given, to.from);
-    let want = answer(&mut row.answer, &mut row.wanted);
-    for number in 0..PLANS {
-        if !plan_encodes(&mut row.note, plan(number), given, to, want) {
-            return false;
-        }
+    if is_encode {
+        encodes(note, given, to, want)
+    } else {
+        decodes(note, given, to, want)
     }
-    encodes(&mut row.note, given, to, want)
 }
 
 /// `check POLICY DIGITS`.
@@ -104,7 +102,8 @@ pub fn check_row(row: &mut Row, to: &mut Destination) -> bool {
     for number in 0..PLANS {
         row.note.by(plan(number).name());
         if !is_so(
-            row.note.of("check"),
+            &mut row.note,
+            "check",
             plan(number).check(src, case),
             is_valid,
         ) {
@@ -113,8 +112,9 @@ pub fn check_row(row: &mut Row, to: &mut Destination) -> bool {
     }
     row.note.by("");
     is_so(
-        row.note.of("hex_check_with_case"),
+        &mut row.note,
+        "hex_check_with_case",
         hex_check_with_case(src, case),
         is_valid,
-    ) && (case != CheckCase::None || is_so(row.note.of("hex_check"), hex_check(src), is_valid))
+    ) && (case != CheckCase::None || is_so(&mut row.note, "hex_check", hex_check(src), is_valid))
 }

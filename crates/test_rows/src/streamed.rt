@@ -42,12 +42,18 @@ const STREAMS: [(&str, Stream); 4] = [
     ("grouped", Stream::EncodeGrouped),
 ];
 
-// Whether no more reads were made than of 8,192 bytes each, or of all that a read gives. In groups a read
-// that gives less may end within a piece, and one more goes to the end of it.
-fn is_read_by(reader: &Giver<'_>, pieces: Option<Group>) -> bool {
-    match pieces {
-        None => reader.is_read_by(8192),
-        Some(_) => reader.is_read_by(reader.every.min(8192).div_ceil(2)),
+// The bytes of one read of a stream, unless the reader gives less.
+const DECODED: usize = 16_384;
+
+const ENCODED: usize = 8_192;
+
+// Returns whether no more reads were made than are needed. A read that gives less than it could may end within a
+// group. One more read then goes to the end of that group.
+fn is_read_by(reader: &Giver<'_>, stream: Stream, pieces: Option<Group>) -> bool {
+    match stream {
+        Stream::Decode | Stream::DecodeSpaced => reader.is_read_by(DECODED),
+        _ if pieces.is_none() => reader.is_read_by(ENCODED),
+        _ => reader.is_read_by(reader.every.min(ENCODED).div_ceil(2)),
     }
 }
 
@@ -56,7 +62,7 @@ fn is_read_by(reader: &Giver<'_>, pieces: Option<Group>) -> bool {
 /// which repeat these, in reads of at most so many, before each of which so many are interrupted, and
 /// then the end or a failed read; into a sink of so much capacity that has counted so many failures. The
 /// answer, and how many bytes the sink has taken, which repeat those that stand after it. No more reads
-/// are made than a stream needs.
+/// are made than a stream needs. At most one put is made for each read.
 pub fn stream_row(row: &mut Row) -> bool {
     let Some(stream) = row.call.one_of(&STREAMS) else {
         return false;
@@ -96,8 +102,12 @@ pub fn stream_row(row: &mut Row) -> bool {
         },
     };
     let is_full = matches!(got, Err(StreamFault::Write(_)));
+    // One put for each read that gave something, and one that is refused.
+    let puts = reader.reads.saturating_sub(reader.ended);
+    let puts = puts.saturating_add(usize::from(is_full));
     got == want
         && reader.ended < 2
-        && is_read_by(&reader, pieces)
+        && is_read_by(&reader, stream, pieces)
+        && sink.puts <= puts
         && sink.is_filled(failures.saturating_add(u64::from(is_full)))
 }

@@ -55,6 +55,8 @@ pub struct Taking<'a> {
     failed: u64,
     has_failed: bool,
     is_right: bool,
+    /// How often something was put.
+    pub puts: usize,
     ghost in_limit: { taken ≤ limit },
 }
 
@@ -71,6 +73,7 @@ impl<'a> Taking<'a> {
             failed,
             has_failed: false,
             is_right: true,
+            puts: 0,
         }
     }
 
@@ -101,6 +104,7 @@ impl Sink for Taking<'_> {
     }
 
     fn put(&mut self, piece: &[u8]) -> Result<usize, SinkFault> {
+        self.puts = self.puts.saturating_add(1);
         let fits = piece.len().min(self.limit - self.taken);
         let count = match self.mode {
             Mode::OneByte => fits.min(1),

@@ -12,7 +12,7 @@ const FILL: u8 = 0xa5;
 const GUARD: usize = 64;
 
 // The longest destination, with what stands beside it.
-const WHOLE: usize = 8_600;
+const WHOLE: usize = 12_500;
 
 /// How many plans there are: those that are listed, and after them `plain` for each width.
 pub const PLANS: usize = 8;
@@ -178,20 +178,28 @@ pub fn is_same(note: &mut Note, got: Answer<'_>, want: Answer<'_>) -> bool {
     got == want || note.differs(Came::answer(got), Came::answer(want))
 }
 
-/// Returns whether a call that answers bytes answers so.
+/// Returns whether a call with this name, which answers bytes, answers so.
 pub fn is_answer<T: AsSlice<u8> + Drop>(
     note: &mut Note,
+    call: &'static str,
     got: Result<T, Error>,
     want: Answer<'_>,
 ) -> bool {
+    note.of(call);
     match got {
         Ok(bytes) => is_same(note, Ok(bytes.as_slice()), want),
         Err(e) => is_same(note, Err(e), want),
     }
 }
 
-/// Returns whether a call that counts what it writes answers so.
-pub fn is_count(note: &mut Note, got: Result<usize, Error>, want: Answer<'_>) -> bool {
+/// Returns whether a call with this name, which counts what it writes, answers so.
+pub fn is_count(
+    note: &mut Note,
+    call: &'static str,
+    got: Result<usize, Error>,
+    want: Answer<'_>,
+) -> bool {
+    note.of(call);
     match got {
         Ok(count) => {
             (want.is_ok() && count == want.unwrap_or_default().len())
@@ -201,13 +209,20 @@ pub fn is_count(note: &mut Note, got: Result<usize, Error>, want: Answer<'_>) ->
     }
 }
 
-/// Returns whether the call that is noted gives this place, or none.
-pub fn is_place(note: &mut Note, got: Option<usize>, want: Option<usize>) -> bool {
+/// Returns whether a call with this name gives this place, or none.
+pub fn is_place(
+    note: &mut Note,
+    call: &'static str,
+    got: Option<usize>,
+    want: Option<usize>,
+) -> bool {
+    note.of(call);
     got == want || note.differs(Came::place(got), Came::place(want))
 }
 
-/// Returns whether the call that is noted answers yes or no so.
-pub fn is_so(note: &mut Note, got: bool, want: bool) -> bool {
+/// Returns whether a call with this name answers yes or no so.
+pub fn is_so(note: &mut Note, call: &'static str, got: bool, want: bool) -> bool {
+    note.of(call);
     got == want || note.differs(Came::Is(got), Came::Is(want))
 }
 

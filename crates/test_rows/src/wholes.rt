@@ -50,7 +50,7 @@ impl<'a> Read<'a> {
             plan.decode(self.src, dst, self.case)
         };
         let call = if is_owned { "decode_owned" } else { "decode" };
-        is_so(note.of(call), is_decoded, self.place.is_none()) && to.is_left(note, left)
+        is_so(note, call, is_decoded, self.place.is_none()) && to.is_left(note, left)
     }
 
     // Whether a plan checks and searches a source so, and decodes it so: a refused one leaves `left`
@@ -59,11 +59,13 @@ impl<'a> Read<'a> {
         let decoded = if self.place.is_none() { left } else { &[] };
         note.by(plan.name());
         is_so(
-            note.of("check"),
+            note,
+            "check",
             plan.check(self.src, self.case),
             self.place.is_none(),
         ) && is_place(
-            note.of("first_invalid"),
+            note,
+            "first_invalid",
             plan.first_invalid(self.src, self.case),
             self.place,
         ) && self.decodes(note, plan, false, decoded, to)
@@ -112,7 +114,8 @@ fn all_write(note: &mut Note, given: Given<'_>, text: &[u8], to: &mut Destinatio
         }
         plan(number).encode(given.src, dst, given.is_upper());
         note.by(plan(number).name());
-        if !to.is_left(note.of("encode"), text) {
+        note.of("encode");
+        if !to.is_left(note, text) {
             return false;
         }
     }
