@@ -1,5 +1,5 @@
 -- What private functions do with one chunk of a stream. No public contract depends on these definitions.
-use Rattle.std.specs.Prelude.{◌≡◌, ◌≢◌, ◌<◌, ◌≤◌, ℕ, ◌+◌, ◌%◌, List, ◌++◌, length, take, slice_index, Option, Some}
+use Rattle.std.specs.Prelude.{◌≡◌, ◌≢◌, ◌<◌, ◌≤◌, ℕ, ◌+◌, ◌*◌, ◌%◌, List, ◌++◌, length, take, slice_index, Option, Some}
 use Rattle.std.specs.Prelude.{None, option_map, MatchOption, true}
 use Rattle.std.specs.Option.{option_to_list}
 use Rattle.hex_core.specs.declared.digit.CheckCase.{CheckCase}
@@ -36,6 +36,12 @@ AreDigitsOf r src None = r.skips ≡ true
 abbrev pub FitsPiece : Option Group → ℕ → ℕ → Type 0
 FitsPiece None total n = 0 ≤ n
 FitsPiece (Some group) total n = 0 < total % piece_len group → total % piece_len group + n ≤ piece_len group
+
+-- `room` bytes have room for what n bytes add to a text: two digits for each byte, and if there is a group, at
+-- most one separator for each
+abbrev pub HasRoomFor : Option Group → ℕ → ℕ → Type 0
+HasRoomFor None n room = 2 * n ≤ room
+HasRoomFor (Some group) n room = 3 * n ≤ room
 
 -- `more` is what the text of any `total` bytes lacks to be the text of these and of `bytes`
 abbrev pub Continues : (List ℕ → List ℕ) → ℕ → List ℕ → List ℕ → Type 0
