@@ -98,8 +98,6 @@ impl Digest {
     pub fn cmp_text(&self, other: &Digest) -> Ordering
         ensures { result ≡ slice_cmp nat_cmp (text lowercase self.now.bytes) (text lowercase other.now.bytes) }
     {
-        a_slice_holds_bytes(&self.bytes);
-        a_slice_holds_bytes(&other.bytes);
         texts_compare_as_their_lists();
         self.bytes.cmp(&other.bytes)
     }

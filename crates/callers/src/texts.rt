@@ -9,7 +9,8 @@ ghost use Rattle.hex_io.specs.SinkState.{Puts};
 
 use faster_hex::format::{put_all, put_digits};
 use faster_hex::{
-    Error, Sink, WriteFault, hex_append_into, hex_decode_vec, hex_encode, hex_string,
+    Error, Sink, WriteFault, hex_append_into, hex_decode_vec, hex_encode, hex_encode_into,
+    hex_string,
 };
 use hex_core::laws::{
     a_text_is_ascii_and_twice_as_long, either_case_is_the_lowercased_source,
@@ -52,6 +53,21 @@ pub fn append_identifier<A: Allocator>(
     let mut buffer = [0; 32];
     let digits = hex_encode(id, &mut buffer).unwrap();
     line.push_str(str::from_utf8(digits).unwrap())
+}
+
+/// Returns the 40 digits of an identifier of 20 bytes, in an array that is exactly as long.
+///
+/// ```rust
+/// let digits = identifier_digits(&[0xab; 20]);
+/// assert!(rt; digits.chunks(2).all(|pair| pair == b"ab".as_slice()));
+/// ```
+pub fn identifier_digits(id: &[u8; 20]) -> [u8; 40]
+    ensures { result ≡ text lowercase id.now }
+{
+    a_text_is_ascii_and_twice_as_long();
+    let mut digits = [0; 40];
+    hex_encode_into(id, &mut digits, false).unwrap();
+    digits
 }
 
 /// Decodes digits of either case, and returns the bytes as new lowercase digits.

@@ -1,7 +1,6 @@
 -- The laws of digits, texts and what they spell.
 use Rattle.std.proofs.Common.{◌≡◌, ℕ, List, ◌+◌, ◌*◌, ◌/◌, ◌%◌, ◌<◌, ◌==◌, length, map, get_or, Bool, true, false, None}
-use Rattle.std.proofs.Common.{Some, is_none, unwrap_or, refl, sym, subst, ◌∙◌, ap, arith, zero-add, inl, inr, [], ◌∷◌}
-use Rattle.std.proofs.Common.{suc, Ordering}
+use Rattle.std.proofs.Common.{Some, is_none, unwrap_or, refl, sym, subst, ◌∙◌, ap, arith, zero-add, inl, inr, [], ◌∷◌, Ordering}
 use Rattle.std.proofs.lemmas.Bool.{cases_lt}
 use Rattle.std.proofs.lemmas.Bool.Decides.{nat_tests}
 use Rattle.std.proofs.lemmas.Grind.{same_number_lists}
@@ -142,9 +141,9 @@ encoding-lowercases s bytes h = encoding-inverts false (str_to_ascii_lowercase s
 
 -- ---- order
 
-digit-order : (upper : Bool) (m n : ℕ) → m < 16 → n < 16 → nat_cmp (digit upper m) (digit upper n) ≡ nat_cmp m n
-digit-order true m n a b = grind (arith, nat_tests)
-digit-order false m n a b = grind (arith, nat_tests)
+digit-order : (upper : Bool) (m n : ℕ) → nat_cmp (digit upper m) (digit upper n) ≡ nat_cmp m n
+digit-order true m n = grind (arith, nat_tests)
+digit-order false m n = grind (arith, nat_tests)
 
 -- of two bytes the quotients decide, and else the remainders
 halves-order : (m n : ℕ) (rest : Ordering)
@@ -152,15 +151,11 @@ halves-order : (m n : ℕ) (rest : Ordering)
 halves-order m n rest = grind (arith, nat_tests)
 
 pub text-order : TextsCompareAsLists
-text-order upper [] [] a b = refl
-text-order upper [] (n ∷ others) a b = refl
-text-order upper (m ∷ bytes) [] a b = refl
-text-order upper (m ∷ bytes) (n ∷ others) a b =
-    let m_fits : m < 256 = a 0 0 (omega arith) in
-    let n_fits : n < 256 = b 0 0 (omega arith) in
-    let high = digit-order upper (m / 16) (n / 16) (omega arith) (omega arith) in
-    let low = digit-order upper (m % 16) (n % 16) (omega arith) (omega arith) in
-    rw (high, low, text-order upper bytes others (λ k d h. a (suc k) d (omega arith)) (λ k d h. b (suc k) d (omega arith))) (halves-order m n (slice_cmp nat_cmp bytes others))
+text-order upper [] [] = refl
+text-order upper [] (n ∷ others) = refl
+text-order upper (m ∷ bytes) [] = refl
+text-order upper (m ∷ bytes) (n ∷ others) =
+    rw (digit-order upper (m / 16) (n / 16), digit-order upper (m % 16) (n % 16), text-order upper bytes others) (halves-order m n (slice_cmp nat_cmp bytes others))
 
 -- ---- what laws.rt promises, where it is an equation
 

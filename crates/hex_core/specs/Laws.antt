@@ -142,6 +142,4 @@ BytesBehindBlocksStay = (block : ℕ) (c : CheckCase) (s old new : List ℕ) (i 
 -- two texts of one case are in the same order as their lists
 abbrev pub TextsCompareAsLists : Type 0
 TextsCompareAsLists = (upper : Bool) (bytes others : List ℕ)
-    → AreBytes bytes
-    → AreBytes others
     → slice_cmp nat_cmp (text upper bytes) (text upper others) ≡ slice_cmp nat_cmp bytes others

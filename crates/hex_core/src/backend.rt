@@ -12,7 +12,6 @@ use crate::digit_lanes::{Hashed, Interleaved, Saturating};
 use crate::kernel::{decode_or_nothing, encode_blocks};
 use crate::lane_probe::check_lanes;
 use crate::plain::{check_by_length, decode_by_length, decode_many, encode_by_length};
-use crate::registers::{decode_four, decode_two};
 use crate::scalar::{check_by_table, decode_by_table, encode_by_table};
 
 /// The name of a plan, which selects the implementations.
@@ -210,9 +209,9 @@ impl Backend {
     {
         match (self.0, src.len()) {
             (Kind::Scalar, _) | (_, 0..16) => decode_by_table(src, dst, case),
-            (_, 16..32) => decode_two::<16, 8>(src, dst, case),
-            (Kind::Sse41 | Kind::Neon, 32..=64) => decode_four::<16, 8>(src, dst, case),
-            (Kind::Sse41 | Kind::Neon, _) => decode_or_nothing::<Saturating, 16, 8>(src, dst, case),
+            (Kind::Sse41 | Kind::Neon, _) | (_, 16..32) => decode_or_nothing::<Saturating, 16, 8>(
+                src, dst, case,
+            ),
             (Kind::Avx512, 64..) => decode_or_nothing::<Hashed, 64, 32>(src, dst, case),
             _ => decode_or_nothing::<Hashed, 32, 16>(src, dst, case),
         }

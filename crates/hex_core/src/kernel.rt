@@ -15,8 +15,8 @@ ghost use Rattle.hex_core.specs.Text.{Spells, text};
 use crate::digit::CheckCase;
 use crate::digit_lanes::{Encode, Nibbles, Valid, Validate, reach};
 use crate::lane_probe::check_lanes;
-use crate::vector::{has_no_sign, is_low, max, saturating_add};
-use crate::widths::{Lanes, Pack, PackTwo};
+use crate::vector::{has_no_sign, is_low, max, pack_both, saturating_add};
+use crate::widths::{Lanes, Pack};
 use std::simd::prelude::*;
 
 // The number of bytes in a block of the check.
@@ -117,6 +117,18 @@ where
     Lanes::pack(nibbles).copy_to_slice(&mut dst[at..]);
 }
 
+/// Packs the nibbles of `front` and then those of `back`, and writes the bytes to `dst` from index
+/// `at` on.
+#[inline(always)]
+pub fn pack_two_at(front: u8x64, back: u8x64, dst: &mut [u8], at: usize, case: CheckCase)
+    requires front { AreSmall front }
+    requires back { AreSmall back }
+    requires room { at + 64 ≤ length dst.old }
+    ensures { dst.new ≡ put_chunk (at + 32) (put_chunk at dst.old (packed front)) (packed back) }
+{
+    pack_both(front, back, case).copy_to_slice(&mut dst[at..]);
+}
+
 // Decodes `N` valid digits from index `2 * at` of `src` on. Writes the bytes to `dst` from index
 // `at` on.
 #[inline(always)]
@@ -194,7 +206,7 @@ fn write_pair(src: &[u8], dst: &mut [u8], at: usize, case: CheckCase)
 {
     let front = values_at::<Valid, 64>(src, 2 * at, case);
     let back = values_at::<Valid, 64>(src, 2 * at + 64, case);
-    Lanes::pack_two(front, back, dst, at, case);
+    pack_two_at(front, back, dst, at, case);
 }
 
 // Decodes valid digits into the start of `dst`, 256 digits in each turn of the loop. Returns the

@@ -111,8 +111,8 @@ pub fn decode_by_length(src: &[u8], dst: &mut [u8], case: CheckCase, width: u8) 
         0..16 => decode_short(src, dst, case),
         16..=32 => decode_ends::<16, 32, 8>(src, dst, case),
         33..=64 => decode_ends::<32, 64, 16>(src, dst, case),
-        65..=128 => decode_two::<64, 32>(src, dst, case),
-        129..=192 => decode_three::<64, 32>(src, dst, case),
+        65..=128 => decode_two(src, dst, case),
+        129..=192 => decode_three(src, dst, case),
         _ if width >= 64 => decode_held(src, dst, case),
         _ => decode_apart(src, dst, case),
     }
@@ -163,7 +163,7 @@ pub fn decode_many(src: &[u8], dst: &mut [u8], case: CheckCase, width: u8) -> bo
     ensures { DecodesWhole case src.now dst.old dst.new result }
 {
     match src.len() {
-        ..=256 => decode_four::<64, 32>(src, dst, case),
+        ..=256 => decode_four(src, dst, case),
         257..=384 if width >= 64 => decode_six(src, dst, case),
         385..=512 if width >= 64 => decode_eight(src, dst, case),
         _ => decode_long(src, dst, case, width >= 64),

@@ -16,9 +16,9 @@ ghost use Rattle.hex_core.specs.inside.Blocks.{DecodesAt, EndsCover, Halves, Has
 
 use crate::digit::CheckCase;
 use crate::digit_lanes::{Encode, reach, saturated};
-use crate::kernel::{encode_at, pack_at};
+use crate::kernel::{encode_at, pack_at, pack_two_at};
 use crate::vector::{is_low, is_small, max, or};
-use crate::widths::{Lanes, Pack, PackTwo};
+use crate::widths::{Lanes, Pack};
 use std::simd::prelude::*;
 
 /// Returns whether every byte of `src` is valid under `case`. `src` has `N` to `2 * N` bytes.
@@ -95,81 +95,63 @@ where
     true
 }
 
-/// Decodes `N` to `2 * N` digits over all of `dst`.
+/// Decodes 64 to 128 digits over all of `dst`.
 #[inline(always)]
-pub fn decode_two<const N: usize, const HALF: usize>(
-    src: &[u8],
-    dst: &mut [u8],
-    case: CheckCase,
-) -> bool
-where
-    Lanes: Pack<N, HALF>,
-    requires sizes { Halves N HALF src.now dst.old }
-    requires covered { EndsCover N src.now }
+pub fn decode_two(src: &[u8], dst: &mut [u8], case: CheckCase) -> bool
+    requires twice { length src.now ≡ 2 * length dst.old }
+    requires covered { EndsCover 64 src.now }
     ensures { DecodesWhole case src.now dst.old dst.new result }
 {
-    let front = nibbles_at::<N>(src, 0, case);
-    let back = nibbles_at::<N>(src, src.len() - N, case);
+    let front = nibbles_at::<64>(src, 0, case);
+    let back = nibbles_at::<64>(src, src.len() - 64, case);
     if !is_small(or(front, back)) {
         return false;
     }
     let end = dst.len();
     pack_at(front, dst, 0);
-    pack_at(back, dst, end - HALF);
+    pack_at(back, dst, end - 32);
     true
 }
 
-/// Decodes `2 * N` to `3 * N` digits over all of `dst`.
+/// Decodes 128 to 192 digits over all of `dst`.
 #[inline(always)]
-pub fn decode_three<const N: usize, const HALF: usize>(
-    src: &[u8],
-    dst: &mut [u8],
-    case: CheckCase,
-) -> bool
-where
-    Lanes: Pack<N, HALF>,
-    requires sizes { Halves N HALF src.now dst.old }
-    requires least { 2 * N ≤ length src.now }
-    requires most { length src.now ≤ 3 * N }
+pub fn decode_three(src: &[u8], dst: &mut [u8], case: CheckCase) -> bool
+    requires twice { length src.now ≡ 2 * length dst.old }
+    requires least { 128 ≤ length src.now }
+    requires most { length src.now ≤ 192 }
     ensures { DecodesWhole case src.now dst.old dst.new result }
 {
-    let first = nibbles_at::<N>(src, 0, case);
-    let second = nibbles_at::<N>(src, N, case);
-    let last = nibbles_at::<N>(src, src.len() - N, case);
+    let first = nibbles_at::<64>(src, 0, case);
+    let second = nibbles_at::<64>(src, 64, case);
+    let last = nibbles_at::<64>(src, src.len() - 64, case);
     if !is_small(or(or(first, second), last)) {
         return false;
     }
     let end = dst.len();
     pack_at(first, dst, 0);
-    pack_at(second, dst, HALF);
-    pack_at(last, dst, end - HALF);
+    pack_at(second, dst, 32);
+    pack_at(last, dst, end - 32);
     true
 }
 
-/// Decodes `2 * N` to `4 * N` digits over all of `dst`.
+/// Decodes 128 to 256 digits over all of `dst`.
 #[inline(always)]
-pub fn decode_four<const N: usize, const HALF: usize>(
-    src: &[u8],
-    dst: &mut [u8],
-    case: CheckCase,
-) -> bool
-where
-    Lanes: PackTwo<N, HALF>,
-    requires sizes { Halves N HALF src.now dst.old }
-    requires covered { EndsCover (2 * N) src.now }
+pub fn decode_four(src: &[u8], dst: &mut [u8], case: CheckCase) -> bool
+    requires twice { length src.now ≡ 2 * length dst.old }
+    requires covered { EndsCover 128 src.now }
     ensures { DecodesWhole case src.now dst.old dst.new result }
 {
     let len = src.len();
-    let first = nibbles_at::<N>(src, 0, case);
-    let second = nibbles_at::<N>(src, N, case);
-    let third = nibbles_at::<N>(src, len - 2 * N, case);
-    let last = nibbles_at::<N>(src, len - N, case);
+    let first = nibbles_at::<64>(src, 0, case);
+    let second = nibbles_at::<64>(src, 64, case);
+    let third = nibbles_at::<64>(src, len - 128, case);
+    let last = nibbles_at::<64>(src, len - 64, case);
     if !is_small(or(or(first, second), or(third, last))) {
         return false;
     }
     let end = dst.len();
-    Lanes::pack_two(first, second, dst, 0, case);
-    Lanes::pack_two(third, last, dst, end - N, case);
+    pack_two_at(first, second, dst, 0, case);
+    pack_two_at(third, last, dst, end - 64, case);
     true
 }
 
@@ -181,7 +163,7 @@ fn decode_part(src: &[u8], dst: &mut [u8], at: usize, case: CheckCase) -> bool
     ensures { DecodesAt case src.now dst.old dst.new at 128 result }
 {
     let end = at + 128;
-    decode_four::<64, 32>(&src[2 * at..2 * end], &mut dst[at..end], case)
+    decode_four(&src[2 * at..2 * end], &mut dst[at..end], case)
 }
 
 /// Decodes 256 to 384 digits over all of `dst`. It tests the last 128 digits and holds their values
@@ -203,7 +185,7 @@ pub fn decode_six(src: &[u8], dst: &mut [u8], case: CheckCase) -> bool
     if !decode_part(src, dst, 0, case) {
         return false;
     }
-    Lanes::pack_two(fifth, last, dst, end - 64, case);
+    pack_two_at(fifth, last, dst, end - 64, case);
     true
 }
 
@@ -227,8 +209,8 @@ pub fn decode_eight(src: &[u8], dst: &mut [u8], case: CheckCase) -> bool
     if !decode_part(src, dst, 0, case) {
         return false;
     }
-    Lanes::pack_two(fifth, sixth, dst, end - 128, case);
-    Lanes::pack_two(seventh, last, dst, end - 64, case);
+    pack_two_at(fifth, sixth, dst, end - 128, case);
+    pack_two_at(seventh, last, dst, end - 64, case);
     true
 }
 

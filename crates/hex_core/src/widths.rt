@@ -2,15 +2,13 @@
 //! indices of a shuffle are literals, and that each width has its own function to make a vector of
 //! words from bytes. Each trait here is implemented for the widths that are used.
 
-ghost use Rattle.std.specs.Prelude.{◌≡◌, ◌≤◌, ◌+◌, ◌*◌, EachIndex, length, map, slice_index};
-ghost use Rattle.std.specs.Simd.Lanes.{put_chunk};
+ghost use Rattle.std.specs.Prelude.{◌≡◌, EachIndex, map, slice_index};
 ghost use Rattle.hex_core.specs.Lanes.{AreSmall};
 ghost use Rattle.hex_core.specs.inside.Arithmetic.{interleaved, packed};
 ghost use Rattle.hex_core.specs.inside.Hash.{shifted};
 ghost use Rattle.hex_core.specs.inside.Tables.{entry};
 
-use crate::digit::CheckCase;
-use crate::vector::{and_splat, eighths, pack_both, pair_bytes};
+use crate::vector::{and_splat, eighths, pair_bytes};
 use std::simd::prelude::*;
 
 /// The type that implements the traits of this module.
@@ -70,42 +68,6 @@ impl Pack<64, 32> for Lanes {
         ensures { result ≡ packed v }
     {
         pair_bytes(u16x32::from_le_bytes(v))
-    }
-}
-
-/// Packs the nibbles of `front` and then those of `back`, and writes the bytes to `dst` from index
-/// `at` on.
-pub trait PackTwo<const N: usize, const HALF: usize> {
-    fn pack_two(front: Simd<u8, N>, back: Simd<u8, N>, dst: &mut [u8], at: usize, case: CheckCase)
-        requires front { AreSmall front }
-        requires back { AreSmall back }
-        requires room { at + 2 * HALF ≤ length dst.old }
-        ensures { dst.new ≡ put_chunk (at + HALF) (put_chunk at dst.old (packed front.entry))
-            (packed back.entry) };
-}
-
-impl PackTwo<16, 8> for Lanes {
-    #[inline(always)]
-    fn pack_two(front: u8x16, back: u8x16, dst: &mut [u8], at: usize, _case: CheckCase)
-        requires front { AreSmall front }
-        requires back { AreSmall back }
-        requires room { at + 2 * 8 ≤ length dst.old }
-        ensures { dst.new ≡ put_chunk (at + 8) (put_chunk at dst.old (packed front)) (packed back) }
-    {
-        Lanes::pack(front).copy_to_slice(&mut dst[at..]);
-        Lanes::pack(back).copy_to_slice(&mut dst[at + 8..]);
-    }
-}
-
-impl PackTwo<64, 32> for Lanes {
-    #[inline(always)]
-    fn pack_two(front: u8x64, back: u8x64, dst: &mut [u8], at: usize, case: CheckCase)
-        requires front { AreSmall front }
-        requires back { AreSmall back }
-        requires room { at + 2 * 32 ≤ length dst.old }
-        ensures { dst.new ≡ put_chunk (at + 32) (put_chunk at dst.old (packed front)) (packed back) }
-    {
-        pack_both(front, back, case).copy_to_slice(&mut dst[at..]);
     }
 }
 

@@ -1,12 +1,8 @@
 -- What a buffer's front holds of a chunk's digits, and that no chunk is left.
-use Rattle.std.proofs.Common.{◌≡◌, ◌<◌, ◌≤◌, Bool, ℕ, List, [], ◌∷◌, ◌++◌, length, drop, take, ap, sym, ◌∙◌, arith, append-nil}
+use Rattle.std.proofs.Common.{◌≡◌, ℕ, List, [], ◌∷◌, ◌++◌, length, drop, take, ap, sym, ◌∙◌, arith, append-nil}
 use Rattle.std.specs.Prelude.{Option, Result, Ok}
 use Rattle.std.proofs.Math.Seq.{take-append_seam}
 use Rattle.hex_core.specs.Calls.{Fills}
-use Rattle.hex_codec.specs.declared.group.Group.{Group}
-use Rattle.hex_codec.specs.GroupedWriting.{grouped, piece_len}
-use Rattle.hex_codec.proofs.CountLemmas.{len-most}
-use Rattle.hex_codec.proofs.GroupLemmas.{length-grouped}
 
 -- where no byte is left, those before are all
 pub front-all : (front rest all : List ℕ) → front ++ rest ≡ all → length rest ≡ 0 → front ≡ all
@@ -20,7 +16,3 @@ filled-front {E} refusal front old new r n is h =
     let done : Fills refusal (λ bytes. bytes ≡ front) old new (Ok n) = rw is at h in
     let size : n ≡ length front = done.1.2 ∙ ap length done.1.1 in
     (size, rw (done.1.3, done.1.1, size) (take-append_seam front (drop (length front) old)))
-
--- the grouped text of a chunk leaves room for one byte more
-pub leaves-room : (group : Group) (upper : Bool) (bytes : List ℕ) → 0 < length bytes → length bytes ≤ 512 → length (grouped group upper bytes) < 1536
-leaves-room group upper bytes some few = omega (arith, length-grouped group upper bytes, len-most (piece_len group) (length bytes) group.is_group.0)

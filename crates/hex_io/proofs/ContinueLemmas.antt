@@ -1,16 +1,19 @@
 -- What follows a text, where more bytes come.
-use Rattle.std.proofs.Common.{◌≡◌, ◌∙◌, ap, sym, refl, arith, ℕ, suc, ◌+◌, ◌-◌, ◌*◌, ◌/◌, ◌%◌, ◌<◌, ◌≤◌, Bool, true, false}
-use Rattle.std.proofs.Common.{List, [], ◌∷◌, ◌++◌, length, take, drop, append_assoc, length-append, length-drop, take-append-drop}
+use Rattle.std.proofs.Common.{◌≡◌, ◌∙◌, ap, sym, refl, arith, ℕ, suc, ◌+◌, ◌-◌, ◌*◌, ◌/◌, ◌%◌, ◌^◌, ◌<◌, ◌≤◌, Bool, true, false}
+use Rattle.std.proofs.Common.{List, [], ◌∷◌, ◌++◌, inl, inr, length, take, drop, append-nil, append_assoc, length-append, length-drop, take-append-drop}
 use Rattle.std.proofs.Common.{Option, Some, None, Result, Ok, Err, slice_set}
-use Rattle.std.specs.Prelude.{◌==◌, not, if◌then◌else◌}
+use Rattle.std.specs.Prelude.{◌==◌, if◌then◌else◌}
 use Rattle.std.specs.Result.{IsOk}
+use Rattle.std.proofs.lemmas.Bool.{cases_lt}
 use Rattle.std.proofs.lemmas.Bool.Decides.{nat_tests}
 use Rattle.std.proofs.lemmas.List.{length-take-le, take-append-le}
-use Rattle.std.proofs.lemmas.Nat.{div-add-mod', mod-mul-add}
-use borrow.Rule.Slice.PartMut.{mid_of, post_of, put_mid}
+use Rattle.std.proofs.lemmas.Nat.{div-add-mod', mod-mul-add, mod_below}
+use Rattle.std.proofs.Math.Seq.{take-append-add}
+use borrow.Rule.Slice.PartMut.{post_of, put_mid}
 use mir.Val.{bool_byte}
 use Rattle.hex_core.specs.Calls.{Fills}
 use Rattle.hex_core.specs.declared.error.Error.{Error}
+use Rattle.hex_core.specs.Text.{text}
 use Rattle.hex_core.proofs.TextLemmas.{text-append}
 use Rattle.hex_codec.specs.declared.group.Group.{Group}
 use Rattle.hex_codec.specs.GroupedWriting.{grouped, piece_len, separator}
@@ -18,17 +21,20 @@ use Rattle.hex_codec.specs.GroupCalls.{WritesGrouped}
 use Rattle.hex_codec.proofs.CountLemmas.{len-most}
 use Rattle.hex_codec.proofs.GroupLemmas.{grouped-last, joined-pieces, no_pieces}
 use Rattle.hex_io.specs.Frame.{digits_by}
-use Rattle.hex_io.specs.inside.{FitsPiece}
+use Rattle.hex_io.specs.inside.{FitsPiece, HasRoomFor}
 
--- a separator, and what was written behind it
+-- a separator and what was written behind it, or this alone
 pub behind : (follows : Bool) (mark k end : ℕ) (old new shown : List ℕ) → 0 < length old → end ≤ length new → take end new ≡ shown
-    → mid_of (bool_byte (not follows)) (1 + end - bool_byte (not follows)) (put_mid 1 k (slice_set old 0 mark) new) ≡ (if follows then mark ∷ [] else []) ++ shown
-behind true mark k end [] new shown some fits is = absurd (omega arith)
+    → take (bool_byte follows + end) (put_mid (bool_byte follows) k (slice_set old 0 mark) new) ≡ (if follows then mark ∷ [] else []) ++ shown
+behind follows mark k end [] new shown some fits is = absurd (omega arith)
 behind true mark k end (b ∷ old) new shown some fits is =
-    let count : 1 + end - 0 ≡ suc end = omega arith in rw count (ap (λ l. mark ∷ l) (take-append-le end new (post_of 1 k (mark ∷ old)) fits ∙ is))
-behind false mark k end [] new shown some fits is = absurd (omega arith)
+    let count : 1 + end ≡ suc end = omega arith in rw count (ap (λ l. mark ∷ l) (take-append-le end new (post_of 1 k (mark ∷ old)) fits ∙ is))
 behind false mark k end (b ∷ old) new shown some fits is =
-    let count : 1 + end - 1 ≡ end = omega arith in rw count (take-append-le end new (post_of 1 k (mark ∷ old)) fits ∙ is)
+    let count : 0 + end ≡ end = omega arith in rw count (take-append-le end new (post_of 0 k (mark ∷ old)) fits ∙ is)
+
+pub one-mark : (follows : Bool) → bool_byte follows ≤ 1
+one-mark true = omega arith
+one-mark false = omega arith
 
 -- what was written is in the destination
 pub inside : {E : Type 0} (refusal : Option E) (shown old new : List ℕ) (r : Result ℕ E) (n : ℕ) → r ≡ Ok n → Fills refusal (λ bytes. bytes ≡ shown) old new r → n ≤ length new
@@ -38,10 +44,10 @@ inside {E} refusal shown old new r n is h =
 
 -- a chunk's grouped text has room behind a separator
 pub chunk-fits : (group : Group) (upper : Bool) (bytes old new : List ℕ) (r : Result ℕ Error) → WritesGrouped group upper bytes old new r
-    → 0 < length bytes → length bytes ≤ 8192 → 24575 ≤ length old → IsOk r
-chunk-fits group upper bytes old new (Ok n) h some few room = refl
-chunk-fits group upper bytes old new (Err e) h some few room =
-    let most = len-most (piece_len group) (length bytes) group.is_group.0 in grind (arith, nat_tests, h.0, most, some, few, room)
+    → 3 * length bytes ≤ length old + 1 → length old < 2 ^ 64 → IsOk r
+chunk-fits group upper bytes old new (Ok n) h room few = refl
+chunk-fits group upper bytes old new (Err e) h room few =
+    let most = len-most (piece_len group) (length bytes) group.is_group.0 in grind (arith, nat_tests, h.0, most, room, few)
 
 module _ (group : Group) (upper : Bool) where
   abbrev shown : List ℕ → List ℕ
@@ -98,7 +104,73 @@ module _ (group : Group) (upper : Bool) where
           let inside : 0 < length done % piece_len group = grind (arith, nat_tests, begun) in
           in-piece done chunk inside (rw (← is) at fits inside)
 
+  -- the text of some bytes begins that of more
+  pub starts : (xs ys : List ℕ) → (more : List ℕ) × (shown xs ++ more ≡ shown (xs ++ ys))
+  starts [] ys = (shown ys, rw (no_pieces (piece_len group)) refl)
+  starts (x ∷ xs) [] = ([], append-nil (shown (x ∷ xs)) ∙ ap shown (sym (append-nil (x ∷ xs))))
+  starts (x ∷ xs) (y ∷ ys) = by_end (length (x ∷ xs) % every == 0) refl
+    where
+      every : ℕ
+      every = piece_len group
+
+      all : List ℕ
+      all = x ∷ xs
+
+      rest : List ℕ
+      rest = y ∷ ys
+
+      left : ℕ
+      left = every - length all % every
+
+      full : 0 < length all % every → (length all + left) % every ≡ 0
+      full begun =
+          let pos = group.is_group.0 in
+          let below = mod_below (length all) every pos in
+          let whole : (length all / every + 1) * every + 0 ≡ length all + left = grind (arith, div-add-mod' (length all) every, below) in
+          rw whole at (mod-mul-add (length all / every + 1) every 0 pos)
+
+      by_end : (t : Bool) → (length all % every == 0) ≡ t → (more : List ℕ) × (shown all ++ more ≡ shown (all ++ rest))
+      by_end true whole = (separator group ∷ shown rest, sym (joined-pieces group upper all rest (grind (arith, nat_tests, whole)) (omega arith) (omega arith)))
+      by_end false begun =
+          let some : 0 < length all % every = grind (arith, nat_tests, begun) in
+          elim (cases_lt left (length rest)) [
+            | inl more ↦
+                let size = length-take-le left rest (omega (arith, more)) in
+                let front = in-piece all (take left rest) some (omega (arith, size, mod_below (length all) every group.is_group.0)) in
+                let ends : length (all ++ take left rest) % every ≡ 0 = rw (length-append all (take left rest), size) (full some) in
+                let behind = joined-pieces group upper (all ++ take left rest) (drop left rest) ends (omega (arith, length-append all (take left rest))) (omega (arith, length-drop left rest, more)) in (
+                  shown (take left rest) ++ (separator group ∷ shown (drop left rest)),
+                  rw (← append_assoc (shown all) (shown (take left rest)) (separator group ∷ shown (drop left rest)), front)
+                      (sym behind ∙ ap shown (append_assoc all (take left rest) (drop left rest) ∙ ap (λ l. all ++ l) (take-append-drop left rest))),
+                )
+            | inr fits ↦ (shown rest, in-piece all rest some (omega (arith, fits, mod_below (length all) every group.is_group.0)))
+          ]
+
+-- the digits of some bytes begin those of more
+pub digits-start : (group : Option Group) (upper : Bool) (xs ys : List ℕ) → (more : List ℕ) × (digits_by group upper xs ++ more ≡ digits_by group upper (xs ++ ys))
+digits-start None upper xs ys = (text upper ys, sym (text-append upper xs ys))
+digits-start (Some group) upper xs ys = starts group upper xs ys
+
+-- the first bytes of a list, and the next ones
+pub take-more : (at k : ℕ) (bytes : List ℕ) → at ≤ length bytes → take (at + k) bytes ≡ take at bytes ++ take k (drop at bytes)
+take-more at k bytes fits = rw (length-take-le at bytes fits, take-append-drop at bytes) at (take-append-add (take at bytes) (drop at bytes) k)
+
 -- nothing has no text
 pub no-digits : (group : Option Group) (upper : Bool) → digits_by group upper [] ≡ []
 no-digits None upper = refl
 no-digits (Some group) upper = rw (no_pieces (piece_len group)) refl
+
+-- a part lies in a piece or begins one if a longer one does
+pub fewer-fit : (group : Option Group) (total n m : ℕ) → m ≤ n → FitsPiece group total n → FitsPiece group total m
+fewer-fit None total n m less fits = omega arith
+fewer-fit (Some group) total n m less fits = λ begun. omega (arith, less, fits begun)
+
+-- room for some bytes is room for fewer
+pub fewer-room : (group : Option Group) (n m room : ℕ) → m ≤ n → HasRoomFor group n room → HasRoomFor group m room
+fewer-room None n m room less fits = omega arith
+fewer-room (Some group) n m room less fits = omega arith
+
+-- the greatest room is enough for both
+pub enough-room : (group : Option Group) (n room : ℕ) → 3 * n ≤ room → HasRoomFor group n room
+enough-room None n room fits = omega arith
+enough-room (Some group) n room fits = fits

@@ -1,9 +1,10 @@
 -- Sources that come in chunks.
 use Rattle.std.proofs.Common.{◌≡◌, ℕ, ◌+◌, ◌*◌, ◌/◌, ◌^◌, ◌<◌, ◌≤◌, Bool, true, false, List, [], ◌∷◌, ◌++◌, length, length-append}
-use Rattle.std.proofs.Common.{take, drop, length-drop, ◌-◌, slice_index, Option, Some, None}
+use Rattle.std.proofs.Common.{take, drop, length-drop, ◌-◌, slice_index, Option, Some, None, Result, Ok, Err, MatchResult}
 use Rattle.std.proofs.Common.{refl, sym, ◌∙◌, ap, append_assoc, arith, not}
 use Rattle.std.specs.Prelude.{◌↔◌, ◌&&◌, filter, option_map, position, IsSome}
 use Rattle.std.specs.Option.{ForSome, option_to_list}
+use Rattle.std.specs.Result.{IsOk}
 use Rattle.std.proofs.Math.Seq.{drop-append_seam, take-append_seam}
 use Rattle.std.proofs.lemmas.Bool.Decides.{nat_tests}
 use Rattle.std.proofs.lemmas.Grind.{common_steps}
@@ -24,10 +25,10 @@ use Rattle.hex_core.proofs.PositionLemmas.{none_joined, position-joined}
 use Rattle.hex_core.proofs.SearchLemmas.{has_value, lacks, none_valid}
 use Rattle.hex_codec.proofs.ListLemmas.{put-behind}
 use Rattle.hex_io.specs.Decoder.{PairsSpell, feed_refusal, pairs_more, refusal_by}
-use Rattle.hex_io.specs.Reading.{SpellsBut, digits_in, first_invalid_read, is_solid, is_invalid_read, plain, spaced}
+use Rattle.hex_io.specs.Reading.{SpellsBut, digits_in, first_invalid_read, is_solid, is_invalid_read}
 use Rattle.hex_io.specs.Reading.{invalid_read_of, unspaced}
 use Rattle.hex_io.specs.declared.stream.decoder.Reading.{Reading}
-use Rattle.hex_io.specs.inside.{DecodesChunk, invalid_read_behind}
+use Rattle.hex_io.specs.inside.{invalid_read_behind}
 
 -- ---- what has to be digits
 
@@ -51,13 +52,14 @@ none-kept p q (b ∷ s) = by_first (q b) (p b) refl refl (none-kept p q s)
     by_first false u left is rest = let both = none_joined (λ b. q b && p b) (b ∷ []) s in rw left (grind (arith, nat_tests, rest, both))
 
 -- no byte is invalid exactly where all digits are valid
-pub solid-valid : (c : CheckCase) (s : List ℕ) → (first_invalid_read (spaced c) s ≡ None) ↔ (first_invalid c (unspaced s) ≡ None)
-solid-valid c s = none-kept (lacks c) is_solid s
+pub digits-valid : (c : CheckCase) (skips : Bool) (s : List ℕ) → let r : Reading = record { case = c; skips = skips } in
+    (first_invalid_read r s ≡ None) ↔ (first_invalid c (digits_in r s) ≡ None)
+digits-valid c true s = none-kept (lacks c) is_solid s
+digits-valid c false s = (λ none. none, λ none. none)
 
 pub none-invalid : (c : CheckCase) (skips : Bool) (s : List ℕ) → let r : Reading = record { case = c; skips = skips } in
     first_invalid c (digits_in r s) ≡ None → first_invalid_read r s ≡ None
-none-invalid c true s valid = (solid-valid c s).1 valid
-none-invalid c false s valid = valid
+none-invalid c skips s valid = (digits-valid c skips s).1 valid
 
 -- digits are no white space
 digit-solid : (c : CheckCase) (b : ℕ) → lacks c b ≡ false → is_solid b ≡ true
@@ -114,23 +116,6 @@ pair-first c high byte [] bytes v some spelled rest = absurd (omega (arith, some
 pair-first c high byte (low ∷ tail) bytes v some spelled rest =
     but-joined c (high ∷ low ∷ []) tail (byte ∷ []) bytes [] v (record { valid = valid-spelled c _ _ spelled; pairs = _; parts = refl; spelled = spelled }) rest
 
--- a block with no invalid byte is decoded
-pub solid-read : (c : CheckCase) (block digits : List ℕ) (w : Option ℕ) (old new : List ℕ) (result : Option (Option ℕ)) → first_invalid_read (spaced c) block ≡ None
-    → digits ≡ unspaced block → DecodesChunk (plain c) w digits old new result → IsSome result
-solid-read c block digits w old new (Some more) none is read = refl
-solid-read c block digits w old new None none is refused = absurd (refused.0 (rw is ((solid-valid c block).0 none)))
-
--- a chunk is read as its digits alone
-pub digits-read : (c : CheckCase) (skips : Bool) (w : Option ℕ) (src digits old new : List ℕ) (result : Option (Option ℕ)) → let r : Reading = record { case = c; skips = skips } in
-    digits ≡ digits_in r src → DecodesChunk (plain c) w digits old new result → DecodesChunk r w src old new result
-digits-read c false w src digits old new result is read = rw is at read
-digits-read c true w src digits old new (Some next) is read = rw is at read
-digits-read c true w src digits old new None is refused = (λ none. refused.0 (rw is ((solid-valid c src).0 none)), refused.1)
-
--- two of three parts are no longer than the whole
-pub two-le : (a b c d e : List ℕ) → a ++ (b ++ c) ≡ d ++ e → length a + length b ≤ length d + length e
-two-le a b c d e is = omega (arith, ap length is, length-append a (b ++ c), length-append b c, length-append d e)
-
 -- bytes that are written behind others
 pub put-more : (old dst part xs ys : List ℕ) (n : ℕ) → dst ≡ with_front old xs → n ≡ length xs → part ≡ with_front (take (length dst - n) (drop n dst)) ys
     → length xs + length ys ≤ length old → put_mid n (length dst - n) dst part ≡ with_front old (xs ++ ys)
@@ -169,6 +154,40 @@ refused-byte r fed src room few fits = byte-refused _ _ room _ few fits
 -- valid digits have no invalid byte among them
 pub none-refused : (r : Reading) (s : List ℕ) → first_invalid r.case (digits_in r s) ≡ None → invalid_read_of r s ≡ None
 none-refused r s valid = rw (none-invalid r.case r.skips s valid) refl
+
+-- ---- a chunk in blocks
+
+-- a feed that nothing refuses is accepted
+pub unrefused : (A : ℕ → Type 0) (refusal : Option Error) (result : Result ℕ Error) → MatchResult result A (λ e. refusal ≡ Some e) → refusal ≡ None → IsOk result
+unrefused A refusal (Ok n) fed none = refl
+unrefused A refusal (Err e) fed none = absurd (cc (fed, none))
+
+-- a chunk of valid digits that fit is not refused
+pub feed-unrefused : (c : CheckCase) (skips : Bool) (fed src written : List ℕ) (w : Option ℕ) (room : ℕ) → let r : Reading = record { case = c; skips = skips } in
+    SpellsBut c (digits_in r fed) written (option_to_list w) → length fed + length src < 2 ^ 64 → (length (option_to_list w) + length (digits_in r src)) / 2 ≤ room
+    → first_invalid_read r src ≡ None → feed_refusal r fed src room ≡ None
+feed-unrefused c skips fed src written w room but few fits none =
+    let r : Reading = record { case = c; skips = skips } in
+    let all : first_invalid_read r (fed ++ src) ≡ None = (none_joined (is_invalid_read r) fed src).1 (none-invalid c skips fed but.valid, none) in
+    refused-byte r fed src room few (omega (arith, count-but c (digits_in r fed) written w but, fits)) ∙ rw all refl
+
+-- nor is a block of it, behind the blocks before
+pub block-unrefused : (c : CheckCase) (skips : Bool) (fed gone block rest src written bytes : List ℕ) (w v : Option ℕ) (room : ℕ) → let r : Reading = record { case = c; skips = skips } in
+    gone ++ (block ++ rest) ≡ src → SpellsBut c (digits_in r fed) written (option_to_list w) → SpellsBut c (digits_in r (fed ++ gone)) (written ++ bytes) (option_to_list v)
+    → length fed + length src < 2 ^ 64 → (length (option_to_list w) + length (digits_in r src)) / 2 ≤ room → first_invalid_read r src ≡ None
+    → feed_refusal r (fed ++ gone) block (room - length bytes) ≡ None
+block-unrefused c skips fed gone block rest src written bytes w v room parts first so_far few fits none =
+    let r : Reading = record { case = c; skips = skips } in
+    let long = ap length parts in let outer = length-append gone (block ++ rest) in let inner = length-append block rest in
+    let joined : digits_in r gone ++ (digits_in r block ++ digits_in r rest) ≡ digits_in r src =
+    rw (← digits-joined c skips block rest, ← digits-joined c skips gone (block ++ rest), parts) refl in
+    let all = ap length joined in let front = length-append (digits_in r gone) (digits_in r block ++ digits_in r rest) in let back = length-append (digits_in r block) (digits_in r rest) in
+    let both = ap length (digits-joined c skips fed gone) ∙ length-append (digits_in r fed) (digits_in r gone) in
+    let before = count-but c (digits_in r fed) written w first in
+    let after = count-but c (digits_in r (fed ++ gone)) (written ++ bytes) v so_far in
+    let behind = ((none_joined (is_invalid_read r) gone (block ++ rest)).0 (rw (sym parts) at none)).1 in
+    feed-unrefused c skips (fed ++ gone) block (written ++ bytes) v (room - length bytes) so_far (omega (arith, few, long, outer, inner, length-append fed gone))
+    (omega (arith, all, front, back, both, before, after, length-append written bytes, fits)) ((none_joined (is_invalid_read r) block rest).0 behind).0
 
 -- ---- all feeds are one
 

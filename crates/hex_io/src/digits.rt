@@ -1,11 +1,13 @@
-//! Puts digits into sinks, with separators between pieces if there is a group.
+//! Writes digits part by part, with separators between pieces if there is a group, and puts them
+//! into sinks.
 
-ghost use Rattle.std.specs.Prelude.{◌≡◌, ◌*◌, ◌%◌, ◌<◌, ◌≤◌, ◌∷◌, ◌++◌, [], IsTrue, if◌then◌else◌, length};
+ghost use Rattle.std.specs.Prelude.{◌≡◌, ◌*◌, ◌<◌, ◌≤◌, ◌∷◌, ◌++◌, [], if◌then◌else◌, length};
 ghost use Rattle.std.specs.Str.{IsAscii};
 ghost use Rattle.hex_core.specs.Text.{text};
-ghost use Rattle.hex_codec.specs.GroupedWriting.{grouped, piece_len, separator};
+ghost use Rattle.hex_codec.specs.GroupedWriting.{grouped, separator};
 ghost use Rattle.hex_io.specs.Frame.{digits_by};
 ghost use Rattle.hex_io.specs.SinkState.{Puts};
+ghost use Rattle.hex_io.specs.inside.{Continues, FitsPiece, HasRoomFor};
 
 use crate::sink::{Sink, WriteFault, put_all};
 use hex_codec::grouped::write_into;
@@ -64,23 +66,17 @@ pub fn put_digits<S: Sink>(
     }
 }
 
-// Puts the digits of `bytes`, one chunk after the other.
+// Does the same without a group.
 fn put_text<S: Sink>(sink: &mut S, bytes: &[u8], upper: bool) -> Result<(), WriteFault>
     ensures { Puts (S.state sink.old) (S.state sink.new) result (text upper bytes.now) }
 {
     if bytes.len() <= SHORT_SOURCE {
-        let mut buffer = [0; 2 * SHORT_SOURCE];
-        return put_all(sink, encoded(bytes, upper, &mut buffer));
+        return put_all(sink, encoded(bytes, upper, &mut [0; 2 * SHORT_SOURCE]));
     }
-    let mut buffer = [0; 2 * ENCODE_CHUNK];
-    for chunk in bytes.chunks(ENCODE_CHUNK) {
-        put_all(sink, encoded(chunk, upper, &mut buffer))?;
-    }
-    Ok(())
+    put_parts(sink, bytes, upper, None, &mut [0; 2 * ENCODE_CHUNK])
 }
 
-// Puts the grouped text of `bytes`, one part after the other. A part is as many whole pieces as fit
-// a chunk, or one piece that is longer than a chunk.
+// Does the same in groups.
 fn put_grouped<S: Sink>(
     sink: &mut S,
     bytes: &[u8],
@@ -94,48 +90,93 @@ fn put_grouped<S: Sink>(
         let end = write_into(bytes, &mut buffer, group, upper).unwrap();
         return put_all(sink, &buffer[..end]);
     }
-    let mut buffer = [0; 3 * ENCODE_CHUNK];
-    let size = part_len(group);
-    let mut at = 0;
-    'parts: while bytes.len() - at > size {
-        put_part(sink, &bytes[at..at + size], upper, group, true, &mut buffer)?;
-        at += size;
-    }
-    put_part(sink, &bytes[at..], upper, group, false, &mut buffer)
+    put_parts(sink, bytes, upper, Some(group), &mut [0; 3 * ENCODE_CHUNK])
 }
 
-// Returns the number of bytes in each part except the last.
-fn part_len(group: Group) -> usize
-    ensures whole { result % piece_len group ≡ 0 }
-    ensures some { 0 < result }
-    ensures one { ENCODE_CHUNK < result → result ≡ piece_len group }
-{
-    let every = group.every();
-    (ENCODE_CHUNK / every).max(1) * every
-}
-
-// Puts the grouped text of a part. If more parts follow, it is followed by a separator.
-fn put_part<S: Sink>(
+// Puts the digits of `bytes`, one part after the other. Inlined, the group is known to be there or
+// not.
+#[inline(always)]
+fn put_parts<S: Sink>(
     sink: &mut S,
     bytes: &[u8],
     upper: bool,
-    group: Group,
-    more: bool,
-    buffer: &mut [u8; 3 * ENCODE_CHUNK],
+    group: Option<Group>,
+    buffer: &mut [u8],
 ) -> Result<(), WriteFault>
-    requires some { IsTrue more → 0 < length bytes.now }
-    requires one { ENCODE_CHUNK < length bytes.now → length bytes.now ≤ piece_len group }
-    ensures { Puts (S.state sink.old) (S.state sink.new) result
-        (grouped group upper bytes.now ++ (if more then separator group ∷ [] else [])) }
+    requires { HasRoomFor group ENCODE_CHUNK (length buffer.old) }
+    ensures { Puts (S.state sink.old) (S.state sink.new) result (digits_by group upper bytes.now) }
 {
-    if bytes.len() > ENCODE_CHUNK {
-        put_text(sink, bytes, upper)?;
-        return put_all(sink, &[group.sep()][..usize::from(more)]);
+    let mut at = 0;
+    'parts: while at < bytes.len() {
+        let end = at + next_len(group, at, ENCODE_CHUNK).min(bytes.len() - at);
+        put_all(
+            sink,
+            added_digits(&bytes[at..end], upper, group, at, buffer),
+        )?;
+        at = end;
     }
-    let end = write_into(bytes, buffer, group, upper).unwrap();
-    if !more {
-        return put_all(sink, &buffer[..end]);
+    Ok(())
+}
+
+/// Returns how many bytes the next part has after `total` others, which is at most `most`. If those
+/// end inside a piece, it is at most the rest of that piece, and otherwise it is whole pieces, or a
+/// part of a longer piece. So the bytes of a part lie in one piece or begin one.
+#[inline(always)]
+pub fn next_len(group: Option<Group>, total: usize, most: usize) -> usize
+    requires { 0 < most }
+    ensures some { 0 < result }
+    ensures short { result ≤ most }
+    ensures fits { FitsPiece group total result }
+{
+    let Some(group) = group else {
+        return most;
+    };
+    if total > 0 && total % group.every() > 0 {
+        return (group.every() - total % group.every()).min(most);
     }
-    buffer[end] = group.sep();
-    put_all(sink, &buffer[..end + 1])
+    most - most % group.every().min(most)
+}
+
+/// Writes to `buffer` what the digits of `bytes` add to those of `total` bytes before them, and
+/// returns it. These are their own digits, in groups if there is a group. If the bytes begin a
+/// piece that is not the first, a separator comes before their digits.
+#[inline(always)]
+pub fn added_digits<'b>(
+    bytes: &[u8],
+    upper: bool,
+    group: Option<Group>,
+    total: usize,
+    buffer: &'b mut [u8],
+) -> &'b [u8]
+    requires some { 0 < length bytes.now }
+    requires room { HasRoomFor group (length bytes.now) (length buffer.old) }
+    requires fits { FitsPiece group total (length bytes.now) }
+    ensures { Continues (digits_by group upper) total bytes.now result.now }
+{
+    match group {
+        None => encoded(bytes, upper, buffer),
+        Some(group) => {
+            let follows = total > 0 && total % group.every() == 0;
+            separated(bytes, upper, group, follows, buffer)
+        }
+    }
+}
+
+// Writes the grouped text of `bytes` to `buffer` and returns it. If the bytes follow a piece, the
+// result begins with a separator.
+fn separated<'b>(
+    bytes: &[u8],
+    upper: bool,
+    group: Group,
+    follows: bool,
+    buffer: &'b mut [u8],
+) -> &'b [u8]
+    requires some { 0 < length bytes.now }
+    requires room { 3 * length bytes.now ≤ length buffer.old }
+    ensures { result.now ≡ (if follows then separator group ∷ [] else []) ++ grouped group upper bytes.now }
+{
+    let start = usize::from(follows);
+    buffer[0] = group.sep();
+    let end = write_into(bytes, &mut buffer[start..], group, upper).unwrap();
+    &buffer[..start + end]
 }

@@ -1,30 +1,27 @@
 //! Streams of digits, which may be longer than memory. A decoder is fed chunks of any length. The
 //! functions decode or encode all that a reader gives into a sink, in constant memory.
 
-ghost use Rattle.std.specs.Prelude.{◌≡◌, ◌<◌, ◌≤◌, ◌↔◌, ◌∷◌, ◌++◌, ℕ, [], IsErrAnd, IsTrue, List, MatchResult, Some, if◌then◌else◌, length};
+ghost use Rattle.std.specs.Prelude.{◌≡◌, ◌↔◌, ℕ, [], IsErrAnd, IsTrue, List, MatchResult, Some, length};
 ghost use Rattle.std.specs.Io.{ReadsAtMost};
 ghost use Rattle.std.specs.Io.KnownBytes.{ReadConsumes};
 ghost use Rattle.std.specs.IoError.{error_kind};
 ghost use Rattle.hex_core.specs.declared.error.Error.TheVariants.{OddLength};
 ghost use Rattle.hex_core.specs.Refusal.{source_refusal};
 ghost use Rattle.hex_core.specs.Text.{Spells};
-ghost use Rattle.hex_codec.specs.GroupedWriting.{grouped, separator};
 ghost use Rattle.hex_io.specs.Decoder.{HasFed, reading_of};
 ghost use Rattle.hex_io.specs.Frame.{digits_by};
 ghost use Rattle.hex_io.specs.Message.{stream_fault_text};
 ghost use Rattle.hex_io.specs.Reading.{digits_in};
 ghost use Rattle.hex_io.specs.Stream.{DecodesSource, DecodesSpacedStream, DecodesStream, EncodesGroupedStream, EncodesSource, EncodesStream};
-ghost use Rattle.hex_io.specs.inside.{Continues, FitsPiece};
 ghost use Rattle.hex_io.specs.declared.stream.StreamFault.TheVariants as fault;
 
 mod decoder;
 mod unspaced;
 
-use crate::digits::encoded;
+use crate::digits::{added_digits, next_len};
 use crate::sink::{Sink, WriteFault, put_all};
 pub use crate::stream::decoder::Decoder;
 use hex_codec::Group;
-use hex_codec::grouped::write_into;
 use hex_core::{CheckCase, Error};
 use std::io::{self, ErrorKind, Read};
 use std::{error, fmt};
@@ -252,7 +249,7 @@ fn encode_by<R: Read, S: Sink>(
     let mut buffer = [0; 3 * STREAM_CHUNK];
     let mut total: usize = 0;
     'reads: loop {
-        let most = next_len(group, total);
+        let most = next_len(group, total, STREAM_CHUNK);
         let count = match read_again(reader, &mut chunk[..most]) {
             Ok(0) => return Ok(total),
             Ok(count) => count,
@@ -267,66 +264,6 @@ fn encode_by<R: Read, S: Sink>(
             None => return Err(StreamFault::Codec(Error::Overflow)),
         };
     }
-}
-
-// Returns how many bytes to ask for after `total` others. If those end inside a piece, it is at
-// most the rest of that piece, and otherwise it is whole pieces, or a chunk of a longer piece. So
-// the bytes that are read lie in one piece or begin one.
-fn next_len(group: Option<Group>, total: usize) -> usize
-    ensures some { 0 < result }
-    ensures short { result ≤ STREAM_CHUNK }
-    ensures fits { FitsPiece group total result }
-{
-    let Some(group) = group else {
-        return STREAM_CHUNK;
-    };
-    let begun = total % group.every();
-    if begun > 0 {
-        return (group.every() - begun).min(STREAM_CHUNK);
-    }
-    STREAM_CHUNK - STREAM_CHUNK % group.every().min(STREAM_CHUNK)
-}
-
-// Writes to `buffer` what the digits of `bytes` add to those of `total` bytes before them, and
-// returns it. These are their own digits, in groups if there is a group. If the bytes begin a piece
-// that is not the first, a separator comes before their digits.
-fn added_digits<'b>(
-    bytes: &[u8],
-    upper: bool,
-    group: Option<Group>,
-    total: usize,
-    buffer: &'b mut [u8; 3 * STREAM_CHUNK],
-) -> &'b [u8]
-    requires some { 0 < length bytes.now }
-    requires short { length bytes.now ≤ STREAM_CHUNK }
-    requires fits { FitsPiece group total (length bytes.now) }
-    ensures { Continues (digits_by group upper) total bytes.now result.now }
-{
-    match group {
-        None => encoded(bytes, upper, buffer),
-        Some(group) => {
-            let follows = total > 0 && total % group.every() == 0;
-            separated(bytes, upper, group, follows, buffer)
-        }
-    }
-}
-
-// Writes the grouped text of `bytes` to `buffer` and returns it. If the bytes follow a piece, the
-// result begins with a separator.
-fn separated<'b>(
-    bytes: &[u8],
-    upper: bool,
-    group: Group,
-    follows: bool,
-    buffer: &'b mut [u8; 3 * STREAM_CHUNK],
-) -> &'b [u8]
-    requires some { 0 < length bytes.now }
-    requires short { length bytes.now ≤ STREAM_CHUNK }
-    ensures { result.now ≡ (if follows then separator group ∷ [] else []) ++ grouped group upper bytes.now }
-{
-    buffer[0] = group.sep();
-    let end = write_into(bytes, &mut buffer[1..], group, upper).unwrap();
-    &buffer[usize::from(!follows)..1 + end]
 }
 
 // Returns the result at the end of a stream, which is the number of decoded bytes or the error of

@@ -10,13 +10,14 @@
 //! assert_eq!(rt; text.as_slice(), b"00abcd".as_slice());
 //! ```
 
-ghost use Rattle.std.specs.Prelude.{◌≡◌, ◌≢◌, ◌↔◌, ◌+◌, ◌-◌, ◌/◌, ◌%◌, ◌^◌, ◌<◌, ◌≤◌, ◌++◌, ◌∷◌, [], None, Some, drop, false, true, length, IfOk, IsSome, IsTrue, MatchOption, OnErr, option_map};
+ghost use Rattle.std.specs.Prelude.{◌≡◌, ◌≢◌, ◌↔◌, ◌+◌, ◌-◌, ◌/◌, ◌%◌, ◌^◌, ◌<◌, ◌≤◌, ◌++◌, ◌∷◌, [], None, Ok, Some, drop, false, true, length, IfOk, IsSome, IsTrue, MatchOption, OnErr};
 ghost use Rattle.std.specs.Option.{ForSome, option_to_list};
 ghost use Rattle.hex_core.specs.Digit.{value};
 ghost use Rattle.hex_core.specs.Text.{Spells};
 ghost use Rattle.hex_io.specs.Reading.{digits_in, first_invalid_read, plain, spaced, unspaced};
-ghost use Rattle.hex_io.specs.inside.{AreDigitsOf, DecodesChunk, DecodesDigits, invalid_read_behind};
+ghost use Rattle.hex_io.specs.inside.{DecodesPairs, invalid_read_behind};
 
+use crate::laws::every_decoder_has_been_fed;
 use crate::stream::unspaced::copy_unspaced;
 use hex_core::{Backend, CheckCase, Error, digit_value};
 
@@ -149,14 +150,12 @@ impl Decoder {
         ensures unchanged { OnErr result ((self.new ≡ self.old) × (dst.new ≡ dst.old)) }
     {
         if self.has_digits_alone(src) {
-            return self.feed_as(src, Some(src), dst);
+            return self.feed_digits(src, src, dst);
         }
         if src.len() > SPACED_BLOCK {
-            return self.feed_as(src, None, dst);
+            return self.feed_long(src, dst);
         }
-        let mut block = [0; SPACED_BLOCK];
-        let count = copy_unspaced(src, &mut block);
-        self.feed_as(src, Some(&block[..count]), dst)
+        self.feed_spaced(src, &mut [0; SPACED_BLOCK], dst)
     }
 
     /// Does the same as [`feed`](Decoder::feed), but with a buffer of the caller for the digits of a
@@ -173,10 +172,9 @@ impl Decoder {
         ensures reading { reading_of self.new ≡ reading_of self.old }
     {
         if self.has_digits_alone(src) {
-            return self.feed_as(src, Some(src), dst);
+            return self.feed_digits(src, src, dst);
         }
-        let count = copy_unspaced(src, buffer);
-        self.feed_as(src, Some(&buffer[..count]), dst)
+        self.feed_spaced(src, buffer, dst)
     }
 
     /// Ends the decoding. All digits fed must be whole pairs.
@@ -199,11 +197,67 @@ impl Decoder {
         Ok(())
     }
 
-    // Does the same as `feed` for a chunk whose digits are given. If they are not, the chunk is copied
-    // in blocks without its white space. Each block is copied twice, because all of them must be
-    // tested before the first byte is written.
-    fn feed_as(&mut self, src: &[u8], digits: Option<&[u8]>, dst: &mut [u8]) -> Result<usize, Error>
-        requires digits { AreDigitsOf (reading_of self.old) src.now (option_map (λ s. s.now) digits) }
+    // Does the same as `feed` for a long chunk with white space. All of it is tested before the first
+    // byte is written, so no block of it is refused.
+    fn feed_long(&mut self, src: &[u8], dst: &mut [u8]) -> Result<usize, Error>
+        requires skips { self.old.reading.skips ≡ true }
+        ensures feeds { Feeds self.old self.new src.now dst.old dst.new result }
+        ensures bound { IfOk result (λ n. n ≤ length dst.new) }
+        ensures reading { reading_of self.new ≡ reading_of self.old }
+        ensures unchanged { OnErr result ((self.new ≡ self.old) × (dst.new ≡ dst.old)) }
+    {
+        if self.position.checked_add(src.len()).is_none() {
+            return Err(Error::Overflow);
+        }
+        let (count, is_clean) = survey(src, self.reading.case);
+        let required = self.whole_pairs(count);
+        if dst.len() < required {
+            return Err(Error::OutputTooSmall { required });
+        }
+        if !is_clean {
+            return Err(self.error_in(src));
+        }
+        Ok(self.feed_blocks(src, dst))
+    }
+
+    // Does the same for a chunk that is not refused, block by block. Returns the number of bytes
+    // written.
+    fn feed_blocks(&mut self, src: &[u8], dst: &mut [u8]) -> usize
+        requires skips { self.old.reading.skips ≡ true }
+        requires counted { position_of self.old + length src.now < 2 ^ 64 }
+        requires room { (length (waiting_in self.old) + length (unspaced src.now)) / 2 ≤ length dst.old }
+        requires valid { first_invalid_read (reading_of self.old) src.now ≡ None }
+        ensures feeds { Feeds self.old self.new src.now dst.old dst.new (Ok result) }
+        ensures bound { result ≤ length dst.new }
+        ensures reading { reading_of self.new ≡ reading_of self.old }
+    {
+        every_decoder_has_been_fed();
+        let mut buffer = [0; SPACED_BLOCK];
+        let mut done = 0;
+        for block in src.chunks(SPACED_BLOCK) {
+            done += self
+                .feed_spaced(block, &mut buffer, &mut dst[done..])
+                .unwrap();
+        }
+        done
+    }
+
+    // Does the same as `feed` for a chunk with white space, whose digits it copies into a buffer.
+    fn feed_spaced(&mut self, src: &[u8], buffer: &mut [u8], dst: &mut [u8]) -> Result<usize, Error>
+        requires skips { self.old.reading.skips ≡ true }
+        requires copied { length src.now ≤ length buffer.old }
+        ensures feeds { Feeds self.old self.new src.now dst.old dst.new result }
+        ensures bound { IfOk result (λ n. n ≤ length dst.new) }
+        ensures reading { reading_of self.new ≡ reading_of self.old }
+        ensures unchanged { OnErr result ((self.new ≡ self.old) × (dst.new ≡ dst.old)) }
+    {
+        let count = copy_unspaced(src, buffer);
+        self.feed_digits(src, &buffer[..count], dst)
+    }
+
+    // Does the same as `feed` for a chunk whose digits are given.
+    fn feed_digits(&mut self, src: &[u8], digits: &[u8], dst: &mut [u8]) -> Result<usize, Error>
+        requires digits { digits.now ≡ digits_in (reading_of self.old) src.now }
         ensures feeds { Feeds self.old self.new src.now dst.old dst.new result }
         ensures bound { IfOk result (λ n. n ≤ length dst.new) }
         ensures reading { reading_of self.new ≡ reading_of self.old }
@@ -212,12 +266,11 @@ impl Decoder {
         let Some(position) = self.position.checked_add(src.len()) else {
             return Err(Error::Overflow);
         };
-        let (count, is_clean) = self.survey(src, digits);
-        let required = self.whole_pairs(count);
+        let required = self.whole_pairs(digits.len());
         if dst.len() < required {
             return Err(Error::OutputTooSmall { required });
         }
-        let Some(waiting) = self.decode(src, digits, dst, is_clean) else {
+        let Some(waiting) = decode_pairs(self.waiting, digits, dst, self.reading.case) else {
             return Err(self.error_in(src));
         };
         *self = Decoder {
@@ -237,27 +290,6 @@ impl Decoder {
         !self.reading.skips || Backend::plain().check(src, self.reading.case)
     }
 
-    // Returns how many digits a chunk has if all its bytes are valid. If its digits are not given, it
-    // also returns whether they are. Otherwise that value is not used, because decoding tests them.
-    fn survey(&self, src: &[u8], digits: Option<&[u8]>) -> (usize, bool)
-        requires digits { AreDigitsOf (reading_of self.now) src.now (option_map (λ s. s.now) digits) }
-        ensures count { result.0 ≡ length (digits_in (reading_of self.now) src.now) }
-        ensures clean { digits.entry ≡ None →
-            (IsTrue result.1 ↔ (first_invalid_read (reading_of self.now) src.now ≡ None)) }
-    {
-        if let Some(digits) = digits {
-            return (digits.len(), true);
-        }
-        let mut count = src.len();
-        let mut clean = true;
-        for block in src.chunks(SPACED_BLOCK) {
-            let (more, is_clean) = survey_block(block, self.reading.case);
-            count -= block.len() - more;
-            clean &= is_clean;
-        }
-        (count, clean)
-    }
-
     // Returns how many pairs are completed by so many more digits.
     fn whole_pairs(&self, digits: usize) -> usize
         ensures { result ≡ (length (waiting_in self.now) + digits) / 2 }
@@ -266,31 +298,6 @@ impl Decoder {
             digits / 2 + digits % 2
         } else {
             digits / 2
-        }
-    }
-
-    // Decodes the pairs that a chunk completes. Returns the digit that then waits, if there is one.
-    // Returns `None` if a byte should be a digit and is not. If the digits are not given, `is_clean`
-    // comes from `survey`.
-    #[inline(always)]
-    fn decode(
-        &self,
-        src: &[u8],
-        digits: Option<&[u8]>,
-        dst: &mut [u8],
-        is_clean: bool,
-    ) -> Option<Option<u8>>
-        requires digits { AreDigitsOf (reading_of self.now) src.now (option_map (λ s. s.now) digits) }
-        requires clean { digits ≡ None →
-            (IsTrue is_clean ↔ (first_invalid_read (reading_of self.now) src.now ≡ None)) }
-        requires room { (length (waiting_in self.now) + length (digits_in (reading_of self.now) src.now)) / 2 ≤ length dst.old }
-        ensures { DecodesChunk (reading_of self.now) self.now.waiting src.now dst.old dst.new result }
-    {
-        let case = self.reading.case;
-        match digits {
-            Some(digits) => decode_pairs(self.waiting, digits, dst, case),
-            None if is_clean => Some(decode_spaced(self.waiting, src, dst, case)),
-            None => None,
         }
     }
 
@@ -318,54 +325,20 @@ impl Decoder {
     }
 }
 
-// Returns how many bytes of a block are not white space, and whether all of these are digits.
-fn survey_block(block: &[u8], case: CheckCase) -> (usize, bool)
-    requires { length block.now ≤ SPACED_BLOCK }
-    ensures count { result.0 ≡ length (unspaced block.now) }
-    ensures clean { IsTrue result.1 ↔ (first_invalid_read (spaced case) block.now ≡ None) }
+// Returns how many bytes of a source are not white space, and whether all of these are digits.
+fn survey(src: &[u8], case: CheckCase) -> (usize, bool)
+    ensures count { result.0 ≡ length (unspaced src.now) }
+    ensures clean { IsTrue result.1 ↔ (first_invalid_read (spaced case) src.now ≡ None) }
 {
-    let mut digits = [0; SPACED_BLOCK];
-    let count = copy_unspaced(block, &mut digits);
-    (count, Backend::plain().check(&digits[..count], case))
-}
-
-// Decodes a source that has only digits and white space. Returns the digit that then waits, if
-// there is one.
-fn decode_spaced(mut waiting: Option<u8>, src: &[u8], dst: &mut [u8], case: CheckCase) -> Option<u8>
-    requires tested { ForSome waiting (λ digit. IsSome (value case digit)) }
-    requires valid { first_invalid_read (spaced case) src.now ≡ None }
-    requires room { (length (option_to_list waiting) + length (unspaced src.now)) / 2 ≤ length dst.old }
-    ensures { DecodesDigits case (option_to_list waiting ++ unspaced src.now) dst.old dst.new result }
-{
-    let mut done = 0;
+    let mut buffer = [0; SPACED_BLOCK];
+    let mut count = 0;
+    let mut is_clean = true;
     for block in src.chunks(SPACED_BLOCK) {
-        let (next, written) = decode_block(waiting, block, &mut dst[done..], case);
-        waiting = next;
-        done += written;
+        let more = copy_unspaced(block, &mut buffer);
+        is_clean &= Backend::plain().check(&buffer[..more], case);
+        count += more;
     }
-    waiting
-}
-
-// Does the same for a block, and also returns the number of bytes written.
-fn decode_block(
-    waiting: Option<u8>,
-    block: &[u8],
-    dst: &mut [u8],
-    case: CheckCase,
-) -> (Option<u8>, usize)
-    requires few { length block.now ≤ SPACED_BLOCK }
-    requires tested { ForSome waiting (λ digit. IsSome (value case digit)) }
-    requires valid { first_invalid_read (spaced case) block.now ≡ None }
-    requires room { (length (option_to_list waiting) + length (unspaced block.now)) / 2 ≤ length dst.old }
-    ensures decoded { DecodesDigits case (option_to_list waiting ++ unspaced block.now)
-        dst.old dst.new result.0 }
-    ensures count { result.1 ≡ (length (option_to_list waiting) + length (unspaced block.now)) / 2 }
-{
-    let had = usize::from(waiting.is_some());
-    let mut digits = [0; SPACED_BLOCK];
-    let count = copy_unspaced(block, &mut digits);
-    let next = decode_pairs(waiting, &digits[..count], dst, case).unwrap();
-    (next, (had + count) / 2)
+    (count, is_clean)
 }
 
 // Decodes the pairs that more digits complete. Returns the digit that then waits, if there is one.
@@ -379,7 +352,7 @@ fn decode_pairs(
 ) -> Option<Option<u8>>
     requires tested { ForSome waiting (λ digit. IsSome (value case digit)) }
     requires room { (length (option_to_list waiting) + length src.now) / 2 ≤ length dst.old }
-    ensures { DecodesChunk (plain case) waiting src.now dst.old dst.new result }
+    ensures { DecodesPairs case waiting src.now dst.old dst.new result }
 {
     let Some(high) = waiting else {
         return decode_pairs_of(src, dst, case);
@@ -398,7 +371,7 @@ fn decode_pairs(
 #[inline(always)]
 fn decode_pairs_of(src: &[u8], dst: &mut [u8], case: CheckCase) -> Option<Option<u8>>
     requires { length src.now / 2 ≤ length dst.old }
-    ensures { DecodesChunk (plain case) None src.now dst.old dst.new result }
+    ensures { DecodesPairs case None src.now dst.old dst.new result }
 {
     let end = src.len() - src.len() % 2;
     let waiting = digit_after(src, end);

@@ -9,4 +9,4 @@ pub values_at-back-requires : goal.values_at-back-requires
 values_at-back-requires c = (omega arith, (omega arith, valid_range c.args.case c.args.src.now (2 * c.args.at + 64) (2 * c.args.at + 64 + 64) (omega arith) c.requires.valid))
 
 pub returns : goal.returns
-returns c = pair_decodes (c.args.at + 32) 32 c.values_at-front.ensures.nibbles c.values_at-back.ensures.nibbles (c.values_at-front.ensures.small, c.values_at-back.ensures.small) c.pack_two.ensures refl refl (omega arith) (omega arith) (omega arith) (omega arith) c.requires.room.1
+returns c = pair_decodes (c.args.at + 32) 32 c.values_at-front.ensures.nibbles c.values_at-back.ensures.nibbles (c.values_at-front.ensures.small, c.values_at-back.ensures.small) c.pack_two_at.ensures refl refl (omega arith) (omega arith) (omega arith) (omega arith) c.requires.room.1

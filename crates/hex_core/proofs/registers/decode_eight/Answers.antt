@@ -27,10 +27,10 @@ returns c =
     let test = ↔_trans c.is_small.ensures (both_valid case s (len - 256) (len - 128) (len - 128) len len c.or-3.ensures.small one two refl (omega arith) (omega arith) (omega arith)) in
     let whole = parts_tested case s (2 * 0 + 2 * 128) (len - 256) len (λ t. t, λ t. t) (λ t. t, λ t. t) c.decode_part.ensures.0 test refl (omega arith) (omega arith) in
     let small = c.or-3.ensures.small.0 (c.is_small.ensures.0 c.if-not-is_small.false) in
-    let part = c.decode_part.new.dst in let mid = c.pack_two.new.dst in let new = c.pack_two-2.new.dst in
+    let part = c.decode_part.new.dst in let mid = c.pack_two_at.new.dst in let new = c.pack_two_at-2.new.dst in
     let front : DecodesRange case s old part 0 (0 + 128) = OnTrue_at c.if-not-decode_part.false c.decode_part.ensures.1 in
     let more : DecodesRange case s part mid (end - 128) (end - 64) =
-    pair_decodes (end - 128 + 32) 32 fifth sixth (c.or.ensures.small.0 small.0) c.pack_two.ensures (omega arith) (omega arith) (omega arith) (omega arith) (omega arith) (omega arith) (omega arith) in
+    pair_decodes (end - 128 + 32) 32 fifth sixth (c.or.ensures.small.0 small.0) c.pack_two_at.ensures (omega arith) (omega arith) (omega arith) (omega arith) (omega arith) (omega arith) (omega arith) in
     let back : DecodesRange case s mid new (end - 64) end =
-    pair_decodes (end - 64 + 32) 32 seventh last (c.or-2.ensures.small.0 small.1) c.pack_two-2.ensures (omega arith) (omega arith) (omega arith) (omega arith) (omega arith) (omega arith) (omega arith) in
+    pair_decodes (end - 64 + 32) 32 seventh last (c.or-2.ensures.small.0 small.1) c.pack_two_at-2.ensures (omega arith) (omega arith) (omega arith) (omega arith) (omega arith) (omega arith) (omega arith) in
     (whole.0 (c.if-not-decode_part.false, c.if-not-is_small.false), decodes_whole (decodes_over front (decodes_over more back (omega arith) (omega arith) (omega arith)) (omega arith) (omega arith) (omega arith)) (omega arith) (omega arith))

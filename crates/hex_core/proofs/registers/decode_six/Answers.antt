@@ -25,6 +25,6 @@ returns c =
     let small = c.or.ensures.small.0 (c.is_small.ensures.0 c.if-not-is_small.false) in
     let part = c.decode_part.new.dst in
     let front : DecodesRange case s old part 0 (0 + 128) = OnTrue_at c.if-not-decode_part.false c.decode_part.ensures.1 in
-    let back : DecodesRange case s part c.pack_two.new.dst (end - 64) end =
-    pair_decodes (end - 64 + 32) 32 fifth last small c.pack_two.ensures (omega arith) (omega arith) (omega arith) (omega arith) (omega arith) (omega arith) (omega arith) in
+    let back : DecodesRange case s part c.pack_two_at.new.dst (end - 64) end =
+    pair_decodes (end - 64 + 32) 32 fifth last small c.pack_two_at.ensures (omega arith) (omega arith) (omega arith) (omega arith) (omega arith) (omega arith) (omega arith) in
     (whole.0 (c.if-not-decode_part.false, c.if-not-is_small.false), decodes_whole (decodes_over front back (omega arith) (omega arith) (omega arith)) (omega arith) (omega arith))

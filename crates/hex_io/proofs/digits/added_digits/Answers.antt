@@ -1,8 +1,8 @@
 -- More bytes of a piece, or of the next one, and first of all.
 use Rattle.std.proofs.Common.{◌≡◌, arith}
 use Rattle.hex_io.proofs.ContinueLemmas.{next-first, next-more}
-use Rattle.hex_io.proofs.stream.added_digits.Goals as goal
-use Rattle.hex_io.proofs.stream.added_digits.Goals.{then-total-gt0, else-total-gt0}
+use Rattle.hex_io.proofs.digits.added_digits.Goals as goal
+use Rattle.hex_io.proofs.digits.added_digits.Goals.{then-total-gt0, else-total-gt0}
 
 pub returns-after-total-gt0 : goal.returns-after-total-gt0
 returns-after-total-gt0 c = λ done long.

@@ -3,7 +3,7 @@ use lib.Lanes.{put_chunk}
 use Rattle.hex_core.specs.inside.Arithmetic.{packed}
 use Rattle.hex_core.proofs.BlockLemmas.{put_two}
 use Rattle.hex_core.proofs.PairLemmas.{length-packed}
-use Rattle.hex_core.proofs.widths.LanesPackTwo6432.pack_two.Goals as goal
+use Rattle.hex_core.proofs.kernel.pack_two_at.Goals as goal
 
 pub returns : goal.returns
 returns c =
