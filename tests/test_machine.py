@@ -1,7 +1,11 @@
-"""Symbolic execution of the calls' machine code by machine/. Changed copies of the code must be refused. The effect
-that machine/ gives to each instruction is compared with the processor."""
+"""Symbolic execution of the calls' machine code by machine/. Changed copies of the code must be refused, and what is
+accepted must answer rightly. The effect that machine/ gives to each instruction is compared with the processor."""
 import ctypes
 import itertools
+import mmap
+import multiprocessing
+import operator
+import os
 import random
 import re
 import sys
@@ -11,26 +15,41 @@ import pytest
 
 z3 = pytest.importorskip("z3")
 pytest.importorskip("capstone")
-from commands import CC, TOP, needs, ran, runs
+import machine.__main__ as command
+from commands import CC, PRINTED, SEED, TOP, by_cmake, compiled, make, needs, ran, runs
 from machine import Refused, execution, values
-from machine.__main__ import BUILDS, lengths_of, line, sums
+from machine.__main__ import BUILDS, sums
+from machine.code import assembles
+from machine.grouped import GROUPED, shown_grouped
 from machine.image import Image, linked
 from machine.instructions import EACH, TABLE
-from machine.statements import CALLS, shown
+from machine.state import LENGTH, STACK, State
+from machine.statements import CALLS, POLICIES, shown
 
 GENERATED = TOP / "generated"
-# Lengths in decoded bytes. The quick test has all lengths up to the first number. The other one has those up to the
-# second and some more.
-SHORT, ALL, SOME = 16, 64, (65, 79, 80, 81, 95, 96, 97, 111, 112, 113, 127, 128)
+PAIRS = [(build, call) for build in BUILDS for call in BUILDS[build]]
+# The quick test has sources of at most so many bytes. For digits in groups there are fewer, because each length is
+# executed by itself.
+SHORT, SHORT_GROUPED = 8, 2
+# The quickest calls are quickly shown for every length. For the others the record does it.
+EVERY_LENGTH = ("v2", "encode"), ("v3", "encode"), ("v3", "check")
+# The functions of which no call executes some instructions: how many are left, and why.
+LEFT = {}
 
 
 def rows(name):
-    return [it for it in (TOP / "tests/machine" / name).read_text().splitlines() if it[0] != "#"]
+    """The rows of a file. A line that begins with a space goes on with the row before."""
+    text = re.sub(r"\n +", " ", (TOP / "tests/machine" / name).read_text())
+    return [it for it in text.splitlines() if it[0] != "#"]
+
+
+def all_shown(image, build, call, most):
+    return list((shown_grouped if call in GROUPED else shown)(image, build, call, most))
 
 
 @pytest.fixture(scope="module")
 def image(library, tmp_path_factory):
-    needs("ld")
+    needs("ld", "objdump")
     return linked(tmp_path_factory.mktemp("made") / "image", library / "libfaster_hex.a")
 
 
@@ -40,64 +59,222 @@ def forgets():
     values.forget()
 
 
-@pytest.mark.parametrize("build, call", [(build, call) for build in BUILDS for call in BUILDS[build]])
-@pytest.mark.parametrize("is_short", [pytest.param(True, marks=pytest.mark.quick), False])
-def test_call(image, is_short, build, call):
-    short = lengths_of(call, SHORT)
-    others = [*lengths_of(call, ALL)[len(short):], *(lengths_of(call, it)[-1] for it in SOME)]
-    code = Image(image, int(build[1]))
-    for length in short if is_short else others:
-        assert list(shown(code, build, call, length))
-    assert builds_of(code, call) == [build]
+@pytest.mark.quick
+@pytest.mark.parametrize("build, call", PAIRS)
+def test_call(image, build, call):
+    most = SHORT_GROUPED if call in GROUPED else SHORT
+    assert all_shown(Image(image, int(build[1])), build, call, most)
 
 
-def builds_of(code, call):
-    """The builds whose code for a call was executed."""
-    found = {re.search(rf"_x86_64_(v\d)_{call}$", it): at for it, at in code.symbols.items()}
-    return [it[1] for it, at in found.items() if it and at in code.read]
+@pytest.mark.quick
+@pytest.mark.parametrize("build, call", EVERY_LENGTH)
+def test_every_length(image, build, call):
+    """The call is shown. This is not true only because no path is possible: for each of some lengths there is an end
+    where all digits are valid, and one where some are not, if the call tells them apart by branches."""
+    those = all_shown(Image(image, int(build[1])), build, call, None)
+    lengths = [0, 1, 2, 17, 33, 65, 128, 257, 575, 576, 1000, 2**32 + 66, 2**63 - 2]
+    lengths.append(random.Random(SEED).randrange(2**62))
+    for length in lengths:
+        has_branch = call == "check" and length > 575
+        for it in those:
+            assert kinds_of_ends(it, length) == ({False, True} if has_branch else {False}), f"SEED={SEED}, {length}"
+
+
+@pytest.mark.quick
+@pytest.mark.parametrize("build", BUILDS)
+def test_ends_of_decode(image, build):
+    """The same for calls that find an invalid digit."""
+    for it in all_shown(Image(image, int(build[1])), build, "decode", SHORT):
+        for length in range(SHORT + 1):
+            is_refused = length % 2 == 0 and length > 0
+            assert kinds_of_ends(it, length) == ({False, True} if is_refused else {False}), length
+        assert not kinds_of_ends(it, SHORT + 1)
+
+
+def kinds_of_ends(it, length):
+    """Whether some digit is invalid, of those ends of a call that are possible for a length."""
+    return {bool(end.refused) for end in it.ends if is_possible(it.machine.known(end), length)}
+
+
+def is_possible(known, length):
+    solver = z3.SolverFor("QF_BV")
+    solver.add(*known, LENGTH.term == length)
+    return solver.check() == z3.sat
 
 
 @pytest.mark.quick
 @pytest.mark.parametrize("call", [it for it in CALLS if it not in BUILDS["v4"]])
 def test_call_that_the_widest_build_lacks(image, call):
     """With AVX-512 it takes the build for x86-64-v3."""
-    code = Image(image, 4)
-    for length in lengths_of(call, SHORT):
-        assert list(shown(code, "v3", call, length))
-    assert builds_of(code, call) == ["v3"]
+    assert all_shown(Image(image, 4), "v3", call, SHORT_GROUPED)
+
+
+@pytest.mark.quick
+def test_another_build(image):
+    """What a call executes must be the build that it is checked for."""
+    with pytest.raises(Refused, match="faster_hex_check does not take the build v3"):
+        all_shown(Image(image, 2), "v3", "check", 1)
 
 
 @pytest.mark.quick
 def test_record():
-    """generated/SHOWN was written for these sources, and has a line for each call of each build with all lengths."""
-    is_one = {it: it == "first_invalid" or it.startswith("decode") for it in CALLS}
-    lines = [line(build, call, int(is_one[call])) for build in BUILDS for call in BUILDS[build]]
-    assert (GENERATED / "SHOWN").read_text() == sums() + "".join(lines)
+    """generated/SHOWN was written for these sources, and has each call of each build. No function has instructions that
+    were not executed, but for those in LEFT, and for grouped calls, of which only short sources are shown."""
+    text = (GENERATED / "SHOWN").read_text()
+    assert text.startswith(sums())
+    lines = text.removeprefix(sums()).splitlines()
+    said = dict(it.groups() for it in (re.fullmatch(r"x86-64-(v\d \w+): (.*)", line) for line in lines) if it)
+    assert [*said] == [f"{build} {call}" for build, call in PAIRS]
+    for build, call in PAIRS:
+        words = "0 to 32 bytes in groups of each size, any separator" if call in GROUPED else "every length, "
+        assert said[f"{build} {call}"].startswith(words)
+    found = [re.fullmatch(r"(\S+): (\d+) of (\d+) instructions executed", it) for it in lines]
+    left = {it[1]: int(it[3]) - int(it[2]) for it in found if it}
+    assert {*left} == names_of_functions()
+    assert {it: count for it, count in left.items() if count and not re.search("grouped|codec_pieces", it)} == LEFT
+
+
+def names_of_functions():
+    """The functions of each build, and the calls for C."""
+    names = {f"faster_hex_{call}" for call in CALLS if call not in POLICIES}
+    for build in BUILDS:
+        text = (GENERATED / f"x86-64-{build}.s").read_text()
+        names |= {f"x86-64-{it}" for it in re.findall(rf"\thex_(?:function|export)\t\w+_x86_64_({build}_\w+)", text)}
+    return names
 
 
 def test_record_of_other_sources(copy):
     """The record builds the library first, so it checks the code whose hashes it has."""
     with (copy / "generated/x86-64-v3.s").open("a") as file:
         file.write("\n")
+    before = (copy / "generated/SHOWN").read_text()
     done = ran([sys.executable, "-m", "machine", "record"], cwd=copy / "tests")
     assert done.returncode and "not as PROVED says" in done.stdout
+    assert (copy / "generated/SHOWN").read_text() == before
 
 
-def changed(build, function, rule):
-    """The assembly of a build in which a line of a function is changed, or every line that fits."""
-    number, pattern, instead = re.fullmatch(r"(\d+) (.*) => ?(.*)", rule).groups()
+def files_in(folder):
+    return {it: it.read_bytes() for it in folder.rglob("*") if it.is_file() and "__pycache__" not in it.parts}
+
+
+@pytest.mark.parametrize("is_shown", [True, False])
+def test_what_the_record_writes(copy, tmp_path, monkeypatch, is_shown):
+    """It writes generated/SHOWN and nothing else, so what is in out/ stays. If a call is not shown, it writes nothing.
+    What it says of calls has its own tests."""
+    made = tmp_path / "made"
+    made.mkdir(), (copy / "out").mkdir()
+    (copy / "out/libfaster_hex.a").write_text("of somebody else")
+    before = files_in(copy)
+    monkeypatch.setattr(command, "TOP", copy)
+    monkeypatch.setattr(command, "report", lambda *_: (["a line" if is_shown else "a call: REFUSED: why"], is_shown))
+    if is_shown:
+        command.record(made)
+        before[copy / "generated/SHOWN"] = (copy / "generated/SHOWN").read_bytes()
+        assert before[copy / "generated/SHOWN"].endswith(b"\na line\n")
+    else:
+        with pytest.raises(Refused, match="a call: REFUSED: why"):
+            command.record(made)
+    assert files_in(copy) == before
+
+
+def checks(file, *words):
+    """Runs the command that checks a file, and returns its output."""
+    return ran([sys.executable, "-m", "machine", "check", file, *words], cwd=TOP / "tests")
+
+
+def test_nothing_to_check(tmp_path, library):
+    """A file that cannot be checked gets one line and the status 2."""
+    archive, other, text = library / "libfaster_hex.a", tmp_path / "other.a", tmp_path / "text"
+    other.write_bytes(archive.read_bytes().replace(b"faster_hex_1_0_0", b"faster_hex_0_9_9"))
+    text.write_text("no program")
+    (tmp_path / "main.c").write_text("int main(void) { return 0; }")
+    program = compiled(CC, tmp_path / "main", tmp_path / "main.c")
+    stripped = compiled(CC, tmp_path / "stripped", "-s", TOP / "examples/c/digits.c", archive)
+    lines = {
+        tmp_path / "none": "No such file", tmp_path: "Is a directory", text: "does not read it", program: "not in it",
+        stripped: "stripped", other: "another version",
+    }
+    for file, why in lines.items():
+        done = checks(file, "v3", "decode", "4")
+        assert done.returncode == 2 and done.stdout.count("\n") == 1 and why in done.stdout, done.stdout
+    done = checks(archive, "v4", "encode", "4")
+    assert done.returncode == 2 and done.stdout.endswith("it has no such call\n")
+
+
+def by_make(tmp_path, _):
+    needs("clang")
+    runs(make("lib", f"OUT={tmp_path}", f"BUILT={tmp_path}/built", "CC=clang", "CFLAGS=-O3"))
+    return tmp_path / "libfaster_hex.a"
+
+
+def made_by_cmake(tmp_path, _):
+    by_cmake(TOP / "examples/c", tmp_path / "built", f"-DFASTER_HEX={TOP}", "-DCMAKE_BUILD_TYPE=Release")
+    return next(tmp_path.rglob("libfaster_hex.a"))
+
+
+def program_in_c(tmp_path, fixture):
+    program = compiled(CC, tmp_path / "program", TOP / "examples/c/digits.c", fixture("library") / "libfaster_hex.a")
+    runs([program], out=PRINTED)
+    return program
+
+
+def program_in_rust(tmp_path, fixture):
+    """rustc assembles the builds by itself."""
+    (tmp_path / "src").mkdir()
+    (tmp_path / "src/main.rs").write_text((TOP / "examples/rust/src/main.rs").read_text())
+    package = f'[package]\nname = "over"\nedition = "2021"\n[dependencies]\nfaster-hex = {{ path = "{TOP}" }}\n'
+    (tmp_path / "Cargo.toml").write_text(package)
+    env = {**os.environ, "CARGO_TARGET_DIR": f"{tmp_path}/target"}
+    runs([*fixture("cargo"), "build", "-q", "--release"], cwd=tmp_path, env=env)
+    return tmp_path / "target/release/over"
+
+
+# How a file with the library is made, and some of its calls with the most bytes of a source.
+MADE = {
+    by_make: ["v2 encode 8", "v3 check_with_case 8", "v4 decode_with_case 8", "v3 decode_grouped 2"],
+    made_by_cmake: ["v2 decode 8", "v3 first_invalid 8", "v4 check 8"],
+    program_in_c: ["v3 encode 8", "v4 decode 8"],
+    program_in_rust: ["v2 check 8", "v3 decode 8", "v4 decode 8"],
+}
+
+
+@pytest.mark.parametrize("making", MADE)
+def test_anybodys_file(tmp_path, request, making):
+    """Whoever made a file, the command says what is shown of it."""
+    needs("ld", "objdump")
+    file = making(tmp_path, request.getfixturevalue)
+    for words in MADE[making]:
+        build, call, most = words.split()
+        done = checks(file, build, call, most)
+        said = f"x86-64-{build} {call}: 0 to {most} bytes"
+        assert done.returncode == 0 and f"\n{said}" in done.stdout and "file sha256 " in done.stdout, done.stdout
+
+
+def test_wrong_archive(tmp_path):
+    """The status 1 says that a call was not shown, and a line says why."""
+    assembled(tmp_path, changed("v3", "check", ["0 setb %al => movb $1,%al"]))
+    runs(["ar", "rcs", tmp_path / "wrong.a", tmp_path / "made.o"])
+    done = checks(tmp_path / "wrong.a", "v3", "check", "8")
+    assert done.returncode == 1 and "x86-64-v3 check: REFUSED: " in done.stdout, done.stdout
+    assert checks(tmp_path / "wrong.a", "v3", "encode", "8").returncode == 0
+
+
+def changed(build, function, rules=()):
+    """The assembly of a build in which lines of a function are changed. A rule changes one line or each that fits."""
     text = (GENERATED / f"x86-64-{build}.s").read_text()
     begin, end = 0, len(text)
     if function != "anywhere":
         begin, end = re.search(rf"\thex_\w+\t\w+_{build}_{function}\b(?s:.*?)\thex_end", text).span()
-        begin = text.rindex("\thex_end", 0, begin)
+        begin = max(text.rfind("\thex_end", 0, begin), 0)
     lines = [it.strip().replace("\t", " ") for it in text[begin:end].split("\n")]
-    fitting = [at for at, it in enumerate(lines) if re.fullmatch(pattern, it)]
-    for at in fitting if number == "0" else [fitting[int(number) - 1]]:
-        line = lines[at]
-        lines[at] = re.sub(f"^{pattern}$", instead.replace(r"\0", r"\g<0>"), line).replace("; ", "\n")
-        assert lines[at] != line
-    return text[:begin] + "\n".join(lines) + text[end:]
+    for rule in rules:
+        number, pattern, instead = re.fullmatch(r"(\d+) (.*?) => ?(.*)", rule).groups()
+        fitting = [at for at, it in enumerate(lines) if re.fullmatch(pattern, it)]
+        for at in fitting if number == "0" else [fitting[int(number) - 1]]:
+            line = lines[at]
+            lines[at] = re.sub(f"^{pattern}$", instead.replace(r"\0", r"\g<0>"), line).replace("; ", "\n")
+            assert lines[at] != line
+    return '#include "elf.inc"\n' + text[:begin] + "\n".join(lines) + text[end:]
 
 
 def assembled(folder, text):
@@ -109,16 +286,145 @@ def assembled(folder, text):
 
 @pytest.mark.parametrize("row", rows("changes.txt"))
 def test_change(tmp_path, row):
-    where, rule, _ = row.split(" | ")
-    build, call, *lengths = where.split()
-    function = call if lengths[-1].isdigit() else lengths.pop()
-    code = assembled(tmp_path, '#include "elf.inc"\n' + changed(build, function, rule))
+    where, *rules, _ = row.split(" | ")
+    build, call, *words = where.split()
+    lengths, functions = ([it for it in words if it.isdigit() == is_length] for is_length in (True, False))
+    image = assembled(tmp_path, changed(build, *functions or [call], rules))
     with pytest.raises(Refused):
-        for length in lengths:
-            list(shown(code, build, call, int(length)))
+        all_shown(image, build, call, max(map(int, lengths), default=None))
 
 
-# Codes that must be refused, because no processor has them or the model does not. Each is a change of 62f16d48fcc1,
+# Loops whose bytes are changed at random: the build, the call, and the function that they are in.
+LOOPS = [
+    ("v2", "encode", "encode"), ("v3", "encode", "encode"), ("v3", "check", "core_plain_check_long"),
+    ("v4", "check", "core_plain_check_held"), ("v2", "decode", "core_backend_Backend_decode_or_find"),
+    ("v3", "decode", "core_backend_Backend_decode_or_find"), ("v4", "decode", "core_backend_Backend_decode_or_find"),
+]
+# What processors have that run a build.
+FLAG = {"v2": "sse4_2", "v3": "avx2", "v4": "avx512bw"}
+PAGE, FILL = 4096, 0xaa
+
+
+def has(*flags):
+    """Skips a test if the processor has no such instructions."""
+    for it in flags:
+        if not re.search(rf"\b{it}\b", Path("/proc/cpuinfo").read_text()):
+            pytest.skip(f"the processor has no {it}")
+
+
+def in_loops(image, build, function):
+    """The addresses of what is in the loops of a function: all that a conditional jump back goes over."""
+    begin, size = next((at, it[1]) for at, it in image.functions.items() if it[0].endswith(f"_{build}_{function}"))
+    texts = {at: image.texts[at][1] for at in range(begin, begin + size) if at in image.texts}
+    jumps = {at: re.match(r"j(?:ne|b|a|ae) +(\w+)", text) for at, text in texts.items()}
+    return sorted({it for at, jump in jumps.items() if jump for it in range(int(jump[1], 16), at) if it >= begin})
+
+
+class Answer(ctypes.Structure):
+    _fields_ = [("number", ctypes.c_uint64), ("status", ctypes.c_uint8), ("byte", ctypes.c_uint8)]
+
+
+class Guarded:
+    """Some bytes in memory. They end where a page begins that cannot be accessed. The page before them is filled."""
+
+    def __init__(self, given):
+        self.end = PAGE + -(-len(given) // PAGE) * PAGE
+        self.region = mmap.mmap(-1, self.end + PAGE)
+        self.first = ctypes.addressof(ctypes.c_char.from_buffer(self.region))
+        self.region[:self.end] = bytes([FILL]) * (self.end - len(given)) + given
+        assert ctypes.CDLL(None).mprotect(ctypes.c_void_p(self.first + self.end), PAGE, 0) == 0
+        self.at = self.first + self.end - len(given)
+
+    def holds(self, given):
+        return self.region[:self.end] == bytes([FILL]) * (self.end - len(given)) + given
+
+
+def source_for(call, chance, length):
+    """A random source, and the index of its first invalid digit, or None. Half of the sources with digits have one."""
+    if call == "encode":
+        return chance.randbytes(length), None
+    source = bytearray(chance.choice(b"0123456789abcdefABCDEF") for _ in range(length))
+    places = [chance.randrange(length) for _ in range(chance.choice((0, 1, 2)) if length else 0)]
+    for it in places:
+        source[it] = chance.choice(b"/:@G`g\0\x80\xff")
+    return bytes(source), min(places, default=None)
+
+
+def answers_rightly(call, function, chance, length):
+    given, invalid = source_for(call, chance, length)
+    source = Guarded(given)
+    if call == "check":
+        return function(source.at, length) == (invalid is None) and source.holds(given)
+    result = given.hex().encode() if call == "encode" else bytes.fromhex(given.decode()) if invalid is None else None
+    room = 2 * length if call == "encode" else length // 2
+    destination = Guarded(bytes([FILL]) * room)
+    said = function(source.at, length, destination.at, room, 0)
+    wanted = (room, 0, 0) if invalid is None else (invalid, 3, given[invalid])
+    is_kept = source.holds(given) and destination.holds(bytes([FILL]) * room if result is None else result)
+    return (said.number, said.status, said.byte) == wanted and is_kept
+
+
+def tries(file, at, call, seed):
+    """Ends this process with the status 0 if the call at an address of a shared library answers rightly. It is called
+    for random lengths, of which many are long."""
+    ctypes.CDLL(str(file))
+    base = min(int(it.split("-")[0], 16) for it in Path("/proc/self/maps").read_text().splitlines() if str(file) in it)
+    result = ctypes.c_bool if call == "check" else Answer
+    function = ctypes.CFUNCTYPE(result, *[ctypes.c_uint64] * (2 if call == "check" else 5))(base + at)
+    chance = random.Random(seed)
+    lengths = [chance.randrange(8000) for _ in range(100)] + [chance.randrange(300) for _ in range(100)]
+    is_even = call == "decode"
+    sys.exit(0 if all(answers_rightly(call, function, chance, it - it % 2 * is_even) for it in lengths) else 1)
+
+
+def answers(file, at, call, seed):
+    """Whether a call answers rightly, and ends."""
+    process = multiprocessing.get_context("fork").Process(target=tries, args=(file, at, call, seed))
+    process.start()
+    process.join(60)
+    process.kill()
+    process.join()
+    return process.exitcode == 0
+
+
+def shared_of(folder, text):
+    """Assembles and links a shared library."""
+    assembled(folder, text)
+    runs([CC, "-shared", "-nostdlib", "-o", folder / "made.so", folder / "made.o"])
+    return folder / "made.so"
+
+
+@pytest.mark.parametrize("build, call, function", LOOPS)
+def test_answers(tmp_path, build, call, function):
+    """What judges the changed copies below tells right code from wrong one."""
+    has(FLAG[build])
+    for text, is_right in (changed(build, function), True), (changed(build, function, ["0 j(ne|b) .*b => nop"]), False):
+        file = shared_of(tmp_path, text)
+        at = next(Image(file).calls(build, call))
+        assert answers(file, at, call, SEED) == is_right
+
+
+@pytest.mark.parametrize("turn", range(int(os.environ.get("ROUNDS") or 20_000) // 2_500))
+def test_random_change(tmp_path, turn):
+    """A byte in a loop is changed at random. If the copy is accepted all the same, it must answer rightly."""
+    chance, told = random.Random(f"{SEED} {turn}"), f"SEED={SEED}"
+    build, call, function = chance.choice(LOOPS)
+    has(FLAG[build])
+    file = shared_of(tmp_path, changed(build, function))
+    image, data = Image(file), bytearray(file.read_bytes())
+    at = chance.choice(in_loops(image, build, function))
+    assert data[at:at + 8] == image.bytes_at(at, 8), "code does not stand at its address in the file"
+    data[at] ^= chance.randrange(1, 256)
+    file.write_bytes(data)
+    try:
+        all_shown(Image(file), build, call, None)
+    except Refused:
+        return
+    is_right = answers(file, next(Image(file).calls(build, call)), call, told)
+    assert is_right, f"{told}: {build} {call} was accepted with {data[at]:#x} at {at:#x}"
+
+
+# Codes that must be refused, because no processor has them or the model does not. Many are changes of 62f16d48fcc1,
 # which is vpaddb %zmm1,%zmm2,%zmm0, or of a similar instruction.
 NO_INSTRUCTIONS = {
     "62f16d49fcc1": "a mask", "62f16dc8fcc1": "zeros without a mask", "62f16d68fcc1": "vectors of 128 bytes",
@@ -126,15 +432,28 @@ NO_INSTRUCTIONS = {
     "62f96d48fcc1": "a bit that is zero", "62f16948fcc1": "a bit that is one", "62f16d58fc07": "one byte for all lanes",
     "62f1f5486fc1": "a third operand of vmovdqa64", "62f3ed283ac101": "vinserti64x4 to ymm",
     "62f27d487a07": "eax in memory", "62726d4827c1": "k8", "6662f16d48fcc1": "a prefix before",
-    "62f16d48fc": "an end too early",
+    "62f16d48fc": "an end too early", "67480fdac3": "MMX with an address prefix", "67480fefc1": "MMX as well",
+    "c4e2fd58c1": "vpbroadcastd with W=1", "f30f57f9": "xorps with F3", "48f3660fdcf9": "prefixes behind a REX",
 }
 
 
-@pytest.mark.parametrize("code", NO_INSTRUCTIONS)
-def test_no_instruction(tmp_path, code):
-    made = assembled(tmp_path, "at: .byte " + ",".join(f"{it:#x}" for it in bytes.fromhex(code)))
+def executes(image, at):
+    """Executes an instruction and reads it once more, as the record does."""
+    execution.Machine(image, values.constant(0, 8), None, None, (), None).advances(State(at))
+    assembles([image.instruction(at)])
+
+
+@pytest.mark.parametrize("given", NO_INSTRUCTIONS)
+def test_no_instruction(tmp_path, given):
+    made = assembled(tmp_path, "at: .byte " + ",".join(f"{it:#x}" for it in bytes.fromhex(given)))
     with pytest.raises(Refused):
-        made.instruction(made.symbols["at"])
+        executes(made, *made.symbols["at"])
+
+
+def test_an_instruction(tmp_path):
+    """The codes above are not refused for what they are changes of."""
+    made = assembled(tmp_path, "at: vpaddb %zmm1,%zmm2,%zmm0; to: pminub %xmm1,%xmm0")
+    executes(made, *made.symbols["at"]), executes(made, *made.symbols["to"])
 
 
 # A block has registers, flags and memory. A program loads it, runs some instructions, and stores it again.
@@ -144,6 +463,8 @@ BLOCK |= {f"above {it}": 32 for it in range(3)}
 LOADS = "; ".join(f"vinserti64x4 $1,{192 + 32 * it}(%r11),%zmm{it},%zmm{it}" for it in range(3))
 STORES = "; ".join(f"vextracti64x4 $1,%zmm{it},{192 + 32 * it}(%r11)" for it in range(3))
 NAMES = [f"{it} {at}" for it, size in BLOCK.items() for at in range(size)]
+# In the model the memory is a part of the stack, below what a program pushes.
+MEMORY = range(-128, -64)
 FLAGS = {"c": 0, "z": 6, "s": 7, "o": 11}
 HAS_FLAG = {flag: (lambda it, bit=bit: z3.Extract(bit, bit, it) == 1) for flag, bit in FLAGS.items()}
 PROGRAM = """
@@ -165,16 +486,17 @@ def test_each_instruction_is_run():
     assert {*TABLE, *EACH} - {kind + it for kind in ("set", "cmov") for it in EACH} <= run
 
 
-def modelled(code, begin, end, is_wide, known):
+def modelled(image, begin, end, is_wide, known):
     """Runs a program in the model, and returns the bytes of the block and the flags. The bytes of the block before may
     be known or unknown. The upper halves of vectors come after the memory."""
     block = {it: values.bytes_of(values.unknown(it, size)) for it, size in BLOCK.items()}
     if known:
         block = {it: [values.constant(known[f"{it} {at}"], 1) for at in range(size)] for it, size in BLOCK.items()}
-    machine, state = execution.Machine(code, 0, 64, None, ()), execution.State(begin)
-    state.registers.update({it: values.joined(block[it]) for it in ("rax", "rcx", "rdx")}, rdi=execution.DESTINATION)
+    machine, state = execution.Machine(image, values.constant(0, 8), None, None, (), None), State(begin)
+    place = values.apply(operator.add, STACK, values.constant(MEMORY[0], 8))
+    state.registers.update({it: values.joined(block[it]) for it in ("rax", "rcx", "rdx")}, rdi=place)
     state.vectors[:3] = [block[f"vector {it}"] + block[f"above {it}"] for it in range(3)]
-    state.written.update(enumerate(block["memory"]))
+    state.stack.update(zip(MEMORY, block["memory"]))
     state.flags = {flag: (function, values.joined(block["flags"])) for flag, function in HAS_FLAG.items()}
     while state.at != end:
         machine.advances(state)
@@ -182,7 +504,7 @@ def modelled(code, begin, end, is_wide, known):
     made += [values.bytes_of(state.registers[it]) for it in ("rax", "rcx", "rdx")]
     flags = {flag: values.apply(*it) for flag, it in state.flags.items() if it}
     above = sum([it[32:] for it in state.vectors[:3]], []) if is_wide else []
-    return sum(made, []), [*state.written.values()] + above, flags
+    return sum(made, []), [state.stack[it] for it in MEMORY] + above, flags
 
 
 def told(it, known):
@@ -227,21 +549,19 @@ def sparse_blocks(parts):
 @pytest.mark.parametrize("names, forms", INSTRUCTIONS)
 def test_instruction(tmp_path, names, forms):
     is_wide = "zmm" in forms
-    for it in WIDE if is_wide else NARROW:
-        if not re.search(rf"\b{it}\b", Path("/proc/cpuinfo").read_text()):
-            pytest.skip(f"the processor has no {it}")
+    has(*(WIDE if is_wide else NARROW))
     above = [LOADS, STORES] if is_wide else ["", ""]
     programs = [*dict.fromkeys(form.format(name) for form in forms.split(" | ") for name in names.split())]
-    code = assembled(tmp_path, "".join(PROGRAM.format(*it, *above) for it in enumerate(programs)))
+    image = assembled(tmp_path, "".join(PROGRAM.format(*it, *above) for it in enumerate(programs)))
     runs([CC, "-shared", "-nostdlib", "-o", tmp_path / "made.so", tmp_path / "made.o"])
     library = ctypes.CDLL(tmp_path / "made.so")
     random.seed(names)
     for at, program in enumerate(programs):
-        places = code.symbols[f"begin_{at}"], code.symbols[f"end_{at}"], is_wide
-        made = None if re.search(r"\bj|call", program) else modelled(code, *places, {})
+        places = *image.symbols[f"begin_{at}"], *image.symbols[f"end_{at}"], is_wide
+        made = None if re.search(r"\bj|call", program) else modelled(image, *places, {})
         # A program with jumps is executed again for each block, because its path depends on the block.
         for block in [*dense_blocks(), *(sparse_blocks(["vector", "above"][:1 + is_wide]) if made else ())]:
             block[120:128] = bytes([random.randrange(256) & 0xc1 | 2, random.choice((0, 8)), 0, 0, 0, 0, 0, 0])
             done, known = (ctypes.c_char * len(block)).from_buffer_copy(block), dict(zip(NAMES, block))
             library[f"run_{at}"](done)
-            same(program, made or modelled(code, *places, known), known, done.raw)
+            same(program, made or modelled(image, *places, known), known, done.raw)

@@ -1,5 +1,6 @@
 """Instructions, as two programs read them: objdump, whose text is used, and Capstone, which must read the same.
 Capstone 4 does not know AVX-512. So `as` assembles such an instruction again, and must make the same bytes."""
+import functools
 import re
 import subprocess
 import tempfile
@@ -37,19 +38,16 @@ class Operand:
 @dataclass(frozen=True)
 class Instruction:
     at: int
+    end: int
     code: bytes
     text: str
     name: str
     operands: tuple
 
-    @property
-    def end(self):
-        return self.at + len(self.code)
-
 
 def register_size(name):
     """How many bytes the name of a register means. Of a mask it does not matter."""
-    return {"x": 16, "y": 32, "z": 64}[name[0]] if name[1:3] == "mm" else REGISTERS.get(name, (name, 8))[1]
+    return {"xmm": 16, "ymm": 32, "zmm": 64}.get(name[:3]) or REGISTERS.get(name, (name, 8))[1]
 
 
 def address(text):
@@ -86,12 +84,14 @@ def instructions(path):
     return {int(it[1], 16): (bytes.fromhex(it[2]), it[3].strip()) for it in lines if it}
 
 
+@functools.lru_cache(None)
 def instruction(at, code, text):
     """The instruction at an address, if two programs read it alike."""
     if NOP.fullmatch(text):
-        return Instruction(at, code, text, "nop", ())
+        return Instruction(at, at + len(code), code, text, "nop", ())
     name, _, rest = text.partition(" ")
-    read = Instruction(at, code, text, name, tuple(map(operand, filter(None, rest.strip().split(",")))))
+    operands = tuple(map(operand, filter(None, rest.strip().split(","))))
+    read = Instruction(at, at + len(code), code, text, name, operands)
     if code[0] != EVEX:
         compare(read)
     return read
@@ -136,8 +136,7 @@ def assembles(reads):
     with tempfile.TemporaryDirectory() as folder:
         made, lines = Path(folder) / "made", [f"{{evex}} {it.text}\n" for it in reads]
         words = "as", "-msyntax=intel", "-mnaked-reg", "-o", made, "-"
-        subprocess.run(words, input="".join(lines), text=True, check=True)
-        again = [code for code, _ in instructions(made).values()]
-    for it, code in zip(reads, again, strict=True):
-        if it.code != code:
-            raise Refused(f"`as` makes other bytes of {it.text} at {it.at:#x}")
+        done = subprocess.run(words, input="".join(lines), text=True, stderr=subprocess.DEVNULL)
+        again = [] if done.returncode else [code for code, _ in instructions(made).values()]
+    if again != [it.code for it in reads]:
+        raise Refused("`as` makes other bytes of an instruction of AVX-512")

@@ -17,7 +17,6 @@ from .operands import Step
 from .state import BASES, BEFORE, DESTINATION, INDEX, KEPT, RETURN, SEPARATOR, SOURCE, STACK, indices, is_in
 from .values import MADE, X, Value, apply, constant, is_proved, numbered
 
-NAMES = re.compile("source|destination|stack")
 RED_ZONE, FRAME, NO_KIND = 128, 4096, -1
 # How many instructions a path may have, and the tried turns of a loop. Otherwise a wrong loop might have no end.
 MOST_STEPS = 20000
@@ -318,7 +317,8 @@ class Machine:
         if key not in MADE:
             distances = [(base, z3.simplify(address.term - base.term)) for base in BASES] + [(None, address.term)]
             MADE[key] = [(base, it if base in BASES[:2] else it.as_signed_long()) for base, it in distances
-                         if z3.is_bv_value(it) or base in BASES[:2] and not NAMES.search(it.sexpr())], address
+                         if z3.is_bv_value(it) or
+                         base in BASES[:2] and not re.search("source|destination|stack", it.sexpr())], address
         if len(MADE[key][0]) != 1:
             raise Refused("an address is not known")
         return MADE[key][0][0]

@@ -43,8 +43,8 @@ class Image:
                 for place in moved.keys() & {*range(at, at + size)}:
                     it = it[:place - at] + moved[place] + it[place - at + 8:]
                 self.sections.append((at, it))
-        # The text of each instruction, those that were read, and the terms of table look-ups, by their addresses.
-        self.texts, self.read, self.tables = code.instructions(path), {}, {}
+        # The text of each instruction by its address, and the terms of table look-ups by the number of theirs.
+        self.texts, self.tables = code.instructions(path), {}
         # The addresses that were executed, and by the head of each loop that was found that of its last jump back.
         self.executed, self.loops = set(), {}
 
@@ -74,11 +74,9 @@ class Image:
 
     def instruction(self, at):
         """The instruction at an address."""
-        if at not in self.read:
-            if at not in self.texts:
-                raise Refused(f"no instruction at {at:#x}")
-            self.read[at] = code.instruction(at, *self.texts[at])
-        return self.read[at]
+        if at not in self.texts:
+            raise Refused(f"no instruction at {at:#x}")
+        return code.instruction(at, *self.texts[at])
 
     def instructions(self, begin, size):
         """The addresses in a function of those instructions that some path should execute. The others fill the space

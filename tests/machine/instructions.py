@@ -135,7 +135,6 @@ LANES = {
     "paddusb": (1, lambda a, b: If(ULT(a + b, a), BitVecVal(255, 8), a + b)),
     "psubusb": (1, lambda a, b: If(ULT(a, b), BitVecVal(0, 8), a - b)),
     "pminub": (1, lambda a, b: If(ULT(a, b), a, b)), "pmaxub": (1, lambda a, b: If(ULT(a, b), b, a)),
-    "pcmpeqb": (1, lambda a, b: If(a == b, BitVecVal(255, 8), BitVecVal(0, 8))),
     "por": (1, operator.or_), "pand": (1, operator.and_), "pxor": (1, operator.xor), "xorps": (1, operator.xor),
 }
 # AVX-512 has a name for each size of a lane that a mask would be for. Without a mask they do the same.
@@ -316,6 +315,8 @@ def add_carry(step):
 
 def multiply_two(step):
     """imul with two operands. Its flags are not modelled."""
+    if len(step.operands) != 2:
+        raise Refused("a product of other operands")
     value = apply(operator.mul, step.get(0), step.get(1))
     step.state.flags.update(dict.fromkeys("czso"))
     step.set(value)
@@ -336,6 +337,11 @@ def divide(step):
     step.write_register("rax" if size == 8 else "eax", bytes_of(quotient))
     step.write_register("rdx" if size == 8 else "edx", bytes_of(rest))
     step.state.flags.update(dict.fromkeys("czso"))
+
+
+def leave(step):
+    step.write_register("rsp", bytes_of(step.state.registers["rbp"]))
+    step.write_register("rbp", bytes_of(step.pop()))
 
 
 def keep_low_bits(step):
@@ -435,7 +441,7 @@ TABLE = {
     "cmp": partial(arithmetic, "sub", is_kept=False), "test": partial(arithmetic, "and", is_kept=False),
     "inc": partial(arithmetic, "add", counts=True), "dec": partial(arithmetic, "sub", counts=True),
     "adc": add_carry, "neg": partial(arithmetic, "sub", negates=True), "imul": multiply_two, "div": divide,
-    "bzhi": keep_low_bits,
+    "bzhi": keep_low_bits, "leave": leave,
     **{name: partial(shift, function) for name, function in SHIFTS.items()},
     **{"set" + it: partial(set_if, it) for it in EACH}, **{"cmov" + it: partial(move_if, it) for it in EACH},
     "ptest": test_bits, "ptestmd": partial(test_lanes, 4), "kortestw": partial(test_masks, 16),

@@ -92,9 +92,6 @@ class Loop:
     def at(self, term, turn):
         return z3.simplify(z3.substitute(term, (self.turn, turn)))
 
-    def next(self, term):
-        return self.at(term, self.turn + 1)
-
     def check(self, after):
         """Checks that a state after a turn is the general state before the next turn."""
         values, count = after.values(), len(self.state.facts)
@@ -107,7 +104,7 @@ class Loop:
             raise Refused("a loop leaves bytes of the source out")
         if not self.covers_next(after, self.state.written, after.written) or after.written and not self.state.written:
             raise Refused("a loop leaves bytes of the destination out")
-        if not self.machine.is_shown(after, self.next(self.state.facts[-1].term)):
+        if not self.machine.is_shown(after, self.at(self.state.facts[-1].term, self.turn + 1)):
             raise Refused("a loop may have more turns than were counted")
         self.count(after)
 
@@ -116,11 +113,11 @@ class Loop:
         if place in self.unknown or place not in self.moving and value.is_same(after):
             return True
         is_public = not value.of and not after.of and value.term.size() == after.term.size()
-        return is_public and difference(self.next(value.term), after.term) == 0
+        return is_public and difference(self.at(value.term, self.turn + 1), after.term) == 0
 
     def covers_next(self, after, spans, others):
         """Whether some spans of the general state, for the next turn, are within others."""
-        spans = [(self.next(start), self.next(end)) for start, end in spans]
+        spans = [(self.at(start, self.turn + 1), self.at(end, self.turn + 1)) for start, end in spans]
         return self.machine.is_shown(after, z3.Implies(is_in(spans, INDEX), is_in(others, INDEX)))
 
     def count(self, after):
@@ -159,7 +156,9 @@ def is_new(machine, state):
     state.is_general = False
     if state.at in state.joins:
         return True
-    key = state.at, len(state.refused), *map(ids, (state.facts, state.valid, state.written))
+    # What is on the stack as a number may be where a function returns to, so it must be the same.
+    returns = tuple([(at, it.number) for at, it in sorted(state.stack.items())])
+    key = state.at, returns, len(state.refused), *map(ids, (state.facts, state.valid, state.written))
     state.joins |= {state.at}
     before = machine.joined.get(key)
     if before and join(machine, state, before):

@@ -9,9 +9,6 @@ from .state import NONE, REGISTERS, STACK, VECTOR
 from .values import Value, apply, bytes_of, constant, joined
 
 
-EIGHT = constant(8, 8)
-
-
 def address_of(base, index, scale, distance):
     return base + index * scale + distance
 
@@ -119,13 +116,13 @@ class Step:
     def push(self, value):
         if value.term.size() != 64:
             raise Refused("not eight bytes")
-        end = self.state.registers["rsp"] = apply(operator.sub, self.state.registers["rsp"], EIGHT)
+        end = self.state.registers["rsp"] = apply(operator.sub, self.state.registers["rsp"], constant(8, 8))
         self.machine.lowers(self.state)
         self.machine.store(self.state, end, bytes_of(value))
 
     def pop(self):
         end = self.state.registers["rsp"]
         value = joined(self.machine.load(self.state, end, 8))
-        self.state.registers["rsp"] = apply(operator.add, end, EIGHT)
+        self.state.registers["rsp"] = apply(operator.add, end, constant(8, 8))
         self.machine.lowers(self.state)
         return value
