@@ -23,7 +23,7 @@
 #   make check               runs all tests in tests/ by pytest, and skips those whose tools are not
 #                            installed. With RUST=DIR, a checkout of the Rust crate faster-hex
 #                            1.0.0, it compares the bindings with it
-#   make deep                make check, all mutations, proofs of the examples and the check of the
+#   make deep                make check, all mutations, proofs of the examples and a new record of the
 #                            machine code: run it before a release
 #   make generate            proves the sources and writes generated/ again, with the Rattle
 #                            toolchain

@@ -29,8 +29,9 @@
  * - The source is `len` bytes at `src`. The destination is `room` bytes at `dst`. A pointer may be NULL if its
  *   length is 0. Nothing else of the caller's memory is read or written.
  * - Source and destination may be adjacent, but they must not overlap. No alignment is required.
- * - The answer reports the first error, in the order that the call lists. A call that reports an error has
- *   written nothing. Any other call writes to the front of the destination and leaves the rest unchanged.
+ * - The answer reports the first error, in the order that the call lists. After a call that reports an error, the
+ *   destination holds what it held before. Any other call writes to the front of the destination and leaves the rest
+ *   unchanged.
  * - No call keeps a pointer, allocates memory or changes any state. On x86-64 the library has one byte of
  *   state, which records what the processor supports. It is written when the library is loaded.
  * - Calls may run in many threads at the same time, also on the same source, if no destination overlaps what
@@ -43,21 +44,23 @@
  * - Proved: what each call that checks, searches or converts returns and writes, for `len` and `room` below 2^63. The
  *   proof is about the source. The machine code is compiled from this source, and the proof does not cover it.
  * - Checked for all bytes and every length: a tool of the repository executes the machine code symbolically, that is,
- *   with a source whose length and bytes are unknown. It covers the builds for x86-64-v2, x86-64-v3 and x86-64-v4, and
- *   the calls without groups. For these, the results are right. The code reads only the source and writes only the
- *   destination, apart from its stack, its constants and its byte of state. This also holds if an empty source or
- *   destination is NULL. For the calls with groups the same is checked for sources of up to 32 bytes. The file
- *   generated/SHOWN has the record.
+ *   with a source whose length and bytes are unknown. It covers the code in the format ELF, as Linux and BSD have it,
+ *   and there the builds for x86-64-v2, x86-64-v3 and x86-64-v4, and the calls without groups. For these, the results
+ *   are right, and a call that reports an error has written nothing, not even for a while. The code reads only the
+ *   source and writes only the destination, apart from its stack, its constants and its byte of state. This also holds
+ *   if an empty source or destination is NULL. For the calls with groups in the builds for x86-64-v2 and x86-64-v3, the
+ *   same is checked for sources of up to 32 bytes. The file generated/SHOWN has the record.
  * - Keys: the same tool checks which addresses and branches depend on the bytes of the source. When a call without
- *   groups encodes, none does. When it checks, decodes or searches valid digits, only branches on whether some of them
- *   are all valid depend on them. These branches go the same way for all valid digits. A check of up to 256 digits has
- *   none of them.
- * - Not constant time: the baseline build for x86-64, which looks bytes up in tables. It runs on processors without
- *   x86-64-v2, and for calls that are made before the library's constructor has run. In every build a call that must
- *   find the index of an invalid byte uses a table too. The grouped calls, and processors other than x86-64, were not
- *   examined for this.
- * - Only tested: the machine code of the other builds, and of the calls with groups for longer sources. Tests alone
- *   also show that calls allocate nothing, change no state and may run in threads.
+ *   groups encodes, none does. When it checks, decodes or searches valid digits, the only such branches ask whether
+ *   all digits of one part of the source are valid. They go the same way for all valid digits. docs/security.md says
+ *   which calls to use for keys.
+ * - Not constant time: the baseline build, which is the one for x86-64 without a level. It looks bytes up in tables.
+ *   It runs on processors without x86-64-v2, and for calls that are made before the library's constructor has run,
+ *   which is a function that runs when the library is loaded. In every build a call that must find the index of an
+ *   invalid byte uses a table too. The grouped calls, and processors other than x86-64, were not examined for this.
+ * - Only tested: the machine code of the other builds and for Windows, and of the calls with groups for longer
+ *   sources. That for macOS was only assembled. Tests alone also show that calls allocate nothing, change no state and
+ *   may run in threads.
  *
  * docs/security.md of the repository says more.
  */
