@@ -64,7 +64,7 @@ def test_library_of_copied_files(tmp_path):
     text = (TOP / "docs/release/README.md").read_text()
     told = re.search(r"^- Without installing: copy (.*?) with their folders .* These are (\d+) files .* Then `(cc .*?)`", text, re.M)
     files = [it.relative_to(TOP) for pattern in re.findall("`(.*?)`", told[1]) for it in TOP.glob(pattern)]
-    assert len(files) == int(told[2])
+    assert len(files) == int(told[2]) and "LICENSE" in map(str, files)
     copied(files, tmp_path)
     (tmp_path / "prog.c").write_text((TOP / "examples/c/digits.c").read_text())
     runs(told[3].split(), cwd=tmp_path)
