@@ -60,14 +60,21 @@ def test_pages_that_stand_alone(tmp_path, top, env):
 
 
 def test_library_of_copied_files(tmp_path):
-    """The sentence on the package's page names all files of the C library, and the command that builds it."""
+    """The package's page names all files of the C library, and the commands that build it into programs in C and C++."""
     text = (TOP / "docs/release/README.md").read_text()
     told = re.search(r"^- Without installing: copy (.*?) with their folders .* These are (\d+) files .* Then `(cc .*?)`", text, re.M)
     files = [it.relative_to(TOP) for pattern in re.findall("`(.*?)`", told[1]) for it in TOP.glob(pattern)]
-    assert len(files) == int(told[2])
+    assert len(files) == int(told[2]) and "LICENSE" in map(str, files)
     copied(files, tmp_path)
     (tmp_path / "prog.c").write_text((TOP / "examples/c/digits.c").read_text())
     runs(told[3].split(), cwd=tmp_path)
+    runs([tmp_path / "a.out"], out=PRINTED)
+    steps = re.search(r"^- Without installing, in C\+\+: .* `(cc .*?)`.* `(c\+\+ .*?)`", text, re.M).groups()
+    needs("c++")
+    (tmp_path / "prog.cpp").write_text((TOP / "examples/cpp/digits.cpp").read_text())
+    (tmp_path / "a.out").unlink()
+    for step in steps:
+        runs(step.split(), cwd=tmp_path)
     runs([tmp_path / "a.out"], out=PRINTED)
 
 
