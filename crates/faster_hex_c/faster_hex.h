@@ -22,7 +22,8 @@
  *     }
  *
  * The library for x86-64 runs on every x86-64 processor. It uses AVX-512, AVX2 or SSE4.2 if the processor has
- * them. For processors other than x86-64 and aarch64 the library is plain C, which is tested and not proved.
+ * them. For processors other than x86-64 and aarch64, and for systems that the README of the repository does not name,
+ * such as Android and OpenBSD, the library is plain C. Plain C is not proved, and is tested for some processors.
  *
  * These rules hold for every call, unless the call says otherwise:
  *
@@ -44,12 +45,13 @@
  * - Proved: what each call that checks, searches or converts returns and writes, for `len` and `room` below 2^63. The
  *   proof is about the source. The machine code is compiled from this source, and the proof does not cover it.
  * - Checked for all bytes and every length: a tool of the repository executes the machine code symbolically, that is,
- *   with a source whose length and bytes are unknown. It covers the code in the format ELF, as Linux and BSD have it,
- *   and there the builds for x86-64-v2, x86-64-v3 and x86-64-v4, and the calls without groups. For these, the results
- *   are right, and a call that reports an error has written nothing, not even for a while. The code reads only the
- *   source and writes only the destination, apart from its stack, its constants and its byte of state. This also holds
- *   if an empty source or destination is NULL. For the calls with groups in the builds for x86-64-v2 and x86-64-v3, the
- *   same is checked for sources of up to 32 bytes. The file generated/SHOWN has the record.
+ *   with a source whose length and bytes are unknown. It was run on one archive, which gcc built on Linux. FreeBSD and
+ *   NetBSD use the same assembly. The check covers the builds for x86-64-v2, x86-64-v3 and x86-64-v4, and the calls
+ *   without groups. For these, the results are right, and a call that reports an error has written nothing, not even
+ *   for a while. The code reads only the source and writes only the destination, apart from its stack, its constants
+ *   and its byte of state. This also holds if an empty source or destination is NULL. For the calls with groups in the
+ *   builds for x86-64-v2 and x86-64-v3, the same is checked for sources of up to 32 bytes. The file generated/SHOWN has
+ *   the record.
  * - Keys: the same tool checks which addresses and branches depend on the bytes of the source. When a call without
  *   groups encodes, none does. When it checks, decodes or searches valid digits, the only such branches ask whether
  *   all digits of one part of the source are valid. They go the same way for all valid digits. docs/security.md says
@@ -57,10 +59,11 @@
  * - Not constant time: the baseline build, which is the one for x86-64 without a level. It looks bytes up in tables.
  *   It runs on processors without x86-64-v2, and for calls that are made before the library's constructor has run,
  *   which is a function that runs when the library is loaded. In every build a call that must find the index of an
- *   invalid byte uses a table too. The grouped calls, and processors other than x86-64, were not examined for this.
- * - Only tested: the machine code of the other builds and for Windows, and of the calls with groups for longer
- *   sources. That for macOS was only assembled. Tests alone also show that calls allocate nothing, change no state and
- *   may run in threads.
+ *   invalid byte uses a table too. The grouped calls, the machine code for Windows and macOS, and processors other than
+ *   x86-64 were not examined for this.
+ * - Only tested, on Linux: the machine code of the other builds, and of the calls with groups for longer sources. The
+ *   machine code for Windows is tested under wine. On FreeBSD, NetBSD and macOS the library was only assembled, and
+ *   never run. Tests alone also show that calls allocate nothing, change no state and may run in threads.
  *
  * docs/security.md of the repository says more.
  */
