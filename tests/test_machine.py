@@ -407,7 +407,7 @@ def test_answers(tmp_path, build, call, function):
         assert answers(file, at, call, SEED) == is_right
 
 
-@pytest.mark.parametrize("turn", range(int(os.environ.get("ROUNDS") or 20_000) // 2_500))
+@pytest.mark.parametrize("turn", range(int(os.environ.get("ROUNDS") or 20_000) // 5_000))
 def test_random_change(tmp_path, turn):
     """A byte in a loop is changed at random. If the copy is accepted all the same, it must answer rightly."""
     chance, told = random.Random(f"{SEED} {turn}"), f"SEED={SEED}"
