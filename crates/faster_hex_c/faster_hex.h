@@ -22,8 +22,8 @@
  *     }
  *
  * The library for x86-64 runs on every x86-64 processor. It uses AVX-512, AVX2 or SSE4.2 if the processor has
- * them. For processors other than x86-64 and aarch64, and for systems that the README of the repository does not name,
- * such as Android and OpenBSD, the library is plain C. Plain C is not proved, and is tested for some processors.
+ * them. For the processors and systems in the last row of the platforms in the README of the repository, the library
+ * is plain C. Plain C is not proved, and is tested for some processors.
  *
  * These rules hold for every call, unless the call says otherwise:
  *
@@ -57,10 +57,10 @@
  *   all digits of one part of the source are valid. They go the same way for all valid digits. docs/security.md says
  *   which calls to use for keys.
  * - Not constant time: the baseline build, which is the one for x86-64 without a level. It looks bytes up in tables.
- *   It runs on processors without x86-64-v2, and for calls that are made before the library's constructor has run,
- *   which is a function that runs when the library is loaded. In every build a call that must find the index of an
- *   invalid byte uses a table too. The grouped calls, the machine code for Windows and macOS, and processors other than
- *   x86-64 were not examined for this.
+ *   It runs on processors without x86-64-v2, and for calls that are made before the library's constructor has run. The
+ *   constructor is a function that runs when the library is loaded. In every build a call that must find the index of
+ *   an invalid byte uses a table too. The grouped calls, the machine code for Windows and macOS, and processors other
+ *   than x86-64 were not examined for this.
  * - Only tested, on Linux: the machine code of the other builds, and of the calls with groups for longer sources. The
  *   machine code for Windows is tested under wine. On FreeBSD, NetBSD and macOS the library was only assembled, and
  *   never run. Tests alone also show that calls allocate nothing, change no state and may run in threads.
