@@ -1,7 +1,7 @@
 //! Times encoding into a buffer and decoding from lowercase digits by our Rust crate, which is the crate `ours` here,
-//! and by other libraries. Each decoding accepts both letter cases. OpenSSL encodes in uppercase, all others in
-//! lowercase. Before that it checks what the calls write. It prints a line for each call, library and number of decoded
-//! bytes: `encode by hex 0.4.3<TAB>bytes<TAB>ns`.
+//! by our library for C, and by other libraries. Each decoding accepts both letter cases. OpenSSL encodes in uppercase,
+//! all others in lowercase. Before that it checks what the calls write. It prints a line for each call, library and
+//! number of decoded bytes: `encode by hex 0.4.3<TAB>bytes<TAB>ns`.
 //!
 //! A library is left out unless bench/run gives `--cfg` with its name.
 
@@ -12,6 +12,20 @@ use std::ptr::null_mut;
 #[macro_use]
 mod timing;
 use timing::{Cell, LARGEST, LOOPS, Loop, Task};
+
+/// What a call of our library for C returns.
+#[repr(C)]
+struct Answer {
+    number: usize,
+    status: u8,
+    byte: u8,
+}
+
+#[link(name = "faster_hex", kind = "static")]
+unsafe extern "C" {
+    fn faster_hex_encode(src: *const u8, len: usize, dst: *mut u8, room: usize, upper: bool) -> Answer;
+    fn faster_hex_decode(src: *const u8, len: usize, dst: *mut u8, room: usize) -> Answer;
+}
 
 #[cfg(sodium)]
 #[link(name = "sodium")]
@@ -73,9 +87,19 @@ macro_rules! libraries {
 // SAFETY of all calls of C libraries: the lengths are those of the slices, and the digits end with a zero.
 libraries! {
     #[cfg(all())]
-    bunkmedlar(it) "Bunkmedlar",
+    in_rust(it) "Bunkmedlar (Rust)",
         encodes ours::hex_encode(black_box(it.bytes), black_box(it.room)).unwrap().len(),
         decodes ours::hex_decode(black_box(it.lower), black_box(it.room)).unwrap().len();
+    #[cfg(all())]
+    in_c(it) "Bunkmedlar (C)",
+        encodes unsafe {
+            let (src, dst) = (black_box(it.bytes), black_box(&mut *it.room));
+            faster_hex_encode(src.as_ptr(), src.len(), dst.as_mut_ptr(), dst.len(), false)
+        },
+        decodes unsafe {
+            let (src, dst) = (black_box(it.lower), black_box(&mut *it.room));
+            faster_hex_decode(src.as_ptr(), src.len(), dst.as_mut_ptr(), dst.len())
+        };
     #[cfg(theirs)]
     faster_hex(it) "faster-hex 1.0.0",
         encodes theirs::hex_encode(black_box(it.bytes), black_box(it.room)).unwrap().len(),

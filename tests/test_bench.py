@@ -10,7 +10,7 @@ from commands import RUSTC, TOP, needs, ran, runs
 from packages import REGISTRY
 
 PAGES = "README.md", "bench/README.md"
-LIBRARIES = "Bunkmedlar", "faster-hex 1.0.0", "hex 0.4.3", "OpenSSL 3.0"
+LIBRARIES = "Bunkmedlar (Rust)", "Bunkmedlar (C)", "faster-hex 1.0.0", "hex 0.4.3", "OpenSSL 3.0"
 # The table without a marker, which no command makes.
 BY_HAND = "Call | Decoded bytes | Special path"
 
@@ -31,7 +31,7 @@ def outputs():
     calls += [f"{it} by {command}" for it in ("encode of bytes", "decode of one line")
               for command in ("fhex-stream", "xxd")]
     lines = [f"{call}\t{size}\t{time(call):.2f}" for call in calls for size in {6, *sizes}]
-    return "\n".join(["# Run on a machine.", "code of the library\t0\t5000000", *lines, ""])
+    return "\n".join(["# Run on a machine.", "code of libfaster_hex.so\t0\t5000000", *lines, ""])
 
 
 @pytest.mark.quick
@@ -94,4 +94,5 @@ def test_others(tmp_path):
     wanted |= {name for name, package in {"libsodium": "libsodium-dev", "OpenSSL": "libssl-dev"}.items()
                if f"# {package} is not installed, so it is left out\n" not in said}
     assert timed == {(name, size) for name in wanted for size in ("32", "4096", "65536")}
-    assert re.search(r"^code of the library\t0\t\d+$", said, re.M)
+    sized = re.findall(r"^code of (\S+)\t0\t\d+$", said, re.M)
+    assert sized == ["libfaster_hex.a", "libfaster_hex.so", "fhex", "fhex-stream"]
