@@ -175,8 +175,10 @@ ifneq ($(MADE_PROGRAMS),)
 	printf hello | $(RUN) $(OUT)/fhex-stream$(EXE) encode-lines | $(RUN) $(OUT)/fhex-stream$(EXE) decode | grep -qx hello
 endif
 
+# With pytest-xdist, the modules run side by side. tests/conftest.py says what may be divided further.
+BESIDE = $(shell $(PYTEST) --help 2>&1 | grep -q -- --numprocesses && echo -n $(JOBS) --dist loadgroup)
 check: all
-	$(or $(PYTEST),$(error make check takes pytest: apt-get install python3-pytest)) tests
+	$(or $(PYTEST),$(error make check takes pytest: apt-get install python3-pytest)) $(BESIDE) tests
 	$(call ENDED,what the summary says; the gate; mutations; examples)
 
 # For a release. It stops at the first part that fails.

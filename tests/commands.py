@@ -39,8 +39,9 @@ INSTALLED = """bin/fhex bin/fhex-stream share/man/man1/fhex.1 share/man/man1/fhe
 INSTALLED += [f"lib/{name}" for name in SHARED] + [f"share/man/man3/{name}.3" for name in NAMES]
 OF_RUST = *TOP.glob("bindings/rust/src/*.rs"), *TOP.glob("generated/*.[si]*"), TOP / "generated/PROVED"
 INSTALLED += [f"share/faster_hex/rust/{it.relative_to(TOP)}" for it in OF_RUST]
-# The seed of random lengths. It is new in each run, unless SEED is given.
-SEED = os.environ.get("SEED") or f"{random.SystemRandom().randrange(10 ** 9)}"
+# The seed of random lengths. It is new in each run, unless SEED is given. All processes of a run find it in their
+# environment.
+SEED = os.environ.get("SEED") or os.environ.setdefault("DRAWN_SEED", f"{random.SystemRandom().randrange(10 ** 9)}")
 STRICT = ["-Wall", "-Wextra", "-Wpedantic", "-Wconversion", "-Werror", f"-I{CRATE}"]
 BUILT = "-std=gnu99 -O1 -g -pthread".split()
 # The builds for x86-64, each with a flag of /proc/cpuinfo that its processors have.

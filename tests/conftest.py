@@ -20,6 +20,14 @@ def environment(tmp_path_factory):
                       WINEPREFIX=f"{made}/wine", WINEDEBUG="-all")
 
 
+def pytest_collection_modifyitems(items):
+    """If several processes run the tests, one of them runs all tests of a module, because they share what is built for
+    them. The tests marked *apart* share nothing that takes long, so each process takes some of them."""
+    for it in items:
+        if not it.get_closest_marker("apart"):
+            it.add_marker(pytest.mark.xdist_group(it.path.name))
+
+
 def pytest_terminal_summary(terminalreporter):
     terminalreporter.write_line(f"lengths were drawn from SEED={SEED}")
 

@@ -287,6 +287,7 @@ def assembled(folder, text):
     return Image(linked(folder / "image", folder / "made.o"))
 
 
+@pytest.mark.apart
 @pytest.mark.parametrize("row", rows("changes.txt"))
 def test_change(tmp_path, row):
     where, *rules, _ = row.split(" | ")
@@ -407,6 +408,7 @@ def test_answers(tmp_path, build, call, function):
         assert answers(file, at, call, SEED) == is_right
 
 
+@pytest.mark.apart
 @pytest.mark.parametrize("turn", range(int(os.environ.get("ROUNDS") or 20_000) // 5_000))
 def test_random_change(tmp_path, turn):
     """A byte in a loop is changed at random. If the copy is accepted all the same, it must answer rightly."""
@@ -549,6 +551,7 @@ def sparse_blocks(parts):
             yield block
 
 
+@pytest.mark.apart
 @pytest.mark.parametrize("names, forms", INSTRUCTIONS)
 def test_instruction(tmp_path, names, forms):
     is_wide = "zmm" in forms
