@@ -31,25 +31,26 @@
  *   length is 0. Nothing else of the caller's memory is read or written.
  * - Source and destination may be adjacent, but they must not overlap. No alignment is required.
  * - The answer reports the first error, in the order that the call lists. After a call that reports an error, the
- *   destination holds what it held before. Any other call writes to the front of the destination and leaves the rest
- *   unchanged.
+ *   destination holds what it held before. A call that encodes or decodes without an error writes to the front of the
+ *   destination and leaves the rest unchanged.
  * - No call keeps a pointer, allocates memory or changes any state. On x86-64 the library has one byte of
  *   state, which records what the processor supports. It is written when the library is loaded.
  * - Calls may run in many threads at the same time, also on the same source, if no destination overlaps what
  *   another call reads or writes.
  * - The library needs no external symbols, not even libc. You may link the archive into a shared library.
- * - Compilers that can do so warn if a result is not used.
+ * - gcc and clang warn if a result is not used.
  *
  * What is known of the code:
  *
  * - Proved: what each call that checks, searches or converts returns and writes, for `len` and `room` below 2^63. The
- *   proof is about the source. The machine code is compiled from this source, and the proof does not cover it.
+ *   proof is about the source code. The machine code is compiled from it, and the proof does not cover the machine
+ *   code.
  * - Checked for all bytes and every length: a tool of the repository executes the machine code symbolically, that is,
  *   with a source whose length and bytes are unknown. It was run on one archive, which gcc built on Linux. FreeBSD and
  *   NetBSD use the same assembly. The check covers the builds for x86-64-v2, x86-64-v3 and x86-64-v4, and the calls
  *   without groups. For these, the results are right, and a call that reports an error has written nothing, not even
- *   for a while. The code reads only the source and writes only the destination, apart from its stack, its constants
- *   and its byte of state. This also holds if an empty source or destination is NULL. For the calls with groups in the
+ *   for a while. The code reads only the source, its stack, its constants and its byte of state. It writes only the
+ *   destination and its stack. This also holds if an empty source or destination is NULL. For the calls with groups in the
  *   builds for x86-64-v2 and x86-64-v3, the same is checked for sources of up to 32 bytes. The file generated/SHOWN has
  *   the record.
  * - Keys: the same tool checks which addresses and branches depend on the bytes of the source. When a call without
@@ -97,7 +98,7 @@
 #define FASTER_HEX_GROUPED_LEN(n, every) \
     (FASTER_HEX_ENCODED_LEN(n) + ((n) == 0 ? FASTER_HEX_SIZE(0) : (FASTER_HEX_SIZE(n) - 1) / (every)))
 
-/* Stands before each call whose result must be used, because it says whether the call failed. */
+/* Stands before each call whose result must be used. The result says whether the call failed. */
 #ifdef __GNUC__
 #define FASTER_HEX_MUST_USE __attribute__((warn_unused_result))
 #else
@@ -108,7 +109,7 @@
 extern "C" {
 #endif
 
-/* In C90 `bool` is an extension, of which clang would warn. */
+/* In C90 `bool` is an extension, about which clang would warn. */
 #ifdef __clang__
 #pragma clang diagnostic push
 #pragma clang diagnostic ignored "-Wc99-extensions"
@@ -126,7 +127,8 @@ enum {
     FASTER_HEX_DONE = 0,             /* no error; number: how many bytes were written */
     FASTER_HEX_ODD_LENGTH = 1,       /* the number of digits is odd */
     FASTER_HEX_OUTPUT_TOO_SMALL = 2, /* `room` is too small; number: the room required */
-    FASTER_HEX_INVALID_CHAR = 3,     /* a byte is no digit; number: the index of the first one */
+    FASTER_HEX_INVALID_CHAR = 3,     /* a byte is no accepted digit, or a wrong separator; number: the index
+                                      * of the first such byte */
     FASTER_HEX_OVERFLOW = 4,         /* the length of the text does not fit in size_t */
     FASTER_HEX_UNKNOWN_POLICY = 5,   /* `policy` is above 2 */
     FASTER_HEX_NOT_A_GROUP = 6,      /* `every` is 0, or `sep` is a hex digit or not ASCII */
@@ -134,7 +136,7 @@ enum {
 };
 
 struct faster_hex_answer {
-    size_t number;  /* what the status says, otherwise 0 */
+    size_t number;  /* what the comment at the status says, otherwise 0 */
     uint8_t status;
     uint8_t byte;   /* the first invalid byte for FASTER_HEX_INVALID_CHAR, otherwise 0 */
 };
@@ -181,7 +183,8 @@ FASTER_HEX_MUST_USE
 struct faster_hex_answer faster_hex_encode_grouped(const void *src, size_t len, void *dst, size_t room,
                                                    bool upper, size_t every, uint8_t sep);
 
-/* Decodes a text in such groups, whose digits the policy accepts. A wrong separator counts as an invalid byte.
+/* Decodes a text in such groups. A digit that the policy does not accept counts as an invalid byte, and so does a wrong
+ * separator.
  * Errors, in the order tested: FASTER_HEX_UNKNOWN_POLICY, FASTER_HEX_NOT_A_GROUP, FASTER_HEX_BAD_LENGTH,
  * FASTER_HEX_OUTPUT_TOO_SMALL, FASTER_HEX_INVALID_CHAR. */
 FASTER_HEX_MUST_USE
