@@ -6,8 +6,8 @@
 #   make lib                 only the library: libfaster_hex.a and libfaster_hex.so
 #   make fhex                only the program fhex
 #   make fhex-stream         only the program fhex-stream
-#   make install PREFIX=DIR  copies what was built into DIR. LIBDIR=DIR is for the libraries.
-#                            DESTDIR=DIR is put before both
+#   make install PREFIX=DIR  copies what was built into DIR. With LIBDIR=DIR the libraries go there
+#                            instead. DESTDIR=DIR is put before PREFIX and LIBDIR
 #   make uninstall           removes the same files, and takes the same variables
 #   make vendor DIR=DIR      copies the library for Rattle into the repository at DIR, with JSON=no
 #                            only the crates without JSON
@@ -15,14 +15,14 @@
 #   make clean               removes everything that was built
 #
 # To test and to change:
-#   make test-c              runs the tests in C, which need only a C compiler. RUN=COMMAND runs
-#                            them by a command, for instance under an emulator
+#   make test-c              runs the tests in C, which need only a C compiler. With RUN=COMMAND that
+#                            command runs them, for instance an emulator
 #   make test                proves all crates, runs their tests, tries the mutations that matter
 #                            most, and runs the examples and a quick part of make check. Without the
 #                            Rattle toolchain it runs the tests in C and that part of make check
 #   make check               runs all tests in tests/ by pytest, and skips those whose tools are not
-#                            installed. With RUST=DIR, a checkout of the Rust crate faster-hex
-#                            1.0.0, it compares the bindings with it
+#                            installed. With RUST=DIR, where DIR is a checkout of faster-hex 1.0.0,
+#                            it also compares our Rust crate with faster-hex
 #   make deep                make check, all mutations, proofs of the examples and a new record of the
 #                            machine code: run it before a release
 #   make generate            proves the sources and writes generated/ again, with the Rattle
@@ -32,8 +32,9 @@
 # built again:
 #   CC, CFLAGS, CPPFLAGS, LDFLAGS, AR
 #                            the usual meaning. A compiler for another system builds for that
-#                            system: for Linux on aarch64 into out/aarch64, for Windows into
-#                            out/windows, and for macOS only the archive
+#                            system: into out/aarch64 for Linux on aarch64, into out/windows for
+#                            Windows, and below out/macos for macOS. For macOS it builds only the
+#                            archive
 #   TARGET=aarch64           builds for Linux on aarch64 with the compiler aarch64-linux-gnu-gcc
 #   TARGET=portable          builds the libraries in plain C, which is not proved. A processor or a
 #                            system without assembly gets the same

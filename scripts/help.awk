@@ -15,7 +15,12 @@ function put(indent, text,    count, words, at, line) {
 }
 
 BEGIN { FS = " [|] " }
-/^You changed/ { print "If you changed this, run that (in the time in parentheses):"; is_table = 1; next }
+/^You changed/ {
+    put(0, "What to run after a change, with the time that it takes in parentheses. Run the command of your change," \
+        " and then those directly below it that begin with *then*:")
+    is_table = 1
+    next
+}
 !is_table || /^---/ { next }
 /^$/ { exit }
 {

@@ -70,7 +70,8 @@ impl WireFormat {
     }
 }
 
-/// Bytes that are written in a format. A serializer takes this as a value.
+/// Bytes with the format in which they are written. It implements `Serialize`, so that a serializer accepts it
+/// as the value of `Some`.
 struct Written<'a>(WireFormat, &'a [u8]);
 
 impl Serialize for Written<'_> {
@@ -79,7 +80,7 @@ impl Serialize for Written<'_> {
     }
 }
 
-/// A text that is read as a `String` is. If the source lends it, it is borrowed. It is decoded after the
+/// A text. It is read as a `String` would be. If the source lends it, it is borrowed. It is decoded after the
 /// deserializer has ended, so that the deserializer does not add its own place to the error.
 struct Text<'de>(Cow<'de, str>);
 
@@ -134,7 +135,7 @@ fn no_text<E: de::Error>(bytes: &[u8]) -> E {
     E::invalid_value(Unexpected::Bytes(bytes), &TextVisitor)
 }
 
-/// Makes two modules from each line. It has their names, the prefix, the case, the text of `[0x12, 0xab]`,
+/// Makes two modules from each line. A line has their names, the prefix, the case, the text of `[0x12, 0xab]`,
 /// and the documentation of the format.
 macro_rules! modules {
     ($($name:ident $option:ident $prefix:literal $case:ident $shown:literal $about:literal;)*) => { $(
@@ -191,7 +192,7 @@ macro_rules! modules {
             /// 2. `invalid prefix` if the string does not begin with the prefix of the format;
             /// 3. `invalid length` if an odd number of bytes follows;
             /// 4. [`Error::InvalidChar`](crate::Error::InvalidChar) with the first byte that is not a digit
-            ///    of the format, and its index from the first digit.
+            ///    of the format, and its index, counted from the first byte after the prefix.
             pub fn deserialize<'de, D, T>(deserializer: D) -> Result<T, D::Error>
             where
                 D: Deserializer<'de>,
@@ -204,8 +205,8 @@ macro_rules! modules {
             ///
             /// # Errors
             ///
-            /// Those of [`deserialize`], and before the last one: more than `MAX` bytes, of which none is
-            /// decoded then.
+            /// Those of [`deserialize`]. One more comes before the last of them: the string has digits for
+            /// more than `MAX` bytes. Then no byte is decoded.
             pub fn deserialize_bounded<'de, const MAX: usize, D, T>(
                 deserializer: D,
             ) -> Result<T, D::Error>
@@ -226,8 +227,9 @@ macro_rules! modules {
                 ///
                 /// # Errors
                 ///
-                /// Those of [`deserialize`](super::deserialize), and before the last one
-                /// [`Error::LengthMismatch`](crate::Error::LengthMismatch) for another number of bytes.
+                /// Those of [`deserialize`](super::deserialize). Before the last of them comes
+                /// [`Error::LengthMismatch`](crate::Error::LengthMismatch), if the string does not have the
+                /// digits of exactly `N` bytes.
                 pub fn deserialize<'de, D, const N: usize>(deserializer: D) -> Result<[u8; N], D::Error>
                 where
                     D: Deserializer<'de>,

@@ -1,5 +1,5 @@
-//! The assembly in `generated/`, and its calls by the build for the processor. The names in it have the
-//! version, so that a program may have two versions. The C library has names of its own for the same
+//! The assembly in `generated/`. Each function here calls the build that fits the processor. The names in the
+//! assembly have the version, so that a program may have two versions. The C library has names of its own for the same
 //! assembly.
 
 use core::arch::global_asm;
@@ -15,7 +15,7 @@ use super::Answer;
 #[path = "level.rs"]
 mod level;
 
-/// Assembles the macros of a format of object files, and then the builds for the processor.
+/// Assembles the macros of a format of object files, and then all builds for the target's architecture.
 macro_rules! assemble {
     ($macros:literal) => {
         #[cfg(target_arch = "aarch64")]

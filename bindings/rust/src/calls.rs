@@ -1,5 +1,5 @@
-//! The calls on slices, by the build for the processor. For a target without builds `portable.rs` is compiled
-//! in place of this file.
+//! The calls on slices. Each one runs the build that fits the processor. For a target without builds
+//! `portable.rs` is compiled in place of this file.
 
 use core::mem::MaybeUninit;
 
@@ -28,7 +28,7 @@ const fn number_of(case: CheckCase) -> u8 {
     }
 }
 
-/// An answer as a result.
+/// Turns an answer into a `Result`.
 #[inline]
 fn result_of(answer: Answer) -> Result<usize, Error> {
     match answer.status {
@@ -92,7 +92,7 @@ pub fn decode(src: &[u8], dst: &mut [MaybeUninit<u8>], case: CheckCase) -> Resul
 mod tests {
     use super::*;
 
-    /// No slice is long enough for some of these.
+    /// Some statuses need a slice that is longer than any slice can be. So this test makes the answers itself.
     #[test]
     fn each_status_has_its_error() {
         let (number, byte) = (7, b'g');
@@ -110,7 +110,7 @@ mod tests {
         assert_eq!(told(4), Err(Error::Overflow));
     }
 
-    /// A random number below another.
+    /// A random number below `bound`.
     fn below(state: &mut u64, bound: usize) -> usize {
         *state ^= *state << 13;
         *state ^= *state >> 7;

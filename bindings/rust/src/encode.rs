@@ -7,7 +7,7 @@ use core::{slice, str};
 
 use crate::{calls, Error};
 
-/// A buffer as the destination of a call of [`calls`].
+/// Gives a buffer the type that the functions of [`calls`] take as a destination.
 ///
 /// # Safety
 ///

@@ -29,7 +29,7 @@ pub enum Error {
         /// The length of the output, in bytes.
         required: usize,
     },
-    /// The source of an array has not two digits for each of its bytes.
+    /// The source does not have exactly two digits for each byte of the array.
     #[non_exhaustive]
     LengthMismatch {
         /// The length of the array, in bytes.

@@ -8,15 +8,15 @@ use crate::encode::encode_into;
 /// The most bytes that are encoded at a time.
 const CHUNK: usize = 512;
 
-/// Copies of the usual fills. To write many characters at once is faster than one at a time.
+/// Copies of the usual fill characters. Writing many characters at once is faster than writing them one by one.
 const SPACES: &str = "                                ";
 const ZEROS: &str = "00000000000000000000000000000000";
 
 /// A view of bytes that prints them as digits: lowercase by `{}` and `{:x}`, uppercase by `{:X}`. It borrows
 /// the bytes, and allocates nothing.
 ///
-/// The flags are those of an integer: `#` for the prefix `0x`, `+`, a width with fill and alignment,
-/// `0`. Precision and `-` are not read.
+/// The flags are those of `{:x}` for an integer, and `{}` takes them too: `#` for the prefix `0x`, `+`, a width
+/// with fill and alignment, `0`. Precision and `-` are not read.
 ///
 /// ```
 /// use faster_hex::Hex;
@@ -43,7 +43,7 @@ impl<'a> Hex<'a> {
         Hex { bytes }
     }
 
-    /// Writes the text by the formatter's flags.
+    /// Writes the text according to the formatter's flags.
     #[inline]
     fn show(&self, f: &mut fmt::Formatter<'_>, upper: bool) -> fmt::Result {
         if f.width().is_some() {

@@ -2,9 +2,9 @@
 //! signatures.
 //!
 //! On x86-64 and aarch64 under Linux, FreeBSD, NetBSD and macOS, and on x86-64 under Windows with the GNU
-//! toolchain, assembly tests, encodes and decodes. It was compiled from sources that are proved for every
-//! input. The Rust code around it is tested, and not proved. On all other targets, as riscv64 and wasm32, the
-//! calls are plain Rust, which is tested, and **not proved**.
+//! toolchain, the code that tests, encodes and decodes is assembly. It was compiled from sources that are
+//! proved for every input. The Rust code around it is tested, and not proved. On all other targets, such as
+//! riscv64 and wasm32, the calls are plain Rust, which is tested, and **not proved**.
 //!
 //! ```
 //! use faster_hex::{hex_decode, hex_encode};
@@ -28,21 +28,22 @@
 //! | to print bytes as digits, with a width or `0x` | [`Hex`], by `{}`, `{:x}` or `{:X}` |
 //! | to test digits, without decoding them | [`hex_check`], [`hex_check_with_case`] |
 //! | digits in a new string (`alloc`) | `hex_string`, `hex_string_upper` |
-//! | digits after a string that you have (`alloc`) | `hex_append`, `hex_append_upper` |
+//! | digits at the end of a string that you have (`alloc`) | `hex_append`, `hex_append_upper` |
 //! | bytes in a new vector (`alloc`) | `hex_decode_vec`, `hex_decode_vec_with_case` |
 //! | a field of a `serde` type (`serde`) | the modules below |
 //!
-//! A call on digits takes both letter cases, mixed too. A call `_with_case` takes a [`CheckCase`], which can
-//! ask for one of them.
+//! A call that reads digits accepts lowercase and uppercase letters, also mixed. A call whose name ends with
+//! `_with_case` has a parameter [`CheckCase`], which can permit only one case.
 //!
 //! # What the calls do
 //!
-//! - Each byte becomes two digits, in the order of the bytes. Leading zeros stay: the digits are no number.
+//! - Each byte becomes two digits, in the order of the bytes. Leading zeros stay, because the digits
+//!   are not read as a number.
 //! - Decoding takes all of its source: an even number of digits. It refuses `0x`, white space, separators and
-//!   everything else that is not a digit. A test before it is not needed.
-//! - No bytes and no digits are valid.
+//!   everything else that is not a digit. You need not test the digits first.
+//! - An empty source is valid.
 //! - A refusal is an [`Error`]. If several things are wrong, the call names the first in the order that its
-//!   page lists. [`hex_check`] looks at the digits alone, so it accepts an odd number of them.
+//!   page lists. [`hex_check`] tests each byte, but not how many there are. So it accepts an odd number of digits.
 //!
 //! # Who owns what
 //!
@@ -52,7 +53,7 @@
 //!
 //! New strings and vectors are yours. Each takes one allocation, and none if it is empty.
 //! Appending keeps what the string has, grows it if needed, and returns the new part; to append often, reserve
-//! first. If memory runs out, the allocator decides, as it does for a `Vec`: there is no [`Error`] for that.
+//! first. If memory runs out, the same happens as for a `Vec`. There is no [`Error`] for that.
 //!
 //! # Features
 //!
@@ -78,11 +79,12 @@
 //! | `nopfx_uppercase` | none | uppercase | uppercase |
 //!
 //! - The prefix is `0x`, never `0X`, and a module with a prefix requires it.
-//! - `option_` before a name is for `Option`. `None` stays apart from no bytes. For a field that may be missing
-//!   add `default`: `#[serde(default, with = "faster_hex::option_nopfx_lowercase")]`.
+//! - `option_` before a name is for `Option`. `None` and an empty value are written differently. For a field that
+//!   may be missing add `default`: `#[serde(default, with = "faster_hex::option_nopfx_lowercase")]`.
 //! - `array` inside a module is for arrays: `#[serde(with = "faster_hex::nopfx_lowercase::array")]`.
-//! - Other fields are collected by `FromIterator<u8>`, as a `Vec<u8>` is. `deserialize_bounded` refuses a
-//!   longer value before it decodes. It bounds the bytes, not what the data format or your type allocates.
+//! - A field of any other type is collected by `FromIterator<u8>`, as a `Vec<u8>` is. `deserialize_bounded` has
+//!   a bound `MAX`. It refuses a value of more than `MAX` bytes before it decodes any. It bounds the bytes, not
+//!   what the data format or your type allocates.
 //!
 //! # Platforms
 //!
@@ -92,8 +94,10 @@
 //! | aarch64, Linux, FreeBSD, NetBSD, macOS | one build, with NEON |
 //! | all others, also bare metal and Miri | plain, safe Rust, which is not proved. A test compares it with the builds |
 //!
-//! On x86-64 the first call asks the processor which build it can run. The builds differ only in speed. The
-//! crate needs Rust 1.81 or later. A program may have several versions of it, and the library for C too.
+//! On x86-64 the first call asks the processor which build it can run. All builds return the
+//! same results, at different speeds. The build for x86-64 without a level looks bytes up in tables, so do not
+//! use it for keys. The crate needs Rust 1.81 or later. One program may contain several versions of this crate,
+//! and also the library for C.
 //!
 //! The README of the crate says how to use it in place of `faster-hex`, and what `faster-hex` has that this
 //! crate lacks.
