@@ -203,3 +203,7 @@ pub high_bits_are_zero : (x : ℕ) → x < 256 → (bit_and x 240 ≡ 0) ↔ (x 
 high_bits_are_zero x h =
     let same = agree_below_at (λ x. eqb (bit_and x 240) 0) (λ x. ltb x 16) 256 x refl h in
     (λ z. ltb-true x 16 (sym same ∙ rw z refl), λ lt. eqb-true _ _ (same ∙ lt-ltb x 16 lt))
+
+-- ---- what vector.rt promises, where it is an equation
+
+pub ruleset lanes = (differences, maxima, minima, zip2_splat)

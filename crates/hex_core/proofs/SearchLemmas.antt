@@ -35,16 +35,6 @@ test_from_none : (o : Option ℕ) → is_some o ≡ false → is_none o ≡ true
 test_from_none (Some x) e = cc
 test_from_none None e = refl
 
--- a valid range grows by a byte that has a value
-pub valid_more : (c : CheckCase) (s : List ℕ) (i : ℕ) → AllValid c s 0 i → IsSome (value c (slice_index s i)) → AllValid c s 0 (i + 1)
-valid_more c s i valid here k low lt =
-    elim (cases_lt k i) [
-      | inl below ↦ valid k low below
-      | inr top ↦
-          let at : i ≡ k = omega arith in
-          subst (λ n. IsSome (value c (slice_index s n))) at here
-    ]
-
 -- what a byte reads as, along equal policies and sources
 pub read_along : (c w : CheckCase) (s t : List ℕ) (i b : ℕ) (d : Option ℕ) → d ≡ value w b → w ≡ c → b ≡ slice_index t i → t ≡ s → d ≡ value c (slice_index s i)
 read_along c w s t i b d read p byte q =
