@@ -1,7 +1,7 @@
--- The first invalid byte, by ranges of which all bytes are valid.
-use Rattle.std.proofs.Common.{◌≡◌, ℕ, ◌+◌, ◌-◌, ◌*◌, ◌/◌, ◌<◌, ◌≤◌, Bool, true, false, inl, inr, List, length}
-use Rattle.std.proofs.Common.{slice_index, Option, Some, None, is_none, is_some, refl, sym, ◌∙◌, ap, subst, arith}
-use Rattle.std.specs.Prelude.{IsSome, IsTrue, slice_range, ◌↔◌}
+-- The first invalid byte, by ranges of which all bytes are valid, what a refusal names, and what a probe shows.
+use Rattle.std.proofs.Common.{◌≡◌, ℕ, ◌+◌, ◌-◌, ◌*◌, ◌/◌, ◌<◌, ◌≤◌, Bool, true, false, inl, inr, List, length, slice_index, Option}
+use Rattle.std.proofs.Common.{Some, None, is_none, is_some, refl, sym, ◌∙◌, ap, subst, arith}
+use Rattle.std.specs.Prelude.{IsSome, IsTrue, slice_range, ◌↔◌, option_map}
 use Rattle.std.proofs.lemmas.Bool.{cases_lt}
 use Rattle.std.proofs.lemmas.Bool.Decides.{nat_tests}
 use Rattle.std.proofs.lemmas.Grind.{common_steps}
@@ -11,6 +11,10 @@ use Rattle.hex_core.specs.Digit.{value}
 use Rattle.hex_core.specs.inside.Looks.{looks_behind}
 use Rattle.hex_core.proofs.PositionLemmas.{before_none, position_is, position_none}
 use Rattle.hex_core.specs.Search.{AllValid, first_invalid, steps_to, tested_blocks}
+use Rattle.hex_core.specs.declared.error.Error.TheVariants.{InvalidChar}
+use Rattle.hex_core.specs.Laws.{NamesFirstInvalid}
+use Rattle.hex_core.specs.Refusal.{first_invalid_char}
+use Rattle.hex_core.specs.Probe.{Adds, ProbeState, SameSource, ValidIn}
 
 -- the test of a byte that has no value
 abbrev pub lacks : CheckCase → ℕ → Bool
@@ -167,4 +171,36 @@ pub part_tested : (c : CheckCase) (s : List ℕ) (start end : ℕ) (t : Bool) �
 part_tested c s start end t inside test = (
   λ passed. valid_part c s start end inside (test.0 passed),
   λ valid. test.1 (part_valid c s start end inside valid),
+)
+
+-- ---- what a refusal that is an invalid character names
+
+-- the first bad character is the first invalid byte
+bad_char_is_first : (c : CheckCase) (s : List ℕ) (o : Option ℕ) → first_invalid c s ≡ o → (i b : ℕ)
+    → option_map (λ f. InvalidChar f (slice_index s f)) o ≡ Some (InvalidChar i b) → (first_invalid c s ≡ Some i) × (b ≡ slice_index s i) × (value c b ≡ None) × (i < length s)
+bad_char_is_first c s (Some f) e i b h =
+    let first = first_is_first c s f e in let none = first.1 in let same : f ≡ i = cc h in
+    (cc (e, h), cc h, cc (h, none), subst (λ i. i < length s) same first.0)
+bad_char_is_first c s None e i b h = absurd (cc h)
+
+pub invalid_char_names_first : NamesFirstInvalid first_invalid_char
+invalid_char_names_first c s i b h = bad_char_is_first c s (first_invalid c s) refl i b h
+
+-- ---- what a probe shows, along calls that leave its source, policy and block
+
+pub same_then : (a b c : ProbeState) → SameSource a b → SameSource b c → SameSource a c
+same_then a b c p q = (q.0 ∙ p.0, q.1 ∙ p.1, q.2 ∙ p.2)
+
+-- no steps, and some steps and then some more
+pub adds_none : (a : ProbeState) → Adds 0 0 a a
+adds_none a = (omega arith, omega arith, (refl, refl, refl))
+
+pub adds_then : (a b c : ProbeState) (m n k l looks tests : ℕ) → looks ≡ m + k → tests ≡ n + l → Adds m n a b → Adds k l b c → Adds looks tests a c
+adds_then a b c m n k l looks tests is_looks is_tests p q = (omega (arith, p.0, q.0), omega (arith, p.1, q.1), same_then a b c p.2 q.2)
+
+-- a range is valid in both, or in neither
+pub valid_same : (a b : ProbeState) (start end : ℕ) → SameSource a b → ValidIn b start end ↔ ValidIn a start end
+valid_same a b start end same = (
+  λ valid. subst (λ s. AllValid a.policy s start end) same.0 (subst (λ c. AllValid c b.source start end) same.1 valid),
+  λ valid. subst (λ s. AllValid b.policy s start end) (sym same.0) (subst (λ c. AllValid c a.source start end) (sym same.1) valid),
 )

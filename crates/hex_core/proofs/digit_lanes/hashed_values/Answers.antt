@@ -1,6 +1,6 @@
 use Rattle.std.proofs.Common.{arith}
 use Rattle.hex_core.specs.inside.Arithmetic.{wrapping_sub}
-use Rattle.hex_core.proofs.HashLemmas.{values_right}
+use Rattle.hex_core.proofs.ByteLemmas.{values_right}
 use Rattle.hex_core.proofs.LaneLemmas.{lane_below, zipped_map}
 use Rattle.hex_core.proofs.digit_lanes.hashed_values.Goals as goal
 

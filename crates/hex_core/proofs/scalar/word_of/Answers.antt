@@ -2,7 +2,7 @@
 use Rattle.std.proofs.Common.{◌≡◌, ℕ, ◌<◌, ◌+◌, ◌*◌, ◌/◌, length, get_or, arith}
 use Rattle.hex_core.proofs.SearchLemmas.{has_value}
 use Rattle.hex_core.proofs.TableLemmas.{pair_entries, value-entry}
-use Rattle.hex_core.proofs.WordLemmas.{length-bytes, word_more, word_small}
+use Rattle.hex_core.proofs.SpellsLemmas.{length-bytes, word_more, word_small}
 use Rattle.hex_core.proofs.scalar.word_of.Goals as goal
 use Rattle.hex_core.proofs.scalar.word_of.Goals.{then-high-via-then-high, then-high-via-else-high+then-low}
 

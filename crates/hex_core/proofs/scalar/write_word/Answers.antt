@@ -3,7 +3,7 @@ use Rattle.std.proofs.Math.ListN.{length-set, set}
 use Rattle.std.proofs.lemmas.List.{get_or-set_other, get_or-set_same}
 use borrow.Author.Count.{below_more}
 use Rattle.std.specs.Int.{byte_at}
-use Rattle.hex_core.proofs.WordLemmas.{are_bytes, byte_left}
+use Rattle.hex_core.proofs.SpellsLemmas.{are_bytes, byte_left}
 use Rattle.hex_core.proofs.scalar.write_word.Goals as goal
 
 pub bytes-preserved : goal.bytes-preserved

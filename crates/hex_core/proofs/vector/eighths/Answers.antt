@@ -1,6 +1,6 @@
 use Rattle.std.proofs.Common.{arith}
 use Rattle.std.proofs.lemmas.Simd.{shifts_fit_splat, zip2_splat}
-use Rattle.hex_core.proofs.ShiftLemmas.{eighths_fit}
+use Rattle.hex_core.proofs.PairLemmas.{eighths_fit}
 use Rattle.hex_core.proofs.vector.eighths.Goals as goal
 
 pub overflow_shr-result : goal.overflow_shr-result
