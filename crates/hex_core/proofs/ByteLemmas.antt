@@ -9,7 +9,7 @@ use Rattle.std.proofs.lemmas.Bool.Decides.{nat_tests}
 use Rattle.std.proofs.lemmas.List.{get_or-map, length-map}
 use Rattle.std.proofs.lemmas.Nat.{and_mask}
 use Rattle.std.proofs.lemmas.Nat.Bits.{bit_at-suc, bit_at_lowest, bit_at_ones}
-use Rattle.std.proofs.lemmas.Simd.{bit_mask_l, mask_l-lt}
+use Rattle.std.proofs.lemmas.Simd.{bit_mask_l, map-map, mask_l-lt, zip2-map}
 use lib.Lanes.{Each1, mask_l, zip2}
 use Rattle.hex_core.specs.declared.digit.CheckCase.{CheckCase}
 use Rattle.hex_core.specs.declared.digit.CheckCase.TheVariants as policy
@@ -66,19 +66,16 @@ maps_are_right policy.Upper = (refl, refl, refl, refl)
 
 -- ---- the range tests
 
--- where a byte's number passes exactly where the byte has a value, all lanes pass exactly where each byte has one
-valid_where : (f : CheckCase → ℕ → ℕ) (Q : ℕ → Type 0) (c : CheckCase) → ((b : ℕ) → b < 256 → Q (f c b) ↔ IsSome (value c b)) → (v r : List ℕ) (n : ℕ) → (length v ≡ n) × Each1 (Fits w8) v → r ≡ map (f c) v
-    → EachIndex r (λ i. Q (get_or r i 0)) ↔ AllValid c v 0 n
-valid_where f Q c test v r n fits is =
-    let all = passes_where (f c) Q (λ b. IsSome (value c b)) test v fits.1 is in
+-- all bytes pass for a reach below 6
+pub reach_valid : (c : CheckCase) (v r : List ℕ) (n : ℕ) → (length v ≡ n) × Each1 (Fits w8) v → r ≡ map (reach c) v → AreLow r ↔ AllValid c v 0 n
+reach_valid c v r n fits is =
+    let test : (b : ℕ) → b < 256 → (reach c b < 6) ↔ IsSome (value c b) = λ b h.
+    let same = agree_below_at (λ x. ltb (reach c x) 6) (has c) 256 b (maps_are_right c).0 h in
+    (λ lt. sym same ∙ lt-ltb (reach c b) 6 lt, λ s. ltb-true (reach c b) 6 (same ∙ s)) in
+    let all = passes_where (reach c) (λ x. x < 6) (λ b. IsSome (value c b)) test v fits.1 is in
     (λ passes k low lt. all.0 passes k (omega (arith, fits.0)), λ valid. all.1 (λ k h. valid k (omega arith) (omega (arith, fits.0))))
 
--- all bytes pass for a reach below 6, and for an excess of 0
-pub reach_valid : (c : CheckCase) (v r : List ℕ) (n : ℕ) → (length v ≡ n) × Each1 (Fits w8) v → r ≡ map (reach c) v → AreLow r ↔ AllValid c v 0 n
-reach_valid c = valid_where reach (λ x. x < 6) c (λ b h.
-    let same = agree_below_at (λ x. ltb (reach c x) 6) (has c) 256 b (maps_are_right c).0 h in
-    (λ lt. sym same ∙ lt-ltb (reach c b) 6 lt, λ s. ltb-true (reach c b) 6 (same ∙ s)))
-
+-- an excess is 0 for the same bytes
 excess_zero : (c : CheckCase) (b : ℕ) → b < 256 → eqb (excess c b) 0 ≡ has c b
 excess_zero c b h = agree_below_at (λ x. eqb (excess c x) 0) (has c) 256 b (maps_are_right c).1 h
 
@@ -201,3 +198,7 @@ checks_right c v slots {r} small same hashed is i h =
     let test = is_right (λ x k. ltb (hashed_check c x (hash x k)) 128) (λ x k. has c x) (all_right c).0 b s.0 (small i) s.1 in
     let q : ltb (get_or r i 0) 128 ≡ has c b = rw (zipped_at (hashed_check c) v slots i is h (omega arith), s.2) test in
     (λ lt. sym q ∙ lt-ltb (get_or r i 0) 128 lt, λ t. ltb-true (get_or r i 0) 128 (q ∙ t))
+
+-- ---- what digit_lanes.rt promises, where it is an equation
+
+pub ruleset bytes = (map-map, nibbles_values, saturated_nibbles, shuffled_text, zip2-map)

@@ -1,7 +1,8 @@
 //! Maps on vectors, which do the same in each lane. They say which bytes are valid digits, and they
 //! replace digits by their values and bytes by their digits.
+#![tactic(auto, using(crate::proofs::ByteLemmas::bytes))]
 
-ghost use Rattle.std.specs.Prelude.{◌≡◌, ◌↔◌, ℕ, ◌+◌, ◌≤◌, ◌<◌, EachIndex, IsTrue, is_some, length, map, slice_index};
+ghost use Rattle.std.specs.Prelude.{◌≡◌, ◌↔◌, ℕ, ◌+◌, ◌^◌, ◌≤◌, ◌<◌, EachIndex, IsTrue, is_some, length, map, slice_index};
 ghost use Rattle.hex_core.specs.declared.digit.CheckCase.{CheckCase};
 ghost use Rattle.std.specs.Simd.Lanes.{mask_l, put_chunk};
 ghost use Rattle.hex_core.specs.inside.Arithmetic.{AreLow, first_letter, fold_of, letter, reach};
@@ -68,7 +69,8 @@ pub fn reach<const N: usize>(v: Simd<u8, N>, case: CheckCase) -> Simd<u8, N>
 #[inline(always)]
 pub fn admitted<const N: usize>(v: Simd<u8, N>, case: CheckCase) -> u64
     requires { N ≤ 64 }
-    ensures { result ≡ mask_l (map (λ b. is_some (value case b)) v.entry) }
+    ensures mask { result ≡ mask_l (map (λ b. is_some (value case b)) v.entry) }
+    ensures below { result < 2 ^ N }
 {
     let digits = saturating_sub(wrapping_sub(v, b'0'), 9);
     let past = saturating_sub(letters(v, case), 5);
@@ -261,7 +263,6 @@ pub trait Validate<const N: usize> {
 pub struct Saturating;
 
 impl<const N: usize> Nibbles<N> for Saturating {
-    #[tactic(auto, using(crate::proofs::ByteLemmas::nibbles_values))]
     #[inline(always)]
     fn nibbles(v: Simd<u8, N>, case: CheckCase) -> Simd<u8, N>
         ensures { AreValues case v.entry result }

@@ -2,9 +2,9 @@
 //! number of lanes.
 #![tactic(auto, using(crate::proofs::LaneLemmas::lanes))]
 
-ghost use Rattle.std.specs.Prelude.{◌≡◌, ◌↔◌, ◌-◌, ◌/◌, ◌^◌, ◌≤◌, ◌<◌, ◌==◌, ◌*◌, ◌%◌, ◌++◌, IsTrue, max, min, map, bit_and, bit_or, bit_xor};
-ghost use Rattle.std.specs.Simd.Lanes.{Each1, mask_l, zip2};
-ghost use Rattle.hex_core.specs.inside.Arithmetic.{AreLow, AreUnsigned, AreZero, interleaved, packed, pair_byte, saturating_add, wrapping_sub};
+ghost use Rattle.std.specs.Prelude.{◌≡◌, ◌↔◌, ◌-◌, ◌/◌, ◌^◌, ◌≤◌, ◌<◌, ◌==◌, ◌*◌, ◌%◌, ◌++◌, IsTrue, max, min, map, bit_and, bit_or, bit_xor, ℕ, List, length};
+ghost use Rattle.std.specs.Simd.Lanes.{Each1, digits_l, mask_l, number_l, zip2};
+ghost use Rattle.hex_core.specs.inside.Arithmetic.{AreLow, AreUnsigned, AreZero, interleaved, packed, saturating_add, wrapping_sub};
 ghost use Rattle.hex_core.specs.inside.Hash.{average};
 ghost use Rattle.hex_core.specs.Lanes.{AreSmall};
 
@@ -152,7 +152,8 @@ fn factor(case: CheckCase) -> u16
 /// Returns the byte of each word of two nibbles. The low byte of the word is the high nibble.
 #[inline(always)]
 pub fn pair_bytes<const N: usize>(v: Simd<u16, N>) -> Simd<u8, N>
-    ensures { result ≡ map pair_byte v.entry }
+    ensures { (nibbles : List ℕ) → length nibbles ≡ 2 * N → AreSmall nibbles
+        → v.entry ≡ digits_l 65536 N (number_l 256 nibbles) → result ≡ packed nibbles }
 {
     ((v * Simd::splat(FACTOR)) >> Simd::splat(8)).cast::<u8>()
 }
