@@ -9,7 +9,7 @@ use Rattle.std.proofs.lemmas.Bool.Decides.{nat_tests}
 use Rattle.std.proofs.lemmas.List.{get_or-map, length-map}
 use Rattle.std.proofs.lemmas.Nat.{and_mask}
 use Rattle.std.proofs.lemmas.Nat.Bits.{bit_at-suc, bit_at_lowest, bit_at_ones}
-use Rattle.std.proofs.lemmas.Simd.{bit_mask_l, map-map, mask_l-lt, zip2-map}
+use Rattle.std.proofs.lemmas.Simd.{bit_mask_l, map-map, mask_l-lt, zip2-map, zip2_splat}
 use lib.Lanes.{Each1, mask_l, zip2}
 use Rattle.hex_core.specs.declared.digit.CheckCase.{CheckCase}
 use Rattle.hex_core.specs.declared.digit.CheckCase.TheVariants as policy
@@ -150,8 +150,8 @@ nibble_value None n e = tt
 pub nibbles_values : (c : CheckCase) (v r : List ℕ) → AreNibbles c v r → AreValues c v r
 nibbles_values c v r are i h = nibble_value (value c (get_or v i 0)) (get_or r i 0) (are i h)
 
-pub valid_values : (v r : List ℕ) → Each1 (Fits w8) v → r ≡ map valid_nibble v → (c : CheckCase) → AreValues c v r
-valid_values v r fits is c i h =
+pub valid_values : (c : CheckCase) (v r : List ℕ) → Each1 (Fits w8) v → r ≡ map valid_nibble v → AreValues c v r
+valid_values c v r fits is i h =
     let b = get_or v i 0 in
     let test = agree_below_at (λ x. value_test (value c x) (valid_nibble x)) always 256 b (maps_are_right c).3 (lane_below v fits i) in
     rw (mapped_at valid_nibble v i is h) (value_by (value c b) (valid_nibble b) test)
@@ -201,4 +201,4 @@ checks_right c v slots {r} small same hashed is i h =
 
 -- ---- what digit_lanes.rt promises, where it is an equation
 
-pub ruleset bytes = (map-map, nibbles_values, saturated_nibbles, shuffled_text, zip2-map)
+pub ruleset bytes = (map-map, nibbles_values, saturated_nibbles, shuffled_text, zip2-map, zip2_splat)

@@ -36,14 +36,6 @@ pub fn saturating_add<const N: usize>(v: Simd<u8, N>, by: u8) -> Simd<u8, N>
     v.simd_min(Simd::splat(255 - by)) + Simd::splat(by)
 }
 
-/// Sets these bits in each lane.
-#[inline(always)]
-pub fn or_splat<const N: usize>(v: Simd<u8, N>, bits: u8) -> Simd<u8, N>
-    ensures { result ≡ map (λ x. bit_or x bits) v.entry }
-{
-    v | Simd::splat(bits)
-}
-
 /// Clears all bits of each lane except those of `mask`.
 #[inline(always)]
 pub fn and_splat<const N: usize>(v: Simd<u8, N>, mask: u8) -> Simd<u8, N>
@@ -226,14 +218,6 @@ pub fn saturating_differences<const N: usize>(a: Simd<u8, N>, b: Simd<u8, N>) ->
     ensures { result ≡ zip2 (λ x y. x - y) a.entry b.entry }
 {
     a.saturating_sub(b)
-}
-
-/// Subtracts each lane of `b` from that of `a`, modulo 256.
-#[inline(always)]
-pub fn wrapping_differences<const N: usize>(a: Simd<u8, N>, b: Simd<u8, N>) -> Simd<u8, N>
-    ensures { result ≡ zip2 wrapping_sub a.entry b.entry }
-{
-    a - b
 }
 
 /// Returns the average of the two lanes at each index, rounded up.

@@ -7,4 +7,4 @@ use Rattle.hex_core.proofs.digit_lanes.hashed_values.Goals as goal
 pub returns : goal.returns
 returns g c case =
     values_right case c.args.v c.hashes.result (lane_below c.args.v c.fits-v.1) (omega (arith, c.fits-v.0)) c.hashes.ensures
-    (rw (c.wrapping_differences.ensures, c.shuffle-offsets.ensures) (zipped_map wrapping_sub _ c.args.v c.hashes.result))
+    (rw c.shuffle-offsets.ensures (zipped_map wrapping_sub _ c.args.v c.hashes.result))
