@@ -129,15 +129,16 @@ folds_to_none : (v : List ℕ) → AreZero v → fold_l bit_or 0 v ≡ 0
 folds_to_none [] none = refl
 folds_to_none (x ∷ v) none = rw (none 0 (omega arith)) (folds_to_none v (λ i h. none (suc i) (omega arith)))
 
-also_none : (x : ℕ) (v : List ℕ) → x ≡ 0 → AreZero v → AreZero (x ∷ v)
-also_none x v first none zero h = first
-also_none x v first none (suc i) h = none i (omega arith)
+-- one more lane with a property
+also : (P : ℕ → Type 0) (x : ℕ) (v : List ℕ) → P x → EachIndex v (λ i. P (get_or v i 0)) → EachIndex (x ∷ v) (λ i. P (get_or (x ∷ v) i 0))
+also P x v first rest zero h = first
+also P x v first rest (suc i) h = rest i (omega (arith, h))
 
 folds_from : (v : List ℕ) (a : ℕ) → fold_l bit_or a v ≡ 0 → (a ≡ 0) × AreZero v
 folds_from [] a e = (e, λ i h. omega arith)
 folds_from (x ∷ v) a e =
     let rest = folds_from v (bit_or a x) e in let both = (or_zero a x).0 rest.0 in
-    (both.0, also_none x v both.1 rest.1)
+    (both.0, also (λ a. a ≡ 0) x v both.1 rest.1)
 
 pub no_bit_set : (v : List ℕ) → IsTrue (eqb (fold_l bit_or 0 v) 0) ↔ AreZero v
 no_bit_set v = (λ t. (folds_from v 0 (eqb-true _ _ t)).1, λ none. rw (folds_to_none v none) refl)
@@ -145,10 +146,6 @@ no_bit_set v = (λ t. (folds_from v 0 (eqb-true _ _ t)).1, λ none. rw (folds_to
 -- the mask of the lanes that are 128 or more
 abbrev pub sign_mask : List ℕ → ℕ
 sign_mask v = mask_l (map (top 7) (zip2 (λ a b. cond (leb a b) 255 0) (replicate (length v) 128) v))
-
-also_below : (x : ℕ) (v : List ℕ) → x < 128 → EachIndex v (λ i. get_or v i 0 < 128) → EachIndex (x ∷ v) (λ i. get_or (x ∷ v) i 0 < 128)
-also_below x v lt rest zero h = lt
-also_below x v lt rest (suc i) h = rest i (omega (arith, h))
 
 -- it is empty exactly where each lane is below 128
 no_sign : (v : List ℕ) → (sign_mask v ≡ 0) ↔ EachIndex v (λ i. get_or v i 0 < 128)
@@ -159,7 +156,7 @@ no_sign (x ∷ v) = go (no_sign v) (leb 128 x) refl
         → (cond (top 7 (cond t 255 0)) 1 0 + 2 * sign_mask v ≡ 0) ↔ EachIndex (x ∷ v) (λ i. get_or (x ∷ v) i 0 < 128)
     go rest true e = (λ z. absurd (omega (arith, z)), λ all. absurd (omega (arith, leb-true 128 x e, all 0 (omega arith))))
     go rest false e = (
-      λ z. also_below x v (leb-false 128 x e) (rest.0 (omega (arith, z))),
+      λ z. also (λ a. a < 128) x v (leb-false 128 x e) (rest.0 (omega (arith, z))),
       λ all. let none = rest.1 (λ i h. all (suc i) (omega (arith, h))) in omega (arith, none),
     )
 

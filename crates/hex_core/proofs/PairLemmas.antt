@@ -127,20 +127,6 @@ pick_turns xs ys i (suc m) e h =
 pub in_turn : (n : ℕ) (xs ys : List ℕ) → length xs ≡ n → length ys ≡ n → pick_l 0 (xs ++ ys) (turns n 0 n) ≡ interleaved xs ys
 in_turn n xs ys p q = ap₂ (λ k m. pick_l 0 (xs ++ ys) (turns k 0 m)) (sym p) (sym p) ∙ pick_turns xs ys 0 (length xs) (p ∙ sym q) (omega arith)
 
--- the places from i on, and what is picked of them in two vectors: the first one
-abbrev pub places : ℕ → ℕ → List ℕ
-places i zero = []
-places i (suc m) = i ∷ places (suc i) m
-
-pick_places : (xs ys : List ℕ) (i m : ℕ) → i + m ≡ length xs → pick_l 0 (xs ++ ys) (places i m) ≡ drop i xs
-pick_places xs ys i zero e = sym (drop_all i xs (omega arith))
-pick_places xs ys i (suc m) e =
-    ap₂ (λ a r. a ∷ r) (get_or_append_left xs ys 0 i (omega arith)) (pick_places xs ys (suc i) m (omega arith))
-    ∙ sym (drop-cons xs i 0 (omega arith))
-
-pub all_picked : (n : ℕ) (xs ys : List ℕ) → length xs ≡ n → pick_l 0 (xs ++ ys) (places 0 n) ≡ xs
-all_picked n xs ys e = pick_places xs ys 0 n (omega (arith, e))
-
 -- ---- a shift of words of four bytes by three bits, seen in the bytes
 
 low_byte : (b rest : ℕ) → b < 256 → (b + 256 * rest) / 8 % 256 ≡ b / 8 + 32 * (rest % 8)

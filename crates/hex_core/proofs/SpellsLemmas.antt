@@ -46,12 +46,12 @@ front_spells c s t kept n twice inside same below =
 -- ---- a number that keeps the list
 
 -- a number of i bytes, and one more byte behind them: where they stand then, and how great it is; and its lowest bytes taken out
-record Step (i w b left : ℕ) : Type 0 where
-  shifted : i < 6 → byte_at (suc i) (256 * w + b) ≡ byte_at i w
-  small : w < 256 ^ i → (256 * w + b < 256 ^ (i + 1)) × (256 * w + b < 2 ^ 64)
-  taken : left ≡ w / 256 ^ i → (left % 256 ≡ byte_at i w) × (left / 256 ≡ w / 256 ^ (i + 1))
+pub record Step (i w b left : ℕ) : Type 0 where
+  pub shifted : i < 6 → byte_at (suc i) (256 * w + b) ≡ byte_at i w
+  pub small : w < 256 ^ i → (256 * w + b < 256 ^ (i + 1)) × (256 * w + b < 2 ^ 64)
+  pub taken : left ≡ w / 256 ^ i → (left % 256 ≡ byte_at i w) × (left / 256 ≡ w / 256 ^ (i + 1))
 
-step : (i w b left : ℕ) → i < 7 → b < 256 → Step i w b left
+pub step : (i w b left : ℕ) → i < 7 → b < 256 → Step i w b left
 step zero w b left lt h = record { shifted = λ few. omega arith; small = λ under. (omega arith, omega arith); taken = λ is. (omega arith, omega arith) }
 step (suc zero) w b left lt h = record { shifted = λ few. omega arith; small = λ under. (omega arith, omega arith); taken = λ is. (omega arith, omega arith) }
 step (suc (suc zero)) w b left lt h = record { shifted = λ few. omega arith; small = λ under. (omega arith, omega arith); taken = λ is. (omega arith, omega arith) }
@@ -84,17 +84,7 @@ word_more c table s i w v (first, second) few packed below =
     let remainder : v % 16 ≡ get_or table (get_or s (2 * i + 1) 0) 0 = omega (arith, first.1, second.1) in
     record { high = rw (is, quotient) first.0; low = rw (is, remainder) second.0 }))
 
--- how great it is
-pub word_small : (i w b : ℕ) → w < 256 ^ i → b < 256 → i < 7 → (256 * w + b < 256 ^ (i + 1)) × (256 * w + b < 2 ^ 64)
-word_small i w b small h few = (step i w b 0 few h).small small
-
--- ---- bytes taken out of it
-
--- the lowest byte of what is left, and what is left behind it
-pub byte_left : (i w left : ℕ) → i < 7 → left ≡ w / 256 ^ i → (left % 256 ≡ byte_at i w) × (left / 256 ≡ w / 256 ^ (i + 1))
-byte_left i w left few = (step i w 0 left few (omega arith)).taken
-
--- a list of them, from the end
+-- a list of its bytes, from the end
 pub are_bytes : (n w : ℕ) (bytes : List ℕ) → length bytes ≡ n → ((k : ℕ) → k < n → get_or bytes (n - 1 - k) 0 ≡ byte_at k w) → bytes ≡ bytes_high_first n w
 are_bytes zero w [] long each = refl
 are_bytes zero w (b ∷ bytes) long each = absurd (omega arith)
