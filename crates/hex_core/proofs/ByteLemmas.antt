@@ -127,16 +127,13 @@ value_small policy.Upper b v h = grind (arith, nat_tests)
 
 -- ---- the digits of a byte
 
-small_entry : (row : List ℕ) (a : ℕ) → a < 16 → entry row a ≡ get_or row a 0
-small_entry row a h = grind (arith, nat_tests)
-
 -- halves in turn, each looked up, are the text
 pub shuffled_text : (upper : Bool) (row v : List ℕ) → ((n : ℕ) → n < 16 → get_or row n 0 ≡ digit upper n) → Each1 (Fits w8) v
     → map (entry row) (interleaved (map (λ b. b / 16) v) (map (λ b. bit_and b 15) v)) ≡ text upper v
 shuffled_text upper row [] digits fits = refl
 shuffled_text upper row (b ∷ v) digits fits =
     let byte : b < 256 = fits.0.fits in
-    let read : (n : ℕ) → n < 16 → entry row n ≡ digit upper n = λ n small. small_entry row n small ∙ digits n small in
+    let read : (n : ℕ) → n < 16 → entry row n ≡ digit upper n = λ n small. grind (arith, nat_tests, digits n small) in
     ap₂ (λ a r. a ∷ r) (read (b / 16) (omega arith))
     (ap₂ (λ a r. a ∷ r) (ap (entry row) (and_mask b 4) ∙ read (b % 16) (omega arith)) (shuffled_text upper row v digits fits.1))
 

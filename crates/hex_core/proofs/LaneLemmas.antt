@@ -70,16 +70,13 @@ maxima [] (y ∷ ys) = refl
 maxima (x ∷ xs) [] = refl
 maxima (x ∷ xs) (y ∷ ys) = ap₂ (λ a r. a ∷ r) (picked x y _ _ _ (λ h. omega arith) (λ h. omega arith)) (maxima xs ys)
 
-one_difference : (x y : ℕ) → x < 256 → y < 256 → wrapping_sub (max x y) y ≡ x - y
-one_difference x y X Y = omega arith
-
 pub differences : (xs ys : List ℕ) → Each1 (Fits w8) xs → Each1 (Fits w8) ys → zip2 wrapping_sub (sel_l (map (top 7) (zip2 below xs ys)) ys xs) ys ≡ zip2 (λ x y. x - y) xs ys
 differences xs ys f g = ap (λ l. zip2 wrapping_sub l ys) (maxima xs ys) ∙ go xs ys f g
   where
     go : (xs ys : List ℕ) → Each1 (Fits w8) xs → Each1 (Fits w8) ys → zip2 wrapping_sub (zip2 max xs ys) ys ≡ zip2 (λ x y. x - y) xs ys
     go [] ys f g = refl
     go (x ∷ xs) [] f g = refl
-    go (x ∷ xs) (y ∷ ys) f g = ap₂ (λ a r. a ∷ r) (one_difference x y f.0.fits g.0.fits) (go xs ys f.1 g.1)
+    go (x ∷ xs) (y ∷ ys) f g = ap₂ (λ a r. a ∷ r) (omega (arith, f.0.fits, g.0.fits)) (go xs ys f.1 g.1)
 
 abbrev pub wrapping_add : ℕ → ℕ → ℕ
 wrapping_add a b = (a + b) % 2 ^ 8
@@ -95,13 +92,10 @@ sums v k n f h =
 abbrev word_add : ℕ → ℕ → ℕ
 word_add a b = (a + b) % 2 ^ 16
 
-one_average : (x y : ℕ) → x < 256 → y < 256 → word_add (word_add x y) 1 / 2 ^ 1 ≡ average x y
-one_average x y X Y = omega arith
-
 averaged : (xs ys : List ℕ) → Each1 (Fits w8) xs → Each1 (Fits w8) ys → map (λ s. word_add s 1 / 2 ^ 1) (zip2 word_add xs ys) ≡ zip2 average xs ys
 averaged [] ys f g = refl
 averaged (x ∷ xs) [] f g = refl
-averaged (x ∷ xs) (y ∷ ys) f g = ap₂ (λ a r. a ∷ r) (one_average x y f.0.fits g.0.fits) (averaged xs ys f.1 g.1)
+averaged (x ∷ xs) (y ∷ ys) f g = ap₂ (λ a r. a ∷ r) (omega (arith, f.0.fits, g.0.fits)) (averaged xs ys f.1 g.1)
 
 pub averages_of : (xs ys : List ℕ) (n : ℕ) → (length xs ≡ n) × Each1 (Fits w8) xs → (length ys ≡ n) × Each1 (Fits w8) ys
     → zip2 (λ a b. a / 2 ^ b) (zip2 word_add (zip2 word_add (map (λ x. x) xs) (map (λ x. x) ys)) (replicate n 1)) (replicate n 1) ≡ zip2 average xs ys

@@ -13,9 +13,6 @@ use Rattle.std.proofs.lemmas.Simd.{Each1-chunk, below_from_Fits, get_or-chunk, g
 use Rattle.std.proofs.lemmas.Bool.Decides.{nat_tests}
 use Rattle.hex_core.specs.inside.Hash.{neighbour_bits, shifted}
 
-one_pair : (a b : ℕ) → a < 16 → b < 16 → pair_byte (a + 256 * b) ≡ 16 * a + b
-one_pair a b A B = omega arith
-
 -- the bytes of words of nibbles, as std reads them out of one number
 pub packs_words : (n : ℕ) (v : List ℕ) → length v ≡ 2 * n → AreSmall v → map pair_byte (digits_l 65536 n (number_l 256 v)) ≡ packed v
 packs_words zero [] e small = refl
@@ -25,7 +22,7 @@ packs_words (suc n) (a ∷ []) e small = absurd (omega arith)
 packs_words (suc n) (a ∷ b ∷ v) e small =
     let A : a < 16 = small 0 (omega arith) in
     let B : b < 16 = small 1 (omega arith) in
-    ap₂ (λ x r. x ∷ r) (ap pair_byte (omega arith) ∙ one_pair a b A B)
+    ap₂ (λ x r. x ∷ r) (omega arith)
     (ap (λ k. map pair_byte (digits_l 65536 n k)) (omega arith) ∙ packs_words n v (omega arith) (λ i h. small (suc (suc i)) (omega arith)))
 
 -- every second lane
@@ -129,15 +126,12 @@ in_turn n xs ys p q = ap₂ (λ k m. pick_l 0 (xs ++ ys) (turns k 0 m)) (sym p) 
 
 -- ---- a shift of words of four bytes by three bits, seen in the bytes
 
-low_byte : (b rest : ℕ) → b < 256 → (b + 256 * rest) / 8 % 256 ≡ b / 8 + 32 * (rest % 8)
-low_byte b rest h = omega arith
-
 -- a byte of a shifted number is its own high bits, and above them the low bits of the next
 shifted_byte : (v : List ℕ) (m : ℕ) → Each1 (Fits w8) v → m < length v → number_l 256 v / 8 / 256 ^ m % 256 ≡ get_or v m 0 / 8 + 32 * (get_or v (suc m) 0 % 8)
 shifted_byte [] m f h = absurd (omega arith)
 shifted_byte (x ∷ []) zero f h = let X : x < 256 = f.0.fits in omega arith
 shifted_byte (x ∷ y ∷ v) zero f h =
-    omega arith ∙ low_byte x (y + 256 * number_l 256 v) f.0.fits ∙ ap (λ k. x / 8 + 32 * k) (omega arith)
+    let X : x < 256 = f.0.fits in omega arith
 shifted_byte (x ∷ v) (suc m) f h =
     let X : x < 256 = f.0.fits in
     let all = x + 256 * number_l 256 v in
