@@ -13,11 +13,11 @@ use Rattle.std.proofs.lemmas.Simd.{length-chunk, length-put_chunk}
 use lib.Lanes.{chunk, put_chunk}
 use std.Logic.{↔_trans}
 use Rattle.hex_core.specs.declared.digit.CheckCase.{CheckCase}
-use Rattle.hex_core.specs.inside.Arithmetic.{AreUnsigned, packed}
+use Rattle.hex_core.specs.inside.Arithmetic.{packed}
 use Rattle.hex_core.specs.inside.Blocks.{DecodesRange, NibblesFrom}
 use Rattle.hex_core.specs.Digit.{value}
 use Rattle.hex_core.specs.Search.{AllValid, covering_to, first_invalid}
-use Rattle.hex_core.specs.Lanes.{AreChecked, AreNibbles, AreSmall, AreValues, IsNibble}
+use Rattle.hex_core.specs.Lanes.{AreNibbles, AreSmall, AreValues, IsNibble}
 use Rattle.hex_core.specs.Text.{Spells}
 use Rattle.hex_core.proofs.ByteLemmas.{value_is, value_small}
 use Rattle.hex_core.proofs.PairLemmas.{length-packed, packed_at}
@@ -57,10 +57,6 @@ module _ (c : CheckCase) (s : List ℕ) where
         | inl before ↦ front k low before
         | inr past ↦ back k (omega arith) lt
       ]
-
-  -- one more block of w bytes behind the first i
-  pub valid_next : (i w : ℕ) → AllValid c s 0 (i * w) → AllValid c s (i * w) (i * w + w) → AllValid c s 0 ((i + 1) * w)
-  valid_next i w front block = subst (AllValid c s 0) (omega arith) (valid_over 0 (i * w) (i * w) (i * w + w) (omega arith) front block)
 
   -- a range of a source that has no invalid byte
   pub valid_range : (start end : ℕ) → end ≤ length s → first_invalid c s ≡ None → AllValid c s start end
@@ -133,13 +129,6 @@ pub valid_chunk : (c : CheckCase) (s : List ℕ) (at n end : ℕ) → end ≡ at
 valid_chunk c s at n end all inside = (
   λ valid k low lt. subst (λ b. IsSome (value c b)) (get_or-chunk at n s (k - at) 0 (omega arith) ∙ ap (slice_index s) (omega arith)) (valid (k - at) (omega arith) (omega arith)),
   λ valid k low lt. subst (λ b. IsSome (value c b)) (sym (get_or-chunk at n s k 0 lt)) (valid (at + k) (omega arith) (omega arith)),
-)
-
--- checks have no sign exactly where each byte has a value
-pub unsigned_valid : (c : CheckCase) (v r : List ℕ) (n : ℕ) → length v ≡ n → length r ≡ n → AreChecked c v r → AreUnsigned r ↔ AllValid c v 0 n
-unsigned_valid c v r n long wide are = (
-  λ all k low lt. (are k (omega arith)).0 (all k (omega arith)),
-  λ valid k h. (are k (omega arith)).1 (valid k (omega arith) (omega arith)),
 )
 
 -- nibbles of bytes that have values

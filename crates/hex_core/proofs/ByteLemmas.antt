@@ -1,7 +1,7 @@
--- What the arithmetic of the lanes makes of a byte, computed at all of them.
-use Rattle.std.proofs.Common.{◌≡◌, ℕ, zero, suc, ◌+◌, ◌-◌, ◌/◌, ◌%◌, ◌^◌, ◌<◌, ◌↔◌, Bool, true, false, cond, List, []}
-use Rattle.std.proofs.Common.{◌∷◌, map, length, get_or, Option, Some, None, is_some, bit_and, refl, sym, ap, ap₂, ◌∙◌}
-use Rattle.std.proofs.Common.{Fits, w8, eqb, leb, ltb, eqb-true, leb-true, ltb-true, lt-ltb, arith}
+-- What the arithmetic of the lanes makes of a byte, computed at all of them, and its hash beside each neighbour.
+use Rattle.std.proofs.Common.{◌≡◌, ℕ, zero, suc, ◌+◌, ◌-◌, ◌/◌, ◌%◌, ◌^◌, ◌<◌, ◌↔◌, Bool, true, false, cond, List, [], ◌∷◌, map}
+use Rattle.std.proofs.Common.{length, get_or, Option, Some, None, is_some, bit_and, refl, sym, ap, ap₂, ◌∙◌, Fits, w8, eqb, leb}
+use Rattle.std.proofs.Common.{ltb, eqb-true, leb-true, ltb-true, lt-ltb, arith, bit_xor}
 use Rattle.std.specs.Prelude.{EachIndex, IfSome, IsSome, min}
 use Rattle.std.specs.Int.{bit_at}
 use Rattle.std.proofs.lemmas.Bool.{agree_below, agree_below_at}
@@ -9,17 +9,18 @@ use Rattle.std.proofs.lemmas.Bool.Decides.{nat_tests}
 use Rattle.std.proofs.lemmas.List.{get_or-map, length-map}
 use Rattle.std.proofs.lemmas.Nat.{and_mask}
 use Rattle.std.proofs.lemmas.Nat.Bits.{bit_at-suc, bit_at_lowest, bit_at_ones}
-use Rattle.std.proofs.lemmas.Simd.{bit_mask_l, mask_l-lt}
-use lib.Lanes.{Each1, mask_l}
+use Rattle.std.proofs.lemmas.Simd.{bit_mask_l, map-map, mask_l-lt, zip2-map, zip2_splat}
+use lib.Lanes.{Each1, mask_l, zip2}
 use Rattle.hex_core.specs.declared.digit.CheckCase.{CheckCase}
 use Rattle.hex_core.specs.declared.digit.CheckCase.TheVariants as policy
 use Rattle.hex_core.specs.inside.Arithmetic.{AreLow, interleaved, letter, reach, saturating_add, valid_nibble, wrapping_sub}
 use Rattle.hex_core.specs.Digit.{digit, value}
 use Rattle.hex_core.specs.Search.{AllValid}
-use Rattle.hex_core.specs.Lanes.{Admits, AreNibbles, AreValues, IsNibble}
+use Rattle.hex_core.specs.Lanes.{Admits, AreNibbles, AreValues, IsNibble, AreChecked}
 use Rattle.hex_core.specs.inside.Tables.{entry}
 use Rattle.hex_core.specs.Text.{text}
-use Rattle.hex_core.proofs.LaneLemmas.{lane_below, mapped, mapped_at, maps_agree, passes_where}
+use Rattle.hex_core.proofs.LaneLemmas.{lane_below, mapped, mapped_at, maps_agree, passes_where, zipped_at}
+use Rattle.hex_core.specs.inside.Hash.{IsHash, check_row, hash, hashed_check, hashed_value}
 
 abbrev pub has : CheckCase → ℕ → Bool
 has c b = is_some (value c b)
@@ -65,19 +66,16 @@ maps_are_right policy.Upper = (refl, refl, refl, refl)
 
 -- ---- the range tests
 
--- where a byte's number passes exactly where the byte has a value, all lanes pass exactly where each byte has one
-valid_where : (f : CheckCase → ℕ → ℕ) (Q : ℕ → Type 0) (c : CheckCase) → ((b : ℕ) → b < 256 → Q (f c b) ↔ IsSome (value c b)) → (v r : List ℕ) (n : ℕ) → (length v ≡ n) × Each1 (Fits w8) v → r ≡ map (f c) v
-    → EachIndex r (λ i. Q (get_or r i 0)) ↔ AllValid c v 0 n
-valid_where f Q c test v r n fits is =
-    let all = passes_where (f c) Q (λ b. IsSome (value c b)) test v fits.1 is in
+-- all bytes pass for a reach below 6
+pub reach_valid : (c : CheckCase) (v r : List ℕ) (n : ℕ) → (length v ≡ n) × Each1 (Fits w8) v → r ≡ map (reach c) v → AreLow r ↔ AllValid c v 0 n
+reach_valid c v r n fits is =
+    let test : (b : ℕ) → b < 256 → (reach c b < 6) ↔ IsSome (value c b) = λ b h.
+    let same = agree_below_at (λ x. ltb (reach c x) 6) (has c) 256 b (maps_are_right c).0 h in
+    (λ lt. sym same ∙ lt-ltb (reach c b) 6 lt, λ s. ltb-true (reach c b) 6 (same ∙ s)) in
+    let all = passes_where (reach c) (λ x. x < 6) (λ b. IsSome (value c b)) test v fits.1 is in
     (λ passes k low lt. all.0 passes k (omega (arith, fits.0)), λ valid. all.1 (λ k h. valid k (omega arith) (omega (arith, fits.0))))
 
--- all bytes pass for a reach below 6, and for an excess of 0
-pub reach_valid : (c : CheckCase) (v r : List ℕ) (n : ℕ) → (length v ≡ n) × Each1 (Fits w8) v → r ≡ map (reach c) v → AreLow r ↔ AllValid c v 0 n
-reach_valid c = valid_where reach (λ x. x < 6) c (λ b h.
-    let same = agree_below_at (λ x. ltb (reach c x) 6) (has c) 256 b (maps_are_right c).0 h in
-    (λ lt. sym same ∙ lt-ltb (reach c b) 6 lt, λ s. ltb-true (reach c b) 6 (same ∙ s)))
-
+-- an excess is 0 for the same bytes
 excess_zero : (c : CheckCase) (b : ℕ) → b < 256 → eqb (excess c b) 0 ≡ has c b
 excess_zero c b h = agree_below_at (λ x. eqb (excess c x) 0) (has c) 256 b (maps_are_right c).1 h
 
@@ -129,16 +127,13 @@ value_small policy.Upper b v h = grind (arith, nat_tests)
 
 -- ---- the digits of a byte
 
-small_entry : (row : List ℕ) (a : ℕ) → a < 16 → entry row a ≡ get_or row a 0
-small_entry row a h = grind (arith, nat_tests)
-
 -- halves in turn, each looked up, are the text
 pub shuffled_text : (upper : Bool) (row v : List ℕ) → ((n : ℕ) → n < 16 → get_or row n 0 ≡ digit upper n) → Each1 (Fits w8) v
     → map (entry row) (interleaved (map (λ b. b / 16) v) (map (λ b. bit_and b 15) v)) ≡ text upper v
 shuffled_text upper row [] digits fits = refl
 shuffled_text upper row (b ∷ v) digits fits =
     let byte : b < 256 = fits.0.fits in
-    let read : (n : ℕ) → n < 16 → entry row n ≡ digit upper n = λ n small. small_entry row n small ∙ digits n small in
+    let read : (n : ℕ) → n < 16 → entry row n ≡ digit upper n = λ n small. grind (arith, nat_tests, digits n small) in
     ap₂ (λ a r. a ∷ r) (read (b / 16) (omega arith))
     (ap₂ (λ a r. a ∷ r) (ap (entry row) (and_mask b 4) ∙ read (b % 16) (omega arith)) (shuffled_text upper row v digits fits.1))
 
@@ -152,8 +147,8 @@ nibble_value None n e = tt
 pub nibbles_values : (c : CheckCase) (v r : List ℕ) → AreNibbles c v r → AreValues c v r
 nibbles_values c v r are i h = nibble_value (value c (get_or v i 0)) (get_or r i 0) (are i h)
 
-pub valid_values : (v r : List ℕ) → Each1 (Fits w8) v → r ≡ map valid_nibble v → (c : CheckCase) → AreValues c v r
-valid_values v r fits is c i h =
+pub valid_values : (c : CheckCase) (v r : List ℕ) → Each1 (Fits w8) v → r ≡ map valid_nibble v → AreValues c v r
+valid_values c v r fits is i h =
     let b = get_or v i 0 in
     let test = agree_below_at (λ x. value_test (value c x) (valid_nibble x)) always 256 b (maps_are_right c).3 (lane_below v fits i) in
     rw (mapped_at valid_nibble v i is h) (value_by (value c b) (valid_nibble b) test)
@@ -162,3 +157,45 @@ valid_values v r fits is c i h =
 pub value_is : (o : Option ℕ) (n : ℕ) → IsSome o → IfSome o (λ v. n ≡ v) → o ≡ Some n
 value_is (Some v) n s e = ap Some (sym e)
 value_is None n s e = cc
+
+-- ---- the hash of a byte
+
+-- ---- one byte
+
+-- check and value are right beside each neighbour
+all_right : (c : CheckCase)
+    → (agree_below (λ b. agree_below (λ k. ltb (hashed_check c b (hash b k)) 128) (λ _. has c b) 8) always 256 ≡ true)
+    × (agree_below (λ b. agree_below (λ k. value_test (value c b) (hashed_value b (hash b k))) always 8) always 256 ≡ true)
+all_right policy.None = (refl, refl)
+all_right policy.Lower = (refl, refl)
+all_right policy.Upper = (refl, refl)
+
+is_right : (f g : ℕ → ℕ → Bool) → agree_below (λ b. agree_below (f b) (g b) 8) always 256 ≡ true → (b k : ℕ) → b < 256 → k < 8 → f b k ≡ g b k
+is_right f g all b k B K = agree_below_at (f b) (g b) 8 k (agree_below_at (λ x. agree_below (f x) (g x) 8) always 256 b all B) K
+
+-- ---- the lanes
+
+-- the difference between two turns of the sign
+pub checks_are : (c : CheckCase) (v w : List ℕ)
+    → map (λ x. bit_xor x 128) (zip2 (λ x y. x - y) (map (λ x. bit_xor x 128) v) (map (entry (check_row c)) w)) ≡ zip2 (hashed_check c) v w
+checks_are c [] w = refl
+checks_are c (x ∷ v) [] = refl
+checks_are c (x ∷ v) (y ∷ w) = ap (λ l. hashed_check c x y ∷ l) (checks_are c v w)
+
+-- the values, and the checks, of the bytes of a block
+pub values_right : (c : CheckCase) (v slots : List ℕ) {r : List ℕ} → ((i : ℕ) → get_or v i 0 < 256) → length slots ≡ length v → EachIndex v (λ i. IsHash (get_or v i 0) (get_or slots i 0)) → r ≡ zip2 hashed_value v slots → AreValues c v r
+values_right c v slots small same hashed is i h =
+    let b = get_or v i 0 in let s = hashed i h in
+    let test = is_right (λ x k. value_test (value c x) (hashed_value x (hash x k))) (λ x k. true) (all_right c).1 b s.0 (small i) s.1 in
+    rw (zipped_at hashed_value v slots i is h (omega arith), s.2) (value_by (value c b) (hashed_value b (hash b s.0)) test)
+
+pub checks_right : (c : CheckCase) (v slots : List ℕ) {r : List ℕ} → ((i : ℕ) → get_or v i 0 < 256) → length slots ≡ length v → EachIndex v (λ i. IsHash (get_or v i 0) (get_or slots i 0)) → r ≡ zip2 (hashed_check c) v slots → AreChecked c v r
+checks_right c v slots {r} small same hashed is i h =
+    let b = get_or v i 0 in let s = hashed i h in
+    let test = is_right (λ x k. ltb (hashed_check c x (hash x k)) 128) (λ x k. has c x) (all_right c).0 b s.0 (small i) s.1 in
+    let q : ltb (get_or r i 0) 128 ≡ has c b = rw (zipped_at (hashed_check c) v slots i is h (omega arith), s.2) test in
+    (λ lt. sym q ∙ lt-ltb (get_or r i 0) 128 lt, λ t. ltb-true (get_or r i 0) 128 (q ∙ t))
+
+-- ---- what digit_lanes.rt promises, where it is an equation
+
+pub ruleset bytes = (map-map, nibbles_values, saturated_nibbles, shuffled_text, zip2-map, zip2_splat)

@@ -1,15 +1,12 @@
 -- Sources in a row: what they spell, and the first invalid byte of them all.
 use Rattle.std.proofs.Common.{◌≡◌, ◌∙◌, inl, inr, ℕ, ◌+◌, ◌-◌, ◌*◌, ◌/◌, List, ◌++◌, length, length-append, length-drop}
-use Rattle.std.proofs.Common.{get_or, Some, None, refl, sym, ap, arith}
+use Rattle.std.proofs.Common.{get_or, None, refl, sym, ap, arith}
 use Rattle.std.proofs.lemmas.Bool.{cases_lt}
 use Rattle.std.proofs.lemmas.List.{get_or-append_right, get_or-drop, get_or_append_left}
 use Rattle.hex_core.specs.declared.digit.CheckCase.{CheckCase}
-use Rattle.hex_core.specs.declared.error.Error.TheVariants.{InvalidChar}
 use Rattle.hex_core.specs.Laws.{FirstInvalidOfJoined, JoinedSourcesSpellJoined, PartsSpellParts}
-use Rattle.hex_core.specs.Refusal.{first_invalid_char}
 use Rattle.hex_core.specs.Search.{first_invalid}
 use Rattle.hex_core.proofs.PositionLemmas.{none_joined, position-joined}
-use Rattle.hex_core.proofs.RefusalLemmas.{invalid_char_names_first}
 use Rattle.hex_core.proofs.SearchLemmas.{lacks}
 use Rattle.hex_core.proofs.SpellsLemmas.{front_spells, spelled_along}
 
@@ -59,9 +56,3 @@ valid-both c a b first second = (none_joined (lacks c) a b).1 (first, second)
 
 pub valid-parts : (c : CheckCase) (a b : List ℕ) → first_invalid c (a ++ b) ≡ None → (first_invalid c a ≡ None) × (first_invalid c b ≡ None)
 valid-parts c a b = (none_joined (lacks c) a b).0
-
--- and moves behind digits that are valid
-pub invalid-behind : (c : CheckCase) (a b : List ℕ) (i byte : ℕ) → first_invalid c a ≡ None → first_invalid_char c b ≡ Some (InvalidChar i byte) → first_invalid_char c (a ++ b) ≡ Some (InvalidChar (length a + i) byte)
-invalid-behind c a b i byte none is =
-    let (at, read, _, _) = invalid_char_names_first c b i byte is in
-    rw (invalid-joined c a b, none, at, back_at a b i (length a + i) refl, read) refl

@@ -70,16 +70,13 @@ maxima [] (y ∷ ys) = refl
 maxima (x ∷ xs) [] = refl
 maxima (x ∷ xs) (y ∷ ys) = ap₂ (λ a r. a ∷ r) (picked x y _ _ _ (λ h. omega arith) (λ h. omega arith)) (maxima xs ys)
 
-one_difference : (x y : ℕ) → x < 256 → y < 256 → wrapping_sub (max x y) y ≡ x - y
-one_difference x y X Y = omega arith
-
 pub differences : (xs ys : List ℕ) → Each1 (Fits w8) xs → Each1 (Fits w8) ys → zip2 wrapping_sub (sel_l (map (top 7) (zip2 below xs ys)) ys xs) ys ≡ zip2 (λ x y. x - y) xs ys
 differences xs ys f g = ap (λ l. zip2 wrapping_sub l ys) (maxima xs ys) ∙ go xs ys f g
   where
     go : (xs ys : List ℕ) → Each1 (Fits w8) xs → Each1 (Fits w8) ys → zip2 wrapping_sub (zip2 max xs ys) ys ≡ zip2 (λ x y. x - y) xs ys
     go [] ys f g = refl
     go (x ∷ xs) [] f g = refl
-    go (x ∷ xs) (y ∷ ys) f g = ap₂ (λ a r. a ∷ r) (one_difference x y f.0.fits g.0.fits) (go xs ys f.1 g.1)
+    go (x ∷ xs) (y ∷ ys) f g = ap₂ (λ a r. a ∷ r) (omega (arith, f.0.fits, g.0.fits)) (go xs ys f.1 g.1)
 
 abbrev pub wrapping_add : ℕ → ℕ → ℕ
 wrapping_add a b = (a + b) % 2 ^ 8
@@ -95,13 +92,10 @@ sums v k n f h =
 abbrev word_add : ℕ → ℕ → ℕ
 word_add a b = (a + b) % 2 ^ 16
 
-one_average : (x y : ℕ) → x < 256 → y < 256 → word_add (word_add x y) 1 / 2 ^ 1 ≡ average x y
-one_average x y X Y = omega arith
-
 averaged : (xs ys : List ℕ) → Each1 (Fits w8) xs → Each1 (Fits w8) ys → map (λ s. word_add s 1 / 2 ^ 1) (zip2 word_add xs ys) ≡ zip2 average xs ys
 averaged [] ys f g = refl
 averaged (x ∷ xs) [] f g = refl
-averaged (x ∷ xs) (y ∷ ys) f g = ap₂ (λ a r. a ∷ r) (one_average x y f.0.fits g.0.fits) (averaged xs ys f.1 g.1)
+averaged (x ∷ xs) (y ∷ ys) f g = ap₂ (λ a r. a ∷ r) (omega (arith, f.0.fits, g.0.fits)) (averaged xs ys f.1 g.1)
 
 pub averages_of : (xs ys : List ℕ) (n : ℕ) → (length xs ≡ n) × Each1 (Fits w8) xs → (length ys ≡ n) × Each1 (Fits w8) ys
     → zip2 (λ a b. a / 2 ^ b) (zip2 word_add (zip2 word_add (map (λ x. x) xs) (map (λ x. x) ys)) (replicate n 1)) (replicate n 1) ≡ zip2 average xs ys
@@ -129,15 +123,16 @@ folds_to_none : (v : List ℕ) → AreZero v → fold_l bit_or 0 v ≡ 0
 folds_to_none [] none = refl
 folds_to_none (x ∷ v) none = rw (none 0 (omega arith)) (folds_to_none v (λ i h. none (suc i) (omega arith)))
 
-also_none : (x : ℕ) (v : List ℕ) → x ≡ 0 → AreZero v → AreZero (x ∷ v)
-also_none x v first none zero h = first
-also_none x v first none (suc i) h = none i (omega arith)
+-- one more lane with a property
+also : (P : ℕ → Type 0) (x : ℕ) (v : List ℕ) → P x → EachIndex v (λ i. P (get_or v i 0)) → EachIndex (x ∷ v) (λ i. P (get_or (x ∷ v) i 0))
+also P x v first rest zero h = first
+also P x v first rest (suc i) h = rest i (omega (arith, h))
 
 folds_from : (v : List ℕ) (a : ℕ) → fold_l bit_or a v ≡ 0 → (a ≡ 0) × AreZero v
 folds_from [] a e = (e, λ i h. omega arith)
 folds_from (x ∷ v) a e =
     let rest = folds_from v (bit_or a x) e in let both = (or_zero a x).0 rest.0 in
-    (both.0, also_none x v both.1 rest.1)
+    (both.0, also (λ a. a ≡ 0) x v both.1 rest.1)
 
 pub no_bit_set : (v : List ℕ) → IsTrue (eqb (fold_l bit_or 0 v) 0) ↔ AreZero v
 no_bit_set v = (λ t. (folds_from v 0 (eqb-true _ _ t)).1, λ none. rw (folds_to_none v none) refl)
@@ -145,10 +140,6 @@ no_bit_set v = (λ t. (folds_from v 0 (eqb-true _ _ t)).1, λ none. rw (folds_to
 -- the mask of the lanes that are 128 or more
 abbrev pub sign_mask : List ℕ → ℕ
 sign_mask v = mask_l (map (top 7) (zip2 (λ a b. cond (leb a b) 255 0) (replicate (length v) 128) v))
-
-also_below : (x : ℕ) (v : List ℕ) → x < 128 → EachIndex v (λ i. get_or v i 0 < 128) → EachIndex (x ∷ v) (λ i. get_or (x ∷ v) i 0 < 128)
-also_below x v lt rest zero h = lt
-also_below x v lt rest (suc i) h = rest i (omega (arith, h))
 
 -- it is empty exactly where each lane is below 128
 no_sign : (v : List ℕ) → (sign_mask v ≡ 0) ↔ EachIndex v (λ i. get_or v i 0 < 128)
@@ -159,7 +150,7 @@ no_sign (x ∷ v) = go (no_sign v) (leb 128 x) refl
         → (cond (top 7 (cond t 255 0)) 1 0 + 2 * sign_mask v ≡ 0) ↔ EachIndex (x ∷ v) (λ i. get_or (x ∷ v) i 0 < 128)
     go rest true e = (λ z. absurd (omega (arith, z)), λ all. absurd (omega (arith, leb-true 128 x e, all 0 (omega arith))))
     go rest false e = (
-      λ z. also_below x v (leb-false 128 x e) (rest.0 (omega (arith, z))),
+      λ z. also (λ a. a < 128) x v (leb-false 128 x e) (rest.0 (omega (arith, z))),
       λ all. let none = rest.1 (λ i h. all (suc i) (omega (arith, h))) in omega (arith, none),
     )
 
@@ -203,3 +194,7 @@ pub high_bits_are_zero : (x : ℕ) → x < 256 → (bit_and x 240 ≡ 0) ↔ (x 
 high_bits_are_zero x h =
     let same = agree_below_at (λ x. eqb (bit_and x 240) 0) (λ x. ltb x 16) 256 x refl h in
     (λ z. ltb-true x 16 (sym same ∙ rw z refl), λ lt. eqb-true _ _ (same ∙ lt-ltb x 16 lt))
+
+-- ---- what vector.rt promises, where it is an equation
+
+pub ruleset lanes = (differences, maxima, minima, zip2_splat)

@@ -1,15 +1,14 @@
 -- The laws of digits, texts and what they spell.
 use Rattle.std.proofs.Common.{◌≡◌, ℕ, List, ◌+◌, ◌*◌, ◌/◌, ◌%◌, ◌<◌, ◌==◌, length, map, get_or, Bool, true, false, None}
-use Rattle.std.proofs.Common.{Some, is_none, unwrap_or, refl, sym, subst, ◌∙◌, ap, arith, zero-add, inl, inr, [], ◌∷◌, Ordering}
+use Rattle.std.proofs.Common.{Some, is_none, unwrap_or, refl, sym, subst, ◌∙◌, ap, arith, zero-add, inl, inr, [], ◌∷◌}
 use Rattle.std.proofs.lemmas.Bool.{cases_lt}
 use Rattle.std.proofs.lemmas.Bool.Decides.{nat_tests}
 use Rattle.std.proofs.lemmas.Grind.{same_number_lists}
 use Rattle.std.proofs.lemmas.List.{get_or-map, length-map}
 use Rattle.std.proofs.lemmas.List.Elements.{All-get_or, All-from_get_or}
 use Rattle.std.proofs.lemmas.List.FromFn.{get_or-map-range_with_len, length-map-range_with_len}
-use Rattle.std.specs.Cmp.Lexicographic.{slice_cmp}
 use Rattle.std.specs.List.{range_with_len}
-use Rattle.std.specs.Ordering.{nat_cmp, ordering_then}
+use Rattle.std.specs.Ordering.{nat_cmp}
 use Rattle.std.specs.Char.{to_ascii_lowercase}
 use Rattle.std.specs.Str.{str_to_ascii_lowercase}
 use Rattle.hex_core.specs.declared.digit.CheckCase.{CheckCase}
@@ -17,7 +16,6 @@ use Rattle.hex_core.specs.declared.digit.CheckCase.TheVariants as policy
 use Rattle.hex_core.specs.Digit.{value, digit, strict}
 use Rattle.hex_core.specs.Text.{Spells, text}
 use Rattle.hex_core.specs.Search.{first_invalid}
-use Rattle.hex_core.specs.Refusal.{source_refusal}
 use Rattle.hex_core.specs.Laws.{AcceptsWhatSpells, AreBytes, DecodingInvertsEncoding, EitherCaseIsLowercased}
 use Rattle.hex_core.specs.Laws.{EncodingInvertsStrictDecoding, EncodingLowercases, SpellsBytes, StrictAcceptsTexts}
 use Rattle.hex_core.specs.Laws.{TextsCompareAsLists}
@@ -36,9 +34,6 @@ value-digit false n h = (grind (arith, nat_tests), grind (arith, nat_tests))
 digit-value : (upper : Bool) (b n : ℕ) → value (strict upper) b ≡ Some n → digit upper n ≡ b
 digit-value true b n h = grind (arith, nat_tests)
 digit-value false b n h = grind (arith, nat_tests)
-
-value-lowercased : (b : ℕ) → value policy.Lower (to_ascii_lowercase b) ≡ value policy.None b
-value-lowercased b = grind (arith, nat_tests)
 
 -- a byte is what its quotient and remainder make
 pub spells-bytes : SpellsBytes
@@ -80,14 +75,10 @@ pub valid-spelled : (c : CheckCase) (s bytes : List ℕ) → Spells c s bytes �
 valid-spelled c s bytes h = position_none (lacks c) s (λ k lt.
     by_pairs (λ n. lacks c (get_or s n 0) ≡ false) (length bytes) (λ i small. (ap is_none (h.each i small).high, ap is_none (h.each i small).low)) k (omega (arith, lt, h.twice)))
 
--- nothing is refused where the length is even and there is no invalid byte, and the other way round
-accepted-whole : (c : CheckCase) (s : List ℕ) → length s % 2 ≡ 0 → first_invalid c s ≡ None → source_refusal c s ≡ None
-accepted-whole c s even none = let test : (length s % 2 == 1) ≡ false = grind (arith, nat_tests) in rw (test, none) refl
-
 pub accepts_what_spells : AcceptsWhatSpells
 accepts_what_spells c s = (
   λ h. spelled c s (grind (arith, nat_tests, h)) (grind (arith, nat_tests, h)),
-  λ (bytes, h). let twice = h.twice in accepted-whole c s (omega arith) (valid-spelled c s bytes h),
+  λ (bytes, h). let twice = h.twice in let test : (length s % 2 == 1) ≡ false = grind (arith, nat_tests) in rw (test, valid-spelled c s bytes h) refl,
 )
 
 -- the text of bytes is read as those bytes, where each digit is read as its number
@@ -120,7 +111,7 @@ strict-accepts upper s = (
 )
 
 lowercased-at : (s : List ℕ) (k : ℕ) → k < length s → value policy.Lower (get_or (str_to_ascii_lowercase s) k 0) ≡ value policy.None (get_or s k 0)
-lowercased-at s k lt = rw (get_or-map to_ascii_lowercase s k 0 0 lt) (value-lowercased (get_or s k 0))
+lowercased-at s k lt = rw (get_or-map to_ascii_lowercase s k 0 0 lt) (grind (arith, nat_tests))
 
 spells-along : (c d : CheckCase) (s t bytes : List ℕ) → length t ≡ length s → ((k : ℕ) → k < length s → value d (get_or t k 0) ≡ value c (get_or s k 0)) → Spells c s bytes → Spells d t bytes
 spells-along c d s t bytes same read h =
@@ -145,17 +136,12 @@ digit-order : (upper : Bool) (m n : ℕ) → nat_cmp (digit upper m) (digit uppe
 digit-order true m n = grind (arith, nat_tests)
 digit-order false m n = grind (arith, nat_tests)
 
--- of two bytes the quotients decide, and else the remainders
-halves-order : (m n : ℕ) (rest : Ordering)
-    → ordering_then (nat_cmp (m / 16) (n / 16)) (ordering_then (nat_cmp (m % 16) (n % 16)) rest) ≡ ordering_then (nat_cmp m n) rest
-halves-order m n rest = grind (arith, nat_tests)
-
 pub text-order : TextsCompareAsLists
 text-order upper [] [] = refl
 text-order upper [] (n ∷ others) = refl
 text-order upper (m ∷ bytes) [] = refl
 text-order upper (m ∷ bytes) (n ∷ others) =
-    rw (digit-order upper (m / 16) (n / 16), digit-order upper (m % 16) (n % 16), text-order upper bytes others) (halves-order m n (slice_cmp nat_cmp bytes others))
+    rw (digit-order upper (m / 16) (n / 16), digit-order upper (m % 16) (n % 16), text-order upper bytes others) (grind (arith, nat_tests))
 
 -- ---- what laws.rt promises, where it is an equation
 

@@ -65,6 +65,6 @@ pub shuffle_repeated : (b n : ℕ) (row ks v js : List ℕ) → (length v ≡ n)
     → agree_below (λ i. eqb (get_or ks i 0) (i % 16)) always n ≡ true → swz_l w8 16 (pick_l 0 (row ++ row) ks) 0 js ≡ map (entry row) v
 shuffle_repeated b n row ks v js f is e long many all = shuffle_is b n row (pick_l 0 (row ++ row) ks) v js f is e (repeats row ks n long many all)
 
--- fewer lanes that fill a vector, of which the front is kept
-pub shuffle_front : (n : ℕ) (row v : List ℕ) → length v ≡ n → all_below n (range_with_len 0 n) ≡ true → map (entry row) (pick_l 0 (v ++ v) (range_with_len 0 n)) ≡ map (entry row) v
-shuffle_front n row v long inside = ap (map (entry row)) (pick_l_left 0 v v n (range_with_len 0 n) long (subst T (sym inside) tt) ∙ pick_l_whole 0 v n long)
+-- the lanes of the first of two vectors, picked in order
+pub front_picked : (n : ℕ) (v : List ℕ) → length v ≡ n → all_below n (range_with_len 0 n) ≡ true → pick_l 0 (v ++ v) (range_with_len 0 n) ≡ v
+front_picked n v long inside = pick_l_left 0 v v n (range_with_len 0 n) long (subst T (sym inside) tt) ∙ pick_l_whole 0 v n long

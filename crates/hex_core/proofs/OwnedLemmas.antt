@@ -26,9 +26,6 @@ module _ (old part : List ℕ) (at size : ℕ) (inside : at + size ≤ length ol
   in_part : (k : ℕ) → k < size → get_or (put_mid at (at + size - at) old part) (at + k) 0 ≡ get_or part k 0
   in_part k lt = grind (arith, common_steps)
 
-  kept_part : part ≡ slice_range old at (at + size) → (k : ℕ) → at ≤ k → k < at + size → get_or (put_mid at (at + size - at) old part) k 0 ≡ get_or old k 0
-  kept_part same k low lt = grind (arith, common_steps)
-
   behind_part : (k : ℕ) → at + size ≤ k → get_or (put_mid at (at + size - at) old part) k 0 ≡ get_or old k 0
   behind_part k le = grind (arith, common_steps)
 
@@ -51,13 +48,7 @@ part_decodes c s old part at size true twice inside long answer =
 part_decodes c s old part at size false twice inside long answer = (
   (λ t. cc, λ valid. absurd (answer.0 (part_valid c s (2 * at) (2 * (at + size)) (omega arith) (λ k low lt. valid k low (omega arith))))),
   tt,
-  same_number_lists _ old (grind (arith, common_steps)) (λ k lt. elim (cases_lt k at) [
-    | inl before ↦ before_part old part at size inside long k before
-    | inr low ↦ elim (cases_lt k (at + size)) [
-      | inl within ↦ kept_part old part at size inside long answer.1 k low within
-      | inr past ↦ behind_part old part at size inside long k past
-    ]
-  ]),
+  same_number_lists _ old (grind (arith, common_steps)) (λ k lt. grind (arith, common_steps, answer.1)),
 )
 
 -- ---- whole blocks

@@ -1,14 +1,17 @@
--- Neighbouring lanes: words of two, packed nibbles, and two vectors taken in turn.
-use Rattle.std.proofs.Common.{◌≡◌, ℕ, zero, suc, ◌+◌, ◌*◌, ◌/◌, ◌%◌, ◌<◌, List, [], ◌∷◌, ◌++◌, map, length, length-drop}
-use Rattle.std.proofs.Common.{get_or, take, drop, drop-cons, refl, sym, ap, ap₂, ◌∙◌, arith}
-use Rattle.std.proofs.lemmas.List.{drop_all, drop_at, get_or_append_left, get_or-append_right}
-use Rattle.std.proofs.lemmas.List.{length-take-le, take-append-drop, take_all, take_at}
-use lib.Lanes.{chunk, number_l, digits_l, pick_l}
+-- Neighbouring lanes: words of two, packed nibbles, two vectors taken in turn, and shifted words of four.
+use Rattle.std.proofs.Common.{◌≡◌, ℕ, zero, suc, ◌+◌, ◌*◌, ◌/◌, ◌%◌, ◌<◌, List, [], ◌∷◌, ◌++◌, map, length, length-drop, get_or}
+use Rattle.std.proofs.Common.{take, drop, drop-cons, refl, sym, ap, ap₂, ◌∙◌, arith, ◌^◌, ◌≤◌, inl, inr, Fits, w8, w32}
+use Rattle.std.proofs.lemmas.List.{drop_all, drop_at, get_or_append_left, get_or-append_right, length-take-le, take-append-drop}
+use Rattle.std.proofs.lemmas.List.{take_all, take_at, get_or_past}
+use lib.Lanes.{chunk, number_l, digits_l, pick_l, Each1}
 use Rattle.hex_core.specs.inside.Arithmetic.{interleaved, packed, pair_byte}
 use Rattle.hex_core.specs.Lanes.{ArePacked, AreSmall}
-
-one_pair : (a b : ℕ) → a < 16 → b < 16 → pair_byte (a + 256 * b) ≡ 16 * a + b
-one_pair a b A B = omega arith
+use Rattle.std.specs.Prelude.{EachIndex}
+use Rattle.std.proofs.Math.Nat.{div-div-eq-div-mul, pow-succ'}
+use Rattle.std.proofs.lemmas.Bool.{cases_lt}
+use Rattle.std.proofs.lemmas.Simd.{Each1-chunk, below_from_Fits, get_or-chunk, get_or_narrower, get_or_wider, length-chunk}
+use Rattle.std.proofs.lemmas.Bool.Decides.{nat_tests}
+use Rattle.hex_core.specs.inside.Hash.{neighbour_bits, shifted}
 
 -- the bytes of words of nibbles, as std reads them out of one number
 pub packs_words : (n : ℕ) (v : List ℕ) → length v ≡ 2 * n → AreSmall v → map pair_byte (digits_l 65536 n (number_l 256 v)) ≡ packed v
@@ -19,7 +22,7 @@ packs_words (suc n) (a ∷ []) e small = absurd (omega arith)
 packs_words (suc n) (a ∷ b ∷ v) e small =
     let A : a < 16 = small 0 (omega arith) in
     let B : b < 16 = small 1 (omega arith) in
-    ap₂ (λ x r. x ∷ r) (ap pair_byte (omega arith) ∙ one_pair a b A B)
+    ap₂ (λ x r. x ∷ r) (omega arith)
     (ap (λ k. map pair_byte (digits_l 65536 n k)) (omega arith) ∙ packs_words n v (omega arith) (λ i h. small (suc (suc i)) (omega arith)))
 
 -- every second lane
@@ -121,16 +124,52 @@ pick_turns xs ys i (suc m) e h =
 pub in_turn : (n : ℕ) (xs ys : List ℕ) → length xs ≡ n → length ys ≡ n → pick_l 0 (xs ++ ys) (turns n 0 n) ≡ interleaved xs ys
 in_turn n xs ys p q = ap₂ (λ k m. pick_l 0 (xs ++ ys) (turns k 0 m)) (sym p) (sym p) ∙ pick_turns xs ys 0 (length xs) (p ∙ sym q) (omega arith)
 
--- the places from i on, and what is picked of them in two vectors: the first one
-abbrev pub places : ℕ → ℕ → List ℕ
-places i zero = []
-places i (suc m) = i ∷ places (suc i) m
+-- ---- a shift of words of four bytes by three bits, seen in the bytes
 
-pick_places : (xs ys : List ℕ) (i m : ℕ) → i + m ≡ length xs → pick_l 0 (xs ++ ys) (places i m) ≡ drop i xs
-pick_places xs ys i zero e = sym (drop_all i xs (omega arith))
-pick_places xs ys i (suc m) e =
-    ap₂ (λ a r. a ∷ r) (get_or_append_left xs ys 0 i (omega arith)) (pick_places xs ys (suc i) m (omega arith))
-    ∙ sym (drop-cons xs i 0 (omega arith))
+-- a byte of a shifted number is its own high bits, and above them the low bits of the next
+shifted_byte : (v : List ℕ) (m : ℕ) → Each1 (Fits w8) v → m < length v → number_l 256 v / 8 / 256 ^ m % 256 ≡ get_or v m 0 / 8 + 32 * (get_or v (suc m) 0 % 8)
+shifted_byte [] m f h = absurd (omega arith)
+shifted_byte (x ∷ []) zero f h = let X : x < 256 = f.0.fits in omega arith
+shifted_byte (x ∷ y ∷ v) zero f h =
+    let X : x < 256 = f.0.fits in omega arith
+shifted_byte (x ∷ v) (suc m) f h =
+    let X : x < 256 = f.0.fits in
+    let all = x + 256 * number_l 256 v in
+    let rest : all / 8 / 256 ≡ number_l 256 v / 8 = omega arith in
+    ap (λ n. all / 8 / n % 256) (pow-succ' 256 m) ∙ ap (λ n. n % 256) (sym (div-div-eq-div-mul (all / 8) 256 (256 ^ m)) ∙ ap (λ n. n / 256 ^ m) rest)
+    ∙ shifted_byte v m f.1 (omega arith)
 
-pub all_picked : (n : ℕ) (xs ys : List ℕ) → length xs ≡ n → pick_l 0 (xs ++ ys) (places 0 n) ≡ xs
-all_picked n xs ys e = pick_places xs ys 0 n (omega (arith, e))
+pub eighths_fit : (w : List ℕ) → Each1 (Fits w32) w → Each1 (λ x. x < 2 ^ 32) (map (λ x. x / 8) w)
+eighths_fit [] f = tt
+eighths_fit (x ∷ w) f = (let h : x < 2 ^ 32 = f.0.fits in omega arith, eighths_fit w f.1)
+
+eighth_at : (w : List ℕ) (j : ℕ) → get_or (map (λ x. x / 8) w) j 0 ≡ get_or w j 0 / 8
+eighth_at [] j = refl
+eighth_at (x ∷ w) zero = refl
+eighth_at (x ∷ w) (suc j) = eighth_at w j
+
+-- a lane that is not its word's last, and one that is
+inner : (v : List ℕ) (i : ℕ) → i % 4 < 3 → get_or v (i + 1) 0 % 8 ≡ neighbour_bits v i
+inner v i h = grind (arith, nat_tests)
+
+last : (v : List ℕ) (i : ℕ) → 3 ≤ i % 4 → 0 ≡ neighbour_bits v i
+last v i h = grind (arith, nat_tests)
+
+-- the bytes of v are read as words, and the bytes of their eighths e are written
+pub shifted_lane : (v e : List ℕ) (n : ℕ) → (length v ≡ 4 * n) × Each1 (Fits w8) v → e ≡ map (λ x. x / 8) (digits_l 4294967296 n (number_l 256 v)) → Each1 (λ x. x < 2 ^ 32) e
+    → EachIndex v (λ i. get_or (digits_l 256 (4 * n) (number_l 4294967296 e)) i 0 ≡ shifted v i)
+shifted_lane v e n fits is below i h =
+    let words = digits_l 4294967296 n (number_l 256 v) in
+    let bytes = digits_l 256 (4 * n) (number_l 4294967296 e) in
+    let j = i / 4 in let m = i % 4 in let part = chunk (4 * j) 4 v in
+    let lt : j < n = omega (arith, h, fits.0) in
+    let place : 4 * j + m ≡ i = omega arith in
+    let long : length part ≡ 4 = length-chunk (4 * j) 4 v (omega (arith, fits.0)) in
+    let word : get_or words j 0 ≡ number_l 256 part = get_or_wider 256 4 4294967296 n v j refl (below_from_Fits w8 v fits.1) lt in
+    let next : get_or part (suc m) 0 % 8 ≡ neighbour_bits v i = elim (cases_lt m 3) [
+      | inl low ↦ ap (λ x. x % 8) (get_or-chunk (4 * j) 4 v (suc m) 0 (omega arith) ∙ ap (λ k. get_or v k 0) (omega arith)) ∙ inner v i low
+      | inr high ↦ ap (λ x. x % 8) (get_or_past part (suc m) 0 (omega arith)) ∙ last v i high
+    ] in
+    ap (λ x. get_or bytes x 0) (sym place) ∙ get_or_narrower 4294967296 4 256 (4 * n) _ j m refl below (omega arith) (omega arith)
+    ∙ ap (λ x. x / 256 ^ m % 256) (ap (λ l. get_or l j 0) is ∙ eighth_at words j ∙ ap (λ x. x / 8) word) ∙ shifted_byte part m (Each1-chunk (Fits w8) (4 * j) 4 v fits.1) (omega arith)
+    ∙ ap₂ (λ a b. a / 8 + 32 * b) (get_or-chunk (4 * j) 4 v m 0 (omega arith) ∙ ap (λ k. get_or v k 0) place) next

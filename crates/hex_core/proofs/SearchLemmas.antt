@@ -1,7 +1,7 @@
--- The first invalid byte, by ranges of which all bytes are valid.
-use Rattle.std.proofs.Common.{◌≡◌, ℕ, ◌+◌, ◌-◌, ◌*◌, ◌/◌, ◌<◌, ◌≤◌, Bool, true, false, inl, inr, List, length}
-use Rattle.std.proofs.Common.{slice_index, Option, Some, None, is_none, is_some, refl, sym, ◌∙◌, ap, subst, arith}
-use Rattle.std.specs.Prelude.{IsSome, IsTrue, slice_range, ◌↔◌}
+-- The first invalid byte, by ranges of which all bytes are valid, what a refusal names, and what a probe shows.
+use Rattle.std.proofs.Common.{◌≡◌, ℕ, ◌+◌, ◌-◌, ◌*◌, ◌/◌, ◌<◌, ◌≤◌, Bool, true, false, inl, inr, List, length, slice_index, Option}
+use Rattle.std.proofs.Common.{Some, None, is_none, is_some, refl, sym, ◌∙◌, ap, subst, arith}
+use Rattle.std.specs.Prelude.{IsSome, IsTrue, slice_range, ◌↔◌, option_map}
 use Rattle.std.proofs.lemmas.Bool.{cases_lt}
 use Rattle.std.proofs.lemmas.Bool.Decides.{nat_tests}
 use Rattle.std.proofs.lemmas.Grind.{common_steps}
@@ -11,6 +11,10 @@ use Rattle.hex_core.specs.Digit.{value}
 use Rattle.hex_core.specs.inside.Looks.{looks_behind}
 use Rattle.hex_core.proofs.PositionLemmas.{before_none, position_is, position_none}
 use Rattle.hex_core.specs.Search.{AllValid, first_invalid, steps_to, tested_blocks}
+use Rattle.hex_core.specs.declared.error.Error.TheVariants.{InvalidChar}
+use Rattle.hex_core.specs.Laws.{NamesFirstInvalid}
+use Rattle.hex_core.specs.Refusal.{first_invalid_char}
+use Rattle.hex_core.specs.Probe.{Adds, ProbeState, SameSource, ValidIn}
 
 -- the test of a byte that has no value
 abbrev pub lacks : CheckCase → ℕ → Bool
@@ -20,30 +24,15 @@ lacks c b = is_none (value c b)
 pub has_value : (c : CheckCase) (s : List ℕ) (i : ℕ) → first_invalid c s ≡ None → i < length s → lacks c (slice_index s i) ≡ false
 has_value c s i none h = before_none (lacks c) s none i h
 
--- a value is there where the test for none fails
-some_from_test : (o : Option ℕ) → is_none o ≡ false → IsSome o
-some_from_test (Some x) e = refl
-some_from_test None e = cc
+-- the test for none fails where a value is there, and passes where none is
+record Tests (o : Option ℕ) : Type 0 where
+  fails : (is_none o ≡ false) ↔ IsSome o
+  passes : is_some o ≡ false → is_none o ≡ true
+  absent : is_none o ≡ true → o ≡ None
 
--- and the test fails where a value is there
-test_from_some : (o : Option ℕ) → IsSome o → is_none o ≡ false
-test_from_some (Some x) h = refl
-test_from_some None h = cc
-
--- the test for none passes where a value is not there
-test_from_none : (o : Option ℕ) → is_some o ≡ false → is_none o ≡ true
-test_from_none (Some x) e = cc
-test_from_none None e = refl
-
--- a valid range grows by a byte that has a value
-pub valid_more : (c : CheckCase) (s : List ℕ) (i : ℕ) → AllValid c s 0 i → IsSome (value c (slice_index s i)) → AllValid c s 0 (i + 1)
-valid_more c s i valid here k low lt =
-    elim (cases_lt k i) [
-      | inl below ↦ valid k low below
-      | inr top ↦
-          let at : i ≡ k = omega arith in
-          subst (λ n. IsSome (value c (slice_index s n))) at here
-    ]
+tests : (o : Option ℕ) → Tests o
+tests (Some x) = record { fails = (λ e. refl, λ e. refl); passes = λ e. cc; absent = λ e. cc }
+tests None = record { fails = (λ e. cc, λ e. cc); passes = λ e. refl; absent = λ e. refl }
 
 -- what a byte reads as, along equal policies and sources
 pub read_along : (c w : CheckCase) (s t : List ℕ) (i b : ℕ) (d : Option ℕ) → d ≡ value w b → w ≡ c → b ≡ slice_index t i → t ≡ s → d ≡ value c (slice_index s i)
@@ -53,28 +42,28 @@ read_along c w s t i b d read p byte q =
 -- the invalid byte is the place behind a valid range, if its byte has no value
 pub first_invalid_is : (c : CheckCase) (s : List ℕ) (f : ℕ) → f < length s → AllValid c s 0 f → is_some (value c (slice_index s f)) ≡ false → first_invalid c s ≡ Some f
 first_invalid_is c s f inside valid here =
-    position_is (lacks c) s f inside (λ k lt. test_from_some (value c (slice_index s k)) (valid k (omega arith) lt)) (test_from_none (value c (slice_index s f)) here)
+    position_is (lacks c) s f inside (λ k lt. (tests (value c (slice_index s k))).fails.1 (valid k (omega arith) lt)) ((tests (value c (slice_index s f))).passes here)
 
 -- there is none where the whole source is valid
 pub first_invalid_none : (c : CheckCase) (s : List ℕ) → AllValid c s 0 (length s) → first_invalid c s ≡ None
 first_invalid_none c s valid =
-    position_none (lacks c) s (λ k lt. test_from_some (value c (slice_index s k)) (valid k (omega arith) lt))
+    position_none (lacks c) s (λ k lt. (tests (value c (slice_index s k))).fails.1 (valid k (omega arith) lt))
 
 -- the whole source is valid where there is none
 pub none_valid : (c : CheckCase) (s : List ℕ) → first_invalid c s ≡ None → AllValid c s 0 (length s)
-none_valid c s e k low lt = some_from_test (value c (slice_index s k)) (has_value c s k e lt)
+none_valid c s e k low lt = (tests (value c (slice_index s k))).fails.0 (has_value c s k e lt)
 
 -- all that is before the invalid byte is valid
 pub valid_before : (c : CheckCase) (s : List ℕ) (f : ℕ) → first_invalid c s ≡ Some f → AllValid c s 0 f
 valid_before c s f e k low lt =
-    some_from_test (value c (slice_index s k)) ((position-Some (lacks c) s f 0 e).2 k lt)
+    (tests (value c (slice_index s k))).fails.0 ((position-Some (lacks c) s f 0 e).2 k lt)
 
 -- a valid range that begins before the invalid byte, or at it, ends no later than it
 pub valid_misses : (c : CheckCase) (s : List ℕ) (f start end : ℕ) → first_invalid c s ≡ Some f → AllValid c s start end → start ≤ f → end ≤ f
 valid_misses c s f start end e valid low =
     elim (cases_lt f end) [
       | inl lt ↦
-          let has = test_from_some (value c (slice_index s f)) (valid f low lt) in
+          let has = (tests (value c (slice_index s f))).fails.1 (valid f low lt) in
           let lacks = (position-Some (lacks c) s f 0 e).1 in
           absurd (cc (has, lacks))
       | inr past ↦ past
@@ -149,20 +138,13 @@ looks_ended s start None is from = omega (arith, tests_within (length s))
 
 -- a place is the first invalid byte exactly where it is in the source, has no value, and all before
 -- it have one
-none_from_test : (o : Option ℕ) → is_none o ≡ true → o ≡ None
-none_from_test (Some x) e = cc
-none_from_test None e = refl
-
-pub test_from_lack : (o : Option ℕ) → o ≡ None → is_some o ≡ false
-test_from_lack o e = rw e refl
-
 pub first_is_first : (c : CheckCase) (s : List ℕ) (f : ℕ) → first_invalid c s ≡ Some f → (f < length s) × (value c (slice_index s f) ≡ None) × AllValid c s 0 f
 first_is_first c s f e =
     let found = position-Some (lacks c) s f 0 e in
-    (found.0, none_from_test (value c (slice_index s f)) found.1, valid_before c s f e)
+    (found.0, (tests (value c (slice_index s f))).absent found.1, valid_before c s f e)
 
 pub exactly_first : (c : CheckCase) (s : List ℕ) (f : ℕ) → (first_invalid c s ≡ Some f) ↔ ((f < length s) × (value c (slice_index s f) ≡ None) × AllValid c s 0 f)
-exactly_first c s f = (first_is_first c s f, λ (inside, here, before). first_invalid_is c s f inside before (test_from_lack (value c (slice_index s f)) here))
+exactly_first c s f = (first_is_first c s f, λ (inside, here, before). first_invalid_is c s f inside before (rw here refl))
 
 -- there is none exactly where the whole source is valid
 pub none_is_all_valid : (c : CheckCase) (s : List ℕ) → (first_invalid c s ≡ None) ↔ AllValid c s 0 (length s)
@@ -177,4 +159,36 @@ pub part_tested : (c : CheckCase) (s : List ℕ) (start end : ℕ) (t : Bool) �
 part_tested c s start end t inside test = (
   λ passed. valid_part c s start end inside (test.0 passed),
   λ valid. test.1 (part_valid c s start end inside valid),
+)
+
+-- ---- what a refusal that is an invalid character names
+
+-- the first bad character is the first invalid byte
+bad_char_is_first : (c : CheckCase) (s : List ℕ) (o : Option ℕ) → first_invalid c s ≡ o → (i b : ℕ)
+    → option_map (λ f. InvalidChar f (slice_index s f)) o ≡ Some (InvalidChar i b) → (first_invalid c s ≡ Some i) × (b ≡ slice_index s i) × (value c b ≡ None) × (i < length s)
+bad_char_is_first c s (Some f) e i b h =
+    let first = first_is_first c s f e in let none = first.1 in let same : f ≡ i = cc h in
+    (cc (e, h), cc h, cc (h, none), subst (λ i. i < length s) same first.0)
+bad_char_is_first c s None e i b h = absurd (cc h)
+
+pub invalid_char_names_first : NamesFirstInvalid first_invalid_char
+invalid_char_names_first c s i b h = bad_char_is_first c s (first_invalid c s) refl i b h
+
+-- ---- what a probe shows, along calls that leave its source, policy and block
+
+pub same_then : (a b c : ProbeState) → SameSource a b → SameSource b c → SameSource a c
+same_then a b c p q = (q.0 ∙ p.0, q.1 ∙ p.1, q.2 ∙ p.2)
+
+-- no steps, and some steps and then some more
+pub adds_none : (a : ProbeState) → Adds 0 0 a a
+adds_none a = (omega arith, omega arith, (refl, refl, refl))
+
+pub adds_then : (a b c : ProbeState) (m n k l looks tests : ℕ) → looks ≡ m + k → tests ≡ n + l → Adds m n a b → Adds k l b c → Adds looks tests a c
+adds_then a b c m n k l looks tests is_looks is_tests p q = (omega (arith, p.0, q.0), omega (arith, p.1, q.1), same_then a b c p.2 q.2)
+
+-- a range is valid in both, or in neither
+pub valid_same : (a b : ProbeState) (start end : ℕ) → SameSource a b → ValidIn b start end ↔ ValidIn a start end
+valid_same a b start end same = (
+  λ valid. subst (λ s. AllValid a.policy s start end) same.0 (subst (λ c. AllValid c b.source start end) same.1 valid),
+  λ valid. subst (λ s. AllValid b.policy s start end) (sym same.0) (subst (λ c. AllValid c a.source start end) (sym same.1) valid),
 )

@@ -1,7 +1,8 @@
 //! Maps on vectors, which do the same in each lane. They say which bytes are valid digits, and they
 //! replace digits by their values and bytes by their digits.
+#![tactic(auto, using(crate::proofs::ByteLemmas::bytes))]
 
-ghost use Rattle.std.specs.Prelude.{◌≡◌, ◌↔◌, ℕ, ◌+◌, ◌≤◌, ◌<◌, EachIndex, IsTrue, is_some, length, map, slice_index};
+ghost use Rattle.std.specs.Prelude.{◌≡◌, ◌↔◌, ℕ, ◌+◌, ◌^◌, ◌≤◌, ◌<◌, EachIndex, IsTrue, is_some, length, map, slice_index};
 ghost use Rattle.hex_core.specs.declared.digit.CheckCase.{CheckCase};
 ghost use Rattle.std.specs.Simd.Lanes.{mask_l, put_chunk};
 ghost use Rattle.hex_core.specs.inside.Arithmetic.{AreLow, first_letter, fold_of, letter, reach};
@@ -14,9 +15,8 @@ ghost use Rattle.hex_core.specs.Text.{text};
 use crate::digit::CheckCase;
 use crate::lanes::{admitted_16, nibbles_hashed_32, nibbles_hashed_64};
 use crate::vector::{
-    and_splat, both_nibbles, has_no_sign, high_bits, min, or_splat, rounding_averages,
-    saturating_add, saturating_differences, saturating_sub, sign_flipped, wrapping_differences,
-    wrapping_sub, zero_bits,
+    and_splat, both_nibbles, has_no_sign, high_bits, min, rounding_averages, saturating_add,
+    saturating_differences, saturating_sub, sign_flipped, wrapping_sub, zero_bits,
 };
 use crate::widths::{Lanes, Shift, Shuffle, Unpack};
 use std::simd::prelude::*;
@@ -49,7 +49,7 @@ fn first_letter(case: CheckCase) -> u8
 fn letters<const N: usize>(v: Simd<u8, N>, case: CheckCase) -> Simd<u8, N>
     ensures { result ≡ map (letter case) v.entry }
 {
-    wrapping_sub(or_splat(v, fold_of(case)), first_letter(case))
+    wrapping_sub(v | Simd::splat(fold_of(case)), first_letter(case))
 }
 
 /// Returns how far each lane is past the digit 4 or past the first letter, whichever is less. The
@@ -68,7 +68,8 @@ pub fn reach<const N: usize>(v: Simd<u8, N>, case: CheckCase) -> Simd<u8, N>
 #[inline(always)]
 pub fn admitted<const N: usize>(v: Simd<u8, N>, case: CheckCase) -> u64
     requires { N ≤ 64 }
-    ensures { result ≡ mask_l (map (λ b. is_some (value case b)) v.entry) }
+    ensures mask { result ≡ mask_l (map (λ b. is_some (value case b)) v.entry) }
+    ensures below { result < 2 ^ N }
 {
     let digits = saturating_sub(wrapping_sub(v, b'0'), 9);
     let past = saturating_sub(letters(v, case), 5);
@@ -141,7 +142,7 @@ where
     ensures { (case : CheckCase) → AreValues case v.entry result }
 {
     let offsets = Lanes::shuffle(u8x16::from_array(VALUE_ROW), hashes(v));
-    wrapping_differences(v, offsets)
+    v - offsets
 }
 
 /// Returns a number for each lane, which is below 128 exactly if the lane is valid. Other lanes do
@@ -154,17 +155,6 @@ where
 {
     let offsets = Lanes::shuffle(check_row(case), hashes(v));
     sign_flipped(saturating_differences(sign_flipped(v), offsets))
-}
-
-/// Returns the same values as [`hashed_values`], but without a hash. It clears the bits in which
-/// digits differ from their values, and in which lowercase letters differ from uppercase ones. Then
-/// a digit is its value, and a letter is its value plus 55.
-#[inline(always)]
-pub fn valid_nibbles<const N: usize>(v: Simd<u8, N>) -> Simd<u8, N>
-    ensures { (case : CheckCase) → AreValues case v.entry result }
-{
-    let common = and_splat(v, 0x4f);
-    min(common, wrapping_sub(common, 55))
 }
 
 // Returns the sixteen digits, in the order of their values.
@@ -261,7 +251,6 @@ pub trait Validate<const N: usize> {
 pub struct Saturating;
 
 impl<const N: usize> Nibbles<N> for Saturating {
-    #[tactic(auto, using(crate::proofs::ByteLemmas::nibbles_values))]
     #[inline(always)]
     fn nibbles(v: Simd<u8, N>, case: CheckCase) -> Simd<u8, N>
         ensures { AreValues case v.entry result }
@@ -319,8 +308,9 @@ impl Validate<64> for Hashed {
     }
 }
 
-/// The map for digits that are known to be valid. It uses the bits that digits and letters share,
-/// and has no test.
+/// The map for digits that are known to be valid. It has no test and no hash. It clears the bits in
+/// which digits differ from their values, and in which lowercase letters differ from uppercase ones.
+/// Then a digit is its value, and a letter is its value plus 55.
 pub struct Valid;
 
 impl<const N: usize> Nibbles<N> for Valid {
@@ -328,6 +318,7 @@ impl<const N: usize> Nibbles<N> for Valid {
     fn nibbles(v: Simd<u8, N>, _case: CheckCase) -> Simd<u8, N>
         ensures { AreValues _case v.entry result }
     {
-        valid_nibbles(v)
+        let common = and_splat(v, 0x4f);
+        min(common, wrapping_sub(common, 55))
     }
 }

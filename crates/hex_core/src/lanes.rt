@@ -1,5 +1,6 @@
 //! Functions on blocks of bytes, which do the same with each byte. Tests, values and packing take
 //! blocks of 16, 32 or 64 bytes, and encoding takes 8, 16 or 32.
+#![tactic(auto, using(crate::proofs::ByteLemmas::admits, crate::proofs::PairLemmas::are_packed))]
 
 ghost use Rattle.std.specs.Prelude.{◌≡◌};
 ghost use Rattle.hex_core.specs.Lanes.{Admits, AreChecked, AreNibbles, ArePacked, AreSmall, AreValues};
@@ -15,7 +16,6 @@ use std::simd::prelude::*;
 /// ```rust
 /// assert_eq!(rt; admitted_16(b"0123456789ABCDEF", CheckCase::Lower), 0x03ff);
 /// ```
-#[tactic(auto, using(crate::proofs::ByteLemmas::admits))]
 #[inline(always)]
 pub fn admitted_16(bytes: &[u8; 16], case: CheckCase) -> u16
     ensures admitted { Admits case bytes.now result }
@@ -30,7 +30,6 @@ pub fn admitted_16(bytes: &[u8; 16], case: CheckCase) -> u16
 /// bytes[31] = b'f';
 /// assert_eq!(rt; admitted_32(&bytes, CheckCase::Upper), 0x7fff_ffff);
 /// ```
-#[tactic(auto, using(crate::proofs::ByteLemmas::admits))]
 #[inline(always)]
 pub fn admitted_32(bytes: &[u8; 32], case: CheckCase) -> u32
     ensures admitted { Admits case bytes.now result }
@@ -45,7 +44,6 @@ pub fn admitted_32(bytes: &[u8; 32], case: CheckCase) -> u32
 /// bytes[63] = b'f';
 /// assert_eq!(rt; admitted_64(&bytes, CheckCase::None), 1 << 63);
 /// ```
-#[tactic(auto, using(crate::proofs::ByteLemmas::admits))]
 #[inline(always)]
 pub fn admitted_64(bytes: &[u8; 64], case: CheckCase) -> u64
     ensures admitted { Admits case bytes.now result }
@@ -120,7 +118,6 @@ pub fn nibbles_hashed_64(bytes: &[u8; 64], case: CheckCase) -> ([u8; 64], [u8; 6
 /// let bytes = pack_16(&[0, 1, 2, 3, 4, 5, 6, 7, 8, 9, 10, 11, 12, 13, 14, 15]);
 /// assert_eq!(rt; bytes, [0x01, 0x23, 0x45, 0x67, 0x89, 0xab, 0xcd, 0xef]);
 /// ```
-#[tactic(auto, using(crate::proofs::PairLemmas::are_packed))]
 #[inline(always)]
 pub fn pack_16(nibbles: &[u8; 16]) -> [u8; 8]
     requires { AreSmall nibbles.now }
@@ -136,7 +133,6 @@ pub fn pack_16(nibbles: &[u8; 16]) -> [u8; 8]
 /// assert!(rt; nibbles.iter().all(|nibble| *nibble < 16));
 /// assert_eq!(rt; pack_32(&nibbles), [0x77; 16]);
 /// ```
-#[tactic(auto, using(crate::proofs::PairLemmas::are_packed))]
 #[inline(always)]
 pub fn pack_32(nibbles: &[u8; 32]) -> [u8; 16]
     requires { AreSmall nibbles.now }
@@ -152,7 +148,6 @@ pub fn pack_32(nibbles: &[u8; 32]) -> [u8; 16]
 /// assert!(rt; nibbles.iter().all(|nibble| *nibble < 16));
 /// assert_eq!(rt; pack_64(&nibbles), [0x77; 32]);
 /// ```
-#[tactic(auto, using(crate::proofs::PairLemmas::are_packed))]
 #[inline(always)]
 pub fn pack_64(nibbles: &[u8; 64]) -> [u8; 32]
     requires { AreSmall nibbles.now }

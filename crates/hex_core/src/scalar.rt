@@ -112,21 +112,6 @@ fn write_word(word: u64, dst: &mut [u8])
     }
 }
 
-// Decodes fewer than 16 digits. It reads them in one pass, and stores the bytes only if all digits
-// are valid.
-#[inline(always)]
-fn decode_as_word(src: &[u8], dst: &mut [u8], case: CheckCase) -> bool
-    requires twice { length src.now ≡ 2 * length dst.old }
-    requires few { length src.now < 16 }
-    ensures { DecodesWhole case src.now dst.old dst.new result }
-{
-    let Some(word) = word_of(src, case) else {
-        return false;
-    };
-    write_word(word, dst);
-    true
-}
-
 /// Decodes all of `src` over all of `dst` and returns true. If a byte is invalid, it returns false
 /// and writes nothing.
 #[inline(always)]
@@ -134,8 +119,13 @@ pub fn decode_by_table(src: &[u8], dst: &mut [u8], case: CheckCase) -> bool
     requires { length src.now ≡ 2 * length dst.old }
     ensures { DecodesWhole case src.now dst.old dst.new result }
 {
+    // Fewer digits are read in one pass, and the bytes are stored only if all digits are valid.
     if src.len() < 16 {
-        return decode_as_word(src, dst, case);
+        let Some(word) = word_of(src, case) else {
+            return false;
+        };
+        write_word(word, dst);
+        return true;
     }
     let valid = check_by_table(src, case);
     if valid {

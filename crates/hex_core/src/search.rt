@@ -140,11 +140,8 @@ pub fn locate<P: Probe>(p: &mut P) -> Option<usize>
     ensures few_looks { (P.state p.new).looks ≤ (P.state p.old).looks + 64 }
 {
     // A source of at most one block is short enough to look at each byte.
-    let start = if p.len() > SEARCH_BLOCK {
-        test_blocks(p)
-    } else {
-        0
-    };
+    let long = p.len() > SEARCH_BLOCK;
+    let start = if long { test_blocks(p) } else { 0 };
     look_from(p, start)
 }
 

@@ -1,9 +1,10 @@
 //! Operations on vectors. Each function does the same in all lanes, and most of them take any
 //! number of lanes.
+#![tactic(auto, using(crate::proofs::LaneLemmas::lanes))]
 
-ghost use Rattle.std.specs.Prelude.{◌≡◌, ◌↔◌, ◌-◌, ◌/◌, ◌^◌, ◌≤◌, ◌<◌, ◌==◌, ◌*◌, ◌%◌, ◌++◌, IsTrue, max, min, map, bit_and, bit_or, bit_xor};
-ghost use Rattle.std.specs.Simd.Lanes.{Each1, mask_l, zip2};
-ghost use Rattle.hex_core.specs.inside.Arithmetic.{AreLow, AreUnsigned, AreZero, interleaved, packed, pair_byte, saturating_add, wrapping_sub};
+ghost use Rattle.std.specs.Prelude.{◌≡◌, ◌↔◌, ◌-◌, ◌/◌, ◌^◌, ◌≤◌, ◌<◌, ◌==◌, ◌*◌, ◌%◌, ◌++◌, IsTrue, max, min, map, bit_and, bit_or, bit_xor, ℕ, List, length};
+ghost use Rattle.std.specs.Simd.Lanes.{Each1, digits_l, mask_l, number_l, zip2};
+ghost use Rattle.hex_core.specs.inside.Arithmetic.{AreLow, AreUnsigned, AreZero, interleaved, packed, saturating_add, wrapping_sub};
 ghost use Rattle.hex_core.specs.inside.Hash.{average};
 ghost use Rattle.hex_core.specs.Lanes.{AreSmall};
 
@@ -11,7 +12,6 @@ use crate::digit::CheckCase;
 use std::simd::prelude::*;
 
 /// Subtracts `by` from each lane, modulo 256.
-#[tactic(auto, using(std::proofs::lemmas::Simd::zip2_splat))]
 #[inline(always)]
 pub fn wrapping_sub<const N: usize>(v: Simd<u8, N>, by: u8) -> Simd<u8, N>
     ensures { result ≡ map (λ x. wrapping_sub x by) v.entry }
@@ -36,17 +36,7 @@ pub fn saturating_add<const N: usize>(v: Simd<u8, N>, by: u8) -> Simd<u8, N>
     v.simd_min(Simd::splat(255 - by)) + Simd::splat(by)
 }
 
-/// Sets these bits in each lane.
-#[tactic(auto, using(std::proofs::lemmas::Simd::zip2_splat))]
-#[inline(always)]
-pub fn or_splat<const N: usize>(v: Simd<u8, N>, bits: u8) -> Simd<u8, N>
-    ensures { result ≡ map (λ x. bit_or x bits) v.entry }
-{
-    v | Simd::splat(bits)
-}
-
 /// Clears all bits of each lane except those of `mask`.
-#[tactic(auto, using(std::proofs::lemmas::Simd::zip2_splat))]
 #[inline(always)]
 pub fn and_splat<const N: usize>(v: Simd<u8, N>, mask: u8) -> Simd<u8, N>
     ensures { result ≡ map (λ x. bit_and x mask) v.entry }
@@ -55,7 +45,6 @@ pub fn and_splat<const N: usize>(v: Simd<u8, N>, mask: u8) -> Simd<u8, N>
 }
 
 /// Returns the high four bits of each lane, as a number below 16.
-#[tactic(auto, using(std::proofs::lemmas::Simd::zip2_splat))]
 #[inline(always)]
 pub fn high_bits<const N: usize>(v: Simd<u8, N>) -> Simd<u8, N>
     ensures { result ≡ map (λ x. x / 16) v.entry }
@@ -155,14 +144,14 @@ fn factor(case: CheckCase) -> u16
 /// Returns the byte of each word of two nibbles. The low byte of the word is the high nibble.
 #[inline(always)]
 pub fn pair_bytes<const N: usize>(v: Simd<u16, N>) -> Simd<u8, N>
-    ensures { result ≡ map pair_byte v.entry }
+    ensures { (nibbles : List ℕ) → length nibbles ≡ 2 * N → AreSmall nibbles
+        → v.entry ≡ digits_l 65536 N (number_l 256 nibbles) → result ≡ packed nibbles }
 {
     ((v * Simd::splat(FACTOR)) >> Simd::splat(8)).cast::<u8>()
 }
 
 /// Multiplies each word of two nibbles by 4097, modulo 65536. The high byte of the product is the
 /// byte of both nibbles.
-#[tactic(auto, using(std::proofs::lemmas::Simd::zip2_splat))]
 #[inline(always)]
 pub fn products<const N: usize>(v: Simd<u16, N>, case: CheckCase) -> Simd<u16, N>
     ensures { result ≡ map (λ w. w * 4097 % 65536) v.entry }
@@ -216,7 +205,6 @@ pub fn both_nibbles(v: u8x32) -> u8x64
 
 /// Flips the sign bit of each lane. Signed bytes become unsigned bytes in the same order, and the
 /// other way round.
-#[tactic(auto, using(std::proofs::lemmas::Simd::zip2_splat))]
 #[inline(always)]
 pub fn sign_flipped<const N: usize>(v: Simd<u8, N>) -> Simd<u8, N>
     ensures { result ≡ map (λ x. bit_xor x 128) v.entry }
@@ -225,20 +213,11 @@ pub fn sign_flipped<const N: usize>(v: Simd<u8, N>) -> Simd<u8, N>
 }
 
 /// Subtracts each lane of `b` from that of `a`, but not below 0.
-#[tactic(auto, using(crate::proofs::LaneLemmas::differences))]
 #[inline(always)]
 pub fn saturating_differences<const N: usize>(a: Simd<u8, N>, b: Simd<u8, N>) -> Simd<u8, N>
     ensures { result ≡ zip2 (λ x y. x - y) a.entry b.entry }
 {
     a.saturating_sub(b)
-}
-
-/// Subtracts each lane of `b` from that of `a`, modulo 256.
-#[inline(always)]
-pub fn wrapping_differences<const N: usize>(a: Simd<u8, N>, b: Simd<u8, N>) -> Simd<u8, N>
-    ensures { result ≡ zip2 wrapping_sub a.entry b.entry }
-{
-    a - b
 }
 
 /// Returns the average of the two lanes at each index, rounded up.

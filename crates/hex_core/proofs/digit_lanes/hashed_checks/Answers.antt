@@ -1,5 +1,5 @@
 use Rattle.std.proofs.Common.{arith}
-use Rattle.hex_core.proofs.HashLemmas.{checks_are, checks_right}
+use Rattle.hex_core.proofs.ByteLemmas.{checks_are, checks_right}
 use Rattle.hex_core.proofs.LaneLemmas.{lane_below}
 use Rattle.hex_core.proofs.digit_lanes.hashed_checks.Goals as goal
 

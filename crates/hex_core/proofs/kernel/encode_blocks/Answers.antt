@@ -1,6 +1,6 @@
 use Rattle.std.proofs.Common.{◌≡◌, ◌+◌, ◌*◌, ◌-◌, ◌/◌, ◌∙◌, length, refl, arith}
 use Rattle.hex_core.proofs.BlockLemmas.{block_inside, blocks_past}
-use Rattle.hex_core.proofs.TextBlockLemmas.{written-all, written-more}
+use Rattle.hex_core.proofs.TextLemmas.{written-all, written-more}
 use Rattle.hex_core.proofs.kernel.encode_blocks.Goals as goal
 
 pub turns-preserved : goal.turns-preserved

@@ -1,6 +1,6 @@
 -- The text of the blocks before this turn has been written.
 use Rattle.std.proofs.Common.{◌*◌}
-use Rattle.hex_core.proofs.TextBlockLemmas.{Written}
+use Rattle.hex_core.proofs.TextLemmas.{Written}
 use Rattle.hex_core.proofs.kernel.encode_blocks.Given as goal
 
 abbrev pub invariant-turns : goal.invariant-turns

@@ -1,6 +1,6 @@
 use Rattle.std.proofs.Common.{arith}
 use Rattle.std.proofs.lemmas.Bool.Decides.{nat_tests}
-use Rattle.hex_core.proofs.RefusalLemmas.{invalid_char_names_first}
+use Rattle.hex_core.proofs.SearchLemmas.{invalid_char_names_first}
 use Rattle.hex_core.proofs.laws.an_invalid_char_is_the_first_invalid_byte.Goals as goal
 
 pub returns : goal.returns

@@ -1,5 +1,5 @@
 use Rattle.std.proofs.Common.{◌∙◌, arith}
-use Rattle.hex_core.proofs.TextBlockLemmas.{one_block}
+use Rattle.hex_core.proofs.TextLemmas.{one_block}
 use Rattle.hex_core.proofs.plain.encode_by_length.Goals as goal
 
 pub returns-in-32 : goal.returns-in-32

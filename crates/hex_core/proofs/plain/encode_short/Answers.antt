@@ -1,5 +1,5 @@
 use Rattle.std.proofs.Common.{◌∙◌, arith}
-use Rattle.hex_core.proofs.TextBlockLemmas.{one_block}
+use Rattle.hex_core.proofs.TextLemmas.{one_block}
 use Rattle.hex_core.proofs.plain.encode_short.Goals as goal
 
 pub returns-in-1 : goal.returns-in-1

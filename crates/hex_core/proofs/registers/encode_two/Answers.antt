@@ -1,5 +1,5 @@
 use Rattle.std.proofs.Common.{◌*◌, ◌-◌, length, refl, ◌∙◌, arith}
-use Rattle.hex_core.proofs.TextBlockLemmas.{written-all, written-more, written-none}
+use Rattle.hex_core.proofs.TextLemmas.{written-all, written-more, written-none}
 use Rattle.hex_core.proofs.registers.encode_two.Goals as goal
 
 pub returns : goal.returns

@@ -2,7 +2,7 @@
 use Rattle.std.proofs.Common.{◌≡◌, ℕ, ◌<◌, ◌+◌, ◌*◌, ◌/◌, length, get_or, arith}
 use Rattle.hex_core.proofs.SearchLemmas.{has_value}
 use Rattle.hex_core.proofs.TableLemmas.{pair_entries, value-entry}
-use Rattle.hex_core.proofs.WordLemmas.{length-bytes, word_more, word_small}
+use Rattle.hex_core.proofs.SpellsLemmas.{length-bytes, step, word_more}
 use Rattle.hex_core.proofs.scalar.word_of.Goals as goal
 use Rattle.hex_core.proofs.scalar.word_of.Goals.{then-high-via-then-high, then-high-via-else-high+then-low}
 
@@ -25,15 +25,15 @@ pub pairs-preserved : goal.pairs-preserved
 pairs-preserved c =
     let both = pair_entries c.args.case _ c.args.src.now c.pairs.i c.values_of-values.ensures (λ k. (c.type_inv.src k).fits) c.if-high.false c.if-low.false in
     record {
-      small = (word_small c.pairs.i c.pairs.word c.packed.result c.pairs.invariant.small (omega arith) (omega arith)).0;
+      small = ((step c.pairs.i c.pairs.word c.packed.result 0 (omega arith) (omega arith)).small c.pairs.invariant.small).0;
       spelled = word_more c.args.case _ c.args.src.now c.pairs.i c.pairs.word c.packed.result both (omega arith) c.packed.ensures c.pairs.invariant.spelled;
     }
 
 pub overflow_mul-word : goal.overflow_mul-word
-overflow_mul-word c = record { fits = omega (arith, (word_small c.pairs.i c.pairs.word 0 c.pairs.invariant.small (omega arith) (omega arith)).1) }
+overflow_mul-word c = record { fits = omega (arith, ((step c.pairs.i c.pairs.word 0 0 (omega arith) (omega arith)).small c.pairs.invariant.small).1) }
 
 pub overflow_add-word : goal.overflow_add-word
-overflow_add-word c = record { fits = (word_small c.pairs.i c.pairs.word c.packed.result c.pairs.invariant.small (omega arith) (omega arith)).1 }
+overflow_add-word c = record { fits = ((step c.pairs.i c.pairs.word c.packed.result 0 (omega arith) (omega arith)).small c.pairs.invariant.small).1 }
 
 pub returns : goal.returns
 returns c =

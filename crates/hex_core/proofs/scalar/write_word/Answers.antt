@@ -3,21 +3,21 @@ use Rattle.std.proofs.Math.ListN.{length-set, set}
 use Rattle.std.proofs.lemmas.List.{get_or-set_other, get_or-set_same}
 use borrow.Author.Count.{below_more}
 use Rattle.std.specs.Int.{byte_at}
-use Rattle.hex_core.proofs.WordLemmas.{are_bytes, byte_left}
+use Rattle.hex_core.proofs.SpellsLemmas.{are_bytes, step}
 use Rattle.hex_core.proofs.scalar.write_word.Goals as goal
 
 pub bytes-preserved : goal.bytes-preserved
 bytes-preserved c =
     let i = c.bytes.i in let word = c.args.word in let n = length c.bytes.dst in let at = n - 1 - i in
-    let step = byte_left i word c.bytes.left (omega arith) c.bytes.invariant.rest in
+    let taken = (step i word 0 c.bytes.left (omega arith) (omega arith)).taken c.bytes.invariant.rest in
     let new = set c.bytes.dst at (c.bytes.left % 256) in
     let same : length new ≡ n = length-set c.bytes.dst at (c.bytes.left % 256) in
     record {
-      rest = step.1;
+      rest = taken.1;
       written = λ k lt. ap (λ m. get_or new (m - 1 - k) 0) same
           ∙ below_more (λ (k : ℕ). get_or new (n - 1 - k) 0 ≡ byte_at k word) i
           (λ k before. get_or-set_other c.bytes.dst at (n - 1 - k) (c.bytes.left % 256) 0 (λ x. absurd (omega arith)) ∙ c.bytes.invariant.written k before)
-          (get_or-set_same c.bytes.dst at (c.bytes.left % 256) 0 (omega arith) ∙ step.0) k lt;
+          (get_or-set_same c.bytes.dst at (c.bytes.left % 256) 0 (omega arith) ∙ taken.0) k lt;
     }
 
 pub returns : goal.returns

@@ -2,7 +2,7 @@ use Rattle.std.proofs.Common.{◌≡◌, ◌<◌, ◌≤◌, ◌+◌, ◌-◌, �
 use Rattle.std.proofs.lemmas.Bool.Decides.{nat_tests}
 use Rattle.hex_core.specs.Probe.{ValidIn}
 use Rattle.hex_core.proofs.BlockLemmas.{block_inside, covers_end, covers_failed, covers_whole, valid_range, last_valid, whole_valid}
-use Rattle.hex_core.proofs.ProbeLemmas.{adds_then, valid_same}
+use Rattle.hex_core.proofs.SearchLemmas.{adds_then, valid_same}
 use Rattle.hex_core.proofs.search.covered.Goals as goal
 
 pub returns-then-not-test : goal.returns-then-not-test

@@ -1,6 +1,6 @@
 use Rattle.std.proofs.Common.{◌<◌, is_some, length, refl, sym, ◌∙◌, ap, arith}
-use Rattle.hex_core.proofs.ProbeLemmas.{adds_none, adds_then}
-use Rattle.hex_core.proofs.SearchLemmas.{first_invalid_is, first_invalid_none, looks_ended, looks_found, looks_near, read_along}
+use Rattle.hex_core.proofs.SearchLemmas.{adds_none, adds_then, first_invalid_is, first_invalid_none, looks_ended, looks_found}
+use Rattle.hex_core.proofs.SearchLemmas.{looks_near, read_along}
 use Rattle.hex_core.proofs.search.look_from.Goals as goal
 
 pub look-requires-clause-countable : goal.look-requires-clause-countable

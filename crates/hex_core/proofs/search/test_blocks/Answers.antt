@@ -1,8 +1,7 @@
 use Rattle.std.proofs.Common.{◌≡◌, ◌+◌, ◌*◌, ◌/◌, refl, arith}
 use Rattle.std.proofs.lemmas.Bool.Decides.{nat_tests}
 use Rattle.hex_core.specs.Probe.{ValidIn}
-use Rattle.hex_core.proofs.ProbeLemmas.{adds_then, valid_same}
-use Rattle.hex_core.proofs.SearchLemmas.{stops_at_block, stops_at_end}
+use Rattle.hex_core.proofs.SearchLemmas.{adds_then, valid_same, stops_at_block, stops_at_end}
 use Rattle.hex_core.proofs.search.test_blocks.Goals as goal
 
 pub returns-then-not-test : goal.returns-then-not-test

@@ -1,4 +1,4 @@
-use Rattle.hex_core.proofs.ShiftLemmas.{shifted_lane}
+use Rattle.hex_core.proofs.PairLemmas.{shifted_lane}
 use Rattle.hex_core.proofs.widths.LanesShift32.shift.Goals as goal
 
 pub returns : goal.returns

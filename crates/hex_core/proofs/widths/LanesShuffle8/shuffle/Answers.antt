@@ -1,6 +1,7 @@
-use Rattle.std.proofs.Common.{refl}
-use Rattle.hex_core.proofs.LookupLemmas.{shuffle_front}
+use Rattle.std.proofs.Common.{map, refl, ap}
+use Rattle.hex_core.specs.inside.Tables.{entry}
+use Rattle.hex_core.proofs.LookupLemmas.{front_picked}
 use Rattle.hex_core.proofs.widths.LanesShuffle8.shuffle.Goals as goal
 
 pub returns : goal.returns
-returns c = rw c.shuffle.ensures (shuffle_front 8 c.args.row c.args.at c.fits-at.0 refl)
+returns c = rw c.shuffle.ensures (ap (map (entry c.args.row)) (front_picked 8 c.args.at c.fits-at.0 refl))

@@ -3,10 +3,10 @@ use Rattle.std.proofs.Common.{◌≡◌, ◌/◌, length, sym, subst, ap, ◌∙
 use Rattle.std.specs.Int.{bytes_high_first}
 use Rattle.hex_core.specs.Text.{Spells}
 use Rattle.hex_core.proofs.LawProofs.{valid-spelled}
-use Rattle.hex_core.proofs.scalar.decode_as_word.Goals as goal
+use Rattle.hex_core.proofs.scalar.decode_by_table.Goals as goal
 
-pub returns : goal.returns
-returns c =
+pub returns-then-src-lt16 : goal.returns-then-src-lt16
+returns-then-src-lt16 c =
     let s = c.args.src.now in
     let half : length s / 2 ≡ length c.args.dst.now = omega arith in
     let spells = subst (Spells c.args.case s) (ap (λ k. bytes_high_first k c.in-Some.word) half ∙ sym c.write_word.ensures) c.in-Some.ensures in
