@@ -1,19 +1,22 @@
 -- What the passes over the pieces of a grouped text keep.
 use Rattle.std.proofs.Common.{rules, ◌≡◌, inl, inr, Bool, ℕ, ◌+◌, ◌-◌, ◌*◌, ◌<◌, ◌≤◌, refl, sym, ap, ◌∙◌, arith, Option, Some}
-use Rattle.std.proofs.Common.{None, List, [], ◌∷◌, ◌++◌, length, take, drop, get_or, option_map, append_assoc, length-drop}
+use Rattle.std.proofs.Common.{None, Ok, ◌^◌, List, [], ◌∷◌, ◌++◌, length, take, drop, get_or, option_map, append_assoc, length-drop}
 use Rattle.std.proofs.Math.ListN.{length-set, set}
 use Rattle.std.proofs.lemmas.Bool.{cases_lt}
-use Rattle.std.proofs.lemmas.List.{drop-drop, get_or-drop, length-take-le, places, take_more_set}
-use Rattle.std.proofs.lemmas.Slice.{take-put_mid}
+use Rattle.std.proofs.lemmas.Bool.Decides.{nat_tests}
+use Rattle.std.proofs.lemmas.List.{drop-drop, drop-set-lt, get_or-drop, length-take-le, places, take_more_set}
+use Rattle.std.proofs.lemmas.Slice.{drop-put_mid, take-put_mid}
 use borrow.Rule.Slice.PartMut.{put_mid}
 use Rattle.hex_core.specs.declared.digit.CheckCase.{CheckCase}
+use Rattle.hex_core.specs.Refusal.{room_refusal}
 use Rattle.hex_core.specs.Search.{first_invalid}
-use Rattle.hex_core.specs.Text.{Spells, text}
+use Rattle.hex_core.specs.Text.{Spells, text, with_front}
 use Rattle.hex_core.proofs.TextLemmas.{length-text}
 use Rattle.hex_codec.specs.declared.group.Group.{Group}
+use Rattle.hex_codec.specs.GroupCalls.{WritesGrouped}
 use Rattle.hex_codec.specs.GroupedWriting.{grouped, piece_len, separator}
 use Rattle.hex_codec.specs.GroupedReading.{GroupSpells, first_invalid_in_text, grouped_len}
-use Rattle.hex_codec.proofs.GroupLemmas.{grouped-last, grouped-more, len-last, len-more}
+use Rattle.hex_codec.proofs.GroupLemmas.{grouped-last, grouped-more, len-last, len-more, length-grouped}
 use Rattle.hex_codec.proofs.ListLemmas.{put-behind}
 use Rattle.hex_codec.proofs.PartLemmas.{spells-last, spells-more}
 use Rattle.hex_codec.proofs.InvalidInText.{Clear, clear-part, digit-invalid, last-invalid, part-clear, separator-wrong}
@@ -127,45 +130,71 @@ module _ (group : Group) (upper : Bool) where
   abbrev each : ℕ
   each = piece_len group
 
-  -- the texts of the pieces before a place are written, each with its separator
-  pub record WritesRest (bytes new : List ℕ) (at done : ℕ) : Type 0 where
+  -- the texts of the pieces before a place are written: with the text of the rest there, all is
+  pub record WritesRest (bytes old new : List ℕ) (at done : ℕ) : Type 0 where
     pub inside : at ≤ length bytes
-    pub room : length new ≡ done + grouped_len each (length bytes - at)
-    pub so_far : take done new ++ grouped group upper (drop at bytes) ≡ grouped group upper bytes
+    pub long : done + grouped_len each (length bytes - at) ≡ grouped_len each (length bytes)
+    pub room : grouped_len each (length bytes) ≤ length new
+    pub so_far : put_mid done (grouped_len each (length bytes - at)) new (grouped group upper (drop at bytes)) ≡ with_front old (grouped group upper bytes)
 
-  joined-mark : (a b : List ℕ) (mark : ℕ) (c : List ℕ) → ((a ++ b) ++ (mark ∷ [])) ++ c ≡ a ++ (b ++ (mark ∷ c))
-  joined-mark a b mark c = append_assoc (a ++ b) (mark ∷ []) c ∙ append_assoc a b (mark ∷ c)
+  pub writes-none : (bytes old : List ℕ) → grouped_len each (length bytes) ≤ length old → WritesRest bytes old old 0 0
+  writes-none bytes old room =
+      let whole : length bytes - 0 ≡ length bytes = omega arith in
+      record {
+        inside = omega arith;
+        long = rw whole (omega arith);
+        room = room;
+        so_far = rw whole (ap (λ n. grouped group upper bytes ++ drop n old) (sym (length-grouped group upper bytes)));
+      }
 
-  pub writes-more : (bytes old : List ℕ) (at done : ℕ) → WritesRest bytes old at done → each < length bytes - at
-      → WritesRest bytes (set (put_mid done (2 * each) old (text upper (take each (drop at bytes)))) (done + 2 * each) (separator group)) (at + each) (done + 2 * each + 1)
-  writes-more bytes old at done before more =
+  joined-mark : (a b : List ℕ) (mark : ℕ) (c d : List ℕ) → ((a ++ b) ++ (mark ∷ [])) ++ (c ++ d) ≡ a ++ ((b ++ (mark ∷ c)) ++ d)
+  joined-mark a b mark c d = simp append_assoc
+
+  pub writes-more : (bytes old new : List ℕ) (at done : ℕ) → WritesRest bytes old new at done → each < length bytes - at
+      → WritesRest bytes old (set (put_mid done (2 * each) new (text upper (take each (drop at bytes)))) (done + 2 * each) (separator group)) (at + each) (done + 2 * each + 1)
+  writes-more bytes old new at done before more =
       let rest = drop at bytes in
       let part = text upper (take each rest) in
-      let put = put_mid done (2 * each) old part in
+      let put = put_mid done (2 * each) new part in
+      let next = set put (done + 2 * each) (separator group) in
       let left = length-drop at bytes in
       let long : each < length rest = omega (arith, left, more) in
       let size : length part ≡ 2 * each = omega (arith, length-text upper (take each rest), length-take-le each rest (omega (arith, long))) in
       let len = len-more each (length bytes - at) group.is_group.0 more in
       let cut : length bytes - (at + each) ≡ length bytes - at - each = omega arith in
-      let same : length put ≡ length old = search (rules, places, size, before.room, len, arith) in
-      let last : done + 2 * each < length put = omega (arith, same, before.room, len) in
+      let total = grouped_len each (length bytes) in
+      let here = grouped_len each (length bytes - at) in
+      let further = grouped_len each (length bytes - at - each) in
+      let same : length put ≡ length new = search (rules, places, size, before.room, before.long, len, arith) in
+      let last : done + 2 * each < length put = omega (arith, same, before.room, before.long, len) in
       let behind = grouped group upper (drop each rest) in
-      let whole : take done old ++ (part ++ (separator group ∷ behind)) ≡ grouped group upper bytes = rw (grouped-more group upper rest long) at before.so_far in
+      let sum : done + 2 * each + 1 + further ≡ total = omega (arith, before.long, len) in
+      let kept : drop total next ≡ drop total new =
+      drop-set-lt total put (done + 2 * each) (separator group) (omega (arith, sum))
+      ∙ drop-put_mid done (2 * each) new part total (omega (arith, sum)) (omega (arith, before.room, before.long)) size in
+      let tail : drop further (drop (done + 2 * each + 1) next) ≡ drop here (drop done new) =
+      rw (drop-drop further (done + 2 * each + 1) next, sum, drop-drop here done new, before.long) kept in
+      let whole : take done new ++ ((part ++ (separator group ∷ behind)) ++ drop here (drop done new)) ≡ with_front old (grouped group upper bytes) =
+      rw (grouped-more group upper rest long) at before.so_far in
       record {
         inside = omega (arith, more);
-        room = length-set put (done + 2 * each) (separator group) ∙ same ∙ rw cut (omega (arith, before.room, len));
+        long = rw cut sum;
+        room = rw (length-set put (done + 2 * each) (separator group), same) before.room;
         so_far = rw (
+          cut,
+          tail,
           take_more_set put (done + 2 * each) (separator group) last,
-          take-put_mid done (2 * each) old part (done + 2 * each) (omega (arith, size)) (omega (arith, before.room)),
+          take-put_mid done (2 * each) new part (done + 2 * each) (omega (arith, size)) (omega (arith, before.room, before.long)),
           ← drop-drop each at bytes,
-        ) (joined-mark (take done old) part (separator group) behind ∙ whole);
+        ) (joined-mark (take done new) part (separator group) behind (drop here (drop done new)) ∙ whole);
       }
 
-  pub writes-last : (bytes old : List ℕ) (at done : ℕ) → WritesRest bytes old at done → length bytes - at ≤ each
-      → put_mid done (length old - done) old (text upper (drop at bytes)) ≡ grouped group upper bytes
-  writes-last bytes old at done before short =
+  pub writes-last : (bytes old new : List ℕ) (at done : ℕ) → WritesRest bytes old new at done → length bytes - at ≤ each
+      → grouped_len each (length bytes) ≤ length old → length old < 2 ^ 64
+      → WritesGrouped group upper bytes old (put_mid done (2 * (length bytes - at)) new (text upper (drop at bytes))) (Ok (done + 2 * (length bytes - at)))
+  writes-last bytes old new at done before short room fits =
       let rest = drop at bytes in
-      let fits : length rest ≤ each = omega (arith, length-drop at bytes, short) in
+      let last = grouped-last group upper rest (omega (arith, length-drop at bytes, short)) in
       let len = len-last each (length bytes - at) group.is_group.0 short in
-      put-behind done old (text upper rest) (omega (arith, before.room)) (omega (arith, length-text upper rest, length-drop at bytes, before.room, len))
-      ∙ (rw (grouped-last group upper rest fits) at before.so_far)
+      let none : room_refusal (grouped_len each (length bytes)) (length old) ≡ None = grind (arith, nat_tests) in
+      (none, (grouped group upper bytes, refl, omega (arith, len, before.long, length-grouped group upper bytes), rw (len, last) at before.so_far))

@@ -265,12 +265,15 @@ pub fn write_by(
 ) -> Result<usize, Error>
     ensures answer { WritesGrouped group upper src.now dst.old dst.new result }
 {
-    let Some(required) = grouped_len(src.len(), group.every()) else {
-        return Err(Error::Overflow);
-    };
-    if dst.len() < required {
-        return Err(Error::OutputTooSmall { required });
+    // A text has fewer than three bytes for each byte of `src`. Its length takes a division, so it is
+    // counted only if less room is there.
+    if dst.len() / 3 < src.len() {
+        let Some(required) = grouped_len(src.len(), group.every()) else {
+            return Err(Error::Overflow);
+        };
+        if dst.len() < required {
+            return Err(Error::OutputTooSmall { required });
+        }
     }
-    write_pieces(plan, src, &mut dst[..required], group, upper);
-    Ok(required)
+    Ok(write_pieces(plan, src, dst, group, upper))
 }

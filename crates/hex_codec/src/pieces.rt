@@ -1,10 +1,11 @@
 //! Loops over the pieces of a grouped text, which test it, decode it or encode it by a plan. No
 //! separator follows the last piece, so it is treated after each loop.
 
-ghost use Rattle.std.specs.Prelude.{◌≡◌, ◌*◌, ◌%◌, None, length};
+ghost use Rattle.std.specs.Prelude.{◌≡◌, ◌≤◌, ◌*◌, ◌%◌, None, Ok, length};
 ghost use Rattle.hex_core.specs.Search.{first_invalid};
 ghost use Rattle.hex_core.specs.Text.{Spells, text};
-ghost use Rattle.hex_codec.specs.GroupedWriting.{grouped, piece_len};
+ghost use Rattle.hex_codec.specs.GroupCalls.{WritesGrouped};
+ghost use Rattle.hex_codec.specs.GroupedWriting.{piece_len};
 ghost use Rattle.hex_codec.specs.GroupedReading.{GroupSpells, first_invalid_in_text, grouped_len};
 
 use crate::group::Group;
@@ -112,7 +113,8 @@ pub fn read_pieces(plan: Backend, src: &[u8], dst: &mut [u8], group: Group, case
     read_piece(plan, &src[at..], &mut dst[done..], case);
 }
 
-// Encodes `src` in groups over all of `dst`. The toolchain inlines this function only for x86-64.
+// Encodes `src` in groups into the start of `dst`. Returns the number of bytes written. The toolchain
+// inlines this function only for x86-64.
 #[inline(always)]
 fn write_by_piece_len(
     plan: Backend,
@@ -121,10 +123,10 @@ fn write_by_piece_len(
     every: usize,
     group: Group,
     upper: bool,
-)
+) -> usize
     requires every { every ≡ piece_len group }
-    requires room { length dst.old ≡ grouped_len (piece_len group) (length src.now) }
-    ensures { dst.new ≡ grouped group upper src.now }
+    requires room { grouped_len (piece_len group) (length src.now) ≤ length dst.old }
+    ensures { WritesGrouped group upper src.now dst.old dst.new (Ok result) }
 {
     let mut at = 0;
     let mut done = 0;
@@ -135,14 +137,23 @@ fn write_by_piece_len(
         at += every;
         done = end + 1;
     }
-    write_piece(plan, &src[at..], &mut dst[done..], upper);
+    let end = done + 2 * (src.len() - at);
+    write_piece(plan, &src[at..], &mut dst[done..end], upper);
+    end
 }
 
-/// Encodes `src` in groups over all of `dst`. Pieces of 1 and of 4 bytes have code of their own, in
-/// which their length is a constant, so that such a piece is encoded without a loop.
-pub fn write_pieces(plan: Backend, src: &[u8], dst: &mut [u8], group: Group, upper: bool)
-    requires { length dst.old ≡ grouped_len (piece_len group) (length src.now) }
-    ensures { dst.new ≡ grouped group upper src.now }
+/// Encodes `src` in groups into the start of `dst`. Returns the number of bytes written. Pieces of 1
+/// and of 4 bytes have code of their own, in which their length is a constant, so that such a piece
+/// is encoded without a loop.
+pub fn write_pieces(
+    plan: Backend,
+    src: &[u8],
+    dst: &mut [u8],
+    group: Group,
+    upper: bool,
+) -> usize
+    requires { grouped_len (piece_len group) (length src.now) ≤ length dst.old }
+    ensures { WritesGrouped group upper src.now dst.old dst.new (Ok result) }
 {
     match group.every() {
         1 => write_by_piece_len(plan, src, dst, 1, group, upper),
