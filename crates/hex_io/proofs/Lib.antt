@@ -3,7 +3,6 @@ mod FrameFacts
 mod PutsLemmas
 mod RunLemmas
 mod ContinueLemmas
-mod Repeats
 mod UnspacedLemmas
 mod DecoderLemmas
 mod StreamLemmas

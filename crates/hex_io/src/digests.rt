@@ -4,6 +4,7 @@
 ghost use Rattle.std.specs.Prelude.{◌≡◌, ◌≢◌, ◌≤◌, ◌*◌, ◌++◌, ◌∷◌, [], None, Some, length, take};
 ghost use Rattle.hex_core.specs.Calls.{Answers};
 ghost use Rattle.hex_core.specs.Search.{first_invalid};
+ghost use Rattle.hex_core.specs.Text.{text};
 ghost use Rattle.hex_io.specs.ListCalls.{ReadsList, WritesList};
 ghost use Rattle.hex_io.specs.Lists.{LineIs, fault_in, first_bad_name, is_bad_name, line_fault, line_of, mark};
 ghost use Rattle.hex_io.specs.Message.{line_fault_text, list_fault_text, list_write_fault_text};
@@ -11,6 +12,7 @@ ghost use Rattle.hex_io.specs.SinkState.{Puts};
 ghost use Rattle.hex_io.specs.declared.digests.ListWriteFault.TheVariants as fault;
 
 use crate::digits::put_digits;
+use crate::laws::puts_in_a_row_are_one;
 use crate::lines::line_end;
 use crate::sink::{Sink, WriteFault, put_all};
 use hex_core::{Backend, CheckCase, Error};
@@ -354,8 +356,10 @@ fn put_line<S: Sink, const N: usize>(
     entry: &Entry<'_, N>,
     upper: bool,
 ) -> Result<(), WriteFault>
-    ensures { Puts (S.state sink.old) (S.state sink.new) result (line_of upper entry.now ++ (10 ∷ [])) }
+    ensures { Puts (S.state sink.old) (S.state sink.new) result
+        (text upper entry.now.digest ++ (32 ∷ mark entry.now.binary ∷ []) ++ entry.now.name.now ++ (10 ∷ [])) }
 {
+    puts_in_a_row_are_one();
     put_digits(sink, &entry.digest, upper, None)?;
     put_all(sink, &[b' ', mark_of(entry.binary)])?;
     put_all(sink, entry.name)?;

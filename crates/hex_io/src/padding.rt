@@ -54,15 +54,11 @@ pub fn put_copies<S: Sink>(sink: &mut S, fill: char, count: usize) -> Result<(),
         return Ok(());
     }
     let mut buffer = [0; COPIES * LONGEST_CHARACTER];
-    put_all(sink, copies_in(&mut buffer, fill, count % COPIES))?;
-    if count < COPIES {
-        return Ok(());
-    }
-    let block = copies_in(&mut buffer, fill, COPIES);
+    let block = copies_in(&mut buffer, fill, count.min(COPIES));
     'full: for _ in 0..count / COPIES {
         put_all(sink, block)?;
     }
-    Ok(())
+    put_all(sink, &block[..count % COPIES * fill.len_utf8()])
 }
 
 // Writes at most `COPIES` copies of a character into the start of the buffer, and returns them.

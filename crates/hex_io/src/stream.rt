@@ -155,18 +155,15 @@ fn decode_by_decoder<R: Read, S: Sink>(
     let mut bytes = [0; STREAM_CHUNK];
     let mut total = 0;
     'reads: loop {
-        let count = match read_again(reader, &mut chunk) {
-            Ok(0) => return ended(decoder, total),
-            Ok(count) => count,
-            Err(_) => return Err(StreamFault::Read),
+        let Ok(count) = read_again(reader, &mut chunk) else {
+            return Err(StreamFault::Read);
         };
-        let written = match decoder.feed_through(&chunk[..count], &mut digits, &mut bytes) {
-            Ok(written) => written,
-            Err(refusal) => return Err(StreamFault::Codec(refusal)),
-        };
-        if let Err(fault) = put_all(sink, &bytes[..written]) {
-            return Err(StreamFault::Write(fault));
+        if count == 0 {
+            decoder.finish()?;
+            return Ok(total);
         }
+        let written = decoder.feed_through(&chunk[..count], &mut digits, &mut bytes)?;
+        put_all(sink, &bytes[..written])?;
         total += written;
     }
 }
@@ -256,27 +253,8 @@ fn encode_by<R: Read, S: Sink>(
             Err(_) => return Err(StreamFault::Read),
         };
         let digits = added_digits(&chunk[..count], upper, group, total, &mut buffer);
-        if let Err(fault) = put_all(sink, digits) {
-            return Err(StreamFault::Write(fault));
-        }
-        total = match total.checked_add(count) {
-            Some(total) => total,
-            None => return Err(StreamFault::Codec(Error::Overflow)),
-        };
-    }
-}
-
-// Returns the result at the end of a stream, which is the number of decoded bytes or the error of
-// an odd length.
-fn ended(decoder: Decoder, total: usize) -> Result<usize, StreamFault>
-    ensures { (fed written : List ℕ) → HasFed decoder fed written → total ≡ length written → MatchResult result
-        (λ count. Spells (reading_of decoder).case (digits_in (reading_of decoder) fed) written × (count ≡ length written))
-        (λ e. (e ≡ fault.Codec OddLength)
-        × (source_refusal (reading_of decoder).case (digits_in (reading_of decoder) fed) ≡ Some OddLength)) }
-{
-    match decoder.finish() {
-        Ok(()) => Ok(total),
-        Err(refusal) => Err(StreamFault::Codec(refusal)),
+        put_all(sink, digits)?;
+        total = total.checked_add(count).ok_or(Error::Overflow)?;
     }
 }
 

@@ -13,6 +13,7 @@
 ghost use Rattle.std.specs.Prelude.{◌≡◌, ◌≢◌, ◌↔◌, ◌+◌, ◌-◌, ◌/◌, ◌%◌, ◌^◌, ◌<◌, ◌≤◌, ◌++◌, ◌∷◌, [], None, Ok, Some, drop, false, true, length, IfOk, IsSome, IsTrue, MatchOption, OnErr};
 ghost use Rattle.std.specs.Option.{ForSome, option_to_list};
 ghost use Rattle.hex_core.specs.Digit.{value};
+ghost use Rattle.hex_core.specs.Search.{first_invalid};
 ghost use Rattle.hex_core.specs.Text.{Spells};
 ghost use Rattle.hex_io.specs.Reading.{digits_in, first_invalid_read, plain, spaced, unspaced};
 ghost use Rattle.hex_io.specs.inside.{DecodesPairs, invalid_read_behind};
@@ -294,11 +295,7 @@ impl Decoder {
     fn whole_pairs(&self, digits: usize) -> usize
         ensures { result ≡ (length (waiting_in self.now) + digits) / 2 }
     {
-        if self.waiting.is_some() {
-            digits / 2 + digits % 2
-        } else {
-            digits / 2
-        }
+        digits / 2 + usize::from(self.waiting.is_some() && digits % 2 == 1)
     }
 
     // Returns the index of the first byte of a chunk that should be a digit and is not.
@@ -374,10 +371,7 @@ fn decode_pairs_of(src: &[u8], dst: &mut [u8], case: CheckCase) -> Option<Option
     ensures { DecodesPairs case None src.now dst.old dst.new result }
 {
     let end = src.len() - src.len() % 2;
-    let waiting = digit_after(src, end);
-    if !is_valid(waiting, case) {
-        return None;
-    }
+    let waiting = digit_after(src, end, case)?;
     // A chunk of one digit has no whole pair, so it needs no call.
     if end == 0 {
         return Some(waiting);
@@ -388,28 +382,19 @@ fn decode_pairs_of(src: &[u8], dst: &mut [u8], case: CheckCase) -> Option<Option
     Some(waiting)
 }
 
-// Returns the digit after the whole pairs of a source, if it has one.
+// Returns the digit after the whole pairs of a source, if it has one. Returns `None` if that digit
+// is invalid.
 #[inline(always)]
-fn digit_after(src: &[u8], end: usize) -> Option<u8>
+fn digit_after(src: &[u8], end: usize, case: CheckCase) -> Option<Option<u8>>
     requires { length src.now ≤ end + 1 }
-    ensures { option_to_list result ≡ drop end src.now }
+    ensures { MatchOption result (first_invalid case (drop end src.now) ≢ None)
+        (λ waiting. (option_to_list waiting ≡ drop end src.now) × ForSome waiting (λ digit. IsSome (value case digit))) }
 {
-    if end < src.len() {
-        Some(src[end])
-    } else {
-        None
+    if src.len() <= end {
+        return Some(None);
     }
-}
-
-// Returns whether a digit that is to wait is valid. If there is none, the result is true.
-#[inline(always)]
-fn is_valid(waiting: Option<u8>, case: CheckCase) -> bool
-    ensures { IsTrue result ↔ ForSome waiting (λ digit. IsSome (value case digit)) }
-{
-    match waiting {
-        Some(digit) => digit_value(digit, case).is_some(),
-        None => true,
-    }
+    digit_value(src[end], case)?;
+    Some(Some(src[end]))
 }
 
 // Returns the byte of two digits, of which the first is valid. Returns `None` if the second one is

@@ -14,4 +14,4 @@ returns-clause-feed c = λ r fed src room left e short refused.
     refused-for (λ e. RefusedBy r (fed ++ src) left e) r fed src _ room e fits refused (λ many. many) (λ i b byte. byte)
 
 pub returns-clause-finish : goal.returns-clause-finish
-returns-clause-finish c = λ decoder fed written left e has ends at_end. refused-end (decoder.reading) fed left e has.1.valid (ends fed written has) at_end
+returns-clause-finish c = λ decoder fed written left e has ends at_end. refused-end (RefusedBy (decoder.reading) fed left) (decoder.reading) fed left e has.1.valid (ends fed written has) at_end (λ odd. odd)
