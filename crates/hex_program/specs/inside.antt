@@ -1,10 +1,10 @@
 -- Definitions that only private functions use. No public contract depends on them.
-use Rattle.std.specs.Prelude.{◌≡◌, ◌⊎◌, ℕ, List, [], ◌∷◌, Option, Result, Ok, Err, IfErr}
+use Rattle.std.specs.Prelude.{◌≡◌, ◌⊎◌, ℕ, List, Option, Result, Ok, Err, IfErr}
+use Rattle.std.specs.Io.KnownBytes.{Keeps}
 use Rattle.hex_program.specs.Streaming.{ServesStreamOp}
 use Rattle.hex_program.specs.declared.stream.StreamOp.{StreamOp}
 use Rattle.hex_program.specs.declared.operation.RunFault.{RunFault}
 use Rattle.hex_program.specs.declared.operation.RunFault.TheVariants as fault
-use Rattle.hex_io.specs.SinkState.{SinkState, Stops, Takes}
 use Rattle.hex_io.specs.declared.stream.StreamFault.{StreamFault}
 use Rattle.hex_io.specs.declared.stream.StreamFault.TheVariants as stream_fault
 use Rattle.hex_program.specs.declared.failure.Failure.{Failure}
@@ -29,12 +29,6 @@ ended_by (Err (stream_fault.Write why)) = Err WriteFailed
 abbrev pub EndsStreamRun : Result (Unit {0}) StreamFault → Result (Unit {0}) Failure → Type 0
 EndsStreamRun ran ended = (ended ≡ Err WriteFailed) ⊎ (ended ≡ ended_by ran)
 
--- the end of a line: a newline was put, or its put failed
-abbrev pub EndsLine : SinkState → SinkState → Result (Unit {0}) StreamFault → Type 0
-EndsLine old new (Ok done) = Takes old new (10 ∷ [])
-EndsLine old new (Err (stream_fault.Write why)) = Stops old new (10 ∷ [])
-EndsLine old new (Err why) = ⊥
-
--- a run of `fhex-stream` serves an operation, if the output can then be flushed
+-- a run of `fhex-stream` serves an operation, if a flush then keeps what was written
 abbrev pub RunsStream : StreamOp → Option (List ℕ) → Option (List ℕ) → Option (List ℕ) → Option (List ℕ) → Result (Unit {0}) StreamFault → Type 0
-RunsStream op left left' held held' ran = ServesStreamOp op left left' held held' (ended_by ran)
+RunsStream op left left' held held' ran = (after : Option (List ℕ)) → Keeps held' after → ServesStreamOp op left left' held after (ended_by ran)

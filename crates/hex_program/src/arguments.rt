@@ -36,15 +36,11 @@ pub fn with_words<R: Env + Alloc, F: FnOnce(&[&str]) -> u8>(
         Err(_) => return Err(Failure::ReadFailed),
     };
     let words: Result<Vec<String<R::A>, R::A>, AllocError> = arguments.skip(1).collect(rt.alloc());
-    let Ok(words) = words else {
-        return Err(Failure::OutOfMemory);
-    };
+    let words = words.map_err(|_| Failure::OutOfMemory)?;
     let texts: Result<Vec<&str, R::A>, AllocError> = words
         .iter()
         .map(|word| word.as_str())
         .collect(rt.alloc());
-    match texts {
-        Ok(texts) => Ok(program(texts.as_slice())),
-        Err(_) => Err(Failure::OutOfMemory),
-    }
+    let texts = texts.map_err(|_| Failure::OutOfMemory)?;
+    Ok(program(texts.as_slice()))
 }

@@ -1,9 +1,9 @@
 //! The operations of `fhex`, which run over an input and put their output into a sink.
 
-ghost use Rattle.std.specs.Prelude.{◌≡◌, ◌++◌, ◌∷◌, [], map};
+ghost use Rattle.std.specs.Prelude.{◌≡◌, ◌++◌, ◌∷◌, []};
 ghost use Rattle.hex_core.specs.Text.{text};
 ghost use Rattle.hex_io.specs.SinkState.{Puts};
-ghost use Rattle.hex_program.specs.Operations.{Runs, op_of_word, op_of_words, without_newline};
+ghost use Rattle.hex_program.specs.Operations.{Runs, op_of_word, without_newline};
 
 use hex_codec::hex_decode_vec_with_case;
 use hex_core::{CheckCase, Error};
@@ -43,17 +43,6 @@ impl Op {
             "decode" => Some(Op::Decode),
             "decode-lower" => Some(Op::DecodeLower),
             "decode-upper" => Some(Op::DecodeUpper),
-            _ => None,
-        }
-    }
-
-    // Returns the operation that the arguments of the program name. There must be exactly one
-    // argument.
-    pub(crate) fn from_words(words: &[&str]) -> Option<Op>
-        ensures { result ≡ op_of_words (map (λ w. w.now) words.now) }
-    {
-        match words {
-            [word] => Op::from_word(word),
             _ => None,
         }
     }

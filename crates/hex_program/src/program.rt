@@ -140,10 +140,12 @@ pub fn serve_in<A: Allocator, R: Read, W: Write, E: Write>(
         (R.remaining input.new) (W.contents out) (W.contents result.1)
         (E.contents err) (E.contents result.2) result.0 }
 {
-    if let ["vectors"] = words {
-        return serve_vectors(alloc, &VECTORS, out, err);
-    }
-    let (ended, out) = match Op::from_words(words) {
+    let op = match words {
+        ["vectors"] => return serve_vectors(alloc, &VECTORS, out, err),
+        [word] => Op::from_word(word),
+        _ => None,
+    };
+    let (ended, out) = match op {
         Some(op) => serve_op(alloc, op, input, out),
         None => (Err(Failure::Usage), out),
     };

@@ -3,8 +3,8 @@
 
 ghost use Rattle.std.specs.Prelude.{◌≡◌, map};
 ghost use Rattle.std.specs.Io.KnownBytes.{Keeps};
-ghost use Rattle.hex_program.specs.Streaming.{AnswersWords, ServesStream, ServesStreamOp, stream_op_of_word, stream_op_of_words};
-ghost use Rattle.hex_program.specs.inside.{EndsLine, EndsStreamRun, RunsStream};
+ghost use Rattle.hex_program.specs.Streaming.{AnswersWords, ServesStream, ServesStreamOp, stream_op_of_word};
+ghost use Rattle.hex_program.specs.inside.{EndsStreamRun, RunsStream};
 
 use crate::failure::Failure;
 use crate::program::{end, print_line};
@@ -52,25 +52,6 @@ impl StreamOp {
             _ => None,
         }
     }
-
-    // Returns the operation that the arguments of the program name. There must be exactly one
-    // argument.
-    fn from_words(words: &[&str]) -> Option<StreamOp>
-        ensures { result ≡ stream_op_of_words (map (λ w. w.now) words.now) }
-    {
-        match words {
-            [word] => StreamOp::from_word(word),
-            _ => None,
-        }
-    }
-}
-
-// Puts the newline after the digits.
-fn end_line<S: Sink>(sink: &mut S) -> Result<(), StreamFault>
-    ensures { EndsLine (S.state sink.old) (S.state sink.new) result }
-{
-    put_all(sink, b"\n")?;
-    Ok(())
 }
 
 // Runs an operation from a reader to a sink.
@@ -83,22 +64,18 @@ fn run_stream<R: Read, S: Sink>(
 {
     puts_in_a_row_are_one();
     match op {
-        StreamOp::Encode => match encode_stream(input, sink, false) {
-            Ok(_) => end_line(sink),
-            Err(fault) => Err(fault),
-        },
+        StreamOp::Encode => {
+            encode_stream(input, sink, false)?;
+            put_all(sink, b"\n").map_err(StreamFault::Write)
+        }
         StreamOp::EncodeLines => {
             let lines = Group::new(LINE, b'\n').unwrap();
-            match encode_grouped_stream(input, sink, lines, false) {
-                Ok(0) => Ok(()),
-                Ok(_) => end_line(sink),
-                Err(fault) => Err(fault),
+            match encode_grouped_stream(input, sink, lines, false)? {
+                0 => Ok(()),
+                _ => put_all(sink, b"\n").map_err(StreamFault::Write),
             }
         }
-        StreamOp::Decode => match decode_spaced_stream(input, sink, CheckCase::None) {
-            Ok(_) => Ok(()),
-            Err(fault) => Err(fault),
-        },
+        StreamOp::Decode => decode_spaced_stream(input, sink, CheckCase::None).map(|_| ()),
     }
 }
 
@@ -113,10 +90,8 @@ fn finish_stream<W: Write>(out: &mut W, ran: Result<(), StreamFault>) -> Result<
         Err(StreamFault::Codec(refusal)) => Err(Failure::Codec(refusal)),
         Err(StreamFault::Write(_)) => return Err(Failure::WriteFailed),
     };
-    match out.flush() {
-        Ok(()) => ended,
-        Err(_) => Err(Failure::WriteFailed),
-    }
+    out.flush().map_err(|_| Failure::WriteFailed)?;
+    ended
 }
 
 // Runs an operation and flushes its output.
@@ -144,13 +119,13 @@ fn answer_words<R: Read, W: Write>(
     ensures { AnswersWords (map (λ w. w.now) words.now) (R.remaining input.old)
         (R.remaining input.new) (W.contents out) (W.contents result.1) result.0 }
 {
-    if let ["--help"] = words {
-        return print_line(out, &Failure::StreamUsage);
-    }
-    if let ["--version"] = words {
-        return print_line(out, &VERSION);
-    }
-    match StreamOp::from_words(words) {
+    let op = match words {
+        ["--help"] => return print_line(out, &Failure::StreamUsage),
+        ["--version"] => return print_line(out, &VERSION),
+        [word] => StreamOp::from_word(word),
+        _ => None,
+    };
+    match op {
         Some(op) => serve_stream_op(op, input, out),
         None => (Err(Failure::StreamUsage), out),
     }

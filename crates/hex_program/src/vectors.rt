@@ -32,16 +32,6 @@ pub enum Call {
     ReadList,
 }
 
-impl Call {
-    // Returns whether the call runs only once, without a plan.
-    fn is_plain(self) -> bool {
-        matches!(
-            self,
-            Call::WriteGrouped | Call::ReadGrouped | Call::WriteList | Call::ReadList
-        )
-    }
-}
-
 /// A stored vector has a call, the expected result, and the expected bytes of the destination after
 /// the call. Before the call each byte of the destination is 0xa5.
 #[derive(Clone, Copy)]
@@ -127,16 +117,14 @@ fn reads_list<A: Allocator>(alloc: &A, vector: &Vector<'_>) -> Result<bool, Allo
 // Returns whether a sink over the destination takes what a vector expects.
 fn writes(vector: &Vector<'_>, destination: &mut [u8]) -> bool {
     let mut sink = SliceSink::new(destination);
-    let is_written = match (vector.call, entry_of(vector.source)) {
-        (Call::WriteList, Some(entry)) => write_to(&[entry], &mut sink, true).is_ok(),
-        (Call::WriteList, None) => false,
-        _ => {
-            let flags = HexFlags {
-                group: Group::new(2, b':'),
-                ..HexFlags::default()
-            };
-            Hex::new(vector.source).write_to(&mut sink, &flags).is_ok()
-        }
+    let is_written = if vector.call == Call::WriteList {
+        entry_of(vector.source).is_some_and(|entry| write_to(&[entry], &mut sink, true).is_ok())
+    } else {
+        let flags = HexFlags {
+            group: Group::new(2, b':'),
+            ..HexFlags::default()
+        };
+        Hex::new(vector.source).write_to(&mut sink, &flags).is_ok()
     };
     let written = sink.written();
     is_written && vector.answer == Ok(written.len()) && vector.left.starts_with(written)
@@ -190,30 +178,23 @@ pub(crate) struct Report<A: Allocator> {
     total: usize,
 }
 
-impl<A: Allocator> Report<A> {
-    fn add(&mut self, under: &str, name: &str, passes: bool) -> Result<(), AllocError> {
-        self.total = self.total.saturating_add(1);
-        self.failed = self.failed.saturating_add(usize::from(!passes));
-        let verdict = if passes { "pass" } else { "fail" };
-        writeln!(self.lines, "{under} {name} {verdict}")
-    }
-}
-
-// Runs the vectors for a plan, or those that run only once if the plan is `plain`, and adds their
-// lines.
-fn run_under<A: Allocator>(
-    report: &mut Report<&A>,
-    alloc: &A,
-    plan: Backend,
-    table: &[Vector<'_>],
-) -> Result<(), AllocError> {
-    let is_plain = plan.name() == "plain";
-    for vector in table {
-        if vector.call.is_plain() == is_plain {
-            report.add(plan.name(), vector.name, passes(alloc, plan, vector)?)?;
+impl<A: Allocator> Report<&A> {
+    // Runs the vectors for a plan, or those that run only once if the plan is `plain`, and adds
+    // their lines.
+    fn add(&mut self, alloc: &A, plan: Backend, table: &[Vector<'_>]) -> Result<(), AllocError> {
+        let under = plan.name();
+        for vector in table {
+            if matches!(vector.call, Encode(_) | Decode(_)) == (under == "plain") {
+                continue;
+            }
+            let passes = passes(alloc, plan, vector)?;
+            self.total = self.total.saturating_add(1);
+            self.failed = self.failed.saturating_add(usize::from(!passes));
+            let verdict = if passes { "pass" } else { "fail" };
+            writeln!(self.lines, "{under} {} {verdict}", vector.name)?;
         }
+        Ok(())
     }
-    Ok(())
 }
 
 /// Runs the vectors of `table` by each plan, and then those that run only once. Returns a line for
@@ -229,9 +210,9 @@ pub(crate) fn run_vectors<'a, A: Allocator>(
         total: 0,
     };
     for plan in backends() {
-        run_under(&mut report, alloc, plan, table)?;
+        report.add(alloc, plan, table)?;
     }
-    run_under(&mut report, alloc, Backend::plain(), table)?;
+    report.add(alloc, Backend::plain(), table)?;
     let (total, failed) = (report.total, report.failed);
     let passed = total.saturating_sub(failed);
     writeln!(

@@ -2,7 +2,6 @@
 use Rattle.std.specs.Prelude.{ℕ, List, [], Option, Result, Ok, Err}
 use Rattle.std.specs.Io.KnownBytes.{Keeps}
 use Rattle.std.proofs.Common.{sym, append-nil}
-use Rattle.std.proofs.KnownBytes.{Appends-kept}
 use Rattle.hex_io.specs.SinkState.{SinkState}
 use Rattle.hex_io.specs.SliceAndWriterSinks.{writer_state}
 use Rattle.hex_program.specs.declared.operation.Op.{Op}
@@ -12,20 +11,18 @@ use Rattle.hex_program.specs.declared.failure.Failure.{Failure}
 use Rattle.hex_program.specs.Operations.{Runs}
 use Rattle.hex_program.specs.Serving.{EndsOp, ReadsAll}
 use Rattle.hex_program.specs.inside.{EndsRun}
-use Rattle.hex_program.proofs.Parts.{part-all, part-kept, part-of}
+use Rattle.hex_program.proofs.Parts.{part-all, part-of, written}
 use Rattle.hex_program.proofs.program.serve_op.Goals as goal
 
 -- all of an input was read, run and flushed
-pub ends_run : (op : Op) (input : List ℕ) (left left' held' : Option (List ℕ)) (old new : SinkState) (ran : Result (Unit {0}) RunFault) (ended : Result (Unit {0}) Failure)
+ends_run : (op : Op) (input : List ℕ) (left left' held' : Option (List ℕ)) (old new : SinkState) (ran : Result (Unit {0}) RunFault) (ended : Result (Unit {0}) Failure)
     → ReadsAll left left' input → Runs op input old new ran → Keeps new.taken held' → EndsRun ran ended → EndsOp op left left' old.taken held' ended
 ends_run op input left left' held' old new (Ok done) (Ok well) all ran kept ends =
-    record { input = input; output = ran.0; read = all; is_output = ran.1; wrote = Appends-kept old.taken new.taken held' ran.0 ran.2.appended kept }
+    record { input = input; output = ran.0; read = all; is_output = ran.1; wrote = written old new held' kept ran.0 ran.2 }
 ends_run op input left left' held' old new (Ok done) (Err failure) all ran kept ends =
-    let part = part-all old new ran.0 [] ran.0 (append-nil ran.0) ran.2 in
-    rw ends (record { input = input; output = ran.0; read = all; is_output = ran.1; wrote = part-kept old.taken new.taken held' ran.0 part kept })
+    rw ends (record { input = input; output = ran.0; read = all; is_output = ran.1; wrote = part-all old new held' kept ran.0 [] ran.0 (append-nil ran.0) ran.2 })
 ends_run op input left left' held' old new (Err (fault.Write why)) ended all ran kept ends =
-    let part = part-of old new ran.0 [] ran.0 (append-nil ran.0) ran.2 in
-    rw ends (record { input = input; output = ran.0; read = all; is_output = ran.1; wrote = part-kept old.taken new.taken held' ran.0 part kept })
+    rw ends (record { input = input; output = ran.0; read = all; is_output = ran.1; wrote = part-of old new held' kept ran.0 [] ran.0 (append-nil ran.0) ran.2 })
 ends_run op input left left' held' old new (Err (fault.Codec e)) ended all ran kept ends =
     rw ends (record { input = input; read = all; is_refusal = ran.0; kept = rw ran.1 at kept })
 ends_run op input left left' held' old new (Err fault.OutOfMemory) ended all ran kept ends = rw ends ((input, all.0), tt, rw ran.1 at kept)

@@ -1,44 +1,48 @@
 -- What an operation put, or why it put no more.
-use Rattle.std.proofs.Common.{rules, ◌≡◌, ◌<◌}
-use Rattle.hex_codec.specs.GroupedWriting.{piece_len, separator}
-use Rattle.hex_program.proofs.StreamServing.{decode-ended, decode-failed, line-ended, line-failed, lines-ended, lines-failed}
+use Rattle.std.proofs.Common.{rules, ◌≡◌, ◌<◌, ◌∷◌, [], List, ℕ, refl}
+use Rattle.std.proofs.lemmas.Result.{err_from_is_err_and}
+use Rattle.hex_core.specs.Text.{lowercase, text}
+use Rattle.hex_codec.specs.declared.group.Group.{Group}
+use Rattle.hex_codec.specs.GroupedWriting.{grouped, piece_len, separator}
+use Rattle.hex_program.specs.declared.stream.StreamOp.TheVariants.{Encode, EncodeLines}
+use Rattle.hex_program.proofs.StreamServing.{decoded, joined, line-ended, line-failed, lines-failed, lines-of}
 use Rattle.hex_program.proofs.stream.run_stream.Goals as goal
 
-pub returns-in-Ok : goal.returns-in-Ok
-returns-in-Ok g c =
-    let law = c.puts_in_a_row_are_one.ensures in let st = g.S.Sink.state in let read = c.in-Ok.ensures.answer in
-    let ends = line-ended law.taken law.stopped read.0 (g.R.Read.remaining c.encode_stream.new.reader) (st c.args.sink.now) (st c.encode_stream.new.sink) (st c.end_line.new.sink) c.in-Ok.field-0 c.end_line.result read.2 c.end_line.ensures in
+-- a group of this length and this separator joins the pieces by it
+by-lines : (lines : Group) → piece_len lines ≡ 30 → separator lines ≡ 10 → (bytes : List ℕ) → grouped lines lowercase bytes ≡ joined bytes
+by-lines lines long newline bytes = simp (long, newline) refl
+
+pub returns-in_ok-encode_stream-in-Encode : goal.returns-in_ok-encode_stream-in-Encode
+returns-in_ok-encode_stream-in-Encode g c = λ after kept.
+    let law = c.puts_in_a_row_are_one.ensures in let st = g.S.Sink.state in let read = c.in_ok-encode_stream-in-Encode.ensures.answer in
+    let ends = line-ended Encode read.0 (text lowercase read.0) _ (g.R.Read.remaining c.encode_stream.new.reader) after (st c.args.sink.now) (st c.encode_stream.new.sink) (st c.put_all.new.sink) kept
+    law.taken law.stopped refl (λ part. part) refl read.2.1 read.2.2 c.put_all.result c.map_err.result c.put_all.ensures.puts c.map_err.ensures.cases in
     rw c.in-Encode.is (record { input = read.0; read = read.1; begun = ends.0; end = ends.1 })
 
-pub returns-in-Err : goal.returns-in-Err
-returns-in-Err g c =
-    let st = g.S.Sink.state in let read = c.in-Err.ensures.answer in
-    let ends = line-failed read.0 (g.R.Read.remaining c.encode_stream.new.reader) (st c.args.sink.now) (st c.encode_stream.new.sink) c.in-Err.fault read.2 in
-    rw c.in-Encode.is (record { input = read.0; read = read.1; begun = ends.0; end = ends.1 })
+pub returns-in_err-encode_stream-in-Encode : goal.returns-in_err-encode_stream-in-Encode
+returns-in_err-encode_stream-in-Encode g c = λ after kept.
+    let st = g.S.Sink.state in let read = c.in_err-encode_stream-in-Encode.ensures.answer in let end = err_from_is_err_and c.from_residual.result c.from_residual.ensures.1 in
+    let ends = line-failed read.0 (g.R.Read.remaining c.encode_stream.new.reader) after (st c.args.sink.now) (st c.encode_stream.new.sink) kept c.in_err-encode_stream-in-Encode.field-0.0 read.2 in
+    rw (c.in-Encode.is, end.1, end.2) (record { input = read.0; read = read.1; begun = ends.0; end = ends.1 })
 
-pub returns-in-Ok-encode_grouped_stream : goal.returns-in-Ok-encode_grouped_stream
-returns-in-Ok-encode_grouped_stream g c =
-    let law = c.puts_in_a_row_are_one.ensures in let st = g.S.Sink.state in let read = c.in-Ok-encode_grouped_stream.ensures.answer in let lines = c.unwrap-lines.result in
-    let long : piece_len lines ≡ 30 = search rules in let newline : separator lines ≡ 10 = search rules in
-    let some : 0 < c.in-Ok-encode_grouped_stream.field-0 = search rules in
-    let ends = lines-ended lines long newline law.taken law.stopped read.0 (g.R.Read.remaining c.encode_grouped_stream.new.reader) (st c.args.sink.now) (st c.encode_grouped_stream.new.sink) (st c.end_line-in-Ok-encode_grouped_stream.new.sink) c.in-Ok-encode_grouped_stream.field-0 c.end_line-in-Ok-encode_grouped_stream.result some read.2 c.end_line-in-Ok-encode_grouped_stream.ensures in
+pub returns-in_err-encode_grouped_stream-in-EncodeLines : goal.returns-in_err-encode_grouped_stream-in-EncodeLines
+returns-in_err-encode_grouped_stream-in-EncodeLines g c = λ after kept.
+    let st = g.S.Sink.state in let here = c.in_err-encode_grouped_stream-in-EncodeLines in let read = here.ensures.answer in
+    let back = c.from_residual-in_err-encode_grouped_stream-in-EncodeLines in let end = err_from_is_err_and back.result back.ensures.1 in
+    let same = by-lines c.unwrap-lines.result (search rules) (search rules) in
+    let ends = lines-failed (grouped c.unwrap-lines.result lowercase) same read.0 (g.R.Read.remaining c.encode_grouped_stream.new.reader) after (st c.args.sink.now) (st c.encode_grouped_stream.new.sink) kept here.field-0.0 read.2 in
+    rw (c.in-EncodeLines.is, end.1, end.2) (record { input = read.0; read = read.1; begun = ends.0; end = ends.1 })
+
+pub returns-in_default : goal.returns-in_default
+returns-in_default g c = λ after kept.
+    let law = c.puts_in_a_row_are_one.ensures in let st = g.S.Sink.state in let read = c.in_ok-encode_grouped_stream-in-EncodeLines.ensures.answer in
+    let took = rw (by-lines c.unwrap-lines.result (search rules) (search rules) read.0) at read.2.1 in
+    let ends = line-ended EncodeLines read.0 (joined read.0) _ (g.R.Read.remaining c.encode_grouped_stream.new.reader) after (st c.args.sink.now) (st c.encode_grouped_stream.new.sink) (st c.put_all-in_default.new.sink) kept
+    law.taken law.stopped (lines-of read.0 (search rules)) (λ part. part) refl took read.2.2 c.put_all-in_default.result c.map_err-in_default.result c.put_all-in_default.ensures.puts c.map_err-in_default.ensures.cases in
     rw c.in-EncodeLines.is (record { input = read.0; read = read.1; begun = ends.0; end = ends.1 })
 
-pub returns-in-Err-encode_grouped_stream : goal.returns-in-Err-encode_grouped_stream
-returns-in-Err-encode_grouped_stream g c =
-    let st = g.S.Sink.state in let read = c.in-Err-encode_grouped_stream.ensures.answer in let lines = c.unwrap-lines.result in
-    let long : piece_len lines ≡ 30 = search rules in let newline : separator lines ≡ 10 = search rules in
-    let ends = lines-failed lines long newline read.0 (g.R.Read.remaining c.encode_grouped_stream.new.reader) (st c.args.sink.now) (st c.encode_grouped_stream.new.sink) c.in-Err-encode_grouped_stream.fault read.2 in
-    rw c.in-EncodeLines.is (record { input = read.0; read = read.1; begun = ends.0; end = ends.1 })
-
-pub returns-in-Ok-decode_spaced_stream : goal.returns-in-Ok-decode_spaced_stream
-returns-in-Ok-decode_spaced_stream g c =
-    let st = g.S.Sink.state in let read = c.in-Ok-decode_spaced_stream.ensures.answer in
-    let ends = decode-ended read.0 (g.R.Read.remaining c.decode_spaced_stream.new.reader) (st c.args.sink.now) (st c.decode_spaced_stream.new.sink) c.in-Ok-decode_spaced_stream.field-0 read.2 in
-    rw c.in-Decode.is (record { input = read.0; read = read.1; begun = ends.0; end = ends.1 })
-
-pub returns-in-Err-decode_spaced_stream : goal.returns-in-Err-decode_spaced_stream
-returns-in-Err-decode_spaced_stream g c =
-    let st = g.S.Sink.state in let read = c.in-Err-decode_spaced_stream.ensures.answer in
-    let ends = decode-failed read.0 (g.R.Read.remaining c.decode_spaced_stream.new.reader) (st c.args.sink.now) (st c.decode_spaced_stream.new.sink) c.in-Err-decode_spaced_stream.fault read.2 in
+pub returns-in-Decode : goal.returns-in-Decode
+returns-in-Decode g c = λ after kept.
+    let st = g.S.Sink.state in let read = c.decode_spaced_stream.ensures.answer in
+    let ends = decoded (g.R.Read.remaining c.decode_spaced_stream.new.reader) after (st c.args.sink.now) (st c.decode_spaced_stream.new.sink) kept _ read.0 c.decode_spaced_stream.result c.map.result read.2 c.map.ensures.cases in
     rw c.in-Decode.is (record { input = read.0; read = read.1; begun = ends.0; end = ends.1 })

@@ -1,20 +1,17 @@
 -- It asks the counts, and then refuses or answers what the inner allocator answers. Assumes `Logic`.
 use Rattle.test_kit.proofs.RefusingKit.{◌≡◌, ℕ, ◌+◌, Bool, true, false, List, [], ◌∷◌, Ok, Err, refl, ap, w64, Args}
-use Rattle.test_kit.proofs.RefusingKit.{a_type, dnil, dcons, Val, vint, vptr}
-use Rattle.test_kit.proofs.RefusingKit.{inst_fn, id⊢, ftrue, fsep, flft, size, align, capped, up, ‵, raw, ◌⊛◌, some}
-use Rattle.test_kit.proofs.RefusingKit.{later, at_ret, Sq, prop, ◌$◌, ◌∵◌, !, qed}
+use Rattle.test_kit.proofs.RefusingKit.{a_type, dnil, dcons, Val, vint, vptr, inst_fn, id⊢, ftrue, fsep, flft, size}
+use Rattle.test_kit.proofs.RefusingKit.{align, capped, up, ‵, raw, ◌⊛◌, some, later, at_ret, Sq, prop, ◌$◌, ◌∵◌, !, qed}
 use Rattle.test_kit.proofs.RefusingKit.{move, keep, drop, use0, use1, use2, split, join, pick, fsplit, fjoin, feq_i}
-use Rattle.test_kit.proofs.RefusingKit.{feq_l, suffices, await, done, agg, lit}
-use Rattle.test_kit.proofs.RefusingKit.{stop, fld, addr, un, no_more, and_then, first, branches, skips, exec, returns}
-use Rattle.test_kit.proofs.RefusingKit.{returns_within, enter, alloc_all}
+use Rattle.test_kit.proofs.RefusingKit.{feq_l, suffices, await, done, agg, lit, stop, fld, addr, un, no_more, and_then}
+use Rattle.test_kit.proofs.RefusingKit.{first, branches, skips, exec, returns, returns_within, enter, alloc_all}
 use Rattle.test_kit.proofs.RefusingKit.{pass_all, free_all, look_at, get, through, sets, lands_as, env, ◌⊑◌, ⊑_trans}
-use Rattle.test_kit.proofs.RefusingKit.{fact, tables, bool, usize, RefOf, yes}
-use Rattle.test_kit.proofs.RefusingKit.{unhide, bounded, param, uint_vals, uint_Tells, owns, block_ptr, shr_vals, plain}
-use Rattle.test_kit.proofs.RefusingKit.{types_at, heard, nothing, only}
+use Rattle.test_kit.proofs.RefusingKit.{fact, tables, bool, usize, RefOf, yes, unhide, bounded, param, uint_vals}
+use Rattle.test_kit.proofs.RefusingKit.{uint_Tells, owns, block_ptr, shr_vals, plain, types_at, heard, nothing, only}
 use Rattle.test_kit.proofs.RefusingKit.{calls_at, triple_of, framed, Stays, stay_dropped, walk_of, ends_at}
-use Rattle.test_kit.proofs.RefusingKit.{Goes-dropped, Al, α, seen, Answer, answer_val}
-use Rattle.test_kit.proofs.RefusingKit.{Answer-typed, Answer-Ok, Answer-err, Takes, at_takes, Answered, Takes-goes}
-use Rattle.test_kit.proofs.RefusingKit.{Takes-gives, answers, proved, after}
+use Rattle.test_kit.proofs.RefusingKit.{Goes-dropped, Al, α, seen, Answer, answer_val, Answer-typed, Answer-Ok}
+use Rattle.test_kit.proofs.RefusingKit.{Answer-err, Takes, at_takes, Answered, Takes-goes, Takes-gives, answers, proved}
+use Rattle.test_kit.proofs.RefusingKit.{after}
 use Rattle.test_kit.proofs.refusing.grants.Met as grants
 use Rattle.test_kit.specs.contracts.refusing.Refusing as refusing
 use Rattle.test_kit.specs.contracts.refusing.grants as asked

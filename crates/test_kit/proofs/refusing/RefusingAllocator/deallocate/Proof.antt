@@ -1,19 +1,16 @@
 -- It counts the block, and gives it back to the inner allocator. Assumes `Logic`.
 use Rattle.test_kit.proofs.RefusingKit.{◌≡◌, ℕ, ◌+◌, List, [], ◌∷◌, refl, w64, Args, a_type, dnil, dcons, Val, vunit}
-use Rattle.test_kit.proofs.RefusingKit.{vint, vptr, inst_fn, id⊢, never, fst∗}
-use Rattle.test_kit.proofs.RefusingKit.{ftrue, fsep, flft, size, align, capped, up, WpFn, sem, ‵, raw, ◌⊛◌, later}
-use Rattle.test_kit.proofs.RefusingKit.{given, prop, ◌$◌, ◌∵◌, !, qed, move, keep}
+use Rattle.test_kit.proofs.RefusingKit.{vint, vptr, inst_fn, id⊢, never, fst∗, ftrue, fsep, flft, size, align, capped}
+use Rattle.test_kit.proofs.RefusingKit.{up, WpFn, sem, ‵, raw, ◌⊛◌, later, given, prop, ◌$◌, ◌∵◌, !, qed, move, keep}
 use Rattle.test_kit.proofs.RefusingKit.{use1, split, split3, join, learn, fsplit, fjoin, feq_i, regoal, suffices, await}
-use Rattle.test_kit.proofs.RefusingKit.{done, unit_lit, stop, fld, addr}
-use Rattle.test_kit.proofs.RefusingKit.{no_more, and_then, of_opd, returns, enter, alloc_all, pass_all, free_all}
-use Rattle.test_kit.proofs.RefusingKit.{look_at, get, through, sets, lands_as, ◌⊑◌}
+use Rattle.test_kit.proofs.RefusingKit.{done, unit_lit, stop, fld, addr, no_more, and_then, of_opd, returns, enter}
+use Rattle.test_kit.proofs.RefusingKit.{alloc_all, pass_all, free_all, look_at, get, through, sets, lands_as, ◌⊑◌}
 use Rattle.test_kit.proofs.RefusingKit.{⊑_trans, fact, tables, usize, RawPtr, RefOf, yes, unhide, bounded, param}
-use Rattle.test_kit.proofs.RefusingKit.{uint_vals, uint_Tells, owns, Ptr}
-use Rattle.test_kit.proofs.RefusingKit.{block_ptr, null_ptr, ptr_val, in_a_block, rawptr_vals, rawptr_Tells, room_for}
-use Rattle.test_kit.proofs.RefusingKit.{shr_vals, plain, types_at, heard}
-use Rattle.test_kit.proofs.RefusingKit.{nothing, calls_at, framed, Stays, stay_dropped, walk_of, ends_at, Goes-dropped}
-use Rattle.test_kit.proofs.RefusingKit.{Al, α, seen, token, Gives, at_gives}
-use Rattle.test_kit.proofs.RefusingKit.{Gives-goes, Gives-Gives, proved, ap, some, drop, use2, pick, feq_l, unit, only, triple_of}
+use Rattle.test_kit.proofs.RefusingKit.{uint_vals, uint_Tells, owns, Ptr, block_ptr, null_ptr, ptr_val, in_a_block}
+use Rattle.test_kit.proofs.RefusingKit.{rawptr_vals, rawptr_Tells, room_for, shr_vals, plain, types_at, heard, nothing}
+use Rattle.test_kit.proofs.RefusingKit.{calls_at, framed, Stays, stay_dropped, walk_of, ends_at, Goes-dropped, Al, α}
+use Rattle.test_kit.proofs.RefusingKit.{seen, token, Gives, at_gives, Gives-goes, Gives-Gives, proved, ap, some, drop}
+use Rattle.test_kit.proofs.RefusingKit.{use2, pick, feq_l, unit, only, triple_of}
 use Rattle.test_kit.proofs.refusing.releases.Met as releases
 use Rattle.test_kit.specs.contracts.refusing.Refusing as refusing
 use Rattle.test_kit.specs.contracts.refusing.releases as released
