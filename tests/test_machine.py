@@ -46,8 +46,8 @@ def rows(name):
     return [it for it in text.splitlines() if it[0] != "#"]
 
 
-def all_shown(image, build, call, most):
-    return list((shown_grouped if call in GROUPED else shown)(image, build, call, most))
+def all_shown(image, build, call, most, *least):
+    return list((shown_grouped if call in GROUPED else shown)(image, build, call, most, *least))
 
 
 @pytest.fixture(scope="module")
@@ -292,10 +292,11 @@ def assembled(folder, text):
 def test_change(tmp_path, row):
     where, *rules, _ = row.split(" | ")
     build, call, *words = where.split()
-    lengths, functions = ([it for it in words if it.isdigit() == is_length] for is_length in (True, False))
+    lengths, functions = ([it for it in words if it[0].isdigit() == is_length] for is_length in (True, False))
+    least = [int(it[:-1]) for it in lengths if it[-1] == "-"]
     image = assembled(tmp_path, changed(build, *functions or [call], rules))
     with pytest.raises(Refused):
-        all_shown(image, build, call, max(map(int, lengths), default=None))
+        all_shown(image, build, call, max([int(it) for it in lengths if it.isdigit()], default=None), *least)
 
 
 # Loops whose bytes are changed at random: the build, the call, and the function that they are in.

@@ -40,14 +40,15 @@ def is_valid_pointer(pointer, length):
 
 class Shown:
     """The check of a call for any length and any room, under one policy, or for one case of letters. To make it is to
-    check it: if something does not hold, Refused is raised. With `most`, only lengths up to that are checked."""
+    check it: if something does not hold, Refused is raised. Only lengths from `least` to `most` are checked."""
 
-    def __init__(self, image, at, call, policy, is_upper, most=None):
+    def __init__(self, image, at, call, policy, is_upper, most=None, least=0):
         self.set(call, policy, is_upper, LENGTH)
         half = z3.LShR(LENGTH.term, 1) if self.has_room else z3.BitVecVal(0, 64)
         self.writes = Value(z3.simplify(2 * LENGTH.term if self.is_encoding else half))
         facts = [apply(is_valid_pointer, SOURCE, LENGTH), apply(is_valid_pointer, DESTINATION, ROOM), IS_NO_POLICY]
         facts += [apply(z3.ULE, LENGTH, constant(most, 8))] if most is not None else []
+        facts += [apply(z3.UGE, LENGTH, constant(least, 8))] if least else []
         self.run(image, at, lambda name: policy % OTHER, facts)
         self.tests, self.long_tests = self.count(False), self.count(True)
 
@@ -195,9 +196,9 @@ def ways_of(call):
     return [(policy, is_upper) for policy in policies for is_upper in cases]
 
 
-def shown(image, build, call, most=None):
+def shown(image, build, call, most=None, least=0):
     """Checks a call for every length: under each policy and for all numbers that are none, or for both cases of
     letters."""
     for at in image.calls(build, call):
         for policy, is_upper in ways_of(call):
-            yield Shown(image, at, call, policy, is_upper, most)
+            yield Shown(image, at, call, policy, is_upper, most, least)
