@@ -14,7 +14,7 @@ use Rattle.hex_core.specs.Search.{AllValid, first_invalid}
 use Rattle.hex_core.specs.Plans.{StoresBlocks}
 use Rattle.hex_core.specs.Text.{Spells, with_front}
 use Rattle.hex_core.proofs.BlockLemmas.{decodes_next, decodes_over, decodes_whole, valid_over, valid_whole}
-use Rattle.hex_core.proofs.SearchLemmas.{first_is_first, part_at, part_valid, valid_before, valid_misses, valid_part}
+use Rattle.hex_core.proofs.SearchLemmas.{first_is_first, part_valid, valid_before, valid_misses, valid_part}
 use Rattle.hex_core.proofs.SpellsLemmas.{front_spells, spelled_along}
 
 -- ---- a part of a source, decoded over a part of a destination
@@ -22,13 +22,13 @@ use Rattle.hex_core.proofs.SpellsLemmas.{front_spells, spelled_along}
 pub part_decodes : (c : CheckCase) (s old part : List ℕ) (at size : ℕ) (done : Bool) → length s ≡ 2 * length old → at + size ≤ length old → length part ≡ size
     → DecodesWhole c (slice_range s (2 * at) (2 * (at + size))) (slice_range old at (at + size)) part done → DecodesAt c s old (put_mid at (at + size - at) old part) at size done
 part_decodes c s old part at size true twice inside long answer = (
-    (λ t k low lt. valid_part c s (2 * at) (2 * (at + size)) (omega arith) answer.0 k low (omega arith), λ valid. refl),
-    record {
-      decoded = λ k low lt. spelled_along (answer.1.each (k - at) (omega arith)) (grind (arith, common_steps)) (grind (arith, common_steps)) (grind (arith, common_steps));
-      before = λ k lt. grind (arith, common_steps);
-      behind = λ k le. grind (arith, common_steps);
-    },
-    tt,
+  (λ t k low lt. valid_part c s (2 * at) (2 * (at + size)) (omega arith) answer.0 k low (omega arith), λ valid. refl),
+  record {
+    decoded = λ k low lt. spelled_along (answer.1.each (k - at) (omega arith)) (grind (arith, common_steps)) (grind (arith, common_steps)) (grind (arith, common_steps));
+    before = λ k lt. grind (arith, common_steps);
+    behind = λ k le. grind (arith, common_steps);
+  },
+  tt,
 )
 part_decodes c s old part at size false twice inside long answer = (
   (λ t. cc, λ valid. absurd (answer.0 (part_valid c s (2 * at) (2 * (at + size)) (omega arith) (λ k low lt. valid k low (omega arith))))),
