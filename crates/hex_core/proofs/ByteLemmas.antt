@@ -191,6 +191,6 @@ checks_right c v slots {r} small same hashed is i h =
     let q : ltb (get_or r i 0) 128 ≡ has c b = rw (zipped_at (hashed_check c) v slots i is h (omega arith), s.2) test in
     (λ lt. sym q ∙ lt-ltb (get_or r i 0) 128 lt, λ t. ltb-true (get_or r i 0) 128 (q ∙ t))
 
--- ---- what digit_lanes.rt promises, where it is an equation
+-- ---- what digit_lanes.rt names
 
 pub ruleset bytes = (map-map, nibbles_values, saturated_nibbles, shuffled_text, zip2-map, zip2_splat)

@@ -194,6 +194,6 @@ or_small x y = (λ h. (omega (arith, h, le_or_l x y), omega (arith, h, le_or_r x
 pub high_bits_are_zero : (x : ℕ) → x < 256 → (bit_and x 240 ≡ 0) ↔ (x < 16)
 high_bits_are_zero x h = grind (arith, common_steps)
 
--- ---- what vector.rt promises, where it is an equation
+-- ---- what vector.rt names
 
 pub ruleset lanes = (differences, maxima, minima, zip2_splat)
