@@ -1,9 +1,7 @@
 -- The text of a list of bytes is ASCII.
-use Rattle.std.proofs.Common.{ℕ, suc, ◌/◌, ◌%◌, ◌<◌, Bool, true, false, List, [], ◌∷◌, length, get_or, inl, inr, arith, IsAscii}
-use Rattle.std.proofs.lemmas.Bool.{cases_lt}
+use Rattle.std.proofs.Common.{ℕ, suc, ◌/◌, ◌%◌, ◌<◌, Bool, true, false, List, [], ◌∷◌, get_or, arith, IsAscii}
 use Rattle.std.proofs.lemmas.Bool.Decides.{nat_tests}
 use Rattle.std.proofs.lemmas.Grind.{common_steps}
-use Rattle.std.proofs.lemmas.List.Elements.{All-get_or}
 use Rattle.std.proofs.lemmas.Str.Ascii.{IsAscii-nil, IsAscii-cons}
 use Rattle.std.specs.Str.{IsUtf8}
 use Rattle.std.proofs.lemmas.Str.{IsUtf8-from_ascii}
@@ -27,11 +25,7 @@ IsUtf8-text upper bytes range = IsUtf8-from_ascii _ (IsAscii-text upper bytes ra
 
 -- each byte of a list of bytes, and the default
 in_range : (bytes : List ℕ) → AreBytes bytes → (i : ℕ) → get_or bytes i 0 < 256
-in_range bytes all i =
-    elim (cases_lt i (length bytes)) [
-      | inl lt ↦ All-get_or (λ b. b < 256) bytes i 0 lt all
-      | inr past ↦ grind (arith, common_steps)
-    ]
+in_range bytes all i = grind (arith, common_steps)
 
 pub ascii_and_utf8 : TextsAreAscii
 ascii_and_utf8 upper bytes all = (IsAscii-text upper bytes (in_range bytes all), IsUtf8-text upper bytes (in_range bytes all))

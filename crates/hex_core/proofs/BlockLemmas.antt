@@ -6,7 +6,7 @@ use Rattle.std.specs.Prelude.{IfSome, IsSome, IsTrue, slice_index}
 use Rattle.std.specs.Int.{div_ceil}
 use Rattle.std.proofs.Math.Nat.{div-lt_iff_lt-mul, le-div_iff_mul-le, lt-div-mul-add, lt_of_mul-lt-mul_right, mod-add-div, mul_comm}
 use Rattle.std.proofs.lemmas.Bool.{cases_lt, iff_false}
-use Rattle.std.proofs.lemmas.Grind.{div_ceil_times}
+use Rattle.std.proofs.lemmas.Grind.{common_steps, div_ceil_times}
 use Rattle.std.proofs.lemmas.List.{get_or-drop, get_or-take, length-take-le}
 use Rattle.std.proofs.lemmas.Simd.{get_or-chunk, get_or-put_chunk_above, get_or-put_chunk_at, get_or-put_chunk_below}
 use Rattle.std.proofs.lemmas.Simd.{length-chunk, length-put_chunk}
@@ -28,9 +28,7 @@ use Rattle.hex_core.proofs.SpellsLemmas.{spelled_along}
 
 -- a block before the last whole one is inside
 pub block_inside : (len block i : ℕ) → 0 < block → i < len / block → i * block + block ≤ len
-block_inside len block i some lt =
-    let product : suc i * block ≤ len = (le-div_iff_mul-le some).0 (omega arith) in
-    omega (arith, product)
+block_inside len block i some lt = grind (arith, common_steps)
 
 -- where the whole blocks end: with the source, or less than a block before its end
 pub blocks_end : (len block : ℕ) → len % block ≡ 0 → len / block * block ≡ len
@@ -52,11 +50,7 @@ covers_whole len block None none whole = omega (arith, whole)
 module _ (c : CheckCase) (s : List ℕ) where
   -- a range, and one that begins inside it or at its end
   pub valid_over : (first middle start end : ℕ) → start ≤ middle → AllValid c s first middle → AllValid c s start end → AllValid c s first end
-  valid_over first middle start end le front back k low lt =
-      elim (cases_lt k middle) [
-        | inl before ↦ front k low before
-        | inr past ↦ back k (omega arith) lt
-      ]
+  valid_over first middle start end le front back k low lt = grind (arith, common_steps)
 
   -- a range of a source that has no invalid byte
   pub valid_range : (start end : ℕ) → end ≤ length s → first_invalid c s ≡ None → AllValid c s start end

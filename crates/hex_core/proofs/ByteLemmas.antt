@@ -139,13 +139,8 @@ shuffled_text upper row (b ∷ v) digits fits =
 
 -- ---- nibbles
 
--- a nibble is the value, where there is one
-nibble_value : (o : Option ℕ) (n : ℕ) → IsNibble o n → IfSome o (λ v. n ≡ v)
-nibble_value (Some v) n e = e
-nibble_value None n e = tt
-
 pub nibbles_values : (c : CheckCase) (v r : List ℕ) → AreNibbles c v r → AreValues c v r
-nibbles_values c v r are i h = nibble_value (value c (get_or v i 0)) (get_or r i 0) (are i h)
+nibbles_values c v r are i h = grind (arith, nat_tests, are i h)
 
 pub valid_values : (c : CheckCase) (v r : List ℕ) → Each1 (Fits w8) v → r ≡ map valid_nibble v → AreValues c v r
 valid_values c v r fits is i h =
@@ -196,6 +191,6 @@ checks_right c v slots {r} small same hashed is i h =
     let q : ltb (get_or r i 0) 128 ≡ has c b = rw (zipped_at (hashed_check c) v slots i is h (omega arith), s.2) test in
     (λ lt. sym q ∙ lt-ltb (get_or r i 0) 128 lt, λ t. ltb-true (get_or r i 0) 128 (q ∙ t))
 
--- ---- what digit_lanes.rt promises, where it is an equation
+-- ---- what digit_lanes.rt names
 
 pub ruleset bytes = (map-map, nibbles_values, saturated_nibbles, shuffled_text, zip2-map, zip2_splat)

@@ -1,8 +1,9 @@
 -- Sources in a row: what they spell, and the first invalid byte of them all.
-use Rattle.std.proofs.Common.{◌≡◌, ◌∙◌, inl, inr, ℕ, ◌+◌, ◌-◌, ◌*◌, ◌/◌, List, ◌++◌, length, length-append, length-drop}
-use Rattle.std.proofs.Common.{get_or, None, refl, sym, ap, arith}
+use Rattle.std.proofs.Common.{◌≡◌, inl, inr, ℕ, ◌+◌, ◌-◌, ◌*◌, ◌/◌, List, ◌++◌, length, length-append, length-drop}
+use Rattle.std.proofs.Common.{get_or, None, sym, arith}
 use Rattle.std.proofs.lemmas.Bool.{cases_lt}
-use Rattle.std.proofs.lemmas.List.{get_or-append_right, get_or-drop, get_or_append_left}
+use Rattle.std.proofs.lemmas.List.{get_or-drop, get_or_append_left}
+use Rattle.std.proofs.lemmas.Grind.{common_steps}
 use Rattle.hex_core.specs.declared.digit.CheckCase.{CheckCase}
 use Rattle.hex_core.specs.Laws.{FirstInvalidOfJoined, JoinedSourcesSpellJoined, PartsSpellParts}
 use Rattle.hex_core.specs.Search.{first_invalid}
@@ -12,9 +13,7 @@ use Rattle.hex_core.proofs.SpellsLemmas.{front_spells, spelled_along}
 
 -- a byte of the second of two sources
 pub back_at : (a b : List ℕ) (i all : ℕ) → all ≡ length a + i → get_or (a ++ b) all 0 ≡ get_or b i 0
-back_at a b i all place =
-    let index : all - length a ≡ i = omega (arith, place) in
-    get_or-append_right a b (length a) all 0 refl (omega (arith, place)) ∙ ap (λ k. get_or b k 0) index
+back_at a b i all place = grind (arith, common_steps)
 
 -- ---- what they spell
 

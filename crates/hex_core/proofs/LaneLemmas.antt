@@ -1,12 +1,13 @@
 -- What an operation makes of the lanes of a vector.
 use Rattle.std.proofs.Common.{◌≡◌, ℕ, zero, suc, ◌+◌, ◌-◌, ◌*◌, ◌/◌, ◌^◌, ◌%◌, ◌<◌, ◌≤◌, ◌↔◌, Bool, true, false, cond}
 use Rattle.std.proofs.Common.{leb, ltb, eqb, eqb-true, List, [], ◌∷◌, map, length, get_or, replicate, bit_and, bit_or}
-use Rattle.std.proofs.Common.{refl, ap, ap₂, sym, ◌∙◌, subst, Fits, w8, arith, ltb-true, ltb-false, lt-ltb}
+use Rattle.std.proofs.Common.{refl, ap, ap₂, sym, ◌∙◌, subst, Fits, w8, arith, ltb-true, ltb-false}
 use Rattle.std.specs.Prelude.{EachIndex, IsTrue, max, min}
-use Rattle.std.proofs.lemmas.Bool.{agree_below_at, leb-false, leb-true}
+use Rattle.std.proofs.lemmas.Bool.{leb-false, leb-true}
 use Rattle.std.proofs.lemmas.List.{get_or-map, length-map, length-replicate, map-id}
 use Rattle.std.proofs.lemmas.Nat.{le_or_l, le_or_r, or_lt}
 use Rattle.std.proofs.lemmas.Simd.{Each1-zip2, Each2-of, get_or-zip2, length-zip2, map-map, mask_l-mod, zip2_splat}
+use Rattle.std.proofs.lemmas.Grind.{common_steps}
 use lib.Lanes.{zip2, sel_l, top, fold_l, mask_l, Each1}
 use Rattle.hex_core.specs.inside.Arithmetic.{AreZero, pair_byte, saturating_add, wrapping_sub}
 use Rattle.hex_core.specs.inside.Hash.{average}
@@ -191,10 +192,8 @@ pub or_small : (x y : ℕ) → (bit_or x y < 16) ↔ ((x < 16) × (y < 16))
 or_small x y = (λ h. (omega (arith, h, le_or_l x y), omega (arith, h, le_or_r x y)), λ p. or_lt 4 x y p.0 p.1)
 
 pub high_bits_are_zero : (x : ℕ) → x < 256 → (bit_and x 240 ≡ 0) ↔ (x < 16)
-high_bits_are_zero x h =
-    let same = agree_below_at (λ x. eqb (bit_and x 240) 0) (λ x. ltb x 16) 256 x refl h in
-    (λ z. ltb-true x 16 (sym same ∙ rw z refl), λ lt. eqb-true _ _ (same ∙ lt-ltb x 16 lt))
+high_bits_are_zero x h = grind (arith, common_steps)
 
--- ---- what vector.rt promises, where it is an equation
+-- ---- what vector.rt names
 
 pub ruleset lanes = (differences, maxima, minima, zip2_splat)

@@ -3,7 +3,7 @@ use Rattle.std.proofs.Common.{◌≡◌, ℕ, List, ◌+◌, ◌*◌, ◌/◌, �
 use Rattle.std.proofs.Common.{Some, is_none, unwrap_or, refl, sym, subst, ◌∙◌, ap, arith, zero-add, inl, inr, [], ◌∷◌}
 use Rattle.std.proofs.lemmas.Bool.{cases_lt}
 use Rattle.std.proofs.lemmas.Bool.Decides.{nat_tests}
-use Rattle.std.proofs.lemmas.Grind.{same_number_lists}
+use Rattle.std.proofs.lemmas.Grind.{common_steps, same_number_lists}
 use Rattle.std.proofs.lemmas.List.{get_or-map, length-map}
 use Rattle.std.proofs.lemmas.List.Elements.{All-get_or, All-from_get_or}
 use Rattle.std.proofs.lemmas.List.FromFn.{get_or-map-range_with_len, length-map-range_with_len}
@@ -114,11 +114,7 @@ lowercased-at : (s : List ℕ) (k : ℕ) → k < length s → value policy.Lower
 lowercased-at s k lt = rw (get_or-map to_ascii_lowercase s k 0 0 lt) (grind (arith, nat_tests))
 
 spells-along : (c d : CheckCase) (s t bytes : List ℕ) → length t ≡ length s → ((k : ℕ) → k < length s → value d (get_or t k 0) ≡ value c (get_or s k 0)) → Spells c s bytes → Spells d t bytes
-spells-along c d s t bytes same read h =
-    let twice = h.twice in record {
-      twice = same ∙ twice;
-      each = λ i lt. record { high = read (2 * i) (omega arith) ∙ (h.each i lt).high; low = read (2 * i + 1) (omega arith) ∙ (h.each i lt).low };
-    }
+spells-along c d s t bytes same read h = grind (arith, common_steps)
 
 pub either-lowercased : EitherCaseIsLowercased
 either-lowercased s bytes =

@@ -14,37 +14,22 @@ use Rattle.hex_core.specs.Search.{AllValid, first_invalid}
 use Rattle.hex_core.specs.Plans.{StoresBlocks}
 use Rattle.hex_core.specs.Text.{Spells, with_front}
 use Rattle.hex_core.proofs.BlockLemmas.{decodes_next, decodes_over, decodes_whole, valid_over, valid_whole}
-use Rattle.hex_core.proofs.SearchLemmas.{first_is_first, part_at, part_valid, valid_before, valid_misses, valid_part}
+use Rattle.hex_core.proofs.SearchLemmas.{first_is_first, part_valid, valid_before, valid_misses, valid_part}
 use Rattle.hex_core.proofs.SpellsLemmas.{front_spells, spelled_along}
 
 -- ---- a part of a source, decoded over a part of a destination
 
-module _ (old part : List ℕ) (at size : ℕ) (inside : at + size ≤ length old) (long : length part ≡ size) where
-  before_part : (k : ℕ) → k < at → get_or (put_mid at (at + size - at) old part) k 0 ≡ get_or old k 0
-  before_part k lt = grind (arith, common_steps)
-
-  in_part : (k : ℕ) → k < size → get_or (put_mid at (at + size - at) old part) (at + k) 0 ≡ get_or part k 0
-  in_part k lt = grind (arith, common_steps)
-
-  behind_part : (k : ℕ) → at + size ≤ k → get_or (put_mid at (at + size - at) old part) k 0 ≡ get_or old k 0
-  behind_part k le = grind (arith, common_steps)
-
 pub part_decodes : (c : CheckCase) (s old part : List ℕ) (at size : ℕ) (done : Bool) → length s ≡ 2 * length old → at + size ≤ length old → length part ≡ size
     → DecodesWhole c (slice_range s (2 * at) (2 * (at + size))) (slice_range old at (at + size)) part done → DecodesAt c s old (put_mid at (at + size - at) old part) at size done
-part_decodes c s old part at size true twice inside long answer =
-    let digits = slice_range s (2 * at) (2 * (at + size)) in
-    let read : (k : ℕ) → k < 2 * size → get_or digits k 0 ≡ get_or s (2 * at + k) 0 = λ k lt. part_at s (2 * at) (2 * (at + size)) k (omega arith) (omega arith) in (
-      (λ t k low lt. valid_part c s (2 * at) (2 * (at + size)) (omega arith) answer.0 k low (omega arith), λ valid. refl),
-      record {
-        decoded = λ k low lt.
-            let j = k - at in
-            spelled_along (answer.1.each j (omega arith)) (ap (λ i. get_or s i 0) (omega arith) ∙ sym (read (2 * j) (omega arith))) (ap (λ i. get_or s i 0) (omega arith) ∙ sym (read (2 * j + 1) (omega arith)))
-            (ap (λ i. get_or (put_mid at (at + size - at) old part) i 0) (omega arith) ∙ in_part old part at size inside long j (omega arith));
-        before = before_part old part at size inside long;
-        behind = behind_part old part at size inside long;
-      },
-      tt,
-    )
+part_decodes c s old part at size true twice inside long answer = (
+  (λ t k low lt. valid_part c s (2 * at) (2 * (at + size)) (omega arith) answer.0 k low (omega arith), λ valid. refl),
+  record {
+    decoded = λ k low lt. spelled_along (answer.1.each (k - at) (omega arith)) (grind (arith, common_steps)) (grind (arith, common_steps)) (grind (arith, common_steps));
+    before = λ k lt. grind (arith, common_steps);
+    behind = λ k le. grind (arith, common_steps);
+  },
+  tt,
+)
 part_decodes c s old part at size false twice inside long answer = (
   (λ t. cc, λ valid. absurd (answer.0 (part_valid c s (2 * at) (2 * (at + size)) (omega arith) (λ k low lt. valid k low (omega arith))))),
   tt,

@@ -7,6 +7,7 @@ use lib.Lanes.{chunk, number_l, digits_l, pick_l, Each1}
 use Rattle.hex_core.specs.inside.Arithmetic.{interleaved, packed, pair_byte}
 use Rattle.hex_core.specs.Lanes.{ArePacked, AreSmall}
 use Rattle.std.specs.Prelude.{EachIndex}
+use Rattle.std.proofs.Math.ListN.{get_or-map}
 use Rattle.std.proofs.Math.Nat.{div-div-eq-div-mul, pow-succ'}
 use Rattle.std.proofs.lemmas.Bool.{cases_lt}
 use Rattle.std.proofs.lemmas.Simd.{Each1-chunk, below_from_Fits, get_or-chunk, get_or_narrower, get_or_wider, length-chunk}
@@ -143,11 +144,6 @@ pub eighths_fit : (w : List ℕ) → Each1 (Fits w32) w → Each1 (λ x. x < 2 ^
 eighths_fit [] f = tt
 eighths_fit (x ∷ w) f = (let h : x < 2 ^ 32 = f.0.fits in omega arith, eighths_fit w f.1)
 
-eighth_at : (w : List ℕ) (j : ℕ) → get_or (map (λ x. x / 8) w) j 0 ≡ get_or w j 0 / 8
-eighth_at [] j = refl
-eighth_at (x ∷ w) zero = refl
-eighth_at (x ∷ w) (suc j) = eighth_at w j
-
 -- a lane that is not its word's last, and one that is
 inner : (v : List ℕ) (i : ℕ) → i % 4 < 3 → get_or v (i + 1) 0 % 8 ≡ neighbour_bits v i
 inner v i h = grind (arith, nat_tests)
@@ -171,5 +167,5 @@ shifted_lane v e n fits is below i h =
       | inr high ↦ ap (λ x. x % 8) (get_or_past part (suc m) 0 (omega arith)) ∙ last v i high
     ] in
     ap (λ x. get_or bytes x 0) (sym place) ∙ get_or_narrower 4294967296 4 256 (4 * n) _ j m refl below (omega arith) (omega arith)
-    ∙ ap (λ x. x / 256 ^ m % 256) (ap (λ l. get_or l j 0) is ∙ eighth_at words j ∙ ap (λ x. x / 8) word) ∙ shifted_byte part m (Each1-chunk (Fits w8) (4 * j) 4 v fits.1) (omega arith)
+    ∙ ap (λ x. x / 256 ^ m % 256) (ap (λ l. get_or l j 0) is ∙ get_or-map (λ x. x / 8) words j 0 ∙ ap (λ x. x / 8) word) ∙ shifted_byte part m (Each1-chunk (Fits w8) (4 * j) 4 v fits.1) (omega arith)
     ∙ ap₂ (λ a b. a / 8 + 32 * b) (get_or-chunk (4 * j) 4 v m 0 (omega arith) ∙ ap (λ k. get_or v k 0) place) next

@@ -1,8 +1,8 @@
 -- The first place of a list that passes a test.
-use Rattle.std.proofs.Common.{◌≡◌, ℕ, ◌+◌, ◌-◌, ◌<◌, ◌≤◌, ◌↔◌, Bool, true, false, cond, eqb, not, inl, inr, List, ◌++◌}
-use Rattle.std.proofs.Common.{length, length-append, slice_index, Option, Some, None, option_map, refl, ap, ◌∙◌, arith}
+use Rattle.std.proofs.Common.{◌≡◌, ℕ, ◌+◌, ◌-◌, ◌<◌, ◌≤◌, ◌↔◌, Bool, true, false, not, inl, inr, List, ◌++◌}
+use Rattle.std.proofs.Common.{length, length-append, slice_index, Option, Some, None, option_map, refl, ◌∙◌, arith}
 use Rattle.std.specs.Option.{option_or}
-use Rattle.std.specs.Prelude.{nat_lt, position}
+use Rattle.std.specs.Prelude.{position}
 use Rattle.std.specs.List.{position_or_len, range_with_len}
 use Rattle.std.proofs.lemmas.Bool.{cases_lt}
 use Rattle.std.proofs.lemmas.Bool.Decides.{nat_tests}
@@ -30,15 +30,10 @@ before_none p s e k inside =
     fails_before_first p s k 0 (omega arith)
 
 -- that of a joined list is that of the first list, and else that of the second
-joined_at : (m n i j k : ℕ) → i ≤ m → k ≡ cond (eqb i m) (m + j) i
-    → cond (nat_lt k (m + n)) (Some k) None ≡ option_or (cond (nat_lt i m) (Some i) None) (option_map (λ x. m + x) (cond (nat_lt j n) (Some j) None))
-joined_at m n i j k le e = grind (arith, nat_tests)
-
 pub position-joined : (p : ℕ → Bool) (a b : List ℕ) → position p (a ++ b) ≡ option_or (position p a) (option_map (λ i. length a + i) (position p b))
 position-joined p a b =
-    ap (λ n. cond (nat_lt (position_or_len p (a ++ b)) n) (Some (position_or_len p (a ++ b))) None) (length-append a b)
-    ∙ joined_at (length a) (length b) (position_or_len p a) (position_or_len p b) (position_or_len p (a ++ b))
-    (prefix_len-le-length (λ x. not (p x)) a) (prefix_len-append (λ x. not (p x)) a b)
+    let le = prefix_len-le-length (λ x. not (p x)) a in let k = prefix_len-append (λ x. not (p x)) a b in let n = length-append a b in
+    grind (arith, nat_tests, le, k, n)
 
 -- so it has none exactly where neither list has one
 neither : (o p : Option ℕ) (n : ℕ) → (option_or o (option_map (λ i. n + i) p) ≡ None) ↔ ((o ≡ None) × (p ≡ None))

@@ -36,8 +36,7 @@ tests None = record { fails = (λ e. cc, λ e. cc); passes = λ e. refl; absent 
 
 -- what a byte reads as, along equal policies and sources
 pub read_along : (c w : CheckCase) (s t : List ℕ) (i b : ℕ) (d : Option ℕ) → d ≡ value w b → w ≡ c → b ≡ slice_index t i → t ≡ s → d ≡ value c (slice_index s i)
-read_along c w s t i b d read p byte q =
-    read ∙ (ap (value w) (byte ∙ ap (λ u. slice_index u i) q) ∙ ap (λ v. value v (slice_index s i)) p)
+read_along c w s t i b d read p byte q = grind (arith, common_steps)
 
 -- the invalid byte is the place behind a valid range, if its byte has no value
 pub first_invalid_is : (c : CheckCase) (s : List ℕ) (f : ℕ) → f < length s → AllValid c s 0 f → is_some (value c (slice_index s f)) ≡ false → first_invalid c s ≡ Some f
@@ -188,7 +187,4 @@ adds_then a b c m n k l looks tests is_looks is_tests p q = (omega (arith, p.0, 
 
 -- a range is valid in both, or in neither
 pub valid_same : (a b : ProbeState) (start end : ℕ) → SameSource a b → ValidIn b start end ↔ ValidIn a start end
-valid_same a b start end same = (
-  λ valid. subst (λ s. AllValid a.policy s start end) same.0 (subst (λ c. AllValid c b.source start end) same.1 valid),
-  λ valid. subst (λ s. AllValid b.policy s start end) (sym same.0) (subst (λ c. AllValid c a.source start end) (sym same.1) valid),
-)
+valid_same a b start end same = grind (arith, common_steps)

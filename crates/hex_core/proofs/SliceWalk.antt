@@ -8,6 +8,7 @@ use Kit.*
 use Types.*
 use Rattle.std.proofs.Common.{◌+◌, drop as drop_list, Option, MatchResult}
 use Rattle.std.proofs.lemmas.List.{length-append, length-drop}
+use Rattle.std.proofs.lemmas.Grind.{common_steps}
 use Rattle.hex_core.specs.Calls.{Answers, Fills}
 use Rattle.hex_core.specs.Text.{with_front}
 use Rattle.hex_core.specs.declared.error.Error.{Error}
@@ -31,9 +32,7 @@ Writes Answered old new u = MatchResult u
 
 -- a slice keeps its length, and so the front fits
 pub front_fits : (old new bytes : List ℕ) → new ≡ with_front old bytes → length new ≡ length old → length bytes ≤ length old
-front_fits old new bytes is same =
-    let e : length new ≡ length bytes + length (drop_list (length bytes) old) = ap length is ∙ length-append bytes (drop_list (length bytes) old) in
-    let d = length-drop (length bytes) old in omega (arith, e, d, same)
+front_fits old new bytes is same = grind (arith, common_steps)
 
 pub fills_writes : {E : Type 0} (refusal : Option E) (Is : List ℕ → Type 0) (old new : List ℕ) (u : Result ℕ E) → Fills refusal Is old new u
     → Writes (Answers refusal (λ front. Is front.now)) old new u

@@ -2,13 +2,14 @@
 use Rattle.std.proofs.Common.{◌≡◌, ℕ, List, ◌+◌, ◌*◌, ◌/◌, ◌%◌, ◌<◌, ◌≤◌, length, get_or, take, refl, arith, zero, suc, ◌-◌, ◌^◌}
 use Rattle.std.proofs.Common.{[], ◌∷◌, ◌++◌, ap, ap₂, ◌∙◌}
 use Rattle.std.proofs.Math.ListN.{set}
-use Rattle.std.proofs.lemmas.List.{get_or-set_same, get_or-set_other, get_or-take, length-take-le, get_or_append_left}
+use Rattle.std.proofs.lemmas.List.{get_or-set_same, get_or-set_other, get_or_append_left}
 use Rattle.std.proofs.lemmas.List.{get_or-append_right}
 use borrow.Author.Count.{below_more}
 use Rattle.hex_core.proofs.TableLemmas.{IsEntry}
 use Rattle.hex_core.specs.declared.digit.CheckCase.{CheckCase}
 use Rattle.hex_core.specs.Text.{Spells, SpellsAt}
 use Rattle.std.specs.Int.{byte_at, bytes_high_first}
+use Rattle.std.proofs.lemmas.Grind.{common_steps}
 
 -- the bytes below a place are those that their pairs of digits spell
 abbrev pub SpellsBelow : CheckCase → List ℕ → List ℕ → ℕ → Type 0
@@ -34,14 +35,7 @@ Spells-pair c table s bytes i v (first, second) h packed below =
 -- the front of a list whose first bytes are spelled, by a source that begins like another
 pub front_spells : (c : CheckCase) (s t kept : List ℕ) (n : ℕ) → length t ≡ 2 * n → n ≤ length kept → ((k : ℕ) → k < 2 * n → get_or t k 0 ≡ get_or s k 0)
     → SpellsBelow c s kept n → Spells c t (take n kept)
-front_spells c s t kept n twice inside same below =
-    let long : length (take n kept) ≡ n = length-take-le n kept inside in
-    record {
-      twice = omega arith;
-      each = λ i h.
-          let lt : i < n = omega arith in
-          spelled_along (below i lt) (same (2 * i) (omega arith)) (same (2 * i + 1) (omega arith)) (get_or-take n kept i 0 lt);
-    }
+front_spells c s t kept n twice inside same below = grind (arith, common_steps)
 
 -- ---- a number that keeps the list
 

@@ -2,7 +2,7 @@
 use Rattle.std.proofs.Common.{◌≡◌, ℕ, List, [], ◌∷◌, ◌++◌, ◌+◌, ◌*◌, ◌/◌, ◌%◌, ◌<◌, length, get_or, take, refl, arith, Bool}
 use Rattle.std.proofs.Common.{zero-add, ◌≤◌, drop, sym, ap, ◌∙◌}
 use Rattle.std.proofs.Math.ListN.{set, length-take}
-use Rattle.std.proofs.lemmas.List.{take_more, length-take, take-append-drop, take-take, take_all, take_at}
+use Rattle.std.proofs.lemmas.List.{take_more, length-take, take-append-drop, take-take, take_at}
 use Rattle.std.proofs.lemmas.List.Concat.{get_or-flat_map}
 use Rattle.std.proofs.lemmas.List.FromFn.{get_or-range_with_len}
 use Rattle.std.proofs.lemmas.Grind.{flat_map-append, common_steps}
@@ -76,8 +76,7 @@ pub written-none : (upper : Bool) (src dst : List ℕ) → length dst ≡ 2 * le
 written-none upper src dst long = record { long = long; front = refl }
 
 pub written-all : {upper : Bool} {src dst : List ℕ} (n : ℕ) → n ≡ length src → Written upper src dst n → dst ≡ text upper src
-written-all {upper} {src} {dst} n whole so_far =
-    sym (take_all (2 * n) dst (omega (arith, so_far.long, whole))) ∙ so_far.front ∙ ap (text upper) (take_all n src (omega (arith, whole)))
+written-all {upper} {src} {dst} n whole so_far = grind (arith, common_steps)
 
 -- then that of the w bytes from i on, which begin among those or behind them
 pub written-more : {upper : Bool} {src dst : List ℕ} {n : ℕ} (i w m at : ℕ) → i ≤ n → m ≡ i + w → m ≤ length src → at ≡ 2 * i

@@ -119,7 +119,7 @@ pub fn decode_by_table(src: &[u8], dst: &mut [u8], case: CheckCase) -> bool
     requires { length src.now ≡ 2 * length dst.old }
     ensures { DecodesWhole case src.now dst.old dst.new result }
 {
-    // Fewer digits are read in one pass, and the bytes are stored only if all digits are valid.
+    // Fewer than 16 digits are read in one pass. Their bytes are stored only if all are valid.
     if src.len() < 16 {
         let Some(word) = word_of(src, case) else {
             return false;
