@@ -1,6 +1,7 @@
 -- What the passes over the pieces of a grouped text keep.
-use Rattle.std.proofs.Common.{rules, ◌≡◌, inl, inr, Bool, ℕ, ◌+◌, ◌-◌, ◌*◌, ◌<◌, ◌≤◌, refl, sym, ap, ◌∙◌, arith, Option, Some}
-use Rattle.std.proofs.Common.{None, Ok, ◌^◌, List, [], ◌∷◌, ◌++◌, length, take, drop, get_or, option_map, append_assoc, length-drop}
+use Rattle.std.proofs.Common.{rules, ◌≡◌, inl, inr, Bool, ℕ, ◌+◌, ◌-◌, ◌*◌, ◌<◌, ◌≤◌, refl, sym, ap, ◌∙◌, arith}
+use Rattle.std.proofs.Common.{Option, Some, None, Ok, ◌^◌, List, ◌∷◌, ◌++◌, length, take, drop, get_or}
+use Rattle.std.proofs.Common.{option_map, append_assoc, length-drop}
 use Rattle.std.proofs.Math.ListN.{length-set, set}
 use Rattle.std.proofs.lemmas.Bool.{cases_lt}
 use Rattle.std.proofs.lemmas.Bool.Decides.{nat_tests}
@@ -18,8 +19,8 @@ use Rattle.hex_codec.specs.GroupedWriting.{grouped, piece_len, separator}
 use Rattle.hex_codec.specs.GroupedReading.{GroupSpells, first_invalid_in_text, grouped_len}
 use Rattle.hex_codec.proofs.GroupLemmas.{grouped-last, grouped-more, len-last, len-more, length-grouped}
 use Rattle.hex_codec.proofs.ListLemmas.{put-behind}
-use Rattle.hex_codec.proofs.PartLemmas.{spells-last, spells-more}
-use Rattle.hex_codec.proofs.InvalidInText.{Clear, clear-part, digit-invalid, last-invalid, part-clear, separator-wrong}
+use Rattle.hex_codec.proofs.PartLemmas.{spells-last, spells-more, Clear, clear-part, digit-invalid}
+use Rattle.hex_codec.proofs.PartLemmas.{last-invalid, part-clear, separator-wrong}
 
 -- ---- testing
 
@@ -40,14 +41,8 @@ module _ (c : CheckCase) (group : Group) where
   further a b (Some i) = ap Some (omega arith)
 
   -- there is a separator behind the next piece
-  inside : (s : List ℕ) (at left : ℕ) → length s ≡ at + grouped_len every left → every < left → at + n < length s
-  inside s at left long more = omega (arith, long, len-more every left group.is_group.0 more)
-
   reached : (s : List ℕ) (at left : ℕ) → length s ≡ at + grouped_len every left → every < left → n < length (drop at s)
-  reached s at left long more = omega (arith, inside s at left long more, length-drop at s)
-
-  mark-at : (s : List ℕ) (at : ℕ) → get_or (drop at s) n 0 ≡ get_or s (at + n) 0
-  mark-at s at = get_or-drop at s n 0
+  reached s at left long more = omega (arith, long, len-more every left group.is_group.0 more, length-drop at s)
 
   pub tests-digit : (s : List ℕ) (at left i : ℕ) → Tests s at left → first_invalid c (take n (drop at s)) ≡ Some i → first_invalid_in_text c group s ≡ Some (at + i)
   tests-digit s at left i so_far first = so_far.rest ∙ ap (option_map (λ i. at + i)) (digit-invalid c group (drop at s) i first)
@@ -56,7 +51,7 @@ module _ (c : CheckCase) (group : Group) where
       → (get_or s (at + n) 0 ≡ separator group → ⊥) → first_invalid_in_text c group s ≡ Some (at + n)
   tests-mark s at left so_far more valid differs =
       so_far.rest ∙ ap (option_map (λ i. at + i))
-      (separator-wrong c group (drop at s) (reached s at left so_far.long more) valid (λ e. differs (sym (mark-at s at) ∙ e)))
+      (separator-wrong c group (drop at s) (reached s at left so_far.long more) valid (λ e. differs (sym (get_or-drop at s n 0) ∙ e)))
 
   pub tests-more : (s : List ℕ) (at left : ℕ) → Tests s at left → every < left → first_invalid c (take n (drop at s)) ≡ None
       → get_or s (at + n) 0 ≡ separator group → Tests s (at + n + 1) (left - every)
@@ -65,7 +60,7 @@ module _ (c : CheckCase) (group : Group) where
       record {
         long = omega (arith, so_far.long, len-more every left group.is_group.0 more);
         rest = so_far.rest
-            ∙ ap (option_map (λ i. at + i)) (part-clear c group (drop at s) (reached s at left so_far.long more) valid (mark-at s at ∙ mark))
+            ∙ ap (option_map (λ i. at + i)) (part-clear c group (drop at s) (reached s at left so_far.long more) valid (get_or-drop at s n 0 ∙ mark))
             ∙ further at (n + 1) _ ∙ rw (drop-drop (n + 1) at s, place) refl;
       }
 
@@ -147,9 +142,6 @@ module _ (group : Group) (upper : Bool) where
         so_far = rw whole (ap (λ n. grouped group upper bytes ++ drop n old) (sym (length-grouped group upper bytes)));
       }
 
-  joined-mark : (a b : List ℕ) (mark : ℕ) (c d : List ℕ) → ((a ++ b) ++ (mark ∷ [])) ++ (c ++ d) ≡ a ++ ((b ++ (mark ∷ c)) ++ d)
-  joined-mark a b mark c d = simp append_assoc
-
   pub writes-more : (bytes old new : List ℕ) (at done : ℕ) → WritesRest bytes old new at done → each < length bytes - at
       → WritesRest bytes old (set (put_mid done (2 * each) new (text upper (take each (drop at bytes)))) (done + 2 * each) (separator group)) (at + each) (done + 2 * each + 1)
   writes-more bytes old new at done before more =
@@ -186,7 +178,7 @@ module _ (group : Group) (upper : Bool) where
           take_more_set put (done + 2 * each) (separator group) last,
           take-put_mid done (2 * each) new part (done + 2 * each) (omega (arith, size)) (omega (arith, before.room, before.long)),
           ← drop-drop each at bytes,
-        ) (joined-mark (take done new) part (separator group) behind (drop here (drop done new)) ∙ whole);
+        ) (simp append_assoc (simp append_assoc at whole));
       }
 
   pub writes-last : (bytes old new : List ℕ) (at done : ℕ) → WritesRest bytes old new at done → length bytes - at ≤ each
