@@ -7,8 +7,6 @@ use Rattle.hex_core.proofs.PositionLemmas.{least_is, least_none, least_told}
 use Rattle.hex_codec.specs.GroupedWriting.{piece_count}
 use Rattle.hex_codec.specs.GroupedReading.{byte_count, grouped_len}
 
--- ---- lengths
-
 -- some bytes as whole pieces and a last one
 pub record Cut (every n : ℕ) : Type 0 where
   pub whole : ℕ

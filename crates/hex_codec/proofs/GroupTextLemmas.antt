@@ -27,7 +27,7 @@ use Rattle.hex_codec.specs.GroupedReading.{GroupSpells, digits_in, is_invalid_in
 use Rattle.hex_codec.specs.GroupedReading.{first_invalid_in_text, group_refusal, grouped_len, refusal_of_count}
 use Rattle.hex_codec.proofs.GroupLemmas.{by_pieces, grouped-last, grouped-more, joined-pieces, pieces-next}
 use Rattle.hex_codec.proofs.GroupLemmas.{len-last, len-more}
-use Rattle.hex_codec.proofs.PartLemmas.{first-part, last-spelled, spells-last, spells-more, same-byte}
+use Rattle.hex_codec.proofs.PartLemmas.{first-part, last-spelled, spells-last, spells-more}
 use Rattle.hex_codec.proofs.PartLemmas.{spells-clear, clear-last, clear-part}
 use Rattle.hex_codec.proofs.SpelledLemmas.{one_list}
 use Rattle.hex_codec.specs.declared.grouped.GroupFault.{GroupFault}
@@ -127,7 +127,7 @@ IsDigitOrSeparator upper group b = IsSome (value (strict upper) b) ⊎ (b ≡ se
 -- a byte that is not wrong
 not-wrong : (at : Bool) (group : Group) (upper : Bool) (b : ℕ) (v : Option ℕ) → value (strict upper) b ≡ v
     → (if at then not (b == separator group) else is_none v) ≡ false → IsDigitOrSeparator upper group b
-not-wrong true group upper b v is e = inr (same-byte b (separator group) e)
+not-wrong true group upper b v is e = inr (grind (arith, nat_tests, e))
 not-wrong false group upper b None is e = cc
 not-wrong false group upper b (Some n) is e = inl (rw is refl)
 

@@ -27,18 +27,14 @@ use Rattle.hex_codec.specs.GroupedReading.{first_invalid_in_text, is_invalid_in_
 use Rattle.hex_codec.proofs.GroupLemmas.{len-last, len-more, no_pieces, one_piece, pieces-next, by_pieces}
 
 -- the first part of a text, and those behind it
-record Parted (every : ℕ) (s : List ℕ) : Type 0 where
-  pub digits : digits_in every s ≡ take (2 * every) s ++ digits_in every (drop (2 * every + 1) s)
-  pub separators : separators_in every s ≡ drop (2 * every) (take (2 * every + 1) s) ++ separators_in every (drop (2 * every + 1) s)
-
-parted : (every : ℕ) (s : List ℕ) → 0 < length s → Parted every s
+parted : (every : ℕ) (s : List ℕ) → 0 < length s
+    → (digits_in every s ≡ take (2 * every) s ++ digits_in every (drop (2 * every + 1) s))
+    × (separators_in every s ≡ drop (2 * every) (take (2 * every + 1) s) ++ separators_in every (drop (2 * every + 1) s))
 parted every s some =
     let line = 2 * every + 1 in
     let next = pieces-next line s (omega arith) some in
-    record {
-      digits = ap (flat_map (take (2 * every))) next ∙ ap (λ l. l ++ digits_in every (drop line s)) (take-take (2 * every) line s (omega arith));
-      separators = ap (flat_map (drop (2 * every))) next;
-    }
+    let digits = take-take (2 * every) line s (omega arith) in
+    (ap (flat_map (take (2 * every))) next ∙ ap (λ l. l ++ digits_in every (drop line s)) digits, ap (flat_map (drop (2 * every))) next)
 
 -- a text without a separator is its digits
 unparted : (every : ℕ) (s : List ℕ) → length s ≤ 2 * every → (digits_in every s ≡ s) × (separators_in every s ≡ [])
@@ -50,9 +46,6 @@ unparted every (b ∷ s) fits =
 
 one_separator : (n : ℕ) (s : List ℕ) → n < length s → drop n (take (n + 1) s) ≡ get_or s n 0 ∷ []
 one_separator n s long = rw (drop-take n 1 s, drop_more s n 0 long) refl
-
-pub same-byte : (x y : ℕ) → not (x == y) ≡ false → x ≡ y
-same-byte x y e = grind (arith, nat_tests, e)
 
 module _ (c : CheckCase) (group : Group) where
   abbrev every : ℕ
@@ -80,8 +73,8 @@ module _ (c : CheckCase) (group : Group) where
       let part = parted every s (omega (arith, long)) in
       record {
         long = omega (arith, left, rest.long, len, long);
-        separated = rw (part.separators, one_separator (2 * every) s (omega (arith, long))) (All-cons (λ b. b ≡ separator group) _ _ mark rest.separated);
-        spelled = rw part.digits (spells-joined c (take (2 * every) s) _ x y first rest.spelled);
+        separated = rw (part.1, one_separator (2 * every) s (omega (arith, long))) (All-cons (λ b. b ≡ separator group) _ _ mark rest.separated);
+        spelled = rw part.0 (spells-joined c (take (2 * every) s) _ x y first rest.spelled);
       }
 
   pub record First (s bytes : List ℕ) : Type 0 where
@@ -97,9 +90,9 @@ module _ (c : CheckCase) (group : Group) where
       let part = parted every s (omega (arith, long)) in
       let size = length-take-le (2 * every) s (omega (arith, long)) in
       let half : length (take (2 * every) s) / 2 ≡ every = omega (arith, size) in
-      let both = spells-parts c (take (2 * every) s) (digits_in every (drop (2 * every + 1) s)) bytes (omega (arith, size)) (rw part.digits at h.spelled) in
+      let both = spells-parts c (take (2 * every) s) (digits_in every (drop (2 * every + 1) s)) bytes (omega (arith, size)) (rw part.0 at h.spelled) in
       let marks : All (λ b. b ≡ separator group) (get_or s (2 * every) 0 ∷ separators_in every (drop (2 * every + 1) s)) =
-      rw (part.separators, one_separator (2 * every) s long) at h.separated in
+      rw (part.1, one_separator (2 * every) s long) at h.separated in
       record {
         long = long;
         digits = rw half at both.0;
@@ -192,7 +185,7 @@ module _ (c : CheckCase) (group : Group) where
       let clear = none_told (is_invalid_in_text c group s) (length s) none in
       record {
         valid = digits-valid s clear;
-        mark = same-byte (get_or s n 0) (separator group) (sym (at-separator s) ∙ clear n long);
+        mark = grind (arith, nat_tests, sym (at-separator s) ∙ clear n long);
         rest = least_none (is_invalid_in_text c group (drop (n + 1) s)) (length (drop (n + 1) s))
             (λ k lt. behind s k ∙ clear (n + 1 + k) (omega (arith, lt, length-drop (n + 1) s)));
       }

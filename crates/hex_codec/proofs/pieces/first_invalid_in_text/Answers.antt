@@ -1,15 +1,16 @@
 -- The first wrong byte is one of the next part, or stands behind it.
-use Rattle.std.proofs.Common.{◌*◌, ◌≤◌, sym, ◌∙◌, arith, Some, None}
+use Rattle.std.proofs.Common.{◌+◌, ◌*◌, ◌≤◌, sym, ap, ◌∙◌, arith, Some, None, drop, option_map}
 use Rattle.std.proofs.Math.Nat.{add-sub_cancel_left}
 use Rattle.std.proofs.lemmas.List.{take_rest}
-use Rattle.hex_codec.proofs.WriteLemmas.{last-size, tests-digit, tests-last, tests-mark, tests-more}
+use Rattle.hex_codec.proofs.PartLemmas.{digit-invalid}
+use Rattle.hex_codec.proofs.WriteLemmas.{last-size, tests-last, tests-mark, tests-more}
 use Rattle.hex_codec.proofs.pieces.first_invalid_in_text.Goals as goal
 
 pub returns-in-Some : goal.returns-in-Some
 returns-in-Some c =
-    let first = sym c.first_invalid.ensures ∙ c.in-Some.is in
-    sym (tests-digit c.args.case c.args.group c.args.src.now c.pieces.at c.pieces.left c.in-Some.index c.pieces.invariant
-    (rw (add-sub_cancel_left c.pieces.at (2 * c.every-every.result), c.every-every.ensures.value) at first))
+    let first = rw (add-sub_cancel_left c.pieces.at (2 * c.every-every.result), c.every-every.ensures.value) at (sym c.first_invalid.ensures ∙ c.in-Some.is) in
+    let digit = digit-invalid c.args.case c.args.group (drop c.pieces.at c.args.src.now) c.in-Some.index first in
+    sym (c.pieces.invariant.rest ∙ ap (option_map (λ i. c.pieces.at + i)) digit)
 
 pub returns-then-src-end : goal.returns-then-src-end
 returns-then-src-end c =
