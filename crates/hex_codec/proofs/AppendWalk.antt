@@ -1,18 +1,16 @@
 -- The walk of `hex_append` and of `hex_append_upper`: both pass on what `append_in` answers, with the lender in the other place.
-use Rattle.hex_core.proofs.SliceWalk.Kit.{refl, Bool, List, [], ◌∷◌, length, Ura, Callee, Fn, Operand, Ty, named}
-use Rattle.hex_core.proofs.SliceWalk.Kit.{erased, mut, ty_ref, place, deref, local}
-use Rattle.hex_core.proofs.SliceWalk.Kit.{value_local, copy, addr_of, seq, assign, call, return, vbool, sep, emp, id⊢}
-use Rattle.hex_core.proofs.SliceWalk.Kit.{Lft, ftrue, flft, Model, Closed, Logic}
-use Rattle.hex_core.proofs.SliceWalk.Kit.{sem, Item, Env, ‵, ◌⊛◌, raw, ◌$◌, ◌∵◌, !, qed, move, keep, split, join, fjoin}
-use Rattle.hex_core.proofs.SliceWalk.Kit.{use1, suffices, done, stop, addr}
-use Rattle.hex_core.proofs.SliceWalk.Kit.{and_then, no_more, returns, enter, alloc_all, pass_all, free_all, look_at}
-use Rattle.hex_core.proofs.SliceWalk.Kit.{get, through, sets, lands_as, ◌⊑◌, fact}
-use Rattle.hex_core.proofs.SliceWalk.Kit.{Running, tables, u8, bool, yes, no, Is, shows, lone, layout, param, bool_vals}
-use Rattle.hex_core.proofs.SliceWalk.Kit.{bool_Makes, RattleType, MutRef}
-use Rattle.hex_core.proofs.SliceWalk.Kit.{NamedLft, mut_vals, mut_Tells, plain, mut_ref_to, shr_slice_of, ShrSlice}
-use Rattle.hex_core.proofs.SliceWalk.Kit.{Room, shr_slice_vals, shr_slice_Tells}
-use Rattle.hex_core.proofs.SliceWalk.Kit.{nothing, owned, peeks, Clauses, closing, Meets, Goes-dropped, Goes-spent_ref}
-use Rattle.hex_core.proofs.SliceWalk.Kit.{Stays, ends_at, stay_dropped, proved}
+use Rattle.hex_core.proofs.SliceWalk.Kit.{refl, Bool, List, [], ◌∷◌, length, Ura, Callee, Fn, Operand, Ty}
+use Rattle.hex_core.proofs.SliceWalk.Kit.{named, erased, mut, ty_ref, place, deref, local, value_local, copy}
+use Rattle.hex_core.proofs.SliceWalk.Kit.{addr_of, seq, assign, call, return, vbool, sep, emp, id⊢, Lft, ftrue}
+use Rattle.hex_core.proofs.SliceWalk.Kit.{flft, Model, Closed, Logic, sem, Item, Env, ‵, ◌⊛◌, raw, ◌$◌, ◌∵◌, ! }
+use Rattle.hex_core.proofs.SliceWalk.Kit.{qed, move, keep, split, join, fjoin, use1, suffices, done, stop, addr}
+use Rattle.hex_core.proofs.SliceWalk.Kit.{and_then, no_more, returns, enter, alloc_all, pass_all, free_all}
+use Rattle.hex_core.proofs.SliceWalk.Kit.{look_at, get, through, sets, lands_as, ◌⊑◌, fact, Running, tables, u8}
+use Rattle.hex_core.proofs.SliceWalk.Kit.{bool, yes, no, Is, shows, lone, layout, param, bool_vals, bool_Makes}
+use Rattle.hex_core.proofs.SliceWalk.Kit.{RattleType, MutRef, NamedLft, mut_vals, mut_Tells, plain, mut_ref_to}
+use Rattle.hex_core.proofs.SliceWalk.Kit.{shr_slice_of, ShrSlice, Room, shr_slice_vals, shr_slice_Tells}
+use Rattle.hex_core.proofs.SliceWalk.Kit.{nothing, owned, peeks, Clauses, closing, Meets, Goes-dropped}
+use Rattle.hex_core.proofs.SliceWalk.Kit.{Goes-spent_ref, Stays, ends_at, stay_dropped, proved}
 use borrow.Table.Str.{str_laws}
 use denote.Param.Laws.{field_told}
 use denote.Text.{str-field, str-laws}

@@ -1,14 +1,11 @@
 -- Lengths of grouped texts, and what reading one needs.
-use Rattle.std.proofs.Common.{◌≡◌, inl, inr, ℕ, ◌+◌, ◌-◌, ◌*◌, ◌/◌, ◌%◌, ◌<◌, ◌≤◌, ◌==◌, sym, arith, Some, None}
+use Rattle.std.proofs.Common.{◌≡◌, inl, inr, ℕ, ◌+◌, ◌-◌, ◌*◌, ◌/◌, ◌%◌, ◌<◌, ◌≤◌, ◌==◌, arith, Some, None}
 use Rattle.std.proofs.lemmas.Bool.{cases_lt, eq-eqb, eqb-true, ne_eqb}
-use Rattle.std.proofs.lemmas.Bool.Decides.{nat_tests}
 use Rattle.std.proofs.lemmas.Nat.{div-add-mod', div-mul-add, le-div, mod-mul-add, mod_below}
 use Rattle.std.proofs.Math.Nat.{div-le_self, div-mul-le_self, zero-div, zero-mod}
 use Rattle.hex_core.proofs.PositionLemmas.{least_is, least_none, least_told}
 use Rattle.hex_codec.specs.GroupedWriting.{piece_count}
-use Rattle.hex_codec.specs.GroupedReading.{byte_count, grouped_len, refusal_of_count}
-
--- ---- lengths
+use Rattle.hex_codec.specs.GroupedReading.{byte_count, grouped_len}
 
 -- some bytes as whole pieces and a last one
 pub record Cut (every n : ℕ) : Type 0 where
@@ -75,12 +72,3 @@ module _ (every : ℕ) where
   -- what a number of bytes tells of the length
   pub count-told : (len n : ℕ) → byte_count every len ≡ Some n → grouped_len every n ≡ len
   count-told len n e = eqb-true (grouped_len every n) len (least_told (λ k. grouped_len every k == len) (len + 1) n e).here
-
--- ---- texts that are read
-
--- a length that is not refused is that of so many bytes, which have room
-pub fitting : (every len room n : ℕ) → refusal_of_count (byte_count every len) None room ≡ None → byte_count every len ≡ Some n
-    → (n ≤ room) × (len ≡ grouped_len every n)
-fitting every len room n h is =
-    let none : refusal_of_count (Some n) None room ≡ None = rw is at h in
-    (grind (arith, nat_tests, none), sym (count-told every len n is))

@@ -3,8 +3,6 @@ pub mod CountLemmas
 pub mod GroupLemmas
 mod GroupTextLemmas
 pub mod ListLemmas
-mod ReadBack
 mod SpelledLemmas
 mod PartLemmas
 mod WriteLemmas
-mod InvalidInText

@@ -1,8 +1,8 @@
 -- What the passes over the pieces of a grouped text keep.
-use Rattle.std.proofs.Common.{rules, ◌≡◌, inl, inr, Bool, ℕ, ◌+◌, ◌-◌, ◌*◌, ◌<◌, ◌≤◌, refl, sym, ap, ◌∙◌, arith, Option, Some}
-use Rattle.std.proofs.Common.{None, Ok, ◌^◌, List, [], ◌∷◌, ◌++◌, length, take, drop, get_or, option_map, append_assoc, length-drop}
+use Rattle.std.proofs.Common.{rules, ◌≡◌, Bool, ℕ, ◌+◌, ◌-◌, ◌*◌, ◌<◌, ◌≤◌, refl, sym, ap, ◌∙◌, arith}
+use Rattle.std.proofs.Common.{Option, Some, None, Ok, ◌^◌, List, ◌∷◌, ◌++◌, length, take, drop, get_or}
+use Rattle.std.proofs.Common.{option_map, append_assoc, length-drop}
 use Rattle.std.proofs.Math.ListN.{length-set, set}
-use Rattle.std.proofs.lemmas.Bool.{cases_lt}
 use Rattle.std.proofs.lemmas.Bool.Decides.{nat_tests}
 use Rattle.std.proofs.lemmas.List.{drop-drop, drop-set-lt, get_or-drop, length-take-le, places, take_more_set}
 use Rattle.std.proofs.lemmas.Slice.{drop-put_mid, take-put_mid}
@@ -16,10 +16,11 @@ use Rattle.hex_codec.specs.declared.group.Group.{Group}
 use Rattle.hex_codec.specs.GroupCalls.{WritesGrouped}
 use Rattle.hex_codec.specs.GroupedWriting.{grouped, piece_len, separator}
 use Rattle.hex_codec.specs.GroupedReading.{GroupSpells, first_invalid_in_text, grouped_len}
+use Rattle.hex_codec.proofs.CountLemmas.{len-most}
 use Rattle.hex_codec.proofs.GroupLemmas.{grouped-last, grouped-more, len-last, len-more, length-grouped}
 use Rattle.hex_codec.proofs.ListLemmas.{put-behind}
-use Rattle.hex_codec.proofs.PartLemmas.{spells-last, spells-more}
-use Rattle.hex_codec.proofs.InvalidInText.{Clear, clear-part, digit-invalid, last-invalid, part-clear, separator-wrong}
+use Rattle.hex_codec.proofs.PartLemmas.{spells-last, spells-more, Clear, clear-part}
+use Rattle.hex_codec.proofs.PartLemmas.{last-invalid, part-clear, separator-wrong}
 
 -- ---- testing
 
@@ -40,23 +41,14 @@ module _ (c : CheckCase) (group : Group) where
   further a b (Some i) = ap Some (omega arith)
 
   -- there is a separator behind the next piece
-  inside : (s : List ℕ) (at left : ℕ) → length s ≡ at + grouped_len every left → every < left → at + n < length s
-  inside s at left long more = omega (arith, long, len-more every left group.is_group.0 more)
-
   reached : (s : List ℕ) (at left : ℕ) → length s ≡ at + grouped_len every left → every < left → n < length (drop at s)
-  reached s at left long more = omega (arith, inside s at left long more, length-drop at s)
-
-  mark-at : (s : List ℕ) (at : ℕ) → get_or (drop at s) n 0 ≡ get_or s (at + n) 0
-  mark-at s at = get_or-drop at s n 0
-
-  pub tests-digit : (s : List ℕ) (at left i : ℕ) → Tests s at left → first_invalid c (take n (drop at s)) ≡ Some i → first_invalid_in_text c group s ≡ Some (at + i)
-  tests-digit s at left i so_far first = so_far.rest ∙ ap (option_map (λ i. at + i)) (digit-invalid c group (drop at s) i first)
+  reached s at left long more = omega (arith, long, len-more every left group.is_group.0 more, length-drop at s)
 
   pub tests-mark : (s : List ℕ) (at left : ℕ) → Tests s at left → every < left → first_invalid c (take n (drop at s)) ≡ None
       → (get_or s (at + n) 0 ≡ separator group → ⊥) → first_invalid_in_text c group s ≡ Some (at + n)
   tests-mark s at left so_far more valid differs =
       so_far.rest ∙ ap (option_map (λ i. at + i))
-      (separator-wrong c group (drop at s) (reached s at left so_far.long more) valid (λ e. differs (sym (mark-at s at) ∙ e)))
+      (separator-wrong c group (drop at s) (reached s at left so_far.long more) valid (λ e. differs (sym (get_or-drop at s n 0) ∙ e)))
 
   pub tests-more : (s : List ℕ) (at left : ℕ) → Tests s at left → every < left → first_invalid c (take n (drop at s)) ≡ None
       → get_or s (at + n) 0 ≡ separator group → Tests s (at + n + 1) (left - every)
@@ -65,7 +57,7 @@ module _ (c : CheckCase) (group : Group) where
       record {
         long = omega (arith, so_far.long, len-more every left group.is_group.0 more);
         rest = so_far.rest
-            ∙ ap (option_map (λ i. at + i)) (part-clear c group (drop at s) (reached s at left so_far.long more) valid (mark-at s at ∙ mark))
+            ∙ ap (option_map (λ i. at + i)) (part-clear c group (drop at s) (reached s at left so_far.long more) valid (get_or-drop at s n 0 ∙ mark))
             ∙ further at (n + 1) _ ∙ rw (drop-drop (n + 1) at s, place) refl;
       }
 
@@ -90,12 +82,6 @@ module _ (c : CheckCase) (group : Group) where
   pub next-clear : (s new : List ℕ) (at done : ℕ) → ReadsRest s new at done → every < length new - done → Clear c group (drop at s)
   next-clear s new at done so_far more = clear-part c group (drop at s) (reached s at (length new - done) so_far.long more) so_far.clear
 
-  some-bytes : (s bytes : List ℕ) → GroupSpells c group s bytes → 0 < length s → 0 < length bytes
-  some-bytes s bytes h some = elim (cases_lt 0 (length bytes)) [
-    | inl more ↦ more
-    | inr none ↦ absurd (omega (arith, h.long, len-last every (length bytes) group.is_group.0 (omega (arith, none)), some, none))
-  ]
-
   pub reads-more : (s old part : List ℕ) (at done : ℕ) → ReadsRest s old at done → every < length old - done
       → Spells c (take n (drop at s)) part → ReadsRest s (put_mid done every old part) (at + n + 1) (done + every)
   reads-more s old part at done so_far more digits =
@@ -115,7 +101,7 @@ module _ (c : CheckCase) (group : Group) where
         spells = λ bytes h.
             rw (take-put_mid done every old part (done + every) (omega (arith, size)) so_far.room, append_assoc (take done old) part bytes)
             (so_far.spells (part ++ bytes) (spells-more c group (drop at s) part bytes size
-            (some-bytes _ bytes h (omega (arith, length-drop (at + n + 1) s, left, more))) digits next.mark (rw behind h)));
+            (omega (arith, h.long, len-most every (length bytes) group.is_group.0, length-drop (at + n + 1) s, left, more)) digits next.mark (rw behind h)));
       }
 
   pub reads-last : (s old part : List ℕ) (at done : ℕ) → ReadsRest s old at done → length old - done ≤ every → Spells c (drop at s) part
@@ -146,9 +132,6 @@ module _ (group : Group) (upper : Bool) where
         room = room;
         so_far = rw whole (ap (λ n. grouped group upper bytes ++ drop n old) (sym (length-grouped group upper bytes)));
       }
-
-  joined-mark : (a b : List ℕ) (mark : ℕ) (c d : List ℕ) → ((a ++ b) ++ (mark ∷ [])) ++ (c ++ d) ≡ a ++ ((b ++ (mark ∷ c)) ++ d)
-  joined-mark a b mark c d = simp append_assoc
 
   pub writes-more : (bytes old new : List ℕ) (at done : ℕ) → WritesRest bytes old new at done → each < length bytes - at
       → WritesRest bytes old (set (put_mid done (2 * each) new (text upper (take each (drop at bytes)))) (done + 2 * each) (separator group)) (at + each) (done + 2 * each + 1)
@@ -186,7 +169,7 @@ module _ (group : Group) (upper : Bool) where
           take_more_set put (done + 2 * each) (separator group) last,
           take-put_mid done (2 * each) new part (done + 2 * each) (omega (arith, size)) (omega (arith, before.room, before.long)),
           ← drop-drop each at bytes,
-        ) (joined-mark (take done new) part (separator group) behind (drop here (drop done new)) ∙ whole);
+        ) (simp append_assoc (simp append_assoc at whole));
       }
 
   pub writes-last : (bytes old new : List ℕ) (at done : ℕ) → WritesRest bytes old new at done → length bytes - at ≤ each

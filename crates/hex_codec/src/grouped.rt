@@ -13,7 +13,7 @@ ghost use Rattle.hex_codec.specs.GroupCalls.{FrontIsRead, Reads, ReadsFront, Wri
 ghost use Rattle.hex_codec.specs.GroupMessage.{group_fault_text};
 
 pub use crate::group::Group;
-use crate::pieces::{first_invalid_in_text, read_pieces, write_pieces};
+use crate::pieces::{first_invalid_in_text, read_pieces, write_by_piece_len};
 use hex_core::{Backend, CheckCase, Error};
 use std::{error, fmt};
 
@@ -82,21 +82,6 @@ fn byte_count(len: usize, every: usize) -> Option<usize>
         return None;
     }
     Some(len / part * every + last / 2)
-}
-
-// Returns the number of bytes that a text of `len` bytes decodes to. Returns an error if no grouped
-// text has this length, or if that number exceeds `room`.
-fn required(len: usize, room: usize, group: Group) -> Result<usize, GroupFault>
-    ensures { Answers (refusal_of_count (byte_count (piece_len group) len) None room)
-        (λ n. byte_count (piece_len group) len ≡ Some n) result }
-{
-    let Some(required) = byte_count(len, group.every()) else {
-        return Err(GroupFault::BadLength);
-    };
-    if room < required {
-        return Err(GroupFault::OutputTooSmall { required });
-    }
-    Ok(required)
 }
 
 /// Decodes all of a grouped text into the start of `dst`, if `case` accepts its digits. Returns the
@@ -170,7 +155,12 @@ pub fn read_by(
 ) -> Result<usize, GroupFault>
     ensures answer { Reads case group src.now dst.old dst.new result }
 {
-    let count = required(src.len(), dst.len(), group)?;
+    let Some(count) = byte_count(src.len(), group.every()) else {
+        return Err(GroupFault::BadLength);
+    };
+    if dst.len() < count {
+        return Err(GroupFault::OutputTooSmall { required: count });
+    }
     if let Some(index) = first_invalid_in_text(plan, src, count, group, case) {
         return Err(GroupFault::InvalidByte {
             index,
@@ -221,7 +211,7 @@ fn grouped_len(len: usize, every: usize) -> Option<usize>
         (λ n. (n ≡ grouped_len every len) × (n < 2 ^ 64)) }
 {
     let digits = len.checked_mul(2)?;
-    digits.checked_add(len.div_ceil(every).saturating_sub(1))
+    digits.checked_add(len.saturating_sub(1) / every)
 }
 
 /// Encodes `src` in groups into the start of `dst`. Returns the number of bytes written, which is
@@ -265,8 +255,7 @@ pub fn write_by(
 ) -> Result<usize, Error>
     ensures answer { WritesGrouped group upper src.now dst.old dst.new result }
 {
-    // A text has fewer than three bytes for each byte of `src`. Its length takes a division, so it is
-    // counted only if less room is there.
+    // Three bytes for each of `src` are enough. With less room the length is counted, by a division.
     if dst.len() / 3 < src.len() {
         let Some(required) = grouped_len(src.len(), group.every()) else {
             return Err(Error::Overflow);
@@ -275,5 +264,11 @@ pub fn write_by(
             return Err(Error::OutputTooSmall { required });
         }
     }
-    Ok(write_pieces(plan, src, dst, group, upper))
+    // Pieces of 1 and of 4 bytes have code of their own, in which their length is a constant, so that
+    // such a piece is encoded without a loop.
+    Ok(match group.every() {
+        1 => write_by_piece_len(plan, src, dst, 1, group, upper),
+        4 => write_by_piece_len(plan, src, dst, 4, group, upper),
+        every => write_by_piece_len(plan, src, dst, every, group, upper),
+    })
 }

@@ -113,10 +113,10 @@ pub fn read_pieces(plan: Backend, src: &[u8], dst: &mut [u8], group: Group, case
     read_piece(plan, &src[at..], &mut dst[done..], case);
 }
 
-// Encodes `src` in groups into the start of `dst`. Returns the number of bytes written. The toolchain
-// inlines this function only for x86-64.
+/// Encodes `src` in groups of `every` bytes into the start of `dst`. Returns the number of bytes
+/// written. The toolchain inlines this function only for x86-64.
 #[inline(always)]
-fn write_by_piece_len(
+pub fn write_by_piece_len(
     plan: Backend,
     src: &[u8],
     dst: &mut [u8],
@@ -140,24 +140,4 @@ fn write_by_piece_len(
     let end = done + 2 * (src.len() - at);
     write_piece(plan, &src[at..], &mut dst[done..end], upper);
     end
-}
-
-/// Encodes `src` in groups into the start of `dst`. Returns the number of bytes written. Pieces of 1
-/// and of 4 bytes have code of their own, in which their length is a constant, so that such a piece
-/// is encoded without a loop.
-pub fn write_pieces(
-    plan: Backend,
-    src: &[u8],
-    dst: &mut [u8],
-    group: Group,
-    upper: bool,
-) -> usize
-    requires { grouped_len (piece_len group) (length src.now) ≤ length dst.old }
-    ensures { WritesGrouped group upper src.now dst.old dst.new (Ok result) }
-{
-    match group.every() {
-        1 => write_by_piece_len(plan, src, dst, 1, group, upper),
-        4 => write_by_piece_len(plan, src, dst, 4, group, upper),
-        every => write_by_piece_len(plan, src, dst, every, group, upper),
-    }
 }

@@ -32,7 +32,7 @@ use std::str;
 pub fn hex_string<A: Allocator + Drop>(alloc: A, src: &[u8]) -> Result<String<A>, Error>
     ensures answer { EncodesBehind string_bytes 0 lowercase src.now result }
 {
-    string_of(alloc, src, false)
+    prefixed_string(alloc, b"", src, false)
 }
 
 /// Encodes all of `src` as a new string of uppercase digits. The string has `2 * src.len()` bytes.
@@ -50,7 +50,7 @@ pub fn hex_string<A: Allocator + Drop>(alloc: A, src: &[u8]) -> Result<String<A>
 pub fn hex_string_upper<A: Allocator + Drop>(alloc: A, src: &[u8]) -> Result<String<A>, Error>
     ensures answer { EncodesBehind string_bytes 0 uppercase src.now result }
 {
-    string_of(alloc, src, true)
+    prefixed_string(alloc, b"", src, true)
 }
 
 /// Appends the digits of all of `src` to the text of `dst`, in uppercase if `upper` is true. These
@@ -140,13 +140,6 @@ pub fn hex_append_upper<'a, A: Allocator>(
     ensures answer { AnswersSuffix (λ suffix. suffix.now) uppercase src.now dst.old result }
 {
     append_in(dst, src, true)
-}
-
-// Returns a new string with the digits of `src`.
-fn string_of<A: Allocator + Drop>(alloc: A, src: &[u8], upper: bool) -> Result<String<A>, Error>
-    ensures { EncodesBehind string_bytes 0 upper src.now result }
-{
-    prefixed_string(alloc, b"", src, upper)
 }
 
 /// Returns a new string, which is a prefix followed by the digits of `src`. The letters are

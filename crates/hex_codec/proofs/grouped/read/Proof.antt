@@ -1,15 +1,14 @@
 -- `read` reads, and then lends the front.
-use Rattle.hex_core.proofs.SliceWalk.Kit.{refl, List, [], ◌∷◌, length, named, erased, Val, id⊢, GName, ftrue, flft}
-use Rattle.hex_core.proofs.SliceWalk.Kit.{full_share, ‵, ◌⊛◌, some, later, Sq, prop}
-use Rattle.hex_core.proofs.SliceWalk.Kit.{◌$◌, ◌∵◌, !, qed, move, keep, drop, split, split3, join, fsplit, fsplit3}
-use Rattle.hex_core.proofs.SliceWalk.Kit.{fjoin, feq_i, use1, use2, await, pick}
-use Rattle.hex_core.proofs.SliceWalk.Kit.{suffices, frame, done, whole, sub, agg, stop, fld, hop, from, addr, and_then}
-use Rattle.hex_core.proofs.SliceWalk.Kit.{no_more, enter, alloc_all, pass_all}
-use Rattle.hex_core.proofs.SliceWalk.Kit.{look_in_at, get, get_in, sets, lft_new, lft_end, kept_f, sl_relend, BareSlice}
-use Rattle.hex_core.proofs.SliceWalk.Kit.{u8, yes, no, owns, plain, ShrSlice}
-use Rattle.hex_core.proofs.SliceWalk.Kit.{MutSlice, Room, shr_slice_vals, shr_slice_Tells, mut_slice_vals}
-use Rattle.hex_core.proofs.SliceWalk.Kit.{mut_slice_Tells, nothing, heard, Goes-dropped}
-use Rattle.hex_core.proofs.SliceWalk.Kit.{Goes-spent_slice, Stays, ends_at, says, stay_dropped, walk_of, proved, LendsAnswer}
+use Rattle.hex_core.proofs.SliceWalk.Kit.{refl, List, [], ◌∷◌, length, named, erased, Val, id⊢, GName, ftrue}
+use Rattle.hex_core.proofs.SliceWalk.Kit.{flft, full_share, ‵, ◌⊛◌, some, later, Sq, prop, ◌$◌, ◌∵◌, !, qed}
+use Rattle.hex_core.proofs.SliceWalk.Kit.{move, keep, drop, split, split3, join, fsplit, fsplit3, fjoin, feq_i}
+use Rattle.hex_core.proofs.SliceWalk.Kit.{use1, use2, await, pick, suffices, frame, done, whole, sub, agg, stop}
+use Rattle.hex_core.proofs.SliceWalk.Kit.{fld, hop, from, addr, and_then, no_more, enter, alloc_all, pass_all}
+use Rattle.hex_core.proofs.SliceWalk.Kit.{look_in_at, get, get_in, sets, lft_new, lft_end, kept_f, sl_relend}
+use Rattle.hex_core.proofs.SliceWalk.Kit.{BareSlice, u8, yes, no, owns, plain, ShrSlice, MutSlice, Room}
+use Rattle.hex_core.proofs.SliceWalk.Kit.{shr_slice_vals, shr_slice_Tells, mut_slice_vals, mut_slice_Tells}
+use Rattle.hex_core.proofs.SliceWalk.Kit.{nothing, heard, Goes-dropped, Goes-spent_slice, Stays, ends_at, says}
+use Rattle.hex_core.proofs.SliceWalk.Kit.{stay_dropped, walk_of, proved, LendsAnswer}
 use Rattle.hex_core.proofs.SliceWalk.Types.{Known, Lent, Policy, calls, typed, vals}
 use Rattle.hex_core.proofs.SliceWalk.{Source, Target, fills_writes, front_or_refusal}
 use Rattle.hex_codec.specs.contracts.group.Group as GR

@@ -1,17 +1,16 @@
 -- The first wrong byte is one of the next part, or stands behind it.
-use Rattle.std.proofs.Common.{◌≡◌, ℕ, ◌+◌, ◌-◌, ◌*◌, ◌≤◌, sym, ◌∙◌, arith, Some, None}
+use Rattle.std.proofs.Common.{◌+◌, ◌*◌, ◌≤◌, sym, ap, ◌∙◌, arith, Some, None, drop, option_map}
+use Rattle.std.proofs.Math.Nat.{add-sub_cancel_left}
 use Rattle.std.proofs.lemmas.List.{take_rest}
-use Rattle.hex_codec.proofs.WriteLemmas.{last-size, tests-digit, tests-last, tests-mark, tests-more}
+use Rattle.hex_codec.proofs.PartLemmas.{digit-invalid}
+use Rattle.hex_codec.proofs.WriteLemmas.{last-size, tests-last, tests-mark, tests-more}
 use Rattle.hex_codec.proofs.pieces.first_invalid_in_text.Goals as goal
-
-taken : (at every : ℕ) → at + 2 * every - at ≡ 2 * every
-taken at every = omega arith
 
 pub returns-in-Some : goal.returns-in-Some
 returns-in-Some c =
-    let first = sym c.first_invalid.ensures ∙ c.in-Some.is in
-    sym (tests-digit c.args.case c.args.group c.args.src.now c.pieces.at c.pieces.left c.in-Some.index c.pieces.invariant
-    (rw (taken c.pieces.at c.every-every.result, c.every-every.ensures.value) at first))
+    let first = rw (add-sub_cancel_left c.pieces.at (2 * c.every-every.result), c.every-every.ensures.value) at (sym c.first_invalid.ensures ∙ c.in-Some.is) in
+    let digit = digit-invalid c.args.case c.args.group (drop c.pieces.at c.args.src.now) c.in-Some.index first in
+    sym (c.pieces.invariant.rest ∙ ap (option_map (λ i. c.pieces.at + i)) digit)
 
 pub returns-then-src-end : goal.returns-then-src-end
 returns-then-src-end c =
@@ -19,7 +18,7 @@ returns-then-src-end c =
     let more = rw c.every-every.ensures.value at c.pieces-test.true in
     let differs = rw (c.every-every.ensures.value, c.sep.ensures.value) at c.if-src-end.true in
     rw c.every-every.ensures.value (sym (tests-mark c.args.case c.args.group c.args.src.now c.pieces.at c.pieces.left c.pieces.invariant more
-    (rw (taken c.pieces.at c.every-every.result, c.every-every.ensures.value) at none) differs))
+    (rw (add-sub_cancel_left c.pieces.at (2 * c.every-every.result), c.every-every.ensures.value) at none) differs))
 
 pub pieces-preserved : goal.pieces-preserved
 pieces-preserved c =
@@ -27,7 +26,7 @@ pieces-preserved c =
     let more = rw c.every-every.ensures.value at c.pieces-test.true in
     let mark = rw (c.every-every.ensures.value, c.sep.ensures.value) at c.if-src-end.false in
     rw c.every-every.ensures.value (tests-more c.args.case c.args.group c.args.src.now c.pieces.at c.pieces.left c.pieces.invariant more
-    (rw (taken c.pieces.at c.every-every.result, c.every-every.ensures.value) at none) mark)
+    (rw (add-sub_cancel_left c.pieces.at (2 * c.every-every.result), c.every-every.ensures.value) at none) mark)
 
 pub first_invalid-requires-2 : goal.first_invalid-requires-2
 first_invalid-requires-2 c =

@@ -1,25 +1,23 @@
 -- The bytes of the next piece are written behind those before it.
-use Rattle.std.proofs.Common.{◌≡◌, ℕ, ◌+◌, ◌-◌, ◌*◌, ◌≤◌, length, length-drop, drop, arith}
+use Rattle.std.proofs.Common.{◌-◌, ◌*◌, ◌≤◌, length, length-drop, drop, arith}
+use Rattle.std.proofs.Math.Nat.{add-sub_cancel_left}
 use Rattle.std.proofs.lemmas.List.{take_rest}
 use Rattle.hex_codec.proofs.WriteLemmas.{last-size, next-clear, reads-last, reads-more}
-use Rattle.hex_codec.proofs.InvalidInText.{clear-last}
+use Rattle.hex_codec.proofs.PartLemmas.{clear-last}
 use Rattle.hex_codec.proofs.pieces.read_pieces.Goals as goal
-
-taken : (at n : ℕ) → at + n - at ≡ n
-taken at n = omega arith
 
 pub read_piece-requires-clause-valid : goal.read_piece-requires-clause-valid
 read_piece-requires-clause-valid c =
     let more = rw c.every-every.ensures.value at c.pieces-test.true in
-    rw (taken c.pieces.at (2 * c.every-every.result), c.every-every.ensures.value)
+    rw (add-sub_cancel_left c.pieces.at (2 * c.every-every.result), c.every-every.ensures.value)
     (next-clear c.args.case c.args.group c.args.src.now c.pieces.dst c.pieces.at c.pieces.done c.pieces.invariant more).valid
 
 pub pieces-preserved : goal.pieces-preserved
 pieces-preserved c =
     let more = rw c.every-every.ensures.value at c.pieces-test.true in
-    rw (taken c.pieces.done c.every-every.result, c.every-every.ensures.value)
+    rw (add-sub_cancel_left c.pieces.done c.every-every.result, c.every-every.ensures.value)
     (reads-more c.args.case c.args.group c.args.src.now c.pieces.dst c.read_piece.new.bytes c.pieces.at c.pieces.done c.pieces.invariant more
-    (rw (taken c.pieces.at (2 * c.every-every.result), c.every-every.ensures.value) at c.read_piece.ensures))
+    (rw (add-sub_cancel_left c.pieces.at (2 * c.every-every.result), c.every-every.ensures.value) at c.read_piece.ensures))
 
 pub read_piece-requires-2-clause-twice : goal.read_piece-requires-2-clause-twice
 read_piece-requires-2-clause-twice c =

@@ -1,11 +1,9 @@
 -- The text of the next piece stands behind those before it.
-use Rattle.std.proofs.Common.{◌≡◌, ℕ, ◌+◌, ◌-◌, ◌*◌, length, arith}
+use Rattle.std.proofs.Common.{◌-◌, ◌*◌, length, arith}
+use Rattle.std.proofs.Math.Nat.{add-sub_cancel_left}
 use Rattle.std.proofs.lemmas.List.{take_rest}
 use Rattle.hex_codec.proofs.WriteLemmas.{writes-last, writes-more, writes-none}
 use Rattle.hex_codec.proofs.pieces.write_by_piece_len.Goals as goal
-
-taken : (at n : ℕ) → at + n - at ≡ n
-taken at n = omega arith
 
 pub pieces-init : goal.pieces-init
 pieces-init c = writes-none c.args.group c.args.upper c.args.src.now c.args.dst.now c.requires.room
@@ -13,11 +11,11 @@ pieces-init c = writes-none c.args.group c.args.upper c.args.src.now c.args.dst.
 pub pieces-preserved : goal.pieces-preserved
 pieces-preserved c =
     let more = rw c.requires.every at c.pieces-test.true in
-    rw (c.write_piece.ensures, c.sep.ensures.value, taken c.pieces.at c.args.every, taken c.pieces.done (2 * c.args.every), c.requires.every)
+    rw (c.write_piece.ensures, c.sep.ensures.value, add-sub_cancel_left c.pieces.at c.args.every, add-sub_cancel_left c.pieces.done (2 * c.args.every), c.requires.every)
     (writes-more c.args.group c.args.upper c.args.src.now c.args.dst.now c.pieces.dst c.pieces.at c.pieces.done c.pieces.invariant more)
 
 pub returns : goal.returns
 returns c =
-    rw (c.write_piece-2.ensures, take_rest c.args.src.now c.pieces.at, taken c.pieces.done (2 * (length c.args.src.now - c.pieces.at)))
+    rw (c.write_piece-2.ensures, take_rest c.args.src.now c.pieces.at, add-sub_cancel_left c.pieces.done (2 * (length c.args.src.now - c.pieces.at)))
     (writes-last c.args.group c.args.upper c.args.src.now c.args.dst.now c.pieces.dst c.pieces.at c.pieces.done c.pieces.invariant
     (omega (arith, c.pieces-test.false, c.requires.every)) c.requires.room (omega arith))
