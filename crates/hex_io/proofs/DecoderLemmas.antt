@@ -188,11 +188,3 @@ block-unrefused c skips fed gone block rest src written bytes w v room parts fir
     let behind = ((none_joined (is_invalid_read r) gone (block ++ rest)).0 (rw (sym parts) at none)).1 in
     feed-unrefused c skips (fed ++ gone) block (written ++ bytes) v (room - length bytes) so_far (omega (arith, few, long, outer, inner, length-append fed gone))
     (omega (arith, all, front, back, both, before, after, length-append written bytes, fits)) ((none_joined (is_invalid_read r) block rest).0 behind).0
-
--- ---- all feeds are one
-
-pub whole-pairs : (r : Reading) (fed written : List ℕ) (o : Option ℕ) → SpellsBut r.case (digits_in r fed) written (option_to_list o)
-    → PairsSpell r fed written × (option_to_list o ≡ drop (2 * (length (digits_in r fed) / 2)) (digits_in r fed))
-whole-pairs r fed written o but =
-    let end : 2 * (length (digits_in r fed) / 2) ≡ length but.pairs = omega (arith, count-but r.case (digits_in r fed) written o but, but.spelled.twice) in
-    rw (end, but.parts, take-append_seam but.pairs (option_to_list o), drop-append_seam but.pairs (option_to_list o)) (but.spelled, refl)
