@@ -1,8 +1,8 @@
 -- Where a put failed, the lines of the entries behind it were not put.
-use Rattle.std.proofs.Common.{◌≡◌, ℕ, Bool, ◌∷◌, [], ◌++◌, ◌∙◌, sym, append_assoc, take-append-drop, arith}
+use Rattle.std.proofs.Common.{◌≡◌, ℕ, Bool, ◌∷◌, [], ◌++◌, ◌∙◌, sym, append_assoc, take-append-drop}
 use Rattle.std.proofs.Concat.{flat_map-take_more}
 use Rattle.std.proofs.lemmas.Grind.{flat_map-append}
-use Rattle.std.proofs.lemmas.List.{drop_more, take_all}
+use Rattle.std.proofs.lemmas.List.{drop_more}
 use Rattle.std.proofs.lemmas.Result.{err_from_is_err_and}
 use Rattle.hex_core.specs.Text.{text}
 use Rattle.hex_io.proofs.PutsLemmas.{Stops-stop, Stops-then, Takes-then}
@@ -29,6 +29,3 @@ returns-in_err-put_line g c =
             (Stops-then _ _ _ _ _ c.loop-entry.invariant (Stops-stop _ _ _ _ (rw (parts c.args.upper c.entry-item.result) at c.in_err-put_line.ensures))),
       );
     }
-
-pub returns : goal.returns
-returns g c = record { answer = (sym c.bad_name.ensures ∙ c.in_default.is, rw (take_all c.loop-entry.entry-index c.args.entries.now (omega arith)) at c.loop-entry.invariant) }
