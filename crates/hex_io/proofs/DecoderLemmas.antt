@@ -15,7 +15,7 @@ use borrow.Rule.Slice.PartMut.{put_mid}
 use Rattle.hex_core.specs.declared.digit.CheckCase.{CheckCase}
 use Rattle.hex_core.specs.declared.digit.CheckCase.TheVariants as policy
 use Rattle.hex_core.specs.declared.error.Error.{Error}
-use Rattle.hex_core.specs.declared.error.Error.TheVariants.{InvalidChar, Overflow}
+use Rattle.hex_core.specs.declared.error.Error.TheVariants.{InvalidChar}
 use Rattle.hex_core.specs.Digit.{value}
 use Rattle.hex_core.specs.Search.{first_invalid}
 use Rattle.hex_core.specs.Text.{Spells, with_front}
@@ -24,7 +24,7 @@ use Rattle.hex_core.proofs.LawProofs.{valid-spelled}
 use Rattle.hex_core.proofs.PositionLemmas.{none_joined, position-joined}
 use Rattle.hex_core.proofs.SearchLemmas.{has_value, lacks, none_valid}
 use Rattle.hex_codec.proofs.ListLemmas.{put-behind}
-use Rattle.hex_io.specs.Decoder.{PairsSpell, feed_refusal, pairs_more, refusal_by}
+use Rattle.hex_io.specs.Decoder.{feed_refusal, pairs_more}
 use Rattle.hex_io.specs.Reading.{SpellsBut, digits_in, first_invalid_read, is_solid, is_invalid_read}
 use Rattle.hex_io.specs.Reading.{invalid_read_of, unspaced}
 use Rattle.hex_io.specs.declared.stream.decoder.Reading.{Reading}
@@ -141,15 +141,9 @@ invalid-behind-all r fed src had none is = rw (is, position-joined (is_invalid_r
     by_first (Some i) = rw (back_at fed src i (length fed + i) refl) refl
     by_first None = refl
 
-pub many-refused : (all more room : ℕ) (bad : Option Error) → 2 ^ 64 ≤ all → refusal_by all more room bad ≡ Some Overflow
-many-refused all more room bad many = grind (arith, nat_tests, many)
-
-pub byte-refused : (all more room : ℕ) (bad : Option Error) → all < 2 ^ 64 → more ≤ room → refusal_by all more room bad ≡ bad
-byte-refused all more room bad few fits = grind (arith, nat_tests, few, fits)
-
 pub refused-byte : (r : Reading) (fed src : List ℕ) (room : ℕ) → length fed + length src < 2 ^ 64
     → pairs_more (length (digits_in r fed)) (length (digits_in r src)) ≤ room → feed_refusal r fed src room ≡ invalid_read_of r (fed ++ src)
-refused-byte r fed src room few fits = byte-refused _ _ room _ few fits
+refused-byte r fed src room few fits = grind (arith, nat_tests, few, fits)
 
 -- valid digits have no invalid byte among them
 pub none-refused : (r : Reading) (s : List ℕ) → first_invalid r.case (digits_in r s) ≡ None → invalid_read_of r s ≡ None
@@ -188,11 +182,3 @@ block-unrefused c skips fed gone block rest src written bytes w v room parts fir
     let behind = ((none_joined (is_invalid_read r) gone (block ++ rest)).0 (rw (sym parts) at none)).1 in
     feed-unrefused c skips (fed ++ gone) block (written ++ bytes) v (room - length bytes) so_far (omega (arith, few, long, outer, inner, length-append fed gone))
     (omega (arith, all, front, back, both, before, after, length-append written bytes, fits)) ((none_joined (is_invalid_read r) block rest).0 behind).0
-
--- ---- all feeds are one
-
-pub whole-pairs : (r : Reading) (fed written : List ℕ) (o : Option ℕ) → SpellsBut r.case (digits_in r fed) written (option_to_list o)
-    → PairsSpell r fed written × (option_to_list o ≡ drop (2 * (length (digits_in r fed) / 2)) (digits_in r fed))
-whole-pairs r fed written o but =
-    let end : 2 * (length (digits_in r fed) / 2) ≡ length but.pairs = omega (arith, count-but r.case (digits_in r fed) written o but, but.spelled.twice) in
-    rw (end, but.parts, take-append_seam but.pairs (option_to_list o), drop-append_seam but.pairs (option_to_list o)) (but.spelled, refl)

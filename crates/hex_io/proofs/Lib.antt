@@ -1,13 +1,8 @@
 mod ChunkFacts
-mod FrameFacts
 mod PutsLemmas
-mod RunLemmas
 mod ContinueLemmas
-mod UnspacedLemmas
 mod DecoderLemmas
 mod StreamLemmas
 mod EntryLemmas
-mod FaultLemmas
 mod LineLemmas
 mod NameLemmas
-mod ReadBack

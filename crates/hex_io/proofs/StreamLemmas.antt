@@ -1,25 +1,26 @@
 -- Streams that are read chunk by chunk.
-use Rattle.std.proofs.Common.{◌≡◌, ◌∙◌, inl, inr, ℕ, ◌+◌, ◌%◌, ◌^◌, ◌≤◌, Bool, true, false, List, ◌++◌, length, length-append}
+use Rattle.std.proofs.Common.{◌≡◌, ◌∙◌, arith, inl, inr, ℕ, ◌+◌, ◌%◌, ◌^◌, ◌≤◌, Bool, true, false, List, ◌++◌, length, length-append}
 use Rattle.std.proofs.Common.{slice_index, Option, Some, None, refl, sym}
 use Rattle.std.specs.Prelude.{◌==◌, if◌then◌else◌, option_map}
 use Rattle.std.specs.Io.KnownBytes.{IsAtEnd}
 use Rattle.std.proofs.lemmas.Bool.{cases_lt}
+use Rattle.std.proofs.lemmas.Bool.Decides.{nat_tests}
 use Rattle.hex_core.specs.declared.error.Error.{Error}
 use Rattle.hex_core.specs.declared.error.Error.TheVariants.{InvalidChar, OddLength, Overflow}
 use Rattle.hex_core.specs.Search.{first_invalid}
-use Rattle.hex_io.specs.Decoder.{refusal_by}
+use Rattle.hex_io.specs.Decoder.{feed_refusal, pairs_more}
 use Rattle.hex_io.specs.Reading.{digits_in, first_invalid_read, invalid_read_of}
-use Rattle.hex_io.proofs.DecoderLemmas.{byte-refused, many-refused, none-refused}
+use Rattle.hex_io.proofs.DecoderLemmas.{none-refused, refused-byte}
 use Rattle.hex_io.specs.Stream.{RefusedBy}
 use Rattle.hex_io.specs.declared.stream.decoder.Reading.{Reading}
 
 -- what a chunk that has room is refused for: that all are too many, or a invalid byte
-pub refused-for : (P : Error → Type 0) (r : Reading) (fed src : List ℕ) (more room : ℕ) (e : Error) → more ≤ room
-    → refusal_by (length fed + length src) more room (invalid_read_of r (fed ++ src)) ≡ Some e
+pub refused-for : (P : Error → Type 0) (r : Reading) (fed src : List ℕ) (room : ℕ) (e : Error) → pairs_more (length (digits_in r fed)) (length (digits_in r src)) ≤ room
+    → feed_refusal r fed src room ≡ Some e
     → (2 ^ 64 ≤ length (fed ++ src) → P Overflow) → ((i b : ℕ) → invalid_read_of r (fed ++ src) ≡ Some (InvalidChar i b) → P (InvalidChar i b)) → P e
-refused-for P r fed src more room e fits refused all bad = elim (cases_lt (length fed + length src) (2 ^ 64)) [
-  | inl few ↦ let byte = sym (byte-refused _ more room _ few fits) ∙ refused in by_first (first_invalid_read r (fed ++ src)) byte byte
-  | inr many ↦ let is : e ≡ Overflow = cc (many-refused _ more room (invalid_read_of r (fed ++ src)) many, refused) in rw is (all (simp length-append many))
+refused-for P r fed src room e fits refused all bad = elim (cases_lt (length fed + length src) (2 ^ 64)) [
+  | inl few ↦ let byte = sym (refused-byte r fed src room few fits) ∙ refused in by_first (first_invalid_read r (fed ++ src)) byte byte
+  | inr many ↦ let is : e ≡ Overflow = grind (arith, nat_tests, many, refused) in rw is (all (simp length-append many))
 ]
   where
     by_first : (o : Option ℕ) → option_map (λ i. InvalidChar i (slice_index (fed ++ src) i)) o ≡ Some e → invalid_read_of r (fed ++ src) ≡ Some e → P e

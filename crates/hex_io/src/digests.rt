@@ -317,9 +317,7 @@ pub fn write_to<S: Sink, const N: usize>(
         return Err(ListWriteFault::BadName { entry });
     }
     for entry in entries {
-        if let Err(fault) = put_line(sink, entry, upper) {
-            return Err(ListWriteFault::Write(fault));
-        }
+        put_line(sink, entry, upper)?;
     }
     Ok(())
 }

@@ -22,9 +22,7 @@ pub fn any_cutting_is_decoded_as_one_call()
 /// of `feed` also says something about a decoder that a function receives as a parameter.
 pub fn every_decoder_has_been_fed()
     ensures fed { DecodersWereFed }
-{
-    decoding_inverts_encoding();
-}
+{}
 
 /// If a feed returns an error, and its destination has at least half the length of the chunk, then
 /// a stream of all that the decoder was fed has the same error. If the end of a decoding has an

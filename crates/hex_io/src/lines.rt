@@ -29,14 +29,6 @@ pub fn line_end(src: &[u8]) -> usize
         .unwrap_or(rest.len())
 }
 
-// Returns a mask whose bit i is set exactly if lane i is a newline.
-#[inline(always)]
-fn newline_bits(block: u8x32) -> u64
-    ensures { result ≡ mask_l (map (λ b. b == 10) block) }
-{
-    block.simd_eq(Simd::splat(b'\n')).to_bitmask()
-}
-
 // Returns the number of bytes before the first newline of the block at index `at`. If the block has
 // no newline, this is the length of the block.
 #[inline(always)]
@@ -44,7 +36,8 @@ fn before_newline(src: &[u8], at: usize) -> usize
     requires { at + LINE_BLOCK ≤ length src.now }
     ensures { result ≡ position_or_len (λ b. b == 10) (chunk at LINE_BLOCK src.now) }
 {
-    let newlines = newline_bits(u8x32::from_slice(&src[at..]));
+    let block = u8x32::from_slice(&src[at..]);
+    let newlines = block.simd_eq(Simd::splat(b'\n')).to_bitmask();
     if newlines == 0 {
         LINE_BLOCK
     } else {

@@ -207,9 +207,7 @@ impl Decoder {
         ensures reading { reading_of self.new ≡ reading_of self.old }
         ensures unchanged { OnErr result ((self.new ≡ self.old) × (dst.new ≡ dst.old)) }
     {
-        if self.position.checked_add(src.len()).is_none() {
-            return Err(Error::Overflow);
-        }
+        self.position.checked_add(src.len()).ok_or(Error::Overflow)?;
         let (count, is_clean) = survey(src, self.reading.case);
         let required = self.whole_pairs(count);
         if dst.len() < required {

@@ -40,7 +40,9 @@ fn copy_runs(src: &[u8], start: usize, block: &mut [u8], had: usize) -> usize
     let end = start + LANES;
     let mut at = start;
     let mut count = had;
-    let mut marks = low_bits(u8x32::from_slice(&src[start..]));
+    // Bit i is set exactly if lane i is at most a space. All white space is.
+    let lanes = u8x32::from_slice(&src[start..]);
+    let mut marks = lanes.simd_le(Simd::splat(b' ')).to_bitmask();
     'runs: while marks != 0 {
         let run = marks.trailing_zeros() as usize;
         copy_lanes(src, at, block, count);
@@ -51,14 +53,6 @@ fn copy_runs(src: &[u8], start: usize, block: &mut [u8], had: usize) -> usize
     }
     copy_lanes(src, at, block, count);
     count + (end - at)
-}
-
-// Returns a mask whose bit i is set exactly if lane i is at most a space. All white space is.
-#[inline(always)]
-fn low_bits(block: u8x32) -> u64
-    ensures { result ≡ mask_l (map (λ b. nat_le b 32) block) }
-{
-    block.simd_le(Simd::splat(b' ')).to_bitmask()
 }
 
 // Copies a whole vector, even if a run is only its first part. The next copy overwrites the rest.

@@ -11,7 +11,7 @@ pub returns-clause-feed : goal.returns-clause-feed
 returns-clause-feed c = λ r fed src room left e short refused.
     let few = digits-le r.case r.skips src in
     let fits : pairs_more (length (digits_in r fed)) (length (digits_in r src)) ≤ room = omega (arith, few, short) in
-    refused-for (λ e. RefusedBy r (fed ++ src) left e) r fed src _ room e fits refused (λ many. many) (λ i b byte. byte)
+    refused-for (λ e. RefusedBy r (fed ++ src) left e) r fed src room e fits refused (λ many. many) (λ i b byte. byte)
 
 pub returns-clause-finish : goal.returns-clause-finish
 returns-clause-finish c = λ decoder fed written left e has ends at_end. refused-end (RefusedBy (decoder.reading) fed left) (decoder.reading) fed left e has.1.valid (ends fed written has) at_end (λ odd. odd)

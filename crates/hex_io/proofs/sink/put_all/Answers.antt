@@ -1,7 +1,7 @@
 -- A put that took some of the rest goes on, and one that failed ends the call.
 use Rattle.std.proofs.Common.{arith, drop, length-drop, Ok, Err, take-append-drop}
 use Rattle.std.proofs.Math.Seq.{take-add}
-use Rattle.std.proofs.lemmas.List.{take_all, take_rest}
+use Rattle.std.proofs.lemmas.List.{take_rest}
 use Rattle.hex_io.proofs.PutsLemmas.{PutsPiece-stops, PutsPiece-takes, Stops-then, Takes-then}
 use Rattle.hex_io.proofs.sink.put_all.Goals as goal
 
@@ -26,6 +26,3 @@ returns-in-Err g c =
     let piece = c.args.piece.now in let at = c.loop-at.at in
     let stopped = PutsPiece-stops _ _ (Err c.in-Err.fault) (drop at piece) (simp length-drop (omega arith)) tt (rw (take_rest piece at) at c.in-Err.ensures.puts) in
     record { puts = rw (← take-append-drop at piece) (Stops-then _ _ _ _ _ c.loop-at.invariant.taken stopped) }
-
-pub returns : goal.returns
-returns g c = record { puts = rw (take_all c.loop-at.at c.args.piece.now (omega arith)) at c.loop-at.invariant.taken }

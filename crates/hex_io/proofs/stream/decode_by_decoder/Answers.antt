@@ -47,7 +47,7 @@ returns-in_err-written g c =
     rw (← c.reads.invariant.0, is, gives) (
       so_far.0 ++ piece,
       Consumes-trans _ _ _ _ _ so_far.1.3 c.in-Ok.ensures.bytes.0,
-      refused-for (λ e. EndsDecoding r (so_far.0 ++ piece) left old new (Err (Codec e))) r so_far.0 piece _ _ _ fits (c.in_err-written.ensures.feeds so_far.0 so_far.1.0 has) (λ all. (wrote, all)) (λ i b byte. (wrote, byte)),
+      refused-for (λ e. EndsDecoding r (so_far.0 ++ piece) left old new (Err (Codec e))) r so_far.0 piece _ _ fits (c.in_err-written.ensures.feeds so_far.0 so_far.1.0 has) (λ all. (wrote, all)) (λ i b byte. (wrote, byte)),
     )
 
 pub returns-in_err-put_all : goal.returns-in_err-put_all

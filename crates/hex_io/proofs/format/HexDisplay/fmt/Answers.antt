@@ -4,7 +4,6 @@ use Rattle.std.proofs.Output.{has_written_append}
 use Rattle.std.specs.Slice.Iter.{chunks_rest}
 use Rattle.hex_core.specs.Text.{lowercase}
 use Rattle.hex_core.proofs.TextLemmas.{text-append}
-use Rattle.hex_io.proofs.ChunkFacts.{front-all}
 use Rattle.hex_io.proofs.format.HexDisplay.fmt.Goals as goal
 
 pub loop-chunk-preserved : goal.loop-chunk-preserved
@@ -20,11 +19,3 @@ loop-chunk-preserved g c =
             append_assoc so_far.0 chunk (chunks_rest c.next.new.self) ∙ rw steps.1.0 at so_far.2,
           ),
     )
-
-pub returns-then-self-le-SHORT_SOURCE-clause-writes : goal.returns-then-self-le-SHORT_SOURCE-clause-writes
-returns-then-self-le-SHORT_SOURCE-clause-writes g c = λ plain done. rw c.encoded.ensures.text at (c.write_ascii.ensures plain done)
-
-pub returns-clause-writes : goal.returns-clause-writes
-returns-clause-writes g c = λ plain done.
-    let so_far = c.loop-chunk.invariant.3 plain in
-    rw (front-all so_far.0 (chunks_rest c.loop-chunk.chunk-iterator) c.args.self.now.bytes.now so_far.2 c.in-None.ensures.steps.1.0) at so_far.1

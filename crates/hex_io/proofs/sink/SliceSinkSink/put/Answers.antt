@@ -1,8 +1,7 @@
 -- What fits is copied behind what was taken, and the rest stays free.
-use Rattle.std.proofs.Common.{◌≡◌, ◌+◌, [], length, ap, refl, ◌∙◌, arith, Some, Ok, rules, length-drop, length-take}
+use Rattle.std.proofs.Common.{◌≡◌, ◌+◌, length, ap, refl, ◌∙◌, arith, Some, Ok, rules, length-drop, length-take}
 use Rattle.std.proofs.lemmas.List.{drop-drop}
 use Rattle.std.proofs.lemmas.Slice.{drop-put_mid, take-put_mid}
-use borrow.Author.Tests.{tests}
 use Rattle.hex_io.proofs.sink.SliceSinkSink.put.Goals as goal
 
 pub returns-clause-puts : goal.returns-clause-puts
@@ -18,13 +17,3 @@ returns-clause-puts c =
       search rules,
       λ some le. ap Ok (omega (arith, simp length-drop at le)),
     )
-
-pub returns-then-not-is_empty-clause-puts : goal.returns-then-not-is_empty-clause-puts
-returns-then-not-is_empty-clause-puts c = (
-  record { front = []; rest = c.args.piece.now; parts = refl; appended = search rules; filled = (refl, refl) },
-  c.saturating_add-self.ensures,
-  λ some le. absurd (omega (arith, some, simp length-drop at le)),
-)
-
-pub returns-then-not-is_empty-clause-fits : goal.returns-then-not-is_empty-clause-fits
-returns-then-not-is_empty-clause-fits c = let h = c.if-not-is_empty.ensures in search (tests, rules)

@@ -1,16 +1,12 @@
-use Rattle.std.proofs.Common.{rules, arith, ap, ◌∙◌, ◌++◌, [], true, length, length-append, append_assoc}
+use Rattle.std.proofs.Common.{rules, arith, ap, ◌∙◌, ◌++◌, true, length, length-append, append_assoc}
 use Rattle.std.specs.Slice.Iter.{chunks_rest}
 use Rattle.std.proofs.Math.Bool.{and-eq-true_iff}
 use Rattle.std.proofs.lemmas.List.{length-take-le}
 use Rattle.std.proofs.lemmas.List.Elements.{filter-append}
 use Rattle.hex_core.proofs.PositionLemmas.{none_joined}
 use Rattle.hex_io.specs.Reading.{is_solid, is_invalid_read, spaced, unspaced}
-use Rattle.hex_io.proofs.ChunkFacts.{front-all}
 use Rattle.hex_io.proofs.DecoderLemmas.{digits-le, digits-valid}
 use Rattle.hex_io.proofs.stream.decoder.survey.Goals as goal
-
-pub loop-block-init : goal.loop-block-init
-loop-block-init c = (search rules, tt, search rules, ([], search rules, search rules, search rules))
 
 pub overflow_add-count : goal.overflow_add-count
 overflow_add-count c =
@@ -43,13 +39,3 @@ loop-block-preserved c =
         ),
       ),
     )
-
-pub returns-clause-count : goal.returns-clause-count
-returns-clause-count c =
-    let so_far = c.loop-block.invariant.3 in
-    rw (front-all so_far.0 (chunks_rest c.loop-block.block-iterator) c.args.src.now so_far.1 c.in-None.ensures.steps.1.0) at so_far.2
-
-pub returns-clause-clean : goal.returns-clause-clean
-returns-clause-clean c =
-    let so_far = c.loop-block.invariant.3 in
-    rw (front-all so_far.0 (chunks_rest c.loop-block.block-iterator) c.args.src.now so_far.1 c.in-None.ensures.steps.1.0) at so_far.3
