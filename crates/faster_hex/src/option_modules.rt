@@ -11,13 +11,12 @@ use crate::adapters::{AdapterError, WireFormat, read_option, read_option_array, 
 use serde_json::Value;
 use std::alloc::Global;
 
-/// Reads and writes `Some` in the format of [`withpfx_ignorecase`](crate::withpfx_ignorecase), and
-/// `None` as `null`.
+/// Reads and writes `Some` in the format of [`crate::withpfx_ignorecase`], and `None` as `null`.
 pub mod option_withpfx_ignorecase {
     use super::*;
 
-    /// Writes `Some` as [`withpfx_ignorecase::serialize`](crate::withpfx_ignorecase::serialize)
-    /// does, and `None` as `null`. `None` allocates nothing and has no error.
+    /// Writes `Some` as [`crate::withpfx_ignorecase::serialize`] does, and `None` as `null`. `None`
+    /// allocates nothing and has no error.
     pub fn serialize(alloc: Global, src: Option<&[u8]>) -> Result<Value, AdapterError>
         ensures answer { AnswersOptionWrite wire.withpfx_ignorecase (option_map (λ s. s.now) src.entry) result }
         ensures read { OptionIsReadBack wire.withpfx_ignorecase (option_map (λ s. s.now) src.entry) result }
@@ -25,8 +24,8 @@ pub mod option_withpfx_ignorecase {
         write_option(alloc, WireFormat::WITHPFX_IGNORECASE, src)
     }
 
-    /// Reads `null` as `None`, and any other value as
-    /// [`withpfx_ignorecase::deserialize`](crate::withpfx_ignorecase::deserialize) does.
+    /// Reads `null` as `None`, and any other value as [`crate::withpfx_ignorecase::deserialize`]
+    /// does.
     pub fn deserialize(alloc: Global, value: &Value) -> Result<Option<Vec<u8>>, AdapterError>
         ensures answer { AnswersOptionRead wire.withpfx_ignorecase None value.now result }
         ensures read { OptionVecIsRead wire.withpfx_ignorecase None value.now result }
@@ -51,8 +50,7 @@ pub mod option_withpfx_ignorecase {
         use super::*;
 
         /// Reads `null` as `None`, and any other value as
-        /// [`withpfx_ignorecase::array::deserialize`](crate::withpfx_ignorecase::array::deserialize)
-        /// does.
+        /// [`crate::withpfx_ignorecase::array::deserialize`] does.
         pub fn deserialize<const N: usize>(value: &Value) -> Result<Option<[u8; N]>, AdapterError>
             ensures answer { AnswersOptionArrayRead wire.withpfx_ignorecase N value.now result }
             ensures read { OptionArrayIsRead wire.withpfx_ignorecase N value.now result }
@@ -62,13 +60,12 @@ pub mod option_withpfx_ignorecase {
     }
 }
 
-/// Reads and writes `Some` in the format of [`nopfx_ignorecase`](crate::nopfx_ignorecase), and
-/// `None` as `null`.
+/// Reads and writes `Some` in the format of [`crate::nopfx_ignorecase`], and `None` as `null`.
 pub mod option_nopfx_ignorecase {
     use super::*;
 
-    /// Writes `Some` as [`nopfx_ignorecase::serialize`](crate::nopfx_ignorecase::serialize) does,
-    /// and `None` as `null`. `None` allocates nothing and has no error.
+    /// Writes `Some` as [`crate::nopfx_ignorecase::serialize`] does, and `None` as `null`. `None`
+    /// allocates nothing and has no error.
     pub fn serialize(alloc: Global, src: Option<&[u8]>) -> Result<Value, AdapterError>
         ensures answer { AnswersOptionWrite wire.nopfx_ignorecase (option_map (λ s. s.now) src.entry) result }
         ensures read { OptionIsReadBack wire.nopfx_ignorecase (option_map (λ s. s.now) src.entry) result }
@@ -76,8 +73,8 @@ pub mod option_nopfx_ignorecase {
         write_option(alloc, WireFormat::NOPFX_IGNORECASE, src)
     }
 
-    /// Reads `null` as `None`, and any other value as
-    /// [`nopfx_ignorecase::deserialize`](crate::nopfx_ignorecase::deserialize) does.
+    /// Reads `null` as `None`, and any other value as [`crate::nopfx_ignorecase::deserialize`]
+    /// does.
     pub fn deserialize(alloc: Global, value: &Value) -> Result<Option<Vec<u8>>, AdapterError>
         ensures answer { AnswersOptionRead wire.nopfx_ignorecase None value.now result }
         ensures read { OptionVecIsRead wire.nopfx_ignorecase None value.now result }
@@ -102,8 +99,7 @@ pub mod option_nopfx_ignorecase {
         use super::*;
 
         /// Reads `null` as `None`, and any other value as
-        /// [`nopfx_ignorecase::array::deserialize`](crate::nopfx_ignorecase::array::deserialize)
-        /// does.
+        /// [`crate::nopfx_ignorecase::array::deserialize`] does.
         pub fn deserialize<const N: usize>(value: &Value) -> Result<Option<[u8; N]>, AdapterError>
             ensures answer { AnswersOptionArrayRead wire.nopfx_ignorecase N value.now result }
             ensures read { OptionArrayIsRead wire.nopfx_ignorecase N value.now result }
@@ -113,13 +109,12 @@ pub mod option_nopfx_ignorecase {
     }
 }
 
-/// Reads and writes `Some` in the format of [`withpfx_lowercase`](crate::withpfx_lowercase), and
-/// `None` as `null`.
+/// Reads and writes `Some` in the format of [`crate::withpfx_lowercase`], and `None` as `null`.
 pub mod option_withpfx_lowercase {
     use super::*;
 
-    /// Writes `Some` as [`withpfx_lowercase::serialize`](crate::withpfx_lowercase::serialize) does,
-    /// and `None` as `null`. `None` allocates nothing and has no error.
+    /// Writes `Some` as [`crate::withpfx_lowercase::serialize`] does, and `None` as `null`. `None`
+    /// allocates nothing and has no error.
     pub fn serialize(alloc: Global, src: Option<&[u8]>) -> Result<Value, AdapterError>
         ensures answer { AnswersOptionWrite wire.withpfx_lowercase (option_map (λ s. s.now) src.entry) result }
         ensures read { OptionIsReadBack wire.withpfx_lowercase (option_map (λ s. s.now) src.entry) result }
@@ -127,8 +122,8 @@ pub mod option_withpfx_lowercase {
         write_option(alloc, WireFormat::WITHPFX_LOWERCASE, src)
     }
 
-    /// Reads `null` as `None`, and any other value as
-    /// [`withpfx_lowercase::deserialize`](crate::withpfx_lowercase::deserialize) does.
+    /// Reads `null` as `None`, and any other value as [`crate::withpfx_lowercase::deserialize`]
+    /// does.
     pub fn deserialize(alloc: Global, value: &Value) -> Result<Option<Vec<u8>>, AdapterError>
         ensures answer { AnswersOptionRead wire.withpfx_lowercase None value.now result }
         ensures read { OptionVecIsRead wire.withpfx_lowercase None value.now result }
@@ -153,8 +148,7 @@ pub mod option_withpfx_lowercase {
         use super::*;
 
         /// Reads `null` as `None`, and any other value as
-        /// [`withpfx_lowercase::array::deserialize`](crate::withpfx_lowercase::array::deserialize)
-        /// does.
+        /// [`crate::withpfx_lowercase::array::deserialize`] does.
         pub fn deserialize<const N: usize>(value: &Value) -> Result<Option<[u8; N]>, AdapterError>
             ensures answer { AnswersOptionArrayRead wire.withpfx_lowercase N value.now result }
             ensures read { OptionArrayIsRead wire.withpfx_lowercase N value.now result }
@@ -164,8 +158,7 @@ pub mod option_withpfx_lowercase {
     }
 }
 
-/// Reads and writes `Some` in the format of [`nopfx_lowercase`](crate::nopfx_lowercase), and `None`
-/// as `null`.
+/// Reads and writes `Some` in the format of [`crate::nopfx_lowercase`], and `None` as `null`.
 ///
 /// ```rust
 /// let value = option_nopfx_lowercase::serialize(rt.alloc(), Some(&[0xab, 1]))?;
@@ -184,8 +177,8 @@ pub mod option_withpfx_lowercase {
 pub mod option_nopfx_lowercase {
     use super::*;
 
-    /// Writes `Some` as [`nopfx_lowercase::serialize`](crate::nopfx_lowercase::serialize) does, and
-    /// `None` as `null`. `None` allocates nothing and has no error.
+    /// Writes `Some` as [`crate::nopfx_lowercase::serialize`] does, and `None` as `null`. `None`
+    /// allocates nothing and has no error.
     pub fn serialize(alloc: Global, src: Option<&[u8]>) -> Result<Value, AdapterError>
         ensures answer { AnswersOptionWrite wire.nopfx_lowercase (option_map (λ s. s.now) src.entry) result }
         ensures read { OptionIsReadBack wire.nopfx_lowercase (option_map (λ s. s.now) src.entry) result }
@@ -193,8 +186,7 @@ pub mod option_nopfx_lowercase {
         write_option(alloc, WireFormat::NOPFX_LOWERCASE, src)
     }
 
-    /// Reads `null` as `None`, and any other value as
-    /// [`nopfx_lowercase::deserialize`](crate::nopfx_lowercase::deserialize) does.
+    /// Reads `null` as `None`, and any other value as [`crate::nopfx_lowercase::deserialize`] does.
     pub fn deserialize(alloc: Global, value: &Value) -> Result<Option<Vec<u8>>, AdapterError>
         ensures answer { AnswersOptionRead wire.nopfx_lowercase None value.now result }
         ensures read { OptionVecIsRead wire.nopfx_lowercase None value.now result }
@@ -219,8 +211,7 @@ pub mod option_nopfx_lowercase {
         use super::*;
 
         /// Reads `null` as `None`, and any other value as
-        /// [`nopfx_lowercase::array::deserialize`](crate::nopfx_lowercase::array::deserialize)
-        /// does.
+        /// [`crate::nopfx_lowercase::array::deserialize`] does.
         pub fn deserialize<const N: usize>(value: &Value) -> Result<Option<[u8; N]>, AdapterError>
             ensures answer { AnswersOptionArrayRead wire.nopfx_lowercase N value.now result }
             ensures read { OptionArrayIsRead wire.nopfx_lowercase N value.now result }
@@ -230,13 +221,12 @@ pub mod option_nopfx_lowercase {
     }
 }
 
-/// Reads and writes `Some` in the format of [`withpfx_uppercase`](crate::withpfx_uppercase), and
-/// `None` as `null`.
+/// Reads and writes `Some` in the format of [`crate::withpfx_uppercase`], and `None` as `null`.
 pub mod option_withpfx_uppercase {
     use super::*;
 
-    /// Writes `Some` as [`withpfx_uppercase::serialize`](crate::withpfx_uppercase::serialize) does,
-    /// and `None` as `null`. `None` allocates nothing and has no error.
+    /// Writes `Some` as [`crate::withpfx_uppercase::serialize`] does, and `None` as `null`. `None`
+    /// allocates nothing and has no error.
     pub fn serialize(alloc: Global, src: Option<&[u8]>) -> Result<Value, AdapterError>
         ensures answer { AnswersOptionWrite wire.withpfx_uppercase (option_map (λ s. s.now) src.entry) result }
         ensures read { OptionIsReadBack wire.withpfx_uppercase (option_map (λ s. s.now) src.entry) result }
@@ -244,8 +234,8 @@ pub mod option_withpfx_uppercase {
         write_option(alloc, WireFormat::WITHPFX_UPPERCASE, src)
     }
 
-    /// Reads `null` as `None`, and any other value as
-    /// [`withpfx_uppercase::deserialize`](crate::withpfx_uppercase::deserialize) does.
+    /// Reads `null` as `None`, and any other value as [`crate::withpfx_uppercase::deserialize`]
+    /// does.
     pub fn deserialize(alloc: Global, value: &Value) -> Result<Option<Vec<u8>>, AdapterError>
         ensures answer { AnswersOptionRead wire.withpfx_uppercase None value.now result }
         ensures read { OptionVecIsRead wire.withpfx_uppercase None value.now result }
@@ -270,8 +260,7 @@ pub mod option_withpfx_uppercase {
         use super::*;
 
         /// Reads `null` as `None`, and any other value as
-        /// [`withpfx_uppercase::array::deserialize`](crate::withpfx_uppercase::array::deserialize)
-        /// does.
+        /// [`crate::withpfx_uppercase::array::deserialize`] does.
         pub fn deserialize<const N: usize>(value: &Value) -> Result<Option<[u8; N]>, AdapterError>
             ensures answer { AnswersOptionArrayRead wire.withpfx_uppercase N value.now result }
             ensures read { OptionArrayIsRead wire.withpfx_uppercase N value.now result }
@@ -281,13 +270,12 @@ pub mod option_withpfx_uppercase {
     }
 }
 
-/// Reads and writes `Some` in the format of [`nopfx_uppercase`](crate::nopfx_uppercase), and `None`
-/// as `null`.
+/// Reads and writes `Some` in the format of [`crate::nopfx_uppercase`], and `None` as `null`.
 pub mod option_nopfx_uppercase {
     use super::*;
 
-    /// Writes `Some` as [`nopfx_uppercase::serialize`](crate::nopfx_uppercase::serialize) does, and
-    /// `None` as `null`. `None` allocates nothing and has no error.
+    /// Writes `Some` as [`crate::nopfx_uppercase::serialize`] does, and `None` as `null`. `None`
+    /// allocates nothing and has no error.
     pub fn serialize(alloc: Global, src: Option<&[u8]>) -> Result<Value, AdapterError>
         ensures answer { AnswersOptionWrite wire.nopfx_uppercase (option_map (λ s. s.now) src.entry) result }
         ensures read { OptionIsReadBack wire.nopfx_uppercase (option_map (λ s. s.now) src.entry) result }
@@ -295,8 +283,7 @@ pub mod option_nopfx_uppercase {
         write_option(alloc, WireFormat::NOPFX_UPPERCASE, src)
     }
 
-    /// Reads `null` as `None`, and any other value as
-    /// [`nopfx_uppercase::deserialize`](crate::nopfx_uppercase::deserialize) does.
+    /// Reads `null` as `None`, and any other value as [`crate::nopfx_uppercase::deserialize`] does.
     pub fn deserialize(alloc: Global, value: &Value) -> Result<Option<Vec<u8>>, AdapterError>
         ensures answer { AnswersOptionRead wire.nopfx_uppercase None value.now result }
         ensures read { OptionVecIsRead wire.nopfx_uppercase None value.now result }
@@ -321,8 +308,7 @@ pub mod option_nopfx_uppercase {
         use super::*;
 
         /// Reads `null` as `None`, and any other value as
-        /// [`nopfx_uppercase::array::deserialize`](crate::nopfx_uppercase::array::deserialize)
-        /// does.
+        /// [`crate::nopfx_uppercase::array::deserialize`] does.
         pub fn deserialize<const N: usize>(value: &Value) -> Result<Option<[u8; N]>, AdapterError>
             ensures answer { AnswersOptionArrayRead wire.nopfx_uppercase N value.now result }
             ensures read { OptionArrayIsRead wire.nopfx_uppercase N value.now result }

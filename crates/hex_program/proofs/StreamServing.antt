@@ -58,8 +58,8 @@ lines-more (b ∷ bytes) = (10 ∷ [], lines-of (b ∷ bytes) (omega arith))
 -- the digits were taken, and then a newline was put
 pub line-ended : (op : StreamOp) (bytes digits whole : List ℕ) (left after : Option (List ℕ)) (old mid new : SinkState) → Keeps new.taken after → TakesInARow → StopsInARow
     → digits ++ (10 ∷ []) ≡ whole → (WritesPart old.taken after whole → Begins op bytes old.taken after) → IsStreamOutput op bytes whole → Takes old mid digits → IsAtEnd left
-    → (put : Result (Unit {0}) WriteFault) (ran : Result (Unit {0}) StreamFault) → Puts mid new put (10 ∷ []) → MatchResult put (λ x. ran ≡ Ok x) (λ e. IsErrAnd ran (λ f. f ≡ fault.Write e))
-    → Ran op bytes left old.taken after ran
+    → (put : Result (Unit {0}) WriteFault) (ran : Result (Unit {0}) StreamFault) → Puts mid new put (10 ∷ [])
+    → MatchResult put (λ x. ran ≡ Ok x) (λ e. IsErrAnd ran (λ f. f ≡ fault.Write e)) → Ran op bytes left old.taken after ran
 line-ended op bytes digits whole left after old mid new kept takes stops is begins output first end (Ok done) ran puts was =
     let took : Takes old new whole = rw is at (takes old mid new digits (10 ∷ []) puts first) in
     rw was (begins (part-all old new after kept whole [] whole (append-nil whole) took), (end, (whole, output, written old new after kept whole took)))
@@ -74,8 +74,8 @@ line-failed bytes left after old new kept fault.Read h = (part-all old new after
 line-failed bytes left after old new kept (fault.Codec e) h = (part-all old new after kept _ (10 ∷ []) _ refl h.2, (h.0, h.1, written old new after kept _ h.2))
 line-failed bytes left after old new kept (fault.Write why) h = (part-of old new after kept _ (10 ∷ []) _ refl h, tt)
 
-pub lines-failed : (shown : List ℕ → List ℕ) → ((bytes : List ℕ) → shown bytes ≡ joined bytes) → (bytes : List ℕ) (left after : Option (List ℕ)) (old new : SinkState) → Keeps new.taken after
-    → (why : StreamFault) → EndsEncoding shown bytes left old new (Err why) → Ran EncodeLines bytes left old.taken after (Err why)
+pub lines-failed : (shown : List ℕ → List ℕ) → ((bytes : List ℕ) → shown bytes ≡ joined bytes) → (bytes : List ℕ) (left after : Option (List ℕ)) (old new : SinkState)
+    → Keeps new.taken after → (why : StreamFault) → EndsEncoding shown bytes left old new (Err why) → Ran EncodeLines bytes left old.taken after (Err why)
 lines-failed shown is bytes left after old new kept fault.Read h =
     let more = lines-more bytes in let took = rw (is bytes) at h in (part-all old new after kept _ more.0 _ more.1 took, written old new after kept _ took)
 lines-failed shown is bytes left after old new kept (fault.Codec e) h =
@@ -96,7 +96,8 @@ module _ (left after : Option (List ℕ)) (old new : SinkState) (kept : Keeps ne
   all-wrote : (s : List ℕ) → Wrote policy.None (unspaced s) (Takes old new) → WritesRead Decode s old.taken after
   all-wrote s wrote = wrote-by (unspaced s) (Takes old new) (Appends old.taken after) (written old new after kept) wrote
 
-  refused : (s : List ℕ) (e : Error) → WroteBefore (spaced policy.None) s old new → RefusedBy (spaced policy.None) s left e → Begins Decode s old.taken after × RefusesStream s left old.taken after e
+  refused : (s : List ℕ) (e : Error) → WroteBefore (spaced policy.None) s old new → RefusedBy (spaced policy.None) s left e
+      → Begins Decode s old.taken after × RefusesStream s left old.taken after e
   refused s e before why = (
     begun s before.fed before.chunk before.parts before.wrote,
     record { is_refusal = why; front = before.fed; rest = before.chunk; parts = before.parts; short = before.short; wrote = all-wrote before.fed before.wrote },
