@@ -194,9 +194,16 @@ fn bounded_payload(
 ///
 /// # Errors
 ///
-/// The errors are those of [`crate::deserialize`], in the same order. A format without a prefix has
-/// no `InvalidPrefix`. If `max` is given, `OverBound` comes after `InvalidLength`, as in
-/// [`crate::deserialize_bounded`]. A digit is invalid if the format does not accept it.
+/// The conditions are tested in this order.
+///
+/// 1. `NotText` if the value is not a string.
+/// 2. `InvalidPrefix` if the string does not begin with the prefix of the format.
+/// 3. `InvalidLength` if an odd number of bytes follows the prefix.
+/// 4. `OverBound` if more than `2 * max` bytes follow the prefix. The error has `max` and half the
+///    number of these bytes.
+/// 5. `Codec(OutOfMemory)` if the allocation fails.
+/// 6. `Codec(InvalidChar)` if the format does not accept a byte as a digit. The error has the first
+///    such byte and its index, which counts from the first digit.
 ///
 /// ```rust
 /// use serde_json::Value;
@@ -222,8 +229,12 @@ pub fn read<A: Allocator + Drop>(
 ///
 /// # Errors
 ///
-/// The errors are those of [`crate::array::deserialize`], in the same order. A format without a
-/// prefix has no `InvalidPrefix`, and a digit is invalid if the format does not accept it.
+/// The conditions are tested in this order.
+///
+/// 1. `NotText`, `InvalidPrefix` and `InvalidLength` as in [`read`].
+/// 2. `Codec(LengthMismatch)` if the number of bytes after the prefix is not `2 * N`. The error has
+///    `N` and half that number.
+/// 3. `Codec(InvalidChar)` as in [`read`].
 ///
 /// ```rust
 /// use serde_json::Value;
