@@ -12,82 +12,61 @@ use Rattle.callers.proofs.spaced.append_bytes.Goals as goal
 
 pub returns-in_err-finish-clause-refusal : goal.returns-in_err-finish-clause-refusal
 returns-in_err-finish-clause-refusal g c = λ e is others.
-    let (reading, so_far) = c.reads.invariant in
-    let (s, written, fed, _, _, consumed) = so_far in
-    let (piece, ends) = c.in-Ok.ensures.bytes in
+    let (s, written, reading, fed, _, _, consumed) = c.reads.invariant in
     let left = g.R.Read.remaining c.read.new.self in
-    let none = rw c.if-count-eq0.true at piece in
-    let end = ends c.if-count-eq0.true (search rules) in
+    let none = rw c.if-count-eq0.true at c.in-Ok.ensures.bytes.0 in
+    let end = c.in-Ok.ensures.bytes.1 c.if-count-eq0.true (search rules) in
     let refused = c.a_decoder_with_room_refuses_as_a_stream.ensures.finish c.reads.decoder s written left _ fed c.in_err-finish.ensures.answer end in
     let (_, failed, same) = err_from_is_err_and c.from_residual.result c.from_residual.ensures.1 in
     (s, rw append-nil at (Consumes-trans _ _ _ s [] consumed none), subst (RefusedBy (spaced policy.None) s left) (cc (failed, same, is)) (rw reading at refused))
 
 pub returns-then-count-eq0-clause-appended : goal.returns-then-count-eq0-clause-appended
 returns-then-count-eq0-clause-appended g c =
-    let (reading, so_far) = c.reads.invariant in
-    let (s, written, fed, kept, counted, consumed) = so_far in
-    let (piece, ends) = c.in-Ok.ensures.bytes in
-    let none = rw c.if-count-eq0.true at piece in
-    let end = ends c.if-count-eq0.true (search rules) in
-    let (_, spells) = c.in_ok-finish.ensures.answer s written fed in
-    let spelled = rw reading at spells in
+    let (s, written, reading, fed, kept, counted, consumed) = c.reads.invariant in
+    let none = rw c.if-count-eq0.true at c.in-Ok.ensures.bytes.0 in
+    let end = c.in-Ok.ensures.bytes.1 c.if-count-eq0.true (search rules) in
+    let spelled = rw reading at (c.in_ok-finish.ensures.answer s written fed).1 in
     (s, written, rw append-nil at (Consumes-trans _ _ _ s [] consumed none), end, spelled, kept, counted)
 
 pub returns-in_err-written-clause-refusal : goal.returns-in_err-written-clause-refusal
 returns-in_err-written-clause-refusal g c = λ e is others.
-    let (reading, so_far) = c.reads.invariant in
-    let (s, written, fed, _, _, consumed) = so_far in
-    let (read, _) = c.in-Ok.ensures.bytes in
+    let (s, written, reading, fed, _, _, consumed) = c.reads.invariant in
     let left = g.R.Read.remaining c.read.new.self in
     let piece = take c.in-Ok.count c.read.new.buf in
     let size = length-take-le c.in-Ok.count c.read.new.buf c.in-Ok.ensures.bound.0 in
     let refused = c.a_decoder_with_room_refuses_as_a_stream.ensures.feed _ s piece (length c.reads.decoded) left _ (omega (arith, size, c.in-Ok.ensures.bound.0))
     (c.in_err-written.ensures.feeds s written fed) in
-    let (_, failed, same) = err_from_is_err_and c.from_residual-in_err-written.result c.from_residual-in_err-written.ensures.1 in (
-      s ++ piece,
-      Consumes-trans _ _ _ _ _ consumed read,
-      subst (RefusedBy (spaced policy.None) (s ++ piece) left) (cc (failed, same, is)) (rw reading at refused),
-    )
+    let (_, failed, same) = err_from_is_err_and c.from_residual-in_err-written.result c.from_residual-in_err-written.ensures.1 in
+    let by_piece = subst (RefusedBy (spaced policy.None) (s ++ piece) left) (cc (failed, same, is)) (rw reading at refused) in
+    (s ++ piece, Consumes-trans _ _ _ _ _ consumed c.in-Ok.ensures.bytes.0, by_piece)
 
 pub overflow_add-total : goal.overflow_add-total
 overflow_add-total g c =
-    let (_, so_far) = c.reads.invariant in
-    let (s, written, fed, _, counted, _) = so_far in
-    let piece = take c.in-Ok.count c.read.new.buf in
+    let (s, written, _, fed, _, counted, _) = c.reads.invariant in
     let (fits, more) = c.in_ok-written.ensures.feeds s written fed in
-    let (bytes, count, _, fed_more) = more in
-    let limit = c.a_decoder_writes_half_of_what_it_is_fed.ensures.counted _ s piece _ fits in
-    let half = c.a_decoder_writes_half_of_what_it_is_fed.ensures.half c.feed.new.self _ _ fed_more in
-    omega (arith, limit, half, length-append written bytes, counted, count)
+    let limit = c.a_decoder_writes_half_of_what_it_is_fed.ensures.counted _ s (take c.in-Ok.count c.read.new.buf) _ fits in
+    let half = c.a_decoder_writes_half_of_what_it_is_fed.ensures.half c.feed.new.self _ _ more.3 in
+    omega (arith, limit, half, length-append written more.0, counted, more.1)
 
 pub reads-smaller : goal.reads-smaller
 reads-smaller g c =
-    let (_, so_far) = c.reads.invariant in
-    let (s, written, fed, _, _, _) = so_far in
+    let (s, written, _, fed, _, _, _) = c.reads.invariant in
     let piece = take c.in-Ok.count c.read.new.buf in
     let size = length-take-le c.in-Ok.count c.read.new.buf c.in-Ok.ensures.bound.0 in
     let (fits, more) = c.in_ok-written.ensures.feeds s written fed in
-    let (_, _, _, fed_more) = more in
-    let (position, _) = fed in
-    let (position_more, _) = fed_more in
     let limit = c.a_decoder_writes_half_of_what_it_is_fed.ensures.counted _ s piece _ fits in
-    omega (arith, size, limit, position, position_more, length-append s piece)
+    omega (arith, size, limit, fed.0, more.3.0, length-append s piece)
 
 pub reads-preserved : goal.reads-preserved
 reads-preserved g c =
-    let (reading, so_far) = c.reads.invariant in
-    let (s, written, fed, kept, counted, consumed) = so_far in
-    let (read, _) = c.in-Ok.ensures.bytes in
-    let (_, more) = c.in_ok-written.ensures.feeds s written fed in
-    let (bytes, count, front, fed_more) = more in
+    let (s, written, reading, fed, kept, counted, consumed) = c.reads.invariant in
+    let (bytes, count, front, fed_more) = (c.in_ok-written.ensures.feeds s written fed).1 in
     let longer = rw (c.if-is_err.ensures.negation, front, count, take-append_seam, kept) at c.extend_from_slice.ensures.items in (
+      s ++ take c.in-Ok.count c.read.new.buf,
+      written ++ bytes,
       c.in_ok-written.ensures.reading ∙ reading,
-      (
-        s ++ take c.in-Ok.count c.read.new.buf,
-        written ++ bytes,
-        fed_more,
-        longer ∙ append_assoc (vec_items c.args.bytes.now) written bytes,
-        omega (arith, counted, count, length-append written bytes),
-        Consumes-trans _ _ _ _ _ consumed read,
-      ),
+      fed_more,
+      longer ∙ append_assoc (vec_items c.args.bytes.now) written bytes,
+      omega (arith, counted, count, length-append written bytes),
+      Consumes-trans _ _ _ _ _ consumed c.in-Ok.ensures.bytes.0,
     )

@@ -11,6 +11,5 @@ abbrev pub decreases-reads : goal.decreases-reads
 decreases-reads g l = 2 ^ 64 - position_of l.decoder
 
 abbrev pub invariant-reads : goal.invariant-reads
-invariant-reads g l = (reading_of l.decoder ≡ spaced policy.None)
-    × ((s : List ℕ) × (written : List ℕ) × HasFed l.decoder s written × (vec_items l.bytes ≡ vec_items l.initial.bytes ++ written) × (l.total ≡ length written)
-    × Consumes (g.R.Read.remaining l.initial.reader) (g.R.Read.remaining l.reader) s)
+invariant-reads g l = (s : List ℕ) × (written : List ℕ) × (reading_of l.decoder ≡ spaced policy.None) × HasFed l.decoder s written
+    × (vec_items l.bytes ≡ vec_items l.initial.bytes ++ written) × (l.total ≡ length written) × Consumes (g.R.Read.remaining l.initial.reader) (g.R.Read.remaining l.reader) s
