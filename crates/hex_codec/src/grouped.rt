@@ -3,7 +3,7 @@
 //!
 //! The functions that decode test the whole text before they store the first byte.
 
-ghost use Rattle.std.specs.Prelude.{◌≡◌, ◌≤◌, ◌<◌, ◌^◌, MatchOption, None, Some, length};
+ghost use Rattle.std.specs.Prelude.{◌≡◌, ◌≤◌, ◌<◌, ◌+◌, ◌*◌, ◌^◌, MatchOption, None, Ok, Some, length};
 ghost use Rattle.std.specs.Borrow.{sem};
 ghost use Rattle.hex_core.specs.Calls.{Answers};
 ghost use Rattle.hex_core.specs.Loan.{LendsAnswer};
@@ -255,20 +255,41 @@ pub fn write_by(
 ) -> Result<usize, Error>
     ensures answer { WritesGrouped group upper src.now dst.old dst.new result }
 {
-    // Three bytes for each of `src` are enough. With less room the length is counted, by a division.
-    if dst.len() / 3 < src.len() {
-        let Some(required) = grouped_len(src.len(), group.every()) else {
-            return Err(Error::Overflow);
-        };
-        if dst.len() < required {
-            return Err(Error::OutputTooSmall { required });
-        }
+    let Some(required) = grouped_len(src.len(), group.every()) else {
+        return Err(Error::Overflow);
+    };
+    if dst.len() < required {
+        return Err(Error::OutputTooSmall { required });
     }
-    // Pieces of 1 and of 4 bytes have code of their own, in which their length is a constant, so that
-    // such a piece is encoded without a loop.
-    Ok(match group.every() {
+    Ok(write_fitting(plan, src, dst, group, upper))
+}
+
+/// Does the same as [`write_into`] where there is room for a text in groups of 1, which is the
+/// longest one: three bytes for each byte of `src`, or one byte less. Returns the number of bytes
+/// written. The length of the text is not counted before, which would take a division.
+///
+/// ```rust
+/// let group = Group::new(2, b':').ok_or("no group")?;
+/// let mut buffer = [0; 8];
+/// let written = write_with_room(&[0, 1, 0xab], &mut buffer, group, true);
+/// assert_eq!(rt; &buffer[..written], b"0001:AB".as_slice());
+/// ```
+pub fn write_with_room(src: &[u8], dst: &mut [u8], group: Group, upper: bool) -> usize
+    requires { 3 * length src.now ≤ length dst.old + 1 }
+    ensures answer { WritesGrouped group upper src.now dst.old dst.new (Ok result) }
+{
+    write_fitting(Backend::plain(), src, dst, group, upper)
+}
+
+// Encodes `src` in groups, where there is room. Pieces of 1 and of 4 bytes have code of their own, in
+// which their length is a constant, so that such a piece is encoded without a loop.
+fn write_fitting(plan: Backend, src: &[u8], dst: &mut [u8], group: Group, upper: bool) -> usize
+    requires { grouped_len (piece_len group) (length src.now) ≤ length dst.old }
+    ensures { WritesGrouped group upper src.now dst.old dst.new (Ok result) }
+{
+    match group.every() {
         1 => write_by_piece_len(plan, src, dst, 1, group, upper),
         4 => write_by_piece_len(plan, src, dst, 4, group, upper),
         every => write_by_piece_len(plan, src, dst, every, group, upper),
-    })
+    }
 }

@@ -42,13 +42,6 @@ inside {E} refusal shown old new r n is h =
     let done : Fills refusal (λ bytes. bytes ≡ shown) old new (Ok n) = rw is at h in
     rw (done.1.3, done.1.2) (omega (arith, length-append done.1.0 (drop (length done.1.0) old)))
 
--- a chunk's grouped text has room behind a separator
-pub chunk-fits : (group : Group) (upper : Bool) (bytes old new : List ℕ) (r : Result ℕ Error) → WritesGrouped group upper bytes old new r
-    → 3 * length bytes ≤ length old + 1 → length old < 2 ^ 64 → IsOk r
-chunk-fits group upper bytes old new (Ok n) h room few = refl
-chunk-fits group upper bytes old new (Err e) h room few =
-    let most = len-most (piece_len group) (length bytes) group.is_group.0 in grind (arith, nat_tests, h.0, most, room, few)
-
 module _ (group : Group) (upper : Bool) where
   abbrev shown : List ℕ → List ℕ
   shown bytes = grouped group upper bytes

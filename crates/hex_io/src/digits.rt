@@ -10,7 +10,7 @@ ghost use Rattle.hex_io.specs.SinkState.{Puts};
 ghost use Rattle.hex_io.specs.inside.{Continues, FitsPiece, HasRoomFor};
 
 use crate::sink::{Sink, WriteFault, put_all};
-use hex_codec::grouped::write_into;
+use hex_codec::grouped::write_with_room;
 use hex_codec::{Group, hex_encode_into};
 
 /// The number of source bytes that are encoded at once.
@@ -87,7 +87,7 @@ fn put_grouped<S: Sink>(
 {
     if bytes.len() <= SHORT_SOURCE {
         let mut buffer = [0; 3 * SHORT_SOURCE];
-        let end = write_into(bytes, &mut buffer, group, upper).unwrap();
+        let end = write_with_room(bytes, &mut buffer, group, upper);
         return put_all(sink, &buffer[..end]);
     }
     put_parts(sink, bytes, upper, Some(group), &mut [0; 3 * ENCODE_CHUNK])
@@ -177,6 +177,6 @@ fn separated<'b>(
 {
     let start = usize::from(follows);
     buffer[0] = group.sep();
-    let end = write_into(bytes, &mut buffer[start..], group, upper).unwrap();
+    let end = write_with_room(bytes, &mut buffer[start..], group, upper);
     &buffer[..start + end]
 }
