@@ -207,7 +207,7 @@ impl Decoder {
         ensures reading { reading_of self.new ≡ reading_of self.old }
         ensures unchanged { OnErr result ((self.new ≡ self.old) × (dst.new ≡ dst.old)) }
     {
-        self.position.checked_add(src.len()).ok_or(Error::Overflow)?;
+        let _end = self.position.checked_add(src.len()).ok_or(Error::Overflow)?;
         let (count, is_clean) = survey(src, self.reading.case);
         let required = self.whole_pairs(count);
         if dst.len() < required {
