@@ -17,8 +17,8 @@
 # To test and to change:
 #   make test-c              runs the tests in C, which need only a C compiler. With RUN=COMMAND that
 #                            command runs them, for instance an emulator
-#   make test                proves all crates, runs their tests, tries the mutations that matter
-#                            most, and runs the examples and a quick part of make check. Without the
+#   make test                proves all crates, runs their tests, tries the worst mutations (wrong
+#                            function bodies), and runs the examples and a quick part of make check. Without the
 #                            Rattle toolchain it runs the tests in C and that part of make check
 #   make check               runs all tests in tests/ by pytest, and skips those whose tools are not
 #                            installed. With RUST=DIR, where DIR is a checkout of faster-hex 1.0.0,
@@ -33,12 +33,12 @@
 #   CC, CFLAGS, CPPFLAGS, LDFLAGS, AR
 #                            the usual meaning. A compiler for another system builds for that
 #                            system: into out/aarch64 for Linux on aarch64, into out/windows for
-#                            Windows, and below out/macos for macOS. For macOS it builds only the
-#                            archive
+#                            Windows, and into out/macos or out/macos/aarch64 for macOS. For macOS
+#                            it builds only the archive
 #   TARGET=aarch64           builds for Linux on aarch64 with the compiler aarch64-linux-gnu-gcc
 #   TARGET=portable          builds the libraries in plain C, which is not proved. A processor or a
 #                            system without assembly gets the same
-#   UNPROVED=yes             builds also if the sources or the assembly were changed after the
+#   UNPROVED=yes             builds even if the sources or the assembly were changed after the
 #                            proof. faster_hex_version then ends with +unproved
 #
 # With make -s nothing is printed if all goes well.

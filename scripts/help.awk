@@ -16,8 +16,8 @@ function put(indent, text,    count, words, at, line) {
 
 BEGIN { FS = " [|] " }
 /^You changed/ {
-    put(0, "What to run after a change, with the time that it takes in parentheses. Run the command of your change," \
-        " and then those directly below it that begin with *then*:")
+    put(0, "What to run after a change, with the time that it takes in parentheses. Find your change and run its" \
+        " command. Then run the commands of the entries directly below it that begin with 'then':")
     is_table = 1
     next
 }
