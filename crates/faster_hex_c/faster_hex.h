@@ -50,9 +50,9 @@
  *   NetBSD use the same assembly. The check covers the builds for x86-64-v2, x86-64-v3 and x86-64-v4, and the calls
  *   without groups. For these, the results are right, and a call that reports an error has written nothing, not even
  *   for a while. The code reads only the source, its stack, its constants and its byte of state. It writes only the
- *   destination and its stack. This also holds if an empty source or destination is NULL. For the calls with groups in the
- *   builds for x86-64-v2 and x86-64-v3, the same is checked for sources of up to 32 bytes. The file generated/SHOWN has
- *   the record.
+ *   destination and its stack. This also holds if an empty source or destination is NULL. For the calls with groups in
+ *   the builds for x86-64-v2 and x86-64-v3, the same is checked for sources of up to 32 bytes. The file generated/SHOWN
+ *   has the record.
  * - Keys: the same tool checks which addresses and branches depend on the bytes of the source. When a call without
  *   groups encodes, none does. When it checks, decodes or searches valid digits, the only such branches ask whether
  *   all digits of one part of the source are valid. They go the same way for all valid digits. docs/security.md says
