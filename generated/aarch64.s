@@ -1610,20 +1610,20 @@
 	hex_function	faster_hex_1_0_0_aarch64_codec_pieces_write_by_piece_len,.text
 	cmp	x3,x1
 	b.hs	13f
-	lsl	x8,x3,#1
+	lsl	x9,x3,#1
 	hex_page	x10,.L100aar_static.10
 	hex_address	x10,x10,.L100aar_static.10
 	cmp	w5,#0
 	hex_page	x11,.L100aar_static.9
 	hex_address	x11,x11,.L100aar_static.9
-	csetm	w9,ne
+	csetm	w8,ne
 	csel	x10,x11,x10,ne
 	cmp	x3,#7
 	b.hi	17f
 	cbz	x3,4f
 	mov	x11,xzr
-	mov	x9,xzr
-	add	x12,x2,x8
+	mov	x8,xzr
+	add	x12,x2,x9
 	add	x13,x2,#13
 	add	x14,x0,#3
 	b	6f
@@ -1632,10 +1632,10 @@
 	b	4b
 5:
 	sub	x11,x11,x3
-	add	x16,x9,x8
-	strb	w4,[x12,x9]
+	add	x16,x8,x9
+	strb	w4,[x12,x8]
 	add	x15,x1,x11
-	add	x9,x16,#1
+	add	x8,x16,#1
 	add	x14,x14,x3
 	cmp	x3,x15
 	b.hs	23f
@@ -1643,7 +1643,7 @@
 	ldurb	w15,[x14,#-3]
 	cmp	x3,#1
 	ldrh	w16,[x10,x15,lsl #1]
-	add	x15,x13,x9
+	add	x15,x13,x8
 	sturh	w16,[x15,#-13]
 	b.eq	5b
 	ldurb	w16,[x14,#-2]
@@ -1654,7 +1654,7 @@
 	ldurb	w15,[x14,#-1]
 	cmp	x3,#3
 	ldrh	w16,[x10,x15,lsl #1]
-	add	x15,x13,x9
+	add	x15,x13,x8
 	sturh	w16,[x15,#-9]
 	b.eq	5b
 	ldrb	w16,[x14]
@@ -1665,7 +1665,7 @@
 	ldrb	w15,[x14,#1]
 	cmp	x3,#5
 	ldrh	w16,[x10,x15,lsl #1]
-	add	x15,x13,x9
+	add	x15,x13,x8
 	sturh	w16,[x15,#-5]
 	b.eq	5b
 	ldrb	w16,[x14,#2]
@@ -1674,24 +1674,25 @@
 	sturh	w16,[x15,#-3]
 	b.eq	5b
 	ldrb	w15,[x14,#3]
-	add	x16,x13,x9
+	add	x16,x13,x8
 	ldrh	w15,[x10,x15,lsl #1]
 	sturh	w15,[x16,#-1]
 	b	5b
 13:
+	mov	x8,xzr
 	cmp	x1,#7
 	add	x10,x0,xzr
-	add	x8,x2,xzr
+	add	x9,x2,xzr
 	b.ls	53f
 14:
 	cmp	w5,#0
-	hex_page	x11,.L100aar_CPI3_0
-	hex_page	x12,.L100aar_CPI3_1
-	csetm	w9,ne
-	hex_value	q1,x11,.L100aar_CPI3_0
-	hex_value	q2,x12,.L100aar_CPI3_1
-	dup	v0.16b,w9
-	subs	x9,x1,#32
+	hex_page	x12,.L100aar_CPI3_0
+	hex_page	x13,.L100aar_CPI3_1
+	csetm	w11,ne
+	hex_value	q1,x12,.L100aar_CPI3_0
+	hex_value	q2,x13,.L100aar_CPI3_1
+	dup	v0.16b,w11
+	subs	x11,x1,#32
 	bsl	v0.16b,v2.16b,v1.16b
 	b.hi	21f
 	b.ne	27f
@@ -1704,7 +1705,7 @@
 17:
 	hex_page	x10,.L100aar_CPI3_0
 	hex_page	x11,.L100aar_CPI3_1
-	dup	v0.16b,w9
+	dup	v0.16b,w8
 	hex_value	q1,x10,.L100aar_CPI3_0
 	hex_value	q2,x11,.L100aar_CPI3_1
 	cmp	x3,#32
@@ -1714,15 +1715,15 @@
 	b.hi	24f
 	b.ne	37f
 	mov	x10,xzr
-	mov	x9,xzr
-	add	x11,x2,x8
+	mov	x8,xzr
+	add	x11,x2,x9
 20:
 	movi	v1.16b,#15
 	add	x12,x0,x10
 	sub	x1,x1,#32
 	ldp	q3,q2,[x12]
-	add	x12,x2,x9
-	add	x13,x9,x8
+	add	x12,x2,x8
+	add	x13,x8,x9
 	cmp	x1,#32
 	add	x10,x10,#32
 	ushr	v4.16b,v2.16b,#4
@@ -1739,16 +1740,16 @@
 	tbl	v1.16b,{ v0.16b },v1.16b
 	stp	q2,q3,[x12,#32]
 	stp	q1,q4,[x12]
-	strb	w4,[x11,x9]
-	add	x9,x13,#1
+	strb	w4,[x11,x8]
+	add	x8,x13,#1
 	b.hi	20b
 	b	52f
 21:
-	subs	x11,x1,#64
+	subs	x12,x1,#64
 	b.hi	29f
 	movi	v1.16b,#15
 	ldp	q3,q2,[x10]
-	add	x10,x10,x9
+	add	x10,x10,x11
 	ushr	v4.16b,v2.16b,#4
 	ushr	v5.16b,v3.16b,#4
 	and	v2.16b,v2.16b,v1.16b
@@ -1761,15 +1762,15 @@
 	tbl	v2.16b,{ v0.16b },v2.16b
 	tbl	v4.16b,{ v0.16b },v4.16b
 	tbl	v3.16b,{ v0.16b },v3.16b
-	stp	q2,q5,[x8,#32]
-	stp	q3,q4,[x8]
+	stp	q2,q5,[x9,#32]
+	stp	q3,q4,[x9]
 	b	33f
 23:
 	neg	x10,x11
 	mov	x1,x15
 	cmp	x15,#7
 	add	x10,x0,x10
-	add	x8,x2,x9
+	add	x9,x2,x8
 	b.ls	53f
 	b	14b
 24:
@@ -1777,15 +1778,15 @@
 	sub	x11,x3,#32
 	b.hi	40f
 	mov	x10,xzr
-	mov	x9,xzr
+	mov	x8,xzr
 	add	x11,x0,x11
-	add	x12,x2,x8
+	add	x12,x2,x9
 26:
 	movi	v1.16b,#15
 	add	x13,x0,x10
 	add	x14,x11,x10
 	ldp	q3,q2,[x13]
-	add	x13,x2,x9
+	add	x13,x2,x8
 	sub	x1,x1,x3
 	add	x10,x10,x3
 	cmp	x3,x1
@@ -1803,10 +1804,10 @@
 	tbl	v3.16b,{ v0.16b },v3.16b
 	stp	q2,q5,[x13,#32]
 	stp	q3,q4,[x13]
-	add	x13,x12,x9
-	add	x9,x9,x8
+	add	x13,x12,x8
+	add	x8,x8,x9
 	ldp	q3,q2,[x14]
-	add	x9,x9,#1
+	add	x8,x8,#1
 	strb	w4,[x13]
 	ushr	v4.16b,v2.16b,#4
 	and	v2.16b,v2.16b,v1.16b
@@ -1825,23 +1826,24 @@
 	b.lo	26b
 	b	52f
 27:
-	subs	x9,x1,#16
+	subs	x11,x1,#16
 	b.hi	45f
 	movi	v1.8b,#15
 	ldr	d2,[x10]
-	sub	x9,x1,#8
+	sub	x11,x1,#8
+	add	x0,x8,x1,lsl #1
 	ushr	v3.8b,v2.8b,#4
 	and	v2.8b,v2.8b,v1.8b
 	zip1	v2.16b,v3.16b,v2.16b
 	tbl	v2.16b,{ v0.16b },v2.16b
-	str	q2,[x8]
-	ldr	d2,[x10,x9]
-	lsl	x9,x9,#1
+	str	q2,[x9]
+	ldr	d2,[x10,x11]
+	lsl	x10,x11,#1
 	ushr	v3.8b,v2.8b,#4
 	and	v1.8b,v2.8b,v1.8b
 	zip1	v1.16b,v3.16b,v1.16b
 	tbl	v0.16b,{ v0.16b },v1.16b
-	str	q0,[x8,x9]
+	str	q0,[x9,x10]
 	ret
 29:
 	cmp	x1,#128
@@ -1861,8 +1863,8 @@
 	tbl	v2.16b,{ v0.16b },v2.16b
 	tbl	v4.16b,{ v0.16b },v4.16b
 	tbl	v3.16b,{ v0.16b },v3.16b
-	stp	q2,q5,[x8,#32]
-	stp	q3,q4,[x8]
+	stp	q2,q5,[x9,#32]
+	stp	q3,q4,[x9]
 	ldp	q3,q2,[x10,#32]
 	ushr	v4.16b,v2.16b,#4
 	and	v2.16b,v2.16b,v1.16b
@@ -1876,12 +1878,12 @@
 	tbl	v2.16b,{ v0.16b },v2.16b
 	tbl	v4.16b,{ v0.16b },v4.16b
 	tbl	v3.16b,{ v0.16b },v3.16b
-	stp	q2,q5,[x8,#96]
-	stp	q3,q4,[x8,#64]
+	stp	q2,q5,[x9,#96]
+	stp	q3,q4,[x9,#64]
 	b.lo	32f
-	add	x12,x10,x11
-	add	x11,x8,x11,lsl #1
-	ldp	q3,q2,[x12]
+	add	x13,x10,x12
+	add	x12,x9,x12,lsl #1
+	ldp	q3,q2,[x13]
 	ushr	v4.16b,v2.16b,#4
 	and	v2.16b,v2.16b,v1.16b
 	ushr	v5.16b,v3.16b,#4
@@ -1894,13 +1896,13 @@
 	tbl	v2.16b,{ v0.16b },v2.16b
 	tbl	v4.16b,{ v0.16b },v4.16b
 	tbl	v3.16b,{ v0.16b },v3.16b
-	stp	q2,q5,[x11,#32]
-	stp	q3,q4,[x11]
+	stp	q2,q5,[x12,#32]
+	stp	q3,q4,[x12]
 32:
-	add	x10,x10,x9
+	add	x10,x10,x11
 33:
 	ldp	q3,q2,[x10]
-	add	x8,x8,x9,lsl #1
+	add	x9,x9,x11,lsl #1
 	ushr	v4.16b,v2.16b,#4
 	and	v2.16b,v2.16b,v1.16b
 	ushr	v5.16b,v3.16b,#4
@@ -1914,34 +1916,35 @@
 	tbl	v2.16b,{ v0.16b },v2.16b
 	tbl	v4.16b,{ v0.16b },v4.16b
 	tbl	v0.16b,{ v0.16b },v1.16b
-	stp	q2,q3,[x8,#32]
+	stp	q2,q3,[x9,#32]
 35:
-	str	q4,[x8,#16]
+	str	q4,[x9,#16]
 36:
-	str	q0,[x8]
+	str	q0,[x9]
+	add	x0,x8,x1,lsl #1
 	ret
 37:
 	cmp	x3,#17
 	b.hs	50f
 	mov	x10,xzr
-	mov	x9,xzr
+	mov	x8,xzr
 	add	x11,x0,x12
-	add	x12,x2,x8
+	add	x12,x2,x9
 39:
 	movi	v1.8b,#15
 	ldr	d2,[x0,x10]
-	add	x13,x12,x9
+	add	x13,x12,x8
 	sub	x1,x1,x3
 	ushr	v3.8b,v2.8b,#4
 	cmp	x3,x1
 	and	v2.8b,v2.8b,v1.8b
 	zip1	v2.16b,v3.16b,v2.16b
 	tbl	v2.16b,{ v0.16b },v2.16b
-	str	q2,[x2,x9]
-	add	x9,x9,x8
+	str	q2,[x2,x8]
+	add	x8,x8,x9
 	ldr	d2,[x11,x10]
 	add	x10,x10,x3
-	add	x9,x9,#1
+	add	x8,x8,#1
 	strb	w4,[x13]
 	ushr	v3.8b,v2.8b,#4
 	and	v1.8b,v2.8b,v1.8b
@@ -1954,19 +1957,19 @@
 	cmp	x3,#129
 	b.hs	61f
 	mov	x10,xzr
-	mov	x9,xzr
-	add	x11,x2,x8
+	mov	x8,xzr
+	add	x11,x2,x9
 	sub	x12,x0,#64
 	b	43f
 42:
 	add	x12,x12,x3
-	add	x13,x11,x9
+	add	x13,x11,x8
 	sub	x1,x1,x3
 	ldp	q3,q2,[x12,#32]
-	add	x9,x9,x8
+	add	x8,x8,x9
 	cmp	x3,x1
 	add	x10,x10,x3
-	add	x9,x9,#1
+	add	x8,x8,#1
 	strb	w4,[x13]
 	ushr	v4.16b,v2.16b,#4
 	and	v2.16b,v2.16b,v1.16b
@@ -1986,7 +1989,7 @@
 43:
 	movi	v1.16b,#15
 	ldp	q3,q2,[x12,#64]
-	add	x13,x2,x9
+	add	x13,x2,x8
 	cmp	x3,#97
 	ushr	v4.16b,v2.16b,#4
 	ushr	v5.16b,v3.16b,#4
@@ -2020,7 +2023,7 @@
 	b.lo	42b
 	add	x13,x12,x3
 	ldp	q3,q2,[x13]
-	add	x13,x11,x9
+	add	x13,x11,x8
 	ushr	v4.16b,v2.16b,#4
 	and	v2.16b,v2.16b,v1.16b
 	ushr	v5.16b,v3.16b,#4
@@ -2045,25 +2048,25 @@
 	zip1	v2.16b,v3.16b,v2.16b
 	tbl	v3.16b,{ v0.16b },v4.16b
 	tbl	v2.16b,{ v0.16b },v2.16b
-	stp	q2,q3,[x8]
-	add	x8,x8,x9,lsl #1
-	ldr	q2,[x10,x9]
+	stp	q2,q3,[x9]
+	add	x9,x9,x11,lsl #1
+	ldr	q2,[x10,x11]
 	ushr	v3.16b,v2.16b,#4
 	and	v1.16b,v2.16b,v1.16b
 	zip2	v2.16b,v3.16b,v1.16b
 	zip1	v1.16b,v3.16b,v1.16b
 	tbl	v2.16b,{ v0.16b },v2.16b
 	tbl	v0.16b,{ v0.16b },v1.16b
-	str	q2,[x8,#16]
+	str	q2,[x9,#16]
 	b	36b
 46:
-	lsr	x11,x1,#5
-	mov	x12,x8
-	mov	x13,x10
+	lsr	x12,x1,#5
+	mov	x13,x9
+	mov	x14,x10
 47:
 	movi	v3.16b,#15
-	subs	x11,x11,#1
-	ldp	q5,q4,[x13],#32
+	subs	x12,x12,#1
+	ldp	q5,q4,[x14],#32
 	ushr	v6.16b,v4.16b,#4
 	and	v4.16b,v4.16b,v3.16b
 	ushr	v7.16b,v5.16b,#4
@@ -2076,18 +2079,18 @@
 	tbl	v4.16b,{ v0.16b },v4.16b
 	tbl	v6.16b,{ v0.16b },v6.16b
 	tbl	v3.16b,{ v0.16b },v3.16b
-	stp	q4,q5,[x12,#32]
-	stp	q3,q6,[x12],#64
+	stp	q4,q5,[x13,#32]
+	stp	q3,q6,[x13],#64
 	b.ne	47b
 	tst	x1,#0x1f
 	b.eq	60f
 	movi	v0.16b,#15
-	add	x10,x10,x9
+	add	x10,x10,x11
 	cmp	w5,#0
 	ldp	q4,q3,[x10]
 	csetm	w10,ne
 	dup	v5.16b,w10
-	add	x8,x8,x9,lsl #1
+	add	x9,x9,x11,lsl #1
 	ushr	v6.16b,v3.16b,#4
 	and	v3.16b,v3.16b,v0.16b
 	and	v0.16b,v4.16b,v0.16b
@@ -2101,17 +2104,17 @@
 	tbl	v3.16b,{ v1.16b },v3.16b
 	tbl	v4.16b,{ v1.16b },v5.16b
 	tbl	v0.16b,{ v1.16b },v0.16b
-	stp	q3,q2,[x8,#32]
+	stp	q3,q2,[x9,#32]
 	b	35b
 50:
 	mov	x10,xzr
-	mov	x9,xzr
+	mov	x8,xzr
 	add	x11,x0,x11
-	add	x12,x2,x8
+	add	x12,x2,x9
 51:
 	movi	v1.16b,#15
 	ldr	q2,[x0,x10]
-	add	x13,x2,x9
+	add	x13,x2,x8
 	sub	x1,x1,x3
 	ushr	v3.16b,v2.16b,#4
 	cmp	x3,x1
@@ -2121,11 +2124,11 @@
 	tbl	v3.16b,{ v0.16b },v4.16b
 	tbl	v2.16b,{ v0.16b },v2.16b
 	stp	q2,q3,[x13]
-	add	x13,x12,x9
-	add	x9,x9,x8
+	add	x13,x12,x8
+	add	x8,x8,x9
 	ldr	q2,[x11,x10]
 	add	x10,x10,x3
-	add	x9,x9,#1
+	add	x8,x8,#1
 	strb	w4,[x13]
 	ushr	v3.16b,v2.16b,#4
 	and	v1.16b,v2.16b,v1.16b
@@ -2138,65 +2141,66 @@
 52:
 	cmp	x1,#7
 	add	x10,x0,x10
-	add	x8,x2,x9
+	add	x9,x2,x8
 	b.hi	14b
 53:
-	hex_page	x9,.L100aar_static.10
-	hex_address	x9,x9,.L100aar_static.10
+	hex_page	x11,.L100aar_static.10
+	hex_address	x11,x11,.L100aar_static.10
 	cmp	w5,#0
-	hex_page	x11,.L100aar_static.9
-	hex_address	x11,x11,.L100aar_static.9
-	csel	x9,x11,x9,ne
+	hex_page	x12,.L100aar_static.9
+	hex_address	x12,x12,.L100aar_static.9
+	csel	x11,x12,x11,ne
 	cbz	x1,60f
-	ldrb	w11,[x10]
+	ldrb	w12,[x10]
 	cmp	x1,#1
-	ldrh	w11,[x9,x11,lsl #1]
-	strh	w11,[x8]
+	ldrh	w12,[x11,x12,lsl #1]
+	strh	w12,[x9]
 	b.eq	60f
-	ldrb	w11,[x10,#1]
+	ldrb	w12,[x10,#1]
 	cmp	x1,#2
-	ldrh	w11,[x9,x11,lsl #1]
-	strh	w11,[x8,#2]
+	ldrh	w12,[x11,x12,lsl #1]
+	strh	w12,[x9,#2]
 	b.eq	60f
-	ldrb	w11,[x10,#2]
+	ldrb	w12,[x10,#2]
 	cmp	x1,#3
-	ldrh	w11,[x9,x11,lsl #1]
-	strh	w11,[x8,#4]
+	ldrh	w12,[x11,x12,lsl #1]
+	strh	w12,[x9,#4]
 	b.eq	60f
-	ldrb	w11,[x10,#3]
+	ldrb	w12,[x10,#3]
 	cmp	x1,#4
-	ldrh	w11,[x9,x11,lsl #1]
-	strh	w11,[x8,#6]
+	ldrh	w12,[x11,x12,lsl #1]
+	strh	w12,[x9,#6]
 	b.eq	60f
-	ldrb	w11,[x10,#4]
+	ldrb	w12,[x10,#4]
 	cmp	x1,#5
-	ldrh	w11,[x9,x11,lsl #1]
-	strh	w11,[x8,#8]
+	ldrh	w12,[x11,x12,lsl #1]
+	strh	w12,[x9,#8]
 	b.eq	60f
-	ldrb	w11,[x10,#5]
+	ldrb	w12,[x10,#5]
 	cmp	x1,#6
-	ldrh	w11,[x9,x11,lsl #1]
-	strh	w11,[x8,#10]
+	ldrh	w12,[x11,x12,lsl #1]
+	strh	w12,[x9,#10]
 	b.ne	69f
 60:
+	add	x0,x8,x1,lsl #1
 	ret
 61:
 	lsr	x12,x3,#5
 	lsl	x14,x11,#1
 	mov	x10,xzr
-	mov	x9,xzr
+	mov	x8,xzr
 	and	x13,x3,#0x1f
-	add	x15,x8,#1
+	add	x15,x9,#1
 	mov	x16,x2
 	mov	x17,x0
 	b	63f
 62:
 	add	x10,x10,x3
-	add	x9,x9,x8
+	add	x8,x8,x9
 	add	x17,x17,x3
 	sub	x18,x1,x10
-	strb	w4,[x2,x9]
-	add	x9,x9,#1
+	strb	w4,[x2,x8]
+	add	x8,x8,#1
 	cmp	x3,x18
 	add	x16,x16,x15
 	b.hs	68f
@@ -2230,7 +2234,7 @@
 	movi	v1.16b,#15
 	add	x18,x18,x11
 	ldp	q3,q2,[x18]
-	add	x18,x2,x9
+	add	x18,x2,x8
 	add	x18,x18,x14
 	ushr	v4.16b,v2.16b,#4
 	and	v2.16b,v2.16b,v1.16b
@@ -2251,13 +2255,14 @@
 	mov	x1,x18
 	cmp	x18,#7
 	add	x10,x0,x10
-	add	x8,x2,x9
+	add	x9,x2,x8
 	b.ls	53b
 	b	14b
 69:
 	ldrb	w10,[x10,#6]
-	ldrh	w9,[x9,x10,lsl #1]
-	strh	w9,[x8,#12]
+	add	x0,x8,x1,lsl #1
+	ldrh	w10,[x11,x10,lsl #1]
+	strh	w10,[x9,#12]
 	ret
 	hex_end	faster_hex_1_0_0_aarch64_codec_pieces_write_by_piece_len
 	hex_function	faster_hex_1_0_0_aarch64_core_backend_Backend_first_invalid,.text
@@ -5338,14 +5343,12 @@
 	b.hs	7f
 3:
 	tbnz	x1,#63,5f
-	udiv	x8,x1,x5
-	msub	x9,x8,x5,x1
-	cmp	x9,#0
-	cinc	x8,x8,ne
-	cmp	x8,#0
-	cset	w9,ne
-	sub	x8,x8,x9
-	adds	x8,x8,x1,lsl #1
+	cmp	x1,#0
+	lsl	x9,x1,#1
+	cset	w8,ne
+	sub	x8,x1,x8
+	udiv	x8,x8,x5
+	cmn	x8,x9
 	b.lo	12f
 5:
 	mov	x8,xzr
@@ -5376,6 +5379,7 @@
 	b.hs	3b
 	b	6b
 12:
+	add	x8,x8,x9
 	cmp	x3,x8
 	b.hs	14f
 	mov	w9,#2
@@ -5383,12 +5387,10 @@
 	mov	x1,x9
 	ret
 14:
-	stp	x29,x30,[sp,#-32]!
+	stp	x29,x30,[sp,#-16]!
 	cmp	x5,#4
-	str	x19,[sp,#16]
 	mov	x29,sp
 	b.eq	17f
-	mov	x19,x8
 	cmp	x5,#1
 	b.ne	18f
 	and	w5,w4,#0x1
@@ -5397,16 +5399,7 @@
 17:
 	and	w5,w4,#0x1
 	mov	w3,#4
-	mov	w4,w6
-	mov	x19,x8
-	bl	faster_hex_1_0_0_aarch64_codec_pieces_write_by_piece_len
-	mov	x8,x19
-	mov	x9,xzr
-	ldr	x19,[sp,#16]
-	ldp	x29,x30,[sp],#32
-	mov	x0,x8
-	mov	x1,x9
-	ret
+	b	19f
 18:
 	mov	x3,x5
 	and	w5,w4,#0x1
@@ -5414,10 +5407,7 @@
 	mov	w4,w6
 	bl	faster_hex_1_0_0_aarch64_codec_pieces_write_by_piece_len
 	mov	x9,xzr
-	mov	x8,x19
-	ldr	x19,[sp,#16]
-	ldp	x29,x30,[sp],#32
-	mov	x0,x8
+	ldp	x29,x30,[sp],#16
 	mov	x1,x9
 	ret
 	hex_end	faster_hex_1_0_0_aarch64_encode_grouped

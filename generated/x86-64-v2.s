@@ -2008,7 +2008,7 @@
 	.p2align	5,,10
 	cmpq	%rsi,%rcx
 	jae	1f
-	leaq	(%rcx,%rcx),%r10
+	leaq	(%rcx,%rcx),%r11
 	movq	%rcx,%r15
 	shrq	$5,%r15
 	leaq	-32(%rcx),%r14
@@ -2020,12 +2020,12 @@
 	.p2align	5,,6
 	jmp	5f
 1:
-	xorl	%r11d,%r11d
+	xorl	%r10d,%r10d
 	xorl	%ebx,%ebx
 	movq	%rsi,%rax
 41:
 	addq	%rbx,%rdi
-	addq	%r11,%rdx
+	addq	%r10,%rdx
 	.p2align	5,,10
 	cmpq	$7,%rax
 	ja	50f
@@ -2072,9 +2072,9 @@
 	.p2align	5,,10
 	cmpq	$6,%rax
 	je	72f
-	movzbl	6(%rdi),%eax
-	movzwl	(%rcx,%rax,2),%eax
-	movw	%ax,12(%rdx)
+	movzbl	6(%rdi),%esi
+	movzwl	(%rcx,%rsi,2),%ecx
+	movw	%cx,12(%rdx)
 	.p2align	5,,6
 	jmp	72f
 50:
@@ -2162,10 +2162,10 @@
 	.p2align	5,,10
 	testq	%rcx,%rcx
 	je	16f
-	leaq	(%rdx,%r10),%r14
+	leaq	(%rdx,%r11),%r14
 	xorl	%ebx,%ebx
 	movq	%rsi,%rax
-	xorl	%r11d,%r11d
+	xorl	%r10d,%r10d
 	.p2align	5,,6
 	jmp	8f
 	.p2align	4
@@ -2177,9 +2177,9 @@
 	.p2align	4
 15:
 	addq	%rcx,%rbx
-	movb	%r8b,(%r14,%r11)
-	addq	%r10,%r11
-	incq	%r11
+	movb	%r8b,(%r14,%r10)
+	addq	%r11,%r10
+	incq	%r10
 	subq	%rcx,%rax
 	.p2align	5,,10
 	cmpq	%rax,%rcx
@@ -2187,43 +2187,43 @@
 8:
 	movzbl	(%rdi,%rbx),%esi
 	movzwl	(%r13,%rsi,2),%esi
-	movw	%si,(%rdx,%r11)
+	movw	%si,(%rdx,%r10)
 	.p2align	5,,10
 	cmpq	$1,%rcx
 	je	15b
 	movzbl	1(%rdi,%rbx),%esi
 	movzwl	(%r13,%rsi,2),%esi
-	movw	%si,2(%rdx,%r11)
+	movw	%si,2(%rdx,%r10)
 	.p2align	5,,10
 	cmpq	$2,%rcx
 	je	15b
 	movzbl	2(%rdi,%rbx),%esi
 	movzwl	(%r13,%rsi,2),%esi
-	movw	%si,4(%rdx,%r11)
+	movw	%si,4(%rdx,%r10)
 	.p2align	5,,10
 	cmpq	$3,%rcx
 	je	15b
 	movzbl	3(%rdi,%rbx),%esi
 	movzwl	(%r13,%rsi,2),%esi
-	movw	%si,6(%rdx,%r11)
+	movw	%si,6(%rdx,%r10)
 	.p2align	5,,10
 	cmpq	$4,%rcx
 	je	15b
 	movzbl	4(%rdi,%rbx),%esi
 	movzwl	(%r13,%rsi,2),%esi
-	movw	%si,8(%rdx,%r11)
+	movw	%si,8(%rdx,%r10)
 	.p2align	5,,10
 	cmpq	$5,%rcx
 	je	15b
 	movzbl	5(%rdi,%rbx),%esi
 	movzwl	(%r13,%rsi,2),%esi
-	movw	%si,10(%rdx,%r11)
+	movw	%si,10(%rdx,%r10)
 	.p2align	5,,10
 	cmpq	$6,%rcx
 	je	15b
 	movzbl	6(%rdi,%rbx),%esi
 	movzwl	(%r13,%rsi,2),%esi
-	movw	%si,12(%rdx,%r11)
+	movw	%si,12(%rdx,%r10)
 	.p2align	5,,6
 	jmp	15b
 17:
@@ -2232,10 +2232,10 @@
 	ja	26f
 	.p2align	5,,6
 	jne	21f
-	leaq	(%rdx,%r10),%rcx
+	leaq	(%rdx,%r11),%rcx
 	xorl	%ebx,%ebx
 	movq	%rsi,%rax
-	xorl	%r11d,%r11d
+	xorl	%r10d,%r10d
 	.p2align	4
 20:
 	movdqu	(%rdi,%rbx),%xmm1
@@ -2264,13 +2264,13 @@
 	pshufb	%xmm5,%xmm2
 	movdqa	%xmm0,%xmm5
 	pshufb	%xmm4,%xmm5
-	movdqu	%xmm5,48(%rdx,%r11)
-	movdqu	%xmm2,32(%rdx,%r11)
-	movdqu	%xmm3,16(%rdx,%r11)
-	movdqu	%xmm1,(%rdx,%r11)
-	movb	%r8b,(%rcx,%r11)
-	addq	%r10,%r11
-	incq	%r11
+	movdqu	%xmm5,48(%rdx,%r10)
+	movdqu	%xmm2,32(%rdx,%r10)
+	movdqu	%xmm3,16(%rdx,%r10)
+	movdqu	%xmm1,(%rdx,%r10)
+	movb	%r8b,(%rcx,%r10)
+	addq	%r11,%r10
+	incq	%r10
 	addq	$-32,%rax
 	.p2align	5,,10
 	cmpq	$32,%rax
@@ -2320,10 +2320,10 @@
 	cmpq	$64,%rcx
 	ja	29f
 	addq	%rdi,%r14
-	leaq	(%rdx,%r10),%r15
+	leaq	(%rdx,%r11),%r15
 	xorl	%ebx,%ebx
 	movq	%rsi,%rax
-	xorl	%r11d,%r11d
+	xorl	%r10d,%r10d
 	.p2align	4
 28:
 	movdqu	(%rdi,%rbx),%xmm2
@@ -2351,10 +2351,10 @@
 	pshufb	%xmm5,%xmm3
 	movdqa	%xmm0,%xmm5
 	pshufb	%xmm6,%xmm5
-	movdqu	%xmm5,48(%rdx,%r11)
-	movdqu	%xmm3,32(%rdx,%r11)
-	movdqu	%xmm4,16(%rdx,%r11)
-	movdqu	%xmm2,(%rdx,%r11)
+	movdqu	%xmm5,48(%rdx,%r10)
+	movdqu	%xmm3,32(%rdx,%r10)
+	movdqu	%xmm4,16(%rdx,%r10)
+	movdqu	%xmm2,(%rdx,%r10)
 	movdqu	(%r14,%rbx),%xmm2
 	movdqu	16(%r14,%rbx),%xmm3
 	leaq	(%rbx,%rcx),%rbx
@@ -2380,13 +2380,13 @@
 	pshufb	%xmm5,%xmm3
 	movdqa	%xmm0,%xmm5
 	pshufb	%xmm1,%xmm5
-	movdqu	%xmm5,-16(%r15,%r11)
-	movdqu	%xmm3,-32(%r15,%r11)
-	movdqu	%xmm4,-48(%r15,%r11)
-	movdqu	%xmm2,-64(%r15,%r11)
-	movb	%r8b,(%r15,%r11)
-	addq	%r10,%r11
-	incq	%r11
+	movdqu	%xmm5,-16(%r15,%r10)
+	movdqu	%xmm3,-32(%r15,%r10)
+	movdqu	%xmm4,-48(%r15,%r10)
+	movdqu	%xmm2,-64(%r15,%r10)
+	movb	%r8b,(%r15,%r10)
+	addq	%r11,%r10
+	incq	%r10
 	subq	%rcx,%rax
 	.p2align	5,,10
 	cmpq	%rax,%rcx
@@ -2514,10 +2514,10 @@
 	cmpq	$17,%rcx
 	jae	22f
 	addq	%rdi,%rbp
-	leaq	(%rdx,%r10),%r14
+	leaq	(%rdx,%r11),%r14
 	xorl	%ebx,%ebx
 	movq	%rsi,%rax
-	xorl	%r11d,%r11d
+	xorl	%r10d,%r10d
 	.p2align	4
 25:
 	movq	(%rdi,%rbx),%xmm1
@@ -2528,7 +2528,7 @@
 	pand	%xmm3,%xmm2
 	movdqa	%xmm0,%xmm1
 	pshufb	%xmm2,%xmm1
-	movdqu	%xmm1,(%rdx,%r11)
+	movdqu	%xmm1,(%rdx,%r10)
 	movq	(%rbp,%rbx),%xmm1
 	addq	%rcx,%rbx
 	movdqa	%xmm1,%xmm2
@@ -2537,10 +2537,10 @@
 	pand	%xmm3,%xmm2
 	movdqa	%xmm0,%xmm1
 	pshufb	%xmm2,%xmm1
-	movdqu	%xmm1,-16(%r14,%r11)
-	movb	%r8b,(%r14,%r11)
-	addq	%r10,%r11
-	incq	%r11
+	movdqu	%xmm1,-16(%r14,%r10)
+	movb	%r8b,(%r14,%r10)
+	addq	%r11,%r10
+	incq	%r10
 	subq	%rcx,%rax
 	.p2align	5,,10
 	cmpq	%rax,%rcx
@@ -2552,7 +2552,7 @@
 	cmpq	$129,%rcx
 	jae	30f
 	addq	%rdi,%r14
-	leaq	(%rdx,%r10),%r15
+	leaq	(%rdx,%r11),%r15
 	xorl	%r12d,%r12d
 	movq	%rsi,%rax
 	xorl	%esi,%esi
@@ -2560,7 +2560,7 @@
 	jmp	38f
 	.p2align	4
 40:
-	leaq	(%rsi,%r10),%r11
+	leaq	(%rsi,%r11),%r10
 	leaq	(%r12,%rcx),%rbx
 	movdqu	(%r14,%r12),%xmm2
 	movdqu	16(%r14,%r12),%xmm3
@@ -2591,10 +2591,10 @@
 	movdqu	%xmm4,-48(%r15,%rsi)
 	movdqu	%xmm2,-64(%r15,%rsi)
 	movb	%r8b,(%r15,%rsi)
-	incq	%r11
+	incq	%r10
 	subq	%rcx,%rax
 	movq	%rbx,%r12
-	movq	%r11,%rsi
+	movq	%r10,%rsi
 	.p2align	5,,10
 	cmpq	%rax,%rcx
 	jae	41b
@@ -2769,6 +2769,7 @@
 	movdqu	%xmm0,-16(%rdx,%rax,2)
 	movdqu	%xmm1,-32(%rdx,%rax,2)
 72:
+	leaq	(%r10,%rax,2),%rax
 	popq	%rbx
 	hex_cfi	def_cfa_offset 48
 	popq	%r12
@@ -2786,10 +2787,10 @@
 22:
 	hex_cfi	def_cfa_offset 56
 	addq	%rdi,%r12
-	leaq	(%rdx,%r10),%r14
+	leaq	(%rdx,%r11),%r14
 	xorl	%ebx,%ebx
 	movq	%rsi,%rax
-	xorl	%r11d,%r11d
+	xorl	%r10d,%r10d
 	.p2align	4
 23:
 	movdqu	(%rdi,%rbx),%xmm1
@@ -2805,8 +2806,8 @@
 	pshufb	%xmm2,%xmm1
 	movdqa	%xmm0,%xmm2
 	pshufb	%xmm4,%xmm2
-	movdqu	%xmm2,16(%rdx,%r11)
-	movdqu	%xmm1,(%rdx,%r11)
+	movdqu	%xmm2,16(%rdx,%r10)
+	movdqu	%xmm1,(%rdx,%r10)
 	movdqu	(%r12,%rbx),%xmm1
 	leaq	(%rbx,%rcx),%rbx
 	movdqa	%xmm1,%xmm2
@@ -2820,11 +2821,11 @@
 	pshufb	%xmm2,%xmm1
 	movdqa	%xmm0,%xmm2
 	pshufb	%xmm3,%xmm2
-	movdqu	%xmm2,-16(%r14,%r11)
-	movdqu	%xmm1,-32(%r14,%r11)
-	movb	%r8b,(%r14,%r11)
-	addq	%r10,%r11
-	incq	%r11
+	movdqu	%xmm2,-16(%r14,%r10)
+	movdqu	%xmm1,-32(%r14,%r10)
+	movb	%r8b,(%r14,%r10)
+	addq	%r11,%r10
+	incq	%r10
 	subq	%rcx,%rax
 	.p2align	5,,10
 	cmpq	%rax,%rcx
@@ -2832,19 +2833,19 @@
 	.p2align	5,,6
 	jmp	41b
 30:
-	leaq	1(%r10),%r14
+	leaq	1(%r11),%r14
 	xorl	%ebx,%ebx
 	movq	%rdx,%r12
 	movq	%rdi,%r13
-	xorl	%r11d,%r11d
+	xorl	%r10d,%r10d
 	.p2align	5,,6
 	jmp	31f
 	.p2align	4
 36:
-	addq	%r10,%r11
+	addq	%r11,%r10
 	addq	%rcx,%rbx
-	movb	%r8b,(%rdx,%r11)
-	incq	%r11
+	movb	%r8b,(%rdx,%r10)
+	incq	%r10
 	movq	%rsi,%rax
 	subq	%rbx,%rax
 	addq	%rcx,%r13
@@ -2898,7 +2899,7 @@
 	testb	$31,%cl
 	je	36b
 	leaq	(%rdi,%rbx),%rbp
-	leaq	(%rdx,%r11),%rax
+	leaq	(%rdx,%r10),%rax
 	movdqu	-32(%rbp,%rcx),%xmm1
 	movdqu	-16(%rbp,%rcx),%xmm2
 	movdqa	%xmm1,%xmm3
@@ -6747,16 +6748,11 @@
 	hex_export	faster_hex_1_0_0_x86_64_v2_encode_grouped
 	hex_cfi	startproc
 	endbr64
-	pushq	%r14
-	hex_cfi	def_cfa_offset 16
 	pushq	%rbx
-	hex_cfi	def_cfa_offset 24
-	pushq	%rax
-	hex_cfi	def_cfa_offset 32
-	hex_cfi	offset %rbx,-24
-	hex_cfi	offset %r14,-16
+	hex_cfi	def_cfa_offset 16
+	hex_cfi	offset %rbx,-16
 	movq	%rdx,%rax
-	movzbl	32(%rsp),%r11d
+	movzbl	16(%rsp),%r11d
 	testq	%r9,%r9
 	sete	%r10b
 	testb	%r11b,%r11b
@@ -6764,7 +6760,7 @@
 	movl	$6,%edx
 	orb	%r10b,%bl
 	.p2align	5,,6
-	jne	5f
+	jne	6f
 	.p2align	5,,10
 	cmpb	$48,%r11b
 	jae	7f
@@ -6772,36 +6768,41 @@
 	movl	$4,%edx
 	.p2align	5,,10
 	testq	%rsi,%rsi
-	js	8f
-	movq	%rax,%rbx
-	leaq	(%rsi,%rsi),%r14
+	js	6f
+	movq	%rax,%r10
+	cmpq	$1,%rsi
 	movq	%rsi,%rax
-	orq	%r9,%rax
-	shrq	$32,%rax
+	adcq	$-1,%rax
+	leaq	(%rsi,%rsi),%rbx
+	movq	%rax,%rdx
+	orq	%r9,%rdx
+	shrq	$32,%rdx
 	.p2align	5,,6
 	je	13f
-	movq	%rsi,%rax
 	xorl	%edx,%edx
 	divq	%r9
-	movq	%rax,%r10
+	addq	%rbx,%rax
+	movl	$4,%edx
 	.p2align	5,,6
-	jmp	14f
-5:
-	xorl	%eax,%eax
+	jae	14f
 6:
-	addq	$8,%rsp
-	hex_cfi	def_cfa_offset 24
+	xorl	%eax,%eax
 	popq	%rbx
-	hex_cfi	def_cfa_offset 16
-	popq	%r14
 	hex_cfi	def_cfa_offset 8
 	.p2align	5,,1
 	retq
 7:
-	hex_cfi	def_cfa_offset 32
+	hex_cfi	def_cfa_offset 16
 	.p2align	5,,10
 	cmpb	$58,%r11b
-	jb	8f
+	jae	10f
+	xorl	%eax,%eax
+	popq	%rbx
+	hex_cfi	def_cfa_offset 8
+	.p2align	5,,1
+	retq
+10:
+	hex_cfi	def_cfa_offset 16
 	.p2align	5,,10
 	cmpb	$65,%r11b
 	jb	2b
@@ -6813,94 +6814,58 @@
 	orb	%r10b,%bl
 	.p2align	5,,6
 	je	2b
-	.p2align	5,,6
-	jmp	8f
-13:
-	movl	%esi,%eax
-	xorl	%edx,%edx
-	divl	%r9d
-	movl	%eax,%r10d
-14:
 	xorl	%eax,%eax
-	testq	%rdx,%rdx
-	setne	%al
-	addq	%r10,%rax
-	cmpq	$1,%rax
-	adcq	$-1,%rax
-	addq	%r14,%rax
-	movl	$4,%edx
-	.p2align	5,,6
-	jae	16f
-8:
-	xorl	%eax,%eax
-	addq	$8,%rsp
-	hex_cfi	def_cfa_offset 24
 	popq	%rbx
-	hex_cfi	def_cfa_offset 16
-	popq	%r14
 	hex_cfi	def_cfa_offset 8
 	.p2align	5,,1
 	retq
-16:
-	hex_cfi	def_cfa_offset 32
+13:
+	hex_cfi	def_cfa_offset 16
+	xorl	%edx,%edx
+	divl	%r9d
+	addq	%rbx,%rax
+	movl	$4,%edx
+	.p2align	5,,6
+	jb	6b
+14:
 	movl	$2,%edx
 	.p2align	5,,10
 	cmpq	%rax,%rcx
-	jb	6b
-	movq	%rbx,%r10
-	.p2align	5,,10
-	cmpq	$4,%r9
-	je	20f
-	movq	%rax,%rbx
+	jb	22f
 	movzbl	%r11b,%eax
 	.p2align	5,,10
+	cmpq	$4,%r9
+	je	18f
+	.p2align	5,,10
 	cmpq	$1,%r9
-	jne	21f
+	jne	20f
 	movzbl	%r8b,%r9d
 	andl	$1,%r9d
 	movl	$1,%ecx
-	movq	%r10,%rdx
-	movl	%eax,%r8d
 	.p2align	5,,6
-	jmp	22f
-20:
-	movzbl	%r11b,%r11d
+	jmp	19f
+18:
 	movzbl	%r8b,%r9d
 	andl	$1,%r9d
 	movl	$4,%ecx
+19:
 	movq	%r10,%rdx
-	movl	%r11d,%r8d
-	movq	%rax,%rbx
-	.p2align	5,,5
-	callq	faster_hex_1_0_0_x86_64_v2_codec_pieces_write_by_piece_len
-	movq	%rbx,%rax
-	xorl	%edx,%edx
-	addq	$8,%rsp
-	hex_cfi	def_cfa_offset 24
-	popq	%rbx
-	hex_cfi	def_cfa_offset 16
-	popq	%r14
-	hex_cfi	def_cfa_offset 8
-	.p2align	5,,1
-	retq
-21:
-	hex_cfi	def_cfa_offset 32
+	movl	%eax,%r8d
+	.p2align	5,,6
+	jmp	21f
+20:
 	movzbl	%r8b,%r11d
 	andl	$1,%r11d
 	movq	%r10,%rdx
 	movq	%r9,%rcx
 	movl	%eax,%r8d
 	movl	%r11d,%r9d
-22:
+21:
 	.p2align	5,,5
 	callq	faster_hex_1_0_0_x86_64_v2_codec_pieces_write_by_piece_len
 	xorl	%edx,%edx
-	movq	%rbx,%rax
-	addq	$8,%rsp
-	hex_cfi	def_cfa_offset 24
+22:
 	popq	%rbx
-	hex_cfi	def_cfa_offset 16
-	popq	%r14
 	hex_cfi	def_cfa_offset 8
 	.p2align	5,,1
 	retq

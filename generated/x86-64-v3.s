@@ -1147,7 +1147,7 @@
 	movl	%r9d,.Lhex_below-4(%rsp)
 	.p2align	5,,6
 	jae	1f
-	leaq	(%rcx,%rcx),%r10
+	leaq	(%rcx,%rcx),%r11
 	movq	%rcx,%r14
 	shrq	$5,%r14
 	leaq	-32(%rcx),%r15
@@ -1174,10 +1174,10 @@
 	.p2align	5,,10
 	testq	%rcx,%rcx
 	je	17f
-	leaq	(%rdx,%r10),%r14
-	xorl	%r11d,%r11d
-	movq	%rsi,%rax
+	leaq	(%rdx,%r11),%r14
 	xorl	%ebx,%ebx
+	movq	%rsi,%r10
+	xorl	%eax,%eax
 	.p2align	5,,6
 	jmp	9f
 	.p2align	4
@@ -1188,117 +1188,117 @@
 	jmp	17b
 	.p2align	4
 16:
-	addq	%rcx,%r11
-	movb	%r8b,(%r14,%rbx)
-	addq	%r10,%rbx
-	incq	%rbx
-	subq	%rcx,%rax
+	addq	%rcx,%rbx
+	movb	%r8b,(%r14,%rax)
+	addq	%r11,%rax
+	incq	%rax
+	subq	%rcx,%r10
 	.p2align	5,,10
-	cmpq	%rax,%rcx
+	cmpq	%r10,%rcx
 	jae	46f
 9:
-	movzbl	(%rdi,%r11),%esi
+	movzbl	(%rdi,%rbx),%esi
 	movzwl	(%r12,%rsi,2),%esi
-	movw	%si,(%rdx,%rbx)
+	movw	%si,(%rdx,%rax)
 	.p2align	5,,10
 	cmpq	$1,%rcx
 	je	16b
-	movzbl	1(%rdi,%r11),%esi
+	movzbl	1(%rdi,%rbx),%esi
 	movzwl	(%r12,%rsi,2),%esi
-	movw	%si,2(%rdx,%rbx)
+	movw	%si,2(%rdx,%rax)
 	.p2align	5,,10
 	cmpq	$2,%rcx
 	je	16b
-	movzbl	2(%rdi,%r11),%esi
+	movzbl	2(%rdi,%rbx),%esi
 	movzwl	(%r12,%rsi,2),%esi
-	movw	%si,4(%rdx,%rbx)
+	movw	%si,4(%rdx,%rax)
 	.p2align	5,,10
 	cmpq	$3,%rcx
 	je	16b
-	movzbl	3(%rdi,%r11),%esi
+	movzbl	3(%rdi,%rbx),%esi
 	movzwl	(%r12,%rsi,2),%esi
-	movw	%si,6(%rdx,%rbx)
+	movw	%si,6(%rdx,%rax)
 	.p2align	5,,10
 	cmpq	$4,%rcx
 	je	16b
-	movzbl	4(%rdi,%r11),%esi
+	movzbl	4(%rdi,%rbx),%esi
 	movzwl	(%r12,%rsi,2),%esi
-	movw	%si,8(%rdx,%rbx)
+	movw	%si,8(%rdx,%rax)
 	.p2align	5,,10
 	cmpq	$5,%rcx
 	je	16b
-	movzbl	5(%rdi,%r11),%esi
+	movzbl	5(%rdi,%rbx),%esi
 	movzwl	(%r12,%rsi,2),%esi
-	movw	%si,10(%rdx,%rbx)
+	movw	%si,10(%rdx,%rax)
 	.p2align	5,,10
 	cmpq	$6,%rcx
 	je	16b
-	movzbl	6(%rdi,%r11),%esi
+	movzbl	6(%rdi,%rbx),%esi
 	movzwl	(%r12,%rsi,2),%esi
-	movw	%si,12(%rdx,%rbx)
+	movw	%si,12(%rdx,%rax)
 	.p2align	5,,6
 	jmp	16b
 1:
+	xorl	%eax,%eax
 	xorl	%ebx,%ebx
-	xorl	%r11d,%r11d
-	movq	%rsi,%rax
+	movq	%rsi,%r10
 46:
-	addq	%r11,%rdi
-	addq	%rbx,%rdx
+	addq	%rbx,%rdi
+	addq	%rax,%rdx
 	.p2align	5,,10
-	cmpq	$7,%rax
+	cmpq	$7,%r10
 	ja	55f
 	leaq	.L100v3_static.9(%rip),%rsi
 	leaq	.L100v3_static.10(%rip),%rcx
 	cmpb	$0,.Lhex_below-4(%rsp)
 	cmovneq	%rsi,%rcx
 	.p2align	5,,10
-	testq	%rax,%rax
+	testq	%r10,%r10
 	je	97f
 	movzbl	(%rdi),%esi
 	movzwl	(%rcx,%rsi,2),%esi
 	movw	%si,(%rdx)
 	.p2align	5,,10
-	cmpq	$1,%rax
+	cmpq	$1,%r10
 	je	97f
 	movzbl	1(%rdi),%esi
 	movzwl	(%rcx,%rsi,2),%esi
 	movw	%si,2(%rdx)
 	.p2align	5,,10
-	cmpq	$2,%rax
+	cmpq	$2,%r10
 	je	97f
 	movzbl	2(%rdi),%esi
 	movzwl	(%rcx,%rsi,2),%esi
 	movw	%si,4(%rdx)
 	.p2align	5,,10
-	cmpq	$3,%rax
+	cmpq	$3,%r10
 	je	97f
 	movzbl	3(%rdi),%esi
 	movzwl	(%rcx,%rsi,2),%esi
 	movw	%si,6(%rdx)
 	.p2align	5,,10
-	cmpq	$4,%rax
+	cmpq	$4,%r10
 	je	97f
 	movzbl	4(%rdi),%esi
 	movzwl	(%rcx,%rsi,2),%esi
 	movw	%si,8(%rdx)
 	.p2align	5,,10
-	cmpq	$5,%rax
+	cmpq	$5,%r10
 	je	97f
 	movzbl	5(%rdi),%esi
 	movzwl	(%rcx,%rsi,2),%esi
 	movw	%si,10(%rdx)
 	.p2align	5,,10
-	cmpq	$6,%rax
+	cmpq	$6,%r10
 	je	97f
-	movzbl	6(%rdi),%eax
-	movzwl	(%rcx,%rax,2),%eax
-	movw	%ax,12(%rdx)
+	movzbl	6(%rdi),%esi
+	movzwl	(%rcx,%rsi,2),%ecx
+	movw	%cx,12(%rdx)
 	.p2align	5,,6
 	jmp	97f
 55:
-	cmpq	$32,%rax
-	movl	.Lhex_below-4(%rsp),%r10d
+	cmpq	$32,%r10
+	movl	.Lhex_below-4(%rsp),%r11d
 	.p2align	5,,6
 	ja	70f
 	.p2align	5,,6
@@ -1313,7 +1313,7 @@
 	vperm2i128	$49,%ymm2,%ymm1,%ymm0
 	vperm2i128	$32,%ymm2,%ymm1,%ymm1
 	.p2align	5,,10
-	testb	%r10b,%r10b
+	testb	%r11b,%r11b
 	jne	58f
 	vbroadcasti128	.L100v3_CPI3_5(%rip),%ymm2
 	.p2align	5,,6
@@ -1324,14 +1324,14 @@
 	ja	27f
 	.p2align	5,,6
 	jne	22f
-	leaq	(%rdx,%r10),%rcx
-	xorl	%r11d,%r11d
-	movq	%rsi,%rax
+	leaq	(%rdx,%r11),%rcx
 	xorl	%ebx,%ebx
+	movq	%rsi,%r10
+	xorl	%eax,%eax
 	.p2align	4
 21:
-	vmovdqu	(%rdi,%r11),%ymm1
-	addq	$32,%r11
+	vmovdqu	(%rdi,%rbx),%ymm1
+	addq	$32,%rbx
 	vpsrlw	$4,%ymm1,%ymm2
 	vpbroadcastd	.L100v3_CPI3_6(%rip),%ymm3
 	vpand	%ymm3,%ymm2,%ymm2
@@ -1342,20 +1342,20 @@
 	vperm2i128	$32,%ymm3,%ymm1,%ymm1
 	vpshufb	%ymm1,%ymm0,%ymm1
 	vpshufb	%ymm2,%ymm0,%ymm2
-	vmovdqu	%ymm2,32(%rdx,%rbx)
-	vmovdqu	%ymm1,(%rdx,%rbx)
-	movb	%r8b,(%rcx,%rbx)
-	addq	%r10,%rbx
-	incq	%rbx
-	addq	$-32,%rax
+	vmovdqu	%ymm2,32(%rdx,%rax)
+	vmovdqu	%ymm1,(%rdx,%rax)
+	movb	%r8b,(%rcx,%rax)
+	addq	%r11,%rax
+	incq	%rax
+	addq	$-32,%r10
 	.p2align	5,,10
-	cmpq	$32,%rax
+	cmpq	$32,%r10
 	ja	21b
 	.p2align	5,,6
 	jmp	46b
 70:
 	.p2align	5,,10
-	cmpq	$64,%rax
+	cmpq	$64,%r10
 	ja	75f
 	vmovdqu	(%rdi),%ymm1
 	vpsrlw	$4,%ymm1,%ymm2
@@ -1367,7 +1367,7 @@
 	vperm2i128	$49,%ymm3,%ymm1,%ymm2
 	vperm2i128	$32,%ymm3,%ymm1,%ymm3
 	.p2align	5,,10
-	testb	%r10b,%r10b
+	testb	%r11b,%r11b
 	jne	72f
 	vbroadcasti128	.L100v3_CPI3_5(%rip),%ymm1
 	.p2align	5,,6
@@ -1377,13 +1377,13 @@
 	cmpq	$64,%rcx
 	ja	30f
 	addq	%rdi,%r15
-	leaq	(%rdx,%r10),%r9
-	xorl	%r11d,%r11d
-	movq	%rsi,%rax
+	leaq	(%rdx,%r11),%r9
 	xorl	%ebx,%ebx
+	movq	%rsi,%r10
+	xorl	%eax,%eax
 	.p2align	4
 29:
-	vmovdqu	(%rdi,%r11),%ymm1
+	vmovdqu	(%rdi,%rbx),%ymm1
 	vpsrlw	$4,%ymm1,%ymm2
 	vpbroadcastd	.L100v3_CPI3_6(%rip),%ymm3
 	vpand	%ymm3,%ymm2,%ymm2
@@ -1394,10 +1394,10 @@
 	vperm2i128	$32,%ymm4,%ymm1,%ymm1
 	vpshufb	%ymm1,%ymm0,%ymm1
 	vpshufb	%ymm2,%ymm0,%ymm2
-	vmovdqu	%ymm2,32(%rdx,%rbx)
-	vmovdqu	%ymm1,(%rdx,%rbx)
-	vmovdqu	(%r15,%r11),%ymm1
-	leaq	(%r11,%rcx),%r11
+	vmovdqu	%ymm2,32(%rdx,%rax)
+	vmovdqu	%ymm1,(%rdx,%rax)
+	vmovdqu	(%r15,%rbx),%ymm1
+	leaq	(%rbx,%rcx),%rbx
 	vpsrlw	$4,%ymm1,%ymm2
 	vpand	%ymm3,%ymm2,%ymm2
 	vpand	%ymm3,%ymm1,%ymm1
@@ -1407,31 +1407,31 @@
 	vperm2i128	$32,%ymm3,%ymm1,%ymm1
 	vpshufb	%ymm1,%ymm0,%ymm1
 	vpshufb	%ymm2,%ymm0,%ymm2
-	vmovdqu	%ymm2,-32(%r9,%rbx)
-	vmovdqu	%ymm1,-64(%r9,%rbx)
-	movb	%r8b,(%r9,%rbx)
-	addq	%r10,%rbx
-	incq	%rbx
-	subq	%rcx,%rax
+	vmovdqu	%ymm2,-32(%r9,%rax)
+	vmovdqu	%ymm1,-64(%r9,%rax)
+	movb	%r8b,(%r9,%rax)
+	addq	%r11,%rax
+	incq	%rax
+	subq	%rcx,%r10
 	.p2align	5,,10
-	cmpq	%rax,%rcx
+	cmpq	%r10,%rcx
 	jb	29b
 	.p2align	5,,6
 	jmp	46b
 61:
 	.p2align	5,,10
-	cmpq	$16,%rax
+	cmpq	$16,%r10
 	ja	66f
 	vmovq	(%rdi),%xmm1
 	.p2align	5,,10
-	testb	%r10b,%r10b
+	testb	%r11b,%r11b
 	jne	63f
 	vmovdqa	.L100v3_CPI3_5(%rip),%xmm0
 	.p2align	5,,6
 	jmp	65f
 75:
 	.p2align	5,,13
-	cmpq	$128,%rax
+	cmpq	$128,%r10
 	ja	83f
 	vpermq	$216,(%rdi),%ymm1
 	vpsrlw	$4,%ymm1,%ymm2
@@ -1441,7 +1441,7 @@
 	vpunpckhbw	%ymm1,%ymm3,%ymm2
 	vpunpcklbw	%ymm1,%ymm3,%ymm3
 	.p2align	5,,10
-	testb	%r10b,%r10b
+	testb	%r11b,%r11b
 	jne	77f
 	vbroadcasti128	.L100v3_CPI3_5(%rip),%ymm1
 	.p2align	5,,6
@@ -1451,32 +1451,32 @@
 	cmpq	$17,%rcx
 	jae	23f
 	addq	%rdi,%rbp
-	leaq	(%rdx,%r10),%r14
-	xorl	%r11d,%r11d
-	movq	%rsi,%rax
+	leaq	(%rdx,%r11),%r14
 	xorl	%ebx,%ebx
+	movq	%rsi,%r10
+	xorl	%eax,%eax
 	.p2align	4
 26:
-	vmovq	(%rdi,%r11),%xmm0
+	vmovq	(%rdi,%rbx),%xmm0
 	vpsrlw	$4,%xmm0,%xmm2
 	vpbroadcastd	.L100v3_CPI3_6(%rip),%xmm3
 	vpunpcklbw	%xmm0,%xmm2,%xmm0
 	vpand	%xmm3,%xmm0,%xmm0
 	vpshufb	%xmm0,%xmm1,%xmm0
-	vmovdqu	%xmm0,(%rdx,%rbx)
-	vmovq	(%rbp,%r11),%xmm0
-	addq	%rcx,%r11
+	vmovdqu	%xmm0,(%rdx,%rax)
+	vmovq	(%rbp,%rbx),%xmm0
+	addq	%rcx,%rbx
 	vpsrlw	$4,%xmm0,%xmm2
 	vpunpcklbw	%xmm0,%xmm2,%xmm0
 	vpand	%xmm3,%xmm0,%xmm0
 	vpshufb	%xmm0,%xmm1,%xmm0
-	vmovdqu	%xmm0,-16(%r14,%rbx)
-	movb	%r8b,(%r14,%rbx)
-	addq	%r10,%rbx
-	incq	%rbx
-	subq	%rcx,%rax
+	vmovdqu	%xmm0,-16(%r14,%rax)
+	movb	%r8b,(%r14,%rax)
+	addq	%r11,%rax
+	incq	%rax
+	subq	%rcx,%r10
 	.p2align	5,,10
-	cmpq	%rax,%rcx
+	cmpq	%r10,%rcx
 	jb	26b
 	.p2align	5,,6
 	jmp	46b
@@ -1485,17 +1485,17 @@
 	cmpq	$128,%rcx
 	ja	35f
 	addq	%rdi,%r15
-	leaq	(%rdx,%r10),%r9
-	xorl	%r11d,%r11d
-	movq	%rsi,%rax
+	leaq	(%rdx,%r11),%r9
+	xorl	%ebx,%ebx
+	movq	%rsi,%r10
 	xorl	%esi,%esi
 	.p2align	5,,6
 	jmp	32f
 	.p2align	4
 34:
-	leaq	(%rsi,%r10),%rbx
-	vpermq	$216,(%r15,%r11),%ymm2
-	addq	%rcx,%r11
+	leaq	(%rsi,%r11),%rax
+	vpermq	$216,(%r15,%rbx),%ymm2
+	addq	%rcx,%rbx
 	vpsrlw	$4,%ymm2,%ymm3
 	vpand	%ymm1,%ymm3,%ymm3
 	vpand	%ymm1,%ymm2,%ymm1
@@ -1506,14 +1506,14 @@
 	vmovdqu	%ymm2,-32(%r9,%rsi)
 	vmovdqu	%ymm1,-64(%r9,%rsi)
 	movb	%r8b,(%r9,%rsi)
-	incq	%rbx
-	subq	%rcx,%rax
-	movq	%rbx,%rsi
+	incq	%rax
+	subq	%rcx,%r10
+	movq	%rax,%rsi
 	.p2align	5,,10
-	cmpq	%rax,%rcx
+	cmpq	%r10,%rcx
 	jae	46b
 32:
-	vpermq	$216,(%rdi,%r11),%ymm2
+	vpermq	$216,(%rdi,%rbx),%ymm2
 	vpsrlw	$4,%ymm2,%ymm3
 	vpbroadcastd	.L100v3_CPI3_6(%rip),%ymm1
 	vpand	%ymm1,%ymm3,%ymm3
@@ -1524,7 +1524,7 @@
 	vpshufb	%ymm4,%ymm0,%ymm3
 	vmovdqu	%ymm3,32(%rdx,%rsi)
 	vmovdqu	%ymm2,(%rdx,%rsi)
-	vpermq	$216,32(%rdi,%r11),%ymm2
+	vpermq	$216,32(%rdi,%rbx),%ymm2
 	vpsrlw	$4,%ymm2,%ymm3
 	vpand	%ymm1,%ymm3,%ymm3
 	vpand	%ymm1,%ymm2,%ymm2
@@ -1537,7 +1537,7 @@
 	.p2align	5,,10
 	cmpq	$97,%rcx
 	jb	34b
-	vpermq	$216,-32(%r15,%r11),%ymm2
+	vpermq	$216,-32(%r15,%rbx),%ymm2
 	vpsrlw	$4,%ymm2,%ymm3
 	vpand	%ymm1,%ymm3,%ymm3
 	vpand	%ymm1,%ymm2,%ymm2
@@ -1565,7 +1565,7 @@
 	vpshufb	%ymm2,%ymm1,%ymm2
 	vmovdqu	%ymm2,32(%rdx)
 	vmovdqu	%ymm3,(%rdx)
-	vmovdqu	-32(%rdi,%rax),%ymm2
+	vmovdqu	-32(%rdi,%r10),%ymm2
 	vpsrlw	$4,%ymm2,%ymm3
 	vpand	%ymm0,%ymm3,%ymm3
 	vpand	%ymm0,%ymm2,%ymm0
@@ -1587,16 +1587,16 @@
 	vpunpcklbw	%xmm1,%xmm2,%xmm1
 	vinserti128	$1,%xmm3,%ymm1,%ymm2
 	.p2align	5,,10
-	testb	%r10b,%r10b
+	testb	%r11b,%r11b
 	jne	67f
 	vbroadcasti128	.L100v3_CPI3_5(%rip),%ymm1
 	.p2align	5,,6
 	jmp	69f
 83:
-	movq	%rax,%rsi
+	movq	%r10,%rsi
 	shrq	$5,%rsi
 	.p2align	5,,10
-	testb	%r10b,%r10b
+	testb	%r11b,%r11b
 	jne	84f
 	vbroadcasti128	.L100v3_CPI3_5(%rip),%ymm0
 	.p2align	5,,10
@@ -1642,13 +1642,13 @@
 	jmp	92f
 23:
 	addq	%rdi,%r13
-	leaq	(%rdx,%r10),%r9
-	xorl	%r11d,%r11d
-	movq	%rsi,%rax
+	leaq	(%rdx,%r11),%r9
 	xorl	%ebx,%ebx
+	movq	%rsi,%r10
+	xorl	%eax,%eax
 	.p2align	4
 24:
-	vmovdqu	(%rdi,%r11),%xmm1
+	vmovdqu	(%rdi,%rbx),%xmm1
 	vpsrlw	$4,%xmm1,%xmm2
 	vpbroadcastd	.L100v3_CPI3_6(%rip),%xmm3
 	vpand	%xmm3,%xmm2,%xmm2
@@ -1657,9 +1657,9 @@
 	vpunpcklbw	%xmm1,%xmm2,%xmm1
 	vinserti128	$1,%xmm4,%ymm1,%ymm1
 	vpshufb	%ymm1,%ymm0,%ymm1
-	vmovdqu	%ymm1,(%rdx,%rbx)
-	vmovdqu	(%r13,%r11),%xmm1
-	leaq	(%r11,%rcx),%r11
+	vmovdqu	%ymm1,(%rdx,%rax)
+	vmovdqu	(%r13,%rbx),%xmm1
+	leaq	(%rbx,%rcx),%rbx
 	vpsrlw	$4,%xmm1,%xmm2
 	vpand	%xmm3,%xmm2,%xmm2
 	vpand	%xmm3,%xmm1,%xmm1
@@ -1667,42 +1667,42 @@
 	vpunpcklbw	%xmm1,%xmm2,%xmm1
 	vinserti128	$1,%xmm3,%ymm1,%ymm1
 	vpshufb	%ymm1,%ymm0,%ymm1
-	vmovdqu	%ymm1,-32(%r9,%rbx)
-	movb	%r8b,(%r9,%rbx)
-	addq	%r10,%rbx
-	incq	%rbx
-	subq	%rcx,%rax
+	vmovdqu	%ymm1,-32(%r9,%rax)
+	movb	%r8b,(%r9,%rax)
+	addq	%r11,%rax
+	incq	%rax
+	subq	%rcx,%r10
 	.p2align	5,,10
-	cmpq	%rax,%rcx
+	cmpq	%r10,%rcx
 	jb	24b
 	.p2align	5,,6
 	jmp	46b
 35:
 	movq	%r14,%r15
 	andq	$-2,%r15
-	xorl	%r11d,%r11d
+	xorl	%ebx,%ebx
 	movq	%rdx,%r13
 	movq	%rdi,%rbp
-	xorl	%ebx,%ebx
+	xorl	%eax,%eax
 	.p2align	5,,6
 	jmp	36f
 	.p2align	4
 45:
-	addq	%r10,%rbx
-	addq	%rcx,%r11
-	movb	%r8b,(%rdx,%rbx)
-	incq	%rbx
-	movq	%rsi,%rax
-	subq	%r11,%rax
+	addq	%r11,%rax
+	addq	%rcx,%rbx
+	movb	%r8b,(%rdx,%rax)
+	incq	%rax
+	movq	%rsi,%r10
+	subq	%rbx,%r10
 	addq	%rcx,%rbp
-	leaq	1(%r10),%r9
+	leaq	1(%r11),%r9
 	addq	%r9,%r13
 	.p2align	5,,10
-	cmpq	%rax,%rcx
+	cmpq	%r10,%rcx
 	jae	46b
 36:
-	leaq	(%rdi,%r11),%r12
-	leaq	(%rdx,%rbx),%rax
+	leaq	(%rdi,%rbx),%r12
+	leaq	(%rdx,%rax),%r10
 	.p2align	5,,10
 	testq	%r14,%r14
 	je	43f
@@ -1745,17 +1745,17 @@
 	cmpq	%r9,%r15
 	jne	40b
 	testb	$1,%r14b
-	leaq	(%rdi,%r11),%r12
+	leaq	(%rdi,%rbx),%r12
 	.p2align	5,,6
 	je	43f
 42:
-	movq	%r12,%rax
+	movq	%r12,%r10
 	movq	%r9,%r12
 	shlq	$5,%r12
 	shlq	$6,%r9
-	vpermq	$216,(%rax,%r12),%ymm1
-	movq	%rax,%r12
-	leaq	(%rdx,%rbx),%rax
+	vpermq	$216,(%r10,%r12),%ymm1
+	movq	%r10,%r12
+	leaq	(%rdx,%rax),%r10
 	vpsrlw	$4,%ymm1,%ymm2
 	vpbroadcastd	.L100v3_CPI3_6(%rip),%ymm3
 	vpand	%ymm3,%ymm2,%ymm2
@@ -1764,8 +1764,8 @@
 	vpunpcklbw	%ymm1,%ymm2,%ymm1
 	vpshufb	%ymm1,%ymm0,%ymm1
 	vpshufb	%ymm3,%ymm0,%ymm2
-	vmovdqu	%ymm1,(%rax,%r9)
-	vmovdqu	%ymm2,32(%rax,%r9)
+	vmovdqu	%ymm1,(%r10,%r9)
+	vmovdqu	%ymm2,32(%r10,%r9)
 43:
 	.p2align	5,,10
 	testb	$31,%cl
@@ -1779,8 +1779,8 @@
 	vpunpcklbw	%ymm1,%ymm2,%ymm1
 	vpshufb	%ymm1,%ymm0,%ymm1
 	vpshufb	%ymm3,%ymm0,%ymm2
-	vmovdqu	%ymm2,-32(%rax,%rcx,2)
-	vmovdqu	%ymm1,-64(%rax,%rcx,2)
+	vmovdqu	%ymm2,-32(%r10,%rcx,2)
+	vmovdqu	%ymm1,-64(%r10,%rcx,2)
 	.p2align	5,,6
 	jmp	45b
 63:
@@ -1792,12 +1792,12 @@
 	vpand	%xmm3,%xmm1,%xmm1
 	vpshufb	%xmm1,%xmm0,%xmm1
 	vmovdqu	%xmm1,(%rdx)
-	vmovq	-8(%rdi,%rax),%xmm1
+	vmovq	-8(%rdi,%r10),%xmm1
 	vpsrlw	$4,%xmm1,%xmm2
 	vpunpcklbw	%xmm1,%xmm2,%xmm1
 	vpand	%xmm3,%xmm1,%xmm1
 	vpshufb	%xmm1,%xmm0,%xmm0
-	vmovdqu	%xmm0,-16(%rdx,%rax,2)
+	vmovdqu	%xmm0,-16(%rdx,%r10,2)
 	.p2align	5,,6
 	jmp	97f
 77:
@@ -1818,9 +1818,9 @@
 	vpshufb	%ymm2,%ymm1,%ymm2
 	vmovdqu	%ymm2,64(%rdx)
 	.p2align	5,,10
-	cmpq	$97,%rax
+	cmpq	$97,%r10
 	jb	81f
-	vpermq	$216,-64(%rdi,%rax),%ymm2
+	vpermq	$216,-64(%rdi,%r10),%ymm2
 	vpsrlw	$4,%ymm2,%ymm3
 	vpand	%ymm0,%ymm3,%ymm3
 	vpand	%ymm0,%ymm2,%ymm2
@@ -1828,10 +1828,10 @@
 	vpunpcklbw	%ymm2,%ymm3,%ymm2
 	vpshufb	%ymm2,%ymm1,%ymm2
 	vpshufb	%ymm4,%ymm1,%ymm3
-	vmovdqu	%ymm3,-96(%rdx,%rax,2)
-	vmovdqu	%ymm2,-128(%rdx,%rax,2)
+	vmovdqu	%ymm3,-96(%rdx,%r10,2)
+	vmovdqu	%ymm2,-128(%rdx,%r10,2)
 81:
-	vpermq	$216,-32(%rdi,%rax),%ymm2
+	vpermq	$216,-32(%rdi,%r10),%ymm2
 	vpsrlw	$4,%ymm2,%ymm3
 	vpand	%ymm0,%ymm3,%ymm3
 	vpand	%ymm0,%ymm2,%ymm0
@@ -1840,8 +1840,8 @@
 	vpshufb	%ymm0,%ymm1,%ymm0
 	vpshufb	%ymm2,%ymm1,%ymm1
 82:
-	vmovdqu	%ymm1,-32(%rdx,%rax,2)
-	vmovdqu	%ymm0,-64(%rdx,%rax,2)
+	vmovdqu	%ymm1,-32(%rdx,%r10,2)
+	vmovdqu	%ymm0,-64(%rdx,%r10,2)
 	.p2align	5,,6
 	jmp	97f
 67:
@@ -1849,7 +1849,7 @@
 69:
 	vpshufb	%ymm2,%ymm1,%ymm2
 	vmovdqu	%ymm2,(%rdx)
-	vmovdqu	-16(%rdi,%rax),%xmm2
+	vmovdqu	-16(%rdi,%r10),%xmm2
 	vpsrlw	$4,%xmm2,%xmm3
 	vpand	%xmm0,%xmm3,%xmm3
 	vpand	%xmm0,%xmm2,%xmm0
@@ -1857,7 +1857,7 @@
 	vpunpcklbw	%xmm0,%xmm3,%xmm0
 	vinserti128	$1,%xmm2,%ymm0,%ymm0
 	vpshufb	%ymm0,%ymm1,%ymm0
-	vmovdqu	%ymm0,-32(%rdx,%rax,2)
+	vmovdqu	%ymm0,-32(%rdx,%r10,2)
 	.p2align	5,,6
 	jmp	97f
 84:
@@ -1884,9 +1884,9 @@
 	vmovdqu	%ymm0,32(%rdx,%rcx)
 92:
 	.p2align	5,,10
-	testb	$31,%al
+	testb	$31,%r10b
 	je	97f
-	vpermq	$216,-32(%rdi,%rax),%ymm0
+	vpermq	$216,-32(%rdi,%r10),%ymm0
 	vpsrlw	$4,%ymm0,%ymm1
 	vpbroadcastd	.L100v3_CPI3_6(%rip),%ymm2
 	vpand	%ymm2,%ymm1,%ymm1
@@ -1894,7 +1894,7 @@
 	vpunpckhbw	%ymm2,%ymm1,%ymm0
 	vpunpcklbw	%ymm2,%ymm1,%ymm1
 	.p2align	5,,10
-	testb	%r10b,%r10b
+	testb	%r11b,%r11b
 	jne	94f
 	vbroadcasti128	.L100v3_CPI3_5(%rip),%ymm2
 	.p2align	5,,6
@@ -1904,9 +1904,10 @@
 96:
 	vpshufb	%ymm1,%ymm2,%ymm1
 	vpshufb	%ymm0,%ymm2,%ymm0
-	vmovdqu	%ymm0,-32(%rdx,%rax,2)
-	vmovdqu	%ymm1,-64(%rdx,%rax,2)
+	vmovdqu	%ymm0,-32(%rdx,%r10,2)
+	vmovdqu	%ymm1,-64(%rdx,%r10,2)
 97:
+	leaq	(%rax,%r10,2),%rax
 	popq	%rbx
 	hex_cfi	def_cfa_offset 48
 	popq	%r12
@@ -4692,16 +4693,11 @@
 	hex_export	faster_hex_1_0_0_x86_64_v3_encode_grouped
 	hex_cfi	startproc
 	endbr64
-	pushq	%r14
-	hex_cfi	def_cfa_offset 16
 	pushq	%rbx
-	hex_cfi	def_cfa_offset 24
-	pushq	%rax
-	hex_cfi	def_cfa_offset 32
-	hex_cfi	offset %rbx,-24
-	hex_cfi	offset %r14,-16
+	hex_cfi	def_cfa_offset 16
+	hex_cfi	offset %rbx,-16
 	movq	%rdx,%rax
-	movzbl	32(%rsp),%r11d
+	movzbl	16(%rsp),%r11d
 	testq	%r9,%r9
 	sete	%r10b
 	testb	%r11b,%r11b
@@ -4709,7 +4705,7 @@
 	movl	$6,%edx
 	orb	%r10b,%bl
 	.p2align	5,,6
-	jne	5f
+	jne	6f
 	.p2align	5,,10
 	cmpb	$48,%r11b
 	jae	7f
@@ -4717,36 +4713,41 @@
 	movl	$4,%edx
 	.p2align	5,,10
 	testq	%rsi,%rsi
-	js	8f
-	movq	%rax,%rbx
-	leaq	(%rsi,%rsi),%r14
+	js	6f
+	movq	%rax,%r10
+	leaq	(%rsi,%rsi),%rbx
+	cmpq	$1,%rsi
 	movq	%rsi,%rax
-	orq	%r9,%rax
-	shrq	$32,%rax
+	adcq	$-1,%rax
+	movq	%rax,%rdx
+	orq	%r9,%rdx
+	shrq	$32,%rdx
 	.p2align	5,,6
 	je	13f
-	movq	%rsi,%rax
 	xorl	%edx,%edx
 	divq	%r9
-	movq	%rax,%r10
+	addq	%rbx,%rax
+	movl	$4,%edx
 	.p2align	5,,6
-	jmp	14f
-5:
-	xorl	%eax,%eax
+	jae	14f
 6:
-	addq	$8,%rsp
-	hex_cfi	def_cfa_offset 24
+	xorl	%eax,%eax
 	popq	%rbx
-	hex_cfi	def_cfa_offset 16
-	popq	%r14
 	hex_cfi	def_cfa_offset 8
 	.p2align	5,,1
 	retq
 7:
-	hex_cfi	def_cfa_offset 32
+	hex_cfi	def_cfa_offset 16
 	.p2align	5,,10
 	cmpb	$58,%r11b
-	jb	8f
+	jae	10f
+	xorl	%eax,%eax
+	popq	%rbx
+	hex_cfi	def_cfa_offset 8
+	.p2align	5,,1
+	retq
+10:
+	hex_cfi	def_cfa_offset 16
 	.p2align	5,,10
 	cmpb	$65,%r11b
 	jb	2b
@@ -4758,94 +4759,58 @@
 	orb	%r10b,%bl
 	.p2align	5,,6
 	je	2b
-	.p2align	5,,6
-	jmp	8f
-13:
-	movl	%esi,%eax
-	xorl	%edx,%edx
-	divl	%r9d
-	movl	%eax,%r10d
-14:
 	xorl	%eax,%eax
-	testq	%rdx,%rdx
-	setne	%al
-	addq	%r10,%rax
-	cmpq	$1,%rax
-	adcq	$-1,%rax
-	addq	%r14,%rax
-	movl	$4,%edx
-	.p2align	5,,6
-	jae	16f
-8:
-	xorl	%eax,%eax
-	addq	$8,%rsp
-	hex_cfi	def_cfa_offset 24
 	popq	%rbx
-	hex_cfi	def_cfa_offset 16
-	popq	%r14
 	hex_cfi	def_cfa_offset 8
 	.p2align	5,,1
 	retq
-16:
-	hex_cfi	def_cfa_offset 32
+13:
+	hex_cfi	def_cfa_offset 16
+	xorl	%edx,%edx
+	divl	%r9d
+	addq	%rbx,%rax
+	movl	$4,%edx
+	.p2align	5,,6
+	jb	6b
+14:
 	movl	$2,%edx
 	.p2align	5,,10
 	cmpq	%rax,%rcx
-	jb	6b
-	movq	%rbx,%r10
-	.p2align	5,,10
-	cmpq	$4,%r9
-	je	20f
-	movq	%rax,%rbx
+	jb	22f
 	movzbl	%r11b,%eax
 	.p2align	5,,10
+	cmpq	$4,%r9
+	je	18f
+	.p2align	5,,10
 	cmpq	$1,%r9
-	jne	21f
+	jne	20f
 	movzbl	%r8b,%r9d
 	andl	$1,%r9d
 	movl	$1,%ecx
-	movq	%r10,%rdx
-	movl	%eax,%r8d
 	.p2align	5,,6
-	jmp	22f
-20:
-	movzbl	%r11b,%r11d
+	jmp	19f
+18:
 	movzbl	%r8b,%r9d
 	andl	$1,%r9d
 	movl	$4,%ecx
+19:
 	movq	%r10,%rdx
-	movl	%r11d,%r8d
-	movq	%rax,%rbx
-	.p2align	5,,5
-	callq	faster_hex_1_0_0_x86_64_v3_codec_pieces_write_by_piece_len
-	movq	%rbx,%rax
-	xorl	%edx,%edx
-	addq	$8,%rsp
-	hex_cfi	def_cfa_offset 24
-	popq	%rbx
-	hex_cfi	def_cfa_offset 16
-	popq	%r14
-	hex_cfi	def_cfa_offset 8
-	.p2align	5,,1
-	retq
-21:
-	hex_cfi	def_cfa_offset 32
+	movl	%eax,%r8d
+	.p2align	5,,6
+	jmp	21f
+20:
 	movzbl	%r8b,%r11d
 	andl	$1,%r11d
 	movq	%r10,%rdx
 	movq	%r9,%rcx
 	movl	%eax,%r8d
 	movl	%r11d,%r9d
-22:
+21:
 	.p2align	5,,5
 	callq	faster_hex_1_0_0_x86_64_v3_codec_pieces_write_by_piece_len
 	xorl	%edx,%edx
-	movq	%rbx,%rax
-	addq	$8,%rsp
-	hex_cfi	def_cfa_offset 24
+22:
 	popq	%rbx
-	hex_cfi	def_cfa_offset 16
-	popq	%r14
 	hex_cfi	def_cfa_offset 8
 	.p2align	5,,1
 	retq

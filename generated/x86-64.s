@@ -725,37 +725,58 @@
 	hex_cfi	offset %r14,-32
 	hex_cfi	offset %r15,-24
 	hex_cfi	offset %rbp,-16
-	movq	%rdx,%rax
-	movzbl	112(%rsp),%r14d
+	movzbl	112(%rsp),%ebx
 	testq	%r9,%r9
-	sete	%r10b
-	testb	%r14b,%r14b
+	sete	%al
+	testb	%bl,%bl
 	sets	%r11b
-	movl	$6,%edx
-	orb	%r10b,%r11b
-	jne	5f
-	cmpb	$48,%r14b
-	jae	6f
+	movl	$6,%r10d
+	orb	%al,%r11b
+	jne	6f
+	cmpb	$48,%bl
+	jae	7f
 2:
-	movl	$4,%edx
+	movl	$4,%r10d
 	testq	%rsi,%rsi
-	js	5f
-	movq	%rax,16(%rsp)
+	js	6f
+	movq	%rdx,32(%rsp)
+	cmpq	$1,%rsi
+	movq	%rsi,%rax
+	adcq	$-1,%rax
 	leaq	(%rsi,%rsi),%r11
-	movq	%rsi,%rax
-	orq	%r9,%rax
-	shrq	$32,%rax
-	je	12f
-	movq	%rsi,%rax
+	movq	%rax,%rdx
+	orq	%r9,%rdx
+	shrq	$32,%rdx
+	je	13f
 	xorl	%edx,%edx
 	divq	%r9
-	jmp	13f
+	addq	%r11,%rax
+	movq	32(%rsp),%rdx
+	jae	14f
+	jmp	6f
+7:
+	cmpb	$58,%bl
+	jb	6f
+	cmpb	$65,%bl
+	jb	2b
+	cmpb	$71,%bl
+	setb	%al
+	leal	-97(%rbx),%r11d
+	cmpb	$6,%r11b
+	setb	%r11b
+	orb	%al,%r11b
+	je	2b
+	jmp	6f
+13:
+	xorl	%edx,%edx
+	divl	%r9d
+	addq	%r11,%rax
+	movq	32(%rsp),%rdx
+	jae	14f
 6:
-	cmpb	$58,%r14b
-	jae	9f
-5:
 	xorl	%eax,%eax
-45:
+60:
+	movq	%r10,%rdx
 	addq	$56,%rsp
 	hex_cfi	def_cfa_offset 56
 	popq	%rbx
@@ -771,81 +792,53 @@
 	popq	%rbp
 	hex_cfi	def_cfa_offset 8
 	retq
-9:
+14:
 	hex_cfi	def_cfa_offset 112
-	cmpb	$65,%r14b
-	jb	2b
-	cmpb	$71,%r14b
-	setb	%r10b
-	leal	-97(%r14),%r11d
-	cmpb	$6,%r11b
-	setb	%r11b
-	orb	%r10b,%r11b
-	je	2b
-	jmp	5b
-12:
-	movl	%esi,%eax
-	xorl	%edx,%edx
-	divl	%r9d
-13:
-	xorl	%r10d,%r10d
-	testq	%rdx,%rdx
-	setne	%r10b
-	addq	%rax,%r10
-	cmpq	$1,%r10
-	adcq	$-1,%r10
-	xorl	%eax,%eax
-	addq	%r11,%r10
-	movq	%r10,%r11
-	cmovbq	%rax,%r11
-	movl	$4,%edx
-	jb	45b
-	movl	$2,%edx
-	cmpq	%r10,%rcx
-	jb	44f
+	movl	$2,%r10d
+	cmpq	%rax,%rcx
+	jb	60b
 	cmpq	$1,%r9
 	je	20f
 	cmpq	$4,%r9
-	movq	16(%rsp),%rdx
 	jne	23f
-	leaq	.L100_static.9(%rip),%rcx
-	leaq	.L100_static.10(%rip),%rax
+	leaq	.L100_static.9(%rip),%rax
+	leaq	.L100_static.10(%rip),%rcx
 	testb	$1,%r8b
-	cmovneq	%rcx,%rax
+	cmovneq	%rax,%rcx
 	cmpq	$5,%rsi
 	jb	28f
+	xorl	%r9d,%r9d
 	xorl	%r8d,%r8d
-	xorl	%ecx,%ecx
 	.p2align	4
 19:
-	movzbl	(%rdi,%r8),%r9d
-	movzwl	(%rax,%r9,2),%r9d
-	movw	%r9w,(%rdx,%rcx)
-	movzbl	1(%rdi,%r8),%r9d
-	movzwl	(%rax,%r9,2),%r9d
-	movw	%r9w,2(%rdx,%rcx)
-	movzbl	2(%rdi,%r8),%r9d
-	movzwl	(%rax,%r9,2),%r9d
-	movw	%r9w,4(%rdx,%rcx)
-	movzbl	3(%rdi,%r8),%r9d
-	movzwl	(%rax,%r9,2),%r9d
-	movw	%r9w,6(%rdx,%rcx)
-	addq	$4,%r8
-	movb	%r14b,8(%rdx,%rcx)
-	addq	$9,%rcx
+	movzbl	(%rdi,%r9),%eax
+	movzwl	(%rcx,%rax,2),%eax
+	movw	%ax,(%rdx,%r8)
+	movzbl	1(%rdi,%r9),%eax
+	movzwl	(%rcx,%rax,2),%eax
+	movw	%ax,2(%rdx,%r8)
+	movzbl	2(%rdi,%r9),%eax
+	movzwl	(%rcx,%rax,2),%eax
+	movw	%ax,4(%rdx,%r8)
+	movzbl	3(%rdi,%r9),%eax
+	movzwl	(%rcx,%rax,2),%eax
+	movw	%ax,6(%rdx,%r8)
+	addq	$4,%r9
+	movb	%bl,8(%rdx,%r8)
+	addq	$9,%r8
+	addq	$-8,%r11
 	addq	$-4,%rsi
 	cmpq	$4,%rsi
 	ja	19b
 	jmp	29f
 20:
-	leaq	.L100_static.9(%rip),%rcx
-	leaq	.L100_static.10(%rip),%rax
+	leaq	.L100_static.9(%rip),%rax
+	leaq	.L100_static.10(%rip),%rcx
 	testb	$1,%r8b
-	cmovneq	%rcx,%rax
+	cmovneq	%rax,%rcx
 	cmpq	$2,%rsi
-	movq	16(%rsp),%rcx
 	jb	32f
-	leaq	-1(%rsi),%rdx
+	leaq	-1(%rsi),%rax
 	cmpq	$2,%rsi
 	jne	38f
 	xorl	%esi,%esi
@@ -853,268 +846,272 @@
 	jmp	41f
 23:
 	leaq	.L100_static.9(%rip),%r15
-	leaq	.L100_static.10(%rip),%r10
+	leaq	.L100_static.10(%rip),%r14
 	movzbl	%r8b,%eax
 	cmpq	%rsi,%r9
 	jae	33f
 	leaq	(%r9,%r9),%r12
 	testb	$1,%r8b
-	movq	%r10,%rcx
+	movq	%r14,%rcx
 	cmovneq	%r15,%rcx
 	cmpq	$8,%r9
-	jae	46f
+	jae	44f
 	cmpq	$1,%r9
 	jne	61f
-	leaq	(%rdx,%r12),%rax
+	leaq	-1(%r12),%rax
+	leaq	(%rdx,%r12),%r9
 	xorl	%ebp,%ebp
-	xorl	%ebx,%ebx
+	xorl	%r13d,%r13d
 27:
-	movzbl	(%rdi,%rbp),%r9d
-	movzwl	(%rcx,%r9,2),%r9d
-	movw	%r9w,(%rdx,%rbx)
+	addq	%rax,%r11
+	movzbl	(%rdi,%rbp),%r10d
+	movzwl	(%rcx,%r10,2),%r10d
+	movw	%r10w,(%rdx,%r13)
 	incq	%rbp
-	movb	%r14b,(%rax,%rbx)
-	addq	%r12,%rbx
-	incq	%rbx
+	movb	%bl,(%r9,%r13)
+	addq	%r12,%r13
+	incq	%r13
 	decq	%rsi
 	cmpq	$1,%rsi
 	ja	27b
-	jmp	51f
+	jmp	49f
 28:
-	xorl	%ecx,%ecx
 	xorl	%r8d,%r8d
+	xorl	%r9d,%r9d
 29:
+	movq	%r11,%rax
+	addq	%r8,%rax
 	testq	%rsi,%rsi
-	je	43f
+	je	59f
 	cmpq	$1,%rsi
 	jne	34f
-	xorl	%r9d,%r9d
+	xorl	%r10d,%r10d
 	jmp	37f
 32:
-	xorl	%edx,%edx
+	xorl	%eax,%eax
 	movl	$0,%r8d
+	movl	$0,%r10d
 	testq	%rsi,%rsi
-	jne	42f
-	jmp	44f
+	jne	43f
+	jmp	60b
 33:
-	movl	%eax,4(%rsp)
-	movq	%r11,8(%rsp)
-	xorl	%ebx,%ebx
+	movl	%eax,12(%rsp)
+	xorl	%r13d,%r13d
 	xorl	%ebp,%ebp
 	movq	%rsi,%rax
-	jmp	49f
+	jmp	47f
 34:
-	movl	%esi,%r9d
-	andl	$6,%r9d
-	leaq	(%rcx,%rdx),%r11
+	movl	%esi,%r10d
+	andl	$6,%r10d
+	leaq	(%r8,%rdx),%r11
 	addq	$3,%r11
-	leaq	(%r8,%rdi),%rbx
+	leaq	(%r9,%rdi),%rbx
 	incq	%rbx
 	xorl	%r14d,%r14d
 35:
 	movzbl	-1(%rbx,%r14),%r15d
-	movzwl	(%rax,%r15,2),%ebp
+	movzwl	(%rcx,%r15,2),%ebp
 	movw	%bp,-3(%r11,%r14,2)
 	movzbl	(%rbx,%r14),%r15d
-	movzwl	(%rax,%r15,2),%ebp
+	movzwl	(%rcx,%r15,2),%ebp
 	movw	%bp,-1(%r11,%r14,2)
 	addq	$2,%r14
-	cmpq	%r14,%r9
+	cmpq	%r14,%r10
 	jne	35b
 	testb	$1,%sil
-	je	43f
+	je	59f
 37:
-	addq	%r8,%rdi
-	addq	%rcx,%rdx
-	movzbl	(%rdi,%r9),%ecx
-	movzwl	(%rax,%rcx,2),%eax
-	movw	%ax,(%rdx,%r9,2)
-	jmp	43f
+	addq	%r9,%rdi
+	addq	%r8,%rdx
+	movzbl	(%rdi,%r10),%esi
+	movzwl	(%rcx,%rsi,2),%ecx
+	movw	%cx,(%rdx,%r10,2)
+	jmp	59f
 38:
-	movq	%rdx,%rsi
+	movq	%rax,%rsi
 	andq	$-2,%rsi
+	movq	$-3,%r11
 	xorl	%r8d,%r8d
-	xorl	%r9d,%r9d
 39:
-	movzbl	(%rdi,%r9),%r11d
-	movzwl	(%rax,%r11,2),%r11d
-	movw	%r11w,(%rcx,%r8)
-	movb	%r14b,2(%rcx,%r8)
-	movzbl	1(%rdi,%r9),%r11d
-	addq	$2,%r9
-	movzwl	(%rax,%r11,2),%r11d
-	movw	%r11w,3(%rcx,%r8)
-	movb	%r14b,5(%rcx,%r8)
-	addq	$6,%r8
-	cmpq	%r9,%rsi
+	movzbl	(%rdi,%r8),%r9d
+	movzwl	(%rcx,%r9,2),%r9d
+	movw	%r9w,3(%rdx,%r11)
+	movb	%bl,5(%rdx,%r11)
+	movzbl	1(%rdi,%r8),%r9d
+	addq	$2,%r8
+	movzwl	(%rcx,%r9,2),%r9d
+	movw	%r9w,6(%rdx,%r11)
+	movb	%bl,8(%rdx,%r11)
+	addq	$6,%r11
+	cmpq	%r8,%rsi
 	jne	39b
-	testb	$1,%dl
+	leaq	3(%r11),%r8
+	testb	$1,%al
 	je	42f
 41:
 	movzbl	(%rdi,%rsi),%esi
-	movzwl	(%rax,%rsi,2),%esi
-	movw	%si,(%rcx,%r8)
-	movb	%r14b,2(%rcx,%r8)
+	movzwl	(%rcx,%rsi,2),%esi
+	movw	%si,(%rdx,%r8)
+	movb	%bl,2(%rdx,%r8)
+	movq	%r8,%r11
 	addq	$3,%r8
 42:
-	movzbl	(%rdi,%rdx),%edx
-	movzwl	(%rax,%rdx,2),%eax
-	movw	%ax,(%rcx,%r8)
+	addq	$5,%r11
 43:
-	xorl	%edx,%edx
+	movzbl	(%rdi,%rax),%eax
+	movzwl	(%rcx,%rax,2),%eax
+	movw	%ax,(%rdx,%r8)
+	jmp	57f
 44:
-	movq	%r10,%rax
-	jmp	45b
-46:
-	movq	%r11,8(%rsp)
-	movl	%r8d,36(%rsp)
+	movl	%r8d,28(%rsp)
 	leaq	1(%r12),%rcx
-	movq	%rcx,48(%rsp)
+	movq	%rcx,16(%rsp)
 	notq	%r12
-	xorl	%ebx,%ebx
+	xorl	%r13d,%r13d
 	movq	%rdx,%r14
 	xorl	%ebp,%ebp
 	movq	%rdi,40(%rsp)
 	movq	%rdi,%r15
-	movl	%eax,4(%rsp)
-47:
-	movq	%rbp,24(%rsp)
-	addq	%r12,%rbx
-	movl	4(%rsp),%ecx
+	movl	%eax,12(%rsp)
+	movq	%rsi,48(%rsp)
+45:
+	addq	%r12,%r13
+	movl	12(%rsp),%ecx
 	andl	$1,%ecx
 	movq	%r15,%rdi
-	movq	%rsi,%r13
 	movq	%r9,%rsi
 	movq	%r14,%rdx
-	movq	%rbx,%rbp
-	movq	%r12,%rbx
+	movq	%rbp,%rbx
+	movq	%r13,%rbp
+	movq	%r12,%r13
 	movq	%r9,%r12
 	callq	faster_hex_1_0_0_x86_64_core_backend_Backend_encode_named
 	movq	%r12,%r9
-	movq	%rbx,%r12
-	movq	%rbp,%rbx
-	movq	24(%rsp),%rbp
-	movq	%r13,%rsi
+	movq	%r13,%r12
+	movq	%rbp,%r13
+	movq	%rbx,%rbp
+	movq	48(%rsp),%rsi
 	movzbl	112(%rsp),%eax
 	movb	%al,(%r14,%r9,2)
 	addq	%r9,%r15
 	subq	%r9,%rbp
-	movq	%r13,%rax
-	addq	%rbp,%rax
-	addq	48(%rsp),%r14
+	leaq	(%rsi,%rbp),%rax
+	addq	16(%rsp),%r14
 	cmpq	%rax,%r9
-	jb	47b
+	jb	45b
 	negq	%rbp
-	negq	%rbx
-	movq	16(%rsp),%rdx
+	negq	%r13
+	movq	32(%rsp),%rdx
 	movq	40(%rsp),%rdi
-	movl	36(%rsp),%r8d
-49:
+	movl	28(%rsp),%r8d
+47:
+	leaq	(,%rax,2),%r11
+	addq	%r13,%r11
 	cmpq	$7,%rax
-	ja	60f
+	ja	58f
 	movq	%rax,%rsi
-	movq	8(%rsp),%r11
-	leaq	.L100_static.10(%rip),%r10
+	leaq	.L100_static.10(%rip),%r14
 	leaq	.L100_static.9(%rip),%r15
-51:
+49:
 	testb	$1,%r8b
-	cmovneq	%r15,%r10
+	cmovneq	%r15,%r14
 	testq	%rsi,%rsi
-	je	59f
+	je	57f
 	movzbl	(%rdi,%rbp),%eax
-	movzwl	(%r10,%rax,2),%eax
-	movw	%ax,(%rdx,%rbx)
+	movzwl	(%r14,%rax,2),%eax
+	movw	%ax,(%rdx,%r13)
 	cmpq	$1,%rsi
-	je	59f
+	je	57f
 	movzbl	1(%rdi,%rbp),%eax
-	movzwl	(%r10,%rax,2),%eax
-	movw	%ax,2(%rdx,%rbx)
+	movzwl	(%r14,%rax,2),%eax
+	movw	%ax,2(%rdx,%r13)
 	cmpq	$2,%rsi
-	je	59f
+	je	57f
 	movzbl	2(%rdi,%rbp),%eax
-	movzwl	(%r10,%rax,2),%eax
-	movw	%ax,4(%rdx,%rbx)
+	movzwl	(%r14,%rax,2),%eax
+	movw	%ax,4(%rdx,%r13)
 	cmpq	$3,%rsi
-	je	59f
+	je	57f
 	movzbl	3(%rdi,%rbp),%eax
-	movzwl	(%r10,%rax,2),%eax
-	movw	%ax,6(%rdx,%rbx)
+	movzwl	(%r14,%rax,2),%eax
+	movw	%ax,6(%rdx,%r13)
 	cmpq	$4,%rsi
-	je	59f
+	je	57f
 	movzbl	4(%rdi,%rbp),%eax
-	movzwl	(%r10,%rax,2),%eax
-	movw	%ax,8(%rdx,%rbx)
+	movzwl	(%r14,%rax,2),%eax
+	movw	%ax,8(%rdx,%r13)
 	cmpq	$5,%rsi
-	je	59f
+	je	57f
 	movzbl	5(%rdi,%rbp),%eax
-	movzwl	(%r10,%rax,2),%eax
-	movw	%ax,10(%rdx,%rbx)
+	movzwl	(%r14,%rax,2),%eax
+	movw	%ax,10(%rdx,%r13)
 	cmpq	$6,%rsi
-	je	59f
+	je	57f
 	movzbl	6(%rdi,%rbp),%eax
-	movzwl	(%r10,%rax,2),%eax
-	movw	%ax,12(%rdx,%rbx)
-59:
-	xorl	%edx,%edx
+	movzwl	(%r14,%rax,2),%eax
+	movw	%ax,12(%rdx,%r13)
+57:
+	xorl	%r10d,%r10d
 	movq	%r11,%rax
-	jmp	45b
-60:
-	addq	%rbx,%rdx
+	jmp	60b
+58:
+	addq	%r13,%rdx
 	addq	%rbp,%rdi
-	movl	4(%rsp),%ecx
+	movl	12(%rsp),%ecx
 	andl	$1,%ecx
 	movq	%rax,%rsi
+	movq	%r11,%rbx
 	callq	faster_hex_1_0_0_x86_64_core_backend_Backend_encode_named
-	xorl	%edx,%edx
-	movq	8(%rsp),%rax
-	jmp	45b
+	movq	%rbx,%rax
+59:
+	xorl	%r10d,%r10d
+	jmp	60b
 61:
-	movl	%eax,4(%rsp)
-	movq	%r11,8(%rsp)
+	movl	%eax,12(%rsp)
 	movl	%r9d,%r10d
 	andl	$6,%r10d
 	leaq	3(%rdx),%r11
 	leaq	1(%r12),%rax
-	movq	%rax,24(%rsp)
-	leaq	1(%rdi),%r15
+	movq	%rax,16(%rsp)
+	leaq	1(%rdi),%r14
 	xorl	%ebp,%ebp
-	xorl	%ebx,%ebx
+	xorl	%r13d,%r13d
 	jmp	63f
 62:
 	movq	%rax,%r12
-	addq	%rbx,%rax
+	addq	%r13,%rax
 	addq	%r9,%rbp
-	movzbl	112(%rsp),%r14d
-	movb	%r14b,(%rdx,%rax)
-	addq	%r12,%rbx
-	incq	%rbx
+	movzbl	112(%rsp),%ebx
+	movb	%bl,(%rdx,%rax)
+	addq	%r12,%r13
+	incq	%r13
 	movq	%rsi,%rax
 	subq	%rbp,%rax
-	addq	24(%rsp),%r11
-	addq	%r9,%r15
+	addq	16(%rsp),%r11
+	addq	%r9,%r14
 	cmpq	%rax,%r9
-	jae	49b
+	jae	47b
 63:
 	movq	%r12,%rax
-	leaq	(%rdi,%rbp),%r13
-	xorl	%r14d,%r14d
+	leaq	(%rdi,%rbp),%r15
+	xorl	%ebx,%ebx
 	.p2align	4
 64:
-	movzbl	-1(%r15,%r14),%r12d
+	movzbl	-1(%r14,%rbx),%r12d
 	movzwl	(%rcx,%r12,2),%r12d
-	movw	%r12w,-3(%r11,%r14,2)
-	movzbl	(%r15,%r14),%r12d
+	movw	%r12w,-3(%r11,%rbx,2)
+	movzbl	(%r14,%rbx),%r12d
 	movzwl	(%rcx,%r12,2),%r12d
-	movw	%r12w,-1(%r11,%r14,2)
-	addq	$2,%r14
-	cmpq	%r14,%r10
+	movw	%r12w,-1(%r11,%rbx,2)
+	addq	$2,%rbx
+	cmpq	%rbx,%r10
 	jne	64b
 	testb	$1,%r9b
 	je	62b
-	movzbl	(%r13,%r10),%r14d
-	movzwl	(%rcx,%r14,2),%r14d
-	leaq	(%rdx,%rbx),%r12
-	movw	%r14w,(%r12,%r10,2)
+	movzbl	(%r15,%r10),%ebx
+	movzwl	(%rcx,%rbx,2),%ebx
+	leaq	(%rdx,%r13),%r15
+	movw	%bx,(%r15,%r10,2)
 	jmp	62b
 	hex_end	faster_hex_1_0_0_x86_64_encode_grouped
 	hex_cfi	endproc
