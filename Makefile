@@ -177,7 +177,7 @@ ifneq ($(MADE_PROGRAMS),)
 endif
 
 # With pytest-xdist, the modules run side by side. tests/conftest.py says what may be divided further.
-BESIDE = $(shell $(PYTEST) --help 2>&1 | grep -q -- --numprocesses && echo -n $(JOBS) --dist loadgroup)
+BESIDE = $(shell $(PYTEST) --help 2>&1 | grep -q -- --numprocesses && echo '--numprocesses $(JOBS) --dist loadgroup')
 check: all
 	$(or $(PYTEST),$(error make check takes pytest: apt-get install python3-pytest)) $(BESIDE) tests
 	$(call ENDED,what the summary says; the gate; mutations; examples)
