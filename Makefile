@@ -159,7 +159,7 @@ test: $(CHECKED)
 else
 test: test-c
 	$(QUICK)
-	$(call ENDED,all but the tests in C: the others take the Rattle toolchain)
+	$(call ENDED,proofs; rows; mutations; examples: these take the Rattle toolchain)
 endif
 
 TRY = $(COMPILE) $(CFLAGS) -std=gnu99 -pthread -I$(C) $(OF_TESTS) -o $(OUT)/try.exe
