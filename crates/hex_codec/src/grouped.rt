@@ -5,10 +5,9 @@
 
 ghost use Rattle.std.specs.Prelude.{◌≡◌, ◌≤◌, ◌<◌, ◌+◌, ◌*◌, ◌^◌, MatchOption, None, Ok, Some, length};
 ghost use Rattle.std.specs.Borrow.{sem};
-ghost use Rattle.hex_core.specs.Calls.{Answers};
 ghost use Rattle.hex_core.specs.Loan.{LendsAnswer};
 ghost use Rattle.hex_codec.specs.GroupedWriting.{piece_len};
-ghost use Rattle.hex_codec.specs.GroupedReading.{byte_count, grouped_len, refusal_of_count};
+ghost use Rattle.hex_codec.specs.GroupedReading.{byte_count, grouped_len};
 ghost use Rattle.hex_codec.specs.GroupCalls.{FrontIsRead, Reads, ReadsFront, WritesGrouped};
 ghost use Rattle.hex_codec.specs.GroupMessage.{group_fault_text};
 

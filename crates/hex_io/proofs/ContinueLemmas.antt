@@ -1,9 +1,8 @@
 -- What follows a text, where more bytes come.
-use Rattle.std.proofs.Common.{◌≡◌, ◌∙◌, ap, sym, refl, arith, ℕ, suc, ◌+◌, ◌-◌, ◌*◌, ◌/◌, ◌%◌, ◌^◌, ◌<◌, ◌≤◌, Bool, true, false}
+use Rattle.std.proofs.Common.{◌≡◌, ◌∙◌, ap, sym, refl, arith, ℕ, suc, ◌+◌, ◌-◌, ◌*◌, ◌/◌, ◌%◌, ◌<◌, ◌≤◌, Bool, true, false}
 use Rattle.std.proofs.Common.{List, [], ◌∷◌, ◌++◌, inl, inr, length, take, drop, append-nil, append_assoc, length-append, length-drop, take-append-drop}
-use Rattle.std.proofs.Common.{Option, Some, None, Result, Ok, Err, slice_set}
+use Rattle.std.proofs.Common.{Option, Some, None, Result, Ok, slice_set}
 use Rattle.std.specs.Prelude.{◌==◌, if◌then◌else◌}
-use Rattle.std.specs.Result.{IsOk}
 use Rattle.std.proofs.lemmas.Bool.{cases_lt}
 use Rattle.std.proofs.lemmas.Bool.Decides.{nat_tests}
 use Rattle.std.proofs.lemmas.List.{length-take-le, take-append-le}
@@ -12,13 +11,10 @@ use Rattle.std.proofs.Math.Seq.{take-append-add}
 use borrow.Rule.Slice.PartMut.{post_of, put_mid}
 use mir.Val.{bool_byte}
 use Rattle.hex_core.specs.Calls.{Fills}
-use Rattle.hex_core.specs.declared.error.Error.{Error}
 use Rattle.hex_core.specs.Text.{text}
 use Rattle.hex_core.proofs.TextLemmas.{text-append}
 use Rattle.hex_codec.specs.declared.group.Group.{Group}
 use Rattle.hex_codec.specs.GroupedWriting.{grouped, piece_len, separator}
-use Rattle.hex_codec.specs.GroupCalls.{WritesGrouped}
-use Rattle.hex_codec.proofs.CountLemmas.{len-most}
 use Rattle.hex_codec.proofs.GroupLemmas.{grouped-last, joined-pieces, no_pieces}
 use Rattle.hex_io.specs.Frame.{digits_by}
 use Rattle.hex_io.specs.inside.{FitsPiece, HasRoomFor}

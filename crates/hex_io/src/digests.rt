@@ -6,7 +6,7 @@ ghost use Rattle.hex_core.specs.Calls.{Answers};
 ghost use Rattle.hex_core.specs.Search.{first_invalid};
 ghost use Rattle.hex_core.specs.Text.{text};
 ghost use Rattle.hex_io.specs.ListCalls.{ReadsList, WritesList};
-ghost use Rattle.hex_io.specs.Lists.{LineIs, fault_in, first_bad_name, is_bad_name, line_fault, line_of, mark};
+ghost use Rattle.hex_io.specs.Lists.{LineIs, fault_in, first_bad_name, is_bad_name, line_fault, mark};
 ghost use Rattle.hex_io.specs.Message.{line_fault_text, list_fault_text, list_write_fault_text};
 ghost use Rattle.hex_io.specs.SinkState.{Puts};
 ghost use Rattle.hex_io.specs.declared.digests.ListWriteFault.TheVariants as fault;

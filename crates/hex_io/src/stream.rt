@@ -1,17 +1,14 @@
 //! Streams of digits, which may be longer than memory. A decoder is fed chunks of any length. The
 //! functions decode or encode all that a reader gives into a sink, in constant memory.
 
-ghost use Rattle.std.specs.Prelude.{◌≡◌, ◌↔◌, ℕ, [], IsErrAnd, IsTrue, List, MatchResult, Some, length};
+ghost use Rattle.std.specs.Prelude.{◌≡◌, ◌↔◌, [], IsErrAnd, IsTrue, Some, length};
 ghost use Rattle.std.specs.Io.{ReadsAtMost};
 ghost use Rattle.std.specs.Io.KnownBytes.{ReadConsumes};
 ghost use Rattle.std.specs.IoError.{error_kind};
 ghost use Rattle.hex_core.specs.declared.error.Error.TheVariants.{OddLength};
-ghost use Rattle.hex_core.specs.Refusal.{source_refusal};
-ghost use Rattle.hex_core.specs.Text.{Spells};
 ghost use Rattle.hex_io.specs.Decoder.{HasFed, reading_of};
 ghost use Rattle.hex_io.specs.Frame.{digits_by};
 ghost use Rattle.hex_io.specs.Message.{stream_fault_text};
-ghost use Rattle.hex_io.specs.Reading.{digits_in};
 ghost use Rattle.hex_io.specs.Stream.{DecodesSource, DecodesSpacedStream, DecodesStream, EncodesGroupedStream, EncodesSource, EncodesStream};
 ghost use Rattle.hex_io.specs.declared.stream.StreamFault.TheVariants as fault;
 

@@ -1,7 +1,7 @@
 //! Copies bytes without their white space.
 
-ghost use Rattle.std.specs.Prelude.{◌≡◌, ◌+◌, ◌*◌, ◌≤◌, length, map, nat_le, take};
-ghost use Rattle.std.specs.Simd.Lanes.{chunk, mask_l, put_chunk};
+ghost use Rattle.std.specs.Prelude.{◌≡◌, ◌+◌, ◌*◌, ◌≤◌, length, take};
+ghost use Rattle.std.specs.Simd.Lanes.{chunk, put_chunk};
 ghost use Rattle.hex_io.specs.Reading.{unspaced};
 ghost use Rattle.hex_io.specs.inside.{HasCopied};
 
