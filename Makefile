@@ -18,8 +18,9 @@
 #   make test-c              runs the tests in C, which need only a C compiler. With RUN=COMMAND that
 #                            command runs them, for instance an emulator
 #   make test                proves all crates, runs their tests, tries the worst mutations (wrong
-#                            function bodies), and runs the examples and a quick part of make check. Without the
-#                            Rattle toolchain it runs the tests in C and that part of make check
+#                            function bodies), and runs the examples and a quick part of make
+#                            check. Without the Rattle toolchain it runs the tests in C and that part
+#                            of make check
 #   make check               runs all tests in tests/ by pytest, and skips those whose tools are not
 #                            installed. With RUST=DIR, where DIR is a checkout of faster-hex 1.0.0,
 #                            it also compares our Rust crate with faster-hex

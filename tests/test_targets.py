@@ -184,7 +184,7 @@ def test_tests_without_the_toolchain(copy, tmp_path):
     env = only(tmp_path / "tools", {it: it for it in TOOLS.split()})
     for has_pytest in False, True:
         done = ran(make("test", top=copy), env=env)
-        assert done.returncode == 0 and done.stdout.endswith("the others take the Rattle toolchain\n"), done.stdout
+        assert done.returncode == 0 and done.stdout.endswith("these take the Rattle toolchain\n"), done.stdout
         assert ("there is no pytest: " in done.stdout) == (not has_pytest)
         has_quick = {it.name for it in copy.glob("tests/test_*.py") if "mark.quick" in it.read_text()}
         assert {*re.findall(r"^given -q -m quick tests/(\S+)$", done.stdout, re.M)} == (has_quick if has_pytest else set())
