@@ -743,14 +743,14 @@
 	cmpq	$1,%rsi
 	movq	%rsi,%rax
 	adcq	$-1,%rax
-	leaq	(%rsi,%rsi),%r11
+	leaq	(%rsi,%rsi),%r14
 	movq	%rax,%rdx
 	orq	%r9,%rdx
 	shrq	$32,%rdx
 	je	13f
 	xorl	%edx,%edx
 	divq	%r9
-	addq	%r11,%rax
+	addq	%r14,%rax
 	movq	32(%rsp),%rdx
 	jae	14f
 	jmp	6f
@@ -770,12 +770,12 @@
 13:
 	xorl	%edx,%edx
 	divl	%r9d
-	addq	%r11,%rax
+	addq	%r14,%rax
 	movq	32(%rsp),%rdx
 	jae	14f
 6:
 	xorl	%eax,%eax
-60:
+59:
 	movq	%r10,%rdx
 	addq	$56,%rsp
 	hex_cfi	def_cfa_offset 56
@@ -796,104 +796,99 @@
 	hex_cfi	def_cfa_offset 112
 	movl	$2,%r10d
 	cmpq	%rax,%rcx
-	jb	60b
-	cmpq	$1,%r9
-	je	20f
+	jb	59b
 	cmpq	$4,%r9
+	je	20f
+	cmpq	$1,%r9
 	jne	23f
 	leaq	.L100_static.9(%rip),%rax
 	leaq	.L100_static.10(%rip),%rcx
 	testb	$1,%r8b
 	cmovneq	%rax,%rcx
-	cmpq	$5,%rsi
+	cmpq	$2,%rsi
 	jb	28f
-	xorl	%r9d,%r9d
+	leaq	-1(%rsi),%r10
+	cmpq	$2,%rsi
+	jne	39f
+	xorl	%esi,%esi
+	xorl	%eax,%eax
+	jmp	42f
+20:
+	leaq	.L100_static.9(%rip),%rcx
+	leaq	.L100_static.10(%rip),%rax
+	testb	$1,%r8b
+	cmovneq	%rcx,%rax
+	cmpq	$5,%rsi
+	jb	29f
 	xorl	%r8d,%r8d
+	xorl	%ecx,%ecx
 	.p2align	4
-19:
-	movzbl	(%rdi,%r9),%eax
-	movzwl	(%rcx,%rax,2),%eax
-	movw	%ax,(%rdx,%r8)
-	movzbl	1(%rdi,%r9),%eax
-	movzwl	(%rcx,%rax,2),%eax
-	movw	%ax,2(%rdx,%r8)
-	movzbl	2(%rdi,%r9),%eax
-	movzwl	(%rcx,%rax,2),%eax
-	movw	%ax,4(%rdx,%r8)
-	movzbl	3(%rdi,%r9),%eax
-	movzwl	(%rcx,%rax,2),%eax
-	movw	%ax,6(%rdx,%r8)
-	addq	$4,%r9
-	movb	%bl,8(%rdx,%r8)
-	addq	$9,%r8
-	addq	$-8,%r11
+22:
+	movzbl	(%rdi,%r8),%r9d
+	movzwl	(%rax,%r9,2),%r9d
+	movw	%r9w,(%rdx,%rcx)
+	movzbl	1(%rdi,%r8),%r9d
+	movzwl	(%rax,%r9,2),%r9d
+	movw	%r9w,2(%rdx,%rcx)
+	movzbl	2(%rdi,%r8),%r9d
+	movzwl	(%rax,%r9,2),%r9d
+	movw	%r9w,4(%rdx,%rcx)
+	movzbl	3(%rdi,%r8),%r9d
+	movzwl	(%rax,%r9,2),%r9d
+	movw	%r9w,6(%rdx,%rcx)
+	addq	$4,%r8
+	movb	%bl,8(%rdx,%rcx)
+	addq	$9,%rcx
 	addq	$-4,%rsi
 	cmpq	$4,%rsi
-	ja	19b
-	jmp	29f
-20:
-	leaq	.L100_static.9(%rip),%rax
-	leaq	.L100_static.10(%rip),%rcx
-	testb	$1,%r8b
-	cmovneq	%rax,%rcx
-	cmpq	$2,%rsi
-	jb	32f
-	leaq	-1(%rsi),%rax
-	cmpq	$2,%rsi
-	jne	38f
-	xorl	%esi,%esi
-	xorl	%r8d,%r8d
-	jmp	41f
+	ja	22b
+	jmp	30f
 23:
-	leaq	.L100_static.9(%rip),%r15
-	leaq	.L100_static.10(%rip),%r14
+	leaq	.L100_static.9(%rip),%r11
+	leaq	.L100_static.10(%rip),%r10
 	movzbl	%r8b,%eax
 	cmpq	%rsi,%r9
 	jae	33f
 	leaq	(%r9,%r9),%r12
 	testb	$1,%r8b
-	movq	%r14,%rcx
-	cmovneq	%r15,%rcx
+	movq	%r10,%rcx
+	cmovneq	%r11,%rcx
 	cmpq	$8,%r9
 	jae	44f
 	cmpq	$1,%r9
-	jne	61f
-	leaq	-1(%r12),%rax
-	leaq	(%rdx,%r12),%r9
+	jne	60f
+	leaq	(%rdx,%r12),%rax
 	xorl	%ebp,%ebp
 	xorl	%r13d,%r13d
 27:
-	addq	%rax,%r11
-	movzbl	(%rdi,%rbp),%r10d
-	movzwl	(%rcx,%r10,2),%r10d
-	movw	%r10w,(%rdx,%r13)
+	movzbl	(%rdi,%rbp),%r9d
+	movzwl	(%rcx,%r9,2),%r9d
+	movw	%r9w,(%rdx,%r13)
 	incq	%rbp
-	movb	%bl,(%r9,%r13)
+	movb	%bl,(%rax,%r13)
 	addq	%r12,%r13
 	incq	%r13
+	addq	$-2,%r14
 	decq	%rsi
 	cmpq	$1,%rsi
 	ja	27b
 	jmp	49f
 28:
-	xorl	%r8d,%r8d
-	xorl	%r9d,%r9d
-29:
-	movq	%r11,%rax
-	addq	%r8,%rax
-	testq	%rsi,%rsi
-	je	59f
-	cmpq	$1,%rsi
-	jne	34f
 	xorl	%r10d,%r10d
-	jmp	37f
-32:
-	xorl	%eax,%eax
-	movl	$0,%r8d
-	movl	$0,%r10d
+	movl	$0,%eax
 	testq	%rsi,%rsi
 	jne	43f
-	jmp	60b
+	jmp	59b
+29:
+	xorl	%ecx,%ecx
+	xorl	%r8d,%r8d
+30:
+	testq	%rsi,%rsi
+	je	38f
+	cmpq	$1,%rsi
+	jne	34f
+	xorl	%r9d,%r9d
+	jmp	37f
 33:
 	movl	%eax,12(%rsp)
 	xorl	%r13d,%r13d
@@ -901,67 +896,68 @@
 	movq	%rsi,%rax
 	jmp	47f
 34:
-	movl	%esi,%r10d
-	andl	$6,%r10d
-	leaq	(%r8,%rdx),%r11
-	addq	$3,%r11
-	leaq	(%r9,%rdi),%rbx
-	incq	%rbx
-	xorl	%r14d,%r14d
+	movl	%esi,%r9d
+	andl	$6,%r9d
+	leaq	(%rcx,%rdx),%r10
+	addq	$3,%r10
+	leaq	(%r8,%rdi),%r11
+	incq	%r11
+	xorl	%ebx,%ebx
 35:
-	movzbl	-1(%rbx,%r14),%r15d
-	movzwl	(%rcx,%r15,2),%ebp
-	movw	%bp,-3(%r11,%r14,2)
-	movzbl	(%rbx,%r14),%r15d
-	movzwl	(%rcx,%r15,2),%ebp
-	movw	%bp,-1(%r11,%r14,2)
-	addq	$2,%r14
-	cmpq	%r14,%r10
+	movzbl	-1(%r11,%rbx),%r14d
+	movzwl	(%rax,%r14,2),%ebp
+	movw	%bp,-3(%r10,%rbx,2)
+	movzbl	(%r11,%rbx),%r14d
+	movzwl	(%rax,%r14,2),%ebp
+	movw	%bp,-1(%r10,%rbx,2)
+	addq	$2,%rbx
+	cmpq	%rbx,%r9
 	jne	35b
 	testb	$1,%sil
-	je	59f
+	je	38f
 37:
-	addq	%r9,%rdi
-	addq	%r8,%rdx
-	movzbl	(%rdi,%r10),%esi
-	movzwl	(%rcx,%rsi,2),%ecx
-	movw	%cx,(%rdx,%r10,2)
-	jmp	59f
+	addq	%r8,%rdi
+	addq	%rcx,%rdx
+	movzbl	(%rdi,%r9),%edi
+	movzwl	(%rax,%rdi,2),%eax
+	movw	%ax,(%rdx,%r9,2)
 38:
-	movq	%rax,%rsi
-	andq	$-2,%rsi
-	movq	$-3,%r11
-	xorl	%r8d,%r8d
+	leaq	(%rcx,%rsi,2),%rax
+	xorl	%r10d,%r10d
+	jmp	59b
 39:
+	movq	%r10,%rsi
+	andq	$-2,%rsi
+	xorl	%eax,%eax
+	xorl	%r8d,%r8d
+40:
 	movzbl	(%rdi,%r8),%r9d
 	movzwl	(%rcx,%r9,2),%r9d
-	movw	%r9w,3(%rdx,%r11)
-	movb	%bl,5(%rdx,%r11)
+	movw	%r9w,(%rdx,%rax)
+	movb	%bl,2(%rdx,%rax)
 	movzbl	1(%rdi,%r8),%r9d
 	addq	$2,%r8
 	movzwl	(%rcx,%r9,2),%r9d
-	movw	%r9w,6(%rdx,%r11)
-	movb	%bl,8(%rdx,%r11)
-	addq	$6,%r11
+	movw	%r9w,3(%rdx,%rax)
+	movb	%bl,5(%rdx,%rax)
+	addq	$6,%rax
 	cmpq	%r8,%rsi
-	jne	39b
-	leaq	3(%r11),%r8
-	testb	$1,%al
-	je	42f
-41:
+	jne	40b
+	testb	$1,%r10b
+	je	43f
+42:
 	movzbl	(%rdi,%rsi),%esi
 	movzwl	(%rcx,%rsi,2),%esi
-	movw	%si,(%rdx,%r8)
-	movb	%bl,2(%rdx,%r8)
-	movq	%r8,%r11
-	addq	$3,%r8
-42:
-	addq	$5,%r11
+	movw	%si,(%rdx,%rax)
+	movb	%bl,2(%rdx,%rax)
+	addq	$3,%rax
 43:
-	movzbl	(%rdi,%rax),%eax
-	movzwl	(%rcx,%rax,2),%eax
-	movw	%ax,(%rdx,%r8)
-	jmp	57f
+	movzbl	(%rdi,%r10),%esi
+	movzwl	(%rcx,%rsi,2),%ecx
+	movw	%cx,(%rdx,%rax)
+	addq	$2,%rax
+	xorl	%r10d,%r10d
+	jmp	59b
 44:
 	movl	%r8d,28(%rsp)
 	leaq	1(%r12),%rcx
@@ -1005,68 +1001,64 @@
 	movq	40(%rsp),%rdi
 	movl	28(%rsp),%r8d
 47:
-	leaq	(,%rax,2),%r11
-	addq	%r13,%r11
+	leaq	(%rax,%rax),%r14
 	cmpq	$7,%rax
-	ja	58f
+	ja	57f
 	movq	%rax,%rsi
-	leaq	.L100_static.10(%rip),%r14
-	leaq	.L100_static.9(%rip),%r15
+	leaq	.L100_static.10(%rip),%r10
+	leaq	.L100_static.9(%rip),%r11
 49:
 	testb	$1,%r8b
-	cmovneq	%r15,%r14
+	cmovneq	%r11,%r10
 	testq	%rsi,%rsi
-	je	57f
+	je	58f
 	movzbl	(%rdi,%rbp),%eax
-	movzwl	(%r14,%rax,2),%eax
+	movzwl	(%r10,%rax,2),%eax
 	movw	%ax,(%rdx,%r13)
 	cmpq	$1,%rsi
-	je	57f
+	je	58f
 	movzbl	1(%rdi,%rbp),%eax
-	movzwl	(%r14,%rax,2),%eax
+	movzwl	(%r10,%rax,2),%eax
 	movw	%ax,2(%rdx,%r13)
 	cmpq	$2,%rsi
-	je	57f
+	je	58f
 	movzbl	2(%rdi,%rbp),%eax
-	movzwl	(%r14,%rax,2),%eax
+	movzwl	(%r10,%rax,2),%eax
 	movw	%ax,4(%rdx,%r13)
 	cmpq	$3,%rsi
-	je	57f
+	je	58f
 	movzbl	3(%rdi,%rbp),%eax
-	movzwl	(%r14,%rax,2),%eax
+	movzwl	(%r10,%rax,2),%eax
 	movw	%ax,6(%rdx,%r13)
 	cmpq	$4,%rsi
-	je	57f
+	je	58f
 	movzbl	4(%rdi,%rbp),%eax
-	movzwl	(%r14,%rax,2),%eax
+	movzwl	(%r10,%rax,2),%eax
 	movw	%ax,8(%rdx,%r13)
 	cmpq	$5,%rsi
-	je	57f
+	je	58f
 	movzbl	5(%rdi,%rbp),%eax
-	movzwl	(%r14,%rax,2),%eax
+	movzwl	(%r10,%rax,2),%eax
 	movw	%ax,10(%rdx,%r13)
 	cmpq	$6,%rsi
-	je	57f
+	je	58f
 	movzbl	6(%rdi,%rbp),%eax
-	movzwl	(%r14,%rax,2),%eax
+	movzwl	(%r10,%rax,2),%eax
 	movw	%ax,12(%rdx,%r13)
+	jmp	58f
 57:
-	xorl	%r10d,%r10d
-	movq	%r11,%rax
-	jmp	60b
-58:
 	addq	%r13,%rdx
 	addq	%rbp,%rdi
 	movl	12(%rsp),%ecx
 	andl	$1,%ecx
 	movq	%rax,%rsi
-	movq	%r11,%rbx
 	callq	faster_hex_1_0_0_x86_64_core_backend_Backend_encode_named
-	movq	%rbx,%rax
-59:
+58:
+	addq	%r13,%r14
 	xorl	%r10d,%r10d
-	jmp	60b
-61:
+	movq	%r14,%rax
+	jmp	59b
+60:
 	movl	%eax,12(%rsp)
 	movl	%r9d,%r10d
 	andl	$6,%r10d
@@ -1076,8 +1068,8 @@
 	leaq	1(%rdi),%r14
 	xorl	%ebp,%ebp
 	xorl	%r13d,%r13d
-	jmp	63f
-62:
+	jmp	62f
+61:
 	movq	%rax,%r12
 	addq	%r13,%rax
 	addq	%r9,%rbp
@@ -1091,12 +1083,12 @@
 	addq	%r9,%r14
 	cmpq	%rax,%r9
 	jae	47b
-63:
+62:
 	movq	%r12,%rax
 	leaq	(%rdi,%rbp),%r15
 	xorl	%ebx,%ebx
 	.p2align	4
-64:
+63:
 	movzbl	-1(%r14,%rbx),%r12d
 	movzwl	(%rcx,%r12,2),%r12d
 	movw	%r12w,-3(%r11,%rbx,2)
@@ -1105,14 +1097,14 @@
 	movw	%r12w,-1(%r11,%rbx,2)
 	addq	$2,%rbx
 	cmpq	%rbx,%r10
-	jne	64b
+	jne	63b
 	testb	$1,%r9b
-	je	62b
+	je	61b
 	movzbl	(%r15,%r10),%ebx
 	movzwl	(%rcx,%rbx,2),%ebx
 	leaq	(%rdx,%r13),%r15
 	movw	%bx,(%r15,%r10,2)
-	jmp	62b
+	jmp	61b
 	hex_end	faster_hex_1_0_0_x86_64_encode_grouped
 	hex_cfi	endproc
 	hex_export	faster_hex_1_0_0_x86_64_check_with_case

@@ -280,15 +280,14 @@ pub fn write_with_room(src: &[u8], dst: &mut [u8], group: Group, upper: bool) ->
     write_fitting(Backend::plain(), src, dst, group, upper)
 }
 
-// Encodes `src` in groups, where there is room. Pieces of 1 and of 4 bytes have code of their own, in
-// which their length is a constant, so that such a piece is encoded without a loop.
+// Encodes `src` in groups, where there is room. Pieces of 1 and of 4 bytes have code of their own.
 fn write_fitting(plan: Backend, src: &[u8], dst: &mut [u8], group: Group, upper: bool) -> usize
     requires { grouped_len (piece_len group) (length src.now) ≤ length dst.old }
     ensures { WritesGrouped group upper src.now dst.old dst.new (Ok result) }
 {
     match group.every() {
-        1 => write_by_piece_len(plan, src, dst, 1, group, upper),
-        4 => write_by_piece_len(plan, src, dst, 4, group, upper),
-        every => write_by_piece_len(plan, src, dst, every, group, upper),
+        1 => write_by_piece_len::<1>(plan, src, dst, group, upper),
+        4 => write_by_piece_len::<4>(plan, src, dst, group, upper),
+        _ => write_by_piece_len::<0>(plan, src, dst, group, upper),
     }
 }

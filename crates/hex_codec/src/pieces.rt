@@ -1,7 +1,7 @@
 //! Loops over the pieces of a grouped text, which test it, decode it or encode it by a plan. No
 //! separator follows the last piece, so it is treated after each loop.
 
-ghost use Rattle.std.specs.Prelude.{◌≡◌, ◌≤◌, ◌*◌, ◌%◌, None, Ok, length};
+ghost use Rattle.std.specs.Prelude.{◌≡◌, ◌≤◌, ◌<◌, ◌*◌, ◌%◌, None, Ok, length};
 ghost use Rattle.hex_core.specs.Search.{first_invalid};
 ghost use Rattle.hex_core.specs.Text.{Spells, text};
 ghost use Rattle.hex_codec.specs.GroupCalls.{WritesGrouped};
@@ -113,21 +113,30 @@ pub fn read_pieces(plan: Backend, src: &[u8], dst: &mut [u8], group: Group, case
     read_piece(plan, &src[at..], &mut dst[done..], case);
 }
 
-/// Encodes `src` in groups of `every` bytes into the start of `dst`. Returns the number of bytes
-/// written. The toolchain inlines this function only for x86-64.
+// Returns the length of a piece, which is `EVERY` if that is not 0.
 #[inline(always)]
-pub fn write_by_piece_len(
+fn piece_len<const EVERY: usize>(group: Group) -> usize
+    requires { 0 < EVERY → EVERY ≡ piece_len group }
+    ensures { result ≡ piece_len group }
+{
+    if EVERY > 0 { EVERY } else { group.every() }
+}
+
+/// Encodes `src` in groups into the start of `dst`. Returns the number of bytes written. `EVERY` is
+/// the length of a piece or 0. If it is not 0, the compiler knows the length, and encodes a short
+/// piece without a loop.
+pub fn write_by_piece_len<const EVERY: usize>(
     plan: Backend,
     src: &[u8],
     dst: &mut [u8],
-    every: usize,
     group: Group,
     upper: bool,
 ) -> usize
-    requires every { every ≡ piece_len group }
+    requires every { 0 < EVERY → EVERY ≡ piece_len group }
     requires room { grouped_len (piece_len group) (length src.now) ≤ length dst.old }
     ensures { WritesGrouped group upper src.now dst.old dst.new (Ok result) }
 {
+    let every = piece_len::<EVERY>(group);
     let mut at = 0;
     let mut done = 0;
     'pieces: while src.len() - at > every {
