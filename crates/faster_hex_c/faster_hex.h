@@ -53,10 +53,10 @@
  *   destination and its stack. This also holds if an empty source or destination is NULL. For the calls with groups in
  *   the builds for x86-64-v2 and x86-64-v3, the same is checked for sources of up to 32 bytes. The file generated/SHOWN
  *   has the record.
- * - Keys: the same tool checks which addresses and branches depend on the bytes of the source. When a call without
- *   groups encodes, none does. When it checks, decodes or searches valid digits, the only such branches ask whether
- *   all digits of one part of the source are valid. They go the same way for all valid digits. docs/security.md says
- *   which calls to use for keys.
+ * - Keys: the same tool checks which addresses and branches depend on the bytes of the source. In a call that encodes
+ *   without groups, no address and no branch depends on them. When a call without groups checks, decodes or searches
+ *   valid digits, the only such branches ask whether all digits of one part of the source are valid. They go the same
+ *   way for all valid digits. docs/security.md says which calls to use for keys.
  * - Not constant time: the baseline build, which is the one for x86-64 without a level. It looks bytes up in tables.
  *   It runs on processors without x86-64-v2, and for calls that are made before the library's constructor has run. The
  *   constructor is a function that runs when the library is loaded. In every build a call that must find the index of

@@ -121,7 +121,7 @@ fn group_answer_of(outcome: Result<usize, GroupFault>) -> Answer
     }
 }
 
-// Returns the number of the build. `scripts/build.sh` replaces the call of this function by the
+// Returns the number of the build. `scripts/library.awk` replaces the call of this function by the
 // number of each build. The function has no contract, so its callers are proved for every number.
 #[inline(never)]
 fn level() -> u8 {
