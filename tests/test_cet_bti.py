@@ -31,6 +31,6 @@ def test_notes(tmp_path, compiler, form):
 def test_build(name):
     _, mark, branch, _ = AARCH64 if name == "aarch64" else X86_64
     text = (TOP / f"generated/{name}.s").read_text()
-    exported = re.findall(r"^\thex_export\t\w+\n((?:.*\n){2})", text, re.M)
+    exported = re.findall(r"^\thex_export\t\w+\n(?:\thex_lower\n)?((?:.*\n){2})", text, re.M)
     assert exported and all(re.search(mark, it) for it in exported)
     assert not re.search(branch, text)

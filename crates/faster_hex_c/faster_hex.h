@@ -38,7 +38,7 @@
  * - Calls may run in many threads at the same time, also on the same source, if no destination overlaps what
  *   another call reads or writes.
  * - The library needs no external symbols, not even libc. You may link the archive into a shared library.
- * - gcc and clang warn if a result is not used.
+ * - gcc and clang warn if a result that says whether a call failed is not used.
  *
  * What is known of the code:
  *
