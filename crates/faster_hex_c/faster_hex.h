@@ -64,7 +64,7 @@
  *   than x86-64 were not examined for this.
  * - Only tested, on Linux: the machine code of the other builds, and of the calls with groups for longer sources. The
  *   machine code for Windows is tested under wine. On FreeBSD, NetBSD and macOS the library was only assembled, and
- *   never run. Tests alone also show that calls allocate nothing, change no state and may run in threads.
+ *   never run. Only tests show that calls allocate nothing and may run in threads.
  *
  * docs/security.md of the repository says more.
  */
