@@ -19,14 +19,17 @@ use Rattle.hex_codec.proofs.GroupLemmas.{grouped-last, joined-pieces, no_pieces}
 use Rattle.hex_io.specs.Frame.{digits_by}
 use Rattle.hex_io.specs.inside.{FitsPiece, HasRoomFor}
 
--- a separator and what was written behind it, or this alone
-pub behind : (follows : Bool) (mark k end : ℕ) (old new shown : List ℕ) → 0 < length old → end ≤ length new → take end new ≡ shown
-    → take (bool_byte follows + end) (put_mid (bool_byte follows) k (slice_set old 0 mark) new) ≡ (if follows then mark ∷ [] else []) ++ shown
-behind follows mark k end [] new shown some fits is = absurd (omega arith)
-behind true mark k end (b ∷ old) new shown some fits is =
-    let count : 1 + end ≡ suc end = omega arith in rw count (ap (λ l. mark ∷ l) (take-append-le end new (post_of 1 k (mark ∷ old)) fits ∙ is))
-behind false mark k end (b ∷ old) new shown some fits is =
-    let count : 0 + end ≡ end = omega arith in rw count (take-append-le end new (post_of 0 k (mark ∷ old)) fits ∙ is)
+-- what was written behind a byte, with a separator in the place of that byte
+pub behind : (mark k end : ℕ) (old new shown : List ℕ) → 0 < length old → end ≤ length new → take end new ≡ shown
+    → take (1 + end) (slice_set (put_mid 1 k old new) 0 mark) ≡ mark ∷ shown
+behind mark k end [] new shown some fits is = absurd (omega arith)
+behind mark k end (b ∷ old) new shown some fits is =
+    let count : 1 + end ≡ suc end = omega arith in rw count (ap (λ l. mark ∷ l) (take-append-le end new (post_of 1 k (b ∷ old)) fits ∙ is))
+
+-- what was written at the start
+pub alone : (k end : ℕ) (old new shown : List ℕ) → end ≤ length new → take end new ≡ shown → take (0 + end) (put_mid 0 k old new) ≡ shown
+alone k end old new shown fits is =
+    let count : 0 + end ≡ end = omega arith in rw count (take-append-le end new (post_of 0 k old) fits ∙ is)
 
 pub one-mark : (follows : Bool) → bool_byte follows ≤ 1
 one-mark true = omega arith

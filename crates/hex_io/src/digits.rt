@@ -176,7 +176,9 @@ fn separated<'b>(
     ensures { result.now ≡ (if follows then separator group ∷ [] else []) ++ grouped group upper bytes.now }
 {
     let start = usize::from(follows);
-    buffer[0] = group.sep();
     let end = write_with_room(bytes, &mut buffer[start..], group, upper);
+    if follows {
+        buffer[0] = group.sep();
+    }
     &buffer[..start + end]
 }
