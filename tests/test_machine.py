@@ -16,7 +16,7 @@ import pytest
 z3 = pytest.importorskip("z3")
 pytest.importorskip("capstone")
 import machine.__main__ as command
-from commands import CC, PRINTED, SEED, TOP, by_cmake, compiled, make, needs, ran, runs
+from commands import CC, CHANGES, PRINTED, SEED, TOP, by_cmake, compiled, make, needs, ran, runs
 from machine import Refused, execution, values
 from machine.__main__ import BUILDS, sums
 from machine.code import assembles
@@ -178,6 +178,21 @@ def test_what_the_record_writes(copy, tmp_path, monkeypatch, is_shown):
         with pytest.raises(Refused, match="a call: REFUSED: why"):
             command.record(made)
     assert files_in(copy) == before
+
+
+@pytest.mark.quick
+@pytest.mark.parametrize("change", CHANGES)
+def test_record_of_a_source_that_is_changed_meanwhile(copy, tmp_path, monkeypatch, change):
+    """Nothing is recorded if a source is changed while the library is built."""
+    made, record = tmp_path / "made", (copy / "generated/SHOWN").read_text()
+    made.mkdir()
+    change = CHANGES[change].format("crates/faster_hex_c/dispatch.c")
+    (copy / "scripts/check-generated").write_text(f"#!/bin/sh\n{change}\n")
+    monkeypatch.setattr(command, "TOP", copy)
+    monkeypatch.setattr(command, "report", lambda *_: ([], True))
+    with pytest.raises(Refused, match="a source was changed meanwhile"):
+        command.record(made)
+    assert (copy / "generated/SHOWN").read_text() == record
 
 
 def checks(file, *words):

@@ -1,22 +1,21 @@
 """A record vouches only for what was proved: PROVED in generated/, and the libraries that scripts/rt-ci keeps. Programs
 of a few lines stand for `rt` and `rattle`, because a proof would take long."""
 import os
+import re
 import shutil
 
 import pytest
 
-from commands import ran, runs
+from commands import CHANGES, ran, runs
 
 pytestmark = pytest.mark.quick
 CORE = "crates/hex_core/src/lib.rt"
-# What a file is changed to while a proof runs: another text, or one that is changed back.
-CHANGES = {"changed": "echo >>{0}", "changed and changed back": "cp {0} it && echo >>{0} && cat it >{0} && rm it"}
 # The commands of `rt` that scripts use. `rt ci` proves hex_core, takes the library of hex_codec from an earlier run, and
-# runs what CHANGE says meanwhile.
+# runs what CHANGE says meanwhile. So does `rt doc`.
 RT = """#!/bin/sh -eu
 case $1 in
 version) echo toolchain one ;;
-doc) echo /nowhere/doc ;;
+doc) eval "${CHANGE-}" && echo /nowhere/doc ;;
 ci)
     for name in hex_core hex_codec; do
         mkdir -p crates/$name/out/rlib/$name.rlib
@@ -48,11 +47,13 @@ def kept(tmp_path):
     return sorted(tmp_path.glob("cache/faster_hex/libraries/*"))
 
 
-def test_assembly_that_proved_does_not_name(copy):
-    """PROVED must name each file of its folder. A changed file whose line is removed is refused."""
+@pytest.mark.parametrize("line", ["", r"\1\2"], ids=["removed", "cut"])
+def test_assembly_that_proved_does_not_name(copy, line):
+    """PROVED must name each file of its folder. A changed file is refused, also if its line is removed or lacks a digit
+    of the hash."""
     file, record = copy / "generated/x86-64.s", copy / "generated/PROVED"
     file.write_text(file.read_text() + "\n")
-    record.write_text("".join(it for it in record.read_text().splitlines(True) if "x86-64.s" not in it))
+    record.write_text(re.sub(r"(sha256 \w+)\w(  x86-64\.s\n)", line, record.read_text()))
     done = ran([copy / "scripts/check-generated", "generated"])
     assert done.returncode == 1 and "has the file x86-64.s" in done.stdout and done.stdout.count("\n") == 1
     assert ran([copy / "tests/header.sh"]).returncode == 1
@@ -122,3 +123,29 @@ def test_assembly_of_sources_that_were_changed_meanwhile(tmp_path, copy, env, ch
     (copy / "scripts/build.sh").write_text(f"#!/bin/sh\n{CHANGES[change].format(CORE)}\n")
     done = ran([copy / "scripts/generate", tmp_path / "anew"], env=env)
     assert done.returncode == 1 and "was changed meanwhile" in done.stdout and not (tmp_path / "anew").exists()
+
+
+# Stands for a scripts/build.sh that has proved each crate.
+BUILT = """#!/bin/sh
+for crate in crates/*/; do
+    mkdir -p $crate/out/statements
+    echo logic=proved functions=1 >$crate/out/statements/build.log
+done
+"""
+
+
+def test_record_while_a_source_is_changed(tmp_path, copy, env):
+    """If a source is changed after the proof, PROVED has the hash of what was proved, so that the change is noticed."""
+    (copy / "scripts/build.sh").write_text(BUILT)
+    proved = runs([copy / "scripts/checksum", "hex_core", "hex_codec", "faster_hex_c"])
+    runs([copy / "scripts/generate", tmp_path / "anew"], env={**env, "CHANGE": CHANGES["changed"].format(CORE)})
+    assert f"\nsources {proved}" in (tmp_path / "anew/PROVED").read_text()
+
+
+@pytest.mark.parametrize("change", CHANGES)
+def test_mutations_of_sources_that_are_changed_meanwhile(copy, env, change):
+    """scripts/mutations tries none of them over kept libraries that may be those of other sources."""
+    runs([copy / "scripts/rt-ci"], env=env)
+    words = [copy / "scripts/mutations", "--gate", "hex_codec"]
+    done = ran(words, cwd=copy, env={**env, "CHANGE": CHANGES[change].format(CORE)})
+    assert done.returncode == 1 and done.stdout == "mutations: a source was changed meanwhile: run it again\n"

@@ -10,8 +10,8 @@
 #include "assembly.h"
 #include "faster_hex.h"
 
-/* The name of a build's call. It has the version, so that no other version in the program has the same name. Its end
- * comes from builds.S, which says why. */
+/* The name of a build's call. It has the version, so that no other version in the program has the same name.
+ * builds.S adds the end of the name, and says why. */
 #ifdef FASTER_HEX_UNPROVED
 #define JOIN(major, minor, patch, name) faster_hex_##major##_##minor##_##patch##_##name##_of_c_unproved
 #else
@@ -78,8 +78,8 @@ __attribute__((constructor)) static void raise_level(void) {
 }
 
 /* Defines `chosen_CALL`, which makes a call by the build for the processor. The branch for level 3 is the first
- * one, so that processors without AVX-512 do not pay for the branch for level 4. A call that this level has no
- * build of takes that of level 3, and needs no second branch. */
+ * one, so that processors without AVX-512 do not pay for the branch for level 4. If a call has no build for level 4,
+ * both levels use the build for level 3, and there is no second branch. */
 #define CHOSEN(answer, call, parameters, arguments, widest)                               \
     BUILD answer OF(x86_64, call) parameters;                                             \
     BUILD answer OF(x86_64_v2, call) parameters;                                          \

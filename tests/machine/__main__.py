@@ -126,12 +126,13 @@ def check(folder, file, *words):
 
 
 def record(folder):
-    """Writes the record, if all is shown."""
+    """Writes the record, if all is shown and no source was changed meanwhile, also if it was changed back."""
+    last_changes = lambda: [(TOP / it).stat().st_ctime_ns for it in SOURCES]
+    before, begin, file = last_changes(), sums(), Path(folder) / "libfaster_hex.a"
     subprocess.run(["make", "-s", "-C", TOP, "lib", "UNPROVED=", f"OUT={folder}", f"BUILT={folder}/built"], check=True)
-    file = Path(folder) / "libfaster_hex.a"
-    begin, made = sums(), linked(Path(folder) / "image", file)
+    made = linked(Path(folder) / "image", file)
     lines, is_shown = report(made, None, pairs_of(made, []))
-    if not is_shown or sums() != begin:
+    if not is_shown or last_changes() != before:
         raise Refused(next((it for it in lines if "REFUSED" in it), "a source was changed meanwhile"))
     (TOP / "generated/SHOWN").write_text(begin + "\n".join([*tools(file, made), *lines]) + "\n")
 

@@ -27,7 +27,8 @@ pub fn encoded<'b>(bytes: &[u8], upper: bool, buffer: &'b mut [u8]) -> &'b [u8]
     ensures text { result.now ≡ text upper bytes.now }
     ensures ascii { IsAscii result.now }
 {
-    // Not by `hex_encode`, since no rlib carries a proof that reads its contract: each program would check it again.
+    // `hex_encode` would do the same. But the toolchain keeps no proof that reads the contract of
+    // `hex_encode`, so each program above would prove this function again.
     let len = hex_encode_into(bytes, buffer, upper).unwrap();
     &buffer[..len]
 }
@@ -66,7 +67,8 @@ pub fn put_digits<S: Sink>(
     }
 }
 
-// Does the same without a group.
+// Does the same without a group. A short source needs one put, so it has no loop and a smaller
+// buffer.
 fn put_text<S: Sink>(sink: &mut S, bytes: &[u8], upper: bool) -> Result<(), WriteFault>
     ensures { Puts (S.state sink.old) (S.state sink.new) result (text upper bytes.now) }
 {
@@ -177,6 +179,8 @@ fn separated<'b>(
 {
     let start = usize::from(follows);
     let end = write_with_room(bytes, &mut buffer[start..], group, upper);
+    // Stored in each case before the digits, it would replace the first byte of the cleared buffer.
+    // LLVM would then clear the buffer from an odd address, which takes longer.
     if follows {
         buffer[0] = group.sep();
     }

@@ -14,7 +14,8 @@ pub enum Failure {
     Codec(Error),
     /// The arguments of `fhex` name neither one operation nor the stored vectors.
     Usage,
-    /// The arguments of `fhex-stream` do not name one operation.
+    /// The arguments of `fhex-stream` are not one word that names an operation, the help or the
+    /// version.
     StreamUsage,
     /// A read failed.
     ReadFailed,

@@ -49,7 +49,7 @@ pub(crate) fn print_line<W: Write, M: Display>(out: W, line: &M) -> (Result<(), 
     ensures { IfSome (M.output line.now) (λ line. Outputs (line ++ 10 ∷ []) (W.contents out) (W.contents result.1) result.0) }
 {
     let mut text = ArrayString::<LINE>::new();
-    // No line is longer.
+    // The buffer has room for each line that a program prints, so this does not fail.
     let Ok(()) = fmt::Write::write_fmt(&mut text, format_args!("{line}\n")) else {
         return (Err(Failure::WriteFailed), out);
     };
@@ -116,10 +116,8 @@ pub fn serve_vectors<A: Allocator, W: Write, E: Write>(
         let (status, err) = refuse(err, Failure::OutOfMemory);
         return (status, out, err);
     };
-    let mut sink = WriterSink::new(out);
-    let put = put_all(&mut sink, report.lines.as_bytes()).map_err(RunFault::Write);
-    let mut out = sink.into_inner();
-    match finish(&mut out, put) {
+    let (ended, out) = write_text(out, report.lines.as_bytes());
+    match ended {
         Ok(()) => (u8::from(report.failed > 0), out, err),
         Err(failure) => {
             let (status, err) = refuse(err, failure);

@@ -2,7 +2,7 @@
 
 use crate::words::Words;
 
-/// The bytes of a formula, without an end.
+/// The bytes of a formula, which go on without an end.
 #[derive(Clone, Copy)]
 pub struct Formula {
     start: usize,

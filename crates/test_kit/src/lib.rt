@@ -43,9 +43,9 @@ pub struct Row {
     pub given: Bytes,
     /// The bytes that it must give.
     pub wanted: Bytes,
-    /// More bytes that it gets.
+    /// The first further bytes that the call gets.
     pub first: Bytes,
-    /// And more of them.
+    /// The second further bytes that the call gets.
     pub second: Bytes,
     /// The first call of the turn that gave something else than it must.
     pub note: Note,

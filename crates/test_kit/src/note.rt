@@ -95,7 +95,7 @@ impl Note {
         }
     }
 
-    /// Names the plan of the next calls. The name of none is empty.
+    /// Names the plan of the next calls. If they take no plan, `plan` is empty.
     pub fn by(&mut self, plan: &'static str) {
         self.plan = plan;
     }

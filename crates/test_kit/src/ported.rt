@@ -73,7 +73,7 @@ fn fnv(hash: u64, byte: u8) -> u64 {
     (hash ^ u64::from(byte)).wrapping_mul(0x0100_0000_01b3)
 }
 
-// The same for the hex digits of bytes.
+// Returns the hash of what was hashed before and of the hex digits of some bytes.
 fn fnv_digits(before: u64, bytes: &[u8]) -> u64 {
     let mut hash = before;
     for i in 0..bytes.len() {

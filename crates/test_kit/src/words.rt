@@ -209,7 +209,7 @@ impl Words {
         }
     }
 
-    // Takes what is between brackets, without the first one. Returns its value in this turn.
+    // Takes what follows an opening bracket, with the closing one. Returns its value in this turn.
     fn turned(&mut self, base: usize) -> usize {
         let start = self.digits(base);
         let is_falling = self.eats(b'-');
@@ -415,8 +415,8 @@ impl Words {
         }
     }
 
-    /// Prints the words. A number in brackets is printed in decimal, and bytes that are not written as they are as hex
-    /// digits. `bytes` is overwritten.
+    /// Prints the words. A word that is not written as what it stands for is printed as that: a number in decimal, and
+    /// bytes as hex digits. `bytes` is overwritten.
     pub fn put(&mut self, bytes: &mut Bytes, text: &mut Text) {
         for _ in 0..self.text.len() {
             if self.are_taken() {

@@ -280,8 +280,8 @@ impl Decoder {
         Ok(required)
     }
 
-    // Returns whether all bytes of a chunk should be digits. If white space is skipped, this is false
-    // also for a chunk with an invalid byte.
+    // Returns whether the digits of a chunk are the chunk itself, so that none must be copied. If
+    // white space is skipped, the result is false also for a chunk with an invalid byte.
     fn has_digits_alone(&self, src: &[u8]) -> bool
         ensures alone { IsTrue result → digits_in (reading_of self.now) src.now ≡ src.now }
         ensures spaced { result ≡ false → self.now.reading.skips ≡ true }
@@ -320,7 +320,9 @@ impl Decoder {
     }
 }
 
-// Returns how many bytes of a source are not white space, and whether all of these are digits.
+// Returns how many bytes of a source are not white space, and whether all of these are digits. It
+// copies the digits of a block and tests them in vectors, because byte by byte this takes ten times
+// as long.
 fn survey(src: &[u8], case: CheckCase) -> (usize, bool)
     ensures count { result.0 ≡ length (unspaced src.now) }
     ensures clean { IsTrue result.1 ↔ (first_invalid_read (spaced case) src.now ≡ None) }
