@@ -88,18 +88,18 @@ OF_LENGTH = {
     "test_rows": [
         "3 long [any|lower|upper] {n} = alike",
         "put {n} = written",
-        "3 stream decode [any|lower|upper] [0aFf|0aff|0AFF] {n2} 1000 0 ends {n} 0 = ok {n} {n} #0aff",
-        r"stream spaced any 0\x0a0 {n3} 1000 0 ends {n} 0 = ok {n} {n} \x00",
-        "2 stream encode [lower|upper] #ab {n} 1000 0 ends {n2} 0 = ok {n} {n2} [ab|AB]",
-        r"stream grouped lower #ab {n} 1000 0 ends {in_lines} 0 30 \x0a = ok {n} {in_lines} ab*30,\x0a",
+        "9 stream decode [any|lower|upper] [0aFf|0aff|0AFF] {n2} [7|1000|100000/3] 0 ends {n} 0 = ok {n} {n} #0aff",
+        r"3 stream spaced any 0\x0a0 {n3} [7|1000|100000] 0 ends {n} 0 = ok {n} {n} \x00",
+        "6 stream encode [lower|upper] #ab {n} [7|1000|100000/2] 0 ends {n2} 0 = ok {n} {n2} [ab|AB]",
+        r"3 stream grouped lower #ab {n} [7|1000|100000] 0 ends {in_lines} 0 30 \x0a = ok {n} {in_lines} ab*30,\x0a",
     ],
     "test_json": ["13 long module [0+1] {n} = alike", "12 long [by|option-by] format [0+1/2] {n} = alike"],
     "test_program": [
         r"2 serve many \xab {n} [encode|encode-upper] - = 0 many {n2_1} [ab|AB] \x0a",
-        "3 serve many 0 {n2} [decode|decode-lower|decode-upper] - = 0 many {n} #00 -",
-        r"stream every 1000 many \xab {n} encode - = 0 many {n2_1} ab \x0a",
+        r"6 serve many 0 {n2} [decode|decode-lower|decode-upper] [-|\x0a/3] = 0 many {n} #00 -",
+        r"3 stream every [7|1000|100000] many \xab {n} encode - = 0 many {n2_1} ab \x0a",
         r"stream every 30 many \xab {n} encode-lines - = 0 many {in_lines_1} ab*30,\x0a \x0a",
-        "stream every 1000 many 0 {n2} decode - = 0 many {n} #00 -",
+        "3 stream every [7|1000|100000] many 0 {n2} decode - = 0 many {n} #00 -",
     ],
 }
 # The same for lengths of which a row can write so many bytes.

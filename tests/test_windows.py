@@ -14,9 +14,9 @@ BUILT = f"{WINDOWS_CC} -std=gnu99 -pthread -static -I{CRATE} -I{TESTS_IN_C}/wind
 # Targets for which the library is assembled and never run.
 OTHERS = "x86_64-apple-macos11 arm64-apple-macos11 aarch64-unknown-freebsd13 x86_64-unknown-netbsd9".split()
 
-# Targets of other processors, and the builds that a compiler uses for them.
-TAKEN = {"x86_64-linux-gnu": ["X86_64"], "aarch64-linux-gnu": ["AARCH64"]}
-TAKEN |= dict.fromkeys(("x86_64-linux-gnux32", "aarch64_be-linux-gnu", "i686-linux-gnu", "riscv64-linux-gnu"), [])
+# Processors by their names for rustc, with the end of the target's name, and the builds that C and Rust use for them.
+TAKEN = {"x86_64 gnu": ["X86_64"], "aarch64 gnu": ["AARCH64"]}
+TAKEN |= dict.fromkeys(("x86_64 gnux32", "aarch64_be gnu", "i686 gnu", "riscv64gc gnu"), [])
 # Systems by their names for rustc, and whether a compiler uses the assembly there.
 SYSTEMS = dict.fromkeys(("unknown-linux-gnu", "unknown-linux-musl", "unknown-freebsd", "unknown-netbsd"), True)
 SYSTEMS |= dict.fromkeys(("unknown-openbsd", "unknown-illumos", "linux-android", "unknown-haiku", "apple-ios"), False)
@@ -111,9 +111,12 @@ def test_program_for(tmp_path, target, program):
 
 @pytest.mark.parametrize("target", TAKEN)
 def test_builds_taken_for(target):
-    needs("clang")
-    said = runs(["clang", "-target", target, "-dM", "-E", CRATE / "assembly.h"])
+    """C and Rust use the assembly for the same processors."""
+    needs("clang", RUSTC)
+    named = target.replace(" ", "-unknown-linux-")
+    said = runs(["clang", "-target", named.replace("riscv64gc", "riscv64"), "-dM", "-E", CRATE / "assembly.h"])
     assert re.findall("^#define FASTER_HEX_(.*) 1$", said, re.M) == TAKEN[target]
+    assert is_portable({*runs([RUSTC, "--print", "cfg", "--target", named]).splitlines()}) == (not TAKEN[target])
 
 
 @pytest.mark.parametrize("system", SYSTEMS)

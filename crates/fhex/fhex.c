@@ -71,6 +71,7 @@ PROVED ptrdiff_t fhex_write(int file, const void *from, size_t length) {
 /* Returns the reason of the last failure. The proved part distinguishes only two: 4 is EINTR, and 12 is ENOMEM. */
 PROVED int fhex_errno(void) { return errno; }
 
+/* Sets the reason of the last failure. */
 PROVED void fhex_set_errno(int reason) { errno = reason; }
 
 /* An allocated block. If the allocation failed, `is_there` is false, and `at` is some address that is not null. */
@@ -112,6 +113,7 @@ PROVED struct block fhex_realloc(void *at, size_t kept, size_t size, size_t alig
     return block_at(in_large_pages(realloc(at, size > 0 ? size : align), size));
 }
 
+/* Frees the block at `at`, which is an allocated one. */
 PROVED void fhex_dealloc(void *at) { free(at); }
 
 #ifdef _WIN32

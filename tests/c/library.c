@@ -1,7 +1,7 @@
 /* Compares the calls of faster_hex.h with models of a few lines: between guarded pages at random lengths in random
- * groups, at all lengths from 0 to 300 and at some greater lengths, with NULL, with sources that are too long for any text, with numbers above 2^32,
- * with adjacent source and destination, at all alignments, and in threads. `tests/test_library.py` builds and runs
- * it. Prints a line for each failure, and `N passed, M failed` at the end.
+ * groups, at all lengths from 0 to 300 and at some greater lengths, with NULL, with sources that are too long for any
+ * text, with numbers above 2^32, with adjacent source and destination, at all alignments, and in threads.
+ * `tests/test_library.py` builds and runs it. Prints a line for each failure, and `N passed, M failed` at the end.
  * Usage: library [threads]. The environment variable SEED is the seed for random numbers. */
 #include <pthread.h>
 #include <stdio.h>
@@ -14,7 +14,7 @@
 #include "assembly.h"
 #include "faster_hex.h"
 
-enum { LONGEST = 300, OLD = 0xa5, THREADS = 8, TURNS = 200, DRAWN = 16000, LONGEST_DRAWN = 2000, WIDEST_DRAWN = 64 };
+enum { LONGEST = 300, OLD = 0xa5, THREADS = 8, TURNS = 200, DRAWN = 32000, LONGEST_DRAWN = 2000, WIDEST_DRAWN = 64 };
 
 /* The header's macros give constants, also for sums, and can be used in sums. */
 #define IS(expression) __extension__ _Static_assert(expression, #expression)
@@ -283,9 +283,10 @@ static unsigned drawn(void) {
 static void at_drawn_lengths(void) {
     struct memory from = guarded(LONGEST_DRAWN), to = guarded(3 * LONGEST_DRAWN + 7);
     bool holds = true;
-    for (unsigned turn = 0; turn < DRAWN; turn++) {
+    for (unsigned at = 0; at < DRAWN; at++) {
         size_t len = drawn() % (LONGEST_DRAWN >> drawn() % 8), every = 1 + drawn() % WIDEST_DRAWN;
-        holds = is_guarded(job_in_groups((enum call)(turn % CALLS), len, drawn() % 4096, every), turn, from, to) && holds;
+        unsigned turn = drawn() % 4096;
+        holds = is_guarded(job_in_groups((enum call)(at % CALLS), len, turn, every), turn, from, to) && holds;
     }
     count(holds);
     free(from.kept);

@@ -90,7 +90,7 @@ macro_rules! calls {
     )* };
 }
 
-// Each call has the widest build that has it.
+// The last word of each line names the widest build that has the call.
 calls! {
     check(src: *const u8, len: usize) -> bool, "v4";
     check_lower(src: *const u8, len: usize) -> bool, "v4";

@@ -11,7 +11,7 @@ mod builds;
 #[path = "portable.rs"]
 mod portable;
 
-/// `struct faster_hex_answer`.
+/// What a build returns. C has the same struct as `struct faster_hex_answer`.
 #[repr(C)]
 pub struct Answer {
     number: usize,

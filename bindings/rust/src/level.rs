@@ -17,14 +17,17 @@ pub fn find() -> u8 {
 /// The words that `cpuid` and `xgetbv` return.
 #[derive(Clone, Copy)]
 struct Processor {
-    /// The highest leaf, `ecx` of leaf 1 and `ebx` of leaf 7.
+    /// Leaf 0, `eax`: the highest basic leaf.
     highest: u32,
+    /// Leaf 1, `ecx`.
     basic: u32,
+    /// Leaf 7, `ebx`.
     wide: u32,
-    /// The highest leaf from 0x8000_0000 on, and `ecx` of 0x8000_0001.
+    /// Leaf 0x8000_0000, `eax`: the highest extended leaf.
     highest_extended: u32,
+    /// Leaf 0x8000_0001, `ecx`.
     extended: u32,
-    /// The registers that the system saves.
+    /// The registers that the system saves, or 0 if it does not tell.
     saved: u32,
 }
 
@@ -55,8 +58,8 @@ fn has(word: u32, bits: &[u32]) -> bool {
     bits.iter().all(|bit| word >> bit & 1 == 1)
 }
 
-/// The highest level that has a build, and all of whose bits are set. A leaf above the highest one has no
-/// meaning, so it counts as 0.
+/// Returns the highest level that has a build, and of which the processor has all bits. A leaf above the
+/// highest one has no meaning, so it counts as 0.
 fn level_of(it: &Processor) -> u8 {
     let leaf = |is_there: bool, word: u32| if is_there { word } else { 0 };
     let basic = leaf(it.highest >= 1, it.basic);

@@ -97,8 +97,8 @@
 //! On x86-64 the first call asks the processor which build it can run. All builds return the
 //! same results, at different speeds. On processors without x86-64-v2 the crate uses the build for x86-64
 //! without a level, which looks bytes up in tables. Do not use the crate for keys there. `docs/security.md` of
-//! the repository says what was examined on other processors and systems. The crate needs Rust 1.81 or later. One program may contain several versions of this crate,
-//! and also the library for C.
+//! the repository says what was examined on other processors and systems. The crate needs Rust 1.81 or later.
+//! One program may contain several versions of this crate, and also the library for C.
 //!
 //! The README of the crate says how to use it in place of `faster-hex`, and what `faster-hex` has that this
 //! crate lacks.

@@ -116,8 +116,10 @@ pub fn serve_vectors<A: Allocator, W: Write, E: Write>(
         let (status, err) = refuse(err, Failure::OutOfMemory);
         return (status, out, err);
     };
-    let (ended, out) = write_text(out, report.lines.as_bytes());
-    match ended {
+    let mut sink = WriterSink::new(out);
+    let put = put_all(&mut sink, report.lines.as_bytes()).map_err(RunFault::Write);
+    let mut out = sink.into_inner();
+    match finish(&mut out, put) {
         Ok(()) => (u8::from(report.failed > 0), out, err),
         Err(failure) => {
             let (status, err) = refuse(err, failure);
