@@ -4215,7 +4215,7 @@
 	mov	w21,w28
 	b.ne	8f
 	cbz	x26,9f
-	cbz	x25,140f
+	cbz	x25,142f
 	udiv	x8,x26,x25
 	msub	x8,x8,x25,x26
 	cbz	x8,10f
@@ -4229,7 +4229,7 @@
 	bl	io_stream_read_again
 	ldrb	w8,[sp,#80]
 	cbz	w8,11f
-	b	135f
+	b	137f
 8:
 	mov	w2,#8192
 	add	x1,sp,#6,lsl #12
@@ -4238,9 +4238,9 @@
 	bl	io_stream_read_again
 	ldrb	w8,[sp,#80]
 	cbz	w8,11f
-	b	135f
+	b	137f
 9:
-	cbz	x25,140f
+	cbz	x25,142f
 10:
 	ldr	x10,[sp,#48]
 	mov	w9,#8192
@@ -4253,14 +4253,14 @@
 	add	x1,x1,#176
 	bl	io_stream_read_again
 	ldrb	w8,[sp,#80]
-	cbnz	w8,135f
+	cbnz	w8,137f
 11:
 	ldr	x28,[sp,#88]
-	cbz	x28,136f
+	cbz	x28,138f
 	hex_page	x9,.LCPI12_0
 	cbz	w21,16f
 	cbz	x26,20f
-	cbz	x25,140f
+	cbz	x25,142f
 	udiv	x8,x26,x25
 	msub	x8,x8,x25,x26
 	cmp	x8,#0
@@ -4268,7 +4268,7 @@
 	b	21f
 16:
 	cmp	x28,#3,lsl #12
-	b.hi	140f
+	b.hi	142f
 	subs	x8,x28,#32
 	b.hi	45f
 	b.ne	64f
@@ -4291,16 +4291,16 @@
 	tbl	v0.16b,{ v3.16b },v0.16b
 	stp	q1,q2,[sp,#208]
 	stp	q0,q4,[sp,#176]
-	b	113f
+	b	115f
 20:
-	mov	x8,xzr
+	mov	w8,wzr
 21:
+	mov	w8,w8
 	add	x10,sp,#176
 	cmp	x25,#4
+	orr	x12,x10,x8
 	hex_page	x11,.Lstatic.34
 	hex_address	x11,x11,.Lstatic.34
-	orr	x12,x10,x8
-	strb	w23,[sp,#176]
 	b.eq	28f
 	cmp	x25,#1
 	b.ne	33f
@@ -4365,7 +4365,7 @@
 	b.hs	51f
 	cmp	x25,#7
 	b.hi	71f
-	cbz	x25,138f
+	cbz	x25,140f
 	ldr	x13,[sp]
 	mov	x14,xzr
 	mov	x10,xzr
@@ -4472,7 +4472,7 @@
 	stp	q2,q17,[sp,#176]
 	stp	q5,q0,[x8]
 	stp	q4,q1,[x8,#32]
-	b	113f
+	b	115f
 47:
 	add	x10,sp,#6,lsl #12
 	mov	x9,xzr
@@ -4580,7 +4580,7 @@
 	tbl	v0.16b,{ v1.16b },v0.16b
 	st1	{ v0.b }[1],[x8]
 	str	b0,[sp,#176]
-	b	113f
+	b	115f
 67:
 	cmp	x28,#128
 	b.hi	79f
@@ -4759,7 +4759,7 @@
 	tbl	v0.16b,{ v3.16b },v0.16b
 	str	q1,[sp,#176]
 	str	q0,[x9,x8]
-	b	113f
+	b	115f
 79:
 	lsr	x10,x28,#5
 	add	x12,sp,#6,lsl #12
@@ -4786,7 +4786,7 @@
 	stp	q2,q3,[x11],#64
 	b.ne	80b
 	tst	x28,#0x1f
-	b.eq	119f
+	b.eq	121f
 	add	x9,sp,#6,lsl #12
 	movi	v1.16b,#15
 	add	x9,x9,#176
@@ -4810,7 +4810,7 @@
 	stp	q0,q4,[x8]
 	lsl	x22,x28,#1
 	stp	q2,q3,[x8,#32]
-	b	113f
+	b	115f
 84:
 	add	x9,x9,xzr
 	b	112f
@@ -4963,7 +4963,7 @@
 	b	110f
 94:
 	cmp	x28,#3
-	b.hi	118f
+	b.hi	120f
 	add	x10,sp,#6,lsl #12
 	ldr	h0,[x8]
 	sub	x8,x28,#2
@@ -4997,7 +4997,7 @@
 	xtn	v0.8b,v0.8h
 	str	s1,[sp,#176]
 	str	s0,[x9,x8]
-	b	113f
+	b	115f
 96:
 	movi	v0.16b,#15
 	add	x10,sp,#6,lsl #12
@@ -5022,10 +5022,10 @@
 	tbl	v0.16b,{ v3.16b },v0.16b
 	stp	q1,q2,[sp,#176]
 	stp	q4,q0,[x8]
-	b	113f
+	b	115f
 97:
 	cmp	x25,#17
-	b.hs	120f
+	b.hs	122f
 	ldr	x13,[sp]
 	mov	x14,xzr
 	mov	x10,xzr
@@ -5060,7 +5060,7 @@
 	b	52b
 100:
 	cmp	x25,#129
-	b.hs	122f
+	b.hs	124f
 	ldr	x13,[sp]
 	add	x16,sp,#6,lsl #12
 	mov	x14,xzr
@@ -5094,7 +5094,7 @@
 	tbl	v0.16b,{ v1.16b },v0.16b
 	stp	q2,q3,[x17,#-32]
 	stp	q0,q4,[x17,#-64]
-	b.hs	129f
+	b.hs	131f
 103:
 	movi	v0.16b,#15
 	ldp	q2,q1,[x16]
@@ -5219,30 +5219,33 @@
 111:
 	add	x9,x10,x13,lsl #1
 112:
-	adds	x22,x9,x8
-	b.eq	117f
-113:
-	mov	x21,xzr
+	cbz	x8,114f
+	strb	w23,[sp,#176]
 114:
+	adds	x22,x9,x8
+	b.eq	119f
+115:
+	mov	x21,xzr
+116:
 	add	x8,sp,#176
 	sub	x2,x22,x21
 	mov	w0,#1
 	add	x1,x8,x21
 	sub	x24,x22,x21
 	bl	fhex_write
-	tbnz	x0,#63,130f
+	tbnz	x0,#63,132f
 	cmp	x0,x24
 	csel	x8,x0,x24,lo
-	cbz	x8,131f
+	cbz	x8,133f
 	add	x21,x8,x21
 	cmp	x21,x22
-	b.lo	114b
-117:
+	b.lo	116b
+119:
 	adds	x26,x28,x26
 	ldr	w28,[sp,#76]
 	b.lo	3b
-	b	137f
-118:
+	b	139f
+120:
 	add	x10,sp,#6,lsl #12
 	ldr	s0,[x8]
 	sub	x8,x28,#4
@@ -5309,16 +5312,16 @@
 	tbl	v0.16b,{ v0.16b },v5.16b
 	str	d1,[sp,#176]
 	str	d0,[x9,x8]
-119:
+121:
 	lsl	x22,x28,#1
-	b	113b
-120:
+	b	115b
+122:
 	ldr	x13,[sp]
 	mov	x14,xzr
 	mov	x10,xzr
 	add	x15,x13,x8
 	mov	x13,x28
-121:
+123:
 	add	x16,sp,#6,lsl #12
 	movi	v0.16b,#15
 	add	x17,x15,x10
@@ -5348,9 +5351,9 @@
 	stp	q1,q2,[x16]
 	strb	w23,[x17]
 	stp	q4,q0,[x17,#-32]
-	b.lo	121b
+	b.lo	123b
 	b	52b
-122:
+124:
 	add	x15,sp,#6,lsl #12
 	add	x16,sp,#6,lsl #12
 	mov	x14,xzr
@@ -5358,8 +5361,8 @@
 	add	x15,x15,#176
 	add	x16,x16,#176
 	mov	x17,x12
-	b	124f
-123:
+	b	126f
+125:
 	add	x14,x14,x25
 	ldr	x18,[sp,#40]
 	add	x10,x10,x27
@@ -5370,13 +5373,13 @@
 	add	x17,x17,x18
 	add	x16,x16,x25
 	b.hs	52b
-124:
+126:
 	ldr	x13,[sp,#56]
-	cbz	x13,127f
+	cbz	x13,129f
 	ldr	x0,[sp,#56]
 	mov	x13,x16
 	mov	x18,x17
-126:
+128:
 	movi	v0.16b,#15
 	subs	x0,x0,#1
 	ldp	q2,q1,[x13],#32
@@ -5395,10 +5398,10 @@
 	tbl	v0.16b,{ v3.16b },v0.16b
 	stp	q1,q2,[x18,#32]
 	stp	q0,q4,[x18],#64
-	b.ne	126b
-127:
+	b.ne	128b
+129:
 	and	x13,x25,#0x1f
-	cbz	x13,123b
+	cbz	x13,125b
 	add	x13,x15,x14
 	sub	x18,x25,#32
 	movi	v0.16b,#15
@@ -5422,11 +5425,11 @@
 	tbl	v0.16b,{ v3.16b },v0.16b
 	stp	q1,q2,[x13,#32]
 	stp	q0,q4,[x13]
-	b	123b
-129:
+	b	125b
+131:
 	neg	x14,x14
 	b	52b
-130:
+132:
 	sub	x0,x29,#104
 	bl	std_io_io_error_last_error
 	add	x9,sp,#6,lsl #12
@@ -5451,20 +5454,20 @@
 	stp	q0,q3,[x20,#16]
 	stp	q4,q2,[x20,#48]
 	str	x9,[x20,#96]
-	b	132f
-131:
+	b	134f
+133:
 	ldr	x8,[x20,#96]
 	adds	x8,x8,#1
 	csinv	x8,x8,xzr,lo
 	str	x8,[x20,#96]
 	mov	w8,#258
-132:
+134:
 	mov	w9,#1
 	stp	x9,x8,[x19]
-133:
+135:
 	stp	xzr,xzr,[x19,#24]
 	str	xzr,[x19,#16]
-134:
+136:
 	add	sp,sp,#8,lsl #12
 	add	sp,sp,#368
 	ldp	x20,x19,[sp,#80]
@@ -5474,31 +5477,31 @@
 	ldp	x28,x27,[sp,#16]
 	ldp	x29,x30,[sp],#96
 	ret
-135:
+137:
 	movi	v0.2d,#0000000000000000
 	mov	w8,#1
 	str	x8,[x19]
 	stur	q0,[x19,#8]
 	stur	q0,[x19,#24]
-	b	134b
-136:
+	b	136b
+138:
 	stp	xzr,x26,[x19]
-	b	133b
-137:
+	b	135b
+139:
 	mov	w8,#1
 	stp	xzr,xzr,[x19,#24]
 	dup	v0.2d,x8
 	mov	w8,#4
 	str	x8,[x19,#16]
 	str	q0,[x19]
-	b	134b
-138:
+	b	136b
+140:
 	add	x9,sp,#176
 	orr	x8,x9,x8
-139:
+141:
 	strb	w23,[x8],#1
-	b	139b
-140:
+	b	141b
+142:
 	brk	#0x1
 	hex_end	io_stream_encode_by
 	hex_merged	16

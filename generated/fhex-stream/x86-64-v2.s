@@ -4230,7 +4230,7 @@
 	testq	%r15,%r15
 	je	11f
 	testq	%r13,%r13
-	je	146f
+	je	148f
 	movq	%r15,%rax
 	orq	%r13,%rax
 	shrq	$32,%rax
@@ -4243,7 +4243,7 @@
 	jmp	12f
 11:
 	testq	%r13,%r13
-	je	146f
+	je	148f
 12:
 	movw	$8192,%ax
 	xorl	%edx,%edx
@@ -4271,7 +4271,7 @@
 	movq	%r12,%rsi
 	callq	io_stream_read_again
 	cmpb	$0,144(%rsp)
-	jne	137f
+	jne	139f
 	movq	152(%rsp),%r14
 	testq	%r14,%r14
 	je	15f
@@ -4282,7 +4282,7 @@
 	leaq	(%r13,%r13),%rbx
 	je	41f
 	testq	%r13,%r13
-	je	146f
+	je	148f
 	movq	%r15,%rax
 	orq	%r13,%rax
 	shrq	$32,%rax
@@ -4294,7 +4294,7 @@
 	.p2align	4
 17:
 	cmpq	$12288,%r14
-	ja	146f
+	ja	148f
 	cmpq	$32,%r14
 	ja	29f
 	jne	21f
@@ -4328,11 +4328,11 @@
 	movdqa	%xmm2,8544(%rsp)
 	movdqa	%xmm5,8528(%rsp)
 	leaq	(%r14,%r14),%rbx
-	jmp	133f
+	jmp	135f
 	.p2align	4
 41:
 	xorl	%eax,%eax
-	movb	%bpl,8528(%rsp)
+	movzbl	%al,%eax
 	leaq	(%rsp,%rax),%rcx
 	addq	$8528,%rcx
 	cmpq	$4,%r13
@@ -4365,7 +4365,7 @@
 	cmpq	$4,%rbx
 	ja	59b
 	testq	%rbx,%rbx
-	je	145f
+	je	147f
 	addq	%rdx,%rcx
 62:
 	cmpq	$1,%rbx
@@ -4433,16 +4433,15 @@
 	movdqu	%xmm2,8464(%rsp,%r14,2)
 	movdqu	%xmm4,8480(%rsp,%r14,2)
 	leaq	(%r14,%r14),%rbx
-	jmp	133f
+	jmp	135f
 44:
 	movl	%r15d,%eax
 	xorl	%edx,%edx
 	divl	%r13d
 46:
-	xorl	%eax,%eax
 	testq	%rdx,%rdx
 	sete	%al
-	movb	%bpl,8528(%rsp)
+	movzbl	%al,%eax
 	leaq	(%rsp,%rax),%rcx
 	addq	$8528,%rcx
 	cmpq	$4,%r13
@@ -4621,7 +4620,7 @@
 	pshufb	%xmm0,%xmm1
 	pextrw	$0,%xmm1,8528(%rsp)
 	leaq	(%r14,%r14),%rbx
-	jmp	133f
+	jmp	135f
 31:
 	cmpq	$128,%r14
 	ja	35f
@@ -4881,7 +4880,7 @@
 	pshufb	%xmm3,%xmm0
 	movdqu	%xmm0,8512(%rsp,%r14,2)
 	leaq	(%r14,%r14),%rbx
-	jmp	133f
+	jmp	135f
 35:
 	movq	%r14,%rax
 	shrq	$5,%rax
@@ -4952,8 +4951,8 @@
 	movdqu	%xmm4,8480(%rsp,%r14,2)
 	movdqu	%xmm2,8464(%rsp,%r14,2)
 	leaq	(%r14,%r14),%rbx
-	jmp	133f
-145:
+	jmp	135f
+147:
 	xorl	%ebx,%ebx
 	addq	%rdx,%rbx
 	jmp	132f
@@ -5169,7 +5168,7 @@
 	pshufb	%xmm3,%xmm2
 	movd	%xmm2,8524(%rsp,%r14,2)
 	leaq	(%r14,%r14),%rbx
-	jmp	133f
+	jmp	135f
 28:
 	movdqa	336(%rsp),%xmm0
 	movdqa	%xmm0,%xmm1
@@ -5201,7 +5200,7 @@
 	movdqu	%xmm0,8512(%rsp,%r14,2)
 	movdqu	%xmm1,8496(%rsp,%r14,2)
 	leaq	(%r14,%r14),%rbx
-	jmp	133f
+	jmp	135f
 89:
 	leaq	(%rsp,%r13,2),%rdx
 	addq	$8528,%rdx
@@ -5522,12 +5521,16 @@
 131:
 	leaq	(%rsi,%rdx,2),%rbx
 132:
+	testq	%rax,%rax
+	je	134f
+	movb	%bpl,8528(%rsp)
+134:
 	addq	%rax,%rbx
-	je	141f
-133:
+	je	143f
+135:
 	xorl	%r15d,%r15d
 	.p2align	4
-134:
+136:
 	leaq	(%rsp,%r15),%rsi
 	addq	$8528,%rsi
 	movq	%rbx,%r12
@@ -5536,20 +5539,20 @@
 	movq	%r12,%rdx
 	callq	fhex_write
 	testq	%rax,%rax
-	js	143f
+	js	145f
 	cmpq	%r12,%rax
 	cmovbq	%rax,%r12
 	testq	%r12,%r12
-	je	136f
+	je	138f
 	addq	%r12,%r15
 	cmpq	%rbx,%r15
-	jb	134b
-141:
+	jb	136b
+143:
 	movq	56(%rsp),%r15
 	addq	%r14,%r15
 	movzbl	15(%rsp),%ebx
 	jae	3b
-	jmp	142f
+	jmp	144f
 38:
 	movdqa	336(%rsp),%xmm0
 	movdqa	%xmm0,%xmm1
@@ -5570,7 +5573,7 @@
 	movq	%xmm2,8520(%rsp,%r14,2)
 39:
 	leaq	(%r14,%r14),%rbx
-	jmp	133b
+	jmp	135b
 96:
 	xorl	%edi,%edi
 	movq	%rcx,%r8
@@ -5664,7 +5667,7 @@
 	movdqu	%xmm2,-48(%rdx,%r13,2)
 	movdqu	%xmm5,-64(%rdx,%r13,2)
 	jmp	102b
-143:
+145:
 	leaq	248(%rsp),%rdi
 	callq	std_io_io_error_last_error
 	movq	248(%rsp),%rax
@@ -5697,8 +5700,8 @@
 	cmovneq	%rax,%rcx
 	movq	%rcx,96(%rdx)
 	movl	$2,%eax
-	jmp	144f
-136:
+	jmp	146f
+138:
 	movq	40(%rsp),%rdx
 	movq	96(%rdx),%rax
 	incq	%rax
@@ -5706,14 +5709,14 @@
 	cmovneq	%rax,%rcx
 	movq	%rcx,96(%rdx)
 	movl	$258,%eax
-144:
+146:
 	movq	24(%rsp),%rcx
 	movq	$1,(%rcx)
 	movq	%rax,8(%rcx)
 	pxor	%xmm0,%xmm0
 	movdqu	%xmm0,16(%rcx)
 	movq	$0,32(%rcx)
-139:
+141:
 	addq	$33112,%rsp
 	popq	%rbx
 	popq	%r12
@@ -5722,12 +5725,12 @@
 	popq	%r15
 	popq	%rbp
 	retq
-137:
+139:
 	movq	24(%rsp),%rax
 	movq	$1,(%rax)
 	pxor	%xmm0,%xmm0
 	movdqu	%xmm0,8(%rax)
-	jmp	138f
+	jmp	140f
 15:
 	movq	24(%rsp),%rax
 	movq	$0,(%rax)
@@ -5735,16 +5738,16 @@
 	pxor	%xmm0,%xmm0
 	movdqu	%xmm0,16(%rax)
 	movq	$0,32(%rax)
-	jmp	139b
-142:
+	jmp	141b
+144:
 	movq	24(%rsp),%rax
 	movq	$1,(%rax)
 	movq	$1,8(%rax)
 	movq	$4,16(%rax)
 	pxor	%xmm0,%xmm0
-138:
+140:
 	movdqu	%xmm0,24(%rax)
-	jmp	139b
+	jmp	141b
 83:
 	addq	%rsp,%rax
 	addq	$8528,%rax
@@ -5753,7 +5756,7 @@
 	movb	%bpl,(%rax)
 	incq	%rax
 	jmp	84b
-146:
+148:
 	ud2
 	hex_end	io_stream_encode_by
 	hex_merged	16

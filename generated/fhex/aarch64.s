@@ -8953,52 +8953,40 @@
 	stp	x24,x23,[sp,#48]
 	stp	x22,x21,[sp,#64]
 	stp	x20,x19,[sp,#80]
-	sub	sp,sp,#1968
+	sub	sp,sp,#1584
 	str	xzr,[sp]
-	mov	w28,w3
+	mov	w20,w3
 	mov	x21,x2
 	ldrb	w8,[x4]
+	mov	x22,x1
 	mov	x19,x0
-	str	x1,[sp,#24]
 	cbz	w8,22f
-	movi	v0.2d,#0000000000000000
 	ldr	x23,[x4,#8]
-	ldrb	w24,[x4,#16]
+	ldrb	w26,[x4,#16]
 	cmp	x21,#128
-	str	q0,[sp,#1568]
-	str	q0,[sp,#1584]
-	str	q0,[sp,#1600]
-	str	q0,[sp,#1616]
-	str	q0,[sp,#1632]
-	str	q0,[sp,#1648]
-	str	q0,[sp,#1664]
-	str	q0,[sp,#1680]
-	str	q0,[sp,#1696]
-	str	q0,[sp,#1712]
-	str	q0,[sp,#1728]
-	str	q0,[sp,#1744]
-	str	q0,[sp,#1760]
-	str	q0,[sp,#1776]
-	str	q0,[sp,#1792]
-	str	q0,[sp,#1808]
-	str	q0,[sp,#1824]
-	str	q0,[sp,#1840]
-	str	q0,[sp,#1856]
-	str	q0,[sp,#1872]
-	str	q0,[sp,#1888]
-	str	q0,[sp,#1904]
-	str	q0,[sp,#1920]
-	str	q0,[sp,#1936]
 	b.hi	43f
-	ldr	x0,[sp,#24]
-	add	x2,sp,#1568
+	movi	v0.2d,#0000000000000000
+	add	x2,sp,#32
+	mov	x0,x22
 	mov	x1,x21
 	mov	x3,x23
-	mov	w4,w24
-	mov	w5,w28
-	add	x21,sp,#1568
+	mov	w4,w26
+	mov	w5,w20
+	add	x21,sp,#32
+	stp	q0,q0,[sp,#32]
+	stp	q0,q0,[sp,#64]
+	stp	q0,q0,[sp,#96]
+	stp	q0,q0,[sp,#128]
+	stp	q0,q0,[sp,#160]
+	stp	q0,q0,[sp,#192]
+	stp	q0,q0,[sp,#224]
+	stp	q0,q0,[sp,#256]
+	stp	q0,q0,[sp,#288]
+	stp	q0,q0,[sp,#320]
+	stp	q0,q0,[sp,#352]
+	stp	q0,q0,[sp,#384]
 	bl	codec_grouped_write_with_room
-	cbz	x0,94f
+	cbz	x0,96f
 	ldr	x8,[x19,#16]
 	mov	x20,x0
 	mov	x22,xzr
@@ -9013,13 +9001,13 @@
 	cmp	x22,x20
 	add	x8,x8,x21
 	str	x8,[x19,#16]
-	b.hs	93f
+	b.hs	95f
 6:
 	ldr	x9,[x19,#8]
 	subs	x10,x9,x8
-	b.eq	92f
+	b.eq	94f
 	ldr	x9,[x19]
-	add	x11,sp,#1568
+	add	x11,sp,#32
 	sub	x12,x20,x22
 	add	x1,x11,x22
 	cmp	x10,x12
@@ -9030,7 +9018,7 @@
 	b.hs	4b
 	cmp	x21,#8
 	b.lo	10f
-	add	x10,sp,#1568
+	add	x10,sp,#32
 	add	x11,x8,x9
 	add	x10,x22,x10
 	sub	x10,x11,x10
@@ -9040,7 +9028,7 @@
 	mov	x10,xzr
 11:
 	add	x11,x10,x22
-	add	x12,sp,#1568
+	add	x12,sp,#32
 	add	x13,x10,x8
 	sub	x8,x21,x10
 	add	x10,x12,x11
@@ -9076,7 +9064,7 @@
 19:
 	mov	x11,x10
 	and	x10,x21,#0xfffffffffffffff8
-	add	x13,sp,#1568
+	add	x13,sp,#32
 	add	x12,x11,x22
 	add	x14,x8,x11
 	sub	x11,x11,x10
@@ -9092,12 +9080,12 @@
 	b	11b
 22:
 	cmp	x21,#128
-	b.hi	70f
+	b.hi	72f
 	movi	v0.2d,#0000000000000000
-	ldr	x0,[sp,#24]
 	add	x3,sp,#32
+	mov	x0,x22
 	mov	x1,x21
-	mov	w2,w28
+	mov	w2,w20
 	mov	w4,#256
 	stp	q0,q0,[sp,#32]
 	stp	q0,q0,[sp,#64]
@@ -9108,7 +9096,7 @@
 	stp	q0,q0,[sp,#224]
 	stp	q0,q0,[sp,#256]
 	bl	io_digits_encoded
-	cbz	x1,93f
+	cbz	x1,95f
 	ldr	x8,[x19,#16]
 	mov	x20,x1
 	mov	x21,x0
@@ -9125,11 +9113,11 @@
 	cmp	x23,x20
 	add	x8,x8,x22
 	str	x8,[x19,#16]
-	b.hs	93f
+	b.hs	95f
 27:
 	ldr	x9,[x19,#8]
 	subs	x10,x9,x8
-	b.eq	92f
+	b.eq	94f
 	ldr	x9,[x19]
 	sub	x11,x20,x23
 	add	x12,x21,x23
@@ -9199,284 +9187,309 @@
 	b.eq	26b
 	b	32b
 43:
-	add	x20,sp,#32
+	add	x0,sp,#32
 	mov	w1,wzr
-	mov	w2,#1535
-	orr	x0,x20,#0x1
-	str	w28,[sp,#20]
+	mov	w2,#1536
+	add	x24,sp,#32
 	bl	memset
 	cmp	x23,#512
 	mov	w8,#512
-	mov	x27,xzr
-	csel	x28,x23,x8,lo
-	add	x8,x20,#16
+	mov	x28,xzr
+	csel	x8,x23,x8,lo
+	str	w26,[sp,#28]
 	str	x8,[sp,#8]
+	add	x8,x24,#16
+	str	x8,[sp,#16]
 	b	45f
 44:
-	add	x27,x25,x27
-	cmp	x27,x21
-	b.hs	93f
+	add	x28,x25,x28
+	ldr	w26,[sp,#28]
+	mov	w20,w22
+	cmp	x28,x21
+	mov	x22,x24
+	b.hs	95f
 45:
-	cbz	x27,48f
-	cbz	x23,95f
-	udiv	x8,x27,x23
-	and	w9,w28,#0xffff
-	mov	w10,#512
-	udiv	w9,w10,w9
-	msub	x8,x8,x23,x27
-	sub	x10,x21,x27
-	sub	x11,x23,x8
-	mul	w9,w9,w28
-	and	x9,x9,#0xffff
-	cmp	x10,x9
-	csel	x9,x10,x9,lo
-	cmp	x11,x10
-	csel	x10,x11,x10,lo
-	mov	w11,#512
-	cmp	x10,#512
-	csel	x10,x10,x11,lo
-	cmp	x8,#0
-	csel	x25,x9,x10,eq
-	cmp	x8,#0
-	cset	w20,eq
-	b	50f
-48:
-	cbz	x23,95f
-	and	w8,w28,#0xffff
+	cbz	x28,49f
+	cbz	x23,97f
+	udiv	x8,x28,x23
+	msub	x8,x8,x23,x28
+	cbz	x8,52f
+	sub	x8,x23,x8
+	sub	x9,x21,x28
+	mov	x24,x22
+	cmp	x8,x9
+	add	x0,x22,x28
+	add	x2,sp,#32
+	csel	x8,x8,x9,lo
 	mov	w9,#512
-	mov	x20,xzr
+	cmp	x8,#512
+	csel	x25,x8,x9,lo
+	b	51f
+49:
+	cbz	x23,97f
+	ldr	x10,[sp,#8]
+	mov	w9,#512
+	add	x2,sp,#32
+	mov	x24,x22
+	mov	x0,x22
+	and	w8,w10,#0xffff
 	udiv	w8,w9,w8
-	mul	w8,w8,w28
+	mul	w8,w8,w10
 	and	x8,x8,#0xffff
 	cmp	x21,x8
 	csel	x25,x21,x8,lo
-50:
-	ldr	x9,[sp,#24]
-	add	x8,sp,#32
-	ldr	w5,[sp,#20]
-	orr	x2,x8,x20
+51:
 	mov	x1,x25
 	mov	x3,x23
-	add	x0,x9,x27
-	mov	w4,w24
-	strb	w24,[sp,#32]
+	mov	w4,w26
+	mov	w5,w20
+	mov	w22,w20
 	bl	codec_grouped_write_with_room
-	adds	x20,x0,x20
-	b.eq	44b
-	ldr	x8,[x19,#16]
-	mov	x22,xzr
-	b	54f
+	adds	x27,xzr,x0
+	b.ne	53f
+	b	44b
 52:
-	mov	x2,x26
-	bl	memmove
+	ldr	x10,[sp,#8]
+	mov	w9,#512
+	add	x0,x22,x28
+	mov	x3,x23
+	mov	w4,w26
+	mov	w5,w20
+	and	w8,w10,#0xffff
+	mov	x24,x22
+	mov	w22,w20
+	udiv	w8,w9,w8
+	sub	x9,x21,x28
+	mul	w8,w8,w10
+	and	x8,x8,#0xffff
+	cmp	x9,x8
+	csel	x25,x9,x8,lo
+	add	x8,sp,#32
+	orr	x2,x8,#0x1
+	mov	x1,x25
+	bl	codec_grouped_write_with_room
+	mov	w8,#1
+	strb	w26,[sp,#32]
+	adds	x27,x8,x0
+	b.eq	44b
 53:
 	ldr	x8,[x19,#16]
-	add	x22,x26,x22
-	cmp	x22,x20
+	mov	x20,xzr
+	b	56f
+54:
+	mov	x2,x26
+	bl	memmove
+55:
+	ldr	x8,[x19,#16]
+	add	x20,x26,x20
+	cmp	x20,x27
 	add	x8,x8,x26
 	str	x8,[x19,#16]
 	b.hs	44b
-54:
+56:
 	ldr	x9,[x19,#8]
 	subs	x10,x9,x8
-	b.eq	92f
+	b.eq	94f
 	ldr	x9,[x19]
 	add	x11,sp,#32
-	sub	x12,x20,x22
-	add	x1,x11,x22
+	sub	x12,x27,x20
+	add	x1,x11,x20
 	cmp	x10,x12
 	add	x0,x9,x8
 	csel	x26,x10,x12,lo
 	sub	x10,x0,x1
 	cmp	x10,x26
-	b.hs	52b
+	b.hs	54b
 	cmp	x26,#8
-	b.lo	58f
+	b.lo	60f
 	add	x10,sp,#32
 	add	x11,x8,x9
-	add	x10,x22,x10
+	add	x10,x20,x10
 	sub	x10,x11,x10
 	cmp	x10,#32
-	b.hs	61f
-58:
+	b.hs	63f
+60:
 	mov	x10,xzr
-59:
-	add	x11,x10,x22
+61:
+	add	x11,x10,x20
 	add	x12,sp,#32
 	add	x13,x10,x8
 	sub	x8,x26,x10
 	add	x10,x12,x11
 	add	x9,x9,x13
-60:
+62:
 	ldrb	w11,[x10],#1
 	subs	x8,x8,#1
 	strb	w11,[x9],#1
-	b.ne	60b
-	b	53b
-61:
-	cmp	x26,#32
-	b.hs	63f
-	mov	x10,xzr
-	b	67f
+	b.ne	62b
+	b	55b
 63:
-	ldr	x12,[sp,#8]
+	cmp	x26,#32
+	b.hs	65f
+	mov	x10,xzr
+	b	69f
+65:
+	ldr	x12,[sp,#16]
 	add	x13,x9,x8
 	and	x11,x26,#0x18
 	and	x10,x26,#0xffffffffffffffe0
 	add	x13,x13,#16
 	and	x14,x26,#0xffffffffffffffe0
-	add	x12,x12,x22
-64:
+	add	x12,x12,x20
+66:
 	ldp	q0,q1,[x12,#-16]
 	subs	x14,x14,#32
 	add	x12,x12,#32
 	stp	q0,q1,[x13,#-16]
 	add	x13,x13,#32
-	b.ne	64b
+	b.ne	66b
 	cmp	x26,x10
-	b.eq	53b
-	cbz	x11,59b
-67:
+	b.eq	55b
+	cbz	x11,61b
+69:
 	mov	x11,x10
 	and	x10,x26,#0xfffffffffffffff8
 	add	x13,sp,#32
-	add	x12,x11,x22
+	add	x12,x11,x20
 	add	x14,x8,x11
 	sub	x11,x11,x10
 	add	x12,x13,x12
 	add	x13,x9,x14
-68:
+70:
 	ldr	d0,[x12],#8
 	adds	x11,x11,#8
 	str	d0,[x13],#8
-	b.ne	68b
+	b.ne	70b
 	cmp	x26,x10
-	b.eq	53b
-	b	59b
-70:
+	b.eq	55b
+	b	61b
+72:
 	add	x0,sp,#32
 	mov	w1,wzr
 	mov	w2,#1024
 	bl	memset
 	mov	x27,xzr
-	b	72f
-71:
+	str	x22,[sp]
+	b	74f
+73:
 	add	x27,x23,x27
+	mov	w20,w22
+	ldr	x22,[sp]
 	cmp	x27,x21
-	b.hs	93f
-72:
+	b.hs	95f
+74:
 	sub	x8,x21,x27
 	mov	w9,#512
-	add	x3,sp,#32
+	add	x0,x22,x27
 	cmp	x8,#512
-	mov	w2,w28
-	mov	w4,#1024
+	add	x3,sp,#32
+	mov	w2,w20
 	csel	x23,x8,x9,lo
-	ldr	x8,[sp,#24]
+	mov	w4,#1024
+	mov	w22,w20
 	mov	x1,x23
-	add	x0,x8,x27
 	bl	io_digits_encoded
-	cbz	x1,71b
+	cbz	x1,73b
 	ldr	x8,[x19,#16]
 	mov	x24,x1
 	mov	x25,x0
-	mov	x20,xzr
-	add	x22,x0,#16
-	b	76f
-74:
-	add	x1,x25,x20
+	mov	x28,xzr
+	add	x20,x0,#16
+	b	78f
+76:
+	add	x1,x25,x28
 	mov	x2,x26
 	bl	memmove
-75:
+77:
 	ldr	x8,[x19,#16]
-	add	x20,x26,x20
-	cmp	x20,x24
+	add	x28,x26,x28
+	cmp	x28,x24
 	add	x8,x8,x26
 	str	x8,[x19,#16]
-	b.hs	71b
-76:
+	b.hs	73b
+78:
 	ldr	x9,[x19,#8]
 	subs	x10,x9,x8
-	b.eq	92f
+	b.eq	94f
 	ldr	x9,[x19]
-	sub	x11,x24,x20
-	add	x12,x25,x20
+	sub	x11,x24,x28
+	add	x12,x25,x28
 	cmp	x10,x11
 	add	x0,x9,x8
 	csel	x26,x10,x11,lo
 	sub	x10,x0,x12
 	cmp	x10,x26
-	b.hs	74b
+	b.hs	76b
 	cmp	x26,#8
-	b.lo	80f
+	b.lo	82f
 	add	x10,x8,x9
-	add	x11,x20,x25
+	add	x11,x28,x25
 	sub	x10,x10,x11
 	cmp	x10,#32
-	b.hs	83f
-80:
+	b.hs	85f
+82:
 	mov	x10,xzr
-81:
-	add	x11,x10,x20
+83:
+	add	x11,x10,x28
 	add	x12,x10,x8
 	sub	x8,x26,x10
 	add	x10,x25,x11
 	add	x9,x9,x12
-82:
+84:
 	ldrb	w11,[x10],#1
 	subs	x8,x8,#1
 	strb	w11,[x9],#1
-	b.ne	82b
-	b	75b
-83:
-	cmp	x26,#32
-	b.hs	85f
-	mov	x10,xzr
-	b	89f
+	b.ne	84b
+	b	77b
 85:
+	cmp	x26,#32
+	b.hs	87f
+	mov	x10,xzr
+	b	91f
+87:
 	add	x13,x9,x8
 	and	x11,x26,#0x18
 	and	x10,x26,#0xffffffffffffffe0
-	add	x12,x22,x20
+	add	x12,x20,x28
 	add	x13,x13,#16
 	and	x14,x26,#0xffffffffffffffe0
-86:
+88:
 	ldp	q0,q1,[x12,#-16]
 	subs	x14,x14,#32
 	add	x12,x12,#32
 	stp	q0,q1,[x13,#-16]
 	add	x13,x13,#32
-	b.ne	86b
+	b.ne	88b
 	cmp	x26,x10
-	b.eq	75b
-	cbz	x11,81b
-89:
+	b.eq	77b
+	cbz	x11,83b
+91:
 	mov	x11,x10
 	and	x10,x26,#0xfffffffffffffff8
-	add	x12,x11,x20
+	add	x12,x11,x28
 	add	x13,x8,x11
 	sub	x11,x11,x10
 	add	x12,x25,x12
 	add	x13,x9,x13
-90:
+92:
 	ldr	d0,[x12],#8
 	adds	x11,x11,#8
 	str	d0,[x13],#8
-	b.ne	90b
+	b.ne	92b
 	cmp	x26,x10
-	b.eq	75b
-	b	81b
-92:
+	b.eq	77b
+	b	83b
+94:
 	ldr	x8,[x19,#24]
 	mov	w0,#1
 	adds	x8,x8,#1
 	csinv	x8,x8,xzr,lo
 	str	x8,[x19,#24]
-	b	94f
-93:
+	b	96f
+95:
 	mov	w0,wzr
-94:
-	add	sp,sp,#1968
+96:
+	add	sp,sp,#1584
 	ldp	x20,x19,[sp,#80]
 	ldp	x22,x21,[sp,#64]
 	ldp	x24,x23,[sp,#48]
@@ -9484,7 +9497,7 @@
 	ldp	x28,x27,[sp,#16]
 	ldp	x29,x30,[sp],#96
 	ret
-95:
+97:
 	brk	#0x1
 	hex_end	io_digits_put_digits
 	hex_merged	16

@@ -10176,7 +10176,7 @@
 	pushq	%r13
 	pushq	%r12
 	pushq	%rbx
-	subq	$1976,%rsp
+	subq	$1592,%rsp
 	movq	%rdx,%r15
 	movq	%rsi,8(%rsp)
 	movq	%rdi,%rbx
@@ -10185,26 +10185,27 @@
 	movl	%eax,4(%rsp)
 	je	27f
 	movq	8(%r8),%r12
-	movzbl	16(%r8),%ebp
-	leaq	1592(%rsp),%rdi
-	movl	$384,%edx
-	xorl	%esi,%esi
-	callq	memset
-	movzbl	%bpl,%r8d
+	movzbl	16(%r8),%eax
+	movzbl	%al,%ebp
 	cmpq	$128,%r15
 	ja	53f
-	leaq	1592(%rsp),%r14
+	leaq	48(%rsp),%r14
+	movl	$384,%edx
+	movq	%r14,%rdi
+	xorl	%esi,%esi
+	callq	memset
 	movq	8(%rsp),%rdi
 	movq	%r15,%rsi
 	movq	%r14,%rdx
 	movq	%r12,%rcx
+	movl	%ebp,%r8d
 	movl	4(%rsp),%r9d
 	callq	codec_grouped_write_with_room
 	testq	%rax,%rax
-	je	121f
+	je	119f
 	movq	%rax,%r15
 	movq	16(%rbx),%rax
-	leaq	1595(%rsp),%rbp
+	leaq	51(%rsp),%rbp
 	xorl	%r13d,%r13d
 	jmp	6f
 	.p2align	4
@@ -10217,13 +10218,13 @@
 	movq	%rax,16(%rbx)
 	addq	%r12,%r13
 	cmpq	%r15,%r13
-	jae	121f
+	jae	119f
 6:
 	movq	8(%rbx),%rcx
 	subq	%rax,%rcx
-	je	117f
+	je	115f
 	leaq	(%rsp,%r13),%rsi
-	addq	$1592,%rsi
+	addq	$48,%rsi
 	movq	%r15,%r12
 	subq	%r13,%r12
 	cmpq	%r12,%rcx
@@ -10286,7 +10287,7 @@
 14:
 	movq	%r12,%rdx
 	andq	$-32,%rdx
-	leaq	1608(%rsp),%r8
+	leaq	64(%rsp),%r8
 	addq	%r13,%r8
 	leaq	(%rcx,%rax),%r9
 	addq	$16,%r9
@@ -10320,7 +10321,7 @@
 	jmp	21b
 27:
 	cmpq	$128,%r15
-	ja	90f
+	ja	88f
 	xorps	%xmm0,%xmm0
 	movaps	%xmm0,288(%rsp)
 	movaps	%xmm0,272(%rsp)
@@ -10345,7 +10346,7 @@
 	movl	4(%rsp),%edx
 	callq	io_digits_encoded
 	testq	%rdx,%rdx
-	je	121f
+	je	119f
 	movq	%rax,%r14
 	movq	%rdx,%r15
 	movq	16(%rbx),%rax
@@ -10362,11 +10363,11 @@
 	movq	%rax,16(%rbx)
 	addq	%r12,%r13
 	cmpq	%r15,%r13
-	jae	121f
+	jae	119f
 32:
 	movq	8(%rbx),%rcx
 	subq	%rax,%rcx
-	je	117f
+	je	115f
 	leaq	(%r14,%r13),%rsi
 	movq	%r15,%r12
 	subq	%r13,%r12
@@ -10460,56 +10461,67 @@
 	je	31b
 	jmp	47b
 53:
-	movl	%r8d,16(%rsp)
-	leaq	49(%rsp),%rdi
+	movl	%ebp,16(%rsp)
+	leaq	48(%rsp),%rdi
 	xorl	%ebp,%ebp
-	movl	$1535,%edx
+	movl	$1536,%edx
 	xorl	%esi,%esi
 	callq	memset
 	cmpq	$512,%r12
 	movl	$512,%eax
 	cmovbq	%r12,%rax
 	movq	%rax,32(%rsp)
-	movq	%r12,%rcx
-	movq	%r15,24(%rsp)
 	movq	%r12,40(%rsp)
+	movq	%r15,24(%rsp)
 	jmp	55f
 	.p2align	4
 54:
 	addq	%r14,%rbp
 	movq	24(%rsp),%r15
 	cmpq	%r15,%rbp
-	movq	40(%rsp),%rcx
-	jae	121f
+	movq	40(%rsp),%r12
+	jae	119f
 55:
 	testq	%rbp,%rbp
 	je	60f
-	testq	%rcx,%rcx
-	je	125f
+	testq	%r12,%r12
+	je	123f
 	movq	%rbp,%rax
-	orq	%rcx,%rax
+	orq	%r12,%rax
 	shrq	$32,%rax
 	je	62f
 	movq	%rbp,%rax
 	xorl	%edx,%edx
-	divq	%rcx
-	movq	%rdx,%rsi
-	testq	%rsi,%rsi
+	divq	%r12
+	testq	%rdx,%rdx
 	je	63f
 59:
-	movq	%rcx,%rax
-	subq	%rsi,%rax
+	movq	%r12,%rax
+	subq	%rdx,%rax
 	subq	%rbp,%r15
 	cmpq	%r15,%rax
 	cmovbq	%rax,%r15
 	cmpq	$512,%r15
 	movl	$512,%r14d
 	cmovbq	%r15,%r14
-	jmp	64f
+	movq	8(%rsp),%rax
+	leaq	(%rax,%rbp),%rdi
+	leaq	48(%rsp),%rdx
+	movq	%r14,%rsi
+	movq	%r12,%rcx
+	movl	16(%rsp),%r8d
+	movl	4(%rsp),%r9d
+	callq	codec_grouped_write_with_room
+	movq	%rax,%r15
+	xorl	%r12d,%r12d
+	addq	%r12,%r15
+	jne	64f
+	jmp	54b
 	.p2align	4
 60:
-	testq	%rcx,%rcx
-	je	125f
+	testq	%r12,%r12
+	je	123f
+	movq	%r12,%rcx
 	xorl	%r12d,%r12d
 	movw	$512,%ax
 	xorl	%edx,%edx
@@ -10519,14 +10531,22 @@
 	movzwl	%ax,%r14d
 	cmpq	%r14,%r15
 	cmovbq	%r15,%r14
-	jmp	65f
+	leaq	48(%rsp),%rdx
+	movq	8(%rsp),%rdi
+	movq	%r14,%rsi
+	movl	16(%rsp),%r8d
+	movl	4(%rsp),%r9d
+	callq	codec_grouped_write_with_room
+	movq	%rax,%r15
+	addq	%r12,%r15
+	jne	64f
+	jmp	54b
 	.p2align	4
 62:
 	movl	%ebp,%eax
 	xorl	%edx,%edx
-	divl	%ecx
-	movl	%edx,%esi
-	testq	%rsi,%rsi
+	divl	%r12d
+	testq	%rdx,%rdx
 	jne	59b
 63:
 	movw	$512,%ax
@@ -10539,41 +10559,39 @@
 	subq	%rbp,%r14
 	cmpq	%rax,%r14
 	cmovaeq	%rax,%r14
-64:
-	xorl	%r12d,%r12d
-	testq	%rsi,%rsi
-	sete	%r12b
-65:
 	movq	8(%rsp),%rax
 	leaq	(%rax,%rbp),%rdi
-	movl	16(%rsp),%r8d
-	movb	%r8b,48(%rsp)
-	leaq	(%rsp,%r12),%rdx
-	addq	$48,%rdx
 	movq	%r14,%rsi
+	leaq	49(%rsp),%rdx
+	movq	%r12,%rcx
+	movl	16(%rsp),%r12d
+	movl	%r12d,%r8d
 	movl	4(%rsp),%r9d
 	callq	codec_grouped_write_with_room
 	movq	%rax,%r15
+	movb	%r12b,48(%rsp)
+	movl	$1,%r12d
 	addq	%r12,%r15
 	je	54b
+64:
 	movq	16(%rbx),%rax
 	xorl	%r12d,%r12d
-	jmp	69f
+	jmp	67f
 	.p2align	4
-67:
+65:
 	movq	%r13,%rdx
 	callq	memmove
-68:
+66:
 	movq	16(%rbx),%rax
 	addq	%r13,%rax
 	movq	%rax,16(%rbx)
 	addq	%r13,%r12
 	cmpq	%r15,%r12
 	jae	54b
-69:
+67:
 	movq	8(%rbx),%rcx
 	subq	%rax,%rcx
-	je	117f
+	je	115f
 	leaq	(%rsp,%r12),%rsi
 	addq	$48,%rsi
 	movq	%r15,%r13
@@ -10585,40 +10603,40 @@
 	movq	%rdi,%rdx
 	subq	%rsi,%rdx
 	cmpq	%r13,%rdx
-	jae	67b
+	jae	65b
 	cmpq	$4,%r13
-	jb	72f
+	jb	70f
 	leaq	48(%rsp),%rdx
 	addq	%r12,%rdx
 	movq	%rdi,%r8
 	subq	%rdx,%r8
 	cmpq	$32,%r8
-	jae	75f
-72:
+	jae	73f
+70:
 	xorl	%edx,%edx
-84:
+82:
 	movq	%r13,%r9
 	movq	%rdx,%r8
 	andq	$3,%r9
-	je	87f
+	je	85f
 	movq	%rdx,%r8
 	.p2align	4
-86:
+84:
 	movzbl	(%rsi,%r8),%r10d
 	movb	%r10b,(%rdi,%r8)
 	incq	%r8
 	decq	%r9
-	jne	86b
-87:
+	jne	84b
+85:
 	subq	%r13,%rdx
 	cmpq	$-4,%rdx
-	ja	68b
+	ja	66b
 	leaq	51(%rsp),%rdx
 	addq	%r12,%rdx
 	addq	%rcx,%rax
 	addq	$3,%rax
 	.p2align	4
-89:
+87:
 	movzbl	-3(%rdx,%r8),%ecx
 	movb	%cl,-3(%rax,%r8)
 	movzbl	-2(%rdx,%r8),%ecx
@@ -10629,14 +10647,14 @@
 	movb	%cl,(%rax,%r8)
 	addq	$4,%r8
 	cmpq	%r8,%r13
-	jne	89b
-	jmp	68b
-75:
+	jne	87b
+	jmp	66b
+73:
 	cmpq	$32,%r13
-	jae	77f
+	jae	75f
 	xorl	%edx,%edx
-	jmp	81f
-77:
+	jmp	79f
+75:
 	movq	%r13,%rdx
 	andq	$-32,%rdx
 	leaq	64(%rsp),%r8
@@ -10645,47 +10663,47 @@
 	addq	$16,%r9
 	xorl	%r10d,%r10d
 	.p2align	4
-78:
+76:
 	movups	-16(%r8,%r10),%xmm0
 	movups	(%r8,%r10),%xmm1
 	movups	%xmm0,-16(%r9,%r10)
 	movups	%xmm1,(%r9,%r10)
 	addq	$32,%r10
 	cmpq	%r10,%rdx
-	jne	78b
+	jne	76b
 	cmpq	%rdx,%r13
-	je	68b
+	je	66b
 	testb	$28,%r13b
-	je	84b
-81:
+	je	82b
+79:
 	movq	%rdx,%r8
 	movq	%r13,%rdx
 	andq	$-4,%rdx
 	.p2align	4
-82:
+80:
 	movl	(%rsi,%r8),%r9d
 	movl	%r9d,(%rdi,%r8)
 	addq	$4,%r8
 	cmpq	%r8,%rdx
-	jne	82b
+	jne	80b
 	cmpq	%rdx,%r13
-	je	68b
-	jmp	84b
-90:
+	je	66b
+	jmp	82b
+88:
 	leaq	48(%rsp),%rdi
 	xorl	%ebp,%ebp
 	movl	$1024,%edx
 	xorl	%esi,%esi
 	callq	memset
 	movq	%r15,24(%rsp)
-	jmp	92f
+	jmp	90f
 	.p2align	4
-91:
+89:
 	addq	16(%rsp),%rbp
 	movq	24(%rsp),%r15
 	cmpq	%r15,%rbp
-	jae	121f
-92:
+	jae	119f
+90:
 	subq	%rbp,%r15
 	cmpq	$512,%r15
 	movl	$512,%esi
@@ -10698,27 +10716,27 @@
 	movl	4(%rsp),%edx
 	callq	io_digits_encoded
 	testq	%rdx,%rdx
-	je	91b
+	je	89b
 	movq	%rax,%r12
 	movq	%rdx,%r13
 	movq	16(%rbx),%rax
 	xorl	%r14d,%r14d
-	jmp	96f
+	jmp	94f
 	.p2align	4
-94:
+92:
 	movq	%r15,%rdx
 	callq	memmove
-95:
+93:
 	movq	16(%rbx),%rax
 	addq	%r15,%rax
 	movq	%rax,16(%rbx)
 	addq	%r15,%r14
 	cmpq	%r13,%r14
-	jae	91b
-96:
+	jae	89b
+94:
 	movq	8(%rbx),%rcx
 	subq	%rax,%rcx
-	je	117f
+	je	115f
 	leaq	(%r12,%r14),%rsi
 	movq	%r13,%r15
 	subq	%r14,%r15
@@ -10729,36 +10747,36 @@
 	movq	%rdi,%rdx
 	subq	%rsi,%rdx
 	cmpq	%r15,%rdx
-	jae	94b
+	jae	92b
 	cmpq	$4,%r15
-	jb	99f
+	jb	97f
 	cmpq	$32,%rdx
-	jae	102f
-99:
+	jae	100f
+97:
 	xorl	%edx,%edx
-111:
+109:
 	movq	%r15,%r9
 	movq	%rdx,%r8
 	andq	$3,%r9
-	je	114f
+	je	112f
 	movq	%rdx,%r8
 	.p2align	4
-113:
+111:
 	movzbl	(%rsi,%r8),%r10d
 	movb	%r10b,(%rdi,%r8)
 	incq	%r8
 	decq	%r9
-	jne	113b
-114:
+	jne	111b
+112:
 	subq	%r15,%rdx
 	cmpq	$-4,%rdx
-	ja	95b
+	ja	93b
 	leaq	3(%r12),%rdx
 	addq	%r14,%rdx
 	addq	%rcx,%rax
 	addq	$3,%rax
 	.p2align	4
-116:
+114:
 	movzbl	-3(%rdx,%r8),%ecx
 	movb	%cl,-3(%rax,%r8)
 	movzbl	-2(%rdx,%r8),%ecx
@@ -10769,14 +10787,14 @@
 	movb	%cl,(%rax,%r8)
 	addq	$4,%r8
 	cmpq	%r8,%r15
-	jne	116b
-	jmp	95b
-102:
+	jne	114b
+	jmp	93b
+100:
 	cmpq	$32,%r15
-	jae	104f
+	jae	102f
 	xorl	%edx,%edx
-	jmp	108f
-104:
+	jmp	106f
+102:
 	movq	%r15,%rdx
 	andq	$-32,%rdx
 	leaq	16(%r12),%r8
@@ -10785,44 +10803,44 @@
 	addq	$16,%r9
 	xorl	%r10d,%r10d
 	.p2align	4
-105:
+103:
 	movups	-16(%r8,%r10),%xmm0
 	movups	(%r8,%r10),%xmm1
 	movups	%xmm0,-16(%r9,%r10)
 	movups	%xmm1,(%r9,%r10)
 	addq	$32,%r10
 	cmpq	%r10,%rdx
-	jne	105b
+	jne	103b
 	cmpq	%rdx,%r15
-	je	95b
+	je	93b
 	testb	$28,%r15b
-	je	111b
-108:
+	je	109b
+106:
 	movq	%rdx,%r8
 	movq	%r15,%rdx
 	andq	$-4,%rdx
 	.p2align	4
-109:
+107:
 	movl	(%rsi,%r8),%r9d
 	movl	%r9d,(%rdi,%r8)
 	addq	$4,%r8
 	cmpq	%r8,%rdx
-	jne	109b
+	jne	107b
 	cmpq	%rdx,%r15
-	je	95b
-	jmp	111b
-117:
+	je	93b
+	jmp	109b
+115:
 	movq	24(%rbx),%rax
 	incq	%rax
 	movq	$-1,%rcx
 	cmovneq	%rax,%rcx
 	movq	%rcx,24(%rbx)
 	movb	$1,%al
-	jmp	118f
-121:
+	jmp	116f
+119:
 	xorl	%eax,%eax
-118:
-	addq	$1976,%rsp
+116:
+	addq	$1592,%rsp
 	popq	%rbx
 	popq	%r12
 	popq	%r13
@@ -10830,7 +10848,7 @@
 	popq	%r15
 	popq	%rbp
 	retq
-125:
+123:
 	ud2
 	hex_end	io_digits_put_digits
 	hex_merged	16
