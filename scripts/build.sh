@@ -1,7 +1,7 @@
 #!/bin/sh
-# Proves a crate and those below it, lowest first. Of a static library or a program it builds the assembly of each build,
-# crates/NAME/out/assembly/BUILD.s, as clang writes it. `scripts/generate` makes of it what is committed. Of another
-# library it builds nothing.
+# Proves a crate and those below it, lowest first. If the crate is a static library or a program, the script also makes the
+# assembly of each build, crates/NAME/out/assembly/BUILD.s, as clang writes it. `scripts/generate` turns this into what is
+# committed. Any other library is only proved.
 #
 # A crate that the last run proved is not proved again if all that its proof reads is the same. If a file of it changes
 # during the proof, the script fails, because then nobody knows which text was proved. The messages about a crate go into
@@ -64,8 +64,8 @@ sum_of() {
     } | sha256sum
 }
 
-# changed_since FILE CRATE: the files that its proof reads and that were changed after this file was written, also if they
-# were changed back.
+# changed_since FILE CRATE: prints which files of those that the crate's proof reads were changed after FILE was written,
+# even if they were changed back.
 changed_since() {
     set -- "$1" $(below "$2")
     since=../$1
