@@ -1,11 +1,11 @@
 #!/bin/sh
-# Proves a crate and those below it, lowest first. If the crate is a static library or a program, the script also makes the
-# assembly of each build, crates/NAME/out/assembly/BUILD.s, as clang writes it. `scripts/generate` turns this into what is
-# committed. Any other library is only proved.
+# Proves a crate and those below it, lowest first. If the crate is a static library or a program, the script also makes
+# the assembly of each build, crates/NAME/out/assembly/BUILD.s, as clang writes it. `scripts/generate` turns this into
+# what is committed. Any other library is only proved.
 #
 # A crate that the last run proved is not proved again if all that its proof reads is the same. If a file of it changes
-# during the proof, the script fails, because then nobody knows which text was proved. The messages about a crate go into
-# build.log beside what was made. If something fails, the end of that file is printed.
+# after the run began, the script fails, because then nobody knows which text was proved. The messages about a crate go
+# into build.log beside what was made. If something fails, the end of that file is printed.
 # Usage: scripts/build.sh NAME
 #
 # The script calls `rattle` and not `rt`, which has no command for this. It builds a library as its statements, so that
@@ -64,14 +64,13 @@ sum_of() {
     } | sha256sum
 }
 
-# changed_since FILE CRATE: prints which files of those that the crate's proof reads were changed after FILE was written,
-# even if they were changed back.
+# changed_since FILE CRATE: prints what the crate's proof reads and what was changed after FILE was written, even if it
+# was changed back. It prints a folder if a file was added to it or removed from it.
 changed_since() {
-    set -- "$1" $(below "$2")
-    since=../$1
-    shift
-    (cd crates && find "$@" ../crates.txt ../HANDLES ! -regex '[^/]*/out/.*' -cnewer "$since" \
-        \( -name '*.rt' -o -name '*.antt' -o -name crates.txt -o -name HANDLES \))
+    since=$1
+    set -- $(below "$2")
+    (cd crates && find "$@" ../crates.txt ../HANDLES ! -regex '[^/]*\(/out\(/.*\)?\)?' -cnewer "$since" \
+        \( -type d -o -name '*.rt' -o -name '*.antt' -o -name crates.txt -o -name HANDLES \))
 }
 
 # jobs_of CRATE: the number of jobs of its proof, one for each 500 lines and at most four. Each job reads all libraries
@@ -139,6 +138,7 @@ build() {
 log=/dev/null
 tools=$(mktemp -d)
 trap 'tail -n 40 "$log" >&2; rm -rf "$tools"' EXIT
+: >"$tools/begun"
 all=$(below "$target" | wc -l)
 number=0
 anew=
@@ -154,13 +154,12 @@ for crate in $(below "$target"); do
     anew=1
     rm -rf "$out"
     mkdir -p "$out"
-    : >"$out/begun"
     log=$out/build.log
     build "$crate" >"$log" 2>&1
     log=/dev/null
-    changed=$(changed_since "$out/begun" "$crate")
+    changed=$(changed_since "$tools/begun" "$crate")
     if [ -n "$changed" ] || [ "$sum" != "$(sum_of "$crate")" ]; then
-        echo "build.sh: $crate was changed while it was proved, so the proof counts for nothing: run it again" $changed >&2
+        echo "build.sh: $crate was changed during the run, so its proof counts for nothing: run it again" $changed >&2
         exit 1
     fi
     echo "$sum" >"$out/made-of"

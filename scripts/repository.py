@@ -67,10 +67,11 @@ def identity(name):
 
 def last_change(name):
     """The time at which a file that the proof of a crate reads was last changed, in nanoseconds. A file that was changed
-    and changed back has a new time too."""
+    and changed back has a new time too, and so has a folder to which a file was added, even if it was removed again."""
     own = [TOP / "crates" / it for it in below([name])]
-    files = [path for crate in own for path in crate.rglob("*.[ra]*t") if crate / "out" not in path.parents]
-    return max(path.stat().st_ctime_ns for path in (*files, TOP / "crates.txt", TOP / "HANDLES"))
+    parts = [path for crate in own for path in crate.iterdir() if path.is_dir() and path.name != "out"]
+    read = [path for part in parts for path in (part, *part.rglob("*")) if path.is_dir() or path.suffix in (".rt", ".antt")]
+    return max(path.stat().st_ctime_ns for path in (*read, TOP / "crates.txt", TOP / "HANDLES"))
 
 
 def state(name):

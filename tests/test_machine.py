@@ -9,6 +9,7 @@ import os
 import random
 import re
 import sys
+import time
 from pathlib import Path
 
 import pytest
@@ -171,12 +172,12 @@ def test_what_the_record_writes(copy, tmp_path, monkeypatch, is_shown):
     monkeypatch.setattr(command, "TOP", copy)
     monkeypatch.setattr(command, "report", lambda *_: (["a line" if is_shown else "a call: REFUSED: why"], is_shown))
     if is_shown:
-        command.record(made)
+        command.record(made, time.time_ns())
         before[copy / "generated/SHOWN"] = (copy / "generated/SHOWN").read_bytes()
         assert before[copy / "generated/SHOWN"].endswith(b"\na line\n")
     else:
         with pytest.raises(Refused, match="a call: REFUSED: why"):
-            command.record(made)
+            command.record(made, time.time_ns())
     assert files_in(copy) == before
 
 
@@ -191,7 +192,7 @@ def test_record_of_a_source_that_is_changed_meanwhile(copy, tmp_path, monkeypatc
     monkeypatch.setattr(command, "TOP", copy)
     monkeypatch.setattr(command, "report", lambda *_: ([], True))
     with pytest.raises(Refused, match="a source was changed meanwhile"):
-        command.record(made)
+        command.record(made, time.time_ns())
     assert (copy / "generated/SHOWN").read_text() == record
 
 

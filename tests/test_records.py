@@ -10,11 +10,20 @@ from commands import CHANGES, ran, runs
 
 pytestmark = pytest.mark.quick
 CORE = "crates/hex_core/src/lib.rt"
+# The same, and a file of a crate that is there only for a while.
+OF_A_CRATE = {**CHANGES, "added and removed": "touch {0}.rt && rm {0}.rt"}
+# Stands for a scripts/build.sh that has proved each crate.
+BUILT = """#!/bin/sh
+for crate in crates/*/; do
+    mkdir -p $crate/out/statements
+    echo logic=proved functions=1 >$crate/out/statements/build.log
+done
+"""
 # The commands of `rt` that scripts use. `rt ci` proves hex_core, takes the library of hex_codec from an earlier run, and
-# runs what CHANGE says meanwhile. So does `rt doc`.
+# runs what CHANGE says meanwhile. So does `rt doc`. `rt version` prints the file `version`, if there is one.
 RT = """#!/bin/sh -eu
 case $1 in
-version) echo toolchain one ;;
+version) cat version 2>/dev/null || echo toolchain one ;;
 doc) eval "${CHANGE-}" && echo /nowhere/doc ;;
 ci)
     for name in hex_core hex_codec; do
@@ -80,10 +89,10 @@ def test_hash_of_the_sources(copy, name):
     assert found() != before
 
 
-@pytest.mark.parametrize("change", CHANGES)
+@pytest.mark.parametrize("change", OF_A_CRATE)
 def test_library_that_was_changed_during_the_run(tmp_path, copy, env, change):
     """scripts/rt-ci keeps no library of a text that may not be the one that was proved."""
-    runs([copy / "scripts/rt-ci"], env={**env, "CHANGE": CHANGES[change].format(CORE)})
+    runs([copy / "scripts/rt-ci"], env={**env, "CHANGE": OF_A_CRATE[change].format(CORE)})
     assert not kept(tmp_path)
     runs([copy / "scripts/rt-ci"], env=env)
     assert [it.name.partition("-")[0] for it in kept(tmp_path)] == ["hex_codec", "hex_core"]
@@ -107,45 +116,43 @@ def test_libraries_beside_each_other(tmp_path, copy, env):
         assert {*first} < {*kept(tmp_path)} and len(kept(tmp_path)) == 1 + min(1 + count, 4)
 
 
-@pytest.mark.parametrize("change", CHANGES)
+@pytest.mark.parametrize("change", OF_A_CRATE)
 def test_proof_of_a_crate_that_was_changed_meanwhile(copy, env, change):
     """scripts/build.sh fails. The next run proves the crate again."""
     words, own = [copy / "scripts/build.sh", "hex_core"], copy / "crates/hex_core/out/statements"
-    done = ran(words, env={**env, "CHANGE": CHANGES[change].format(CORE)})
-    assert done.returncode == 1 and "changed while it was proved" in done.stdout and not (own / "made-of").exists()
+    done = ran(words, env={**env, "CHANGE": OF_A_CRATE[change].format(CORE)})
+    assert done.returncode == 1 and "changed during the run" in done.stdout and not (own / "made-of").exists()
     for said in "[1/1] hex_core proved\n", "":
         runs(words, out=said, env=env)
 
 
-@pytest.mark.parametrize("change", CHANGES)
-def test_assembly_of_sources_that_were_changed_meanwhile(tmp_path, copy, env, change):
-    """scripts/generate writes no record."""
-    (copy / "scripts/build.sh").write_text(f"#!/bin/sh\n{CHANGES[change].format(CORE)}\n")
-    done = ran([copy / "scripts/generate", tmp_path / "anew"], env=env)
+def test_change_between_two_crates(copy, env):
+    """If a crate is changed after its own proof, the crate above it does not count as proved."""
+    checksum = copy / "scripts/checksum"
+    checksum.rename(copy / "scripts/sum")
+    change = f"[ -e once ] || case $* in *hex_codec*) touch once && {CHANGES['changed'].format(CORE)} ;; esac"
+    checksum.write_text(f'#!/bin/sh\n{change}\nexec scripts/sum "$@"\n')
+    checksum.chmod(0o755)
+    words = [copy / "scripts/build.sh", "hex_codec"]
+    done = ran(words, env=env)
+    assert done.returncode == 1 and "hex_codec was changed during the run" in done.stdout
+    runs(words, out="[1/2] hex_core proved\n[2/2] hex_codec proved\n", env=env)
+
+
+@pytest.mark.parametrize("place", ["build", "record"])
+@pytest.mark.parametrize("change", [*OF_A_CRATE, "another toolchain"])
+def test_assembly_of_sources_that_were_changed_meanwhile(tmp_path, copy, env, place, change):
+    """scripts/generate writes no record, whether the change comes during the proof or while the record is made."""
+    change = {**OF_A_CRATE, "another toolchain": "echo toolchain two >version"}[change].format(CORE)
+    (copy / "scripts/build.sh").write_text(BUILT + change * (place == "build") + "\n")
+    done = ran([copy / "scripts/generate", tmp_path / "anew"], env={**env, "CHANGE": change * (place == "record")})
     assert done.returncode == 1 and "was changed meanwhile" in done.stdout and not (tmp_path / "anew").exists()
 
 
-# Stands for a scripts/build.sh that has proved each crate.
-BUILT = """#!/bin/sh
-for crate in crates/*/; do
-    mkdir -p $crate/out/statements
-    echo logic=proved functions=1 >$crate/out/statements/build.log
-done
-"""
-
-
-def test_record_while_a_source_is_changed(tmp_path, copy, env):
-    """If a source is changed after the proof, PROVED has the hash of what was proved, so that the change is noticed."""
-    (copy / "scripts/build.sh").write_text(BUILT)
-    proved = runs([copy / "scripts/checksum", "hex_core", "hex_codec", "faster_hex_c"])
-    runs([copy / "scripts/generate", tmp_path / "anew"], env={**env, "CHANGE": CHANGES["changed"].format(CORE)})
-    assert f"\nsources {proved}" in (tmp_path / "anew/PROVED").read_text()
-
-
-@pytest.mark.parametrize("change", CHANGES)
+@pytest.mark.parametrize("change", OF_A_CRATE)
 def test_mutations_of_sources_that_are_changed_meanwhile(copy, env, change):
     """scripts/mutations tries none of them over kept libraries that may be those of other sources."""
     runs([copy / "scripts/rt-ci"], env=env)
     words = [copy / "scripts/mutations", "--gate", "hex_codec"]
-    done = ran(words, cwd=copy, env={**env, "CHANGE": CHANGES[change].format(CORE)})
+    done = ran(words, cwd=copy, env={**env, "CHANGE": OF_A_CRATE[change].format(CORE)})
     assert done.returncode == 1 and done.stdout == "mutations: a source was changed meanwhile: run it again\n"

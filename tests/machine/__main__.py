@@ -13,7 +13,11 @@ import re
 import subprocess
 import sys
 import tempfile
+import time
 from pathlib import Path
+
+# When this tool began, before its other files were read.
+BEGAN = time.time_ns()
 
 import capstone
 import z3
@@ -125,14 +129,13 @@ def check(folder, file, *words):
     return 0 if is_shown else 1
 
 
-def record(folder):
-    """Writes the record, if all is shown and no source was changed meanwhile, also if it was changed back."""
-    last_changes = lambda: [(TOP / it).stat().st_ctime_ns for it in SOURCES]
-    before, begin, file = last_changes(), sums(), Path(folder) / "libfaster_hex.a"
+def record(folder, began=BEGAN):
+    """Writes the record, if all is shown. If a source was changed after the tool began, it counts for nothing."""
+    begin, file = sums(), Path(folder) / "libfaster_hex.a"
     subprocess.run(["make", "-s", "-C", TOP, "lib", "UNPROVED=", f"OUT={folder}", f"BUILT={folder}/built"], check=True)
     made = linked(Path(folder) / "image", file)
     lines, is_shown = report(made, None, pairs_of(made, []))
-    if not is_shown or last_changes() != before:
+    if not is_shown or any((TOP / it).stat().st_ctime_ns >= began for it in SOURCES):
         raise Refused(next((it for it in lines if "REFUSED" in it), "a source was changed meanwhile"))
     (TOP / "generated/SHOWN").write_text(begin + "\n".join([*tools(file, made), *lines]) + "\n")
 

@@ -24,8 +24,6 @@ CALLS = {
 POLICIES = {"check_lower": 1, "check_upper": 2}
 CALLS |= dict.fromkeys(POLICIES, "source length")
 ZERO = constant(0, 8)
-
-
 IS_ODD = Value(LENGTH.term & 1 == 1)
 # Twice the length is no number of 64 bits.
 IS_HUGE = Value(LENGTH.term < 0)

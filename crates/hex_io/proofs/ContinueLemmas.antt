@@ -24,12 +24,14 @@ pub behind : (mark k end : ℕ) (old new shown : List ℕ) → 0 < length old �
     → take (1 + end) (slice_set (put_mid 1 k old new) 0 mark) ≡ mark ∷ shown
 behind mark k end [] new shown some fits is = absurd (omega arith)
 behind mark k end (b ∷ old) new shown some fits is =
-    let count : 1 + end ≡ suc end = omega arith in rw count (ap (λ l. mark ∷ l) (take-append-le end new (post_of 1 k (b ∷ old)) fits ∙ is))
+    let count : 1 + end ≡ suc end = omega arith in
+    rw count (ap (λ l. mark ∷ l) (take-append-le end new (post_of 1 k (b ∷ old)) fits ∙ is))
 
 -- what was written at the start
 pub alone : (k end : ℕ) (old new shown : List ℕ) → end ≤ length new → take end new ≡ shown → take (0 + end) (put_mid 0 k old new) ≡ shown
 alone k end old new shown fits is =
-    let count : 0 + end ≡ end = omega arith in rw count (take-append-le end new (post_of 0 k old) fits ∙ is)
+    let count : 0 + end ≡ end = omega arith in
+    rw count (take-append-le end new (post_of 0 k old) fits ∙ is)
 
 pub one-mark : (follows : Bool) → bool_byte follows ≤ 1
 one-mark true = omega arith

@@ -179,8 +179,8 @@ fn separated<'b>(
 {
     let start = usize::from(follows);
     let end = write_with_room(bytes, &mut buffer[start..], group, upper);
-    // Stored in each case before the digits, it would replace the first byte of the cleared buffer.
-    // LLVM would then clear the buffer from an odd address, which takes longer.
+    // If the separator were always stored, before the digits, LLVM would clear the buffer from its
+    // second byte on. This takes longer.
     if follows {
         buffer[0] = group.sep();
     }

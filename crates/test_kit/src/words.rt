@@ -415,8 +415,8 @@ impl Words {
         }
     }
 
-    /// Prints the words. A word that is not written as what it stands for is printed as that: a number in decimal, and
-    /// bytes as hex digits. `bytes` is overwritten.
+    /// Prints the words of this turn. What brackets, formulas and changes stand for is written out: numbers in decimal,
+    /// and bytes as hex digits. `bytes` is overwritten.
     pub fn put(&mut self, bytes: &mut Bytes, text: &mut Text) {
         for _ in 0..self.text.len() {
             if self.are_taken() {
