@@ -97,9 +97,9 @@ OF_LENGTH = {
     "test_program": [
         r"2 serve many \xab {n} [encode|encode-upper] - = 0 many {n2_1} [ab|AB] \x0a",
         r"6 serve many 0 {n2} [decode|decode-lower|decode-upper] [-|\x0a/3] = 0 many {n} #00 -",
-        r"3 stream every [7|1000|100000] many \xab {n} encode - = 0 many {n2_1} ab \x0a",
+        r"3 stream every [7|1000|8000] many \xab {n} encode - = 0 many {n2_1} ab \x0a",
         r"stream every 30 many \xab {n} encode-lines - = 0 many {in_lines_1} ab*30,\x0a \x0a",
-        "3 stream every [7|1000|100000] many 0 {n2} decode - = 0 many {n} #00 -",
+        "3 stream every [7|1000|8000] many 0 {n2} decode - = 0 many {n} #00 -",
     ],
 }
 # The same for lengths of which a row can write so many bytes.
