@@ -70,7 +70,8 @@ def last_change(name):
     and changed back has a new time too, and so has a folder to which a file was added, even if it was removed again."""
     own = [TOP / "crates" / it for it in below([name])]
     parts = [path for crate in own for path in crate.iterdir() if path.is_dir() and path.name != "out"]
-    read = [path for part in parts for path in (part, *part.rglob("*")) if path.is_dir() or path.suffix in (".rt", ".antt")]
+    found = [path for part in parts for path in (part, *part.rglob("*"))]
+    read = [path for path in found if path.is_dir() or path.suffix in (".rt", ".antt")]
     return max(path.stat().st_ctime_ns for path in (*read, TOP / "crates.txt", TOP / "HANDLES"))
 
 
