@@ -24,8 +24,8 @@
 #   make check               runs all tests in tests/ by pytest, and skips those whose tools are not
 #                            installed. With RUST=DIR, where DIR is a checkout of faster-hex 1.0.0,
 #                            it also compares our Rust crate with faster-hex
-#   make deep                make check, all mutations, proofs of the examples and a new record of the
-#                            machine code: run it before a release
+#   make deep                make check, all mutations, all proofs from nothing, proofs of the
+#                            examples and a new record of the machine code: run it before a release
 #   make generate            proves the sources and writes generated/ again, with the Rattle
 #                            toolchain
 #
@@ -34,8 +34,8 @@
 #   CC, CFLAGS, CPPFLAGS, LDFLAGS, AR
 #                            the usual meaning. A compiler for another system builds for that
 #                            system: into out/aarch64 for Linux on aarch64, into out/windows for
-#                            Windows, and into out/macos or out/macos/aarch64 for macOS. For macOS
-#                            it builds only the archive
+#                            Windows, and into out/macos or out/macos/aarch64 for macOS. For macOS,
+#                            and with LDFLAGS=-static, the only library is the archive
 #   TARGET=aarch64           builds for Linux on aarch64 with the compiler aarch64-linux-gnu-gcc
 #   TARGET=portable          builds the libraries in plain C, which is not proved. A processor or a
 #                            system without assembly gets the same
@@ -63,7 +63,8 @@ CFLAGS ?= -O2
 ASKED := $(shell $(CC) $(CPPFLAGS) $(CFLAGS) -dM -E $(C)/assembly.h 2>/dev/null | sed -n '\
 	s/^.define FASTER_HEX_X86_64 .*/x86_64/p; s/^.define FASTER_HEX_AARCH64 .*/aarch64/p; \
 	s/^.define __APPLE__ .*/macos/p; s/^.define __MINGW32__ .*/windows/p; s/^.define __STDC__ .*/asked/p')
-ASSEMBLED := $(filter x86_64 aarch64,$(or $(ASKED),$(TARGET),$(subst amd64,x86_64,$(subst arm64,aarch64,$(shell uname -m)))))
+HERE := $(subst amd64,x86_64,$(subst arm64,aarch64,$(shell uname -m)))
+ASSEMBLED := $(filter x86_64 aarch64,$(or $(ASKED),$(TARGET),$(HERE)))
 # Another processor gives the folder of its libraries its name.
 OTHER := $(filter-out x86_64 amd64 aarch64 arm64,$(firstword $(subst -, ,$(shell $(CC) $(CFLAGS) -dumpmachine 2>/dev/null))))
 ifeq ($(TARGET),)
@@ -74,12 +75,14 @@ endif
 SYSTEM := $(filter windows macos,$(ASKED))
 
 OUT = out$(addprefix /,$(SYSTEM))$(addprefix /,$(filter-out x86_64,$(TARGET)))
+# The shared library exports the calls, and the archive hides them: dispatch.c says why.
 OBJECTS = $(OUT)/builds.o $(OUT)/dispatch.o
+EXPORTED = $(OUT)/builds.o $(OUT)/exported.o
 ARCHIVE = $(OUT)/libfaster_hex.a
 # Each program is crates/fhex/fhex.c, linked with the assembly of its name in generated/.
 PROGRAMS = fhex fhex-stream
 MADE_PROGRAMS = $(if $(filter x86_64 aarch64 x86_64windows,$(TARGET)$(SYSTEM)),$(PROGRAMS:%=$(OUT)/%$(EXE)))
-ifeq ($(SYSTEM),)
+ifeq ($(SYSTEM)$(filter -static%,$(LDFLAGS)),)
 SHARED = $(OUT)/libfaster_hex.so.$(VERSION)
 SHOWN = -Wl,-soname,libfaster_hex.so.1 -Wl,-z,relro,-z,now,-z,text -Wl,--version-script=$(C)/faster_hex.map
 LOADED = $(OUT)/libfaster_hex.so.1 '-Wl,-rpath,$$ORIGIN'
@@ -108,6 +111,9 @@ JOBS = $(shell n=$$(nproc); echo $$((n < 4 ? n : 4)))
 BEGAN := $(shell date +%s)
 ENDED = @echo "make $@ took $$(($$(date +%s) - $(BEGAN))) s; left out: $(1)"
 
+# With these, tests might be left out unseen, or a script might begin in another folder.
+unexport PYTEST_ADDOPTS CDPATH
+
 # Targets run one after the other, because each of them uses all processors.
 .NOTPARALLEL:
 CHECKED = check-generated $(PROGRAMS:%=check-generated/%)
@@ -134,14 +140,15 @@ $(PROGRAMS:%=$(OUT)/%.o): $(OUT)/%.o: generated/%/builds.S $(wildcard generated/
 $(OUT)/builds.o $(PROGRAMS:%=$(OUT)/%.o): $(wildcard generated/*.inc) $(BUILT)
 	$(COMPILE) $(CFLAGS) -Wno-unused-command-line-argument -c -o $(MADE) $(filter %.S,$^) && $(DONE)
 
-$(OUT)/dispatch.o: $(C)/dispatch.c $(wildcard $(C)/*.h) $(BUILT) | check-generated
-	$(COMPILE) -ffunction-sections $(CFLAGS) -std=c11 -fPIC -fno-lto -fno-stack-protector -c -o $(MADE) $< && $(DONE)
+$(OUT)/dispatch.o $(OUT)/exported.o: $(C)/dispatch.c $(wildcard $(C)/*.h) $(BUILT) | check-generated
+	$(COMPILE) $(if $(filter %/exported.o,$@),-DFASTER_HEX_EXPORTED) -ffunction-sections $(CFLAGS) -std=c11 -fPIC \
+		-fno-lto -fno-stack-protector -c -o $(MADE) $< && $(DONE)
 
 $(ARCHIVE): $(OBJECTS)
 	rm -f $(MADE) && $(AR) rcs $(MADE) $(OBJECTS) && $(DONE)
 
-$(OUT)/libfaster_hex.so.$(VERSION) $(OUT)/libfaster_hex.dll: $(OBJECTS) $(C)/faster_hex.map $(C)/faster_hex.def
-	$(CC) $(CFLAGS) $(LDFLAGS) -shared -o $(MADE) $(OBJECTS) $(SHOWN) && $(DONE)
+$(OUT)/libfaster_hex.so.$(VERSION) $(OUT)/libfaster_hex.dll: $(EXPORTED) $(C)/faster_hex.map $(C)/faster_hex.def
+	$(CC) $(CFLAGS) $(LDFLAGS) -shared -o $(MADE) $(EXPORTED) $(SHOWN) && $(DONE)
 
 # The object is built by a rule of its own, because the name of a temporary object would be stored in the program.
 $(PROGRAMS:%=$(OUT)/%$(EXE)): %$(EXE): crates/fhex/fhex.c %.o
@@ -155,7 +162,7 @@ test: $(CHECKED)
 	tests/header.sh
 	scripts/examples
 	$(QUICK)
-	RT_JOBS=$(JOBS) scripts/rt-ci
+	RT_JOBS=$(JOBS) rt ci
 	MUTATIONS_JOBS=$(JOBS) MUTATIONS_AFTER=$(BEGAN) scripts/mutations --gate
 else
 test: test-c
@@ -185,6 +192,7 @@ check: all
 
 # For a release. It stops at the first part that fails.
 deep: all
+	scripts/generate --anew
 	scripts/mutations
 	scripts/examples --prove
 	cd tests && /usr/bin/python3 -m machine record
@@ -199,10 +207,13 @@ dist: $(CHECKED)
 	git -c tar.umask=0022 archive --prefix=faster_hex-$(VERSION)/ -o "$(PACK)" \
 		$$(git stash create | grep . || echo HEAD) && gzip -9nf "$(PACK)"
 
+# If the values of the last build are for another processor, a line says so.
+ELSEWHERE = $(if $(TAKEN),$(if $(filter x86_64 aarch64,$(TARGET) $(HERE)),$(filter-out portable $(HERE),$(TARGET))))
 install: $(if $(SYSTEM),,all)
 install uninstall:
 	$(if $(SYSTEM),$(error for $(SYSTEM) CMake installs))
-	@VERSION=$(VERSION) OUT=$(OUT) PROGRAMS='$(if $(MADE_PROGRAMS),$(PROGRAMS))' \
+	$(if $(ELSEWHERE),@echo 'make $@: the last build was for $(ELSEWHERE) and not for $(HERE)' >&2)
+	@VERSION=$(VERSION) OUT=$(OUT) SHARED=$(SHARED) PROGRAMS='$(if $(MADE_PROGRAMS),$(PROGRAMS))' \
 		scripts/install.sh $(if $(filter uninstall,$@),--remove)
 
 vendor:

@@ -61,9 +61,14 @@ typedef size_t other(const uint8_t *src, size_t len, uint8_t *dst, size_t room);
 #define LOOPS(n) \
     CALL(WRITE, loop_write_##n, write_by_##n(src, len, dst)) \
     CALL(READ, loop_read_##n, read_by_##n(src, len, dst))
-// The build for AVX-512 has only these calls, and the Rust crate has code for AVX-512 only for these.
+// The builds for AVX-512 have only these calls, and the Rust crate has code for AVX-512 only for these.
 #ifdef WIDEST
-#define EACH_WIDEST DECODING(v4) RUST_DECODING(avx512) RUST_DECODING(slices_v4)
+#ifdef VBMI
+#define EACH_VBMI DECODING(vbmi)
+#else
+#define EACH_VBMI
+#endif
+#define EACH_WIDEST DECODING(v4) EACH_VBMI RUST_DECODING(avx512) RUST_DECODING(slices_v4)
 #define PLANS_WIDEST PLAN_DECODING(v4_plain_32) PLAN_DECODING(v4_plain_64)
 #else
 #define EACH_WIDEST
@@ -88,6 +93,7 @@ typedef size_t other(const uint8_t *src, size_t len, uint8_t *dst, size_t room);
 DECLARED(v2)
 DECLARED(v3)
 DECLARED_DECODING(v4)
+DECLARED_DECODING(vbmi)
 typedef size_t grouping(const uint8_t *src, size_t len, uint8_t *dst);
 grouping write_by_1, write_by_16, read_by_1, read_by_16;
 

@@ -43,6 +43,7 @@
 #include "x86-64-v2.s"
 #include "x86-64-v3.s"
 #include "x86-64-v4.s"
+#include "x86-64-vbmi.s"
 #else
 #include "aarch64.s"
 #endif

@@ -1,10 +1,10 @@
 /* Written by scripts/generate: do not edit. */
-	hex_function	faster_hex_1_0_0_x86_64_core_scalar_check_by_table,.text
+	hex_function	faster_hex_1_0_0_x86_64_core_look_ups_check_by_look_up,.text
 	hex_cfi	startproc
 	testq	%rsi,%rsi
 	je	1f
 	movzbl	%dl,%eax
-	leaq	.L100_switch.table.faster_hex_1_0_0_x86_64_decode_grouped.16(%rip),%rcx
+	leaq	.L100_switch.table.faster_hex_1_0_0_x86_64_decode_grouped.28(%rip),%rcx
 	movq	(%rcx,%rax,8),%rcx
 	movl	%esi,%edx
 	andl	$3,%edx
@@ -57,9 +57,9 @@
 	jne	9b
 2:
 	retq
-	hex_end	faster_hex_1_0_0_x86_64_core_scalar_check_by_table
+	hex_end	faster_hex_1_0_0_x86_64_core_look_ups_check_by_look_up
 	hex_cfi	endproc
-	hex_function	faster_hex_1_0_0_x86_64_core_backend_Backend_decode_named,.text
+	hex_function	faster_hex_1_0_0_x86_64_core_backend_Backend_decode_outlined,.text
 	hex_cfi	startproc
 	pushq	%r15
 	hex_cfi	def_cfa_offset 16
@@ -81,7 +81,7 @@
 	shrq	%rsi
 	je	2f
 	movzbl	%r8b,%eax
-	leaq	.L100_switch.table.faster_hex_1_0_0_x86_64_decode_grouped.16(%rip),%rcx
+	leaq	.L100_switch.table.faster_hex_1_0_0_x86_64_decode_grouped.28(%rip),%rcx
 	movq	(%rcx,%rax,8),%r8
 	xorl	%ecx,%ecx
 	xorl	%ebx,%ebx
@@ -114,13 +114,13 @@
 	movzbl	%r8b,%r14d
 	movq	%rdi,%r12
 	movl	%r14d,%edx
-	callq	faster_hex_1_0_0_x86_64_core_scalar_check_by_table
+	callq	faster_hex_1_0_0_x86_64_core_look_ups_check_by_look_up
 	testb	%al,%al
 	je	16f
 	movb	$1,%al
 	testq	%r15,%r15
 	je	24f
-	leaq	.L100_switch.table.faster_hex_1_0_0_x86_64_decode_grouped.16(%rip),%rcx
+	leaq	.L100_switch.table.faster_hex_1_0_0_x86_64_decode_grouped.28(%rip),%rcx
 	movq	(%rcx,%r14,8),%rcx
 	cmpq	$1,%r15
 	jne	20f
@@ -231,9 +231,9 @@
 	popq	%r15
 	hex_cfi	def_cfa_offset 8
 	retq
-	hex_end	faster_hex_1_0_0_x86_64_core_backend_Backend_decode_named
+	hex_end	faster_hex_1_0_0_x86_64_core_backend_Backend_decode_outlined
 	hex_cfi	endproc
-	hex_function	faster_hex_1_0_0_x86_64_core_backend_Backend_decode_or_find,.text
+	hex_function	faster_hex_1_0_0_x86_64_core_backend_Backend_decode_or_find_outlined,.text
 	hex_cfi	startproc
 	pushq	%rbp
 	hex_cfi	def_cfa_offset 16
@@ -258,7 +258,7 @@
 	movq	%r15,%rdi
 	movq	%r14,%rsi
 	movl	%ebp,%r8d
-	callq	faster_hex_1_0_0_x86_64_core_backend_Backend_decode_named
+	callq	faster_hex_1_0_0_x86_64_core_backend_Backend_decode_outlined
 	testb	%al,%al
 	je	3f
 	xorl	%edx,%edx
@@ -285,7 +285,7 @@
 	movzbl	%dl,%edx
 	orl	$256,%edx
 	jmp	4b
-	hex_end	faster_hex_1_0_0_x86_64_core_backend_Backend_decode_or_find
+	hex_end	faster_hex_1_0_0_x86_64_core_backend_Backend_decode_or_find_outlined
 	hex_cfi	endproc
 	hex_function	faster_hex_1_0_0_x86_64_core_backend_Backend_first_invalid_byte,.text.unlikely
 	hex_cfi	startproc
@@ -317,7 +317,7 @@
 	leaq	(%r14,%r15),%rdi
 	movl	$64,%esi
 	movl	%r12d,%edx
-	callq	faster_hex_1_0_0_x86_64_core_scalar_check_by_table
+	callq	faster_hex_1_0_0_x86_64_core_look_ups_check_by_look_up
 	testb	%al,%al
 	je	6f
 	addq	$64,%r15
@@ -331,7 +331,7 @@
 6:
 	cmpq	%rbx,%r15
 	jae	10f
-	leaq	.L100_switch.table.faster_hex_1_0_0_x86_64_decode_grouped.16(%rip),%rax
+	leaq	.L100_switch.table.faster_hex_1_0_0_x86_64_decode_grouped.28(%rip),%rax
 	movq	(%rax,%r12,8),%rax
 	.p2align	4
 8:
@@ -358,15 +358,15 @@
 	retq
 	hex_end	faster_hex_1_0_0_x86_64_core_backend_Backend_first_invalid_byte
 	hex_cfi	endproc
-	hex_function	faster_hex_1_0_0_x86_64_core_backend_Backend_encode_named,.text
+	hex_function	faster_hex_1_0_0_x86_64_core_backend_Backend_encode_outlined,.text
 	hex_cfi	startproc
-	jmp	faster_hex_1_0_0_x86_64_core_scalar_encode_by_table
-	hex_end	faster_hex_1_0_0_x86_64_core_backend_Backend_encode_named
+	jmp	faster_hex_1_0_0_x86_64_core_look_ups_encode_by_look_up
+	hex_end	faster_hex_1_0_0_x86_64_core_backend_Backend_encode_outlined
 	hex_cfi	endproc
-	hex_function	faster_hex_1_0_0_x86_64_core_scalar_encode_by_table,.text
+	hex_function	faster_hex_1_0_0_x86_64_core_look_ups_encode_by_look_up,.text
 	hex_cfi	startproc
-	leaq	.L100_static.9(%rip),%r8
-	leaq	.L100_static.10(%rip),%rax
+	leaq	.L100_static.14(%rip),%r8
+	leaq	.L100_static.15(%rip),%rax
 	testl	%ecx,%ecx
 	cmovneq	%r8,%rax
 	testq	%rsi,%rsi
@@ -398,7 +398,7 @@
 	movw	%ax,(%rdx,%rcx,2)
 7:
 	retq
-	hex_end	faster_hex_1_0_0_x86_64_core_scalar_encode_by_table
+	hex_end	faster_hex_1_0_0_x86_64_core_look_ups_encode_by_look_up
 	hex_cfi	endproc
 	hex_function	faster_hex_1_0_0_x86_64_core_backend_Backend_first_invalid,.text
 	hex_cfi	startproc
@@ -420,7 +420,7 @@
 	movl	%edx,%ebx
 	movq	%rsi,%r14
 	movq	%rdi,%r15
-	callq	faster_hex_1_0_0_x86_64_core_scalar_check_by_table
+	callq	faster_hex_1_0_0_x86_64_core_look_ups_check_by_look_up
 	testb	%al,%al
 	jne	12f
 	movzbl	%bl,%r12d
@@ -434,7 +434,7 @@
 	leaq	(%r15,%rbx),%rdi
 	movl	$64,%esi
 	movl	%r12d,%edx
-	callq	faster_hex_1_0_0_x86_64_core_scalar_check_by_table
+	callq	faster_hex_1_0_0_x86_64_core_look_ups_check_by_look_up
 	testb	%al,%al
 	je	7f
 	addq	$64,%rbx
@@ -451,7 +451,7 @@
 	cmpq	%r14,%rbx
 	jae	12f
 8:
-	leaq	.L100_switch.table.faster_hex_1_0_0_x86_64_decode_grouped.16(%rip),%rax
+	leaq	.L100_switch.table.faster_hex_1_0_0_x86_64_decode_grouped.28(%rip),%rax
 	movq	(%rax,%r12,8),%rax
 	.p2align	4
 9:
@@ -514,7 +514,7 @@
 	movq	%rdx,%r12
 	movq	%rbx,%rcx
 	movl	%ebp,%r8d
-	callq	faster_hex_1_0_0_x86_64_core_backend_Backend_decode_named
+	callq	faster_hex_1_0_0_x86_64_core_backend_Backend_decode_outlined
 	movq	%r14,%rdi
 	movq	%r15,%rsi
 	movq	%r12,%rdx
@@ -523,7 +523,7 @@
 4:
 	movq	%rbx,%rcx
 	movl	%ebp,%r8d
-	callq	faster_hex_1_0_0_x86_64_core_backend_Backend_decode_or_find
+	callq	faster_hex_1_0_0_x86_64_core_backend_Backend_decode_or_find_outlined
 	testw	%dx,%dx
 	jne	5f
 6:
@@ -549,7 +549,7 @@
 	pushq	%rax
 	hex_cfi	def_cfa_offset 16
 	xorl	%edx,%edx
-	callq	faster_hex_1_0_0_x86_64_core_scalar_check_by_table
+	callq	faster_hex_1_0_0_x86_64_core_look_ups_check_by_look_up
 	popq	%rcx
 	hex_cfi	def_cfa_offset 8
 	retq
@@ -561,7 +561,7 @@
 	pushq	%rax
 	hex_cfi	def_cfa_offset 16
 	movl	$1,%edx
-	callq	faster_hex_1_0_0_x86_64_core_scalar_check_by_table
+	callq	faster_hex_1_0_0_x86_64_core_look_ups_check_by_look_up
 	popq	%rcx
 	hex_cfi	def_cfa_offset 8
 	retq
@@ -573,7 +573,7 @@
 	pushq	%rax
 	hex_cfi	def_cfa_offset 16
 	movl	$2,%edx
-	callq	faster_hex_1_0_0_x86_64_core_scalar_check_by_table
+	callq	faster_hex_1_0_0_x86_64_core_look_ups_check_by_look_up
 	popq	%rcx
 	hex_cfi	def_cfa_offset 8
 	retq
@@ -611,7 +611,7 @@
 	movq	%rax,%rcx
 	xorl	%r8d,%r8d
 	movq	%rax,%r12
-	callq	faster_hex_1_0_0_x86_64_core_backend_Backend_decode_named
+	callq	faster_hex_1_0_0_x86_64_core_backend_Backend_decode_outlined
 	movq	%rbx,%rdi
 	movq	%r14,%rsi
 	movq	%r15,%rdx
@@ -640,7 +640,7 @@
 	hex_cfi	offset %r15,-16
 	movq	%rax,%rcx
 	xorl	%r8d,%r8d
-	callq	faster_hex_1_0_0_x86_64_core_backend_Backend_decode_or_find
+	callq	faster_hex_1_0_0_x86_64_core_backend_Backend_decode_or_find_outlined
 	xorl	%ecx,%ecx
 	testw	%dx,%dx
 	setne	%cl
@@ -693,7 +693,7 @@
 	movzbl	%r8b,%ecx
 	andl	$1,%ecx
 	movq	%rbx,%rsi
-	callq	faster_hex_1_0_0_x86_64_core_backend_Backend_encode_named
+	callq	faster_hex_1_0_0_x86_64_core_backend_Backend_encode_outlined
 	xorl	%edx,%edx
 	addq	%rbx,%rbx
 	movq	%rbx,%rax
@@ -801,8 +801,8 @@
 	je	20f
 	cmpq	$1,%r9
 	jne	23f
-	leaq	.L100_static.9(%rip),%rax
-	leaq	.L100_static.10(%rip),%rcx
+	leaq	.L100_static.14(%rip),%rax
+	leaq	.L100_static.15(%rip),%rcx
 	testb	$1,%r8b
 	cmovneq	%rax,%rcx
 	cmpq	$2,%rsi
@@ -814,8 +814,8 @@
 	xorl	%eax,%eax
 	jmp	42f
 20:
-	leaq	.L100_static.9(%rip),%rcx
-	leaq	.L100_static.10(%rip),%rax
+	leaq	.L100_static.14(%rip),%rcx
+	leaq	.L100_static.15(%rip),%rax
 	testb	$1,%r8b
 	cmovneq	%rcx,%rax
 	cmpq	$5,%rsi
@@ -844,8 +844,8 @@
 	ja	22b
 	jmp	30f
 23:
-	leaq	.L100_static.9(%rip),%r11
-	leaq	.L100_static.10(%rip),%r10
+	leaq	.L100_static.14(%rip),%r11
+	leaq	.L100_static.15(%rip),%r10
 	movzbl	%r8b,%eax
 	cmpq	%rsi,%r9
 	jae	33f
@@ -981,7 +981,7 @@
 	movq	%r13,%rbp
 	movq	%r12,%r13
 	movq	%r9,%r12
-	callq	faster_hex_1_0_0_x86_64_core_backend_Backend_encode_named
+	callq	faster_hex_1_0_0_x86_64_core_backend_Backend_encode_outlined
 	movq	%r12,%r9
 	movq	%r13,%r12
 	movq	%rbp,%r13
@@ -1005,8 +1005,8 @@
 	cmpq	$7,%rax
 	ja	57f
 	movq	%rax,%rsi
-	leaq	.L100_static.10(%rip),%r10
-	leaq	.L100_static.9(%rip),%r11
+	leaq	.L100_static.15(%rip),%r10
+	leaq	.L100_static.14(%rip),%r11
 49:
 	testb	$1,%r8b
 	cmovneq	%r11,%r10
@@ -1052,7 +1052,7 @@
 	movl	12(%rsp),%ecx
 	andl	$1,%ecx
 	movq	%rax,%rsi
-	callq	faster_hex_1_0_0_x86_64_core_backend_Backend_encode_named
+	callq	faster_hex_1_0_0_x86_64_core_backend_Backend_encode_outlined
 58:
 	addq	%r13,%r14
 	xorl	%r10d,%r10d
@@ -1115,7 +1115,7 @@
 	pushq	%rax
 	hex_cfi	def_cfa_offset 16
 	movzbl	%dl,%edx
-	callq	faster_hex_1_0_0_x86_64_core_scalar_check_by_table
+	callq	faster_hex_1_0_0_x86_64_core_look_ups_check_by_look_up
 	addq	$8,%rsp
 	hex_cfi	def_cfa_offset 8
 	retq
@@ -1240,11 +1240,11 @@
 	andq	%r9,%r14
 	je	67f
 	cmpb	$1,%r8b
-	leaq	.L100_static.4(%rip),%rax
-	leaq	.L100_static.5(%rip),%rcx
+	leaq	.L100_static.7(%rip),%rax
+	leaq	.L100_static.8(%rip),%rcx
 	cmoveq	%rax,%rcx
 	testb	%r8b,%r8b
-	leaq	.L100_static.3(%rip),%r13
+	leaq	.L100_static.6(%rip),%r13
 	cmovneq	%rcx,%r13
 	movq	%r15,%rax
 	leaq	1(%rdi),%r15
@@ -1313,7 +1313,7 @@
 	movq	%rax,%rcx
 	shrq	%rcx
 	je	39f
-	leaq	.L100_switch.table.faster_hex_1_0_0_x86_64_decode_grouped.16(%rip),%rdi
+	leaq	.L100_switch.table.faster_hex_1_0_0_x86_64_decode_grouped.28(%rip),%rdi
 	movq	8(%rsp),%r8
 	movq	(%rdi,%r8,8),%rdi
 	leaq	(%rbx,%r13),%r8
@@ -1352,11 +1352,11 @@
 	cmpq	$8,%r9
 	jae	53f
 	cmpb	$1,%bpl
-	leaq	.L100_static.4(%rip),%rax
-	leaq	.L100_static.5(%rip),%rcx
+	leaq	.L100_static.7(%rip),%rax
+	leaq	.L100_static.8(%rip),%rcx
 	cmoveq	%rax,%rcx
 	testb	%bpl,%bpl
-	leaq	.L100_static.3(%rip),%rax
+	leaq	.L100_static.6(%rip),%rax
 	cmovneq	%rcx,%rax
 	movl	%r9d,%edi
 	andl	$6,%edi
@@ -1477,7 +1477,7 @@
 	testq	%rcx,%rcx
 	movq	8(%rsp),%rsi
 	je	66f
-	leaq	.L100_switch.table.faster_hex_1_0_0_x86_64_decode_grouped.16(%rip),%rax
+	leaq	.L100_switch.table.faster_hex_1_0_0_x86_64_decode_grouped.28(%rip),%rax
 	movq	(%rax,%rsi,8),%rax
 	movzbl	(%r13),%esi
 	movzbl	(%rax,%rsi),%esi
@@ -1663,7 +1663,7 @@
 	movq	%rax,%rcx
 	movl	%ebx,%r8d
 	movq	%rax,%r13
-	callq	faster_hex_1_0_0_x86_64_core_backend_Backend_decode_named
+	callq	faster_hex_1_0_0_x86_64_core_backend_Backend_decode_outlined
 	movq	%r14,%rdi
 	movq	%r15,%rsi
 	movq	%r12,%rdx
@@ -1676,7 +1676,7 @@
 11:
 	movq	%rax,%rcx
 	movl	%ebx,%r8d
-	callq	faster_hex_1_0_0_x86_64_core_backend_Backend_decode_or_find
+	callq	faster_hex_1_0_0_x86_64_core_backend_Backend_decode_or_find_outlined
 	xorl	%ecx,%ecx
 	testw	%dx,%dx
 	setne	%cl
@@ -1739,34 +1739,34 @@
 	retq
 	hex_end	faster_hex_1_0_0_x86_64_first_invalid
 	hex_cfi	endproc
-	hex_constant	.L100_static.3
-.L100_static.3:
+	hex_constant	.L100_static.6
+.L100_static.6:
 	.zero	48,255
 	.ascii	"\000\001\002\003\004\005\006\007\b\t\377\377\377\377\377\377\377\n\013\f\r\016\017"
 	.zero	26,255
 	.ascii	"\n\013\f\r\016\017"
 	.zero	153,255
-	hex_constant	.L100_static.4
-.L100_static.4:
+	hex_constant	.L100_static.7
+.L100_static.7:
 	.zero	48,255
 	.ascii	"\000\001\002\003\004\005\006\007\b\t"
 	.zero	39,255
 	.ascii	"\n\013\f\r\016\017"
 	.zero	153,255
-	hex_constant	.L100_static.5
-.L100_static.5:
+	hex_constant	.L100_static.8
+.L100_static.8:
 	.zero	48,255
 	.ascii	"\000\001\002\003\004\005\006\007\b\t\377\377\377\377\377\377\377\n\013\f\r\016\017"
 	.zero	185,255
-	hex_constant	.L100_static.9
-.L100_static.9:
+	hex_constant	.L100_static.14
+.L100_static.14:
 	.ascii	"000102030405060708090A0B0C0D0E0F101112131415161718191A1B1C1D1E1F202122232425262728292A2B2C2D2E2F303132333435363738393A3B3C3D3E3F404142434445464748494A4B4C4D4E4F505152535455565758595A5B5C5D5E5F606162636465666768696A6B6C6D6E6F707172737475767778797A7B7C7D7E7F808182838485868788898A8B8C8D8E8F909192939495969798999A9B9C9D9E9FA0A1A2A3A4A5A6A7A8A9AAABACADAEAFB0B1B2B3B4B5B6B7B8B9BABBBCBDBEBFC0C1C2C3C4C5C6C7C8C9CACBCCCDCECFD0D1D2D3D4D5D6D7D8D9DADBDCDDDEDFE0E1E2E3E4E5E6E7E8E9EAEBECEDEEEFF0F1F2F3F4F5F6F7F8F9FAFBFCFDFEFF"
-	hex_constant	.L100_static.10
-.L100_static.10:
+	hex_constant	.L100_static.15
+.L100_static.15:
 	.ascii	"000102030405060708090a0b0c0d0e0f101112131415161718191a1b1c1d1e1f202122232425262728292a2b2c2d2e2f303132333435363738393a3b3c3d3e3f404142434445464748494a4b4c4d4e4f505152535455565758595a5b5c5d5e5f606162636465666768696a6b6c6d6e6f707172737475767778797a7b7c7d7e7f808182838485868788898a8b8c8d8e8f909192939495969798999a9b9c9d9e9fa0a1a2a3a4a5a6a7a8a9aaabacadaeafb0b1b2b3b4b5b6b7b8b9babbbcbdbebfc0c1c2c3c4c5c6c7c8c9cacbcccdcecfd0d1d2d3d4d5d6d7d8d9dadbdcdddedfe0e1e2e3e4e5e6e7e8e9eaebecedeeeff0f1f2f3f4f5f6f7f8f9fafbfcfdfeff"
-	hex_addresses	.L100_switch.table.faster_hex_1_0_0_x86_64_decode_grouped.16
+	hex_addresses	.L100_switch.table.faster_hex_1_0_0_x86_64_decode_grouped.28
 	.p2align	3,0x0
-.L100_switch.table.faster_hex_1_0_0_x86_64_decode_grouped.16:
-	.quad	.L100_static.3
-	.quad	.L100_static.4
-	.quad	.L100_static.5
+.L100_switch.table.faster_hex_1_0_0_x86_64_decode_grouped.28:
+	.quad	.L100_static.6
+	.quad	.L100_static.7
+	.quad	.L100_static.8

@@ -1,8 +1,8 @@
 #!/bin/sh
 # Installs what `make` built. Files go into PREFIX (by default /usr/local), and libraries into LIBDIR (by default
 # PREFIX/lib). DESTDIR is put before both. With --remove it removes the same files, and the library's own folders if
-# nothing else is in them. `make install` and `make uninstall` run it, and set VERSION, PROGRAMS, and OUT, which is the
-# folder where the files were built.
+# nothing else is in them. `make install` and `make uninstall` run it, and set VERSION, PROGRAMS, OUT, which is the
+# folder where the files were built, and SHARED, which is empty if no shared library was built.
 # Usage: scripts/install.sh [--remove]
 set -eu
 case ${1-} in -h | --help) sed '1d; /^#/!q; s/^# \{0,1\}//' "$0" && exit ;; esac
@@ -40,26 +40,27 @@ for program in $PROGRAMS; do
     place "$PREFIX/bin/$program" install -m 755 "$OUT/$program"
     place "$man/man1/$program.1" install -m 644 "docs/$program.1"
 done
-place "$PREFIX/include/faster_hex.h" install -m 644 crates/faster_hex_c/faster_hex.h
-place "$PREFIX/include/faster_hex.hpp" install -m 644 crates/faster_hex_c/faster_hex.hpp
-rm -f "${DESTDIR-}$LIBDIR"/libfaster_hex.so.1.* # also those of earlier versions
+while read -r pattern folder; do
+    for file in $pattern; do
+        [ "$pattern" = '#' ] || place "$PREFIX/$folder/${file##*/}" install -m 644 "$file"
+    done
+done <bindings/installed.txt
+# also those of earlier versions
+rm -f "${DESTDIR-}$LIBDIR"/libfaster_hex.so.1.* "${DESTDIR-}$LIBDIR"/libfaster_hex.so.1 \
+    "${DESTDIR-}$LIBDIR"/libfaster_hex.so
 place "$LIBDIR/libfaster_hex.a" install -m 644 "$OUT/libfaster_hex.a"
-place "$LIBDIR/libfaster_hex.so.$VERSION" install -m 755 "$OUT/libfaster_hex.so.$VERSION"
-place "$LIBDIR/libfaster_hex.so.1" ln -s "libfaster_hex.so.$VERSION"
-place "$LIBDIR/libfaster_hex.so" ln -s libfaster_hex.so.1
+if [ -n "${SHARED-}" ]; then
+    place "$LIBDIR/libfaster_hex.so.$VERSION" install -m 755 "$SHARED"
+    place "$LIBDIR/libfaster_hex.so.1" ln -s "libfaster_hex.so.$VERSION"
+    place "$LIBDIR/libfaster_hex.so" ln -s libfaster_hex.so.1
+fi
 place "$LIBDIR/pkgconfig/faster_hex.pc" fill bindings/faster_hex.pc.in "prefix=$PREFIX
 libdir=$libdir
 version=$VERSION"
 place "$cmake/faster_hexConfig.cmake" fill bindings/cmake/faster_hexConfig.cmake.in "set(faster_hex_up [[$up]])"
 place "$cmake/faster_hexConfigVersion.cmake" fill bindings/cmake/faster_hexConfigVersion.cmake.in \
     "set(PACKAGE_VERSION $VERSION)"
-place "$man/man3/faster_hex.3" install -m 644 docs/faster_hex.3
 for call in $(sed -n 's/^[a-z].*[ *]\(faster_hex_[a-z_]*\)(.*/\1/p' crates/faster_hex_c/faster_hex.h); do
     place "$man/man3/$call.3" ln -s faster_hex.3
-done
-place "$doc/LICENSE" install -m 644 LICENSE
-for file in Cargo.toml LICENSE bindings/rust/README.md bindings/rust/src/*.rs generated/*.s generated/*.inc \
-    generated/PROVED; do
-    place "$own/rust/$file" install -m 644 "$file"
 done
 [ -z "$word" ] || find "${DESTDIR-}$doc" "${DESTDIR-}$own" "${DESTDIR-}$cmake" -depth -exec rmdir {} \; 2>/dev/null || :

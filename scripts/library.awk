@@ -5,10 +5,32 @@
 # numbers become code that nothing reaches.
 { edits += gsub(/call i8 @"faster_hex_c::level"\(\)/, "add i8 0, " level) }
 
-# Level 4 was proved for the processor of level 3, because `rattle` knows no processor with AVX-512. From here on clang
-# may use AVX-512. It makes slower code of some calls with it, so these are no longer exported, and clang removes them.
-level == 4 { sub(/"target-cpu"="x86-64-v3"/, "\"target-cpu\"=\"x86-64-v4\"") }
-level == 4 && /^define .*@faster_hex_(encode|decode_grouped|first_invalid)/ { sub(/^define /, "define internal ") }
+# Levels 4 and 5 were proved for the processor of level 3, because `rattle` knows no processor with AVX-512. From here on
+# clang may use AVX-512, and at level 5 also AVX-512 VBMI. It makes slower code of some calls with it, so these are no
+# longer exported, and clang removes them.
+BEGIN { wide = "\"target-cpu\"=\"x86-64-v4\"" (level == 5 ? " \"target-features\"=\"+avx512vbmi\"" : "") }
+level >= 4 { sub(/"target-cpu"="x86-64-v3"/, wide) }
+level >= 4 && /^define .*@faster_hex_(encode|decode_grouped|first_invalid)/ { sub(/^define /, "define internal ") }
+
+# At level 5, one function becomes the instruction `vpermb`, which does the same: it replaces each lane of the second
+# vector by the lane of the first one at its low six bits.
+level == 5 && /^define .*@"hex_core::widths::look_up_row_of_64"\(/ {
+    print
+    print "  %row = load <64 x i8>, ptr %a1, align 1"
+    print "  %at = load <64 x i8>, ptr %a2, align 1"
+    print "  %found = call <64 x i8> @llvm.x86.avx512.permvar.qi.512(<64 x i8> %row, <64 x i8> %at)"
+    print "  store <64 x i8> %found, ptr %a0, align 1"
+    print "  ret void"
+    look_ups++
+    is_replaced = 1
+}
+# Two functions with all short paths are inlined there, as those of the other builds are. The toolchain ignores the mark
+# for it, because with both maps the functions would be too long.
+level == 5 && /^define internal .*@"hex_core::plain::(check|decode)_by_long_rows"\(/ {
+    hints += sub(/ #[0-9]+ \{$/, " alwaysinline&")
+}
+is_replaced { if (/^}/) is_replaced = 0; else next }
+END { if (level == 5) print "declare <64 x i8> @llvm.x86.avx512.permvar.qi.512(<64 x i8>, <64 x i8>)" }
 
 # Unwind tables let a debugger walk out of each function. Only x86-64 gets them, because on aarch64 they would change
 # instructions.
@@ -25,3 +47,9 @@ END {
 
 # The text that the toolchain writes may change. Then it must not pass without the edit.
 END { if (edits != 1) { print "library.awk: " edits + 0 " calls of level, and not one" >"/dev/stderr"; exit 1 } }
+END {
+    if (level == 5 && (look_ups != 1 || hints != 2)) {
+        print "library.awk: " look_ups + 0 " functions look_up_row_of_64, and not one, or " hints + 0 " by_long_rows, and not two" >"/dev/stderr"
+        exit 1
+    }
+}

@@ -11,11 +11,13 @@ import pytest
 
 TOP = Path(__file__).resolve().parent.parent
 OUT = TOP / "out"
+# The folder for what tests build for other targets.
+BESIDE = OUT / "beside"
 TESTS_IN_C = TOP / "tests/c"
 CRATE = TOP / "crates/faster_hex_c"
 # The calls that each build has, and all functions of the header.
 CALLS = re.findall(r"^[a-z].* (faster_hex_[a-z_]*)\(", (CRATE / "faster_hex.h").read_text(), re.M)
-NAMES = [*CALLS, "faster_hex_status_text", "faster_hex_version"]
+NAMES = [*CALLS, "faster_hex_status_text", "faster_hex_version", "faster_hex_build"]
 VERSION = re.search("^VERSION = (.*)", (TOP / "Makefile").read_text(), re.M)[1]
 SHARED = "libfaster_hex.so", "libfaster_hex.so.1", f"libfaster_hex.so.{VERSION}"
 CC, CXX = os.environ.get("CC") or "cc", os.environ.get("CXX") or "c++"
@@ -32,15 +34,13 @@ LIMIT, OF_PROOFS = 900, 14400
 HELLO = "68656c6c6f\n"
 BY_RUST = HELLO + "hello\ninvalid hex byte 0x46 at index 2\ndigits up to index 4\n"
 PRINTED = BY_RUST + "00:1B:21:AB\n4 bytes, the last 0xab\n"
-# The files of an installed copy.
-INSTALLED = """bin/fhex bin/fhex-stream share/man/man1/fhex.1 share/man/man1/fhex-stream.1 include/faster_hex.h
-    include/faster_hex.hpp lib/libfaster_hex.a lib/cmake/faster_hex/faster_hexConfig.cmake
-    lib/cmake/faster_hex/faster_hexConfigVersion.cmake lib/pkgconfig/faster_hex.pc share/faster_hex/rust/Cargo.toml
-    share/faster_hex/rust/LICENSE share/faster_hex/rust/bindings/rust/README.md share/man/man3/faster_hex.3
-    share/doc/faster_hex/LICENSE""".split()
+# The files of an installed copy: those that are built or filled in, and those that are copied.
+INSTALLED = """bin/fhex bin/fhex-stream share/man/man1/fhex.1 share/man/man1/fhex-stream.1 lib/libfaster_hex.a
+    lib/cmake/faster_hex/faster_hexConfig.cmake lib/cmake/faster_hex/faster_hexConfigVersion.cmake
+    lib/pkgconfig/faster_hex.pc""".split()
 INSTALLED += [f"lib/{name}" for name in SHARED] + [f"share/man/man3/{name}.3" for name in NAMES]
-OF_RUST = *TOP.glob("bindings/rust/src/*.rs"), *TOP.glob("generated/*.[si]*"), TOP / "generated/PROVED"
-INSTALLED += [f"share/faster_hex/rust/{it.relative_to(TOP)}" for it in OF_RUST]
+COPIED = re.findall("^([^# ]+) (.+)", (TOP / "bindings/installed.txt").read_text(), re.M)
+INSTALLED += [f"{folder}/{it.name}" for pattern, folder in COPIED for it in TOP.glob(pattern)]
 # The seed of random lengths. It is new in each run, unless SEED is given. All processes of a run find it in their
 # environment.
 SEED = os.environ.get("SEED") or os.environ.setdefault("DRAWN_SEED", f"{random.SystemRandom().randrange(10 ** 9)}")
@@ -48,6 +48,7 @@ STRICT = ["-Wall", "-Wextra", "-Wpedantic", "-Wconversion", "-Werror", f"-I{CRAT
 BUILT = "-std=gnu99 -O1 -g -pthread".split()
 # The builds for x86-64, each with a flag of /proc/cpuinfo that its processors have.
 BUILDS = {"x86-64": "sse2", "x86-64-v2": "sse4_2", "x86-64-v3": "avx2", "x86-64-v4": "avx512bw"}
+BUILDS["x86-64-vbmi"] = "avx512vbmi"
 # Processor models of qemu, and the build that a call uses there.
 MODELS = {"qemu64": "x86_64", "qemu64,-sse3": "x86_64", "Nehalem": "x86_64_v2", "Haswell": "x86_64_v3"}
 MODELS |= dict.fromkeys(("Haswell,-avx2", "Haswell,-avx", "Haswell,-xsave"), "x86_64_v2")
@@ -61,6 +62,12 @@ def needs(*tools):
 
 def make(*words, top=TOP):
     return ["make", "-s", "-C", top, *words]
+
+
+def make_beside(folder, *words):
+    """Builds for another target into a folder of BESIDE. The record of the last build stays as it is, because the next
+    `make test-c` reads it."""
+    return make(*words, f"OUT=out/beside/{folder}", f"BUILT=out/beside/{folder}/built")
 
 
 def only(folder, tools):
@@ -157,6 +164,13 @@ def tries(made, compiler, library, options="", tool="", words=""):
     passes([*tool.split(), compiled(compiler, made / "library", *built), *words.split()])
 
 
+def names_build(made, compiler, library, build, tool="", before=None):
+    """Checks the name of the build that calls use, also before the library's constructor has run."""
+    needs(*tool.split()[:1])
+    program = compiled(compiler, made / "build", "-std=gnu99", "-static", TESTS_IN_C / "build.c", library)
+    runs([*tool.split(), program], out=f"{before or build} {build}\n")
+
+
 def shared_of(made, folder):
     """Links a shared library to the name that the loader looks for. Returns the link, and the option with which it is
     found."""
@@ -167,7 +181,7 @@ def shared_of(made, folder):
 
 def alone(made, build):
     """An option for the linker that gives the calls of one build the names of the header, so that no other build is
-    linked. Calls that the build for AVX-512 does not have are those of the build for AVX2."""
+    linked. Calls that the builds for AVX-512 do not have are those of the build for AVX2."""
     if not re.search(rf"\b{BUILDS[build]}\b", Path("/proc/cpuinfo").read_text()):
         pytest.skip(f"the processor has no {BUILDS[build]}")
     named = lambda it, build: it.replace("hex_", f"hex_{VERSION}_{build}_").replace(".", "_").replace("-", "_")
@@ -189,6 +203,16 @@ def shows_names(shared):
     """Checks that a shared library exports exactly the header's functions, with the version of the interface."""
     said = ran(["readelf", "-W", "--dyn-syms", shared]).stdout
     assert {*re.findall(r" (\w+)@@FASTER_HEX_1$", said, re.M)} == {*NAMES}
+
+
+def plugin_over(made, archive):
+    """Links a shared library that contains an archive, and checks that it exports only its own function, which returns
+    the version of that archive."""
+    source = made / "plugin.c"
+    source.write_text("#include <faster_hex.h>\nconst char *plugin(void) { return faster_hex_version(); }\n")
+    words = "-shared", "-fPIC", f"-I{CRATE}", "-o", made / "libplugin.so", source, archive
+    runs([CC, *words])
+    assert re.findall(r" [A-Z] (\w+)$", runs(["nm", "-D", "--defined-only", made / "libplugin.so"]), re.M) == ["plugin"]
 
 
 def stands_alone(archive):

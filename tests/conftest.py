@@ -5,7 +5,7 @@ from pathlib import Path
 import pytest
 
 pytest.register_assert_rewrite("commands")
-from commands import ARM_CC, CARGO, OUT, SEED, copied, make, needs, own_files, runs
+from commands import ARM_CC, BESIDE, CARGO, OUT, SEED, copied, make, make_beside, needs, own_files, runs
 from packages import REGISTRY, over
 
 
@@ -45,8 +45,8 @@ def library():
 def arm():
     """The folder with the library and the programs for aarch64."""
     needs(ARM_CC)
-    runs(make("TARGET=aarch64", f"CC={ARM_CC}"))
-    return OUT / "aarch64"
+    runs(make_beside("aarch64", "TARGET=aarch64", f"CC={ARM_CC}"))
+    return BESIDE / "aarch64"
 
 
 @pytest.fixture(scope="session")

@@ -5,9 +5,9 @@
 # - faster_hex.h and the functions that Rattle exports must agree: on the types and the order of the answer's fields,
 #   on the numbers of the statuses, and on the name, the result and the parameters of each function. A Source or a
 #   Destination is a pointer and a length.
-# - dispatch.c must define the functions of the header.
+# - dispatch.c must define the functions of the header, and faster_hex.map and faster_hex.def must export them.
 # - The version must be the VERSION of the Makefile in the header, in the crate for Rust, in CMakeLists.txt, in
-#   fhex-stream, in the manual pages and in the names of generated/.
+#   fhex-stream, in the manual pages, in bunkmedlar.spdx and in the names of generated/.
 # - Each PROVED in generated/ must fit the sources, its files, and the prover that README.md names.
 set -eu
 case ${1-} in -h | --help) sed '1d; /^#/!q; s/^# \{0,1\}//' "$0" && exit ;; esac
@@ -50,16 +50,17 @@ versions() {
     echo "its-numbers $(sed -n 's/^#define FASTER_HEX_VERSION_[A-Z]* \([0-9]*\)$/\1/p' faster_hex.h |
         tr '\n' . | sed 's/\.$//')"
     sed -n 's/^version = "\(.*\)+bunkmedlar"$/bindings \1/p' ../../Cargo.toml
+    sed -n 's/^PackageVersion: \([0-9.]*\)\(+bunkmedlar\)*$/bunkmedlar.spdx \1/p' ../../bunkmedlar.spdx
     sed -n 's/^project(.* VERSION \([0-9.]*\) .*/CMakeLists.txt \1/p' ../../CMakeLists.txt
     sed -n 's/^const VERSION: &str = "\(fhex-stream\) \(.*\)";$/\1 \2/p' ../hex_program/src/stream.rt
     sed -n 's/^\.TH \([A-Z_]*\) .* "Bunkmedlar \([0-9.]*\)" .*/\1 \2/p' ../../docs/*.[13]
     sed -n 's/^\thex_export\tfaster_hex_\([0-9]*\)_\([0-9]*\)_\([0-9]*\)_\(.*\)/\4 \1.\2.\3/p' ../../generated/*.s
 }
 
-# The functions that dispatch.c defines: most of them by a macro, and two without it.
+# The functions that dispatch.c defines: most of them by a macro, and three without it.
 {
     sed -n 's/^CALL(\([a-z]*\), \([a-z_]*\),.*/faster_hex_\2/p' dispatch.c
-    sed -n 's/^const char \*\(faster_hex_[a-z_]*\)(.*{$/\1/p' dispatch.c
+    sed -n 's/^PUBLIC const char \*\(faster_hex_[a-z_]*\)(.*{$/\1/p' dispatch.c
 } | sort >"$made/dispatched"
 sed 's/.*[ *]\(faster_hex_[a-z_]*\)(.*/\1/; t; d' "$made/header" | sort >"$made/named"
 
@@ -67,6 +68,9 @@ status=0
 [ -s "$made/declared" ] || { echo 'nothing is declared' && status=1; }
 diff "$made/declared" "$made/exported" || status=1
 diff "$made/named" "$made/dispatched" || status=1
+for list in faster_hex.map faster_hex.def; do
+    sed '/^LIBRARY/d' "$list" | grep -o 'faster_hex_[a-z_]*' | sort | diff "$made/named" - || status=1
+done
 wanted=$(sed -n 's/^VERSION = //p' ../../Makefile)
 versions | awk -v wanted="$wanted" '
     $2 != wanted { print $1 ": version " $2 ", and not " wanted " as in the Makefile"; wrong = 1 }
@@ -75,7 +79,7 @@ versions | awk -v wanted="$wanted" '
 # proved FOLDER CRATE: checks the PROVED of a folder. It must list the proofs of the crate and of all crates below it, by
 # a prover with the logic that README.md names. scripts/check-generated compares it with the sources and the files.
 proved() {
-    crates=$(scripts/repository.py below "$2" | sort)
+    crates=$(scripts/repository.py "$2" | sort)
     told=$(sed -n 's/ logic=proved .*//p' "$1/PROVED" | sort -u)
     [ "$told" = "$crates" ] || { echo "$1/PROVED tells of" $told ", and not of" $crates && return 1; }
     prover=$(sed -n 's/^prover //p' "$1/PROVED")

@@ -37,20 +37,27 @@ def outputs():
 @pytest.mark.quick
 def test_report(tmp_path):
     """It replaces all tables of the pages but one, and nothing else. A second time it writes the same."""
-    for page in (*PAGES, "bench/report"):
+    for page in (*PAGES, "bench/report", "bench/processor.py"):
         (tmp_path / page).parent.mkdir(exist_ok=True)
         shutil.copy(TOP / page, tmp_path / page)
-    (tmp_path / "times").write_text(outputs())
     pages = [tmp_path / it for it in PAGES]
     before = "".join(it.read_text() for it in pages)
-    runs([tmp_path / "bench/report", "--write", tmp_path / "times"], out="")
+    processors = {*re.findall("^<!-- .* on (.*) -->$", before, re.M)}
+    for name in processors:
+        (tmp_path / "out/bench" / name).mkdir(parents=True)
+        (tmp_path / "out/bench" / name / "times").write_text(outputs())
+    for name in processors:
+        runs([tmp_path / "bench/report", "--write", name], out="")
     written = [it.read_text() for it in pages]
-    runs([tmp_path / "bench/report", "--write", tmp_path / "times"], out="")
+    for name in processors:
+        runs([tmp_path / "bench/report", "--write", name], out="")
     assert written == [it.read_text() for it in pages]
     text = "".join(written)
     marked = re.findall(r"^<!-- (.*) -->\n(.*)\n", text, re.M)
-    named = {*re.findall("^(.*):$", runs([TOP / "bench/report", tmp_path / "times"]), re.M)}
-    assert named == {name for name, _ in marked} and len(marked) == len(named)
+    printed = {it: re.findall("^(.*):$", runs([tmp_path / "bench/report", it]), re.M) for it in processors}
+    assert {name for name, _ in marked} <= {f"{name} on {it}" for it, names in printed.items() for name in names}
+    assert {it.partition(" on ")[0] for it, _ in marked} == {it for names in printed.values() for it in names}
+    assert ran([tmp_path / "bench/report", "no-such-processor"]).returncode == 2
     # Where a call is faster by the same factor everywhere, no other figure is left.
     for name, first in marked:
         made = re.search(rf"^<!-- {name} -->\n((?:.* \| .*\n|---.*\n)+|```text\n(?:.*\n)*?```\n)", text, re.M)[1]

@@ -24,6 +24,10 @@ BOTH = """
 
 # Versions of faster-hex that a program asks for, and whether this crate can replace it there.
 ASKED = {"1": True, "1.0": True, "1.0.1": False, "1.1": False}
+# Calls whose result must be used.
+UNUSED = ['hex_check(b"")', 'hex_check_with_case(b"", Default::default())', 'hex_string(b"")', 'hex_string_upper(b"")']
+UNUSED += ["hex_build()", 'Hex::new(b"")', 'hex_encode(b"", &mut room)', 'hex_decode(b"", &mut room)']
+UNUSED += ['hex_decode_array::<0>(b"")', 'hex_decode_vec(b"")']
 # A shared library that exports the crate again, and a part of a program that makes calls of all builds through it.
 DYLIB = """[package]
 name = "between"
@@ -83,6 +87,20 @@ def test_units(tmp_path, flags):
     env = {**os.environ, "ROUNDS": "2000", "RUSTFLAGS": flags, "RUSTDOCFLAGS": flags}
     passes([CARGO, *TEST, "std", "--lib"], cwd=crate, env=env)
     passes([CARGO, *TEST, "std", "--doc", "src/lib.rs"], cwd=crate, env=env)
+
+
+@pytest.mark.quick
+def test_results_that_are_not_used(tmp_path):
+    """The compiler refuses each of them, if it is told to."""
+    needs(CARGO)
+    crate = packed(tmp_path / "crate")
+    without(crate / "Cargo.toml", OF_SERDE)
+    lines = "\n".join(f"    faster_hex::{it};" for it in UNUSED)
+    source = f"#![deny(unused_must_use)]\nfn main() {{\n    let mut room = [0; 4];\n{lines}\n}}\n"
+    own = program_over(tmp_path / "own", source, f'faster-hex = {{ path = "{crate}" }}')
+    done = ran([CARGO, "check", "-q", "--message-format", "short"], cwd=own)
+    found = re.findall(r"main\.rs:(\d+):\d+: error.* must be used", done.stdout)
+    assert [int(it) - 4 for it in found] == [*range(len(UNUSED))], done.stdout
 
 
 @pytest.mark.parametrize("features", ["", "alloc", "std", "serde"])

@@ -1,5 +1,6 @@
 """The library on processors that bochs emulates, without an operating system: the level that dispatch.c finds, and the
-answers of the build that a call uses there. So the build for AVX-512 is tested on any machine."""
+answers of the build that a call uses there. So the builds for AVX-512 are tested on any machine. The model
+corei7_icelake_u has AVX-512 VBMI."""
 import os
 import re
 from pathlib import Path
@@ -11,7 +12,7 @@ from commands import CC, CRATE, TESTS_IN_C, needs, ran, runs
 # A processor model of bochs, the registers that a system would save, the level, and up to which length each length is
 # tried. The other builds are tried at few lengths, because other tests run them.
 SAVES_AVX, SAVES_AVX512 = 0x7, 0xe7
-RUN = [("corei7_skylake_x", SAVES_AVX512, 4, 560), ("corei7_skylake_x", SAVES_AVX, 3, 64),
+RUN = [("corei7_icelake_u", SAVES_AVX512, 5, 560), ("corei7_skylake_x", SAVES_AVX512, 4, 560), ("corei7_skylake_x", SAVES_AVX, 3, 64),
        ("corei7_haswell_4770", SAVES_AVX, 3, 64), ("corei7_sandy_bridge_2600k", SAVES_AVX, 2, 64)]
 # Without a window, sound or a network port.
 SETTINGS = """megs: 64

@@ -27,7 +27,7 @@ def test_notes(tmp_path, compiler, form):
     assert re.search(rf"feature: .*{note}", ran(["readelf", "-n", made]).stdout)
 
 
-@pytest.mark.parametrize("name", ["x86-64", "x86-64-v2", "x86-64-v3", "x86-64-v4", "aarch64"])
+@pytest.mark.parametrize("name", ["x86-64", "x86-64-v2", "x86-64-v3", "x86-64-v4", "x86-64-vbmi", "aarch64"])
 def test_build(name):
     _, mark, branch, _ = AARCH64 if name == "aarch64" else X86_64
     text = (TOP / f"generated/{name}.s").read_text()

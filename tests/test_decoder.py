@@ -18,7 +18,6 @@ from commands import CC, SEED, TESTS_IN_C, needs, runs
 from machine import Refused, execution, values
 from machine.code import assembles
 from machine.image import Image
-from machine.instructions import TABLE
 from machine.state import STACK, State
 
 # For how many seconds encodings are tried, and how many are read at once.
@@ -188,8 +187,6 @@ def faults(image, processor, chance, at, is_wide):
     """Why an encoding is read or executed wrongly, or an empty list, or None if it is refused or jumps."""
     try:
         read = image.instruction(at)
-        if read.name not in TABLE and read.name[1:] not in TABLE and read.name[0] != "j":
-            return None
         given, memory = any_state(chance)
         state = modelled(image, read, given, memory)
     except Refused:

@@ -11,6 +11,8 @@ BUILDS = [*TOP.glob("generated/x86-64*.s")]
 # The calls of the header, each with the arguments after a source and its length.
 WORDS = {"check": "", "check_with_case": "0", "first_invalid": "0", "encode": "dst, 8, 0", "decode": "dst, 2"}
 WORDS |= {"decode_with_case": "dst, 2, 0", "encode_grouped": "dst, 11, 0, 1, 58", "decode_grouped": "dst, 2, 0, 1, 58"}
+# Calls of faster_hex.hpp whose result must be used.
+OF_CPP = ["encode(text)", "encode(text.data(), 1)", "decode(text)", "decode(text.data(), 2)", "build()"]
 # Calls that faster_hex.hpp does not let compile, each with a part of the only error, by gcc and by clang.
 LITERAL, BYTES, DELETED, NONE = "string literal", "must be bytes", "deleted", "no matching function"
 REFUSED = {
@@ -19,11 +21,16 @@ REFUSED = {
     "encode(text.c_str())": LITERAL,
     "encode(std::vector<int>(2))": BYTES,
     "decode(std::vector<int>(2))": BYTES,
-    "encode(text, true)": NONE,
+    "encode(text, true)": DELETED,
+    'encode("hello", true)': DELETED,
+    'decode("01", true)': DELETED,
+    'decode("01", 2 > 1, faster_hex::policy::lowercase)': DELETED,
+    "decode(text, room, true)": DELETED,
+    "decode(text.data(), text.size(), room, true)": DELETED,
     'decode("0123", FASTER_HEX_LOWERCASE)': DELETED,
     "decode(text, FASTER_HEX_LOWERCASE)": DELETED,
     "decode(text, 1)": NONE,
-    "decode(text, room, 2, FASTER_HEX_LOWERCASE)": NONE,
+    "decode(text, room, 2, FASTER_HEX_LOWERCASE)": DELETED,
     "decode(text.data(), text.size(), room, 2, 1)": NONE,
 }
 
@@ -56,6 +63,16 @@ def test_results_that_are_not_used(tmp_path, compiler):
     assert {int(it) - 3 for it in found} == {*range(len(CALLS))} and len(found) == len(CALLS)
 
 
+@pytest.mark.parametrize("compiler", [CXX, "clang++"])
+def test_results_that_are_not_used_in_cpp(tmp_path, compiler):
+    needs(compiler)
+    lines = "\n".join(f"faster_hex::{it};" for it in OF_CPP)
+    (tmp_path / "unused.cpp").write_text(f'#include "faster_hex.hpp"\nvoid f(std::string text) {{\n{lines}\n}}\n')
+    words = "-std=c++17", f"-I{CRATE}", "-c", "-o", tmp_path / "unused.o", tmp_path / "unused.cpp"
+    found = re.findall(r"unused\.cpp:(\d+):.* warning: ignoring return value", ran([compiler, *words]).stdout)
+    assert [int(it) - 3 for it in found] == [*range(len(OF_CPP))]
+
+
 def test_header_that_leaves_warnings_as_they_were(tmp_path):
     """The compiler does not warn of what the header uses beyond C90. It still warns of the same in the code after
     it."""
@@ -66,13 +83,13 @@ def test_header_that_leaves_warnings_as_they_were(tmp_path):
 
 
 def test_names_and_state_of_the_archive(target):
-    """It exports only the header's functions and needs no external symbols. It has no other name that another library
-    could have too. Its only state is the byte for the choice of a build."""
+    """It has the header's functions, hides them from other shared libraries, and needs no external symbols. It has no other
+    name that another library could have too. Its only state is the byte for the choice of a build."""
     folder, *_, runner = target
     said = ran(["readelf", "-SsW", folder / "libfaster_hex.a"]).stdout
     found = re.findall(r"^ *\d+: \w+ +\w+ \w+ +(GLOBAL|WEAK) +(\w+) +(\w+) (\S+)$", said, re.M)
-    assert {name for _, sight, place, name in found if place != "UND" and sight == "DEFAULT"} == {*NAMES}
     given = {name for *_, place, name in found if place != "UND"}
+    assert {sight for _, sight, place, _ in found if place != "UND"} == {"HIDDEN"} and {*NAMES} <= given
     assert all(it.startswith("faster_hex_") for it in given)
     assert {name for *_, place, name in found if place == "UND"} <= given
     assert {*re.findall(r" \.text\.faster_hex_\d\S+ .* (\d+)$", said, re.M)} == {"64"}
@@ -96,6 +113,16 @@ def test_names_of_the_shared_library(target):
     shared = target[0] / SHARED[2]
     shows_names(shared)
     is_locked(shared)
+
+
+def test_call_of_a_later_version(tmp_path):
+    """This version's list of names does not export it. Otherwise a program that makes the call would start with a library
+    of this version, and fail at the call."""
+    (tmp_path / "later.c").write_text("void faster_hex_later(void) {}\nvoid faster_hex_build(void) {}\n")
+    words = "-shared", "-fPIC", f"-Wl,--version-script={CRATE}/faster_hex.map", tmp_path / "later.c"
+    runs([CC, *words, "-o", tmp_path / "later.so"])
+    said = runs(["nm", "-D", "--defined-only", tmp_path / "later.so"])
+    assert "faster_hex_build" in said and "faster_hex_later" not in said
 
 
 def test_frames_of_the_builds(library):
@@ -123,6 +150,16 @@ def test_header_of_cpp(tmp_path, library, compiler, standard):
     passes([compiled(compiler, tmp_path / "strings", *words)])
 
 
+@pytest.mark.parametrize("compiler", [CXX, "clang++"])
+def test_header_of_cpp_under_an_older_standard(compiler):
+    """One error says which standard is needed."""
+    needs(compiler)
+    words = [compiler, "-std=c++14", f"-I{CRATE}", "-fsyntax-only", "-x", "c++", "-"]
+    done = ran(words, input='#include "faster_hex.hpp"\n')
+    errors = [it for it in done.stdout.splitlines() if "error:" in it]
+    assert done.returncode and len(errors) == 1 and "needs C++17" in errors[0], done.stdout
+
+
 @pytest.mark.parametrize("call", REFUSED)
 @pytest.mark.parametrize("compiler, standard", [(CXX, "c++20"), ("clang++", "c++17")])
 def test_what_the_header_of_cpp_refuses(tmp_path, compiler, standard, call):
@@ -134,5 +171,6 @@ def test_what_the_header_of_cpp_refuses(tmp_path, compiler, standard, call):
         void refused() {{ (void)faster_hex::{call}; }}
         """
     done = ran([compiler, f"-std={standard}", *STRICT, "-fsyntax-only", "-x", "c++", "-"], input=text)
-    errors = [it for it in done.stdout.splitlines() if "error:" in it]
+    # An error in a header of the system only explains why a call does not fit.
+    errors = [it for it in done.stdout.splitlines() if re.match("(?!/usr/).* error:", it)]
     assert done.returncode and len(errors) == 1 and REFUSED[call] in errors[0], done.stdout

@@ -8,7 +8,7 @@ from pathlib import Path
 
 import pytest
 
-from commands import CC, OF_PROOFS, TESTS_IN_C, TOP, needs, runs
+from commands import CC, OF_PROOFS, TESTS_IN_C, TOP, needs, passes, runs
 from test_program import SANITIZERS, USAGE, built, ended
 
 BYTES = bytes(range(256)) * 300
@@ -86,6 +86,12 @@ def test_long_second_words(fhex):
     for word in b"a", b"a" * 257, b"a" * 100_000, b"a" + b"\xc3\xa9" * 50_000:
         assert ended(fhex, "encode", word, input=BYTES) == (2, b"", USAGE)
     assert ended(fhex, "encode", b"a" * 100_000 + b"\xff", input=BYTES) == NOT_READ
+
+
+def test_blocks(tmp_path):
+    words = "-D_GNU_SOURCE", "-std=gnu11", "-o", tmp_path / "blocks", TESTS_IN_C / "blocks.c"
+    runs([CC, *SANITIZERS.split(), *words])
+    passes([tmp_path / "blocks"])
 
 
 def test_closed_pipe(fhex):

@@ -4,18 +4,17 @@ import re
 
 import pytest
 
-from commands import CC, OF_PROOFS, TOP, needs, ran, runs
+from commands import CC, OF_PROOFS, TOP, VERSION, needs, ran, runs
 
 GENERATED = TOP / "generated"
 # A pattern that must be in each build's assembly, and one that must not.
 SPEAKS = {"x86-64": ("%rax", "pshufb|%xmm|%ymm|%zmm"), "x86-64-v2": ("\tpshufb", "%ymm|%zmm")}
-SPEAKS |= {"x86-64-v3": ("\tvpshufb\t.*%ymm", "%zmm"), "x86-64-v4": ("\tvptestm.*%zmm", "_encode|_grouped")}
-# The calls that the build for AVX-512 has.
-OF_V4 = ["check", "check_lower", "check_upper", "check_with_case", "decode", "decode_with_case"]
+SPEAKS |= {"x86-64-v3": ("\tvpshufb\t.*%ymm", "%zmm"), "x86-64-v4": ("\tvptestm.*%zmm", "_encode|_grouped|\tvpermb\t")}
+SPEAKS |= {"x86-64-vbmi": ("\tvpermb\t", "_encode|_grouped")}
+# The builds for AVX-512, and the calls that they have.
+OF_AVX512 = "x86-64-v4", "x86-64-vbmi"
+CALLS = ["check", "check_lower", "check_upper", "check_with_case", "decode", "decode_with_case"]
 SPEAKS |= {"aarch64": (r"\ttbl\t", "%")}
-# Functions that are marked to be inlined but are called in some builds, and why.
-CALLED = {"codec_pieces_write_by_piece_len": "it has the code for all lengths twice, and a call is small beside its loop"}
-CRATES = "hex_core", "hex_codec"
 # Instructions that are one step for a processor together with the conditional jump after them.
 TESTS = re.compile("(cmp|test|add|sub|inc|dec|and)[bwlq]?$")
 
@@ -28,9 +27,10 @@ def test_processor(build):
 
 
 @pytest.mark.quick
-def test_calls_of_the_build_for_avx512():
-    exported = re.findall(r"^\thex_export\t\w+_x86_64_v4_(\w+)$", (GENERATED / "x86-64-v4.s").read_text(), re.M)
-    assert sorted(exported) == OF_V4
+@pytest.mark.parametrize("build", OF_AVX512)
+def test_calls_of_the_builds_for_avx512(build):
+    exported = re.findall(r"^\thex_export\t\w+_x86_64_(?:v4|vbmi)_(\w+)$", (GENERATED / f"{build}.s").read_text(), re.M)
+    assert sorted(exported) == CALLS
 
 
 def body_of(text, call):
@@ -39,51 +39,47 @@ def body_of(text, call):
 
 
 def shuffles_wide(text):
-    """Whether the build encodes blocks of 32 bytes. Only then it exchanges the middle quarters of the digits of 16 bytes
-    with each other, in one instruction or in several."""
+    """Whether the build encodes blocks of 32 bytes. Only then it exchanges the middle quarters of the digits of 16
+    bytes with each other, in one instruction or in several."""
     return bool(re.search(r"\tvpermq|\tpunpck[lh]qdq|\tzip[12]\tv\d+\.2d", body_of(text, "encode")))
-
-
-# The functions by which each build checks long sources. That for vectors of 64 bytes is another one.
-LONG_CHECKS = dict.fromkeys(("x86-64-v2", "x86-64-v3", "aarch64"), {"core_plain_check_long"})
-LONG_CHECKS |= {"x86-64": set(), "x86-64-v4": {"core_plain_check_held"}}
 
 
 @pytest.mark.quick
 @pytest.mark.parametrize("build", SPEAKS)
 def test_width_of_blocks(build):
-    """Each build was told its own level, and `plan` of faster_hex_c gives that level the width of its vectors. With another
-    one all results are right, and the calls are slower."""
+    """Each build was told its own level, and `plan` of faster_hex_c gives that level its vectors. With other ones all
+    results are right, and the calls are slower. In the builds for AVX-512 other functions check long sources, which
+    functions.txt shows."""
     text = (GENERATED / f"{build}.s").read_text()
-    assert build == "x86-64-v4" or shuffles_wide(text) == (build == "x86-64-v3")
-    assert {*re.findall(r"^\thex_function\t\w+?_(core_plain_check_\w+),", text, re.M)} == LONG_CHECKS[build]
+    assert build in OF_AVX512 or shuffles_wide(text) == (build == "x86-64-v3")
+
+
+def told(path):
+    """A file, in a record without the words that say with what a proof began."""
+    return re.sub("^proved .*\n| incremental=trusted", "", path.read_text(), flags=re.M)
 
 
 @pytest.mark.parametrize("is_copy", [False, True])
 def test_made_of_these_sources(tmp_path, copy, is_copy):
     anew = tmp_path / "anew"
     runs([(copy if is_copy else TOP) / "scripts/generate", anew], timeout=OF_PROOFS)
-    made = {it.relative_to(anew): it.read_bytes() for it in anew.rglob("*") if it.is_file()}
-    assert made and made == {name: (GENERATED / name).read_bytes() for name in made}
+    made = {it.relative_to(anew): told(it) for it in anew.rglob("*") if it.is_file()}
+    assert made and made == {name: told(GENERATED / name) for name in made}
 
 
-def marked():
-    """For each function that is marked to be inlined, a pattern for its name in generated/."""
-    for path in [path for it in CRATES for path in TOP.glob(f"crates/{it}/src/**/*.rt")]:
-        crate, _, *place = path.with_suffix("").relative_to(TOP / "crates").parts
-        found = re.findall(r"^( *)#\[inline\(always\)\]\n *(?:pub\S* )?fn (\w+)", path.read_text(), re.M)
-        for margin, name in found:
-            # The name of a method has the module of its type, which may be in another file.
-            where = r"[a-z_]*[A-Z][A-Za-z\d]*" if margin else "_".join(it for it in place if it != "mod")
-            yield f"{crate.removeprefix('hex_')}_{where}_{name}"
+def functions(path):
+    """The functions of a build that are no calls for C or Rust."""
+    own = f"faster_hex_{VERSION.replace('.', '_')}_{path.stem.replace('-', '_')}_"
+    return sorted(re.findall(rf"^\thex_function\t{own}(\w+),", path.read_text(), re.M))
 
 
-@pytest.mark.parametrize("path", sorted(GENERATED.glob("*.s")), ids=lambda it: it.stem)
-def test_inlined(path):
-    """The toolchain silently ignores the mark if a function would become very large. This test notices it."""
-    build, names = r"\d+_\d+_\d+_(?:x86_64(?:_v\d)?|aarch64)", "|".join(marked())
-    symbol = rf"^\thex_function\tfaster_hex_{build}_({names})_*,"
-    assert {*re.findall(symbol, path.read_text(), re.M)} <= {*CALLED}
+@pytest.mark.quick
+def test_functions():
+    """The toolchain silently ignores the mark `inline` if a function would become very large, and LLVM decides about
+    functions without a mark. A function that was part of its callers and is called now slows short calls down. If that is
+    meant, `functions.txt` gets its name."""
+    listed = [it.split() for it in (TOP / "tests/functions.txt").read_text().splitlines() if it[:1] != "#"]
+    assert [[it.stem, *functions(it)] for it in sorted(GENERATED.glob("*.s"))] == listed
 
 
 def steps(code):

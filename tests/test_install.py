@@ -1,4 +1,5 @@
 """What `make install` installs and `make uninstall` removes, and the commands of README.md. See also test_pack.py."""
+import hashlib
 import os
 import re
 
@@ -9,7 +10,7 @@ from commands import (ARM_CC, BY_SYSTEM, HELLO, INSTALLED, PRINTED, SHARED, TOP,
 
 pytestmark = pytest.mark.quick
 # The tools that `make install` may use. None of them builds anything.
-TOOLS = "sh make date dirname sed cat cut rm mv ln mkdir rmdir find sort xargs grep install sha256sum env uname"
+TOOLS = "sh make date dirname sed cat awk rm mv ln mkdir rmdir find sort xargs grep install sha256sum env uname"
 # The files of the programs in README.md.
 FILES = {"c": "digits.c", "rust": "src/main.rs"}
 # Prefixes with which `make install` fails: an empty one, and places that the test makes. The value says whether
@@ -59,6 +60,30 @@ def test_pages_that_stand_alone(tmp_path, top, env):
     assert pages
 
 
+def test_files_that_pages_cite(tmp_path, top, env):
+    """Installed pages, headers and doc comments name no file of the repository that is not installed."""
+    runs(make("install", f"PREFIX={tmp_path}", top=top), env=env)
+    crate = tmp_path / "share/faster_hex/rust"
+    kinds = "include/*", "share/man/*/*", "share/**/*.md", "share/**/*.rs"
+    for page in (page for kind in kinds for page in tmp_path.glob(kind)):
+        text = page.read_text()
+        if page.suffix == ".rs":
+            text = "\n".join(re.findall("//[!/].*", text))
+        found = re.findall(r"(?<![\w/])(?:docs|tests|bench|scripts|crates|generated)/[\w./-]*\w", text)
+        found += re.findall(r"README of the \w* ?repository", text)
+        assert not [it for it in found if not (crate / it).exists()], page
+
+
+def test_archive_that_was_checked(tmp_path, top):
+    """The command in security.md compares the archive that was built with the record of the machine code."""
+    command, = re.findall("^grep .*", (TOP / "docs/security.md").read_text(), re.M)
+    sum_, record = hashlib.sha256((top / "out/libfaster_hex.a").read_bytes()).hexdigest(), tmp_path / "SHOWN"
+    for line, is_same in (f"file sha256 {sum_}\n", True), (f"sha256 {sum_}  out/libfaster_hex.a\n", False):
+        record.write_text(line)
+        done = ran(["sh", "-c", command.replace("../generated/SHOWN", f"{record}")], cwd=top / "tests")
+        assert (done.returncode == 0, done.stdout) == (is_same, "the same archive\n" * is_same)
+
+
 def test_library_of_copied_files(tmp_path):
     """The package's page names all files of the C library, and the commands that build it into programs in C and C++."""
     text = (TOP / "docs/release/README.md").read_text()
@@ -99,7 +124,8 @@ def test_what_was_built_last(tmp_path, copy):
     done = ran(make("install", f"CC={WINDOWS_CC}", f"PREFIX={there}", top=copy), env=BY_SYSTEM)
     assert done.returncode == 2 and "CMake installs" in done.stdout and done.stdout.count("\n") == 1
     assert not there.exists()
-    runs(make("install", f"PREFIX={there}", top=copy), env=BY_SYSTEM)
+    done = ran(make("install", f"PREFIX={there}", top=copy), env=BY_SYSTEM)
+    assert done.returncode == 0 and re.fullmatch("make install: .* for aarch64 and not for .*\n", done.stdout)
     assert "AArch64" in ran(["readelf", "-h", there / "lib" / SHARED[2]]).stdout
     assert "CFLAGS = -O1\n" in (copy / "out/built").read_text()
     done = ran(make("lib", "TARGET=aarch64", "CC=cc", top=copy), env=BY_SYSTEM)

@@ -6,10 +6,13 @@ import mmap
 import multiprocessing
 import operator
 import os
+import py_compile
 import random
 import re
+import shutil
 import sys
 import time
+from functools import partial
 from pathlib import Path
 
 import pytest
@@ -17,18 +20,19 @@ import pytest
 z3 = pytest.importorskip("z3")
 pytest.importorskip("capstone")
 import machine.__main__ as command
-from commands import CC, CHANGES, PRINTED, SEED, TOP, by_cmake, compiled, make, needs, ran, runs
+from commands import CC, CHANGES, CRATE, PRINTED, SEED, TOP, by_cmake, compiled, make, needs, ran, runs
 from machine import Refused, execution, values
 from machine.__main__ import BUILDS, sums
 from machine.code import assembles
 from machine.grouped import GROUPED, shown_grouped
 from machine.image import Image, linked
+from machine.forms import FORMS, WIDTHS
 from machine.instructions import EACH, TABLE
 from machine.state import LENGTH, STACK, State
 from machine.statements import CALLS, POLICIES, shown
 
 GENERATED = TOP / "generated"
-PAIRS = [(build, call) for build in BUILDS for call in BUILDS[build]]
+PAIRS = [(build, call) for build, (_, calls) in BUILDS.items() for call in calls]
 # The quick test has sources of at most so many bytes. For digits in groups there are fewer, because each length is
 # executed by itself.
 SHORT, SHORT_GROUPED = 8, 2
@@ -38,7 +42,8 @@ EVERY_LENGTH = ("v2", "encode"), ("v3", "encode"), ("v3", "check")
 # baseline build, which is not checked. In v3_encode an instruction begins a loop of one block, but the loop has several.
 # Two functions only return texts.
 LEFT = {f"faster_hex_{it}": 1 for it in CALLS if it not in GROUPED and it not in POLICIES}
-LEFT |= {"x86-64-v3_encode": 1, "faster_hex_status_text": 8, "faster_hex_version": 2}
+LEFT |= {"x86-64-v3_encode": 1, "faster_hex_status_text": 8, "faster_hex_version": 2, "faster_hex_build": 5}
+LEFT["x86-64-vbmi_core_backend_Backend_decode_or_find_outlined"] = 27
 
 
 def rows(name):
@@ -67,7 +72,7 @@ def forgets():
 @pytest.mark.parametrize("build, call", PAIRS)
 def test_call(image, build, call):
     most = SHORT_GROUPED if call in GROUPED else SHORT
-    assert all_shown(Image(image, int(build[1])), build, call, most)
+    assert all_shown(Image(image, BUILDS[build][0]), build, call, most)
 
 
 @pytest.mark.quick
@@ -75,7 +80,7 @@ def test_call(image, build, call):
 def test_every_length(image, build, call):
     """The call is shown. This is not true only because no path is possible: for each of some lengths there is an end
     where all digits are valid, and one where some are not, if the call tells them apart by branches."""
-    those = all_shown(Image(image, int(build[1])), build, call, None)
+    those = all_shown(Image(image, BUILDS[build][0]), build, call, None)
     lengths = [0, 1, 2, 17, 33, 65, 128, 257, 575, 576, 1000, 2**32 + 66, 2**63 - 2]
     lengths.append(random.Random(SEED).randrange(2**62))
     for length in lengths:
@@ -88,7 +93,7 @@ def test_every_length(image, build, call):
 @pytest.mark.parametrize("build", BUILDS)
 def test_ends_of_decode(image, build):
     """The same for calls that find an invalid digit."""
-    for it in all_shown(Image(image, int(build[1])), build, "decode", SHORT):
+    for it in all_shown(Image(image, BUILDS[build][0]), build, "decode", SHORT):
         for length in range(SHORT + 1):
             is_refused = length % 2 == 0 and length > 0
             assert kinds_of_ends(it, length) == ({False, True} if is_refused else {False}), length
@@ -107,9 +112,10 @@ def is_possible(known, length):
 
 
 @pytest.mark.quick
-@pytest.mark.parametrize("call", [it for it in CALLS if it not in BUILDS["v4"]])
+@pytest.mark.parametrize("call", [it for it in CALLS if it not in BUILDS["v4"][1]])
 def test_call_that_the_widest_build_lacks(image, call):
-    """With AVX-512 it takes the build for x86-64-v3."""
+    """With AVX-512 it takes the build for x86-64-v3, and both levels are checked."""
+    assert command.levels_of("v3", call)[:2] == [3, 4] and command.levels_of("v2", call) == [2]
     assert all_shown(Image(image, 4), "v3", call, SHORT_GROUPED)
 
 
@@ -127,10 +133,10 @@ def test_record():
     text = (GENERATED / "SHOWN").read_text()
     assert text.startswith(sums())
     lines = text.removeprefix(sums()).splitlines()
-    said = dict(it.groups() for it in (re.fullmatch(r"x86-64-(v\d \w+): (.*)", line) for line in lines) if it)
+    said = dict(it.groups() for it in (re.fullmatch(r"x86-64-(v\w+ \w+): (.*)", line) for line in lines) if it)
     assert [*said] == [f"{build} {call}" for build, call in PAIRS]
     for build, call in PAIRS:
-        words = "0 to 32 bytes in groups of each size, any separator" if call in GROUPED else "every length, "
+        words = "0 to 32 bytes in groups of each size, any separator; up to 1024 " if call in GROUPED else "every length, "
         assert said[f"{build} {call}"].startswith(words)
     found = [re.fullmatch(r"(\S+): (\d+) of (\d+) instructions executed", it) for it in lines]
     left = {it[1]: int(it[3]) - int(it[2]) for it in found if it}
@@ -140,7 +146,7 @@ def test_record():
 
 def names_of_functions():
     """The functions of each build, and those for C."""
-    names = {f"faster_hex_{it}" for it in (*CALLS, "status_text", "version") if it not in POLICIES}
+    names = {f"faster_hex_{it}" for it in (*CALLS, "status_text", "version", "build") if it not in POLICIES}
     for build in BUILDS:
         text = (GENERATED / f"x86-64-{build}.s").read_text()
         names |= {f"x86-64-{it}" for it in re.findall(rf"\thex_(?:function|export)\t\w+_x86_64_({build}_\w+)", text)}
@@ -170,13 +176,13 @@ def test_what_the_record_writes(copy, tmp_path, monkeypatch, is_shown):
     (copy / "out/libfaster_hex.a").write_text("of somebody else")
     before = files_in(copy)
     monkeypatch.setattr(command, "TOP", copy)
-    monkeypatch.setattr(command, "report", lambda *_: (["a line" if is_shown else "a call: REFUSED: why"], is_shown))
+    monkeypatch.setattr(command, "report", lambda *_: (["a line" if is_shown else "a: REFUSED: why"], [], is_shown))
     if is_shown:
         command.record(made, time.time_ns())
         before[copy / "generated/SHOWN"] = (copy / "generated/SHOWN").read_bytes()
         assert before[copy / "generated/SHOWN"].endswith(b"\na line\n")
     else:
-        with pytest.raises(Refused, match="a call: REFUSED: why"):
+        with pytest.raises(Refused, match="a: REFUSED: why"):
             command.record(made, time.time_ns())
     assert files_in(copy) == before
 
@@ -190,15 +196,15 @@ def test_record_of_a_source_that_is_changed_meanwhile(copy, tmp_path, monkeypatc
     change = CHANGES[change].format("crates/faster_hex_c/dispatch.c")
     (copy / "scripts/check-generated").write_text(f"#!/bin/sh\n{change}\n")
     monkeypatch.setattr(command, "TOP", copy)
-    monkeypatch.setattr(command, "report", lambda *_: ([], True))
+    monkeypatch.setattr(command, "report", lambda *_: ([], [], True))
     with pytest.raises(Refused, match="a source was changed meanwhile"):
         command.record(made, time.time_ns())
     assert (copy / "generated/SHOWN").read_text() == record
 
 
-def checks(file, *words):
+def checks(*words):
     """Runs the command that checks a file, and returns its output."""
-    return ran([sys.executable, "-m", "machine", "check", file, *words], cwd=TOP / "tests")
+    return ran([sys.executable, "-m", "machine", "check", *words], cwd=TOP / "tests")
 
 
 def test_nothing_to_check(tmp_path, library):
@@ -216,8 +222,52 @@ def test_nothing_to_check(tmp_path, library):
     for file, why in lines.items():
         done = checks(file, "v3", "decode", "4")
         assert done.returncode == 2 and done.stdout.count("\n") == 1 and why in done.stdout, done.stdout
-    done = checks(archive, "v4", "encode", "4")
-    assert done.returncode == 2 and done.stdout.endswith("it has no such call\n")
+
+
+@pytest.mark.quick
+def test_wrong_words(library):
+    """Words that the command does not have get a line that says so, and a status that says nothing of a call."""
+    archive = library / "libfaster_hex.a"
+    lines = {
+        (archive, "v3", "decode", "x"): "x is no length", (archive, "v3", "decode", "-3"): "-3 is no length",
+        (archive, "v3", "decode", "9" * 30): "is no length", (archive, "v9"): "invalid choice: 'v9'",
+        (archive, "v4", "encode"): "the build v4 has no call encode",
+        (archive, "--jobs", "0"): "0 is no number of jobs",
+        (archive, "v3", "decode", "4", "more"): "unrecognized arguments: more", (): "arguments are required: file",
+    }
+    for words, why in lines.items():
+        done = checks(*words)
+        assert done.returncode == 2 and why in done.stdout, done.stdout
+    done = checks("--help")
+    assert done.returncode == 0 and "usage: " in done.stdout and "--jobs" in done.stdout
+
+
+def test_archive_for_another_processor(arm):
+    done = checks(arm / "libfaster_hex.a")
+    assert done.returncode == 2 and done.stdout.count("\n") == 1 and "not for x86-64" in done.stdout
+
+
+# A line of a module, and one of the same length in its place.
+STALE = {"__init__": ("To read it, begin", "To begin, read it"), "__main__": ("import argparse", "print('stale!')"),
+         "values": ("import functools", "print('stale!') ")}
+
+
+@pytest.mark.parametrize("module", STALE)
+def test_stale_copy(copy, library, module):
+    """A compiled copy of another text, with the size and the time of the file, does not run."""
+    file = copy / f"tests/machine/{module}.py"
+    text = file.read_text()
+    file.write_text(text.replace(*STALE[module]))
+    py_compile.compile(file, file.parent / f"__pycache__/{module}.{sys.implementation.cache_tag}.pyc", doraise=True)
+    times = file.stat()
+    file.write_text(text)
+    os.utime(file, ns=(times.st_atime_ns, times.st_mtime_ns))
+    words = library / "libfaster_hex.a", "v3", "check", "0"
+    done = ran([sys.executable, "-m", "machine", "check", *words], cwd=copy / "tests")
+    if module == "__init__":
+        assert done.returncode == 1 and done.stdout.count("\n") == 1 and "is not what runs" in done.stdout, done.stdout
+    else:
+        assert done.returncode == 0 and "stale" not in done.stdout, done.stdout
 
 
 def by_make(tmp_path, _):
@@ -250,10 +300,10 @@ def program_in_rust(tmp_path, fixture):
 
 # How a file with the library is made, and some of its calls with the most bytes of a source.
 MADE = {
-    by_make: ["v2 encode 8", "v3 check_with_case 8", "v4 decode_with_case 8", "v3 decode_grouped 2"],
-    made_by_cmake: ["v2 decode 8", "v3 first_invalid 8", "v4 check 8"],
+    by_make: ["v2 encode 8", "v3 check_with_case 8", "v4 decode_with_case 8", "vbmi check 8", "v3 decode_grouped 2"],
+    made_by_cmake: ["v2 decode 8", "v3 first_invalid 8", "v4 check 8", "vbmi decode_with_case 8"],
     program_in_c: ["v3 encode 8", "v4 decode 8"],
-    program_in_rust: ["v2 check 8", "v3 decode 8", "v4 decode 8"],
+    program_in_rust: ["v2 check 8", "v3 decode 8", "v4 decode 8", "vbmi decode 8"],
 }
 
 
@@ -278,6 +328,132 @@ def test_wrong_archive(tmp_path):
     assert checks(tmp_path / "wrong.a", "v3", "encode", "8").returncode == 0
 
 
+# What wrong copies of dispatch.c do in a place, with the text that is there.
+CHOOSES = "        bool is_3 = "
+WRONG_AT_LEVEL_4 = CHOOSES, f"        if (widest == 3 && known == 4) return (answer){{ 0 }}; {CHOOSES}"
+BY_LOADER = """1 endbr64 => \\0; movq 70f(%rip),%rax; testq %rax,%rax; je 71f; movl $1,%eax; retq;
+    .pushsection .data.rel.ro,"aw"; .p2align 3; 70: .quad environ; .popsection; 71:"""
+BY_PLACE = """1 endbr64 => \\0; leaq 70f(%rip),%rax; shrq $30,%rax; je 71f; movl $1,%eax; retq; .pushsection .rodata;
+    70: .byte 0; .popsection; 71:"""
+
+
+def linked_with(*words, folder, dispatch=None, build=None, name="made.so", rule=None):
+    """Links dispatch.c, or a text in its place, and the builds, of which one may be changed. Without words this is a
+    shared library."""
+    shutil.copytree(GENERATED, folder / "generated")
+    (folder / "crates").symlink_to(TOP / "crates")
+    if build:
+        text = changed(build, "check", [" ".join(rule.split())])
+        (folder / f"generated/x86-64-{build}.s").write_text(text.partition("\n")[2])
+    (folder / "dispatch.c").write_text(dispatch or DISPATCH)
+    sources = [folder / "dispatch.c", folder / "generated/builds.S"]
+    words = words or ("-shared",)
+    return compiled(CC, folder / name, *words, "-O2", "-fPIC", f"-I{CRATE}", *sources)
+
+
+def of_a_program(*words, folder, **changes):
+    (folder / "main.c").write_text('#include "faster_hex.h"\nint main(void) { return faster_hex_check("0", 1); }')
+    return linked_with(*words, folder / "main.c", folder=folder, name="program", **changes)
+
+
+def by_another_file(folder):
+    """dispatch.c is included by another file."""
+    (folder / "all.c").write_text(f'#include "{CRATE}/dispatch.c"\n')
+    return compiled(CC, folder / "made.so", "-shared", "-fPIC", "-O2", folder / "all.c", GENERATED / "builds.S")
+
+
+def by_link_time_optimization(folder):
+    return of_a_program("-flto", "-no-pie", folder=folder)
+
+
+def without_symbol(folder):
+    runs(["objcopy", "--strip-symbol=faster_hex_encode", of_a_program("-pie", folder=folder), folder / "stripped"])
+    return folder / "stripped"
+
+
+def without_build(folder):
+    made = linked_with(folder=folder)
+    names = re.findall(r" (faster_hex_\w+_v3_encode(?:_of_c\w*)?)$", ran(["nm", made]).stdout, re.M)
+    runs(["objcopy", *[f"--strip-symbol={it}" for it in names], made, folder / "stripped.so"])
+    return folder / "stripped.so"
+
+
+def indirect(folder):
+    """A call is found by a function that is called when the file is loaded."""
+    text = ran([CC, "-S", "-O2", "-fPIC", f"-I{CRATE}", "-o", "-", CRATE / "dispatch.c"]).stdout
+    (folder / "dispatch.S").write_text(re.sub("(type\tfaster_hex_check, ).*", r"\1@gnu_indirect_function", text))
+    return compiled(CC, folder / "made.so", "-shared", folder / "dispatch.S", GENERATED / "builds.S")
+
+
+def with_other_headers(folder):
+    """The header of a section names another place of the file than the one that is loaded."""
+    file = linked_with(folder=folder)
+    found = re.search(r"\[ *(\d+)\] \.rodata +\w+ +\w+ (\w+) (\w+)", ran(["readelf", "-SW", file]).stdout)
+    number, begin, size = int(found[1]), int(found[2], 16), int(found[3], 16)
+    data = bytearray(file.read_bytes())
+    at = int.from_bytes(data[40:48], "little") + 64 * number + 24
+    data[at:at + 8] = len(data).to_bytes(8, "little")
+    data += data[begin:begin + size]
+    data[begin:begin + size] = bytes(size)
+    file.write_bytes(data)
+    return file
+
+
+def at_level_4(folder):
+    return archive_with(folder, DISPATCH.replace(*WRONG_AT_LEVEL_4))
+
+
+def archive_with(folder, text, *words, compiler=CC):
+    """An archive of the builds and a text in the place of dispatch.c."""
+    (folder / "dispatch.c").write_text(text)
+    runs([compiler, "-c", *(words or ["-O2"]), f"-I{CRATE}", "-o", folder / "dispatch.o", folder / "dispatch.c"])
+    runs([CC, "-c", "-o", folder / "builds.o", GENERATED / "builds.S"])
+    runs(["ar", "rcs", folder / "made.a", folder / "dispatch.o", folder / "builds.o"])
+    return folder / "made.a"
+
+
+DISPATCH = (CRATE / "dispatch.c").read_text()
+# How a file is made that must be refused, the pair that is wrong there, and what is said of it.
+WRONG = {
+    by_another_file: ("v3 check", "not the variable"), by_link_time_optimization: ("v3 check", "but not"),
+    without_symbol: ("v2 encode", "but not faster_hex_encode"),
+    without_build: ("v3 encode", "the file does not have it"), indirect: ("v3 check", "is an indirect function"),
+    with_other_headers: ("v3 check", "is not what is loaded"),
+    at_level_4: ("v3 encode", "v3 encode: REFUSED"),
+}
+WRONG |= {partial(linked_with, build="v3", rule=BY_LOADER): ("v3 check", "what the loader writes by a name")}
+WRONG |= {partial(making, *words, build="v3", rule=BY_PLACE): ("v3 check", "v3 check: REFUSED")
+          for making, *words in ((linked_with,), (of_a_program, "-pie"), (of_a_program, "-static-pie"))}
+
+
+@pytest.mark.parametrize("making", WRONG)
+def test_wrong_file(tmp_path, making):
+    """A file in which something is wrong is refused, by all pairs and by the one that is concerned."""
+    needs("ld", "objdump")
+    pair, why = WRONG[making]
+    done = checks(making(folder=tmp_path), *pair.split(), "2")
+    assert done.returncode == 1 and why in done.stdout, done.stdout
+
+
+# Options with which dispatch.c is compiled, and what is said if a call is refused.
+LEVELS_OF_OPTIMIZATION = "-O0", "-O1", "-O2", "-O3", "-Os", "-Oz", "-Og"
+OPTIONS = {it: None for each in LEVELS_OF_OPTIMIZATION for it in (each, f"{each} -fno-optimize-sibling-calls")}
+OPTIONS |= {"-O0 -fPIC": None, "-O2 -fno-omit-frame-pointer": None, "-O2 -mno-red-zone": None, "-O1 -fno-inline": None}
+OPTIONS |= dict.fromkeys(("-O2 -fstack-protector-all", "-O0 -finstrument-functions"), "calls another function")
+
+
+@pytest.mark.apart
+@pytest.mark.parametrize("options", OPTIONS)
+@pytest.mark.parametrize("compiler", ["gcc", "clang"])
+def test_compiled_dispatch(tmp_path, compiler, options):
+    """What other compilers make of dispatch.c is shown too, or is refused because it calls another function."""
+    needs("ld", "objdump", compiler)
+    made = linked(tmp_path / "image", archive_with(tmp_path, DISPATCH, *options.split(), compiler=compiler))
+    for pair in "v2 encode_grouped", "v3 encode", "v3 first_invalid", "v4 decode_with_case", "vbmi check":
+        said, is_shown, _ = command.checked(made, *pair.split(), 1)
+        assert is_shown if OPTIONS[options] is None else OPTIONS[options] in said, said
+
+
 def changed(build, function, rules=()):
     """The assembly of a build in which lines of a function are changed. A rule changes one line or each that fits."""
     text = (GENERATED / f"x86-64-{build}.s").read_text()
@@ -296,11 +472,11 @@ def changed(build, function, rules=()):
     return '#include "elf.inc"\n' + text[:begin] + "\n".join(lines) + text[end:]
 
 
-def assembled(folder, text):
+def assembled(folder, text, level=None):
     """Assembles a text, and returns the image of this object alone."""
     (folder / "made.S").write_text(text)
     runs([CC, "-c", f"-I{GENERATED}", "-o", folder / "made.o", folder / "made.S"])
-    return Image(linked(folder / "image", folder / "made.o"))
+    return Image(linked(folder / "image", folder / "made.o"), level)
 
 
 @pytest.mark.apart
@@ -310,19 +486,31 @@ def test_change(tmp_path, row):
     build, call, *words = where.split()
     lengths, functions = ([it for it in words if it[0].isdigit() == is_length] for is_length in (True, False))
     least = [int(it[:-1]) for it in lengths if it[-1] == "-"]
-    image = assembled(tmp_path, changed(build, *functions or [call], rules))
+    image = assembled(tmp_path, changed(build, *functions or [call], rules), BUILDS[build][0])
     with pytest.raises(Refused):
         all_shown(image, build, call, max([int(it) for it in lengths if it.isdigit()], default=None), *least)
 
 
+# Copies of a loop that are right too: how its counter begins, how it changes in a turn, and the jump to the next turn.
+RIGHT = [("leaq -1(%r9),%r9", "decq %r9", "jns"), ("shlq $5,%r9", "subq $32,%r9; cmpq $31,%r9", "ja"),
+         ("shlq $5,%r9", "subq $32,%r9; cmpq $32,%r9", "jae"), ("negq %r9", "incq %r9", "js")]
+
+
+@pytest.mark.apart
+@pytest.mark.parametrize("begin, change, jump", RIGHT)
+def test_right_change(tmp_path, begin, change, jump):
+    """A loop may end in other ways than those of the shipped code."""
+    rules = fr"1 shrq \$9,%r9 => \0; {begin}", f"1 decq %r9 => {change}", f"1 jne 3b => {jump} 3b"
+    image = assembled(tmp_path, changed("v3", "core_plain_check_long_outlined", rules), BUILDS["v3"][0])
+    assert all_shown(image, "v3", "check", None, 513)
+
+
 # Loops whose bytes are changed at random: the build, the call, and the function that they are in.
-LOOPS = [
-    ("v2", "encode", "encode"), ("v3", "encode", "encode"), ("v3", "check", "core_plain_check_long"),
-    ("v4", "check", "core_plain_check_held"), ("v2", "decode", "core_backend_Backend_decode_or_find"),
-    ("v3", "decode", "core_backend_Backend_decode_or_find"), ("v4", "decode", "core_backend_Backend_decode_or_find"),
-]
+CHECKS = {"v3": "core_plain_check_long_outlined"} | dict.fromkeys(("v4", "vbmi"), "core_plain_check_wide_outlined")
+LOOPS = [("v2", "encode", "encode"), ("v3", "encode", "encode"), *[(it, "check", at) for it, at in CHECKS.items()]]
+LOOPS += [(it, "decode", "core_backend_Backend_decode_or_find_outlined") for it in BUILDS]
 # What processors have that run a build.
-FLAG = {"v2": "sse4_2", "v3": "avx2", "v4": "avx512bw"}
+FLAG = {"v2": "sse4_2", "v3": "avx2", "v4": "avx512bw", "vbmi": "avx512vbmi"}
 PAGE, FILL = 4096, 0xaa
 
 
@@ -485,7 +673,7 @@ BLOCK |= {f"above {it}": 32 for it in range(3)}
 LOADS = "; ".join(f"vinserti64x4 $1,{192 + 32 * it}(%r11),%zmm{it},%zmm{it}" for it in range(3))
 STORES = "; ".join(f"vextracti64x4 $1,%zmm{it},{192 + 32 * it}(%r11)" for it in range(3))
 NAMES = [f"{it} {at}" for it, size in BLOCK.items() for at in range(size)]
-# In the model the memory is a part of the stack, below what a program pushes.
+# In the model the memory is a part of the stack, below what a program pushes. It is 8 bytes below an aligned address.
 MEMORY = range(-128, -64)
 FLAGS = {"c": 0, "z": 6, "s": 7, "o": 11}
 HAS_FLAG = {flag: (lambda it, bit=bit: z3.Extract(bit, bit, it) == 1) for flag, bit in FLAGS.items()}
@@ -494,18 +682,64 @@ PROGRAM = """
 run_{0}: mov %rdi,%r11
     vmovdqu (%r11),%ymm0; vmovdqu 32(%r11),%ymm1; vmovdqu 64(%r11),%ymm2; {2}
     mov 96(%r11),%rax; mov 104(%r11),%rcx; mov 112(%r11),%rdx; lea 128(%r11),%rdi; push 120(%r11); popfq
+    .intel_syntax noprefix
 begin_{0}: {1}
-end_{0}: pushfq; pop 120(%r11); mov %rax,96(%r11); mov %rcx,104(%r11); mov %rdx,112(%r11)
+end_{0}: .att_syntax prefix
+    pushfq; pop 120(%r11); mov %rax,96(%r11); mov %rcx,104(%r11); mov %rdx,112(%r11)
     vmovdqu %ymm0,(%r11); vmovdqu %ymm1,32(%r11); vmovdqu %ymm2,64(%r11); {3}; vzeroupper
     ret
 """
-NARROW, WIDE = ["avx2"], ["avx512f", "avx512bw", "avx512dq", "avx512vl"]
-INSTRUCTIONS = [it.partition(": ")[::2] for it in rows("instructions.txt")]
+# The flags of a processor that has the instructions of a level.
+OF_LEVEL = {2: ["avx2"], 3: ["avx2", "bmi2"], 4: ["avx512f", "avx512bw", "avx512dq", "avx512vl"], 5: ["avx512vbmi"]}
+REGISTERS = {1: "cl dl al", 2: "cx dx ax", 4: "ecx edx eax", 8: "rcx rdx rax"}
+SIZES = {1: "byte", 2: "word", 4: "dword", 8: "qword", 16: "xmmword", 32: "ymmword", 64: "zmmword"}
+# What comes before and after an instruction, so that it has an effect that can be compared, or instead of it. {0} is a
+# number.
+AROUND = {
+    "div": "mov eax,{0}0007; xor edx,edx; mov ecx,77; mov qword ptr [rdi+7],77; {1}",
+    "leave": "push rbp; mov rbp,rsp; push rcx; {1}",
+    "push": "{1}; pop rdx", "pop": "push rdx; {1}", "bzhi": "mov al,{0}; {1}",
+    "ret": "call 1f; jmp 2f; 1: inc rcx; ret; 2: nop", "call": "{1}; add rdx,rax; jmp 2f; 1: inc rcx; ret; 2: nop",
+    **{name: "{1}; inc rax; 1: nop" for name in FORMS if name[0] == "j"},
+    **{f"kortest{it}": "xor ecx,ecx; cmp dl,{0}; setb cl; neg rcx; kmovq k0,rcx; kmovq k1,rcx; {1}" for it in "bwdq"},
+    "vzeroupper": "vmovdqu ymm0,ymmword ptr [rdi]; {1}",
+}
+# Numbers for instructions that have one.
+GIVEN = 5, 179, 63, 1
 
 
-def test_each_instruction_is_run():
-    run = {name for names, _ in INSTRUCTIONS for name in names.split()}
-    assert {*TABLE, *EACH} - {kind + it for kind in ("set", "cmov") for it in EACH} <= run
+def operand_of(name, kind, place, number):
+    """The text of an operand of a kind at a place."""
+    size = int(kind[1:] or 0)
+    if kind == "i":
+        return "1f" if name[0] == "j" or name == "call" else str(number)
+    if kind in WIDTHS:
+        return f"{kind}mm{place}"
+    if kind == "k":
+        return f"k{place}"
+    if kind[0] == "r":
+        return REGISTERS[size].split()[place]
+    if size == 0:
+        return "[rcx+rdx*4+5]"
+    if re.search("movdqa|movaps", name) and size > 16:
+        return f"{SIZES[size]} ptr [rip+9f]"
+    is_aligned = size == 16 and (name[0] != "v" or re.search("movdqa|movaps", name))
+    distance = 8 if is_aligned else 0 if size == 64 else 7
+    return f"{SIZES[size]} {'bcst' if kind[0] == 'b' else 'ptr'} [rdi+{distance}]"
+
+
+def programs_of(name, form):
+    """The programs for a form of an instruction. If a vector may have 64 bytes there, it has the encoding of AVX-512
+    too."""
+    kinds = [it for it in form.split(",") if it]
+    wide = re.sub("m16|m32", "m64", re.sub("[xy]", "z", form))
+    for number, prefix in itertools.product(GIVEN, ["", "{evex} "] if wide != form and wide in FORMS[name] else [""]):
+        text = f"{prefix}{name} {', '.join(operand_of(name, it, at, number) for at, it in enumerate(kinds))}"
+        text = AROUND.get(name, "{1}").format(number, text)
+        text = f"kmovq k1,rdx; {text}" if kinds[1:] == ["k"] and name not in AROUND else text
+        text = f"{text}; kmovq rax,k0" if kinds[:1] == ["k"] and name not in AROUND else text
+        numbers = ",".join(map(str, range(3, 195, 3)))
+        yield text + (f"; jmp 8f; .p2align 6; 9: .byte {numbers}; 8: nop" if "9f" in text else "")
 
 
 def modelled(image, begin, end, is_wide, known):
@@ -515,8 +749,8 @@ def modelled(image, begin, end, is_wide, known):
     if known:
         block = {it: [values.constant(known[f"{it} {at}"], 1) for at in range(size)] for it, size in BLOCK.items()}
     machine, state = execution.Machine(image, values.constant(0, 8), None, None, (), None), State(begin)
-    place = values.apply(operator.add, STACK, values.constant(MEMORY[0], 8))
-    state.registers.update({it: values.joined(block[it]) for it in ("rax", "rcx", "rdx")}, rdi=place)
+    state.registers.update({it: values.joined(block[it]) for it in ("rax", "rcx", "rdx")},
+                           rdi=values.plus(STACK, MEMORY[0]))
     state.vectors[:3] = [block[f"vector {it}"] + block[f"above {it}"] for it in range(3)]
     state.stack.update(zip(MEMORY, block["memory"]))
     state.flags = {flag: (function, values.joined(block["flags"])) for flag, function in HAS_FLAG.items()}
@@ -568,23 +802,41 @@ def sparse_blocks(parts):
             yield block
 
 
+def ran_on(function, block):
+    """What a program makes of a block, which is put 8 bytes above an aligned address."""
+    room = ctypes.create_string_buffer(len(block) + 24)
+    at = -ctypes.addressof(room) % 16 + 8
+    room[at:at + len(block)] = bytes(block)
+    function(ctypes.c_void_p(ctypes.addressof(room) + at))
+    return room[at:at + len(block)]
+
+
 @pytest.mark.apart
-@pytest.mark.parametrize("names, forms", INSTRUCTIONS)
-def test_instruction(tmp_path, names, forms):
-    is_wide = "zmm" in forms
-    has(*(WIDE if is_wide else NARROW))
+@pytest.mark.parametrize("name", FORMS)
+def test_instruction(tmp_path, name):
+    """Each form of each instruction that has a model does on the processor what it does in the model."""
+    level = max(FORMS[name].values())
+    programs = sorted({it for form in FORMS[name] for it in programs_of(name, form)})
+    is_wide = level > 3 or any(re.search("evex|zmm", it) for it in programs)
+    has(*OF_LEVEL[4] * is_wide, *OF_LEVEL[level])
     above = [LOADS, STORES] if is_wide else ["", ""]
-    programs = [*dict.fromkeys(form.format(name) for form in forms.split(" | ") for name in names.split())]
     image = assembled(tmp_path, "".join(PROGRAM.format(*it, *above) for it in enumerate(programs)))
     runs([CC, "-shared", "-nostdlib", "-o", tmp_path / "made.so", tmp_path / "made.o"])
     library = ctypes.CDLL(tmp_path / "made.so")
-    random.seed(names)
+    random.seed(name)
     for at, program in enumerate(programs):
         places = *image.symbols[f"begin_{at}"], *image.symbols[f"end_{at}"], is_wide
-        made = None if re.search(r"\bj|call", program) else modelled(image, *places, {})
-        # A program with jumps is executed again for each block, because its path depends on the block.
-        for block in [*dense_blocks(), *(sparse_blocks(["vector", "above"][:1 + is_wide]) if made else ())]:
+        # A program with jumps, or whose effect needs a number, is executed again for each block.
+        made = None if re.search(r"\bj|call|set", program) else modelled(image, *places, {})
+        is_test = re.search("test", name) and made
+        for block in [*dense_blocks(), *(sparse_blocks(["vector", "above"][:1 + is_wide]) if is_test else ())]:
             block[120:128] = bytes([random.randrange(256) & 0xc1 | 2, random.choice((0, 8)), 0, 0, 0, 0, 0, 0])
-            done, known = (ctypes.c_char * len(block)).from_buffer_copy(block), dict(zip(NAMES, block))
-            library[f"run_{at}"](done)
-            same(program, made or modelled(image, *places, known), known, done.raw)
+            known = dict(zip(NAMES, block))
+            same(program, made or modelled(image, *places, known), known, ran_on(library[f"run_{at}"], block))
+
+
+@pytest.mark.quick
+def test_forms():
+    """Each instruction with a form has an effect, and the other way round."""
+    effects = {name for name in TABLE} | {name for name in ("ret", "call", "jmp")} | {f"j{it}" for it in EACH}
+    assert {it if it in effects else it[1:] for it in FORMS} == effects

@@ -8,11 +8,10 @@
 import os
 import re
 import shutil
-import sys
 
 import pytest
 
-from commands import OF_PROOFS, TOP, needs, ran, runs
+from commands import OF_PROOFS, copied, needs, ran
 
 HEAD = """//! Functions with bodies to be put out.
 #![tactic(auto)]
@@ -97,14 +96,14 @@ def top(tmp_path_factory):
     texts[own / "src/lib.rt"] = HEAD + "".join(FUNCTIONS)
     texts[own / "src/sizes.rt"] = MODULE + METHOD.format("One", 1) + METHOD.format("Many", 3)
     texts |= {own / f"proofs/{names[0]}/Answers.antt": ANSWER.format(*names) for names in NAMED}
-    name, old, new, _ = EDIT
-    texts[own / f"must-fail/{name.replace(' ', '_')}.edit"] = f"file: src/lib.rt\nold: {old}\nnew: {new}\n"
     tables = [table_of("The prover refuses, at every commit", "lib.rt", AT_EVERY_COMMIT)]
-    tables += table_of("The prover refuses", "lib.rt", OTHERS), table_of("The prover refuses", "sizes.rt", IN_A_MODULE)
+    for file, mutations in ("lib.rt", [EDIT, *OTHERS]), ("sizes.rt", IN_A_MODULE):
+        tables.append(table_of("The prover refuses", file, mutations))
     texts[own / "mutations"] = "\n".join(tables)
     for path, text in texts.items():
         path.parent.mkdir(parents=True, exist_ok=True)
         path.write_text(text, encoding="utf-8")
+    copied(["scripts/mutations", "scripts/repository.py"], top)
     return top
 
 
@@ -112,8 +111,8 @@ def tries(top, *words):
     """The result of scripts/mutations for a repository. It has its own folder for temporary files."""
     room = top / "room"
     room.mkdir(exist_ok=True)
-    places = {"MUTATIONS_TOP": str(top), "TMPDIR": str(room), "XDG_CACHE_HOME": str(top / "kept")}
-    done = ran([TOP / "scripts/mutations", *words], env={**os.environ, **places}, timeout=OF_PROOFS)
+    places = {"TMPDIR": str(room), "XDG_CACHE_HOME": str(top / "kept")}
+    done = ran([top / "scripts/mutations", *words], env={**os.environ, **places}, timeout=OF_PROOFS)
     assert not any(room.iterdir()) and not (top / "crates/tiny/out").exists()
     return done
 
@@ -157,16 +156,21 @@ def test_a_table_is_read_whole(top, tmp_path):
     assert done.stdout == "mutations: crates/tiny/mutations: 'takes nothing away' is not read\n"
 
 
-# Prints whether hex_codec would be checked over the kept libraries, and the identity of the library below it.
-KEPT = "import repository as it; print(bool(it.words_over_kept('hex_codec'))); print(it.identity('hex_core'), end='')"
+def test_none_to_try(top, tmp_path):
+    """It fails if there is nothing to try, as for a crate that has none in the gate."""
+    shutil.copytree(top, tmp_path, dirs_exist_ok=True)
+    for text in table_of("The prover refuses", "sizes.rt", IN_A_MODULE), "":
+        (tmp_path / "crates/tiny/mutations").write_text(text)
+        done = tries(tmp_path, "--gate")
+        assert done.returncode == 1 and done.stdout == "mutations: there is none to try\n"
 
 
-def test_a_kept_library_of_other_sources_is_not_used(tmp_path):
-    needs("rt")
-    kept, env = tmp_path / "faster_hex/libraries", {**os.environ, "XDG_CACHE_HOME": str(tmp_path)}
-    used = lambda: runs([sys.executable, "-c", KEPT], cwd=TOP / "scripts", env=env).split("\n", 1)
-    before, identity = used()
-    (kept / f"hex_core-{identity}0").mkdir(parents=True)
-    other = used()[0]
-    (kept / f"hex_core-{identity}").mkdir()
-    assert (before, other, used()[0]) == ("False", "False", "True")
+def test_the_gate_is_of_its_own_repository(tmp_path, copy):
+    """No variable of the environment names another one, in which there may be nothing to try. A program that can read
+    no mutation stands for `rt`."""
+    (tmp_path / "rt").write_text("#!/bin/sh\necho src/lib.rt:1:1: error: unread\nexit 1\n")
+    (tmp_path / "rt").chmod(0o755)
+    (tmp_path / "crates.txt").touch()
+    env = {"PATH": f"{tmp_path}:{os.environ['PATH']}", "MUTATIONS_TOP": f"{tmp_path}", "XDG_CACHE_HOME": f"{tmp_path}"}
+    done = ran([copy / "scripts/mutations", "--gate"], env={**os.environ, **env})
+    assert done.returncode == 1 and re.search("\n0 passed, [1-9][0-9]* failed\n$", done.stdout)

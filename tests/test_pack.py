@@ -1,13 +1,14 @@
 """What `make dist` packs: it is built with only some tools, installed, and used by programs."""
 import os
+import platform
 import re
 import shutil
 
 import pytest
 
 from commands import (ARM_CC, BY_RUST, BY_SYSTEM, CARGO, CC, CXX, HELLO, INSTALLED, ON_ARM, PRINTED, RUSTC, SHARED, TOP,
-                      VERSION, WINDOWS_CC, by_cmake, has_files, is_locked, make, needs, needs_clone, only, passes, ran,
-                      runs, shows_names, stands_alone)
+                      VERSION, WINDOWS_CC, by_cmake, compiled, has_files, is_locked, make, needs, needs_clone, only,
+                      passes, plugin_over, ran, runs, shows_names, stands_alone)
 
 pytestmark = pytest.mark.quick
 NAME = f"faster_hex-{VERSION}"
@@ -37,7 +38,7 @@ WAYS |= {"cmake": (" --buildsystem=cmake", "")}
 OF_CMAKE = r"/cmake/faster_hex/faster_hexConfig-\w+\.cmake"
 # The tools that may build, test and install a pack.
 TOOLS = f"""sh make date {CC} {CXX} gcc clang musl-gcc {ARM_CC} qemu-aarch64 ar as ld cp ln rm mv mkdir install cat
-    sed grep sort dirname ls rmdir find xargs sha256sum cut cmake pkg-config {CARGO} {RUSTC} env uname"""
+    sed grep sort dirname ls rmdir find xargs sha256sum awk cmake pkg-config {CARGO} {RUSTC} env uname"""
 RUNNERS = {CC: "", "clang": "", "musl-gcc": "", ARM_CC: ON_ARM}
 # Versions that a CMake project asks for, and whether they are refused.
 VERSIONS = {"1": 0, "1.0": 0, "1.0.0 EXACT": 0, "1.0.1": 1, "1.1": 1, "2": 1, "0.9": 1}
@@ -50,6 +51,16 @@ add_library(over STATIC ${CMAKE_BINARY_DIR}/over.c)
 target_link_libraries(over PUBLIC faster_hex::archive)
 install(TARGETS over EXPORT over)
 install(EXPORT over DESTINATION lib)
+"""
+# A program over an installed copy that has no shared library.
+ALONE = """cmake_minimum_required(VERSION 3.14)
+project(alone C)
+find_package(faster_hex 1.0 REQUIRED)
+if(TARGET faster_hex::faster_hex)
+    message(FATAL_ERROR "there is no shared library")
+endif()
+add_executable(digits ${TOP}/examples/c/digits.c)
+target_link_libraries(digits faster_hex::archive)
 """
 
 
@@ -94,9 +105,10 @@ def of_cmake(tmp_path_factory, top):
     return installs(top, there / "built", there / "installed", [f"C_FLAGS={flags}", "EXE_LINKER_FLAGS=-no-pie"])
 
 
-def installs(top, built, there, options):
+def installs(top, built, there, options, prefix="CMAKE_"):
     """Builds the pack with CMake and installs it."""
-    options = [f"-DCMAKE_{it}" for it in (*options, "INSTALL_LIBDIR=lib", f"INSTALL_PREFIX={there}")]
+    options = [f"-D{prefix}{it}" for it in options]
+    options += ["-DCMAKE_INSTALL_LIBDIR=lib", f"-DCMAKE_INSTALL_PREFIX={there}"]
     runs(["cmake", "-S", top, "-B", built, "-DFASTER_HEX_INSTALL=ON", *options])
     runs(["cmake", "--build", built])
     runs(["cmake", "--install", built])
@@ -204,7 +216,55 @@ def test_what_cmake_installs(tmp_path, top, env, of_cmake):
     shows_names(of_cmake / "lib" / SHARED[2])
     archive = of_cmake / "lib/libfaster_hex.a"
     stands_alone(archive)
+    plugin_over(tmp_path, archive)
     runs([CC, "-shared", "-o", tmp_path / "over.so", "-Wl,-z,text,--whole-archive", archive, "-Wl,--no-whole-archive"])
+
+
+@pytest.mark.parametrize("way", ["make", "cmake"])
+def test_archive_that_is_installed_alone(tmp_path, pack, way):
+    """With LDFLAGS=-static, `make` builds no shared library, and with BUILD_SHARED_LIBS=OFF CMake installs none. CMake
+    and pkg-config then find the archive."""
+    needs("cmake", "pkg-config")
+    top, there = unpacked(pack, tmp_path), tmp_path / "there"
+    if way == "make":
+        runs(make("LDFLAGS=-static", top=top))
+        runs(make("install", f"PREFIX={there}", top=top), out="", err="")
+    else:
+        installs(top, tmp_path / "built", there, ["BUILD_SHARED_LIBS=OFF"], prefix="")
+    assert [it.name for it in there.glob("lib/libfaster_hex.*")] == ["libfaster_hex.a"]
+    (tmp_path / "CMakeLists.txt").write_text(ALONE)
+    runs(["cmake", "-S", tmp_path, "-B", tmp_path / "over", f"-DCMAKE_PREFIX_PATH={there}", f"-DTOP={top}"])
+    runs(["cmake", "--build", tmp_path / "over"])
+    runs([tmp_path / "over/digits"], out=PRINTED)
+    env = {**os.environ, "PKG_CONFIG_PATH": f"{there}/lib/pkgconfig"}
+    flags = runs(["pkg-config", "--cflags", "--libs", "faster_hex"], env=env).split()
+    runs([CC, top / "examples/c/digits.c", *flags, "-o", tmp_path / "by-flags"])
+    runs([tmp_path / "by-flags"], out=PRINTED)
+
+
+def test_assembly_that_was_changed(tmp_path, pack):
+    """CMake refuses to build it, also if it was changed after CMake had looked. If it is told to build it all the same,
+    the version says so."""
+    needs("cmake")
+    top, built = unpacked(pack, tmp_path), tmp_path / "built"
+    words = ["cmake", "-S", top, "-B", built]
+    runs(words)
+    changed = top / f"generated/fhex/{'x86-64-v2' if platform.machine() == 'x86_64' else 'aarch64'}.s"
+    with changed.open("a") as file:
+        file.write("# changed\n")
+    for again in words, ["cmake", "--build", built]:
+        done = ran(again)
+        assert done.returncode and f"{changed} is not as" in " ".join(done.stdout.split()), done.stdout
+    (top / "generated/more.s").touch()
+    shutil.copy(TOP / changed.relative_to(top), changed)
+    assert "more.s is not as" in " ".join(ran(words).stdout.split())
+    done = ran([*words, "-DFASTER_HEX_UNPROVED=ON"])
+    assert done.returncode == 0 and "+unproved" in done.stdout
+    runs(["cmake", "--build", built])
+    text = "#include <faster_hex.h>\n#include <stdio.h>\nint main(void) { puts(faster_hex_version()); }\n"
+    (tmp_path / "told.c").write_text(text)
+    program = compiled(CC, tmp_path / "told", tmp_path / "told.c", built / "libfaster_hex.a")
+    runs([program], out=f"{VERSION}+unproved\n")
 
 
 def test_what_cmake_installs_for_windows(tmp_path, top):

@@ -4,7 +4,8 @@ import os
 
 import pytest
 
-from commands import CC, CRATE, OUT, TESTS_IN_C, compiled, make, needs, passes, ran, runs, tries
+from commands import (BESIDE, CC, CRATE, STRICT, TESTS_IN_C, compiled, make_beside, names_build, needs, passes, ran, runs,
+                      tries)
 from packages import OF_SERDE, lacking, packed, without
 
 # A compiler, the command that runs its programs, and the folder of the library.
@@ -28,9 +29,19 @@ def test_random_calls_beside_the_builds(tmp_path, library):
 def test_in_c(tmp_path, compiler, words):
     runner, folder = TARGETS.get(compiler, ("", "portable"))
     needs(compiler, *runner.split()[:1])
-    runs(make("lib", f"CC={compiler}", *["TARGET=portable"] * (compiler == CC)), out="", err="")
-    assert b"faster_hex_1_0_0" not in (OUT / folder / "libfaster_hex.a").read_bytes()
-    tries(tmp_path, compiler, OUT / folder / "libfaster_hex.a", "-DFASTER_HEX_PORTABLE", runner, words)
+    runs(make_beside(folder, "lib", f"CC={compiler}", *["TARGET=portable"] * (compiler == CC)), out="", err="")
+    assert b"faster_hex_1_0_0" not in (BESIDE / folder / "libfaster_hex.a").read_bytes()
+    tries(tmp_path, compiler, BESIDE / folder / "libfaster_hex.a", "-DFASTER_HEX_PORTABLE", runner, words)
+    names_build(tmp_path, compiler, BESIDE / folder / "libfaster_hex.a", "portable", runner)
+
+
+@pytest.mark.parametrize("standard", ["c99", "c11"])
+@pytest.mark.parametrize("compiler", ["gcc", "clang"])
+def test_warnings(tmp_path, compiler, standard):
+    """There are none under the oldest standard for which the plain C is written."""
+    needs(compiler)
+    words = f"-std={standard}", "-DFASTER_HEX_PORTABLE", "-c", "-o", tmp_path / "made.o", CRATE / "dispatch.c"
+    runs([compiler, *STRICT, *words])
 
 
 @pytest.mark.parametrize("target", FREESTANDING)

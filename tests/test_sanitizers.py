@@ -8,14 +8,16 @@ pytestmark = pytest.mark.quick
 OF_ADDRESS = {"none": "", "short-destination": "heap-buffer-overflow", "short-source": "heap-buffer-overflow"}
 OF_ADDRESS |= {"short-invalid": "heap-buffer-overflow", "freed": "heap-use-after-free", "unwritten": ""}
 OF_MEMORY = {"none": "", **dict.fromkeys(("unwritten", "unwritten-invalid", "freed"), "use-of-uninitialized-value")}
+OF_THREADS = {"none": "", "race-source": "data race", "race-destination": "data race"}
 CASES = [(compiler, "address", *it) for compiler in ("gcc", "clang") for it in OF_ADDRESS.items()]
 CASES += [("clang", "memory", *it) for it in OF_MEMORY.items()]
+CASES += [(compiler, "thread", *it) for compiler in ("gcc", "clang") for it in OF_THREADS.items()]
 
 
 @pytest.mark.parametrize("compiler, sanitizer, fault, report", CASES)
 def test_fault(tmp_path, compiler, sanitizer, fault, report):
     sources = TESTS_IN_C / "faults.c", CRATE / "dispatch.c", TOP / "generated/builds.S"
-    words = ["-std=gnu99", "-g", f"-fsanitize={sanitizer}", "-fPIE", "-pie", *sources]
+    words = ["-std=gnu99", "-g", "-pthread", f"-fsanitize={sanitizer}", "-fPIE", "-pie", *sources]
     done = ran([compiled(compiler, tmp_path / "faults", *words), fault])
     if report:
         assert done.returncode not in (0, 3) and report in done.stdout

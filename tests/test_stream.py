@@ -3,6 +3,7 @@ space and invalid bytes are at every kind of place, and streams are full, closed
 import errno
 import os
 import random
+import signal
 import subprocess
 from pathlib import Path
 
@@ -10,12 +11,13 @@ import pytest
 
 from commands import CC, OUT, TESTS_IN_C, TOP, VERSION, make, needs, runs
 from test_fhex_c import WRAPPED
-from test_program import BUILDS, ODD, SANITIZERS, built, ended
+from test_program import BUILDS, SANITIZERS, built, ended
 
 USAGE = b"usage: fhex-stream encode|encode-lines|decode\n"
 THIS_VERSION = b"fhex-stream %s\n" % VERSION.encode()
-INVALID = b"invalid hex byte 0x%02x at index %d\n"
-NOT_READ, NOT_WRITTEN = b"read failed\n", b"write failed\n"
+INVALID = b"fhex-stream: invalid hex byte 0x%02x at index %d\n"
+ODD = b"fhex-stream: hex input length must be even\n"
+NOT_READ, NOT_WRITTEN, NO_MEMORY = (b"fhex-stream: %s\n" % it for it in (b"read failed", b"write failed", b"out of memory"))
 # The bytes of one read of `decode`, of a block from which white space is removed, and of a vector.
 READ, BLOCK, LANES = 16384, 2048, 32
 SPACES = b" \t\n\r\f"
@@ -44,7 +46,7 @@ RUNS = [
     (["decode"], b"00\0", 1, b"", INVALID % (0, 2)),
     (["decode"], b"00\xa0", 1, b"", INVALID % (0xa0, 2)),
     (["decode"], b"00;00", 1, b"", INVALID % (0x3b, 2)),
-    ([b"\xff"], b"hello", 3, b"", NOT_READ),  # not UTF-8
+    ([b"\xff"], b"hello", 3, b"", b"fhex-stream: an argument is not UTF-8\n"),
 ]
 RUNS += [(["--help"], b"hello", 0, USAGE, b""), (["--version"], b"hello", 0, THIS_VERSION, b"")]
 NO_WORDS = [[], [""], ["encode", "decode"], ["vectors"], ["Encode"], ["encode-upper"], ["encode-lines "], ["-h"]]
@@ -177,7 +179,7 @@ def test_failed_calls(failing, word):
         ("read", 1, errno.EINTR, (0, b"")), ("read", 3, errno.EINTR, (0, b"")), ("read", 1, errno.EIO, (3, NOT_READ)),
         ("read", 4, errno.EIO, (3, NOT_READ)), ("write", 1, errno.EINTR, (3, NOT_WRITTEN)),
         ("write", 3, errno.ENOSPC, (3, NOT_WRITTEN)), ("write", 2, 0, (3, NOT_WRITTEN)),
-        ("malloc", 1, errno.ENOMEM, (3, b"out of memory\n")),
+        ("malloc", 1, errno.ENOMEM, (3, NO_MEMORY)),
     ]:
         env = {**os.environ, "FAILS": f"{call} {number} {reason}"}
         status, out, err = ended(failing, word, input=given, env=env)
@@ -214,13 +216,26 @@ def test_full_disk(stream, word, given, status):
 @pytest.mark.parametrize("word, how, status, err", [
     ("encode", "<&-", 3, NOT_READ), ("decode", "<&-", 3, NOT_READ), ("encode", "<.", 3, NOT_READ),
     ("encode-lines", ">&-", 3, NOT_WRITTEN), ("decode", ">&-", 3, NOT_WRITTEN), ("Encode", "2>&-", 2, b""),
-    ("encode-lines", "| exec true", 3, NOT_WRITTEN)])
+    *((word, "| exec true", 128 + signal.SIGPIPE, b"") for word in ("encode", "encode-lines", "decode"))])
 def test_streams_that_are_closed(stream, word, how, status, err):
-    """The status stays the same if the message can't be written."""
+    """The status stays the same if the message can't be written. If the reader of a pipe has ended, the program ends by
+    SIGPIPE, without a message."""
     said = f"{stream} {word} {how}; echo ${{PIPESTATUS[0]}} >&3" if how[0] == "|" else f"{stream} {word} {how}; echo $? >&3"
     given = "00" * 100_000
     done = subprocess.run(["bash", "-c", f"exec 3>&1; {{ {said}; }} >/dev/null"], input=given.encode(), capture_output=True)
     assert (done.stdout, done.stderr) == (b"%d\n" % status, err)
+
+
+def test_closed_pipe_where_the_signal_is_ignored(stream):
+    """If the program was started so, the write fails like any other."""
+    said = f"trap '' PIPE; {stream} encode </dev/zero 2>&3 | true; echo ${{PIPESTATUS[0]}}"
+    done = subprocess.run(["bash", "-c", f"exec 3>&2; {said}"], capture_output=True)
+    assert (done.stdout, done.stderr) == (b"3\n", NOT_WRITTEN)
+
+
+def test_head(stream):
+    said = f"set -o pipefail; {stream} encode </dev/zero | head -c 10"
+    runs(["bash", "-c", said], 128 + signal.SIGPIPE, out=10 * "0", err="")
 
 
 def test_slow_pipe(stream):

@@ -13,8 +13,8 @@ from packages import OF_SERDE, lacking, needs_crates, packed, without
 
 CHECKOUT = os.environ.get("RUST") and Path(os.environ["RUST"]).absolute()
 RANDOM = [os.environ.get("ROUNDS") or "20000", os.environ.get("SEED") or "1"]
-# Crates, each with a text by which a test file that needs the crate is recognized.
-WANTS = {"proptest": "proptest", "hex": "hex::encode", "serde": '#![cfg(feature = "serde")]'}
+# Texts by which a test file that needs crates is recognized, and the crates.
+WANTS = {"proptest": ["proptest"], "hex::encode": ["hex"], '#![cfg(feature = "serde")]': OF_SERDE}
 
 
 def files_of_tests():
@@ -50,7 +50,9 @@ def swap(tmp_path_factory, cargo):
 def test_its_own_tests(swap, cargo, path):
     if path.startswith("src/"):
         pytest.skip(f"{path} names private items")
-    needs_crates(*(it for it in WANTS if WANTS[it] in FILES[path]))
+    if path == "none":
+        pytest.skip(f"{CHECKOUT} has no tests")
+    needs_crates(*(it for text in WANTS if text in FILES[path] for it in WANTS[text]))
     (swap / "tests/tests" / Path(path).name).write_text(FILES[path])
     passes([*cargo, "test", "--release", "--test", Path(path).stem], cwd=swap / "tests")
 

@@ -13,7 +13,7 @@ from commands import (BY_SYSTEM, SHARED, TOP, VERSION, is_locked, make, needs, n
 
 pytestmark = pytest.mark.quick
 # How often the commands of a build contain each of the user's variables.
-WORDS = {"CC": 7, "CFLAGS": 7, "CPPFLAGS": 6, "LDFLAGS": 3, "AR": 1}
+WORDS = {"CC": 8, "CFLAGS": 8, "CPPFLAGS": 7, "LDFLAGS": 3, "AR": 1}
 # Variables with which everything is built again, and the status of such a build.
 OTHERS = {"CFLAGS=-O1 -g": 0, "CPPFLAGS=-DX='a  $$b'": 0, "LDFLAGS=-Wl,-O1": 0, "CC=gcc": 0, "UNPROVED=yes": 0}
 OTHERS |= {"CC=nonexistent": 2}
@@ -27,7 +27,7 @@ DIFFERENCES = [
     ("crates/faster_hex_c/dispatch.c", r"^CALL\(bool, check, .*\n", "", "faster_hex_check"),
 ]
 # The tools that `make test` needs without Rattle and pytest.
-TOOLS = """sh make date cc as ld ar mv mkdir rm cp cat grep sed sort find xargs sha256sum cut dirname uname nproc"""
+TOOLS = """sh make date cc as ld ar mv mkdir rm cp cat grep sed sort find xargs sha256sum awk dirname uname nproc"""
 # Targets of clang. The folder into which `make` builds, and whether it builds fhex.
 SYSTEMS = {"x86_64-linux-gnu": ("out", True), "amd64-portbld-freebsd14": ("out", True)}
 SYSTEMS |= dict.fromkeys(("aarch64-alpine-linux-musl", "arm64-linux-gnu"), ("out/aarch64", True))
@@ -41,7 +41,8 @@ WARNINGS = {f"warning: {folder}/ {what}" for folder in ("generated", "generated/
             for what in ("is not made of these sources", "has a file that is not as PROVED says")}
 # The files that are built again if one of these files is newer.
 SOURCES_OF = {"generated/*.[sS]": "builds.o", "generated/*.inc": "builds.o fhex.o", "generated/fhex/*.[sS]": "fhex.o"}
-SOURCES_OF |= {"crates/faster_hex_c/assembly.h": "builds.o dispatch.o", "crates/faster_hex_c/*.[ch]": "dispatch.o"}
+SOURCES_OF |= {"crates/faster_hex_c/assembly.h": "builds.o dispatch.o exported.o"}
+SOURCES_OF |= {"crates/faster_hex_c/*.[ch]": "dispatch.o exported.o"}
 SOURCES_OF |= {"crates/faster_hex_c/*.map": SHARED[2], "crates/fhex/fhex.c": "fhex"}
 PAGES = {"CALLING.md", "CHANGELOG.md", "DIFFERENCES.md", "proving.md", "security.md"}
 CALLERS = {"src/digest.rt", "src/checksum.rt", "specs/Checksums.antt"}
@@ -58,7 +59,7 @@ def test_six_makes_at_once(copy):
     many = [subprocess.Popen(make(top=copy), **how) for _ in range(6)]
     assert {it.communicate()[0] for it in many} == {""}
     assert [it.returncode for it in many] == 6 * [0]
-    made = {"builds.o", "dispatch.o", "libfaster_hex.a", SHARED[2], "built"}
+    made = {"builds.o", "dispatch.o", "exported.o", "libfaster_hex.a", SHARED[2], "built"}
     made |= {f"{program}{end}" for program in ("fhex", "fhex-stream") for end in ("", ".o")}
     assert {it.name for it in (copy / "out").iterdir()} == made
 
@@ -161,7 +162,7 @@ def test_other_sources(copy):
 
 def test_what_is_wrong_with_generated(copy, tmp_path):
     """A changed file and a missing tool each give one line."""
-    tools = "make sh dirname mkdir mv sed cat cut find sort xargs cc as ld"
+    tools = "make sh dirname mkdir mv sed cat awk grep find sort xargs cc as ld"
     tools = only(tmp_path / "tools", {it: it for it in tools.split()})
     with (copy / "generated/x86-64.s").open("a") as file:
         file.write("\n")
@@ -193,7 +194,7 @@ def test_tests_without_the_toolchain(copy, tmp_path):
         (tmp_path / "tools/pytest").chmod(0o755)
     (tmp_path / "tools/rt").chmod(0o755)
     said = [*runs(make("-n", "test", top=copy), env=env).splitlines()]
-    assert " -m quick" in said[-3] and "scripts/rt-ci" in said[-2] and "mutations --gate" in said[-1]
+    assert " -m quick" in said[-3] and "rt ci" in said[-2] and "mutations --gate" in said[-1]
 
 
 @pytest.mark.parametrize("place", ["own", "listed", "listed/crates.txt", "missing"])

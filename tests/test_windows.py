@@ -4,8 +4,8 @@ import re
 
 import pytest
 
-from commands import (CALLS, CRATE, NAMES, OUT, RUSTC, TESTS_IN_C, TOP, WINDOWS_CC, by_cmake, make, needs, passes, ran,
-                      runs)
+from commands import (BESIDE, CALLS, CRATE, NAMES, RUSTC, TESTS_IN_C, TOP, WINDOWS_CC, by_cmake, make_beside, needs,
+                      passes, ran, runs)
 
 # The registers that a call on Windows must restore.
 KEPT = [*"%rbx %rbp %rsi %rdi %r12 %r13 %r14 %r15".split(), *(f"%xmm{it}" for it in range(6, 16))]
@@ -27,8 +27,8 @@ SYSTEMS |= {"apple-darwin": True, "pc-windows-gnu": True, "pc-windows-msvc": Fal
 def windows():
     """The folder with the library and the programs for Windows."""
     needs(WINDOWS_CC)
-    runs(make(f"CC={WINDOWS_CC}"))
-    return OUT / "windows"
+    runs(make_beside("windows", f"CC={WINDOWS_CC}"))
+    return BESIDE / "windows"
 
 
 def keeping(call):
@@ -43,7 +43,7 @@ def keeping(call):
 
 def test_in_c(windows):
     needs("wine")
-    passes(make("test-c", f"CC={WINDOWS_CC}", "RUN=wine"))
+    passes(make_beside("windows", "test-c", f"CC={WINDOWS_CC}", "RUN=wine"))
 
 
 def test_names_and_stack(windows):

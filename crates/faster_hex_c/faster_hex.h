@@ -22,8 +22,9 @@
  *     }
  *
  * The library for x86-64 runs on every x86-64 processor. It uses AVX-512, AVX2 or SSE4.2 if the processor has
- * them. For the processors and systems in the last row of the platforms in the README of the repository, the library
- * is plain C. Plain C is not proved, and is tested for some processors.
+ * them. On aarch64 it uses NEON. There is assembly for Linux, FreeBSD, NetBSD and macOS, and on x86-64 for
+ * Windows by mingw. For other processors and systems the library is plain C. Plain C is not proved, and is tested for
+ * some processors.
  *
  * These rules hold for every call, unless the call says otherwise:
  *
@@ -37,7 +38,8 @@
  *   state, which records what the processor supports. It is written when the library is loaded.
  * - Calls may run in many threads at the same time, also on the same source, if no destination overlaps what
  *   another call reads or writes.
- * - The library needs no external symbols, not even libc. You may link the archive into a shared library.
+ * - The library needs no external symbols, not even libc. You may link the archive into a shared library, which then
+ *   does not export the calls.
  * - gcc and clang warn if a result that says whether a call failed is not used.
  *
  * What is known of the code:
@@ -47,16 +49,15 @@
  *   code.
  * - Checked for all bytes and every length: a tool of the repository executes the machine code symbolically, that is,
  *   with a source whose length and bytes are unknown. It was run on one archive, which gcc built on Linux. FreeBSD and
- *   NetBSD use the same assembly. The check covers the builds for x86-64-v2, x86-64-v3 and x86-64-v4, and the calls
+ *   NetBSD use the same assembly. The check covers the builds whose names begin with x86-64-v, and the calls
  *   without groups. For these, the results are right, and a call that reports an error has written nothing, not even
  *   for a while. The code reads only the source, its stack, its constants and its byte of state. It writes only the
  *   destination and its stack. This also holds if an empty source or destination is NULL. For the calls with groups in
- *   the builds for x86-64-v2 and x86-64-v3, the same is checked for sources of up to 32 bytes. The file generated/SHOWN
- *   has the record.
+ *   the builds for x86-64-v2 and x86-64-v3, the same is checked for sources of up to 32 bytes.
  * - Keys: the same tool checks which addresses and branches depend on the bytes of the source. In a call that encodes
  *   without groups, no address and no branch depends on them. When a call without groups checks, decodes or searches
  *   valid digits, the only such branches ask whether all digits of one part of the source are valid. They go the same
- *   way for all valid digits. docs/security.md says which calls to use for keys.
+ *   way for all valid digits. So use these calls for keys, if faster_hex_build names one of these three builds.
  * - Not constant time: the baseline build, which is the one for x86-64 without a level. It looks bytes up in tables.
  *   It runs on processors without x86-64-v2, and for calls that are made before the library's constructor has run. The
  *   constructor is a function that runs when the library is loaded. In every build a call that must find the index of
@@ -65,8 +66,6 @@
  * - Only tested, on Linux: the machine code of the other builds, and of the calls with groups for longer sources. The
  *   machine code for Windows is tested under wine. On FreeBSD, NetBSD and macOS the library was only assembled, and
  *   never run. Only tests show that calls allocate nothing and may run in threads.
- *
- * docs/security.md of the repository says more.
  */
 #ifndef FASTER_HEX_H
 #define FASTER_HEX_H
@@ -199,6 +198,14 @@ const char *faster_hex_status_text(uint8_t status);
  * differ. The returned version ends with "+unproved" if the library was built by `make UNPROVED=yes`, which does not
  * check that the code was made from the proved sources. Returns a static string; do not free it. */
 const char *faster_hex_version(void);
+
+/* Names the build that the next call uses, so that a program can refuse to handle keys where the library is not
+ * constant time: "x86-64", "x86-64-v2", "x86-64-v3", "x86-64-v4", "x86-64-vbmi", which is "x86-64-v4" with AVX-512
+ * VBMI, "aarch64" or "portable", which is plain C. Later versions may have other builds. Calls that the builds for
+ * AVX-512 do not have use the build "x86-64-v3". The rules for keys above were checked on Linux, for the builds whose
+ * names begin with "x86-64-v". Until the library's constructor has run, calls use the build "x86-64", and this is the
+ * text. Returns a static string; do not free it. */
+const char *faster_hex_build(void);
 
 #ifdef __clang__
 #pragma clang diagnostic pop

@@ -14,6 +14,10 @@
 #ifndef FASTER_HEX_HPP
 #define FASTER_HEX_HPP
 
+#if __cplusplus < 201703L
+#error "faster_hex.hpp needs C++17, for example by -std=c++17"
+#else
+
 #include <cstddef>
 #include <iterator>
 #include <stdexcept>
@@ -117,9 +121,21 @@ template <class Digits> [[nodiscard]] std::vector<unsigned char> decode(const Di
     return decode(text.data(), text.size(), by);
 }
 
-/* Does not compile, because the number of a policy for C would be taken for a length. */
-template <class Digits> void decode(const Digits &digits, decltype(FASTER_HEX_EITHER_CASE) by) = delete;
+/* Names the build that the next call uses, as faster_hex_build does. */
+[[nodiscard]] inline std::string_view build() noexcept {
+    return faster_hex_build();
+}
+
+/* Whether a call would take a value of this type for a length, although it is none: a truth value, and the number of a
+ * policy for C. */
+template <class Value> inline constexpr bool is_no_length =
+    std::is_same_v<Value, bool> || std::is_same_v<Value, decltype(FASTER_HEX_EITHER_CASE)>;
+
+/* Calls with such a value do not compile. */
+template <class... Values> std::enable_if_t<(is_no_length<Values> || ...)> encode(const Values &...) = delete;
+template <class... Values> std::enable_if_t<(is_no_length<Values> || ...)> decode(const Values &...) = delete;
 
 } // namespace faster_hex
 
+#endif
 #endif

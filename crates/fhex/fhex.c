@@ -20,6 +20,8 @@
 #else
 #include <sys/mman.h>
 #define PROVED __attribute__((visibility("hidden")))
+/* Whether the program leaves SIGPIPE as it was when it was started. builds.S of each program defines it. */
+extern const bool fhex_keeps_sigpipe PROVED;
 #endif
 
 /* Runs the proved part. Returns the exit status, which is 0 to 3. */
@@ -39,8 +41,8 @@ int main(int argc, char **argv) {
 #ifdef _WIN32
     for (int file = 0; file < 3; file++) _setmode(file, _O_BINARY);
 #else
-    /* A write to a closed pipe must fail, so that the program can report it. By default it ends the process. */
-    signal(SIGPIPE, SIG_IGN);
+    /* By default a write to a closed pipe ends the process. */
+    if (!fhex_keeps_sigpipe) signal(SIGPIPE, SIG_IGN);
 #endif
     count = (size_t)argc;
     words = argv;

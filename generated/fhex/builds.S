@@ -14,3 +14,12 @@
 #else
 #include "aarch64.s"
 #endif
+
+/* A write to a closed pipe fails, so that the program can report it. fhex.c reads this. */
+#ifdef __ELF__
+	.section .rodata,"a",%progbits
+	.globl fhex_keeps_sigpipe
+	.hidden fhex_keeps_sigpipe
+fhex_keeps_sigpipe:
+	.byte 0
+#endif

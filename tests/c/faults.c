@@ -1,5 +1,8 @@
-/* Makes one call with wrong arguments, which a sanitizer must report, or with right ones. Then it ends with status 0.
- * Usage: faults none|short-destination|short-source|short-invalid|freed|unwritten|unwritten-invalid */
+/* Makes one call with wrong arguments, which a sanitizer must report, or with right ones. Then it ends with status 0. In
+ * the races, another thread writes the source or reads the destination while the call may run.
+ * Usage: faults none|short-destination|short-source|short-invalid|freed|unwritten|unwritten-invalid
+ *        faults race-source|race-destination */
+#include <pthread.h>
 #include <stdlib.h>
 #include <string.h>
 
@@ -25,8 +28,32 @@ static int made(const char *fault, char *bytes, char *digits) {
     return faster_hex_check(digits, strcmp(fault, "short-source") == 0 ? 48 : 4) ? 0 : 3;
 }
 
+enum { OLD = 7 };
+static char shared[48], decoded[24];
+
+static void *writes_source(void *unused) {
+    shared[5] = '7';
+    return unused;
+}
+
+static void *reads_destination(void *unused) {
+    return decoded[5] == OLD ? NULL : unused;
+}
+
+/* Decodes while the other thread runs. No lock orders the two. */
+static int raced(void *(*other)(void *)) {
+    pthread_t thread;
+    memcpy(shared, DIGITS, sizeof shared);
+    if (pthread_create(&thread, NULL, other, NULL) != 0) return 2;
+    struct faster_hex_answer told = faster_hex_decode(shared, sizeof shared, decoded, sizeof decoded);
+    pthread_join(thread, NULL);
+    return told.status == FASTER_HEX_DONE ? 0 : 3;
+}
+
 int main(int words, char **word) {
     if (words < 2) return 2;
+    if (strcmp(word[1], "race-source") == 0) return raced(writes_source);
+    if (strcmp(word[1], "race-destination") == 0) return raced(reads_destination);
     bool is_short = strcmp(word[1], "short-destination") == 0;
     char *bytes = malloc(is_short ? 4 : 24), *digits = malloc(4);
     if (bytes == NULL || digits == NULL) return 2;

@@ -10,6 +10,9 @@
 
 static_assert(sizeof(faster_hex_answer) == 2 * sizeof(std::size_t), "two words");
 
+static_assert(std::is_base_of_v<std::invalid_argument, faster_hex::error>, "what a program may catch");
+static_assert(std::is_nothrow_copy_constructible_v<faster_hex::error>, "it is thrown");
+
 using faster_hex::policy;
 
 static int passed, failed;
@@ -95,6 +98,7 @@ static void texts() {
         count(faster_hex_status_text(static_cast<uint8_t>(status)) == text, text.c_str());
     }
     count(faster_hex_version() == std::string(FASTER_HEX_VERSION), "the version");
+    count(faster_hex::build() == faster_hex_build(), "the build");
 }
 
 int main() {

@@ -1,14 +1,8 @@
-"""Checks the library's calls in machine code. Run it in tests/ by the system's Python:
-
-python3 -m machine check FILE [BUILD [CALL [MOST]]]
-    checks an archive of the library, or a linked program that contains it: all calls in all builds for x86-64-v2 and
-    above, or those of one build, or one call, for sources of any length, or of at most so many bytes. It writes
-    nothing. The status is 0 if all of them are shown, 1 if not, and 2 if there is nothing to check.
-
-python3 -m machine record
-    builds the library in a folder of its own, checks all of it, and writes generated/SHOWN"""
+"""Checks the library's calls in machine code. Run it in tests/ by the system's Python: `python3 -m machine --help`."""
+import argparse
 import concurrent.futures
 import hashlib
+import os
 import re
 import subprocess
 import sys
@@ -30,9 +24,10 @@ from .statements import CALLS, shown
 from .values import forget
 
 TOP = Path(__file__).resolve().parents[2]
-# Each build with the calls that it has. The one for AVX-512 has those that check and decode.
+# The builds for AVX-512 have the calls that check and decode.
 WIDEST = [it for it in CALLS if it.startswith(("check", "decode")) and it not in GROUPED]
-BUILDS = {"v2": CALLS, "v3": CALLS, "v4": WIDEST}
+# Each build with its level, which is that of the processors that run it, and the calls that it has.
+BUILDS = {"v2": (2, CALLS), "v3": (3, CALLS), "v4": (4, WIDEST), "vbmi": (5, WIDEST)}
 # The sources of the machine code, and of this tool, because a change of the tool needs a new record.
 SOURCES = [f"generated/x86-64-{it}.s" for it in BUILDS] + """generated/builds.S generated/elf.inc
     crates/faster_hex_c/dispatch.c crates/faster_hex_c/assembly.h crates/faster_hex_c/faster_hex.h""".split()
@@ -65,17 +60,28 @@ def branches(those):
     return words
 
 
+def levels_of(build, call):
+    """The levels of the processors that run a build's call: its own, and those whose builds lack the call."""
+    own, having = BUILDS[build][0], [level for level, calls in BUILDS.values() if call in calls]
+    return [level for level, _ in BUILDS.values() if max([0, *[it for it in having if it <= level]]) == own]
+
+
 def checked(made, build, call, most):
     """What is said of a call, whether it is shown, and the addresses that were executed."""
-    image = Image(made, int(build[1]))
+    executed = set()
     try:
-        if call in GROUPED:
-            list(shown_grouped(image, build, call, most))
-            said = f"0 to {MOST if most is None else most} bytes in groups of each size, any separator"
-        else:
-            words = branches(list(shown(image, build, call, most)))
-            said = f"{'every length' if most is None else f'0 to {most} bytes'}, {words}"
-        return f"x86-64-{build} {call}: {said}", True, image.executed
+        image = Image(made)
+        for level in levels_of(build, call):
+            image.level, image.executed = level, set()
+            if call in GROUPED:
+                list(shown_grouped(image, build, call, most))
+                said = f"0 to {MOST if most is None else most} bytes in groups of each size, any separator"
+                said += "; up to 1024 bytes in groups of some sizes" if most is None else ""
+            else:
+                words = branches(list(shown(image, build, call, most)))
+                said = f"{'every length' if most is None else f'0 to {most} bytes'}, {words}"
+            executed |= image.executed
+        return f"x86-64-{build} {call}: {said}", True, executed
     except Refused as why:
         return f"x86-64-{build} {call}: REFUSED: {why}", False, set()
     finally:
@@ -87,72 +93,109 @@ def functions(made, executed):
     image = Image(made)
     code.assembles([image.instruction(at) for at in sorted(executed)])
     for at, (name, size) in sorted(image.functions.items(), key=lambda it: it[1]):
-        found = re.search(r"x86_64_v(\d_\w+?)(?:_of_c\w*)?$|^(faster_hex_[a-z_]+)$", name)
+        found = re.search(rf"x86_64_((?:{'|'.join(BUILDS)})_\w+?)(?:_of_c\w*)?$|^(faster_hex_[a-z_]+)$", name)
         those = image.instructions(at, size)
         if found:
-            yield f"{found[2] or 'x86-64-v' + found[1]}: {len(those & executed)} of {len(those)} instructions executed"
+            yield f"{found[2] or 'x86-64-' + found[1]}: {len(those & executed)} of {len(those)} instructions executed"
 
 
-def report(made, most, pairs):
+def report(made, most, pairs, jobs=None):
     """Says what is shown of a linked file, and whether all is, by a process for each call, as many at a time as there
-    are processors."""
-    with concurrent.futures.ProcessPoolExecutor() as pool:
-        results = [it.result() for it in [pool.submit(checked, made, *it, most) for it in pairs]]
+    are jobs. It prints what is said of a call as soon as it is known."""
+    with concurrent.futures.ProcessPoolExecutor(jobs) as pool:
+        waiting = [pool.submit(checked, made, *it, most) for it in pairs]
+        for it in concurrent.futures.as_completed(waiting):
+            print(it.result()[0], flush=True)
+    results = [it.result() for it in waiting]
     executed = set().union(*[it for _, _, it in results])
-    return [*[it for it, _, _ in results], *functions(made, executed)], all(it for _, it, _ in results)
+    return [it for it, _, _ in results], [*functions(made, executed)], all(it for _, it, _ in results)
 
 
 def pairs_of(made, words):
     """The builds and calls to check in a file, of those that are asked for."""
-    image = Image(made)
-    names = [it for it in image.symbols if "x86_64_v" in it]
+    names = [it for it in Image(made).symbols if "_x86_64_v" in it]
     version = re.search(r'VERSION "(.*)"', (TOP / "crates/faster_hex_c/faster_hex.h").read_text())[1].replace(".", "_")
     if not names:
         raise ValueError("the library is not in it, or it was stripped")
     if others := [it for it in names if f"faster_hex_{version}_" not in it]:
         raise ValueError(f"it has another version: {others[0]}")
-    pairs = [(build, call) for build in BUILDS for call in BUILDS[build] if [build, call][:len(words)] == words
-             and image.own(build, call)]
-    if not pairs:
-        raise ValueError("it has no such call")
-    return pairs
+    return [(build, call) for build in BUILDS for call in BUILDS[build][1] if [build, call][:len(words)] == words]
 
 
-def check(folder, file, *words):
+def image_of(folder, file):
+    """The linked file: this one, or what `ld` makes of an archive or an object."""
+    file.read_bytes()
+    if {*re.findall(r"file format (\S+)", code.output("objdump", "-f", file))} - {"elf64-x86-64"}:
+        raise ValueError("it is not for x86-64")
+    is_linked = re.search(r"^ +Type: +(EXEC|DYN)", code.output("readelf", "-hW", file), re.M)
+    return file if is_linked else linked(Path(folder) / "image", file)
+
+
+def check(folder, given):
     """Checks a file, and returns the status."""
-    is_archive = file.read_bytes().startswith(b"!<arch>\n")
-    made = linked(Path(folder) / "image", file) if is_archive else file
-    pairs, most = pairs_of(made, list(words[:2])), int(words[2]) if len(words) > 2 else None
-    print(*tools(file, made), sep="\n", flush=True)
-    lines, is_shown = report(made, most, pairs)
-    print(*[it for it in lines if not words or ": 0 of" not in it], sep="\n")
+    made = image_of(folder, given.file)
+    pairs = pairs_of(made, [it for it in (given.build, given.call) if it])
+    print(*tools(given.file, made), sep="\n", flush=True)
+    _, lines, is_shown = report(made, given.most, pairs, given.jobs)
+    print(*[it for it in lines if not given.build or ": 0 of" not in it], sep="\n")
     return 0 if is_shown else 1
 
 
-def record(folder, began=BEGAN):
+def record(folder, began=BEGAN, jobs=None):
     """Writes the record, if all is shown. If a source was changed after the tool began, it counts for nothing."""
     begin, file = sums(), Path(folder) / "libfaster_hex.a"
     subprocess.run(["make", "-s", "-C", TOP, "lib", "UNPROVED=", f"OUT={folder}", f"BUILT={folder}/built"], check=True)
     made = linked(Path(folder) / "image", file)
-    lines, is_shown = report(made, None, pairs_of(made, []))
+    said, lines, is_shown = report(made, None, pairs_of(made, []), jobs)
     if not is_shown or any((TOP / it).stat().st_ctime_ns >= began for it in SOURCES):
-        raise Refused(next((it for it in lines if "REFUSED" in it), "a source was changed meanwhile"))
-    (TOP / "generated/SHOWN").write_text(begin + "\n".join([*tools(file, made), *lines]) + "\n")
+        raise Refused(next((it for it in said if "REFUSED" in it), "a source was changed meanwhile"))
+    (TOP / "generated/SHOWN").write_text(begin + "\n".join([*tools(file, made), *said, *lines]) + "\n")
 
 
-def main(folder, command="", *words):
-    if command == "check" and 1 <= len(words) <= 4:
-        return check(folder, Path(words[0]), *words[1:])
-    return record(folder) if command == "record" and not words else __doc__
+def number(least, name):
+    """A function that reads a number from the command line."""
+    def read(text):
+        if not re.fullmatch(r"\d{1,19}", text, re.A) or int(text) < least:
+            raise argparse.ArgumentTypeError(f"{text} is no {name}")
+        return int(text)
+    return read
+
+
+def arguments(words):
+    about = "Executes the library's machine code symbolically, for sources of every length."
+    ends = "The status is 0 if all is shown, 1 if something is not, 2 for a file or words that nothing is checked of."
+    parser = argparse.ArgumentParser("python3 -m machine", description=about, epilog=ends)
+    jobs = argparse.ArgumentParser(add_help=False)
+    jobs.add_argument("--jobs", type=number(1, "number of jobs"), default=os.cpu_count(), metavar="N",
+                      help="how many calls are checked at the same time (as many as there are processors)")
+    commands = parser.add_subparsers(dest="command", required=True, metavar="check | record")
+    it = commands.add_parser("check", parents=[jobs], epilog=ends, help="check a file. This writes nothing.",
+                             description="Checks all calls in all builds for x86-64-v2 and above, or some of them.")
+    it.add_argument("file", type=Path, help="an archive of the library, or a linked file that contains it")
+    it.add_argument("build", nargs="?", choices=BUILDS, help="the build to check")
+    it.add_argument("call", nargs="?", choices=CALLS, metavar="call", help=f"the call to check: {', '.join(CALLS)}")
+    it.add_argument("most", nargs="?", type=number(0, "length"), help="the greatest length of a source, in bytes")
+    commands.add_parser("record", parents=[jobs], help="build the library in a folder of its own, check all of it, and "
+                        "write generated/SHOWN")
+    given = parser.parse_args(words)
+    if given.command == "check" and given.call and given.call not in BUILDS[given.build][1]:
+        parser.error(f"the build {given.build} has no call {given.call}")
+    return given
+
+
+def main(folder, given):
+    return check(folder, given) if given.command == "check" else record(folder, jobs=given.jobs)
 
 
 if __name__ == "__main__":
+    asked = arguments(sys.argv[1:])
     try:
         with tempfile.TemporaryDirectory() as made_in:
-            sys.exit(main(made_in, *sys.argv[1:]))
+            sys.exit(main(made_in, asked))
     except Refused as why:
         sys.exit(f"refused: {why}")
     except (OSError, ValueError, subprocess.CalledProcessError) as why:
         failed = isinstance(why, subprocess.CalledProcessError)
-        print(f"{' '.join(sys.argv[2:])}: {f'{why.cmd[0]} does not read it' if failed else why}", file=sys.stderr)
+        said = f"{Path(why.cmd[0]).name} does not read it" if failed else why
+        print(f"{getattr(asked, 'file', 'record')}: {said}", file=sys.stderr)
         sys.exit(2)

@@ -1,5 +1,6 @@
 """Instructions, as two programs read them: objdump, whose text is used, and Capstone, which must read the same.
-Capstone 4 does not know AVX-512. So `as` assembles such an instruction again, and must make the same bytes."""
+Capstone 4 does not know AVX-512, whose instructions are encoded by EVEX or have masks. So `as` assembles such an
+instruction again, and must make the same bytes."""
 import functools
 import re
 import subprocess
@@ -69,6 +70,8 @@ def operand(text):
         return Operand(SIZES.get(found[1]), address=address(found[3]), is_repeated=found[2] == "BCST")
     if NUMBER.fullmatch(text):
         return Operand(number=int(text, 16))
+    if " fs:" in text:
+        raise Refused("it reads what the thread has, as a stack protector does, which calls another function")
     if not re.fullmatch(r"[a-z]+\d*[bwd]?", text):
         raise Refused(f"an operand that is not known: {text}")
     return Operand(register_size(text), register=text)
@@ -81,7 +84,7 @@ def output(*words):
 def instructions(path):
     """What objdump reads in a file: by its address, the bytes and the text of each instruction."""
     lines = map(LINE.match, output("objdump", "-dw", "-Mintel", path).splitlines())
-    return {int(it[1], 16): (bytes.fromhex(it[2]), it[3].strip()) for it in lines if it}
+    return {int(it[1], 16): (bytes.fromhex(it[2]), it[3].strip().removeprefix("{evex} ")) for it in lines if it}
 
 
 @functools.lru_cache(None)
@@ -92,9 +95,14 @@ def instruction(at, code, text):
     name, _, rest = text.partition(" ")
     operands = tuple(map(operand, filter(None, rest.strip().split(","))))
     read = Instruction(at, at + len(code), code, text, name, operands)
-    if code[0] != EVEX:
+    if not is_wide(read):
         compare(read)
     return read
+
+
+def is_wide(read):
+    """Whether an instruction is one of AVX-512."""
+    return read.code[0] == EVEX or read.name[0] == "k"
 
 
 def compare(read):
@@ -132,9 +140,9 @@ def comparable(it, bits):
 
 def assembles(reads):
     """Refuses instructions of AVX-512 if `as` does not make the same bytes of their text."""
-    reads = [it for it in reads if it.code[0] == EVEX]
+    reads = [it for it in reads if is_wide(it)]
     with tempfile.TemporaryDirectory() as folder:
-        made, lines = Path(folder) / "made", [f"{{evex}} {it.text}\n" for it in reads]
+        made, lines = Path(folder) / "made", [f"{'{evex} ' * (it.code[0] == EVEX)}{it.text}\n" for it in reads]
         words = "as", "-msyntax=intel", "-mnaked-reg", "-o", made, "-"
         done = subprocess.run(words, input="".join(lines), text=True, stderr=subprocess.DEVNULL)
         again = [] if done.returncode else [code for code, _ in instructions(made).values()]

@@ -5,21 +5,30 @@ other access is refused. A branch may depend on the bytes only if its condition 
 are all valid digits, which Z3 decides. An address may depend on a byte only after some byte is known to be no digit.
 loops.py says why the paths that are followed stand for all."""
 import functools
-import operator
 import re
 
 import z3
 
 from . import Refused, hexadecimal
-from .instructions import TABLE, condition
+from .forms import level_of
+from .instructions import TABLE, condition, opposite
 from .loops import Loop, forget, forget_arguments, is_new
 from .operands import Step
-from .state import BASES, BEFORE, DESTINATION, INDEX, KEPT, RETURN, SEPARATOR, SOURCE, STACK, indices, is_in
-from .values import MADE, X, Value, apply, constant, is_proved, numbered
+from .state import BASES, BEFORE, DESTINATION, INDEX, KEPT, RETURN, SEPARATOR, SOURCE, STACK, ids, indices, is_in
+from .values import MADE, X, Value, apply, is_proved, numbered, plus, unknown
 
 RED_ZONE, FRAME, NO_KIND = 128, 4096, -1
 # How many instructions a path may have, and the tried turns of a loop. Otherwise a wrong loop might have no end.
 MOST_STEPS = 20000
+
+
+def parts(term):
+    """Terms that are all 0 exactly if a term is."""
+    if z3.is_app_of(term, z3.Z3_OP_BOR) or z3.is_app_of(term, z3.Z3_OP_CONCAT):
+        for it in term.children():
+            yield from parts(it)
+    elif not z3.is_bv_value(term) or term.as_long():
+        yield term
 
 
 def conjuncts(term, is_negated=False):
@@ -29,6 +38,8 @@ def conjuncts(term, is_negated=False):
     elif (z3.is_or if is_negated else z3.is_and)(term):
         for it in term.children():
             yield from conjuncts(it, is_negated)
+    elif not is_negated and z3.is_eq(term) and z3.is_bv_value(term.arg(1)) and not term.arg(1).as_long():
+        yield from (it == 0 for it in parts(term.arg(0)))
     else:
         yield z3.Not(term) if is_negated else term
 
@@ -77,17 +88,23 @@ class Machine:
         # The conditions that the definitions distinguish, and where the arguments end that have no register. They stand
         # above the return address, and the call may change them.
         self.cases, self.above = (), 8
+        # What is checked, for states that were executed on a processor of another level.
+        self.call = None
         # The states that are left to execute, those that may be joined, the first part of each name of a byte, and the
         # addresses that were executed, the last one of them by itself.
         self.left, self.joined, self.terms, self.executed, self.at = [], {}, {}, set(), None
+        # How many bytes of frames were read before something was written there.
+        self.unwritten = 0
         # While turns are tried, nothing is shown. Of each loop that has branches on valid digits, how many a turn has,
         # and the number of digits that it tests.
         self.is_trying, self.turns = False, set()
+        # The loops with their general states, which are the record that replay.py checks.
+        self.loops = []
 
     def run(self, state):
         """The states at the ends of all paths, where the call has returned. If a loop is found, this begins again."""
         while True:
-            self.left, self.joined, self.executed = [state.copy()], {}, set()
+            self.left, self.joined, self.executed, self.loops = [state.copy()], {}, set(), []
             try:
                 ends = list(self.ends())
                 self.image.executed |= self.executed
@@ -98,11 +115,22 @@ class Machine:
     def ends(self):
         while self.left:
             state = self.left.pop()
-            while (not state.is_general or is_new(self, state)) and self.enters(state):
+            while not self.is_known(state) and (not state.is_general or is_new(self, state)) and self.enters(state):
                 if not self.advances(state):
                     self.settle(state)
                     yield state
                     break
+
+    def is_known(self, state):
+        """Whether a state at the begin of a build's own function was executed on a processor of another level."""
+        if state.at not in self.image.entries:
+            return False
+        self.settle(state)
+        places = {**state.registers, **state.stack}
+        key = self.call, state.at, *places, ids(tuple(places.values())), ids((*self.facts, *state.facts))
+        self.image.entering.add(key)
+        self.executed.add(state.at)
+        return key in self.image.entered
 
     def enters(self, state):
         """At the head of a loop, a state that comes from the loop's general state must be that state after a turn, and
@@ -119,7 +147,8 @@ class Machine:
             second = first and self.turn(first)
             self.is_trying = False
             if second:
-                state.__dict__ = Loop(self, state, first, second).state.copy().__dict__
+                self.loops.append(Loop(self, state, first, second))
+                state.__dict__ = self.loops[-1].state.copy().__dict__
             return True
         except Refused as why:
             raise Refused(f"in the loop at {state.at:#x}: {why}") from why
@@ -141,6 +170,11 @@ class Machine:
         """Executes an instruction. Returns False if the call has returned."""
         self.at = state.at
         read = self.image.instruction(self.at)
+        needed = level_of(read)
+        if needed is None:
+            raise Refused(f"this instruction has no model: {read.text} at {self.at:#x}")
+        if needed > (self.image.level or needed):
+            raise Refused(f"x86-64-v{self.image.level} does not have this instruction: {read.text} at {self.at:#x}")
         state.at = read.end
         state.passed.add(self.at)
         state.steps += 1
@@ -155,10 +189,11 @@ class Machine:
 
     def performs(self, state, step):
         name = step.name
-        if name == "ret" and not step.operands:
+        if name == "ret":
             return self.returns(state, step.pop())
         if name == "call":
-            step.push(constant(state.at, 8))
+            step.push(self.image.address(state.at))
+            state.calls += state.at,
         if name in ("jmp", "call"):
             state.at = step.number(0)
             self.finds(state)
@@ -170,12 +205,15 @@ class Machine:
 
     def branches(self, state, step, asked):
         """Goes on in each possible outcome of a branch."""
-        after, zero = state.at, state.flags["z"]
-        if zero and not asked.of:
-            state.gap = zero[1]
+        after, zero, loops = state.at, state.flags["z"], state.loops
         outcomes = self.outcomes(state, asked)
         for it, holds in outcomes:
             it.at = step.number(0) if holds else after
+            if zero and not asked.of:
+                it.gap = (zero[1], asked, step.name[1:]) if holds else \
+                    (zero[1], apply(z3.Not, asked), opposite(step.name[1:]))
+            for head, loop in loops.items():
+                loop.exits += [] if head <= it.at <= self.image.loops[head] else [it.copy()]
         self.left += [it for it, _ in outcomes[1:]]
         for it, _ in outcomes:
             self.finds(it)
@@ -190,8 +228,9 @@ class Machine:
     def returns(self, state, to):
         """Returns to a function that the call called, or ends the call. At the end it checks the registers that a call
         must restore."""
-        if to.number is not None:
-            state.at = to.number
+        base, at = (None, 0) if to.of else self.place(to)
+        if base is self.image.base:
+            state.at, state.calls = at, state.calls[:-1]
             return True
         if not to.is_same(RETURN) or self.place(state.registers["rsp"]) != (STACK, 8):
             raise Refused("returns to somewhere else")
@@ -265,8 +304,11 @@ class Machine:
         for it, _ in outcomes if len(outcomes) > 1 else []:
             it.tests += 1
             if not self.is_trying and (not it.refused or len(it.refused) == 1 and it.refused[0] is spans):
-                forget(self, it)
+                self.forgets(it)
         return outcomes
+
+    def forgets(self, state):
+        forget(self, state)
 
     @staticmethod
     def of_known_bytes(state, other, tested, sign):
@@ -310,22 +352,24 @@ class Machine:
 
     def place(self, address):
         """The region that an address is in, as its first address, and the distance from there, which is a term for the
-        source and the destination. For an address that is a number, as of a constant, it is None and the number."""
+        source and the destination, and a number for the stack and the file."""
         if address.of:
             raise Refused("an address depends on the bytes")
         key = "place", address.id
         if key not in MADE:
-            distances = [(base, z3.simplify(address.term - base.term)) for base in BASES] + [(None, address.term)]
+            bases = *BASES[:3], self.image.base
+            distances = [(base, z3.simplify(address.term - base.term)) for base in bases]
             MADE[key] = [(base, it if base in BASES[:2] else it.as_signed_long()) for base, it in distances
                          if z3.is_bv_value(it) or
-                         base in BASES[:2] and not re.search("source|destination|stack", it.sexpr())], address
+                         base in BASES[:2] and not re.search("source|destination|stack|image", it.sexpr())], address
         if len(MADE[key][0]) != 1:
             raise Refused("an address is not known")
         return MADE[key][0][0]
 
     def claim(self, state, start, size, count):
         """Claims that some bytes from a distance on are among the first so many."""
-        state.claims += (z3.And(z3.ULE(start, count), z3.ULE(size, count - start)), self.at),
+        it = z3.And(z3.ULE(start, count), z3.ULE(size, count - start))
+        state.claims += () if self.is_fixed and z3.is_true(z3.simplify(it)) else ((it, self.at),)
 
     def end_of(self, state):
         """Where the frame ends, as a distance from the stack pointer at the beginning. It includes the red zone."""
@@ -342,18 +386,24 @@ class Machine:
     def load(self, state, address, size):
         """The bytes at an address that the call may read."""
         if address.of and (state.refused or self.is_fixed):
-            return [self.looked_up(apply(operator.add, address, constant(it, 8))) for it in range(size)]
+            return [self.looked_up(plus(address, it)) for it in range(size)]
         base, at = self.place(address)
         if base is SOURCE:
             return self.of_source(state, at, size)
-        found = [None]
         if base is STACK:
-            found = [state.stack.get(it) if it >= self.end_of(state) else None for it in range(at, at + size)]
-        if base is None:
-            found = [constant(it, 1) for it in self.image.bytes_at(at, size) or ()] or [None]
-        if None in found:
+            found = [self.of_frame(state, it) for it in range(at, at + size)]
+        else:
+            found = self.image.constants_at(at, size) if base is self.image.base else [None]
+        if not found or None in found:
             raise Refused("reads outside of source, constants and its frame")
         return found
+
+    def of_frame(self, state, at):
+        """A byte of the stack, which is unknown if nothing was written there, or None outside of the frame."""
+        if at not in state.stack and self.end_of(state) <= at < 0:
+            self.unwritten += 1
+            state.stack[at] = unknown(f"unwritten {self.unwritten}")
+        return state.stack.get(at) if at >= self.end_of(state) else None
 
     def of_source(self, state, at, size):
         """Bytes of the source."""
@@ -369,7 +419,8 @@ class Machine:
     def looked_up(self, address):
         """The byte at an address that depends on one byte, in a table of constants: it is read for all 256 of them."""
         if address.id not in self.image.tables:
-            places = [z3.simplify(z3.substitute(address.term, (X[0], z3.BitVecVal(it, 8)))) for it in range(256)]
+            distance = address.term - self.image.base.term
+            places = [z3.simplify(z3.substitute(distance, (X[0], z3.BitVecVal(it, 8)))) for it in range(256)]
             found = [self.image.bytes_at(it.as_long(), 1) if z3.is_bv_value(it) else None for it in places]
             if len(address.of) != 1 or None in found:
                 raise Refused("an address depends on the bytes")

@@ -11,8 +11,12 @@ NOT_A_GROUP, BAD_LENGTH = 6, 7
 GROUPED = {f"{call}_grouped": f"source length destination room {word} every separator"
            for call, word in (("encode", "upper"), ("decode", "policy"))}
 CALLS |= GROUPED
-# A source has at most so many bytes.
+# A source has at most so many bytes, with groups of each size.
 MOST = 32
+# Beyond them, numbers of decoded bytes and sizes of groups, by which other ways through the code are taken. Such a text
+# is decoded under the first policy only.
+LONGER = [(16, 8), (29, 8), (36, 10), (43, 12), (57, 16), (60, 17), (90, 24), (116, 33), (228, 65), (340, 97),
+          (452, 129), (600, 257), (1024, 512), (59, 1), (59, 2), (95, 5), (95, 7), (64, 32), (128, 64), (256, 128)]
 EVERY = Value(z3.BitVec("every", 64))
 # A byte may stand between groups if it is ASCII and no hex digit.
 IS_DIGIT = hexadecimal.is_digit(SEPARATOR.term, hexadecimal.EITHER_CASE)
@@ -83,9 +87,17 @@ class Grouped(Shown):
 
 
 def shown_grouped(image, build, call, most=None):
-    """Checks a call for each length of its source up to a number, and for each size of a group."""
+    """Checks a call for each length of its source up to a number, and for each size of a group, and for some longer
+    sources."""
+    is_encoding = call == "encode_grouped"
+    pairs = [(length, every) for length in range((MOST if most is None else most) + 1)
+             for every in [*range((length if is_encoding else length // 2) + 1), None]]
+    longer = [(count if is_encoding else text_length(count, every), every) for count, every in LONGER]
+    longer = [it for it in longer if most is None or it[0] <= most]
     for at in image.calls(build, call):
-        for length in range((MOST if most is None else most) + 1):
-            for every in [*range((length if call == "encode_grouped" else length // 2) + 1), None]:
-                for way in ways_of(call):
-                    yield Grouped(image, at, call, length, every, *way)
+        for length, every in longer:
+            for way in ways_of(call)[:None if is_encoding else 1]:
+                yield Grouped(image, at, call, length, every, *way)
+        for length, every in pairs:
+            for way in ways_of(call):
+                yield Grouped(image, at, call, length, every, *way)

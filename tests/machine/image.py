@@ -1,82 +1,168 @@
-"""The linked library: its bytes, symbols and instructions."""
+"""The linked library: its bytes, symbols and instructions. What is read is what a loader would load."""
 import re
 import subprocess
+from dataclasses import dataclass
 
 from . import Refused, code
+from .state import IMAGE, NONE
+from .values import apply, bytes_of, constant, plus
+
+PAGE = 4096
+SYMBOL = re.compile(r" *\d+: (\w+) +(\w+) (\w+) +\w+ +\w+ +(\w+) ([^\s@]+)")
+SECTION = re.compile(r"\] (\S+) +PROGBITS +(\w+) (\w+) (\w+) (\w+) +(\w+)")
+SEGMENT = re.compile(r"^ +(LOAD|GNU_RELRO) +(\w+) (\w+) \w+ (\w+) (\w+) (.{3})", re.M)
+# What the loader writes: an address in the file, and anything else.
+RELOCATION = re.compile(r"^([0-9a-f]+) +[0-9a-f]+ R_X86_64_(\w+) +(\w+)", re.M)
 
 
 def linked(made, *objects):
-    """Links all of these objects or archives, and returns the file."""
-    subprocess.run(["ld", "-static", "-e", "0", "--whole-archive", "-o", made, *objects], check=True)
+    """Links all of these objects or archives into a file that can be loaded anywhere. A constant of one object is not
+    put beside that of another one, because other linkers put other constants there. What the objects need of others is
+    at addresses where nothing is known."""
+    defined = {it.split()[-1] for it in code.output("nm", "-A", "--defined-only", *objects).splitlines() if it}
+    needed = {it.split()[-1] for it in code.output("nm", "-Au", *objects).splitlines() if it}
+    others = sorted(needed - defined - {"_GLOBAL_OFFSET_TABLE_"})
+    lines = [f".globl {it}; .hidden {it}; {it}: .skip 64" for it in others]
+    outside, words = f"{made}.o", "--no-dynamic-linker -z text -z relro --unique=.rodata* -e 0 --whole-archive".split()
+    subprocess.run(["as", "-o", outside, "-"], input="\n".join([".bss", *lines, ""]), text=True, check=True)
+    subprocess.run(["ld", "-pie", *words, "-o", made, *objects, outside], check=True, stderr=subprocess.DEVNULL)
     return made
 
 
-SECTION = re.compile(r"\] (\S+) +PROGBITS +(\w+) (\w+) (\w+) \w+ +(\w+)")
-SYMBOL = re.compile(r" *\d+: (\w+) +(\w+) (\w+) +\w+ +\w+ +(\w+) (\S+)")
-# An address that the loader writes, and what it is before the program is moved.
-RELATIVE = re.compile(r"^(\w+) +\w+ R_X86_64_RELATIVE +(\w+)", re.M)
+@dataclass
+class Region:
+    """Addresses from the first to before the end, which the file has from a place on. `entry` is 0, or the size of the
+    constants that it has."""
+    first: int
+    end: int
+    begin: int
+    flags: str
+    entry: int = 0
+
+    def has(self, other):
+        return self.first <= other.first and other.end <= self.end
 
 
 class Image:
-    """A linked file. `level` is the number that the library's constructor has stored, by which a call chooses its
-    build."""
+    """A linked file on a processor of a level, or of any level. A call for C chooses its build by this number, which
+    the library's constructor has stored. Addresses are distances from `base`, where the file is loaded: an unknown
+    multiple of a page, or 0 if the file can't be moved."""
 
     def __init__(self, path, level=None):
-        symbols, sections, relative = (code.output("readelf", it, path) for it in ("-sW", "-SW", "-rW"))
-        # The addresses of each name, the name and size of each function by its address, and where the level stands.
-        self.symbols, self.functions, levels, file = {}, {}, [], ""
-        for it in filter(None, map(SYMBOL.match, symbols.splitlines())):
-            at, size, (kind, section, name) = int(it[1], 16), int(it[2], 0), it.groups()[2:]
-            file = name if kind == "FILE" else file
-            if kind != "FILE" and section != "UND":
-                self.symbols.setdefault(name, []).append(at)
-                self.functions |= {at: (name, size)} if kind == "FUNC" and size else {}
-                levels += [at] if (name, file) == ("level", "dispatch.c") else []
-        self.level = {} if level is None else {it: bytes([level]) for it in levels}
-        moved = {int(at, 16): int(to, 16).to_bytes(8, "little") for at, to in RELATIVE.findall(relative)}
-        data, self.sections = path.read_bytes(), []
-        for name, *numbers, flags in SECTION.findall(sections):
-            at, begin, size = (int(it, 16) for it in numbers)
-            # The loader writes the addresses of .data.rel.ro before the program runs, and nothing writes there later.
-            if "A" in flags and ("W" not in flags or name.startswith(".data.rel.ro")):
-                it = data[begin:begin + size]
-                for place in moved.keys() & {*range(at, at + size)}:
-                    it = it[:place - at] + moved[place] + it[place - at + 8:]
-                self.sections.append((at, it))
+        self.data, text = path.read_bytes(), code.output("readelf", "-hlSsW", path)
+        self.base = IMAGE if re.search(r"^ +Type: +DYN", text, re.M) else NONE
+        self.level, self.levels = level, set()
+        # The addresses of each name, and the name and size of each function by its address.
+        self.symbols, self.functions = {}, {}
+        self.read_symbols(text)
+        self.constants = [*self.read_sections(text)]
+        self.relocated = self.read_relocations(path)
         # The text of each instruction by its address, and the terms of table look-ups by the number of theirs.
         self.texts, self.tables = code.instructions(path), {}
         # The addresses that were executed, and by the head of each loop that was found that of its last jump back.
         self.executed, self.loops = set(), {}
+        # Where the own functions begin of the build that is checked, and with which states a call has come there on
+        # this processor and on those of other levels.
+        self.entries, self.entering, self.entered = set(), set(), set()
+
+    def read_symbols(self, text):
+        file = ""
+        for it in filter(None, map(SYMBOL.match, text.splitlines())):
+            at, size, (kind, section, name) = int(it[1], 16), int(it[2], 0), it.groups()[2:]
+            file = name if kind == "FILE" else file
+            if kind == "IFUNC" and "faster_hex" in name:
+                raise Refused(f"{name} is an indirect function")
+            if kind != "FILE" and section != "UND":
+                self.symbols.setdefault(name, set()).add(at)
+                self.functions |= {at: (name, size)} if kind == "FUNC" and size else {}
+                self.levels |= {at} if (name, file) == ("level", "dispatch.c") else set()
+
+    @staticmethod
+    def read_sections(text):
+        """The sections that nothing writes but the loader."""
+        segments = {"LOAD": [], "GNU_RELRO": []}
+        for kind, begin, at, size, whole, flags in SEGMENT.findall(text):
+            at = int(at, 16)
+            segments[kind].append(Region(at, at + int(whole if kind != "LOAD" else size, 16), int(begin, 16), flags))
+        loaded = sorted(segments["LOAD"], key=lambda it: it.first)
+        if any(after.first // PAGE <= (it.end - 1) // PAGE for it, after in zip(loaded, loaded[1:])):
+            raise Refused("two segments share a page")
+        for name, *numbers, flags in SECTION.findall(text):
+            at, begin, size, entry = (int(it, 16) for it in numbers)
+            it = Region(at, at + size, begin, flags, entry if "M" in flags else 0)
+            segment = next((each for each in loaded if each.has(it)), None)
+            if "A" in flags and (not segment or it.begin - segment.begin != it.first - segment.first):
+                raise Refused(f"the section {name} is not what is loaded")
+            if "A" in flags and ("W" not in segment.flags or any(each.has(it) for each in segments["GNU_RELRO"])):
+                yield it
+
+    @staticmethod
+    def read_relocations(path):
+        """What the loader writes, by its address: a distance from the base, or None for anything else."""
+        text = "".join(code.output("readelf", it, path) for it in ("-rW", "-rDW"))
+        if re.search("relr", text, re.I):
+            raise Refused("its relocations are packed")
+        return {int(at, 16): int(to, 16) if kind == "RELATIVE" else None for at, kind, to in RELOCATION.findall(text)}
 
     def own(self, build, call):
         """The addresses of a build's own functions for a call. A program may have that of the C library and another."""
         name = re.compile(rf"\w+_x86_64_{build}_{call}(_of_c)?(_unproved)?")
         return {at for it, places in self.symbols.items() if name.fullmatch(it) for at in places}
 
-    def calls(self, build, call):
-        """The addresses at which a build's call is to be checked: that of the call for C, which takes its build by the
-        level, and then those of the build's own functions that this has not executed."""
-        own = self.own(build, call)
-        called = self.symbols.get(f"faster_hex_{call}", []) if self.level else []
-        yield from called
+    def calls(self, build, call, has_name=True):
+        """The addresses at which a build's call is to be checked: that of the call for C, if it has one, which takes
+        its build by the level, and then those of the build's own functions that this has not executed."""
+        own, name = self.own(build, call), f"faster_hex_{call}"
+        called = self.symbols.get(name, set()) if has_name else set()
+        if not own:
+            raise Refused("the file does not have it")
+        if called and not self.levels:
+            raise Refused(f"the file has {name}, but not the variable `level` of dispatch.c")
+        if has_name and not called and any("_of_c" in it for it in self.symbols):
+            raise Refused(f"the file has the library for C, but not {name}")
+        self.entries, self.entering, self.entered = own, set(), self.entered | self.entering
+        yield from sorted(called)
         if called and not self.executed & own:
-            raise Refused(f"faster_hex_{call} does not take the build {build}")
+            raise Refused(f"{name} does not take the build {build}")
         for at in sorted(own):
             if at not in self.executed:
                 yield at
 
+    def address(self, at):
+        """An address as a value."""
+        return plus(self.base, at)
+
     def bytes_at(self, at, size):
-        """The bytes at an address if they are constant or the level, otherwise None."""
-        for start, data in self.sections:
-            if start <= at and at + size <= start + len(data):
-                return data[at - start:at - start + size]
-        return self.level.get(at) if size == 1 else None
+        """The bytes of the file at an address that nothing writes, or None."""
+        for it in self.constants:
+            begin = at - it.first
+            if it.has(Region(at, at + size, 0, "")) and not (it.entry and begin % it.entry + size > it.entry):
+                return self.data[it.begin + begin:it.begin + begin + size]
+        return None
+
+    def constants_at(self, at, size):
+        """The values of bytes that are constant, or the level, or None."""
+        if at in self.levels and size == 1:
+            return [constant(self.level, 1)]
+        if (found := self.bytes_at(at, size)) is None:
+            return None
+        found = {at + it: constant(byte, 1) for it, byte in enumerate(found)}
+        for place in [it for it in self.relocated if at - 8 < it < at + size]:
+            to = self.relocated[place]
+            if to is None:
+                raise Refused("it reads what the loader writes by a name")
+            found |= {place + it: byte for it, byte in enumerate(bytes_of(self.address(to))) if place + it in found}
+        return [*found.values()]
 
     def instruction(self, at):
         """The instruction at an address."""
         if at not in self.texts:
-            raise Refused(f"no instruction at {at:#x}")
-        return code.instruction(at, *self.texts[at])
+            names = [it for it, places in self.symbols.items() if at in places]
+            raise Refused(f"it calls another function, {names[0]}" if names else f"no instruction at {at:#x}")
+        made, text = self.texts[at]
+        if self.bytes_at(at, len(made)) != made:
+            raise Refused(f"the instruction at {at:#x} is not what is loaded")
+        return code.instruction(at, made, text)
 
     def instructions(self, begin, size):
         """The addresses in a function of those instructions that some path should execute. The others fill the space

@@ -1,12 +1,14 @@
 """The effect of each instruction, for symbolic execution. TABLE maps a mnemonic, without the v of AVX, to a function
-that performs the instruction on a Step of execution.py. An instruction that is not in TABLE is refused. test_machine.py
-runs each of them on the processor too, and compares the results.
+that performs the instruction on a Step of operands.py, if it has one of the forms of forms.py. test_machine.py runs
+each of them on the processor too, and compares the results.
 
 Operands are bit vectors of Z3. There, `<`, `>` and `>>` take the highest bit for a sign, while ULT and LShR do not."""
+import functools
 import operator
 from functools import partial
 
-from z3 import And, BitVecVal, BoolVal, Extract, If, LShR, Not, Or, UDiv, ULT, URem, Xor, ZeroExt
+from z3 import And, BitVecVal, BoolVal, Extract, If, LShR, Not, Or, SignExt, UDiv, UGE, UGT, ULE, ULT, URem, Xor
+from z3 import ZeroExt
 
 from . import Refused
 from .values import Value, apply, bytes_of, concat, constant, joined
@@ -23,8 +25,21 @@ def bits_and_not(a, b):
 
 
 def have_common_bit(a, b):
-    """The bit 1 if some bit is set in both, otherwise 0."""
-    return If(a & b != 0, BitVecVal(1, 1), BitVecVal(0, 1))
+    return a & b != 0
+
+
+def have_no_common_bit(a, b):
+    return a & b == 0
+
+
+@functools.lru_cache(None)
+def bit_if(condition):
+    """A function for the bit 1 if a condition holds, otherwise 0."""
+    return lambda *operands: If(condition(*operands), BitVecVal(1, 1), BitVecVal(0, 1))
+
+
+# A function for each bit of a byte.
+BITS = [partial(Extract, at, at) for at in range(8)]
 
 
 def sign_bit(byte):
@@ -39,6 +54,25 @@ def number_of_bits(*bits):
 def saturate_word(word):
     """A signed word as an unsigned byte: 0 if it is below 0, and 255 if it is above 255."""
     return If(word < 0, BitVecVal(0, 8), If(word > 255, BitVecVal(255, 8), Extract(7, 0, word)))
+
+
+def saturate_signed(number):
+    """A signed number of 32 bits as a signed word, or the word next to it."""
+    return If(number < -32768, BitVecVal(-32768, 16), If(number > 32767, BitVecVal(32767, 16), Extract(15, 0, number)))
+
+
+def multiply_and_add(a, b):
+    """Of two words the sum of the products of their bytes, of which those of the second have a sign."""
+    lows, highs = (ZeroExt(24, Extract(at + 7, at, a)) * SignExt(24, Extract(at + 7, at, b)) for at in (0, 8))
+    return saturate_signed(lows + highs)
+
+
+def chosen(control, *lanes):
+    """The lane that the lowest bits of a control lane name."""
+    found = lanes[0]
+    for at in range(1, len(lanes)):
+        found = If(control & len(lanes) - 1 == at, lanes[at], found)
+    return found
 
 
 def shuffle_byte(control, *lane):
@@ -57,6 +91,10 @@ def ternary_logic(number, a, b, c):
         is_way = (a if way & 4 else ~a) & (b if way & 2 else ~b) & (c if way & 1 else ~c)
         result = result | If(Extract(way, way, number) == 1, is_way, BitVecVal(0, 8))
     return result
+
+
+# A number with a sign, and so many bytes more.
+SIGNED = {it: partial(SignExt, 8 * it) for it in range(1, 8)}
 
 
 # Functions that give a flag. In the state of a path a flag is such a function with its operands.
@@ -136,9 +174,20 @@ LANES = {
     "psubusb": (1, lambda a, b: If(ULT(a, b), BitVecVal(0, 8), a - b)),
     "pminub": (1, lambda a, b: If(ULT(a, b), a, b)), "pmaxub": (1, lambda a, b: If(ULT(a, b), b, a)),
     "por": (1, operator.or_), "pand": (1, operator.and_), "pxor": (1, operator.xor), "xorps": (1, operator.xor),
+    "pmaddubsw": (2, multiply_and_add),
+    "pcmpeqb": (1, lambda a, b: If(a == b, BitVecVal(255, 8), BitVecVal(0, 8))),
+    "pcmpgtb": (1, lambda a, b: If(a > b, BitVecVal(255, 8), BitVecVal(0, 8))),
 }
 # AVX-512 has a name for each size of a lane that a mask would be for. Without a mask they do the same.
-LANES |= {"pandd": LANES["pand"], "pandq": LANES["pand"], "pord": LANES["por"], "porq": LANES["por"]}
+LANES |= {name + size: LANES[name] for name in ("pand", "por", "pxor") for size in "dq"}
+# Comparisons of two vectors whose result is a mask: the bytes of a lane, and when its bit is set.
+MASKS = {f"ptestm{size}": (1 << at, have_common_bit) for at, size in enumerate("bwdq")}
+MASKS |= {f"ptestnm{size}": (1 << at, have_no_common_bit) for at, size in enumerate("bwdq")}
+SIGNED_ORDER = operator.lt, operator.le, operator.ge, operator.gt
+MASKS |= {f"pcmp{name}{sign}b": (1, function) for sign, each in (("", SIGNED_ORDER), ("u", (ULT, ULE, UGE, UGT)))
+          for name, function in zip(("lt", "le", "nlt", "nle"), each)}
+MASKS |= dict.fromkeys(("pcmpeqb", "pcmpequb"), (1, operator.eq)) | {"pcmpgtb": (1, operator.gt)}
+MASKS |= dict.fromkeys(("pcmpneqb", "pcmpnequb"), (1, operator.ne))
 # Instructions that shift each lane of a vector: the bytes of a lane, and the function.
 LANE_SHIFTS = {"psllw": (2, operator.lshift), "psrlw": (2, LShR)}
 
@@ -169,6 +218,11 @@ def move_low(size, step):
 def extend_zero(step):
     """movzx."""
     return step.bytes(1, step.size(1)) + [ZERO] * (step.size(0) - step.size(1))
+
+
+def extend_sign(step):
+    """movsx and movsxd."""
+    return bytes_of(apply(SIGNED[step.size(0) - step.size(1)], step.get(1)))
 
 
 def load_address(step):
@@ -272,15 +326,36 @@ def combine_three(step):
     return [apply(ternary_logic, number, *it) for it in zip(*vectors)]
 
 
-def choose_lanes(controls, first, step):
-    """permi2q and permt2q: lanes of eight bytes out of two vectors, of which one is the operand at the place `first`.
-    The operand at the place `controls` names them, for zmm by the lowest four bits of its lanes. They must be known."""
-    lanes = lanes_of(step.bytes(first, step.width) + step.bytes(2, step.width), 8)
-    for it in lanes_of(step.bytes(controls, step.width), 8):
-        number = joined(it).number
-        if number is None:
-            raise Refused("which lanes it takes is not known")
-        yield from lanes[number % len(lanes)]
+def choose_lanes(size, controls, first, step):
+    """vperm: lanes of so many bytes out of a vector, or out of two, whose first is the operand at the place `first`.
+    The lowest bits of the lanes of the operand at the place `controls` name them."""
+    vectors = [step.bytes(2, step.width)] if first is None else [step.bytes(it, step.width) for it in (first, 2)]
+    lanes = lanes_of(sum(vectors, []), size)
+    for it in map(joined, lanes_of(step.bytes(controls, step.width), size)):
+        if it.number is None:
+            yield from bytes_of(apply(chosen, it, *map(joined, lanes)))
+        else:
+            yield from lanes[it.number % len(lanes)]
+
+
+def permute(size, step):
+    """permq by a number, or by a vector as the others."""
+    return shuffle_lanes(size, step) if len(step.operands) == 3 and step.operands[2].number is not None else \
+        permute_vector(size, step)
+
+
+def permute_vector(size, step):
+    """The lanes of the last vector that those of the second one name."""
+    return choose_lanes(size, 1, None, step)
+
+
+def choose_quarters(step):
+    """shufi64x2: lanes of 16 bytes, the lower half from one vector and the upper half from another one."""
+    sources = [lanes_of(step.bytes(it, step.width), 16) for it in (1, 2)]
+    count = len(sources[0])
+    bits = count.bit_length() - 1
+    for at in range(count):
+        yield from sources[2 * at // count][step.number(3) >> bits * at & count - 1]
 
 
 # Other instructions, which do all that they do to the state themselves.
@@ -304,6 +379,17 @@ def arithmetic(name, step, is_kept=True, counts=False, negates=False):
         step.set(value)
 
 
+def complement(step):
+    """not. It leaves the flags."""
+    step.set(apply(operator.inv, step.get(0)))
+
+
+def extend_rax(size, step):
+    """cwde and cdqe: the lower half of eax or rax with its sign."""
+    low = joined(bytes_of(step.state.registers["rax"])[:size])
+    step.write_register("eax" if size == 2 else "rax", bytes_of(apply(SIGNED[size], low)))
+
+
 def add_carry(step):
     """adc"""
     a, b, carry, flags = step.get(0), step.get(1), apply(*step.state.flags["c"]), step.state.flags
@@ -313,11 +399,10 @@ def add_carry(step):
     step.set(value)
 
 
-def multiply_two(step):
-    """imul with two operands. Its flags are not modelled."""
-    if len(step.operands) != 2:
-        raise Refused("a product of other operands")
-    value = apply(operator.mul, step.get(0), step.get(1))
+def multiply(step):
+    """imul of the first two operands or of the last two. Its flags are not modelled."""
+    first, second = (0, 1) if len(step.operands) == 2 else (1, 2)
+    value = apply(operator.mul, step.get(first), step.get(second))
     step.state.flags.update(dict.fromkeys("czso"))
     step.set(value)
 
@@ -328,7 +413,7 @@ def divide(step):
     low, high = (joined(bytes_of(step.state.registers[it])[:size]) for it in ("rax", "rdx"))
     divisor = step.get(0)
     allowed = apply(is_division, high, divisor)
-    if low.of or allowed.of or not step.machine.is_shown(step.state, allowed.term):
+    if low.of or high.of or divisor.of or not step.machine.is_shown(step.state, allowed.term):
         raise Refused("a division that may trap")
     quotient, rest = apply(UDiv, low, divisor), apply(URem, low, divisor)
     # Z3 is slow with divisions by what is not known.
@@ -337,6 +422,10 @@ def divide(step):
     step.write_register("rax" if size == 8 else "eax", bytes_of(quotient))
     step.write_register("rdx" if size == 8 else "edx", bytes_of(rest))
     step.state.flags.update(dict.fromkeys("czso"))
+
+
+def push(step):
+    step.push(step.get(0) if step.operands[0].number is None else constant(step.number(0), 8))
 
 
 def leave(step):
@@ -361,6 +450,11 @@ def shift(function, step):
     if count:
         step.state.flags.update(z=(is_zero, value), s=(is_negative, value), c=None, o=None)
     step.set(value)
+
+
+def opposite(name):
+    """The condition that holds if another one does not."""
+    return OPPOSITES.get(name) or next(it for it, other in OPPOSITES.items() if other == name)
 
 
 def condition(flags, name):
@@ -390,12 +484,31 @@ def zero_upper(step):
         it[16:] = [ZERO] * (len(it) - 16)
 
 
-def test_lanes(size, step):
-    """ptestm: each bit of the mask says whether two lanes of so many bytes have a common bit. Bits above are zero."""
+def compare_lanes(size, function, step):
+    """Each bit of the mask says whether a condition holds for two lanes of so many bytes. Bits above are zero."""
     first, second = step.bytes(1, step.width), step.bytes(2, step.width)
     both = zip(lanes_of(first, size), lanes_of(second, size))
-    bits = [apply(have_common_bit, joined(a), joined(b)) for a, b in both]
+    bits = [apply(bit_if(function), joined(a), joined(b)) for a, b in both]
     step.state.masks[step.operands[0].register] = bits + [NO_BIT] * (64 - len(bits))
+
+
+def compare(name, step):
+    """pcmpeqb and pcmpgtb write a vector or a mask."""
+    if step.vector(0):
+        write_result(WRITTEN[name], step)
+    else:
+        compare_lanes(*MASKS[name], step)
+
+
+def move_mask(size, step):
+    """kmov: the lowest bits of a mask, of which there are so many bytes."""
+    to, source = (it.register or "" for it in step.operands)
+    bits = step.state.masks[source][:8 * size] if source[:1] == "k" else \
+        [apply(BITS[at % 8], byte) for byte in step.bytes(1, size) for at in range(8)]
+    if to[:1] == "k":
+        step.state.masks[to] = bits + [NO_BIT] * (64 - len(bits))
+    else:
+        step.write(bytes_of(apply(concat, *bits, *[NO_BIT] * (64 - len(bits))))[:max(size, step.size(0))])
 
 
 def test_masks(count, step):
@@ -416,18 +529,25 @@ def test_bits(step):
 # Instructions that differ by the size of their lanes: their names, the function, and the size of each.
 SIZED = (
     ("pinsrb pinsrw pinsrd inserti128 inserti64x4", insert, (1, 2, 4, 16, 32)),
-    ("pextrb pextrw pextrd pextrq extracti128", extract, (1, 2, 4, 8, 16)),
+    ("pextrb pextrw pextrd pextrq extracti128 extracti64x4", extract, (1, 2, 4, 8, 16, 32)),
     ("pbroadcastb pbroadcastw pbroadcastd pbroadcastq broadcasti128", broadcast, (1, 2, 4, 8, 16)),
-    ("movd movq", move_low, (4, 8)), ("pshuflw pshufd permq", shuffle_lanes, (2, 4, 8)),
+    ("broadcasti32x4 broadcasti64x2 broadcasti64x4 broadcasti32x8", broadcast, (16, 16, 32, 32)),
+    ("movd movq", move_low, (4, 8)), ("pshuflw pshufd", shuffle_lanes, (2, 4)),
+    ("permb permw", permute_vector, (1, 2)), ("permq", permute, (8,)),
 )
+# vperm of two vectors: where the control is, and the first of them.
+TWO = {f"perm{name}{size}": partial(choose_lanes, bytes_, *places) for name, places in (("i2", (0, 1)), ("t2", (1, 0)))
+       for size, bytes_ in (("b", 1), ("q", 8))}
+
 HALVES = {"pshufb": shuffle_bytes, "packuswb": pack, "punpcklbw": partial(unpack, 1, 0),
           "punpckhbw": partial(unpack, 1, 8), "punpcklqdq": partial(unpack, 8, 0)}
-MOVES = "mov", "movabs", "movdqa", "movdqa64", "movdqu", "movdqu64", "movups"
+MOVES = "mov movabs movdqa movdqa32 movdqa64 movdqu movdqu8 movdqu32 movdqu64 movups movaps".split()
 WRITTEN = {
     **{name: move for name in MOVES},
-    "movzx": extend_zero, "pop": lambda step: bytes_of(step.pop()), "lea": load_address, "perm2i128": choose_halves,
-    "pmovwb": narrow, "pmovmskb": signs_to_register, "pternlogq": combine_three, "pblendd": blend,
-    "permi2q": partial(choose_lanes, 0, 1), "permt2q": partial(choose_lanes, 1, 0),
+    "movzx": extend_zero, "movsx": extend_sign, "movsxd": extend_sign,
+    "pop": lambda step: bytes_of(step.pop()), "lea": load_address, "perm2i128": choose_halves,
+    "pmovwb": narrow, "pmovmskb": signs_to_register, "pternlogd": combine_three, "pternlogq": combine_three,
+    "pblendd": blend, "shufi64x2": choose_quarters, "shufi32x4": choose_quarters, **TWO,
     **{name: partial(lanewise, size, function) for name, (size, function) in LANES.items()},
     **{name: partial(shift_lanes, size, function) for name, (size, function) in LANE_SHIFTS.items()},
     **{name: partial(halfwise, function) for name, function in HALVES.items()},
@@ -435,14 +555,18 @@ WRITTEN = {
 }
 TABLE = {
     **{name: partial(write_result, function) for name, function in WRITTEN.items()},
-    "nop": lambda step: None, "endbr64": lambda step: None, "push": lambda step: step.push(step.get(0)),
+    "nop": lambda step: None, "endbr64": lambda step: None, "push": push,
     "zeroupper": zero_upper,
     **{name: partial(arithmetic, name) for name in ARITHMETIC},
     "cmp": partial(arithmetic, "sub", is_kept=False), "test": partial(arithmetic, "and", is_kept=False),
     "inc": partial(arithmetic, "add", counts=True), "dec": partial(arithmetic, "sub", counts=True),
-    "adc": add_carry, "neg": partial(arithmetic, "sub", negates=True), "imul": multiply_two, "div": divide,
+    "adc": add_carry, "neg": partial(arithmetic, "sub", negates=True), "imul": multiply, "div": divide,
     "bzhi": keep_low_bits, "leave": leave,
     **{name: partial(shift, function) for name, function in SHIFTS.items()},
     **{"set" + it: partial(set_if, it) for it in EACH}, **{"cmov" + it: partial(move_if, it) for it in EACH},
-    "ptest": test_bits, "ptestmd": partial(test_lanes, 4), "kortestw": partial(test_masks, 16),
+    "not": complement, "cdqe": partial(extend_rax, 4), "cwde": partial(extend_rax, 2), "ptest": test_bits,
+    **{name: partial(compare_lanes, *it) for name, it in MASKS.items()},
+    **{name: partial(compare, name) for name in ("pcmpeqb", "pcmpgtb")},
+    **{f"kortest{it}": partial(test_masks, 8 << at) for at, it in enumerate("bwdq")},
+    **{f"kmov{it}": partial(move_mask, 1 << at) for at, it in enumerate("bwdq")},
 }

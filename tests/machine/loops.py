@@ -1,8 +1,10 @@
 """Loops, and paths that are joined: why finitely many paths stand for all executions.
 
 A state stands for the executions that may be at its place: those for which all that it says is true, for some values of
-its unknowns. The execution of a call is shown if each execution that does not trap follows a path to a state that is
-compared with the definitions. This holds for the following reasons.
+its unknowns. The addresses of the source, the destination and the stack are unknowns, and so is the one at which a file
+is loaded, if the file can be loaded anywhere. Of the last one it is used that it is a multiple of a page, and of the
+stack that it is aligned as a caller must align it. The execution of a call is shown if each execution without a trap
+follows a path to a state that is compared with the definitions. This holds for the following reasons.
 
 - *Paths.* At a branch both outcomes are followed, unless Z3 proves that one is impossible. Each access is shown to be
   allowed from what was known when it was made. Source and destination do not overlap, so no store changes the source.
@@ -16,11 +18,22 @@ compared with the definitions. This holds for the following reasons.
   k + 1 < N. Arithmetic is that of 64 bits, so a sum that wraps is seen. Paths that leave the loop go on from the
   general state. As k + 1 < N is shown for each further turn, there are at most N turns.
 - *Forgetting.* A state that says less stands for more executions.
-- *Joins.* A joined state says only what both states say, so it stands for the executions of both. The name of an
-  unknown has the loop's turn or the place of the join in it. A state has each turn once and is joined once at each
-  place, so no two unknowns of a state share a name. What was joined is explored in the same run.
+- *Joins.* A joined state stands for the executions of both states. What it says of facts, valid digits, written bytes
+  and calls that have not returned is what both say, because only states that agree in these are joined. A register, a
+  byte of a vector or of the stack that differs is unknown. One that only one state has is forgotten. Flags and masks
+  are forgotten before states are compared. If failed tests differ, they are replaced by one of the whole source, which
+  says less. The number of branches is the greater one. The name of an unknown has the loop's turn or the place of the
+  join in it. A state has each turn once and is joined once at each place, so no two unknowns of a state share a name. A
+  joined state is explored in the same run, unless it is the earlier one, which has been or will be.
+- *Ends of paths.* A path ends at the head of a loop whose general state it comes from, where it is joined, or where the
+  call returns. It cannot go through a join and a loop without end: a path forgets at most twice, once when a digit is
+  found to be invalid and once when all are known to be valid, since only then joins are made, and between two of these
+  it takes each loop from its general state once. A path of more instructions than a limit is refused.
+- *Levels.* A call takes the same path from the begin of a build's function on, if it comes there in the same state. So
+  if a processor of another level has been executed from there, this is not done again.
 
-The outcome is partial correctness: a call that returns has returned what the definitions say. All loops end."""
+The outcome is partial correctness: a call that returns has returned what the definitions say. All loops end. The source
+has at most 2^64 - 2 bytes, because no pointer to 2^64 - 1 bytes is valid: it would have to be 0."""
 from itertools import pairwise
 
 import z3
@@ -32,6 +45,8 @@ from .values import Value, apply, unknown
 # The tests of longer sources may be in turns of loops, and what is learned on the way through them is forgotten.
 SHORT = 256
 IS_LONG = z3.UGT(LENGTH.term, SHORT)
+# The conditions for another turn that also hold if the two values are equal.
+INCLUSIVE = "ae", "be", "ge", "le", "ns"
 
 
 class Loop:
@@ -43,6 +58,8 @@ class Loop:
         self.machine, self.turn = machine, z3.BitVec(f"turn {before.turns}", 64)
         # The places whose values are unknown, and those whose values change with the turn.
         self.unknown, self.moving = set(), set()
+        # The state before the loop, and the states in which it was left.
+        self.before, self.exits = before.copy(), []
         self.state = it = before.copy()
         it.turns += 1
         it.loops[before.at] = self
@@ -82,12 +99,16 @@ class Loop:
 
     def bound(self, first, second):
         """That the turn is below the bound. The last branch of a turn compares a value with zero, and the bound is how
-        often that value can change by its step before it is zero."""
-        step = first.gap and second.gap and first.gap.term.size() == 64 and difference(second.gap.term, first.gap.term)
+        often that value can change by its step before the condition for another turn no longer holds."""
+        value, holds, name = first.gap or (None, None, None)
+        step = value and second.gap and value.term.size() == 64 and difference(second.gap[0].term, value.term)
         if not step:
             raise Refused("a loop without a counter")
-        way = first.gap.term - step if step < 0 else step - first.gap.term
-        return Value(z3.simplify(z3.ULT(self.turn, z3.UDiv(way, z3.BitVecVal(abs(step), 64)))))
+        way = value.term if step < 0 else -value.term
+        size, begin = z3.BitVecVal(abs(step), 64), int(name not in INCLUSIVE)
+        bound = z3.UDiv(way + abs(step), size) if name == "ne" else \
+            z3.If(holds.term, z3.UDiv(way - begin, size) + 2, z3.BitVecVal(1, 64))
+        return Value(z3.simplify(z3.ULT(self.turn, bound)))
 
     def at(self, term, turn):
         return z3.simplify(z3.substitute(term, (self.turn, turn)))
@@ -156,10 +177,12 @@ def is_new(machine, state):
     state.is_general = False
     if state.at in state.joins:
         return True
-    # What is on the stack as a number may be where a function returns to, so it must be the same.
-    returns = tuple([(at, it.number) for at, it in sorted(state.stack.items())])
-    key = state.at, returns, len(state.refused), *map(ids, (state.facts, state.valid, state.written))
+    # What is on the stack as a number is often a constant or a flag, so it must be the same.
+    numbers = tuple([(at, it.number) for at, it in sorted(state.stack.items())])
+    key = state.at, state.calls, numbers, len(state.refused), *map(ids, (state.facts, state.valid, state.written))
     state.joins |= {state.at}
+    # The instruction that was executed last may have set flags after the state has forgotten them.
+    state.forget_flags()
     before = machine.joined.get(key)
     if before and join(machine, state, before):
         return False

@@ -1,12 +1,10 @@
 """An instruction that is executed: how it reads and writes its operands."""
-import operator
-
 import z3
 
 from . import Refused
 from .instructions import ZERO, condition
 from .state import NONE, REGISTERS, STACK, VECTOR
-from .values import Value, apply, bytes_of, constant, joined
+from .values import Value, apply, bytes_of, constant, joined, plus
 
 
 def address_of(base, index, scale, distance):
@@ -55,7 +53,7 @@ class Step:
         """The address of an operand in memory."""
         base, index, scale, distance = self.operands[at].address
         if base == "rip":
-            return constant(self.instruction.end + distance, 8)
+            return self.machine.image.address(self.instruction.end + distance)
         base, index = (self.state.registers[it] if it else NONE for it in (base, index))
         return apply(address_of, base, index, constant(scale, 8), constant(distance, 8))
 
@@ -105,24 +103,25 @@ class Step:
     def is_aligned(self, at, count):
         """Refuses an address that is not known to be aligned, where the instruction requires this: SSE and movdqa do,
         for whole vectors. At the beginning the stack pointer is 8 bytes above an aligned address."""
-        is_asked = self.name.startswith("movdqa") or not self.is_vex and self.name not in ("movdqu", "movups")
+        is_asked = self.name.startswith(("movdqa", "movaps")) or \
+            not self.is_vex and self.name not in ("movdqu", "movups")
         if count >= 16 and is_asked:
             base, distance = self.machine.place(self.address(at))
-            # The stack is known to be aligned to 16 bytes, and to no more.
-            is_known = base is None or base is STACK and count == 16
+            # The stack is known to be aligned to 16 bytes, and to no more. A file is loaded at the begin of a page.
+            is_known = base is self.machine.image.base or base is STACK and count == 16
             if not is_known or (distance + 8 * (base is STACK)) % count:
                 raise Refused("not aligned")
 
     def push(self, value):
         if value.term.size() != 64:
             raise Refused("not eight bytes")
-        end = self.state.registers["rsp"] = apply(operator.sub, self.state.registers["rsp"], constant(8, 8))
+        end = self.state.registers["rsp"] = plus(self.state.registers["rsp"], -8)
         self.machine.lowers(self.state)
         self.machine.store(self.state, end, bytes_of(value))
 
     def pop(self):
         end = self.state.registers["rsp"]
         value = joined(self.machine.load(self.state, end, 8))
-        self.state.registers["rsp"] = apply(operator.add, end, constant(8, 8))
+        self.state.registers["rsp"] = plus(end, 8)
         self.machine.lowers(self.state)
         return value

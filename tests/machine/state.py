@@ -9,7 +9,9 @@ import z3
 
 from .values import Value, bytes_of, constant, is_proved, unknown
 
-SOURCE, DESTINATION, STACK = BASES = [Value(z3.BitVec(it, 64)) for it in ("source", "destination", "stack")]
+# Where source, destination and stack begin, and where the file with the library is loaded.
+SOURCE, DESTINATION, STACK, IMAGE = BASES = [
+    Value(z3.BitVec(it, 64)) for it in ("source", "destination", "stack", "image")]
 LENGTH, ROOM = Value(z3.BitVec("length", 64)), Value(z3.BitVec("room", 64))
 POLICY, SEPARATOR = Value(z3.BitVec("policy", 8)), Value(z3.BitVec("separator", 8))
 RETURN, NONE, INDEX = unknown("return", 8), constant(0, 8), z3.BitVec("index", 64)
@@ -82,8 +84,10 @@ class State:
         self.loops, self.turns, self.joins = {}, 0, frozenset()
         # What only guides the search. A wrong value costs time, or ends in a refusal: how many facts were known when
         # the source was first read; whether the path has just forgotten some; the addresses that it executed, and how
-        # many instructions; and what its last branch on public values compared with zero.
+        # many instructions; what its last branch on public values compared with zero, with the condition that held and
+        # its name; and where calls return to.
         self.early, self.is_general, self.passed, self.steps, self.gap = None, False, set(), 0, None
+        self.calls = ()
 
     def copy(self):
         other = copy.copy(self)

@@ -7,6 +7,7 @@ import z3
 from . import Refused, hexadecimal
 from .execution import Machine, valid_at
 from .loops import IS_LONG
+from .replay import Replay
 from .state import DESTINATION, LENGTH, POLICY, ROOM, SEPARATOR, SOURCE, State, difference
 from .values import X, Value, apply, bytes_of, constant, is_proved, joined, unknown
 
@@ -59,13 +60,15 @@ class Shown:
         self.is_small = apply(z3.ULT, ROOM, self.writes)
         kind_of = None if self.is_encoding else kind_of
         self.machine = Machine(image, self.length, self.writes.term, kind_of, facts, self.check_byte)
-        self.machine.cases = self.cases()
+        self.machine.cases, self.machine.call = self.cases(), (self.call, self.policy, self.is_upper)
         state, words = State(at), CALLS[self.call].split()
         state.registers.update(zip(REGISTERS, map(self.argument, words)))
         for word in words[len(REGISTERS):]:
             state.stack.update(enumerate(bytes_of(self.argument(word)), self.machine.above))
             self.machine.above += 8
         self.ends = self.machine.run(state)
+        for it in self.machine.loops:
+            Replay(self.machine, it)
         for it in self.ends:
             self.check(it)
 
@@ -197,6 +200,6 @@ def ways_of(call):
 def shown(image, build, call, most=None, least=0):
     """Checks a call for every length: under each policy and for all numbers that are none, or for both cases of
     letters."""
-    for at in image.calls(build, call):
+    for at in image.calls(build, call, call not in POLICIES):
         for policy, is_upper in ways_of(call):
             yield Shown(image, at, call, policy, is_upper, most, least)

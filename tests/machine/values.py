@@ -103,6 +103,15 @@ def joined(values):
     return apply(concat, *values) if len(values) > 1 else values[0]
 
 
+def added(a, b):
+    return a + b
+
+
+def plus(value, number):
+    """A sum with a number."""
+    return apply(added, value, constant(number, value.term.size() // 8))
+
+
 def is_proved(key, conditions):
     """Whether the conditions that a function returns can never hold together. The answer is kept by the key. Each
     question has a new solver, which is faster than to use one again."""

@@ -15,13 +15,25 @@ use super::Answer;
 #[path = "level.rs"]
 mod level;
 
+/// The names of the builds, by their levels. There is no level 0.
+#[cfg(target_arch = "x86_64")]
+const NAMES: [&str; 6] = ["", "x86-64", "x86-64-v2", "x86-64-v3", "x86-64-v4", "x86-64-vbmi"];
+
+/// Returns the name of the widest build that calls use.
+pub fn name() -> &'static str {
+    #[cfg(target_arch = "x86_64")]
+    return NAMES[usize::from(level::find())];
+    #[cfg(target_arch = "aarch64")]
+    return "aarch64";
+}
+
 /// Assembles the macros of a format of object files, and then all builds for the target's architecture.
 macro_rules! assemble {
     ($macros:literal) => {
         #[cfg(target_arch = "aarch64")]
         assemble!(raw: $macros "aarch64.s");
         #[cfg(target_arch = "x86_64")]
-        assemble!(att_syntax, raw: $macros "x86-64.s" "x86-64-v2.s" "x86-64-v3.s" "x86-64-v4.s");
+        assemble!(att_syntax, raw: $macros "x86-64.s" "x86-64-v2.s" "x86-64-v3.s" "x86-64-v4.s" "x86-64-vbmi.s");
     };
     ($($option:ident),*: $($file:literal)*) => {
         global_asm!(
@@ -43,7 +55,7 @@ assemble!("elf.inc");
 // inlined into other crates, which may be linked with a `dylib` of this one. So it reads the address of its
 // build from a static.
 macro_rules! calls {
-    ($($call:ident($($word:ident: $kind:ty),*) -> $answer:ty, $widest:literal;)*) => { $(
+    ($($call:ident($($word:ident: $kind:ty),*) -> $answer:ty, $v4:literal $v5:literal;)*) => { $(
         #[cfg(target_arch = "aarch64")]
         #[inline]
         pub unsafe fn $call($($word: $kind),*) -> $answer {
@@ -65,8 +77,10 @@ macro_rules! calls {
                 fn v2($($word: $kind),*) -> $answer;
                 #[link_name = concat!("faster_hex_1_0_0_x86_64_v3_", stringify!($call))]
                 fn v3($($word: $kind),*) -> $answer;
-                #[link_name = concat!("faster_hex_1_0_0_x86_64_", $widest, "_", stringify!($call))]
-                fn widest($($word: $kind),*) -> $answer;
+                #[link_name = concat!("faster_hex_1_0_0_x86_64_", $v4, "_", stringify!($call))]
+                fn v4($($word: $kind),*) -> $answer;
+                #[link_name = concat!("faster_hex_1_0_0_x86_64_", $v5, "_", stringify!($call))]
+                fn v5($($word: $kind),*) -> $answer;
             }
             type Build = unsafe extern "sysv64" fn($($kind),*) -> $answer;
             // The address of a `Build`. The first call replaces it by that of the build for the processor.
@@ -76,7 +90,8 @@ macro_rules! calls {
             #[inline(never)]
             unsafe extern "sysv64" fn first($($word: $kind),*) -> $answer {
                 let build: Build = match level::find() {
-                    4 => widest,
+                    5 => v5,
+                    4 => v4,
                     3 => v3,
                     2 => v2,
                     _ => v1,
@@ -90,12 +105,12 @@ macro_rules! calls {
     )* };
 }
 
-// The last word of each line names the widest build that has the call.
+// The last two words of each line name the builds for levels 4 and 5.
 calls! {
-    check(src: *const u8, len: usize) -> bool, "v4";
-    check_lower(src: *const u8, len: usize) -> bool, "v4";
-    check_upper(src: *const u8, len: usize) -> bool, "v4";
-    encode(src: *const u8, len: usize, dst: *mut u8, room: usize, upper: bool) -> Answer, "v3";
-    decode(src: *const u8, len: usize, dst: *mut u8, room: usize) -> Answer, "v4";
-    decode_with_case(src: *const u8, len: usize, dst: *mut u8, room: usize, policy: u8) -> Answer, "v4";
+    check(src: *const u8, len: usize) -> bool, "v4" "vbmi";
+    check_lower(src: *const u8, len: usize) -> bool, "v4" "vbmi";
+    check_upper(src: *const u8, len: usize) -> bool, "v4" "vbmi";
+    encode(src: *const u8, len: usize, dst: *mut u8, room: usize, upper: bool) -> Answer, "v3" "v3";
+    decode(src: *const u8, len: usize, dst: *mut u8, room: usize) -> Answer, "v4" "vbmi";
+    decode_with_case(src: *const u8, len: usize, dst: *mut u8, room: usize, policy: u8) -> Answer, "v4" "vbmi";
 }

@@ -54,6 +54,11 @@ fn error_of(answer: Answer) -> Error {
     }
 }
 
+/// Returns the name of the build that calls use.
+pub fn build() -> &'static str {
+    builds::name()
+}
+
 /// Returns whether every byte is a digit under the policy.
 #[inline]
 pub fn check(src: &[u8], case: CheckCase) -> bool {
@@ -108,6 +113,25 @@ mod tests {
         assert_eq!(told(2), Err(Error::OutputTooSmall { required: 7 }));
         assert_eq!(told(3), Err(Error::InvalidChar { index: 7, byte }));
         assert_eq!(told(4), Err(Error::Overflow));
+    }
+
+    #[test]
+    fn the_build_has_the_name_of_its_level() {
+        assert_eq!(portable::build(), "portable");
+        #[cfg(target_arch = "aarch64")]
+        assert_eq!(build(), "aarch64");
+        #[cfg(target_arch = "x86_64")]
+        {
+            use std::is_x86_feature_detected as has;
+            let name = match (has!("avx512bw"), has!("avx2"), has!("sse4.2")) {
+                (true, _, _) if has!("avx512vbmi") => "x86-64-vbmi",
+                (true, _, _) => "x86-64-v4",
+                (_, true, _) => "x86-64-v3",
+                (_, _, true) => "x86-64-v2",
+                _ => "x86-64",
+            };
+            assert_eq!(build(), name);
+        }
     }
 
     /// A random number below `bound`.

@@ -46,6 +46,7 @@ pub enum CheckCase {
 /// assert!(faster_hex::hex_check(b"00aBc"));
 /// assert!(!faster_hex::hex_check(b"0x01"));
 /// ```
+#[must_use]
 #[inline]
 pub fn hex_check(src: &[u8]) -> bool {
     hex_check_with_case(src, CheckCase::None)
@@ -59,6 +60,7 @@ pub fn hex_check(src: &[u8]) -> bool {
 /// assert!(hex_check_with_case(b"AB0", CheckCase::Upper));
 /// assert!(!hex_check_with_case(b"AB0", CheckCase::Lower));
 /// ```
+#[must_use]
 #[inline]
 pub fn hex_check_with_case(src: &[u8], check_case: CheckCase) -> bool {
     calls::check(src, check_case)
@@ -216,4 +218,103 @@ pub fn hex_decode_vec_with_case(src: &[u8], check_case: CheckCase) -> Result<Vec
     // SAFETY: so many bytes were written.
     unsafe { bytes.set_len(written) };
     Ok(bytes)
+}
+
+#[cfg(test)]
+mod tests {
+    use super::*;
+    use core::{fmt::Debug, hash::Hash};
+
+    const fn has_traits<T>()
+    where
+        T: Copy + Debug + Default + Eq + Hash + Send + Sync + Unpin + 'static,
+    {
+    }
+    const _: () = has_traits::<CheckCase>();
+
+    const ODD: Error = Error::OddLength;
+
+    const fn small(required: usize) -> Error {
+        Error::OutputTooSmall { required }
+    }
+
+    const fn invalid(index: usize, byte: u8) -> Error {
+        Error::InvalidChar { index, byte }
+    }
+
+    const fn mismatch(actual: usize) -> Error {
+        Error::LengthMismatch { expected: 2, actual }
+    }
+
+    #[test]
+    fn a_buffer_gets_the_bytes_or_stays_as_it_was() {
+        let wanted: [(&[u8], CheckCase, Result<&[u8], Error>); 10] = [
+            (b"", CheckCase::None, Ok(&[])),
+            (b"aB", CheckCase::None, Ok(&[0xab])),
+            (b"01fF", CheckCase::None, Ok(&[0x01, 0xff])),
+            (b"01ff", CheckCase::Lower, Ok(&[0x01, 0xff])),
+            (b"01FF", CheckCase::Upper, Ok(&[0x01, 0xff])),
+            (b"01ff", CheckCase::Upper, Err(invalid(2, b'f'))),
+            (b"01FF", CheckCase::Lower, Err(invalid(2, b'F'))),
+            (b"0g0h", CheckCase::None, Err(invalid(1, b'g'))),
+            (b"0g0h00g0", CheckCase::None, Err(small(4))),
+            (b"0g0h00g", CheckCase::None, Err(ODD)),
+        ];
+        for (text, case, answer) in wanted {
+            let mut room = [0xa5; 3];
+            let told = hex_decode_with_case(text, &mut room, case).map(|bytes| bytes.to_vec());
+            assert_eq!(told.as_deref().map_err(|&error| error), answer);
+            let written = answer.map_or(0, <[u8]>::len);
+            assert_eq!(room[..written], *answer.unwrap_or(&[]));
+            assert!(room[written..].iter().all(|&byte| byte == 0xa5));
+        }
+    }
+
+    #[test]
+    fn an_array_takes_exactly_its_digits() {
+        let wanted: [(&[u8], Result<[u8; 2], Error>); 7] = [
+            (b"01fF", Ok([0x01, 0xff])),
+            (b"0g0h", Err(invalid(1, b'g'))),
+            (b"000g", Err(invalid(3, b'g'))),
+            (b"0g", Err(mismatch(1))),
+            (b"", Err(mismatch(0))),
+            (b"0g0h0000", Err(mismatch(4))),
+            (b"0g0h0", Err(ODD)),
+        ];
+        for (text, answer) in wanted {
+            assert_eq!(hex_decode_array(text), answer);
+        }
+        assert_eq!(hex_decode_array_with_case(b"01ff", CheckCase::Upper), Err::<[u8; 2], _>(invalid(2, b'f')));
+    }
+
+    #[test]
+    fn a_check_takes_each_length() {
+        let wanted: [(&[u8], [bool; 3]); 6] = [
+            (b"", [true, true, true]),
+            (b"012", [true, true, true]),
+            (b"0aF", [true, false, false]),
+            (b"0af", [true, true, false]),
+            (b"0AF", [true, false, true]),
+            (b"0x0", [false, false, false]),
+        ];
+        for (text, answers) in wanted {
+            let cases = [CheckCase::None, CheckCase::Lower, CheckCase::Upper];
+            assert_eq!(cases.map(|case| hex_check_with_case(text, case)), answers);
+            assert_eq!(hex_check(text), answers[0]);
+        }
+    }
+
+    #[cfg(feature = "alloc")]
+    #[test]
+    fn a_vector_has_room_for_its_bytes_alone() {
+        for len in 0..300 {
+            let digits = std::vec![b'a'; 2 * len];
+            let bytes = hex_decode_vec(&digits).unwrap();
+            assert_eq!((bytes.len(), bytes.capacity()), (len, len));
+            assert!(bytes.iter().all(|&byte| byte == 0xaa));
+        }
+        assert_eq!(hex_decode_vec(b"0g0"), Err(ODD));
+        assert_eq!(hex_decode_vec(b"0a0g"), Err(invalid(3, b'g')));
+        assert_eq!(hex_decode_vec_with_case(b"0A", CheckCase::Lower), Err(invalid(1, b'A')));
+    }
 }

@@ -89,6 +89,7 @@ const OVERFLOW: &str = "encoded length overflow";
 /// assert_eq!(faster_hex::hex_string(&[0, 0xab, 0xff]), "00abff");
 /// ```
 #[cfg(feature = "alloc")]
+#[must_use]
 #[inline]
 pub fn hex_string(src: &[u8]) -> String {
     new_string(src, false)
@@ -104,6 +105,7 @@ pub fn hex_string(src: &[u8]) -> String {
 /// assert_eq!(faster_hex::hex_string_upper(&[0, 0xab, 0xff]), "00ABFF");
 /// ```
 #[cfg(feature = "alloc")]
+#[must_use]
 #[inline]
 pub fn hex_string_upper(src: &[u8]) -> String {
     new_string(src, true)
@@ -184,6 +186,34 @@ mod tests {
             assert_eq!(*hex_append(&bytes, &mut text), *digits);
             assert_eq!(*hex_append_upper(&bytes, &mut text), *digits.to_uppercase());
             assert_eq!(text, format!("id: {digits}{}", digits.to_uppercase()));
+        }
+    }
+
+    #[test]
+    fn a_string_has_room_for_its_digits_alone() {
+        for len in 0..300 {
+            let (bytes, digits): (Vec<u8>, _) = (vec![0xab; len], "ab".repeat(len));
+            let (lower, upper) = (hex_string(&bytes), hex_string_upper(&bytes));
+            assert_eq!((&lower, &upper), (&digits, &digits.to_uppercase()));
+            assert_eq!((lower.capacity(), upper.capacity()), (2 * len, 2 * len));
+        }
+    }
+
+    #[test]
+    fn a_buffer_gets_the_digits_or_stays_as_it_was() {
+        let wanted: [(&[u8], Result<&str, Error>); 4] = [
+            (&[], Ok("")),
+            (&[0xab], Ok("ab")),
+            (&[0x01, 0xfe], Ok("01fe")),
+            (&[1, 2, 3], Err(Error::OutputTooSmall { required: 6 })),
+        ];
+        for (bytes, answer) in wanted {
+            let mut room = [b'-'; 5];
+            let told = hex_encode(bytes, &mut room).map(|digits| String::from(digits));
+            assert_eq!(told.as_deref().map_err(|&error| error), answer);
+            let written = answer.map_or(0, str::len);
+            assert_eq!(room[..written], *answer.unwrap_or("").as_bytes());
+            assert!(room[written..].iter().all(|&byte| byte == b'-'));
         }
     }
 }

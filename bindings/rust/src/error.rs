@@ -62,3 +62,70 @@ impl fmt::Display for Error {
 }
 
 impl core::error::Error for Error {}
+
+#[cfg(test)]
+mod tests {
+    use super::*;
+    use core::hash::{Hash, Hasher};
+    use std::{collections::hash_map::DefaultHasher, string::ToString};
+
+    const fn has_traits<T>()
+    where
+        T: Copy + fmt::Debug + fmt::Display + Eq + Hash + core::error::Error,
+        T: Send + Sync + Unpin + 'static,
+    {
+    }
+    const _: () = has_traits::<Error>();
+
+    const TEXTS: [(Error, &str); 8] = [
+        (
+            Error::InvalidChar { index: 3, byte: b'g' },
+            "invalid hex byte 0x67 at index 3",
+        ),
+        (
+            Error::InvalidChar { index: 0, byte: 0x0a },
+            "invalid hex byte 0x0a at index 0",
+        ),
+        (
+            Error::InvalidChar { index: 12, byte: 0xfe },
+            "invalid hex byte 0xfe at index 12",
+        ),
+        (
+            Error::OutputTooSmall { required: 2 },
+            "output requires at least 2 bytes",
+        ),
+        (
+            Error::LengthMismatch { expected: 4, actual: 3 },
+            "expected 4 decoded bytes, got 3",
+        ),
+        (
+            Error::LengthMismatch { expected: 3, actual: 4 },
+            "expected 3 decoded bytes, got 4",
+        ),
+        (Error::OddLength, "hex input length must be even"),
+        (Error::Overflow, "encoded length overflow"),
+    ];
+
+    fn hash_of(error: Error) -> u64 {
+        let mut state = DefaultHasher::new();
+        error.hash(&mut state);
+        state.finish()
+    }
+
+    #[test]
+    fn each_error_has_its_text() {
+        for (error, text) in TEXTS {
+            assert_eq!(error.to_string(), text);
+        }
+    }
+
+    #[test]
+    fn errors_are_equal_only_to_themselves() {
+        for (at, (one, _)) in TEXTS.into_iter().enumerate() {
+            for (place, (other, _)) in TEXTS.into_iter().enumerate() {
+                assert_eq!(one == other, at == place);
+                assert_eq!(hash_of(one) == hash_of(other), at == place);
+            }
+        }
+    }
+}

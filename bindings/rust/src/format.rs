@@ -150,3 +150,100 @@ impl fmt::UpperHex for Hex<'_> {
         self.show(f, true)
     }
 }
+
+#[cfg(test)]
+mod tests {
+    use super::*;
+    use std::{borrow::ToOwned, format, string::String, vec};
+
+    const fn has_traits<T>()
+    where
+        T: Copy + fmt::Debug + fmt::Display + fmt::LowerHex + fmt::UpperHex,
+        T: Send + Sync + Unpin,
+    {
+    }
+    const _: () = has_traits::<Hex<'static>>();
+
+    const BYTES: Hex<'static> = Hex::new(&[0x01, 0xab]);
+
+    #[test]
+    fn each_flag_has_its_effect() {
+        let wanted = [
+            (format!("{BYTES}"), "01ab"),
+            (format!("{BYTES:x}"), "01ab"),
+            (format!("{BYTES:X}"), "01AB"),
+            (format!("{BYTES:#}"), "0x01ab"),
+            (format!("{BYTES:#x}"), "0x01ab"),
+            (format!("{BYTES:#X}"), "0x01AB"),
+            (format!("{BYTES:+}"), "+01ab"),
+            (format!("{BYTES:+#X}"), "+0x01AB"),
+            (format!("{BYTES:-}"), "01ab"),
+            (format!("{BYTES:.1}"), "01ab"),
+            (format!("{:#}", Hex::new(&[])), "0x"),
+        ];
+        for (text, answer) in wanted {
+            assert_eq!(text, answer);
+        }
+    }
+
+    #[test]
+    fn a_width_is_filled_on_its_side() {
+        let wanted = [
+            (format!("{BYTES:3}"), "01ab"),
+            (format!("{BYTES:4}"), "01ab"),
+            (format!("{BYTES:7}"), "   01ab"),
+            (format!("{BYTES:>7}"), "   01ab"),
+            (format!("{BYTES:<7}"), "01ab   "),
+            (format!("{BYTES:^7}"), " 01ab  "),
+            (format!("{BYTES:*^8X}"), "**01AB**"),
+            (format!("{BYTES:0<7}"), "01ab000"),
+            (format!("{BYTES:0>+7}"), "00+01ab"),
+            (format!("{BYTES:07}"), "00001ab"),
+            (format!("{BYTES:*<07}"), "00001ab"),
+            (format!("{BYTES:+#09x}"), "+0x0001ab"),
+            (format!("{BYTES:é^+#9}"), "é+0x01abé"),
+            (format!("{:5}", Hex::new(&[])), "     "),
+        ];
+        for (text, answer) in wanted {
+            assert_eq!(text, answer);
+        }
+    }
+
+    #[test]
+    fn long_texts_and_widths() {
+        for len in [1, 31, 32, 33, 511, 512, 513, 1024, 1025] {
+            let (bytes, digits) = (vec![0xab; len], "ab".repeat(len));
+            let (hex, width) = (Hex::new(&bytes), 2 * len + len);
+            assert_eq!(format!("{hex}"), digits);
+            for (fill, text) in [
+                (" ", format!("{hex:width$}")),
+                ("0", format!("{hex:0width$}")),
+                ("*", format!("{hex:*>width$}")),
+            ] {
+                assert_eq!(text, fill.repeat(len).to_owned() + &digits);
+            }
+        }
+    }
+
+    /// A writer that refuses what does not fit.
+    struct Short(String, usize);
+
+    impl Write for Short {
+        fn write_str(&mut self, text: &str) -> fmt::Result {
+            self.1 = self.1.checked_sub(text.len()).ok_or(fmt::Error)?;
+            self.0.push_str(text);
+            Ok(())
+        }
+    }
+
+    #[test]
+    fn an_error_of_the_writer_is_returned() {
+        for room in 0..13 {
+            let mut out = Short(String::new(), room);
+            let told = write!(out, "{BYTES:*^+#13}");
+            assert!(told.is_err() && "***+0x01ab***".starts_with(&out.0), "{room}");
+        }
+        let mut out = Short(String::new(), 13);
+        assert!(write!(out, "{BYTES:*^+#13}").is_ok() && out.1 == 0);
+    }
+}

@@ -3,10 +3,10 @@
 use core::arch::x86_64::{__cpuid, __cpuid_count, _xgetbv};
 use core::sync::atomic::{AtomicU8, Ordering::Relaxed};
 
-/// The level, from 1 to 4. It is 0 until the first call has asked the processor.
+/// The level, from 1 to 5. It is 0 until the first call has asked the processor.
 static LEVEL: AtomicU8 = AtomicU8::new(0);
 
-/// Returns the highest level of the processor for which there is a build.
+/// Returns the highest level of the processor for which there is a build. Level 5 is level 4 with AVX-512 VBMI.
 pub fn find() -> u8 {
     if LEVEL.load(Relaxed) == 0 {
         LEVEL.store(level_of(&Processor::read()), Relaxed);
@@ -23,6 +23,8 @@ struct Processor {
     basic: u32,
     /// Leaf 7, `ebx`.
     wide: u32,
+    /// Leaf 7, `ecx`.
+    permutes: u32,
     /// Leaf 0x8000_0000, `eax`: the highest extended leaf.
     highest_extended: u32,
     /// Leaf 0x8000_0001, `ecx`.
@@ -46,6 +48,7 @@ impl Processor {
                 highest: __cpuid(0).eax,
                 basic,
                 wide: __cpuid_count(7, 0).ebx,
+                permutes: __cpuid_count(7, 0).ecx,
                 highest_extended: __cpuid(0x8000_0000).eax,
                 extended: __cpuid(0x8000_0001).ecx,
                 saved,
@@ -76,7 +79,8 @@ fn level_of(it: &Processor) -> u8 {
         && has(it.saved, &[1, 2]);
     // AVX512F, AVX512DQ, AVX512CD, AVX512BW and AVX512VL; their registers.
     let is_4 = is_3 && has(wide, &[16, 17, 28, 30, 31]) && has(it.saved, &[5, 6, 7]);
-    2 + u8::from(is_3) + u8::from(is_4)
+    let is_5 = is_4 && has(it.permutes, &[1]);
+    2 + u8::from(is_3) + u8::from(is_4) + u8::from(is_5)
 }
 
 #[cfg(test)]
@@ -90,6 +94,7 @@ mod tests {
         highest: 7,
         basic: !0,
         wide: !0,
+        permutes: !0,
         highest_extended: 0x8000_0001,
         extended: !0,
         saved: !0,
@@ -104,7 +109,7 @@ mod tests {
     #[test]
     fn each_missing_bit_gives_the_next_lower_level() {
         type Word = fn(&mut Processor) -> &mut u32;
-        let wanted: [(Word, &[u32], u8); 8] = [
+        let wanted: [(Word, &[u32], u8); 9] = [
             (|it| &mut it.basic, &[0, 9, 13, 19, 20, 23], 1),
             (|it| &mut it.extended, &[0], 1),
             (|it| &mut it.basic, &[12, 22, 27, 28, 29], 2),
@@ -113,16 +118,17 @@ mod tests {
             (|it| &mut it.saved, &[1, 2], 2),
             (|it| &mut it.wide, &[16, 17, 28, 30, 31], 3),
             (|it| &mut it.saved, &[5, 6, 7], 3),
+            (|it| &mut it.permutes, &[1], 4),
         ];
         let mut least = ALL;
-        (least.basic, least.wide, least.extended, least.saved) = (0, 0, 0, 0);
+        (least.basic, least.wide, least.permutes, least.extended, least.saved) = (0, 0, 0, 0, 0);
         for (word, bits, lower) in wanted {
             for bit in bits {
                 assert_eq!(level(|it| *word(it) &= !(1 << bit)), lower, "{bit}");
                 *word(&mut least) |= 1 << bit;
             }
         }
-        assert_eq!((level_of(&ALL), level_of(&least)), (4, 4));
+        assert_eq!((level_of(&ALL), level_of(&least)), (5, 5));
     }
 
     #[test]
@@ -130,7 +136,8 @@ mod tests {
         let has_3 = has_feature!("avx2") && has_feature!("bmi1") && has_feature!("bmi2") && has_feature!("fma");
         let has_4 = has_feature!("avx512f") && has_feature!("avx512bw") && has_feature!("avx512vl");
         assert_eq!(find() >= 3, has_3);
-        assert_eq!(find() == 4, has_3 && has_4);
+        assert_eq!(find() >= 4, has_3 && has_4);
+        assert_eq!(find() == 5, has_3 && has_4 && has_feature!("avx512vbmi"));
     }
 
     #[test]
@@ -145,7 +152,7 @@ mod tests {
     fn an_old_system_saves_fewer_registers() {
         assert_eq!(level(|it| it.saved = 0b0000_0011), 2);
         assert_eq!(level(|it| it.saved = 0b0000_0111), 3);
-        assert_eq!(level(|it| it.saved = 0b1110_0111), 4);
+        assert_eq!(level(|it| it.saved = 0b1110_0111), 5);
         assert_eq!(level(|it| (it.basic, it.saved) = (!(1 << 27), 0)), 2);
     }
 }

@@ -31,6 +31,7 @@
 //! | digits at the end of a string that you have (`alloc`) | `hex_append`, `hex_append_upper` |
 //! | bytes in a new vector (`alloc`) | `hex_decode_vec`, `hex_decode_vec_with_case` |
 //! | a field of a `serde` type (`serde`) | the modules below |
+//! | to know whether the calls are constant time | [`hex_build`] |
 //!
 //! A call that reads digits accepts lowercase and uppercase letters, also mixed. A call whose name ends with
 //! `_with_case` has a parameter [`CheckCase`], which can permit only one case.
@@ -90,14 +91,14 @@
 //!
 //! | Target | What a call runs |
 //! |---|---|
-//! | x86-64, Linux, FreeBSD, NetBSD, macOS, Windows (GNU) | one of four builds: for x86-64, x86-64-v2, x86-64-v3 with AVX2, and x86-64-v4, which checks and decodes with AVX-512 |
+//! | x86-64, Linux, FreeBSD, NetBSD, macOS, Windows (GNU) | one of five builds: for x86-64, x86-64-v2, x86-64-v3 with AVX2, and x86-64-v4 and x86-64-vbmi, which check and decode with AVX-512 and AVX-512 VBMI |
 //! | aarch64, Linux, FreeBSD, NetBSD, macOS | one build, with NEON |
 //! | all others, also bare metal and Miri | plain, safe Rust, which is not proved. A test compares it with the builds |
 //!
 //! On x86-64 the first call asks the processor which build it can run. All builds return the
 //! same results, at different speeds. On processors without x86-64-v2 the crate uses the build for x86-64
-//! without a level, which looks bytes up in tables. Do not use the crate for keys there. `docs/security.md` of
-//! the repository says what was examined on other processors and systems. The crate needs Rust 1.81 or later.
+//! without a level, which looks bytes up in tables. Do not use the crate for keys there. [`hex_build`] says
+//! what was examined on other processors and systems. The crate needs Rust 1.81 or later.
 //! One program may contain several versions of this crate, and also the library for C.
 //!
 //! The README of the crate says how to use it in place of `faster-hex`, and what `faster-hex` has that this
@@ -157,4 +158,22 @@ pub use crate::decode::{hex_decode_vec, hex_decode_vec_with_case};
 pub use crate::encode::{hex_append, hex_append_upper, hex_string, hex_string_upper};
 pub use crate::encode::{hex_encode, hex_encode_upper};
 pub use crate::error::Error;
+
+/// Names the build that the calls use on this processor, so that a program can refuse to handle keys where the
+/// crate is not constant time. You need not make another call first.
+///
+/// The name is `x86-64`, `x86-64-v2`, `x86-64-v3`, `x86-64-v4`, `x86-64-vbmi`, which is `x86-64-v4` with AVX-512
+/// VBMI, `aarch64` or `portable`, which is plain Rust. Later versions may have other builds. Calls that the builds for
+/// AVX-512 do not have use `x86-64-v3`. `x86-64` looks bytes up in tables. What was examined is the assembly of the
+/// builds whose names begin with `x86-64-v`, on Linux: valid digits of one length take the same branches and use the
+/// same addresses.
+///
+/// ```
+/// let may_have_keys = faster_hex::hex_build().starts_with("x86-64-v");
+/// # let _ = may_have_keys;
+/// ```
+#[must_use]
+pub fn hex_build() -> &'static str {
+    calls::build()
+}
 pub use crate::format::Hex;

@@ -18,6 +18,11 @@ fn first_invalid(src: &[u8], case: CheckCase) -> Option<usize> {
     src.iter().position(|&byte| value_of(byte, case).is_none())
 }
 
+/// Returns the name of the build that calls use.
+pub fn build() -> &'static str {
+    "portable"
+}
+
 /// Returns whether every byte is a digit under the policy.
 pub fn check(src: &[u8], case: CheckCase) -> bool {
     first_invalid(src, case).is_none()

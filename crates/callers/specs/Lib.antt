@@ -1,5 +1,4 @@
 pub mod Checksums
 pub mod Chunks
 pub mod DigestLists
-pub mod PlainDumps
 pub mod Records

@@ -1,23 +1,19 @@
 //! Functions that decode and encode grouped digits. Each is proved.
 
-ghost use Rattle.std.specs.Prelude.{◌≡◌, ◌↔◌, IsTrue, ◌<◌, ◌≤◌, ◌%◌, ◌++◌, ◌∷◌, [], ℕ, List, Some, length};
+ghost use Rattle.std.specs.Prelude.{◌≡◌, ◌↔◌, IsTrue, ◌≤◌, ℕ, List, Some, length};
 ghost use Rattle.hex_core.specs.declared.digit.CheckCase.TheVariants as policy;
 ghost use Rattle.hex_core.specs.Calls.{Fills};
 ghost use Rattle.hex_core.specs.Text.{lowercase};
-ghost use Rattle.hex_codec.specs.GroupedWriting.{grouped, piece_len, pieces, separator};
+ghost use Rattle.hex_codec.specs.GroupedWriting.{grouped, piece_len, separator};
 ghost use Rattle.hex_codec.specs.GroupedReading.{GroupSpells, group_refusal};
-ghost use Rattle.hex_io.specs.SinkState.{Puts};
 
-use faster_hex::format::{put_all, put_digits};
 use faster_hex::grouped::{self, GroupFault, read_into, write_into};
-use faster_hex::{CheckCase, Group, Sink, WriteFault};
+use faster_hex::{CheckCase, Group};
 use hex_codec::laws::{
     a_grouped_text_is_digits_and_separators, a_grouped_text_is_read_where_it_spells_a_list,
-    grouping_inverts_strict_reading, the_first_piece_is_the_front,
-    whole_pieces_are_joined_by_the_separator,
+    grouping_inverts_strict_reading,
 };
 use hex_core::laws::a_new_front_is_the_front;
-use hex_io::laws::puts_in_a_row_are_one;
 
 /// Decodes a hardware address of six bytes in groups. For example, `00:00:5E:00:53:AF` is in groups
 /// of one byte. Returns the six bytes, or `None` if the text is not the grouped text of six bytes.
@@ -97,39 +93,4 @@ pub fn read_canonical(line: &[u8], group: Group, buffer: &mut [u8]) -> Result<us
 {
     grouping_inverts_strict_reading();
     read_into(line, buffer, group, CheckCase::Lower)
-}
-
-/// Puts the grouped text of two parts into any sink. The first part must be whole pieces, and
-/// neither part may be empty.
-pub fn write_two_parts<S: Sink>(
-    front: &[u8],
-    back: &[u8],
-    group: Group,
-    sink: &mut S,
-) -> Result<(), WriteFault>
-    requires whole { length front.now % piece_len group ≡ 0 }
-    requires both { (0 < length front.now) × (0 < length back.now) }
-    ensures { Puts (S.state sink.old) (S.state sink.new) result (grouped group lowercase (front.now ++ back.now)) }
-{
-    puts_in_a_row_are_one();
-    whole_pieces_are_joined_by_the_separator();
-    put_digits(sink, front, false, Some(group))?;
-    put_all(sink, &[group.sep()])?;
-    put_digits(sink, back, false, Some(group))
-}
-
-/// Returns the first piece of some bytes, and the rest. The pieces of the bytes are the first piece
-/// and those of the rest.
-///
-/// ```rust
-/// let group = Group::new(2, b' ').unwrap();
-/// let (piece, rest) = split_piece(b"hello", group);
-/// assert_eq!(rt; (piece, rest), (b"he".as_slice(), b"llo".as_slice()));
-/// ```
-pub fn split_piece(bytes: &[u8], group: Group) -> (&[u8], &[u8])
-    requires { piece_len group ≤ length bytes.now }
-    ensures { pieces (piece_len group) bytes.now ≡ result.0.now ∷ pieces (piece_len group) result.1.now }
-{
-    the_first_piece_is_the_front();
-    bytes.split_at(group.every())
 }

@@ -10,8 +10,6 @@ pub mod digest_lists;
 pub mod dump;
 pub mod groups;
 pub mod json;
-pub mod plain_dump;
 pub mod probes;
-pub mod spaced;
 pub mod texts;
 pub mod undump;

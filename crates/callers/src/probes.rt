@@ -1,12 +1,10 @@
 //! A probe that a user has written, and searches. Each function is proved.
 
-ghost use Rattle.std.specs.Prelude.{◌≡◌, ◌++◌};
+ghost use Rattle.std.specs.Prelude.{◌≡◌};
 ghost use Rattle.hex_core.specs.Search.{first_invalid, steps};
 
-use faster_hex::{Backend, CheckCase, Probe, hex_check_with_case, locate};
-use hex_core::laws::{
-    the_first_invalid_byte_is_the_first, the_first_invalid_byte_of_a_joined_source,
-};
+use faster_hex::{CheckCase, Probe, hex_check_with_case, locate};
+use hex_core::laws::the_first_invalid_byte_is_the_first;
 
 // A sector of a disk, which counts how it is read.
 #[derive(Drop)]
@@ -88,22 +86,5 @@ pub fn find_in_sector(bytes: [u8; 512], case: CheckCase) -> Found
         place,
         tests: sector.tests(),
         looks: sector.looks(),
-    }
-}
-
-/// Returns the index of the first invalid byte of a source that lies in two parts, as in a ring
-/// buffer.
-///
-/// ```rust
-/// assert_eq!(rt; find_in_two_parts(b"00f", b"f0g", CheckCase::None), Some(5));
-/// ```
-pub fn find_in_two_parts(front: &[u8], back: &[u8], case: CheckCase) -> Option<usize>
-    ensures { result ≡ first_invalid case (front.now ++ back.now) }
-{
-    the_first_invalid_byte_of_a_joined_source();
-    let plain = Backend::plain();
-    match plain.first_invalid(front, case) {
-        Some(place) => Some(place),
-        None => Some(front.len() + plain.first_invalid(back, case)?),
     }
 }

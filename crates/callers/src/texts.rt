@@ -1,22 +1,16 @@
 //! Functions that keep digits as text. Each is proved.
 
-ghost use Rattle.std.specs.Prelude.{◌≡◌, ◌+◌, ◌*◌, ◌≤◌, ◌++◌, MatchResult, codes, length, string_bytes, string_len, string_capacity};
+ghost use Rattle.std.specs.Prelude.{◌≡◌, ◌+◌, ◌*◌, ◌≤◌, ◌++◌, MatchResult, length, string_bytes, string_len, string_capacity};
 ghost use Rattle.std.specs.Str.{str_to_ascii_lowercase};
 ghost use Rattle.hex_core.specs.declared.digit.CheckCase.TheVariants as policy;
 ghost use Rattle.hex_core.specs.Refusal.{OwnedFailure};
 ghost use Rattle.hex_core.specs.Text.{lowercase, text};
-ghost use Rattle.hex_io.specs.SinkState.{Puts};
 
-use faster_hex::format::{put_all, put_digits};
-use faster_hex::{
-    Error, Sink, WriteFault, hex_append_into, hex_decode_vec, hex_encode, hex_encode_into,
-    hex_string,
-};
+use faster_hex::{Error, hex_append_into, hex_decode_vec, hex_encode, hex_encode_into, hex_string};
 use hex_core::laws::{
     a_text_is_ascii_and_twice_as_long, either_case_is_the_lowercased_source,
     the_text_of_a_joined_list_is_the_texts_joined,
 };
-use hex_io::laws::a_text_is_put_from_its_front;
 use std::alloc::{AllocError, Allocator, Global};
 use std::str;
 
@@ -83,20 +77,4 @@ pub fn lowercased(alloc: Global, digits: &[u8]) -> Result<String, Error>
     either_case_is_the_lowercased_source();
     let bytes = hex_decode_vec(alloc, digits)?;
     hex_string(alloc, &bytes)
-}
-
-/// Puts `sha256:` and the digits of a digest into any sink.
-///
-/// ```rust
-/// let mut text = [0; 71];
-/// let mut sink = faster_hex::SliceSink::new(&mut text);
-/// put_labelled(&[0xab; 32], &mut sink)?;
-/// assert!(rt; text.starts_with(b"sha256:abab"));
-/// ```
-pub fn put_labelled<S: Sink>(digest: &[u8; 32], sink: &mut S) -> Result<(), WriteFault>
-    ensures { Puts (S.state sink.old) (S.state sink.new) result (codes "sha256:" ++ text lowercase digest.now) }
-{
-    a_text_is_put_from_its_front();
-    put_all(sink, b"sha256:")?;
-    put_digits(sink, digest, false, None)
 }

@@ -4,7 +4,7 @@ use Rattle.std.specs.Prelude.{Option, Some, None, MatchOption, Result, Ok, Err}
 use Rattle.hex_core.specs.declared.digit.CheckCase.{CheckCase}
 use Rattle.hex_core.specs.declared.digit.CheckCase.TheVariants as policy
 use Rattle.hex_core.specs.declared.error.Error.{Error}
-use Rattle.hex_core.specs.declared.error.Error.TheVariants.{InvalidChar, OutputTooSmall, OddLength, Overflow}
+use Rattle.hex_core.specs.declared.error.Error.TheVariants.{InvalidChar, OutputTooSmall, OddLength}
 use Rattle.hex_core.specs.Calls.{Decodes, Encodes}
 use Rattle.hex_core.specs.Search.{first_invalid}
 use Rattle.hex_codec.specs.declared.group.Group.{Group}
@@ -26,13 +26,12 @@ policy_of n =
 abbrev pub no_policy : Answer
 no_policy = record { number = 0; status = 5; byte = 0 }
 
--- the answer for a result. Functions that write to a destination never return an error of the last equation
+-- the answer for a result. Of the errors in the last equation, functions that write to a destination return only Overflow
 abbrev pub answer_of : Result ℕ Error → Answer
 answer_of (Ok written) = record { number = written; status = 0; byte = 0 }
 answer_of (Err OddLength) = record { number = 0; status = 1; byte = 0 }
 answer_of (Err (OutputTooSmall required)) = record { number = required; status = 2; byte = 0 }
 answer_of (Err (InvalidChar index byte)) = record { number = index; status = 3; byte = byte }
-answer_of (Err Overflow) = record { number = 0; status = 4; byte = 0 }
 answer_of (Err e) = record { number = 0; status = 4; byte = 0 }
 
 -- the answer for the first invalid byte of a source, if there is one

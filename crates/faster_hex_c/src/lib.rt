@@ -13,7 +13,7 @@ ghost use Rattle.faster_hex_c.specs.Answers.{DecodesGrouped, EncodesGrouped, gro
 
 use hex_codec::grouped::{read_by, write_by};
 use hex_codec::{Group, GroupFault};
-use hex_core::{Backend, CheckCase, Error, backends};
+use hex_core::{Backend, CheckCase, Error, Vectors, backends};
 
 // The status codes, with the names that they have in `faster_hex.h`.
 const DONE: u8 = 0;
@@ -135,8 +135,9 @@ fn plan() -> Backend {
     let [scalar, ..] = backends();
     match level() {
         1 => scalar,
-        3 => Backend::plain_for(32),
-        4 => Backend::plain_for(64),
+        3 => Backend::plain_for(Vectors::Of32),
+        4 => Backend::plain_for(Vectors::Of64),
+        5 => Backend::plain_for(Vectors::LookUp64),
         _ => Backend::plain(),
     }
 }

@@ -2,7 +2,7 @@
 //! or decodes it.
 #![tactic(auto)]
 
-use hex_program::{refuse, serve_stream, with_words};
+use hex_program::{refuse_stream, serve_stream, with_words};
 use std::process::ExitCode;
 
 // Runs the program over the standard streams. Returns the exit status.
@@ -15,6 +15,6 @@ fn run(rt: &HostRuntime, words: &[&str]) -> u8 {
 fn main(rt: HostRuntime) -> ExitCode {
     match with_words(&rt, |words| run(&rt, words)) {
         Ok(status) => ExitCode::from(status),
-        Err(failure) => ExitCode::from(refuse(rt.stderr(), failure).0),
+        Err(failure) => ExitCode::from(refuse_stream(rt.stderr(), failure).0),
     }
 }

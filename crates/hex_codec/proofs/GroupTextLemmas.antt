@@ -25,7 +25,7 @@ use Rattle.hex_codec.specs.GroupLaws.{GroupSpellsOneList, GroupingInvertsStrictR
 use Rattle.hex_codec.specs.GroupLaws.{ReadsWhatGroupSpells, TextsAreDigits}
 use Rattle.hex_codec.specs.GroupedReading.{GroupSpells, digits_in, is_invalid_in_text, byte_count}
 use Rattle.hex_codec.specs.GroupedReading.{first_invalid_in_text, group_refusal, grouped_len, refusal_of_count}
-use Rattle.hex_codec.proofs.GroupLemmas.{by_pieces, grouped-last, grouped-more, joined-pieces, pieces-next}
+use Rattle.hex_codec.proofs.GroupLemmas.{by_pieces, grouped-last, grouped-more}
 use Rattle.hex_codec.proofs.GroupLemmas.{len-last, len-more}
 use Rattle.hex_codec.proofs.PartLemmas.{first-part, last-spelled, spells-last, spells-more}
 use Rattle.hex_codec.proofs.PartLemmas.{spells-clear, clear-last, clear-part}
@@ -161,4 +161,4 @@ grouped-again group upper s bytes =
 
 -- ---- what laws.rt promises, where it is an equation
 
-pub ruleset laws = (grouped-again, joined-pieces, pieces-next)
+pub ruleset laws = (grouped-again)

@@ -1,12 +1,12 @@
 -- Facts on grouped texts that follow from the definitions alone.
-use Rattle.std.specs.Prelude.{◌≡◌, ◌<◌, ◌≤◌, ◌%◌, ◌↔◌, ◌⊎◌, ℕ, Bool, List, ◌∷◌, ◌++◌, length, take, drop, All, IsSome, None}
+use Rattle.std.specs.Prelude.{◌≡◌, ◌≤◌, ◌↔◌, ◌⊎◌, ℕ, Bool, List, length, All, IsSome, None}
 use Rattle.hex_core.specs.declared.digit.CheckCase.{CheckCase}
 use Rattle.hex_core.specs.declared.digit.CheckCase.TheVariants as policy
 use Rattle.hex_core.specs.Digit.{strict, value}
 use Rattle.hex_core.specs.Laws.{AreBytes}
 use Rattle.hex_core.specs.Text.{text}
 use Rattle.hex_codec.specs.declared.group.Group.{Group}
-use Rattle.hex_codec.specs.GroupedWriting.{grouped, piece_len, pieces, separator}
+use Rattle.hex_codec.specs.GroupedWriting.{grouped, piece_len, separator}
 use Rattle.hex_codec.specs.GroupedReading.{GroupSpells, group_refusal, grouped_len}
 
 -- the grouped text of a list spells that list, under the policy of the text's own case and under the policy
@@ -50,19 +50,3 @@ abbrev pub TextsAreDigits : Type 0
 TextsAreDigits = (upper : Bool) (bytes : List ℕ)
     → AreBytes bytes
     → All (λ b. IsSome (value (strict upper) b)) (text upper bytes)
-
--- the first piece of a list is its start, and the other pieces are those of the rest
-abbrev pub FirstPieceIsTheFront : Type 0
-FirstPieceIsTheFront = (every : ℕ) (bytes : List ℕ)
-    → 0 < every
-    → 0 < length bytes
-    → pieces every bytes ≡ take every bytes ∷ pieces every (drop every bytes)
-
--- if a list is cut after a whole piece, its grouped text is the grouped texts of both parts, joined by the
--- separator
-abbrev pub WholePiecesJoin : Type 0
-WholePiecesJoin = (group : Group) (upper : Bool) (front back : List ℕ)
-    → length front % piece_len group ≡ 0
-    → 0 < length front
-    → 0 < length back
-    → grouped group upper (front ++ back) ≡ grouped group upper front ++ (separator group ∷ grouped group upper back)

@@ -2,7 +2,7 @@
 //! proof that needs the fact calls the function.
 #![tactic(auto, using(crate::proofs::GroupTextLemmas::laws))]
 
-ghost use Rattle.hex_codec.specs.GroupLaws.{FirstPieceIsTheFront, GroupSpellsOneList, GroupedTextsAreDigitsAndSeparators, GroupedTextsAreLong, GroupingInvertsStrictReading, ReadingInvertsGrouping, ReadsWhatGroupSpells, TextsAreDigits, WholePiecesJoin};
+ghost use Rattle.hex_codec.specs.GroupLaws.{GroupSpellsOneList, GroupedTextsAreDigitsAndSeparators, GroupedTextsAreLong, GroupingInvertsStrictReading, ReadingInvertsGrouping, ReadsWhatGroupSpells, TextsAreDigits};
 /// Bytes that are encoded in groups and then decoded are the same bytes. This holds for the policy
 /// that accepts only the case of the text, and for the policy that accepts both cases.
 pub fn reading_inverts_grouping()
@@ -29,15 +29,4 @@ pub fn a_grouped_text_is_digits_and_separators()
     ensures long { GroupedTextsAreLong }
     ensures bytes { GroupedTextsAreDigitsAndSeparators }
     ensures text { TextsAreDigits }
-{}
-
-/// The first piece of a list is its start. The other pieces are those of the rest of the list.
-pub fn the_first_piece_is_the_front()
-    ensures front { FirstPieceIsTheFront }
-{}
-
-/// If a list is cut after a whole piece, its grouped text is the grouped texts of both parts,
-/// joined by the separator.
-pub fn whole_pieces_are_joined_by_the_separator()
-    ensures joined { WholePiecesJoin }
 {}

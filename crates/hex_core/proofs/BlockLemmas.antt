@@ -7,7 +7,7 @@ use Rattle.std.specs.Int.{div_ceil}
 use Rattle.std.proofs.Math.Nat.{div-lt_iff_lt-mul, le-div_iff_mul-le, lt-div-mul-add, lt_of_mul-lt-mul_right, mod-add-div, mul_comm}
 use Rattle.std.proofs.lemmas.Bool.{cases_lt, iff_false}
 use Rattle.std.proofs.lemmas.Grind.{common_steps, div_ceil_times}
-use Rattle.std.proofs.lemmas.List.{get_or-drop, get_or-take, length-take-le}
+use Rattle.std.proofs.lemmas.List.{get_or-drop, get_or-take, length-take-le, take-append-drop, take_all}
 use Rattle.std.proofs.lemmas.Simd.{get_or-chunk, get_or-put_chunk_above, get_or-put_chunk_at, get_or-put_chunk_below}
 use Rattle.std.proofs.lemmas.Simd.{length-chunk, length-put_chunk}
 use lib.Lanes.{chunk, put_chunk}
@@ -214,6 +214,12 @@ put_two zero (x ∷ xs) (y ∷ f) b n e =
 put_two (suc at) (x ∷ xs) f b n e =
     let next : suc at + length f ≡ suc (at + length f) = omega arith in
     rw (← e, next) (ap (λ l. x ∷ l) (put_two at xs f b (length f) refl))
+
+-- two halves of a text, put one behind the other
+pub put_halves : (n at : ℕ) (old : List ℕ) {t text : List ℕ} → t ≡ text → length t ≡ 2 * n → put_chunk (at + n) (put_chunk at old (chunk 0 n t)) (chunk n n t) ≡ put_chunk at old text
+put_halves n at old {t} is long =
+    let both : chunk 0 n t ++ chunk n n t ≡ t = ap (λ r. chunk 0 n t ++ r) (take_all n (drop n t) (omega (arith, length-drop n t, long))) ∙ take-append-drop n t in
+    sym (put_two at old (chunk 0 n t) (chunk n n t) n (length-chunk 0 n t (omega (arith, long)))) ∙ ap (λ l. put_chunk at old l) (both ∙ is)
 
 pub block_decodes : {c : CheckCase} {s old new v : List ℕ} {at from end n : ℕ} (w : ℕ) → NibblesFrom c s from n v → AreSmall v → new ≡ put_chunk at old (packed v)
     → n ≡ 2 * w → from ≡ 2 * at → end ≡ at + w → end ≤ length old → DecodesRange c s old new at end

@@ -1,8 +1,8 @@
 -- What the arithmetic of the lanes makes of a byte, computed at all of them, and its hash beside each neighbour.
 use Rattle.std.proofs.Common.{◌≡◌, ℕ, zero, suc, ◌+◌, ◌-◌, ◌/◌, ◌%◌, ◌^◌, ◌<◌, ◌↔◌, Bool, true, false, cond, List, [], ◌∷◌, map}
 use Rattle.std.proofs.Common.{length, get_or, Option, Some, None, is_some, bit_and, refl, sym, ap, ap₂, ◌∙◌, Fits, w8, eqb, leb}
-use Rattle.std.proofs.Common.{ltb, eqb-true, leb-true, ltb-true, lt-ltb, arith, bit_xor}
-use Rattle.std.specs.Prelude.{EachIndex, IfSome, IsSome, min}
+use Rattle.std.proofs.Common.{ltb, eqb-true, leb-true, ltb-true, lt-ltb, arith, bit_xor, subst}
+use Rattle.std.specs.Prelude.{EachIndex, IfSome, IsSome, IsTrue, min}
 use Rattle.std.specs.Int.{bit_at}
 use Rattle.std.proofs.lemmas.Bool.{agree_below, agree_below_at}
 use Rattle.std.proofs.lemmas.Bool.Decides.{nat_tests}
@@ -13,11 +13,12 @@ use Rattle.std.proofs.lemmas.Simd.{bit_mask_l, map-map, mask_l-lt, zip2-map, zip
 use lib.Lanes.{Each1, mask_l, zip2}
 use Rattle.hex_core.specs.declared.digit.CheckCase.{CheckCase}
 use Rattle.hex_core.specs.declared.digit.CheckCase.TheVariants as policy
-use Rattle.hex_core.specs.inside.Arithmetic.{AreLow, interleaved, letter, reach, saturating_add, valid_nibble, wrapping_sub}
+use Rattle.hex_core.specs.inside.Arithmetic.{AreClear, interleaved, letter, saturating_add, valid_nibble, wrapping_sub}
 use Rattle.hex_core.specs.Digit.{digit, value}
 use Rattle.hex_core.specs.Search.{AllValid}
 use Rattle.hex_core.specs.Lanes.{Admits, AreNibbles, AreValues, IsNibble, AreChecked}
-use Rattle.hex_core.specs.inside.Tables.{entry}
+use Rattle.hex_core.specs.inside.Rows.{long_nibble, long_row, mark, mark_mask, short_nibble, value_row}
+use Rattle.hex_core.specs.inside.Tables.{entry, long_entry}
 use Rattle.hex_core.specs.Text.{text}
 use Rattle.hex_core.proofs.LaneLemmas.{lane_below, mapped, mapped_at, maps_agree, passes_where, zipped_at}
 use Rattle.hex_core.specs.inside.Hash.{IsHash, check_row, hash, hashed_check, hashed_value}
@@ -56,28 +57,26 @@ pub value_by : (o : Option ℕ) (n : ℕ) → value_test o n ≡ true → IfSome
 value_by (Some v) n e = eqb-true n v e
 value_by None n e = tt
 
--- the reach, the excess, the saturating map and the shorter one for bytes that have a value are right, computed at all bytes
+-- the excess, the saturating map and the shorter one for bytes that have a value are right, computed at all bytes
 maps_are_right : (c : CheckCase)
-    → (agree_below (λ b. ltb (reach c b) 6) (has c) 256 ≡ true) × (agree_below (λ b. eqb (excess c b) 0) (has c) 256 ≡ true)
+    → (agree_below (λ b. eqb (excess c b) 0) (has c) 256 ≡ true)
     × (agree_below (λ b. nibble_test (value c b) (saturated c b)) always 256 ≡ true) × (agree_below (λ b. value_test (value c b) (valid_nibble b)) always 256 ≡ true)
-maps_are_right policy.None = (refl, refl, refl, refl)
-maps_are_right policy.Lower = (refl, refl, refl, refl)
-maps_are_right policy.Upper = (refl, refl, refl, refl)
+maps_are_right policy.None = (refl, refl, refl)
+maps_are_right policy.Lower = (refl, refl, refl)
+maps_are_right policy.Upper = (refl, refl, refl)
 
 -- ---- the range tests
 
--- all bytes pass for a reach below 6
-pub reach_valid : (c : CheckCase) (v r : List ℕ) (n : ℕ) → (length v ≡ n) × Each1 (Fits w8) v → r ≡ map (reach c) v → AreLow r ↔ AllValid c v 0 n
-reach_valid c v r n fits is =
-    let test : (b : ℕ) → b < 256 → (reach c b < 6) ↔ IsSome (value c b) = λ b h.
-    let same = agree_below_at (λ x. ltb (reach c x) 6) (has c) 256 b (maps_are_right c).0 h in
-    (λ lt. sym same ∙ lt-ltb (reach c b) 6 lt, λ s. ltb-true (reach c b) 6 (same ∙ s)) in
-    let all = passes_where (reach c) (λ x. x < 6) (λ b. IsSome (value c b)) test v fits.1 is in
+-- all bytes pass where what is computed of each has a property that says so
+valid_where : (c : CheckCase) (f : ℕ → ℕ) (Q : ℕ → Type 0) → ((b : ℕ) → b < 256 → Q (f b) ↔ IsSome (value c b))
+    → (v r : List ℕ) (n : ℕ) → (length v ≡ n) × Each1 (Fits w8) v → r ≡ map f v → EachIndex r (λ i. Q (get_or r i 0)) ↔ AllValid c v 0 n
+valid_where c f Q test v r n fits is =
+    let all = passes_where f Q (λ b. IsSome (value c b)) test v fits.1 is in
     (λ passes k low lt. all.0 passes k (omega (arith, fits.0)), λ valid. all.1 (λ k h. valid k (omega arith) (omega (arith, fits.0))))
 
 -- an excess is 0 for the same bytes
 excess_zero : (c : CheckCase) (b : ℕ) → b < 256 → eqb (excess c b) 0 ≡ has c b
-excess_zero c b h = agree_below_at (λ x. eqb (excess c x) 0) (has c) 256 b (maps_are_right c).1 h
+excess_zero c b h = agree_below_at (λ x. eqb (excess c x) 0) (has c) 256 b (maps_are_right c).0 h
 
 -- the mask of the bytes that have a value, and its bits
 pub admitted_mask : (c : CheckCase) (v e : List ℕ) (m : ℕ) → Each1 (Fits w8) v → e ≡ map (excess c) v → m ≡ mask_l (map (λ x. eqb x 0) e) → m ≡ mask_l (map (has c) v)
@@ -94,6 +93,17 @@ admits c v m is i h =
 
 pub mask_below : (c : CheckCase) (v : List ℕ) (m n : ℕ) → m ≡ mask_l (map (has c) v) → length v ≡ n → m < 2 ^ n
 mask_below c v m n is long = rw (is, ← long, ← length-map v (has c)) (mask_l-lt (map (has c) v))
+
+-- the mask of one byte is 1 exactly where it has a value
+pub mask_of_one : (c : CheckCase) {m : ℕ} (v : List ℕ) → length v ≡ 1 → m ≡ mask_l (map (has c) v) → IsTrue (eqb m 1) ↔ AllValid c v 0 1
+mask_of_one c {m} v long is =
+    let bit = admits c v m is 0 (omega arith) in let small = mask_below c v m 1 is long in let lowest = bit_at_lowest m in (
+      λ t k low lt. subst (λ i. IsSome (value c (get_or v i 0))) (omega arith) (bit.0 (lowest ∙ ap (λ n. n % 2) (eqb-true m 1 t))),
+      λ valid.
+          let set : bit_at m 0 ≡ 1 = bit.1 (valid 0 (omega arith) (omega arith)) in
+          let one : m ≡ 1 = omega (arith, set, lowest, small) in
+          rw one refl,
+    )
 
 -- a mask with every bit set
 full_mask : (n m : ℕ) → m < 2 ^ n → ((i : ℕ) → i < n → bit_at m i ≡ 1) → m + 1 ≡ 2 ^ n
@@ -112,11 +122,61 @@ full_16 c v m long small admits = (
 
 -- ---- the saturating map
 
-pub saturated_nibbles : (c : CheckCase) (v r : List ℕ) → Each1 (Fits w8) v → r ≡ map (saturated c) v → AreNibbles c v r
-saturated_nibbles c v r fits is i h =
+-- a map that is right at all bytes
+nibbles_where : (c : CheckCase) (f : ℕ → ℕ) → agree_below (λ b. nibble_test (value c b) (f b)) always 256 ≡ true
+    → (v r : List ℕ) → Each1 (Fits w8) v → r ≡ map f v → AreNibbles c v r
+nibbles_where c f right v r fits is i h =
     let b = get_or v i 0 in
-    let test = agree_below_at (λ x. nibble_test (value c x) (saturated c x)) always 256 b (maps_are_right c).2 (lane_below v fits i) in
-    rw (mapped_at (saturated c) v i is h) (nibble_by (value c b) (saturated c b) test)
+    let test = agree_below_at (λ x. nibble_test (value c x) (f x)) always 256 b right (lane_below v fits i) in
+    rw (mapped_at f v i is h) (nibble_by (value c b) (f b) test)
+
+-- and one that is right where a byte has a value
+values_where : (c : CheckCase) (f : ℕ → ℕ) → agree_below (λ b. value_test (value c b) (f b)) always 256 ≡ true
+    → (v r : List ℕ) → Each1 (Fits w8) v → r ≡ map f v → AreValues c v r
+values_where c f right v r fits is i h =
+    let b = get_or v i 0 in
+    let test = agree_below_at (λ x. value_test (value c x) (f x)) always 256 b right (lane_below v fits i) in
+    rw (mapped_at f v i is h) (value_by (value c b) (f b) test)
+
+pub saturated_nibbles : (c : CheckCase) (v r : List ℕ) → Each1 (Fits w8) v → r ≡ map (saturated c) v → AreNibbles c v r
+saturated_nibbles c = nibbles_where c (saturated c) (maps_are_right c).1
+
+-- ---- the maps that look rows up
+
+-- marks and values are right, computed at all bytes
+rows_are_right : (c : CheckCase)
+    → (agree_below (λ b. eqb (bit_and (mark c b) (mark_mask c)) 0) (has c) 256 ≡ true) × (agree_below (λ b. nibble_test (value c b) (short_nibble c b)) always 256 ≡ true)
+    × (agree_below (λ b. eqb (bit_and (long_nibble c b) 240) 0) (has c) 256 ≡ true) × (agree_below (λ b. nibble_test (value c b) (long_nibble c b)) always 256 ≡ true)
+    × (agree_below (λ b. value_test (value c b) (long_entry value_row b)) always 256 ≡ true)
+unfolding long_row value_row
+rows_are_right policy.None = (refl, refl, refl, refl, refl)
+rows_are_right policy.Lower = (refl, refl, refl, refl, refl)
+rows_are_right policy.Upper = (refl, refl, refl, refl, refl)
+
+-- all bytes pass for no bit of a mask
+marks_where : (c : CheckCase) (f : ℕ → ℕ) (m : ℕ) → agree_below (λ b. eqb (bit_and (f b) m) 0) (has c) 256 ≡ true
+    → (v r : List ℕ) (n : ℕ) → (length v ≡ n) × Each1 (Fits w8) v → r ≡ map f v → AreClear m r ↔ AllValid c v 0 n
+marks_where c f m right v r n fits is =
+    let test : (b : ℕ) → b < 256 → (bit_and (f b) m ≡ 0) ↔ IsSome (value c b) = λ b h.
+    let same = agree_below_at (λ x. eqb (bit_and (f x) m) 0) (has c) 256 b right h in
+    (λ e. sym same ∙ ap (λ x. eqb x 0) e, λ s. eqb-true _ 0 (same ∙ s)) in
+    valid_where c f (λ x. bit_and x m ≡ 0) test v r n fits is
+
+pub short_marks : (c : CheckCase) (v r : List ℕ) (n : ℕ) → (length v ≡ n) × Each1 (Fits w8) v → r ≡ map (mark c) v → AreClear (mark_mask c) r ↔ AllValid c v 0 n
+short_marks c = marks_where c (mark c) (mark_mask c) (rows_are_right c).0
+
+pub short_nibbles : (c : CheckCase) (v r : List ℕ) → Each1 (Fits w8) v → r ≡ map (short_nibble c) v → AreNibbles c v r
+short_nibbles c = nibbles_where c (short_nibble c) (rows_are_right c).1
+
+-- numbers of at least 16 have one of the four high bits
+pub long_marks : (c : CheckCase) (v r : List ℕ) (n : ℕ) → (length v ≡ n) × Each1 (Fits w8) v → r ≡ map (long_nibble c) v → AreClear 240 r ↔ AllValid c v 0 n
+long_marks c = marks_where c (long_nibble c) 240 (rows_are_right c).2
+
+pub long_nibbles : (c : CheckCase) (v r : List ℕ) → Each1 (Fits w8) v → r ≡ map (long_nibble c) v → AreNibbles c v r
+long_nibbles c = nibbles_where c (long_nibble c) (rows_are_right c).3
+
+pub long_values : (c : CheckCase) (v r : List ℕ) → Each1 (Fits w8) v → r ≡ map (long_entry value_row) v → AreValues c v r
+long_values c = values_where c (long_entry value_row) (rows_are_right c).4
 
 -- ---- the value of a byte that has one
 
@@ -137,16 +197,23 @@ shuffled_text upper row (b ∷ v) digits fits =
     ap₂ (λ a r. a ∷ r) (read (b / 16) (omega arith))
     (ap₂ (λ a r. a ∷ r) (ap (entry row) (and_mask b 4) ∙ read (b % 16) (omega arith)) (shuffled_text upper row v digits fits.1))
 
+interleaved_map : (f : ℕ → ℕ) (a b : List ℕ) → interleaved (map f a) (map f b) ≡ map f (interleaved a b)
+interleaved_map f [] b = refl
+interleaved_map f (x ∷ a) [] = refl
+interleaved_map f (x ∷ a) (y ∷ b) = ap (λ l. f x ∷ f y ∷ l) (interleaved_map f a b)
+
+-- looked-up halves in turn are the text too
+pub looked_text : (upper : Bool) (row v : List ℕ) → ((n : ℕ) → n < 16 → get_or row n 0 ≡ digit upper n) → Each1 (Fits w8) v
+    → interleaved (map (entry row) (map (λ b. b / 16) v)) (map (entry row) (map (λ b. bit_and b 15) v)) ≡ text upper v
+looked_text upper row v digits fits = interleaved_map (entry row) (map (λ b. b / 16) v) (map (λ b. bit_and b 15) v) ∙ shuffled_text upper row v digits fits
+
 -- ---- nibbles
 
 pub nibbles_values : (c : CheckCase) (v r : List ℕ) → AreNibbles c v r → AreValues c v r
 nibbles_values c v r are i h = grind (arith, nat_tests, are i h)
 
 pub valid_values : (c : CheckCase) (v r : List ℕ) → Each1 (Fits w8) v → r ≡ map valid_nibble v → AreValues c v r
-valid_values c v r fits is i h =
-    let b = get_or v i 0 in
-    let test = agree_below_at (λ x. value_test (value c x) (valid_nibble x)) always 256 b (maps_are_right c).3 (lane_below v fits i) in
-    rw (mapped_at valid_nibble v i is h) (value_by (value c b) (valid_nibble b) test)
+valid_values c = values_where c valid_nibble (maps_are_right c).2
 
 -- the values of bytes that have one
 pub value_is : (o : Option ℕ) (n : ℕ) → IsSome o → IfSome o (λ v. n ≡ v) → o ≡ Some n

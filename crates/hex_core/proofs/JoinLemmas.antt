@@ -1,13 +1,13 @@
 -- Sources in a row: what they spell, and the first invalid byte of them all.
-use Rattle.std.proofs.Common.{◌≡◌, inl, inr, ℕ, ◌+◌, ◌-◌, ◌*◌, ◌/◌, List, ◌++◌, length, length-append, length-drop}
+use Rattle.std.proofs.Common.{◌≡◌, inl, inr, ℕ, ◌+◌, ◌-◌, ◌*◌, ◌/◌, ◌%◌, List, ◌++◌, length, take, drop, length-append, length-drop}
 use Rattle.std.proofs.Common.{get_or, None, sym, arith}
 use Rattle.std.proofs.lemmas.Bool.{cases_lt}
 use Rattle.std.proofs.lemmas.List.{get_or-drop, get_or_append_left}
 use Rattle.std.proofs.lemmas.Grind.{common_steps}
 use Rattle.hex_core.specs.declared.digit.CheckCase.{CheckCase}
-use Rattle.hex_core.specs.Laws.{FirstInvalidOfJoined, JoinedSourcesSpellJoined, PartsSpellParts}
 use Rattle.hex_core.specs.Search.{first_invalid}
-use Rattle.hex_core.proofs.PositionLemmas.{none_joined, position-joined}
+use Rattle.hex_core.specs.Text.{Spells}
+use Rattle.hex_core.proofs.PositionLemmas.{none_joined}
 use Rattle.hex_core.proofs.SearchLemmas.{lacks}
 use Rattle.hex_core.proofs.SpellsLemmas.{front_spells, spelled_along}
 
@@ -17,7 +17,7 @@ back_at a b i all place = grind (arith, common_steps)
 
 -- ---- what they spell
 
-pub spells-joined : JoinedSourcesSpellJoined
+pub spells-joined : (c : CheckCase) (front back xs ys : List ℕ) → Spells c front xs → Spells c back ys → Spells c (front ++ back) (xs ++ ys)
 spells-joined c a b x y first second =
     let both = length-append x y in let one = first.twice in let two = second.twice in
     record {
@@ -31,7 +31,8 @@ spells-joined c a b x y first second =
     }
 
 -- a source that spells a list, cut behind a whole pair, spells its two parts
-pub spells-parts : PartsSpellParts
+pub spells-parts : (c : CheckCase) (front back bytes : List ℕ) → length front % 2 ≡ 0 → Spells c (front ++ back) bytes
+    → Spells c front (take (length front / 2) bytes) × Spells c back (drop (length front / 2) bytes)
 spells-parts c a b bytes even spells =
     let n = length a / 2 in
     let half : length a ≡ 2 * n = omega arith in
@@ -46,9 +47,6 @@ spells-parts c a b bytes even spells =
     )
 
 -- ---- their first invalid byte
-
-pub invalid-joined : FirstInvalidOfJoined
-invalid-joined c = position-joined (lacks c)
 
 pub valid-both : (c : CheckCase) (a b : List ℕ) → first_invalid c a ≡ None → first_invalid c b ≡ None → first_invalid c (a ++ b) ≡ None
 valid-both c a b first second = (none_joined (lacks c) a b).1 (first, second)

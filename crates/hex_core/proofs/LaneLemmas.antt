@@ -6,6 +6,7 @@ use Rattle.std.specs.Prelude.{EachIndex, IsTrue, max, min}
 use Rattle.std.proofs.lemmas.Bool.{leb-false, leb-true}
 use Rattle.std.proofs.lemmas.List.{get_or-map, length-map, length-replicate, map-id}
 use Rattle.std.proofs.lemmas.Nat.{le_or_l, le_or_r, or_lt}
+use Rattle.std.proofs.lemmas.Nat.Bits.{bit_at_and, bit_at_or, same_from_bits}
 use Rattle.std.proofs.lemmas.Simd.{Each1-zip2, Each2-of, get_or-zip2, length-zip2, map-map, mask_l-mod, zip2_splat}
 use Rattle.std.proofs.lemmas.Grind.{common_steps}
 use lib.Lanes.{zip2, sel_l, top, fold_l, mask_l, Each1}
@@ -185,11 +186,25 @@ each_of_two f P both v w same =
       λ all i h. subst P (sym (at i (omega arith))) ((both (get_or v i 0) (get_or w i 0)).1 (all.0 i (omega arith), all.1 i (omega arith))),
     )
 
-pub max_low : (x y : ℕ) → (max x y < 6) ↔ ((x < 6) × (y < 6))
-max_low x y = (λ h. (omega arith, omega arith), λ p. let a = p.0 in let b = p.1 in omega arith)
-
 pub or_small : (x y : ℕ) → (bit_or x y < 16) ↔ ((x < 16) × (y < 16))
 or_small x y = (λ h. (omega (arith, h, le_or_l x y), omega (arith, h, le_or_r x y)), λ p. or_lt 4 x y p.0 p.1)
+
+-- two numbers have no bit of a mask exactly where their bits together have none
+and_over_or : (m x y : ℕ) → bit_and (bit_or x y) m ≡ bit_or (bit_and x m) (bit_and y m)
+and_over_or m x y =
+    same_from_bits _ _ (λ i. omega (arith, bit_at_and (bit_or x y) m i, bit_at_or x y i, bit_at_or (bit_and x m) (bit_and y m) i, bit_at_and x m i, bit_at_and y m i))
+
+pub or_clear : (m x y : ℕ) → (bit_and (bit_or x y) m ≡ 0) ↔ ((bit_and x m ≡ 0) × (bit_and y m ≡ 0))
+or_clear m x y = rw (and_over_or m x y) (or_zero (bit_and x m) (bit_and y m))
+
+-- what a lane and itself make
+pub zipped_self : (f : ℕ → ℕ → ℕ) (g : ℕ → ℕ) (v : List ℕ) → zip2 f (map g v) v ≡ map (λ x. f (g x) x) v
+zipped_self f g [] = refl
+zipped_self f g (x ∷ v) = ap (λ l. f (g x) x ∷ l) (zipped_self f g v)
+
+pub self_zipped : (f : ℕ → ℕ → ℕ) (g : ℕ → ℕ) (v : List ℕ) → zip2 f v (map g v) ≡ map (λ x. f x (g x)) v
+self_zipped f g [] = refl
+self_zipped f g (x ∷ v) = ap (λ l. f x (g x) ∷ l) (self_zipped f g v)
 
 pub high_bits_are_zero : (x : ℕ) → x < 256 → (bit_and x 240 ≡ 0) ↔ (x < 16)
 high_bits_are_zero x h = grind (arith, common_steps)

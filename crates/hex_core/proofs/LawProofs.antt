@@ -20,7 +20,6 @@ use Rattle.hex_core.specs.Laws.{AcceptsWhatSpells, AreBytes, DecodingInvertsEnco
 use Rattle.hex_core.specs.Laws.{EncodingInvertsStrictDecoding, EncodingLowercases, SpellsBytes, StrictAcceptsTexts}
 use Rattle.hex_core.specs.Laws.{TextsCompareAsLists}
 use Rattle.hex_core.proofs.ByteLemmas.{value_small}
-use Rattle.hex_core.proofs.JoinLemmas.{invalid-joined}
 use Rattle.hex_core.proofs.PositionLemmas.{position_none}
 use Rattle.hex_core.proofs.SearchLemmas.{has_value, lacks}
 use Rattle.hex_core.proofs.TableLemmas.{value_at}
@@ -141,4 +140,4 @@ text-order upper (m ∷ bytes) (n ∷ others) =
 
 -- ---- what laws.rt promises, where it is an equation
 
-pub ruleset laws = (accepts_what_spells, encoding-inverts, encoding-lowercases, invalid-joined, length-text, strict-accepts, text-order)
+pub ruleset laws = (accepts_what_spells, encoding-inverts, encoding-lowercases, length-text, strict-accepts, text-order)

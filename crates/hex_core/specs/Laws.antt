@@ -1,7 +1,6 @@
 -- Facts that follow from the definitions alone.
-use Rattle.std.specs.Prelude.{◌≡◌, ◌<◌, ◌≤◌, ◌↔◌, ◌+◌, ◌*◌, ◌/◌, ◌%◌, ℕ, Bool, List, ◌++◌, length, take, drop}
-use Rattle.std.specs.Prelude.{slice_index, slice_range, All, Option, None, Some, option_map}
-use Rattle.std.specs.Option.{option_or}
+use Rattle.std.specs.Prelude.{◌≡◌, ◌<◌, ◌≤◌, ◌↔◌, ◌*◌, ℕ, Bool, List, ◌++◌, length, take}
+use Rattle.std.specs.Prelude.{slice_index, slice_range, All, Option, None, Some}
 use Rattle.std.specs.Cmp.Lexicographic.{slice_cmp}
 use Rattle.std.specs.Ordering.{nat_cmp}
 use Rattle.std.specs.Str.{IsAscii, IsUtf8, str_to_ascii_lowercase}
@@ -10,7 +9,6 @@ use Rattle.hex_core.specs.declared.digit.CheckCase.TheVariants as policy
 use Rattle.hex_core.specs.declared.error.Error.{Error}
 use Rattle.hex_core.specs.declared.error.Error.TheVariants.{InvalidChar}
 use Rattle.hex_core.specs.Digit.{strict, value}
-use Rattle.hex_core.specs.Plans.{StoresBlocks, digits_before}
 use Rattle.hex_core.specs.Search.{AllValid, first_invalid}
 use Rattle.hex_core.specs.Text.{Spells, lowercase, text, with_front}
 use Rattle.hex_core.specs.Refusal.{source_refusal}
@@ -108,36 +106,9 @@ NamesFirstInvalid refusal = (c : CheckCase) (s : List ℕ) (i b : ℕ)
 abbrev pub FrontsAreKept : Type 0
 FrontsAreKept = (old bytes : List ℕ) → take (length bytes) (with_front old bytes) ≡ bytes
 
--- two sources joined spell their two lists joined
-abbrev pub JoinedSourcesSpellJoined : Type 0
-JoinedSourcesSpellJoined = (c : CheckCase) (front back xs ys : List ℕ)
-    → Spells c front xs
-    → Spells c back ys
-    → Spells c (front ++ back) (xs ++ ys)
-
--- if a source is cut after a whole pair of digits, its two parts spell the two parts of its list
-abbrev pub PartsSpellParts : Type 0
-PartsSpellParts = (c : CheckCase) (front back bytes : List ℕ)
-    → length front % 2 ≡ 0
-    → Spells c (front ++ back) bytes
-    → Spells c front (take (length front / 2) bytes) × Spells c back (drop (length front / 2) bytes)
-
--- the first invalid byte of two sources joined is that of the first source, or, if that has none, that of the
--- second one, whose index is then greater by the length of the first
-abbrev pub FirstInvalidOfJoined : Type 0
-FirstInvalidOfJoined = (c : CheckCase) (front back : List ℕ)
-    → first_invalid c (front ++ back) ≡ option_or (first_invalid c front) (option_map (λ i. length front + i) (first_invalid c back))
-
 -- a buffer whose start was replaced by a list of the buffer's length is that list
 abbrev pub WholeFrontsAreAll : Type 0
 WholeFrontsAreAll = (old bytes : List ℕ) → length bytes ≡ length old → with_front old bytes ≡ bytes
-
--- if `decode_owned` returns false, the bytes after the blocks that it has written are unchanged
-abbrev pub BytesBehindBlocksStay : Type 0
-BytesBehindBlocksStay = (block : ℕ) (c : CheckCase) (s old new : List ℕ) (i : ℕ)
-    → StoresBlocks block c s old new
-    → digits_before block c s / 2 ≤ i
-    → slice_index new i ≡ slice_index old i
 
 -- two texts of one case are in the same order as their lists
 abbrev pub TextsCompareAsLists : Type 0

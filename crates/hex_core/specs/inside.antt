@@ -3,4 +3,5 @@ pub mod Arithmetic
 pub mod Blocks
 pub mod Hash
 pub mod Looks
+pub mod Rows
 pub mod Tables

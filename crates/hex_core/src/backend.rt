@@ -7,12 +7,17 @@ ghost use Rattle.hex_core.specs.Search.{first_invalid};
 ghost use Rattle.hex_core.specs.Text.{text};
 ghost use Rattle.hex_core.specs.inside.Blocks.{DecodesAt, HasRoom};
 
+use crate::decode::decode_or_nothing;
 use crate::digit::CheckCase;
-use crate::digit_lanes::{Hashed, Interleaved, Saturating};
-use crate::kernel::{decode_or_nothing, encode_blocks};
+use crate::encode::{Interleaved, encode_blocks};
 use crate::lane_probe::check_lanes;
-use crate::plain::{check_by_length, decode_by_length, decode_many, encode_by_length};
-use crate::scalar::{check_by_table, decode_by_table, encode_by_table};
+use crate::look_ups::{check_by_look_up, decode_by_look_up, encode_by_look_up};
+use crate::maps::{Hashed, Saturating};
+use crate::plain::{
+    MOST_INLINE, Vectors, check_by_length, check_by_long_rows, decode_by_length,
+    decode_by_long_rows, decode_many, encode_by_length,
+};
+use crate::rows::{LongRows, ShortRows};
 
 /// The name of a plan, which selects the implementations.
 #[derive(Clone, Copy)]
@@ -22,8 +27,8 @@ pub enum Kind {
     Avx2,
     Avx512,
     Neon,
-    /// With the number of bytes in a vector of the build that uses this plan.
-    Plain(u8),
+    /// The plan `plain` in a build with these vectors.
+    Plain(Vectors),
 }
 
 /// A plan is one implementation of the functions that check, encode and decode.
@@ -65,25 +70,23 @@ impl Backend {
     pub fn plain() -> Backend
         ensures name { name_of result ≡ codes "plain" }
     {
-        Backend::plain_for(16)
+        Backend::plain_for(Vectors::Of16)
     }
 
-    /// Returns [`Backend::plain`] for a build whose vectors have `width` bytes. The width changes
-    /// only the speed. From 32 on, the plan encodes more than 64 bytes in another way. From 64 on,
-    /// it also decodes more than 256 digits in another way, and checks 65 to 128 bytes and more
-    /// than 256 bytes in another way. Each of these ways is faster in such a build, and slower in
-    /// other builds.
+    /// Returns [`Backend::plain`] for a build with these vectors, which change only the speed. The
+    /// plan has some implementations that are faster with wider vectors, and slower in other builds.
     ///
     /// ```rust
     /// let mut bytes = [0; 256];
-    /// assert!(rt; Backend::plain_for(64).decode(&[b'a'; 512], &mut bytes, CheckCase::None));
+    /// let plan = Backend::plain_for(Vectors::Of64);
+    /// assert!(rt; plan.decode(&[b'a'; 512], &mut bytes, CheckCase::None));
     /// assert_eq!(rt; bytes, [0xaa; 256]);
     /// ```
     #[inline(always)]
-    pub fn plain_for(width: u8) -> Backend
+    pub fn plain_for(vectors: Vectors) -> Backend
         ensures name { name_of result ≡ codes "plain" }
     {
-        Backend(Kind::Plain(width))
+        Backend(Kind::Plain(vectors))
     }
 
     /// Returns the name of the plan: `scalar`, `sse41`, `avx2`, `avx512`, `neon` or `plain`.
@@ -117,8 +120,9 @@ impl Backend {
         ensures valid { IsTrue result ↔ (first_invalid case src.now ≡ None) }
     {
         match (self.0, src.len()) {
-            (Kind::Plain(width), _) => check_by_length(src, case, width),
-            (Kind::Scalar, _) | (_, 0..16) => check_by_table(src, case),
+            (Kind::Plain(Vectors::LookUp64), _) => check_by_long_rows(src, case),
+            (Kind::Plain(vectors), _) => check_by_length::<ShortRows>(src, case, vectors),
+            (Kind::Scalar, _) | (_, 0..16) => check_by_look_up(src, case),
             (Kind::Sse41 | Kind::Neon, _) | (_, 16..32) => check_lanes::<Saturating, 16>(src, case),
             (Kind::Avx2, _) | (_, 32..64) => check_lanes::<Hashed, 32>(src, case),
             (Kind::Avx512, _) => check_lanes::<Hashed, 64>(src, case),
@@ -141,20 +145,20 @@ impl Backend {
         ensures text { dst.new ≡ text upper src.now }
     {
         match self.0 {
-            Kind::Plain(width) => encode_by_length(src, dst, upper, width),
-            _ => self.encode_named(src, dst, upper),
+            Kind::Plain(vectors) => encode_by_length(src, dst, upper, vectors),
+            _ => self.encode_outlined(src, dst, upper),
         }
     }
 
     // Does the same for all plans except `plain`. It is a function of its own for the reason given
-    // at `decode_named`.
+    // at `decode_outlined`.
     #[inline(never)]
-    fn encode_named(self, src: &[u8], dst: &mut [u8], upper: bool)
+    fn encode_outlined(self, src: &[u8], dst: &mut [u8], upper: bool)
         requires { length dst.old ≡ 2 * length src.now }
         ensures { dst.new ≡ text upper src.now }
     {
         match (self.0, src.len()) {
-            (Kind::Scalar, _) | (_, 0..8) => encode_by_table(src, dst, upper),
+            (Kind::Scalar, _) | (_, 0..8) => encode_by_look_up(src, dst, upper),
             (_, 8..16) => encode_blocks::<Interleaved, 8, 16>(src, dst, upper),
             (Kind::Sse41 | Kind::Neon, _) | (_, 16..32) => encode_blocks::<Interleaved, 16, 32>(
                 src, dst, upper,
@@ -181,34 +185,41 @@ impl Backend {
         ensures answer { DecodesWhole case src.now dst.old dst.new result }
     {
         match self.0 {
-            Kind::Plain(width) => decode_by_length(src, dst, case, width),
-            _ => self.decode_named(src, dst, case),
+            Kind::Plain(Vectors::LookUp64) => decode_by_long_rows(src, dst, case),
+            Kind::Plain(vectors) => decode_by_length::<ShortRows>(src, dst, case, vectors),
+            _ => self.decode_outlined(src, dst, case),
         }
     }
 
-    // Does the same as `decode` for more than 192 digits. Its code is inline if the plan is `plain`,
+    // Does the same as `decode` for more than `MOST_INLINE` digits. Its code is inline if the plan is `plain`,
     // so a caller that is not inlined itself saves a call.
     #[inline(always)]
     pub(crate) fn decode_many(self, src: &[u8], dst: &mut [u8], case: CheckCase) -> bool
         requires twice { length src.now ≡ 2 * length dst.old }
-        requires more { 192 < length src.now }
+        requires more { MOST_INLINE < length src.now }
         ensures { DecodesWhole case src.now dst.old dst.new result }
     {
         match self.0 {
-            Kind::Plain(width) => decode_many(src, dst, case, width),
-            _ => self.decode_named(src, dst, case),
+            Kind::Plain(Vectors::LookUp64) => decode_many::<LongRows>(
+                src,
+                dst,
+                case,
+                Vectors::LookUp64,
+            ),
+            Kind::Plain(vectors) => decode_many::<ShortRows>(src, dst, case, vectors),
+            _ => self.decode_outlined(src, dst, case),
         }
     }
 
     // Does the same for all plans except `plain`. It is a function of its own, because `decode`
     // would not be inlined if it contained the implementations of these plans.
     #[inline(never)]
-    fn decode_named(self, src: &[u8], dst: &mut [u8], case: CheckCase) -> bool
+    fn decode_outlined(self, src: &[u8], dst: &mut [u8], case: CheckCase) -> bool
         requires { length src.now ≡ 2 * length dst.old }
         ensures { DecodesWhole case src.now dst.old dst.new result }
     {
         match (self.0, src.len()) {
-            (Kind::Scalar, _) | (_, 0..16) => decode_by_table(src, dst, case),
+            (Kind::Scalar, _) | (_, 0..16) => decode_by_look_up(src, dst, case),
             (Kind::Sse41 | Kind::Neon, _) | (_, 16..32) => decode_or_nothing::<Saturating, 16, 8>(
                 src, dst, case,
             ),

@@ -5,8 +5,8 @@ ghost use Rattle.hex_core.specs.Search.{first_invalid};
 ghost use Rattle.hex_core.specs.inside.Blocks.{HasBlock};
 
 use crate::digit::CheckCase;
-use crate::digit_lanes::Validate;
-use crate::scalar::check_by_table;
+use crate::look_ups::check_by_look_up;
+use crate::maps::Validate;
 use crate::search::{Probe, covered};
 use std::marker::PhantomData;
 use std::simd::prelude::*;
@@ -60,7 +60,7 @@ where
         if width == N {
             M::is_valid(Simd::<u8, N>::from_slice(&src[start..]), self.case)
         } else {
-            check_by_table(&src[start..start + width], self.case)
+            check_by_look_up(&src[start..start + width], self.case)
         }
     }
 }

@@ -7,7 +7,8 @@ ghost use Rattle.hex_core.specs.Lanes.{Admits, AreChecked, AreNibbles, ArePacked
 ghost use Rattle.hex_core.specs.Text.{text};
 
 use crate::digit::CheckCase;
-use crate::digit_lanes::{Encode, Interleaved, admitted, hashed_checks, hashed_values, saturated};
+use crate::digit_lanes::{admitted, hashed_checks, hashed_values, saturated};
+use crate::encode::{Encode, Interleaved};
 use crate::widths::{Lanes, Pack};
 use std::simd::prelude::*;
 

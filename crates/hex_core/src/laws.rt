@@ -3,7 +3,7 @@
 #![tactic(auto, using(crate::proofs::LawProofs::laws))]
 
 ghost use Rattle.std.specs.Prelude.{ℕ};
-ghost use Rattle.hex_core.specs.Laws.{AcceptsWhatSpells, AreBytes, DecodingInvertsEncoding, EitherCaseIsLowercased, EncodingInvertsStrictDecoding, EncodingLowercases, FirstInvalidIsFirst, FirstInvalidOfJoined, FrontsAreKept, JoinedSourcesSpellJoined, JoinedTexts, NamesFirstInvalid, PartsAreValidWhereTheirRangesAre, PartsSpellParts, SpellsBytes, SpellsOneList, StrictAcceptsTexts, TextsAreAscii, TextsAreTwiceAsLong, BytesBehindBlocksStay, NoneIsInvalidWhereAllAreValid, TextsCompareAsLists, WholeFrontsAreAll};
+ghost use Rattle.hex_core.specs.Laws.{AcceptsWhatSpells, AreBytes, DecodingInvertsEncoding, EitherCaseIsLowercased, EncodingInvertsStrictDecoding, EncodingLowercases, FirstInvalidIsFirst, FrontsAreKept, JoinedTexts, NamesFirstInvalid, PartsAreValidWhereTheirRangesAre, SpellsBytes, SpellsOneList, StrictAcceptsTexts, TextsAreAscii, TextsAreTwiceAsLong, NoneIsInvalidWhereAllAreValid, TextsCompareAsLists, WholeFrontsAreAll};
 ghost use Rattle.hex_core.specs.Refusal.{array_refusal, decode_refusal, source_refusal};
 
 /// Each element of a slice is a byte. Laws that require a list of bytes can then be used with the
@@ -83,27 +83,8 @@ pub fn a_new_front_is_the_front()
     ensures whole { WholeFrontsAreAll }
 {}
 
-/// If `decode_owned` returns false, the bytes after the blocks that it has written are unchanged.
-pub fn what_lies_behind_the_blocks_stays()
-    ensures kept { BytesBehindBlocksStay }
-{}
-
 /// Two texts of the same case, compared digit by digit, are in the same order as their lists,
 /// compared byte by byte.
 pub fn texts_compare_as_their_lists()
     ensures order { TextsCompareAsLists }
-{}
-
-/// Two sources joined decode to their two lists joined. If a source is cut after a whole pair of
-/// digits, its two parts decode to the two parts of its list.
-pub fn a_joined_source_spells_the_joined_list()
-    ensures joined { JoinedSourcesSpellJoined }
-    ensures parts { PartsSpellParts }
-{}
-
-/// The first invalid byte of two sources joined is that of the first source, if it has one.
-/// Otherwise it is that of the second source, and its index is greater by the length of the first
-/// one.
-pub fn the_first_invalid_byte_of_a_joined_source()
-    ensures first { FirstInvalidOfJoined }
 {}

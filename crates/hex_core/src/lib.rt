@@ -4,16 +4,19 @@
 #![tactic(auto)]
 
 mod backend;
+mod check;
+mod decode;
 pub mod digit;
 mod digit_lanes;
+mod encode;
 pub mod error;
-mod kernel;
 mod lane_probe;
 pub mod lanes;
 pub mod laws;
+pub mod look_ups;
+mod maps;
 mod plain;
-mod registers;
-mod scalar;
+mod rows;
 mod search;
 mod slice_probe;
 mod slices;
@@ -21,14 +24,24 @@ mod tables;
 mod vector;
 mod widths;
 
-/// Functions that look digits up in tables. They are meant for pieces of a few bytes. They are
-/// inlined, because a function call would take longer than the look-ups.
-pub mod look_ups {
-    pub use crate::scalar::{are_digits, write_bytes, write_digits};
-}
-
 pub use crate::backend::{Backend, backends};
 pub use crate::digit::{CheckCase, digit_value};
 pub use crate::error::Error;
+pub use crate::plain::Vectors;
 pub use crate::search::{Probe, covered, locate};
 pub use crate::slice_probe::SliceProbe;
+
+/// The plans, and the search by a probe. All of these are also at the root.
+///
+/// ```rust
+/// use hex_core::plan::{SliceProbe, backends, locate};
+///
+/// let [scalar, ..] = backends();
+/// let mut probe = SliceProbe::new(scalar, b"00ff0g", CheckCase::None);
+/// assert_eq!(rt; locate(&mut probe), Some(5));
+/// ```
+pub mod plan {
+    pub use crate::backend::{Backend, backends};
+    pub use crate::search::{Probe, covered, locate};
+    pub use crate::slice_probe::SliceProbe;
+}

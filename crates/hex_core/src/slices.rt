@@ -1,5 +1,6 @@
-//! Decoding and encoding of slices of any length, by a plan. Each function writes to the start of a
-//! destination. `decode_slice` and `encode_slice` also return the written part of it.
+//! Decoding and encoding of slices of any length, by a plan, and the search for the first invalid byte.
+//! A function that decodes or encodes writes to the start of a destination. `decode_slice` and
+//! `encode_slice` also return the written part of it.
 
 ghost use Rattle.std.specs.Prelude.{◌≡◌, ◌≢◌, ◌*◌, ◌%◌, ◌<◌, ◌≤◌, ℕ, None, Some, length, MatchOption, MatchResult};
 ghost use Rattle.std.specs.Borrow.{sem};
@@ -14,13 +15,12 @@ ghost use Rattle.hex_core.specs.Text.{Spells};
 use crate::backend::Backend;
 use crate::digit::CheckCase;
 use crate::error::Error;
+use crate::plain::MOST_INLINE;
+use crate::search::locate;
+use crate::slice_probe::SliceProbe;
 
-// `decode_into` decodes at most this many digits inline. The plan `plain` has the same limit, and
-// decodes longer sources by a function call.
-const MOST_INLINE: usize = 192;
-
-// `decode_or_find` adds this to an invalid byte. The sum is never 0, and its remainder by 256 is
-// the byte.
+// `decode_or_find_outlined` adds this to an invalid byte. The sum is never 0, and its remainder by
+// 256 is the byte.
 const INVALID: u16 = 256;
 
 // Returns the number of bytes that `src` decodes to. Returns an error if the length of `src` is
@@ -84,7 +84,7 @@ impl Backend {
         if src.len() <= MOST_INLINE && self.decode(src, &mut dst[..required], case) {
             return Ok(required);
         }
-        match self.decode_or_find(src, &mut dst[..required], case) {
+        match self.decode_or_find_outlined(src, &mut dst[..required], case) {
             (written, 0) => Ok(written),
             (index, marked) => Err(Error::InvalidChar {
                 index,
@@ -100,7 +100,7 @@ impl Backend {
     // It is a function of its own, and its result fits two registers. So `decode_into` has no value
     // to keep across the call, and saves no register for it, which would slow short sources down.
     #[inline(never)]
-    fn decode_or_find(self, src: &[u8], dst: &mut [u8], case: CheckCase) -> (usize, u16)
+    fn decode_or_find_outlined(self, src: &[u8], dst: &mut [u8], case: CheckCase) -> (usize, u16)
         requires twice { length src.now ≡ 2 * length dst.old }
         requires refused { length src.now ≤ MOST_INLINE → first_invalid case src.now ≢ None }
         ensures answer { MatchOption (first_invalid_char case src.now)
@@ -203,5 +203,62 @@ impl Backend {
             Ok(written) => Ok(&mut dst[..written]),
             Err(error) => Err(error),
         }
+    }
+
+    /// Returns the index of the first byte of `src` that is invalid under `case`, or `None` if all
+    /// bytes are valid. Any length is accepted, odd or even.
+    ///
+    /// It first checks all of `src`. Only if the check fails, it searches by [`locate`], which
+    /// looks bytes up in a table. So if all bytes are valid, [`Backend::plain`] uses none of them
+    /// as an index of a table. This matters if they are secret.
+    ///
+    /// ```rust
+    /// let plain = Backend::plain();
+    /// assert_eq!(rt; plain.first_invalid(b"00aBcD", CheckCase::None), None);
+    /// assert_eq!(rt; plain.first_invalid(b"00aBcD", CheckCase::Lower), Some(3));
+    /// ```
+    #[inline(never)]
+    pub fn first_invalid(self, src: &[u8], case: CheckCase) -> Option<usize>
+        ensures place { result ≡ first_invalid case src.now }
+    {
+        if self.check(src, case) {
+            return None;
+        }
+        locate(&mut SliceProbe::new(self, src, case))
+    }
+
+    /// Returns an [`Error::InvalidChar`] with the first byte of `src` that is invalid under `case`,
+    /// and with its index.
+    ///
+    /// Requires that `src` has an invalid byte. A caller knows this after a check or a decoding
+    /// that returned false.
+    ///
+    /// ```rust
+    /// let error = Backend::plain().first_error(b"00fg", CheckCase::None);
+    /// let first = Error::InvalidChar {
+    ///     index: 3,
+    ///     byte: b'g',
+    /// };
+    /// assert_eq!(rt; error, first);
+    /// ```
+    #[inline(always)]
+    pub fn first_error(self, src: &[u8], case: CheckCase) -> Error
+        requires { first_invalid case src.now ≢ None }
+        ensures error { first_invalid_char case src.now ≡ Some result }
+    {
+        let (index, byte) = self.first_invalid_byte(src, case);
+        Error::InvalidChar { index, byte }
+    }
+
+    // Returns the index of the first invalid byte, and the byte. Unlike an `Error`, this pair is
+    // returned in registers.
+    #[cold]
+    #[inline(never)]
+    pub(crate) fn first_invalid_byte(self, src: &[u8], case: CheckCase) -> (usize, u8)
+        requires { first_invalid case src.now ≢ None }
+        ensures { first_invalid_char case src.now ≡ Some (InvalidChar result.0 result.1) }
+    {
+        let index = locate(&mut SliceProbe::new(self, src, case)).unwrap();
+        (index, src[index])
     }
 }

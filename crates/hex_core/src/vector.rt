@@ -2,9 +2,9 @@
 //! number of lanes.
 #![tactic(auto, using(crate::proofs::LaneLemmas::lanes))]
 
-ghost use Rattle.std.specs.Prelude.{◌≡◌, ◌↔◌, ◌-◌, ◌/◌, ◌^◌, ◌≤◌, ◌<◌, ◌==◌, ◌*◌, ◌%◌, ◌++◌, IsTrue, max, min, map, bit_and, bit_or, bit_xor, ℕ, List, length};
+ghost use Rattle.std.specs.Prelude.{◌≡◌, ◌↔◌, ◌-◌, ◌/◌, ◌^◌, ◌≤◌, ◌<◌, ◌==◌, ◌*◌, ◌%◌, ◌++◌, IsTrue, min, map, bit_and, bit_or, bit_xor, ℕ, List, length};
 ghost use Rattle.std.specs.Simd.Lanes.{Each1, digits_l, mask_l, number_l, zip2};
-ghost use Rattle.hex_core.specs.inside.Arithmetic.{AreLow, AreUnsigned, AreZero, interleaved, packed, saturating_add, wrapping_sub};
+ghost use Rattle.hex_core.specs.inside.Arithmetic.{AreClear, AreUnsigned, AreZero, interleaved, packed, saturating_add, wrapping_sub};
 ghost use Rattle.hex_core.specs.inside.Hash.{average};
 ghost use Rattle.hex_core.specs.Lanes.{AreSmall};
 
@@ -60,22 +60,15 @@ pub fn min<const N: usize>(a: Simd<u8, N>, b: Simd<u8, N>) -> Simd<u8, N>
     a.simd_min(b)
 }
 
-/// Returns the larger of the two lanes at each index. All of them are below 6 exactly if those of
-/// both vectors are, so one test covers two vectors.
-#[inline(always)]
-pub fn max<const N: usize>(a: Simd<u8, N>, b: Simd<u8, N>) -> Simd<u8, N>
-    ensures lanes { result ≡ zip2 max a.entry b.entry }
-    ensures low { AreLow result ↔ (AreLow a.entry × AreLow b.entry) }
-{
-    a.simd_max(b)
-}
-
-/// Returns the bits that either of the two lanes at each index has. All results are below 16
-/// exactly if the lanes of both vectors are, so one test covers two vectors.
+/// Returns the bits that either of the two lanes at each index has. All results are below 16, or
+/// have no bit of a mask, exactly if the same is true of the lanes of both vectors. So one test
+/// covers two vectors.
 #[inline(always)]
 pub fn or<const N: usize>(a: Simd<u8, N>, b: Simd<u8, N>) -> Simd<u8, N>
     ensures lanes { result ≡ zip2 bit_or a.entry b.entry }
     ensures small { AreSmall result ↔ (AreSmall a.entry × AreSmall b.entry) }
+    ensures clear { (mask : ℕ)
+        → AreClear mask result ↔ (AreClear mask a.entry × AreClear mask b.entry) }
 {
     a | b
 }
@@ -108,12 +101,12 @@ pub fn has_no_sign<const N: usize>(v: Simd<u8, N>) -> bool
     v.simd_ge(Simd::splat(0x80)).to_bitmask() == 0
 }
 
-/// Returns whether every lane is below 6.
+/// Returns whether no lane has a bit of `mask`.
 #[inline(always)]
-pub fn is_low<const N: usize>(v: Simd<u8, N>) -> bool
-    ensures { IsTrue result ↔ AreLow v.entry }
+pub fn is_clear<const N: usize>(v: Simd<u8, N>, mask: u8) -> bool
+    ensures { IsTrue result ↔ AreClear mask v.entry }
 {
-    is_zero(saturating_sub(v, 5))
+    is_zero(and_splat(v, mask))
 }
 
 /// Returns whether every lane is below 16.
@@ -209,7 +202,31 @@ pub fn both_nibbles(v: u8x32) -> u8x64
 pub fn sign_flipped<const N: usize>(v: Simd<u8, N>) -> Simd<u8, N>
     ensures { result ≡ map (λ x. bit_xor x 128) v.entry }
 {
-    v ^ Simd::splat(0x80)
+    xor_splat(v, 0x80)
+}
+
+/// Flips the bits of `mask` in each lane.
+#[inline(always)]
+pub fn xor_splat<const N: usize>(v: Simd<u8, N>, mask: u8) -> Simd<u8, N>
+    ensures { result ≡ map (λ x. bit_xor x mask) v.entry }
+{
+    v ^ Simd::splat(mask)
+}
+
+/// Returns the bits in which the two lanes at each index differ.
+#[inline(always)]
+pub fn xor<const N: usize>(a: Simd<u8, N>, b: Simd<u8, N>) -> Simd<u8, N>
+    ensures { result ≡ zip2 bit_xor a.entry b.entry }
+{
+    a ^ b
+}
+
+/// Subtracts each lane of `b` from the lane of `a`, modulo 256.
+#[inline(always)]
+pub fn differences<const N: usize>(a: Simd<u8, N>, b: Simd<u8, N>) -> Simd<u8, N>
+    ensures { result ≡ zip2 wrapping_sub a.entry b.entry }
+{
+    a - b
 }
 
 /// Subtracts each lane of `b` from that of `a`, but not below 0.

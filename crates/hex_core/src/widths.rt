@@ -2,11 +2,12 @@
 //! indices of a shuffle are literals, and that each width has its own function to make a vector of
 //! words from bytes. Each trait here is implemented for the widths that are used.
 
-ghost use Rattle.std.specs.Prelude.{◌≡◌, EachIndex, map, slice_index};
+ghost use Rattle.std.specs.Prelude.{◌≡◌, ◌≤◌, EachIndex, map, slice_index};
+ghost use Rattle.std.specs.Simd.Lanes.{chunk};
 ghost use Rattle.hex_core.specs.Lanes.{AreSmall};
 ghost use Rattle.hex_core.specs.inside.Arithmetic.{interleaved, packed};
 ghost use Rattle.hex_core.specs.inside.Hash.{shifted};
-ghost use Rattle.hex_core.specs.inside.Tables.{entry};
+ghost use Rattle.hex_core.specs.inside.Tables.{entry, long_entry};
 
 use crate::vector::{and_splat, eighths, pair_bytes};
 use std::simd::prelude::*;
@@ -219,6 +220,87 @@ impl Shuffle<64> for Lanes {
         ]);
         rows.swizzle_dyn_within::<16>(and_splat(at, 0x8f))
     }
+}
+
+// Puts the lanes of a vector before lanes that are 0. The compiler keeps `lanes` in registers.
+#[inline(always)]
+fn widened<const N: usize>(v: Simd<u8, N>) -> u8x64
+    requires { N ≤ 64 }
+    ensures { chunk 0 N result ≡ v.entry }
+{
+    let mut lanes = [0; 64];
+    v.copy_to_slice(&mut lanes[..]);
+    u8x64::from_array(lanes)
+}
+
+// Returns the first `N` lanes.
+#[inline(always)]
+fn narrowed<const N: usize>(v: u8x64) -> Simd<u8, N>
+    requires { N ≤ 64 }
+    ensures { result ≡ chunk 0 N v }
+{
+    Simd::from_slice(&v.to_array()[..])
+}
+
+#[inline(always)]
+fn look_up_32(row: u8x16, at: u8x32) -> u8x32
+    ensures { result ≡ map (entry row) at }
+{
+    let front = Lanes::shuffle(row, at.extract::<0, 16>());
+    let back = Lanes::shuffle(row, at.extract::<16, 16>());
+    front.shuffle(
+        back,
+        [
+            0, 1, 2, 3, 4, 5, 6, 7, 8, 9, 10, 11, 12, 13, 14, 15, 16, 17, 18, 19, 20, 21, 22, 23,
+            24, 25, 26, 27, 28, 29, 30, 31,
+        ],
+    )
+}
+
+#[inline(always)]
+fn look_up_64(row: u8x16, at: u8x64) -> u8x64
+    ensures { result ≡ map (entry row) at }
+{
+    let front = look_up_32(row, at.extract::<0, 32>());
+    let back = look_up_32(row, at.extract::<32, 32>());
+    front.shuffle(
+        back,
+        [
+            0, 1, 2, 3, 4, 5, 6, 7, 8, 9, 10, 11, 12, 13, 14, 15, 16, 17, 18, 19, 20, 21, 22, 23,
+            24, 25, 26, 27, 28, 29, 30, 31, 32, 33, 34, 35, 36, 37, 38, 39, 40, 41, 42, 43, 44, 45,
+            46, 47, 48, 49, 50, 51, 52, 53, 54, 55, 56, 57, 58, 59, 60, 61, 62, 63,
+        ],
+    )
+}
+
+/// Looks up as [`Shuffle`] does, but each 16 lanes by themselves. The instruction that looks up
+/// ignores the bits that `and_splat` clears. Only in a vector that takes one register in each build
+/// the compiler sees this, and leaves the `and_splat` out.
+///
+/// LLVM decides whether to inline this function, and it does. If it were marked as inline,
+/// `Backend::check` would be too long for the toolchain to inline.
+pub fn look_up<const N: usize>(row: u8x16, at: Simd<u8, N>) -> Simd<u8, N>
+    requires { N ≤ 64 }
+    ensures { result ≡ map (entry row) at.entry }
+{
+    narrowed(look_up_64(row, widened(at)))
+}
+
+// In the build for AVX-512 VBMI, `scripts/library.awk` replaces this body by the one instruction that
+// does the same.
+fn look_up_row_of_64(row: u8x64, at: u8x64) -> u8x64
+    ensures { result ≡ map (long_entry row) at }
+{
+    row.swizzle_dyn(and_splat(at, 0x3f))
+}
+
+/// Replaces each lane by the entry of `row` at its low six bits. It has no mark for the reason given at
+/// [`look_up`].
+pub fn look_up_long<const N: usize>(row: u8x64, at: Simd<u8, N>) -> Simd<u8, N>
+    requires { N ≤ 64 }
+    ensures { result ≡ map (long_entry row) at.entry }
+{
+    narrowed(look_up_row_of_64(row, widened(at)))
 }
 
 /// Shifts every four lanes right by three bits, as one word. The low three bits of the next lane of

@@ -17,7 +17,7 @@ use Rattle.hex_codec.specs.declared.group.Group.{Group}
 use Rattle.hex_codec.specs.GroupedWriting.{grouped, piece_len, separator}
 use Rattle.hex_codec.proofs.GroupLemmas.{grouped-last, joined-pieces, no_pieces}
 use Rattle.hex_io.specs.Frame.{digits_by}
-use Rattle.hex_io.specs.inside.{FitsPiece, HasRoomFor}
+use Rattle.hex_io.specs.inside.{FitsPiece}
 
 -- what was written behind a byte, with a separator in the place of that byte
 pub behind : (mark k end : ℕ) (old new shown : List ℕ) → 0 < length old → end ≤ length new → take end new ≡ shown
@@ -153,18 +153,3 @@ take-more at k bytes fits = rw (length-take-le at bytes fits, take-append-drop a
 pub no-digits : (group : Option Group) (upper : Bool) → digits_by group upper [] ≡ []
 no-digits None upper = refl
 no-digits (Some group) upper = rw (no_pieces (piece_len group)) refl
-
--- a part lies in a piece or begins one if a longer one does
-pub fewer-fit : (group : Option Group) (total n m : ℕ) → m ≤ n → FitsPiece group total n → FitsPiece group total m
-fewer-fit None total n m less fits = omega arith
-fewer-fit (Some group) total n m less fits = λ begun. omega (arith, less, fits begun)
-
--- room for some bytes is room for fewer
-pub fewer-room : (group : Option Group) (n m room : ℕ) → m ≤ n → HasRoomFor group n room → HasRoomFor group m room
-fewer-room None n m room less fits = omega arith
-fewer-room (Some group) n m room less fits = omega arith
-
--- the greatest room is enough for both
-pub enough-room : (group : Option Group) (n room : ℕ) → 3 * n ≤ room → HasRoomFor group n room
-enough-room None n room fits = omega arith
-enough-room (Some group) n room fits = fits

@@ -6,8 +6,6 @@ pub mod SinkState
 pub mod SliceAndWriterSinks
 pub mod SinkLaws
 pub mod Stream
-pub mod DecoderLaws
-pub mod UnspacedLaws
 pub mod Lists
 pub mod Message
 pub mod ListCalls

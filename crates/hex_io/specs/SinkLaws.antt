@@ -1,6 +1,6 @@
 -- Facts on puts that follow from the definitions alone. In laws on puts in a row the premise on the later put
 -- comes first, because it says where the search for the earlier ones begins.
-use Rattle.std.specs.Prelude.{◌≡◌, List, ℕ, [], ◌++◌, Result, IsErr, drop, length, take}
+use Rattle.std.specs.Prelude.{List, ℕ, [], ◌++◌, Result, IsErr}
 use Rattle.hex_io.specs.declared.sink.WriteFault.{WriteFault}
 use Rattle.hex_io.specs.SinkState.{Puts, SinkState, Stops, Takes}
 
@@ -42,20 +42,3 @@ StopsFail = (first second : SinkState) (result : Result (Unit {0}) WriteFault) (
     → IsErr result
     → Stops first second xs
     → Puts first second result xs
-
--- if a sink stopped in the first part of a list and the result is an error, this is a failed put of the list
-abbrev pub FrontsFail : Type 0
-FrontsFail = (first second : SinkState) (result : Result (Unit {0}) WriteFault) (xs all : List ℕ)
-    → IsErr result
-    → Stops first second xs
-    → take (length xs) all ≡ xs
-    → Puts first second result all
-
--- if a sink took the first part of a list, putting the rest has the effect of putting the list, with the same
--- result
-abbrev pub RestsFollow : Type 0
-RestsFollow = (first second third : SinkState) (result : Result (Unit {0}) WriteFault) (xs all : List ℕ)
-    → Takes first second xs
-    → take (length xs) all ≡ xs
-    → Puts second third result (drop (length xs) all)
-    → Puts first third result all

@@ -2,10 +2,8 @@
 //! and its contract states a fact. A proof that needs the fact calls the function.
 
 ghost use Rattle.hex_io.specs.Decoder.{DecodersWereFed, WritesAsOneCall};
-ghost use Rattle.hex_io.specs.DecoderLaws.{EndsRefuseStreams, FeedsAreCounted, RoomyFeedsRefuseStreams, WritesAtMostHalf};
 ghost use Rattle.hex_io.specs.ListLaws.{FaultyListsNothing, ListsOneList, ListsSameParts, ReadNamesAreGood, ReadingInvertsWriting, WritingInvertsStrictReading};
-ghost use Rattle.hex_io.specs.SinkLaws.{FrontsFail, PutsInARow, RestsFollow, StopsEarlier, StopsFail, StopsInARow, TakesInARow, TakesNothing};
-ghost use Rattle.hex_io.specs.UnspacedLaws.{TextsAreSolid, UnspacedGroupsAreTexts, UnspacedPartsJoin};
+ghost use Rattle.hex_io.specs.SinkLaws.{PutsInARow, StopsEarlier, StopsFail, StopsInARow, TakesInARow, TakesNothing};
 
 use hex_core::laws::{
     a_source_is_accepted_where_it_spells_a_list, a_text_spells_one_list, decoding_inverts_encoding,
@@ -24,34 +22,6 @@ pub fn every_decoder_has_been_fed()
     ensures fed { DecodersWereFed }
 {}
 
-/// If a feed returns an error, and its destination has at least half the length of the chunk, then
-/// a stream of all that the decoder was fed has the same error. If the end of a decoding has an
-/// error, the end of that stream has it too. So a loop over a decoder can promise what
-/// [`decode_stream`](crate::stream::decode_stream) promises.
-pub fn a_decoder_with_room_refuses_as_a_stream()
-    ensures feed { RoomyFeedsRefuseStreams }
-    ensures finish { EndsRefuseStreams }
-{}
-
-/// A decoder has written at most half as many bytes as it was fed. If a feed returns no error, the
-/// number of all bytes fed fits `usize`. So a loop over a decoder ends, and its sums do not
-/// overflow.
-pub fn a_decoder_writes_half_of_what_it_is_fed()
-    ensures half { WritesAtMostHalf }
-    ensures counted { FeedsAreCounted }
-{}
-
-/// The text of a list has no white space. If the separator of a grouped text is white space, the
-/// text without its white space is the text without groups. Two sources joined, without white
-/// space, are the two sources without white space, joined. So
-/// [`decode_spaced_stream`](crate::stream::decode_spaced_stream) reads back what was written in
-/// lines.
-pub fn a_grouped_text_unspaced_is_the_text()
-    ensures text { TextsAreSolid }
-    ensures grouped { UnspacedGroupsAreTexts }
-    ensures joined { UnspacedPartsJoin }
-{}
-
 /// Puts in a row have the effect of one put of the joined bytes, even if the last one failed. If
 /// there is no put, the sink has taken an empty list.
 pub fn puts_in_a_row_are_one()
@@ -61,13 +31,6 @@ pub fn puts_in_a_row_are_one()
     ensures put { PutsInARow }
     ensures failed { StopsFail }
     ensures none { TakesNothing }
-{}
-
-/// A put of the first bytes of a text, and then a put of the rest, have the effect of one put of
-/// the text, even if one of them failed. This is for a text that begins with constant bytes.
-pub fn a_text_is_put_from_its_front()
-    ensures front { FrontsFail }
-    ensures rest { RestsFollow }
 {}
 
 /// A list that was written is read as the same entries. This holds for the policy that accepts only

@@ -8,7 +8,7 @@ use Rattle.hex_program.specs.Operations.{IsOutput, op_of_words, op_refusal}
 use Rattle.hex_program.specs.declared.operation.Op.{Op}
 use Rattle.hex_program.specs.declared.failure.Failure.{Failure}
 use Rattle.hex_program.specs.declared.failure.Failure.TheVariants.{Codec, Usage, StreamUsage, ReadFailed, WriteFailed}
-use Rattle.hex_program.specs.declared.failure.Failure.TheVariants.{OutOfMemory, InputTooLong}
+use Rattle.hex_program.specs.declared.failure.Failure.TheVariants.{OutOfMemory, InputTooLong, NotUtf8}
 
 -- the exit status of a failure
 abbrev pub status_of : Failure → ℕ
@@ -17,15 +17,22 @@ status_of Usage = 2
 status_of StreamUsage = 2
 status_of _ = 3
 
--- what a failure prints, byte for byte
+-- what a failure of `fhex` prints, byte for byte
 abbrev pub failure_text : Failure → List ℕ
 failure_text (Codec e) = error_text e
 failure_text Usage = codes "usage: fhex encode|encode-upper|decode|decode-lower|decode-upper|vectors"
 failure_text StreamUsage = codes "usage: fhex-stream encode|encode-lines|decode"
 failure_text ReadFailed = codes "read failed"
+failure_text NotUtf8 = codes "read failed"
 failure_text WriteFailed = codes "write failed"
 failure_text OutOfMemory = codes "out of memory"
 failure_text InputTooLong = codes "input too long"
+
+-- what a failure of `fhex-stream` prints: its name and the failure, or the usage
+abbrev pub stream_failure_text : Failure → List ℕ
+stream_failure_text StreamUsage = failure_text StreamUsage
+stream_failure_text NotUtf8 = codes "fhex-stream: an argument is not UTF-8"
+stream_failure_text failure = codes "fhex-stream: " ++ failure_text failure
 
 -- the exit status of a program that ended well or with a failure
 abbrev pub status_after : Result (Unit {0}) Failure → ℕ

@@ -2,7 +2,7 @@
 use Rattle.std.specs.Prelude.{◌≡◌, ◌≢◌, ◌≤◌, ◌^◌, ⊤, ℕ, if◌then◌else◌, List, [], ◌∷◌, ◌++◌, length, codes, Option, Some, None, Result, Ok, Err}
 use Rattle.std.specs.Str.{bytes_eq}
 use Rattle.std.specs.List.{flat_map, join_by}
-use Rattle.std.specs.Io.KnownBytes.{Appends, Consumes, IsAtEnd}
+use Rattle.std.specs.Io.KnownBytes.{Appends, Consumes, IsAtEnd, Keeps}
 use Rattle.hex_core.specs.declared.digit.CheckCase.TheVariants as policy
 use Rattle.hex_core.specs.declared.error.Error.{Error}
 use Rattle.hex_core.specs.declared.error.Error.TheVariants.{OddLength, Overflow}
@@ -10,7 +10,7 @@ use Rattle.hex_core.specs.Text.{Spells, lowercase, text}
 use Rattle.hex_codec.specs.GroupedWriting.{pieces}
 use Rattle.hex_io.specs.Reading.{spaced, unspaced}
 use Rattle.hex_io.specs.Stream.{RefusedBy, Wrote, longest_chunk}
-use Rattle.hex_program.specs.Serving.{Says, WritesPart, Outputs, failure_text, status_after}
+use Rattle.hex_program.specs.Serving.{WritesPart, Outputs, failure_text, status_after, stream_failure_text}
 use Rattle.hex_program.specs.declared.failure.Failure.{Failure}
 use Rattle.hex_program.specs.declared.failure.Failure.TheVariants.{Codec, StreamUsage, ReadFailed, WriteFailed}
 use Rattle.hex_program.specs.declared.stream.StreamOp.{StreamOp}
@@ -98,9 +98,14 @@ pub record AnswersWords (words : List (List ℕ)) (left left' held held' : Optio
   pub version : words ≡ codes "--version" ∷ [] → (left' ≡ left) × Outputs (version_text ++ 10 ∷ []) held held' ended
   pub usage : (stream_op_of_words words ≡ None) × (words ≢ codes "--help" ∷ []) × (words ≢ codes "--version" ∷ []) → (ended ≡ Err StreamUsage) × (left' ≡ left) × (held' ≡ held)
 
+-- what the program wrote to its second output: nothing, or a leading part of the failure's line
+abbrev pub StreamSays : Option (List ℕ) → Option (List ℕ) → Result (Unit {0}) Failure → Type 0
+StreamSays said said' (Ok done) = Keeps said said'
+StreamSays said said' (Err failure) = WritesPart said said' (stream_failure_text failure ++ 10 ∷ [])
+
 -- the program: it does what its words ask for, and ends with the status and the message of how that ended
 pub record ServesStream (words : List (List ℕ)) (left left' held held' said said' : Option (List ℕ)) (status : ℕ) : Type 0 where
   pub ended : Result (Unit {0}) Failure
   pub is_status : status ≡ status_after ended
-  pub message : Says said said' ended
+  pub message : StreamSays said said' ended
   pub answer : AnswersWords words left left' held held' ended

@@ -1,7 +1,7 @@
 //! The arguments of both programs.
 
 ghost use Rattle.std.specs.Prelude.{◌≡◌, ◌⊎◌, IfErr, IfOk};
-ghost use Rattle.hex_program.specs.declared.failure.Failure.TheVariants.{OutOfMemory, ReadFailed};
+ghost use Rattle.hex_program.specs.declared.failure.Failure.TheVariants.{NotUtf8, OutOfMemory, ReadFailed};
 
 use crate::failure::Failure;
 use std::alloc::AllocError;
@@ -16,7 +16,8 @@ use std::io::ErrorKind;
 /// `program` is not called.
 ///
 /// - [`Failure::OutOfMemory`] if an allocation failed.
-/// - [`Failure::ReadFailed`] if the system does not give an argument, or if it is not UTF-8.
+/// - [`Failure::NotUtf8`] if an argument is not UTF-8.
+/// - [`Failure::ReadFailed`] if the system does not give an argument.
 ///
 /// ```rust
 /// let status = with_words(&rt, |words| u8::from(words.is_empty()))?;
@@ -28,11 +29,12 @@ pub fn with_words<R: Env + Alloc, F: FnOnce(&[&str]) -> u8>(
 ) -> Result<u8, Failure>
     requires { F.IsAlwaysCallable program }
     ensures ok { IfOk result (λ status. (words : _) × F.post program words status) }
-    ensures err { IfErr result (λ failure. (failure ≡ ReadFailed) ⊎ (failure ≡ OutOfMemory)) }
+    ensures err { IfErr result (λ failure. (failure ≡ ReadFailed) ⊎ ((failure ≡ OutOfMemory) ⊎ (failure ≡ NotUtf8))) }
 {
     let arguments = match env::args(rt) {
         Ok(arguments) => arguments,
         Err(e) if e.kind() == ErrorKind::OutOfMemory => return Err(Failure::OutOfMemory),
+        Err(e) if e.kind() == ErrorKind::InvalidData => return Err(Failure::NotUtf8),
         Err(_) => return Err(Failure::ReadFailed),
     };
     let words: Result<Vec<String<R::A>, R::A>, AllocError> = arguments.skip(1).collect(rt.alloc());

@@ -12,9 +12,9 @@ pub mod unretried;
 pub mod vectors;
 
 pub use crate::arguments::with_words;
-pub use crate::failure::Failure;
+pub use crate::failure::{Failure, StreamFailure};
 pub use crate::input::{INPUT_LIMIT, read_input};
 pub use crate::operation::{Op, RunFault, run};
 pub use crate::program::{refuse, serve};
-pub use crate::stream::{StreamOp, serve_stream};
+pub use crate::stream::{StreamOp, refuse_stream, serve_stream};
 pub use crate::unretried::Unretried;

@@ -7,9 +7,8 @@ ghost use Rattle.hex_program.specs.Operations.{Runs, op_of_word, without_newline
 
 use hex_codec::hex_decode_vec_with_case;
 use hex_core::{CheckCase, Error};
-use hex_io::format::put_digits;
 use hex_io::laws::puts_in_a_row_are_one;
-use hex_io::{Sink, WriteFault, put_all};
+use hex_io::{Hex, HexFlags, Sink, WriteFault, put_all};
 use std::alloc::{Allocator, Global};
 
 /// What `fhex` does with its input.
@@ -74,7 +73,11 @@ fn put_text_line<S: Sink>(sink: &mut S, upper: bool, bytes: &[u8]) -> Result<(),
     ensures { Puts (S.state sink.old) (S.state sink.new) result (text upper bytes.now ++ 10 ∷ []) }
 {
     puts_in_a_row_are_one();
-    put_digits(sink, bytes, upper, None)?;
+    let flags = HexFlags {
+        upper,
+        ..HexFlags::default()
+    };
+    Hex::new(bytes).write_to(sink, &flags)?;
     put_all(sink, b"\n")
 }
 

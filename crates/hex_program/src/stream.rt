@@ -1,13 +1,14 @@
 //! The program `fhex-stream` over given arguments, an input of any length and two outputs. It
 //! allocates nothing.
 
-ghost use Rattle.std.specs.Prelude.{◌≡◌, map};
+ghost use Rattle.std.specs.Prelude.{◌≡◌, Err, map};
 ghost use Rattle.std.specs.Io.KnownBytes.{Keeps};
-ghost use Rattle.hex_program.specs.Streaming.{AnswersWords, ServesStream, ServesStreamOp, stream_op_of_word};
+ghost use Rattle.hex_program.specs.Serving.{status_of};
+ghost use Rattle.hex_program.specs.Streaming.{AnswersWords, ServesStream, ServesStreamOp, StreamSays, stream_op_of_word};
 ghost use Rattle.hex_program.specs.inside.{EndsStreamRun, RunsStream};
 
-use crate::failure::Failure;
-use crate::program::{end, print_line};
+use crate::failure::{Failure, StreamFailure};
+use crate::program::print_line;
 use hex_codec::Group;
 use hex_core::CheckCase;
 use hex_io::laws::puts_in_a_row_are_one;
@@ -131,6 +132,16 @@ fn answer_words<R: Read, W: Write>(
     }
 }
 
+/// Writes the line of a failure of `fhex-stream` to `err`. Returns the exit status of the failure and
+/// `err`. An error of `err` ends the line early, and does not change the status. Nothing is tried again.
+pub fn refuse_stream<E: Write>(err: E, failure: Failure) -> (u8, E)
+    ensures status { result.0 ≡ status_of failure }
+    ensures message { StreamSays (E.contents err) (E.contents result.1) (Err failure) }
+{
+    let (_, err) = print_line(err, &StreamFailure(failure));
+    (failure.status(), err)
+}
+
 /// Runs `fhex-stream` over the given arguments, input and outputs. Returns the exit status and the
 /// two writers.
 ///
@@ -146,10 +157,10 @@ fn answer_words<R: Read, W: Write>(
 /// | Status | When | Written to `err`, as one line |
 /// |---|---|---|
 /// | 0 | the whole output was written to `out` | nothing |
-/// | 1 | a byte is invalid; all that was read was decoded, except for at most the last 16,384 bytes | the text of the [`Error`](hex_core::Error) |
+/// | 1 | a byte is invalid; all that was read was decoded, except for at most the last 16,384 bytes | `fhex-stream: ` and the text of the [`Error`](hex_core::Error) |
 /// | 1 | the number of digits is odd; all whole pairs were decoded | the same |
 /// | 2 | `words` is not one of these words; nothing was read or written to `out` | the usage |
-/// | 3 | a failure of the system | `read failed`, `write failed` |
+/// | 3 | a failure of the system | `fhex-stream: ` and `read failed` or `write failed` |
 ///
 /// An interrupted read is tried again. After any other error nothing is. An error of `err` ends the
 /// line, and does not change the status. The contract says which bytes were read and written if the
@@ -173,6 +184,11 @@ pub fn serve_stream<R: Read, W: Write, E: Write>(
         (E.contents err) (E.contents result.2) result.0 }
 {
     let (ended, out) = answer_words(words, input, out);
-    let (status, err) = end(err, ended);
-    (status, out, err)
+    match ended {
+        Ok(()) => (0, out, err),
+        Err(failure) => {
+            let (status, err) = refuse_stream(err, failure);
+            (status, out, err)
+        }
+    }
 }

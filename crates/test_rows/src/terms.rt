@@ -1,7 +1,7 @@
 //! What rows are made of: where a call reads from and writes to, and what it answers.
 
 use hex_codec::Group;
-use hex_core::{Backend, CheckCase, Error, backends};
+use hex_core::{Backend, CheckCase, Error, Vectors, backends};
 use std::convert::AsSlice;
 use test_kit::{Bytes, Came, Note, Words};
 
@@ -15,15 +15,16 @@ const GUARD: usize = 64;
 const WHOLE: usize = 12_500;
 
 /// How many plans there are: those that are listed, and after them `plain` for each width.
-pub const PLANS: usize = 8;
+pub const PLANS: usize = 9;
 
 /// Returns the plan of this number.
 pub fn plan(number: usize) -> Backend {
     match backends().get(number) {
         Some(plan) => *plan,
         None if number == 5 => Backend::plain(),
-        None if number == 6 => Backend::plain_for(32),
-        None => Backend::plain_for(64),
+        None if number == 6 => Backend::plain_for(Vectors::Of32),
+        None if number == 7 => Backend::plain_for(Vectors::Of64),
+        None => Backend::plain_for(Vectors::LookUp64),
     }
 }
 

@@ -7,7 +7,7 @@ use test_kit::{Note, Row};
 
 // How many digits each plan decodes at a time into a buffer that is given up; 0 where it decodes all
 // of them at once.
-const OWNED_BLOCKS: [usize; PLANS] = [0, 0, 64, 128, 64, 128, 128, 128];
+const OWNED_BLOCKS: [usize; PLANS] = [0, 0, 64, 128, 64, 128, 128, 128, 128];
 
 // How many bytes a plan has stored in such a buffer where the first invalid byte is at this place.
 fn stored_before(place: usize, number: usize) -> usize {

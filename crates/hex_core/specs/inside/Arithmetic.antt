@@ -7,9 +7,9 @@ use Rattle.hex_core.specs.declared.digit.CheckCase.TheVariants as policy
 abbrev pub AreZero : List ℕ → Type 0
 AreZero lanes = EachIndex lanes (λ i. slice_index lanes i ≡ 0)
 
--- each lane is below 6
-abbrev pub AreLow : List ℕ → Type 0
-AreLow lanes = EachIndex lanes (λ i. slice_index lanes i < 6)
+-- no lane has a bit of the mask
+abbrev pub AreClear : ℕ → List ℕ → Type 0
+AreClear mask lanes = EachIndex lanes (λ i. bit_and (slice_index lanes i) mask ≡ 0)
 
 -- each lane is below 128, so no lane has its sign bit
 abbrev pub AreUnsigned : List ℕ → Type 0
@@ -38,11 +38,6 @@ first_letter policy.Upper = 65
 -- how far a byte is past the first letter that the policy accepts, modulo 256
 abbrev pub letter : CheckCase → ℕ → ℕ
 letter c b = wrapping_sub (bit_or b (fold_of c)) (first_letter c)
-
--- how far a byte is past the digit 4 or past the first letter, whichever is less. This is below 6 exactly if
--- the byte has a value
-abbrev pub reach : CheckCase → ℕ → ℕ
-reach c b = min (wrapping_sub b 48 - 4) (letter c b)
 
 -- the value of a byte that has one. It is the same under each policy that accepts the byte
 abbrev pub valid_nibble : ℕ → ℕ

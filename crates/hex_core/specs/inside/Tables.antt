@@ -1,4 +1,4 @@
--- The tables that look-ups use, and the look-up in a row of 16.
+-- The tables that look-ups use, and the look-up in a row.
 use Rattle.std.specs.Prelude.{ℕ, ◌%◌, nat_le, if◌then◌else◌, Bool, List, map, slice_index, unwrap_or}
 use Rattle.std.specs.List.{range_with_len}
 use Rattle.hex_core.specs.declared.digit.CheckCase.{CheckCase}
@@ -16,3 +16,7 @@ digits_table upper = text upper (range_with_len 0 256)
 -- the entry of a row at the low four bits of a byte, or 0 if the byte is at least 128
 abbrev pub entry : List ℕ → ℕ → ℕ
 entry row at = if nat_le 128 at then 0 else slice_index row (at % 16)
+
+-- the entry of a row of 64 at the low six bits of a byte
+abbrev pub long_entry : List ℕ → ℕ → ℕ
+long_entry row at = slice_index row (at % 64)

@@ -12,4 +12,4 @@ returns-then-width-clause-valid g c =
 pub returns-else-width-clause-valid : goal.returns-else-width-clause-valid
 returns-else-width-clause-valid g c =
     let p = c.args.self.now in
-    part_tested p.case p.src.now c.args.start (c.args.start + c.args.width) c.check_by_table.result c.requires.inside c.check_by_table.ensures
+    part_tested p.case p.src.now c.args.start (c.args.start + c.args.width) c.check_by_look_up.result c.requires.inside c.check_by_look_up.ensures
