@@ -8,7 +8,7 @@
 //! Every function tests all digits before it stores the first byte, unless it requires valid
 //! digits. If a digit is invalid, it returns false, and `dst` is unchanged.
 
-ghost use Rattle.std.specs.Prelude.{◌≡◌, ◌↔◌, ◌+◌, ◌-◌, ◌*◌, ◌/◌, ◌<◌, ◌≤◌, IsTrue, None, length};
+ghost use Rattle.std.specs.Prelude.{◌≡◌, ◌↔◌, ◌+◌, ◌-◌, ◌*◌, ◌<◌, ◌≤◌, IsTrue, None, length};
 ghost use Rattle.std.specs.Simd.Lanes.{put_chunk};
 ghost use Rattle.hex_core.specs.inside.Arithmetic.{packed};
 ghost use Rattle.hex_core.specs.inside.Blocks.{DecodesAt, DecodesRange, EndsCover, Halves, HasBlock, HasRoom, NibblesFrom};
@@ -141,38 +141,15 @@ fn write_pair<M: Nibbles<64>>(src: &[u8], dst: &mut [u8], at: usize, case: Check
     pack_two_at(front, back, dst, at, case);
 }
 
-// Decodes valid digits into the start of `dst`, 256 digits in each turn of the loop. Returns the
-// number of bytes written. Fewer than 256 digits are left.
+// Decodes at least 128 valid digits over all of `dst`, 128 digits in each turn of the loop.
 #[inline(always)]
-fn write_quads<M: Nibbles<64>>(src: &[u8], dst: &mut [u8], case: CheckCase) -> usize
-    requires twice { length src.now ≡ 2 * length dst.old }
-    requires valid { first_invalid case src.now ≡ None }
-    ensures whole { result ≡ length dst.old / 128 * 128 }
-    ensures bytes { DecodesRange case src.now dst.old dst.new 0 result }
-{
-    let turns = dst.len() / 128;
-    'turns: for i in 0..turns {
-        write_pair::<M>(src, dst, i * 128, case);
-        write_pair::<M>(src, dst, i * 128 + 64, case);
-    }
-    turns * 128
-}
-
-// Decodes at least 128 valid digits over all of `dst`. If `wide` is true, a turn of the loop
-// decodes 256 digits as long as there are so many, and otherwise 128.
-#[inline(always)]
-fn write_pairs<M: Nibbles<64>>(src: &[u8], dst: &mut [u8], case: CheckCase, wide: bool)
+fn write_pairs<M: Nibbles<64>>(src: &[u8], dst: &mut [u8], case: CheckCase)
     requires twice { length src.now ≡ 2 * length dst.old }
     requires least { 128 ≤ length src.now }
     requires valid { first_invalid case src.now ≡ None }
     ensures { Spells case src.now dst.new }
 {
-    let done = if wide {
-        write_quads::<M>(src, dst, case)
-    } else {
-        0
-    };
-    'turns: for i in done / 64..dst.len() / 64 {
+    'turns: for i in 0..dst.len() / 64 {
         write_pair::<M>(src, dst, i * 64, case);
     }
     let len = dst.len();
@@ -184,22 +161,16 @@ fn write_pairs<M: Nibbles<64>>(src: &[u8], dst: &mut [u8], case: CheckCase, wide
 }
 
 /// Decodes all of `src`, which has at least 128 digits, over all of `dst`. Returns false and writes
-/// nothing if a byte is invalid, because all bytes are tested before the first store. `wide` is
-/// true in a build with vectors of 64 bytes.
+/// nothing if a byte is invalid, because all bytes are tested before the first store.
 #[inline(always)]
-pub fn decode_long<M: Rows<64> + Nibbles<64>>(
-    src: &[u8],
-    dst: &mut [u8],
-    case: CheckCase,
-    wide: bool,
-) -> bool
+pub fn decode_long<M: Rows<64> + Nibbles<64>>(src: &[u8], dst: &mut [u8], case: CheckCase) -> bool
     requires least { 128 ≤ length src.now }
     requires twice { length src.now ≡ 2 * length dst.old }
     ensures { DecodesWhole case src.now dst.old dst.new result }
 {
     let valid = check_runs::<M>(src, case);
     if valid {
-        write_pairs::<M>(src, dst, case, wide);
+        write_pairs::<M>(src, dst, case);
     }
     valid
 }

@@ -240,7 +240,7 @@ pub fn decode_many<M: Rows<64> + Nibbles<64>>(
         ..=256 => decode_four::<M>(src, dst, case),
         257..=384 if vectors.have_64() => decode_six::<M>(src, dst, case),
         385..=512 if vectors.have_64() => decode_eight::<M>(src, dst, case),
-        _ => decode_long::<M>(src, dst, case, vectors.have_64()),
+        _ => decode_long::<M>(src, dst, case),
     }
 }
 
