@@ -78,7 +78,10 @@ impl<'a> Hex<'a> {
         };
         let fill = f.fill();
         write_copies(f, fill, before)?;
-        f.write_str(front)?;
+        // An empty text would take a call of the sink too.
+        if !front.is_empty() {
+            f.write_str(front)?;
+        }
         write_copies(f, '0', zeros)?;
         self.write_digits(f, upper)?;
         write_copies(f, fill, behind)
