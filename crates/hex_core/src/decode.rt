@@ -220,6 +220,30 @@ where
     true
 }
 
+/// Decodes `N` digits over all of `dst`. It stores all bytes at once, because a load of all of them
+/// right after two stores would wait for both.
+#[inline(always)]
+pub fn decode_one<M, const N: usize, const HALF: usize>(
+    src: &[u8],
+    dst: &mut [u8],
+    case: CheckCase,
+) -> bool
+where
+    M: Rows<N>,
+    Lanes: Pack<N, HALF>,
+    requires lanes { N ≤ 64 }
+    requires sizes { Halves N HALF src.now dst.old }
+    requires whole { length src.now ≡ N }
+    ensures { DecodesWhole case src.now dst.old dst.new result }
+{
+    let nibbles = nibbles_at::<M, N>(src, 0, case);
+    if !is_small(nibbles) {
+        return false;
+    }
+    pack_at(nibbles, dst, 0);
+    true
+}
+
 /// Decodes 64 to 128 digits over all of `dst`.
 #[inline(always)]
 pub fn decode_two<M: Rows<64>>(src: &[u8], dst: &mut [u8], case: CheckCase) -> bool

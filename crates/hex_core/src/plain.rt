@@ -14,7 +14,8 @@ ghost use Rattle.hex_core.specs.inside.Blocks.{EndsCover};
 
 use crate::check::{check_eight, check_four, check_one, check_runs, check_two};
 use crate::decode::{
-    decode_eight, decode_ends, decode_four, decode_long, decode_six, decode_three, decode_two,
+    decode_eight, decode_ends, decode_four, decode_long, decode_one, decode_six, decode_three,
+    decode_two,
 };
 use crate::digit::CheckCase;
 use crate::encode::{
@@ -161,7 +162,10 @@ pub fn decode_by_length<M: Rows<32> + Rows<64> + Nibbles<64>>(
 {
     match src.len() {
         0..16 => decode_short(src, dst, case),
-        16..=32 => decode_ends::<M, 16, 32, 8>(src, dst, case),
+        16..=32 => match src.len() {
+            32 => decode_one::<M, 32, 16>(src, dst, case),
+            _ => decode_ends::<M, 16, 32, 8>(src, dst, case),
+        },
         33..=64 => decode_ends::<M, 32, 64, 16>(src, dst, case),
         65..=128 => decode_two::<M>(src, dst, case),
         129..=MOST_INLINE => decode_three::<M>(src, dst, case),
