@@ -80,9 +80,9 @@ def test_each_runs_its_own_code(tmp_path, copy, library, which):
 
 @pytest.mark.parametrize("order", [["plain", "fixed"], ["fixed", "plain"]])
 def test_two_crates(tmp_path, copy, order):
-    """The commands on the package's page give a patched crate names of its own."""
+    """The commands in packaging.md give a patched crate names of its own."""
     needs_x86_64()
-    for words in re.findall("`(sed -i .*?)`", (TOP / "docs/release/README.md").read_text()):
+    for words in re.findall("`(sed -i .*?)`", (TOP / "docs/packaging.md").read_text()):
         runs(["sh", "-c", words], cwd=copy)
     patched(copy, False)
     tops, own = {"plain": TOP, "fixed": copy}, [RUSTC, "--edition", "2021", "--out-dir", tmp_path]
