@@ -58,15 +58,16 @@ ifeq ($(TARGET)$(origin CC),aarch64default)
 CC = aarch64-linux-gnu-gcc
 endif
 CFLAGS ?= -O2
-# assembly.h alone decides where there is assembly. The compiler says what follows from it, and for which system it makes
-# code. Without a compiler, as for `make install`, the target is that of the last build.
+# assembly.h alone decides where there is assembly. The compiler says what follows from it, and for which system it
+# makes code. Without a compiler, as for `make install`, the target is the one of the last build.
 ASKED := $(shell $(CC) $(CPPFLAGS) $(CFLAGS) -dM -E $(C)/assembly.h 2>/dev/null | sed -n '\
 	s/^.define FASTER_HEX_X86_64 .*/x86_64/p; s/^.define FASTER_HEX_AARCH64 .*/aarch64/p; \
 	s/^.define __APPLE__ .*/macos/p; s/^.define __MINGW32__ .*/windows/p; s/^.define __STDC__ .*/asked/p')
 HERE := $(subst amd64,x86_64,$(subst arm64,aarch64,$(shell uname -m)))
 ASSEMBLED := $(filter x86_64 aarch64,$(or $(ASKED),$(TARGET),$(HERE)))
 # Another processor gives the folder of its libraries its name.
-OTHER := $(filter-out x86_64 amd64 aarch64 arm64,$(firstword $(subst -, ,$(shell $(CC) $(CFLAGS) -dumpmachine 2>/dev/null))))
+MACHINE := $(firstword $(subst -, ,$(shell $(CC) $(CFLAGS) -dumpmachine 2>/dev/null)))
+OTHER := $(filter-out x86_64 amd64 aarch64 arm64,$(MACHINE))
 ifeq ($(TARGET),)
 TARGET := $(or $(ASSEMBLED),$(OTHER),portable)
 else ifeq ($(filter $(ASSEMBLED) $(OTHER) portable,$(TARGET)),)

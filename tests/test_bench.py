@@ -1,5 +1,5 @@
-"""bench/report writes each table of bench/README.md and the chart, and bench/run times our calls beside other libraries.
-No test looks at a time."""
+"""bench/report writes each table of bench/README.md and the chart, and bench/run times our calls beside other
+libraries. No test looks at a time."""
 import os
 import re
 import shutil

@@ -11,8 +11,12 @@ pytestmark = pytest.mark.quick
 OF_RUST = """
 use std::slice;
 
+/// # Safety
+///
+/// `src` points to `len` bytes.
 #[no_mangle]
 pub unsafe extern "C" fn check_of_rust(src: *const u8, len: usize) -> bool {
+    // SAFETY: the caller promises this.
     faster_hex::hex_check(slice::from_raw_parts(src, len))
 }
 """
@@ -32,8 +36,8 @@ fn main() {
 
 
 def patched(top, with_record):
-    """Changes the calls `check` of each build: they refuse all texts. If told so, changes the hashes in PROVED too, as a
-    distribution may do, so that `make` builds it without UNPROVED=yes."""
+    """Changes the calls `check` of each build, which then return false for every text. If told so, changes the hashes in
+    PROVED too, as a distribution may do, so that `make` builds it without UNPROVED=yes."""
     record = top / "generated/PROVED"
     for path in top.glob("generated/x86-64*.s"):
         old = path.read_bytes()
@@ -73,8 +77,8 @@ def test_each_runs_its_own_code(tmp_path, copy, library, which):
         both, wanted = [copy / "out/libfaster_hex.a", plain], "0 1\n"
     (tmp_path / "both.c").write_text(OF_C)
     for order in both, both[::-1]:
-        words = [CC, "-I", copy / "crates/faster_hex_c", tmp_path / "both.c", *order, *"-lpthread -ldl -lm -lgcc_s".split()]
-        runs([*words, "-o", tmp_path / "both"])
+        words = [CC, "-I", copy / "crates/faster_hex_c", tmp_path / "both.c", *order]
+        runs([*words, *"-lpthread -ldl -lm -lgcc_s".split(), "-o", tmp_path / "both"])
         runs([tmp_path / "both"], out=wanted)
 
 

@@ -83,8 +83,8 @@ def test_header_that_leaves_warnings_as_they_were(tmp_path):
 
 
 def test_names_and_state_of_the_archive(target):
-    """It has the header's functions, hides them from other shared libraries, and needs no external symbols. It has no other
-    name that another library could have too. Its only state is the byte for the choice of a build."""
+    """It has the header's functions, hides them from other shared libraries, and needs no external symbols. It has no
+    other name that another library could have too. Its only state is the byte for the choice of a build."""
     folder, *_, runner = target
     said = ran(["readelf", "-SsW", folder / "libfaster_hex.a"]).stdout
     found = re.findall(r"^ *\d+: \w+ +\w+ \w+ +(GLOBAL|WEAK) +(\w+) +(\w+) (\S+)$", said, re.M)
@@ -116,8 +116,8 @@ def test_names_of_the_shared_library(target):
 
 
 def test_call_of_a_later_version(tmp_path):
-    """This version's list of names does not export it. Otherwise a program that makes the call would start with a library
-    of this version, and fail at the call."""
+    """This version's list of names does not export it. Otherwise a program that makes the call would start with a
+    library of this version, and fail at the call."""
     (tmp_path / "later.c").write_text("void faster_hex_later(void) {}\nvoid faster_hex_build(void) {}\n")
     words = "-shared", "-fPIC", f"-Wl,--version-script={CRATE}/faster_hex.map", tmp_path / "later.c"
     runs([CC, *words, "-o", tmp_path / "later.so"])
@@ -136,7 +136,8 @@ def test_frames_of_the_builds(library):
 
 def snippets():
     """The first snippets of README.md by their languages: each call, and what its comment says of the key."""
-    found = re.findall(r"^```(c|rust)\n.*\n((?:\S.*\n)+)```$", (TOP / "README.md").read_text().partition("\n## ")[0], re.M)
+    head = (TOP / "README.md").read_text().partition("\n## ")[0]
+    found = re.findall(r"^```(c|rust)\n.*\n((?:\S.*\n)+)```$", head, re.M)
     return {kind: re.findall(r"^(.*?)\??; +/[/*] (.*?)(?: \*/)?$", lines, re.M) for kind, lines in found}
 
 

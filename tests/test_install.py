@@ -87,8 +87,8 @@ def test_archive_that_was_checked(tmp_path, top):
 def test_library_of_copied_files(tmp_path):
     """packaging.md names all files of the C library, and the commands that build it into programs in C and C++."""
     text = (TOP / "docs/packaging.md").read_text()
-    told = re.search(r"^- Without installing: copy (.*?) with their folders .* These are (\d+) files .* Then `(cc .*?)`",
-                     text, re.M)
+    told = re.search(r"^- Without installing: copy (.*?) with their folders .* These are (\d+) files "
+                     ".* Then `(cc .*?)`", text, re.M)
     files = [it.relative_to(TOP) for pattern in re.findall("`(.*?)`", told[1]) for it in TOP.glob(pattern)]
     assert len(files) == int(told[2]) and "LICENSE" in map(str, files)
     copied(files, tmp_path)
@@ -169,8 +169,8 @@ def test_folders_of_files():
 
 
 def test_readme(tmp_path, top):
-    """Writes the programs and runs the commands of README.md. Each section runs in a folder of its own beside the clone.
-    Each command must print what its comment says."""
+    """Writes the programs and runs the commands of README.md. Each section runs in a folder of its own beside the
+    clone. Each command must print what its comment says."""
     needs("pkg-config", "cargo")
     (tmp_path / "bunkmedlar").symlink_to(top)
     text = (TOP / "README.md").read_text().replace("$HOME", f"{tmp_path}")

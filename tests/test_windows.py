@@ -69,8 +69,8 @@ def test_registers(tmp_path, windows):
 
 
 def test_build_that_moves_the_stack(tmp_path, windows):
-    """A function of the build for x86-64-v2 moves the stack. A newer processor does not use this build, so the choice of
-    a build is replaced."""
+    """A function of the build for x86-64-v2 moves the stack. A newer processor does not use this build, so the choice
+    of a build is replaced."""
     needs("wine")
     text, taken = (CRATE / "dispatch.c").read_text(), "level_of(processor())"
     assert text.count(taken) == 1

@@ -239,7 +239,8 @@ macro_rules! modules {
             }
         }
 
-        #[doc = concat!("An `Option` of bytes, in the format of [`", stringify!($name), "`](crate::", stringify!($name), ").")]
+        #[doc = concat!("An `Option` of bytes, in the format of [`", stringify!($name), "`](crate::",
+            stringify!($name), ").")]
         ///
         /// ```
         /// use serde::{Deserialize, Serialize};
