@@ -85,11 +85,11 @@ PROGRAMS = fhex fhex-stream
 MADE_PROGRAMS = $(if $(filter x86_64 aarch64 x86_64windows,$(TARGET)$(SYSTEM)),$(PROGRAMS:%=$(OUT)/%$(EXE)))
 ifeq ($(SYSTEM)$(filter -static%,$(LDFLAGS)),)
 SHARED = $(OUT)/libfaster_hex.so.$(VERSION)
-SHOWN = -Wl,-soname,libfaster_hex.so.1 -Wl,-z,relro,-z,now,-z,text -Wl,--version-script=$(C)/faster_hex.map
+EXPORTING = -Wl,-soname,libfaster_hex.so.1 -Wl,-z,relro,-z,now,-z,text -Wl,--version-script=$(C)/faster_hex.map
 LOADED = $(OUT)/libfaster_hex.so.1 '-Wl,-rpath,$$ORIGIN'
 else ifeq ($(SYSTEM),windows)
 SHARED = $(OUT)/libfaster_hex.dll
-SHOWN = $(C)/faster_hex.def
+EXPORTING = $(C)/faster_hex.def
 LOADED = $(SHARED)
 OF_TESTS = -static -Itests/c/windows
 EXE = .exe
@@ -149,7 +149,7 @@ $(ARCHIVE): $(OBJECTS)
 	rm -f $(MADE) && $(AR) rcs $(MADE) $(OBJECTS) && $(DONE)
 
 $(OUT)/libfaster_hex.so.$(VERSION) $(OUT)/libfaster_hex.dll: $(EXPORTED) $(C)/faster_hex.map $(C)/faster_hex.def
-	$(CC) $(CFLAGS) $(LDFLAGS) -shared -o $(MADE) $(EXPORTED) $(SHOWN) && $(DONE)
+	$(CC) $(CFLAGS) $(LDFLAGS) -shared -o $(MADE) $(EXPORTED) $(EXPORTING) && $(DONE)
 
 # The object is built by a rule of its own, because the name of a temporary object would be stored in the program.
 $(PROGRAMS:%=$(OUT)/%$(EXE)): %$(EXE): crates/fhex/fhex.c %.o
