@@ -122,7 +122,8 @@ def test_builds_taken_for(target):
 @pytest.mark.parametrize("system", SYSTEMS)
 @pytest.mark.parametrize("processor", ["x86_64", "aarch64"])
 def test_systems_of_builds(processor, system):
-    """C and Rust use the assembly exactly on the systems that README.md lists. On Windows that is mingw for x86-64."""
+    """C and Rust use the assembly exactly on the systems that packaging.md lists. On Windows that is mingw for
+    x86-64."""
     needs("clang", RUSTC)
     named, has = f"{processor}-{system}", SYSTEMS[system] and (processor, system) != ("aarch64", "pc-windows-gnu")
     target = {"apple-darwin": "apple-macos11", "apple-ios": "apple-ios14"}.get(system, system)
