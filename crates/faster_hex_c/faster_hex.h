@@ -174,9 +174,9 @@ const char *faster_hex_version(void);
 
 /* Names the build that the next call uses: "x86-64", "x86-64-v2", "x86-64-v3", "x86-64-v4", "x86-64-vbmi", which is
  * "x86-64-v4" with AVX-512 VBMI, "aarch64" or "portable", which is plain C. Later versions may have other builds. Calls
- * that the builds for AVX-512 do not have use the build "x86-64-v3". Calls from other constructors, before the library's
- * own has run, use the build "x86-64". A program can ask before it handles keys, because only the builds whose names
- * begin with "x86-64-v" were checked to be constant time, on Linux. Returns a static string; do not free it. */
+ * that the builds for AVX-512 do not have use the build "x86-64-v3". While the program is being loaded, calls may still
+ * use the build "x86-64". A program can ask before it handles keys, because only the builds whose names begin with
+ * "x86-64-v" were checked to be constant time, on Linux. Returns a static string; do not free it. */
 const char *faster_hex_build(void);
 
 #ifdef __clang__
