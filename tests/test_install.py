@@ -91,6 +91,7 @@ def test_library_of_copied_files(tmp_path):
                      ".* Then `(cc .*?)`", text, re.M)
     files = [it.relative_to(TOP) for pattern in re.findall("`(.*?)`", told[1]) for it in TOP.glob(pattern)]
     assert len(files) == int(told[2]) and "LICENSE" in map(str, files)
+    assert f"[{told[2]} files](docs/packaging.md#use-it)" in (TOP / "README.md").read_text()
     copied(files, tmp_path)
     (tmp_path / "prog.c").write_text((TOP / "examples/c/digits.c").read_text())
     runs(told[3].split(), cwd=tmp_path)

@@ -284,7 +284,7 @@ macro_rules! modules {
             ///
             /// # Errors
             ///
-            /// Those of the module without `option_`. A string that is refused is an error, not `None`.
+            /// Those of the module without `option_`. A string that is invalid is an error, not `None`.
             pub fn deserialize<'de, D, T>(deserializer: D) -> Result<Option<T>, D::Error>
             where
                 D: Deserializer<'de>,

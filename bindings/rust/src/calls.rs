@@ -37,7 +37,7 @@ fn result_of(answer: Answer) -> Result<usize, Error> {
     }
 }
 
-/// The error of a refusal. No call here gets a status about policies or groups. This is a function of its
+/// The error of a call that failed. No call here gets a status about policies or groups. This is a function of its
 /// own, so that a call that succeeds makes only one test.
 #[cold]
 fn error_of(answer: Answer) -> Error {
