@@ -173,10 +173,25 @@ def test_snippet_in_rust(tmp_path):
             let mut key = [0; 2];
         {lines}}}
         """)
-    own = [RUSTC, "--edition", "2021", "--out-dir", tmp_path]
-    runs([*own, "--crate-type", "rlib", "--crate-name", "faster_hex", TOP / "bindings/rust/src/lib.rs"])
-    runs([*own, "--extern", f"faster_hex={tmp_path}/libfaster_hex.rlib", tmp_path / "snippet.rs"])
-    assert runs([tmp_path / "snippet"]).splitlines() == [told for _, told in calls] and len(calls) == 2
+    assert runs([over_crate(tmp_path, "snippet.rs")]).splitlines() == [told for _, told in calls] and len(calls) == 2
+
+
+def over_crate(folder, source):
+    """Builds a program over our Rust crate, and returns it."""
+    own = [RUSTC, "--edition", "2021", "--out-dir", folder]
+    features = [word for it in ("std", "alloc") for word in ("--cfg", f'feature="{it}"')]
+    runs([*own, *features, "--crate-type", "rlib", "--crate-name", "faster_hex", TOP / "bindings/rust/src/lib.rs"])
+    runs([*own, "--extern", f"faster_hex={folder}/libfaster_hex.rlib", folder / source])
+    return folder / source.removesuffix(".rs")
+
+
+def test_snippet_of_the_crate(tmp_path):
+    """The page of our Rust crate has a snippet with an assertion."""
+    needs(RUSTC)
+    block, = re.findall(r"^```rust\n(.*?)^```$", (TOP / "bindings/rust/README.md").read_text(), re.M | re.S)
+    assert "assert_eq!" in block
+    (tmp_path / "snippet.rs").write_text(f"fn main() {{\n{block}}}\n")
+    runs([over_crate(tmp_path, "snippet.rs")], out="")
 
 
 @pytest.mark.parametrize("source, options", [("c", "-std=c99"), ("cpp", "-std=c++17 -Wold-style-cast")])

@@ -5,8 +5,8 @@ import re
 
 import pytest
 
-from commands import (ARM_CC, BY_SYSTEM, HELLO, INSTALLED, PRINTED, SHARED, TOP, VERSION, WINDOWS_CC, copied, has_files,
-                      make, needs, only, own_files, ran, runs)
+from commands import (ARM_CC, BY_RUST, BY_SYSTEM, HELLO, INSTALLED, PRINTED, SHARED, TOP, VERSION, WINDOWS_CC, copied,
+                      has_files, make, needs, only, own_files, ran, runs)
 
 pytestmark = pytest.mark.quick
 # The tools that `make install` may use. None of them builds anything.
@@ -186,6 +186,21 @@ def test_readme(tmp_path, top):
                 place = top if words.startswith("make") or "out/" in words else own
                 done = ran(["bash", "-c", exports + words], cwd=place)
                 assert done.stdout.strip().splitlines()[-1:] == [told] if told else done.returncode == 0, done.stdout
+
+
+def commands_of(page):
+    return re.search(r"^```sh\n(.*?)^```$", (TOP / page).read_text(), re.M | re.S)[1]
+
+
+def test_commands_of_examples(top):
+    needs("c++", "cargo")
+    said = runs(["bash", "-ec", commands_of("examples/README.md")], cwd=top)
+    assert said.endswith(PRINTED + PRINTED + BY_RUST)
+
+
+def test_commands_of_packaging(tmp_path, top):
+    runs(["bash", "-ec", commands_of("docs/packaging.md").replace("$HOME", f"{tmp_path}")], cwd=top)
+    has_files(tmp_path / ".local", INSTALLED)
 
 
 def test_prefix_that_is_relative(tmp_path, top, env):
