@@ -1,12 +1,5 @@
-/* Converts bytes to hex digits and back.
- *
- * `make install` installs this header, libfaster_hex.so and libfaster_hex.a. To compile a program and link it with the
- * shared library, or with the archive:
- *
- *     cc prog.c $(pkg-config --cflags --libs faster_hex)
- *     cc prog.c $(pkg-config --cflags faster_hex) $(pkg-config --variable=archive faster_hex)
- *
- * C++17 can include faster_hex.hpp. It has encode and decode for types of C++, and throws errors as exceptions.
+/* Converts bytes to hex digits and back. faster_hex(3) says how to compile and link. C++17 can include faster_hex.hpp,
+ * which has encode and decode for types of C++, and throws errors as exceptions.
  *
  * Example, which decodes a key of 16 bytes from `len` digits at `text`:
  *
