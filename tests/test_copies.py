@@ -36,8 +36,8 @@ fn main() {
 
 
 def patched(top, with_record):
-    """Changes the calls `check` of each build, which then return false for every text. If told so, changes the hashes in
-    PROVED too, as a distribution may do, so that `make` builds it without UNPROVED=yes."""
+    """Changes the calls `check` of each build, which then return false for every text. If told so, changes the hashes
+    in PROVED too, as a distribution may do, so that `make` builds it without UNPROVED=yes."""
     record = top / "generated/PROVED"
     for path in top.glob("generated/x86-64*.s"):
         old = path.read_bytes()
